@@ -1,0 +1,4 @@
+pub mod Case
+pub mod Name
+pub mod Shift
+pub mod Stream

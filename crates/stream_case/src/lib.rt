@@ -1,0 +1,19 @@
+//! The streams and utilities of a pinch analysis, and the case that they make.
+//!
+//! A temperature is a whole number of tenths of a degree Celsius, a heat-capacity flow a whole
+//! number of 10 W/K. So a heat-capacity flow times a temperature difference is whole watts.
+#![tactic(auto)]
+
+mod case;
+mod items;
+mod name;
+mod source;
+mod stream;
+mod utility;
+
+pub use case::{Case, Forbid};
+pub use items::Items;
+pub use name::Name;
+pub use source::{Side, Source};
+pub use stream::{Stream, shifted};
+pub use utility::Utility;
