@@ -1,0 +1,6 @@
+//! The rows of a CSV text, one after the other: case files, site files and study files are read through them.
+#![tactic(auto)]
+
+mod row_reader;
+
+pub use row_reader::Rows;

@@ -1,0 +1,88 @@
+//! The rows of a CSV text, one after the other.
+ghost use Rattle.std.specs.Prelude.{◌≡◌, [], ◌∷◌, ◌≤◌, length, IfOk, OnErr, MatchBool};
+ghost use Rattle.csv.specs.Records.{fields_of};
+ghost use Rattle.csv_rows.specs.Rows.{rows_of};
+
+use csv::{ByteRecord, Reader, ReaderBuilder};
+use std::alloc::{AllocError, Global};
+use std::marker::Model;
+
+/// The rows of a text that are still to be read. A contract sees the list of them.
+#[derive(Drop)]
+pub struct Rows<'a> {
+    reader: Reader<&'a [u8]>,
+    ended: bool,
+}
+
+impl<'a> Model for Rows<'a> {
+    ghost use Rattle.std.specs.Prelude.{◌≡◌, ℕ, List, [], false, if◌then◌else◌};
+    ghost use Rattle.csv.specs.Reading.{reader_state};
+    ghost use Rattle.csv_rows.specs.Left.{GivesRows, bytes_left, records_left};
+
+    ghost Value = { List (List (List ℕ)) };
+
+    ghost view = { λ s. if s.ended then [] else records_left (reader_state s.reader) (bytes_left s.reader) };
+
+    ghost invariant = { λ s. s.ended ≡ false → GivesRows s.reader };
+}
+
+impl<'a> Rows<'a> {
+    /// All rows of a text.
+    pub fn new(alloc: Global, text: &'a [u8]) -> Rows<'a>
+        ensures rows { result ≡ rows_of text.now }
+        ensures few { length result ≤ length text.now }
+    {
+        let reader = ReaderBuilder::new()
+            .has_headers(false)
+            .flexible(true)
+            .from_reader(alloc, text);
+        Rows {
+            reader,
+            ended: false,
+        }
+    }
+
+    /// Reads the next row, if there is one. After an `Err` no row is left.
+    pub fn read(&mut self, row: &mut ByteRecord) -> Result<bool, AllocError>
+        ensures found { IfOk result (λ found. MatchBool found (self.old ≡ fields_of row.new ∷ self.new) (self.old ≡ [])) }
+        ensures err { OnErr result (self.new ≡ []) }
+    {
+        if self.ended {
+            return Ok(false);
+        }
+        // Over bytes in memory csv meets no other fault than want of memory.
+        let Ok(found) = self.reader.read_byte_record(row) else {
+            self.ended = true;
+            return Err(AllocError);
+        };
+        self.ended = !found;
+        Ok(found)
+    }
+}
+
+#[cfg(test)]
+mod tests {
+    use super::*;
+    use std::test::Fail;
+
+    #[test]
+    fn rows_of_a_spreadsheet(rt: HostRuntime) -> Result<(), Fail> {
+        let alloc = rt.alloc();
+        let text = b"\xEF\xBB\xBFhot,H,\"1,0\"\"5\"x\r\n\n   \n#\rcold,,".as_slice();
+        let mut rows = Rows::new(alloc, text);
+        let mut row = ByteRecord::new(alloc);
+        let wanted = [
+            (3, b"hotH1,0\"5x".as_slice()),
+            (1, b"   ".as_slice()),
+            (1, b"#".as_slice()),
+            (3, b"cold".as_slice()),
+        ];
+        for (fields, bytes) in wanted {
+            assert!(rt; rows.read(&mut row)?);
+            assert_eq!(rt; row.len(), fields);
+            assert_eq!(rt; row.as_slice(), bytes);
+        }
+        assert!(rt; !rows.read(&mut row)?);
+        Ok(())
+    }
+}

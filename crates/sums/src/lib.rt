@@ -1,0 +1,7 @@
+//! Sums of integers over lists, and lists that are fixed by their members and their order, for
+//! the definitions and proofs of several crates.
+#![tactic(auto)]
+
+mod order;
+
+pub use order::falling;
