@@ -1,1 +1,5 @@
+pub mod CaseLemmas
+pub mod DistinctLemmas
+pub mod EndLemmas
 pub mod NameLemmas
+pub mod SameLemmas

@@ -1,5 +1,5 @@
 -- Valid, completed and standard cases.
-use Rattle.std.specs.Prelude.{◌≡◌, ◌≢◌, ◌⊎◌, ℕ, ℤ, pos, neg_ℤ, ◌+ℤ◌, ◌-ℤ◌, ◌≤ℤ◌, ◌<ℤ◌, ◌<◌, ◌≤◌, not, if◌then◌else◌, List, [], ◌∷◌, ◌++◌, length, count_by, map, fold, All, AllPairs, Option, Some, option_map, slice_get, codes}
+use Rattle.std.specs.Prelude.{◌≡◌, ◌≢◌, ◌⊎◌, ℕ, ℤ, pos, neg_ℤ, ◌+ℤ◌, ◌-ℤ◌, ◌≤ℤ◌, ◌<ℤ◌, ◌<◌, ◌≤◌, not, if◌then◌else◌, List, [], ◌∷◌, ◌++◌, length, count_by, map, fold, All, AllPairs, Option, Some, option_map, slice_get, take, ◌-◌, codes}
 use Rattle.std.specs.Int.{int_max, int_min}
 use Rattle.std.specs.List.{list_any}
 use Rattle.stream_case.specs.declared.source.Side.{Side}
@@ -58,6 +58,11 @@ pub record IsValidUtility (u : Utility) : Type 0 where
   pub price : IsBetween (neg_ℤ (pos 1000000)) (pos 1000000) u.price
   pub contribution : IsBetween (pos 0) (pos 1000) u.contribution
 
+-- the case with these utilities in place of its own
+abbrev pub with_utilities : Case → List Utility → Case
+with_utilities c utilities = record c { utilities = utilities }
+
+-- the names of its streams, then those of its utilities
 abbrev pub names_of : Case → List (List ℕ)
 names_of c = map (λ s. s.name) c.streams ++ map (λ u. u.name) c.utilities
 
@@ -70,6 +75,14 @@ side_of c (of_utility i) = option_map (λ u. u.side) (slice_get c.utilities i)
 abbrev pub IsValidForbid : Case → Forbid → Type 0
 IsValidForbid c f = (side_of c f.hot ≡ Some Hot) × (side_of c f.cold ≡ Some Cold)
 
+-- no stream has the name of a standard utility
+abbrev pub IsUnreserved : List ℕ → Type 0
+IsUnreserved name = (name ≢ codes "HOT") × (name ≢ codes "COLD")
+
+-- and a utility only that of its own side
+abbrev pub IsRightlyNamed : Utility → Type 0
+IsRightlyNamed u = (u.name ≡ codes "HOT" → u.side ≡ Hot) × (u.name ≡ codes "COLD" → u.side ≡ Cold)
+
 -- a case that the case grammar can give
 pub record IsValid (c : Case) : Type 0 where
   pub contribution : IsBetween (pos 0) (pos 1000) c.contribution
@@ -79,8 +92,8 @@ pub record IsValid (c : Case) : Type 0 where
   pub stream_contributions : All (λ s. s.contribution ≡ c.contribution) c.streams
   pub utility_contributions : All (λ u. u.contribution ≡ c.contribution) c.utilities
   pub distinct_names : AllPairs (λ a b. a ≢ b) (names_of c)
-  pub stream_names : All (λ s. (s.name ≢ codes "HOT") × (s.name ≢ codes "COLD")) c.streams
-  pub utility_names : All (λ u. (u.name ≡ codes "HOT" → u.side ≡ Hot) × (u.name ≡ codes "COLD" → u.side ≡ Cold)) c.utilities
+  pub stream_names : All (λ s. IsUnreserved s.name) c.streams
+  pub utility_names : All IsRightlyNamed c.utilities
   pub forbids : All (IsValidForbid c) c.forbids
   pub few_forbids : length c.forbids ≤ most_forbids
   pub distinct_forbids : AllPairs (λ f g. f ≢ g) c.forbids
@@ -124,6 +137,11 @@ unless_given u us = if list_any (λ v. same_side v.side u.side) us then [] else 
 abbrev pub completed : Case → Case
 completed c = record c { utilities = (c.utilities ++ unless_given (standard_hot c) c.utilities) ++ unless_given (standard_cold c) c.utilities }
 
+-- the case without its last utilities, n of them
+abbrev pub without_last : Case → ℕ → Case
+without_last c n = with_utilities c (take (length c.utilities - n) c.utilities)
+
+-- what completion makes of some valid case
 abbrev pub IsComplete : Case → Type 0
 IsComplete c = (k : Case) × IsValid k × (c ≡ completed k)
 

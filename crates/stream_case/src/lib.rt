@@ -5,15 +5,19 @@
 #![tactic(auto)]
 
 mod case;
+mod completion;
 mod items;
 mod name;
 mod source;
 mod stream;
 mod utility;
+mod validity;
 
 pub use case::{Case, Forbid};
+pub use completion::{complete, is_complete, is_standard};
 pub use items::Items;
 pub use name::Name;
 pub use source::{Side, Source};
 pub use stream::{Stream, shifted};
 pub use utility::Utility;
+pub use validity::is_valid;

@@ -1,0 +1,97 @@
+-- The shifted ends of valid streams, and the highest and the lowest of them.
+use Rattle.std.proofs.Common.{◌≡◌, ℕ, ◌+◌, ◌<◌, ◌≤◌, ℤ, pos, neg_ℤ, ◌≤ℤ◌, ◌<ℤ◌, List, [], ◌∷◌, ◌++◌, length, get_or, take, fold, All, if◌then◌else◌, sym, ap, ◌∙◌, refl, subst, arith}
+use Rattle.std.specs.Int.{int_max, int_min}
+use Rattle.std.proofs.lemmas.Int.{ints, clamps}
+use Rattle.std.proofs.lemmas.List.{take_more, take_all}
+use Rattle.std.proofs.lemmas.List.Sums.{fold-append}
+use Rattle.std.proofs.lemmas.List.Elements.{All-head, All-tail}
+use Rattle.stream_case.specs.declared.source.Side.{Side}
+use Rattle.stream_case.specs.declared.source.Side.TheVariants.{Hot, Cold}
+use Rattle.stream_case.specs.declared.stream.Stream.{Stream}
+use Rattle.stream_case.specs.Shift.{shifted}
+use Rattle.stream_case.specs.Stream.{is_hot, high_end, low_end, stream_ends}
+use Rattle.stream_case.specs.Case.{IsBetween, IsRightWay, IsValidStream, greatest, least}
+
+-- the ends of a shifted range: in order, and within bounds
+pub record AreEnds (low high : ℤ) : Type 0 where
+  pub order : low <ℤ high
+  pub from : neg_ℤ (pos 3731) ≤ℤ low
+  pub upto : high ≤ℤ pos 31000
+
+AreEnds-shifted : (side : Side) (supply target contribution : ℤ) → IsRightWay side supply target → IsBetween (neg_ℤ (pos 2731)) (pos 30000) supply → IsBetween (neg_ℤ (pos 2731)) (pos 30000) target → IsBetween (pos 0) (pos 1000) contribution → AreEnds (if is_hot side then shifted side target contribution else shifted side supply contribution) (if is_hot side then shifted side supply contribution else shifted side target contribution)
+AreEnds-shifted Hot supply target contribution way s t c = record { order = omega (arith, ints); from = omega (arith, ints); upto = omega (arith, ints) }
+AreEnds-shifted Cold supply target contribution way s t c = record { order = omega (arith, ints); from = omega (arith, ints); upto = omega (arith, ints) }
+
+pub AreEnds-IsValidStream : (s : Stream) → IsValidStream s → AreEnds (low_end s) (high_end s)
+AreEnds-IsValidStream s h = AreEnds-shifted s.side s.supply s.target s.contribution h.way h.supply h.target h.contribution
+
+pub stream_ends-append : (xs ys : List Stream) → stream_ends (xs ++ ys) ≡ stream_ends xs ++ stream_ends ys
+stream_ends-append [] ys = refl
+stream_ends-append (x ∷ xs) ys = ap (λ ends. high_end x ∷ low_end x ∷ ends) (stream_ends-append xs ys)
+
+-- the greater or the lesser of two numbers, that of a whole list, and the end of a stream that it takes
+pub record TakesEnd (op : ℤ → ℤ → ℤ) (whole : List ℤ → ℤ) (end : Stream → ℤ) : Type 0 where
+  pub none : whole [] ≡ pos 0
+  pub begins : (x : ℤ) (xs : List ℤ) → whole (x ∷ xs) ≡ fold op x xs
+  pub grouped : (a b c : ℤ) → op (op a b) c ≡ op a (op b c)
+  pub once : (a : ℤ) → op a a ≡ a
+  pub keeps : (low high a b : ℤ) → IsBetween low high a → IsBetween low high b → IsBetween low high (op a b)
+  pub takes : (s : Stream) → IsValidStream s → op (high_end s) (low_end s) ≡ end s
+
+pub TakesEnd-high : TakesEnd int_max greatest high_end
+TakesEnd-high = record {
+  none = refl;
+  begins = λ x xs. refl;
+  grouped = λ a b c. omega (arith, ints, clamps);
+  once = λ a. omega (arith, ints, clamps);
+  keeps = λ low high a b h k. record { from = omega (arith, ints, clamps); upto = omega (arith, ints, clamps) };
+  takes = λ s h. let ends = AreEnds-IsValidStream s h in omega (arith, ints, clamps);
+}
+
+pub TakesEnd-low : TakesEnd int_min least low_end
+TakesEnd-low = record {
+  none = refl;
+  begins = λ x xs. refl;
+  grouped = λ a b c. omega (arith, ints, clamps);
+  once = λ a. omega (arith, ints, clamps);
+  keeps = λ low high a b h k. record { from = omega (arith, ints, clamps); upto = omega (arith, ints, clamps) };
+  takes = λ s h. let ends = AreEnds-IsValidStream s h in omega (arith, ints, clamps);
+}
+
+-- one more stream
+pub fold_ends-more : {op : ℤ → ℤ → ℤ} {whole : List ℤ → ℤ} {end : Stream → ℤ} → TakesEnd op whole end → (a so_far : ℤ) (streams : List Stream) (i : ℕ) (s : Stream) → i < length streams → s ≡ get_or streams i s → All IsValidStream streams → so_far ≡ fold op a (stream_ends (take i streams)) → op so_far (end s) ≡ fold op a (stream_ends (take (i + 1) streams))
+fold_ends-more {op} {whole} {end} laws a so_far streams i s within read each is =
+    let valid = subst IsValidStream (sym read) (each i s within) in
+    let front = take i streams in
+    let longer = take_more streams i s within ∙ ap (λ x. front ++ x ∷ []) (sym read) in
+    let split = ap stream_ends longer ∙ stream_ends-append front (s ∷ []) in
+    let both = laws.grouped so_far (high_end s) (low_end s) ∙ ap (op so_far) (laws.takes s valid) in
+    sym both ∙ ap (λ b. op (op b (high_end s)) (low_end s)) is ∙ sym (fold-append op a (stream_ends front) (high_end s ∷ low_end s ∷ [])) ∙ ap (fold op a) (sym split)
+
+-- all of them, begun at the first one's own end
+pub fold_ends-all : {op : ℤ → ℤ → ℤ} {whole : List ℤ → ℤ} {end : Stream → ℤ} → TakesEnd op whole end → (a : ℤ) (streams : List Stream) (i : ℕ) (s : Stream) → a ≡ end s → 0 < length streams → length streams ≤ i → s ≡ get_or streams 0 s → All IsValidStream streams → fold op a (stream_ends (take i streams)) ≡ whole (stream_ends streams)
+fold_ends-all laws a [] i s start some past read each = absurd (omega arith)
+fold_ends-all {op} {whole} {end} laws a (x ∷ xs) i s start some past read each =
+    let taken = laws.takes x (All-head IsValidStream x xs each) in
+    let first = laws.grouped (end x) (high_end x) (low_end x) ∙ ap (op (end x)) taken ∙ laws.once (end x) ∙ sym taken in
+    ap (λ ss. fold op a (stream_ends ss)) (take_all i (x ∷ xs) past) ∙ ap (λ b. fold op b (stream_ends (x ∷ xs))) (start ∙ ap end read) ∙ ap (λ b. fold op b (stream_ends xs)) first ∙ sym (laws.begins (high_end x) (low_end x ∷ stream_ends xs))
+
+fold_ends-between : {op : ℤ → ℤ → ℤ} {whole : List ℤ → ℤ} {end : Stream → ℤ} → TakesEnd op whole end → (a : ℤ) (ss : List Stream) → IsBetween (neg_ℤ (pos 3731)) (pos 31000) a → All IsValidStream ss → IsBetween (neg_ℤ (pos 3731)) (pos 31000) (fold op a (stream_ends ss))
+fold_ends-between laws a [] within each = within
+fold_ends-between {op} laws a (s ∷ ss) within each =
+    let ends = AreEnds-IsValidStream s (All-head IsValidStream s ss each) in
+    let high : IsBetween (neg_ℤ (pos 3731)) (pos 31000) (high_end s) = record { from = omega (arith, ints); upto = ends.upto } in
+    let low : IsBetween (neg_ℤ (pos 3731)) (pos 31000) (low_end s) = record { from = ends.from; upto = omega (arith, ints) } in
+    fold_ends-between laws (op (op a (high_end s)) (low_end s)) ss (laws.keeps _ _ _ _ (laws.keeps _ _ _ _ within high) low) (All-tail IsValidStream s ss each)
+
+-- the highest and the lowest end of valid streams lie within bounds
+pub whole_ends-between : {op : ℤ → ℤ → ℤ} {whole : List ℤ → ℤ} {end : Stream → ℤ} → TakesEnd op whole end → (streams : List Stream) → All IsValidStream streams → IsBetween (neg_ℤ (pos 3731)) (pos 31000) (whole (stream_ends streams))
+whole_ends-between laws [] each =
+    let P : ℤ → Type 0 = IsBetween (neg_ℤ (pos 3731)) (pos 31000) in
+    subst P (sym laws.none) (record { from = omega (arith, ints); upto = omega (arith, ints) })
+whole_ends-between {op} laws (s ∷ ss) each =
+    let ends = AreEnds-IsValidStream s (All-head IsValidStream s ss each) in
+    let high : IsBetween (neg_ℤ (pos 3731)) (pos 31000) (high_end s) = record { from = omega (arith, ints); upto = ends.upto } in
+    let low : IsBetween (neg_ℤ (pos 3731)) (pos 31000) (low_end s) = record { from = ends.from; upto = omega (arith, ints) } in
+    let P : ℤ → Type 0 = IsBetween (neg_ℤ (pos 3731)) (pos 31000) in
+    subst P (sym (laws.begins (high_end s) (low_end s ∷ stream_ends ss))) (fold_ends-between laws (op (high_end s) (low_end s)) ss (laws.keeps _ _ _ _ high low) (All-tail IsValidStream s ss each))

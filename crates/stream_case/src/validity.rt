@@ -1,0 +1,367 @@
+//! Tests of a valid case.
+ghost use Rattle.std.specs.Prelude.{◌≡◌, ◌≢◌, ◌↔◌, ◌≤◌, ◌<◌, pos, neg_ℤ, IsTrue, All, AllPairs, Contains, [], length, count_by, not, ℕ, slice_index_or};
+ghost use Rattle.stream_case.specs.Name.{IsName};
+ghost use Rattle.stream_case.specs.Stream.{is_hot, same_side};
+ghost use Rattle.stream_case.specs.Case.{IsBetween, IsRightWay, IsValidStream, HasValidStreams, IsValidUtility, IsUnreserved, IsRightlyNamed, IsValidForbid, IsValid, with_utilities, names_of, side_of, most_utilities, most_forbids};
+
+use crate::name::Name;
+use crate::case::{Case, Forbid};
+use crate::source::{Side, Source};
+use crate::stream::Stream;
+use crate::utility::Utility;
+
+/// The most streams on one side of a case.
+const MOST_STREAMS: usize = 12;
+
+/// The most utilities of a case, those of both sides together.
+const MOST_UTILITIES: usize = 6;
+
+/// The most forbidden matches of a case.
+const MOST_FORBIDS: usize = 400;
+
+fn is_between(low: i64, high: i64, x: i64) -> bool
+    ensures { IsTrue result ↔ IsBetween low high x }
+{
+    low <= x && x <= high
+}
+
+fn is_temperature(t: i32) -> bool
+    ensures { IsTrue result ↔ IsBetween (neg_ℤ (pos 2731)) (pos 30000) t }
+{
+    is_between(-2731, 30000, i64::from(t))
+}
+
+fn is_contribution(contribution: i32) -> bool
+    ensures { IsTrue result ↔ IsBetween (pos 0) (pos 1000) contribution }
+{
+    is_between(0, 1000, i64::from(contribution))
+}
+
+fn is_right_way(side: Side, supply: i32, target: i32) -> bool
+    ensures { IsTrue result ↔ IsRightWay side supply target }
+{
+    match side {
+        Side::Hot => target < supply,
+        Side::Cold => supply < target,
+    }
+}
+
+/// Whether the name is not a dotted one.
+fn is_plain(name: &Name) -> bool
+    ensures { IsTrue result ↔ IsName name.now }
+{
+    let _ = name.as_bytes();
+    !name.is_dotted()
+}
+
+fn is_valid_stream(stream: &Stream) -> bool
+    ensures { IsTrue result ↔ IsValidStream stream.now }
+{
+    if !is_plain(&stream.name) {
+        return false;
+    }
+    if !is_temperature(stream.supply) {
+        return false;
+    }
+    if !is_temperature(stream.target) {
+        return false;
+    }
+    if !is_right_way(stream.side, stream.supply, stream.target) {
+        return false;
+    }
+    if !is_between(1, 100_000, stream.cp) {
+        return false;
+    }
+    is_contribution(stream.contribution)
+}
+
+fn is_valid_utility(utility: &Utility) -> bool
+    ensures { IsTrue result ↔ IsValidUtility utility.now }
+{
+    if !is_plain(&utility.name) {
+        return false;
+    }
+    if !is_temperature(utility.level) {
+        return false;
+    }
+    if !is_between(0, 1_000_000_000_000, utility.least) {
+        return false;
+    }
+    if !is_between(utility.least, 1_000_000_000_000, utility.most) {
+        return false;
+    }
+    if !is_between(-1_000_000, 1_000_000, utility.price) {
+        return false;
+    }
+    is_contribution(utility.contribution)
+}
+
+fn count_hot(streams: &[Stream]) -> usize
+    ensures { result ≡ count_by (λ s. is_hot s.side) streams.now }
+{
+    streams.iter().filter(|stream| stream.side == Side::Hot).count()
+}
+
+fn count_cold(streams: &[Stream]) -> usize
+    ensures { result ≡ count_by (λ s. not (is_hot s.side)) streams.now }
+{
+    streams.iter().filter(|stream| stream.side == Side::Cold).count()
+}
+
+fn are_valid_streams(streams: &[Stream]) -> bool
+    ensures { IsTrue result ↔ All IsValidStream streams.now }
+{
+    streams.iter().all(|stream| is_valid_stream(stream))
+}
+
+fn has_valid_streams(streams: &[Stream]) -> bool
+    ensures { IsTrue result ↔ HasValidStreams streams.now }
+{
+    if streams.is_empty() {
+        return false;
+    }
+    if !are_valid_streams(streams) {
+        return false;
+    }
+    if count_hot(streams) > MOST_STREAMS {
+        return false;
+    }
+    count_cold(streams) <= MOST_STREAMS
+}
+
+fn has_name(name: &Name, bytes: &[u8]) -> bool
+    ensures { IsTrue result ↔ (name.now ≡ bytes.now) }
+{
+    name.as_bytes() == bytes
+}
+
+/// Whether a stream may have the name.
+fn is_unreserved(name: &Name) -> bool
+    ensures { IsTrue result ↔ IsUnreserved name.now }
+{
+    !has_name(name, b"HOT") && !has_name(name, b"COLD")
+}
+
+/// Whether the name is not that of the standard utility of the other side.
+fn is_rightly_named(utility: &Utility) -> bool
+    ensures { IsTrue result ↔ IsRightlyNamed utility.now }
+{
+    match utility.side {
+        Side::Hot => !has_name(&utility.name, b"COLD"),
+        Side::Cold => !has_name(&utility.name, b"HOT"),
+    }
+}
+
+fn are_unreserved(streams: &[Stream]) -> bool
+    ensures { IsTrue result ↔ All (λ s. IsUnreserved s.name) streams.now }
+{
+    streams.iter().all(|stream| is_unreserved(&stream.name))
+}
+
+fn are_rightly_named(utilities: &[Utility]) -> bool
+    ensures { IsTrue result ↔ All IsRightlyNamed utilities.now }
+{
+    utilities.iter().all(|utility| is_rightly_named(utility))
+}
+
+fn are_valid_utilities(utilities: &[Utility]) -> bool
+    ensures { IsTrue result ↔ All IsValidUtility utilities.now }
+{
+    utilities.iter().all(|utility| is_valid_utility(utility))
+}
+
+fn streams_share_contribution(case: &Case) -> bool
+    ensures { IsTrue result
+        ↔ All (λ s. s.contribution ≡ case.now.contribution) case.now.streams }
+{
+    case.streams
+        .as_slice()
+        .iter()
+        .all(|stream| stream.contribution == case.contribution)
+}
+
+fn utilities_share_contribution(case: &Case, utilities: &[Utility]) -> bool
+    ensures { IsTrue result
+        ↔ All (λ u. u.contribution ≡ case.now.contribution) utilities.now }
+{
+    utilities
+        .iter()
+        .all(|utility| utility.contribution == case.contribution)
+}
+
+/// The name at a place of the list of names, in which the streams come first.
+fn name_at(case: &Case, utilities: &[Utility], place: usize) -> Name
+    requires { place < length (names_of (with_utilities case.now utilities.now)) }
+    ensures { result ≡ slice_index_or (names_of (with_utilities case.now utilities.now)) place [] }
+{
+    let streams = case.streams.as_slice();
+    if place < streams.len() {
+        streams[place].name
+    } else {
+        utilities[place - streams.len()].name
+    }
+}
+
+/// Whether no earlier source has the name at this place.
+fn is_new_name(case: &Case, utilities: &[Utility], place: usize) -> bool
+    requires { place < length (names_of (with_utilities case.now utilities.now)) }
+    ensures { let names = names_of (with_utilities case.now utilities.now) in
+        IsTrue result
+        ↔ ((i : ℕ) → i < place → slice_index_or names i [] ≢ slice_index_or names place []) }
+{
+    let name = name_at(case, utilities, place);
+    for earlier in 0..place {
+        if name_at(case, utilities, earlier) == name {
+            return false;
+        }
+    }
+    true
+}
+
+fn has_distinct_names(case: &Case, utilities: &[Utility]) -> bool
+    ensures { IsTrue result
+        ↔ AllPairs (λ a b. a ≢ b) (names_of (with_utilities case.now utilities.now)) }
+{
+    let streams = case.streams.as_slice();
+    for place in 0..streams.len() + utilities.len() {
+        if !is_new_name(case, utilities, place) {
+            return false;
+        }
+    }
+    true
+}
+
+fn side_of(case: &Case, utilities: &[Utility], source: Source) -> Option<Side>
+    ensures { result ≡ side_of (with_utilities case.now utilities.now) source }
+{
+    match source {
+        Source::Stream(index) => case.streams.get(index as usize).map(|stream| stream.side),
+        Source::Utility(index) => utilities.get(index as usize).map(|utility| utility.side),
+    }
+}
+
+fn is_valid_forbid(case: &Case, utilities: &[Utility], forbid: &Forbid) -> bool
+    ensures { IsTrue result
+        ↔ IsValidForbid (with_utilities case.now utilities.now) forbid.now }
+{
+    side_of(case, utilities, forbid.hot) == Some(Side::Hot)
+        && side_of(case, utilities, forbid.cold) == Some(Side::Cold)
+}
+
+fn are_valid_forbids(case: &Case, utilities: &[Utility]) -> bool
+    ensures { IsTrue result
+        ↔ All (IsValidForbid (with_utilities case.now utilities.now)) case.now.forbids }
+{
+    case.forbids
+        .as_slice()
+        .iter()
+        .all(|forbid| is_valid_forbid(case, utilities, forbid))
+}
+
+fn contains_forbid(forbids: &[Forbid], forbid: &Forbid) -> bool
+    ensures { IsTrue result ↔ Contains forbids.now forbid.now }
+{
+    forbids.contains(forbid)
+}
+
+fn are_distinct_forbids(forbids: &[Forbid]) -> bool
+    ensures { IsTrue result ↔ AllPairs (λ f g. f ≢ g) forbids.now }
+{
+    for (place, forbid) in forbids.iter().enumerate() {
+        if contains_forbid(&forbids[..place], forbid) {
+            return false;
+        }
+    }
+    true
+}
+
+fn shares_contribution(case: &Case, utilities: &[Utility]) -> bool
+    ensures { let k = with_utilities case.now utilities.now in
+        IsTrue result
+        ↔ (IsBetween (pos 0) (pos 1000) k.contribution
+            × All (λ s. s.contribution ≡ k.contribution) k.streams
+            × All (λ u. u.contribution ≡ k.contribution) k.utilities) }
+{
+    if !is_contribution(case.contribution) {
+        return false;
+    }
+    if !streams_share_contribution(case) {
+        return false;
+    }
+    utilities_share_contribution(case, utilities)
+}
+
+fn has_valid_sources(case: &Case, utilities: &[Utility]) -> bool
+    ensures { let k = with_utilities case.now utilities.now in
+        IsTrue result
+        ↔ (HasValidStreams k.streams
+            × (length k.utilities ≤ most_utilities)
+            × All IsValidUtility k.utilities) }
+{
+    if !has_valid_streams(case.streams.as_slice()) {
+        return false;
+    }
+    if utilities.len() > MOST_UTILITIES {
+        return false;
+    }
+    are_valid_utilities(utilities)
+}
+
+fn has_valid_names(case: &Case, utilities: &[Utility]) -> bool
+    ensures { let k = with_utilities case.now utilities.now in
+        IsTrue result
+        ↔ (All (λ s. IsUnreserved s.name) k.streams
+            × All IsRightlyNamed k.utilities
+            × AllPairs (λ a b. a ≢ b) (names_of k)) }
+{
+    if !are_unreserved(case.streams.as_slice()) {
+        return false;
+    }
+    if !are_rightly_named(utilities) {
+        return false;
+    }
+    has_distinct_names(case, utilities)
+}
+
+fn has_valid_forbids(case: &Case, utilities: &[Utility]) -> bool
+    ensures { let k = with_utilities case.now utilities.now in
+        IsTrue result
+        ↔ ((length k.forbids ≤ most_forbids)
+            × All (IsValidForbid k) k.forbids
+            × AllPairs (λ f g. f ≢ g) k.forbids) }
+{
+    if case.forbids.len() > MOST_FORBIDS {
+        return false;
+    }
+    if !are_valid_forbids(case, utilities) {
+        return false;
+    }
+    are_distinct_forbids(case.forbids.as_slice())
+}
+
+/// Whether the case with these utilities in place of its own is valid.
+pub(crate) fn is_valid_with(case: &Case, utilities: &[Utility]) -> bool
+    ensures { IsTrue result ↔ IsValid (with_utilities case.now utilities.now) }
+{
+    if !shares_contribution(case, utilities) {
+        return false;
+    }
+    if !has_valid_sources(case, utilities) {
+        return false;
+    }
+    if !has_valid_names(case, utilities) {
+        return false;
+    }
+    has_valid_forbids(case, utilities)
+}
+
+/// Whether the case is one that a case file can give: every number is in its range, there is a
+/// stream and no more streams, utilities and forbidden matches than the limits, each source has
+/// the contribution of the case, the names are undotted and differ, `HOT` names only a hot
+/// utility and `COLD` only a cold one, and each forbidden match joins a hot source with a cold
+/// one, no pair twice (this project's rule).
+pub fn is_valid(case: &Case) -> bool
+    ensures { IsTrue result ↔ IsValid case.now }
+{
+    is_valid_with(case, case.utilities.as_slice())
+}
