@@ -18,6 +18,7 @@ pub record Found (name : List ℕ) (files : List MemoryFile) (i k : ℕ) : Type 
   pub first : find_file name (named_files files) ≡ Some file.bytes.items
   pub named : string_bytes file.name ≡ name
 
+-- a search that answered so found the first file of that name, or there is none
 abbrev pub Looked : List ℕ → List MemoryFile → ℕ → Option ℕ → Type 0
 Looked name files i r = MatchOption r (find_file name (named_files files) ≡ None) (λ k. Found name files i k)
 
@@ -55,11 +56,11 @@ left_at name files (Some k) found some =
     let here : slice_get files k ≡ Some found.file = ap (slice_get files) (found.at ∙ zero-add found.place) ∙ found.there in
     rw here found.first
 
--- and has the bytes of the first file of the name before it
+-- and then has the bytes of the first file of the name to come
 pub left_first : (name : List ℕ) (files : List MemoryFile) (r : Option ℕ) → r ≡ place_of name files → is_some r ≡ true → find_file name (named_files files) ≡ Some (bytes_from files r 0)
 left_first name files r is some = left_at name files r (rw is (looked_first name files)) some
 
--- a take of n bytes into a buffer
+-- a take of n bytes into a buffer puts the front of those to come
 pub took : (xs buf new : List ℕ) (pos n : ℕ) → n ≡ min (length buf) (length (drop pos xs)) → new ≡ take n (drop pos xs)
     → (drop pos xs ≡ take n (new ++ drop n buf) ++ drop (pos + n) xs) × (n ≡ 0 → 0 < length (new ++ drop n buf) → drop (pos + n) xs ≡ [])
 took xs buf new pos n count copied =

@@ -1,5 +1,6 @@
-//! The outside of a program, as traits: where it takes files from (`Shelf`) and where it writes to (`Sink`). Both are
-//! given in memory, where everything is told and calls fail at will, and over the files and the output of the system.
+//! The outside of a program as two traits: `Shelf`, where files are taken from, and `Sink`, where bytes are written to.
+//! Both stand in memory, where contracts see every byte and chosen calls fail, and over the files and the output of
+//! the system.
 #![tactic(auto)]
 
 mod adapters;

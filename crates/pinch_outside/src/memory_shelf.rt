@@ -1,8 +1,6 @@
 // A shelf in memory, which tells everything and fails at the calls that it is told to fail at.
-ghost use Rattle.std.specs.Prelude.{◌≡◌, ◌+◌, ◌-◌, ◌^◌, ◌≤◌, ◌&&◌, not, false, min, length, Some, is_some, is_ok, is_err, OnOk, IfOk};
-ghost use Rattle.std.specs.Io.{ReadsAtMost};
-ghost use Rattle.std.specs.Io.KnownBytes.{ReadConsumes};
-ghost use Rattle.pinch_outside.specs.Faults.{HasCause, counted, faults_after};
+ghost use Rattle.std.specs.Prelude.{◌≡◌, ◌+◌, ◌-◌, ◌^◌, ◌≤◌, ◌&&◌, not, false, min, length, Some, is_some, is_ok, is_err, IfOk};
+ghost use Rattle.pinch_outside.specs.Faults.{counted, faults_after};
 ghost use Rattle.pinch_outside.specs.Failing.{is_failing};
 ghost use Rattle.pinch_outside.specs.Shelf.{Starts, Takes, put_count, met_end};
 ghost use Rattle.pinch_outside.specs.Memory.{place_of, bytes_from, memory_state};
