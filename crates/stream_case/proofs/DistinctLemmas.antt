@@ -8,8 +8,8 @@ AllPairs-more {X} R xs i within before new a b d =
     let P : List X → Type 0 = λ ys. AllPairs R ys in
     let short = length-take-le i xs (omega arith) in
     subst P (sym (take_more xs i d within)) (all_pairs_push R (take i xs) (get_or xs i d) before (λ k e inside.
-      let early : k < i = omega arith in
-      subst₂ R (sym (get_or-take i xs k e early)) (get_or_default xs i e d within) (new k e early))) a b d
+    let early : k < i = omega arith in
+    subst₂ R (sym (get_or-take i xs k e early)) (get_or_default xs i e d within) (new k e early))) a b d
 
 pub AllPairs-all : {X : Type 0} (R : X → X → Type 0) (xs : List X) (i : ℕ) → length xs ≤ i → AllPairs R (take i xs) → AllPairs R xs
 AllPairs-all {X} R xs i past h =

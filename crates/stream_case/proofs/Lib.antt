@@ -1,4 +1,5 @@
 pub mod CaseLemmas
+pub mod CompleteLemmas
 pub mod DistinctLemmas
 pub mod EndLemmas
 pub mod NameLemmas

@@ -133,12 +133,15 @@ fn is_addition(case: &Case, given: &[Utility], added: &[Utility]) -> bool
     requires contribution { IsBetween (pos 0) (pos 1000) case.now.contribution }
     ensures { IsTrue result
         ↔ (added.now
-            ≡ unless_given (standard_hot case.now) given.now
-            ++ unless_given (standard_cold case.now) given.now) }
+        ≡ unless_given (standard_hot case.now) given.now
+        ++ unless_given (standard_cold case.now) given.now) }
 {
     let hot = standard_hot(case);
     let cold = standard_cold(case);
-    match (has_utility(Side::Hot, given), has_utility(Side::Cold, given)) {
+    match (
+        has_utility(Side::Hot, given),
+        has_utility(Side::Cold, given),
+    ) {
         (true, true) => are_same(added, &[]),
         (true, false) => are_same(added, &[cold]),
         (false, true) => are_same(added, &[hot]),
@@ -159,8 +162,8 @@ fn is_completed_by(case: &Case, added: usize) -> bool
     is_addition(case, given, rest)
 }
 
-/// Whether the case is what `complete` makes of a valid case. It may have two utilities more
-/// than the limit of a valid case, and their levels may lie outside its range of temperatures.
+/// Whether the case is what `complete` makes of a valid case. It may have one utility more than
+/// a valid case, and the level of `HOT` and `COLD` may lie outside the range of temperatures.
 pub fn is_complete(case: &Case) -> bool
     ensures { IsTrue result ↔ IsComplete case.now }
 {
@@ -179,7 +182,7 @@ pub fn is_standard(case: &Case) -> bool
     requires { IsComplete case.now }
     ensures { IsTrue result ↔ IsStandard case.now }
 {
-    if case.forbids.len() > 0 {
+    if !case.forbids.is_empty() {
         return false;
     }
     let utilities = case.utilities.as_slice();

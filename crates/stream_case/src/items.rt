@@ -1,5 +1,5 @@
 //! A list that contracts see as its items.
-ghost use Rattle.std.specs.Prelude.{◌≡◌, ◌∷◌, ◌++◌, [], List, length, slice_get, IfOk, OnOk, OnErr, option_copied};
+ghost use Rattle.std.specs.Prelude.{◌≡◌, ◌↔◌, ◌∷◌, ◌++◌, [], List, length, slice_get, IsTrue, IfOk, OnOk, OnErr, option_copied};
 ghost use Rattle.std.specs.Cmp.Lexicographic.{pointwise, lists_per, lists_equiv};
 
 use std::alloc::{AllocError, Global};
@@ -36,6 +36,12 @@ impl<T> Items<T> {
         ensures { result ≡ length self.now }
     {
         self.items.len()
+    }
+
+    pub fn is_empty(&self) -> bool
+        ensures { IsTrue result ↔ (self.now ≡ []) }
+    {
+        self.items.is_empty()
     }
 
     pub fn get(&self, index: usize) -> Option<&T>

@@ -10,6 +10,8 @@ mod items;
 mod name;
 mod source;
 mod stream;
+#[cfg(test)]
+mod tests;
 mod utility;
 mod validity;
 
@@ -20,4 +22,4 @@ pub use name::Name;
 pub use source::{Side, Source};
 pub use stream::{Stream, shifted};
 pub use utility::Utility;
-pub use validity::is_valid;
+pub use validity::{MOST_FORBIDS, MOST_STREAMS, MOST_UTILITIES, is_valid};

@@ -4,20 +4,20 @@ ghost use Rattle.stream_case.specs.Name.{IsName};
 ghost use Rattle.stream_case.specs.Stream.{is_hot, same_side};
 ghost use Rattle.stream_case.specs.Case.{IsBetween, IsRightWay, IsValidStream, HasValidStreams, IsValidUtility, IsUnreserved, IsRightlyNamed, IsValidForbid, IsValid, with_utilities, names_of, side_of, most_utilities, most_forbids};
 
-use crate::name::Name;
 use crate::case::{Case, Forbid};
+use crate::name::Name;
 use crate::source::{Side, Source};
 use crate::stream::Stream;
 use crate::utility::Utility;
 
 /// The most streams on one side of a case.
-const MOST_STREAMS: usize = 12;
+pub const MOST_STREAMS: usize = 12;
 
 /// The most utilities of a case, those of both sides together.
-const MOST_UTILITIES: usize = 6;
+pub const MOST_UTILITIES: usize = 6;
 
 /// The most forbidden matches of a case.
-const MOST_FORBIDS: usize = 400;
+pub const MOST_FORBIDS: usize = 400;
 
 fn is_between(low: i64, high: i64, x: i64) -> bool
     ensures { IsTrue result ↔ IsBetween low high x }
@@ -46,8 +46,7 @@ fn is_right_way(side: Side, supply: i32, target: i32) -> bool
     }
 }
 
-/// Whether the name is not a dotted one.
-fn is_plain(name: &Name) -> bool
+fn is_undotted(name: &Name) -> bool
     ensures { IsTrue result ↔ IsName name.now }
 {
     let _ = name.as_bytes();
@@ -57,7 +56,7 @@ fn is_plain(name: &Name) -> bool
 fn is_valid_stream(stream: &Stream) -> bool
     ensures { IsTrue result ↔ IsValidStream stream.now }
 {
-    if !is_plain(&stream.name) {
+    if !is_undotted(&stream.name) {
         return false;
     }
     if !is_temperature(stream.supply) {
@@ -78,7 +77,7 @@ fn is_valid_stream(stream: &Stream) -> bool
 fn is_valid_utility(utility: &Utility) -> bool
     ensures { IsTrue result ↔ IsValidUtility utility.now }
 {
-    if !is_plain(&utility.name) {
+    if !is_undotted(&utility.name) {
         return false;
     }
     if !is_temperature(utility.level) {
@@ -99,13 +98,19 @@ fn is_valid_utility(utility: &Utility) -> bool
 fn count_hot(streams: &[Stream]) -> usize
     ensures { result ≡ count_by (λ s. is_hot s.side) streams.now }
 {
-    streams.iter().filter(|stream| stream.side == Side::Hot).count()
+    streams
+        .iter()
+        .filter(|stream| stream.side == Side::Hot)
+        .count()
 }
 
 fn count_cold(streams: &[Stream]) -> usize
     ensures { result ≡ count_by (λ s. not (is_hot s.side)) streams.now }
 {
-    streams.iter().filter(|stream| stream.side == Side::Cold).count()
+    streams
+        .iter()
+        .filter(|stream| stream.side == Side::Cold)
+        .count()
 }
 
 fn are_valid_streams(streams: &[Stream]) -> bool
@@ -279,8 +284,8 @@ fn shares_contribution(case: &Case, utilities: &[Utility]) -> bool
     ensures { let k = with_utilities case.now utilities.now in
         IsTrue result
         ↔ (IsBetween (pos 0) (pos 1000) k.contribution
-            × All (λ s. s.contribution ≡ k.contribution) k.streams
-            × All (λ u. u.contribution ≡ k.contribution) k.utilities) }
+        × All (λ s. s.contribution ≡ k.contribution) k.streams
+        × All (λ u. u.contribution ≡ k.contribution) k.utilities) }
 {
     if !is_contribution(case.contribution) {
         return false;
@@ -295,8 +300,8 @@ fn has_valid_sources(case: &Case, utilities: &[Utility]) -> bool
     ensures { let k = with_utilities case.now utilities.now in
         IsTrue result
         ↔ (HasValidStreams k.streams
-            × (length k.utilities ≤ most_utilities)
-            × All IsValidUtility k.utilities) }
+        × (length k.utilities ≤ most_utilities)
+        × All IsValidUtility k.utilities) }
 {
     if !has_valid_streams(case.streams.as_slice()) {
         return false;
@@ -311,8 +316,8 @@ fn has_valid_names(case: &Case, utilities: &[Utility]) -> bool
     ensures { let k = with_utilities case.now utilities.now in
         IsTrue result
         ↔ (All (λ s. IsUnreserved s.name) k.streams
-            × All IsRightlyNamed k.utilities
-            × AllPairs (λ a b. a ≢ b) (names_of k)) }
+        × All IsRightlyNamed k.utilities
+        × AllPairs (λ a b. a ≢ b) (names_of k)) }
 {
     if !are_unreserved(case.streams.as_slice()) {
         return false;
@@ -327,8 +332,8 @@ fn has_valid_forbids(case: &Case, utilities: &[Utility]) -> bool
     ensures { let k = with_utilities case.now utilities.now in
         IsTrue result
         ↔ ((length k.forbids ≤ most_forbids)
-            × All (IsValidForbid k) k.forbids
-            × AllPairs (λ f g. f ≢ g) k.forbids) }
+        × All (IsValidForbid k) k.forbids
+        × AllPairs (λ f g. f ≢ g) k.forbids) }
 {
     if case.forbids.len() > MOST_FORBIDS {
         return false;

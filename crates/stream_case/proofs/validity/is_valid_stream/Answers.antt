@@ -18,7 +18,7 @@ returns c =
       λ h.
           let contribution = c.is_contribution.ensures.0 h in
           record {
-            name = c.is_plain.ensures.0 c.if-not-is_plain.false;
+            name = c.is_undotted.ensures.0 c.if-not-is_undotted.false;
             supply = record { from = omega (arith, ints); upto = omega (arith, ints) };
             target = record { from = omega (arith, ints); upto = omega (arith, ints) };
             way = subst₂ (IsRightWay s.side) (to_z-of_z w32 s.supply supply_fits) (to_z-of_z w32 s.target target_fits) way;

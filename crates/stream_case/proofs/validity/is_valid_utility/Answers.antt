@@ -18,7 +18,7 @@ returns c =
       λ h.
           let contribution = c.is_contribution.ensures.0 h in
           record {
-            name = c.is_plain.ensures.0 c.if-not-is_plain.false;
+            name = c.is_undotted.ensures.0 c.if-not-is_undotted.false;
             level = record { from = omega (arith, ints); upto = omega (arith, ints) };
             least = record { from = omega (arith, ints); upto = omega (arith, ints) };
             most = record { from = omega (arith, ints); upto = omega (arith, ints) };

@@ -1,0 +1,334 @@
+-- The laws of the order.
+use Rattle.std.proofs.Common.{◌≡◌, ◌≢◌, ◌∙◌, ◌*◌, ◌<◌, ◌⊎◌, inl, inr, ◌+ℤ◌, ◌-ℤ◌, ◌*ℤ◌, ◌<ℤ◌, ◌≤ℤ◌, ℕ, ℤ, suc, pos, negsuc, List, [], ◌∷◌, refl, sym, ap, subst, arith}
+use Rattle.std.specs.Bool.{Decides}
+use Rattle.std.specs.List.{All}
+use Rattle.std.specs.Ordering.{MatchOrdering, is_ge, is_gt, is_le, is_lt}
+use Rattle.std.specs.declared.cmp.Ordering.{Ordering}
+use Rattle.std.specs.declared.cmp.Ordering.TheVariants.{Less, Equal, Greater}
+use Rattle.std.specs.Int.Signed.{≤ℤ_refl, clash_ℤ}
+use Rattle.std.proofs.lemmas.Int.{by_lt_z, ints}
+use mathlib.Core.Path.{subst₂}
+use Rattle.std.proofs.Math.Nat.{mul-pos}
+use Rattle.fractions.specs.Integers.{*ℤ-<ℤ, *ℤ-≤ℤ, *ℤ_assoc, *ℤ_swap, <ℤ_from_*ℤ, ≤ℤ_from_*ℤ}
+use Rattle.fractions.specs.LowestForms.{ratio-value, same_from_value}
+use Rattle.fractions.specs.Rationals.{IsAtMost, IsBelow, Rational, minus, over, plus, ratio, rational_cmp, rational_sum_by, rational_zero, times, whole}
+use Rattle.fractions.specs.Order.{rational_ranks}
+use Rattle.fractions.proofs.Products.{over-times, zero-over, zero-times}
+use Rattle.fractions.proofs.Ratios.{by_four, by_three, by_two, one_denominator, ratio-cancel, ratio-one, ratio-zero, times-ratio}
+use Rattle.fractions.proofs.Sums.{rational_sum_by-cons}
+
+-- ---- ratios over one denominator are ordered as their numerators are
+
+-- a cross product of two ratios over d, times d
+cross-scaled : (n m : ℤ) (d : ℕ) → 0 < d → (ratio n d).num *ℤ pos (ratio m d).den *ℤ pos d ≡ n *ℤ pos ((ratio n d).den * (ratio m d).den)
+cross-scaled n m d some =
+    let a = ratio n d in let b = ratio m d in
+    *ℤ_swap a.num (pos b.den) (pos d) ∙ ap (λ z. z *ℤ pos b.den) (ratio-value n d some) ∙ *ℤ_assoc n (pos a.den) (pos b.den)
+
+other-scaled : (n m : ℤ) (d : ℕ) → 0 < d → (ratio m d).num *ℤ pos (ratio n d).den *ℤ pos d ≡ m *ℤ pos ((ratio n d).den * (ratio m d).den)
+other-scaled n m d some = cross-scaled m n d some ∙ ap (λ k. m *ℤ pos k) (omega arith)
+
+pub at_most-ratio : (n m : ℤ) (d : ℕ) → 0 < d → n ≤ℤ m → IsAtMost (ratio n d) (ratio m d)
+at_most-ratio n m d some h = record {
+  cross = ≤ℤ_from_*ℤ _ _ d some (subst₂ ◌≤ℤ◌ (sym (cross-scaled n m d some)) (sym (other-scaled n m d some)) (*ℤ-≤ℤ n m ((ratio n d).den * (ratio m d).den) h));
+}
+
+pub at_most_from_ratio : (n m : ℤ) (d : ℕ) → 0 < d → IsAtMost (ratio n d) (ratio m d) → n ≤ℤ m
+at_most_from_ratio n m d some h =
+    ≤ℤ_from_*ℤ n m ((ratio n d).den * (ratio m d).den) (mul-pos (ratio n d).positive (ratio m d).positive)
+    (subst₂ ◌≤ℤ◌ (cross-scaled n m d some) (other-scaled n m d some) (*ℤ-≤ℤ _ _ d h.cross))
+
+pub below-ratio : (n m : ℤ) (d : ℕ) → 0 < d → n <ℤ m → IsBelow (ratio n d) (ratio m d)
+below-ratio n m d some h = record {
+  cross = <ℤ_from_*ℤ _ _ d (subst₂ ◌<ℤ◌ (sym (cross-scaled n m d some)) (sym (other-scaled n m d some))
+      (*ℤ-<ℤ n m ((ratio n d).den * (ratio m d).den) (mul-pos (ratio n d).positive (ratio m d).positive) h));
+}
+
+pub below_from_ratio : (n m : ℤ) (d : ℕ) → 0 < d → IsBelow (ratio n d) (ratio m d) → n <ℤ m
+below_from_ratio n m d some h =
+    <ℤ_from_*ℤ n m ((ratio n d).den * (ratio m d).den) (subst₂ ◌<ℤ◌ (cross-scaled n m d some) (other-scaled n m d some) (*ℤ-<ℤ _ _ d some h.cross))
+
+-- ---- a total order
+
+pub at_most_refl : (a : Rational) → IsAtMost a a
+at_most_refl a = record { cross = ≤ℤ_refl (a.num *ℤ pos a.den) }
+
+pub at_most_from_same : (a b : Rational) → a ≡ b → IsAtMost a b
+at_most_from_same a b same = subst (IsAtMost a) same (at_most_refl a)
+
+pub at_most_from_below : (a b : Rational) → IsBelow a b → IsAtMost a b
+at_most_from_below a b h = let less = h.cross in record { cross = omega (arith, ints, less) }
+
+pub below_not_at_most : (a b : Rational) → IsBelow a b → IsAtMost b a → ⊥
+below_not_at_most a b less more = clash_ℤ less.cross more.cross
+
+pub below_not_same : (a b : Rational) → IsBelow a b → a ≢ b
+below_not_same a b less same = below_not_at_most a b less (at_most_from_same b a (sym same))
+
+-- of two, one is at most the other
+pub below_or_at_most : (a b : Rational) → IsBelow a b ⊎ IsAtMost b a
+below_or_at_most a b = by_lt_z (a.num *ℤ pos b.den) (b.num *ℤ pos a.den) (λ h. inl (record { cross = h })) (λ h. inr (record { cross = h }))
+
+pub at_most_from_not_below : (a b : Rational) → (IsBelow a b → ⊥) → IsAtMost b a
+at_most_from_not_below a b not_less = by (below_or_at_most a b)
+  where
+    by : IsBelow a b ⊎ IsAtMost b a → IsAtMost b a
+    by (inl less) = absurd (not_less less)
+    by (inr more) = more
+
+pub below_from_not_at_most : (a b : Rational) → (IsAtMost b a → ⊥) → IsBelow a b
+below_from_not_at_most a b not_more = by (below_or_at_most a b)
+  where
+    by : IsBelow a b ⊎ IsAtMost b a → IsBelow a b
+    by (inl less) = less
+    by (inr more) = absurd (not_more more)
+
+pub at_most_antisymm : (a b : Rational) → IsAtMost a b → IsAtMost b a → a ≡ b
+at_most_antisymm a b one two = let x = one.cross in let y = two.cross in same_from_value a b (omega (arith, ints, x, y))
+
+pub at_most_trans : (a b c : Rational) → IsAtMost a b → IsAtMost b c → IsAtMost a c
+at_most_trans = by_three (λ a b c. IsAtMost a b → IsAtMost b c → IsAtMost a c) (λ n m l d some h k.
+    let x = at_most_from_ratio n m d some h in let y = at_most_from_ratio m l d some k in at_most-ratio n l d some (omega (arith, ints, x, y)))
+
+pub below_at_most_trans : (a b c : Rational) → IsBelow a b → IsAtMost b c → IsBelow a c
+below_at_most_trans = by_three (λ a b c. IsBelow a b → IsAtMost b c → IsBelow a c) (λ n m l d some h k.
+    let x = below_from_ratio n m d some h in let y = at_most_from_ratio m l d some k in below-ratio n l d some (omega (arith, ints, x, y)))
+
+pub at_most_below_trans : (a b c : Rational) → IsAtMost a b → IsBelow b c → IsBelow a c
+at_most_below_trans = by_three (λ a b c. IsAtMost a b → IsBelow b c → IsBelow a c) (λ n m l d some h k.
+    let x = at_most_from_ratio n m d some h in let y = below_from_ratio m l d some k in below-ratio n l d some (omega (arith, ints, x, y)))
+
+pub below_trans : (a b c : Rational) → IsBelow a b → IsBelow b c → IsBelow a c
+below_trans a b c h k = below_at_most_trans a b c h (at_most_from_below b c k)
+
+-- ---- what the code's `<`, `<=`, `>` and `>=` say (for `==`: Decides-rational_eq of specs/Order.antt)
+
+pub Decides-is_lt : (a b : Rational) → Decides (is_lt (rational_cmp a b)) (IsBelow a b)
+Decides-is_lt a b = by (rational_cmp a b) (rational_ranks a b)
+  where
+    by : (r : Ordering) → MatchOrdering r (IsBelow a b) (a ≡ b) (IsBelow b a) → Decides (is_lt r) (IsBelow a b)
+    by Less m = (λ _. m, λ _. refl)
+    by Equal m = (λ e. cc e, λ less. absurd (below_not_same a b less m))
+    by Greater m = (λ e. cc e, λ less. absurd (below_not_at_most a b less (at_most_from_below b a m)))
+
+pub Decides-is_le : (a b : Rational) → Decides (is_le (rational_cmp a b)) (IsAtMost a b)
+Decides-is_le a b = by (rational_cmp a b) (rational_ranks a b)
+  where
+    by : (r : Ordering) → MatchOrdering r (IsBelow a b) (a ≡ b) (IsBelow b a) → Decides (is_le r) (IsAtMost a b)
+    by Less m = (λ _. at_most_from_below a b m, λ _. refl)
+    by Equal m = (λ _. at_most_from_same a b m, λ _. refl)
+    by Greater m = (λ e. cc e, λ more. absurd (below_not_at_most b a m more))
+
+pub Decides-is_gt : (a b : Rational) → Decides (is_gt (rational_cmp a b)) (IsBelow b a)
+Decides-is_gt a b = by (rational_cmp a b) (rational_ranks a b)
+  where
+    by : (r : Ordering) → MatchOrdering r (IsBelow a b) (a ≡ b) (IsBelow b a) → Decides (is_gt r) (IsBelow b a)
+    by Less m = (λ e. cc e, λ more. absurd (below_not_at_most b a more (at_most_from_below a b m)))
+    by Equal m = (λ e. cc e, λ more. absurd (below_not_same b a more (sym m)))
+    by Greater m = (λ _. m, λ _. refl)
+
+pub Decides-is_ge : (a b : Rational) → Decides (is_ge (rational_cmp a b)) (IsAtMost b a)
+Decides-is_ge a b = by (rational_cmp a b) (rational_ranks a b)
+  where
+    by : (r : Ordering) → MatchOrdering r (IsBelow a b) (a ≡ b) (IsBelow b a) → Decides (is_ge r) (IsAtMost b a)
+    by Less m = (λ e. cc e, λ more. absurd (below_not_at_most a b m more))
+    by Equal m = (λ _. at_most_from_same b a (sym m), λ _. refl)
+    by Greater m = (λ _. at_most_from_below b a m, λ _. refl)
+
+-- ---- sums and differences
+
+pub at_most-plus : (a b c : Rational) → IsAtMost a b → IsAtMost (plus a c) (plus b c)
+at_most-plus = by_three (λ a b c. IsAtMost a b → IsAtMost (plus a c) (plus b c)) (λ n m l d some h.
+    let x = at_most_from_ratio n m d some h in simp one_denominator (at_most-ratio (n +ℤ l) (m +ℤ l) d some (omega (arith, ints, x))))
+
+pub at_most_from_plus : (a b c : Rational) → IsAtMost (plus a c) (plus b c) → IsAtMost a b
+at_most_from_plus = by_three (λ a b c. IsAtMost (plus a c) (plus b c) → IsAtMost a b) (λ n m l d some h.
+    let x = at_most_from_ratio (n +ℤ l) (m +ℤ l) d some (simp one_denominator at h) in at_most-ratio n m d some (omega (arith, ints, x)))
+
+pub at_most-plus_plus : (a b c e : Rational) → IsAtMost a b → IsAtMost c e → IsAtMost (plus a c) (plus b e)
+at_most-plus_plus = by_four (λ a b c e. IsAtMost a b → IsAtMost c e → IsAtMost (plus a c) (plus b e)) (λ n m l k d some h g.
+    let x = at_most_from_ratio n m d some h in let y = at_most_from_ratio l k d some g in simp one_denominator (at_most-ratio (n +ℤ l) (m +ℤ k) d some (omega (arith, ints, x, y))))
+
+pub below-plus : (a b c : Rational) → IsBelow a b → IsBelow (plus a c) (plus b c)
+below-plus = by_three (λ a b c. IsBelow a b → IsBelow (plus a c) (plus b c)) (λ n m l d some h.
+    let x = below_from_ratio n m d some h in simp one_denominator (below-ratio (n +ℤ l) (m +ℤ l) d some (omega (arith, ints, x))))
+
+pub below_from_plus : (a b c : Rational) → IsBelow (plus a c) (plus b c) → IsBelow a b
+below_from_plus = by_three (λ a b c. IsBelow (plus a c) (plus b c) → IsBelow a b) (λ n m l d some h.
+    let x = below_from_ratio (n +ℤ l) (m +ℤ l) d some (simp one_denominator at h) in below-ratio n m d some (omega (arith, ints, x)))
+
+pub below-plus_at_most : (a b c e : Rational) → IsBelow a b → IsAtMost c e → IsBelow (plus a c) (plus b e)
+below-plus_at_most = by_four (λ a b c e. IsBelow a b → IsAtMost c e → IsBelow (plus a c) (plus b e)) (λ n m l k d some h g.
+    let x = below_from_ratio n m d some h in let y = at_most_from_ratio l k d some g in simp one_denominator (below-ratio (n +ℤ l) (m +ℤ k) d some (omega (arith, ints, x, y))))
+
+-- from a least value less a greater one
+pub at_most-minus_minus : (a b c e : Rational) → IsAtMost a b → IsAtMost c e → IsAtMost (minus a e) (minus b c)
+at_most-minus_minus = by_four (λ a b c e. IsAtMost a b → IsAtMost c e → IsAtMost (minus a e) (minus b c)) (λ n m l k d some h g.
+    let x = at_most_from_ratio n m d some h in let y = at_most_from_ratio l k d some g in simp one_denominator (at_most-ratio (n -ℤ k) (m -ℤ l) d some (omega (arith, ints, x, y))))
+
+-- a is at most b less c where a and c are at most b
+pub at_most-minus_right : (a b c : Rational) → IsAtMost (plus a c) b → IsAtMost a (minus b c)
+at_most-minus_right = by_three (λ a b c. IsAtMost (plus a c) b → IsAtMost a (minus b c)) (λ n m l d some h.
+    let x = at_most_from_ratio (n +ℤ l) m d some (simp one_denominator at h) in simp one_denominator (at_most-ratio n (m -ℤ l) d some (omega (arith, ints, x))))
+
+pub at_most_from_minus_right : (a b c : Rational) → IsAtMost a (minus b c) → IsAtMost (plus a c) b
+at_most_from_minus_right = by_three (λ a b c. IsAtMost a (minus b c) → IsAtMost (plus a c) b) (λ n m l d some h.
+    let x = at_most_from_ratio n (m -ℤ l) d some (simp one_denominator at h) in simp one_denominator (at_most-ratio (n +ℤ l) m d some (omega (arith, ints, x))))
+
+pub below-minus_right : (a b c : Rational) → IsBelow (plus a c) b → IsBelow a (minus b c)
+below-minus_right = by_three (λ a b c. IsBelow (plus a c) b → IsBelow a (minus b c)) (λ n m l d some h.
+    let x = below_from_ratio (n +ℤ l) m d some (simp one_denominator at h) in simp one_denominator (below-ratio n (m -ℤ l) d some (omega (arith, ints, x))))
+
+pub below_from_minus_right : (a b c : Rational) → IsBelow a (minus b c) → IsBelow (plus a c) b
+below_from_minus_right = by_three (λ a b c. IsBelow a (minus b c) → IsBelow (plus a c) b) (λ n m l d some h.
+    let x = below_from_ratio n (m -ℤ l) d some (simp one_denominator at h) in simp one_denominator (below-ratio (n +ℤ l) m d some (omega (arith, ints, x))))
+
+-- ---- against 0
+
+-- 0 as a ratio over any denominator
+pub not_negative-ratio : (n : ℤ) (d : ℕ) → 0 < d → pos 0 ≤ℤ n → IsAtMost rational_zero (ratio n d)
+not_negative-ratio n d some h = subst (λ x. IsAtMost x (ratio n d)) (ratio-zero d) (at_most-ratio (pos 0) n d some h)
+
+pub not_negative_from_ratio : (n : ℤ) (d : ℕ) → 0 < d → IsAtMost rational_zero (ratio n d) → pos 0 ≤ℤ n
+not_negative_from_ratio n d some h = at_most_from_ratio (pos 0) n d some (subst (λ x. IsAtMost x (ratio n d)) (sym (ratio-zero d)) h)
+
+pub positive-ratio : (n : ℤ) (d : ℕ) → 0 < d → pos 0 <ℤ n → IsBelow rational_zero (ratio n d)
+positive-ratio n d some h = subst (λ x. IsBelow x (ratio n d)) (ratio-zero d) (below-ratio (pos 0) n d some h)
+
+pub positive_from_ratio : (n : ℤ) (d : ℕ) → 0 < d → IsBelow rational_zero (ratio n d) → pos 0 <ℤ n
+positive_from_ratio n d some h = below_from_ratio (pos 0) n d some (subst (λ x. IsBelow x (ratio n d)) (sym (ratio-zero d)) h)
+
+pub positive-nonzero : (a : Rational) → IsBelow rational_zero a → a ≢ rational_zero
+positive-nonzero a some none = below_not_same rational_zero a some (sym none)
+
+-- a difference is not negative exactly where it goes down
+pub not_negative-minus : (a b : Rational) → IsAtMost a b → IsAtMost rational_zero (minus b a)
+not_negative-minus = by_two (λ a b. IsAtMost a b → IsAtMost rational_zero (minus b a)) (λ n m d some h.
+    let x = at_most_from_ratio n m d some h in simp one_denominator (not_negative-ratio (m -ℤ n) d some (omega (arith, ints, x))))
+
+pub at_most_from_not_negative : (a b : Rational) → IsAtMost rational_zero (minus b a) → IsAtMost a b
+at_most_from_not_negative = by_two (λ a b. IsAtMost rational_zero (minus b a) → IsAtMost a b) (λ n m d some h.
+    let x = not_negative_from_ratio (m -ℤ n) d some (simp one_denominator at h) in at_most-ratio n m d some (omega (arith, ints, x)))
+
+pub positive-minus : (a b : Rational) → IsBelow a b → IsBelow rational_zero (minus b a)
+positive-minus = by_two (λ a b. IsBelow a b → IsBelow rational_zero (minus b a)) (λ n m d some h.
+    let x = below_from_ratio n m d some h in simp one_denominator (positive-ratio (m -ℤ n) d some (omega (arith, ints, x))))
+
+pub below_from_positive : (a b : Rational) → IsBelow rational_zero (minus b a) → IsBelow a b
+below_from_positive = by_two (λ a b. IsBelow rational_zero (minus b a) → IsBelow a b) (λ n m d some h.
+    let x = positive_from_ratio (m -ℤ n) d some (simp one_denominator at h) in below-ratio n m d some (omega (arith, ints, x)))
+
+pub not_negative-plus : (a b : Rational) → IsAtMost rational_zero a → IsAtMost rational_zero b → IsAtMost rational_zero (plus a b)
+not_negative-plus = by_two (λ a b. IsAtMost rational_zero a → IsAtMost rational_zero b → IsAtMost rational_zero (plus a b)) (λ n m d some h k.
+    let x = not_negative_from_ratio n d some h in let y = not_negative_from_ratio m d some k in simp one_denominator (not_negative-ratio (n +ℤ m) d some (omega (arith, ints, x, y))))
+
+pub positive-plus : (a b : Rational) → IsBelow rational_zero a → IsAtMost rational_zero b → IsBelow rational_zero (plus a b)
+positive-plus = by_two (λ a b. IsBelow rational_zero a → IsAtMost rational_zero b → IsBelow rational_zero (plus a b)) (λ n m d some h k.
+    let x = positive_from_ratio n d some h in let y = not_negative_from_ratio m d some k in simp one_denominator (positive-ratio (n +ℤ m) d some (omega (arith, ints, x, y))))
+
+-- ---- products and quotients
+
+-- a factor that is not negative keeps the order
+at_most-*ℤ : (n m l : ℤ) → pos 0 ≤ℤ l → n ≤ℤ m → (n *ℤ l) ≤ℤ (m *ℤ l)
+at_most-*ℤ n m (pos k) some h = *ℤ-≤ℤ n m k h
+at_most-*ℤ n m (negsuc k) some h = absurd (omega (arith, ints, some))
+
+below-*ℤ : (n m l : ℤ) → pos 0 <ℤ l → n <ℤ m → (n *ℤ l) <ℤ (m *ℤ l)
+below-*ℤ n m (pos k) some h = *ℤ-<ℤ n m k (omega (arith, ints, some)) h
+below-*ℤ n m (negsuc k) some h = absurd (omega (arith, ints, some))
+
+pub at_most-times : (a b c : Rational) → IsAtMost rational_zero c → IsAtMost a b → IsAtMost (times a c) (times b c)
+at_most-times = by_three (λ a b c. IsAtMost rational_zero c → IsAtMost a b → IsAtMost (times a c) (times b c)) (λ n m l d some h k.
+    subst₂ IsAtMost (sym (times-ratio n l d d some some)) (sym (times-ratio m l d d some some))
+    (at_most-ratio (n *ℤ l) (m *ℤ l) (d * d) (mul-pos some some) (at_most-*ℤ n m l (not_negative_from_ratio l d some h) (at_most_from_ratio n m d some k))))
+
+pub below-times : (a b c : Rational) → IsBelow rational_zero c → IsBelow a b → IsBelow (times a c) (times b c)
+below-times = by_three (λ a b c. IsBelow rational_zero c → IsBelow a b → IsBelow (times a c) (times b c)) (λ n m l d some h k.
+    subst₂ IsBelow (sym (times-ratio n l d d some some)) (sym (times-ratio m l d d some some))
+    (below-ratio (n *ℤ l) (m *ℤ l) (d * d) (mul-pos some some) (below-*ℤ n m l (positive_from_ratio l d some h) (below_from_ratio n m d some k))))
+
+pub at_most_from_times : (a b c : Rational) → IsBelow rational_zero c → IsAtMost (times a c) (times b c) → IsAtMost a b
+at_most_from_times a b c some h = by (below_or_at_most b a)
+  where
+    by : IsBelow b a ⊎ IsAtMost a b → IsAtMost a b
+    by (inl less) = absurd (below_not_at_most (times b c) (times a c) (below-times b a c some less) h)
+    by (inr more) = more
+
+pub below_from_times : (a b c : Rational) → IsAtMost rational_zero c → IsBelow (times a c) (times b c) → IsBelow a b
+below_from_times a b c some h = by (below_or_at_most a b)
+  where
+    by : IsBelow a b ⊎ IsAtMost b a → IsBelow a b
+    by (inl less) = less
+    by (inr more) = absurd (below_not_at_most (times a c) (times b c) h (at_most-times b a c some more))
+
+pub not_negative-times : (a b : Rational) → IsAtMost rational_zero a → IsAtMost rational_zero b → IsAtMost rational_zero (times a b)
+not_negative-times a b one two = subst (λ x. IsAtMost x (times a b)) (zero-times b) (at_most-times rational_zero a b two one)
+
+pub positive-times : (a b : Rational) → IsBelow rational_zero a → IsBelow rational_zero b → IsBelow rational_zero (times a b)
+positive-times a b one two = subst (λ x. IsBelow x (times a b)) (zero-times b) (below-times rational_zero a b two one)
+
+-- a quotient by what is above 0, by the product
+pub at_most-over_right : (q a b : Rational) → IsBelow rational_zero b → IsAtMost (times q b) a → IsAtMost q (over a b)
+at_most-over_right q a b some h = at_most_from_times q (over a b) b some (rw (over-times a b (positive-nonzero b some)) h)
+
+pub at_most-over_left : (q a b : Rational) → IsBelow rational_zero b → IsAtMost a (times q b) → IsAtMost (over a b) q
+at_most-over_left q a b some h = at_most_from_times (over a b) q b some (rw (over-times a b (positive-nonzero b some)) h)
+
+pub at_most-over : (a b c : Rational) → IsBelow rational_zero c → IsAtMost a b → IsAtMost (over a c) (over b c)
+at_most-over a b c some h = at_most-over_right (over a c) b c some (rw (over-times a c (positive-nonzero c some)) h)
+
+pub below-over : (a b c : Rational) → IsBelow rational_zero c → IsBelow a b → IsBelow (over a c) (over b c)
+below-over a b c some h =
+    let nonzero = positive-nonzero c some in
+    below_from_times (over a c) (over b c) c (at_most_from_below rational_zero c some) (rw (over-times a c nonzero, over-times b c nonzero) h)
+
+pub not_negative-over : (a b : Rational) → IsAtMost rational_zero a → IsBelow rational_zero b → IsAtMost rational_zero (over a b)
+not_negative-over a b one two = at_most-over_right rational_zero a b two (rw (zero-times b) one)
+
+pub positive-over : (a b : Rational) → IsBelow rational_zero a → IsBelow rational_zero b → IsBelow rational_zero (over a b)
+positive-over a b one two = subst (λ x. IsBelow x (over a b)) (zero-over b) (below-over rational_zero a b two one)
+
+-- ---- against whole numbers
+
+pub at_most-whole : (n m : ℤ) → n ≤ℤ m → IsAtMost (whole n) (whole m)
+at_most-whole n m h = rw (← ratio-one n, ← ratio-one m) (at_most-ratio n m 1 (omega arith) h)
+
+pub at_most_from_whole : (n m : ℤ) → IsAtMost (whole n) (whole m) → n ≤ℤ m
+at_most_from_whole n m h = at_most_from_ratio n m 1 (omega arith) (rw (ratio-one n, ratio-one m) h)
+
+pub below-whole : (n m : ℤ) → n <ℤ m → IsBelow (whole n) (whole m)
+below-whole n m h = rw (← ratio-one n, ← ratio-one m) (below-ratio n m 1 (omega arith) h)
+
+pub below_from_whole : (n m : ℤ) → IsBelow (whole n) (whole m) → n <ℤ m
+below_from_whole n m h = below_from_ratio n m 1 (omega arith) (rw (ratio-one n, ratio-one m) h)
+
+-- a whole number over any denominator
+whole-over_den : (n : ℤ) (d : ℕ) → 0 < d → whole n ≡ ratio (n *ℤ pos d) d
+whole-over_den n d some = sym (ratio-one n) ∙ sym (ratio-cancel n 1 d (omega arith) some) ∙ ap (ratio (n *ℤ pos d)) (omega arith)
+
+pub at_most-ratio_whole : (n m : ℤ) (d : ℕ) → 0 < d → n ≤ℤ (m *ℤ pos d) → IsAtMost (ratio n d) (whole m)
+at_most-ratio_whole n m d some h = rw (whole-over_den m d some) (at_most-ratio n (m *ℤ pos d) d some h)
+
+pub at_most_from_ratio_whole : (n m : ℤ) (d : ℕ) → 0 < d → IsAtMost (ratio n d) (whole m) → n ≤ℤ (m *ℤ pos d)
+at_most_from_ratio_whole n m d some h = at_most_from_ratio n (m *ℤ pos d) d some (rw (whole-over_den m d some) at h)
+
+pub at_most-whole_ratio : (n m : ℤ) (d : ℕ) → 0 < d → (n *ℤ pos d) ≤ℤ m → IsAtMost (whole n) (ratio m d)
+at_most-whole_ratio n m d some h = rw (whole-over_den n d some) (at_most-ratio (n *ℤ pos d) m d some h)
+
+pub at_most_from_whole_ratio : (n m : ℤ) (d : ℕ) → 0 < d → IsAtMost (whole n) (ratio m d) → (n *ℤ pos d) ≤ℤ m
+at_most_from_whole_ratio n m d some h = at_most_from_ratio (n *ℤ pos d) m d some (rw (whole-over_den n d some) at h)
+
+-- ---- sums over lists
+
+pub at_most-rational_sum_by : {X : Type 0} (f g : X → Rational) (xs : List X) → All (λ x. IsAtMost (f x) (g x)) xs → IsAtMost (rational_sum_by f xs) (rational_sum_by g xs)
+at_most-rational_sum_by f g [] all = at_most_refl rational_zero
+at_most-rational_sum_by f g (x ∷ xs) all =
+    rw (rational_sum_by-cons f x xs, rational_sum_by-cons g x xs)
+    (at_most-plus_plus (f x) (g x) (rational_sum_by f xs) (rational_sum_by g xs)
+    (all 0 x (omega arith)) (at_most-rational_sum_by f g xs (λ k d h. all (suc k) d (omega (arith, h)))))
+
+pub not_negative-rational_sum_by : {X : Type 0} (f : X → Rational) (xs : List X) → All (λ x. IsAtMost rational_zero (f x)) xs → IsAtMost rational_zero (rational_sum_by f xs)
+not_negative-rational_sum_by f [] all = at_most_refl rational_zero
+not_negative-rational_sum_by f (x ∷ xs) all =
+    rw (rational_sum_by-cons f x xs)
+    (not_negative-plus (f x) (rational_sum_by f xs) (all 0 x (omega arith)) (not_negative-rational_sum_by f xs (λ k d h. all (suc k) d (omega (arith, h)))))

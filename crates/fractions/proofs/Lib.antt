@@ -1,0 +1,9 @@
+pub mod Ratios
+pub mod Sums
+pub mod Products
+pub mod Wholes
+pub mod Comparisons
+pub mod Limits
+mod InLowestTerms
+mod Euclid
+mod OnValues

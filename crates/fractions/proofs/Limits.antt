@@ -1,0 +1,42 @@
+-- Rationals within the limits, and what a call gives.
+use Rattle.std.proofs.Common.{◌≡◌, ◌^◌, ◌<◌, ◌≤◌, ℕ, ℤ, pos, negsuc, unsigned_abs, SFits, true, Option, None, Some, refl, arith}
+use Rattle.std.specs.Bool.{Decides}
+use Rattle.std.proofs.lemmas.Bool.Decides.{nat_tests}
+use Rattle.std.specs.Int.{w64}
+use Rattle.fractions.specs.LowestForms.{ratio-den_le, ratio-num_le}
+use Rattle.fractions.specs.Rationals.{Gives, IsWithinLimits, Rational, is_within_limits, ratio, whole}
+
+-- a call that gives a: none where a is outside the limits, and a where it is within
+pub gives_none : (a : Rational) → (IsWithinLimits a → ⊥) → Gives None a
+gives_none a outside = record { fits = (λ some. cc some, λ within. absurd (outside within)); value = tt }
+
+pub gives_some : (a b : Rational) → IsWithinLimits a → b ≡ a → Gives (Some b) a
+gives_some a b within same = record { fits = (λ _. within, λ _. refl); value = same }
+
+-- and back: what a `None` and a `Some` say
+pub outside_from_none : (a : Rational) → Gives None a → IsWithinLimits a → ⊥
+outside_from_none a is within = cc (is.fits.1 within)
+
+pub within_from_some : (a b : Rational) → Gives (Some b) a → IsWithinLimits a
+within_from_some a b is = is.fits.0 refl
+
+pub Decides-is_within_limits : (a : Rational) → Decides (is_within_limits a) (IsWithinLimits a)
+Decides-is_within_limits a = (to, from)
+  where
+    to : is_within_limits a ≡ true → IsWithinLimits a
+    to e = record { den = grind (arith, nat_tests); num = grind (arith, nat_tests) }
+
+    from : IsWithinLimits a → is_within_limits a ≡ true
+    from within = let den = within.den in let num = within.num in grind (arith, nat_tests)
+
+-- numbers within the bounds are so in lowest form too
+pub within-ratio : (n : ℤ) (d : ℕ) → 0 < d → unsigned_abs n ≤ 2 ^ 76 → d ≤ 2 ^ 48 → IsWithinLimits (ratio n d)
+within-ratio n d some num den = record { den = omega (arith, ratio-den_le n d some); num = omega (arith, ratio-num_le n d) }
+
+pub within-whole : (n : ℤ) → unsigned_abs n ≤ 2 ^ 76 → IsWithinLimits (whole n)
+within-whole n small = record { den = omega arith; num = small }
+
+-- a whole number of 64 bits
+pub size-whole : (n : ℤ) → SFits w64 n → unsigned_abs n ≤ 2 ^ 63
+size-whole (pos a) f = let small = f.sfits in omega (arith, small)
+size-whole (negsuc a) f = let small = f.sfits in omega (arith, small)

@@ -1,0 +1,160 @@
+-- The laws of products and quotients.
+use Rattle.std.proofs.Common.{◌≡◌, ◌≢◌, ◌∙◌, ◌*◌, ◌<◌, ◌+ℤ◌, ◌-ℤ◌, ◌*ℤ◌, ◌⊎◌, inl, inr, ℕ, ℤ, zero, suc, pos, int_lt, unsigned_abs, Bool, true, false, List, [], ◌∷◌, refl, sym, ap, arith}
+use Rattle.std.proofs.lemmas.Int.{ints}
+use Rattle.std.proofs.Math.IntN.{*ℤ-zero, *ℤ_comm}
+use Rattle.std.proofs.Math.Nat.{eq-zero-or-pos, mul-one, mul-pos, mul_assoc}
+use Rattle.fractions.specs.Integers.{*ℤ-+ℤ, *ℤ--ℤ, *ℤ-pos_one, *ℤ_assoc, signed, signed-*ℤ-signed, signed-sign, zero_from_size}
+use Rattle.fractions.specs.LowestForms.{ratio-self, same_from_value}
+use Rattle.fractions.specs.Rationals.{Rational, minus, over, plus, ratio, rational_one, rational_sum_by, rational_zero, reciprocal, times, whole}
+use Rattle.fractions.proofs.Ratios.{by_one, by_three, by_two, minus-ratio_same_den, plus-ratio_same_den, ratio-one, ratio-same, ratio-zero, times-ratio}
+use Rattle.fractions.proofs.Sums.{rational_sum_by-cons}
+
+-- ---- products
+
+pub times_comm : (a b : Rational) → times a b ≡ times b a
+times_comm = by_two (λ a b. times a b ≡ times b a) (λ n m d some. times-ratio n m d d some some ∙ ap (λ z. ratio z (d * d)) (*ℤ_comm n m) ∙ sym (times-ratio m n d d some some))
+
+pub times_assoc : (a b c : Rational) → times (times a b) c ≡ times a (times b c)
+times_assoc = by_three (λ a b c. times (times a b) c ≡ times a (times b c)) same
+  where
+    same : (n m l : ℤ) (d : ℕ) → 0 < d → times (times (ratio n d) (ratio m d)) (ratio l d) ≡ times (ratio n d) (times (ratio m d) (ratio l d))
+    same n m l d some =
+        let square = mul-pos some some in
+        ap (λ x. times x (ratio l d)) (times-ratio n m d d some some) ∙ times-ratio (n *ℤ m) l (d * d) d square some
+        ∙ ap (λ z. ratio z (d * d * d)) (*ℤ_assoc n m l) ∙ ap (ratio (n *ℤ (m *ℤ l))) (omega arith)
+        ∙ sym (times-ratio n (m *ℤ l) d (d * d) some square) ∙ ap (times (ratio n d)) (sym (times-ratio m l d d some some))
+
+pub times-one : (a : Rational) → times a rational_one ≡ a
+times-one = by_one (λ a. times a rational_one ≡ a) (λ n d some. ap (times (ratio n d)) (sym (ratio-one (pos 1))) ∙ times-ratio n (pos 1) d 1 some (omega arith) ∙ ap (λ z. ratio z (d * 1)) (*ℤ-pos_one n) ∙ ap (ratio n) (mul-one d))
+
+pub one-times : (a : Rational) → times rational_one a ≡ a
+one-times a = times_comm rational_one a ∙ times-one a
+
+pub times-zero : (a : Rational) → times a rational_zero ≡ rational_zero
+times-zero = by_one (λ a. times a rational_zero ≡ rational_zero) (λ n d some. ap (times (ratio n d)) (sym (ratio-one (pos 0))) ∙ times-ratio n (pos 0) d 1 some (omega arith) ∙ ap (λ z. ratio z (d * 1)) (*ℤ-zero n) ∙ ratio-zero (d * 1))
+
+pub zero-times : (a : Rational) → times rational_zero a ≡ rational_zero
+zero-times a = times_comm rational_zero a ∙ times-zero a
+
+pub times-plus : (a b c : Rational) → times a (plus b c) ≡ plus (times a b) (times a c)
+times-plus = by_three (λ a b c. times a (plus b c) ≡ plus (times a b) (times a c)) (λ n m l d some.
+    ap (times (ratio n d)) (plus-ratio_same_den m l d) ∙ times-ratio n (m +ℤ l) d d some some ∙ ap (λ z. ratio z (d * d)) (*ℤ-+ℤ n m l)
+    ∙ sym (plus-ratio_same_den (n *ℤ m) (n *ℤ l) (d * d)) ∙ ap (λ x. plus x (ratio (n *ℤ l) (d * d))) (sym (times-ratio n m d d some some))
+    ∙ ap (plus (times (ratio n d) (ratio m d))) (sym (times-ratio n l d d some some)))
+
+pub times-minus : (a b c : Rational) → times a (minus b c) ≡ minus (times a b) (times a c)
+times-minus = by_three (λ a b c. times a (minus b c) ≡ minus (times a b) (times a c)) (λ n m l d some.
+    ap (times (ratio n d)) (minus-ratio_same_den m l d) ∙ times-ratio n (m -ℤ l) d d some some ∙ ap (λ z. ratio z (d * d)) (*ℤ--ℤ n m l)
+    ∙ sym (minus-ratio_same_den (n *ℤ m) (n *ℤ l) (d * d)) ∙ ap (λ x. minus x (ratio (n *ℤ l) (d * d))) (sym (times-ratio n m d d some some))
+    ∙ ap (minus (times (ratio n d) (ratio m d))) (sym (times-ratio n l d d some some)))
+
+pub plus-times : (a b c : Rational) → times (plus a b) c ≡ plus (times a c) (times b c)
+plus-times a b c = times_comm (plus a b) c ∙ times-plus c a b ∙ ap (λ x. plus x (times c b)) (times_comm c a) ∙ ap (plus (times a c)) (times_comm c b)
+
+pub minus-times : (a b c : Rational) → times (minus a b) c ≡ minus (times a c) (times b c)
+minus-times a b c = times_comm (minus a b) c ∙ times-minus c a b ∙ ap (λ x. minus x (times c b)) (times_comm c a) ∙ ap (minus (times a c)) (times_comm c b)
+
+pub times_swap : (a b c : Rational) → times (times a b) c ≡ times (times a c) b
+times_swap a b c = times_assoc a b c ∙ ap (times a) (times_comm b c) ∙ sym (times_assoc a c b)
+
+pub times-interchange : (a b c e : Rational) → times (times a b) (times c e) ≡ times (times a c) (times b e)
+times-interchange a b c e = sym (times_assoc (times a b) c e) ∙ ap (λ x. times x e) (times_swap a b c) ∙ times_assoc (times a c) b e
+
+-- a factor goes into a sum
+pub times-rational_sum_by : {X : Type 0} (a : Rational) (f : X → Rational) (xs : List X) → times a (rational_sum_by f xs) ≡ rational_sum_by (λ x. times a (f x)) xs
+times-rational_sum_by a f [] = times-zero a
+times-rational_sum_by a f (x ∷ xs) =
+    ap (times a) (rational_sum_by-cons f x xs) ∙ times-plus a (f x) (rational_sum_by f xs) ∙ ap (plus (times a (f x))) (times-rational_sum_by a f xs)
+    ∙ sym (rational_sum_by-cons (λ y. times a (f y)) x xs)
+
+-- ---- reciprocals
+
+pub zero_from_num : (a : Rational) → a.num ≡ pos 0 → a ≡ rational_zero
+zero_from_num a none = sym (ratio-self a) ∙ ap (λ z. ratio z a.den) none ∙ ratio-zero a.den
+
+pub size-positive : (a : Rational) → a ≢ rational_zero → 0 < unsigned_abs a.num
+size-positive a some = by (eq-zero-or-pos (unsigned_abs a.num))
+  where
+    by : (unsigned_abs a.num ≡ 0) ⊎ (0 < unsigned_abs a.num) → 0 < unsigned_abs a.num
+    by (inl none) = absurd (some (zero_from_num a (zero_from_size a.num none)))
+    by (inr above) = above
+
+square_of_sign : (negative : Bool) (a b : ℕ) → signed negative a *ℤ signed negative b ≡ pos (a * b)
+square_of_sign false a b = signed-*ℤ-signed false false a b
+square_of_sign true a b = signed-*ℤ-signed true true a b
+
+pub times-reciprocal : (a : Rational) → a ≢ rational_zero → times a (reciprocal a) ≡ rational_one
+unfolding reciprocal
+times-reciprocal a some =
+    let negative = int_lt a.num (pos 0) in
+    let size = unsigned_abs a.num in
+    let above = size-positive a some in
+    let product : a.num *ℤ signed negative a.den ≡ pos (size * a.den) = ap (λ z. z *ℤ signed negative a.den) (sym (signed-sign a.num)) ∙ square_of_sign negative size a.den in
+    ap (λ x. times x (reciprocal a)) (sym (ratio-self a)) ∙ times-ratio a.num (signed negative a.den) a.den size a.positive above ∙ ap (λ z. ratio z (a.den * size)) product
+    ∙ ratio-same (pos (size * a.den)) (pos 1) (a.den * size) 1 (mul-pos a.positive above) (omega arith) (ap pos (omega arith)) ∙ ratio-one (pos 1)
+
+pub one≢zero : rational_one ≢ rational_zero
+one≢zero same = let nums : pos 1 ≡ pos 0 = ap (λ a. a.num) same in absurd (omega (arith, ints, nums))
+
+-- ---- cancelling
+
+pub times_cancel_right : (a b c : Rational) → c ≢ rational_zero → times a c ≡ times b c → a ≡ b
+times_cancel_right a b c some same = sym (back a) ∙ ap (λ x. times x (reciprocal c)) same ∙ back b
+  where
+    back : (x : Rational) → times (times x c) (reciprocal c) ≡ x
+    back x = times_assoc x c (reciprocal c) ∙ ap (times x) (times-reciprocal c some) ∙ times-one x
+
+pub times_cancel_left : (a b c : Rational) → c ≢ rational_zero → times c a ≡ times c b → a ≡ b
+times_cancel_left a b c some same = times_cancel_right a b c some (times_comm a c ∙ same ∙ times_comm c b)
+
+pub times-nonzero : (a b : Rational) → a ≢ rational_zero → b ≢ rational_zero → times a b ≢ rational_zero
+times-nonzero a b some other none = some (times_cancel_right a rational_zero b other (none ∙ sym (zero-times b)))
+
+-- ---- quotients
+
+-- the quotient times the divisor
+pub over-times : (a b : Rational) → b ≢ rational_zero → times (over a b) b ≡ a
+unfolding over
+over-times a b some = times_assoc a (reciprocal b) b ∙ ap (times a) (times_comm (reciprocal b) b ∙ times-reciprocal b some) ∙ times-one a
+
+pub times-over : (a b : Rational) → b ≢ rational_zero → times b (over a b) ≡ a
+times-over a b some = times_comm b (over a b) ∙ over-times a b some
+
+-- what times the divisor is a, is the quotient
+pub over_from_times : (q a b : Rational) → b ≢ rational_zero → times q b ≡ a → q ≡ over a b
+over_from_times q a b some same = times_cancel_right q (over a b) b some (same ∙ sym (over-times a b some))
+
+pub over-cancel_factor : (a b : Rational) → b ≢ rational_zero → over (times a b) b ≡ a
+over-cancel_factor a b some = sym (over_from_times a (times a b) b some refl)
+
+pub over-cancel : (a b c : Rational) → b ≢ rational_zero → c ≢ rational_zero → over (times a c) (times b c) ≡ over a b
+over-cancel a b c some other =
+    sym (over_from_times (over a b) (times a c) (times b c) (times-nonzero b c some other) (sym (times_assoc (over a b) b c) ∙ ap (λ x. times x c) (over-times a b some)))
+
+pub over-plus : (a b c : Rational) → over (plus a b) c ≡ plus (over a c) (over b c)
+unfolding over
+over-plus a b c = plus-times a b (reciprocal c)
+
+pub over-minus : (a b c : Rational) → over (minus a b) c ≡ minus (over a c) (over b c)
+unfolding over
+over-minus a b c = minus-times a b (reciprocal c)
+
+pub times-over_assoc : (a b c : Rational) → times a (over b c) ≡ over (times a b) c
+unfolding over
+times-over_assoc a b c = sym (times_assoc a b (reciprocal c))
+
+pub zero-over : (b : Rational) → over rational_zero b ≡ rational_zero
+unfolding over
+zero-over b = zero-times (reciprocal b)
+
+pub over-self : (a : Rational) → a ≢ rational_zero → over a a ≡ rational_one
+over-self a some = sym (over_from_times rational_one a a some (one-times a))
+
+pub over-one : (a : Rational) → over a rational_one ≡ a
+over-one a = sym (over_from_times a a rational_one one≢zero (times-one a))
+
+pub over-rational_sum_by : {X : Type 0} (f : X → Rational) (b : Rational) (xs : List X) → over (rational_sum_by f xs) b ≡ rational_sum_by (λ x. over (f x) b) xs
+over-rational_sum_by f b [] = zero-over b
+over-rational_sum_by f b (x ∷ xs) =
+    ap (λ y. over y b) (rational_sum_by-cons f x xs) ∙ over-plus (f x) (rational_sum_by f xs) b ∙ ap (plus (over (f x) b)) (over-rational_sum_by f b xs)
+    ∙ sym (rational_sum_by-cons (λ y. over (f y) b) x xs)

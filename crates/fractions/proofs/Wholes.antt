@@ -1,0 +1,32 @@
+-- Whole numbers among the rationals, and ratios as quotients of them.
+use Rattle.std.proofs.Common.{◌≡◌, ◌≢◌, ◌∙◌, ◌*◌, ◌<◌, ◌+ℤ◌, ◌-ℤ◌, ◌*ℤ◌, ℕ, ℤ, pos, List, fold, sym, ap, arith}
+use Rattle.std.proofs.lemmas.Int.{ints}
+use mathlib.Core.Path.{fun_ext}
+use Rattle.fractions.specs.Rationals.{Rational, minus, over, plus, ratio, rational_sum_by, rational_zero, times, whole}
+use Rattle.fractions.proofs.Products.{over_from_times}
+use Rattle.fractions.proofs.Ratios.{minus-ratio_same_den, plus-ratio_same_den, ratio-cancel, ratio-one, times-ratio}
+use Rattle.fractions.proofs.Sums.{rational_sum_by-ratio}
+
+pub whole-plus : (n m : ℤ) → plus (whole n) (whole m) ≡ whole (n +ℤ m)
+whole-plus n m = rw (← ratio-one n, ← ratio-one m, ← ratio-one (n +ℤ m)) (plus-ratio_same_den n m 1)
+
+pub whole-minus : (n m : ℤ) → minus (whole n) (whole m) ≡ whole (n -ℤ m)
+whole-minus n m = rw (← ratio-one n, ← ratio-one m, ← ratio-one (n -ℤ m)) (minus-ratio_same_den n m 1)
+
+pub whole-times : (n m : ℤ) → times (whole n) (whole m) ≡ whole (n *ℤ m)
+whole-times n m = rw (← ratio-one n, ← ratio-one m, ← ratio-one (n *ℤ m)) (times-ratio n m 1 1 (omega arith) (omega arith))
+
+pub same_from_whole : (n m : ℤ) → whole n ≡ whole m → n ≡ m
+same_from_whole n m same = ap (λ a. a.num) same
+
+pub whole-nonzero : (n : ℤ) → n ≢ pos 0 → whole n ≢ rational_zero
+whole-nonzero n some none = some (same_from_whole n (pos 0) none)
+
+pub whole-rational_sum_by : {X : Type 0} (f : X → ℤ) (xs : List X) → rational_sum_by (λ x. whole (f x)) xs ≡ whole (fold (λ total x. total +ℤ f x) (pos 0) xs)
+whole-rational_sum_by f xs = ap (λ g. rational_sum_by g xs) (fun_ext (λ x. sym (ratio-one (f x)))) ∙ rational_sum_by-ratio f 1 xs ∙ ratio-one _
+
+-- a ratio is a quotient of whole numbers
+pub over-whole : (n : ℤ) (d : ℕ) → 0 < d → over (whole n) (whole (pos d)) ≡ ratio n d
+over-whole n d some =
+    sym (over_from_times (ratio n d) (whole n) (whole (pos d)) (whole-nonzero (pos d) (λ none. absurd (omega (arith, ints, none))))
+    (ap (times (ratio n d)) (sym (ratio-one (pos d))) ∙ times-ratio n (pos d) d 1 some (omega arith) ∙ ap (ratio (n *ℤ pos d)) (omega arith) ∙ ratio-cancel n 1 d (omega arith) some ∙ ratio-one n))

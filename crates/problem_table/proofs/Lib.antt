@@ -1,0 +1,7 @@
+pub mod DeficitLemmas
+pub mod EndLemmas
+pub mod HeatLemmas
+pub mod PinchLemmas
+pub mod PlaceLemmas
+pub mod ValidLemmas
+mod WorkedExample

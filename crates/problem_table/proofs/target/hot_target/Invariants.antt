@@ -1,0 +1,11 @@
+-- The greatest of 0 and the deficits at the ends of the streams so far.
+use Rattle.std.proofs.Common.{◌≡◌, pos, map, take}
+use Rattle.std.specs.List.{fold}
+use Rattle.std.specs.Int.{int_max}
+use Rattle.stream_case.specs.Stream.{stream_ends}
+use Rattle.problem_table.specs.Deficit.{deficit_above}
+use Rattle.problem_table.proofs.target.hot_target.Given as goal
+
+abbrev pub invariant-loop-stream : goal.invariant-loop-stream
+invariant-loop-stream l =
+    (l.stream-items ≡ l.case.streams) × (l.greatest ≡ fold int_max (pos 0) (map (deficit_above l.case.streams) (stream_ends (take l.stream-index l.stream-items))))

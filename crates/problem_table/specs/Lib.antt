@@ -1,0 +1,2 @@
+pub mod Deficit
+pub mod Sides
