@@ -1,8 +1,16 @@
 -- What a name's bytes are worth in place.
-use Rattle.std.proofs.Common.{◌≡◌, ◌∙◌, ◌≤◌, ◌++◌, ℕ, List, [], ◌∷◌, length, replicate, drop, sym, subst, arith, inl, inr, length-append, length-drop}
+use Rattle.std.proofs.Common.{◌≡◌, ◌∙◌, ◌≤◌, ◌++◌, ℕ, List, [], ◌∷◌, length, replicate, drop, sym, subst, arith, inl, inr, get_or, refl, ◌<◌, length-append, length-drop}
 use Rattle.std.proofs.lemmas.List.{drop-replicate}
+use Rattle.std.proofs.lemmas.List.Elements.{All-cons}
+use Rattle.std.proofs.lemmas.Bool.Decides.{nat_tests}
+use Rattle.std.proofs.lemmas.Str.{IsUtf8-from_ascii}
+use Rattle.std.proofs.lemmas.Str.Ascii.{IsAscii-from_all}
+use Rattle.std.specs.Prelude.{All, IsTrue, Result, Ok, Err}
+use Rattle.std.specs.Result.{IsOk, MatchResult}
+use Rattle.std.specs.Char.{is_ascii_alphanumeric}
+use Rattle.std.specs.Str.{IsUtf8}
 use Rattle.std.proofs.Math.Seq.{drop-append_seam, take-append_seam}
-use Rattle.stream_case.specs.Name.{IsName, IsDottedName, IsAnyName, IsStored}
+use Rattle.stream_case.specs.Name.{IsName, IsDottedName, IsAnyName, IsStored, is_name_byte}
 
 pub length-IsName : (bytes : List ℕ) → IsName bytes → length bytes ≤ 16
 length-IsName [] h = absurd h
@@ -31,3 +39,29 @@ IsStored-made bytes front e h =
       zeros = drop-append_seam bytes _ ∙ drop-replicate (length bytes) 17 0;
       grammar = subst IsAnyName (sym (take-append_seam bytes _)) h;
     })
+
+-- ---- names are ASCII
+
+below_128 : (b : ℕ) → IsTrue (is_name_byte b) → b < 128
+below_128 b h = grind (arith, nat_tests, h)
+
+first_below_128 : (b : ℕ) → IsTrue (is_ascii_alphanumeric b) → b < 128
+first_below_128 b h = grind (arith, nat_tests, h)
+
+All-IsName : (bytes : List ℕ) → IsName bytes → All (λ b. b < 128) bytes
+All-IsName [] h = absurd h
+All-IsName (b ∷ bs) h = All-cons (λ x. x < 128) b bs (first_below_128 b h.0) (λ k d within. below_128 (get_or bs k d) (h.1 k d within))
+
+All-IsAnyName : (bytes : List ℕ) → IsAnyName bytes → All (λ b. b < 128) bytes
+All-IsAnyName bytes (inl h) = All-IsName bytes h
+All-IsAnyName [] (inr h) = absurd h
+All-IsAnyName (b ∷ bs) (inr h) = All-cons (λ x. x < 128) b bs (omega (arith, h.0)) (All-IsName bs h.1)
+
+-- so they are texts
+pub IsUtf8-IsAnyName : (bytes : List ℕ) → IsAnyName bytes → IsUtf8 bytes
+IsUtf8-IsAnyName bytes h = IsUtf8-from_ascii bytes (IsAscii-from_all bytes (All-IsAnyName bytes h))
+
+-- what is no error is a value
+pub IsOk-of_match : {T E : Type 0} (r : Result T E) (P : T → Type 0) (Q : E → Type 0) → MatchResult r P Q → ((e : E) → Q e → ⊥) → IsOk r
+IsOk-of_match (Ok x) P Q h never = refl
+IsOk-of_match (Err e) P Q h never = absurd (never e h)
