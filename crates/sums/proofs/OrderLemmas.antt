@@ -13,7 +13,7 @@ use Rattle.std.proofs.lemmas.List.Elements.{All-append, All-contains, All-head, 
 use Rattle.std.proofs.lemmas.List.Sorted.{IsPermutation-reverse, IsPermutation-sym, All-permutation, Contains-permutation}
 use Rattle.std.proofs.lemmas.List.Kept.{IsStrictlySortedBy-dedup, Contains-dedup, Contains-from_dedup}
 use Rattle.std.proofs.lemmas.Map.Keys.{Less-from_sorted}
-use Rattle.sums.specs.Order.{Lists, ListsFalling}
+use Rattle.sums.specs.Order.{Lists, ListsRising, ListsFalling}
 
 -- a list reversed has its pairs the other way round
 pub AllPairs-reverse : {X : Type 0} (R : X → X → Type 0) (xs : List X) → AllPairs R xs → AllPairs (λ a b. R b a) (reverse xs)
@@ -26,15 +26,24 @@ AllPairs-reverse R xs h i j d before within =
 AllPairs-strictly : (xs : List ℤ) → IsStrictlySortedBy int_cmp xs → AllPairs (λ a b. a <ℤ b) xs
 AllPairs-strictly xs h i j d before within = int_ranked _ _ Less (sym (Less-from_sorted int_cmp xs i j d h before within))
 
--- what sorting, dropping repeats and reversing leaves
-pub ListsFalling-sorted : (values sorted : List ℤ) → IsPermutation values sorted → IsSorted int_cmp sorted → ListsFalling (Contains values) (reverse (dedup int_eq sorted))
-ListsFalling-sorted values sorted moved order =
-    let kept = dedup int_eq sorted in
-    let turned = IsPermutation-reverse kept in
+-- a list reversed stands in the order turned round
+pub Lists-reverse : {X : Type 0} (before : X → X → Type 0) (P : X → Type 0) (xs : List X) → Lists before P xs → Lists (λ a b. before b a) P (reverse xs)
+Lists-reverse before P xs h =
+    let turned = IsPermutation-reverse xs in
     record {
-      ordered = AllPairs-reverse (λ a b. a <ℤ b) kept (AllPairs-strictly kept (IsStrictlySortedBy-dedup int_cmp_total (λ x y. refl) sorted order));
-      each = All-permutation (Contains values) kept (reverse kept) turned (λ k d within. Contains-permutation sorted values (get_or kept k d) (IsPermutation-sym values sorted moved) (Contains-from_dedup int_eq sorted (get_or kept k d) (Contains-get_or kept k d within)));
-      every = λ x h. Contains-permutation kept (reverse kept) x turned (Contains-dedup int_eq_equiv (λ a b. (Decides-int_eq a b).0) sorted x (Contains-permutation values sorted x moved h));
+      ordered = AllPairs-reverse before xs h.ordered;
+      each = All-permutation P xs (reverse xs) turned h.each;
+      every = λ x p. Contains-permutation xs (reverse xs) x turned (h.every x p);
+    }
+
+-- what sorting and dropping repeats leaves
+pub ListsRising-sorted : (values sorted : List ℤ) → IsPermutation values sorted → IsSorted int_cmp sorted → ListsRising (Contains values) (dedup int_eq sorted)
+ListsRising-sorted values sorted moved order =
+    let kept = dedup int_eq sorted in
+    record {
+      ordered = AllPairs-strictly kept (IsStrictlySortedBy-dedup int_cmp_total (λ x y. refl) sorted order);
+      each = λ k d within. Contains-permutation sorted values (get_or kept k d) (IsPermutation-sym values sorted moved) (Contains-from_dedup int_eq sorted (get_or kept k d) (Contains-get_or kept k d within));
+      every = λ x h. Contains-dedup int_eq_equiv (λ a b. (Decides-int_eq a b).0) sorted x (Contains-permutation values sorted x moved h);
     }
 
 -- ---- pairs of a list made of others
@@ -98,6 +107,9 @@ module _ {X : Type 0} (before : X → X → Type 0) (one_way : (a b : X) → bef
 
 pub ListsFalling-unique : (P : ℤ → Type 0) (xs ys : List ℤ) → ListsFalling P xs → ListsFalling P ys → xs ≡ ys
 ListsFalling-unique = Lists-unique (λ a b. b <ℤ a) (λ a b h k. omega (arith, ints))
+
+pub ListsRising-unique : (P : ℤ → Type 0) (xs ys : List ℤ) → ListsRising P xs → ListsRising P ys → xs ≡ ys
+ListsRising-unique = Lists-unique (λ a b. a <ℤ b) (λ a b h k. omega (arith, ints))
 
 -- the same list for members that are said in another way
 pub Lists-same : {X : Type 0} (before : X → X → Type 0) (P Q : X → Type 0) (xs : List X) → ((x : X) → P x → Q x) → ((x : X) → Q x → P x) → Lists before P xs → Lists before Q xs

@@ -7,6 +7,9 @@ pub record Lists {X : Type 0} (before : X → X → Type 0) (P : X → Type 0) (
   pub each : All P xs
   pub every : (x : X) → P x → Contains xs x
 
--- the same for numbers, from the greatest down
+-- the same for numbers, from the least up, and from the greatest down
+abbrev pub ListsRising : (ℤ → Type 0) → List ℤ → Type 0
+ListsRising P xs = Lists (λ a b. a <ℤ b) P xs
+
 abbrev pub ListsFalling : (ℤ → Type 0) → List ℤ → Type 0
 ListsFalling P xs = Lists (λ a b. b <ℤ a) P xs

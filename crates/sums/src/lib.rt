@@ -4,4 +4,4 @@
 
 mod order;
 
-pub use order::falling;
+pub use order::{falling, rising};
