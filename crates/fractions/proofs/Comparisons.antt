@@ -13,9 +13,10 @@ use Rattle.fractions.specs.Integers.{*ℤ-<ℤ, *ℤ-≤ℤ, *ℤ_assoc, *ℤ_sw
 use Rattle.fractions.specs.LowestForms.{ratio-value, same_from_value}
 use Rattle.fractions.specs.Rationals.{IsAtMost, IsBelow, Rational, minus, over, plus, ratio, rational_cmp, rational_sum_by, rational_zero, times, whole}
 use Rattle.fractions.specs.Order.{rational_ranks}
-use Rattle.fractions.proofs.Products.{over-times, zero-over, zero-times}
-use Rattle.fractions.proofs.Ratios.{by_four, by_three, by_two, one_denominator, ratio-cancel, ratio-one, ratio-zero, times-ratio}
+use Rattle.fractions.proofs.Products.{over-times, times-over_assoc, times_comm, zero-over, zero-times}
+use Rattle.fractions.proofs.Ratios.{by_four, by_three, by_two, one_denominator, ratio-one, ratio-zero, times-ratio}
 use Rattle.fractions.proofs.Sums.{rational_sum_by-cons}
+use Rattle.fractions.proofs.Wholes.{ratio-multiple}
 
 -- ---- ratios over one denominator are ordered as their numerators are
 
@@ -161,12 +162,12 @@ pub below-plus_at_most : (a b c e : Rational) → IsBelow a b → IsAtMost c e �
 below-plus_at_most = by_four (λ a b c e. IsBelow a b → IsAtMost c e → IsBelow (plus a c) (plus b e)) (λ n m l k d some h g.
     let x = below_from_ratio n m d some h in let y = at_most_from_ratio l k d some g in simp one_denominator (below-ratio (n +ℤ l) (m +ℤ k) d some (omega (arith, ints, x, y))))
 
--- from a least value less a greater one
+-- a lesser value less a greater one
 pub at_most-minus_minus : (a b c e : Rational) → IsAtMost a b → IsAtMost c e → IsAtMost (minus a e) (minus b c)
 at_most-minus_minus = by_four (λ a b c e. IsAtMost a b → IsAtMost c e → IsAtMost (minus a e) (minus b c)) (λ n m l k d some h g.
     let x = at_most_from_ratio n m d some h in let y = at_most_from_ratio l k d some g in simp one_denominator (at_most-ratio (n -ℤ k) (m -ℤ l) d some (omega (arith, ints, x, y))))
 
--- a is at most b less c where a and c are at most b
+-- a is at most b less c where a and c together are at most b
 pub at_most-minus_right : (a b c : Rational) → IsAtMost (plus a c) b → IsAtMost a (minus b c)
 at_most-minus_right = by_three (λ a b c. IsAtMost (plus a c) b → IsAtMost a (minus b c)) (λ n m l d some h.
     let x = at_most_from_ratio (n +ℤ l) m d some (simp one_denominator at h) in simp one_denominator (at_most-ratio n (m -ℤ l) d some (omega (arith, ints, x))))
@@ -282,6 +283,11 @@ below-over a b c some h =
     let nonzero = positive-nonzero c some in
     below_from_times (over a c) (over b c) c (at_most_from_below rational_zero c some) (rw (over-times a c nonzero, over-times b c nonzero) h)
 
+-- by the products crosswise
+pub at_most-over_over : (a b c e : Rational) → IsBelow rational_zero c → IsBelow rational_zero e → IsAtMost (times a e) (times b c) → IsAtMost (over a c) (over b e)
+at_most-over_over a b c e some other h =
+    at_most-over_left (over b e) a c some (subst (IsAtMost a) (sym (times_comm (over b e) c ∙ times-over_assoc c b e ∙ ap (λ x. over x e) (times_comm c b))) (at_most-over_right a (times b c) e other h))
+
 pub not_negative-over : (a b : Rational) → IsAtMost rational_zero a → IsBelow rational_zero b → IsAtMost rational_zero (over a b)
 not_negative-over a b one two = at_most-over_right rational_zero a b two (rw (zero-times b) one)
 
@@ -302,21 +308,17 @@ below-whole n m h = rw (← ratio-one n, ← ratio-one m) (below-ratio n m 1 (om
 pub below_from_whole : (n m : ℤ) → IsBelow (whole n) (whole m) → n <ℤ m
 below_from_whole n m h = below_from_ratio n m 1 (omega arith) (rw (ratio-one n, ratio-one m) h)
 
--- a whole number over any denominator
-whole-over_den : (n : ℤ) (d : ℕ) → 0 < d → whole n ≡ ratio (n *ℤ pos d) d
-whole-over_den n d some = sym (ratio-one n) ∙ sym (ratio-cancel n 1 d (omega arith) some) ∙ ap (ratio (n *ℤ pos d)) (omega arith)
-
 pub at_most-ratio_whole : (n m : ℤ) (d : ℕ) → 0 < d → n ≤ℤ (m *ℤ pos d) → IsAtMost (ratio n d) (whole m)
-at_most-ratio_whole n m d some h = rw (whole-over_den m d some) (at_most-ratio n (m *ℤ pos d) d some h)
+at_most-ratio_whole n m d some h = rw (← ratio-multiple m d some) (at_most-ratio n (m *ℤ pos d) d some h)
 
 pub at_most_from_ratio_whole : (n m : ℤ) (d : ℕ) → 0 < d → IsAtMost (ratio n d) (whole m) → n ≤ℤ (m *ℤ pos d)
-at_most_from_ratio_whole n m d some h = at_most_from_ratio n (m *ℤ pos d) d some (rw (whole-over_den m d some) at h)
+at_most_from_ratio_whole n m d some h = at_most_from_ratio n (m *ℤ pos d) d some (rw (← ratio-multiple m d some) at h)
 
 pub at_most-whole_ratio : (n m : ℤ) (d : ℕ) → 0 < d → (n *ℤ pos d) ≤ℤ m → IsAtMost (whole n) (ratio m d)
-at_most-whole_ratio n m d some h = rw (whole-over_den n d some) (at_most-ratio (n *ℤ pos d) m d some h)
+at_most-whole_ratio n m d some h = rw (← ratio-multiple n d some) (at_most-ratio (n *ℤ pos d) m d some h)
 
 pub at_most_from_whole_ratio : (n m : ℤ) (d : ℕ) → 0 < d → IsAtMost (whole n) (ratio m d) → (n *ℤ pos d) ≤ℤ m
-at_most_from_whole_ratio n m d some h = at_most_from_ratio (n *ℤ pos d) m d some (rw (whole-over_den n d some) at h)
+at_most_from_whole_ratio n m d some h = at_most_from_ratio (n *ℤ pos d) m d some (rw (← ratio-multiple n d some) at h)
 
 -- ---- sums over lists
 

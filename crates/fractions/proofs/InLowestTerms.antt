@@ -1,12 +1,12 @@
 -- Lowest terms: products crosswise, reciprocals, and which are within the limits.
-use Rattle.std.proofs.Common.{◌≡◌, ◌≢◌, ◌∙◌, ◌*◌, ◌/◌, ◌^◌, ◌<◌, ◌≤◌, ◌*ℤ◌, ℕ, ℤ, zero, suc, pos, negsuc, int_lt, unsigned_abs, Bool, true, false, not, refl, sym, ap, arith}
+use Rattle.std.proofs.Common.{◌≡◌, ◌≢◌, ◌∙◌, ◌*◌, ◌/◌, ◌^◌, ◌<◌, ◌≤◌, ℕ, ℤ, zero, suc, pos, int_lt, unsigned_abs, Bool, true, false, not, refl, sym, ap, arith}
 use Rattle.std.specs.Bool.{beq}
 use Rattle.std.specs.Int.{IsGcd}
 use Rattle.std.proofs.lemmas.Bool.Decides.{nat_tests}
 use Rattle.std.proofs.Math.Nat.{mul-pos}
 use Rattle.fractions.specs.Fields.{IsFraction, IsInLowestTerms}
 use Rattle.fractions.specs.Integers.{signed, signed-*ℤ-signed, signed-sign, unsigned_abs-signed}
-use Rattle.fractions.specs.Lowest.{Divides, IsLowest, crosswise, divided}
+use Rattle.fractions.specs.Lowest.{IsLowest, crosswise, divided}
 use Rattle.fractions.specs.LowestForms.{ratio-den, ratio-num, same_divided}
 use Rattle.fractions.specs.Rationals.{IsWithinLimits, Rational, ratio, rational_zero, reciprocal, times}
 use Rattle.fractions.proofs.Ratios.{ratio-same, ratio-zero, times-ratio}

@@ -2,7 +2,7 @@
 use Rattle.std.proofs.Common.{◌≡◌, ℕ, ℤ, pos, negsuc, refl}
 use Rattle.std.specs.Prelude.{codes}
 use Rattle.std.specs.Fmt.{digits}
-use Rattle.std.specs.declared.cmp.Ordering.TheVariants.{Less, Equal, Greater}
+use Rattle.std.specs.declared.cmp.Ordering.TheVariants.{Less}
 use Rattle.fractions.specs.Lowest.{gcd, last_remainder}
 use Rattle.fractions.specs.Rationals.{Rational, fraction_text, lowest_form, minus, over, plus, ratio, rational_cmp, reciprocal, times, whole}
 

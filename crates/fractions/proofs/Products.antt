@@ -1,11 +1,11 @@
 -- The laws of products and quotients.
-use Rattle.std.proofs.Common.{◌≡◌, ◌≢◌, ◌∙◌, ◌*◌, ◌<◌, ◌+ℤ◌, ◌-ℤ◌, ◌*ℤ◌, ◌⊎◌, inl, inr, ℕ, ℤ, zero, suc, pos, int_lt, unsigned_abs, Bool, true, false, List, [], ◌∷◌, refl, sym, ap, arith}
+use Rattle.std.proofs.Common.{◌≡◌, ◌≢◌, ◌∙◌, ◌*◌, ◌<◌, ◌+ℤ◌, ◌-ℤ◌, ◌*ℤ◌, ◌⊎◌, inl, inr, ℕ, ℤ, pos, int_lt, unsigned_abs, Bool, true, false, List, [], ◌∷◌, refl, sym, ap, arith}
 use Rattle.std.proofs.lemmas.Int.{ints}
 use Rattle.std.proofs.Math.IntN.{*ℤ-zero, *ℤ_comm}
-use Rattle.std.proofs.Math.Nat.{eq-zero-or-pos, mul-one, mul-pos, mul_assoc}
+use Rattle.std.proofs.Math.Nat.{eq-zero-or-pos, mul-one, mul-pos}
 use Rattle.fractions.specs.Integers.{*ℤ-+ℤ, *ℤ--ℤ, *ℤ-pos_one, *ℤ_assoc, signed, signed-*ℤ-signed, signed-sign, zero_from_size}
-use Rattle.fractions.specs.LowestForms.{ratio-self, same_from_value}
-use Rattle.fractions.specs.Rationals.{Rational, minus, over, plus, ratio, rational_one, rational_sum_by, rational_zero, reciprocal, times, whole}
+use Rattle.fractions.specs.LowestForms.{ratio-self}
+use Rattle.fractions.specs.Rationals.{Rational, minus, over, plus, ratio, rational_one, rational_sum_by, rational_zero, reciprocal, times}
 use Rattle.fractions.proofs.Ratios.{by_one, by_three, by_two, minus-ratio_same_den, plus-ratio_same_den, ratio-one, ratio-same, ratio-zero, times-ratio}
 use Rattle.fractions.proofs.Sums.{rational_sum_by-cons}
 
@@ -152,6 +152,10 @@ over-self a some = sym (over_from_times rational_one a a some (one-times a))
 
 pub over-one : (a : Rational) → over a rational_one ≡ a
 over-one a = sym (over_from_times a a rational_one one≢zero (times-one a))
+
+-- the mean of two equal values, with any weights
+pub over-same_values : (a b t : Rational) → plus a b ≢ rational_zero → over (plus (times a t) (times b t)) (plus a b) ≡ t
+over-same_values a b t some = ap (λ x. over x (plus a b)) (sym (plus-times a b t) ∙ times_comm (plus a b) t) ∙ over-cancel_factor t (plus a b) some
 
 pub over-rational_sum_by : {X : Type 0} (f : X → Rational) (b : Rational) (xs : List X) → over (rational_sum_by f xs) b ≡ rational_sum_by (λ x. over (f x) b) xs
 over-rational_sum_by f b [] = zero-over b

@@ -1,6 +1,5 @@
 -- Ratios: two are one exactly where the cross products are equal; their sums, differences and products.
 use Rattle.std.proofs.Common.{◌≡◌, ◌∙◌, ◌+◌, ◌*◌, ◌<◌, ◌+ℤ◌, ◌-ℤ◌, ◌*ℤ◌, ℕ, ℤ, zero, suc, pos, refl, sym, ap, subst, arith}
-use Rattle.std.proofs.lemmas.Int.{ints}
 use Rattle.std.proofs.Math.Nat.{mul-pos, mul_comm}
 use mathlib.Core.Path.{subst₂, subst₃}
 use Rattle.fractions.specs.Integers.{*ℤ-interchange, *ℤ_cancel_right, *ℤ_swap, as_diff, diff, diff-add, diff-from_same, diff-mul, diff-pos, diff-same, diff-sub}

@@ -1,7 +1,7 @@
 -- The laws of sums and differences.
-use Rattle.std.proofs.Common.{◌≡◌, ◌∙◌, ◌<◌, ◌+ℤ◌, ◌-ℤ◌, ◌*ℤ◌, ℕ, ℤ, zero, suc, pos, List, [], ◌∷◌, ◌++◌, map, fold, refl, sym, ap, arith}
+use Rattle.std.proofs.Common.{◌≡◌, ◌∙◌, ◌+ℤ◌, ℕ, ℤ, pos, List, [], ◌∷◌, ◌++◌, fold, refl, sym, ap, arith}
 use Rattle.std.proofs.lemmas.Int.{ints}
-use Rattle.fractions.specs.Rationals.{Rational, minus, plus, ratio, rational_sum, rational_sum_by, rational_zero, whole}
+use Rattle.fractions.specs.Rationals.{Rational, minus, plus, ratio, rational_sum_by, rational_zero}
 use Rattle.fractions.proofs.Ratios.{by_four, by_one, by_three, by_two, minus-ratio_same_den, one_denominator, plus-ratio_same_den, ratio-zero}
 
 -- ---- sums

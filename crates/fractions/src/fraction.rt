@@ -239,6 +239,10 @@ mod tests {
     use std::collections::HashSet;
     use std::test::Fail;
 
+    const POWER_30_OF_3: u64 = 205891132094649;
+
+    const POWER_47_OF_3: i128 = 26588814358957503287787;
+
     fn sum(a: Option<Frac>, b: Option<Frac>) -> Option<Frac> {
         a?.plus(&b?)
     }
@@ -292,6 +296,14 @@ mod tests {
                 "-268435456",
             ),
             (product(Frac::new(most, 1), Frac::new(most, 1)), "none"),
+            // the product of the numerators passes 128 bits
+            (
+                product(
+                    Frac::new(most, POWER_30_OF_3),
+                    Frac::new(POWER_47_OF_3, finest),
+                ),
+                "34665798542819328",
+            ),
             (quotient(one_over(3), Frac::new(0, 1)), "none"),
             (quotient(Frac::new(0, 1), Frac::new(5, 1)), "0"),
             (quotient(one_over(3), Frac::new(-2, 5)), "-5/6"),

@@ -1,3 +1,5 @@
+pub mod CountLemmas
 pub mod OrderLemmas
 pub mod ProductLemmas
 pub mod SumLemmas
+pub mod WalkLemmas

@@ -1,2 +1,4 @@
 pub mod Order
+pub mod Pairing
+pub mod Spans
 pub mod Sum

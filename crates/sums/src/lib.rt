@@ -3,5 +3,7 @@
 #![tactic(auto)]
 
 mod order;
+mod pairs;
 
 pub use order::{falling, rising};
+pub use pairs::{Pair, pair_amounts};

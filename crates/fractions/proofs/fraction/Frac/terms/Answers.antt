@@ -1,4 +1,4 @@
-use Rattle.std.proofs.Common.{◌≡◌, ◌∙◌, ap, unsigned_abs, rules, SFits}
+use Rattle.std.proofs.Common.{◌∙◌, ap, unsigned_abs, rules, SFits}
 use Rattle.std.specs.Int.{w128}
 use Rattle.std.proofs.lemmas.Int.{to_z-of_z}
 use Rattle.fractions.proofs.fraction.Frac.terms.Goals as goal

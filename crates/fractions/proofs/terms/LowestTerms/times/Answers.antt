@@ -1,4 +1,4 @@
-use Rattle.std.proofs.Common.{◌∙◌, ap, arith}
+use Rattle.std.proofs.Common.{◌∙◌, arith}
 use mathlib.Core.Path.{ap₂}
 use Rattle.fractions.specs.Rationals.{times}
 use Rattle.fractions.proofs.InLowestTerms.{product_by, terms-outside}

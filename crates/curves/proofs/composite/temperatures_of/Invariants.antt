@@ -1,0 +1,8 @@
+-- The ends of the side's streams so far.
+use Rattle.std.proofs.Common.{◌≡◌, take}
+use Rattle.curves.specs.Below.{temperatures_of}
+use Rattle.curves.proofs.composite.temperatures_of.Given as goal
+
+abbrev pub invariant-loop-stream : goal.invariant-loop-stream
+invariant-loop-stream l =
+    (l.stream-items ≡ l.case.streams) × (l.ends.items ≡ temperatures_of l.side (take l.stream-index l.stream-items))

@@ -1,0 +1,28 @@
+//! The grand composite curve.
+ghost use Rattle.std.specs.Prelude.{IfOk};
+ghost use Rattle.stream_case.specs.Case.{HasValidStreams};
+ghost use Rattle.curves.specs.Curve.{IsGrandCurve};
+
+use crate::point::Point;
+use problem_table::{deficit_above, stream_ends, targets};
+use std::alloc::{AllocError, Global};
+use stream_case::{Case, Items};
+use sums::falling;
+
+/// The grand composite curve: for each shifted stream end, falling and each once, the hot
+/// target less the deficit above it.
+pub fn grand_curve(alloc: Global, case: &Case) -> Result<Items<Point>, AllocError>
+    requires { HasValidStreams case.now.streams }
+    ensures { IfOk result (λ curve. IsGrandCurve case.now.streams curve) }
+{
+    let hot = targets(case).hot;
+    let places = falling(stream_ends(alloc, case)?);
+    let mut points = Items::new(alloc);
+    for t in places.as_slice() {
+        points.push(Point {
+            heat: hot - deficit_above(case, *t),
+            temperature: *t,
+        })?;
+    }
+    Ok(points)
+}

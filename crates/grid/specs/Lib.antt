@@ -1,0 +1,5 @@
+pub mod Bounds
+pub mod Grid
+pub mod Making
+pub mod Part
+pub mod Utilities

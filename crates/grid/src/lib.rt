@@ -1,0 +1,16 @@
+//! The grid of a case, and the parts of its streams and utilities on it.
+//!
+//! The shifted stream ends and utility levels cut the shifted scale into intervals. On each
+//! interval inside its range a stream gives or takes a fixed heat; a utility does so at its
+//! level. These are the parts between which heat passes.
+#![tactic(auto)]
+
+mod making;
+mod part;
+mod parts;
+mod places;
+
+pub use making::parts_of;
+pub use part::Part;
+pub use parts::Parts;
+pub use places::{Grid, grid_of};

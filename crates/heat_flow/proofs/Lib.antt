@@ -1,0 +1,5 @@
+pub mod Duality
+pub mod PriceLemmas
+pub mod CheckLemmas
+pub mod CostLemmas
+pub mod ReachLemmas

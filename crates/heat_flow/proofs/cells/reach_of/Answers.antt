@@ -1,0 +1,25 @@
+use Rattle.std.proofs.Common.{◌≡◌, ◌∙◌, sym, ap, ap₂, ℕ, ◌*◌, List, length, take, arith}
+use Rattle.std.proofs.lemmas.List.{take_all}
+use Rattle.heat_flow.specs.Cells.{cell_rows}
+use Rattle.heat_flow.proofs.ReachLemmas.{length-cell_rows, reaches-rows}
+use Rattle.heat_flow.proofs.cells.reach_of.Goals as goal
+
+cells_are : (c : goal.After-from_vec) → c.from_vec.result ≡ cell_rows c.args.case.now c.args.parts.now.hot c.args.parts.now.cold
+cells_are c =
+    c.from_vec.ensures ∙ c.loop-part.invariant
+    ∙ ap (λ ps. cell_rows c.args.case.now ps c.as_slice-cold.result.now) (take_all c.loop-part.part-index c.as_slice-hot.result.now c.loop-part-test.false)
+    ∙ ap₂ (cell_rows c.args.case.now) c.as_slice-hot.ensures c.as_slice-cold.ensures
+
+pub invariant_of-result : goal.invariant_of-result
+invariant_of-result c =
+    let hots = ap length c.as_slice-hot.ensures in
+    let colds = ap length c.as_slice-cold.ensures in
+    record {
+      few_hots = omega (arith, c.args.parts.now.few_hot);
+      few_colds = omega (arith, c.args.parts.now.few_cold);
+      whole = ap length (cells_are c) ∙ length-cell_rows c.args.case.now c.args.parts.now.hot c.args.parts.now.cold ∙ sym (ap₂ ◌*◌ hots colds);
+    }
+
+pub returns-clause-cells : goal.returns-clause-cells
+returns-clause-cells c =
+    reaches-rows c.args.case.now c.args.parts.now.hot c.args.parts.now.cold (length c.as_slice-hot.result.now) (length c.as_slice-cold.result.now) c.from_vec.result (ap length c.as_slice-hot.ensures) (ap length c.as_slice-cold.ensures) (cells_are c.before)

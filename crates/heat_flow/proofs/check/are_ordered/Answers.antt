@@ -1,0 +1,15 @@
+use Rattle.std.proofs.Common.{◌≡◌, ◌∙◌, refl, sym, subst₂, ℕ, ◌-◌, ◌<◌, get_or, arith}
+use Rattle.std.proofs.lemmas.List.{get_or_default}
+use Rattle.heat_flow.specs.Flow.{precedes}
+use Rattle.heat_flow.proofs.CheckLemmas.{no_transfer, ordered_more}
+use Rattle.heat_flow.proofs.check.are_ordered.Goals as goal
+
+pub loop-i-preserved : goal.loop-i-preserved
+loop-i-preserved c =
+    let ts = c.args.transfers.now in
+    let i = c.loop-i.i in
+    let from = c.loop-i.auto.i in
+    let within = c.loop-i-test.true in
+    let next = c.if-not-precedes.ensures.0 refl in
+    ordered_more ts i from c.loop-i.invariant
+    (λ d. subst₂ precedes (get_or_default ts (i - 1) no_transfer d (omega arith)) (get_or_default ts i no_transfer d within) next)

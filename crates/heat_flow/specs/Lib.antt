@@ -1,0 +1,6 @@
+pub mod Cells
+pub mod Checks
+pub mod Flow
+pub mod Prices
+pub mod Reach
+pub mod Table

@@ -1,0 +1,129 @@
+//! Whether transfers are a heat flow.
+ghost use Rattle.std.specs.Prelude.{◌≡◌, ◌↔◌, ◌<◌, ◌≤◌, ℕ, pos, ◌<ℤ◌, IsTrue, length, All, AllPairs, Some, slice_get, slice_index_or};
+ghost use Rattle.stream_case.specs.Case.{IsBetween};
+ghost use Rattle.grid.specs.Bounds.{most_parts};
+ghost use Rattle.grid.specs.declared.part.Part.{Part as OnePart};
+ghost use Rattle.heat_flow.specs.Checks.{IsTransfer, IsFlowOver};
+ghost use Rattle.heat_flow.specs.Flow.{place_of, heat_at, precedes, KeepsRanges};
+
+use crate::flow::{Flow, Transfer};
+use crate::reach::Reach;
+use crate::table::reaches;
+use grid::{Part, Parts};
+use stream_case::Side;
+
+/// The most parts of a side.
+const MOST_PARTS: usize = 5000;
+
+/// Whether a transfer is positive and joins parts that reach.
+fn is_transfer(reach: &Reach, transfer: &Transfer) -> bool
+    ensures { IsTrue result ↔ IsTransfer reach.now transfer.now }
+{
+    if transfer.hot >= reach.hots || transfer.cold >= reach.colds {
+        return false;
+    }
+    transfer.heat > 0 && reaches(reach, transfer.hot, transfer.cold)
+}
+
+fn are_transfers(reach: &Reach, transfers: &[Transfer]) -> bool
+    ensures { IsTrue result ↔ All (IsTransfer reach.now) transfers.now }
+{
+    transfers
+        .iter()
+        .all(|transfer| is_transfer(reach, transfer))
+}
+
+/// Whether a transfer stands before another by the hot part, then by the cold part.
+fn precedes(first: &Transfer, second: &Transfer) -> bool
+    ensures { IsTrue result ↔ precedes first.now second.now }
+{
+    first.hot < second.hot || (first.hot == second.hot && first.cold < second.cold)
+}
+
+fn are_ordered(transfers: &[Transfer]) -> bool
+    ensures { IsTrue result ↔ AllPairs precedes transfers.now }
+{
+    for i in 1..transfers.len() {
+        if !precedes(&transfers[i - 1], &transfers[i]) {
+            return false;
+        }
+    }
+    true
+}
+
+/// The place of a transfer's part of this side.
+fn place_of(side: Side, transfer: &Transfer) -> u32
+    ensures { result ≡ place_of side transfer.now }
+{
+    match side {
+        Side::Hot => transfer.hot,
+        Side::Cold => transfer.cold,
+    }
+}
+
+/// Adds each transfer to the sum of its part of this side. All sums are 0 before.
+fn add_heats(sums: &mut [i128], side: Side, transfers: &[Transfer])
+    requires zeros { All (λ sum. sum ≡ pos 0) sums.old }
+    requires places { All (λ t. place_of side t < length sums.old) transfers.now }
+    requires positive { All (λ t. pos 0 <ℤ t.heat) transfers.now }
+    ensures { (a : ℕ) → a < length sums.new → slice_index_or sums.new a (pos 0) ≡ heat_at side transfers.now a }
+{
+    for transfer in transfers {
+        sums[place_of(side, transfer) as usize] += i128::from(transfer.heat);
+    }
+}
+
+/// Whether a sum is within a part's range.
+fn is_within(part: &Part, sum: i128) -> bool
+    ensures { IsTrue result ↔ IsBetween part.now.least part.now.most sum }
+{
+    i128::from(part.least) <= sum && sum <= i128::from(part.most)
+}
+
+/// Whether the sum of each part is within the part's range.
+fn are_within(parts: &[Part], sums: &[i128]) -> bool
+    requires { length parts.now ≤ length sums.now }
+    ensures { IsTrue result ↔ ((a : ℕ) (p : OnePart) → slice_get parts.now a ≡ Some p → IsBetween p.least p.most (slice_index_or sums.now a (pos 0))) }
+{
+    for (place, part) in parts.iter().enumerate() {
+        if !is_within(part, sums[place]) {
+            return false;
+        }
+    }
+    true
+}
+
+/// Whether the sum of the transfers of each part of a side is within the part's range. The sums
+/// of all parts are formed in one pass over the transfers.
+fn keeps_ranges(side: Side, parts: &[Part], transfers: &[Transfer]) -> bool
+    requires few { length parts.now ≤ most_parts }
+    requires places { All (λ t. place_of side t < length parts.now) transfers.now }
+    requires positive { All (λ t. pos 0 <ℤ t.heat) transfers.now }
+    ensures { IsTrue result ↔ KeepsRanges side parts.now transfers.now }
+{
+    let mut sums = [0i128; MOST_PARTS];
+    add_heats(&mut sums, side, transfers);
+    are_within(parts, &sums)
+}
+
+/// Whether a list of transfers is a heat flow over these parts: each transfer is positive and
+/// joins parts that reach, the list rises strictly by hot part and then by cold part, and the
+/// sum of the transfers of each part is within the part's range. A table of other sizes than
+/// the parts' lists and places out of range give false.
+pub fn is_flow(parts: &Parts, reach: &Reach, flow: &Flow) -> bool
+    ensures { IsTrue result ↔ IsFlowOver parts.now.hot parts.now.cold reach.now flow.now.transfers }
+{
+    let hot = parts.hot.as_slice();
+    let cold = parts.cold.as_slice();
+    let transfers = flow.transfers.as_slice();
+    if reach.hots as usize != hot.len() || reach.colds as usize != cold.len() {
+        return false;
+    }
+    if !are_transfers(reach, transfers) || !are_ordered(transfers) {
+        return false;
+    }
+    if !keeps_ranges(Side::Hot, hot, transfers) {
+        return false;
+    }
+    keeps_ranges(Side::Cold, cold, transfers)
+}

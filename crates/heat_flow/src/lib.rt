@@ -1,0 +1,24 @@
+//! Heat flows between the parts of a case, with prices that prove them least.
+//!
+//! A heat flow says which heat goes where, interval by interval (after the transshipment model
+//! of Papoulias and Grossmann 1983). Prices at the parts bound the cost of every heat flow from
+//! below, so that a flow whose cost is their value is proved least.
+#![tactic(auto)]
+
+mod cells;
+mod check;
+mod cost;
+mod flow;
+mod prices;
+mod reach;
+mod support;
+mod table;
+
+pub use cells::reach_of;
+pub use check::is_flow;
+pub use cost::cost_of;
+pub use flow::{Flow, Transfer};
+pub use prices::{Prices, value_of};
+pub use reach::Reach;
+pub use support::is_supported;
+pub use table::reaches;
