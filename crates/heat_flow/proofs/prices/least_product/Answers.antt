@@ -1,7 +1,6 @@
 use Rattle.std.proofs.Common.{◌≡◌, ◌∙◌, ap₂, sym, subst, FitsSigned, w64, to_z, of_z, rules, arith}
-use Rattle.std.specs.Int.{w128}
+use Rattle.std.specs.Int.{w128, int_min}
 use Rattle.std.specs.Prelude.{pos, neg_ℤ}
-use Rattle.std.specs.Int.{int_min}
 use Rattle.std.proofs.lemmas.Int.{to_z-of_z}
 use Rattle.stream_case.specs.Case.{IsBetween}
 use Rattle.heat_flow.specs.Prices.{least_product}

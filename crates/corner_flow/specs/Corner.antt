@@ -1,0 +1,63 @@
+-- The corner flow of a standard case, and prices that prove it least.
+use Rattle.std.specs.Prelude.{◌≡◌, ℕ, IsTrue, not, Bool, ℤ, pos, ◌≤ℤ◌, int_le, List, map, Some, slice_get, if◌then◌else◌}
+use Rattle.std.specs.Ordering.{int_eq}
+use Rattle.stream_case.specs.declared.source.Side.{Side}
+use Rattle.stream_case.specs.declared.source.Side.TheVariants.{Hot, Cold}
+use Rattle.stream_case.specs.declared.case.Case.{Case}
+use Rattle.sums.specs.declared.pairs.Pair.{Pair}
+use Rattle.sums.specs.Spans.{ListsOverlaps}
+use Rattle.problem_table.specs.Deficit.{hot_target, cold_target}
+use Rattle.grid.specs.declared.part.Part.{Part}
+use Rattle.grid.specs.Part.{is_stream, AreCaseParts}
+use Rattle.heat_flow.specs.declared.flow.Transfer.{Transfer}
+use Rattle.heat_flow.specs.Flow.{heat_at, IsHeatFlow, IsLeastCost}
+use Rattle.heat_flow.specs.Reach.{reach_between}
+
+-- the heat of a part: a stream's own, and the target for the utility of the side
+abbrev pub part_heat : ℤ → Part → ℤ
+part_heat target p = if is_stream p.source then p.least else target
+
+abbrev pub heats_of : ℤ → List Part → List ℤ
+heats_of target parts = map (part_heat target) parts
+
+-- a transfer as a pair of a place of each side and an amount
+abbrev pub as_pair : Transfer → Pair
+as_pair t = record { first = t.hot; second = t.cold; amount = t.heat }
+
+-- and back
+abbrev pub as_transfer : Pair → Transfer
+as_transfer p = record { hot = p.first; cold = p.second; heat = p.amount }
+
+-- the heats of each side are laid end to end in the order of the parts: the transfers are exactly the pairs of parts whose spans overlap,
+-- each with the length that they share
+abbrev pub IsCornerFlow : Case → List Part → List Part → List Transfer → Type 0
+IsCornerFlow c hot cold transfers =
+    ListsOverlaps (heats_of (hot_target c.streams) hot) (heats_of (cold_target c.streams) cold) (map as_pair transfers)
+
+-- where the hot target is 0 every price is 0; else it is 1 for a part that is not below the reference place, and 0 for the others
+abbrev pub corner_price : ℤ → ℤ → Part → ℤ
+corner_price target place p = if int_eq target (pos 0) then pos 0 else if int_le place p.low then pos 1 else pos 0
+
+-- a heat flow of these parts of the case
+abbrev pub IsFlowOf : Case → List Part → List Part → List Transfer → Type 0
+IsFlowOf c hot cold transfers = IsHeatFlow (reach_between c hot cold) hot cold transfers
+
+-- the utility of this side gives or takes just this heat
+abbrev pub UtilityHeat : Side → List Part → List Transfer → ℤ → Type 0
+UtilityHeat side parts transfers heat = (a : ℕ) (p : Part) → slice_get parts a ≡ Some p → IsTrue (not (is_stream p.source)) → heat_at side transfers a ≡ heat
+
+-- and at least this heat
+abbrev pub UtilityHeatAtLeast : Side → List Part → List Transfer → ℤ → Type 0
+UtilityHeatAtLeast side parts transfers heat = (a : ℕ) (p : Part) → slice_get parts a ≡ Some p → IsTrue (not (is_stream p.source)) → heat ≤ℤ heat_at side transfers a
+
+-- in each heat flow of these parts the hot utility gives at least this heat
+abbrev pub NeedsHotHeat : Case → List Part → List Part → ℤ → Type 0
+NeedsHotHeat c hot cold heat = (transfers : List Transfer) → IsFlowOf c hot cold transfers → UtilityHeatAtLeast Hot hot transfers heat
+
+-- the same for whatever lists are the parts of the case
+abbrev pub NeedsHotHeatOf : Case → ℤ → Type 0
+NeedsHotHeatOf c heat = (hot cold : List Part) → AreCaseParts c hot cold → NeedsHotHeat c hot cold heat
+
+-- this is the least cost of the heat flows of the case
+abbrev pub IsLeastCostOf : Case → ℤ → Type 0
+IsLeastCostOf c cost = (hot cold : List Part) → AreCaseParts c hot cold → IsLeastCost (reach_between c hot cold) hot cold cost
