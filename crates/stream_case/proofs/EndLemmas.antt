@@ -1,10 +1,10 @@
 -- The shifted ends of valid streams, and the highest and the lowest of them.
-use Rattle.std.proofs.Common.{◌≡◌, ℕ, ◌+◌, ◌<◌, ◌≤◌, ℤ, pos, neg_ℤ, ◌≤ℤ◌, ◌<ℤ◌, List, [], ◌∷◌, ◌++◌, length, get_or, take, fold, All, if◌then◌else◌, sym, ap, ◌∙◌, refl, subst, arith}
+use Rattle.std.proofs.Common.{◌≡◌, ℕ, ◌+◌, ◌*◌, ◌<◌, ◌≤◌, ℤ, pos, neg_ℤ, ◌≤ℤ◌, ◌<ℤ◌, List, [], ◌∷◌, ◌++◌, length, get_or, take, fold, All, if◌then◌else◌, sym, ap, ◌∙◌, refl, subst, arith}
 use Rattle.std.specs.Int.{int_max, int_min}
 use Rattle.std.proofs.lemmas.Int.{ints, clamps}
 use Rattle.std.proofs.lemmas.List.{take_more, take_all}
 use Rattle.std.proofs.lemmas.List.Sums.{fold-append}
-use Rattle.std.proofs.lemmas.List.Elements.{All-head, All-tail}
+use Rattle.std.proofs.lemmas.List.Elements.{All-nil, All-cons, All-head, All-tail}
 use Rattle.stream_case.specs.declared.source.Side.{Side}
 use Rattle.stream_case.specs.declared.source.Side.TheVariants.{Hot, Cold}
 use Rattle.stream_case.specs.declared.stream.Stream.{Stream}
@@ -28,6 +28,19 @@ AreEnds-IsValidStream s h = AreEnds-shifted s.side s.supply s.target s.contribut
 pub stream_ends-append : (xs ys : List Stream) → stream_ends (xs ++ ys) ≡ stream_ends xs ++ stream_ends ys
 stream_ends-append [] ys = refl
 stream_ends-append (x ∷ xs) ys = ap (λ ends. high_end x ∷ low_end x ∷ ends) (stream_ends-append xs ys)
+
+pub length-stream_ends : (streams : List Stream) → length (stream_ends streams) ≡ 2 * length streams
+length-stream_ends [] = refl
+length-stream_ends (s ∷ ss) = omega (arith, length-stream_ends ss)
+
+pub stream_ends-between : (streams : List Stream) → All IsValidStream streams → All (IsBetween (neg_ℤ (pos 3731)) (pos 31000)) (stream_ends streams)
+stream_ends-between [] each = All-nil (IsBetween (neg_ℤ (pos 3731)) (pos 31000))
+stream_ends-between (s ∷ ss) each =
+    let P : ℤ → Type 0 = IsBetween (neg_ℤ (pos 3731)) (pos 31000) in
+    let ends = AreEnds-IsValidStream s (All-head IsValidStream s ss each) in
+    let high : P (high_end s) = record { from = omega (arith, ints); upto = ends.upto } in
+    let low : P (low_end s) = record { from = ends.from; upto = omega (arith, ints) } in
+    All-cons P (high_end s) (low_end s ∷ stream_ends ss) high (All-cons P (low_end s) (stream_ends ss) low (stream_ends-between ss (All-tail IsValidStream s ss each)))
 
 -- the greater or the lesser of two numbers, that of a whole list, and the end of a stream that it takes
 pub record TakesEnd (op : ℤ → ℤ → ℤ) (whole : List ℤ → ℤ) (end : Stream → ℤ) : Type 0 where
@@ -76,22 +89,19 @@ fold_ends-all {op} {whole} {end} laws a (x ∷ xs) i s start some past read each
     let first = laws.grouped (end x) (high_end x) (low_end x) ∙ ap (op (end x)) taken ∙ laws.once (end x) ∙ sym taken in
     ap (λ ss. fold op a (stream_ends ss)) (take_all i (x ∷ xs) past) ∙ ap (λ b. fold op b (stream_ends (x ∷ xs))) (start ∙ ap end read) ∙ ap (λ b. fold op b (stream_ends xs)) first ∙ sym (laws.begins (high_end x) (low_end x ∷ stream_ends xs))
 
-fold_ends-between : {op : ℤ → ℤ → ℤ} {whole : List ℤ → ℤ} {end : Stream → ℤ} → TakesEnd op whole end → (a : ℤ) (ss : List Stream) → IsBetween (neg_ℤ (pos 3731)) (pos 31000) a → All IsValidStream ss → IsBetween (neg_ℤ (pos 3731)) (pos 31000) (fold op a (stream_ends ss))
-fold_ends-between laws a [] within each = within
-fold_ends-between {op} laws a (s ∷ ss) within each =
-    let ends = AreEnds-IsValidStream s (All-head IsValidStream s ss each) in
-    let high : IsBetween (neg_ℤ (pos 3731)) (pos 31000) (high_end s) = record { from = omega (arith, ints); upto = ends.upto } in
-    let low : IsBetween (neg_ℤ (pos 3731)) (pos 31000) (low_end s) = record { from = ends.from; upto = omega (arith, ints) } in
-    fold_ends-between laws (op (op a (high_end s)) (low_end s)) ss (laws.keeps _ _ _ _ (laws.keeps _ _ _ _ within high) low) (All-tail IsValidStream s ss each)
+-- what lies within bounds stays there
+fold-between : {op : ℤ → ℤ → ℤ} {whole : List ℤ → ℤ} {end : Stream → ℤ} → TakesEnd op whole end → (low high a : ℤ) (xs : List ℤ) → IsBetween low high a → All (IsBetween low high) xs → IsBetween low high (fold op a xs)
+fold-between laws low high a [] within each = within
+fold-between {op} laws low high a (x ∷ xs) within each =
+    fold-between laws low high (op a x) xs (laws.keeps low high a x within (All-head (IsBetween low high) x xs each)) (All-tail (IsBetween low high) x xs each)
 
 -- the highest and the lowest end of valid streams lie within bounds
 pub whole_ends-between : {op : ℤ → ℤ → ℤ} {whole : List ℤ → ℤ} {end : Stream → ℤ} → TakesEnd op whole end → (streams : List Stream) → All IsValidStream streams → IsBetween (neg_ℤ (pos 3731)) (pos 31000) (whole (stream_ends streams))
 whole_ends-between laws [] each =
     let P : ℤ → Type 0 = IsBetween (neg_ℤ (pos 3731)) (pos 31000) in
     subst P (sym laws.none) (record { from = omega (arith, ints); upto = omega (arith, ints) })
-whole_ends-between {op} laws (s ∷ ss) each =
-    let ends = AreEnds-IsValidStream s (All-head IsValidStream s ss each) in
-    let high : IsBetween (neg_ℤ (pos 3731)) (pos 31000) (high_end s) = record { from = omega (arith, ints); upto = ends.upto } in
-    let low : IsBetween (neg_ℤ (pos 3731)) (pos 31000) (low_end s) = record { from = ends.from; upto = omega (arith, ints) } in
+whole_ends-between laws (s ∷ ss) each =
     let P : ℤ → Type 0 = IsBetween (neg_ℤ (pos 3731)) (pos 31000) in
-    subst P (sym (laws.begins (high_end s) (low_end s ∷ stream_ends ss))) (fold_ends-between laws (op (high_end s) (low_end s)) ss (laws.keeps _ _ _ _ high low) (All-tail IsValidStream s ss each))
+    let ends = stream_ends-between (s ∷ ss) each in
+    let rest = low_end s ∷ stream_ends ss in
+    subst P (sym (laws.begins (high_end s) rest)) (fold-between laws _ _ (high_end s) rest (All-head P (high_end s) rest ends) (All-tail P (high_end s) rest ends))

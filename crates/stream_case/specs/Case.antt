@@ -33,7 +33,7 @@ abbrev pub IsRightWay : Side → ℤ → ℤ → Type 0
 IsRightWay Hot supply target = target <ℤ supply
 IsRightWay Cold supply target = supply <ℤ target
 
--- a stream whose numbers are in their ranges
+-- a stream that a case may have: an undotted name, numbers in their ranges, and the right way
 pub record IsValidStream (s : Stream) : Type 0 where
   pub name : IsName s.name
   pub supply : IsBetween (neg_ℤ (pos 2731)) (pos 30000) s.supply
@@ -42,14 +42,14 @@ pub record IsValidStream (s : Stream) : Type 0 where
   pub cp : IsBetween (pos 1) (pos 100000) s.cp
   pub contribution : IsBetween (pos 0) (pos 1000) s.contribution
 
--- the streams of a valid case, and of a completed one
+-- the streams of a valid case, and of a completed one: some, and not too many on a side
 pub record HasValidStreams (streams : List Stream) : Type 0 where
   pub some : 0 < length streams
   pub each : All IsValidStream streams
   pub hot : count_by (λ s. is_hot s.side) streams ≤ most_streams
   pub cold : count_by (λ s. not (is_hot s.side)) streams ≤ most_streams
 
--- the same of a utility
+-- a utility that a case file may give
 pub record IsValidUtility (u : Utility) : Type 0 where
   pub name : IsName u.name
   pub level : IsBetween (neg_ℤ (pos 2731)) (pos 30000) u.level
@@ -145,7 +145,7 @@ without_last c n = with_utilities c (take (length c.utilities - n) c.utilities)
 abbrev pub IsComplete : Case → Type 0
 IsComplete c = (k : Case) × IsValid k × (c ≡ completed k)
 
--- with no forbidden match, and with just the two standard utilities
+-- a completed case with no forbidden match, and with just the two standard utilities
 pub record IsStandard (c : Case) : Type 0 where
   pub free : c.forbids ≡ []
   pub utilities : (c.utilities ≡ standard_hot c ∷ standard_cold c ∷ []) ⊎ (c.utilities ≡ standard_cold c ∷ standard_hot c ∷ [])
