@@ -1,5 +1,5 @@
 -- The laws of sums and differences.
-use Rattle.std.proofs.Common.{◌≡◌, ◌∙◌, ◌+ℤ◌, ℕ, ℤ, pos, List, [], ◌∷◌, ◌++◌, fold, refl, sym, ap, arith}
+use Rattle.std.proofs.Common.{◌≡◌, ◌∙◌, ◌+ℤ◌, ℕ, ℤ, pos, List, [], ◌∷◌, ◌++◌, fold, sym, ap, arith}
 use Rattle.std.proofs.lemmas.Int.{ints}
 use Rattle.fractions.specs.Rationals.{Rational, minus, plus, ratio, rational_sum_by, rational_zero}
 use Rattle.fractions.proofs.Ratios.{by_four, by_one, by_three, by_two, minus-ratio_same_den, one_denominator, plus-ratio_same_den, ratio-zero}
@@ -92,10 +92,9 @@ rational_sum_by-plus f g (x ∷ xs) =
     ∙ ap (λ y. plus y (plus (g x) (rational_sum_by g xs))) (sym (rational_sum_by-cons f x xs))
     ∙ ap (plus (rational_sum_by f (x ∷ xs))) (sym (rational_sum_by-cons g x xs))
 
--- a sum of several fractions over one denominator
-pub rational_sum_by-ratio : {X : Type 0} (f : X → ℤ) (d : ℕ) (xs : List X) → rational_sum_by (λ x. ratio (f x) d) xs ≡ ratio (fold (λ total x. total +ℤ f x) (pos 0) xs) d
-rational_sum_by-ratio {X} f d xs = ap (λ a. fold (λ total x. plus total (ratio (f x) d)) a xs) (sym (ratio-zero d)) ∙ from (pos 0) xs
-  where
-    from : (n : ℤ) (ys : List X) → fold (λ total x. plus total (ratio (f x) d)) (ratio n d) ys ≡ ratio (fold (λ total x. total +ℤ f x) n ys) d
-    from n [] = refl
-    from n (y ∷ ys) = ap (λ a. fold (λ total x. plus total (ratio (f x) d)) a ys) (plus-ratio_same_den n (f y) d) ∙ from (n +ℤ f y) ys
+-- a sum of several fractions over one denominator, where `total` sums their numerators
+pub rational_sum_by-ratio : {X : Type 0} (f : X → ℤ) (total : List X → ℤ) (d : ℕ) → total [] ≡ pos 0 → ((x : X) (xs : List X) → total (x ∷ xs) ≡ f x +ℤ total xs) → (xs : List X) → rational_sum_by (λ x. ratio (f x) d) xs ≡ ratio (total xs) d
+rational_sum_by-ratio f total d none more [] = sym (ratio-zero d) ∙ ap (λ n. ratio n d) (sym none)
+rational_sum_by-ratio f total d none more (x ∷ xs) =
+    rational_sum_by-cons (λ y. ratio (f y) d) x xs ∙ ap (plus (ratio (f x) d)) (rational_sum_by-ratio f total d none more xs)
+    ∙ plus-ratio_same_den (f x) (total xs) d ∙ ap (λ n. ratio n d) (sym (more x xs))

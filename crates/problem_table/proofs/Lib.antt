@@ -4,4 +4,4 @@ pub mod HeatLemmas
 pub mod PinchLemmas
 pub mod PlaceLemmas
 pub mod ValidLemmas
-mod WorkedExample
+pub mod WorkedExample

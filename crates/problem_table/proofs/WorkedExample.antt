@@ -5,7 +5,7 @@ use Rattle.stream_case.specs.declared.source.Side.TheVariants.{Hot, Cold}
 use Rattle.stream_case.specs.declared.stream.Stream.{Stream}
 use Rattle.problem_table.specs.Deficit.{deficit_above, hot_target, cold_target}
 
-abbrev four_streams : List Stream
+abbrev pub four_streams : List Stream
 four_streams =
     record { name = codes "C1"; side = Cold; supply = pos 200; target = pos 1350; cp = pos 200; contribution = pos 50 }
     ∷ record { name = codes "H2"; side = Hot; supply = pos 1700; target = pos 600; cp = pos 300; contribution = pos 50 }

@@ -22,7 +22,7 @@ loop-stream-preserved c =
     let term = λ (b : Bool). if b then heat_below t s else pos 0 in (
       c.loop-stream.invariant.0,
       elim c.if-is_of.branch [
-        then-is_of w ↦ let added = ap term (sym c.is_of.ensures ∙ w.if-is_of.true) in omega (arith, ints)
-      | else-is_of w ↦ let added = ap term (sym c.is_of.ensures ∙ w.if-is_of.false) in omega (arith, ints)
+        | then-is_of w ↦ let added = ap term (sym c.is_of.ensures ∙ w.if-is_of.true) in omega (arith, ints)
+        | else-is_of w ↦ let added = ap term (sym c.is_of.ensures ∙ w.if-is_of.false) in omega (arith, ints)
       ],
     )

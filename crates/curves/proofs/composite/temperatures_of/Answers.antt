@@ -17,21 +17,21 @@ loop-stream-preserved c =
     let ends = λ (b : Bool). if b then s.supply ∷ s.target ∷ [] else [] in (
       c.loop-stream.invariant.0,
       elim c.if-is_of.branch [
-        then-is_of+in_ok-push+in_ok-push-2 w ↦
-          let supply_fits : FitsSigned w32 s.supply = search rules in
-          let target_fits : FitsSigned w32 s.target = search rules in
-          let supply = to_z-of_z w32 s.supply supply_fits in
-          let target = to_z-of_z w32 s.target target_fits in
-          let added = ap ends (sym c.is_of.ensures ∙ w.if-is_of.true) in
-          let first = w.in_ok-push.ensures.items in
-          let second = w.in_ok-push-2.ensures.items in
-          let joined = append_assoc before (s.supply ∷ []) (s.target ∷ []) in
-          let same = ap (λ v. v.items) w.ends-is in
-          cc
-      | else-is_of w ↦
-          let added = ap ends (sym c.is_of.ensures ∙ w.if-is_of.false) in
-          let same = ap (λ v. v.items) w.ends-is in
-          let none = append-nil before in
-          cc
+        | then-is_of+in_ok-push+in_ok-push-2 w ↦
+            let supply_fits : FitsSigned w32 s.supply = search rules in
+            let target_fits : FitsSigned w32 s.target = search rules in
+            let supply = to_z-of_z w32 s.supply supply_fits in
+            let target = to_z-of_z w32 s.target target_fits in
+            let added = ap ends (sym c.is_of.ensures ∙ w.if-is_of.true) in
+            let first = w.in_ok-push.ensures.items in
+            let second = w.in_ok-push-2.ensures.items in
+            let joined = append_assoc before (s.supply ∷ []) (s.target ∷ []) in
+            let same = ap (λ v. v.items) w.ends-is in
+            cc
+        | else-is_of w ↦
+            let added = ap ends (sym c.is_of.ensures ∙ w.if-is_of.false) in
+            let same = ap (λ v. v.items) w.ends-is in
+            let none = append-nil before in
+            cc
       ],
     )

@@ -1,0 +1,5 @@
+pub mod Numbers
+pub mod Given
+pub mod Checks
+pub mod Outcome
+pub mod Answers

@@ -1,0 +1,57 @@
+//! Why a case file is refused.
+
+use std::alloc::AllocError;
+use thiserror::Error;
+
+/// Why a row is at fault, or the end of the file.
+#[derive(Clone, Copy, Debug, PartialEq, Eq)]
+pub enum CaseWhy {
+    /// The first field is no kind of row.
+    UnknownKind,
+    /// The row has other than seven fields, or a field that its kind leaves empty is not empty.
+    FieldCount,
+    /// A number field is no number text.
+    BadNumber,
+    /// A number is outside its range.
+    OutOfRange,
+    /// A name is malformed or reserved.
+    BadName,
+    /// A stream or utility has the name of an earlier one.
+    SameName,
+    /// A hot supply is not above its target, or a cold supply not below it.
+    WrongWay,
+    /// An earlier row gave a contribution, or forbade this match.
+    Repeated,
+    /// The row would pass a limit of counts.
+    TooMany,
+    /// A forbidden match names no earlier source of that side.
+    UnknownName,
+    /// The file ended without a contribution row.
+    NoContribution,
+    /// The file ended without a stream.
+    NoStream,
+    /// The least heat of a utility is above its most.
+    BadRange,
+}
+
+/// Why there is no case.
+#[derive(Debug, PartialEq, Eq, Drop, Error)]
+pub enum CaseFault {
+    /// The first row at fault, counted from 1, and the first of its checks that fails. For what
+    /// the end of the file lacks, the row is the number of rows plus 1.
+    #[error("row {row}: {why:?}")]
+    Row { row: u32, why: CaseWhy },
+    #[error("out of memory")]
+    OutOfMemory,
+}
+
+impl From<AllocError> for CaseFault {
+    ghost use Rattle.std.specs.Prelude.{◌≡◌};
+    ghost use Rattle.case_text.specs.declared.fault.CaseFault.TheVariants.{OutOfMemory};
+
+    ghost from_gives = { λ _ fault. fault ≡ OutOfMemory };
+
+    fn from(refused: AllocError) -> CaseFault {
+        CaseFault::OutOfMemory
+    }
+}

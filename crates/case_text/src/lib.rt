@@ -1,0 +1,24 @@
+//! The case file: its grammar, and reading and printing it.
+//!
+//! A case file is a CSV text with a contribution, hot and cold streams, heaters, coolers and
+//! forbidden matches, one a row. The grammar says of the rows of a text either which case they
+//! give, or which row is at fault and why.
+#![tactic(auto)]
+
+mod contribution_row;
+mod fault;
+mod fields;
+mod forbid_row;
+mod found;
+mod kind;
+mod number;
+mod reader;
+mod stream_row;
+mod utility_row;
+
+pub use fault::{CaseFault, CaseWhy};
+pub use number::number_of;
+pub use reader::{read_case, rows_have_one_outcome};
+
+#[cfg(test)]
+mod tests;

@@ -1,0 +1,93 @@
+//! A net with the amount to route, read from text.
+
+use anyhow::{Context, Result};
+use flow_net::{Link, Net};
+use std::alloc::{AllocError, Global};
+use std::str::SplitWhitespace;
+use stream_case::Items;
+
+/// An amount to route through a net.
+#[derive(Drop)]
+pub struct Problem {
+    pub net: Net,
+    pub source: u32,
+    pub sink: u32,
+    pub amount: i64,
+}
+
+impl Problem {
+    /// The start numbers of the nets of heat flows: 10^6 at the source and the last node but one,
+    /// -10^6 at the sink and the last node, and 0 elsewhere.
+    pub fn start(&self, alloc: Global) -> Result<Items<i64>, AllocError> {
+        let mut start = Items::new(alloc);
+        for node in 0..self.net.nodes {
+            let left = self.net.nodes - node;
+            start.push(if node == self.source || left == 2 {
+                1_000_000
+            } else if node == self.sink || left == 1 {
+                -1_000_000
+            } else {
+                0
+            })?;
+        }
+        Ok(start)
+    }
+}
+
+/// Reads lines `p min NODES LINKS`, `n NODE SUPPLY` for source and sink, and `a FROM TO LOW ROOM COST`,
+/// where nodes count from 1. LOW is taken as 0. Other lines are comments.
+pub fn read(alloc: Global, text: &str) -> Result<Problem> {
+    let mut problem = Problem {
+        net: Net {
+            nodes: 0,
+            links: Items::new(alloc),
+        },
+        source: 0,
+        sink: 0,
+        amount: 0,
+    };
+    for line in text.lines() {
+        let mut words = line.split_whitespace();
+        match words.next() {
+            Some("p") => {
+                words.next();
+                problem.net.nodes = u32::try_from(number(&mut words)?)?;
+            }
+            Some("n") => {
+                let node = node(&mut words)?;
+                let supply = number(&mut words)?;
+                if supply > 0 {
+                    problem.source = node;
+                    problem.amount = supply;
+                } else {
+                    problem.sink = node;
+                }
+            }
+            Some("a") => problem.net.links.push(link(&mut words)?)?,
+            _ => {}
+        }
+    }
+    Ok(problem)
+}
+
+fn link(words: &mut SplitWhitespace) -> Result<Link> {
+    let from = node(words)?;
+    let to = node(words)?;
+    number(words)?;
+    Ok(Link {
+        from,
+        to,
+        room: number(words)?,
+        cost: number(words)?,
+    })
+}
+
+fn node(words: &mut SplitWhitespace) -> Result<u32> {
+    let number = u32::try_from(number(words)?)?;
+    number.checked_sub(1).context("nodes count from 1")
+}
+
+fn number(words: &mut SplitWhitespace) -> Result<i64> {
+    let word = words.next().context("a number is missing")?;
+    Ok(word.parse::<i64>()?)
+}

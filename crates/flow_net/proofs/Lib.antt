@@ -1,0 +1,9 @@
+pub mod ArcLemmas
+pub mod Duality
+pub mod FlowLemmas
+pub mod Products
+pub mod QueueLemmas
+pub mod RelaxLemmas
+pub mod Sizes
+pub mod StepLemmas
+pub mod Sums

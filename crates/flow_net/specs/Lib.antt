@@ -1,0 +1,6 @@
+pub mod Adjacency
+pub mod Flow
+pub mod Net
+pub mod Search
+pub mod Solve
+pub mod Sum

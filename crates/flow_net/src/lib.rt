@@ -1,0 +1,13 @@
+//! The least-cost flow engine: an amount routed through a net at least cost, with potentials that
+//! prove it, or a set of nodes that cannot be left by so much.
+#![tactic(auto)]
+
+mod adjacency;
+mod flow;
+mod net;
+mod routing;
+mod search;
+mod least_cost;
+
+pub use net::{Link, Net, Solved};
+pub use least_cost::solve;
