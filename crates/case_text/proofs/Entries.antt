@@ -16,7 +16,7 @@ pub new_entry : {V S : Type 0} (m : IndexMap (List ℕ) V S) (name : List ℕ) (
     → insert_entry bytes_eq m.entries name v ≡ m.entries ++ (name, v) ∷ []
 new_entry m name v free = insert_entry-new bytes_eq m name v (none_there _ free)
 
-neither : (a b : Bool) → (a || b) ≡ false → (a ≡ false) × (b ≡ false)
+pub neither : (a b : Bool) → (a || b) ≡ false → (a ≡ false) × (b ≡ false)
 neither true b e = cc e
 neither false b e = (refl, e)
 

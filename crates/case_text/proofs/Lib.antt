@@ -5,3 +5,6 @@ pub mod Entries
 pub mod Counts
 pub mod Steps
 pub mod Unique
+pub mod Passes
+pub mod Lookups
+pub mod Valid

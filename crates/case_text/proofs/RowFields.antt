@@ -36,7 +36,7 @@ first_of_two false b e = cc e
 hash_test : (row : Row) → (get_or (field row 0) 0 0 == 35) ≡ true → kind_of row ≡ None
 hash_test row e = hash_kind (field row 0) (eqb-true _ _ e)
 
-passed_over-kind : (row : Row) → is_passed_over row ≡ true → kind_of row ≡ None
+pub passed_over-kind : (row : Row) → is_passed_over row ≡ true → kind_of row ≡ None
 unfolding is_passed_over are_empty
 passed_over-kind row e = by _ _ e (λ empty. empty_kind (field row 0) (first_of_two _ _ empty)) (hash_test row)
   where

@@ -7,11 +7,12 @@ use Rattle.std.specs.List.{cons_option, filter_map, range_with_len}
 use Rattle.std.specs.Option.{option_to_list}
 use Rattle.std.proofs.lemmas.List.Elements.{filter_map-append}
 use Rattle.csv_rows.specs.Rows.{Row}
+use Rattle.stream_case.specs.declared.case.Case.{Case}
 use Rattle.stream_case.specs.declared.case.Forbid.{Forbid}
-use Rattle.case_text.specs.Given.{Given, contribution_by, forbid_at, forbid_by, given_by, kind_of, sources_by, stream_by, utility_by}
-use Rattle.case_text.specs.Checks.{checks, first_failing}
+use Rattle.case_text.specs.Given.{Given, case_of, contribution_by, forbid_at, forbid_by, given_by, kind_of, sources_by, stream_by, utility_by}
+use Rattle.case_text.specs.Checks.{checks, end_checks, first_failing}
 use Rattle.case_text.specs.Answers.{GivesEach, GivesEntry, with_entry}
-use Rattle.case_text.specs.Outcome.{IsFirstFault, SoundBefore, fault_at}
+use Rattle.case_text.specs.Outcome.{IsCase, IsFirstFault, SoundBefore, fault_at}
 use Rattle.case_text.specs.declared.fault.CaseWhy.{CaseWhy}
 use Rattle.case_text.specs.declared.found.Entry.{Entry}
 use Rattle.case_text.specs.declared.found.Entry.TheVariants as entry
@@ -80,8 +81,8 @@ forbids-push rows row =
     let here = ap (forbid_at more) zero_more ∙ forbid_at-seam rows row in
     all ∙ last ∙ (λ i. front i ++ option_to_list (here i))
 
--- what is given where a row gives these
-with_each : Given → Option ℤ → Option (List ℕ × StreamData) → Option (List ℕ × UtilityData) → Option Forbid → Given
+-- what is given where a row gives these to each list
+unfoldable pub with_each : Given → Option ℤ → Option (List ℕ × StreamData) → Option (List ℕ × UtilityData) → Option Forbid → Given
 with_each given contribution stream utility forbid = record {
   contributions = given.contributions ++ option_to_list contribution;
   sources = record {
@@ -91,7 +92,7 @@ with_each given contribution stream utility forbid = record {
   forbids = given.forbids ++ option_to_list forbid;
 }
 
-given_by-push : (rows : List Row) (row : Row)
+pub given_by-push : (rows : List Row) (row : Row)
     → given_by (rows ++ row ∷ []) ≡ with_each (given_by rows) (contribution_by (kind_of row) row) (stream_by (kind_of row) row) (utility_by (kind_of row) row) (forbid_by (kind_of row) (given_by rows).sources row)
 unfolding given_by sources_by with_each
 given_by-push rows row =
@@ -105,7 +106,7 @@ with_each-given : (given : Given) (row : Row) (contribution : Option ℤ) (strea
     → with_each given (contribution_by (kind_of row) row) (stream_by (kind_of row) row) (utility_by (kind_of row) row) (forbid_by (kind_of row) given.sources row) ≡ with_each given contribution stream utility forbid
 with_each-given given row contribution stream utility forbid gives = λ i. with_each given (gives.contribution_is i) (gives.stream_is i) (gives.utility_is i) (gives.forbid_is i)
 
-added : (given : Given) (row : Row) (e : Option Entry) → GivesEntry given row e
+pub added : (given : Given) (row : Row) (e : Option Entry) → GivesEntry given row e
     → with_each given (contribution_by (kind_of row) row) (stream_by (kind_of row) row) (utility_by (kind_of row) row) (forbid_by (kind_of row) given.sources row) ≡ with_any given e
 unfolding with_each
 added given row None gives =
@@ -205,3 +206,21 @@ one_more rows left given number row rest e new reads at passes gives is = record
   number_is = ap (λ n. n + 1) reads.number_is ∙ sym (length-append reads.done (row ∷ []));
   is_sound = rw is (sound_more reads.done given row e reads.is_sound passes gives);
 }
+
+-- no row is left
+all_read : (rows left : List Row) (given : Given) (number : ℕ) → Reads rows left given number → left ≡ [] → IsSound rows given
+all_read rows left given number reads e =
+    let all : rows ≡ reads.done = reads.rows_are ∙ ap (λ l. reads.done ++ l) e ∙ append-nil reads.done in
+    rw all reads.is_sound
+
+pub case_read : (rows left : List Row) (given : Given) (number : ℕ) (contribution : ℤ) (case : Case) → Reads rows left given number → left ≡ [] → first_failing (end_checks given) ≡ None → given.contributions ≡ contribution ∷ []
+    → case ≡ case_of contribution given → IsCase rows case
+case_read rows left given number contribution case reads e complete one all =
+    let is = all_read rows left given number reads e in
+    let same : contribution ≡ case.contribution = sym (ap (λ k. k.contribution) all) in
+    record {
+      sound = is.sound;
+      complete = ap (λ g. first_failing (end_checks g)) (sym is.given_is) ∙ complete;
+      contribution = ap (λ g. g.contributions) (sym is.given_is) ∙ one ∙ ap (λ n. n ∷ []) same;
+      given = all ∙ (λ i. case_of (same i) (is.given_is i));
+    }

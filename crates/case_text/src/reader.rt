@@ -3,6 +3,7 @@
 ghost use Rattle.std.specs.Prelude.{◌≡◌, ◌≤◌, ℕ, List, length, IfOk};
 ghost use Rattle.csv.specs.Records.{fields_of};
 ghost use Rattle.csv_rows.specs.Rows.{Row, rows_of};
+ghost use Rattle.stream_case.specs.Case.{IsValid};
 ghost use Rattle.stream_case.specs.declared.case.Case.{Case};
 ghost use Rattle.case_text.specs.Checks.{checks, first_failing, further_checks};
 ghost use Rattle.case_text.specs.Answers.{Checked, GivesEntry, IsFreshIfAny};
@@ -60,7 +61,8 @@ fn entry_of(found: &Found, row: &ByteRecord) -> Result<Option<Entry>, CaseWhy>
 /// Reads a case file: the case of the grammar, or the first row at fault with its cause.
 pub fn read_case(alloc: Global, bytes: &[u8]) -> Result<Case, CaseFault>
     requires { length bytes.now ≤ 2000000000 }
-    ensures { IsOutcome (rows_of bytes.now) result }
+    ensures outcome { IsOutcome (rows_of bytes.now) result }
+    ensures valid { IfOk result IsValid }
 {
     let mut rows = Rows::new(alloc, bytes);
     let mut row = ByteRecord::new(alloc);

@@ -96,7 +96,10 @@ fn takes_any_links(rt: HostRuntime) -> Result<()> {
     let problem = problem(alloc, &links, 10_000_000_000_000_000)?;
     match flow_of(alloc, &problem, [4, 0, 0, 0])? {
         Some(flow) => {
-            assert_eq!(rt; flow.as_slice(), [4, 9_999_999_999_999_994, 0, 0, 2, 2, 0].as_slice());
+            assert_eq!(rt;
+                flow.as_slice(),
+                [4, 9_999_999_999_999_994, 0, 0, 2, 2, 0].as_slice()
+            );
         }
         None => bail!("blocked"),
     }

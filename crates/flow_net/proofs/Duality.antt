@@ -1,5 +1,5 @@
 -- Why potentials prove a routing to cost least, and a barrier that there is none.
-use Rattle.std.proofs.Common.{◌≡◌, ◌≢◌, ◌==◌, ℕ, ◌<◌, ◌≤◌, zero, suc, Bool, true, false, cond, eqb, not, ◌&&◌, List, length, ℤ, pos, negsuc, ◌+ℤ◌, ◌-ℤ◌, ◌*ℤ◌, ◌≤ℤ◌, ◌<ℤ◌, ap, ap₂, ◌∙◌, sym, subst, refl, inl, inr, arith, if◌then◌else◌}
+use Rattle.std.proofs.Common.{◌≡◌, ◌≢◌, ◌==◌, ℕ, ◌<◌, zero, suc, Bool, true, false, not, ◌&&◌, List, length, ℤ, pos, negsuc, ◌+ℤ◌, ◌-ℤ◌, ◌*ℤ◌, ◌≤ℤ◌, ◌<ℤ◌, ap, ap₂, ◌∙◌, sym, subst, refl, inl, inr, arith, if◌then◌else◌}
 use Rattle.std.proofs.lemmas.Int.{ints, by_lt_z}
 use Rattle.std.proofs.lemmas.Bool.{cases_eq, eq-eqb, ne_eqb}
 use Rattle.flow_net.specs.declared.net.Link.{Link}
@@ -8,7 +8,7 @@ use Rattle.flow_net.specs.Sum.{sum_below}
 use Rattle.flow_net.specs.Net.{link_at, flow_on, potential_at, is_in, outflow, inflow, IsRouting, cost_of, reduced_cost, AreProofOfLeast, HasNodesWithin, IsWithinRooms, leaves}
 use Rattle.sums.proofs.ProductLemmas.{+ℤ-*ℤ, *ℤ-≤ℤ_left, *ℤ--ℤ, -ℤ-*ℤ}
 use Rattle.flow_net.proofs.Products.{*ℤ-zero, *ℤ-≤ℤ_turned}
-use Rattle.flow_net.proofs.Sums.{sum_below-same, sum_below-le, sum_below-add, sum_below-sub, sum_below-scale, sum_below-zero, sum_below-single, sum_below-exchange}
+use Rattle.flow_net.proofs.Sums.{sum_below-same, sum_below-le, sum_below-add, sum_below-sub, sum_below-scale, sum_below-single, sum_below-exchange}
 
 -- a factor of the node, times what the links at the node carry, is the factor of each link's node, times
 -- what the link carries
@@ -21,10 +21,10 @@ module _ (n m : ℕ) (node : ℕ → ℕ) (within : (k : ℕ) → k < m → node
       sum_below-same n (λ v. c v *ℤ (if node k == v then x k else pos 0)) (λ v. if node k == v then c v *ℤ x k else pos 0) (λ v b. inside (node k) v (x k))
       ∙ sum_below-single n (λ v. c v *ℤ x k) (node k) (within k l)))
     where
-    inside : (i v : ℕ) (y : ℤ) → c v *ℤ (if i == v then y else pos 0) ≡ (if i == v then c v *ℤ y else pos 0)
-    inside i v y = elim (cases_eq i v) [
-        inl e ↦ rw (eq-eqb i v e) refl
-      | inr ne ↦ rw (ne_eqb i v ne) (*ℤ-zero (c v))
+      inside : (i v : ℕ) (y : ℤ) → c v *ℤ (if i == v then y else pos 0) ≡ (if i == v then c v *ℤ y else pos 0)
+      inside i v y = elim (cases_eq i v) [
+        | inl e ↦ rw (eq-eqb i v e) refl
+        | inr ne ↦ rw (ne_eqb i v ne) (*ℤ-zero (c v))
       ]
 
 -- what leaves a node less what enters it
@@ -48,16 +48,16 @@ surplus_of_routing source sink amount v = (if source == v then amount else pos 0
 pub surplus_is : (net : Net) (source sink : ℕ) (amount : ℤ) (flow : List ℤ) → source ≢ sink → IsRouting net source sink amount flow → (v : ℕ) → v < net.nodes → surplus net.links flow v ≡ surplus_of_routing source sink amount v
 surplus_is net source sink amount flow apart routing v within =
     elim (cases_eq source v) [
-      inl e ↦
-        let other : sink ≢ v = (λ d. apart (e ∙ sym d)) in
-        rw (eq-eqb source v e, ne_eqb sink v other) (subst (λ u. surplus net.links flow u ≡ amount -ℤ pos 0) e (let gives = routing.source_gives in omega (arith, ints)))
-    | inr ne ↦
-        rw (ne_eqb source v ne)
-        (elim (cases_eq sink v) [
-          inl e ↦ rw (eq-eqb sink v e) (subst (λ u. surplus net.links flow u ≡ pos 0 -ℤ amount) e (let takes = routing.sink_takes in omega (arith, ints)))
-        | inr other ↦
-            rw (ne_eqb sink v other) (let same = routing.balances v within (λ d. ne (sym d)) (λ d. other (sym d)) in omega (arith, ints))
-        ])
+      | inl e ↦
+          let other : sink ≢ v = (λ d. apart (e ∙ sym d)) in
+          rw (eq-eqb source v e, ne_eqb sink v other) (subst (λ u. surplus net.links flow u ≡ amount -ℤ pos 0) e (let gives = routing.source_gives in omega (arith, ints)))
+      | inr ne ↦
+          rw (ne_eqb source v ne)
+          (elim (cases_eq sink v) [
+            | inl e ↦ rw (eq-eqb sink v e) (subst (λ u. surplus net.links flow u ≡ pos 0 -ℤ amount) e (let takes = routing.sink_takes in omega (arith, ints)))
+            | inr other ↦
+                rw (ne_eqb sink v other) (let same = routing.balances v within (λ d. ne (sym d)) (λ d. other (sym d)) in omega (arith, ints))
+          ])
     ]
 
 -- the reduced cost of a link times its flow
@@ -72,10 +72,10 @@ cost_and_fall links flow potentials =
     (λ k l. split (link_at links k).cost (potential_at potentials (link_at links k).from) (potential_at potentials (link_at links k).to) (flow_on flow k))
     ∙ sum_below-add (length links) (λ k. (link_at links k).cost *ℤ flow_on flow k) (λ k. (potential_at potentials (link_at links k).from -ℤ potential_at potentials (link_at links k).to) *ℤ flow_on flow k)
   where
-  split : (cost a b x : ℤ) → ((cost +ℤ a) -ℤ b) *ℤ x ≡ cost *ℤ x +ℤ (a -ℤ b) *ℤ x
-  split cost a b x =
-      let same : (cost +ℤ a) -ℤ b ≡ cost +ℤ (a -ℤ b) = omega (arith, ints) in
-      ap (λ r. r *ℤ x) same ∙ +ℤ-*ℤ cost (a -ℤ b) x
+    split : (cost a b x : ℤ) → ((cost +ℤ a) -ℤ b) *ℤ x ≡ cost *ℤ x +ℤ (a -ℤ b) *ℤ x
+    split cost a b x =
+        let same : (cost +ℤ a) -ℤ b ≡ cost +ℤ (a -ℤ b) = omega (arith, ints) in
+        ap (λ r. r *ℤ x) same ∙ +ℤ-*ℤ cost (a -ℤ b) x
 
 -- no flow within the room of a link makes its reduced cost times the flow less
 least_term : (r x y room : ℤ) → pos 0 ≤ℤ y → y ≤ℤ room → (x <ℤ room → pos 0 ≤ℤ r) → (pos 0 <ℤ x → r ≤ℤ pos 0) → x ≤ℤ room → (r *ℤ x) ≤ℤ (r *ℤ y)
@@ -114,15 +114,16 @@ crossing_is net source sink amount flow set within source_in sink_in apart routi
     ∙ (ap₂ ◌-ℤ◌ (sum_below-single n (λ v. c v *ℤ amount) source source_in) (sum_below-single n (λ v. c v *ℤ amount) sink sink_in)
     ∙ ends (is_in set source) (is_in set sink) has lacks)))
   where
-  inside : (c a : ℤ) (p q : Bool) → c *ℤ ((if p then a else pos 0) -ℤ (if q then a else pos 0)) ≡ (if p then c *ℤ a else pos 0) -ℤ (if q then c *ℤ a else pos 0)
-  inside c a true true = *ℤ--ℤ c a a
-  inside c a true false = *ℤ--ℤ c a (pos 0) ∙ ap (λ z. (c *ℤ a) -ℤ z) (*ℤ-zero c)
-  inside c a false true = *ℤ--ℤ c (pos 0) a ∙ ap (λ z. z -ℤ (c *ℤ a)) (*ℤ-zero c)
-  inside c a false false = *ℤ--ℤ c (pos 0) (pos 0) ∙ ap₂ ◌-ℤ◌ (*ℤ-zero c) (*ℤ-zero c)
-  ends : (p q : Bool) → p ≡ true → q ≡ false → (indicator p *ℤ amount) -ℤ (indicator q *ℤ amount) ≡ amount
-  ends true true h k = absurd (cc)
-  ends true false h k = omega (arith, ints)
-  ends false q h k = absurd (cc)
+    inside : (c a : ℤ) (p q : Bool) → c *ℤ ((if p then a else pos 0) -ℤ (if q then a else pos 0)) ≡ (if p then c *ℤ a else pos 0) -ℤ (if q then c *ℤ a else pos 0)
+    inside c a true true = *ℤ--ℤ c a a
+    inside c a true false = *ℤ--ℤ c a (pos 0) ∙ ap (λ z. (c *ℤ a) -ℤ z) (*ℤ-zero c)
+    inside c a false true = *ℤ--ℤ c (pos 0) a ∙ ap (λ z. z -ℤ (c *ℤ a)) (*ℤ-zero c)
+    inside c a false false = *ℤ--ℤ c (pos 0) (pos 0) ∙ ap₂ ◌-ℤ◌ (*ℤ-zero c) (*ℤ-zero c)
+
+    ends : (p q : Bool) → p ≡ true → q ≡ false → (indicator p *ℤ amount) -ℤ (indicator q *ℤ amount) ≡ amount
+    ends true true h k = absurd (cc)
+    ends true false h k = omega (arith, ints)
+    ends false q h k = absurd (cc)
 
 -- what a link takes across, against the room of the links that leave
 crossing_term : (p q : Bool) (x room : ℤ) → pos 0 ≤ℤ x → x ≤ℤ room → ((indicator p -ℤ indicator q) *ℤ x) ≤ℤ (if (p && not q) then room else pos 0)
@@ -155,15 +156,15 @@ pub routing_from_surplus : (net : Net) (source sink : ℕ) (amount : ℤ) (flow 
 routing_from_surplus net source sink amount flow source_in sink_in apart rooms is = record {
   rooms = rooms;
   balances = λ v within not_source not_sink.
-    let here = is v within in
-    let none : surplus_of_routing source sink amount v ≡ pos 0 = rw (ne_eqb source v (λ e. not_source (sym e)), ne_eqb sink v (λ e. not_sink (sym e))) (omega (arith, ints)) in
-    omega (arith, ints);
+      let here = is v within in
+      let none : surplus_of_routing source sink amount v ≡ pos 0 = rw (ne_eqb source v (λ e. not_source (sym e)), ne_eqb sink v (λ e. not_sink (sym e))) (omega (arith, ints)) in
+      omega (arith, ints);
   source_gives =
-    (let here = is source source_in in
-    let whole : surplus_of_routing source sink amount source ≡ amount = rw (eq-eqb source source refl, ne_eqb sink source (λ e. apart (sym e))) (omega (arith, ints)) in
-    omega (arith, ints));
+      (let here = is source source_in in
+      let whole : surplus_of_routing source sink amount source ≡ amount = rw (eq-eqb source source refl, ne_eqb sink source (λ e. apart (sym e))) (omega (arith, ints)) in
+      omega (arith, ints));
   sink_takes =
-    (let here = is sink sink_in in
-    let whole : surplus_of_routing source sink amount sink ≡ pos 0 -ℤ amount = rw (ne_eqb source sink apart, eq-eqb sink sink refl) (omega (arith, ints)) in
-    omega (arith, ints));
+      (let here = is sink sink_in in
+      let whole : surplus_of_routing source sink amount sink ≡ pos 0 -ℤ amount = rw (ne_eqb source sink apart, eq-eqb sink sink refl) (omega (arith, ints)) in
+      omega (arith, ints));
 }

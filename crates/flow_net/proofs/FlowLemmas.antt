@@ -1,17 +1,17 @@
 -- What an amount sent along an arc, or along a path, keeps and changes.
-use Rattle.std.proofs.Common.{◌≡◌, ◌≢◌, ◌==◌, ℕ, ◌+◌, ◌<◌, ◌≤◌, Bool, true, false, List, [], ◌∷◌, length, get_or, set, take, drop, fold, ℤ, pos, ◌+ℤ◌, ◌-ℤ◌, neg_ℤ, ◌≤ℤ◌, ◌<ℤ◌, ap, ap₂, ◌∙◌, sym, subst, refl, inl, inr, arith, if◌then◌else◌}
+use Rattle.std.proofs.Common.{◌≡◌, ◌≢◌, ◌==◌, ℕ, ◌+◌, ◌<◌, Bool, true, false, List, [], ◌∷◌, length, get_or, set, take, drop, ℤ, pos, ◌+ℤ◌, ◌-ℤ◌, ◌≤ℤ◌, ap, ◌∙◌, sym, subst, refl, inl, inr, arith, if◌then◌else◌}
 use Rattle.std.specs.List.{All}
-use Rattle.std.proofs.lemmas.Int.{ints, by_lt_z}
-use Rattle.std.proofs.lemmas.Bool.{cases_eq, eq-eqb, ne_eqb}
+use Rattle.std.proofs.lemmas.Int.{ints}
+use Rattle.std.proofs.lemmas.Bool.{cases_eq}
 use Rattle.std.proofs.lemmas.List.{length-set, get_or-set_same, get_or-set_other, drop_more}
 use Rattle.std.proofs.lemmas.List.Sums.{fold_more}
-use Rattle.std.proofs.lemmas.List.Elements.{All-head, All-tail, All-cons}
+use Rattle.std.proofs.lemmas.List.Elements.{All-head, All-tail}
 use Rattle.flow_net.specs.declared.net.Link.{Link}
 use Rattle.flow_net.specs.declared.adjacency.Arc.{Arc}
 use Rattle.flow_net.specs.Sum.{sum_below}
-use Rattle.flow_net.specs.Net.{link_at, flow_on, potential_at, outflow, inflow, IsWithinRooms, reduced_cost, AreProofOfLeast}
+use Rattle.flow_net.specs.Net.{link_at, flow_on, IsWithinRooms, reduced_cost, AreProofOfLeast}
 use Rattle.flow_net.specs.Adjacency.{arc_of, IsArc}
-use Rattle.flow_net.specs.Flow.{spare_of, sent_along, sent_along_path, slack_of, IsWalk, AreApart, CanCarry}
+use Rattle.flow_net.specs.Flow.{spare_of, sent_along, sent_along_path, slack_of, IsWalk, CanCarry}
 use Rattle.flow_net.proofs.Sums.{sum_below-change}
 use Rattle.flow_net.proofs.Duality.{surplus}
 
@@ -27,13 +27,13 @@ module _ (links : List Link) (flow : List ℤ) (k : ℕ) (below : k < length lin
   changed_rooms rooms from upto = record {
     one_each = length-set flow k x ∙ one_each;
     not_negative = λ j l. elim (cases_eq j k) [
-        inl e ↦ subst (λ i. pos 0 ≤ℤ flow_on (set flow k x) i) (sym e) (rw flow_here from)
+      | inl e ↦ subst (λ i. pos 0 ≤ℤ flow_on (set flow k x) i) (sym e) (rw flow_here from)
       | inr ne ↦ rw (flow_there j ne) (rooms.not_negative j l)
-      ];
+    ];
     upto_room = λ j l. elim (cases_eq j k) [
-        inl e ↦ subst (λ i. flow_on (set flow k x) i ≤ℤ (link_at links i).room) (sym e) (rw flow_here upto)
+      | inl e ↦ subst (λ i. flow_on (set flow k x) i ≤ℤ (link_at links i).room) (sym e) (rw flow_here upto)
       | inr ne ↦ rw (flow_there j ne) (rooms.upto_room j l)
-      ];
+    ];
   }
 
   -- a link that counts at node v by a test
@@ -50,20 +50,20 @@ module _ (links : List Link) (flow : List ℤ) (k : ℕ) (below : k < length lin
       let two = apart ((link_at links k).to == v) x (flow_on flow k) in
       omega (arith, ints, out, into, one, two)
     where
-    apart : (p : Bool) (a b : ℤ) → (if p then a else pos 0) -ℤ (if p then b else pos 0) ≡ (if p then a -ℤ b else pos 0)
-    apart true a b = refl
-    apart false a b = omega (arith, ints)
+      apart : (p : Bool) (a b : ℤ) → (if p then a else pos 0) -ℤ (if p then b else pos 0) ≡ (if p then a -ℤ b else pos 0)
+      apart true a b = refl
+      apart false a b = omega (arith, ints)
 
   changed_proof : (potentials : List ℤ) → AreProofOfLeast links flow potentials → reduced_cost (link_at links k) potentials ≡ pos 0 → AreProofOfLeast links (set flow k x) potentials
   changed_proof potentials proof none = record {
     left_to_add = λ j l left. elim (cases_eq j k) [
-        inl e ↦ subst (λ i. pos 0 ≤ℤ reduced_cost (link_at links i) potentials) (sym e) (omega (arith, ints))
+      | inl e ↦ subst (λ i. pos 0 ≤ℤ reduced_cost (link_at links i) potentials) (sym e) (omega (arith, ints))
       | inr ne ↦ proof.left_to_add j l (rw (flow_there j ne) at left)
-      ];
+    ];
     flowing = λ j l some. elim (cases_eq j k) [
-        inl e ↦ subst (λ i. reduced_cost (link_at links i) potentials ≤ℤ pos 0) (sym e) (omega (arith, ints))
+      | inl e ↦ subst (λ i. reduced_cost (link_at links i) potentials ≤ℤ pos 0) (sym e) (omega (arith, ints))
       | inr ne ↦ proof.flowing j l (rw (flow_there j ne) at some)
-      ];
+    ];
   }
 
 -- an amount sent along an arc
@@ -85,17 +85,17 @@ module _ (links : List Link) (flow : List ℤ) (m : ℤ) (rooms : IsWithinRooms 
       changed_surplus links flow k below rooms.one_each (flow_on flow k +ℤ m) v
       ∙ ap (λ d. surplus links flow v +ℤ ((if (link_at links k).from == v then d else pos 0) -ℤ (if (link_at links k).to == v then d else pos 0))) (more (flow_on flow k))
     where
-    more : (x : ℤ) → (x +ℤ m) -ℤ x ≡ m
-    more x = omega (arith, ints)
+      more : (x : ℤ) → (x +ℤ m) -ℤ x ≡ m
+      more x = omega (arith, ints)
   sent-surplus-way k false v below =
       changed_surplus links flow k below rooms.one_each (flow_on flow k -ℤ m) v
       ∙ ap (λ d. surplus links flow v +ℤ d) (less ((link_at links k).from == v) ((link_at links k).to == v) (flow_on flow k))
     where
-    less : (p q : Bool) (x : ℤ) → (if p then (x -ℤ m) -ℤ x else pos 0) -ℤ (if q then (x -ℤ m) -ℤ x else pos 0) ≡ (if q then m else pos 0) -ℤ (if p then m else pos 0)
-    less true true x = omega (arith, ints)
-    less true false x = omega (arith, ints)
-    less false true x = omega (arith, ints)
-    less false false x = omega (arith, ints)
+      less : (p q : Bool) (x : ℤ) → (if p then (x -ℤ m) -ℤ x else pos 0) -ℤ (if q then (x -ℤ m) -ℤ x else pos 0) ≡ (if q then m else pos 0) -ℤ (if p then m else pos 0)
+      less true true x = omega (arith, ints)
+      less true false x = omega (arith, ints)
+      less false true x = omega (arith, ints)
+      less false false x = omega (arith, ints)
 
   pub sent-surplus : (a : Arc) (v : ℕ) → IsArc links a → surplus links (sent_along flow a m) v ≡ surplus links flow v +ℤ ((if a.tail == v then m else pos 0) -ℤ (if a.head == v then m else pos 0))
   sent-surplus a v is =
@@ -120,9 +120,9 @@ CanCarry-rest links flow a path m rooms can = record {
   arcs = All-tail (IsArc links) a path can.arcs;
   apart = can.apart.1;
   spare = λ k d l.
-    let same = sent-spare links flow m rooms a (get_or path k d) (can.apart.0 k d l) in
-    let before = All-tail (λ b. m ≤ℤ spare_of links flow b) a path can.spare k d l in
-    omega (arith, ints);
+      let same = sent-spare links flow m rooms a (get_or path k d) (can.apart.0 k d l) in
+      let before = All-tail (λ b. m ≤ℤ spare_of links flow b) a path can.spare k d l in
+      omega (arith, ints);
 }
 
 -- the flow after an amount is sent along a path
@@ -149,8 +149,8 @@ path-surplus links flow [] m u w v rooms from can walk =
 path-surplus links flow (a ∷ path) m u w v rooms from can walk =
     let is = All-head (IsArc links) a path can.arcs in
     let rest = path-surplus links (sent_along flow a m) path m a.head w v
-      (sent-rooms links flow m rooms a is from (All-head (λ b. m ≤ℤ spare_of links flow b) a path can.spare))
-      from (CanCarry-rest links flow a path m rooms can) walk.1 in
+    (sent-rooms links flow m rooms a is from (All-head (λ b. m ≤ℤ spare_of links flow b) a path can.spare))
+    from (CanCarry-rest links flow a path m rooms can) walk.1 in
     let first = sent-surplus links flow m rooms a v is in
     let begins = ap (λ x. if x == v then m else pos 0) walk.0 in
     omega (arith, ints, rest, first, begins)

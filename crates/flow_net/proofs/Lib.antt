@@ -1,6 +1,7 @@
 pub mod ArcLemmas
 pub mod Duality
 pub mod FlowLemmas
+pub mod GuideLemmas
 pub mod Products
 pub mod QueueLemmas
 pub mod RelaxLemmas

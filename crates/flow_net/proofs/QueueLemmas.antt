@@ -1,6 +1,6 @@
 -- A search as it begins, and after an entry is taken off its queue.
-use Rattle.std.proofs.Common.{◌≡◌, ◌≢◌, ℕ, zero, suc, ◌⊎◌, ◌+◌, ◌*◌, ◌<◌, ◌≤◌, Bool, true, false, not, cond, Option, Some, None, List, [], ◌∷◌, ◌++◌, length, get_or, set, replicate, count_by, ℤ, pos, neg_ℤ, ◌+ℤ◌, ◌-ℤ◌, ◌≤ℤ◌, ◌<ℤ◌, ap, ◌∙◌, sym, subst, refl, inl, inr, arith}
-use Rattle.std.specs.BinaryHeap.{IsHeap, IsUpperBound, heap_items}
+use Rattle.std.proofs.Common.{◌≡◌, ◌≢◌, ℕ, zero, suc, ◌⊎◌, ◌+◌, ◌<◌, Bool, true, false, not, cond, Option, Some, None, List, [], ◌∷◌, length, get_or, set, replicate, count_by, ℤ, pos, ◌≤ℤ◌, ◌<ℤ◌, ap, ◌∙◌, sym, subst, refl, inl, inr, arith}
+use Rattle.std.specs.BinaryHeap.{IsHeap, heap_items}
 use Rattle.std.specs.List.{All, Contains}
 use Rattle.std.specs.List.Sorted.{IsPermutation}
 use Rattle.std.specs.Ordering.{is_lt, nat_cmp, int_cmp, ordering_then}
@@ -21,7 +21,7 @@ use Rattle.flow_net.specs.declared.search.Search.{Search}
 use Rattle.flow_net.specs.declared.routing.Routing.{Routing}
 use Rattle.flow_net.specs.Net.{potential_at, is_in}
 use Rattle.flow_net.specs.Adjacency.{IsArc}
-use Rattle.flow_net.specs.Search.{label_of, is_reached, reached_count, rise_of, largest_cost, IsLabel, IsLabelBy, IsEntry, entry_cmp, IsSearch, IsPopped, IsEntryTaken, IsQueueEmpty, IsWellFormed, IsDrained, IsReaching, IsClosedAt, IsFresh}
+use Rattle.flow_net.specs.Search.{label_of, is_reached, reached_count, rise_of, IsLabel, IsEntry, entry_cmp, IsSearch, IsPopped, IsEntryTaken, IsQueueEmpty, IsWellFormed, IsReaching, IsClosedAt, IsFresh}
 
 under : (a b : ℤ) → a <ℤ b → lt_z a b ≡ true
 under a b h = grind (arith, ints)
@@ -72,14 +72,14 @@ module _ (net : Net) (routing : Routing) (s t : Search) (e : Reverse ℤ × ℕ)
     risen_upto = λ v l r k. search.risen_upto v l (sym (mark v) ∙ r) (sym (same_label v) ∙ k);
     not_reached = λ v l v_in r k. search.not_reached v l v_in (sym (mark v) ∙ r) (sym (same_label v) ∙ k);
     queued = λ v l v_in r k. other_stays e (record { 0 = rise_of routing v l }, v) (heap_items t.queue)
-      (λ d. false≢true (sym (sym (mark v) ∙ r) ∙ (ap (is_reached s) (sym d) ∙ stale)))
-      (Contains-permutation _ _ (record { 0 = rise_of routing v l }, v) popped.queue (search.queued v l v_in (sym (mark v) ∙ r) (sym (same_label v) ∙ k)));
+        (λ d. false≢true (sym (sym (mark v) ∙ r) ∙ (ap (is_reached s) (sym d) ∙ stale)))
+        (Contains-permutation _ _ (record { 0 = rise_of routing v l }, v) popped.queue (search.queued v l v_in (sym (mark v) ∙ r) (sym (same_label v) ∙ k)));
     entries = rest_after;
     ordered = (popped.top search.ordered).0;
   }
     where
-    mark : (v : ℕ) → is_reached t v ≡ is_reached s v
-    mark v = ap (λ xs. is_in xs v) same
+      mark : (v : ℕ) → is_reached t v ≡ is_reached s v
+      mark v = ap (λ xs. is_in xs v) same
 
   least_of : (x : Reverse ℤ × ℕ) → Contains (heap_items s.queue) x → e.0.0 ≤ℤ x.0.0
   least_of x among = least_entry e x (All-contains (λ y. is_lt (entry_cmp e y) ≡ false) (heap_items s.queue) x (All-from_recursion (λ y. is_lt (entry_cmp e y) ≡ false) (heap_items s.queue) (popped.top search.ordered).1) among)
@@ -107,15 +107,15 @@ module _ (net : Net) (routing : Routing) (s t : Search) (e : Reverse ℤ × ℕ)
 
     still_reached : (v : ℕ) → is_reached s v ≡ true → is_reached t v ≡ true
     still_reached v r = elim (cases_eq v e.1) [
-        inl d ↦ ap (is_reached t) d ∙ mark_here
+      | inl d ↦ ap (is_reached t) d ∙ mark_here
       | inr ne ↦ mark_there v ne ∙ r
-      ]
+    ]
 
     not_before : (v : ℕ) → is_reached t v ≡ false → (v ≢ e.1) × (is_reached s v ≡ false)
     not_before v r = elim (cases_eq v e.1) [
-        inl d ↦ absurd (false≢true (sym r ∙ (ap (is_reached t) d ∙ mark_here)))
+      | inl d ↦ absurd (false≢true (sym r ∙ (ap (is_reached t) d ∙ mark_here)))
       | inr ne ↦ (ne, sym (mark_there v ne) ∙ r)
-      ]
+    ]
 
     pub one_more_reached : reached_count t ≡ reached_count s + 1
     one_more_reached =
@@ -139,14 +139,14 @@ module _ (net : Net) (routing : Routing) (s t : Search) (e : Reverse ℤ × ℕ)
         let more = one_more_reached in
         by_arc is p.arc refl more
       where
-      by_arc : IsLabel net routing s e.1 p → (o : Option Arc) → p.arc ≡ o → reached_count t ≡ reached_count s + 1 → p.depth < reached_count t
-      by_arc is None o more = let (a, b, d) = is.at_source o in omega (arith, d, more)
-      by_arc is (Some a) o more =
-          let w = is.by_arc a o in
-          let (q, k) = search.reached_in a.tail w.tail_reached in
-          let (f, g) = w.from q k in
-          let deep = search.depths a.tail q w.tail_reached k in
-          omega (arith, g, deep, more)
+        by_arc : IsLabel net routing s e.1 p → (o : Option Arc) → p.arc ≡ o → reached_count t ≡ reached_count s + 1 → p.depth < reached_count t
+        by_arc is None o more = let (a, b, d) = is.at_source o in omega (arith, d, more)
+        by_arc is (Some a) o more =
+            let w = is.by_arc a o in
+            let (q, k) = search.reached_in a.tail w.tail_reached in
+            let (f, g) = w.from q k in
+            let deep = search.depths a.tail q w.tail_reached k in
+            omega (arith, g, deep, more)
 
     pub taken-search : IsSearch net routing (rise_of routing e.1 p) t
     unfolding rise
@@ -168,30 +168,30 @@ module _ (net : Net) (routing : Routing) (s t : Search) (e : Reverse ℤ × ℕ)
             below = rw popped.source h.below;
           };
           reached_in = λ v r. elim (cases_eq v e.1) [
-              inl d ↦ (p, same_label v ∙ (ap (label_of s) d ∙ labelled))
+            | inl d ↦ (p, same_label v ∙ (ap (label_of s) d ∙ labelled))
             | inr ne ↦ let (l, k) = search.reached_in v (sym (mark_there v ne) ∙ r) in (l, same_label v ∙ k)
-            ];
+          ];
           depths = λ v l r k. elim (cases_eq v e.1) [
-              inl d ↦ subst (λ (x : Label). x.depth < reached_count t) (label_is v l d k) depth_here
+            | inl d ↦ subst (λ (x : Label). x.depth < reached_count t) (label_is v l d k) depth_here
             | inr ne ↦ let deep = search.depths v l (sym (mark_there v ne) ∙ r) (sym (same_label v) ∙ k) in omega (arith, deep, more)
-            ];
+          ];
           level_from = let from = search.level_from in omega (arith, ints, low, from);
           risen_from = λ v l r k. elim (cases_eq v e.1) [
-              inl d ↦ subst (λ x. pos 0 ≤ℤ rise_of routing v x) (label_is v l d k) (subst (λ x. pos 0 ≤ℤ rise_of routing x p) (sym d) (let from = search.level_from in omega (arith, ints, low, from)))
+            | inl d ↦ subst (λ x. pos 0 ≤ℤ rise_of routing v x) (label_is v l d k) (subst (λ x. pos 0 ≤ℤ rise_of routing x p) (sym d) (let from = search.level_from in omega (arith, ints, low, from)))
             | inr ne ↦ search.risen_from v l (sym (mark_there v ne) ∙ r) (sym (same_label v) ∙ k)
-            ];
+          ];
           risen_upto = λ v l r k. elim (cases_eq v e.1) [
-              inl d ↦ subst (λ x. rise_of routing v x ≤ℤ rise_of routing e.1 p) (label_is v l d k) (subst (λ x. rise_of routing x p ≤ℤ rise_of routing e.1 p) (sym d) (omega (arith, ints)))
+            | inl d ↦ subst (λ x. rise_of routing v x ≤ℤ rise_of routing e.1 p) (label_is v l d k) (subst (λ x. rise_of routing x p ≤ℤ rise_of routing e.1 p) (sym d) (omega (arith, ints)))
             | inr ne ↦ let upto = search.risen_upto v l (sym (mark_there v ne) ∙ r) (sym (same_label v) ∙ k) in omega (arith, ints, low, upto)
-            ];
+          ];
           not_reached = λ v l v_in r k.
-            let (ne, b) = not_before v r in
-            let least = least_of (record { 0 = rise_of routing v l }, v) (search.queued v l v_in b (sym (same_label v) ∙ k)) in
-            omega (arith, ints, equal, least);
+              let (ne, b) = not_before v r in
+              let least = least_of (record { 0 = rise_of routing v l }, v) (search.queued v l v_in b (sym (same_label v) ∙ k)) in
+              omega (arith, ints, equal, least);
           queued = λ v l v_in r k.
-            let (ne, b) = not_before v r in
-            other_stays e (record { 0 = rise_of routing v l }, v) (heap_items t.queue) (λ d. ne (sym d))
-            (Contains-permutation _ _ (record { 0 = rise_of routing v l }, v) popped.queue (search.queued v l v_in b (sym (same_label v) ∙ k)));
+              let (ne, b) = not_before v r in
+              other_stays e (record { 0 = rise_of routing v l }, v) (heap_items t.queue) (λ d. ne (sym d))
+              (Contains-permutation _ _ (record { 0 = rise_of routing v l }, v) popped.queue (search.queued v l v_in b (sym (same_label v) ∙ k)));
           entries = rest_after;
           ordered = (popped.top search.ordered).0;
         }
@@ -241,10 +241,10 @@ module _ (s t : Search) (v : ℕ) (taken : IsEntryTaken s t v) where
         labelled = sym (ap (λ xs. get_or xs v None) labels) ∙ labelled;
         reached = marks ∙ ap (λ xs. set xs v true) reached;
         kept = λ net routing level search.
-          subst (λ x. IsSearch net routing (rise_of routing x l) u) taken.node
-          (taken-search net routing s u taken.entry popped level (kept net routing level search)
-          (marks ∙ ap (λ x. set s.reached.items x true) (sym taken.node))
-          (ap (is_reached s) taken.node ∙ free) l (ap (label_of s) taken.node ∙ labelled));
+            subst (λ x. IsSearch net routing (rise_of routing x l) u) taken.node
+            (taken-search net routing s u taken.entry popped level (kept net routing level search)
+            (marks ∙ ap (λ x. set s.reached.items x true) (sym taken.node))
+            (ap (is_reached s) taken.node ∙ free) l (ap (label_of s) taken.node ∙ labelled));
       }
 
 -- the queue was empty, and is
@@ -305,29 +305,29 @@ module _ (s t : Search) (v : ℕ) (l : Label) (reaching : IsReaching s t v l) wh
 
 -- a search that has labelled the source alone
 module _ (net : Net) (routing : Routing) (t : Search) (n : ℕ) (l : Label) (same_n : n ≡ net.nodes) (source_in : t.source < n)
-  (labels : t.labels.items ≡ set (replicate n None) t.source (Some l)) (reached : t.reached.items ≡ replicate n false)
-  (queue : IsPermutation ((record { 0 = pos 0 }, t.source) ∷ []) (heap_items t.queue)) (ordered : IsHeap entry_cmp (heap_items t.queue))
-  (potential : l.potential ≡ potential_at routing.potentials.items t.source) (depth : l.depth ≡ 0) (arc : l.arc ≡ None) where
+    (labels : t.labels.items ≡ set (replicate n None) t.source (Some l)) (reached : t.reached.items ≡ replicate n false)
+    (queue : IsPermutation ((record { 0 = pos 0 }, t.source) ∷ []) (heap_items t.queue)) (ordered : IsHeap entry_cmp (heap_items t.queue))
+    (potential : l.potential ≡ potential_at routing.potentials.items t.source) (depth : l.depth ≡ 0) (arc : l.arc ≡ None) where
   label_here : label_of t t.source ≡ Some l
   label_here = ap (λ xs. get_or xs t.source None) labels ∙ get_or-set_same (replicate n None) t.source (Some l) None (let e = length-replicate {A = Option Label} n None in omega (arith, e, source_in))
 
   none_at : (v : ℕ) → get_or {A = Option Label} (replicate n None) v None ≡ None
   none_at v = elim (cases_lt v n) [
-      inl lt ↦ get_or-replicate n v None None lt
+    | inl lt ↦ get_or-replicate n v None None lt
     | inr le ↦ get_or_past (replicate n None) v None (let e = length-replicate {A = Option Label} n None in omega (arith, e, le))
-    ]
+  ]
 
   only_source : (v : ℕ) (k : Label) → label_of t v ≡ Some k → (v ≡ t.source) × (l ≡ k)
   only_source v k labelled = elim (cases_eq v t.source) [
-      inl e ↦ (e, same_Some l k (sym label_here ∙ (ap (label_of t) (sym e) ∙ labelled)))
+    | inl e ↦ (e, same_Some l k (sym label_here ∙ (ap (label_of t) (sym e) ∙ labelled)))
     | inr ne ↦ absurd (none-some k (sym (ap (λ xs. get_or xs v None) labels ∙ (get_or-set_other (replicate n None) t.source v (Some l) None ne ∙ none_at v)) ∙ labelled))
-    ]
+  ]
 
   not_reached : (v : ℕ) → is_reached t v ≡ false
   not_reached v = ap (λ xs. is_in xs v) reached ∙ elim (cases_lt v n) [
-      inl lt ↦ get_or-replicate n v false false lt
+    | inl lt ↦ get_or-replicate n v false false lt
     | inr le ↦ get_or_past (replicate n false) v false (let e = length-replicate {A = Bool} n false in omega (arith, e, le))
-    ]
+  ]
 
   never : (v : ℕ) → is_reached t v ≡ true → ⊥
   never v r = false≢true (sym (not_reached v) ∙ r)
@@ -345,31 +345,31 @@ module _ (net : Net) (routing : Routing) (t : Search) (n : ℕ) (l : Label) (sam
       source_labelled = label_here;
       source_low = (let z = zero_rise in omega (arith, ints, z));
       labels = λ v k v_in labelled.
-        let (e, same) = only_source v k labelled in
-        subst (λ x. IsLabel net routing t v x) same (subst (λ x. IsLabel net routing t x l) (sym e)
-        (record {
-          at_source = λ _. (refl, potential, depth);
-          by_arc = λ a some. absurd (none-some a (sym arc ∙ some));
-          above = omega (arith, ints, potential);
-          below = omega (arith, ints, potential);
-        }));
+          let (e, same) = only_source v k labelled in
+          subst (λ x. IsLabel net routing t v x) same (subst (λ x. IsLabel net routing t x l) (sym e)
+          (record {
+            at_source = λ _. (refl, potential, depth);
+            by_arc = λ a some. absurd (none-some a (sym arc ∙ some));
+            above = omega (arith, ints, potential);
+            below = omega (arith, ints, potential);
+          }));
       reached_in = λ v r. absurd (never v r);
       depths = λ v k r _. absurd (never v r);
       level_from = omega (arith, ints);
       risen_from = λ v k r _. absurd (never v r);
       risen_upto = λ v k r _. absurd (never v r);
       not_reached = λ v k v_in r labelled.
-        let (e, same) = only_source v k labelled in
-        subst (λ x. pos 0 ≤ℤ rise_of routing v x) same (subst (λ x. pos 0 ≤ℤ rise_of routing x l) (sym e) (omega (arith, ints, potential)));
+          let (e, same) = only_source v k labelled in
+          subst (λ x. pos 0 ≤ℤ rise_of routing v x) same (subst (λ x. pos 0 ≤ℤ rise_of routing x l) (sym e) (omega (arith, ints, potential)));
       queued = λ v k v_in r labelled.
-        let (e, same) = only_source v k labelled in
-        subst (λ x. Contains (heap_items t.queue) (record { 0 = rise_of routing v x }, v)) same
-        (subst (λ x. Contains (heap_items t.queue) (record { 0 = rise_of routing x l }, x)) (sym e)
-        (Contains-permutation _ _ (record { 0 = rise_of routing t.source l }, t.source) queue (0, omega arith, ap (λ (z : ℤ). (record { 0 = z }, t.source)) (sym zero_rise))));
+          let (e, same) = only_source v k labelled in
+          subst (λ x. Contains (heap_items t.queue) (record { 0 = rise_of routing v x }, v)) same
+          (subst (λ x. Contains (heap_items t.queue) (record { 0 = rise_of routing x l }, x)) (sym e)
+          (Contains-permutation _ _ (record { 0 = rise_of routing t.source l }, t.source) queue (0, omega arith, ap (λ (z : ℤ). (record { 0 = z }, t.source)) (sym zero_rise))));
       entries = All-permutation (IsEntry net routing t) _ _ queue
-        (All-cons (IsEntry net routing t) (record { 0 = pos 0 }, t.source) []
-        (record { node_in = omega (arith, source_in, same_n); label = l; labelled = label_here; no_less = (let z = zero_rise in omega (arith, ints, z)) })
-        (All-nil (IsEntry net routing t)));
+          (All-cons (IsEntry net routing t) (record { 0 = pos 0 }, t.source) []
+          (record { node_in = omega (arith, source_in, same_n); label = l; labelled = label_here; no_less = (let z = zero_rise in omega (arith, ints, z)) })
+          (All-nil (IsEntry net routing t)));
       ordered = ordered;
     };
     none_reached = not_reached;

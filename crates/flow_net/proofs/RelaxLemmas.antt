@@ -1,17 +1,17 @@
 -- A search after one arc.
-use Rattle.std.proofs.Common.{◌≡◌, ◌≢◌, ℕ, ◌+◌, ◌*◌, ◌<◌, ◌≤◌, Bool, true, false, Option, Some, None, List, [], ◌∷◌, length, get_or, set, ℤ, pos, neg_ℤ, ◌+ℤ◌, ◌-ℤ◌, ◌≤ℤ◌, ◌<ℤ◌, ap, ◌∙◌, sym, subst, refl, inl, inr, arith}
+use Rattle.std.proofs.Common.{◌≡◌, ◌≢◌, ℕ, ◌+◌, ◌*◌, ◌<◌, ◌≤◌, Bool, true, false, Some, None, List, [], ◌∷◌, length, get_or, set, ℤ, pos, neg_ℤ, ◌+ℤ◌, ◌≤ℤ◌, ◌<ℤ◌, ap, ◌∙◌, sym, subst, refl, inl, inr, arith}
 use Rattle.std.specs.BinaryHeap.{IsHeap, heap_items}
-use Rattle.std.specs.List.{All, Contains}
+use Rattle.std.specs.List.{Contains}
 use Rattle.std.specs.List.Sorted.{IsPermutation}
 use Rattle.std.specs.declared.cmp.Reverse.{Reverse}
 use Rattle.std.specs.Int.RustNames.{unsigned_abs}
-use Rattle.std.proofs.lemmas.Int.{ints, by_lt_z}
+use Rattle.std.proofs.lemmas.Int.{ints}
 use Rattle.std.proofs.lemmas.Bool.{cases_eq, false≢true}
 use Rattle.std.proofs.lemmas.Nat.{mul-le}
 use Rattle.std.proofs.lemmas.List.Sums.{count_by-le-length}
 use Rattle.std.proofs.lemmas.Option.{same_Some, none-some}
 use Rattle.std.proofs.lemmas.List.{length-set, get_or-set_same, get_or-set_other}
-use Rattle.std.proofs.lemmas.List.Elements.{All-cons, All-weaker, Contains-append_left, Contains-append_right}
+use Rattle.std.proofs.lemmas.List.Elements.{All-cons, All-weaker, Contains-append_right}
 use Rattle.std.proofs.lemmas.List.Sorted.{All-permutation, Contains-permutation}
 use Rattle.flow_net.specs.declared.net.Link.{Link}
 use Rattle.flow_net.specs.declared.net.Net.{Net}
@@ -19,10 +19,10 @@ use Rattle.flow_net.specs.declared.adjacency.Arc.{Arc}
 use Rattle.flow_net.specs.declared.search.Label.{Label}
 use Rattle.flow_net.specs.declared.search.Search.{Search}
 use Rattle.flow_net.specs.declared.routing.Routing.{Routing}
-use Rattle.flow_net.specs.Net.{link_at, flow_on, potential_at, is_in, reduced_cost, AreProofOfLeast, HasNodesWithin, IsWithinLimits}
+use Rattle.flow_net.specs.Net.{link_at, potential_at, is_in, AreProofOfLeast, HasNodesWithin, IsWithinLimits}
 use Rattle.flow_net.specs.Adjacency.{arc_of, IsArc}
 use Rattle.flow_net.specs.Flow.{spare_of, slack_of}
-use Rattle.flow_net.specs.Search.{IsSearchable, label_of, is_reached, reached_count, rise_of, largest_cost, IsLabel, IsLabelBy, IsEntry, entry_cmp, IsSearch, IsClosedAt, Improves}
+use Rattle.flow_net.specs.Search.{IsSearchable, label_of, is_reached, rise_of, largest_cost, IsLabel, IsLabelBy, IsEntry, entry_cmp, IsSearch, IsClosedAt, Improves}
 use Rattle.flow_net.proofs.Sizes.{size_upto, size_from, size_of_negative, size-le-greatest, greatest-le}
 
 -- an arc that can carry more has no negative reduced cost
@@ -86,9 +86,9 @@ Improves-trans s t u h k = record {
   reached = k.reached ∙ h.reached;
   kept = λ v r. k.kept v (ap (λ xs. is_in xs v) h.reached ∙ r) ∙ h.kept v r;
   fell = λ v l e.
-    let (m, is, low) = h.fell v l e in
-    let (n, is', low') = k.fell v m is in
-    (n, is', omega (arith, ints));
+      let (m, is, low) = h.fell v l e in
+      let (n, is', low') = k.fell v m is in
+      (n, is', omega (arith, ints));
 }
 
 -- a closed arc stays closed
@@ -114,157 +114,158 @@ closed-low net routing s a p tail_label low l k spare =
 
 -- the head of arc a gets a label by it
 module _ (net : Net) (routing : Routing) (s t : Search) (a : Arc) (p : Label)
-  (search : IsSearch net routing (rise_of routing a.tail p) s)
-  (limits : IsWithinLimits net) (sound : IsSearchable net routing)
-  (is : IsArc net.links a) (tail_reached : is_reached s a.tail ≡ true) (tail_label : label_of s a.tail ≡ Some p)
-  (spare : pos 0 <ℤ spare_of net.links routing.flow.items a) (head_free : is_reached s a.head ≡ false)
-  (better : (l : Label) → label_of s a.head ≡ Some l → (p.potential +ℤ a.cost) <ℤ l.potential)
-  (l' : Label) (l'-is : l' ≡ record { potential = p.potential +ℤ a.cost; depth = p.depth + 1; arc = Some a })
-  (same_source : t.source ≡ s.source) (same_reached : t.reached.items ≡ s.reached.items)
-  (labels : t.labels.items ≡ set s.labels.items a.head (Some l'))
-  (queue : IsPermutation ((record { 0 = rise_of routing a.head l' }, a.head) ∷ heap_items s.queue) (heap_items t.queue))
-  (ordered : IsHeap entry_cmp (heap_items s.queue) → IsHeap entry_cmp (heap_items t.queue))
+    (search : IsSearch net routing (rise_of routing a.tail p) s)
+    (limits : IsWithinLimits net) (sound : IsSearchable net routing)
+    (is : IsArc net.links a) (tail_reached : is_reached s a.tail ≡ true) (tail_label : label_of s a.tail ≡ Some p)
+    (spare : pos 0 <ℤ spare_of net.links routing.flow.items a) (head_free : is_reached s a.head ≡ false)
+    (better : (l : Label) → label_of s a.head ≡ Some l → (p.potential +ℤ a.cost) <ℤ l.potential)
+    (l' : Label) (l'-is : l' ≡ record { potential = p.potential +ℤ a.cost; depth = p.depth + 1; arc = Some a })
+    (same_source : t.source ≡ s.source) (same_reached : t.reached.items ≡ s.reached.items)
+    (labels : t.labels.items ≡ set s.labels.items a.head (Some l'))
+    (queue : IsPermutation ((record { 0 = rise_of routing a.head l' }, a.head) ∷ heap_items s.queue) (heap_items t.queue))
+    (ordered : IsHeap entry_cmp (heap_items s.queue) → IsHeap entry_cmp (heap_items t.queue))
   where
-  head_in : a.head < net.nodes
-  head_in = (arc-nodes net.nodes net.links a is limits.within).1
+    head_in : a.head < net.nodes
+    head_in = (arc-nodes net.nodes net.links a is limits.within).1
 
-  label_here : label_of t a.head ≡ Some l'
-  label_here = ap (λ xs. get_or xs a.head None) labels ∙ get_or-set_same s.labels.items a.head (Some l') None (let e = search.one_label_each in let h = head_in in omega arith)
+    label_here : label_of t a.head ≡ Some l'
+    label_here = ap (λ xs. get_or xs a.head None) labels ∙ get_or-set_same s.labels.items a.head (Some l') None (let e = search.one_label_each in let h = head_in in omega arith)
 
-  label_there : (v : ℕ) → v ≢ a.head → label_of t v ≡ label_of s v
-  label_there v ne = ap (λ xs. get_or xs v None) labels ∙ get_or-set_other s.labels.items a.head v (Some l') None ne
+    label_there : (v : ℕ) → v ≢ a.head → label_of t v ≡ label_of s v
+    label_there v ne = ap (λ xs. get_or xs v None) labels ∙ get_or-set_other s.labels.items a.head v (Some l') None ne
 
-  mark : (v : ℕ) → is_reached t v ≡ is_reached s v
-  mark v = ap (λ xs. is_in xs v) same_reached
+    mark : (v : ℕ) → is_reached t v ≡ is_reached s v
+    mark v = ap (λ xs. is_in xs v) same_reached
 
-  not_head : (v : ℕ) → is_reached s v ≡ true → v ≢ a.head
-  not_head v reached e = false≢true (sym head_free ∙ (ap (is_reached s) (sym e) ∙ reached))
+    not_head : (v : ℕ) → is_reached s v ≡ true → v ≢ a.head
+    not_head v reached e = false≢true (sym head_free ∙ (ap (is_reached s) (sym e) ∙ reached))
 
-  kept_label : (v : ℕ) → is_reached s v ≡ true → label_of t v ≡ label_of s v
-  kept_label v reached = label_there v (not_head v reached)
+    kept_label : (v : ℕ) → is_reached s v ≡ true → label_of t v ≡ label_of s v
+    kept_label v reached = label_there v (not_head v reached)
 
-  new_potential : l'.potential ≡ p.potential +ℤ a.cost
-  new_potential = ap (λ l. l.potential) l'-is
+    new_potential : l'.potential ≡ p.potential +ℤ a.cost
+    new_potential = ap (λ l. l.potential) l'-is
 
-  new_rise : rise_of routing a.tail p ≤ℤ rise_of routing a.head l'
-  new_rise =
-      let slack = slack-not_negative net.links routing.flow.items routing.potentials.items a is sound.proof spare in
-      let e = new_potential in
-      omega (arith, ints)
+    new_rise : rise_of routing a.tail p ≤ℤ rise_of routing a.head l'
+    new_rise =
+        let slack = slack-not_negative net.links routing.flow.items routing.potentials.items a is sound.proof spare in
+        let e = new_potential in
+        omega (arith, ints)
 
-  old_label : (v : ℕ) (l : Label) → IsLabel net routing s v l → IsLabel net routing t v l
-  old_label v l h = record {
-    at_source = λ none. let (e, k, d) = h.at_source none in (e ∙ sym same_source, k ∙ ap (potential_at routing.potentials.items) (sym same_source), d);
-    by_arc = λ b some.
-      let w = h.by_arc b some in
-      record { arc = w.arc; head = w.head; spare = w.spare; tail_reached = mark b.tail ∙ w.tail_reached; from = λ q e. w.from q (sym (kept_label b.tail w.tail_reached) ∙ e) };
-    above = rw same_source h.above;
-    below = rw same_source h.below;
-  }
+    old_label : (v : ℕ) (l : Label) → IsLabel net routing s v l → IsLabel net routing t v l
+    old_label v l h = record {
+      at_source = λ none. let (e, k, d) = h.at_source none in (e ∙ sym same_source, k ∙ ap (potential_at routing.potentials.items) (sym same_source), d);
+      by_arc = λ b some.
+          let w = h.by_arc b some in
+          record { arc = w.arc; head = w.head; spare = w.spare; tail_reached = mark b.tail ∙ w.tail_reached; from = λ q e. w.from q (sym (kept_label b.tail w.tail_reached) ∙ e) };
+      above = rw same_source h.above;
+      below = rw same_source h.below;
+    }
 
-  new_label : IsLabel net routing t a.head l'
-  new_label =
-      let tail_in = (arc-nodes net.nodes net.links a is limits.within).0 in
-      let q = search.labels a.tail p tail_in tail_label in
-      let size = arc-cost net a is in
-      let most = size_upto a.cost (largest_cost net) size in
-      let least = size_from a.cost (largest_cost net) size in
-      let e = new_potential in
-      let deep = ap (λ l. l.depth) l'-is in
-      let times = ap (λ d. d * largest_cost net) deep in
-      let q_above = q.above in
-      let q_below = q.below in
-      record {
-        at_source = λ none. absurd (none-some a (sym none ∙ ap (λ l. l.arc) l'-is));
-        by_arc = λ b some.
-          let same : a ≡ b = same_Some a b (sym (ap (λ l. l.arc) l'-is) ∙ some) in
-          subst (IsLabelBy net routing t a.head l') same
-          (record {
-            arc = is;
-            head = refl;
-            spare = spare;
-            tail_reached = mark a.tail ∙ tail_reached;
-            from = λ r k.
-              let tail : p ≡ r = same_Some p r (sym tail_label ∙ (sym (kept_label a.tail tail_reached) ∙ k)) in
-              subst (λ x. (l'.potential ≡ x.potential +ℤ a.cost) × (l'.depth ≡ x.depth + 1)) tail (new_potential, deep);
-          });
-        above = rw same_source (omega (arith, ints));
-        below = rw same_source (omega (arith, ints));
-      }
+    new_label : IsLabel net routing t a.head l'
+    new_label =
+        let tail_in = (arc-nodes net.nodes net.links a is limits.within).0 in
+        let q = search.labels a.tail p tail_in tail_label in
+        let size = arc-cost net a is in
+        let most = size_upto a.cost (largest_cost net) size in
+        let least = size_from a.cost (largest_cost net) size in
+        let e = new_potential in
+        let deep = ap (λ l. l.depth) l'-is in
+        let times = ap (λ d. d * largest_cost net) deep in
+        let q_above = q.above in
+        let q_below = q.below in
+        record {
+          at_source = λ none. absurd (none-some a (sym none ∙ ap (λ l. l.arc) l'-is));
+          by_arc = λ b some.
+              let same : a ≡ b = same_Some a b (sym (ap (λ l. l.arc) l'-is) ∙ some) in
+              subst (IsLabelBy net routing t a.head l') same
+              (record {
+                arc = is;
+                head = refl;
+                spare = spare;
+                tail_reached = mark a.tail ∙ tail_reached;
+                from = λ r k.
+                    let tail : p ≡ r = same_Some p r (sym tail_label ∙ (sym (kept_label a.tail tail_reached) ∙ k)) in
+                    subst (λ x. (l'.potential ≡ x.potential +ℤ a.cost) × (l'.depth ≡ x.depth + 1)) tail (new_potential, deep);
+              });
+          above = rw same_source (omega (arith, ints));
+          below = rw same_source (omega (arith, ints));
+        }
 
-  at_head : (v : ℕ) (l : Label) → v ≡ a.head → label_of t v ≡ Some l → l' ≡ l
-  at_head v l e k = same_Some l' l (sym label_here ∙ (ap (label_of t) (sym e) ∙ k))
+    at_head : (v : ℕ) (l : Label) → v ≡ a.head → label_of t v ≡ Some l → l' ≡ l
+    at_head v l e k = same_Some l' l (sym label_here ∙ (ap (label_of t) (sym e) ∙ k))
 
-  pub relaxed-search : IsSearch net routing (rise_of routing a.tail p) t
-  relaxed-search = record {
-    one_label_each = ap length labels ∙ (length-set s.labels.items a.head (Some l') ∙ search.one_label_each);
-    one_mark_each = ap length same_reached ∙ search.one_mark_each;
-    source_in = rw same_source search.source_in;
-    source_label = source_now.0;
-    source_labelled = source_now.1;
-    source_low = source_now.2;
-    labels = λ v l v_in k. elim (cases_eq v a.head) [
-        inl e ↦ subst (λ x. IsLabel net routing t v x) (at_head v l e k) (subst (λ x. IsLabel net routing t x l') (sym e) new_label)
-      | inr ne ↦ old_label v l (search.labels v l v_in (sym (label_there v ne) ∙ k))
+    pub relaxed-search : IsSearch net routing (rise_of routing a.tail p) t
+    relaxed-search = record {
+      one_label_each = ap length labels ∙ (length-set s.labels.items a.head (Some l') ∙ search.one_label_each);
+      one_mark_each = ap length same_reached ∙ search.one_mark_each;
+      source_in = rw same_source search.source_in;
+      source_label = source_now.0;
+      source_labelled = source_now.1;
+      source_low = source_now.2;
+      labels = λ v l v_in k. elim (cases_eq v a.head) [
+        | inl e ↦ subst (λ x. IsLabel net routing t v x) (at_head v l e k) (subst (λ x. IsLabel net routing t x l') (sym e) new_label)
+        | inr ne ↦ old_label v l (search.labels v l v_in (sym (label_there v ne) ∙ k))
       ];
-    reached_in = λ v r. let (l, k) = search.reached_in v (sym (mark v) ∙ r) in (l, kept_label v (sym (mark v) ∙ r) ∙ k);
-    depths = λ v l r k. rw same_reached (search.depths v l (sym (mark v) ∙ r) (sym (kept_label v (sym (mark v) ∙ r)) ∙ k));
-    level_from = search.level_from;
-    risen_from = λ v l r k. search.risen_from v l (sym (mark v) ∙ r) (sym (kept_label v (sym (mark v) ∙ r)) ∙ k);
-    risen_upto = λ v l r k. search.risen_upto v l (sym (mark v) ∙ r) (sym (kept_label v (sym (mark v) ∙ r)) ∙ k);
-    not_reached = λ v l v_in r k. elim (cases_eq v a.head) [
-        inl e ↦ subst (λ x. rise_of routing a.tail p ≤ℤ rise_of routing v x) (at_head v l e k) (subst (λ x. rise_of routing a.tail p ≤ℤ rise_of routing x l') (sym e) new_rise)
-      | inr ne ↦ search.not_reached v l v_in (sym (mark v) ∙ r) (sym (label_there v ne) ∙ k)
+      reached_in = λ v r. let (l, k) = search.reached_in v (sym (mark v) ∙ r) in (l, kept_label v (sym (mark v) ∙ r) ∙ k);
+      depths = λ v l r k. rw same_reached (search.depths v l (sym (mark v) ∙ r) (sym (kept_label v (sym (mark v) ∙ r)) ∙ k));
+      level_from = search.level_from;
+      risen_from = λ v l r k. search.risen_from v l (sym (mark v) ∙ r) (sym (kept_label v (sym (mark v) ∙ r)) ∙ k);
+      risen_upto = λ v l r k. search.risen_upto v l (sym (mark v) ∙ r) (sym (kept_label v (sym (mark v) ∙ r)) ∙ k);
+      not_reached = λ v l v_in r k. elim (cases_eq v a.head) [
+        | inl e ↦ subst (λ x. rise_of routing a.tail p ≤ℤ rise_of routing v x) (at_head v l e k) (subst (λ x. rise_of routing a.tail p ≤ℤ rise_of routing x l') (sym e) new_rise)
+        | inr ne ↦ search.not_reached v l v_in (sym (mark v) ∙ r) (sym (label_there v ne) ∙ k)
       ];
-    queued = λ v l v_in r k. Contains-permutation _ _ (record { 0 = rise_of routing v l }, v) queue (elim (cases_eq v a.head) [
-        inl e ↦ subst (λ x. Contains ((record { 0 = rise_of routing a.head l' }, a.head) ∷ heap_items s.queue) (record { 0 = rise_of routing v x }, v)) (at_head v l e k)
-          (subst (λ x. Contains ((record { 0 = rise_of routing a.head l' }, a.head) ∷ heap_items s.queue) (record { 0 = rise_of routing x l' }, x)) (sym e) (0, omega arith, refl))
-      | inr ne ↦ Contains-append_right ((record { 0 = rise_of routing a.head l' }, a.head) ∷ []) (heap_items s.queue) _ (search.queued v l v_in (sym (mark v) ∙ r) (sym (label_there v ne) ∙ k))
+      queued = λ v l v_in r k. Contains-permutation _ _ (record { 0 = rise_of routing v l }, v) queue (elim (cases_eq v a.head) [
+        | inl e ↦ subst (λ x. Contains ((record { 0 = rise_of routing a.head l' }, a.head) ∷ heap_items s.queue) (record { 0 = rise_of routing v x }, v)) (at_head v l e k)
+            (subst (λ x. Contains ((record { 0 = rise_of routing a.head l' }, a.head) ∷ heap_items s.queue) (record { 0 = rise_of routing x l' }, x)) (sym e) (0, omega arith, refl))
+        | inr ne ↦ Contains-append_right ((record { 0 = rise_of routing a.head l' }, a.head) ∷ []) (heap_items s.queue) _ (search.queued v l v_in (sym (mark v) ∙ r) (sym (label_there v ne) ∙ k))
       ]);
-    entries = All-permutation (IsEntry net routing t) _ _ queue
-      (All-cons (IsEntry net routing t) (record { 0 = rise_of routing a.head l' }, a.head) (heap_items s.queue)
-      (record { node_in = head_in; label = l'; labelled = label_here; no_less = omega (arith, ints) })
-      (All-weaker (IsEntry net routing s) (IsEntry net routing t) old_entry (heap_items s.queue) search.entries));
-    ordered = ordered search.ordered;
-  }
-    where
-    source_now : (l : Label) × (label_of t t.source ≡ Some l) × (rise_of routing t.source l ≤ℤ pos 0)
-    source_now = elim (cases_eq s.source a.head) [
-        inl e ↦
-          let low = better search.source_label (ap (label_of s) (sym e) ∙ search.source_labelled) in
-          let pot = new_potential in
-          let before = search.source_low in
-          (l', ap (label_of t) (same_source ∙ e) ∙ label_here, rw same_source (omega (arith, ints)))
-      | inr ne ↦ (search.source_label, ap (label_of t) same_source ∙ (label_there s.source ne ∙ search.source_labelled), rw same_source search.source_low)
-      ]
-    old_entry : (e : Reverse ℤ × ℕ) → IsEntry net routing s e → IsEntry net routing t e
-    old_entry e h = elim (cases_eq e.1 a.head) [
-        inl same ↦
-          let low = better h.label (ap (label_of s) (sym same) ∙ h.labelled) in
-          let pot = new_potential in
-          let no_less = h.no_less in
-          let place = ap (potential_at routing.potentials.items) same in
-          record { node_in = h.node_in; label = l'; labelled = ap (label_of t) same ∙ label_here; no_less = omega (arith, ints) }
-      | inr ne ↦ record { node_in = h.node_in; label = h.label; labelled = label_there e.1 ne ∙ h.labelled; no_less = h.no_less }
-      ]
+      entries = All-permutation (IsEntry net routing t) _ _ queue
+          (All-cons (IsEntry net routing t) (record { 0 = rise_of routing a.head l' }, a.head) (heap_items s.queue)
+          (record { node_in = head_in; label = l'; labelled = label_here; no_less = omega (arith, ints) })
+          (All-weaker (IsEntry net routing s) (IsEntry net routing t) old_entry (heap_items s.queue) search.entries));
+      ordered = ordered search.ordered;
+    }
+      where
+        source_now : (l : Label) × (label_of t t.source ≡ Some l) × (rise_of routing t.source l ≤ℤ pos 0)
+        source_now = elim (cases_eq s.source a.head) [
+          | inl e ↦
+              let low = better search.source_label (ap (label_of s) (sym e) ∙ search.source_labelled) in
+              let pot = new_potential in
+              let before = search.source_low in
+              (l', ap (label_of t) (same_source ∙ e) ∙ label_here, rw same_source (omega (arith, ints)))
+          | inr ne ↦ (search.source_label, ap (label_of t) same_source ∙ (label_there s.source ne ∙ search.source_labelled), rw same_source search.source_low)
+        ]
 
-  pub relaxed-improves : Improves s t
-  relaxed-improves = record {
-    source = same_source;
-    reached = same_reached;
-    kept = kept_label;
-    fell = λ v l k. elim (cases_eq v a.head) [
-        inl e ↦
-          let low = better l (ap (label_of s) (sym e) ∙ k) in
-          let pot = new_potential in
-          (l', ap (label_of t) e ∙ label_here, omega (arith, ints))
-      | inr ne ↦ (l, label_there v ne ∙ k, omega (arith, ints))
+        old_entry : (e : Reverse ℤ × ℕ) → IsEntry net routing s e → IsEntry net routing t e
+        old_entry e h = elim (cases_eq e.1 a.head) [
+          | inl same ↦
+              let low = better h.label (ap (label_of s) (sym same) ∙ h.labelled) in
+              let pot = new_potential in
+              let no_less = h.no_less in
+              let place = ap (potential_at routing.potentials.items) same in
+              record { node_in = h.node_in; label = l'; labelled = ap (label_of t) same ∙ label_here; no_less = omega (arith, ints) }
+          | inr ne ↦ record { node_in = h.node_in; label = h.label; labelled = label_there e.1 ne ∙ h.labelled; no_less = h.no_less }
+        ]
+
+    pub relaxed-improves : Improves s t
+    relaxed-improves = record {
+      source = same_source;
+      reached = same_reached;
+      kept = kept_label;
+      fell = λ v l k. elim (cases_eq v a.head) [
+        | inl e ↦
+            let low = better l (ap (label_of s) (sym e) ∙ k) in
+            let pot = new_potential in
+            (l', ap (label_of t) e ∙ label_here, omega (arith, ints))
+        | inr ne ↦ (l, label_there v ne ∙ k, omega (arith, ints))
       ];
-  }
+    }
 
-  pub relaxed-closed : IsClosedAt net routing t a
-  relaxed-closed l k _ =
-      let tail : p ≡ l = same_Some p l (sym tail_label ∙ (sym (kept_label a.tail tail_reached) ∙ k)) in
-      let pot = new_potential in
-      let same = ap (λ x. x.potential) tail in
-      (l', label_here, omega (arith, ints))
+    pub relaxed-closed : IsClosedAt net routing t a
+    relaxed-closed l k _ =
+        let tail : p ≡ l = same_Some p l (sym tail_label ∙ (sym (kept_label a.tail tail_reached) ∙ k)) in
+        let pot = new_potential in
+        let same = ap (λ x. x.potential) tail in
+        (l', label_here, omega (arith, ints))

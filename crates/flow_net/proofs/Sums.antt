@@ -1,5 +1,5 @@
 -- Laws of sums over the numbers below a bound.
-use Rattle.std.proofs.Common.{◌≡◌, ◌≢◌, ◌==◌, ℕ, ◌+◌, ◌<◌, ◌≤◌, zero, suc, Bool, true, false, cond, eqb, ℤ, pos, ◌+ℤ◌, ◌-ℤ◌, ◌*ℤ◌, ◌≤ℤ◌, ap, ap₂, ◌∙◌, sym, refl, inl, inr, arith, if◌then◌else◌}
+use Rattle.std.proofs.Common.{◌≡◌, ◌≢◌, ◌==◌, ℕ, ◌<◌, zero, suc, ℤ, pos, ◌+ℤ◌, ◌-ℤ◌, ◌*ℤ◌, ◌≤ℤ◌, ap, ap₂, ◌∙◌, sym, refl, inl, inr, arith, if◌then◌else◌}
 use Rattle.std.proofs.lemmas.Int.{ints}
 use Rattle.std.proofs.lemmas.Bool.{cases_eq, eq-eqb, ne_eqb}
 use Rattle.flow_net.specs.Sum.{sum_below}
@@ -44,15 +44,15 @@ pub sum_below-change : (n : ℕ) (f g : ℕ → ℤ) (i : ℕ) → i < n → ((k
 sum_below-change zero f g i l h = absurd (omega arith)
 sum_below-change (suc n) f g i l h =
     elim (cases_eq i n) [
-      inl e ↦
-        let same = sum_below-same n g f (λ k b. h k (omega arith) (λ d. absurd (omega arith))) in
-        let here_f = ap f e in
-        let here_g = ap g e in
-        omega (arith, ints)
-    | inr ne ↦
-        let before = sum_below-change n f g i (omega arith) (λ k b. h k (omega arith)) in
-        let here = h n (omega arith) (λ d. ne (sym d)) in
-        omega (arith, ints)
+      | inl e ↦
+          let same = sum_below-same n g f (λ k b. h k (omega arith) (λ d. absurd (omega arith))) in
+          let here_f = ap f e in
+          let here_g = ap g e in
+          omega (arith, ints)
+      | inr ne ↦
+          let before = sum_below-change n f g i (omega arith) (λ k b. h k (omega arith)) in
+          let here = h n (omega arith) (λ d. ne (sym d)) in
+          omega (arith, ints)
     ]
 
 -- a sum of which the term at i alone counts
@@ -60,14 +60,14 @@ pub sum_below-single : (n : ℕ) (c : ℕ → ℤ) (i : ℕ) → i < n → sum_b
 sum_below-single zero c i l = absurd (omega arith)
 sum_below-single (suc n) c i l =
     elim (cases_eq i n) [
-      inl e ↦
-        let none = sum_below-zero n (λ v. if i == v then c v else pos 0) (λ k b. rw (ne_eqb i k (λ d. absurd (omega arith))) refl) in
-        let here : (if i == n then c n else pos 0) ≡ c i = rw (eq-eqb i n e) (ap c (sym e)) in
-        omega (arith, ints)
-    | inr ne ↦
-        let before = sum_below-single n c i (omega arith) in
-        let here : (if i == n then c n else pos 0) ≡ pos 0 = rw (ne_eqb i n ne) refl in
-        omega (arith, ints)
+      | inl e ↦
+          let none = sum_below-zero n (λ v. if i == v then c v else pos 0) (λ k b. rw (ne_eqb i k (λ d. absurd (omega arith))) refl) in
+          let here : (if i == n then c n else pos 0) ≡ c i = rw (eq-eqb i n e) (ap c (sym e)) in
+          omega (arith, ints)
+      | inr ne ↦
+          let before = sum_below-single n c i (omega arith) in
+          let here : (if i == n then c n else pos 0) ≡ pos 0 = rw (ne_eqb i n ne) refl in
+          omega (arith, ints)
     ]
 
 -- the sums of a table, by rows and by columns

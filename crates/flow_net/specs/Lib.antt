@@ -1,5 +1,6 @@
 pub mod Adjacency
 pub mod Flow
+pub mod Guide
 pub mod Net
 pub mod Search
 pub mod Solve

@@ -8,6 +8,7 @@ ghost use Rattle.flow_net.specs.Solve.{IfSent, IfStuck, Adds, BlocksMore};
 
 use crate::adjacency::Adjacency;
 use crate::flow::{bottleneck, send_along};
+use crate::free_flow::send_freely;
 use crate::net::{Net, Solved};
 use crate::routing::Routing;
 use crate::search::{Label, Search};
@@ -47,7 +48,10 @@ pub fn solve(
     let mut left = amount;
     while left > 0 {
         match take_step(alloc, net, &adjacency, &mut routing, source, sink, left)? {
-            Step::Sent(sent) => left -= sent,
+            Step::Sent(sent) => {
+                left -= sent;
+                left -= send_freely(alloc, net, &adjacency, &mut routing, source, sink, left)?;
+            }
             Step::Stuck(set) => {
                 return Ok(Solved::Blocked {
                     reached: Items::from_vec(set),

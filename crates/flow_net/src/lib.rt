@@ -4,10 +4,12 @@
 
 mod adjacency;
 mod flow;
+mod free_flow;
+mod guide;
+mod least_cost;
 mod net;
 mod routing;
 mod search;
-mod least_cost;
 
-pub use net::{Link, Net, Solved};
 pub use least_cost::solve;
+pub use net::{Link, Net, Solved};

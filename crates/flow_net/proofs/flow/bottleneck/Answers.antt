@@ -1,5 +1,5 @@
-use Rattle.std.proofs.Common.{◌≡◌, ◌+◌, get_or, take, false, ℤ, pos, ◌≤ℤ◌, ◌<ℤ◌, to_z, of_z, w64, rules, arith}
-use Rattle.std.proofs.lemmas.Int.{ints, clamps, to_z-of_z}
+use Rattle.std.proofs.Common.{get_or, take, false, pos, ◌≤ℤ◌, to_z, of_z, w64, arith}
+use Rattle.std.proofs.lemmas.Int.{ints, clamps}
 use Rattle.std.proofs.lemmas.List.Elements.{All-more, All-weaker}
 use Rattle.flow_net.specs.declared.adjacency.Arc.{Arc}
 use Rattle.flow_net.specs.Flow.{spare_of}

@@ -1,7 +1,7 @@
-use Rattle.std.proofs.Common.{◌≡◌, ◌+◌, get_or, take, drop, pos, ◌≤ℤ◌, false, to_z, of_z, w64, sym, subst, ◌∙◌, ap, rules, arith}
-use Rattle.std.proofs.lemmas.Int.{ints, to_z-of_z}
+use Rattle.std.proofs.Common.{◌+◌, drop, pos, ◌≤ℤ◌, false, to_z, of_z, w64, sym, subst, ◌∙◌, arith}
+use Rattle.std.proofs.lemmas.Int.{ints}
 use Rattle.flow_net.specs.declared.adjacency.Arc.{Arc}
-use Rattle.flow_net.specs.Flow.{sent_along, sent_along_path, CanCarry}
+use Rattle.flow_net.specs.Flow.{CanCarry}
 use Rattle.flow_net.specs.Net.{IsWithinRooms}
 use Rattle.flow_net.proofs.FlowLemmas.{next_spare, next_rooms, next_carries, next_sent}
 use Rattle.flow_net.proofs.flow.send_along.Goals as goal

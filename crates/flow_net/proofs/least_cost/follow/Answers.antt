@@ -1,4 +1,4 @@
-use Rattle.std.proofs.Common.{◌≡◌, ◌+◌, ◌<◌, ◌≤◌, ℕ, List, length, ℤ, pos, neg_ℤ, ◌+ℤ◌, ◌-ℤ◌, ◌<ℤ◌, ◌≤ℤ◌, to_z, of_z, w64, FitsSigned, sym, subst, ap, ◌∙◌, refl, rules, arith}
+use Rattle.std.proofs.Common.{◌≡◌, ℕ, List, length, ℤ, pos, neg_ℤ, ◌-ℤ◌, ◌<ℤ◌, ◌≤ℤ◌, to_z, of_z, w64, sym, subst, ap, ◌∙◌, refl, rules, arith}
 use Rattle.std.specs.List.{All}
 use Rattle.std.specs.Vec.{with_items}
 use Rattle.std.proofs.lemmas.Int.{ints, to_z-of_z}
@@ -11,11 +11,11 @@ use Rattle.flow_net.specs.declared.search.Search.{Search}
 use Rattle.flow_net.specs.declared.routing.Routing.{Routing}
 use Rattle.flow_net.specs.Net.{potential_at, IsWithinLimits, AreEnds}
 use Rattle.flow_net.specs.Adjacency.{IsArc}
-use Rattle.flow_net.specs.Flow.{spare_of, sent_along_path, IsWalk, CanCarry}
+use Rattle.flow_net.specs.Flow.{spare_of, sent_along_path, CanCarry}
 use Rattle.flow_net.specs.Search.{IsSearchable, rise_of, HasArrived, IsTreeArc, IsModest, AreRaised}
 use Rattle.flow_net.proofs.Sizes.{size_upto, size_from, size_between}
-use Rattle.flow_net.proofs.RelaxLemmas.{IsNear, IsNear-reached}
-use Rattle.flow_net.proofs.StepLemmas.{IsTree-search, IsGoodArc, IsGoodArc-tree, path_carries, path_adds}
+use Rattle.flow_net.proofs.RelaxLemmas.{IsNear-reached}
+use Rattle.flow_net.proofs.StepLemmas.{IsTree-search, IsGoodArc-tree, path_carries, path_adds}
 use Rattle.flow_net.proofs.least_cost.follow.Goals as goal
 
 -- the numbers at the sink
@@ -52,7 +52,7 @@ rise-rise-requires-clause-label c =
 
 -- the rise as the code has it
 module _ (net : Net) (source sink : ℕ) (routing : Routing) (s : Search) (l : Label) (limits : IsWithinLimits net) (sound : IsSearchable net routing) (ends : AreEnds net source sink) (arrived : HasArrived net routing sink s l)
-  (potentials : List ℤ) (same : potentials ≡ routing.potentials.items) (r : ℤ) (is : r ≡ l.potential -ℤ potential_at potentials sink) where
+    (potentials : List ℤ) (same : potentials ≡ routing.potentials.items) (r : ℤ) (is : r ≡ l.potential -ℤ potential_at potentials sink) where
   rise_is : to_z w64 (of_z w64 r) ≡ rise_of routing sink l
   rise_is = kept_rise l.potential (potential_at routing.potentials.items sink) r (small net source sink routing s l limits sound ends arrived) (is ∙ ap (λ xs. l.potential -ℤ potential_at xs sink) same)
 
@@ -130,7 +130,7 @@ returns-clause-adds c =
     let raised = raised_by net s.source c.args.sink routing s l r.net r.routing r.ends r.arrived c.deref.result.now c.deref.ensures.value c.rise-rise.result c.rise-rise.ensures c.deref_mut.result.now c.raise.new.potentials c.deref_mut.ensures.value c.raise.ensures in
     let spare = spare_kept net c.deref-2.result.now routing.flow.items c.deref-3.result.now path c.bottleneck-sent.result m c.deref-2.ensures.value c.deref-3.ensures.value kept c.bottleneck-sent.ensures.spare in
     let flow : c.send_along.new.flow ≡ sent_along_path routing.flow.items path m =
-        c.send_along.ensures ∙ (ap (λ f. sent_along_path f c.deref-4.result.now m) c.deref_mut-2.ensures.value ∙ ap (λ p. sent_along_path routing.flow.items p m) c.deref-4.ensures.value) in
+    c.send_along.ensures ∙ (ap (λ f. sent_along_path f c.deref-4.result.now m) c.deref_mut-2.ensures.value ∙ ap (λ p. sent_along_path routing.flow.items p m) c.deref-4.ensures.value) in
     let flow_length : length c.send_along.new.flow ≡ routing.flow.len = omega (arith, c.send_along.auto.flow, c.deref_mut-2.ensures.len) in
     let potentials_length : length c.raise.new.potentials ≡ routing.potentials.len = omega (arith, c.raise.auto.potentials, c.deref_mut.ensures.len) in
     path_adds net s.source c.args.sink routing s l c.raise.new.potentials r.net r.ends r.routing refl r.arrived raised path c.in_ok-path.ensures.walk c.in_ok-path.ensures.arcs m (omega (arith, ints)) spare

@@ -1,8 +1,8 @@
-use Rattle.std.proofs.Common.{◌≡◌, ℤ, pos, ◌+ℤ◌, to_z, of_z, w64, sym, subst, ap, ◌∙◌, rules, arith}
+use Rattle.std.proofs.Common.{to_z, of_z, w64, sym, subst, ◌∙◌, rules}
 use Rattle.std.proofs.lemmas.Int.{to_z-of_z}
-use Rattle.std.proofs.lemmas.Option.{MatchOption-at_some, MatchOption-at_none}
+use Rattle.std.proofs.lemmas.Option.{MatchOption-at_none}
 use Rattle.flow_net.specs.Search.{IsStuck, HasArrived}
-use Rattle.flow_net.specs.Solve.{IsStanding, Adds}
+use Rattle.flow_net.specs.Solve.{Adds}
 use Rattle.flow_net.proofs.StepLemmas.{blocks-stuck}
 use Rattle.flow_net.proofs.least_cost.take_step.Goals as goal
 

@@ -1,7 +1,6 @@
-use Rattle.std.proofs.Common.{◌≡◌, ◌+◌, ◌<◌, true, false, None, Some, length, get_or, heap_items, ap, ◌∙◌, sym, subst, refl, inl, inr, rules, arith}
-use Rattle.std.proofs.lemmas.List.{get_or_read, get_or-set_same}
+use Rattle.std.proofs.Common.{◌<◌, false, None, length, get_or, ap, ◌∙◌, sym, refl, inl, inr, arith}
+use Rattle.std.proofs.lemmas.List.{get_or_read}
 use Rattle.flow_net.specs.Net.{is_in}
-use Rattle.flow_net.specs.Search.{is_reached, label_of, IsEntryTaken, IsWellFormed}
 use Rattle.flow_net.proofs.QueueLemmas.{taken-well_formed, taken-node_in, taken-shorter, taken-stale, taken-reaching, drained-search}
 use Rattle.flow_net.proofs.search.Search.nearest.Goals as goal
 use Rattle.flow_net.proofs.search.Search.nearest.Goals.{In-Some}

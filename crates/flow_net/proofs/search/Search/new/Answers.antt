@@ -1,10 +1,9 @@
-use Rattle.std.proofs.Common.{◌≡◌, ◌∷◌, [], ◌<◌, ℕ, None, Some, Option, List, set, replicate, false, ℤ, pos, to_z, of_z, w64, SFits, IsPermutation, heap_items, sym, subst, ap, ◌∙◌, refl, rules, arith}
-use Rattle.std.proofs.lemmas.Int.{ints, to_z-of_z}
+use Rattle.std.proofs.Common.{◌≡◌, ◌∷◌, [], ◌<◌, ℕ, None, Some, set, replicate, false, ℤ, pos, to_z, of_z, w64, IsPermutation, heap_items, sym, subst, ap, ◌∙◌, refl, rules, arith}
+use Rattle.std.proofs.lemmas.Int.{to_z-of_z}
 use Rattle.std.proofs.lemmas.List.{get_or_read}
 use Rattle.std.specs.declared.cmp.Reverse.{Reverse}
 use Rattle.flow_net.specs.declared.search.Label.{Label}
 use Rattle.flow_net.specs.Net.{potential_at}
-use Rattle.flow_net.specs.Search.{IsFresh}
 use Rattle.flow_net.proofs.QueueLemmas.{fresh}
 use Rattle.flow_net.proofs.search.Search.new.Goals as goal
 

@@ -1,4 +1,4 @@
-use Rattle.std.proofs.Common.{◌≡◌, ◌+◌, [], ◌∷◌, ◌++◌, true, Some, reverse, ap, ◌∙◌, sym, subst, refl, rules, arith}
+use Rattle.std.proofs.Common.{◌≡◌, [], ◌∷◌, Some, reverse, ap, ◌∙◌, sym, subst, refl}
 use Rattle.std.specs.List.{All}
 use Rattle.std.proofs.lemmas.List.{reverse-append}
 use Rattle.std.proofs.lemmas.List.Elements.{All-push}
@@ -18,8 +18,8 @@ loop-arc-preserved c =
     record {
       reached = tree.tail c.loop-arc.node a inv.reached last;
       walk = subst (λ xs. IsWalk (reverse xs) a.tail c.args.end) (sym grown)
-        (subst (λ xs. IsWalk xs a.tail c.args.end) (sym (reverse-append c.loop-arc.path.items (a ∷ [])))
-        (refl, subst (λ v. IsWalk (reverse c.loop-arc.path.items) v c.args.end) (sym head) inv.walk));
+          (subst (λ xs. IsWalk xs a.tail c.args.end) (sym (reverse-append c.loop-arc.path.items (a ∷ [])))
+          (refl, subst (λ v. IsWalk (reverse c.loop-arc.path.items) v c.args.end) (sym head) inv.walk));
       arcs = subst (All (IsTreeArc s)) (sym grown) (All-push (IsTreeArc s) c.loop-arc.path.items a inv.arcs
-        (record { is_last = ap (λ v. arc_of_label (label_of s v)) head ∙ last; head_reached = ap (is_reached s) head ∙ inv.reached }));
+          (record { is_last = ap (λ v. arc_of_label (label_of s v)) head ∙ last; head_reached = ap (is_reached s) head ∙ inv.reached }));
     }

@@ -1,13 +1,12 @@
-use Rattle.std.proofs.Common.{◌≡◌, ◌+◌, ◌*◌, ◌∷◌, true, false, ℕ, Some, List, ℤ, pos, neg_ℤ, ◌+ℤ◌, ◌-ℤ◌, ◌<ℤ◌, ◌≤ℤ◌, set, Fits, w32, w64, to_z, of_z, FitsSigned, IsPermutation, heap_items, sym, subst, ap, ◌∙◌, refl, rules, arith}
+use Rattle.std.proofs.Common.{◌≡◌, ◌+◌, ◌∷◌, true, false, ℕ, Some, ℤ, pos, neg_ℤ, ◌+ℤ◌, ◌-ℤ◌, ◌<ℤ◌, ◌≤ℤ◌, set, w64, to_z, of_z, FitsSigned, IsPermutation, heap_items, sym, subst, ap, ◌∙◌, refl, rules, arith}
 use Rattle.std.specs.Int.Signed.{le_z}
-use Rattle.std.proofs.lemmas.Int.{ints, to_z-of_z}
+use Rattle.std.proofs.lemmas.Int.{ints}
 use Rattle.std.proofs.lemmas.List.{get_or_read}
-use Rattle.std.specs.Int.RustNames.{unsigned_abs}
 use Rattle.std.specs.declared.cmp.Reverse.{Reverse}
 use Rattle.flow_net.specs.declared.search.Label.{Label}
 use Rattle.flow_net.specs.Net.{potential_at}
 use Rattle.flow_net.specs.Flow.{spare_of}
-use Rattle.flow_net.specs.Search.{IsClosedAt, largest_cost, is_reached, label_of, rise_of}
+use Rattle.flow_net.specs.Search.{is_reached, label_of, rise_of}
 use Rattle.flow_net.proofs.Sizes.{size_upto, size_from}
 use Rattle.flow_net.proofs.RelaxLemmas.{IsNear, IsNear-reached, arc-nodes, arc-cost, largest_cost-small, closed-reached, closed-low, relaxed-search, relaxed-improves, relaxed-closed}
 use Rattle.flow_net.proofs.search.Search.relax.Goals as goal
@@ -30,8 +29,8 @@ returns-then-index-clause-closed c =
     let each = c.requires.search.one_mark_each in
     let mark : c.index.result.now ≡ is_reached s a.head = get_or_read s.reached.items a.head c.index.result.now (omega arith) c.index.ensures false in
     elim c.then-index.branch [
-      then-index-via-then-index w ↦ closed-reached net routing s a p c.requires.search c.requires.routing c.requires.arc c.requires.label (sym mark ∙ w.if-index.true)
-    | then-index-via-else-index+then-spare-le0 w ↦ λ l k spare. absurd (not_above w.spare.result (spare_of net.links routing.flow.items a) (w.spare.ensures ∙ ap (λ f. spare_of net.links f a) w.deref.ensures.value) w.if-spare-le0.true (search rules) spare)
+      | then-index-via-then-index w ↦ closed-reached net routing s a p c.requires.search c.requires.routing c.requires.arc c.requires.label (sym mark ∙ w.if-index.true)
+      | then-index-via-else-index+then-spare-le0 w ↦ λ l k spare. absurd (not_above w.spare.result (spare_of net.links routing.flow.items a) (w.spare.ensures ∙ ap (λ f. spare_of net.links f a) w.deref.ensures.value) w.if-spare-le0.true (search rules) spare)
     ]
 
 -- how large the numbers at the arc are
@@ -151,8 +150,8 @@ relaxed c =
     let size = small at in
     let sum = summed at in
     let rise : to_z w64 (of_z w64 (to_z w64 (of_z w64 (to_z w64 (of_z w64 p.potential) +ℤ to_z w64 (of_z w64 a.cost))) -ℤ to_z w64 (of_z w64 c.index-2.result.now))) ≡ (p.potential +ℤ a.cost) -ℤ here =
-        ap (λ w. to_z w64 (of_z w64 (w -ℤ to_z w64 (of_z w64 c.index-2.result.now)))) sum
-        ∙ wrapped_difference_is (p.potential +ℤ a.cost) c.index-2.result.now here (at_head (goal.at.returns-clause-search c).After-index-2) (head_fits p a.cost here size) (rise_fits p a.cost here size) in
+    ap (λ w. to_z w64 (of_z w64 (w -ℤ to_z w64 (of_z w64 c.index-2.result.now)))) sum
+    ∙ wrapped_difference_is (p.potential +ℤ a.cost) c.index-2.result.now here (at_head (goal.at.returns-clause-search c).After-index-2) (head_fits p a.cost here size) (rise_fits p a.cost here size) in
     record {
       spare = above_zero c.spare.result (spare_of net.links routing.flow.items a) (c.spare.ensures ∙ ap (λ f. spare_of net.links f a) c.deref.ensures.value) c.if-spare-le0.false (search rules);
       head_free = sym (get_or_read s.reached.items a.head c.index.result.now (omega (arith, nodes, each)) c.index.ensures false) ∙ c.if-index.false;

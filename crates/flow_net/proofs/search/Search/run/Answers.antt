@@ -1,11 +1,9 @@
-use Rattle.std.proofs.Common.{◌≡◌, ◌≢◌, ◌+◌, ◌<◌, true, false, None, Some, not, count_by, get_or, ap, ◌∙◌, sym, subst, refl, inl, inr, rules, arith}
+use Rattle.std.proofs.Common.{None, get_or, ap, ◌∙◌, sym, subst, refl, inl, inr}
 use Rattle.std.proofs.lemmas.Bool.{cases_eq, false≢true}
-use Rattle.flow_net.specs.declared.adjacency.Arc.{Arc}
 use Rattle.flow_net.specs.Net.{is_in}
-use Rattle.flow_net.specs.Adjacency.{IsArc}
-use Rattle.flow_net.specs.Search.{is_reached, label_of, rise_of, IsSearch, HasArrived}
+use Rattle.flow_net.specs.Search.{rise_of, HasArrived}
 use Rattle.flow_net.proofs.RelaxLemmas.{IsClosedAt-improves}
-use Rattle.flow_net.proofs.QueueLemmas.{reaching-mark, reaching-label, reaching-not_sink, reaching-closed, reaching-fewer}
+use Rattle.flow_net.proofs.QueueLemmas.{reaching-mark, reaching-label, reaching-not_sink, reaching-closed}
 use Rattle.flow_net.proofs.search.Search.run.Goals as goal
 
 pub loop-node-init : goal.loop-node-init
@@ -50,11 +48,11 @@ loop-node-preserved c =
       level = rise_of routing v l;
       search = scan.search;
       closed = λ a is reached. elim (cases_eq a.tail v) [
-          inl e ↦ scan.closed a is e
+        | inl e ↦ scan.closed a is e
         | inr ne ↦
             let before = sym (ap (λ xs. is_in xs a.tail) scan.improves.reached) ∙ reached in
             IsClosedAt-improves net routing t u a scan.improves before (reaching-closed s t v l r net routing inv.closed a is before ne)
-        ];
+      ];
       sink_out = ap (λ xs. is_in xs c.args.sink) scan.improves.reached ∙ reaching-not_sink s t v l r c.args.sink (λ e. c.if-node-sink.false (sym e)) inv.sink_out;
     }
 
@@ -69,7 +67,7 @@ returns-clause-found c =
       search = d.kept c.args.net.now c.args.routing.now inv.level inv.search;
       queue = d.queue;
       closed = λ a is reached k labelled spare.
-        let h = inv.closed a is (sym (ap (λ xs. is_in xs a.tail) d.reached) ∙ reached) k (sym (ap (λ xs. get_or xs a.tail None) d.labels) ∙ labelled) spare in
-        (h.0, ap (λ xs. get_or xs a.head None) d.labels ∙ h.1, h.2);
+          let h = inv.closed a is (sym (ap (λ xs. is_in xs a.tail) d.reached) ∙ reached) k (sym (ap (λ xs. get_or xs a.tail None) d.labels) ∙ labelled) spare in
+          (h.0, ap (λ xs. get_or xs a.head None) d.labels ∙ h.1, h.2);
       sink_out = ap (λ xs. is_in xs c.args.sink) d.reached ∙ inv.sink_out;
     }

@@ -1,11 +1,11 @@
-use Rattle.std.proofs.Common.{◌≡◌, ◌+◌, ◌<◌, true, false, Some, take, length, get_or, ℤ, pos, ap, ◌∙◌, sym, subst, rules, arith}
+use Rattle.std.proofs.Common.{◌≡◌, true, false, Some, take, get_or, pos, ap, ◌∙◌, sym, subst, arith}
 use Rattle.std.specs.List.{All}
 use Rattle.std.proofs.lemmas.List.{take_all}
-use Rattle.std.proofs.lemmas.List.Elements.{All-more, All-weaker, All-contains, All-take}
+use Rattle.std.proofs.lemmas.List.Elements.{All-more, All-contains, All-take}
 use Rattle.flow_net.specs.declared.adjacency.Arc.{Arc}
 use Rattle.flow_net.specs.Net.{is_in}
 use Rattle.flow_net.specs.Adjacency.{IsArc, arcs_at}
-use Rattle.flow_net.specs.Search.{IsSearch, IsClosedAt, Improves, is_reached, label_of, rise_of}
+use Rattle.flow_net.specs.Search.{IsSearch, IsClosedAt, is_reached, label_of, rise_of}
 use Rattle.flow_net.proofs.ArcLemmas.{HasRange-adjacency, arcs_at-arcs, arcs_at-complete}
 use Rattle.flow_net.proofs.RelaxLemmas.{Improves-refl, Improves-trans, IsClosedAt-improves}
 use Rattle.flow_net.proofs.search.Search.scan.Goals as goal
@@ -71,10 +71,10 @@ loop-arc-preserved c =
       search = subst (λ v. IsSearch net routing (rise_of routing v c.args.label.now) c.relax.new.self) t.tail c.in_ok-relax.ensures.search;
       improves = Improves-trans c.args.self.now c.loop-arc.self c.relax.new.self inv.improves improves;
       closed = All-more (IsClosedAt net routing c.relax.new.self) arcs c.loop-arc.arc-index d c.loop-arc-test.true
-        (λ k e l.
-        let is = All-take (λ a. IsArc net.links a × (a.tail ≡ c.args.node)) c.loop-arc.arc-index arcs all k e l in
-        IsClosedAt-improves net routing c.loop-arc.self c.relax.new.self (get_or (take c.loop-arc.arc-index arcs) k e) improves (ap (is_reached c.loop-arc.self) is.1 ∙ (still at).0) (inv.closed k e l))
-        c.in_ok-relax.ensures.closed;
+          (λ k e l.
+          let is = All-take (λ a. IsArc net.links a × (a.tail ≡ c.args.node)) c.loop-arc.arc-index arcs all k e l in
+          IsClosedAt-improves net routing c.loop-arc.self c.relax.new.self (get_or (take c.loop-arc.arc-index arcs) k e) improves (ap (is_reached c.loop-arc.self) is.1 ∙ (still at).0) (inv.closed k e l))
+          c.in_ok-relax.ensures.closed;
     }
 
 pub returns-clause-closed : goal.returns-clause-closed
@@ -84,5 +84,5 @@ returns-clause-closed c = λ a is tail.
     let arcs = c.arcs_from-arc-items.result.now in
     let among = arcs_at-complete net.nodes net.links c.args.adjacency.now c.requires.adjacency c.args.node c.requires.node a is tail in
     let all : All (IsClosedAt net c.args.routing.now c.loop-arc.self) (arcs_at c.args.adjacency.now c.args.node) =
-        subst (All (IsClosedAt net c.args.routing.now c.loop-arc.self)) (take_all c.loop-arc.arc-index arcs c.loop-arc-test.false ∙ inv.arcs) inv.closed in
+    subst (All (IsClosedAt net c.args.routing.now c.loop-arc.self)) (take_all c.loop-arc.arc-index arcs c.loop-arc-test.false ∙ inv.arcs) inv.closed in
     All-contains (IsClosedAt net c.args.routing.now c.loop-arc.self) (arcs_at c.args.adjacency.now c.args.node) a all among

@@ -1,0 +1,4 @@
+mod Causes
+mod Complete
+mod Corner
+mod Early

@@ -1,0 +1,4 @@
+pub mod Curves
+pub mod Flow
+pub mod Lines
+pub mod Text

@@ -1,0 +1,223 @@
+//! The text of a heat flow with its prices.
+ghost use Rattle.std.specs.Prelude.{◌≡◌, ◌++◌, IfOk, codes, string_bytes};
+ghost use Rattle.std.specs.List.{flat_map};
+ghost use Rattle.heat_flow.specs.Flow.{place_of};
+ghost use Rattle.heat_flow.specs.Prices.{price_at};
+ghost use Rattle.heat_flow.specs.Reach.{same_source};
+ghost use Rattle.reports.specs.Lines.{line, texts_from};
+ghost use Rattle.reports.specs.Flow.{source_name, part_text, part_at, is_of_utility, heat_of_utility, utility_heat, side_parts, use_line, move_line, price_line, price_lines, flow_text};
+
+use crate::line::line;
+use grid::{Part, Parts};
+use heat_flow::{Prices, Transfer};
+use std::alloc::{AllocError, Global};
+use stream_case::{Case, Side, Source, Utility};
+
+/// The cost, the use of each utility, the transfers and the prices, a line each.
+pub fn flow_text(
+    alloc: Global,
+    case: &Case,
+    parts: &Parts,
+    transfers: &[Transfer],
+    prices: &Prices,
+    cost: i128,
+) -> Result<String, AllocError>
+    ensures { IfOk result (λ text. string_bytes text
+        ≡ flow_text case.now parts.now transfers.now prices.now cost) }
+{
+    let mut text = line(alloc, "cost", cost)?;
+    text.push_str(&use_lines(alloc, case, parts, transfers)?)?;
+    text.push_str(&move_lines(alloc, case, parts, transfers)?)?;
+    text.push_str(&price_lines(alloc, case, "give ", parts.hot.as_slice(), prices.hot.as_slice())?)?;
+    text.push_str(&price_lines(alloc, case, "take ", parts.cold.as_slice(), prices.cold.as_slice())?)?;
+    Ok(text)
+}
+
+fn use_lines(
+    alloc: Global,
+    case: &Case,
+    parts: &Parts,
+    transfers: &[Transfer],
+) -> Result<String, AllocError>
+    ensures { IfOk result (λ text. string_bytes text
+        ≡ texts_from (use_line parts.now transfers.now) 0 case.now.utilities) }
+{
+    let mut text = String::new(alloc);
+    for (number, utility) in case.utilities.as_slice().iter().enumerate() {
+        text.push_str(&use_line(alloc, parts, transfers, number, utility)?)?;
+    }
+    Ok(text)
+}
+
+fn use_line(
+    alloc: Global,
+    parts: &Parts,
+    transfers: &[Transfer],
+    number: usize,
+    utility: &Utility,
+) -> Result<String, AllocError>
+    ensures { IfOk result (λ text. string_bytes text
+        ≡ use_line parts.now transfers.now number utility.now) }
+{
+    let side = utility.side;
+    let heat = utility_heat(number, side, side_parts(side, parts), transfers);
+    let word = format!(in alloc; "use {}", utility.name)?;
+    line(alloc, &word, heat)
+}
+
+fn side_parts(side: Side, parts: &Parts) -> &[Part]
+    ensures { result.now ≡ side_parts side parts.now }
+{
+    match side {
+        Side::Hot => parts.hot.as_slice(),
+        Side::Cold => parts.cold.as_slice(),
+    }
+}
+
+/// What a utility gives or takes in all.
+fn utility_heat(number: usize, side: Side, parts: &[Part], transfers: &[Transfer]) -> i128
+    ensures { result ≡ utility_heat number side parts.now transfers.now }
+{
+    let mut total: i128 = 0;
+    for transfer in transfers {
+        total += i128::from(heat_of_utility(number, side, parts, transfer));
+    }
+    total
+}
+
+/// The heat of a transfer, if its part of this side is that of the utility.
+fn heat_of_utility(number: usize, side: Side, parts: &[Part], transfer: &Transfer) -> i64
+    ensures { result ≡ heat_of_utility number side parts.now transfer.now }
+{
+    if is_of_utility(number, parts, place_of(side, transfer)) {
+        transfer.heat
+    } else {
+        0
+    }
+}
+
+fn place_of(side: Side, transfer: &Transfer) -> u32
+    ensures { result ≡ place_of side transfer.now }
+{
+    match side {
+        Side::Hot => transfer.hot,
+        Side::Cold => transfer.cold,
+    }
+}
+
+fn is_of_utility(number: usize, parts: &[Part], place: u32) -> bool
+    ensures { result ≡ is_of_utility number parts.now place }
+{
+    match parts.get(place as usize) {
+        Some(part) => match part.source {
+            Source::Utility(index) => index as usize == number,
+            Source::Stream(_) => false,
+        },
+        None => false,
+    }
+}
+
+fn move_lines(
+    alloc: Global,
+    case: &Case,
+    parts: &Parts,
+    transfers: &[Transfer],
+) -> Result<String, AllocError>
+    ensures { IfOk result (λ text. string_bytes text
+        ≡ flat_map (move_line case.now parts.now) transfers.now) }
+{
+    let mut text = String::new(alloc);
+    for transfer in transfers {
+        text.push_str(&move_line(alloc, case, parts, transfer)?)?;
+    }
+    Ok(text)
+}
+
+fn move_line(
+    alloc: Global,
+    case: &Case,
+    parts: &Parts,
+    transfer: &Transfer,
+) -> Result<String, AllocError>
+    ensures { IfOk result (λ text. string_bytes text ≡ move_line case.now parts.now transfer.now) }
+{
+    let hot = part_at(alloc, case, parts.hot.as_slice(), transfer.hot)?;
+    let cold = part_at(alloc, case, parts.cold.as_slice(), transfer.cold)?;
+    let word = format!(in alloc; "move {hot} {cold}")?;
+    line(alloc, &word, i128::from(transfer.heat))
+}
+
+fn price_lines(
+    alloc: Global,
+    case: &Case,
+    word: &str,
+    parts: &[Part],
+    prices: &[i64],
+) -> Result<String, AllocError>
+    ensures { IfOk result (λ text. string_bytes text ≡ price_lines case.now word.now parts.now prices.now) }
+{
+    let mut text = String::new(alloc);
+    for (place, part) in parts.iter().enumerate() {
+        text.push_str(&price_line(alloc, case, word, price_at(prices, place), part)?)?;
+    }
+    Ok(text)
+}
+
+fn price_line(
+    alloc: Global,
+    case: &Case,
+    word: &str,
+    price: i64,
+    part: &Part,
+) -> Result<String, AllocError>
+    ensures { IfOk result (λ text. string_bytes text ≡ line (word.now ++ part_text case.now part.now) price) }
+{
+    let word = format!(in alloc; "{word}{}", part_text(alloc, case, part)?)?;
+    line(alloc, &word, i128::from(price))
+}
+
+/// The price at a place, and 0 past the end.
+fn price_at(prices: &[i64], place: usize) -> i64
+    ensures { result ≡ price_at prices.now place }
+{
+    match prices.get(place) {
+        Some(price) => *price,
+        None => 0,
+    }
+}
+
+fn part_at(
+    alloc: Global,
+    case: &Case,
+    parts: &[Part],
+    place: u32,
+) -> Result<String, AllocError>
+    ensures { IfOk result (λ text. string_bytes text ≡ part_at case.now parts.now place) }
+{
+    match parts.get(place as usize) {
+        Some(part) => part_text(alloc, case, part),
+        None => Ok(String::new(alloc)),
+    }
+}
+
+/// The name of the part's source, its high and its low.
+fn part_text(alloc: Global, case: &Case, part: &Part) -> Result<String, AllocError>
+    ensures { IfOk result (λ text. string_bytes text ≡ part_text case.now part.now) }
+{
+    format!(in alloc; "{} {} {}", source_name(case, part.source), part.high, part.low)
+}
+
+fn source_name(case: &Case, source: Source) -> &str
+    ensures { result.now ≡ source_name case.now source }
+{
+    match source {
+        Source::Stream(index) => match case.streams.get(index as usize) {
+            Some(stream) => stream.name.as_str(),
+            None => "",
+        },
+        Source::Utility(index) => match case.utilities.get(index as usize) {
+            Some(utility) => utility.name.as_str(),
+            None => "",
+        },
+    }
+}

@@ -1,0 +1,11 @@
+//! What the program shows, and the exact text of it.
+#![tactic(auto)]
+
+mod flow;
+mod line;
+mod points;
+mod shown;
+mod text;
+
+pub use shown::{FileRole, Shown};
+pub use text::text_of;

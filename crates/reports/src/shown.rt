@@ -1,0 +1,53 @@
+//! All that the program can show.
+
+use case_text::CaseWhy;
+use curves::Point;
+use grid::Parts;
+use heat_flow::{Flow, Prices};
+use problem_table::Target;
+use stream_case::{Case, Items};
+
+/// What a file is to a command.
+#[derive(Clone, Copy, Debug, PartialEq, Eq)]
+pub enum FileRole {
+    Case,
+}
+
+/// What is printed. Everything that a text says of a case is carried here, so that a contract
+/// can say of each text which values it shows.
+#[derive(Debug, Drop)]
+pub enum Shown {
+    /// The least hot and cold utility in W, and the pinches as shifted temperatures in tenths
+    /// of °C, from the highest down.
+    Targets {
+        targets: Target,
+        pinches: Items<i32>,
+    },
+    /// A heat flow between the parts of the completed case, with prices of the parts that
+    /// prove it least: its cost is their value.
+    Flow {
+        case: Case,
+        parts: Parts,
+        flow: Flow,
+        prices: Prices,
+        cost: i128,
+    },
+    /// The hot and the cold composite curve, rising by actual temperature, and the grand
+    /// composite curve, falling by shifted temperature.
+    Curves {
+        hot: Items<Point>,
+        cold: Items<Point>,
+        net: Items<Point>,
+    },
+    /// The words are no command.
+    BadWords,
+    /// The case file is refused: the row, counted from 1, and what is to be mended there.
+    BadCase { row: u32, why: CaseWhy },
+    /// The command answers standard cases only: no forbidden match, and no utilities but the
+    /// standard ones.
+    NotStandard,
+    /// The file is longer than the limit.
+    TooLong { file: FileRole },
+    /// The file could not be read.
+    ReadFault { file: FileRole },
+}

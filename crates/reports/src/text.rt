@@ -1,0 +1,150 @@
+//! The texts of what is shown: lines that end with `\n`, with single spaces between fields.
+ghost use Rattle.std.specs.Prelude.{◌≡◌, ◌++◌, IfOk, codes, string_bytes};
+ghost use Rattle.reports.specs.Lines.{line};
+ghost use Rattle.reports.specs.Text.{text, pinch_lines, role_name, case_why_name};
+
+use crate::points::curves_text;
+use crate::flow::flow_text;
+use crate::line::line;
+use crate::shown::{FileRole, Shown};
+use case_text::CaseWhy;
+use problem_table::Target;
+use std::alloc::{AllocError, Global};
+
+const WORDS: &str =
+    "words: targets flow curves design vertical audit site sweep sample certify prices\n";
+
+/// The exact text of what is shown.
+#[tactic(auto, unfolding(crate::specs::Text::text))]
+pub fn text_of(alloc: Global, shown: &Shown) -> Result<Vec<u8>, AllocError>
+    ensures { IfOk result (λ printed. printed.items ≡ text shown.now) }
+{
+    let text = match shown {
+        Shown::Targets { targets, pinches } => targets_text(alloc, targets, pinches.as_slice())?,
+        Shown::Flow {
+            case,
+            parts,
+            flow,
+            prices,
+            cost,
+        } => flow_text(alloc, case, parts, flow.transfers.as_slice(), prices, *cost)?,
+        Shown::Curves { hot, cold, net } => {
+            curves_text(alloc, hot.as_slice(), cold.as_slice(), net.as_slice())?
+        }
+        Shown::BadWords => String::from_str(alloc, WORDS)?,
+        Shown::BadCase { row, why } => {
+            format!(in alloc; "case row {} {}\n", row, case_why_name(*why))?
+        }
+        Shown::NotStandard => String::from_str(alloc, "case not standard\n")?,
+        Shown::TooLong { file } => format!(in alloc; "too long {}\n", role_name(*file))?,
+        Shown::ReadFault { file } => format!(in alloc; "read fault {}\n", role_name(*file))?,
+    };
+    Ok(text.into_bytes())
+}
+
+fn targets_text(alloc: Global, targets: &Target, pinches: &[i32]) -> Result<String, AllocError>
+    ensures { IfOk result (λ text. string_bytes text
+        ≡ line (codes "hot") targets.now.hot ++ line (codes "cold") targets.now.cold ++ pinch_lines pinches.now) }
+{
+    let mut text = line(alloc, "hot", i128::from(targets.hot))?;
+    text.push_str(&line(alloc, "cold", i128::from(targets.cold))?)?;
+    text.push_str(&pinch_lines(alloc, pinches)?)?;
+    Ok(text)
+}
+
+fn pinch_lines(alloc: Global, pinches: &[i32]) -> Result<String, AllocError>
+    ensures { IfOk result (λ text. string_bytes text ≡ pinch_lines pinches.now) }
+{
+    if pinches.is_empty() {
+        return String::from_str(alloc, "pinch none\n");
+    }
+    let mut text = String::new(alloc);
+    for pinch in pinches {
+        text.push_str(&line(alloc, "pinch", i128::from(*pinch))?)?;
+    }
+    Ok(text)
+}
+
+fn role_name(file: FileRole) -> &'static str
+    ensures { result.now ≡ role_name file }
+{
+    match file {
+        FileRole::Case => "case",
+    }
+}
+
+fn case_why_name(why: CaseWhy) -> &'static str
+    ensures { result.now ≡ case_why_name why }
+{
+    match why {
+        CaseWhy::UnknownKind => "UnknownKind",
+        CaseWhy::FieldCount => "FieldCount",
+        CaseWhy::BadNumber => "BadNumber",
+        CaseWhy::OutOfRange => "OutOfRange",
+        CaseWhy::BadName => "BadName",
+        CaseWhy::SameName => "SameName",
+        CaseWhy::WrongWay => "WrongWay",
+        CaseWhy::Repeated => "Repeated",
+        CaseWhy::TooMany => "TooMany",
+        CaseWhy::UnknownName => "UnknownName",
+        CaseWhy::NoContribution => "NoContribution",
+        CaseWhy::NoStream => "NoStream",
+        CaseWhy::BadRange => "BadRange",
+    }
+}
+
+#[cfg(test)]
+mod tests {
+    use super::*;
+    use stream_case::Items;
+    use std::test::Fail;
+
+    #[test]
+    fn each_answer_has_its_text(rt: HostRuntime) -> Result<(), Fail> {
+        let alloc = rt.alloc();
+        let targets = Target {
+            hot: 20000,
+            cold: 60000,
+        };
+        let rows = [
+            (
+                Shown::Targets {
+                    targets,
+                    pinches: Items::from_vec(Vec::from_slice(alloc, &[850, -50])?),
+                },
+                "hot 20000\ncold 60000\npinch 850\npinch -50\n",
+            ),
+            (
+                Shown::Targets {
+                    targets,
+                    pinches: Items::new(alloc),
+                },
+                "hot 20000\ncold 60000\npinch none\n",
+            ),
+            (
+                Shown::BadCase {
+                    row: 14,
+                    why: CaseWhy::TooMany,
+                },
+                "case row 14 TooMany\n",
+            ),
+            (Shown::NotStandard, "case not standard\n"),
+            (
+                Shown::TooLong {
+                    file: FileRole::Case,
+                },
+                "too long case\n",
+            ),
+            (
+                Shown::ReadFault {
+                    file: FileRole::Case,
+                },
+                "read fault case\n",
+            ),
+        ];
+        for (shown, text) in rows {
+            assert_eq!(rt; text_of(alloc, &shown)?.as_slice(), text.as_bytes());
+        }
+        Ok(())
+    }
+}
