@@ -1,10 +1,9 @@
 -- Curves, point after point.
-use Rattle.std.proofs.Common.{◌≡◌, ℕ, ◌+◌, ◌<◌, List, [], ◌∷◌, ◌++◌, length, get_or, take, refl, ap, ap₂, sym, ◌∙◌, subst}
+use Rattle.std.proofs.Common.{◌≡◌, ℕ, ◌+◌, ◌<◌, List, [], ◌∷◌, ◌++◌, length, get_or, take, ap, ap₂, sym, ◌∙◌}
 use Rattle.std.specs.Prelude.{ℤ}
 use Rattle.std.specs.List.{flat_map}
 use Rattle.std.proofs.lemmas.Grind.{flat_map-append}
-use Rattle.std.proofs.lemmas.List.{take_more, take_all, append-nil}
-use Rattle.sums.specs.Order.{Lists}
+use Rattle.std.proofs.lemmas.List.{take_more, append-nil}
 use Rattle.sums.proofs.OrderLemmas.{Lists-unique}
 use Rattle.curves.specs.declared.point.Point.{Point}
 use Rattle.curves.specs.Curve.{IsCurve}

@@ -1,5 +1,5 @@
 -- The definitions give the points of the four-stream example, worked by hand.
-use Rattle.std.proofs.Common.{◌≡◌, ℤ, pos, List, [], ◌∷◌, refl}
+use Rattle.std.proofs.Common.{◌≡◌, ℤ, pos, [], ◌∷◌, refl}
 use Rattle.std.specs.List.{flat_map}
 use Rattle.stream_case.specs.declared.source.Side.TheVariants.{Hot, Cold}
 use Rattle.problem_table.proofs.WorkedExample.{four_streams}

@@ -1,5 +1,5 @@
 -- Each temperature has one point.
-use Rattle.std.proofs.Common.{ℤ, pos, w32, w64, FitsSigned, get_or, refl, ap, ◌∙◌, rules}
+use Rattle.std.proofs.Common.{pos, w32, w64, FitsSigned, get_or, refl, ap, ◌∙◌, rules}
 use Rattle.std.proofs.lemmas.Int.{to_z-of_z}
 use Rattle.curves.specs.Below.{heat_below, sum_side}
 use Rattle.curves.specs.Curve.{side_points}

@@ -1,9 +1,8 @@
 -- A stream of the side adds its two ends.
-use Rattle.std.proofs.Common.{◌≡◌, Bool, w32, FitsSigned, List, ℤ, [], ◌∷◌, ◌++◌, take, ap, ap₂, sym, ◌∙◌, rules, append_assoc}
+use Rattle.std.proofs.Common.{Bool, w32, FitsSigned, [], ◌∷◌, ap, sym, ◌∙◌, rules, append_assoc}
 use Rattle.std.specs.Prelude.{if◌then◌else◌}
 use Rattle.std.proofs.lemmas.Int.{to_z-of_z}
 use Rattle.std.proofs.lemmas.List.{append-nil}
-use Rattle.curves.specs.Below.{temperatures_of}
 use Rattle.curves.proofs.BelowLemmas.{temperatures_of-more}
 use Rattle.curves.proofs.composite.temperatures_of.Goals as goal
 use Rattle.curves.proofs.composite.temperatures_of.Goals.{then-is_of+in_ok-push+in_ok-push-2, else-is_of}

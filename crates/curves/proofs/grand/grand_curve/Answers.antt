@@ -1,5 +1,5 @@
 -- Each place has one point.
-use Rattle.std.proofs.Common.{ℤ, pos, w32, FitsSigned, get_or, refl, ap, ◌∙◌, rules, arith}
+use Rattle.std.proofs.Common.{pos, w32, FitsSigned, get_or, refl, ap, ◌∙◌, rules, arith}
 use Rattle.std.specs.Prelude.{◌-ℤ◌}
 use Rattle.std.proofs.lemmas.Int.{to_z-of_z, ints}
 use Rattle.problem_table.specs.Deficit.{deficit_above, hot_target}
