@@ -1,43 +1,43 @@
 -- The prices of the corner flow support every heat flow, and their value is the hot target.
-use Rattle.std.proofs.Common.{◌≡◌, ◌⊎◌, ⊎_elim, inl, inr, ◌∙◌, refl, sym, ap, ap₂, subst, subst₂, ℕ, zero, suc, ◌+◌, ◌<◌, ◌≤◌, Bool, true, false, not, ◌&&◌, ◌||◌, List, [], ◌∷◌, length, get_or, map, Option, Some, None, arith}
-use Rattle.std.specs.Prelude.{IsTrue, ℤ, pos, ◌+ℤ◌, ◌-ℤ◌, ◌*ℤ◌, ◌≤ℤ◌, ◌<ℤ◌, negsuc, int_le, if◌then◌else◌, All, AllPairs, Contains, slice_get}
+use Rattle.std.proofs.Common.{◌≡◌, ⊎_elim, inl, inr, ◌∙◌, refl, sym, ap, ap₂, subst, subst₂, ℕ, Bool, true, false, not, ◌&&◌, List, [], ◌∷◌, length, get_or, map, Some, arith}
+use Rattle.std.specs.Prelude.{ℤ, pos, neg_ℤ, ◌+ℤ◌, ◌-ℤ◌, ◌*ℤ◌, ◌≤ℤ◌, ◌<ℤ◌, negsuc, int_le, if◌then◌else◌, All, AllPairs, Contains, slice_get}
 use Rattle.std.specs.Int.{int_min}
 use Rattle.std.specs.Ordering.{int_eq}
 use Rattle.std.proofs.Math.IntN.{*ℤ-zero, *ℤ_comm}
 use Rattle.std.proofs.lemmas.Int.{ints, clamps, by_lt_z}
 use Rattle.std.proofs.lemmas.Bool.{and_parts, or_cases, cases_Bool, cases_lt, not-true, both_ways, false≢true}
 use Rattle.std.proofs.lemmas.Bool.Decides.{Decides-int_eq}
-use Rattle.std.proofs.lemmas.List.{get_or-map, length-map}
+use Rattle.std.proofs.lemmas.List.{get_or-map}
+use Rattle.std.proofs.lemmas.List.Elements.{All-map}
 use Rattle.std.proofs.lemmas.Option.{slice_get-get_or, slice_get_within, slice_get_past, get_or_from_slice_get}
-use Rattle.stream_case.specs.declared.source.Side.{Side}
 use Rattle.stream_case.specs.declared.source.Side.TheVariants.{Hot, Cold}
 use Rattle.stream_case.specs.declared.case.Case.{Case}
-use Rattle.stream_case.specs.Case.{HasValidStreams, IsComplete, IsStandard}
-use Rattle.sums.specs.Sum.{int_sum_by, int_sum_from}
+use Rattle.stream_case.specs.Case.{IsBetween, HasValidStreams, IsComplete, IsStandard}
+use Rattle.sums.specs.Sum.{int_sum_by}
 use Rattle.sums.specs.declared.pairs.Pair.{Pair}
 use Rattle.sums.specs.Spans.{ListsOverlaps}
-use Rattle.sums.proofs.SumLemmas.{int_sum_by-same, int_sum_by-sub, int_sum_by-zero, int_sum_from-by}
+use Rattle.sums.proofs.SumLemmas.{int_sum_by-same, int_sum_by-sub, int_sum_by-zero, int_sum_from-by, int_sum_from-same_each}
+use Rattle.sums.proofs.ConsLemmas.{int_le-from, int_le-false}
 use Rattle.sums.proofs.WalkLemmas.{some_overlaps}
-use Rattle.problem_table.specs.Deficit.{deficit_above, hot_target, cold_target, IsTight}
+use Rattle.problem_table.specs.Deficit.{hot_target, cold_target, IsTight}
 use Rattle.problem_table.proofs.DeficitLemmas.{hot_target-between, cold_target-between, some_tight}
 use Rattle.grid.specs.declared.part.Part.{Part}
 use Rattle.grid.specs.Grid.{IsGrid}
-use Rattle.grid.specs.Part.{is_stream, AreParts, AreCaseParts}
+use Rattle.grid.specs.Part.{is_stream, AreCaseParts}
 use Rattle.grid.proofs.CaseLemmas.{streams_of_complete}
 use Rattle.grid.proofs.PlaceLemmas.{interval_falls}
 use Rattle.grid.proofs.HeatLemmas.{heat_from}
 use Rattle.heat_flow.specs.declared.flow.Transfer.{Transfer}
-use Rattle.heat_flow.specs.Flow.{heat_at, IsHeatFlow, cost_of, IsLeastCost}
-use Rattle.heat_flow.specs.Prices.{price_at, IsSupporting, least_product, excess_price, side_value, value_of}
+use Rattle.heat_flow.specs.Flow.{cost_of, IsLeastCost}
+use Rattle.heat_flow.specs.Prices.{price_at, IsSupporting, least_product, side_value, value_of}
 use Rattle.heat_flow.specs.Reach.{passes_heat, part_reaches, both_reach, reach_between, is_forbidden}
 use Rattle.heat_flow.proofs.Duality.{weak_duality}
 use Rattle.heat_flow.proofs.PriceLemmas.{blank}
-use Rattle.heat_flow.proofs.CostLemmas.{int_sum_from-same_each}
-use Rattle.corner_flow.specs.Corner.{part_heat, heats_of, as_pair, as_transfer, IsCornerFlow, corner_price, IsFlowOf, UtilityHeat, UtilityHeatAtLeast}
-use Rattle.corner_flow.proofs.StandardLemmas.{top_of, bottom_of, grid_within, end_on_grid, bottom_on_grid}
-use Rattle.corner_flow.proofs.SideLemmas.{IsStreamHere, IsUtilityHere, IsStandardPart, IsStandardSide, side_heat, side_heat-hot, side_heat-cold, hot_side, cold_side}
+use Rattle.corner_flow.specs.Corner.{heats_of, as_pair, as_transfer, IsCornerFlow, corner_price, IsFlowOf, UtilityHeatAtLeast}
+use Rattle.corner_flow.proofs.StandardLemmas.{top_of, bottom_of, grid_within, end_on_grid}
+use Rattle.corner_flow.proofs.SideLemmas.{IsStandardPart, IsStandardSide, side_heat-hot, side_heat-cold, hot_side, cold_side}
 use Rattle.corner_flow.proofs.ReachLemmas.{above_whole, below_none, from_utility}
-use Rattle.corner_flow.proofs.FlowLemmas.{part_at, heats-not_negative, corner-is_flow}
+use Rattle.corner_flow.proofs.FlowLemmas.{heats-not_negative, corner-is_flow}
 use Rattle.corner_flow.proofs.PriceLemmas.{cost-is_hot, corner-cost}
 
 -- ---- the prices
@@ -47,12 +47,6 @@ price_none target place p e = ap (λ b. if b then pos 0 else if int_le place p.l
 
 not_zero : (target : ℤ) → (target ≡ pos 0 → ⊥) → int_eq target (pos 0) ≡ false
 not_zero target h = ⊎_elim (λ e. absurd (h ((Decides-int_eq target (pos 0)).0 e))) (λ e. e) (cases_Bool (int_eq target (pos 0)))
-
-int_le-from : (a b : ℤ) → a ≤ℤ b → int_le a b ≡ true
-int_le-from a b h = grind (arith, ints)
-
-int_le-false : (a b : ℤ) → b <ℤ a → int_le a b ≡ false
-int_le-false a b h = grind (arith, ints)
 
 price_one : (target place : ℤ) (p : Part) → (target ≡ pos 0 → ⊥) → place ≤ℤ p.low → corner_price target place p ≡ pos 1
 price_one target place p h le = ap₂ (λ x y. if x then pos 0 else if y then pos 1 else pos 0) (not_zero target h) (int_le-from place p.low le)
@@ -67,6 +61,17 @@ zero_or_more target place p = either (int_eq target (pos 0)) (int_le place p.low
     either true y = omega (arith, ints)
     either false true = omega (arith, ints)
     either false false = omega (arith, ints)
+
+-- each price is within the limits of prices
+pub prices_within : (target place : ℤ) (parts : List Part) → All (IsBetween (neg_ℤ (pos 1000000000000000)) (pos 1000000000000000)) (map (corner_price target place) parts)
+prices_within target place parts =
+    All-map (IsBetween (neg_ℤ (pos 1000000000000000)) (pos 1000000000000000)) (corner_price target place) parts
+    (λ k d within. let p = get_or parts k d in either (int_eq target (pos 0)) (int_le place p.low))
+  where
+    either : (x y : Bool) → IsBetween (neg_ℤ (pos 1000000000000000)) (pos 1000000000000000) (if x then pos 0 else if y then pos 1 else pos 0)
+    either true y = record { from = omega (arith, ints); upto = omega (arith, ints) }
+    either false true = record { from = omega (arith, ints); upto = omega (arith, ints) }
+    either false false = record { from = omega (arith, ints); upto = omega (arith, ints) }
 
 -- a part that is not below another does not have the lower price
 price-le : (target place : ℤ) (p q : Part) → q.low ≤ℤ p.low → corner_price target place q ≤ℤ corner_price target place p
@@ -231,9 +236,9 @@ corner-value c hot cold place complete standard parts reference =
     (λ e.
     let positive = λ (is : target ≡ pos 0). both_ways (int_eq target (pos 0)) e ((Decides-int_eq target (pos 0)).1 is) in
     let given = int_sum_by-same (λ p. least_product (p.price -ℤ price p) p.least p.most) (λ p. pos 0 -ℤ heat_from place (pos 0) p) hot
-        (λ k d within. hot_worth c parts.grid valid standard parts.is_grid place at (get_or hot k d) positive (hots.each k d within)) in
+    (λ k d within. hot_worth c parts.grid valid standard parts.is_grid place at (get_or hot k d) positive (hots.each k d within)) in
     let taken = int_sum_by-same (λ q. least_product (q.price +ℤ price q) q.least q.most) (heat_from place (pos 0)) cold
-        (λ k d within. cold_worth c parts.grid valid standard parts.is_grid place at (get_or cold k d) positive (colds.each k d within)) in
+    (λ k d within. cold_worth c parts.grid valid standard parts.is_grid place at (get_or cold k d) positive (colds.each k d within)) in
     let split = int_sum_by-sub (λ p. pos 0) (heat_from place (pos 0)) hot in
     let nothing = int_sum_by-zero (λ p. pos 0) hot (λ k d within. refl) in
     let hot_above = hots.sum place (pos 0) at in

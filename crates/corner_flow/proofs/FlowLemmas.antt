@@ -1,22 +1,20 @@
 -- The corner flow is a heat flow in which the utilities give and take the targets.
-use Rattle.std.proofs.Common.{◌≡◌, ◌⊎◌, ⊎_elim, inl, inr, ◌∙◌, refl, sym, ap, ap₂, subst, subst₂, ℕ, ◌+◌, ◌<◌, Bool, true, false, not, ◌&&◌, List, [], length, get_or, map, Some, arith}
-use Rattle.std.specs.Prelude.{IsTrue, ◌==◌, ℤ, pos, ◌+ℤ◌, ◌-ℤ◌, ◌*ℤ◌, ◌≤ℤ◌, ◌<ℤ◌, if◌then◌else◌, All, AllPairs, Contains, slice_get}
+use Rattle.std.proofs.Common.{◌≡◌, ⊎_elim, inl, inr, ◌∙◌, sym, ap, ap₂, subst, subst₂, ℕ, ◌<◌, false, not, ◌&&◌, List, length, get_or, map, Some, arith}
+use Rattle.std.specs.Prelude.{◌==◌, ℤ, pos, ◌+ℤ◌, ◌≤ℤ◌, ◌<ℤ◌, if◌then◌else◌, All, slice_get}
 use Rattle.std.proofs.lemmas.Int.{ints}
 use Rattle.std.proofs.lemmas.Bool.{cases_Bool, not-true}
-use Rattle.std.proofs.lemmas.List.{get_or-map, length-map, take_all}
+use Rattle.std.proofs.lemmas.List.{get_or-map, length-map}
 use Rattle.std.proofs.lemmas.Option.{slice_get-get_or, slice_get_within, get_or_from_slice_get}
 use Rattle.stream_case.specs.declared.source.Side.{Side}
 use Rattle.stream_case.specs.declared.source.Side.TheVariants.{Hot, Cold}
 use Rattle.stream_case.specs.declared.case.Case.{Case}
-use Rattle.stream_case.specs.Stream.{heat_above, heat_of, stream_ends, low_end}
+use Rattle.stream_case.specs.Stream.{stream_ends}
 use Rattle.stream_case.specs.Case.{IsBetween, HasValidStreams, IsComplete, IsStandard}
-use Rattle.sums.specs.declared.pairs.Pair.{Pair}
-use Rattle.sums.specs.Sum.{int_sum_by, int_sum_from}
-use Rattle.sums.specs.Spans.{NotNegative, overlap, IsOverlap, pair_before, ListsOverlaps}
-use Rattle.sums.proofs.SumLemmas.{int_sum_by-map, int_sum_by-same, int_sum_from-by}
+use Rattle.sums.specs.Sum.{int_sum_by}
+use Rattle.sums.specs.Spans.{NotNegative, IsOverlap, pair_before, ListsOverlaps}
+use Rattle.sums.proofs.SumLemmas.{int_sum_by-map, int_sum_by-same}
 use Rattle.sums.proofs.WalkLemmas.{overlaps_first, overlaps_second}
-use Rattle.problem_table.specs.Sides.{sum_hot, sum_cold}
-use Rattle.problem_table.specs.Deficit.{deficit_above, hot_target, cold_target}
+use Rattle.problem_table.specs.Deficit.{hot_target, cold_target}
 use Rattle.problem_table.proofs.DeficitLemmas.{hot_target-between, cold_target-between, deficit_above-lowest}
 use Rattle.problem_table.proofs.EndLemmas.{IsLeast-least, length-stream_ends, each_low_end}
 use Rattle.grid.specs.declared.part.Part.{Part}
@@ -27,14 +25,12 @@ use Rattle.grid.proofs.CaseLemmas.{streams_of_complete}
 use Rattle.grid.proofs.PlaceLemmas.{interval_ends}
 use Rattle.grid.proofs.HeatLemmas.{heat_from}
 use Rattle.heat_flow.specs.declared.flow.Transfer.{Transfer}
-use Rattle.heat_flow.specs.Flow.{place_of, heat_at, precedes, KeepsRanges, IsHeatFlow, side_cost, cost_of}
-use Rattle.heat_flow.specs.Reach.{passes_heat, part_reaches, both_reach, reach_between, is_forbidden}
+use Rattle.heat_flow.specs.Flow.{heat_at}
+use Rattle.heat_flow.specs.Reach.{both_reach, is_forbidden}
 use Rattle.heat_flow.proofs.PriceLemmas.{blank}
-use Rattle.heat_flow.proofs.CheckLemmas.{no_transfer}
-use Rattle.heat_flow.proofs.CostLemmas.{int_sum_from-same_each}
 use Rattle.corner_flow.specs.Corner.{part_heat, heats_of, as_pair, IsCornerFlow, IsFlowOf, UtilityHeat}
 use Rattle.corner_flow.proofs.StandardLemmas.{top_of, bottom_of, grid_within, bottom_on_grid}
-use Rattle.corner_flow.proofs.SideLemmas.{IsStreamHere, IsUtilityHere, IsStandardPart, IsStandardSide, side_heat, side_heat-hot, side_heat-cold, hot_side, cold_side}
+use Rattle.corner_flow.proofs.SideLemmas.{IsStandardPart, IsStandardSide, side_heat, side_heat-hot, side_heat-cold, hot_side, cold_side}
 use Rattle.corner_flow.proofs.ReachLemmas.{heat_of_stream, heat_of_utility, above_whole, from_utility, overlap-passes}
 
 -- the heats of a side are not negative, and add up to the target and all heat of the streams
@@ -115,13 +111,13 @@ corner-gives c hot cold ts complete standard parts lists =
     let total = same_total c parts.grid valid standard parts.is_grid hot cold hots colds in
     record {
       hot_heats = λ a p at.
-        let within = slice_get_within hot a p at in
-        hot_heat (heats_of ht hot) (heats_of ct cold) ts h k total lists a (rw length-map within)
-        ∙ get_or-map (part_heat ht) hot a blank (pos 0) within ∙ ap (part_heat ht) (get_or_from_slice_get hot a p blank at);
+          let within = slice_get_within hot a p at in
+          hot_heat (heats_of ht hot) (heats_of ct cold) ts h k total lists a (rw length-map within)
+          ∙ get_or-map (part_heat ht) hot a blank (pos 0) within ∙ ap (part_heat ht) (get_or_from_slice_get hot a p blank at);
       cold_heats = λ b q at.
-        let within = slice_get_within cold b q at in
-        cold_heat (heats_of ht hot) (heats_of ct cold) ts h k total lists b (rw length-map within)
-        ∙ get_or-map (part_heat ct) cold b blank (pos 0) within ∙ ap (part_heat ct) (get_or_from_slice_get cold b q blank at);
+          let within = slice_get_within cold b q at in
+          cold_heat (heats_of ht hot) (heats_of ct cold) ts h k total lists b (rw length-map within)
+          ∙ get_or-map (part_heat ct) cold b blank (pos 0) within ∙ ap (part_heat ct) (get_or_from_slice_get cold b q blank at);
     }
 
 -- what holds of each part holds of the one at a place
@@ -138,29 +134,29 @@ corner-is_flow c hot cold ts complete standard parts lists =
     let ct = cold_target c.streams in
     let gives = corner-gives c hot cold ts complete standard parts lists in
     let each = λ (k : ℕ) (d : Transfer) (within : k < length ts).
-        subst (IsOverlap (heats_of ht hot) (heats_of ct cold)) (get_or-map as_pair ts k d (as_pair d) within) (lists.each k (as_pair d) (rw length-map within)) in
+    subst (IsOverlap (heats_of ht hot) (heats_of ct cold)) (get_or-map as_pair ts k d (as_pair d) within) (lists.each k (as_pair d) (rw length-map within)) in
     record {
       positive = λ k d within. (each k d within).positive;
       hot_places = λ k d within. rw length-map at (each k d within).first_place;
       cold_places = λ k d within. rw length-map at (each k d within).second_place;
       joined = λ k d within.
-        let t = get_or ts k d in
-        let e = each k d within in
-        let row : t.hot < length hot = rw length-map at e.first_place in
-        let column : t.cold < length cold = rw length-map at e.second_place in
-        let p = get_or hot t.hot blank in
-        let q = get_or cold t.cold blank in
-        let passes = overlap-passes c parts.grid hot cold valid standard parts.is_grid hots colds blank t.hot t.cold row column (subst (λ z. pos 0 <ℤ z) e.amount e.positive) in
-        let free : is_forbidden c.forbids p.source q.source ≡ false = ap (λ fs. is_forbidden fs p.source q.source) standard.free in
-        ap₂ (both_reach c) (slice_get-get_or hot t.hot blank row) (slice_get-get_or cold t.cold blank column) ∙ ap₂ (λ x y. x && not y) passes free;
+          let t = get_or ts k d in
+          let e = each k d within in
+          let row : t.hot < length hot = rw length-map at e.first_place in
+          let column : t.cold < length cold = rw length-map at e.second_place in
+          let p = get_or hot t.hot blank in
+          let q = get_or cold t.cold blank in
+          let passes = overlap-passes c parts.grid hot cold valid standard parts.is_grid hots colds blank t.hot t.cold row column (subst (λ z. pos 0 <ℤ z) e.amount e.positive) in
+          let free : is_forbidden c.forbids p.source q.source ≡ false = ap (λ fs. is_forbidden fs p.source q.source) standard.free in
+          ap₂ (both_reach c) (slice_get-get_or hot t.hot blank row) (slice_get-get_or cold t.cold blank column) ∙ ap₂ (λ x y. x && not y) passes free;
       ordered = λ i j d before within.
-        subst₂ pair_before (get_or-map as_pair ts i d (as_pair d) (omega (arith, before, within))) (get_or-map as_pair ts j d (as_pair d) within) (lists.ordered i j (as_pair d) before (rw length-map within));
+          subst₂ pair_before (get_or-map as_pair ts i d (as_pair d) (omega (arith, before, within))) (get_or-map as_pair ts j d (as_pair d) within) (lists.ordered i j (as_pair d) before (rw length-map within));
       hot_ranges = λ a p at.
-        subst (IsBetween p.least p.most) (sym (gives.hot_heats a p at))
-        (heat_ranges parts.grid (top_of c) (pos 1) ht p (target_within ht (hot_target-between c.streams valid)) (part_at hot (IsStandardPart parts.grid (top_of c) (pos 1)) hots.each a p at));
+          subst (IsBetween p.least p.most) (sym (gives.hot_heats a p at))
+          (heat_ranges parts.grid (top_of c) (pos 1) ht p (target_within ht (hot_target-between c.streams valid)) (part_at hot (IsStandardPart parts.grid (top_of c) (pos 1)) hots.each a p at));
       cold_ranges = λ b q at.
-        subst (IsBetween q.least q.most) (sym (gives.cold_heats b q at))
-        (heat_ranges parts.grid (bottom_of c) (pos 0) ct q (target_within ct (cold_target-between c.streams valid)) (part_at cold (IsStandardPart parts.grid (bottom_of c) (pos 0)) colds.each b q at));
+          subst (IsBetween q.least q.most) (sym (gives.cold_heats b q at))
+          (heat_ranges parts.grid (bottom_of c) (pos 0) ct q (target_within ct (cold_target-between c.streams valid)) (part_at cold (IsStandardPart parts.grid (bottom_of c) (pos 0)) colds.each b q at));
     }
 
 -- in the corner flow the utilities give and take the targets

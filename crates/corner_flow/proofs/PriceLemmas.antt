@@ -1,44 +1,32 @@
 -- The prices of the corner flow certify it.
-use Rattle.std.proofs.Common.{◌≡◌, ◌≢◌, ◌⊎◌, ⊎_elim, inl, inr, ◌∙◌, refl, sym, ap, ap₂, subst, subst₂, ℕ, zero, suc, ◌+◌, ◌<◌, ◌≤◌, Bool, true, false, not, ◌&&◌, ◌||◌, List, [], ◌∷◌, length, get_or, map, Option, Some, None, arith}
-use Rattle.std.specs.Prelude.{IsTrue, ℤ, pos, ◌+ℤ◌, ◌-ℤ◌, ◌*ℤ◌, ◌≤ℤ◌, ◌<ℤ◌, int_le, if◌then◌else◌, All, AllPairs, Contains, slice_get}
-use Rattle.std.specs.Int.{int_min}
-use Rattle.std.specs.Ordering.{int_eq}
+use Rattle.std.proofs.Common.{◌≡◌, ◌≢◌, ⊎_elim, inl, inr, ◌∙◌, refl, sym, ap, subst, subst₂, ℕ, zero, suc, ◌<◌, true, false, List, [], ◌∷◌, length, get_or, Some, arith}
+use Rattle.std.specs.Prelude.{ℤ, pos, ◌-ℤ◌, ◌*ℤ◌, int_le, if◌then◌else◌, slice_get}
 use Rattle.std.proofs.Math.IntN.{*ℤ-zero, *ℤ_comm}
-use Rattle.std.proofs.lemmas.Int.{ints, clamps, by_lt_z}
-use Rattle.std.proofs.lemmas.Bool.{and_parts, or_cases, cases_Bool, cases_lt, cases_order, not-true, both_ways}
-use Rattle.std.proofs.lemmas.Bool.Decides.{Decides-int_eq}
-use Rattle.std.proofs.lemmas.List.{get_or-map, length-map, get_or_past}
-use Rattle.std.proofs.lemmas.Option.{none-some, same_Some, slice_get-get_or, slice_get_within, slice_get_past, get_or_from_slice_get}
-use Rattle.stream_case.specs.declared.source.Side.{Side}
+use Rattle.std.proofs.lemmas.Int.{ints}
+use Rattle.std.proofs.lemmas.Bool.{cases_Bool, cases_lt, cases_order, both_ways}
+use Rattle.std.proofs.lemmas.List.{get_or_past}
+use Rattle.std.proofs.lemmas.Option.{none-some, same_Some, slice_get_within, get_or_from_slice_get}
 use Rattle.stream_case.specs.declared.source.Side.TheVariants.{Hot, Cold}
-use Rattle.stream_case.specs.declared.source.Source.{Source}
-use Rattle.stream_case.specs.declared.source.Source.TheVariants.{Stream as of_stream, Utility as of_utility}
+use Rattle.stream_case.specs.declared.source.Source.TheVariants.{Utility as of_utility}
 use Rattle.stream_case.specs.declared.utility.Utility.{Utility}
 use Rattle.stream_case.specs.declared.case.Case.{Case}
-use Rattle.stream_case.specs.Case.{HasValidStreams, standard_hot, standard_cold, IsComplete, IsStandard}
-use Rattle.sums.specs.Sum.{int_sum_by, int_sum_from}
-use Rattle.sums.specs.declared.pairs.Pair.{Pair}
-use Rattle.sums.proofs.SumLemmas.{int_sum_by-same, int_sum_by-sub, int_sum_by-zero, int_sum_from-by, int_sum_from-zero, int_sum_from-single}
-use Rattle.sums.proofs.WalkLemmas.{some_overlaps}
-use Rattle.problem_table.specs.Deficit.{deficit_above, hot_target, cold_target, IsReferencePlace}
+use Rattle.stream_case.specs.Case.{standard_hot, standard_cold, IsComplete, IsStandard}
+use Rattle.sums.proofs.SumLemmas.{int_sum_by-same, int_sum_by-sub, int_sum_from-by, int_sum_from-zero, int_sum_from-single, int_sum_from-same_each}
+use Rattle.problem_table.specs.Deficit.{hot_target}
 use Rattle.grid.specs.declared.part.Part.{Part}
-use Rattle.grid.specs.Grid.{shifted_level, IsGrid}
-use Rattle.grid.specs.Part.{is_stream, IsStreamPart, IsUtilityPart, IsPartOf, comes_before_source, comes_before, AreParts, AreCaseParts}
+use Rattle.grid.specs.Grid.{shifted_level}
+use Rattle.grid.specs.Part.{is_stream, IsPartOf, comes_before_source, comes_before, AreParts, AreCaseParts}
 use Rattle.grid.proofs.CaseLemmas.{streams_of_complete}
-use Rattle.grid.proofs.PlaceLemmas.{interval_falls}
 use Rattle.grid.proofs.HeatLemmas.{heat_from}
 use Rattle.heat_flow.specs.declared.flow.Transfer.{Transfer}
-use Rattle.heat_flow.specs.Flow.{heat_at, IsHeatFlow, side_cost, cost_of, IsLeastCost}
-use Rattle.heat_flow.specs.Prices.{price_at, IsSupporting, least_product, excess_price, side_value, value_of}
-use Rattle.heat_flow.specs.Reach.{passes_heat, part_reaches, both_reach, reach_between, is_forbidden}
-use Rattle.heat_flow.proofs.Duality.{weak_duality}
+use Rattle.heat_flow.specs.Flow.{heat_at, side_cost, cost_of}
 use Rattle.heat_flow.proofs.PriceLemmas.{blank}
-use Rattle.heat_flow.proofs.CostLemmas.{int_sum_from-same_each, part_price}
-use Rattle.corner_flow.specs.Corner.{part_heat, heats_of, as_pair, IsCornerFlow, corner_price, IsFlowOf, UtilityHeat, UtilityHeatAtLeast}
-use Rattle.corner_flow.proofs.StandardLemmas.{hot_utility, top_of, bottom_of, grid_within, end_on_grid, bottom_on_grid}
-use Rattle.corner_flow.proofs.SideLemmas.{IsStreamHere, IsUtilityHere, IsStandardPart, IsStandardSide, side_heat, side_heat-hot, side_heat-cold, hot_side, cold_side}
-use Rattle.corner_flow.proofs.ReachLemmas.{heat_of_utility, above_whole, below_none, from_utility}
-use Rattle.corner_flow.proofs.FlowLemmas.{part_at, GivesHeats, corner-gives, corner-is_flow}
+use Rattle.heat_flow.proofs.CostLemmas.{part_price}
+use Rattle.corner_flow.specs.Corner.{part_heat, IsCornerFlow}
+use Rattle.corner_flow.proofs.StandardLemmas.{hot_utility, top_of, bottom_of, bottom_on_grid}
+use Rattle.corner_flow.proofs.SideLemmas.{IsStandardPart, IsStandardSide, hot_side, cold_side}
+use Rattle.corner_flow.proofs.ReachLemmas.{heat_of_utility, from_utility}
+use Rattle.corner_flow.proofs.FlowLemmas.{part_at, corner-gives}
 
 -- ---- the utility of the hot side has one part
 

@@ -1,7 +1,6 @@
 -- Two parts whose spans overlap reach.
-use Rattle.std.proofs.Common.{◌≡◌, ◌⊎◌, ⊎_elim, inl, inr, ◌∙◌, refl, sym, ap, ap₂, subst, ℕ, suc, ◌+◌, ◌-◌, ◌<◌, ◌≤◌, Bool, true, false, ◌&&◌, ◌||◌, List, length, get_or, take, drop, map, Some, arith, length-drop, length-take}
-use Rattle.std.specs.Prelude.{ℤ, pos, ◌+ℤ◌, ◌-ℤ◌, ◌≤ℤ◌, ◌<ℤ◌, int_le, if◌then◌else◌, All, AllPairs, Contains}
-use Rattle.std.specs.Int.{int_max, int_min}
+use Rattle.std.proofs.Common.{◌≡◌, ◌⊎◌, ⊎_elim, inl, inr, ◌∙◌, sym, ap, subst, ℕ, suc, ◌+◌, ◌<◌, Bool, true, false, ◌&&◌, List, length, get_or, take, drop, arith, length-drop, length-take}
+use Rattle.std.specs.Prelude.{ℤ, pos, ◌+ℤ◌, ◌≤ℤ◌, ◌<ℤ◌, int_le, if◌then◌else◌, Contains}
 use Rattle.std.specs.Ordering.{int_eq}
 use Rattle.std.proofs.lemmas.Int.{ints, clamps, by_lt_z}
 use Rattle.std.proofs.lemmas.Bool.{or_parts, and_from, cases_Bool, cases_eq, both_ways}
@@ -9,14 +8,12 @@ use Rattle.std.proofs.lemmas.Bool.Decides.{Decides-int_eq}
 use Rattle.std.proofs.lemmas.List.{get_or-drop, get_or-take, get_or_default}
 use Rattle.stream_case.specs.declared.source.Side.TheVariants.{Hot, Cold}
 use Rattle.stream_case.specs.declared.case.Case.{Case}
-use Rattle.stream_case.specs.Stream.{stream_ends}
 use Rattle.stream_case.specs.Case.{HasValidStreams, IsStandard}
-use Rattle.sums.specs.Sum.{int_sum_by}
+use Rattle.sums.proofs.ConsLemmas.{int_le-from, int_le-false}
 use Rattle.sums.specs.Spans.{begin_of, overlap}
-use Rattle.problem_table.specs.Deficit.{deficit_above, hot_target, cold_target}
+use Rattle.problem_table.specs.Deficit.{hot_target, cold_target}
 use Rattle.problem_table.proofs.DeficitLemmas.{hot_target-bound}
 use Rattle.grid.specs.declared.part.Part.{Part}
-use Rattle.grid.specs.Bounds.{IsBounded}
 use Rattle.grid.specs.Grid.{IsGrid}
 use Rattle.grid.specs.Part.{is_stream, IsInterval, comes_before}
 use Rattle.grid.proofs.PlaceLemmas.{interval_falls, interval_ends, interval_below, interval_above}
@@ -24,7 +21,7 @@ use Rattle.grid.proofs.HeatLemmas.{heat_from}
 use Rattle.heat_flow.specs.Reach.{passes_heat}
 use Rattle.corner_flow.specs.Corner.{part_heat, heats_of}
 use Rattle.corner_flow.proofs.StandardLemmas.{top_of, bottom_of, grid_is_ends, grid_within, bottom_on_grid}
-use Rattle.corner_flow.proofs.SideLemmas.{IsStreamHere, IsUtilityHere, IsStandardPart, IsStandardSide, side_heat, side_heat-hot, side_heat-cold, begin_of-heats, front_at_least, front_at_most}
+use Rattle.corner_flow.proofs.SideLemmas.{IsStandardPart, IsStandardSide, side_heat, side_heat-hot, side_heat-cold, begin_of-heats, front_at_least, front_at_most}
 
 -- a hot part that does not reach a cold part lies below its high, and not on the same interval
 pub record IsApart (p q : Part) : Type 0 where
@@ -51,12 +48,6 @@ from_stream place each p e = ap (λ b. if b then (if int_le place p.low then p.l
 
 pub from_utility : (place each : ℤ) (p : Part) → is_stream p.source ≡ false → heat_from place each p ≡ each
 from_utility place each p e = ap (λ b. if b then (if int_le place p.low then p.least else pos 0) else each) e
-
-int_le-from : (a b : ℤ) → a ≤ℤ b → int_le a b ≡ true
-int_le-from a b h = grind (arith, ints)
-
-int_le-false : (a b : ℤ) → b <ℤ a → int_le a b ≡ false
-int_le-false a b h = grind (arith, ints)
 
 pub below_none : (place each : ℤ) (p : Part) → is_stream p.source ≡ true → p.low <ℤ place → heat_from place each p ≡ pos 0
 below_none place each p e less = from_stream place each p e ∙ ap (λ b. if b then p.least else pos 0) (int_le-false place p.low less)
@@ -105,27 +96,27 @@ module _ (c : Case) (grid : List ℤ) (hot cold : List Part) (valid : HasValidSt
       let falls = interval_falls grid high low on_grid.ordered interval in
       let reached = (grid_within c grid valid standard on_grid high ends.0).1 in
       let later = λ (k : ℕ) (e : Part) (inside : k < length (drop i hot)).
-          let room : i + k < length hot = omega (arith, inside, length-drop i hot) in
-          let q = get_or hot (i + k) e in
-          let not_above : q.high ≤ℤ low =
-              ⊎_elim
-              (λ first. let same : q ≡ get_or hot i d = ap (λ n. get_or hot n e) {x = i + k} {y = i} (omega arith) ∙ get_or_default hot i e d within in subst (λ z. z ≤ℤ low) (sym (ap (λ r. r.high) same)) top)
-              (λ other.
-              let before = not_higher (get_or hot i e) q (hots.ordered i (i + k) e (omega (arith, other)) room) in
-              let same = ap (λ r. r.high) (get_or_default hot i e d within) in
-              omega (arith, ints))
-              (cases_eq k 0) in
-          let zero_there : heat_from low target q ≡ pos 0 =
-              ⊎_elim
-              (λ s. let fall = interval_falls grid q.high q.low on_grid.ordered s.interval in below_none low target q s.source_is (omega (arith, ints)))
-              (λ u. let at = u.high in absurd (omega (arith, ints)))
-              (hots.each (i + k) e room) in
-          subst (λ r. heat_from low target r ≡ pos 0) (sym (get_or-drop i hot k e)) zero_there in
+      let room : i + k < length hot = omega (arith, inside, length-drop i hot) in
+      let q = get_or hot (i + k) e in
+      let not_above : q.high ≤ℤ low =
+      ⊎_elim
+      (λ first. let same : q ≡ get_or hot i d = ap (λ n. get_or hot n e) {x = i + k} {y = i} (omega arith) ∙ get_or_default hot i e d within in subst (λ z. z ≤ℤ low) (sym (ap (λ r. r.high) same)) top)
+      (λ other.
+      let before = not_higher (get_or hot i e) q (hots.ordered i (i + k) e (omega (arith, other)) room) in
+      let same = ap (λ r. r.high) (get_or_default hot i e d within) in
+      omega (arith, ints))
+      (cases_eq k 0) in
+      let zero_there : heat_from low target q ≡ pos 0 =
+      ⊎_elim
+      (λ s. let fall = interval_falls grid q.high q.low on_grid.ordered s.interval in below_none low target q s.source_is (omega (arith, ints)))
+      (λ u. let at = u.high in absurd (omega (arith, ints)))
+      (hots.each (i + k) e room) in
+      subst (λ r. heat_from low target r ≡ pos 0) (sym (get_or-drop i hot k e)) zero_there in
       let front = λ (k : ℕ) (e : Part) (inside : k < length (take i hot)).
-          let room : k < i = omega (arith, inside, length-take i hot) in
-          let q = get_or hot k e in
-          let bounded = hots.bounded k e (omega (arith, room, within)) in
-          subst (λ r. heat_from low target r ≤ℤ part_heat target r) (sym (get_or-take i hot k e room)) (heat_from-le low target q bounded.least) in
+      let room : k < i = omega (arith, inside, length-take i hot) in
+      let q = get_or hot k e in
+      let bounded = hots.bounded k e (omega (arith, room, within)) in
+      subst (λ r. heat_from low target r ≤ℤ part_heat target r) (sym (get_or-take i hot k e room)) (heat_from-le low target q bounded.least) in
       let bound = front_at_least (heat_from low target) (part_heat target) hot i front later in
       let sum = hots.sum low target ends.1 in
       let begin = begin_of-heats target hot i in
@@ -140,31 +131,31 @@ module _ (c : Case) (grid : List ℤ) (hot cold : List Part) (valid : HasValidSt
       let falls = interval_falls grid p.high p.low on_grid.ordered interval in
       let bottom = (grid_within c grid valid standard on_grid p.low ends.1).0 in
       let front = λ (k : ℕ) (e : Part) (inside : k < length (take (suc j) cold)).
-          let room : k < suc j = omega (arith, inside, length-take (suc j) cold) in
-          let q = get_or cold k e in
-          let in_list : k < length cold = omega (arith, room, within) in
-          let not_below : p.high ≤ℤ q.high =
-              ⊎_elim
-              (λ last. let same : q ≡ p = ap (λ n. get_or cold n e) last ∙ get_or_default cold j e d within in subst (λ z. p.high ≤ℤ z) (sym (ap (λ r. r.high) same)) (omega (arith, ints)))
-              (λ other.
-              let before = not_higher q (get_or cold j e) (colds.ordered k j e (omega (arith, other, room)) within) in
-              let same = ap (λ r. r.high) (get_or_default cold j e d within) in
-              omega (arith, ints))
-              (cases_eq k j) in
-          let whole : part_heat target q ≤ℤ heat_from p.low (pos 0) q =
-              ⊎_elim
-              (λ s.
-              let above = interval_above_low q s.interval p.low ends.1 (omega (arith, ints)) in
-              let is = above_whole p.low (pos 0) q s.source_is above in
-              let heat = heat_of_stream target q s.source_is in
-              omega (arith, ints))
-              (λ u. let at = u.high in absurd (omega (arith, ints)))
-              (colds.each k e in_list) in
-          subst (λ r. part_heat target r ≤ℤ heat_from p.low (pos 0) r) (sym (get_or-take (suc j) cold k e room)) whole in
+      let room : k < suc j = omega (arith, inside, length-take (suc j) cold) in
+      let q = get_or cold k e in
+      let in_list : k < length cold = omega (arith, room, within) in
+      let not_below : p.high ≤ℤ q.high =
+      ⊎_elim
+      (λ last. let same : q ≡ p = ap (λ n. get_or cold n e) last ∙ get_or_default cold j e d within in subst (λ z. p.high ≤ℤ z) (sym (ap (λ r. r.high) same)) (omega (arith, ints)))
+      (λ other.
+      let before = not_higher q (get_or cold j e) (colds.ordered k j e (omega (arith, other, room)) within) in
+      let same = ap (λ r. r.high) (get_or_default cold j e d within) in
+      omega (arith, ints))
+      (cases_eq k j) in
+      let whole : part_heat target q ≤ℤ heat_from p.low (pos 0) q =
+      ⊎_elim
+      (λ s.
+      let above = interval_above_low q s.interval p.low ends.1 (omega (arith, ints)) in
+      let is = above_whole p.low (pos 0) q s.source_is above in
+      let heat = heat_of_stream target q s.source_is in
+      omega (arith, ints))
+      (λ u. let at = u.high in absurd (omega (arith, ints)))
+      (colds.each k e in_list) in
+      subst (λ r. part_heat target r ≤ℤ heat_from p.low (pos 0) r) (sym (get_or-take (suc j) cold k e room)) whole in
       let rest = λ (k : ℕ) (e : Part) (inside : k < length (drop (suc j) cold)).
-          let room : suc j + k < length cold = omega (arith, inside, length-drop (suc j) cold) in
-          let bounded = colds.bounded (suc j + k) e room in
-          subst (λ r. pos 0 ≤ℤ heat_from p.low (pos 0) r) (sym (get_or-drop (suc j) cold k e)) (heat_from-not_negative p.low (pos 0) (get_or cold (suc j + k) e) bounded.least (omega (arith, ints))) in
+      let room : suc j + k < length cold = omega (arith, inside, length-drop (suc j) cold) in
+      let bounded = colds.bounded (suc j + k) e room in
+      subst (λ r. pos 0 ≤ℤ heat_from p.low (pos 0) r) (sym (get_or-drop (suc j) cold k e)) (heat_from-not_negative p.low (pos 0) (get_or cold (suc j + k) e) bounded.least (omega (arith, ints))) in
       let bound = front_at_most (part_heat target) (heat_from p.low (pos 0)) cold (suc j) front rest in
       let sum = colds.sum p.low (pos 0) ends.1 in
       let begin = begin_of-heats target cold (suc j) in
@@ -194,13 +185,13 @@ module _ (c : Case) (grid : List ℤ) (hot cold : List Part) (valid : HasValidSt
           let below = far.below in
           let at_most = interval_below grid (get_or cold j d).high (get_or cold j d).low (get_or hot i d).low on_grid.ordered t.interval hot_ends.1 below in
           let lower : (get_or hot i d).low <ℤ (get_or cold j d).low =
-              ⊎_elim
-              (λ same.
-              let up = interval_above grid (get_or cold j d).high (get_or cold j d).low (get_or hot i d).high on_grid.ordered t.interval hot_ends.0 (omega (arith, ints)) in
-              let down = interval_above grid (get_or hot i d).high (get_or hot i d).low (get_or cold j d).high on_grid.ordered s.interval cold_ends.0 below in
-              absurd (far.differ (omega (arith, ints)) same))
-              (λ other. strictly (get_or hot i d).low (get_or cold j d).low at_most other)
-              (int_cases (get_or hot i d).low (get_or cold j d).low) in
+          ⊎_elim
+          (λ same.
+          let up = interval_above grid (get_or cold j d).high (get_or cold j d).low (get_or hot i d).high on_grid.ordered t.interval hot_ends.0 (omega (arith, ints)) in
+          let down = interval_above grid (get_or hot i d).high (get_or hot i d).low (get_or cold j d).high on_grid.ordered s.interval cold_ends.0 below in
+          absurd (far.differ (omega (arith, ints)) same))
+          (λ other. strictly (get_or hot i d).low (get_or cold j d).low at_most other)
+          (int_cases (get_or hot i d).low (get_or cold j d).low) in
           let top = interval_above grid (get_or hot i d).high (get_or hot i d).low (get_or cold j d).low on_grid.ordered s.interval cold_ends.1 lower in
           let begin = hot_before (get_or cold j d).high (get_or cold j d).low i row t.interval s.source_is lower top in
           let end = cold_upto j column t.interval t.source_is in

@@ -1,15 +1,14 @@
 -- The parts of a side of a standard case.
-use Rattle.std.proofs.Common.{◌≡◌, ◌⊎◌, ⊎_elim, inl, inr, ◌∙◌, refl, sym, ap, ap₂, subst, ℕ, ◌+◌, ◌<◌, Bool, true, false, List, length, get_or, take, drop, map, Some, arith}
-use Rattle.std.specs.Prelude.{ℤ, pos, ◌+ℤ◌, ◌-ℤ◌, ◌≤ℤ◌, ◌<ℤ◌, int_le, if◌then◌else◌, All, AllPairs, Contains, slice_get}
-use Rattle.std.proofs.lemmas.Int.{ints, by_lt_z}
+use Rattle.std.proofs.Common.{◌≡◌, ◌⊎◌, inl, inr, ◌∙◌, refl, sym, ap, ℕ, true, false, List, get_or, take, drop, arith}
+use Rattle.std.specs.Prelude.{ℤ, pos, ◌+ℤ◌, ◌≤ℤ◌, if◌then◌else◌, All, AllPairs, Contains}
+use Rattle.std.proofs.lemmas.Int.{ints}
 use Rattle.std.proofs.lemmas.List.{take-map, take-append-drop}
 use Rattle.std.proofs.lemmas.List.Elements.{All-weaker}
 use Rattle.stream_case.specs.declared.source.Side.{Side}
 use Rattle.stream_case.specs.declared.source.Side.TheVariants.{Hot, Cold}
-use Rattle.stream_case.specs.declared.stream.Stream.{Stream}
 use Rattle.stream_case.specs.declared.case.Case.{Case}
 use Rattle.stream_case.specs.Stream.{is_hot, same_side, heat_above}
-use Rattle.stream_case.specs.Case.{HasValidStreams, standard_hot, standard_cold, IsComplete, IsStandard}
+use Rattle.stream_case.specs.Case.{IsComplete, IsStandard}
 use Rattle.sums.specs.Sum.{int_sum_by}
 use Rattle.sums.specs.Spans.{begin_of}
 use Rattle.sums.proofs.SumLemmas.{int_sum_by-append, int_sum_by-same, int_sum_by-zero, int_sum_by-le, int_sum_by-not_negative, int_sum_by-map}
@@ -18,7 +17,6 @@ use Rattle.grid.specs.declared.part.Part.{Part}
 use Rattle.grid.specs.Bounds.{IsBounded}
 use Rattle.grid.specs.Grid.{shifted_level, IsGrid}
 use Rattle.grid.specs.Part.{is_stream, IsInterval, IsPartOf, comes_before, AreParts}
-use Rattle.grid.specs.Making.{made_parts}
 use Rattle.grid.proofs.CaseLemmas.{streams_of_complete, standard_hot_level, standard_cold_level}
 use Rattle.grid.proofs.MakingLemmas.{AreParts-made}
 use Rattle.grid.proofs.HeatLemmas.{heat_from, sum-heat_from}
@@ -51,8 +49,12 @@ hot_part c grid standard p (inr (i, u, h)) =
     let is = hot_utility c standard i u h.utility h.utility_side in
     let level = ap shifted_level is ∙ standard_hot_level c in
     inr (record {
-      source_is = ap is_stream h.source; high = h.high ∙ level; low = h.low ∙ level;
-      least = h.least ∙ ap (λ v. v.least) is; most = h.most ∙ ap (λ v. v.most) is; costs = h.price ∙ ap (λ v. v.price) is;
+      source_is = ap is_stream h.source;
+      high = h.high ∙ level;
+      low = h.low ∙ level;
+      least = h.least ∙ ap (λ v. v.least) is;
+      most = h.most ∙ ap (λ v. v.most) is;
+      costs = h.price ∙ ap (λ v. v.price) is;
     })
 
 pub cold_part : (c : Case) (grid : List ℤ) → IsStandard c → (p : Part) → IsPartOf c grid Cold p → IsStandardPart grid (bottom_of c) (pos 0) p
@@ -61,8 +63,12 @@ cold_part c grid standard p (inr (i, u, h)) =
     let is = cold_utility c standard i u h.utility h.utility_side in
     let level = ap shifted_level is ∙ standard_cold_level c in
     inr (record {
-      source_is = ap is_stream h.source; high = h.high ∙ level; low = h.low ∙ level;
-      least = h.least ∙ ap (λ v. v.least) is; most = h.most ∙ ap (λ v. v.most) is; costs = h.price ∙ ap (λ v. v.price) is;
+      source_is = ap is_stream h.source;
+      high = h.high ∙ level;
+      low = h.low ∙ level;
+      least = h.least ∙ ap (λ v. v.least) is;
+      most = h.most ∙ ap (λ v. v.most) is;
+      costs = h.price ∙ ap (λ v. v.price) is;
     })
 
 -- the heat of the streams of a side above a place
@@ -100,9 +106,9 @@ standard_side c grid side place price parts complete standard on_grid kind are =
   bounded = All-weaker (IsPartOf c grid side) IsBounded (IsBounded-part c grid side complete on_grid) parts are.each;
   ordered = are.ordered;
   sum = λ at each found.
-    ap (int_sum_by (heat_from at each)) (AreParts-made c side grid parts on_grid are)
-    ∙ sum-heat_from c side grid at each (streams_of_complete c complete).each on_grid found
-    ∙ ap (λ z. z +ℤ side_heat c side at) (sum_utilities c standard side each);
+      ap (int_sum_by (heat_from at each)) (AreParts-made c side grid parts on_grid are)
+      ∙ sum-heat_from c side grid at each (streams_of_complete c complete).each on_grid found
+      ∙ ap (λ z. z +ℤ side_heat c side at) (sum_utilities c standard side each);
 }
 
 pub hot_side : (c : Case) (grid : List ℤ) (parts : List Part) → IsComplete c → IsStandard c → IsGrid c grid → AreParts c grid Hot parts → IsStandardSide c grid Hot (top_of c) (pos 1) parts

@@ -1,8 +1,8 @@
 -- The corner flow of a standard case, and prices that prove it least.
-use Rattle.std.specs.Prelude.{◌≡◌, ℕ, IsTrue, not, Bool, ℤ, pos, ◌≤ℤ◌, int_le, List, map, Some, slice_get, if◌then◌else◌}
+use Rattle.std.specs.Prelude.{◌≡◌, ℕ, IsTrue, not, ℤ, pos, ◌≤ℤ◌, int_le, List, map, Some, slice_get, if◌then◌else◌}
 use Rattle.std.specs.Ordering.{int_eq}
 use Rattle.stream_case.specs.declared.source.Side.{Side}
-use Rattle.stream_case.specs.declared.source.Side.TheVariants.{Hot, Cold}
+use Rattle.stream_case.specs.declared.source.Side.TheVariants.{Hot}
 use Rattle.stream_case.specs.declared.case.Case.{Case}
 use Rattle.sums.specs.declared.pairs.Pair.{Pair}
 use Rattle.sums.specs.Spans.{ListsOverlaps}

@@ -7,11 +7,10 @@ ghost use Rattle.grid.specs.Part.{AreCaseParts};
 ghost use Rattle.heat_flow.specs.Flow.{cost_of};
 ghost use Rattle.corner_flow.specs.Corner.{part_heat, heats_of, as_transfer, IsCornerFlow, IsFlowOf, UtilityHeat, NeedsHotHeat};
 
-use std::alloc::{AllocError, Global};
-
 use grid::{Part, Parts};
 use heat_flow::{Flow, Transfer};
 use problem_table::Target;
+use std::alloc::{AllocError, Global};
 use stream_case::{Case, Items, Source};
 use sums::{Pair, pair_amounts};
 

@@ -1,17 +1,16 @@
 //! The prices of the corner flow.
-ghost use Rattle.std.specs.Prelude.{◌≡◌, map, IfOk};
-ghost use Rattle.stream_case.specs.Case.{IsComplete, IsStandard};
+ghost use Rattle.std.specs.Prelude.{◌≡◌, pos, neg_ℤ, map, All, IfOk};
+ghost use Rattle.stream_case.specs.Case.{IsBetween, IsComplete, IsStandard};
 ghost use Rattle.problem_table.specs.Deficit.{hot_target, cold_target, IsReferencePlace};
 ghost use Rattle.grid.specs.Part.{AreCaseParts};
 ghost use Rattle.heat_flow.specs.Prices.{IsSupporting, value_of};
 ghost use Rattle.heat_flow.specs.Reach.{reach_between};
 ghost use Rattle.corner_flow.specs.Corner.{corner_price};
 
-use std::alloc::{AllocError, Global};
-
 use grid::{Part, Parts};
 use heat_flow::Prices;
 use problem_table::Target;
+use std::alloc::{AllocError, Global};
 use stream_case::{Case, Items};
 
 /// The price of a part: 1 where it is not below the reference place and some heat is needed.
@@ -57,6 +56,8 @@ pub fn corner_prices(
     requires cold_target { targets.cold ≡ cold_target case.now.streams }
     ensures hot { IfOk result (λ prices. prices.hot ≡ map (corner_price targets.hot place) parts.now.hot) }
     ensures cold { IfOk result (λ prices. prices.cold ≡ map (corner_price targets.hot place) parts.now.cold) }
+    ensures hot_range { IfOk result (λ prices. All (IsBetween (neg_ℤ (pos 1000000000000000)) (pos 1000000000000000)) prices.hot) }
+    ensures cold_range { IfOk result (λ prices. All (IsBetween (neg_ℤ (pos 1000000000000000)) (pos 1000000000000000)) prices.cold) }
     ensures supporting { IfOk result (λ prices. IsSupporting (reach_between case.now parts.now.hot parts.now.cold) prices.hot prices.cold) }
     ensures value { IfOk result (λ prices. value_of parts.now.hot parts.now.cold prices.hot prices.cold ≡ targets.hot) }
 {

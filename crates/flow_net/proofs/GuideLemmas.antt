@@ -1,13 +1,12 @@
--- Levels, paths that rise by them, and amounts sent along such paths.
-use Rattle.std.proofs.Common.{◌≡◌, ◌==◌, ℕ, ◌+◌, ◌<◌, Bool, true, false, cond, Option, Some, None, is_some, List, [], ◌∷◌, ◌++◌, length, get_or, set, replicate, count_by, ℤ, pos, ◌+ℤ◌, ◌-ℤ◌, ◌≤ℤ◌, ap, ◌∙◌, sym, subst, refl, inl, inr, arith, if◌then◌else◌}
+-- Levels, paths that go down by them, and amounts sent along such paths.
+use Rattle.std.proofs.Common.{◌≡◌, ◌==◌, ℕ, ◌+◌, ◌-◌, ◌<◌, Bool, true, false, cond, Option, Some, None, is_some, List, [], ◌∷◌, ◌++◌, length, set, ℤ, pos, ◌+ℤ◌, ◌-ℤ◌, ◌≤ℤ◌, ap, ◌∙◌, sym, subst, refl, inl, inr, arith, if◌then◌else◌}
 use Rattle.std.specs.List.{All}
 use Rattle.std.proofs.lemmas.Int.{ints}
-use Rattle.std.proofs.lemmas.Bool.{cases_eq, cases_lt}
-use Rattle.std.proofs.lemmas.Option.{same_Some, none-some}
-use Rattle.std.proofs.lemmas.List.{length-set, length-replicate, length_push, get_or-set_same, get_or-set_other, get_or-replicate, get_or_past}
+use Rattle.std.proofs.lemmas.Bool.{cases_eq}
+use Rattle.std.proofs.lemmas.Option.{same_Some}
+use Rattle.std.proofs.lemmas.List.{length-set, length_push, get_or-set_same, get_or-set_other}
 use Rattle.std.proofs.lemmas.List.Elements.{All-weaker, All-push}
 use Rattle.std.proofs.lemmas.List.Sums.{sum_by-set}
-use Rattle.std.proofs.lemmas.List.Folds.{sum_by-replicate}
 use Rattle.flow_net.specs.declared.net.Net.{Net}
 use Rattle.flow_net.specs.declared.adjacency.Arc.{Arc}
 use Rattle.flow_net.specs.declared.guide.Guide.{Guide}
@@ -17,7 +16,7 @@ use Rattle.flow_net.specs.Adjacency.{IsArc}
 use Rattle.flow_net.specs.Flow.{spare_of, slack_of, sent_along_path, IsWalk, CanCarry}
 use Rattle.flow_net.specs.Search.{IsSearchable}
 use Rattle.flow_net.specs.Solve.{IsStanding, Adds}
-use Rattle.flow_net.specs.Guide.{level_at, rank_of, IsFreeArc, StepsUp, IsFreePath, IsGuide, AreLevels}
+use Rattle.flow_net.specs.Guide.{level_at, rank_of, IsFreeArc, StepsDown, IsFreePath, IsGuide, AreLevels}
 use Rattle.flow_net.proofs.Duality.{surplus_is, routing_from_surplus}
 use Rattle.flow_net.proofs.FlowLemmas.{path-rooms, path-proof, path-surplus}
 use Rattle.flow_net.proofs.StepLemmas.{apart_by_rank}
@@ -27,21 +26,18 @@ pub IsWalk-push : (path : List Arc) (a : Arc) (u v : ℕ) → IsWalk path u v �
 IsWalk-push [] a u v walk tail = (tail ∙ sym walk, refl)
 IsWalk-push (b ∷ path) a u v walk tail = (walk.0, IsWalk-push path a b.head v walk.1 tail)
 
--- an arc to the next level
-pub rank-steps_up : (levels : List (Option ℕ)) (a : Arc) → StepsUp levels a → rank_of (level_at levels a.tail) + 1 ≡ rank_of (level_at levels a.head)
-rank-steps_up levels a h =
-    let tail = ap rank_of h.tail in
-    let head = ap rank_of h.head in
-    omega (arith, tail, head)
-
--- a path along free arcs, each to the next level
-pub IsFreePath-levels : (net : Net) (routing : Routing) (levels : List (Option ℕ)) (source sink : ℕ) (path : List Arc) → IsWalk path source sink → All (λ a. IsFreeArc net routing a × StepsUp levels a) path → IsFreePath net routing source sink path
-IsFreePath-levels net routing levels source sink path walk arcs = record {
+-- a path along free arcs, each to the level below
+pub IsFreePath-levels : (net : Net) (routing : Routing) (n : ℕ) (levels : List (Option ℕ)) (source sink : ℕ) (path : List Arc) → ((v l : ℕ) → level_at levels v ≡ Some l → l < n) → IsWalk path source sink → All (λ a. IsFreeArc net routing a × StepsDown levels a) path → IsFreePath net routing source sink path
+IsFreePath-levels net routing n levels source sink path below walk arcs = record {
   walk = walk;
-  arcs = All-weaker (λ a. IsFreeArc net routing a × StepsUp levels a) (IsFreeArc net routing) (λ a h. h.0) path arcs;
-  apart = apart_by_rank net.links (λ v. rank_of (level_at levels v)) path source sink walk
-      (All-weaker (λ a. IsFreeArc net routing a × StepsUp levels a) (IsArc net.links) (λ a h. h.0.arc) path arcs)
-      (All-weaker (λ a. IsFreeArc net routing a × StepsUp levels a) (λ a. rank_of (level_at levels a.tail) < rank_of (level_at levels a.head)) (λ a h. let e = rank-steps_up levels a h.1 in omega (arith, e)) path arcs);
+  arcs = All-weaker (λ a. IsFreeArc net routing a × StepsDown levels a) (IsFreeArc net routing) (λ a h. h.0) path arcs;
+  apart = apart_by_rank net.links (λ v. n - rank_of (level_at levels v)) path source sink walk
+      (All-weaker (λ a. IsFreeArc net routing a × StepsDown levels a) (IsArc net.links) (λ a h. h.0.arc) path arcs)
+      (All-weaker (λ a. IsFreeArc net routing a × StepsDown levels a) (λ a. n - rank_of (level_at levels a.tail) < n - rank_of (level_at levels a.head)) (λ a h.
+      let tail = ap rank_of h.1.tail in
+      let head = ap rank_of h.1.head in
+      let b = below a.tail (h.1.level + 1) h.1.tail in
+      omega (arith, tail, head, b)) path arcs);
 }
 
 -- an amount sent along a free path
@@ -91,38 +87,13 @@ module _ (net : Net) (source sink : ℕ) (routing : Routing) (path : List Arc) (
         added false true x = omega (arith, ints)
         added false false x = omega (arith, ints)
 
--- nothing is added, and one amount after another
-pub Adds-none : (net : Net) (source sink : ℕ) (routing : Routing) → Adds net source sink routing routing (pos 0)
-Adds-none net source sink routing start sent fits standing = subst (λ x. IsStanding net source sink start x routing) (none sent) standing
-  where
-    none : (x : ℤ) → x ≡ x +ℤ pos 0
-    none x = omega (arith, ints)
-
+-- one amount after another
 pub Adds-then : (net : Net) (source sink : ℕ) (old between new : Routing) (a b c : ℤ) → a +ℤ b ≡ c → Adds net source sink old between a → Adds net source sink between new b → Adds net source sink old new c
 Adds-then net source sink old between new a b c sum h k start sent fits standing =
     subst (λ x. IsStanding net source sink start x new) (both sent) (k start (sent +ℤ a) fits (h start sent fits standing))
   where
     both : (x : ℤ) → (x +ℤ a) +ℤ b ≡ x +ℤ c
     both x = omega (arith, ints, sum)
-
--- a node loses its level
-module _ (n : ℕ) (g h : Guide) (v : ℕ) (guide : IsGuide n g) (within : v < n) (levels : h.levels.items ≡ set g.levels.items v None) (cursors : length h.cursors.items ≡ length g.cursors.items) where
-  pub IsGuide-dead : IsGuide n h
-  IsGuide-dead = record {
-    one_level_each = ap length levels ∙ (length-set g.levels.items v None ∙ guide.one_level_each);
-    one_cursor_each = cursors ∙ guide.one_cursor_each;
-    below = λ u l k. elim (cases_eq u v) [
-      | inl e ↦ absurd (none-some l (sym (ap (level_at h.levels.items) e ∙ (ap (λ xs. level_at xs v) levels ∙ get_or-set_same g.levels.items v None None (let d = guide.one_level_each in omega (arith, within, d)))) ∙ k))
-      | inr ne ↦ guide.below u l (sym (ap (λ xs. level_at xs u) levels ∙ get_or-set_other g.levels.items v u None None ne) ∙ k)
-    ];
-  }
-
-  pub fewer_levels : (l : ℕ) → level_at g.levels.items v ≡ Some l → count_by is_some h.levels.items + 1 ≡ count_by is_some g.levels.items
-  fewer_levels l k =
-      let change = sum_by-set (λ (o : Option ℕ). cond (is_some o) 1 0) g.levels.items v None None (let d = guide.one_level_each in omega (arith, within, d)) in
-      let was = ap {B = ℕ} (λ (o : Option ℕ). cond (is_some o) 1 0) k in
-      let count = ap (λ (xs : List (Option ℕ)). count_by is_some xs) levels in
-      omega (arith, change, was, count)
 
 -- a node without a level gets the next one
 module _ (n : ℕ) (levels : List (Option ℕ)) (queue : List ℕ) (h : AreLevels n levels queue) (v u level : ℕ) (within : v < n) (free : level_at levels v ≡ None) (labelled : level < length queue) where
@@ -145,36 +116,6 @@ module _ (n : ℕ) (levels : List (Option ℕ)) (queue : List ℕ) (h : AreLevel
         ];
         queued_in = All-push (λ w. w < n) queue v h.queued_in within;
       }
-
--- the source alone has a level
-pub AreLevels-source : (n source : ℕ) → source < n → AreLevels n (set (replicate n None) source (Some 0)) (source ∷ [])
-AreLevels-source n source within =
-    let nothing : List (Option ℕ) = replicate n None in
-    let each = length-replicate {A = Option ℕ} n None in
-    record {
-      one_each = length-set nothing source (Some 0) ∙ each;
-      counted =
-          (let change = sum_by-set (λ (o : Option ℕ). cond (is_some o) 1 0) nothing source (Some 0) None (omega (arith, within, each)) in
-          let was = ap {B = ℕ} (λ (o : Option ℕ). cond (is_some o) 1 0) (get_or-replicate {A = Option ℕ} n source None None within) in
-          let none = no_levels n in
-          omega (arith, change, was, none));
-      below = λ w l k. elim (cases_eq w source) [
-        | inl e ↦
-            let same = same_Some 0 l (sym (ap (level_at (set nothing source (Some 0))) e ∙ get_or-set_same nothing source (Some 0) None (omega (arith, within, each))) ∙ k) in
-            omega (arith, same)
-        | inr ne ↦ absurd (none-some l (sym (get_or-set_other nothing source w (Some 0) None ne ∙ nowhere w) ∙ k))
-      ];
-      queued_in = All-push (λ w. w < n) [] source (λ k d l. absurd (omega arith)) within;
-    }
-  where
-    no_levels : (m : ℕ) → count_by {X = Option ℕ} is_some (replicate m None) ≡ 0
-    no_levels m = let none : Option ℕ = None in let e = sum_by-replicate (λ (o : Option ℕ). cond (is_some o) 1 0) m none in omega (arith, e)
-
-    nowhere : (w : ℕ) → get_or {A = Option ℕ} (replicate n None) w None ≡ None
-    nowhere w = elim (cases_lt w n) [
-      | inl lt ↦ get_or-replicate n w None None lt
-      | inr le ↦ get_or_past (replicate n None) w None (let e = length-replicate {A = Option ℕ} n None in omega (arith, e, le))
-    ]
 
 -- the levels are the same
 pub IsGuide-same : (n : ℕ) (g h : Guide) → IsGuide n g → h.levels.items ≡ g.levels.items → length h.cursors.items ≡ length g.cursors.items → IsGuide n h

@@ -1,5 +1,5 @@
 -- A search as it begins, and after an entry is taken off its queue.
-use Rattle.std.proofs.Common.{◌≡◌, ◌≢◌, ℕ, zero, suc, ◌⊎◌, ◌+◌, ◌<◌, Bool, true, false, not, cond, Option, Some, None, List, [], ◌∷◌, length, get_or, set, replicate, count_by, ℤ, pos, ◌≤ℤ◌, ◌<ℤ◌, ap, ◌∙◌, sym, subst, refl, inl, inr, arith}
+use Rattle.std.proofs.Common.{◌≡◌, ◌≢◌, ℕ, zero, suc, ◌⊎◌, ◌+◌, ◌<◌, Bool, true, false, cond, Option, Some, None, List, [], ◌∷◌, length, get_or, set, replicate, count_by, ℤ, pos, ◌≤ℤ◌, ◌<ℤ◌, ap, ◌∙◌, sym, subst, refl, inl, inr, arith}
 use Rattle.std.specs.BinaryHeap.{IsHeap, heap_items}
 use Rattle.std.specs.List.{All, Contains}
 use Rattle.std.specs.List.Sorted.{IsPermutation}
@@ -277,7 +277,7 @@ drained-search net routing level s t empty search =
       ordered = rw same search.ordered;
     }
 
--- the closed arcs and the count, once node v is reached next
+-- the closed arcs, once node v is reached next
 module _ (s t : Search) (v : ℕ) (l : Label) (reaching : IsReaching s t v l) where
   mark_elsewhere : (u : ℕ) → u ≢ v → is_reached t u ≡ is_reached s u
   mark_elsewhere u ne = ap (λ xs. is_in xs u) reaching.reached ∙ get_or-set_other s.reached.items v u true false ne
@@ -295,13 +295,6 @@ module _ (s t : Search) (v : ℕ) (l : Label) (reaching : IsReaching s t v l) wh
   reaching-closed net routing closed a is reached ne k labelled spare =
       let (h, is_h, low) = closed a is (sym (mark_elsewhere a.tail ne) ∙ reached) k (sym (ap (λ xs. get_or xs a.tail None) reaching.labels) ∙ labelled) spare in
       (h, ap (λ xs. get_or xs a.head None) reaching.labels ∙ is_h, low)
-
-  pub reaching-fewer : count_by not t.reached.items + 1 ≡ count_by not s.reached.items
-  reaching-fewer =
-      let change = sum_by-set (λ (b : Bool). cond (not b) 1 0) s.reached.items v true false reaching.node_in in
-      let was = ap {B = ℕ} (λ b. cond (not b) 1 0) reaching.not_before in
-      let count = ap (λ xs. count_by not xs) reaching.reached in
-      omega (arith, change, was, count)
 
 -- a search that has labelled the source alone
 module _ (net : Net) (routing : Routing) (t : Search) (n : ℕ) (l : Label) (same_n : n ≡ net.nodes) (source_in : t.source < n)

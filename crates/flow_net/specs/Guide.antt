@@ -1,4 +1,4 @@
--- Levels of nodes by arcs without reduced cost, and paths that rise by them.
+-- Levels of nodes by arcs without reduced cost, and paths that go down by them.
 use Rattle.std.specs.Prelude.{◌≡◌, ◌≢◌, ℕ, ◌+◌, ◌<◌, pos, ◌<ℤ◌, List, length, slice_index_or, count_by, is_some, All, Option, Some, None}
 use Rattle.flow_net.specs.declared.net.Net.{Net}
 use Rattle.flow_net.specs.declared.adjacency.Arc.{Arc}
@@ -24,11 +24,11 @@ pub record IsFreeArc (net : Net) (routing : Routing) (a : Arc) : Type 0 where
   pub spare : pos 0 <ℤ spare_of net.links routing.flow.items a
   pub free : slack_of routing.potentials.items a ≡ pos 0
 
--- an arc from one level to the next
-pub record StepsUp (levels : List (Option ℕ)) (a : Arc) : Type 0 where
+-- an arc from one level to the one below
+pub record StepsDown (levels : List (Option ℕ)) (a : Arc) : Type 0 where
   pub level : ℕ
-  pub tail : level_at levels a.tail ≡ Some level
-  pub head : level_at levels a.head ≡ Some (level + 1)
+  pub tail : level_at levels a.tail ≡ Some (level + 1)
+  pub head : level_at levels a.head ≡ Some level
 
 -- a path from source to sink along free arcs, no two along one link
 pub record IsFreePath (net : Net) (routing : Routing) (source sink : ℕ) (path : List Arc) : Type 0 where

@@ -1,7 +1,7 @@
 //! Paths without reduced cost, the shortest first (Dinic 1970).
 ghost use Rattle.std.specs.Prelude.{◌≡◌, ◌<◌, ◌≤◌, true, length, IfSome, IfOk, OnOk};
 ghost use Rattle.flow_net.specs.Adjacency.{IsArc, IsAdjacency};
-ghost use Rattle.flow_net.specs.Guide.{IsFreeArc, StepsUp, IsFreePath, IsGuide, AreLevels, IfPath, IfDeadEnd, IsDeadEnd};
+ghost use Rattle.flow_net.specs.Guide.{IsFreeArc, StepsDown, IsFreePath, IsGuide, AreLevels, IfPath, IfDeadEnd, IsDeadEnd};
 ghost use Rattle.flow_net.specs.Net.{IsWithinLimits};
 ghost use Rattle.flow_net.specs.Search.{IsSearchable};
 
@@ -11,8 +11,8 @@ use crate::net::Net;
 use crate::routing::Routing;
 use std::alloc::{AllocError, Global};
 
-/// By how many free arcs each node is reached from the source, and which of its arcs is tried next.
-/// An arc is free where it can carry more and has no reduced cost.
+/// By how many free arcs the sink is reached from each node, and which of the node's arcs is tried
+/// next. An arc is free where it can carry more and has no reduced cost.
 #[derive(Drop)]
 pub(crate) struct Guide {
     pub levels: Vec<Option<u32>>,
@@ -24,12 +24,12 @@ pub(crate) struct Guide {
 enum Descent {
     /// To the sink, along this path.
     Path(Vec<Arc>),
-    /// To this node, from which no free arc leads to the next level.
+    /// To this node, from which no free arc leads to the level below.
     DeadEnd(u32),
 }
 
 impl Guide {
-    /// The levels of the nodes up to the sink's.
+    /// The levels of the nodes up to the source's.
     pub fn new(
         alloc: Global,
         net: &Net,
@@ -46,10 +46,10 @@ impl Guide {
         ensures { IfOk result (λ g. IsGuide net.now.nodes g) }
     {
         let mut levels = vec![in alloc; None; net.nodes as usize]?;
-        levels[source as usize] = Some(0);
-        let mut queue = vec![in alloc; source]?;
+        levels[sink as usize] = Some(0);
+        let mut queue = vec![in alloc; sink]?;
         let mut next = 0;
-        while next < queue.len() && levels[sink as usize].is_none() {
+        while next < queue.len() && levels[source as usize].is_none() {
             let node = queue[next];
             spread(net, adjacency, routing, node, &mut levels, &mut queue)?;
             next += 1;
@@ -60,7 +60,7 @@ impl Guide {
         })
     }
 
-    /// A path to the sink along free arcs, each to the next level, if there is one.
+    /// A path to the sink along free arcs, each to the level below, if there is one.
     pub fn find_path(
         &mut self,
         alloc: Global,
@@ -91,7 +91,7 @@ impl Guide {
         }
     }
 
-    /// Goes from the source along free arcs, each to the next level.
+    /// Goes from the source along free arcs, each to the level below.
     fn descend(
         &mut self,
         alloc: Global,
@@ -125,7 +125,7 @@ impl Guide {
         Ok(Descent::Path(path))
     }
 
-    /// The next free arc from a node to the next level.
+    /// The next free arc from a node to the level below.
     fn next_arc(
         &mut self,
         net: &Net,
@@ -142,13 +142,13 @@ impl Guide {
         ensures cursors { length self.new.cursors.items ≡ length self.old.cursors.items }
         ensures free { IfSome result (λ a. IsFreeArc net.now routing.now a) }
         ensures tail { IfSome result (λ a. a.tail ≡ node) }
-        ensures steps_up { IfSome result (λ a. StepsUp self.old.levels.items a) }
+        ensures steps_down { IfSome result (λ a. StepsDown self.old.levels.items a) }
     {
         let arcs = adjacency.arcs_from(node);
         let from = self.cursors[node as usize];
         for place in from..arcs.len() {
             let arc = arcs[place];
-            if steps_up(&self.levels, &arc) && is_free(net, routing, &arc) {
+            if steps_down(&self.levels, &arc) && is_free(net, routing, &arc) {
                 self.cursors[node as usize] = place;
                 return Some(arc);
             }
@@ -158,8 +158,8 @@ impl Guide {
     }
 }
 
-/// Gives the heads of a node's free arcs that have no level the next one, and enters them into the
-/// queue.
+/// Gives the nodes without a level from which a free arc leads to this node the next one, and enters
+/// them into the queue.
 fn spread(
     net: &Net,
     adjacency: &Adjacency,
@@ -180,7 +180,7 @@ fn spread(
         return Ok(());
     };
     for arc in adjacency.arcs_from(node) {
-        if levels[arc.head as usize].is_none() && is_free(net, routing, arc) {
+        if levels[arc.head as usize].is_none() && is_free_back(net, routing, arc) {
             levels[arc.head as usize] = Some(level + 1);
             queue.push(arc.head)?;
         }
@@ -188,14 +188,14 @@ fn spread(
     Ok(())
 }
 
-/// Whether an arc leads from one level to the next.
-fn steps_up(levels: &[Option<u32>], arc: &Arc) -> bool
+/// Whether an arc leads from one level to the one below.
+fn steps_down(levels: &[Option<u32>], arc: &Arc) -> bool
     requires tail { arc.now.tail < length levels.now }
     requires head { arc.now.head < length levels.now }
-    ensures { result ≡ true → StepsUp levels.now arc.now }
+    ensures { result ≡ true → StepsDown levels.now arc.now }
 {
     match (levels[arc.tail as usize], levels[arc.head as usize]) {
-        (Some(tail), Some(head)) => head > 0 && head - 1 == tail,
+        (Some(tail), Some(head)) => tail > 0 && tail - 1 == head,
         _ => false,
     }
 }
@@ -210,4 +210,21 @@ fn is_free(net: &Net, routing: &Routing, arc: &Arc) -> bool
     let slack = arc.cost + routing.potentials[arc.tail as usize]
         - routing.potentials[arc.head as usize];
     slack == 0 && spare(net, &routing.flow, arc) > 0
+}
+
+/// Whether the way back along an arc can carry more and has no reduced cost. The levels rest on this
+/// alone, and nothing that is promised rests on them: each arc of a path is tested again.
+fn is_free_back(net: &Net, routing: &Routing, arc: &Arc) -> bool
+    requires net { IsWithinLimits net.now }
+    requires routing { IsSearchable net.now routing.now }
+    requires arc { IsArc net.now.links arc.now }
+{
+    let slack = arc.cost + routing.potentials[arc.tail as usize]
+        - routing.potentials[arc.head as usize];
+    let carried = routing.flow[arc.link as usize];
+    if arc.forward {
+        slack == 0 && carried > 0
+    } else {
+        slack == 0 && carried < net.links.as_slice()[arc.link as usize].room
+    }
 }

@@ -1,6 +1,6 @@
 -- What the parts of a side add up to: sums over parts are sums over utilities and streams.
-use Rattle.std.proofs.Common.{◌≡◌, ◌≢◌, ◌⊎◌, ⊎_elim, inl, inr, ◌∙◌, refl, sym, ap, ap₂, subst, ℕ, zero, suc, ◌<◌, Bool, true, false, ◌&&◌, List, [], ◌∷◌, ◌++◌, length, get_or, Some, arith}
-use Rattle.std.specs.Prelude.{ℤ, pos, ◌+ℤ◌, ◌-ℤ◌, ◌*ℤ◌, ◌≤ℤ◌, ◌<ℤ◌, int_le, if◌then◌else◌, All, AllPairs, Contains, slice_get}
+use Rattle.std.proofs.Common.{◌≡◌, ◌⊎◌, ⊎_elim, inl, inr, ◌∙◌, refl, sym, ap, ap₂, subst, ℕ, suc, Bool, true, false, ◌&&◌, List, [], ◌∷◌, ◌++◌, get_or, arith}
+use Rattle.std.specs.Prelude.{ℤ, pos, ◌+ℤ◌, ◌-ℤ◌, ◌*ℤ◌, ◌≤ℤ◌, ◌<ℤ◌, int_le, if◌then◌else◌, All, AllPairs, Contains}
 use Rattle.std.specs.Int.{int_max, int_min}
 use Rattle.std.specs.Ordering.{int_eq}
 use Rattle.std.proofs.Math.IntN.{*ℤ-zero}
@@ -9,22 +9,23 @@ use Rattle.std.proofs.lemmas.Bool.{and_left, and_right, and_from, cases_Bool}
 use Rattle.std.proofs.lemmas.Bool.Decides.{Decides-int_eq}
 use Rattle.std.proofs.lemmas.List.Elements.{All-head, All-tail, All-contains}
 use Rattle.stream_case.specs.declared.source.Side.{Side}
-use Rattle.stream_case.specs.declared.source.Source.TheVariants.{Stream as of_stream, Utility as of_utility}
 use Rattle.stream_case.specs.declared.stream.Stream.{Stream}
 use Rattle.stream_case.specs.declared.utility.Utility.{Utility}
 use Rattle.stream_case.specs.declared.case.Case.{Case}
-use Rattle.stream_case.specs.Stream.{same_side, high_end, low_end, length_above, heat_above, stream_ends}
+use Rattle.stream_case.specs.Stream.{same_side, high_end, low_end, length_above, heat_above}
 use Rattle.stream_case.specs.Case.{IsValidStream}
 use Rattle.stream_case.proofs.EndLemmas.{AreEnds-IsValidStream}
 use Rattle.sums.specs.Sum.{int_sum_by}
-use Rattle.sums.proofs.OrderLemmas.{AllPairs-head, AllPairs-tail}
+use Rattle.sums.specs.Pairing.{cons_if}
+use Rattle.sums.proofs.ConsLemmas.{int_le-from, int_le-false}
+use Rattle.sums.proofs.OrderLemmas.{AllPairs-head, AllPairs-tail, Contains-cons}
 use Rattle.sums.proofs.ProductLemmas.{*ℤ-+ℤ}
 use Rattle.sums.proofs.SumLemmas.{int_sum_by-append, int_sum_by-same, int_sum_by-zero, int_sum_by-add}
 use Rattle.grid.specs.declared.part.Part.{Part}
 use Rattle.grid.specs.Grid.{shifted_level, IsGrid}
 use Rattle.grid.specs.Part.{is_stream}
 use Rattle.grid.proofs.MakingLemmas.{levels_on_grid, low_end_on_grid, high_end_on_grid}
-use Rattle.grid.specs.Making.{cons_if, picked, is_here, covers, utility_part, stream_part, interval_parts, made_parts}
+use Rattle.grid.specs.Making.{picked, is_here, covers, utility_part, stream_part, interval_parts, made_parts}
 
 sum-cons_if : (f : Part → ℤ) (b : Bool) (p : Part) (ps : List Part) → int_sum_by f (cons_if b p ps) ≡ (if b then f p else pos 0) +ℤ int_sum_by f ps
 sum-cons_if f true p ps = refl
@@ -75,10 +76,6 @@ module _ (f : Part → ℤ) (v : ℤ → ℤ → Stream → ℤ) (w : Utility �
 
 -- ---- a utility stands at one place
 
-contains_cases : {X : Type 0} (x : X) (xs : List X) (y : X) → Contains (x ∷ xs) y → (x ≡ y) ⊎ Contains xs y
-contains_cases x xs y (zero, within, is) = inl is
-contains_cases x xs y (suc k, within, is) = inr (k, omega arith, is)
-
 int_eq-false : (a b : ℤ) → (a ≡ b → ⊥) → int_eq a b ≡ false
 int_eq-false a b h = ⊎_elim (λ e. absurd (h ((Decides-int_eq a b).0 e))) (λ e. e) (cases_Bool (int_eq a b))
 
@@ -114,7 +111,7 @@ level_run-one w side u (g ∷ grid) falls same found =
     let not_here : is_here side g u ≡ false = and_right (same_side u.side side) (int_eq (shifted_level u) g) (int_eq-false (shifted_level u) g (λ e. omega (arith, ints))) in
     let term : (if is_here side g u then w u else pos 0) ≡ pos 0 = ap (λ b. if b then w u else pos 0) not_here in
     omega (arith, ints))
-    (contains_cases g grid (shifted_level u) found)
+    (Contains-cons g grid (shifted_level u) found)
 
 pub level_run-is : (w : Utility → ℤ) (side : Side) (u : Utility) (grid : List ℤ) → AllPairs (λ a b. b <ℤ a) grid → Contains grid (shifted_level u) → level_run w side u grid ≡ (if same_side u.side side then w u else pos 0)
 level_run-is w side u grid falls found =
@@ -137,22 +134,16 @@ int_le_cases : (a b : ℤ) → ((int_le a b ≡ true) × (a ≤ℤ b)) ⊎ ((int
 int_le_cases a b =
     by_lt_z b a (λ less. inr (grind (arith, ints), less)) (λ most. inl (grind (arith, ints), most))
 
-int_le-from : (a b : ℤ) → a ≤ℤ b → int_le a b ≡ true
-int_le-from a b h = grind (arith, ints)
-
-int_le-false : (a b : ℤ) → b <ℤ a → int_le a b ≡ false
-int_le-false a b h = grind (arith, ints)
-
 int_max_cases : (a b : ℤ) → (int_max a b ≡ a) ⊎ (int_max a b ≡ b)
 int_max_cases a b = by_lt_z a b (λ less. inr (omega (arith, ints, clamps))) (λ most. inl (omega (arith, ints, clamps)))
 
 greatest_first : (g : ℤ) (grid : List ℤ) → AllPairs (λ a b. b <ℤ a) (g ∷ grid) → (x : ℤ) → Contains (g ∷ grid) x → x ≤ℤ g
 greatest_first g grid falls x found =
-    ⊎_elim (λ e. omega (arith, ints)) (λ later. let less = All-contains (λ z. z <ℤ g) grid x (AllPairs-head (λ a b. b <ℤ a) g grid falls) later in omega (arith, ints)) (contains_cases g grid x found)
+    ⊎_elim (λ e. omega (arith, ints)) (λ later. let less = All-contains (λ z. z <ℤ g) grid x (AllPairs-head (λ a b. b <ℤ a) g grid falls) later in omega (arith, ints)) (Contains-cons g grid x found)
 
 inside_run-is : (cp m h g : ℤ) (grid : List ℤ) → AllPairs (λ a b. b <ℤ a) (g ∷ grid) → Contains (g ∷ grid) m ⊎ (g <ℤ m) → Contains (g ∷ grid) h ⊎ (g ≤ℤ h) → inside_run cp m h (g ∷ grid) ≡ cp *ℤ int_max (pos 0) (int_min h g -ℤ m)
 inside_run-is cp m h g [] falls low high =
-    let bottom : g ≤ℤ m = ⊎_elim (λ found. ⊎_elim (λ e. omega (arith, ints)) (λ (k, within, is). absurd (omega arith)) (contains_cases g [] m found)) (λ less. omega (arith, ints)) low in
+    let bottom : g ≤ℤ m = ⊎_elim (λ found. ⊎_elim (λ e. omega (arith, ints)) (λ (k, within, is). absurd (omega arith)) (Contains-cons g [] m found)) (λ less. omega (arith, ints)) low in
     let none : int_max (pos 0) (int_min h g -ℤ m) ≡ pos 0 = omega (arith, ints, clamps) in
     let zero_sum : inside_run cp m h (g ∷ []) ≡ pos 0 = omega (arith, ints) in
     zero_sum ∙ sym (ap (λ z. cp *ℤ z) none ∙ *ℤ-zero cp)
@@ -161,14 +152,14 @@ inside_run-is cp m h g (l ∷ grid) falls low high =
     let step : l <ℤ g = All-head (λ z. z <ℤ g) l grid below in
     let rest_falls = AllPairs-tail (λ a b. b <ℤ a) g (l ∷ grid) falls in
     let low' : Contains (l ∷ grid) m ⊎ (l <ℤ m) =
-        ⊎_elim (λ found. ⊎_elim (λ e. inr (omega (arith, ints))) (λ later. inl later) (contains_cases g (l ∷ grid) m found)) (λ less. inr (omega (arith, ints))) low in
+    ⊎_elim (λ found. ⊎_elim (λ e. inr (omega (arith, ints))) (λ later. inl later) (Contains-cons g (l ∷ grid) m found)) (λ less. inr (omega (arith, ints))) low in
     let high' : Contains (l ∷ grid) h ⊎ (l ≤ℤ h) =
-        ⊎_elim (λ found. ⊎_elim (λ e. inr (omega (arith, ints))) (λ later. inl later) (contains_cases g (l ∷ grid) h found)) (λ le. inr (omega (arith, ints))) high in
+    ⊎_elim (λ found. ⊎_elim (λ e. inr (omega (arith, ints))) (λ later. inl later) (Contains-cons g (l ∷ grid) h found)) (λ le. inr (omega (arith, ints))) high in
     let rest = inside_run-is cp m h l grid rest_falls low' high' in
     step_is step below low high rest (int_le_cases m l) (int_le_cases g h)
   where
     high_below : Contains (g ∷ l ∷ grid) h ⊎ (g ≤ℤ h) → h <ℤ g → h ≤ℤ l
-    high_below (inl found) above = ⊎_elim (λ is. omega (arith, ints)) (λ later. greatest_first l grid (AllPairs-tail (λ a b. b <ℤ a) g (l ∷ grid) falls) h later) (contains_cases g (l ∷ grid) h found)
+    high_below (inl found) above = ⊎_elim (λ is. omega (arith, ints)) (λ later. greatest_first l grid (AllPairs-tail (λ a b. b <ℤ a) g (l ∷ grid) falls) h later) (Contains-cons g (l ∷ grid) h found)
     high_below (inr le) above = omega (arith, ints)
 
     skipped : inside_run cp m h (l ∷ grid) ≡ cp *ℤ int_max (pos 0) (int_min h l -ℤ m) → (int_le m l && int_le g h) ≡ false → int_max (pos 0) (int_min h l -ℤ m) ≡ int_max (pos 0) (int_min h g -ℤ m) → inside_run cp m h (g ∷ l ∷ grid) ≡ cp *ℤ int_max (pos 0) (int_min h g -ℤ m)
@@ -186,8 +177,8 @@ inside_run-is cp m h g (l ∷ grid) falls low high =
         ap₂ ◌+ℤ◌ head (rest ∙ ap (λ z. cp *ℤ z) tail) ∙ sym (*ℤ-+ℤ cp (g -ℤ l) (l -ℤ m)) ∙ ap (λ z. cp *ℤ z) (sym whole)
     step_is step below low high rest (inr (e, less)) (inl (f, ge)) =
         let bottom : g ≤ℤ m = ⊎_elim
-            (λ found. ⊎_elim (λ is. omega (arith, ints)) (λ later. let le = greatest_first l grid (AllPairs-tail (λ a b. b <ℤ a) g (l ∷ grid) falls) m later in omega (arith, ints)) (contains_cases g (l ∷ grid) m found))
-            (λ under. omega (arith, ints)) low in
+        (λ found. ⊎_elim (λ is. omega (arith, ints)) (λ later. let le = greatest_first l grid (AllPairs-tail (λ a b. b <ℤ a) g (l ∷ grid) falls) m later in omega (arith, ints)) (Contains-cons g (l ∷ grid) m found))
+        (λ under. omega (arith, ints)) low in
         skipped rest (and_left (int_le m l) (int_le g h) e) (omega (arith, ints, clamps))
     step_is step below low high rest (inl (e, le)) (inr (f, above)) =
         let top = high_below high above in
@@ -257,13 +248,13 @@ pub sum-heat_from : (c : Case) (side : Side) (grid : List ℤ) (place each : ℤ
 sum-heat_from c side grid place each valid on_grid at =
     let exchanged = sum-made (heat_from place each) (part_above place) (λ u. each) (λ high low i s. refl) (λ i u. refl) c side grid in
     let levels =
-        int_sum_by-same (λ u. level_run (λ v. each) side u grid) (λ u. if same_side u.side side then each else pos 0) c.utilities
-        (λ k d within. let u = get_or c.utilities k d in level_run-is (λ v. each) side u grid on_grid.ordered (levels_on_grid c grid on_grid k d within)) in
+    int_sum_by-same (λ u. level_run (λ v. each) side u grid) (λ u. if same_side u.side side then each else pos 0) c.utilities
+    (λ k d within. let u = get_or c.utilities k d in level_run-is (λ v. each) side u grid on_grid.ordered (levels_on_grid c grid on_grid k d within)) in
     let runs =
-        int_sum_by-same (λ s. stream_run (part_above place) side s grid) (λ s. if same_side s.side side then heat_above place s else pos 0) c.streams
-        (λ k d within.
-        let s = get_or c.streams k d in
-        let ends = AreEnds-IsValidStream s (valid k d within) in
-        let order = ends.order in
-        stream_run-is place side s grid on_grid.ordered (low_end_on_grid c grid on_grid k d within) (high_end_on_grid c grid on_grid k d within) at (omega (arith, ints))) in
+    int_sum_by-same (λ s. stream_run (part_above place) side s grid) (λ s. if same_side s.side side then heat_above place s else pos 0) c.streams
+    (λ k d within.
+    let s = get_or c.streams k d in
+    let ends = AreEnds-IsValidStream s (valid k d within) in
+    let order = ends.order in
+    stream_run-is place side s grid on_grid.ordered (low_end_on_grid c grid on_grid k d within) (high_end_on_grid c grid on_grid k d within) at (omega (arith, ints))) in
     exchanged ∙ ap₂ ◌+ℤ◌ levels runs

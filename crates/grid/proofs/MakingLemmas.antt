@@ -7,7 +7,7 @@ use Rattle.std.proofs.lemmas.Bool.{and_parts, and_from}
 use Rattle.std.proofs.lemmas.Bool.Decides.{Decides-int_eq}
 use Rattle.std.proofs.lemmas.Option.{none-some, same_Some, slice_get-get_or, slice_get_within, get_or_from_slice_get}
 use Rattle.std.proofs.lemmas.List.{length-map, get_or-map, take_more, append-nil, drop_more, drop_all}
-use Rattle.std.proofs.lemmas.List.Elements.{All-nil, All-cons, All-head, All-tail, All-append, All-weaker, All-contains, Contains-append_left, Contains-append_right}
+use Rattle.std.proofs.lemmas.List.Elements.{All-nil, All-head, All-tail, All-append, All-weaker, All-contains, Contains-append_left, Contains-append_right}
 use Rattle.stream_case.specs.declared.source.Side.{Side}
 use Rattle.stream_case.specs.declared.source.Side.TheVariants.{Hot, Cold}
 use Rattle.stream_case.specs.declared.source.Source.{Source}
@@ -16,28 +16,13 @@ use Rattle.stream_case.specs.declared.stream.Stream.{Stream}
 use Rattle.stream_case.specs.declared.utility.Utility.{Utility}
 use Rattle.stream_case.specs.declared.case.Case.{Case}
 use Rattle.stream_case.specs.Stream.{same_side, high_end, low_end, stream_ends}
-use Rattle.sums.proofs.OrderLemmas.{AllPairs-nil, AllPairs-cons, AllPairs-head, AllPairs-tail, AllPairs-append, Lists-unique}
+use Rattle.sums.specs.Pairing.{cons_if}
+use Rattle.sums.proofs.ConsLemmas.{All-cons_if, AllPairs-cons_if, Contains-cons_if, Contains-cons_if_here, cons_if-append, int_le-true, int_le-from}
+use Rattle.sums.proofs.OrderLemmas.{AllPairs-nil, AllPairs-head, AllPairs-tail, AllPairs-append, Lists-unique}
 use Rattle.grid.specs.declared.part.Part.{Part}
 use Rattle.grid.specs.Grid.{shifted_level, IsGrid}
 use Rattle.grid.specs.Part.{IsInterval, IsStreamPart, IsUtilityPart, IsPartOf, comes_before_source, comes_before, AreParts}
-use Rattle.grid.specs.Making.{cons_if, picked, is_here, covers, utility_part, stream_part, interval_parts, made_parts}
-
--- one part that is there if a test holds
-All-cons_if : (P : Part → Type 0) (b : Bool) (p : Part) (ps : List Part) → (b ≡ true → P p) → All P ps → All P (cons_if b p ps)
-All-cons_if P true p ps h k = All-cons P p ps (h refl) k
-All-cons_if P false p ps h k = k
-
-AllPairs-cons_if : (R : Part → Part → Type 0) (b : Bool) (p : Part) (ps : List Part) → (b ≡ true → All (R p) ps) → AllPairs R ps → AllPairs R (cons_if b p ps)
-AllPairs-cons_if R true p ps h k = AllPairs-cons R p ps (h refl) k
-AllPairs-cons_if R false p ps h k = k
-
-Contains-cons_if : (b : Bool) (p q : Part) (ps : List Part) → Contains ps q → Contains (cons_if b p ps) q
-Contains-cons_if true p q ps h = Contains-append_right (p ∷ []) ps q h
-Contains-cons_if false p q ps h = h
-
-Contains-cons_if_here : (b : Bool) (p : Part) (ps : List Part) → b ≡ true → Contains (cons_if b p ps) p
-Contains-cons_if_here true p ps h = (0, omega arith, refl)
-Contains-cons_if_here false p ps h = cc
+use Rattle.grid.specs.Making.{picked, is_here, covers, utility_part, stream_part, interval_parts, made_parts}
 
 -- what holds of each source that passes holds of each part
 pub All-picked : {X : Type 0} (P : Part → Type 0) (test : X → Bool) (make : ℕ → X → Part) (n : ℕ) (xs : List X) → ((i k : ℕ) (x : X) → i ≡ n + k → slice_get xs k ≡ Some x → test x ≡ true → P (make i x)) → All P (picked test make n xs)
@@ -68,13 +53,13 @@ Contains-from_slice_get : {X : Type 0} (xs : List X) (i : ℕ) (x : X) → slice
 Contains-from_slice_get xs i x at = (i, slice_get_within xs i x at, get_or_from_slice_get xs i x x at)
 
 -- the tests
-same_side-true : (a b : Side) → same_side a b ≡ true → a ≡ b
+pub same_side-true : (a b : Side) → same_side a b ≡ true → a ≡ b
 same_side-true Hot Hot h = refl
 same_side-true Hot Cold h = cc
 same_side-true Cold Hot h = cc
 same_side-true Cold Cold h = refl
 
-same_side-from : (a b : Side) → a ≡ b → same_side a b ≡ true
+pub same_side-from : (a b : Side) → a ≡ b → same_side a b ≡ true
 same_side-from Hot Hot h = refl
 same_side-from Hot Cold h = cc
 same_side-from Cold Hot h = cc
@@ -96,12 +81,6 @@ pub record Covers (side : Side) (high low : ℤ) (s : Stream) : Type 0 where
   pub side_is : s.side ≡ side
   pub from : low_end s ≤ℤ low
   pub upto : high ≤ℤ high_end s
-
-int_le-true : (a b : ℤ) → int_le a b ≡ true → a ≤ℤ b
-int_le-true a b h = omega (arith, ints)
-
-int_le-from : (a b : ℤ) → a ≤ℤ b → int_le a b ≡ true
-int_le-from a b h = grind (arith, ints)
 
 pub covers-true : (side : Side) (high low : ℤ) (s : Stream) → covers side high low s ≡ true → Covers side high low s
 covers-true side high low s h =
@@ -359,12 +338,8 @@ picked-append : {X : Type 0} (test : X → Bool) (make : ℕ → X → Part) (n 
 picked-append test make n [] ys = rw add-zero
 picked-append test make n (x ∷ xs) ys =
     let place : suc n + length xs ≡ n + suc (length xs) = omega arith in
-    cons_if-append (test x) (make n x) (picked test make (suc n) (xs ++ ys)) (picked test make (suc n) xs) (picked test make (n + suc (length xs)) ys)
-    (subst (λ k. picked test make (suc n) (xs ++ ys) ≡ picked test make (suc n) xs ++ picked test make k ys) place (picked-append test make (suc n) xs ys))
-  where
-    cons_if-append : (b : Bool) (p : Part) (whole front back : List Part) → whole ≡ front ++ back → cons_if b p whole ≡ cons_if b p front ++ back
-    cons_if-append true p whole front back e = ap (λ ps. p ∷ ps) e
-    cons_if-append false p whole front back e = e
+    ap (cons_if (test x) (make n x)) (subst (λ k. picked test make (suc n) (xs ++ ys) ≡ picked test make (suc n) xs ++ picked test make k ys) place (picked-append test make (suc n) xs ys))
+    ∙ sym (cons_if-append (test x) (make n x) (picked test make (suc n) xs) (picked test make (n + suc (length xs)) ys))
 
 picked-more : {X : Type 0} (test : X → Bool) (make : ℕ → X → Part) (xs : List X) (i : ℕ) (x : X) → i < length xs → x ≡ get_or xs i x → picked test make 0 (take (i + 1) xs) ≡ picked test make 0 (take i xs) ++ cons_if (test x) (make i x) []
 picked-more test make xs i x within is =

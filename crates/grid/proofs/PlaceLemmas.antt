@@ -1,6 +1,6 @@
 -- Neighbours on a grid.
-use Rattle.std.proofs.Common.{◌≡◌, ◌⊎◌, ⊎_elim, ℕ, ◌+◌, ◌<◌, ◌≤◌, List, length, get_or, Some, sym, ap, ◌∙◌, subst₂, arith}
-use Rattle.std.specs.Prelude.{ℤ, ◌≤ℤ◌, ◌<ℤ◌, AllPairs, Contains, slice_get}
+use Rattle.std.proofs.Common.{◌≡◌, ⊎_elim, ◌+◌, List, get_or, sym, ap, ◌∙◌, subst₂, arith}
+use Rattle.std.specs.Prelude.{ℤ, ◌≤ℤ◌, ◌<ℤ◌, AllPairs, Contains}
 use Rattle.std.proofs.lemmas.Bool.{cases_lt, cases_eq}
 use Rattle.std.proofs.lemmas.Int.{ints, by_lt_z}
 use Rattle.std.proofs.lemmas.Option.{slice_get_within, get_or_from_slice_get}
@@ -13,9 +13,10 @@ interval_falls grid high low falls h =
     subst₂ (λ a b. b <ℤ a) (get_or_from_slice_get grid h.place high low h.from) (get_or_from_slice_get grid (h.place + 1) low low h.to) fall
 
 pub interval_ends : (grid : List ℤ) (high low : ℤ) → IsInterval grid high low → Contains grid high × Contains grid low
-interval_ends grid high low h =
-    ((h.place, slice_get_within grid h.place high h.from, get_or_from_slice_get grid h.place high high h.from),
-     (h.place + 1, slice_get_within grid (h.place + 1) low h.to, get_or_from_slice_get grid (h.place + 1) low low h.to))
+interval_ends grid high low h = (
+  (h.place, slice_get_within grid h.place high h.from, get_or_from_slice_get grid h.place high high h.from),
+  (h.place + 1, slice_get_within grid (h.place + 1) low h.to, get_or_from_slice_get grid (h.place + 1) low low h.to),
+)
 
 -- no place lies strictly between two neighbours
 pub interval_below : (grid : List ℤ) (high low x : ℤ) → AllPairs (λ a b. b <ℤ a) grid → IsInterval grid high low → Contains grid x → x <ℤ high → x ≤ℤ low

@@ -1,5 +1,5 @@
 -- How many places a grid has, how many parts a side has, and what each part keeps.
-use Rattle.std.proofs.Common.{◌≡◌, ℕ, suc, ◌+◌, ◌*◌, ◌<◌, ◌≤◌, Bool, true, false, cond, not, List, [], ◌∷◌, ◌++◌, length, refl, sym, ap, ◌∙◌, subst, arith, length-append, inl, inr, FitsSigned, w32, w64, subst₂, take, get_or, append_assoc, ap₂}
+use Rattle.std.proofs.Common.{◌≡◌, ℕ, suc, ◌+◌, ◌*◌, ◌<◌, ◌≤◌, Bool, true, false, not, List, [], ◌∷◌, ◌++◌, length, refl, sym, ap, ◌∙◌, subst, arith, length-append, inl, inr, FitsSigned, w32, w64, subst₂, take, get_or, append_assoc, ap₂}
 use Rattle.std.proofs.Math.IntN.{*ℤ_comm}
 use Rattle.std.specs.Prelude.{ℤ, pos, neg_ℤ, ◌-ℤ◌, ◌*ℤ◌, ◌≤ℤ◌, ◌<ℤ◌, All, AllPairs, count_by, int_le, map}
 use Rattle.std.proofs.Math.Nat.{mul-le-mul}
@@ -17,31 +17,25 @@ use Rattle.stream_case.specs.declared.case.Case.{Case}
 use Rattle.stream_case.specs.Stream.{is_hot, same_side, high_end, low_end, stream_ends}
 use Rattle.stream_case.specs.Case.{most_streams, most_utilities, IsBetween, IsValidStream, HasValidStreams, IsComplete}
 use Rattle.sums.proofs.ProductLemmas.{product_between, product_within}
+use Rattle.stream_case.proofs.EndLemmas.{AreEnds-IsValidStream, length-stream_ends, stream_ends-append}
+use Rattle.sums.proofs.ConsLemmas.{length-cons_if}
 use Rattle.sums.proofs.CountLemmas.{length-le_falling, count_by-cons, count_by-le, count_by-add-le}
 use Rattle.sums.proofs.OrderLemmas.{AllPairs-head, AllPairs-tail}
 use Rattle.grid.specs.declared.part.Part.{Part}
 use Rattle.grid.specs.Bounds.{most_parts, most_heat, most_price, IsBounded}
-use Rattle.grid.specs.Part.{IsInterval, IsStreamPart, IsUtilityPart, IsPartOf}
+use Rattle.grid.specs.Part.{IsStreamPart, IsUtilityPart, IsPartOf}
 use Rattle.grid.specs.Utilities.{IsPlaced}
 use Rattle.grid.specs.Grid.{shifted_level, places_of, IsGrid}
-use Rattle.grid.specs.Making.{cons_if, picked, is_here, covers, utility_part, stream_part, interval_parts, made_parts}
-use Rattle.grid.proofs.CaseLemmas.{IsShifted-high_end, IsShifted-low_end, streams_of_complete, utilities_of_complete, length-streams, length-utilities}
+use Rattle.grid.specs.Making.{picked, is_here, covers, utility_part, stream_part, interval_parts, made_parts}
+use Rattle.grid.proofs.CaseLemmas.{streams_of_complete, utilities_of_complete, length-streams, length-utilities}
 use Rattle.grid.proofs.PlaceLemmas.{interval_falls}
-use Rattle.grid.proofs.MakingLemmas.{is_here-true, covers-true, made_parts-AreParts}
-
-length-stream_ends : (ss : List Stream) → length (stream_ends ss) ≡ 2 * length ss
-length-stream_ends [] = refl
-length-stream_ends (s ∷ ss) = let rest = length-stream_ends ss in omega arith
+use Rattle.grid.proofs.MakingLemmas.{same_side-from, is_here-true, covers-true, made_parts-AreParts}
 
 -- a grid has at most as many places as there are stream ends and utilities
 pub length-grid : (c : Case) (grid : List ℤ) → IsGrid c grid → length grid ≤ 2 * length c.streams + length c.utilities
 length-grid c grid h =
     let few = length-le_falling grid (places_of c) h.ordered h.each in
     omega (arith, length-append (stream_ends c.streams) (map shifted_level c.utilities), length-stream_ends c.streams, length-map c.utilities shifted_level)
-
-length-cons_if : (b : Bool) (p : Part) (ps : List Part) → length (cons_if b p ps) ≡ cond b 1 0 + length ps
-length-cons_if true p ps = omega arith
-length-cons_if false p ps = omega arith
 
 length-picked : {X : Type 0} (test : X → Bool) (make : ℕ → X → Part) (n : ℕ) (xs : List X) → length (picked test make n xs) ≡ count_by test xs
 length-picked test make n [] = refl
@@ -65,16 +59,10 @@ few_on_side : (ss : List Stream) (side : Side) → HasValidStreams ss → count_
 few_on_side ss Hot h = let few = h.hot in omega (arith, count_by-le (on_side Hot) (λ s. is_hot s.side) ss (λ s. hot_only s.side))
 few_on_side ss Cold h = let few = h.cold in omega (arith, count_by-le (on_side Cold) (λ s. not (is_hot s.side)) ss (λ s. cold_only s.side))
 
-same_side-same : (a b : Side) → a ≡ b → same_side a b ≡ true
-same_side-same Hot Hot h = refl
-same_side-same Hot Cold h = cc
-same_side-same Cold Hot h = cc
-same_side-same Cold Cold h = refl
-
 length-interval_parts : (c : Case) (side : Side) (g : ℤ) (grid : List ℤ) → length (interval_parts c side g grid) ≤ count_by (on_side side) c.streams
 length-interval_parts c side g [] = omega arith
 length-interval_parts c side g (low ∷ grid) =
-    let few = count_by-le (covers side g low) (on_side side) c.streams (λ s h. same_side-same s.side side (covers-true side g low s h).side_is) in
+    let few = count_by-le (covers side g low) (on_side side) c.streams (λ s h. same_side-from s.side side (covers-true side g low s h).side_is) in
     omega (arith, length-picked (covers side g low) (stream_part g low) 0 c.streams)
 
 -- the utilities at or below a place
@@ -129,10 +117,6 @@ heat_fits cp high low h a b =
     omega (arith, ints)
 
 -- one more stream's ends: a loop's step
-stream_ends-append : (xs ys : List Stream) → stream_ends (xs ++ ys) ≡ stream_ends xs ++ stream_ends ys
-stream_ends-append [] ys = refl
-stream_ends-append (x ∷ xs) ys = ap (λ zs. high_end x ∷ low_end x ∷ zs) (stream_ends-append xs ys)
-
 pub stream_ends-push : (xs : List Stream) (i : ℕ) (x : Stream) (before now between next : List ℤ) (high low : ℤ) → i < length xs → x ≡ get_or xs i x → now ≡ before ++ stream_ends (take i xs) → high ≡ high_end x → low ≡ low_end x → between ≡ now ++ high ∷ [] → next ≡ between ++ low ∷ [] → next ≡ before ++ stream_ends (take (i + 1) xs)
 stream_ends-push xs i x before now between next high low within is so_far is_high is_low first second =
     let both : (now ++ high ∷ []) ++ low ∷ [] ≡ now ++ high ∷ low ∷ [] = append_assoc now (high ∷ []) (low ∷ []) in
@@ -149,8 +133,9 @@ stream_bounds c grid side i s p complete on_grid h =
     let streams = streams_of_complete c complete in
     let valid = All-contains IsValidStream c.streams s streams.each (i, slice_get_within c.streams i s h.stream, get_or_from_slice_get c.streams i s s h.stream) in
     let falls = interval_falls grid p.high p.low on_grid.ordered h.interval in
-    let top = IsShifted-high_end s valid in
-    let bottom = IsShifted-low_end s valid in
+    let ends = AreEnds-IsValidStream s valid in
+    let top = ends.upto in
+    let bottom = ends.from in
     let from = h.from in
     let upto = h.upto in
     let cp = valid.cp in

@@ -1,6 +1,6 @@
 -- The parts of a side in the order in which they are made: place by place down the grid, at each place the
 -- utilities at that level, then the streams on the interval below it.
-use Rattle.std.specs.Prelude.{ℕ, suc, ℤ, int_le, pos, ◌-ℤ◌, ◌*ℤ◌, Bool, true, false, ◌&&◌, List, [], ◌∷◌, ◌++◌}
+use Rattle.std.specs.Prelude.{ℕ, suc, ℤ, int_le, pos, ◌-ℤ◌, ◌*ℤ◌, Bool, ◌&&◌, List, [], ◌∷◌, ◌++◌}
 use Rattle.std.specs.Ordering.{int_eq}
 use Rattle.stream_case.specs.declared.source.Side.{Side}
 use Rattle.stream_case.specs.declared.source.Source.TheVariants.{Stream as of_stream, Utility as of_utility}
@@ -8,13 +8,9 @@ use Rattle.stream_case.specs.declared.stream.Stream.{Stream}
 use Rattle.stream_case.specs.declared.utility.Utility.{Utility}
 use Rattle.stream_case.specs.declared.case.Case.{Case}
 use Rattle.stream_case.specs.Stream.{same_side, high_end, low_end}
+use Rattle.sums.specs.Pairing.{cons_if}
 use Rattle.grid.specs.declared.part.Part.{Part}
 use Rattle.grid.specs.Grid.{shifted_level}
-
--- the part in front of others, if the test holds
-abbrev pub cons_if : Bool → Part → List Part → List Part
-cons_if true p ps = p ∷ ps
-cons_if false p ps = ps
 
 -- the parts of the sources that pass a test, where the first source has the number n
 abbrev pub picked : {X : Type 0} → (X → Bool) → (ℕ → X → Part) → ℕ → List X → List Part

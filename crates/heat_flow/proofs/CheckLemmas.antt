@@ -1,19 +1,16 @@
 -- The checks of a heat flow.
-use Rattle.std.proofs.Common.{◌≡◌, ◌≢◌, refl, ◌⊎◌, ⊎_elim, inl, inr, ◌∙◌, sym, ap, ap₂, subst, subst₂, ℕ, zero, suc, ◌+◌, ◌-◌, ◌*◌, ◌<◌, ◌≤◌, Bool, true, false, ◌&&◌, List, [], ◌∷◌, length, get_or, take, set, length-set, Some, None, arith}
-use Rattle.std.specs.Prelude.{IsTrue, nat_lt, ◌==◌, if◌then◌else◌, ℤ, pos, ◌+ℤ◌, ◌≤ℤ◌, ◌<ℤ◌, All, AllPairs, slice_get}
+use Rattle.std.proofs.Common.{◌≡◌, ⊎_elim, inl, inr, ◌∙◌, sym, ap, ap₂, subst, subst₂, ℕ, ◌+◌, ◌-◌, ◌*◌, ◌<◌, ◌≤◌, true, false, ◌&&◌, List, length, get_or, take, set, length-set, Some, arith}
+use Rattle.std.specs.Prelude.{nat_lt, ◌==◌, if◌then◌else◌, ℤ, pos, ◌+ℤ◌, slice_get}
 use Rattle.std.proofs.lemmas.Int.{ints}
 use Rattle.std.proofs.lemmas.Bool.{and_parts, ltb-true, eq-eqb, ne_eqb, cases_eq, cases_lt}
-use Rattle.std.proofs.lemmas.List.{get_or_default, get_or-set_same, get_or-set_other}
+use Rattle.std.proofs.lemmas.List.{get_or-set_same, get_or-set_other}
 use Rattle.std.proofs.lemmas.Option.{get_or_from_slice_get}
 use Rattle.stream_case.specs.declared.source.Side.{Side}
-use Rattle.stream_case.specs.Case.{IsBetween}
-use Rattle.sums.specs.Sum.{int_sum_by}
 use Rattle.sums.proofs.SumLemmas.{int_sum_by-more}
 use Rattle.grid.specs.declared.part.Part.{Part}
 use Rattle.heat_flow.specs.declared.flow.Transfer.{Transfer}
 use Rattle.heat_flow.specs.declared.reach.Reach.{Reach}
-use Rattle.heat_flow.specs.Flow.{place_of, heat_at, precedes, IsHeatFlow}
-use Rattle.heat_flow.specs.Checks.{IsTransfer}
+use Rattle.heat_flow.specs.Flow.{place_of, heat_at, precedes}
 use Rattle.heat_flow.specs.Table.{reaches}
 use Rattle.heat_flow.proofs.PriceLemmas.{blank}
 
@@ -45,7 +42,6 @@ ordered_more ts i from h next j k d before within =
     (cases_lt k i)
 
 -- ---- the sums
-
 
 -- what holds at each place of a list after a write
 pub at_each-set : (P : ℕ → ℤ → Type 0) (xs : List ℤ) (i : ℕ) (v : ℤ) → i < length xs → P i v → ((a : ℕ) → a < length xs → P a (get_or xs a (pos 0))) → (a : ℕ) → a < length (set xs i v) → P a (get_or (set xs i v) a (pos 0))

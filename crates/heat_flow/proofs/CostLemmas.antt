@@ -1,7 +1,7 @@
 -- The cost of a heat flow, transfer by transfer.
-use Rattle.std.proofs.Common.{◌≡◌, ◌∙◌, sym, ap, ap₂, refl, ℕ, zero, suc, ◌+◌, ◌<◌, Bool, true, false, List, [], ◌∷◌, length, get_or, Some, arith, FitsSigned}
+use Rattle.std.proofs.Common.{◌≡◌, ◌∙◌, sym, ap, ap₂, refl, ℕ, zero, suc, ◌<◌, Bool, true, false, List, [], ◌∷◌, length, get_or, arith, FitsSigned}
 use Rattle.std.specs.Int.{w128}
-use Rattle.std.specs.Prelude.{◌==◌, if◌then◌else◌, ℤ, pos, neg_ℤ, ◌+ℤ◌, ◌*ℤ◌, ◌≤ℤ◌, ◌<ℤ◌, All, slice_get}
+use Rattle.std.specs.Prelude.{◌==◌, if◌then◌else◌, ℤ, pos, neg_ℤ, ◌+ℤ◌, ◌*ℤ◌, ◌≤ℤ◌, ◌<ℤ◌, All}
 use Rattle.std.proofs.lemmas.Int.{ints}
 use Rattle.std.proofs.lemmas.Bool.{eq-eqb}
 use Rattle.std.proofs.lemmas.List.Elements.{All-head, All-tail}
@@ -9,22 +9,15 @@ use Rattle.std.proofs.lemmas.Option.{get_or_from_slice_get, slice_get-get_or}
 use Rattle.stream_case.specs.declared.source.Side.{Side}
 use Rattle.stream_case.specs.declared.source.Side.TheVariants.{Hot, Cold}
 use Rattle.stream_case.specs.Case.{IsBetween}
-use Rattle.sums.specs.Sum.{int_sum_by, int_sum_from}
+use Rattle.sums.specs.Sum.{int_sum_by}
 use Rattle.sums.proofs.ProductLemmas.{+ℤ-*ℤ, product_within}
-use Rattle.sums.proofs.SumLemmas.{int_sum_by-same, int_sum_by-add, int_sum_by-not_negative, int_sum_from-le_each, int_sum_from-grouped}
+use Rattle.sums.proofs.SumLemmas.{int_sum_by-same, int_sum_by-add, int_sum_by-not_negative, int_sum_from-same_each, int_sum_from-grouped}
 use Rattle.grid.specs.declared.part.Part.{Part}
 use Rattle.grid.specs.Bounds.{IsBounded}
 use Rattle.heat_flow.specs.declared.flow.Transfer.{Transfer}
-use Rattle.heat_flow.specs.Flow.{place_of, heat_at, side_cost, cost_of}
+use Rattle.heat_flow.specs.Flow.{place_of, heat_at, IsHeatFlow, side_cost, cost_of}
 use Rattle.heat_flow.specs.Checks.{KeepsMost}
 use Rattle.heat_flow.proofs.PriceLemmas.{blank}
-
--- two sums whose terms agree at each place
-pub int_sum_from-same_each : {X : Type 0} (f g : ℕ → X → ℤ) (xs : List X) → ((i : ℕ) (x : X) → slice_get xs i ≡ Some x → f i x ≡ g i x) → int_sum_from f 0 xs ≡ int_sum_from g 0 xs
-int_sum_from-same_each f g xs h =
-    let up = int_sum_from-le_each f g xs (λ i x at. let e = h i x at in omega (arith, ints)) in
-    let down = int_sum_from-le_each g f xs (λ i x at. let e = h i x at in omega (arith, ints)) in
-    omega (arith, ints)
 
 -- the price of the part at a place
 abbrev pub part_price : List Part → ℕ → ℤ
@@ -87,3 +80,7 @@ heat_cost_range hot cold heat h k l =
 
 pub heat_cost_fits : (hot cold heat : ℤ) → IsBetween (neg_ℤ (pos 1000000)) (pos 1000000) hot → IsBetween (neg_ℤ (pos 1000000)) (pos 1000000) cold → IsBetween (pos 0) (pos 1000000000000) heat → FitsSigned w128 ((hot +ℤ cold) *ℤ heat)
 heat_cost_fits hot cold heat h k l = let bound = heat_cost_range hot cold heat h k l in omega (arith, ints)
+
+-- a heat flow meets what its cost asks of it
+pub most_of_flow : (reach : ℕ → ℕ → Bool) (hot cold : List Part) (ts : List Transfer) → IsHeatFlow reach hot cold ts → KeepsMost Hot hot ts
+most_of_flow reach hot cold ts flow a p at = (flow.hot_ranges a p at).upto

@@ -1,6 +1,6 @@
 -- No heat flow costs less than the value of prices that support it.
-use Rattle.std.proofs.Common.{◌≡◌, ℕ, suc, ◌<◌, Bool, List, length, get_or, Some, arith}
-use Rattle.std.specs.Prelude.{IsTrue, ◌==◌, if◌then◌else◌, ℤ, pos, negsuc, ◌+ℤ◌, ◌-ℤ◌, ◌*ℤ◌, ◌≤ℤ◌, ◌<ℤ◌, All, slice_get}
+use Rattle.std.proofs.Common.{◌≡◌, ℕ, suc, ◌<◌, Bool, List, length, get_or, arith}
+use Rattle.std.specs.Prelude.{IsTrue, ℤ, pos, negsuc, ◌+ℤ◌, ◌-ℤ◌, ◌*ℤ◌, ◌≤ℤ◌, ◌<ℤ◌, All}
 use Rattle.std.proofs.lemmas.Int.{ints, clamps}
 use Rattle.stream_case.specs.declared.source.Side.{Side}
 use Rattle.stream_case.specs.declared.source.Side.TheVariants.{Hot, Cold}
@@ -10,8 +10,8 @@ use Rattle.sums.proofs.ProductLemmas.{+ℤ-*ℤ, -ℤ-*ℤ, *ℤ-≤ℤ_left, *�
 use Rattle.sums.proofs.SumLemmas.{int_sum_by-le, int_sum_from-add, int_sum_from-le_each, int_sum_from-grouped}
 use Rattle.grid.specs.declared.part.Part.{Part}
 use Rattle.heat_flow.specs.declared.flow.Transfer.{Transfer}
-use Rattle.heat_flow.specs.Flow.{place_of, heat_at, IsHeatFlow, KeepsRanges, side_cost, cost_of}
-use Rattle.heat_flow.specs.Prices.{price_at, IsSupporting, least_product, excess_price, side_value, value_of, WeakDuality}
+use Rattle.heat_flow.specs.Flow.{place_of, heat_at, KeepsRanges, side_cost}
+use Rattle.heat_flow.specs.Prices.{price_at, IsSupporting, least_product, side_value, WeakDuality}
 
 -- the least product is a bound
 pub least_product-le : (c low high s : ℤ) → IsBetween low high s → least_product c low high ≤ℤ (c *ℤ s)
@@ -45,8 +45,8 @@ side_worth-parts side prices parts ts places = int_sum_from-grouped (place_of si
 hot_side : (hot : List Part) (y : List ℤ) (ts : List Transfer) → KeepsRanges Hot hot ts → All (λ t. t.hot < length hot) ts → (side_value Hot hot y +ℤ side_worth Hot y ts) ≤ℤ side_cost Hot hot ts
 hot_side hot y ts ranges places =
     let each =
-        int_sum_from-le_each (λ a p. least_product (p.price -ℤ price_at y a) p.least p.most +ℤ price_at y a *ℤ heat_at Hot ts a) (λ a p. p.price *ℤ heat_at Hot ts a) hot
-        (λ a p at. hot_term p (price_at y a) (heat_at Hot ts a) (ranges a p at)) in
+    int_sum_from-le_each (λ a p. least_product (p.price -ℤ price_at y a) p.least p.most +ℤ price_at y a *ℤ heat_at Hot ts a) (λ a p. p.price *ℤ heat_at Hot ts a) hot
+    (λ a p at. hot_term p (price_at y a) (heat_at Hot ts a) (ranges a p at)) in
     let split = int_sum_from-add (λ a p. least_product (p.price -ℤ price_at y a) p.least p.most) (λ a p. price_at y a *ℤ heat_at Hot ts a) 0 hot in
     let worth = side_worth-parts Hot y hot ts places in
     omega (arith, ints)
@@ -54,8 +54,8 @@ hot_side hot y ts ranges places =
 cold_side : (cold : List Part) (z : List ℤ) (ts : List Transfer) → KeepsRanges Cold cold ts → All (λ t. t.cold < length cold) ts → side_value Cold cold z ≤ℤ (side_cost Cold cold ts +ℤ side_worth Cold z ts)
 cold_side cold z ts ranges places =
     let each =
-        int_sum_from-le_each (λ b p. least_product (p.price +ℤ price_at z b) p.least p.most) (λ b p. p.price *ℤ heat_at Cold ts b +ℤ price_at z b *ℤ heat_at Cold ts b) cold
-        (λ b p at. cold_term p (price_at z b) (heat_at Cold ts b) (ranges b p at)) in
+    int_sum_from-le_each (λ b p. least_product (p.price +ℤ price_at z b) p.least p.most) (λ b p. p.price *ℤ heat_at Cold ts b +ℤ price_at z b *ℤ heat_at Cold ts b) cold
+    (λ b p at. cold_term p (price_at z b) (heat_at Cold ts b) (ranges b p at)) in
     let split = int_sum_from-add (λ b p. p.price *ℤ heat_at Cold ts b) (λ b p. price_at z b *ℤ heat_at Cold ts b) 0 cold in
     let worth = side_worth-parts Cold z cold ts places in
     omega (arith, ints)

@@ -1,10 +1,10 @@
 -- The numbers of a value.
-use Rattle.std.proofs.Common.{◌≡◌, ◌∙◌, sym, ap, ap₂, subst₂, ℕ, ◌+◌, ◌*◌, ◌<◌, List, length, get_or, take, arith, FitsSigned, to_z, of_z}
-use Rattle.std.specs.Int.{w128, int_min}
-use Rattle.std.specs.Prelude.{ℤ, pos, neg_ℤ, ◌+ℤ◌, ◌*ℤ◌, ◌≤ℤ◌}
+use Rattle.std.proofs.Common.{◌≡◌, ◌∙◌, sym, ap₂, subst₂, ℕ, ◌+◌, ◌<◌, List, length, get_or, take, arith, FitsSigned, to_z, of_z}
+use Rattle.std.specs.Int.{w128}
+use Rattle.std.specs.Prelude.{ℤ, pos, neg_ℤ, ◌+ℤ◌, ◌*ℤ◌}
 use Rattle.std.proofs.lemmas.Int.{ints, clamps, to_z-of_z}
 use Rattle.stream_case.specs.declared.source.Side.{Side}
-use Rattle.stream_case.specs.declared.source.Side.TheVariants.{Hot, Cold}
+use Rattle.stream_case.specs.declared.source.Side.TheVariants.{Hot}
 use Rattle.stream_case.specs.declared.source.Source.TheVariants.{Stream as of_stream}
 use Rattle.stream_case.specs.Case.{IsBetween}
 use Rattle.sums.proofs.ProductLemmas.{product_within}

@@ -1,24 +1,23 @@
 -- The table of the pairs of a case's parts.
-use Rattle.std.proofs.Common.{◌≡◌, ◌≢◌, ◌⊎◌, ⊎_elim, inl, inr, ◌∙◌, refl, sym, ap, ap₂, subst, ℕ, zero, suc, ◌+◌, ◌*◌, ◌<◌, ◌≤◌, Bool, true, false, not, ◌&&◌, ◌||◌, List, [], ◌∷◌, ◌++◌, length, get_or, take, set, map, Option, Some, None, arith, length-set, length-append}
-use Rattle.std.specs.Prelude.{IsTrue, nat_lt, ◌==◌, All, slice_get, option_map}
-use Rattle.std.specs.List.{list_any, flat_map}
-use Rattle.std.proofs.lemmas.Bool.{and_parts, and_left, eqb-true, eqb-false, eq-eqb, lt-ltb, le-ltb, cases_Bool, cases_lt}
+use Rattle.std.proofs.Common.{◌≡◌, ◌≢◌, ⊎_elim, inl, inr, ◌∙◌, refl, sym, ap, ap₂, subst, ℕ, zero, suc, ◌+◌, ◌*◌, ◌<◌, Bool, true, false, not, ◌&&◌, ◌||◌, List, [], ◌∷◌, ◌++◌, length, get_or, take, set, map, Some, arith, length-set, length-append}
+use Rattle.std.specs.Prelude.{ℤ, nat_lt, All, slice_get, option_map}
+use Rattle.std.specs.List.{list_any}
+use Rattle.std.proofs.lemmas.Bool.{and_left, eqb-true, eqb-false, eq-eqb, lt-ltb, le-ltb, cases_Bool, cases_lt}
 use Rattle.std.proofs.lemmas.List.{get_or-set_same, get_or-set_other, get_or_append_left, get_or-append-add, get_or-map, length-map}
 use Rattle.std.proofs.lemmas.List.Elements.{All-weaker}
 use Rattle.std.proofs.lemmas.List.Folds.{list_any_more}
-use Rattle.std.proofs.lemmas.Option.{none-some, slice_get-get_or, slice_get_past}
+use Rattle.std.proofs.lemmas.Option.{none-some, slice_get-get_or, slice_get_past, slice_get_within}
 use Rattle.stream_case.specs.declared.source.Side.{Side}
 use Rattle.stream_case.specs.declared.source.Side.TheVariants.{Cold}
 use Rattle.stream_case.specs.declared.source.Source.{Source}
 use Rattle.stream_case.specs.declared.source.Source.TheVariants.{Stream as of_stream, Utility as of_utility}
 use Rattle.stream_case.specs.declared.case.Forbid.{Forbid}
 use Rattle.stream_case.specs.declared.case.Case.{Case}
-use Rattle.stream_case.specs.Case.{side_of, IsValidForbid, IsValid, standard_hot, standard_cold, unless_given, completed, IsComplete}
+use Rattle.stream_case.specs.Case.{side_of, IsValidForbid, standard_hot, standard_cold, unless_given, completed, IsComplete}
 use Rattle.grid.specs.declared.part.Part.{Part}
-use Rattle.heat_flow.specs.declared.reach.Reach.{Reach}
+use Rattle.grid.specs.Part.{IsPartOf, AreParts}
 use Rattle.heat_flow.specs.Reach.{IsSourceOf, same_source, is_forbidden, part_reaches, both_reach, reach_between}
 use Rattle.heat_flow.specs.Cells.{source_place, ArePermissions, cell_rows}
-use Rattle.heat_flow.specs.Table.{reaches}
 use Rattle.heat_flow.proofs.PriceLemmas.{blank}
 
 -- ---- the sources of forbidden matches
@@ -77,25 +76,25 @@ pub ArePermissions-more : (c : Case) (forbids : List Forbid) (hot : Source) (all
 ArePermissions-more c forbids hot allowed i d within source same h = record {
   count = rw length-set h.count;
   each = λ cold inside.
-    let f = get_or forbids i d in
-    let place = source_place c f.cold in
-    let room : place < length allowed = omega (arith, source_place-within c f.cold source, h.count) in
-    let test = λ (g : Forbid). same_source g.hot hot && same_source g.cold cold in
-    let more = list_any_more test forbids i d within in
-    ⊎_elim
-    (λ e.
-    let is = same_source-true f.cold cold e in
-    let passes : test f ≡ true = ap₂ ◌&&◌ same e in
-    let found : is_forbidden (take (i + 1) forbids) hot cold ≡ true = more ∙ ap (λ b. list_any test (take i forbids) || b) passes ∙ or_true (list_any test (take i forbids)) in
-    let written : get_or (set allowed place false) (source_place c cold) false ≡ false =
-        ap (λ s. get_or (set allowed place false) (source_place c s) false) (sym is) ∙ get_or-set_same allowed place false false room in
-    written ∙ sym (ap not found))
-    (λ e.
-    let apart = source_place-apart c f.cold cold source inside e in
-    let fails : test f ≡ false = ap₂ ◌&&◌ same e in
-    let kept : is_forbidden (take (i + 1) forbids) hot cold ≡ is_forbidden (take i forbids) hot cold = more ∙ ap (λ b. list_any test (take i forbids) || b) fails ∙ or_false (list_any test (take i forbids)) in
-    get_or-set_other allowed place (source_place c cold) false false apart ∙ h.each cold inside ∙ sym (ap not kept))
-    (cases_Bool (same_source f.cold cold));
+      let f = get_or forbids i d in
+      let place = source_place c f.cold in
+      let room : place < length allowed = omega (arith, source_place-within c f.cold source, h.count) in
+      let test = λ (g : Forbid). same_source g.hot hot && same_source g.cold cold in
+      let more = list_any_more test forbids i d within in
+      ⊎_elim
+      (λ e.
+      let is = same_source-true f.cold cold e in
+      let passes : test f ≡ true = ap₂ ◌&&◌ same e in
+      let found : is_forbidden (take (i + 1) forbids) hot cold ≡ true = more ∙ ap (λ b. list_any test (take i forbids) || b) passes ∙ or_true (list_any test (take i forbids)) in
+      let written : get_or (set allowed place false) (source_place c cold) false ≡ false =
+      ap (λ s. get_or (set allowed place false) (source_place c s) false) (sym is) ∙ get_or-set_same allowed place false false room in
+      written ∙ sym (ap not found))
+      (λ e.
+      let apart = source_place-apart c f.cold cold source inside e in
+      let fails : test f ≡ false = ap₂ ◌&&◌ same e in
+      let kept : is_forbidden (take (i + 1) forbids) hot cold ≡ is_forbidden (take i forbids) hot cold = more ∙ ap (λ b. list_any test (take i forbids) || b) fails ∙ or_false (list_any test (take i forbids)) in
+      get_or-set_other allowed place (source_place c cold) false false apart ∙ h.each cold inside ∙ sym (ap not kept))
+      (cases_Bool (same_source f.cold cold));
 }
 
 -- one more forbidden match of another hot source
@@ -103,12 +102,12 @@ pub ArePermissions-other : (c : Case) (forbids : List Forbid) (hot : Source) (al
 ArePermissions-other c forbids hot allowed i d within other h = record {
   count = h.count;
   each = λ cold inside.
-    let f = get_or forbids i d in
-    let test = λ (g : Forbid). same_source g.hot hot && same_source g.cold cold in
-    let fails : test f ≡ false = and_left (same_source f.hot hot) (same_source f.cold cold) other in
-    let kept : is_forbidden (take (i + 1) forbids) hot cold ≡ is_forbidden (take i forbids) hot cold =
-        list_any_more test forbids i d within ∙ ap (λ b. list_any test (take i forbids) || b) fails ∙ or_false (list_any test (take i forbids)) in
-    h.each cold inside ∙ sym (ap not kept);
+      let f = get_or forbids i d in
+      let test = λ (g : Forbid). same_source g.hot hot && same_source g.cold cold in
+      let fails : test f ≡ false = and_left (same_source f.hot hot) (same_source f.cold cold) other in
+      let kept : is_forbidden (take (i + 1) forbids) hot cold ≡ is_forbidden (take i forbids) hot cold =
+      list_any_more test forbids i d within ∙ ap (λ b. list_any test (take i forbids) || b) fails ∙ or_false (list_any test (take i forbids)) in
+      h.each cold inside ∙ sym (ap not kept);
 }
 
 -- ---- the cells
@@ -158,3 +157,12 @@ reaches-rows c hot cold rows columns cells hots colds are a b =
         ap (λ x. (x && nat_lt b (length cold)) && get_or (cell_rows c hot cold) (a * length cold + b) false) (le-ltb a (length hot) past)
         ∙ sym (ap (λ o. both_reach c o (slice_get cold b)) (slice_get_past hot a past)))
         (cases_lt a (length hot))
+
+-- ---- the sources of a case's parts
+
+source_of_part : (c : Case) (grid : List ℤ) (side : Side) (p : Part) → IsPartOf c grid side p → IsSourceOf c p.source
+source_of_part c grid side p (inl (i, s, h)) = subst (IsSourceOf c) (sym h.source) (slice_get_within c.streams i s h.stream)
+source_of_part c grid side p (inr (i, u, h)) = subst (IsSourceOf c) (sym h.source) (slice_get_within c.utilities i u h.utility)
+
+pub sources_of_parts : (c : Case) (grid : List ℤ) (side : Side) (parts : List Part) → AreParts c grid side parts → All (λ p. IsSourceOf c p.source) parts
+sources_of_parts c grid side parts h = All-weaker (IsPartOf c grid side) (λ p. IsSourceOf c p.source) (source_of_part c grid side) parts h.each

@@ -1,6 +1,7 @@
 -- What the checks of flows and prices say, with the sizes of lists and tables.
-use Rattle.std.specs.Prelude.{◌≡◌, ◌<◌, ℕ, IsTrue, ℤ, pos, ◌<ℤ◌, ◌≤ℤ◌, List, length, Some, slice_get}
+use Rattle.std.specs.Prelude.{◌≡◌, ℕ, IsTrue, ℤ, pos, ◌<ℤ◌, ◌≤ℤ◌, List, length, Some, slice_get, slice_index_or}
 use Rattle.stream_case.specs.declared.source.Side.{Side}
+use Rattle.stream_case.specs.Case.{IsBetween}
 use Rattle.grid.specs.declared.part.Part.{Part}
 use Rattle.heat_flow.specs.declared.flow.Transfer.{Transfer}
 use Rattle.heat_flow.specs.declared.reach.Reach.{Reach}
@@ -31,3 +32,7 @@ pub record IsSupported (r : Reach) (y z : List ℤ) : Type 0 where
 -- the transfers of each part add up to at most its most
 abbrev pub KeepsMost : Side → List Part → List Transfer → Type 0
 KeepsMost side parts transfers = (a : ℕ) (p : Part) → slice_get parts a ≡ Some p → heat_at side transfers a ≤ℤ p.most
+
+-- each part's sum, at its place in a list of sums, is within the part's range
+abbrev pub SumsWithin : List Part → List ℤ → Type 0
+SumsWithin parts sums = (a : ℕ) (p : Part) → slice_get parts a ≡ Some p → IsBetween p.least p.most (slice_index_or sums a (pos 0))

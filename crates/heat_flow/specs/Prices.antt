@@ -1,5 +1,5 @@
 -- Prices of parts that support heat flows, and their value.
-use Rattle.std.specs.Prelude.{◌≡◌, Bool, IsTrue, ℕ, ℤ, pos, ◌+ℤ◌, ◌-ℤ◌, ◌*ℤ◌, ◌≤ℤ◌, List, slice_index_or}
+use Rattle.std.specs.Prelude.{Bool, IsTrue, ℕ, ℤ, pos, ◌+ℤ◌, ◌-ℤ◌, ◌*ℤ◌, ◌≤ℤ◌, List, slice_index_or}
 use Rattle.std.specs.Int.{int_min}
 use Rattle.stream_case.specs.declared.source.Side.{Side}
 use Rattle.stream_case.specs.declared.source.Side.TheVariants.{Hot, Cold}

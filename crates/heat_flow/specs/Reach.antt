@@ -1,5 +1,5 @@
 -- Which parts reach which: heat passes downward or within an interval, unless the match is forbidden.
-use Rattle.std.specs.Prelude.{◌≡◌, ◌<◌, ℕ, int_le, Bool, true, false, not, ◌&&◌, ◌||◌, ◌==◌, List, length, Option, Some, None, slice_get}
+use Rattle.std.specs.Prelude.{◌<◌, ℕ, int_le, Bool, false, not, ◌&&◌, ◌||◌, ◌==◌, List, length, Option, Some, None, slice_get}
 use Rattle.std.specs.Ordering.{int_eq}
 use Rattle.std.specs.List.{list_any}
 use Rattle.stream_case.specs.declared.source.Source.{Source}

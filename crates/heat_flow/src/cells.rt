@@ -6,10 +6,9 @@ ghost use Rattle.heat_flow.specs.Cells.{source_place, ArePermissions, cell_rows}
 ghost use Rattle.heat_flow.specs.Reach.{IsSourceOf, same_source, passes_heat, part_reaches, reach_between};
 ghost use Rattle.heat_flow.specs.Table.{reaches};
 
-use std::alloc::{AllocError, Global};
-
 use crate::reach::Reach;
 use grid::{Part, Parts};
+use std::alloc::{AllocError, Global};
 use stream_case::{Case, Items, Source};
 
 /// Whether two sources are one.

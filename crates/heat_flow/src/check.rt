@@ -1,9 +1,8 @@
 //! Whether transfers are a heat flow.
-ghost use Rattle.std.specs.Prelude.{◌≡◌, ◌↔◌, ◌<◌, ◌≤◌, ℕ, pos, ◌<ℤ◌, IsTrue, length, All, AllPairs, Some, slice_get, slice_index_or};
+ghost use Rattle.std.specs.Prelude.{◌≡◌, ◌↔◌, ◌<◌, ◌≤◌, ℕ, pos, ◌<ℤ◌, IsTrue, length, All, AllPairs, slice_index_or};
 ghost use Rattle.stream_case.specs.Case.{IsBetween};
 ghost use Rattle.grid.specs.Bounds.{most_parts};
-ghost use Rattle.grid.specs.declared.part.Part.{Part as OnePart};
-ghost use Rattle.heat_flow.specs.Checks.{IsTransfer, IsFlowOver};
+ghost use Rattle.heat_flow.specs.Checks.{IsTransfer, IsFlowOver, SumsWithin};
 ghost use Rattle.heat_flow.specs.Flow.{place_of, heat_at, precedes, KeepsRanges};
 
 use crate::flow::{Flow, Transfer};
@@ -25,6 +24,7 @@ fn is_transfer(reach: &Reach, transfer: &Transfer) -> bool
     transfer.heat > 0 && reaches(reach, transfer.hot, transfer.cold)
 }
 
+/// Whether each transfer is positive and joins parts that reach.
 fn are_transfers(reach: &Reach, transfers: &[Transfer]) -> bool
     ensures { IsTrue result ↔ All (IsTransfer reach.now) transfers.now }
 {
@@ -40,6 +40,7 @@ fn precedes(first: &Transfer, second: &Transfer) -> bool
     first.hot < second.hot || (first.hot == second.hot && first.cold < second.cold)
 }
 
+/// Whether each transfer stands before all later ones.
 fn are_ordered(transfers: &[Transfer]) -> bool
     ensures { IsTrue result ↔ AllPairs precedes transfers.now }
 {
@@ -83,7 +84,7 @@ fn is_within(part: &Part, sum: i128) -> bool
 /// Whether the sum of each part is within the part's range.
 fn are_within(parts: &[Part], sums: &[i128]) -> bool
     requires { length parts.now ≤ length sums.now }
-    ensures { IsTrue result ↔ ((a : ℕ) (p : OnePart) → slice_get parts.now a ≡ Some p → IsBetween p.least p.most (slice_index_or sums.now a (pos 0))) }
+    ensures { IsTrue result ↔ SumsWithin parts.now sums.now }
 {
     for (place, part) in parts.iter().enumerate() {
         if !is_within(part, sums[place]) {

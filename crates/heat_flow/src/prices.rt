@@ -45,7 +45,11 @@ fn part_value(part: &Part, at_place: i64, side: Side) -> i128
     ensures value { result ≡ least_product (excess_price side part.now.price at_place) part.now.least part.now.most }
     ensures range { IsBetween (neg_ℤ (pos 1000000001000000000000000000)) (pos 1000000001000000000000000000) result }
 {
-    least_product(excess_price(side, part.price, at_place), part.least, part.most)
+    least_product(
+        excess_price(side, part.price, at_place),
+        part.least,
+        part.most,
+    )
 }
 
 /// The sum of the values of the parts of a side.

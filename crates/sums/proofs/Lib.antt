@@ -1,3 +1,4 @@
+pub mod ConsLemmas
 pub mod CountLemmas
 pub mod OrderLemmas
 pub mod ProductLemmas

@@ -72,7 +72,7 @@ module _ {X : Type 0} (R : X → X → Type 0) where
 
 -- ---- one list only
 
-Contains-cons : {X : Type 0} (x : X) (xs : List X) (y : X) → Contains (x ∷ xs) y → (x ≡ y) ⊎ Contains xs y
+pub Contains-cons : {X : Type 0} (x : X) (xs : List X) (y : X) → Contains (x ∷ xs) y → (x ≡ y) ⊎ Contains xs y
 Contains-cons x xs y (zero, within, is) = inl is
 Contains-cons x xs y (suc k, within, is) = inr (k, omega arith, is)
 

@@ -137,6 +137,13 @@ module _ {X : Type 0} where
   pub int_sum_from-le_each : (f g : ℕ → X → ℤ) (xs : List X) → ((i : ℕ) (x : X) → slice_get xs i ≡ Some x → f i x ≤ℤ g i x) → int_sum_from f 0 xs ≤ℤ int_sum_from g 0 xs
   int_sum_from-le_each f g xs h = int_sum_from-le f g 0 xs (λ i x at. rw zero-add (h i x at))
 
+  -- two sums whose terms agree at each place
+  pub int_sum_from-same_each : (f g : ℕ → X → ℤ) (xs : List X) → ((i : ℕ) (x : X) → slice_get xs i ≡ Some x → f i x ≡ g i x) → int_sum_from f 0 xs ≡ int_sum_from g 0 xs
+  int_sum_from-same_each f g xs h =
+      let up = int_sum_from-le_each f g xs (λ i x at. let e = h i x at in omega (arith, ints)) in
+      let down = int_sum_from-le_each g f xs (λ i x at. let e = h i x at in omega (arith, ints)) in
+      omega (arith, ints)
+
   -- bounds of a sum from bounds of its terms
   pub int_sum_from-not_negative : (f : ℕ → X → ℤ) (xs : List X) → ((i : ℕ) (x : X) → slice_get xs i ≡ Some x → pos 0 ≤ℤ f i x) → pos 0 ≤ℤ int_sum_from f 0 xs
   int_sum_from-not_negative f xs h =

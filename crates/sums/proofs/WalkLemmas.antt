@@ -1,18 +1,17 @@
 -- A walk along two lists of amounts: the amounts that stand first give what they both have left, and the one that then
 -- has nothing left is passed over.
-use Rattle.std.proofs.Common.{◌≡◌, ◌⊎◌, ⊎_elim, inl, inr, ◌∙◌, refl, sym, ap, ap₂, subst, subst₂, append_assoc, drop, ℕ, zero, suc, ◌+◌, ◌<◌, ◌≤◌, Bool, true, false, List, [], ◌∷◌, ◌++◌, length, get_or, take, map, arith}
+use Rattle.std.proofs.Common.{◌≡◌, ◌⊎◌, inl, inr, ◌∙◌, refl, sym, ap, ap₂, subst, subst₂, append_assoc, drop, ℕ, zero, suc, ◌+◌, ◌<◌, ◌≤◌, Bool, true, false, List, [], ◌∷◌, ◌++◌, length, get_or, take, map, arith}
 use Rattle.std.specs.Prelude.{ℤ, pos, ◌+ℤ◌, ◌-ℤ◌, ◌≤ℤ◌, ◌<ℤ◌, int_lt, ◌==◌, if◌then◌else◌, All, AllPairs, Contains}
-use Rattle.std.specs.Int.{int_max, int_min}
 use Rattle.std.proofs.lemmas.Bool.{eq-eqb, ne_eqb}
 use Rattle.std.proofs.lemmas.Int.{ints, clamps, by_lt_z}
 use Rattle.std.proofs.lemmas.List.{append-nil, drop_more, drop_all}
-use Rattle.std.proofs.lemmas.List.Elements.{All-nil, All-cons, All-head, All-tail, All-take, All-weaker, Contains-append_right}
+use Rattle.std.proofs.lemmas.List.Elements.{All-nil, All-cons, All-head, All-tail, All-take, All-weaker}
 use Rattle.sums.specs.declared.pairs.Pair.{Pair}
-use Rattle.sums.specs.Order.{Lists}
 use Rattle.sums.specs.Pairing.{cons_if, cons_positive}
 use Rattle.sums.specs.Spans.{NotNegative, begin_of, overlap, IsOverlap, pair_before, ListsOverlaps}
 use Rattle.sums.specs.Sum.{int_sum_by}
-use Rattle.sums.proofs.OrderLemmas.{AllPairs-nil, AllPairs-cons, Lists-unique}
+use Rattle.sums.proofs.ConsLemmas.{All-cons_if, AllPairs-cons_if, Contains-cons_if, Contains-cons_if_here, cons_if-append}
+use Rattle.sums.proofs.OrderLemmas.{AllPairs-nil, Lists-unique}
 use Rattle.sums.proofs.SumLemmas.{int_sum_by-not_negative, int_sum_by-zero, int_sum_by-map}
 
 -- the pairs of a walk along what is left of two lists, whose first amounts have the places i and j
@@ -72,22 +71,6 @@ pub record IsOverlapFrom (i j : ℕ) (us vs : List ℤ) (p : Pair) : Type 0 wher
   pub amount : p.amount ≡ overlap us vs a b
   pub positive : pos 0 <ℤ p.amount
 
-All-cons_if : (P : Pair → Type 0) (b : Bool) (p : Pair) (ps : List Pair) → (b ≡ true → P p) → All P ps → All P (cons_if b p ps)
-All-cons_if P true p ps h k = All-cons P p ps (h refl) k
-All-cons_if P false p ps h k = k
-
-AllPairs-cons_if : (R : Pair → Pair → Type 0) (b : Bool) (p : Pair) (ps : List Pair) → All (R p) ps → AllPairs R ps → AllPairs R (cons_if b p ps)
-AllPairs-cons_if R true p ps h k = AllPairs-cons R p ps h k
-AllPairs-cons_if R false p ps h k = k
-
-Contains-cons_if : (b : Bool) (p q : Pair) (ps : List Pair) → Contains ps q → Contains (cons_if b p ps) q
-Contains-cons_if true p q ps h = Contains-append_right (p ∷ []) ps q h
-Contains-cons_if false p q ps h = h
-
-Contains-cons_if_here : (b : Bool) (p : Pair) (ps : List Pair) → b ≡ true → Contains (cons_if b p ps) p
-Contains-cons_if_here true p ps h = (0, omega arith, refl)
-Contains-cons_if_here false p ps h = cc
-
 positive-true : (amount : ℤ) → int_lt (pos 0) amount ≡ true → pos 0 <ℤ amount
 positive-true amount h = omega (arith, ints)
 
@@ -96,14 +79,26 @@ positive-from amount h = grind (arith, ints)
 
 behind_first : (i j : ℕ) (u v : ℤ) (us vs : List ℤ) → pos 0 ≤ℤ u → u ≤ℤ v → NotNegative us → (p : Pair) → IsOverlapFrom (suc i) j us ((v -ℤ u) ∷ vs) p → IsOverlapFrom i j (u ∷ us) (v ∷ vs) p
 behind_first i j u v us vs not_negative le rest p h = record {
-  a = suc h.a; b = h.b; first = h.first ∙ omega arith; second = h.second; first_place = omega (arith, h.first_place); second_place = h.second_place;
-  amount = h.amount ∙ sym (shift_first u v us vs h.a h.b not_negative le rest); positive = h.positive;
+  a = suc h.a;
+  b = h.b;
+  first = h.first ∙ omega arith;
+  second = h.second;
+  first_place = omega (arith, h.first_place);
+  second_place = h.second_place;
+  amount = h.amount ∙ sym (shift_first u v us vs h.a h.b not_negative le rest);
+  positive = h.positive;
 }
 
 behind_second : (i j : ℕ) (u v : ℤ) (us vs : List ℤ) → pos 0 ≤ℤ v → v ≤ℤ u → NotNegative vs → (p : Pair) → IsOverlapFrom i (suc j) ((u -ℤ v) ∷ us) vs p → IsOverlapFrom i j (u ∷ us) (v ∷ vs) p
 behind_second i j u v us vs not_negative less rest p h = record {
-  a = h.a; b = suc h.b; first = h.first; second = h.second ∙ omega arith; first_place = h.first_place; second_place = omega (arith, h.second_place);
-  amount = h.amount ∙ sym (shift_second u v us vs h.a h.b not_negative less rest); positive = h.positive;
+  a = h.a;
+  b = suc h.b;
+  first = h.first;
+  second = h.second ∙ omega arith;
+  first_place = h.first_place;
+  second_place = omega (arith, h.second_place);
+  amount = h.amount ∙ sym (shift_second u v us vs h.a h.b not_negative less rest);
+  positive = h.positive;
 }
 
 -- each pair of a walk is an overlap
@@ -117,8 +112,14 @@ walk_each {i} {j} (first_ends {u = u} {v = v} {us = us} {vs = vs} {ps = ps} le r
     let left : pos 0 ≤ℤ (v -ℤ u) = omega (arith, ints) in
     All-cons_if (IsOverlapFrom i j (u ∷ us) (v ∷ vs)) (int_lt (pos 0) u) (record { first = i; second = j; amount = u }) ps
     (λ e. record {
-      a = 0; b = 0; first = omega arith; second = omega arith; first_place = omega arith; second_place = omega arith;
-      amount = omega (arith, ints, clamps); positive = positive-true u e;
+      a = 0;
+      b = 0;
+      first = omega arith;
+      second = omega arith;
+      first_place = omega arith;
+      second_place = omega arith;
+      amount = omega (arith, ints, clamps);
+      positive = positive-true u e;
     })
     (All-weaker (IsOverlapFrom (suc i) j us ((v -ℤ u) ∷ vs)) (IsOverlapFrom i j (u ∷ us) (v ∷ vs)) (behind_first i j u v us vs here le behind) ps
     (walk_each rest behind (All-cons (λ x. pos 0 ≤ℤ x) (v -ℤ u) vs left others)))
@@ -129,8 +130,14 @@ walk_each {i} {j} (second_ends {u = u} {v = v} {us = us} {vs = vs} {ps = ps} les
     let left : pos 0 ≤ℤ (u -ℤ v) = omega (arith, ints) in
     All-cons_if (IsOverlapFrom i j (u ∷ us) (v ∷ vs)) (int_lt (pos 0) v) (record { first = i; second = j; amount = v }) ps
     (λ e. record {
-      a = 0; b = 0; first = omega arith; second = omega arith; first_place = omega arith; second_place = omega arith;
-      amount = omega (arith, ints, clamps); positive = positive-true v e;
+      a = 0;
+      b = 0;
+      first = omega arith;
+      second = omega arith;
+      first_place = omega arith;
+      second_place = omega arith;
+      amount = omega (arith, ints, clamps);
+      positive = positive-true v e;
     })
     (All-weaker (IsOverlapFrom i (suc j) ((u -ℤ v) ∷ us) vs) (IsOverlapFrom i j (u ∷ us) (v ∷ vs)) (behind_second i j u v us vs here less behind) ps
     (walk_each rest (All-cons (λ x. pos 0 ≤ℤ x) (u -ℤ v) us left others) behind))
@@ -146,7 +153,7 @@ walk_ordered {i} {j} (first_ends {u = u} {v = v} {us = us} {vs = vs} {ps = ps} l
     let seconds = All-cons (λ x. pos 0 ≤ℤ x) (v -ℤ u) vs left others in
     let p : Pair = record { first = i; second = j; amount = u } in
     AllPairs-cons_if pair_before (int_lt (pos 0) u) p ps
-    (All-weaker (IsOverlapFrom (suc i) j us ((v -ℤ u) ∷ vs)) (pair_before p) (λ q e. inl (omega (arith, e.first))) ps (walk_each rest behind seconds))
+    (λ e. All-weaker (IsOverlapFrom (suc i) j us ((v -ℤ u) ∷ vs)) (pair_before p) (λ q e. inl (omega (arith, e.first))) ps (walk_each rest behind seconds))
     (walk_ordered rest behind seconds)
 walk_ordered {i} {j} (second_ends {u = u} {v = v} {us = us} {vs = vs} {ps = ps} less rest) h k =
     let behind = All-tail (λ x. pos 0 ≤ℤ x) v vs k in
@@ -155,7 +162,7 @@ walk_ordered {i} {j} (second_ends {u = u} {v = v} {us = us} {vs = vs} {ps = ps} 
     let firsts = All-cons (λ x. pos 0 ≤ℤ x) (u -ℤ v) us left others in
     let p : Pair = record { first = i; second = j; amount = v } in
     AllPairs-cons_if pair_before (int_lt (pos 0) v) p ps
-    (All-weaker (IsOverlapFrom i (suc j) ((u -ℤ v) ∷ us) vs) (pair_before p) (λ q e. later i j q e.a e.b e.first e.second) ps (walk_each rest firsts behind))
+    (λ e. All-weaker (IsOverlapFrom i (suc j) ((u -ℤ v) ∷ us) vs) (pair_before p) (λ q e. later i j q e.a e.b e.first e.second) ps (walk_each rest firsts behind))
     (walk_ordered rest firsts behind)
   where
     later : (i j : ℕ) (q : Pair) (a b : ℕ) → q.first ≡ i + a → q.second ≡ suc j + b → (i < q.first) ⊎ ((i ≡ q.first) × (j < q.second))
@@ -210,7 +217,7 @@ ListsOverlaps-walk {us} {vs} {ps} walk h k = record {
   ordered = walk_ordered walk h k;
   each = All-weaker (IsOverlapFrom 0 0 us vs) (IsOverlap us vs) (whole us vs) ps (walk_each walk h k);
   every = λ p e. subst (λ q. Contains ps q) (same_pair (0 + p.first) (0 + p.second) p.first p.second (overlap us vs p.first p.second) p.amount (omega arith) (omega arith) (sym e.amount))
-    (walk_every walk h k p.first p.second e.first_place e.second_place (subst (λ z. pos 0 <ℤ z) e.amount e.positive));
+      (walk_every walk h k p.first p.second e.first_place e.second_place (subst (λ z. pos 0 <ℤ z) e.amount e.positive));
 }
   where
     whole : (us vs : List ℤ) (p : Pair) → IsOverlapFrom 0 0 us vs p → IsOverlap us vs p
@@ -218,8 +225,10 @@ ListsOverlaps-walk {us} {vs} {ps} walk h k = record {
         let first : p.first ≡ e.a = e.first ∙ omega arith in
         let second : p.second ≡ e.b = e.second ∙ omega arith in
         record {
-          first_place = omega (arith, e.first_place); second_place = omega (arith, e.second_place);
-          amount = e.amount ∙ ap₂ (overlap us vs) (sym first) (sym second); positive = e.positive;
+          first_place = omega (arith, e.first_place);
+          second_place = omega (arith, e.second_place);
+          amount = e.amount ∙ ap₂ (overlap us vs) (sym first) (sym second);
+          positive = e.positive;
         }
 
 -- ---- what the pairs of one place add up to
@@ -363,10 +372,6 @@ IsWalked firsts seconds i j first_given second_given pairs =
 pub IsWalked-none : (firsts seconds : List ℤ) → IsWalked firsts seconds 0 0 (pos 0) (pos 0) []
 IsWalked-none firsts seconds ps walk = subst₂ (λ us vs. Walks 0 us 0 vs ps) (left_of-none firsts) (left_of-none seconds) walk
 
-cons_if-append : (b : Bool) (p : Pair) (ps : List Pair) → cons_if b p [] ++ ps ≡ cons_if b p ps
-cons_if-append true p ps = refl
-cons_if-append false p ps = refl
-
 pub IsWalked-first : (firsts seconds : List ℤ) (i j : ℕ) (fg sg u v : ℤ) (now next : List Pair) → i < length firsts → j < length seconds → u ≡ get_or firsts i (pos 0) -ℤ fg → v ≡ get_or seconds j (pos 0) -ℤ sg → u ≤ℤ v → next ≡ now ++ cons_positive i j u [] → IsWalked firsts seconds i j fg sg now → IsWalked firsts seconds (i + 1) j (pos 0) (sg +ℤ u) next
 IsWalked-first firsts seconds i j fg sg u v now next first_within second_within is_u is_v le pushed walked ps walk =
     let us = drop (i + 1) firsts in
@@ -382,8 +387,8 @@ IsWalked-first firsts seconds i j fg sg u v now next first_within second_within 
     let others_left : (v ∷ vs) ≡ left_of sg (drop j seconds) = ap (λ y. y ∷ vs) is_v ∙ sym (ap (left_of sg) second) in
     let whole = walked (cons_positive i j u ps) (subst₂ (λ xs ys. Walks i xs j ys (cons_positive i j u ps)) firsts_left others_left longer) in
     let joined : now ++ cons_positive i j u ps ≡ next ++ ps =
-        ap (λ qs. now ++ qs) (sym (cons_if-append (int_lt (pos 0) u) (record { first = i; second = j; amount = u }) ps))
-        ∙ sym (append_assoc now (cons_positive i j u []) ps) ∙ ap (λ qs. qs ++ ps) (sym pushed) in
+    ap (λ qs. now ++ qs) (sym (cons_if-append (int_lt (pos 0) u) (record { first = i; second = j; amount = u }) [] ps))
+    ∙ sym (append_assoc now (cons_positive i j u []) ps) ∙ ap (λ qs. qs ++ ps) (sym pushed) in
     subst (Walks 0 firsts 0 seconds) joined whole
 
 pub IsWalked-second : (firsts seconds : List ℤ) (i j : ℕ) (fg sg u v : ℤ) (now next : List Pair) → i < length firsts → j < length seconds → u ≡ get_or firsts i (pos 0) -ℤ fg → v ≡ get_or seconds j (pos 0) -ℤ sg → v ≤ℤ u → next ≡ now ++ cons_positive i j v [] → IsWalked firsts seconds i j fg sg now → IsWalked firsts seconds i (j + 1) (fg +ℤ v) (pos 0) next
@@ -401,8 +406,8 @@ IsWalked-second firsts seconds i j fg sg u v now next first_within second_within
     let others_left : (v ∷ vs) ≡ left_of sg (drop j seconds) = ap (λ y. y ∷ vs) is_v ∙ sym (ap (left_of sg) second) in
     let whole = walked (cons_positive i j v ps) (subst₂ (λ xs ys. Walks i xs j ys (cons_positive i j v ps)) ones_left others_left longer) in
     let joined : now ++ cons_positive i j v ps ≡ next ++ ps =
-        ap (λ qs. now ++ qs) (sym (cons_if-append (int_lt (pos 0) v) (record { first = i; second = j; amount = v }) ps))
-        ∙ sym (append_assoc now (cons_positive i j v []) ps) ∙ ap (λ qs. qs ++ ps) (sym pushed) in
+    ap (λ qs. now ++ qs) (sym (cons_if-append (int_lt (pos 0) v) (record { first = i; second = j; amount = v }) [] ps))
+    ∙ sym (append_assoc now (cons_positive i j v []) ps) ∙ ap (λ qs. qs ++ ps) (sym pushed) in
     subst (Walks 0 firsts 0 seconds) joined whole
 
 -- where one of the lists has come to its end, the walk is whole

@@ -34,11 +34,7 @@ fn push_positive(
 
 /// Lays the amounts of each list end to end, and pairs each two amounts whose spans overlap,
 /// with the length that they share. The pairs rise by the first place, then by the second.
-pub fn pair_amounts(
-    alloc: Global,
-    firsts: &[i64],
-    seconds: &[i64],
-) -> Result<Vec<Pair>, AllocError>
+pub fn pair_amounts(alloc: Global, firsts: &[i64], seconds: &[i64]) -> Result<Vec<Pair>, AllocError>
     requires few_firsts { length firsts.now < 2 ^ 32 }
     requires few_seconds { length seconds.now < 2 ^ 32 }
     requires firsts { NotNegative firsts.now }
@@ -67,4 +63,27 @@ pub fn pair_amounts(
         }
     }
     Ok(pairs)
+}
+
+#[cfg(test)]
+mod tests {
+    use super::*;
+    use std::test::Fail;
+
+    #[test]
+    fn amounts_are_paired_where_they_overlap(rt: HostRuntime) -> Result<(), Fail> {
+        let firsts = Vec::from_slice(rt.alloc(), &[20, 0, 60])?;
+        let seconds = Vec::from_slice(rt.alloc(), &[50, 30])?;
+        let pairs = pair_amounts(rt.alloc(), firsts.as_slice(), seconds.as_slice())?;
+        let pair = |first, second, amount| Pair {
+            first,
+            second,
+            amount,
+        };
+        assert_eq!(rt;
+            pairs.as_slice(),
+            [pair(0, 0, 20), pair(2, 0, 30), pair(2, 1, 30)].as_slice()
+        );
+        Ok(())
+    }
 }

@@ -2,16 +2,12 @@ use Rattle.std.proofs.Common.{◌≡◌, ◌∙◌, sym, ap, ap₂, subst, subst
 use Rattle.std.specs.Prelude.{ℤ}
 use Rattle.std.proofs.lemmas.Int.{to_z-of_z}
 use Rattle.stream_case.specs.declared.source.Side.TheVariants.{Hot, Cold}
-use Rattle.stream_case.specs.declared.case.Case.{Case}
-use Rattle.stream_case.specs.Case.{IsComplete, IsStandard}
 use Rattle.sums.specs.Spans.{NotNegative, ListsOverlaps}
 use Rattle.problem_table.specs.Deficit.{hot_target, cold_target}
 use Rattle.problem_table.proofs.DeficitLemmas.{hot_target-between, cold_target-between}
 use Rattle.grid.specs.declared.part.Part.{Part}
-use Rattle.grid.specs.Part.{AreCaseParts}
 use Rattle.grid.proofs.CaseLemmas.{streams_of_complete}
-use Rattle.heat_flow.specs.Flow.{cost_of}
-use Rattle.corner_flow.specs.Corner.{heats_of, as_pair, as_transfer, IsCornerFlow, IsFlowOf, UtilityHeat, NeedsHotHeat}
+use Rattle.corner_flow.specs.Corner.{heats_of, as_pair, as_transfer, IsCornerFlow, UtilityHeat, NeedsHotHeat}
 use Rattle.corner_flow.proofs.SideLemmas.{hot_side, cold_side}
 use Rattle.corner_flow.proofs.FlowLemmas.{heats-not_negative, corner-is_flow, corner-hot, corner-cold}
 use Rattle.corner_flow.proofs.PriceLemmas.{corner-cost}

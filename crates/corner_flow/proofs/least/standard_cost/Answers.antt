@@ -1,7 +1,6 @@
 use Rattle.std.proofs.Common.{◌≡◌, ◌∙◌, sym, subst, FitsSigned, w64, to_z, of_z, rules, arith}
 use Rattle.std.specs.Int.{w128}
 use Rattle.std.proofs.lemmas.Int.{ints}
-use Rattle.problem_table.specs.Deficit.{hot_target}
 use Rattle.heat_flow.specs.Flow.{IsLeastCost}
 use Rattle.heat_flow.specs.Reach.{reach_between}
 use Rattle.corner_flow.specs.Corner.{NeedsHotHeat}

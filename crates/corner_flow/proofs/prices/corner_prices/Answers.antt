@@ -1,12 +1,13 @@
-use Rattle.std.proofs.Common.{◌≡◌, ◌∙◌, refl, sym, ap, ap₂, subst₂, map, List, FitsSigned, w32, w64, to_z, of_z, rules}
-use Rattle.std.specs.Prelude.{ℤ}
+use Rattle.std.proofs.Common.{◌≡◌, ◌∙◌, refl, sym, ap, ap₂, subst, subst₂, map, List, FitsSigned, w32, w64, to_z, of_z, rules}
+use Rattle.std.specs.Prelude.{ℤ, pos, neg_ℤ, All}
 use Rattle.std.proofs.lemmas.Int.{to_z-of_z}
+use Rattle.stream_case.specs.Case.{IsBetween}
 use Rattle.problem_table.specs.Deficit.{hot_target}
 use Rattle.grid.specs.declared.part.Part.{Part}
 use Rattle.heat_flow.specs.Prices.{IsSupporting, value_of}
 use Rattle.heat_flow.specs.Reach.{reach_between}
 use Rattle.corner_flow.specs.Corner.{corner_price}
-use Rattle.corner_flow.proofs.CertificateLemmas.{corner-supports, corner-value}
+use Rattle.corner_flow.proofs.CertificateLemmas.{prices_within, corner-supports, corner-value}
 use Rattle.corner_flow.proofs.prices.corner_prices.Goals as goal
 
 -- the prices as they are read
@@ -23,6 +24,12 @@ cold_prices : (c : goal.After-from_vec-2) → c.from_vec-2.result ≡ map (corne
 cold_prices c =
     let fits : FitsSigned w64 c.args.targets.hot = search rules in
     prices_are (hot_target c.args.case.now.streams) c.args.place c.args.targets.hot c.args.place c.in_ok-cold.cold.items c.from_vec-2.result c.args.parts.now.cold c.as_slice-2.result.now fits c.ranges.place c.requires.hot_target refl c.from_vec-2.ensures c.in_ok-cold.ensures c.as_slice-2.ensures
+
+pub returns-clause-hot_range : goal.returns-clause-hot_range
+returns-clause-hot_range c = subst (All (IsBetween (neg_ℤ (pos 1000000000000000)) (pos 1000000000000000))) (sym (hot_prices c)) (prices_within (hot_target c.args.case.now.streams) c.args.place c.args.parts.now.hot)
+
+pub returns-clause-cold_range : goal.returns-clause-cold_range
+returns-clause-cold_range c = subst (All (IsBetween (neg_ℤ (pos 1000000000000000)) (pos 1000000000000000))) (sym (cold_prices c)) (prices_within (hot_target c.args.case.now.streams) c.args.place c.args.parts.now.cold)
 
 pub returns-clause-supporting : goal.returns-clause-supporting
 returns-clause-supporting c =

@@ -9,7 +9,7 @@ use Rattle.flow_net.proofs.ArcLemmas.{HasRange-adjacency, arcs_at-arcs}
 use Rattle.flow_net.proofs.RelaxLemmas.{arc-nodes}
 use Rattle.flow_net.proofs.GuideLemmas.{AreLevels-more}
 use Rattle.flow_net.proofs.guide.spread.Goals as goal
-use Rattle.flow_net.proofs.guide.spread.Goals.{then-is_none+then-is_free+in_ok-push, else-is_none}
+use Rattle.flow_net.proofs.guide.spread.Goals.{then-is_none+then-is_free_back+in_ok-push, else-is_none}
 
 pub arcs_from-arc-items-requires : goal.arcs_from-arc-items-requires
 arcs_from-arc-items-requires c = HasRange-adjacency c.args.net.now.nodes c.args.net.now.links c.args.adjacency.now c.requires.adjacency c.args.node c.requires.node
@@ -27,7 +27,7 @@ loop-arc-preserved c =
     let here = subst (All (λ b. IsArc net.links b × (b.tail ≡ c.args.node))) (sym inv.arcs) all c.loop-arc.arc-index (record { tail = 0; head = 0; link = 0; forward = false; cost = pos 0 }) c.loop-arc-test.true in
     let head_in = (arc-nodes net.nodes net.links a here.0 c.requires.net.within).1 in
     elim c.if-is_none.branch [
-      | then-is_none+then-is_free+in_ok-push w ↦
+      | then-is_none+then-is_free_back+in_ok-push w ↦
           let items : c.if-is_none.queue.items ≡ c.loop-arc.queue.items ++ a.head ∷ [] = ap (λ q. q.items) w.queue-is ∙ w.in_ok-push.ensures.items in
           let free = none_from (level_at c.loop-arc.levels a.head) c.is_none.result c.is_none.ensures w.if-is_none.true in
           let more = AreLevels-more net.nodes c.loop-arc.levels c.loop-arc.queue.items inv.levels a.head a.tail c.in-Some.level head_in free inv.level in

@@ -1,10 +1,10 @@
-use Rattle.std.proofs.Common.{◌≡◌, ◌∙◌, sym, ap, subst, ℕ, ◌+◌, ◌<◌, length, get_or, set, take, vec_len, arith}
+use Rattle.std.proofs.Common.{◌∙◌, sym, ap, subst, ◌+◌, get_or, set, take, arith}
 use Rattle.std.specs.Prelude.{All, false}
 use Rattle.stream_case.specs.declared.source.Source.TheVariants.{Stream as of_stream}
 use Rattle.stream_case.specs.declared.case.Forbid.{Forbid}
 use Rattle.grid.proofs.CaseLemmas.{streams_of_complete, length-streams, length-utilities}
 use Rattle.heat_flow.specs.Reach.{IsSourceOf}
-use Rattle.heat_flow.specs.Cells.{source_place, ArePermissions}
+use Rattle.heat_flow.specs.Cells.{ArePermissions}
 use Rattle.heat_flow.proofs.ReachLemmas.{forbids_of_complete, source_place-within, ArePermissions-more, ArePermissions-other}
 use Rattle.heat_flow.proofs.cells.permissions.Goals as goal
 use Rattle.heat_flow.proofs.cells.permissions.Goals.{then-is_same_source, else-is_same_source}
@@ -40,10 +40,10 @@ loop-forbid-preserved c =
     let within = c.loop-forbid-test.true in
     let sources = subst (All (λ g. IsSourceOf case g.cold)) (sym c.as_slice-forbids.ensures) (forbids_of_complete case c.requires) in
     elim c.if-is_same_source.branch [
-      then-is_same_source w ↦
-        subst (ArePermissions case (take (i + 1) forbids) c.args.hot) (ap (λ n. set allowed n false) (sym w.source_place.ensures) ∙ sym (ap (λ v. v.items) w.allowed-is))
-        (ArePermissions-more case forbids c.args.hot allowed i no_forbid within (sources i no_forbid within) (sym c.is_same_source.ensures ∙ w.if-is_same_source.true) c.loop-forbid.invariant)
-    | else-is_same_source w ↦
-        subst (ArePermissions case (take (i + 1) forbids) c.args.hot) (sym (ap (λ v. v.items) w.allowed-is))
-        (ArePermissions-other case forbids c.args.hot allowed i no_forbid within (sym c.is_same_source.ensures ∙ w.if-is_same_source.false) c.loop-forbid.invariant)
+      | then-is_same_source w ↦
+          subst (ArePermissions case (take (i + 1) forbids) c.args.hot) (ap (λ n. set allowed n false) (sym w.source_place.ensures) ∙ sym (ap (λ v. v.items) w.allowed-is))
+          (ArePermissions-more case forbids c.args.hot allowed i no_forbid within (sources i no_forbid within) (sym c.is_same_source.ensures ∙ w.if-is_same_source.true) c.loop-forbid.invariant)
+      | else-is_same_source w ↦
+          subst (ArePermissions case (take (i + 1) forbids) c.args.hot) (sym (ap (λ v. v.items) w.allowed-is))
+          (ArePermissions-other case forbids c.args.hot allowed i no_forbid within (sym c.is_same_source.ensures ∙ w.if-is_same_source.false) c.loop-forbid.invariant)
     ]

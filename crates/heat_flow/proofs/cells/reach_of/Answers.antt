@@ -1,4 +1,4 @@
-use Rattle.std.proofs.Common.{◌≡◌, ◌∙◌, sym, ap, ap₂, ℕ, ◌*◌, List, length, take, arith}
+use Rattle.std.proofs.Common.{◌≡◌, ◌∙◌, sym, ap, ap₂, ◌*◌, length, arith}
 use Rattle.std.proofs.lemmas.List.{take_all}
 use Rattle.heat_flow.specs.Cells.{cell_rows}
 use Rattle.heat_flow.proofs.ReachLemmas.{length-cell_rows, reaches-rows}

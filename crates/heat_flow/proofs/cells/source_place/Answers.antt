@@ -1,4 +1,4 @@
-use Rattle.std.proofs.Common.{length, arith}
+use Rattle.std.proofs.Common.{arith}
 use Rattle.grid.proofs.CaseLemmas.{streams_of_complete, length-streams}
 use Rattle.heat_flow.proofs.cells.source_place.Goals as goal
 

@@ -1,9 +1,8 @@
-use Rattle.std.proofs.Common.{◌≡◌, ◌∙◌, sym, ℕ, ◌+◌, ◌*◌, ◌<◌, ◌≤◌, length, get_or, subst, arith, rules, FitsSigned, w64, to_z, of_z}
-use Rattle.std.specs.Prelude.{ℤ, pos, ◌+ℤ◌, ◌<ℤ◌, ◌≤ℤ◌}
+use Rattle.std.proofs.Common.{◌≡◌, ◌+◌, ◌*◌, ◌<◌, ◌≤◌, length, get_or, arith, rules, FitsSigned, w64, to_z, of_z}
+use Rattle.std.specs.Prelude.{pos, ◌+ℤ◌}
 use Rattle.std.specs.Int.{w128}
-use Rattle.std.proofs.lemmas.Int.{ints, to_z-of_z}
+use Rattle.std.proofs.lemmas.Int.{ints}
 use Rattle.stream_case.specs.Case.{IsBetween}
-use Rattle.heat_flow.specs.Flow.{place_of}
 use Rattle.heat_flow.proofs.CheckLemmas.{no_transfer, at_each-set, AreHeats-more}
 use Rattle.heat_flow.proofs.check.add_heats.Goals as goal
 
@@ -24,7 +23,7 @@ loop-transfer-preserved c =
     record {
       sum = AreHeats-more c.args.side c.args.transfers.now i sums place next within c.place_of.ensures room added c.loop-transfer.invariant.sum;
       range =
-        at_each-set (λ a z. IsBetween (pos 0) (pos ((i + 1) * 9223372036854775807)) z) sums place next room
-        (record { from = omega (arith, ints); upto = omega (arith, ints) })
-        (λ a inside. let was = c.loop-transfer.invariant.range a inside in record { from = omega (arith, ints); upto = omega (arith, ints) });
+          at_each-set (λ a z. IsBetween (pos 0) (pos ((i + 1) * 9223372036854775807)) z) sums place next room
+          (record { from = omega (arith, ints); upto = omega (arith, ints) })
+          (λ a inside. let was = c.loop-transfer.invariant.range a inside in record { from = omega (arith, ints); upto = omega (arith, ints) });
     }

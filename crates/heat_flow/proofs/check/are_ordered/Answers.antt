@@ -1,4 +1,4 @@
-use Rattle.std.proofs.Common.{◌≡◌, ◌∙◌, refl, sym, subst₂, ℕ, ◌-◌, ◌<◌, get_or, arith}
+use Rattle.std.proofs.Common.{refl, subst₂, ◌-◌, arith}
 use Rattle.std.proofs.lemmas.List.{get_or_default}
 use Rattle.heat_flow.specs.Flow.{precedes}
 use Rattle.heat_flow.proofs.CheckLemmas.{no_transfer, ordered_more}

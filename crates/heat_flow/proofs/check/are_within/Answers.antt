@@ -1,11 +1,10 @@
-use Rattle.std.proofs.Common.{◌≡◌, ◌∙◌, sym, ap, subst, refl, ℕ, get_or, arith, rules, FitsSigned, to_z, of_z}
-use Rattle.std.specs.Prelude.{ℤ, pos, slice_get}
+use Rattle.std.proofs.Common.{sym, subst, refl, get_or, arith, rules, FitsSigned}
+use Rattle.std.specs.Prelude.{pos}
 use Rattle.std.specs.Int.{w128}
 use Rattle.std.proofs.lemmas.Bool.{false≢true}
 use Rattle.std.proofs.lemmas.Int.{to_z-of_z}
 use Rattle.std.proofs.lemmas.Option.{slice_get-get_or, slice_get_within}
 use Rattle.stream_case.specs.Case.{IsBetween}
-use Rattle.grid.specs.declared.part.Part.{Part}
 use Rattle.heat_flow.proofs.PriceLemmas.{blank}
 use Rattle.heat_flow.proofs.CheckLemmas.{parts_more}
 use Rattle.heat_flow.proofs.check.are_within.Goals as goal
@@ -17,9 +16,10 @@ returns-then-not-is_within c =
     let sums = c.args.sums.now in
     let fits : FitsSigned w128 (get_or sums i (pos 0)) = search rules in
     let read = to_z-of_z w128 (get_or sums i (pos 0)) fits in
-    let p = get_or parts i blank in
-    (λ e. absurd (false≢true e),
-     λ h. c.if-not-is_within.ensures.1 (subst (IsBetween p.least p.most) (sym read) (h i p (slice_get-get_or parts i blank c.loop-place-test.true))))
+    let p = get_or parts i blank in (
+      λ e. absurd (false≢true e),
+      λ h. c.if-not-is_within.ensures.1 (subst (IsBetween p.least p.most) (sym read) (h i p (slice_get-get_or parts i blank c.loop-place-test.true))),
+    )
 
 pub loop-place-preserved : goal.loop-place-preserved
 loop-place-preserved c =

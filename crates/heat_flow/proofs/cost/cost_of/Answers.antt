@@ -1,13 +1,11 @@
-use Rattle.std.proofs.Common.{◌≡◌, ◌∙◌, sym, ap, ap₂, subst, ℕ, ◌+◌, ◌*◌, ◌<◌, length, get_or, List, arith, rules, FitsSigned, w64, to_z, of_z}
-use Rattle.std.specs.Prelude.{ℤ, pos, neg_ℤ, ◌+ℤ◌, ◌*ℤ◌, ◌<ℤ◌, ◌≤ℤ◌, All}
+use Rattle.std.proofs.Common.{◌≡◌, ◌∙◌, sym, ap, ap₂, subst, ◌<◌, length, get_or, arith, rules, FitsSigned, w64, to_z, of_z}
+use Rattle.std.specs.Prelude.{pos, ◌+ℤ◌, ◌*ℤ◌}
 use Rattle.std.specs.Int.{w128}
 use Rattle.std.proofs.lemmas.Int.{ints, to_z-of_z}
 use Rattle.std.proofs.lemmas.List.{take_all}
 use Rattle.stream_case.specs.Case.{IsBetween}
 use Rattle.sums.specs.Sum.{int_sum_by}
 use Rattle.sums.proofs.SumLemmas.{int_sum_by-more}
-use Rattle.heat_flow.specs.declared.flow.Transfer.{Transfer}
-use Rattle.heat_flow.specs.Flow.{cost_of}
 use Rattle.heat_flow.proofs.PriceLemmas.{blank}
 use Rattle.heat_flow.proofs.CheckLemmas.{no_transfer}
 use Rattle.heat_flow.proofs.CostLemmas.{transfer_cost, cost_of-transfers, heat_within}
@@ -40,8 +38,8 @@ loop-transfer-preserved c =
     let cold_fits : FitsSigned w64 (get_or cold t.cold blank).price = search rules in
     let heat_fits : FitsSigned w64 t.heat = search rules in
     let is : value ≡ transfer_cost hot cold t =
-        c.heat_cost-total.ensures.value
-        ∙ ap₂ ◌*ℤ◌ (ap₂ ◌+ℤ◌ (to_z-of_z w64 (get_or hot t.hot blank).price hot_fits) (to_z-of_z w64 (get_or cold t.cold blank).price cold_fits)) (to_z-of_z w64 t.heat heat_fits) in
+    c.heat_cost-total.ensures.value
+    ∙ ap₂ ◌*ℤ◌ (ap₂ ◌+ℤ◌ (to_z-of_z w64 (get_or hot t.hot blank).price hot_fits) (to_z-of_z w64 (get_or cold t.cold blank).price cold_fits)) (to_z-of_z w64 t.heat heat_fits) in
     let next : to_z w128 (of_z w128 (total +ℤ to_z w128 (of_z w128 value))) ≡ total +ℤ value = omega (arith, ints) in
     record {
       sum = next ∙ ap₂ ◌+ℤ◌ c.loop-transfer.invariant.sum is ∙ sym (int_sum_by-more (transfer_cost hot cold) ts i no_transfer c.loop-transfer-test.true);

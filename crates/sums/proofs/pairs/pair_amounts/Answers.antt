@@ -1,5 +1,5 @@
-use Rattle.std.proofs.Common.{◌≡◌, refl, sym, subst, inl, inr, ℕ, ◌+◌, ◌<◌, ◌≤◌, length, get_or, FitsSigned, w64, to_z, of_z, arith, rules}
-use Rattle.std.specs.Prelude.{ℤ, pos, ◌+ℤ◌, ◌-ℤ◌, ◌≤ℤ◌}
+use Rattle.std.proofs.Common.{◌≡◌, refl, sym, subst, inl, inr, ◌+◌, get_or, FitsSigned, w64, to_z, of_z, arith, rules}
+use Rattle.std.specs.Prelude.{pos, ◌+ℤ◌, ◌-ℤ◌, ◌≤ℤ◌}
 use Rattle.std.proofs.lemmas.Int.{ints}
 use Rattle.sums.proofs.WalkLemmas.{ListsOverlaps-walk, IsWalked, IsWalked-first, IsWalked-second, IsWalked-all}
 use Rattle.sums.proofs.pairs.pair_amounts.Goals as goal
@@ -96,8 +96,8 @@ returns c =
     let pairs = c.loop-first.pairs.items in
     let walked = c.loop-first.invariant.walked in
     elim c.loop-first-test.branch [
-      then-loop-first-test+else-second-seconds w ↦
-        ListsOverlaps-walk (IsWalked-all firsts seconds c.loop-first.first c.loop-first.second fg sg pairs (inr w.if-second-seconds.false) walked) c.requires.firsts c.requires.seconds
-    | else-loop-first-test w ↦
-        ListsOverlaps-walk (IsWalked-all firsts seconds c.loop-first.first c.loop-first.second fg sg pairs (inl w.loop-first-test.false) walked) c.requires.firsts c.requires.seconds
+      | then-loop-first-test+else-second-seconds w ↦
+          ListsOverlaps-walk (IsWalked-all firsts seconds c.loop-first.first c.loop-first.second fg sg pairs (inr w.if-second-seconds.false) walked) c.requires.firsts c.requires.seconds
+      | else-loop-first-test w ↦
+          ListsOverlaps-walk (IsWalked-all firsts seconds c.loop-first.first c.loop-first.second fg sg pairs (inl w.loop-first-test.false) walked) c.requires.firsts c.requires.seconds
     ]

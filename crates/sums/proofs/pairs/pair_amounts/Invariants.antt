@@ -1,4 +1,4 @@
-use Rattle.std.proofs.Common.{◌+◌, ◌-◌, ◌<◌, ◌≤◌, length, get_or}
+use Rattle.std.proofs.Common.{◌+◌, ◌-◌, ◌<◌, length, get_or}
 use Rattle.std.specs.Prelude.{pos, ◌≤ℤ◌}
 use Rattle.sums.proofs.WalkLemmas.{IsWalked}
 use Rattle.sums.proofs.pairs.pair_amounts.Given as goal

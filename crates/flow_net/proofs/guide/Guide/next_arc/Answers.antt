@@ -1,6 +1,6 @@
 use Rattle.std.proofs.Common.{get_or, false, pos, ◌∙◌, subst}
 use Rattle.flow_net.specs.declared.adjacency.Arc.{Arc}
-use Rattle.flow_net.specs.Guide.{StepsUp}
+use Rattle.flow_net.specs.Guide.{StepsDown}
 use Rattle.flow_net.proofs.ArcLemmas.{HasRange-adjacency}
 use Rattle.flow_net.proofs.guide.Guide.next_arc.Goals as goal
 
@@ -10,10 +10,10 @@ arcs_from-arcs-requires c = HasRange-adjacency c.args.net.now.nodes c.args.net.n
 pub returns-then-is_free-clause-levels : goal.returns-then-is_free-clause-levels
 returns-then-is_free-clause-levels c = c.loop-place.invariant.levels
 
-pub returns-then-is_free-clause-steps_up : goal.returns-then-is_free-clause-steps_up
-returns-then-is_free-clause-steps_up c =
+pub returns-then-is_free-clause-steps_down : goal.returns-then-is_free-clause-steps_down
+returns-then-is_free-clause-steps_down c =
     let a : Arc = get_or c.arcs_from-arcs.result.now c.loop-place.place (record { tail = 0; head = 0; link = 0; forward = false; cost = pos 0 }) in
-    subst (λ xs. StepsUp xs a) (c.deref.ensures.value ∙ c.loop-place.invariant.levels) (c.steps_up.ensures c.if-steps_up.true)
+    subst (λ xs. StepsDown xs a) (c.deref.ensures.value ∙ c.loop-place.invariant.levels) (c.steps_down.ensures c.if-steps_down.true)
 
 pub returns-clause-levels : goal.returns-clause-levels
 returns-clause-levels c = c.loop-place.invariant.levels

@@ -1,0 +1,42 @@
+-- Lists with one more element in front, if a test holds; and the tests of whole numbers.
+use Rattle.std.proofs.Common.{◌≡◌, refl, Bool, true, false, List, [], ◌∷◌, ◌++◌, length, ◌+◌, cond, arith}
+use Rattle.std.specs.Prelude.{ℤ, ◌≤ℤ◌, ◌<ℤ◌, int_le, All, AllPairs, Contains}
+use Rattle.std.proofs.lemmas.Int.{ints}
+use Rattle.std.proofs.lemmas.List.Elements.{All-cons, Contains-append_right}
+use Rattle.sums.specs.Pairing.{cons_if}
+use Rattle.sums.proofs.OrderLemmas.{AllPairs-cons}
+
+module _ {X : Type 0} where
+  pub All-cons_if : (P : X → Type 0) (b : Bool) (x : X) (xs : List X) → (b ≡ true → P x) → All P xs → All P (cons_if b x xs)
+  All-cons_if P true x xs h k = All-cons P x xs (h refl) k
+  All-cons_if P false x xs h k = k
+
+  pub AllPairs-cons_if : (R : X → X → Type 0) (b : Bool) (x : X) (xs : List X) → (b ≡ true → All (R x) xs) → AllPairs R xs → AllPairs R (cons_if b x xs)
+  AllPairs-cons_if R true x xs h k = AllPairs-cons R x xs (h refl) k
+  AllPairs-cons_if R false x xs h k = k
+
+  pub Contains-cons_if : (b : Bool) (x y : X) (xs : List X) → Contains xs y → Contains (cons_if b x xs) y
+  Contains-cons_if true x y xs h = Contains-append_right (x ∷ []) xs y h
+  Contains-cons_if false x y xs h = h
+
+  pub Contains-cons_if_here : (b : Bool) (x : X) (xs : List X) → b ≡ true → Contains (cons_if b x xs) x
+  Contains-cons_if_here true x xs h = (0, omega arith, refl)
+  Contains-cons_if_here false x xs h = cc
+
+  pub length-cons_if : (b : Bool) (x : X) (xs : List X) → length (cons_if b x xs) ≡ cond b 1 0 + length xs
+  length-cons_if true x xs = omega arith
+  length-cons_if false x xs = omega arith
+
+  pub cons_if-append : (b : Bool) (x : X) (xs ys : List X) → cons_if b x xs ++ ys ≡ cons_if b x (xs ++ ys)
+  cons_if-append true x xs ys = refl
+  cons_if-append false x xs ys = refl
+
+-- the test `<=` on whole numbers
+pub int_le-true : (a b : ℤ) → int_le a b ≡ true → a ≤ℤ b
+int_le-true a b h = omega (arith, ints)
+
+pub int_le-from : (a b : ℤ) → a ≤ℤ b → int_le a b ≡ true
+int_le-from a b h = grind (arith, ints)
+
+pub int_le-false : (a b : ℤ) → b <ℤ a → int_le a b ≡ false
+int_le-false a b h = grind (arith, ints)
