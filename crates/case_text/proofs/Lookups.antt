@@ -53,6 +53,7 @@ entry_named {V = V} es name i at = by (slice_get es i) refl
   where
     value : slice_get (values_of es) i ≡ lookup (bytes_eq name) es
     value = subst (λ (o : Option ℕ). IfSome o (λ k. slice_get (values_of es) k ≡ lookup (bytes_eq name) es)) at (value_index (bytes_eq name) es)
+
     by : (o : Option (List ℕ × V)) → slice_get es i ≡ o → (e : List ℕ × V) × (slice_get es i ≡ Some e) × (lookup (bytes_eq name) es ≡ Some e.1)
     by (Some e) here = (e, here, sym value ∙ slice_get-map (λ (f : List ℕ × V). f.1) es i ∙ ap (option_map (λ (f : List ℕ × V). f.1)) here)
     by None here =

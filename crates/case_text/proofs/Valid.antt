@@ -349,6 +349,7 @@ contributions_fit = by_rows (λ given. All (IsBetween (pos 0) (pos 1000)) given.
   where
     none : All (IsBetween (pos 0) (pos 1000)) (given_by []).contributions
     none = All-nil (IsBetween (pos 0) (pos 1000))
+
     more : (given : Given) (row : Row) → Passes (kind_checks (kind_of row) given row) → All (IsBetween (pos 0) (pos 1000)) given.contributions → All (IsBetween (pos 0) (pos 1000)) (next given row).contributions
     more given row passes fit = All-append (IsBetween (pos 0) (pos 1000)) given.contributions (option_to_list (contribution_by (kind_of row) row)) fit (contribution_fits given row (kind_of row) passes)
 

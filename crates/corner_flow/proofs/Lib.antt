@@ -4,3 +4,4 @@ pub mod ReachLemmas
 pub mod FlowLemmas
 pub mod PriceLemmas
 pub mod CertificateLemmas
+pub mod PinchLaw

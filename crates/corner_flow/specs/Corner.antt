@@ -1,12 +1,12 @@
 -- The corner flow of a standard case, and prices that prove it least.
-use Rattle.std.specs.Prelude.{◌≡◌, ℕ, IsTrue, not, ℤ, pos, ◌≤ℤ◌, int_le, List, map, Some, slice_get, if◌then◌else◌}
+use Rattle.std.specs.Prelude.{◌≡◌, ℕ, IsTrue, not, ℤ, pos, ◌≤ℤ◌, int_le, List, map, Some, slice_get, if◌then◌else◌, All}
 use Rattle.std.specs.Ordering.{int_eq}
 use Rattle.stream_case.specs.declared.source.Side.{Side}
 use Rattle.stream_case.specs.declared.source.Side.TheVariants.{Hot}
 use Rattle.stream_case.specs.declared.case.Case.{Case}
 use Rattle.sums.specs.declared.pairs.Pair.{Pair}
 use Rattle.sums.specs.Spans.{ListsOverlaps}
-use Rattle.problem_table.specs.Deficit.{hot_target, cold_target}
+use Rattle.problem_table.specs.Deficit.{hot_target, cold_target, IsPinch}
 use Rattle.grid.specs.declared.part.Part.{Part}
 use Rattle.grid.specs.Part.{is_stream, AreCaseParts}
 use Rattle.heat_flow.specs.declared.flow.Transfer.{Transfer}
@@ -61,3 +61,21 @@ NeedsHotHeatOf c heat = (hot cold : List Part) → AreCaseParts c hot cold → N
 -- this is the least cost of the heat flows of the case
 abbrev pub IsLeastCostOf : Case → ℤ → Type 0
 IsLeastCostOf c cost = (hot cold : List Part) → AreCaseParts c hot cold → IsLeastCost (reach_between c hot cold) hot cold cost
+
+-- a transfer takes heat across a place where it joins a hot part above the place to a cold part below it
+pub record CrossesHeat (hot cold : List Part) (place : ℤ) (t : Transfer) : Type 0 where
+  pub hot_part : Part
+  pub cold_part : Part
+  pub from : slice_get hot t.hot ≡ Some hot_part
+  pub to : slice_get cold t.cold ≡ Some cold_part
+  pub above : place ≤ℤ hot_part.low
+  pub below : cold_part.high ≤ℤ place
+
+-- none of the transfers does
+abbrev pub NoHeatCrosses : List Part → List Part → ℤ → List Transfer → Type 0
+NoHeatCrosses hot cold place transfers = All (λ t. CrossesHeat hot cold place t → ⊥) transfers
+
+-- in each heat flow of these parts in which the hot utility gives just the hot target, no heat crosses a pinch of the case
+abbrev pub NoHeatCrossesPinch : Case → List Part → List Part → Type 0
+NoHeatCrossesPinch c hot cold =
+    (pinch : ℤ) → IsPinch c.streams pinch → (transfers : List Transfer) → IsFlowOf c hot cold transfers → UtilityHeat Hot hot transfers (hot_target c.streams) → NoHeatCrosses hot cold pinch transfers

@@ -5,7 +5,7 @@ ghost use Rattle.stream_case.specs.Case.{IsComplete, IsStandard};
 ghost use Rattle.problem_table.specs.Deficit.{hot_target, cold_target};
 ghost use Rattle.grid.specs.Part.{AreCaseParts};
 ghost use Rattle.heat_flow.specs.Flow.{cost_of};
-ghost use Rattle.corner_flow.specs.Corner.{part_heat, heats_of, as_transfer, IsCornerFlow, IsFlowOf, UtilityHeat, NeedsHotHeat};
+ghost use Rattle.corner_flow.specs.Corner.{part_heat, heats_of, as_transfer, IsCornerFlow, IsFlowOf, UtilityHeat, NeedsHotHeat, NoHeatCrossesPinch};
 
 use grid::{Part, Parts};
 use heat_flow::{Flow, Transfer};
@@ -49,7 +49,9 @@ fn transfers_of(alloc: Global, pairs: &[Pair]) -> Result<Vec<Transfer>, AllocErr
 /// The corner flow of a standard case. The heats of each side, in W, are laid end to end in the
 /// order of the parts, the hot target for `HOT` and the cold target for `COLD`; the transfers are
 /// the pairs of a hot and a cold part whose spans overlap, each with the length that they share.
-/// No heat flow of these parts takes less from `HOT`.
+/// No heat flow of these parts takes less from `HOT`, and in one that takes just the hot target no
+/// transfer crosses a pinch, from a hot part above it to a cold part below it (Linnhoff and Flower
+/// 1978).
 pub fn corner(
     alloc: Global,
     case: &Case,
@@ -67,6 +69,7 @@ pub fn corner(
     ensures cold_heat { IfOk result (λ flow. UtilityHeat Cold parts.now.cold flow.transfers targets.cold) }
     ensures cost { IfOk result (λ flow. cost_of parts.now.hot parts.now.cold flow.transfers ≡ targets.hot) }
     ensures least { IfOk result (λ _. NeedsHotHeat case.now parts.now.hot parts.now.cold targets.hot) }
+    ensures pinch { IfOk result (λ _. NoHeatCrossesPinch case.now parts.now.hot parts.now.cold) }
 {
     let hot = heats_of(alloc, parts.hot.as_slice(), targets.hot)?;
     let cold = heats_of(alloc, parts.cold.as_slice(), targets.cold)?;

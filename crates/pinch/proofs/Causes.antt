@@ -1,5 +1,5 @@
 -- Every command blames words, length and shelf only with cause.
-use Rattle.std.proofs.Common.{◌≡◌, ◌+◌, ◌≤◌, ◌∙◌, ℕ, List, Bool, true, false, Option, Some, None, refl, ap, subst, arith}
+use Rattle.std.proofs.Common.{◌≡◌, ◌≤◌, ℕ, List, Bool, true, false, Option, Some, None, refl, ap, subst, arith}
 use Rattle.pinch_outside.specs.Shelf.{ShelfState, file_limit, KeepsFiles, IsWhole, IsTooLong, HasFailed}
 use Rattle.stream_case.specs.declared.case.Case.{Case}
 use Rattle.pinch.specs.declared.command.Command.{Command}
@@ -9,7 +9,7 @@ use Rattle.reports.specs.declared.shown.FileRole.TheVariants.{Case as CaseFile}
 use Rattle.reports.specs.declared.shown.Shown.{Shown}
 use Rattle.reports.specs.declared.shown.Shown.TheVariants.{BadWords, ReadFault, TooLong}
 use Rattle.pinch.specs.FromFile.{NoFile, failed, too_long}
-use Rattle.pinch.specs.Answers.{NoCase, no_file, refused, FromCase, no_case, by_case, AreTargetsOf, AreCurvesOf, ShowsCase, ShowsCommand}
+use Rattle.pinch.specs.Answers.{NoCase, no_file, refused, FromCase, no_case, by_case, ShowsCase, ShowsCommand}
 use Rattle.pinch.specs.Flow.{AnswersFlow, corner_answer, not_standard}
 use Rattle.pinch.specs.Causes.{Causes, HasCause, file_name}
 

@@ -1,5 +1,5 @@
 -- Files that answer a command are answered, and a case file that is refused is told so, unless a call of the shelf is refused.
-use Rattle.std.proofs.Common.{◌≡◌, ◌≤◌, ◌∙◌, ℕ, List, Option, Some, None, Ok, Err, inl, length, ap, ap₂, subst, arith}
+use Rattle.std.proofs.Common.{◌≡◌, ◌≤◌, ◌∙◌, ℕ, List, Option, Some, None, inl, length, ap, ap₂, subst, arith}
 use Rattle.pinch_outside.specs.Faults.{Rose}
 use Rattle.pinch_outside.specs.Shelf.{ShelfState, NamedFile, file_limit, IsFile, IsFileAbove, KeepsFiles}
 use Rattle.stream_case.specs.declared.case.Case.{Case}
@@ -13,10 +13,9 @@ use Rattle.reports.specs.declared.shown.Shown.{Shown}
 use Rattle.reports.specs.declared.shown.Shown.TheVariants.{BadCase}
 use Rattle.pinch.specs.declared.command.Command.{Command}
 use Rattle.pinch.specs.declared.command.Command.TheVariants.{Targets as TargetsOf, Flow as FlowOf, Curves as CurvesOf}
-use Rattle.pinch.specs.Command.{word_at}
 use Rattle.pinch.specs.Status.{status_of, IsAnswered}
 use Rattle.pinch.specs.FromFile.{NoFile, failed, too_long}
-use Rattle.pinch.specs.Answers.{IsCaseText, IsRefused, NoCase, no_file, refused, FromCase, no_case, by_case, AreTargetsOf, AreCurvesOf, ShowsCase, ShowsCommand}
+use Rattle.pinch.specs.Answers.{IsCaseText, IsRefused, NoCase, no_file, refused, FromCase, no_case, by_case, ShowsCase, ShowsCommand}
 use Rattle.pinch.specs.Flow.{AnswersFlow, corner_answer, not_standard}
 use Rattle.pinch.specs.Complete.{Holds, HoldsCase, HoldsNoCase, AnswersCase, CanAnswer, HasBadCase}
 

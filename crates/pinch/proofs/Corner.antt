@@ -1,13 +1,9 @@
 -- The corner flow with its prices is an answer of `flow`.
-use Rattle.std.proofs.Common.{◌≡◌, ◌∙◌, ℕ, List, [], ◌∷◌, map, sym, ap, subst, arith, refl, Bool, true, false}
-use Rattle.std.specs.Prelude.{ℤ, pos, neg_ℤ, ◌≤ℤ◌, All, if◌then◌else◌, int_le}
-use Rattle.std.specs.Ordering.{int_eq}
+use Rattle.std.proofs.Common.{◌≡◌, ◌∙◌, map, sym, ap, arith}
+use Rattle.std.specs.Prelude.{ℤ}
 use Rattle.std.proofs.lemmas.Int.{ints}
-use Rattle.std.proofs.lemmas.List.Elements.{All-nil, All-cons}
 use Rattle.stream_case.specs.declared.case.Case.{Case}
-use Rattle.stream_case.specs.Case.{IsBetween}
 use Rattle.problem_table.specs.Deficit.{hot_target, IsReferencePlace}
-use Rattle.grid.specs.declared.part.Part.{Part}
 use Rattle.grid.specs.declared.parts.Parts.{Parts}
 use Rattle.grid.specs.Part.{AreCaseParts}
 use Rattle.heat_flow.specs.declared.flow.Flow.{Flow}
@@ -20,26 +16,16 @@ use Rattle.corner_flow.specs.Corner.{IsCornerFlow, IsFlowOf, corner_price}
 use Rattle.reports.specs.declared.shown.Shown.TheVariants as show
 use Rattle.pinch.specs.Flow.{ArePrices, IsCornerAnswer}
 
--- a price of the corner flow is 0 or 1
-chosen_within : (b c : Bool) → IsBetween (neg_ℤ (pos 1000000000000000)) (pos 1000000000000000) (if b then pos 0 else if c then pos 1 else pos 0)
-chosen_within true c = record { from = omega (arith, ints); upto = omega (arith, ints) }
-chosen_within false true = record { from = omega (arith, ints); upto = omega (arith, ints) }
-chosen_within false false = record { from = omega (arith, ints); upto = omega (arith, ints) }
-
-ArePrices-corner : (target place : ℤ) (parts : List Part) → ArePrices (map (corner_price target place) parts)
-ArePrices-corner target place [] = All-nil (IsBetween (neg_ℤ (pos 1000000000000000)) (pos 1000000000000000))
-ArePrices-corner target place (p ∷ ps) =
-    All-cons (IsBetween (neg_ℤ (pos 1000000000000000)) (pos 1000000000000000)) (corner_price target place p) (map (corner_price target place) ps)
-    (chosen_within (int_eq target (pos 0)) (int_le place p.low)) (ArePrices-corner target place ps)
-
+-- the corner flow with its prices, whose cost is given as the target
 pub made : (c : Case) (parts : Parts) (flow : Flow) (prices : Prices) (target place : ℤ) → target ≡ hot_target c.streams → IsReferencePlace c.streams place
     → AreCaseParts c parts.hot parts.cold → IsCornerFlow c parts.hot parts.cold flow.transfers → IsFlowOf c parts.hot parts.cold flow.transfers
     → cost_of parts.hot parts.cold flow.transfers ≡ target
     → prices.hot ≡ map (corner_price target place) parts.hot → prices.cold ≡ map (corner_price target place) parts.cold
+    → ArePrices prices.hot → ArePrices prices.cold
     → IsSupporting (reach_between c parts.hot parts.cold) prices.hot prices.cold
     → value_of parts.hot parts.cold prices.hot prices.cold ≡ target
     → (cost : ℤ) → cost ≡ target → IsCornerAnswer c (show.Flow c parts flow prices cost)
-made c parts flow prices target place target_is reference parts_are corner flow_is cost_is hot_is cold_is supporting value_is cost same =
+made c parts flow prices target place target_is reference parts_are corner flow_is cost_is hot_is cold_is hot_range cold_range supporting value_is cost same =
     record {
       parts = parts;
       flow = flow;
@@ -48,8 +34,8 @@ made c parts flow prices target place target_is reference parts_are corner flow_
         parts_are = parts_are;
         flow = flow_is;
         supporting = supporting;
-        hot_prices = subst ArePrices (sym hot_is) (ArePrices-corner target place parts.hot);
-        cold_prices = subst ArePrices (sym cold_is) (ArePrices-corner target place parts.cold);
+        hot_prices = hot_range;
+        cold_prices = cold_range;
         cost_is = sym target_is ∙ sym cost_is;
         value_is = sym target_is ∙ sym value_is;
         least = λ others is.

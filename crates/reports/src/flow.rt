@@ -28,8 +28,20 @@ pub fn flow_text(
     let mut text = line(alloc, "cost", cost)?;
     text.push_str(&use_lines(alloc, case, parts, transfers)?)?;
     text.push_str(&move_lines(alloc, case, parts, transfers)?)?;
-    text.push_str(&price_lines(alloc, case, "give ", parts.hot.as_slice(), prices.hot.as_slice())?)?;
-    text.push_str(&price_lines(alloc, case, "take ", parts.cold.as_slice(), prices.cold.as_slice())?)?;
+    text.push_str(&price_lines(
+        alloc,
+        case,
+        "give ",
+        parts.hot.as_slice(),
+        prices.hot.as_slice(),
+    )?)?;
+    text.push_str(&price_lines(
+        alloc,
+        case,
+        "take ",
+        parts.cold.as_slice(),
+        prices.cold.as_slice(),
+    )?)?;
     Ok(text)
 }
 
@@ -186,12 +198,7 @@ fn price_at(prices: &[i64], place: usize) -> i64
     }
 }
 
-fn part_at(
-    alloc: Global,
-    case: &Case,
-    parts: &[Part],
-    place: u32,
-) -> Result<String, AllocError>
+fn part_at(alloc: Global, case: &Case, parts: &[Part], place: u32) -> Result<String, AllocError>
     ensures { IfOk result (λ text. string_bytes text ≡ part_at case.now parts.now place) }
 {
     match parts.get(place as usize) {
@@ -204,7 +211,12 @@ fn part_at(
 fn part_text(alloc: Global, case: &Case, part: &Part) -> Result<String, AllocError>
     ensures { IfOk result (λ text. string_bytes text ≡ part_text case.now part.now) }
 {
-    format!(in alloc; "{} {} {}", source_name(case, part.source), part.high, part.low)
+    format!(in alloc;
+        "{} {} {}",
+        source_name(case, part.source),
+        part.high,
+        part.low
+    )
 }
 
 fn source_name(case: &Case, source: Source) -> &str

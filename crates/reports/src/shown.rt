@@ -42,12 +42,19 @@ pub enum Shown {
     /// The words are no command.
     BadWords,
     /// The case file is refused: the row, counted from 1, and what is to be mended there.
-    BadCase { row: u32, why: CaseWhy },
+    BadCase {
+        row: u32,
+        why: CaseWhy,
+    },
     /// The command answers standard cases only: no forbidden match, and no utilities but the
     /// standard ones.
     NotStandard,
     /// The file is longer than the limit.
-    TooLong { file: FileRole },
+    TooLong {
+        file: FileRole,
+    },
     /// The file could not be read.
-    ReadFault { file: FileRole },
+    ReadFault {
+        file: FileRole,
+    },
 }

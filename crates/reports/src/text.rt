@@ -3,9 +3,9 @@ ghost use Rattle.std.specs.Prelude.{◌≡◌, ◌++◌, IfOk, codes, string_byt
 ghost use Rattle.reports.specs.Lines.{line};
 ghost use Rattle.reports.specs.Text.{text, pinch_lines, role_name, case_why_name};
 
-use crate::points::curves_text;
 use crate::flow::flow_text;
 use crate::line::line;
+use crate::points::curves_text;
 use crate::shown::{FileRole, Shown};
 use case_text::CaseWhy;
 use problem_table::Target;
@@ -96,8 +96,8 @@ fn case_why_name(why: CaseWhy) -> &'static str
 #[cfg(test)]
 mod tests {
     use super::*;
-    use stream_case::Items;
     use std::test::Fail;
+    use stream_case::Items;
 
     #[test]
     fn each_answer_has_its_text(rt: HostRuntime) -> Result<(), Fail> {

@@ -12,6 +12,7 @@ use Rattle.corner_flow.proofs.SideLemmas.{hot_side, cold_side}
 use Rattle.corner_flow.proofs.FlowLemmas.{heats-not_negative, corner-is_flow, corner-hot, corner-cold}
 use Rattle.corner_flow.proofs.PriceLemmas.{corner-cost}
 use Rattle.corner_flow.proofs.CertificateLemmas.{as_pair-as_transfer, hot-at_least}
+use Rattle.corner_flow.proofs.PinchLaw.{no_heat_crosses_pinch}
 use Rattle.corner_flow.proofs.flow.corner.Goals as goal
 
 -- the heats as they are read
@@ -78,3 +79,6 @@ pub returns-clause-least : goal.returns-clause-least
 returns-clause-least c =
     subst (NeedsHotHeat c.args.case.now c.args.parts.now.hot c.args.parts.now.cold) (sym c.requires.hot_target)
     (λ transfers flow. hot-at_least c.args.case.now c.args.parts.now.hot c.args.parts.now.cold transfers c.requires.complete c.requires.standard c.requires.parts flow)
+
+pub returns-clause-pinch : goal.returns-clause-pinch
+returns-clause-pinch c = no_heat_crosses_pinch c.args.case.now c.args.parts.now.hot c.args.parts.now.cold c.requires.complete c.requires.standard c.requires.parts

@@ -16,5 +16,5 @@ returns c =
     c.in_ok-flow.ensures.cost
     (c.in_ok-prices.ensures.hot ∙ ap (λ p. map (corner_price target p) parts.hot) back)
     (c.in_ok-prices.ensures.cold ∙ ap (λ p. map (corner_price target p) parts.cold) back)
-    c.in_ok-prices.ensures.supporting c.in_ok-prices.ensures.value
+    c.in_ok-prices.ensures.hot_range c.in_ok-prices.ensures.cold_range c.in_ok-prices.ensures.supporting c.in_ok-prices.ensures.value
     _ (omega (arith, ints, c.from.ensures))
