@@ -50,8 +50,7 @@ fn transfers_of(alloc: Global, pairs: &[Pair]) -> Result<Vec<Transfer>, AllocErr
 /// order of the parts, the hot target for `HOT` and the cold target for `COLD`; the transfers are
 /// the pairs of a hot and a cold part whose spans overlap, each with the length that they share.
 /// No heat flow of these parts takes less from `HOT`, and in one that takes just the hot target no
-/// transfer crosses a pinch, from a hot part above it to a cold part below it (Linnhoff and Flower
-/// 1978).
+/// transfer crosses a pinch, from a hot part above it to a cold part below it (Kemp 2007).
 pub fn corner(
     alloc: Global,
     case: &Case,
