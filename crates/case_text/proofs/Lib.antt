@@ -8,3 +8,9 @@ pub mod Unique
 pub mod Passes
 pub mod Lookups
 pub mod Valid
+pub mod Texts
+pub mod Plain
+pub mod Distinct
+pub mod ReadBack
+pub mod CaseBack
+pub mod TextBack

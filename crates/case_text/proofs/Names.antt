@@ -30,7 +30,7 @@ passed-name (b ∷ bs) e =
     let short : length bs ≤ 15 = grind (arith, nat_tests, h.2) in
     (h.0, AllPass-from_list_all is_name_byte bs h.1, short)
 
-not_true : (b : Bool) → (b ≡ true → ⊥) → b ≡ false
+pub not_true : (b : Bool) → (b ≡ true → ⊥) → b ≡ false
 not_true true never = absurd (never refl)
 not_true false never = refl
 

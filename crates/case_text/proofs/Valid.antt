@@ -203,7 +203,7 @@ forbids_stay sources more stays forbids fit = record {
 }
 
 -- two forbidden matches that are the same pass the test
-same_itself : (s : Source) → same_source s s ≡ true
+pub same_itself : (s : Source) → same_source s s ≡ true
 same_itself (source.Stream i) = eq-eqb i i refl
 same_itself (source.Utility i) = eq-eqb i i refl
 
@@ -247,7 +247,7 @@ record Gives (contribution : ℤ) (given : Given) (row : Row) : Type 0 where
   gives : GivesEntry given row entry
   fits : Fits contribution (with_any given entry)
 
-of_kind : (given : Given) (row : Row) (k : Option Kind) → kind_of row ≡ k → GivesEach given row (contribution_by k row) (stream_by k row) (utility_by k row) (forbid_by k given.sources row)
+pub of_kind : (given : Given) (row : Row) (k : Option Kind) → kind_of row ≡ k → GivesEach given row (contribution_by k row) (stream_by k row) (utility_by k row) (forbid_by k given.sources row)
 of_kind given row k is = record {
   contribution_is = ap (λ k. contribution_by k row) is;
   stream_is = ap (λ k. stream_by k row) is;
@@ -381,11 +381,11 @@ given_fits contribution range = by_rows (Fits contribution) (nothing_fits contri
 
 -- ---- the case
 
-option_map_twice : {X Y Z : Type 0} (g : Y → Z) (f : X → Y) (o : Option X) → option_map g (option_map f o) ≡ option_map (λ x. g (f x)) o
+pub option_map_twice : {X Y Z : Type 0} (g : Y → Z) (f : X → Y) (o : Option X) → option_map g (option_map f o) ≡ option_map (λ x. g (f x)) o
 option_map_twice g f None = refl
 option_map_twice g f (Some x) = refl
 
-counts_map : {X Y : Type 0} (p : Y → Bool) (q : X → Bool) (f : X → Y) → ((x : X) → p (f x) ≡ q x) → (xs : List X) → count_by p (map f xs) ≡ count_by q xs
+pub counts_map : {X Y : Type 0} (p : Y → Bool) (q : X → Bool) (f : X → Y) → ((x : X) → p (f x) ≡ q x) → (xs : List X) → count_by p (map f xs) ≡ count_by q xs
 counts_map p q f same [] = refl
 counts_map {X = X} {Y = Y} p q f same (x ∷ xs) =
     let left = sum_by-cons (λ (y : Y). cond (p y) 1 0) (f x) (map f xs) in
@@ -394,11 +394,11 @@ counts_map {X = X} {Y = Y} p q f same (x ∷ xs) =
     let rest = counts_map p q f same xs in
     omega (arith, left, right, here, rest)
 
-hot_side : (of : Side) → is_hot of ≡ same_side side.Hot of
+pub hot_side : (of : Side) → is_hot of ≡ same_side side.Hot of
 hot_side side.Hot = refl
 hot_side side.Cold = refl
 
-cold_side : (of : Side) → not (is_hot of) ≡ same_side side.Cold of
+pub cold_side : (of : Side) → not (is_hot of) ≡ same_side side.Cold of
 cold_side side.Hot = refl
 cold_side side.Cold = refl
 

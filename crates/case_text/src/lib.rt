@@ -12,12 +12,14 @@ mod forbid_row;
 mod found;
 mod kind;
 mod number;
+mod printer;
 mod reader;
 mod stream_row;
 mod utility_row;
 
 pub use fault::{CaseFault, CaseWhy};
 pub use number::number_of;
+pub use printer::print_case;
 pub use reader::{read_case, rows_have_one_outcome};
 
 #[cfg(test)]

@@ -1,4 +1,4 @@
-use crate::{CaseFault, CaseWhy, number_of, read_case};
+use crate::{CaseFault, CaseWhy, number_of, print_case, read_case};
 use std::alloc::Global;
 use std::test::Fail;
 use stream_case::{Case, Forbid, Name, Side, Source, Utility};
@@ -226,5 +226,23 @@ fn seven_utilities(rt: HostRuntime) -> Result<(), Fail> {
         text.extend_from_slice(row.as_bytes())?;
     }
     assert_eq!(rt; read(alloc, &text)?, refused(7, CaseWhy::TooMany));
+    Ok(())
+}
+
+#[test]
+fn a_table_printed_again(rt: HostRuntime) -> Result<(), Fail> {
+    let alloc = rt.alloc();
+    let printed =
+        "contribution,,50,,,,\nhot,H,1000,500,10,,\ncold,C,300,700,10,,\nheater,HOT,1700,0,1000,3,\ncooler,CW,-20,5,5,-1000000,\nforbid,H,C,,,,\nforbid,HOT,C,,,,\n";
+    for (table, text) in [
+        (FOUR_STREAMS, FOUR_STREAMS),
+        (SPREADSHEET, printed.as_bytes()),
+    ] {
+        if let Ok(case) = read(alloc, table)? {
+            let again = print_case(alloc, &case)?;
+            assert_eq!(rt; again.as_slice(), text);
+            assert_eq!(rt; read(alloc, &again)?, Ok(case));
+        }
+    }
     Ok(())
 }
