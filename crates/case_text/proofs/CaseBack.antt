@@ -1,18 +1,17 @@
 -- The rows of a valid case give the case: all rows, one after the other.
-use Rattle.std.proofs.Common.{◌≡◌, ◌≢◌, ◌∙◌, ◌∷◌, ◌++◌, ◌<◌, ◌≤◌, ◌+◌, ◌==◌, ◌&&◌, ℕ, ℤ, pos, Bool, true, false, not, List, [], All, AllPairs, Option, Some, None, is_some, option_map, unwrap_or, cond, zero, suc, take, length, map, count_by, slice_get, get_or, position, nat_lt, refl, sym, ap, subst, subst₂, arith, append_assoc, length-append}
+use Rattle.std.proofs.Common.{◌≡◌, ◌≢◌, ◌∙◌, ◌∷◌, ◌++◌, ◌<◌, ◌≤◌, ◌+◌, ◌==◌, ℕ, ℤ, pos, true, false, not, List, [], All, AllPairs, Option, Some, None, option_map, unwrap_or, cond, suc, take, length, map, slice_get, get_or, position, nat_lt, refl, sym, ap, subst, subst₂, arith}
 use Rattle.std.specs.List.{list_any}
 use Rattle.std.specs.Map.{keys_of}
 use Rattle.std.proofs.Math.ListN.{get_or-map}
 use Rattle.std.proofs.Math.Seq.{take-suc}
 use Rattle.std.proofs.lemmas.Bool.{eqb-true}
 use Rattle.std.proofs.lemmas.Bool.Decides.{nat_tests}
-use Rattle.std.proofs.lemmas.List.{append-nil, length-map, length-take-le, map-append, take-map, take_all}
+use Rattle.std.proofs.lemmas.List.{length-map, length-take-le, take-map, take_all}
 use Rattle.std.proofs.lemmas.List.Elements.{All-head, All-nil, All-tail}
 use Rattle.std.proofs.lemmas.List.Sums.{sum_by-take-le, sum_by_more}
 use Rattle.std.proofs.lemmas.Option.{get_or_from_slice_get, slice_get-map, slice_get_within}
 use Rattle.std.proofs.lemmas.Simd.{map-map}
-use Rattle.csv_rows.specs.Rows.{Row}
-use Rattle.stream_case.specs.Case.{IsBetween, IsValid, IsValidForbid, IsValidStream, IsValidUtility, most_forbids, most_streams, most_utilities, names_of, side_of}
+use Rattle.stream_case.specs.Case.{IsValid, IsValidStream, IsValidUtility, most_forbids, most_streams, most_utilities, side_of}
 use Rattle.stream_case.specs.Name.{IsName}
 use Rattle.stream_case.specs.Stream.{is_hot, same_side}
 use Rattle.stream_case.specs.declared.case.Case.{Case}
@@ -23,8 +22,8 @@ use Rattle.stream_case.specs.declared.source.Source.{Source}
 use Rattle.stream_case.specs.declared.source.Source.TheVariants as source
 use Rattle.stream_case.specs.declared.stream.Stream.{Stream}
 use Rattle.stream_case.specs.declared.utility.Utility.{Utility}
-use Rattle.case_text.specs.Given.{Given, Sources, case_of, given_by, source_named, stream_of, utility_of}
-use Rattle.case_text.specs.Checks.{end_checks, first_failing, is_side, is_source, same_forbid, same_source, side_named}
+use Rattle.case_text.specs.Given.{Given, Sources, case_of, source_named, stream_of, utility_of}
+use Rattle.case_text.specs.Checks.{end_checks, first_failing, is_side, is_source, same_forbid, same_source}
 use Rattle.case_text.specs.Outcome.{IsCase}
 use Rattle.case_text.specs.Printed.{contribution_row, forbid_row, name_at, printed_rows, stream_row, utility_row}
 use Rattle.case_text.specs.declared.found.Entry.TheVariants as entry

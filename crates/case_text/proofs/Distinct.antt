@@ -1,6 +1,5 @@
 -- Names that all differ.
-use Rattle.std.proofs.Common.{◌≡◌, ◌≢◌, ◌∙◌, ◌∷◌, ◌++◌, ◌<◌, ◌≤◌, ◌+◌, ℕ, Bool, true, false, cond, List, [], All, AllPairs, Option, Some, None, is_some, length, take, map, slice_get, get_or, position, nat_lt, refl, sym, ap, subst, subst₂, arith, length-append}
-use Rattle.std.specs.List.{position_or_len}
+use Rattle.std.proofs.Common.{◌≡◌, ◌≢◌, ◌∙◌, ◌∷◌, ◌++◌, ◌<◌, ◌+◌, ℕ, true, false, cond, List, [], All, AllPairs, Some, None, is_some, length, take, slice_get, get_or, position, nat_lt, refl, sym, subst₂, arith, length-append}
 use Rattle.std.specs.Map.{keys_of, lookup}
 use Rattle.std.specs.Str.{bytes_eq}
 use Rattle.std.specs.Cmp.Lexicographic.{bytes_decides}

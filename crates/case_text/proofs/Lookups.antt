@@ -1,5 +1,5 @@
 -- Names among the entries of maps, and the sources that they name.
-use Rattle.std.proofs.Common.{◌≡◌, ◌≢◌, ◌∙◌, ◌∷◌, ◌++◌, ◌||◌, ◌<◌, ◌+◌, ℕ, Bool, true, false, List, [], All, AllPairs, Option, Some, None, IfSome, is_some, option_map, position, length, suc, map, slice_get, get_or, cond, refl, sym, ap, subst, arith}
+use Rattle.std.proofs.Common.{◌≡◌, ◌≢◌, ◌∙◌, ◌∷◌, ◌++◌, ℕ, Bool, true, false, List, [], All, AllPairs, Option, Some, None, IfSome, is_some, option_map, position, suc, slice_get, refl, sym, ap, subst, arith}
 use Rattle.std.specs.Map.{keys_of, lookup, values_of}
 use Rattle.std.specs.Str.{bytes_eq}
 use Rattle.std.specs.Cmp.Lexicographic.{bytes_decides}
@@ -14,9 +14,7 @@ use Rattle.stream_case.specs.declared.source.Source.{Source}
 use Rattle.stream_case.specs.declared.source.Source.TheVariants as source
 use Rattle.case_text.proofs.Entries.{none_there}
 use Rattle.case_text.specs.Given.{Sources, first_source, source_named}
-use Rattle.case_text.specs.Checks.{first_side, is_side, is_source, is_taken, side_named}
-use Rattle.case_text.specs.declared.found.StreamData.{StreamData}
-use Rattle.case_text.specs.declared.found.UtilityData.{UtilityData}
+use Rattle.case_text.specs.Checks.{first_side, is_source, side_named}
 
 -- a name that no look-up finds differs from each name of the entries
 pub other_names : {V : Type 0} (es : List (List ℕ × V)) (name : List ℕ) → is_some (lookup (bytes_eq name) es) ≡ false → All (λ other. other ≢ name) (keys_of es)

@@ -1,22 +1,21 @@
 -- The rows of a valid case give the case.
-use Rattle.std.proofs.Common.{◌≡◌, ◌≢◌, ◌∙◌, ◌∷◌, ◌++◌, ◌<◌, ◌≤◌, ◌+◌, ◌==◌, ◌&&◌, ◌||◌, ℕ, ℤ, pos, negsuc, Bool, true, false, not, List, [], All, AllPairs, Option, Some, None, is_some, option_map, unwrap_or, cond, zero, suc, take, length, map, count_by, slice_get, get_or, position, nat_lt, refl, sym, ap, subst, arith, append_assoc, length-append}
+use Rattle.std.proofs.Common.{◌≡◌, ◌∙◌, ◌∷◌, ◌++◌, ◌<◌, ◌≤◌, ◌==◌, ◌&&◌, ℕ, ℤ, pos, negsuc, Bool, true, false, not, List, [], Option, Some, None, is_some, unwrap_or, zero, suc, take, length, map, get_or, nat_lt, refl, sym, ap, subst, arith, append_assoc}
 use Rattle.std.proofs.Math.Seq.{take-suc}
-use Rattle.std.proofs.lemmas.List.{append-nil, map-append, take_all}
+use Rattle.std.proofs.lemmas.List.{append-nil, map-append}
 use Rattle.csv_rows.specs.Rows.{Row}
-use Rattle.stream_case.specs.Case.{IsBetween, IsRightlyNamed, IsUnreserved, IsValid, IsValidStream, IsValidUtility, most_forbids, most_streams, most_utilities}
+use Rattle.stream_case.specs.Case.{IsBetween, IsRightlyNamed, IsUnreserved, IsValidStream, IsValidUtility, most_forbids, most_streams, most_utilities}
 use Rattle.stream_case.specs.Name.{IsName}
 use Rattle.stream_case.specs.declared.case.Case.{Case}
 use Rattle.stream_case.specs.declared.case.Forbid.{Forbid}
 use Rattle.stream_case.specs.declared.source.Side.{Side}
 use Rattle.stream_case.specs.declared.source.Side.TheVariants as side
 use Rattle.stream_case.specs.declared.source.Source.{Source}
-use Rattle.stream_case.specs.declared.source.Source.TheVariants as source
 use Rattle.stream_case.specs.declared.stream.Stream.{Stream}
 use Rattle.stream_case.specs.declared.utility.Utility.{Utility}
-use Rattle.case_text.specs.Given.{Given, Sources, case_of, contribution_by, field, forbid_by, forbid_named, forbid_of, given_by, kind_in, kind_of, number, source_named, stream_by, stream_data, stream_of, utility_by, utility_data, utility_of}
+use Rattle.case_text.specs.Given.{Given, Sources, field, forbid_named, forbid_of, kind_in, kind_of, number, source_named}
 use Rattle.case_text.specs.Checks.{are_empty, checks, contribution_checks, first_failing, forbid_checks, further_checks, goes_right, is_among, is_at_most, is_name, is_number, is_passed_over, is_reserved, is_reserved_from, is_source, is_taken, is_within, kind_checks, same_forbid, stream_checks, stream_number_checks, utility_checks, utility_number_checks}
-use Rattle.case_text.specs.Answers.{GivesEach, GivesEntry}
-use Rattle.case_text.specs.Printed.{contribution_row, name_at, stream_kind, stream_row, utility_kind, utility_row, forbid_row, printed_rows}
+use Rattle.case_text.specs.Answers.{GivesEntry}
+use Rattle.case_text.specs.Printed.{contribution_row, name_at, stream_kind, stream_row, utility_kind, utility_row, forbid_row}
 use Rattle.case_text.specs.declared.found.Entry.{Entry}
 use Rattle.case_text.specs.declared.found.Entry.TheVariants as entry
 use Rattle.case_text.specs.declared.found.StreamData.{StreamData}

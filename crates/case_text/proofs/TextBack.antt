@@ -1,12 +1,12 @@
 -- The printed text of a valid case is read as its rows, and is short.
-use Rattle.std.proofs.Common.{◌≡◌, ◌∙◌, ◌∷◌, ◌++◌, ◌<◌, ◌≤◌, ◌+◌, ◌*◌, ℕ, ℤ, pos, List, [], All, Option, Some, length, map, get_or, refl, sym, ap, subst, arith, length-append}
+use Rattle.std.proofs.Common.{◌≡◌, ◌∷◌, ◌++◌, ◌≤◌, ◌+◌, ◌*◌, ℕ, ℤ, pos, List, [], All, length, map, refl, sym, subst, arith, length-append}
 use Rattle.std.specs.Prelude.{codes}
 use Rattle.std.specs.Fmt.{signed_decimal}
 use Rattle.std.proofs.lemmas.Int.{ints}
 use Rattle.std.proofs.lemmas.List.{length-map}
 use Rattle.std.proofs.lemmas.List.Elements.{All-append, All-cons, All-from_recursion, All-head, All-map, All-tail, All-weaker}
 use Rattle.csv_rows.specs.Rows.{Row, rows_of}
-use Rattle.stream_case.specs.Case.{IsBetween, IsValid, IsValidForbid, IsValidStream, IsValidUtility, most_forbids, most_streams, most_utilities}
+use Rattle.stream_case.specs.Case.{IsBetween, IsValid, IsValidForbid, IsValidStream, IsValidUtility}
 use Rattle.stream_case.specs.Name.{IsName}
 use Rattle.stream_case.specs.declared.case.Case.{Case}
 use Rattle.stream_case.specs.declared.case.Forbid.{Forbid}

@@ -1,5 +1,5 @@
 -- The case of a file that is accepted is valid.
-use Rattle.std.proofs.Common.{◌≡◌, ◌≢◌, ◌∙◌, ◌∷◌, ◌++◌, ◌<◌, ◌≤◌, ◌+◌, ◌==◌, ℕ, ℤ, pos, negsuc, Bool, true, false, not, ◌&&◌, ◌||◌, List, [], All, AllPairs, Option, Some, None, IsTrue, is_some, option_map, cond, if◌then◌else◌, zero, suc, take, length, map, count_by, slice_get, get_or, refl, sym, ap, subst, arith, append-nil, length-append}
+use Rattle.std.proofs.Common.{◌≡◌, ◌≢◌, ◌∙◌, ◌∷◌, ◌++◌, ◌<◌, ◌≤◌, ◌==◌, ℕ, ℤ, pos, negsuc, Bool, true, false, not, ◌&&◌, List, [], All, AllPairs, Option, Some, None, option_map, cond, if◌then◌else◌, zero, suc, take, length, map, count_by, slice_get, get_or, refl, sym, ap, subst, arith, length-append}
 use Rattle.std.proofs.Math.ListN.{get_or-append}
 use Rattle.std.proofs.Math.Seq.{take-suc}
 use Rattle.std.proofs.lemmas.List.Sums.{sum_by-cons}
@@ -16,7 +16,7 @@ use Rattle.std.specs.Str.{bytes_eq}
 use Rattle.std.specs.Cmp.Lexicographic.{bytes_decides}
 use Rattle.std.proofs.lemmas.List.Elements.{All-append, All-cons, All-head, All-map, All-nil, All-push, All-weaker}
 use Rattle.std.proofs.lemmas.List.Quantifiers.{all_pairs_push}
-use Rattle.stream_case.specs.Case.{IsBetween, IsRightWay, IsRightlyNamed, IsUnreserved, IsValid, IsValidForbid, IsValidStream, IsValidUtility, most_forbids, most_streams, most_utilities, names_of, side_of}
+use Rattle.stream_case.specs.Case.{IsBetween, IsRightlyNamed, IsUnreserved, IsValid, IsValidForbid, IsValidStream, IsValidUtility, most_forbids, most_streams, most_utilities, names_of, side_of}
 use Rattle.stream_case.specs.Stream.{is_hot, same_side}
 use Rattle.stream_case.specs.declared.case.Case.{Case}
 use Rattle.stream_case.specs.declared.case.Forbid.{Forbid}
@@ -27,8 +27,8 @@ use Rattle.stream_case.specs.declared.source.Source.TheVariants as source
 use Rattle.stream_case.specs.declared.stream.Stream.{Stream}
 use Rattle.stream_case.specs.declared.utility.Utility.{Utility}
 use Rattle.csv_rows.specs.Rows.{Row}
-use Rattle.case_text.specs.Given.{Given, Sources, case_of, contribution_by, field, forbid_by, forbid_named, forbid_of, given_by, kind_of, number, row_at, source_named, sources_by, stream_by, stream_data, stream_of, utility_by, utility_data, utility_of}
-use Rattle.case_text.specs.Checks.{Check, are_empty, checks, contribution_checks, end_checks, first_failing, forbid_checks, further_checks, is_among, is_heat, is_name, is_passed_over, is_price, is_reserved, is_reserved_from, is_source, is_taken, is_temperature, is_within, kind_checks, same_forbid, same_source, stream_checks, stream_number_checks, utility_checks, utility_number_checks}
+use Rattle.case_text.specs.Given.{Given, Sources, case_of, contribution_by, field, forbid_by, forbid_named, given_by, kind_of, number, row_at, sources_by, stream_by, stream_data, stream_of, utility_by, utility_data, utility_of}
+use Rattle.case_text.specs.Checks.{checks, contribution_checks, end_checks, first_failing, forbid_checks, further_checks, is_among, is_heat, is_name, is_passed_over, is_price, is_reserved, is_reserved_from, is_source, is_taken, is_temperature, is_within, kind_checks, same_forbid, same_source, stream_checks, stream_number_checks, utility_checks, utility_number_checks}
 use Rattle.case_text.specs.Answers.{GivesEach, GivesEntry, HasFewSources}
 use Rattle.case_text.specs.Outcome.{IsCase, SoundBefore}
 use Rattle.case_text.specs.declared.found.Entry.{Entry}

@@ -1,5 +1,5 @@
 -- How a case is printed.
-use Rattle.std.specs.Prelude.{ℕ, ℤ, List, [], ◌∷◌, ◌++◌, map, Option, option_map, unwrap_or, slice_get, codes}
+use Rattle.std.specs.Prelude.{ℕ, ℤ, List, [], ◌∷◌, ◌++◌, map, option_map, unwrap_or, slice_get, codes}
 use Rattle.std.specs.Fmt.{signed_decimal}
 use Rattle.csv_rows.specs.Rows.{Row}
 use Rattle.stream_case.specs.declared.case.Case.{Case}

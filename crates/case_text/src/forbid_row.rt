@@ -10,10 +10,7 @@ use crate::fault::CaseWhy;
 use crate::fields::{are_empty, field, name_of};
 use crate::found::Found;
 use csv::ByteRecord;
-use stream_case::{Forbid, Side};
-
-/// Forbidden matches of a case.
-const MOST_FORBIDS: usize = 400;
+use stream_case::{Forbid, MOST_FORBIDS, Side};
 
 /// The forbidden match of a row of that kind.
 #[tactic(auto, unfolding(crate::specs::Checks::forbid_checks, crate::specs::Checks::is_among))]

@@ -11,10 +11,7 @@ use crate::fields::{are_empty, field, name_of};
 use crate::found::{Entry, Found, StreamData};
 use crate::number::{in_range, number_of};
 use csv::ByteRecord;
-use stream_case::{Name, Side};
-
-/// Streams of one side.
-const MOST_STREAMS: usize = 12;
+use stream_case::{MOST_STREAMS, Name, Side};
 
 /// Whether no stream may have this name.
 #[tactic(auto, unfolding(crate::specs::Checks::is_reserved))]

@@ -11,10 +11,7 @@ use crate::fields::{are_empty, field, name_of};
 use crate::found::{Entry, Found, UtilityData};
 use crate::number::{in_range, in_wide_range, number_of};
 use csv::ByteRecord;
-use stream_case::{Name, Side};
-
-/// Utilities of both sides together.
-const MOST_UTILITIES: usize = 6;
+use stream_case::{MOST_UTILITIES, Name, Side};
 
 /// The most heat that a utility may give or take, in W.
 const MOST_HEAT: i64 = 1_000_000_000_000;

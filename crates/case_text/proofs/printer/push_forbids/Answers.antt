@@ -1,4 +1,4 @@
-use Rattle.std.proofs.Common.{◌≡◌, ◌∙◌, rules}
+use Rattle.std.proofs.Common.{◌∙◌}
 use Rattle.case_text.specs.Printed.{forbid_row}
 use Rattle.case_text.proofs.Texts.{no_rows, row_more}
 use Rattle.case_text.proofs.printer.push_forbids.Goals as goal

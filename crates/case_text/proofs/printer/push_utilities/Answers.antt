@@ -1,4 +1,4 @@
-use Rattle.std.proofs.Common.{◌≡◌, ◌∙◌, ap}
+use Rattle.std.proofs.Common.{◌∙◌, ap}
 use Rattle.case_text.specs.Printed.{row_text, utility_row}
 use Rattle.case_text.proofs.Texts.{no_rows, row_more}
 use Rattle.case_text.proofs.printer.push_utilities.Goals as goal
