@@ -32,7 +32,7 @@ use Rattle.case_text.specs.declared.found.UtilityData.{UtilityData}
 use Rattle.case_text.proofs.Counts.{count_on}
 use Rattle.case_text.proofs.Distinct.{AllPairs-across, AllPairs-back, AllPairs-before, AllPairs-front, not_found, not_taken, place_of}
 use Rattle.case_text.proofs.Entries.{none_there}
-use Rattle.case_text.proofs.Names.{not_true}
+use Rattle.stream_case.proofs.NameTests.{not_true}
 use Rattle.case_text.proofs.Passes.{both}
 use Rattle.indexmap.proofs.MapLemmas.{some_index}
 use Rattle.std.specs.Str.{bytes_eq}

@@ -11,7 +11,7 @@ use Rattle.std.proofs.lemmas.List.Sums.{position_or_len_is}
 use Rattle.std.proofs.lemmas.Option.{get_or_from_slice_get, slice_get_within}
 use Rattle.case_text.specs.Given.{Sources}
 use Rattle.case_text.specs.Checks.{is_taken}
-use Rattle.case_text.proofs.Names.{not_true}
+use Rattle.stream_case.proofs.NameTests.{not_true}
 
 -- ---- pairs of two lists
 

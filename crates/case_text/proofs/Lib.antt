@@ -1,6 +1,4 @@
-pub mod Digits
 pub mod RowFields
-pub mod Names
 pub mod Entries
 pub mod Counts
 pub mod Steps

@@ -4,14 +4,13 @@ use Rattle.std.specs.List.{list_any}
 use Rattle.std.proofs.lemmas.Bool.Decides.{nat_tests}
 use Rattle.std.proofs.lemmas.List.Elements.{All-cons, All-head, All-tail, All-weaker}
 use Rattle.std.specs.Fmt.{decimal, signed_decimal}
-use Rattle.std.specs.Str.{all_ascii_digits}
-use Rattle.std.specs.Str.Parse.{digits_value}
-use Rattle.std.proofs.lemmas.Str.Parse.{IsNumeralModel, digit_at, numerals_by_value, tells_all_ascii_digits}
-use Rattle.std.proofs.lemmas.Fmt.{decimal_is_IsNumeral, digits_decimal, length-decimal-le}
+use Rattle.std.proofs.lemmas.Str.Parse.{digit_at}
+use Rattle.std.proofs.lemmas.Fmt.{decimal_is_IsNumeral, length-decimal-le}
 use Rattle.std.proofs.lemmas.Int.{ints}
 use Rattle.std.proofs.lemmas.List.{get_or_default}
 use Rattle.stream_case.specs.Case.{IsBetween}
-use Rattle.case_text.specs.Numbers.{natural_in, negative, number_in}
+use Rattle.stream_case.proofs.DigitLemmas.{natural_read}
+use Rattle.case_text.specs.Numbers.{negative, number_in}
 use Rattle.stream_case.specs.Name.{IsName, is_name_byte}
 use Rattle.csv.specs.Machine.{next_record}
 use Rattle.csv.specs.Reading.{default_config, records_from, strip_bom}
@@ -125,9 +124,6 @@ name_plain (b ∷ bs) is =
     plain_bytes (b ∷ bs) (All-cons (λ (c : ℕ). needs_byte default_writer c ≡ false) b bs (name_byte_plain b first) (All-weaker (λ (c : ℕ). is_name_byte c ≡ true) (λ (c : ℕ). needs_byte default_writer c ≡ false) name_byte_plain bs is.1))
 
 -- the text of a number
-own : IsNumeralModel (λ ds. all_ascii_digits ds ≡ true) (digits_value 10)
-own = numerals_by_value _ tells_all_ascii_digits
-
 -- numbers of at most 13 digits
 abbrev pub IsPrintable : ℤ → Type 0
 IsPrintable z = IsBetween (negsuc 9999999999998) (pos 9999999999999) z
@@ -151,16 +147,6 @@ pub number_plain : (z : ℤ) → IsPrintable z → IsPlain (signed_decimal z)
 number_plain (pos n) small = decimal_plain n (omega (arith, ints, small.upto))
 number_plain (negsuc n) small = decimal_plain (suc n) (omega (arith, ints, small.from))
 
-natural_read : (n : ℕ) → n < 10 ^ 13 → natural_in (decimal n) ≡ Some n
-unfolding natural_in
-natural_read n small =
-    let numeral = decimal_is_IsNumeral n (omega (arith, small)) in
-    let short = length-decimal-le 13 n (omega arith) small (omega (arith, small)) in
-    let digits = digits_decimal own n (omega (arith, small)) in
-    let some : nat_le 1 (length (decimal n)) ≡ true = grind (arith, nat_tests, numeral.0.0) in
-    let few : nat_le (length (decimal n)) 13 ≡ true = grind (arith, nat_tests, short) in
-    rw (some, few, digits) (ap Some numeral.1)
-
 pub number_read : (z : ℤ) → IsPrintable z → number_in (signed_decimal z) ≡ Some z
 unfolding number_in
 number_read (pos n) small =
@@ -168,7 +154,7 @@ number_read (pos n) small =
     let numeral = decimal_is_IsNumeral n (omega (arith, least)) in
     let digit = digit_at (decimal n) 0 numeral.0.1 numeral.0.0 in
     let plain : (get_or (decimal n) 0 0 == 45) ≡ false = grind (arith, nat_tests, digit) in
-    rw plain (ap (option_map pos) (natural_read n least))
+    rw plain (ap (option_map pos) (natural_read 13 n (omega arith) least (omega (arith, least))))
 number_read (negsuc n) small =
     let least : suc n < 10 ^ 13 = omega (arith, ints, small.from) in
-    ap (option_map negative) (natural_read (suc n) least)
+    ap (option_map negative) (natural_read 13 (suc n) (omega arith) least (omega (arith, least)))

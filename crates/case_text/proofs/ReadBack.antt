@@ -13,7 +13,7 @@ use Rattle.stream_case.specs.declared.source.Source.{Source}
 use Rattle.stream_case.specs.declared.stream.Stream.{Stream}
 use Rattle.stream_case.specs.declared.utility.Utility.{Utility}
 use Rattle.case_text.specs.Given.{Given, Sources, field, forbid_named, forbid_of, kind_in, kind_of, number, source_named}
-use Rattle.case_text.specs.Checks.{are_empty, checks, contribution_checks, first_failing, forbid_checks, further_checks, goes_right, is_among, is_at_most, is_name, is_number, is_passed_over, is_reserved, is_reserved_from, is_source, is_taken, is_within, kind_checks, same_forbid, stream_checks, stream_number_checks, utility_checks, utility_number_checks}
+use Rattle.case_text.specs.Checks.{are_empty, checks, contribution_checks, first_failing, forbid_checks, further_checks, goes_right, is_among, is_at_most, is_number, is_passed_over, is_reserved, is_reserved_from, is_source, is_taken, is_within, kind_checks, same_forbid, stream_checks, stream_number_checks, utility_checks, utility_number_checks}
 use Rattle.case_text.specs.Answers.{GivesEntry}
 use Rattle.case_text.specs.Printed.{contribution_row, name_at, stream_kind, stream_row, utility_kind, utility_row, forbid_row}
 use Rattle.case_text.specs.declared.found.Entry.{Entry}
@@ -31,7 +31,8 @@ use Rattle.std.proofs.Common.{neg_ℤ}
 use Rattle.std.proofs.lemmas.Int.{ints}
 use Rattle.case_text.specs.Numbers.{number_in}
 use Rattle.case_text.proofs.Counts.{count_on}
-use Rattle.case_text.proofs.Names.{name-passes, not_true}
+use Rattle.stream_case.specs.Name.{is_name}
+use Rattle.stream_case.proofs.NameTests.{name-passes, not_true}
 use Rattle.case_text.proofs.Passes.{Passes, all_pass, goes_right_way, is_ordered, within}
 use Rattle.case_text.proofs.Plain.{IsPrintable, number_read}
 use Rattle.case_text.proofs.Valid.{of_kind}

@@ -28,7 +28,7 @@ use Rattle.stream_case.specs.declared.stream.Stream.{Stream}
 use Rattle.stream_case.specs.declared.utility.Utility.{Utility}
 use Rattle.csv_rows.specs.Rows.{Row}
 use Rattle.case_text.specs.Given.{Given, Sources, case_of, contribution_by, field, forbid_by, forbid_named, given_by, kind_of, number, row_at, sources_by, stream_by, stream_data, stream_of, utility_by, utility_data, utility_of}
-use Rattle.case_text.specs.Checks.{checks, contribution_checks, end_checks, first_failing, forbid_checks, further_checks, is_among, is_heat, is_name, is_passed_over, is_price, is_reserved, is_reserved_from, is_source, is_taken, is_temperature, is_within, kind_checks, same_forbid, same_source, stream_checks, stream_number_checks, utility_checks, utility_number_checks}
+use Rattle.case_text.specs.Checks.{checks, contribution_checks, end_checks, first_failing, forbid_checks, further_checks, is_among, is_heat, is_passed_over, is_price, is_reserved, is_reserved_from, is_source, is_taken, is_temperature, is_within, kind_checks, same_forbid, same_source, stream_checks, stream_number_checks, utility_checks, utility_number_checks}
 use Rattle.case_text.specs.Answers.{GivesEach, GivesEntry, HasFewSources}
 use Rattle.case_text.specs.Outcome.{IsCase, SoundBefore}
 use Rattle.case_text.specs.declared.found.Entry.{Entry}
@@ -40,7 +40,8 @@ use Rattle.case_text.specs.declared.kind.Kind.TheVariants as kind
 use Rattle.case_text.proofs.Counts.{count_on, HasFewSources-stream, HasFewSources-utility}
 use Rattle.case_text.proofs.Entries.{free_name, neither}
 use Rattle.case_text.proofs.Lookups.{AllPairs-append, other_names, side_at, source_on, source_there}
-use Rattle.case_text.proofs.Names.{passed-name}
+use Rattle.stream_case.specs.Name.{is_name}
+use Rattle.stream_case.proofs.NameTests.{passed-name}
 use Rattle.case_text.proofs.RowFields.{passed_over-kind}
 use Rattle.case_text.proofs.Passes.{Passes, at_most, between, both, is_false, none_fails, right_way}
 use Rattle.case_text.proofs.Steps.{added, given_by-push, with_any, with_each}

@@ -1,12 +1,11 @@
 -- The checks of a row, in their order. A check is a sentence on the row and on what the rows before it gave.
-use Rattle.std.specs.Prelude.{ℕ, ℤ, pos, negsuc, Bool, false, not, ◌==◌, ◌&&◌, ◌||◌, List, [], ◌∷◌, length, find, count_by, Option, Some, None, is_some, option_map, nat_lt, nat_le, int_le, int_lt, slice_index, if◌then◌else◌, codes}
-use Rattle.std.specs.Char.{is_ascii_alphanumeric}
+use Rattle.std.specs.Prelude.{ℕ, ℤ, pos, negsuc, Bool, false, not, ◌==◌, ◌&&◌, ◌||◌, List, [], ◌∷◌, length, find, count_by, Option, Some, None, is_some, option_map, nat_lt, int_le, int_lt, slice_index, if◌then◌else◌, codes}
 use Rattle.std.specs.List.{list_all, list_any}
 use Rattle.std.specs.Map.{lookup}
 use Rattle.std.specs.Str.{bytes_eq}
 use Rattle.csv_rows.specs.Rows.{Row}
 use Rattle.stream_case.specs.Case.{most_forbids, most_streams, most_utilities}
-use Rattle.stream_case.specs.Name.{is_name_byte}
+use Rattle.stream_case.specs.Name.{is_name}
 use Rattle.stream_case.specs.Stream.{same_side}
 use Rattle.stream_case.specs.declared.case.Forbid.{Forbid}
 use Rattle.stream_case.specs.declared.source.Side.{Side}
@@ -72,11 +71,6 @@ unfoldable pub is_at_most : ℤ → ℤ → Bool
 is_at_most least most = int_le least most
 
 -- ---- names
-
--- 1 to 16 letters, digits, `_` and `-`, the first a letter or a digit
-unfoldable pub is_name : List ℕ → Bool
-is_name [] = false
-is_name (b ∷ bs) = is_ascii_alphanumeric b && list_all is_name_byte bs && nat_le (length bs) 15
 
 -- the names of the standard utilities, which no stream may have
 unfoldable pub is_reserved : List ℕ → Bool

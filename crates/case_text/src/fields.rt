@@ -1,32 +1,17 @@
 //! The fields of a row.
 
-ghost use Rattle.std.specs.Prelude.{◌≡◌, IfSome, is_some};
+ghost use Rattle.std.specs.Prelude.{◌≡◌};
 ghost use Rattle.csv.specs.Records.{fields_of};
 ghost use Rattle.case_text.specs.Given.{field};
-ghost use Rattle.case_text.specs.Checks.{are_empty, is_name, is_passed_over};
+ghost use Rattle.case_text.specs.Checks.{are_empty, is_passed_over};
 
 use csv::ByteRecord;
-use stream_case::Name;
 
 /// The field at a place, from 0; there is nothing behind the last one.
 pub fn field(row: &ByteRecord, place: usize) -> &[u8]
     ensures { result.now ≡ field (fields_of row.now) place }
 {
     row.get(place).unwrap_or(b"")
-}
-
-/// The name that a field holds, if it is a name.
-pub fn name_of(field: &[u8]) -> Option<Name>
-    ensures some { is_some result ≡ is_name field.now }
-    ensures value { IfSome result (λ name. name ≡ field.now) }
-{
-    let Some(name) = Name::new(field) else {
-        return None;
-    };
-    if name.is_dotted() {
-        return None;
-    }
-    Some(name)
 }
 
 /// Whether the fields at these places are empty.

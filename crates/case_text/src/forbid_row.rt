@@ -7,10 +7,10 @@ ghost use Rattle.case_text.specs.Checks.{first_failing, forbid_checks};
 ghost use Rattle.case_text.specs.Answers.{Checked};
 
 use crate::fault::CaseWhy;
-use crate::fields::{are_empty, field, name_of};
+use crate::fields::{are_empty, field};
 use crate::found::Found;
 use csv::ByteRecord;
-use stream_case::{Forbid, MOST_FORBIDS, Side};
+use stream_case::{Forbid, MOST_FORBIDS, Name, Side};
 
 /// The forbidden match of a row of that kind.
 #[tactic(auto, unfolding(crate::specs::Checks::forbid_checks, crate::specs::Checks::is_among))]
@@ -23,10 +23,10 @@ pub fn forbid_of(found: &Found, row: &ByteRecord) -> Result<Forbid, CaseWhy>
     if found.count_forbids() >= MOST_FORBIDS {
         return Err(CaseWhy::TooMany);
     }
-    let Some(hot) = name_of(field(row, 1)) else {
+    let Some(hot) = Name::undotted(field(row, 1)) else {
         return Err(CaseWhy::BadName);
     };
-    let Some(cold) = name_of(field(row, 2)) else {
+    let Some(cold) = Name::undotted(field(row, 2)) else {
         return Err(CaseWhy::BadName);
     };
     let Some(hot) = found.source(Side::Hot, &hot) else {

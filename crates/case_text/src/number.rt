@@ -1,26 +1,10 @@
 //! Number texts.
 
-ghost use Rattle.std.specs.Prelude.{◌≡◌, ◌<◌, ◌^◌, IfSome, is_some};
-ghost use Rattle.case_text.specs.Numbers.{natural_in, number_in};
+ghost use Rattle.std.specs.Prelude.{◌≡◌, IfSome, is_some};
+ghost use Rattle.case_text.specs.Numbers.{number_in};
 ghost use Rattle.case_text.specs.Checks.{is_within};
 
-/// The number of 1 to 13 digits.
-fn natural_of(text: &[u8]) -> Option<u64>
-    ensures number { result ≡ natural_in text.now }
-    ensures small { IfSome result (λ n. n < 10 ^ 13) }
-{
-    if text.is_empty() || text.len() > 13 {
-        return None;
-    }
-    let mut number = 0;
-    for digit in text {
-        if !digit.is_ascii_digit() {
-            return None;
-        }
-        number = number * 10 + u64::from(*digit - b'0');
-    }
-    Some(number)
-}
+use stream_case::natural_of;
 
 /// The number that a field spells, if it is a number text: an optional `-` and then 1 to 13
 /// ASCII digits (this project's rule).
@@ -29,9 +13,9 @@ pub fn number_of(field: &[u8]) -> Option<i64>
     ensures { result ≡ number_in field.now }
 {
     if !field.is_empty() && field[0] == b'-' {
-        natural_of(&field[1..]).map(|n| -(n as i64))
+        natural_of(&field[1..], 13).map(|n| -(n as i64))
     } else {
-        natural_of(field).map(|n| n as i64)
+        natural_of(field, 13).map(|n| n as i64)
     }
 }
 

@@ -7,7 +7,7 @@ ghost use Rattle.case_text.specs.Checks.{first_failing, goes_right, is_reserved,
 ghost use Rattle.case_text.specs.Answers.{Checked, IsFresh};
 
 use crate::fault::CaseWhy;
-use crate::fields::{are_empty, field, name_of};
+use crate::fields::{are_empty, field};
 use crate::found::{Entry, Found, StreamData};
 use crate::number::{in_range, number_of};
 use csv::ByteRecord;
@@ -78,7 +78,7 @@ pub fn stream_of(found: &Found, side: Side, row: &ByteRecord) -> Result<(Name, S
     if found.count_streams(side) >= MOST_STREAMS {
         return Err(CaseWhy::TooMany);
     }
-    let Some(name) = name_of(field(row, 1)) else {
+    let Some(name) = Name::undotted(field(row, 1)) else {
         return Err(CaseWhy::BadName);
     };
     if is_reserved_name(field(row, 1)) {

@@ -7,7 +7,7 @@ ghost use Rattle.case_text.specs.Checks.{first_failing, is_at_most, is_reserved_
 ghost use Rattle.case_text.specs.Answers.{Checked, IsFresh};
 
 use crate::fault::CaseWhy;
-use crate::fields::{are_empty, field, name_of};
+use crate::fields::{are_empty, field};
 use crate::found::{Entry, Found, UtilityData};
 use crate::number::{in_range, in_wide_range, number_of};
 use csv::ByteRecord;
@@ -92,7 +92,7 @@ pub fn utility_of(
     if found.count_utilities() >= MOST_UTILITIES {
         return Err(CaseWhy::TooMany);
     }
-    let Some(name) = name_of(field(row, 1)) else {
+    let Some(name) = Name::undotted(field(row, 1)) else {
         return Err(CaseWhy::BadName);
     };
     if is_name_of_other_side(side, field(row, 1)) {

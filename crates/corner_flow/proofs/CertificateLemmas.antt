@@ -86,11 +86,12 @@ price-le target place p q h =
     (cases_Bool (int_eq target (pos 0)))
 
 -- a part's low is not above its high
-low_high : (grid : List ℤ) (place price : ℤ) (p : Part) → AllPairs (λ a b. b <ℤ a) grid → IsStandardPart grid place price p → p.low ≤ℤ p.high
+pub low_high : (grid : List ℤ) (place price : ℤ) (p : Part) → AllPairs (λ a b. b <ℤ a) grid → IsStandardPart grid place price p → p.low ≤ℤ p.high
 low_high grid place price p falls (inl s) = let less = interval_falls grid p.high p.low falls s.interval in omega (arith, ints)
 low_high grid place price p falls (inr u) = let high = u.high in let low = u.low in omega (arith, ints)
 
-passes_down : (p q : Part) → passes_heat p q ≡ true → q.low ≤ℤ q.high → q.low ≤ℤ p.low
+-- heat that passes goes down
+pub passes_down : (p q : Part) → passes_heat p q ≡ true → q.low ≤ℤ q.high → q.low ≤ℤ p.low
 passes_down p q h order =
     ⊎_elim (λ e. omega (arith, ints)) (λ e. let low = (Decides-int_eq p.low q.low).0 (and_parts (int_eq p.high q.high) (int_eq p.low q.low) e).1 in omega (arith, ints))
     (or_cases (int_le q.high p.low) (int_eq p.high q.high && int_eq p.low q.low) h)

@@ -1,10 +1,8 @@
 -- No heat crosses a pinch: what is needed above it is all that the hot parts above it give.
-use Rattle.std.proofs.Common.{◌≡◌, ◌⊎◌, ⊎_elim, inl, inr, ◌∙◌, sym, ap, ap₂, ℕ, ◌<◌, true, not, ◌&&◌, List, [], ◌∷◌, length, get_or, Some, arith}
+use Rattle.std.proofs.Common.{◌≡◌, ◌⊎◌, ⊎_elim, inl, inr, ◌∙◌, sym, ap, ap₂, ℕ, ◌<◌, true, not, List, [], ◌∷◌, length, get_or, Some, arith}
 use Rattle.std.specs.Prelude.{ℤ, pos, ◌+ℤ◌, ◌*ℤ◌, ◌≤ℤ◌, ◌<ℤ◌, int_le, if◌then◌else◌, All, AllPairs, Contains, slice_get}
-use Rattle.std.specs.Ordering.{int_eq}
 use Rattle.std.proofs.lemmas.Int.{ints, by_lt_z}
-use Rattle.std.proofs.lemmas.Bool.{and_parts, or_cases}
-use Rattle.std.proofs.lemmas.Bool.Decides.{Decides-int_eq}
+use Rattle.std.proofs.lemmas.Bool.{and_parts}
 use Rattle.std.proofs.lemmas.List.Elements.{All-nil, All-cons, All-head, All-tail, All-contains}
 use Rattle.std.proofs.lemmas.Option.{slice_get-get_or, get_or_from_slice_get}
 use Rattle.stream_case.specs.declared.source.Side.{Side}
@@ -13,7 +11,7 @@ use Rattle.stream_case.specs.declared.case.Case.{Case}
 use Rattle.stream_case.specs.Case.{IsBetween, IsComplete, IsStandard}
 use Rattle.stream_case.specs.Stream.{stream_ends}
 use Rattle.sums.specs.Sum.{int_sum_by}
-use Rattle.sums.proofs.ConsLemmas.{int_le-true, int_le-from, int_le-false}
+use Rattle.sums.proofs.ConsLemmas.{int_le-from, int_le-false}
 use Rattle.sums.proofs.ProductLemmas.{*ℤ-≤ℤ_right}
 use Rattle.sums.proofs.SumLemmas.{int_sum_by-le, int_sum_from-by, int_sum_from-same_each, int_sum_from-grouped}
 use Rattle.problem_table.specs.Deficit.{hot_target, IsPinch}
@@ -28,6 +26,8 @@ use Rattle.heat_flow.specs.Flow.{place_of, heat_at}
 use Rattle.heat_flow.specs.Reach.{passes_heat, part_reaches, both_reach, is_forbidden}
 use Rattle.heat_flow.proofs.PriceLemmas.{blank}
 use Rattle.corner_flow.specs.Corner.{IsFlowOf, UtilityHeat, NoHeatCrosses, NoHeatCrossesPinch}
+use Rattle.corner_flow.proofs.PriceLemmas.{zero_times, one_times}
+use Rattle.corner_flow.proofs.CertificateLemmas.{low_high, passes_down}
 use Rattle.corner_flow.proofs.StandardLemmas.{top_of, bottom_of, grid_within, end_on_grid}
 use Rattle.corner_flow.proofs.SideLemmas.{IsStreamHere, IsStandardPart, IsStandardSide, side_heat, side_heat-hot, side_heat-cold, hot_side, cold_side}
 use Rattle.corner_flow.proofs.ReachLemmas.{above_whole, below_none, from_utility}
@@ -43,24 +43,18 @@ is_above place p most = ap (λ b. if b then pos 1 else pos 0) (int_le-from place
 is_below : (place : ℤ) (p : Part) → p.low <ℤ place → above place p ≡ pos 0
 is_below place p less = ap (λ b. if b then pos 1 else pos 0) (int_le-false place p.low less)
 
-counted : (x heat : ℤ) → x ≡ pos 1 → x *ℤ heat ≡ heat
-counted x heat e = ap (λ z. z *ℤ heat) e ∙ omega (arith, ints)
-
-not_counted : (x heat : ℤ) → x ≡ pos 0 → x *ℤ heat ≡ pos 0
-not_counted x heat e = ap (λ z. z *ℤ heat) e ∙ omega (arith, ints)
-
 -- ---- what the parts above a place give or take
 
 stream_heat : (grid : List ℤ) (place each heat : ℤ) (p : Part) → IsStreamHere grid p → IsBetween p.least p.most heat → above place p *ℤ heat ≡ heat_from place each p
 stream_heat grid place each heat p s range =
     by_lt_z p.low place
-    (λ less. not_counted (above place p) heat (is_below place p less) ∙ sym (below_none place each p s.source_is less))
+    (λ less. zero_times (above place p) heat (is_below place p less) ∙ sym (below_none place each p s.source_is less))
     (λ most.
     let from = range.from in
     let upto = range.upto in
     let fixed = s.fixed in
     let whole : heat ≡ p.least = omega (arith, ints) in
-    counted (above place p) heat (is_above place p most) ∙ whole ∙ sym (above_whole place each p s.source_is most))
+    one_times (above place p) heat (is_above place p most) ∙ whole ∙ sym (above_whole place each p s.source_is most))
 
 -- the heat of the transfers whose part of a side is above a place, part by part
 side_above : (side : Side) (parts : List Part) (place each : ℤ) (ts : List Transfer) → All (λ t. place_of side t < length parts) ts → ((a : ℕ) (p : Part) → slice_get parts a ≡ Some p → above place p *ℤ heat_at side ts a ≡ heat_from place each p) → int_sum_by (λ t. above place (get_or parts (place_of side t) blank) *ℤ t.heat) ts ≡ int_sum_by (heat_from place each) parts
@@ -83,16 +77,12 @@ above-reached grid end place p q falls part passes =
     (either p.low place))
     (λ most.
     let other = is_above place q most in
-    let mine = is_above place p (lower most part (or_cases (int_le q.high p.low) (int_eq p.high q.high && int_eq p.low q.low) passes)) in
+    let down = passes_down p q passes (low_high grid end (pos 0) q falls part) in
+    let mine = is_above place p (omega (arith, ints)) in
     omega (arith, ints))
   where
     either : (a b : ℤ) → (a <ℤ b) ⊎ (b ≤ℤ a)
     either a b = by_lt_z a b (λ less. inl less) (λ most. inr most)
-
-    lower : place ≤ℤ q.low → IsStandardPart grid end (pos 0) q → (int_le q.high p.low ≡ true) ⊎ ((int_eq p.high q.high && int_eq p.low q.low) ≡ true) → place ≤ℤ p.low
-    lower most part (inr same) = let low = (Decides-int_eq p.low q.low).0 (and_parts (int_eq p.high q.high) (int_eq p.low q.low) same).1 in omega (arith, ints)
-    lower most (inl s) (inl over) = let less = interval_falls grid q.high q.low falls s.interval in let le = int_le-true q.high p.low over in omega (arith, ints)
-    lower most (inr u) (inl over) = let high = u.high in let low = u.low in let le = int_le-true q.high p.low over in omega (arith, ints)
 
 -- where two sums are equal and no term of the one is greater, the terms are equal
 equal_terms : {X : Type 0} (f g : X → ℤ) (xs : List X) → All (λ x. f x ≤ℤ g x) xs → int_sum_by f xs ≡ int_sum_by g xs → All (λ x. f x ≡ g x) xs
@@ -135,7 +125,7 @@ module _ (c : Case) (hot cold : List Part) (complete : IsComplete c) (standard :
       (λ u.
       let low = u.low in
       let top = top_above in
-      counted (above place p) (heat_at Hot ts a) (is_above place p (omega (arith, ints)))
+      one_times (above place p) (heat_at Hot ts a) (is_above place p (omega (arith, ints)))
       ∙ given a p at (ap not u.source_is)
       ∙ sym (from_utility place (hot_target c.streams) p u.source_is))
       (part_at hot (IsStandardPart parts.grid (top_of c) (pos 1)) hots.each a p at))
@@ -151,7 +141,7 @@ module _ (c : Case) (hot cold : List Part) (complete : IsComplete c) (standard :
       (λ u.
       let low = u.low in
       let bottom = bottom_below in
-      not_counted (above place q) (heat_at Cold ts b) (is_below place q (omega (arith, ints)))
+      zero_times (above place q) (heat_at Cold ts b) (is_below place q (omega (arith, ints)))
       ∙ sym (from_utility place (pos 0) q u.source_is))
       (part_at cold (IsStandardPart parts.grid (bottom_of c) (pos 0)) colds.each b q at))
       ∙ colds.sum place (pos 0) on_grid
@@ -184,9 +174,9 @@ module _ (c : Case) (hot cold : List Part) (complete : IsComplete c) (standard :
       equal_terms (λ u. above place (get_or cold u.cold blank) *ℤ u.heat) (λ u. above place (get_or hot u.hot blank) *ℤ u.heat) ts taken-le (omega (arith, ints)) in
       let hot_is = get_or_from_slice_get hot t.hot crossing.hot_part blank crossing.from in
       let cold_is = get_or_from_slice_get cold t.cold crossing.cold_part blank crossing.to in
-      let gives = counted (above place p) t.heat (ap (above place) hot_is ∙ is_above place crossing.hot_part crossing.above) in
+      let gives = one_times (above place p) t.heat (ap (above place) hot_is ∙ is_above place crossing.hot_part crossing.above) in
       let low = below_high crossing.cold_part crossing.below (part_at cold (IsStandardPart parts.grid (bottom_of c) (pos 0)) colds.each t.cold crossing.cold_part crossing.to) in
-      let takes = not_counted (above place q) t.heat (ap (above place) cold_is ∙ is_below place crossing.cold_part low) in
+      let takes = zero_times (above place q) t.heat (ap (above place) cold_is ∙ is_below place crossing.cold_part low) in
       let same = each k d within in
       let heat = flow.positive k d within in
       omega (arith, ints)

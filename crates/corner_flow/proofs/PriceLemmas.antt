@@ -82,10 +82,10 @@ utility_price : (grid : List ℤ) (place price : ℤ) (p : Part) → IsStandardP
 utility_price grid place price p (inl s) e = absurd (both_ways (is_stream p.source) e s.source_is)
 utility_price grid place price p (inr u) e = u.costs
 
-zero_times : (x y : ℤ) → x ≡ pos 0 → x *ℤ y ≡ pos 0
+pub zero_times : (x y : ℤ) → x ≡ pos 0 → x *ℤ y ≡ pos 0
 zero_times x y e = ap (λ z. z *ℤ y) e ∙ *ℤ_comm (pos 0) y ∙ *ℤ-zero y
 
-one_times : (x y : ℤ) → x ≡ pos 1 → x *ℤ y ≡ y
+pub one_times : (x y : ℤ) → x ≡ pos 1 → x *ℤ y ≡ y
 one_times x y e = ap (λ z. z *ℤ y) e ∙ omega (arith, ints)
 
 no_price : (grid : List ℤ) (place : ℤ) (p : Part) → IsStandardPart grid place (pos 0) p → p.price ≡ pos 0

@@ -9,7 +9,8 @@ use Rattle.std.specs.Int.Signed.{≤ℤ_refl, clash_ℤ}
 use Rattle.std.proofs.lemmas.Int.{by_lt_z, ints}
 use mathlib.Core.Path.{subst₂}
 use Rattle.std.proofs.Math.Nat.{mul-pos}
-use Rattle.fractions.specs.Integers.{*ℤ-<ℤ, *ℤ-≤ℤ, *ℤ_assoc, *ℤ_swap, <ℤ_from_*ℤ, ≤ℤ_from_*ℤ}
+use Rattle.sums.proofs.ProductLemmas.{*ℤ-≤ℤ_right}
+use Rattle.fractions.specs.Integers.{*ℤ-<ℤ, *ℤ_assoc, *ℤ_swap, <ℤ_from_*ℤ, ≤ℤ_from_*ℤ}
 use Rattle.fractions.specs.LowestForms.{ratio-value, same_from_value}
 use Rattle.fractions.specs.Rationals.{IsAtMost, IsBelow, Rational, minus, over, plus, ratio, rational_cmp, rational_sum_by, rational_zero, times, whole}
 use Rattle.fractions.specs.Order.{rational_ranks}
@@ -31,13 +32,13 @@ other-scaled n m d some = cross-scaled m n d some ∙ ap (λ k. m *ℤ pos k) (o
 
 pub at_most-ratio : (n m : ℤ) (d : ℕ) → 0 < d → n ≤ℤ m → IsAtMost (ratio n d) (ratio m d)
 at_most-ratio n m d some h = record {
-  cross = ≤ℤ_from_*ℤ _ _ d some (subst₂ ◌≤ℤ◌ (sym (cross-scaled n m d some)) (sym (other-scaled n m d some)) (*ℤ-≤ℤ n m ((ratio n d).den * (ratio m d).den) h));
+  cross = ≤ℤ_from_*ℤ _ _ d some (subst₂ ◌≤ℤ◌ (sym (cross-scaled n m d some)) (sym (other-scaled n m d some)) (*ℤ-≤ℤ_right (pos ((ratio n d).den * (ratio m d).den)) n m (omega (arith, ints)) h));
 }
 
 pub at_most_from_ratio : (n m : ℤ) (d : ℕ) → 0 < d → IsAtMost (ratio n d) (ratio m d) → n ≤ℤ m
 at_most_from_ratio n m d some h =
     ≤ℤ_from_*ℤ n m ((ratio n d).den * (ratio m d).den) (mul-pos (ratio n d).positive (ratio m d).positive)
-    (subst₂ ◌≤ℤ◌ (cross-scaled n m d some) (other-scaled n m d some) (*ℤ-≤ℤ _ _ d h.cross))
+    (subst₂ ◌≤ℤ◌ (cross-scaled n m d some) (other-scaled n m d some) (*ℤ-≤ℤ_right (pos d) _ _ (omega (arith, ints)) h.cross))
 
 pub below-ratio : (n m : ℤ) (d : ℕ) → 0 < d → n <ℤ m → IsBelow (ratio n d) (ratio m d)
 below-ratio n m d some h = record {
@@ -231,7 +232,7 @@ positive-plus = by_two (λ a b. IsBelow rational_zero a → IsAtMost rational_ze
 
 -- a factor that is not negative keeps the order
 at_most-*ℤ : (n m l : ℤ) → pos 0 ≤ℤ l → n ≤ℤ m → (n *ℤ l) ≤ℤ (m *ℤ l)
-at_most-*ℤ n m (pos k) some h = *ℤ-≤ℤ n m k h
+at_most-*ℤ n m (pos k) some h = *ℤ-≤ℤ_right (pos k) n m (omega (arith, ints)) h
 at_most-*ℤ n m (negsuc k) some h = absurd (omega (arith, ints, some))
 
 below-*ℤ : (n m l : ℤ) → pos 0 <ℤ l → n <ℤ m → (n *ℤ l) <ℤ (m *ℤ l)

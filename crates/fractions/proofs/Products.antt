@@ -3,7 +3,8 @@ use Rattle.std.proofs.Common.{◌≡◌, ◌≢◌, ◌∙◌, ◌*◌, ◌<◌,
 use Rattle.std.proofs.lemmas.Int.{ints}
 use Rattle.std.proofs.Math.IntN.{*ℤ-zero, *ℤ_comm}
 use Rattle.std.proofs.Math.Nat.{eq-zero-or-pos, mul-one, mul-pos}
-use Rattle.fractions.specs.Integers.{*ℤ-+ℤ, *ℤ--ℤ, *ℤ-pos_one, *ℤ_assoc, signed, signed-*ℤ-signed, signed-sign, zero_from_size}
+use Rattle.sums.proofs.ProductLemmas.{*ℤ-+ℤ, *ℤ--ℤ}
+use Rattle.fractions.specs.Integers.{*ℤ-pos_one, *ℤ_assoc, signed, signed-*ℤ-signed, signed-sign, zero_from_size}
 use Rattle.fractions.specs.LowestForms.{ratio-self}
 use Rattle.fractions.specs.Rationals.{Rational, minus, over, plus, ratio, rational_one, rational_sum_by, rational_zero, reciprocal, times}
 use Rattle.fractions.proofs.Ratios.{by_one, by_three, by_two, minus-ratio_same_den, plus-ratio_same_den, ratio-one, ratio-same, ratio-zero, times-ratio}

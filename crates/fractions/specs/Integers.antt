@@ -1,11 +1,12 @@
--- Sums, products and the order of whole numbers: what std has not.
+-- Sums, products and the order of whole numbers: what std and the crate `sums` have not.
 use Rattle.std.proofs.Common.{◌≡◌, ◌∙◌, ◌+◌, ◌*◌, ◌<◌, ◌≤◌, ◌⊎◌, ◌+ℤ◌, ◌-ℤ◌, ◌*ℤ◌, ◌<ℤ◌, ◌≤ℤ◌, ℕ, zero, suc, ℤ, pos, negsuc, neg_ℤ, unsigned_abs, Bool, true, false, not, if◌then◌else◌, int_lt, inl, inr, refl, sym, ap, arith}
 use Rattle.std.specs.Bool.{beq}
 use Rattle.std.specs.Int.Signed.{clash_ℤ}
 use Rattle.std.proofs.lemmas.Int.{by_lt_z, ints}
 use Rattle.std.proofs.lemmas.Bool.Decides.{nat_tests}
-use Rattle.std.proofs.Math.Nat.{eq_of_mul-eq-mul_right, mul-le-mul_right, mul-lt-mul_of_pos_right}
+use Rattle.std.proofs.Math.Nat.{eq_of_mul-eq-mul_right, mul-lt-mul_of_pos_right}
 use Rattle.std.proofs.Math.IntN.{*ℤ_comm}
+use Rattle.sums.proofs.ProductLemmas.{*ℤ-≤ℤ_right}
 
 -- ---- a whole number as a difference of two naturals: an identity of whole numbers is then one of naturals
 
@@ -77,16 +78,6 @@ pub *ℤ_assoc : (a b c : ℤ) → a *ℤ b *ℤ c ≡ a *ℤ (b *ℤ c)
     let x = as_diff a in let y = as_diff b in let z = as_diff c in
     rw (x.is, y.is, z.is) (simp diff-mul (diff-same _ _ _ _ (omega arith)))
 
-pub *ℤ-+ℤ : (a b c : ℤ) → a *ℤ (b +ℤ c) ≡ a *ℤ b +ℤ a *ℤ c
-*ℤ-+ℤ a b c =
-    let x = as_diff a in let y = as_diff b in let z = as_diff c in
-    rw (x.is, y.is, z.is) (simp (diff-add, diff-mul) (diff-same _ _ _ _ (omega arith)))
-
-pub *ℤ--ℤ : (a b c : ℤ) → a *ℤ (b -ℤ c) ≡ a *ℤ b -ℤ a *ℤ c
-*ℤ--ℤ a b c =
-    let x = as_diff a in let y = as_diff b in let z = as_diff c in
-    rw (x.is, y.is, z.is) (simp (diff-sub, diff-mul) (diff-same _ _ _ _ (omega arith)))
-
 -- the factors of a product of four in another order
 pub *ℤ-interchange : (a b c d : ℤ) → a *ℤ b *ℤ (c *ℤ d) ≡ a *ℤ c *ℤ (b *ℤ d)
 *ℤ-interchange a b c d =
@@ -122,21 +113,9 @@ pub *ℤ-<ℤ : (a b : ℤ) (k : ℕ) → 0 < k → a <ℤ b → (a *ℤ pos k) 
     let more = mul-lt-mul_of_pos_right less some in
     omega (arith, ints, more)
 
-pub *ℤ-≤ℤ : (a b : ℤ) (k : ℕ) → a ≤ℤ b → (a *ℤ pos k) ≤ℤ (b *ℤ pos k)
-*ℤ-≤ℤ (pos a) (pos b) k h =
-    let less : a ≤ b = omega (arith, ints, h) in
-    let more = mul-le-mul_right k less in
-    omega (arith, ints, more)
-*ℤ-≤ℤ (pos a) (negsuc b) k h = absurd (omega (arith, ints, h))
-*ℤ-≤ℤ (negsuc a) (pos b) k h = omega (arith, ints)
-*ℤ-≤ℤ (negsuc a) (negsuc b) k h =
-    let less : suc b ≤ suc a = omega (arith, ints, h) in
-    let more = mul-le-mul_right k less in
-    omega (arith, ints, more)
-
 -- a factor above 0 is taken away
 pub <ℤ_from_*ℤ : (a b : ℤ) (k : ℕ) → (a *ℤ pos k) <ℤ (b *ℤ pos k) → a <ℤ b
-<ℤ_from_*ℤ a b k h = by_lt_z a b (λ less. less) (λ not_less. clash_ℤ h (*ℤ-≤ℤ b a k not_less))
+<ℤ_from_*ℤ a b k h = by_lt_z a b (λ less. less) (λ not_less. clash_ℤ h (*ℤ-≤ℤ_right (pos k) b a (omega (arith, ints)) not_less))
 
 pub ≤ℤ_from_*ℤ : (a b : ℤ) (k : ℕ) → 0 < k → (a *ℤ pos k) ≤ℤ (b *ℤ pos k) → a ≤ℤ b
 ≤ℤ_from_*ℤ a b k some h = by_lt_z b a (λ less. clash_ℤ (*ℤ-<ℤ b a k some less) h) (λ not_less. not_less)

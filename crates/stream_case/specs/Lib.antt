@@ -1,4 +1,5 @@
 pub mod Case
+pub mod Digits
 pub mod Name
 pub mod Shift
 pub mod Stream

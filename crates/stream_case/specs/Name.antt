@@ -1,8 +1,9 @@
 -- Names of streams, utilities, exchangers and branches.
-use Rattle.std.specs.Prelude.{◌≡◌, ℕ, ◌-◌, ◌≤◌, ◌⊎◌, Bool, ◌||◌, ◌==◌, List, [], ◌∷◌, ◌++◌, length, All, IsTrue, replicate, take, drop}
+use Rattle.std.specs.Prelude.{◌≡◌, ℕ, ◌-◌, ◌≤◌, ◌⊎◌, Bool, false, ◌||◌, ◌&&◌, ◌==◌, nat_le, List, [], ◌∷◌, ◌++◌, length, All, IsTrue, replicate, take, drop}
 use Rattle.std.proofs.Common.{sym, ap, ◌∙◌, arith}
 use Rattle.std.proofs.lemmas.List.{length-take-le, take-append-drop}
 use Rattle.std.specs.Char.{is_ascii_alphanumeric}
+use Rattle.std.specs.List.{list_all}
 
 -- a letter, a digit, `_` or `-`
 abbrev pub is_name_byte : ℕ → Bool
@@ -17,6 +18,11 @@ IsName (b ∷ bs) = IsTrue (is_ascii_alphanumeric b) × All (λ x. IsTrue (is_na
 abbrev pub IsDottedName : List ℕ → Type 0
 IsDottedName [] = ⊥
 IsDottedName (b ∷ bs) = (b ≡ 46) × IsName bs
+
+-- the test of a name
+unfoldable pub is_name : List ℕ → Bool
+is_name [] = false
+is_name (b ∷ bs) = is_ascii_alphanumeric b && list_all is_name_byte bs && nat_le (length bs) 15
 
 -- what a `Name` can hold
 abbrev pub IsAnyName : List ℕ → Type 0

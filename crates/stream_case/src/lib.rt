@@ -6,6 +6,7 @@
 
 mod case;
 mod completion;
+mod digits;
 mod items;
 mod name;
 mod source;
@@ -17,6 +18,7 @@ mod validity;
 
 pub use case::{Case, Forbid};
 pub use completion::{complete, is_complete, is_standard};
+pub use digits::natural_of;
 pub use items::Items;
 pub use name::Name;
 pub use source::{Side, Source};

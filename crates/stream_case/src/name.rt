@@ -1,13 +1,13 @@
 //! Names of streams, utilities, exchangers and branches.
 ghost use Rattle.std.specs.Prelude.{◌≡◌, ◌↔◌, ◌⊎◌, ◌+◌, ◌-◌, ◌*◌, ◌<◌, ◌≤◌, SomeIff, IsTrue, slice_index, length};
-ghost use Rattle.std.specs.Prelude.{nat_eq, Some, refl};
+ghost use Rattle.std.specs.Prelude.{nat_eq, Some, refl, is_some, IfSome};
 ghost use Rattle.std.specs.Ordering.{nat_cmp};
 ghost use Rattle.std.specs.Hash as fed;
 ghost use Rattle.std.specs.Cmp.Lexicographic.{pointwise, slice_cmp, nat_list_eq_equiv, nat_list_cmp_total, texts_ties, texts_po};
 ghost use Rattle.std.specs.Cmp.{partial_equiv_from_equiv};
 ghost use Rattle.std.specs.Cmp.Rules.{hashing};
 ghost use Rattle.std.proofs.Common.{rules};
-ghost use Rattle.stream_case.specs.Name.{IsName, IsDottedName, IsAnyName, is_name_byte};
+ghost use Rattle.stream_case.specs.Name.{IsName, IsDottedName, IsAnyName, is_name, is_name_byte};
 
 use std::cmp::Ordering;
 use std::fmt;
@@ -89,6 +89,17 @@ impl Name {
             bytes: stored,
             len: bytes.len() as u8,
         })
+    }
+
+    /// The name of these bytes, if they are a name without a dot before it.
+    pub fn undotted(bytes: &[u8]) -> Option<Name>
+        ensures some { is_some result ≡ is_name bytes.now }
+        ensures value { IfSome result (λ name. name ≡ bytes.now) }
+    {
+        if !is_name(bytes) {
+            return None;
+        }
+        Name::new(bytes)
     }
 
     /// Whether the name begins with `.`.

@@ -1,10 +1,9 @@
--- The test of a name.
-use Rattle.std.proofs.Common.{◌≡◌, ◌≤◌, ℕ, Bool, true, false, List, [], ◌∷◌, length, get_or, refl, sym, ap, ◌∙◌, arith, inl, inr, ◌&&◌, nat_le}
+-- What the test of a name says.
+use Rattle.std.proofs.Common.{◌≡◌, ◌≤◌, ℕ, Bool, true, false, List, [], ◌∷◌, length, refl, arith, ◌&&◌, nat_le}
 use Rattle.std.specs.Char.{is_ascii_alphanumeric}
 use Rattle.std.proofs.lemmas.Bool.Decides.{nat_tests}
 use Rattle.std.proofs.lemmas.List.Sums.{AllPass-from_list_all, list_all-from_AllPass}
-use Rattle.stream_case.specs.Name.{IsAnyName, IsName, is_name_byte}
-use Rattle.case_text.specs.Checks.{is_name}
+use Rattle.stream_case.specs.Name.{IsName, is_name, is_name_byte}
 
 -- three tests that are true
 pub all_three : (a b c : Bool) → ((a && b) && c) ≡ true → (a ≡ true) × (b ≡ true) × (c ≡ true)
@@ -34,18 +33,5 @@ pub not_true : (b : Bool) → (b ≡ true → ⊥) → b ≡ false
 not_true true never = absurd (never refl)
 not_true false never = refl
 
--- a dotted name is none
-not_dotted : (text : List ℕ) → IsName text → get_or text 0 0 ≡ 46 → ⊥
-not_dotted [] h e = absurd h
-not_dotted (b ∷ bs) h e = let dot : is_ascii_alphanumeric 46 ≡ true = ap is_ascii_alphanumeric (sym e) ∙ h.0 in cc dot
-
-pub dotted-fails : (text : List ℕ) → get_or text 0 0 ≡ 46 → is_name text ≡ false
-dotted-fails text e = not_true _ (λ passes. not_dotted text (passed-name text passes) e)
-
-pub none-fails : (text : List ℕ) → (IsAnyName text → ⊥) → is_name text ≡ false
-none-fails text never = not_true _ (λ passes. never (inl (passed-name text passes)))
-
-pub undotted-passes : (text : List ℕ) → IsAnyName text → (get_or text 0 0 ≡ 46 → ⊥) → is_name text ≡ true
-undotted-passes text (inl h) never = name-passes text h
-undotted-passes [] (inr h) never = absurd h
-undotted-passes (b ∷ bs) (inr h) never = absurd (never h.0)
+pub fails-name : (text : List ℕ) → (IsName text → ⊥) → is_name text ≡ false
+fails-name text never = not_true _ (λ passes. never (passed-name text passes))
