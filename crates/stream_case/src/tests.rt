@@ -1,6 +1,6 @@
 use crate::{
     Case, Forbid, Items, Name, Side, Source, Stream, Utility, complete, is_complete, is_standard,
-    is_valid, shifted,
+    is_valid, natural_of, shifted,
 };
 use std::alloc::{AllocError, Global};
 use std::process::Abort;
@@ -47,6 +47,17 @@ fn four_streams(rt: &impl Abort, alloc: Global) -> Result<Case, AllocError> {
         utilities: Items::new(alloc),
         forbids: Items::new(alloc),
     })
+}
+
+#[test]
+fn texts_are_names_and_numbers(rt: HostRuntime) -> Result<(), Fail> {
+    assert!(rt; Name::undotted(b"H-2").is_some());
+    assert!(rt; Name::undotted(b".a").is_none());
+    assert_eq!(rt; natural_of(b"0042", 13), Some(42));
+    assert_eq!(rt; natural_of(b"12345678901234", 13), None);
+    assert_eq!(rt; natural_of(b"4x", 13), None);
+    assert_eq!(rt; natural_of(b"", 13), None);
+    Ok(())
 }
 
 #[test]
