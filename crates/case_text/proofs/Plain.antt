@@ -1,5 +1,5 @@
 -- Rows of plain fields, as lines of text, are read as themselves.
-use Rattle.std.proofs.Common.{◌≡◌, ◌≢◌, ◌∙◌, ◌<◌, ◌≤◌, ◌+◌, ◌∷◌, ◌++◌, ◌==◌, ℕ, ℤ, pos, negsuc, ◌^◌, get_or, nat_le, option_map, zero, suc, true, false, List, [], All, Some, length, refl, sym, ap, arith, append_assoc, length-append}
+use Rattle.std.proofs.Common.{◌≡◌, ◌≢◌, ◌∙◌, ◌<◌, ◌≤◌, ◌+◌, ◌∷◌, ◌++◌, ◌==◌, ℕ, ℤ, pos, negsuc, ◌^◌, get_or, option_map, zero, suc, true, false, List, [], All, Some, length, refl, sym, ap, arith, append_assoc, length-append}
 use Rattle.std.specs.List.{list_any}
 use Rattle.std.proofs.lemmas.Bool.Decides.{nat_tests}
 use Rattle.std.proofs.lemmas.List.Elements.{All-cons, All-head, All-tail, All-weaker}

@@ -1,5 +1,5 @@
 -- Sums, products and the order of whole numbers: what std and the crate `sums` have not.
-use Rattle.std.proofs.Common.{◌≡◌, ◌∙◌, ◌+◌, ◌*◌, ◌<◌, ◌≤◌, ◌⊎◌, ◌+ℤ◌, ◌-ℤ◌, ◌*ℤ◌, ◌<ℤ◌, ◌≤ℤ◌, ℕ, zero, suc, ℤ, pos, negsuc, neg_ℤ, unsigned_abs, Bool, true, false, not, if◌then◌else◌, int_lt, inl, inr, refl, sym, ap, arith}
+use Rattle.std.proofs.Common.{◌≡◌, ◌∙◌, ◌+◌, ◌*◌, ◌<◌, ◌⊎◌, ◌+ℤ◌, ◌-ℤ◌, ◌*ℤ◌, ◌<ℤ◌, ◌≤ℤ◌, ℕ, zero, suc, ℤ, pos, negsuc, neg_ℤ, unsigned_abs, Bool, true, false, not, if◌then◌else◌, int_lt, inl, inr, refl, sym, ap, arith}
 use Rattle.std.specs.Bool.{beq}
 use Rattle.std.specs.Int.Signed.{clash_ℤ}
 use Rattle.std.proofs.lemmas.Int.{by_lt_z, ints}

@@ -1,5 +1,5 @@
 use Rattle.std.proofs.Common.{◌≡◌, ◌∙◌, sym, refl, inl, true, Option, Some, None, SomeIff, is_some}
-use Rattle.stream_case.specs.Name.{IsAnyName, IsName}
+use Rattle.stream_case.specs.Name.{IsName}
 use Rattle.stream_case.proofs.NameTests.{fails-name, name-passes}
 use Rattle.stream_case.proofs.name.Name.undotted.Goals as goal
 
