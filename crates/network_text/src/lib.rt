@@ -1,0 +1,15 @@
+//! The text of an exchanger network: its grammar, and reading and printing it.
+//!
+//! An engineer writes a proposed network down as statements, one a line: exchangers with their
+//! duties, splits, passes of branches through exchangers, mixes, and where each stream ends. The
+//! grammar says of a text and a completed case either which network the text gives, or which
+//! statement is at fault and why.
+#![tactic(auto)]
+
+mod fault;
+mod found;
+mod kind;
+mod network;
+
+pub use fault::{NetFault, NetWhy};
+pub use network::{Branch, Line, Network};
