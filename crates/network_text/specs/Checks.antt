@@ -1,8 +1,7 @@
 -- The checks of a statement, in their order. A check is a sentence on the statement and on what the statements before it gave.
-use Rattle.std.specs.Prelude.{ℕ, Bool, false, not, ◌==◌, ◌&&◌, ◌||◌, List, [], ◌∷◌, length, find, Option, Some, None, is_some, option_map, nat_lt, slice_get}
+use Rattle.std.specs.Prelude.{ℕ, Bool, false, not, ◌==◌, ◌&&◌, ◌||◌, List, [], ◌∷◌, length, find, Option, Some, None, is_some, option_map, nat_lt, slice_get, take}
 use Rattle.std.specs.List.{flat_map, list_any, range_with_len}
 use Rattle.std.specs.Str.{bytes_eq}
-use Rattle.std.specs.Prelude.{take}
 use Rattle.stream_case.specs.declared.case.Case.{Case}
 use Rattle.stream_case.specs.declared.source.Side.{Side}
 use Rattle.stream_case.specs.declared.source.Side.TheVariants as side
@@ -116,19 +115,20 @@ is_passed given exchanger stream = list_any (same_passage (record { exchanger = 
 abbrev pub is_free_side : Network → ℕ → ℕ → Bool
 is_free_side given exchanger stream = joins_stream given exchanger stream && not (is_passed given exchanger stream)
 
-unfoldable pub passed_checks : Network → List ℕ → List ℕ → List Check
+-- by the number of the branch, and the name of the exchanger
+unfoldable pub passed_checks : Network → ℕ → List ℕ → List Check
 passed_checks given branch exchanger =
     (is_some (exchanger_named given exchanger), why.UnknownName)
-    ∷ (is_free_side given (exchanger_at given exchanger) (stream_at given.branches (branch_at given branch)), why.WrongPass)
+    ∷ (is_free_side given (exchanger_at given exchanger) (stream_at given.branches branch), why.WrongPass)
     ∷ []
 
--- ---- two branches that are mixed
+-- ---- two branches that are mixed, by their numbers
 
--- the first counts as used
-unfoldable pub mixed_checks : Network → List ℕ → List ℕ → List Check
+-- for the second branch, the first counts as used
+unfoldable pub mixed_checks : Network → ℕ → ℕ → List Check
 mixed_checks given first second =
-    (not (bytes_eq second first), why.SpentBranch)
-    ∷ (stream_at given.branches (branch_at given first) == stream_at given.branches (branch_at given second), why.OtherStream)
+    (not (second == first), why.SpentBranch)
+    ∷ (stream_at given.branches first == stream_at given.branches second, why.OtherStream)
     ∷ []
 
 -- ---- the checks of each kind of statement: the number of fields, and then the fields from left to right
@@ -148,12 +148,12 @@ split_checks given s =
 unfoldable pub pass_checks : Network → Statement → List Check
 pass_checks given s =
     (length s == 4, why.FieldCount)
-    ∷ in_turn (used_branch_checks given (field s 1) ∷ passed_checks given (field s 1) (field s 2) ∷ new_branch_checks given (field s 3) ∷ [])
+    ∷ in_turn (used_branch_checks given (field s 1) ∷ passed_checks given (branch_at given (field s 1)) (field s 2) ∷ new_branch_checks given (field s 3) ∷ [])
 
 unfoldable pub mix_checks : Network → Statement → List Check
 mix_checks given s =
     (length s == 4, why.FieldCount)
-    ∷ in_turn (used_branch_checks given (field s 1) ∷ used_branch_checks given (field s 2) ∷ mixed_checks given (field s 1) (field s 2) ∷ new_branch_checks given (field s 3) ∷ [])
+    ∷ in_turn (used_branch_checks given (field s 1) ∷ used_branch_checks given (field s 2) ∷ mixed_checks given (branch_at given (field s 1)) (branch_at given (field s 2)) ∷ new_branch_checks given (field s 3) ∷ [])
 
 unfoldable pub end_checks : Network → Statement → List Check
 end_checks given s = (length s == 2, why.FieldCount) ∷ in_turn (used_branch_checks given (field s 1) ∷ [])

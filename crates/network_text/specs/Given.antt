@@ -39,7 +39,7 @@ first_source None None = None
 
 -- the source of the case with a name
 unfoldable pub source_named : Case → List ℕ → Option Source
-source_named case name = first_source (position (bytes_eq name) (map (λ s. s.name) case.streams)) (position (bytes_eq name) (map (λ u. u.name) case.utilities))
+source_named case name = first_source (position (λ s. bytes_eq name s.name) case.streams) (position (λ u. bytes_eq name u.name) case.utilities)
 
 -- the number of the branch with a name
 unfoldable pub branch_named : Network → List ℕ → Option ℕ

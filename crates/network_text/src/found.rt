@@ -39,3 +39,10 @@ pub struct Passage {
     pub exchanger: u32,
     pub stream: u32,
 }
+
+/// The two sources that an exchanger joins.
+#[derive(Clone, Copy, PartialEq, Eq)]
+pub struct Sides {
+    pub hot: Source,
+    pub cold: Source,
+}
