@@ -1,7 +1,17 @@
 //! What the statements that were read give.
 
+ghost use Rattle.std.specs.Prelude.{◌≡◌, ◌<◌, false, length, IfOk, IfSome};
+ghost use Rattle.network_text.specs.Lines.{exchangers_of, stream_at};
+ghost use Rattle.network_text.specs.Given.{branch_named, exchanger_named, start, with_entry};
+ghost use Rattle.network_text.specs.Checks.{first_missing, is_free_side, is_used, most_statements};
+ghost use Rattle.network_text.specs.Answers.{HasFewSources, IsFresh};
+
+use crate::network::{Branch, Line, Network};
 use fractions::Frac;
-use stream_case::{Name, Source};
+use indexmap::{IndexMap, IndexSet};
+use std::alloc::{AllocError, Global};
+use std::marker::Model;
+use stream_case::{Case, Items, Name, Source};
 
 /// What a statement gives, with the names that it makes.
 #[derive(Clone, Copy)]
@@ -33,6 +43,13 @@ pub enum Entry {
     },
 }
 
+/// The two sources that an exchanger joins.
+#[derive(Clone, Copy, PartialEq, Eq)]
+pub struct Sides {
+    pub hot: Source,
+    pub cold: Source,
+}
+
 /// A passage through an exchanger, on the side of a stream.
 #[derive(Clone, Copy, PartialEq, Eq, Hash)]
 pub struct Passage {
@@ -40,9 +57,280 @@ pub struct Passage {
     pub stream: u32,
 }
 
-/// The two sources that an exchanger joins.
-#[derive(Clone, Copy, PartialEq, Eq)]
-pub struct Sides {
-    pub hot: Source,
-    pub cold: Source,
+/// What the statements read so far give: the network so far, and tables to look things up in it.
+#[derive(Drop)]
+pub struct Found {
+    /// The streams of the branches, by name, in the order of their numbers.
+    branches: IndexMap<Name, u32>,
+    /// The branches that are used.
+    used: IndexSet<u32>,
+    /// The exchangers, by name, in the order of their numbers.
+    exchangers: IndexMap<Name, Sides>,
+    /// The sides of exchangers that are passed.
+    passed: IndexSet<Passage>,
+    lines: Vec<Line>,
+}
+
+impl Model for Found {
+    ghost use Rattle.std.specs.Prelude.{map};
+    ghost use Rattle.network_text.specs.declared.network.Network.{Network};
+    ghost use Rattle.network_text.specs.Answers.{IsTracked, named_branch};
+
+    ghost Value = { Network };
+
+    ghost view = { λ f. record { branches = map named_branch f.branches.entries; lines = f.lines.items } };
+
+    ghost invariant = { λ f. IsTracked f.branches.entries f.used.keys f.exchangers.entries f.passed.keys f.lines.items };
+}
+
+impl Found {
+    /// What no statement gives: the streams' own branches.
+    pub fn new(alloc: Global, case: &Case) -> Result<Found, AllocError>
+        requires { HasFewSources case.now }
+        ensures { IfOk result (λ found. found ≡ start case.now) }
+    {
+        let mut branches = IndexMap::new(alloc);
+        for (place, stream) in case.streams.as_slice().iter().enumerate() {
+            branches.insert(stream.name, place as u32)?;
+        }
+        Ok(Found {
+            branches,
+            used: IndexSet::new(alloc),
+            exchangers: IndexMap::new(alloc),
+            passed: IndexSet::new(alloc),
+            lines: Vec::new(alloc),
+        })
+    }
+
+    /// How many statements there were.
+    pub fn count_lines(&self) -> usize
+        ensures { result ≡ length self.now.lines }
+    {
+        self.lines.len()
+    }
+
+    /// How many exchangers are declared.
+    pub fn count_exchangers(&self) -> usize
+        ensures { result ≡ length (exchangers_of self.now.lines) }
+    {
+        self.exchangers.len()
+    }
+
+    /// The number of the branch with this name.
+    pub fn branch_named(&self, name: &[u8]) -> Option<u32>
+        ensures number { result ≡ branch_named self.now name.now }
+        ensures within { IfSome result (λ number. number < length self.now.branches) }
+    {
+        let name = Name::new(name)?;
+        let number = self.branches.get_index_of(&name)?;
+        Some(number as u32)
+    }
+
+    /// The number of the exchanger with this name.
+    pub fn exchanger_named(&self, name: &[u8]) -> Option<u32>
+        ensures { result ≡ exchanger_named self.now name.now }
+    {
+        let name = Name::new(name)?;
+        let number = self.exchangers.get_index_of(&name)?;
+        Some(number as u32)
+    }
+
+    /// Whether an earlier statement used the branch with this number.
+    pub fn is_used(&self, number: u32) -> bool
+        ensures { result ≡ is_used self.now number }
+    {
+        self.used.contains(&number)
+    }
+
+    /// The stream of the branch with this number.
+    pub fn stream_of(&self, number: u32) -> u32
+        ensures { result ≡ stream_at self.now.branches number }
+    {
+        match self.branches.get_index(number as usize) {
+            Some((_, stream)) => *stream,
+            None => 0,
+        }
+    }
+
+    /// Whether the exchanger with this number has a side of the stream, and no earlier statement
+    /// passed it.
+    pub fn is_free_side(&self, exchanger: u32, stream: u32) -> bool
+        ensures { result ≡ is_free_side self.now exchanger stream }
+    {
+        let Some((_, sides)) = self.exchangers.get_index(exchanger as usize) else {
+            return false;
+        };
+        if sides.hot != Source::Stream(stream) && sides.cold != Source::Stream(stream) {
+            return false;
+        }
+        !self.passed.contains(&Passage { exchanger, stream })
+    }
+
+    /// What there is with the entry of one statement more.
+    pub fn with(self, entry: Entry) -> Result<Found, AllocError>
+        requires room { length self.lines < most_statements }
+        requires fresh { IsFresh self entry }
+        ensures { IfOk result (λ found. found ≡ with_entry self entry) }
+    {
+        match entry {
+            Entry::Exchanger {
+                name,
+                hot,
+                cold,
+                duty,
+            } => self.with_exchanger(name, hot, cold, duty),
+            Entry::Split {
+                from,
+                first,
+                cp,
+                second,
+            } => self.with_split(from, first, cp, second),
+            Entry::Pass {
+                from,
+                exchanger,
+                to,
+            } => self.with_pass(from, exchanger, to),
+            Entry::Mix { first, second, to } => self.with_mix(first, second, to),
+            Entry::End { branch } => self.with_end(branch),
+        }
+    }
+
+    fn with_exchanger(
+        self,
+        name: Name,
+        hot: Source,
+        cold: Source,
+        duty: Frac,
+    ) -> Result<Found, AllocError>
+        requires room { length self.lines < most_statements }
+        requires fresh { IsFresh self (Entry.Exchanger name hot cold duty) }
+        ensures { IfOk result (λ found. found ≡ with_entry self (Entry.Exchanger name hot cold duty)) }
+    {
+        let mut found = self;
+        found.exchangers.insert(name, Sides { hot, cold })?;
+        found.lines.push(Line::Exchanger {
+            name,
+            hot,
+            cold,
+            duty,
+        })?;
+        Ok(found)
+    }
+
+    fn with_split(
+        self,
+        from: u32,
+        first: Name,
+        cp: Frac,
+        second: Name,
+    ) -> Result<Found, AllocError>
+        requires room { length self.lines < most_statements }
+        requires fresh { IsFresh self (Entry.Split from first cp second) }
+        ensures { IfOk result (λ found. found ≡ with_entry self (Entry.Split from first cp second)) }
+    {
+        let stream = self.stream_of(from);
+        let number = self.branches.len() as u32;
+        let mut found = self;
+        found.used.insert(from)?;
+        found.branches.insert(first, stream)?;
+        found.branches.insert(second, stream)?;
+        found.lines.push(Line::Split {
+            from,
+            first: number,
+            cp,
+            second: number + 1,
+        })?;
+        Ok(found)
+    }
+
+    fn with_pass(self, from: u32, exchanger: u32, to: Name) -> Result<Found, AllocError>
+        requires room { length self.lines < most_statements }
+        requires fresh { IsFresh self (Entry.Pass from exchanger to) }
+        ensures { IfOk result (λ found. found ≡ with_entry self (Entry.Pass from exchanger to)) }
+    {
+        let stream = self.stream_of(from);
+        let number = self.branches.len() as u32;
+        let mut found = self;
+        found.used.insert(from)?;
+        found.passed.insert(Passage { exchanger, stream })?;
+        found.branches.insert(to, stream)?;
+        found.lines.push(Line::Pass {
+            from,
+            exchanger,
+            to: number,
+        })?;
+        Ok(found)
+    }
+
+    fn with_mix(self, first: u32, second: u32, to: Name) -> Result<Found, AllocError>
+        requires room { length self.lines < most_statements }
+        requires fresh { IsFresh self (Entry.Mix first second to) }
+        ensures { IfOk result (λ found. found ≡ with_entry self (Entry.Mix first second to)) }
+    {
+        let stream = self.stream_of(first);
+        let number = self.branches.len() as u32;
+        let mut found = self;
+        found.used.insert(first)?;
+        found.used.insert(second)?;
+        found.branches.insert(to, stream)?;
+        found.lines.push(Line::Mix {
+            first,
+            second,
+            to: number,
+        })?;
+        Ok(found)
+    }
+
+    fn with_end(self, branch: u32) -> Result<Found, AllocError>
+        requires room { length self.lines < most_statements }
+        requires fresh { IsFresh self (Entry.End branch) }
+        ensures { IfOk result (λ found. found ≡ with_entry self (Entry.End branch)) }
+    {
+        let mut found = self;
+        found.used.insert(branch)?;
+        found.lines.push(Line::End { branch })?;
+        Ok(found)
+    }
+
+    /// Whether a source is a stream, and no statement passes the exchanger on its side.
+    fn is_missed(&self, exchanger: u32, source: Source) -> bool {
+        match source {
+            Source::Stream(stream) => !self.passed.contains(&Passage { exchanger, stream }),
+            Source::Utility(_) => false,
+        }
+    }
+
+    /// The place of the first exchanger with a side that no statement passes, among the lines.
+    pub fn first_missing(&self) -> Option<u32>
+        ensures { result ≡ first_missing self.now }
+    {
+        let mut exchanger = 0;
+        for (place, line) in self.lines.iter().enumerate() {
+            if let Line::Exchanger { hot, cold, .. } = line {
+                if self.is_missed(exchanger, *hot) || self.is_missed(exchanger, *cold) {
+                    return Some(place as u32);
+                }
+                exchanger += 1;
+            }
+        }
+        None
+    }
+
+    /// The network.
+    pub fn into_network(self, alloc: Global) -> Result<Network, AllocError>
+        ensures { IfOk result (λ network. network ≡ self) }
+    {
+        let branches = self
+            .branches
+            .iter()
+            .map(|(name, stream)| Branch {
+                name: *name,
+                stream: *stream,
+            })
+            .collect(alloc)?;
+        Ok(Network {
+            branches: Items::from_vec(branches),
+            lines: Items::from_vec(self.lines),
+        })
+    }
 }

@@ -6,10 +6,21 @@
 //! statement is at fault and why.
 #![tactic(auto)]
 
+mod branch_fields;
+mod entries;
 mod fault;
 mod found;
+mod fraction_text;
 mod kind;
+mod names;
 mod network;
+mod reader;
+mod sources;
+mod statement;
 
 pub use fault::{NetFault, NetWhy};
 pub use network::{Branch, Line, Network};
+pub use reader::read_network;
+
+#[cfg(test)]
+mod tests;
