@@ -14,12 +14,14 @@ mod fraction_text;
 mod kind;
 mod names;
 mod network;
+mod printer;
 mod reader;
 mod sources;
 mod statement;
 
 pub use fault::{NetFault, NetWhy};
 pub use network::{Branch, Line, Network};
+pub use printer::print_network;
 pub use reader::read_network;
 
 #[cfg(test)]

@@ -1,0 +1,5 @@
+use Rattle.network_text.proofs.PrintText.{statements-back}
+use Rattle.network_text.proofs.printer.print_network.Goals as goal
+
+pub returns-clause-text : goal.returns-clause-text
+returns-clause-text c = ?
