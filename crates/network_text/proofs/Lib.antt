@@ -1,3 +1,4 @@
 mod Worked
 mod PrintFields
+mod PrintNames
 mod PrintText
