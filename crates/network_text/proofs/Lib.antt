@@ -1,4 +1,5 @@
 mod Worked
 mod PrintFields
 mod PrintNames
+mod PrintSteps
 mod PrintText
