@@ -1,4 +1,5 @@
 mod Worked
+mod BackFront
 mod PrintFields
 mod PrintNames
 mod PrintSteps
