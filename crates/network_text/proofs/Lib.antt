@@ -1,5 +1,8 @@
 mod Worked
+mod BackBranches
+mod BackExchangers
 mod BackFront
+mod BackSteps
 mod PrintFields
 mod PrintNames
 mod PrintSteps

@@ -1,3 +1,4 @@
+use Rattle.network_text.proofs.BackSteps.{line_follows}
 use Rattle.network_text.proofs.BackFront.{front-first}
 use Rattle.network_text.proofs.PrintSteps.{end_follows}
 use Rattle.network_text.proofs.PrintNames.{source-found}
