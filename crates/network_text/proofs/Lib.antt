@@ -2,6 +2,8 @@ mod Worked
 mod BackBranches
 mod BackExchangers
 mod BackFront
+mod BackLaw
+mod BackNames
 mod BackSteps
 mod PrintFields
 mod PrintNames

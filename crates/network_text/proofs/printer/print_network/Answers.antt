@@ -1,4 +1,4 @@
-use Rattle.network_text.proofs.BackSteps.{line_follows}
+use Rattle.network_text.proofs.BackLaw.{shape-is_network}
 use Rattle.network_text.proofs.BackFront.{front-first}
 use Rattle.network_text.proofs.PrintSteps.{end_follows}
 use Rattle.network_text.proofs.PrintNames.{source-found}
