@@ -6,6 +6,7 @@ mod BackLaw
 mod BackNames
 mod BackSteps
 mod PrintFields
+mod PrintLines
 mod PrintNames
 mod PrintSteps
 mod PrintText
