@@ -1,6 +1,6 @@
 -- The text of a network is read as the network.
 use Rattle.std.proofs.Common.{◌≡◌, ◌∙◌, ◌<◌, ◌≤◌, ◌+◌, ◌∷◌, ◌++◌, ◌||◌, ℕ, zero, suc, Bool, true, false, not, List, [], All, Option, Some, None, get_or, slice_get, length, map, take, drop, refl, sym, ap, subst, arith, inl, inr, length-append}
-use Rattle.std.specs.Prelude.{find}
+use Rattle.std.specs.Prelude.{◌⊎◌, Result, Ok, Err, find}
 use Rattle.std.specs.List.{fold, list_any, range_with_len}
 use Rattle.std.proofs.Math.Seq.{take-suc}
 use Rattle.std.proofs.lemmas.List.{get_or-map, get_or_at, length-map, take_all}
@@ -18,9 +18,11 @@ use Rattle.network_text.specs.Lines.{Exchanger, exchangers_of, passages_of}
 use Rattle.network_text.specs.Statements.{Statement, statements_of}
 use Rattle.network_text.specs.Given.{given_by, next, start}
 use Rattle.network_text.specs.Checks.{checks, exchanger_declared, first_failing, first_missing, is_missed, is_passed, misses_pass, misses_side, most_exchangers, most_statements, same_passage}
-use Rattle.network_text.specs.Outcome.{IsNetwork, SoundBefore, fault_at, statement_at}
+use Rattle.network_text.specs.Outcome.{IsNetwork, IsOutcome, SoundBefore, fault_at, statement_at}
 use Rattle.network_text.specs.Shape.{HasShape, Joins, passes}
 use Rattle.network_text.specs.Printed.{printed_statements, statement_of, statements_text, text_of}
+use Rattle.network_text.specs.declared.fault.NetFault.{NetFault}
+use Rattle.network_text.specs.declared.fault.NetFault.TheVariants as fault
 use Rattle.network_text.specs.declared.network.Line.{Line}
 use Rattle.network_text.specs.declared.network.Line.TheVariants as line
 use Rattle.network_text.specs.declared.network.Network.{Network}
@@ -28,6 +30,7 @@ use Rattle.network_text.proofs.PrintSteps.{Follows}
 use Rattle.network_text.proofs.PrintText.{IsPlainStatement, statements-back}
 use Rattle.network_text.proofs.BackFront.{declared_parts, front, front-first, front-last, some_counted, stands_at}
 use Rattle.network_text.proofs.BackBranches.{IsReadable, is_line}
+use Rattle.network_text.proofs.BackCounts.{network-few}
 use Rattle.network_text.proofs.BackSteps.{line_follows}
 use Rattle.network_text.proofs.BackNames.{statement_plain}
 
@@ -149,3 +152,21 @@ shape-is_network case network complete shape few_lines few_exchangers =
       given = sym all;
     } in
     subst (λ statements. IsNetwork case statements network) (sym (text-statements case network complete shape)) is
+
+-- ---- what is printed is read again
+
+-- where there is a network, it is the one outcome
+one_network : (case : Case) (statements : List Statement) (network : Network) (outcome : Result Network NetFault) → IsNetwork case statements network → IsOutcome case statements outcome → (outcome ≡ Ok network) ⊎ (outcome ≡ Err fault.OutOfMemory)
+one_network case statements network (Ok other) is outcome = inl (ap Ok (outcome.given ∙ sym is.given))
+one_network case statements network (Err (fault.At number because)) is (inl (place, same, first)) = cc (sym (is.sound place first.within) ∙ first.cause)
+one_network case statements network (Err (fault.At number because)) is (inr (place, same, missing, fault)) = cc (sym is.complete ∙ fault.missing)
+one_network case statements network (Err fault.OutOfMemory) is outcome = inr refl
+
+pub printed-again : (case : Case) (statements : List Statement) (network : Network) → IsComplete case → HasShape case network → IsNetwork case statements network → IsNetwork case (statements_of (text_of case network)) network
+printed-again case statements network complete shape is =
+    let few = network-few case statements network is in
+    shape-is_network case network complete shape few.lines few.exchangers
+
+pub printed-only : (case : Case) (statements : List Statement) (network : Network) (outcome : Result Network NetFault) → IsComplete case → HasShape case network → IsNetwork case statements network → IsOutcome case (statements_of (text_of case network)) outcome
+    → (outcome ≡ Ok network) ⊎ (outcome ≡ Err fault.OutOfMemory)
+printed-only case statements network outcome complete shape is = one_network case (statements_of (text_of case network)) network outcome (printed-again case statements network complete shape is)

@@ -1,5 +1,6 @@
 mod Worked
 mod BackBranches
+mod BackCounts
 mod BackExchangers
 mod BackFront
 mod BackLaw

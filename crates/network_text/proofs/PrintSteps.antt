@@ -29,7 +29,7 @@ use Rattle.network_text.proofs.PrintFields.{fraction-back}
 use Rattle.network_text.proofs.PrintNames.{IsFound, name-passes}
 
 -- each check holds
-abbrev Passes : List Check → Type 0
+abbrev pub Passes : List Check → Type 0
 Passes [] = Unit {0}
 Passes (check ∷ rest) = (check.0 ≡ true) × Passes rest
 

@@ -21,7 +21,7 @@ mod statement;
 
 pub use fault::{NetFault, NetWhy};
 pub use network::{Branch, Line, Network};
-pub use printer::print_network;
+pub use printer::{networks_are_printed_and_read_again, print_network};
 pub use reader::read_network;
 
 #[cfg(test)]

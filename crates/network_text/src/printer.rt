@@ -1,15 +1,17 @@
 //! Printing a network.
 
-ghost use Rattle.std.specs.Prelude.{◌≡◌, ◌<◌, ◌≤◌, ◌∷◌, [], IfOk, IsSome, codes, length, map, string_bytes};
+ghost use Rattle.std.specs.Prelude.{◌≡◌, ◌<◌, ◌≤◌, ◌∷◌, ◌⊎◌, [], List, Result, Ok, Err, IfOk, IsSome, codes, length, map, string_bytes};
 ghost use Rattle.stream_case.specs.Case.{IsComplete, side_of};
+ghost use Rattle.stream_case.specs.declared.case.Case.{Case};
 ghost use Rattle.fractions.specs.Rationals.{fraction_text};
 ghost use Rattle.network_text.specs.Lines.{exchangers_of};
-ghost use Rattle.network_text.specs.Statements.{statements_of};
+ghost use Rattle.network_text.specs.Statements.{Statement, statements_of};
 ghost use Rattle.network_text.specs.Checks.{most_exchangers, most_statements};
-ghost use Rattle.network_text.specs.Outcome.{IsNetwork};
+ghost use Rattle.network_text.specs.Outcome.{IsNetwork, IsOutcome};
 ghost use Rattle.network_text.specs.Shape.{HasShape};
 ghost use Rattle.network_text.specs.Printed.{NamesKnown, branch_name, exchanger_name, exchanger_names, source_name, statement_of, statement_text, text_of};
 
+use crate::fault::NetFault;
 use crate::network::{Line, Network};
 use fractions::Frac;
 use std::alloc::{AllocError, Global};
@@ -189,3 +191,10 @@ pub fn print_network(alloc: Global, case: &Case, network: &Network) -> Result<Ve
     }
     Ok(text)
 }
+
+/// What is printed is read again: the text of a network that the grammar gives for a completed
+/// case has that network as its one outcome, but for want of memory.
+pub fn networks_are_printed_and_read_again()
+    ensures again { (case : Case) (statements : List Statement) (network : Network) → IsComplete case → HasShape case network → IsNetwork case statements network → IsNetwork case (statements_of (text_of case network)) network }
+    ensures only { (case : Case) (statements : List Statement) (network : Network) (outcome : Result Network NetFault) → IsComplete case → HasShape case network → IsNetwork case statements network → IsOutcome case (statements_of (text_of case network)) outcome → (outcome ≡ Ok network) ⊎ (outcome ≡ Err NetFault.OutOfMemory) }
+{}
