@@ -1,35 +1,24 @@
 -- The branches that a printed line uses and makes.
-use Rattle.std.proofs.Common.{◌≡◌, ◌≢◌, ◌∙◌, ◌<◌, ◌≤◌, ◌+◌, ◌∷◌, ◌++◌, ◌==◌, ◌&&◌, ◌||◌, ◌⊎◌, ℕ, suc, Bool, true, false, not, List, [], All, AllPairs, Option, Some, None, get_or, slice_get, position, length, map, take, drop, refl, sym, ap, subst, arith, inl, inr, length-append, append_assoc, add-one}
-use Rattle.std.specs.Prelude.{codes, count_by}
-use Rattle.std.specs.List.{cons_option, list_any, sum_by}
+use Rattle.std.proofs.Common.{◌≡◌, ◌≢◌, ◌∙◌, ◌<◌, ◌≤◌, ◌+◌, ◌∷◌, ◌++◌, ◌==◌, ℕ, suc, false, [], AllPairs, Some, get_or, slice_get, position, length, take, drop, sym, ap, subst, arith, length-append, append_assoc}
 use Rattle.std.specs.Str.{bytes_eq}
 use Rattle.std.proofs.lemmas.Bool.Decides.{nat_tests}
-use Rattle.std.proofs.lemmas.List.{get_or-append-add, get_or-map, get_or_append_left, get_or_at, length-map, length-take-le, take-map, take_at, take_more}
+use Rattle.std.proofs.lemmas.List.{get_or_append_left, length-map, length-take-le, take-map, take_more}
 use Rattle.std.proofs.lemmas.List.Folds.{list_any_none}
-use Rattle.std.proofs.lemmas.List.Sums.{sum_by-append, sum_by-cons}
-use Rattle.std.proofs.lemmas.Option.{get_or_from_slice_get, slice_get-get_or, slice_get_within}
 use Rattle.stream_case.specs.Name.{IsAnyName}
 use Rattle.stream_case.specs.declared.case.Case.{Case}
-use Rattle.stream_case.specs.declared.source.Side.TheVariants as side
-use Rattle.stream_case.specs.declared.source.Source.{Source}
-use Rattle.stream_case.specs.declared.source.Source.TheVariants as source
 use Rattle.stream_case.proofs.CompleteLemmas.{StaysValid}
-use Rattle.stream_case.proofs.DistinctLemmas.{AllPairs-across, AllPairs-back, AllPairs-front, other_name}
-use Rattle.fractions.specs.Rationals.{Rational}
-use Rattle.network_text.specs.Lines.{Exchanger, exchangers_of, makes, names_of, passages_of, stream_at, used_by, uses}
-use Rattle.network_text.specs.Given.{branch_named, branch_of, exchanger_named, with_entry}
-use Rattle.network_text.specs.Checks.{has_stream, is_free_side, is_passed, is_stream, is_used, joins_stream, most_exchangers, most_statements, same_passage}
-use Rattle.network_text.specs.Shape.{HasPositiveFlow, HasShape, IsExchanger, IsOfOneStream, Joins, made_before, passes}
-use Rattle.network_text.specs.Printed.{branch_name, exchanger_name, exchanger_names, source_name, statement_of}
-use Rattle.network_text.specs.declared.found.Entry.TheVariants as entry
-use Rattle.network_text.specs.declared.found.Passage.{Passage}
+use Rattle.stream_case.proofs.DistinctLemmas.{AllPairs-across, AllPairs-back, AllPairs-front}
+use Rattle.network_text.specs.Lines.{exchangers_of, makes, names_of, stream_at, used_by, uses}
+use Rattle.network_text.specs.Given.{branch_named, branch_of}
+use Rattle.network_text.specs.Checks.{is_used, most_exchangers, most_statements}
+use Rattle.network_text.specs.Shape.{HasShape, made_before}
+use Rattle.network_text.specs.Printed.{branch_name}
 use Rattle.network_text.specs.declared.network.Branch.{Branch}
 use Rattle.network_text.specs.declared.network.Line.{Line}
-use Rattle.network_text.specs.declared.network.Line.TheVariants as line
 use Rattle.network_text.specs.declared.network.Network.{Network}
-use Rattle.network_text.proofs.PrintNames.{branch_name-at, branch_name-passes, exchanger_name-at, none_in_front, place_in_front, source-found}
-use Rattle.network_text.proofs.PrintSteps.{Follows, HasRoom, IsNewBranch, IsUsable, end_follows, exchanger_follows, mix_follows, pass_follows, split_follows}
-use Rattle.network_text.proofs.BackFront.{StandsAt, branch_is, declared_parts, front, front-passages, made_at, made_next, made_within, none_counted, passed_parts, stands_at, stream_at-take, used_parts}
+use Rattle.network_text.proofs.PrintNames.{branch_name-at, branch_name-passes, none_in_front, place_in_front}
+use Rattle.network_text.proofs.PrintSteps.{HasRoom, IsNewBranch, IsUsable}
+use Rattle.network_text.proofs.BackFront.{StandsAt, branch_is, front, made_at, made_next, made_within, stands_at, stream_at-take, used_parts}
 
 -- a network whose text is not too long for the grammar
 pub record IsReadable (case : Case) (network : Network) : Type 0 where
@@ -46,9 +35,6 @@ pub record IsLine (case : Case) (network : Network) (place : ℕ) (l : Line) : T
 
 pub is_line : (case : Case) (network : Network) (place : ℕ) (l : Line) → IsReadable case network → slice_get network.lines place ≡ Some l → IsLine case network place l
 is_line case network place l readable here = record { readable = readable; here = here; at = stands_at network.lines place l here }
-
-pub all_at : {X : Type 0} (P : X → Type 0) (xs : List X) (i : ℕ) (x : X) → All P xs → slice_get xs i ≡ Some x → P x
-all_at P xs i x each here = subst P (get_or_from_slice_get xs i x x here) (each i x (slice_get_within xs i x here))
 
 pub room : (case : Case) (network : Network) (place : ℕ) (l : Line) → IsLine case network place l → HasRoom (front case network place)
 room case network place l is = omega (arith, length-take-le place network.lines (omega (arith, is.at.within)), is.at.within, is.readable.few_lines)

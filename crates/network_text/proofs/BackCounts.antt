@@ -1,5 +1,5 @@
 -- A network that the grammar gives has no more statements and exchangers than a text may have.
-use Rattle.std.proofs.Common.{◌≡◌, ◌∙◌, ◌<◌, ◌≤◌, ◌+◌, ◌∷◌, ◌++◌, ℕ, zero, suc, Bool, true, false, List, [], Option, Some, None, get_or, length, nat_lt, take, refl, sym, ap, subst, arith, length-append}
+use Rattle.std.proofs.Common.{◌≡◌, ◌∙◌, ◌<◌, ◌≤◌, ◌∷◌, ◌++◌, ℕ, zero, suc, Bool, true, false, List, [], Option, Some, None, get_or, length, nat_lt, take, refl, sym, ap, subst, arith, length-append}
 use Rattle.std.specs.List.{cons_option, filter_map, fold}
 use Rattle.std.proofs.Math.Seq.{take-suc}
 use Rattle.std.proofs.lemmas.Bool.Decides.{nat_tests}
@@ -15,7 +15,6 @@ use Rattle.network_text.specs.Outcome.{IsNetwork, SoundBefore}
 use Rattle.network_text.specs.declared.kind.Kind.{Kind}
 use Rattle.network_text.specs.declared.kind.Kind.TheVariants as kind
 use Rattle.network_text.specs.declared.network.Line.{Line}
-use Rattle.network_text.specs.declared.network.Line.TheVariants as line
 use Rattle.network_text.specs.declared.network.Network.{Network}
 use Rattle.network_text.proofs.PrintSteps.{Passes}
 

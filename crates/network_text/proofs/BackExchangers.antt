@@ -1,28 +1,28 @@
 -- The exchangers that printed lines declare and pass.
-use Rattle.std.proofs.Common.{◌≡◌, ◌≢◌, ◌∙◌, ◌<◌, ◌≤◌, ◌+◌, ◌∷◌, ◌++◌, ◌==◌, ◌&&◌, ◌||◌, ◌⊎◌, ℕ, zero, suc, Bool, true, false, not, cond, List, [], All, AllPairs, Option, Some, None, get_or, slice_get, position, length, map, take, drop, refl, sym, ap, subst, subst₂, arith, inl, inr, length-append}
+use Rattle.std.proofs.Common.{◌≡◌, ◌≢◌, ◌∙◌, ◌<◌, ◌≤◌, ◌∷◌, ◌++◌, ◌==◌, ◌||◌, ℕ, zero, suc, Bool, true, false, cond, List, [], AllPairs, Some, None, get_or, slice_get, position, length, map, take, drop, refl, sym, ap, subst₂, arith, inl, inr, length-append}
 use Rattle.std.specs.Prelude.{count_by}
-use Rattle.std.specs.List.{list_any, sum_by}
+use Rattle.std.specs.List.{list_any}
 use Rattle.std.specs.Str.{bytes_eq}
 use Rattle.std.proofs.lemmas.Bool.Decides.{nat_tests}
-use Rattle.std.proofs.lemmas.List.{get_or-map, get_or_append_left, get_or_at, length-map, take-map, take_at}
+use Rattle.std.proofs.lemmas.List.{get_or-map, length-map, take-map, take_at}
 use Rattle.std.proofs.lemmas.List.Sums.{sum_by-append, sum_by-cons}
-use Rattle.std.proofs.lemmas.Option.{get_or_from_slice_get, slice_get-get_or, slice_get_within}
+use Rattle.std.proofs.lemmas.Option.{get_or_from_slice_get, slice_get_within}
 use Rattle.stream_case.specs.declared.case.Case.{Case}
 use Rattle.stream_case.specs.declared.source.Source.{Source}
-use Rattle.stream_case.specs.declared.source.Source.TheVariants as source
 use Rattle.fractions.specs.Rationals.{Rational}
 use Rattle.network_text.specs.Lines.{Exchanger, exchangers_of, passages_of, stream_at}
 use Rattle.network_text.specs.Given.{exchanger_named}
 use Rattle.network_text.specs.Checks.{has_stream, is_free_side, is_passed, is_stream, joins_stream, most_exchangers, same_passage}
-use Rattle.network_text.specs.Shape.{AreExchangers, HasShape, IsExchanger, Joins, PassesDeclared, made_before, passes}
+use Rattle.network_text.specs.Shape.{AreExchangers, IsExchanger, Joins, made_before, passes}
 use Rattle.network_text.specs.Printed.{exchanger_name, exchanger_names}
 use Rattle.network_text.specs.declared.found.Passage.{Passage}
 use Rattle.network_text.specs.declared.network.Line.{Line}
 use Rattle.network_text.specs.declared.network.Line.TheVariants as line
 use Rattle.network_text.specs.declared.network.Network.{Network}
 use Rattle.network_text.proofs.PrintNames.{exchanger_name-at, none_in_front, place_in_front}
-use Rattle.network_text.proofs.BackFront.{declared_parts, front, front-passages, none_counted, passed_parts, stream_at-take}
+use Rattle.network_text.proofs.BackFront.{declared_parts, exchanger_at, front, front-passages, none_counted, passed_parts, stream_at-take}
 use Rattle.network_text.proofs.BackBranches.{IsLine}
+use Rattle.network_text.proofs.BackNames.{own_exchanger}
 
 -- ---- names
 
@@ -68,23 +68,20 @@ pub record IsDeclared (case : Case) (network : Network) (place : ℕ) (e : Excha
 
 pub declared : (case : Case) (network : Network) (place : ℕ) (name : List ℕ) (hot cold : Source) (duty : Rational) → IsLine case network place (line.Exchanger name hot cold duty)
     → IsDeclared case network place (record { name = name; hot = hot; cold = cold; duty = duty })
-unfolding exchanger_named exchanger_names exchangers_of
+unfolding exchanger_named exchanger_names
 declared case network place name hot cold duty is =
     let l = line.Exchanger name hot cold duty in
     let e : Exchanger = record { name = name; hot = hot; cold = cold; duty = duty } in
-    let before = exchangers_of (take place network.lines) in
-    let later = exchangers_of (drop (suc place) network.lines) in
     let all = exchangers_of network.lines in
-    let q = length before in
-    let parts : all ≡ before ++ e ∷ later = declared_parts network.lines place l (drop (suc place) network.lines) is.at in
-    let within : q < length all = omega (arith, ap length parts, length-append before (e ∷ later)) in
-    let here : get_or all q e ≡ e = ap (λ es. get_or es q e) parts ∙ get_or_at before e later e q refl in
+    let q = declared_before network place in
+    let at = exchanger_at network.lines place name hot cold duty is.here in
+    let within = slice_get_within all q e at in
     let distinct = distinct_exchangers case network is.readable.shape.exchangers in
-    let own : get_or (exchanger_names network) q [] ≡ name = get_or-map (λ (x : Exchanger). x.name) all q e [] within ∙ ap (λ x. x.name) here in
+    let own : get_or (exchanger_names network) q [] ≡ name = get_or-map (λ (x : Exchanger). x.name) all q e [] within ∙ ap (λ x. x.name) (get_or_from_slice_get all q e e at) in
     let back = sym own in
     let none = none_in_front (exchanger_names network) q q distinct (omega arith) (omega (arith, within, many_exchangers network)) in
     record {
-      sound = subst (IsExchanger case) here (is.readable.shape.exchangers.each q e within);
+      sound = own_exchanger case network is.readable.shape place name hot cold duty is.here;
       few = omega (arith, within, is.readable.few_exchangers);
       free = (λ i. position (bytes_eq (back i)) (declared_names case network place l is i)) ∙ none;
     }

@@ -1,17 +1,18 @@
 -- The first lines of a network, with the branches that they make.
-use Rattle.std.proofs.Common.{◌≡◌, ◌≢◌, ◌∙◌, ◌<◌, ◌≤◌, ◌+◌, ◌-◌, ◌∷◌, ◌++◌, ◌==◌, ℕ, zero, suc, Bool, true, false, cond, List, [], All, AllPairs, Option, Some, None, get_or, slice_get, option_map, unwrap_or, length, map, take, drop, refl, sym, ap, subst, subst₂, arith, length-append}
+use Rattle.std.proofs.Common.{◌≡◌, ◌∙◌, ◌<◌, ◌≤◌, ◌+◌, ◌-◌, ◌∷◌, ◌++◌, ℕ, zero, suc, Bool, true, false, cond, List, [], All, Option, Some, None, get_or, slice_get, option_map, unwrap_or, length, take, drop, refl, sym, ap, subst, arith, length-append}
 use Rattle.std.specs.Prelude.{count_by}
-use Rattle.std.specs.List.{cons_option, enumerate_from, filter_map, flat_map, list_any, range_with_len, sum_by}
+use Rattle.std.specs.List.{cons_option, enumerate_from, filter_map, flat_map, list_any}
 use Rattle.std.proofs.Math.Seq.{drop-cons, take-suc}
-use Rattle.std.proofs.lemmas.Bool.Decides.{nat_tests}
-use Rattle.std.proofs.lemmas.List.{get_or-append-add, get_or-map, get_or_append_left, length-map, length-take, length-take-le, take-append-drop, take-take, take_all, take_at}
+use Rattle.std.proofs.lemmas.List.{get_or-append-add, get_or_append_left, get_or_at, length-map, length-take, length-take-le, take-append-drop, take-take, take_all}
 use Rattle.std.proofs.lemmas.List.Concat.{flat_map-append}
 use Rattle.std.proofs.lemmas.List.Elements.{All-head, All-tail, filter_map-append}
 use Rattle.std.proofs.lemmas.List.FromFn.{get_or-range_with_len, length-enumerate_from, length-range_with_len}
-use Rattle.std.proofs.lemmas.List.Sums.{get_or-le-sum_by, sum_by-append, sum_by-cons}
+use Rattle.std.proofs.lemmas.List.Sums.{sum_by-cons}
 use Rattle.std.proofs.lemmas.Option.{get_or_from_slice_get, slice_get-get_or, slice_get_within}
 use Rattle.stream_case.specs.declared.case.Case.{Case}
-use Rattle.network_text.specs.Lines.{Exchanger, exchanger_of, exchangers_of, made_by, makes, names_of, passage_of, passages_of, stream_at, used_by, uses}
+use Rattle.stream_case.specs.declared.source.Source.{Source}
+use Rattle.fractions.specs.Rationals.{Rational}
+use Rattle.network_text.specs.Lines.{Exchanger, exchanger_of, exchangers_of, made_by, makes, passage_of, passages_of, stream_at, used_by, uses}
 use Rattle.network_text.specs.Given.{own_branch, own_branches}
 use Rattle.network_text.specs.Shape.{AreMadeBeforeUse, AreMadeInOrder, made_before}
 use Rattle.network_text.specs.Printed.{branch_name}
@@ -57,6 +58,23 @@ declared_parts lines place l later at = ap (filter_map exchanger_of) at.all ∙ 
 pub passed_parts : (branches : List Branch) (lines : List Line) (place : ℕ) (l : Line) (later : List Line) → StandsAt lines place l later → passages_of branches lines ≡ passages_of branches (take place lines) ++ passages_of branches (l ∷ later)
 unfolding passages_of
 passed_parts branches lines place l later at = ap (filter_map (passage_of branches)) at.all ∙ filter_map-append (passage_of branches) (take place lines) (l ∷ later)
+
+pub all_at : {X : Type 0} (P : X → Type 0) (xs : List X) (i : ℕ) (x : X) → All P xs → slice_get xs i ≡ Some x → P x
+all_at P xs i x each here = subst P (get_or_from_slice_get xs i x x here) (each i x (slice_get_within xs i x here))
+
+-- the exchanger that a line declares has the number of those before it
+pub exchanger_at : (lines : List Line) (place : ℕ) (name : List ℕ) (hot cold : Source) (duty : Rational) → slice_get lines place ≡ Some (line.Exchanger name hot cold duty)
+    → slice_get (exchangers_of lines) (length (exchangers_of (take place lines))) ≡ Some (record { name = name; hot = hot; cold = cold; duty = duty })
+unfolding exchangers_of
+exchanger_at lines place name hot cold duty here =
+    let l = line.Exchanger name hot cold duty in
+    let e : Exchanger = record { name = name; hot = hot; cold = cold; duty = duty } in
+    let before = exchangers_of (take place lines) in
+    let later = exchangers_of (drop (suc place) lines) in
+    let parts : exchangers_of lines ≡ before ++ e ∷ later = declared_parts lines place l (drop (suc place) lines) (stands_at lines place l here) in
+    let within : length before < length (exchangers_of lines) = omega (arith, ap length parts, length-append before (e ∷ later)) in
+    let own : get_or (exchangers_of lines) (length before) e ≡ e = ap (λ es. get_or es (length before) e) parts ∙ get_or_at before e later e (length before) refl in
+    slice_get-get_or (exchangers_of lines) (length before) e within ∙ ap Some own
 
 -- ---- the numbers of branches
 

@@ -1,9 +1,9 @@
 -- The text of a network is read as the network.
-use Rattle.std.proofs.Common.{◌≡◌, ◌∙◌, ◌<◌, ◌≤◌, ◌+◌, ◌∷◌, ◌++◌, ◌||◌, ℕ, zero, suc, Bool, true, false, not, List, [], All, Option, Some, None, get_or, slice_get, length, map, take, drop, refl, sym, ap, subst, arith, inl, inr, length-append}
+use Rattle.std.proofs.Common.{◌≡◌, ◌∙◌, ◌<◌, ◌≤◌, ◌∷◌, ◌++◌, ℕ, zero, suc, Bool, false, not, List, [], All, Some, None, get_or, slice_get, length, take, refl, sym, ap, subst, arith, inl, inr}
 use Rattle.std.specs.Prelude.{◌⊎◌, Result, Ok, Err, find}
-use Rattle.std.specs.List.{fold, list_any, range_with_len}
+use Rattle.std.specs.List.{fold, range_with_len}
 use Rattle.std.proofs.Math.Seq.{take-suc}
-use Rattle.std.proofs.lemmas.List.{get_or-map, get_or_at, length-map, take_all}
+use Rattle.std.proofs.lemmas.List.{get_or-map, length-map, take_all}
 use Rattle.std.proofs.lemmas.List.Elements.{All-head, All-tail}
 use Rattle.std.proofs.lemmas.List.FromFn.{get_or-range_with_len, length-range_with_len}
 use Rattle.std.proofs.lemmas.List.Sums.{fold_push}
@@ -13,14 +13,13 @@ use Rattle.stream_case.specs.declared.case.Case.{Case}
 use Rattle.stream_case.specs.declared.source.Source.{Source}
 use Rattle.stream_case.specs.declared.source.Source.TheVariants as source
 use Rattle.stream_case.proofs.CompleteLemmas.{StaysValid, StaysValid-IsComplete}
-use Rattle.fractions.specs.Rationals.{Rational}
 use Rattle.network_text.specs.Lines.{Exchanger, exchangers_of, passages_of}
 use Rattle.network_text.specs.Statements.{Statement, statements_of}
 use Rattle.network_text.specs.Given.{given_by, next, start}
-use Rattle.network_text.specs.Checks.{checks, exchanger_declared, first_failing, first_missing, is_missed, is_passed, misses_pass, misses_side, most_exchangers, most_statements, same_passage}
-use Rattle.network_text.specs.Outcome.{IsNetwork, IsOutcome, SoundBefore, fault_at, statement_at}
-use Rattle.network_text.specs.Shape.{HasShape, Joins, passes}
-use Rattle.network_text.specs.Printed.{printed_statements, statement_of, statements_text, text_of}
+use Rattle.network_text.specs.Checks.{checks, first_failing, first_missing, is_missed, is_passed, misses_pass, most_exchangers, most_statements, same_passage}
+use Rattle.network_text.specs.Outcome.{IsNetwork, IsOutcome, SoundBefore}
+use Rattle.network_text.specs.Shape.{HasShape, Joins}
+use Rattle.network_text.specs.Printed.{printed_statements, statement_of, text_of}
 use Rattle.network_text.specs.declared.fault.NetFault.{NetFault}
 use Rattle.network_text.specs.declared.fault.NetFault.TheVariants as fault
 use Rattle.network_text.specs.declared.network.Line.{Line}
@@ -28,7 +27,7 @@ use Rattle.network_text.specs.declared.network.Line.TheVariants as line
 use Rattle.network_text.specs.declared.network.Network.{Network}
 use Rattle.network_text.proofs.PrintSteps.{Follows}
 use Rattle.network_text.proofs.PrintText.{IsPlainStatement, statements-back}
-use Rattle.network_text.proofs.BackFront.{declared_parts, front, front-first, front-last, some_counted, stands_at}
+use Rattle.network_text.proofs.BackFront.{exchanger_at, front, front-first, front-last, some_counted}
 use Rattle.network_text.proofs.BackBranches.{IsReadable, is_line}
 use Rattle.network_text.proofs.BackCounts.{network-few}
 use Rattle.network_text.proofs.BackSteps.{line_follows}
@@ -102,17 +101,11 @@ none_missed case network shape number e at (source.Stream i) joins =
     ap not (some_counted (same_passage (record { exchanger = number; stream = i })) (passages_of network.branches network.lines) (omega (arith, once)))
 
 no_side_missed : (case : Case) (network : Network) → HasShape case network → (place : ℕ) (l : Line) → slice_get network.lines place ≡ Some l → misses_pass network place ≡ false
-unfolding misses_pass exchangers_of
+unfolding misses_pass
 no_side_missed case network shape place (line.Exchanger name hot cold duty) here =
-    let l = line.Exchanger name hot cold duty in
     let e : Exchanger = record { name = name; hot = hot; cold = cold; duty = duty } in
-    let before = exchangers_of (take place network.lines) in
-    let later = exchangers_of (drop (suc place) network.lines) in
-    let number = length before in
-    let parts : exchangers_of network.lines ≡ before ++ e ∷ later = declared_parts network.lines place l (drop (suc place) network.lines) (stands_at network.lines place l here) in
-    let within : number < length (exchangers_of network.lines) = omega (arith, ap length parts, length-append before (e ∷ later)) in
-    let own : get_or (exchangers_of network.lines) number e ≡ e = ap (λ es. get_or es number e) parts ∙ get_or_at before e later e number refl in
-    let at : slice_get (exchangers_of network.lines) number ≡ Some e = slice_get-get_or (exchangers_of network.lines) number e within ∙ ap Some own in
+    let number = length (exchangers_of (take place network.lines)) in
+    let at = exchanger_at network.lines place name hot cold duty here in
     let no_hot = none_missed case network shape number e at hot (λ stream is. inl is) in
     let no_cold = none_missed case network shape number e at cold (λ stream is. inr is) in
     rw (here, no_hot, no_cold) refl
@@ -159,7 +152,7 @@ shape-is_network case network complete shape few_lines few_exchangers =
 one_network : (case : Case) (statements : List Statement) (network : Network) (outcome : Result Network NetFault) → IsNetwork case statements network → IsOutcome case statements outcome → (outcome ≡ Ok network) ⊎ (outcome ≡ Err fault.OutOfMemory)
 one_network case statements network (Ok other) is outcome = inl (ap Ok (outcome.given ∙ sym is.given))
 one_network case statements network (Err (fault.At number because)) is (inl (place, same, first)) = cc (sym (is.sound place first.within) ∙ first.cause)
-one_network case statements network (Err (fault.At number because)) is (inr (place, same, missing, fault)) = cc (sym is.complete ∙ fault.missing)
+one_network case statements network (Err (fault.At number because)) is (inr (place, same, missing, lacks)) = cc (sym is.complete ∙ lacks.missing)
 one_network case statements network (Err fault.OutOfMemory) is outcome = inr refl
 
 pub printed-again : (case : Case) (statements : List Statement) (network : Network) → IsComplete case → HasShape case network → IsNetwork case statements network → IsNetwork case (statements_of (text_of case network)) network

@@ -1,12 +1,12 @@
 -- What the lines of a network name is there, and the printed statements are plain.
-use Rattle.std.proofs.Common.{◌≡◌, ◌∙◌, ◌<◌, ◌≤◌, ◌+◌, ◌∷◌, ◌++◌, ◌==◌, ℕ, suc, Bool, true, false, List, [], All, AllPairs, Option, Some, get_or, is_some, nat_lt, slice_get, length, drop, take, refl, sym, ap, subst, arith, length-append}
+use Rattle.std.proofs.Common.{◌≡◌, ◌∙◌, ◌<◌, ◌∷◌, ◌==◌, ℕ, suc, true, false, List, [], Some, get_or, is_some, nat_lt, slice_get, length, drop, take, refl, sym, ap, subst, arith, length-append}
 use Rattle.std.specs.Prelude.{codes}
 use Rattle.std.specs.List.{AllByRecursion, list_all}
 use Rattle.std.proofs.lemmas.Bool.Decides.{nat_tests}
-use Rattle.std.proofs.lemmas.List.{get_or-map, get_or_at, length-map}
+use Rattle.std.proofs.lemmas.List.{get_or-map, length-map}
 use Rattle.std.proofs.lemmas.List.Elements.{All-cons, All-from_recursion, All-weaker}
 use Rattle.std.proofs.lemmas.List.Sums.{AllPass-from_list_all}
-use Rattle.std.proofs.lemmas.Option.{get_or_from_slice_get, slice_get_within}
+use Rattle.std.proofs.lemmas.Option.{slice_get_within}
 use Rattle.stream_case.specs.Name.{IsAnyName, IsName}
 use Rattle.stream_case.specs.declared.case.Case.{Case}
 use Rattle.stream_case.specs.declared.source.Side.{Side}
@@ -16,37 +16,25 @@ use Rattle.stream_case.specs.declared.source.Source.TheVariants as source
 use Rattle.stream_case.specs.Case.{side_of}
 use Rattle.stream_case.proofs.CompleteLemmas.{StaysValid}
 use Rattle.network_text.specs.Lines.{Exchanger, exchangers_of, makes, names_of, uses}
-use Rattle.network_text.specs.Statements.{Statement, field}
-use Rattle.network_text.specs.Shape.{HasPositiveFlow, HasShape, IsExchanger, made_before}
-use Rattle.network_text.specs.Printed.{NamesKnown, branch_name, exchanger_name, exchanger_names, printed_statements, source_name, statement_of}
+use Rattle.network_text.specs.Statements.{Statement}
+use Rattle.network_text.specs.Shape.{HasPositiveFlow, HasShape, IsExchanger}
+use Rattle.network_text.specs.Printed.{NamesKnown, branch_name, exchanger_name, exchanger_names, source_name, statement_of}
 use Rattle.network_text.specs.declared.network.Line.{Line}
 use Rattle.network_text.specs.declared.network.Line.TheVariants as line
 use Rattle.network_text.specs.declared.network.Network.{Network}
-use Rattle.fractions.specs.Rationals.{Rational, fraction_text, rational_zero}
+use Rattle.fractions.specs.Rationals.{Rational, rational_zero}
 use Rattle.network_text.proofs.PrintText.{IsPlainField, IsPlainStatement, IsVisible}
 use Rattle.network_text.proofs.PrintFields.{any_name_plain, fraction_plain, name_plain}
 use Rattle.network_text.proofs.PrintNames.{branch_name-at, exchanger_name-at, source-found}
-use Rattle.network_text.proofs.BackFront.{StandsAt, declared_parts, made_at, made_no_more, made_within, stands_at}
-
-all_at : {X : Type 0} (P : X → Type 0) (xs : List X) (i : ℕ) (x : X) → All P xs → slice_get xs i ≡ Some x → P x
-all_at P xs i x each here = subst P (get_or_from_slice_get xs i x x here) (each i x (slice_get_within xs i x here))
+use Rattle.network_text.proofs.BackFront.{all_at, declared_parts, exchanger_at, made_at, made_no_more, made_within, stands_at}
 
 -- ---- what is there
 
 -- the exchanger that a line declares
 pub own_exchanger : (case : Case) (network : Network) → HasShape case network → (place : ℕ) (name : List ℕ) (hot cold : Source) (duty : Rational) → slice_get network.lines place ≡ Some (line.Exchanger name hot cold duty)
     → IsExchanger case (record { name = name; hot = hot; cold = cold; duty = duty })
-unfolding exchangers_of
 own_exchanger case network shape place name hot cold duty here =
-    let l = line.Exchanger name hot cold duty in
-    let e : Exchanger = record { name = name; hot = hot; cold = cold; duty = duty } in
-    let at = stands_at network.lines place l here in
-    let before = exchangers_of (take place network.lines) in
-    let later = exchangers_of (drop (suc place) network.lines) in
-    let parts : exchangers_of network.lines ≡ before ++ e ∷ later = declared_parts network.lines place l (drop (suc place) network.lines) at in
-    let within : length before < length (exchangers_of network.lines) = omega (arith, ap length parts, length-append before (e ∷ later)) in
-    let own = ap (λ es. get_or es (length before) e) parts ∙ get_or_at before e later e (length before) refl in
-    subst (IsExchanger case) own (shape.exchangers.each (length before) e within)
+    all_at (IsExchanger case) (exchangers_of network.lines) (length (exchangers_of (take place network.lines))) (record { name = name; hot = hot; cold = cold; duty = duty }) shape.exchangers.each (exchanger_at network.lines place name hot cold duty here)
 
 used_known : (case : Case) (network : Network) → HasShape case network → (place : ℕ) (l : Line) → slice_get network.lines place ≡ Some l → (j : ℕ) → j < length (uses l) → get_or (uses l) j 0 < length network.branches
 used_known case network shape place l here j within = omega (arith, shape.made_first place l here j 0 within, made_no_more case network shape.made_once place)

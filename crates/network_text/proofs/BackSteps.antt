@@ -1,13 +1,12 @@
 -- Each printed line of a network follows on the lines before it.
-use Rattle.std.proofs.Common.{◌≡◌, ◌≢◌, ◌∙◌, ◌<◌, ◌≤◌, ◌+◌, ◌∷◌, ◌++◌, ℕ, suc, false, List, [], All, AllPairs, Some, get_or, slice_get, length, take, drop, refl, sym, ap, arith}
+use Rattle.std.proofs.Common.{◌≡◌, ◌≢◌, ◌∙◌, ◌<◌, ◌+◌, ◌∷◌, ◌++◌, ℕ, suc, false, List, [], length, refl, sym, ap, arith}
 use Rattle.std.specs.Str.{bytes_eq}
-use Rattle.std.proofs.lemmas.List.{length-map}
 use Rattle.stream_case.specs.declared.case.Case.{Case}
 use Rattle.stream_case.specs.declared.source.Side.TheVariants as side
 use Rattle.stream_case.specs.declared.source.Source.{Source}
 use Rattle.stream_case.proofs.DistinctLemmas.{other_name}
 use Rattle.fractions.specs.Rationals.{Rational}
-use Rattle.network_text.specs.Lines.{makes, names_of, stream_at, uses}
+use Rattle.network_text.specs.Lines.{names_of}
 use Rattle.network_text.specs.Given.{with_entry}
 use Rattle.network_text.specs.Shape.{HasPositiveFlow, IsOfOneStream, made_before}
 use Rattle.network_text.specs.Printed.{branch_name, exchanger_name, statement_of}
@@ -18,8 +17,8 @@ use Rattle.network_text.specs.declared.network.Line.TheVariants as line
 use Rattle.network_text.specs.declared.network.Network.{Network}
 use Rattle.network_text.proofs.PrintNames.{branch_name-at, source-found}
 use Rattle.network_text.proofs.PrintSteps.{Follows, end_follows, exchanger_follows, mix_follows, pass_follows, split_follows}
-use Rattle.network_text.proofs.BackFront.{front, stream_at-take}
-use Rattle.network_text.proofs.BackBranches.{IsLine, IsMade, adds_none, adds_one, adds_two, all_at, front_length, made_number, many_names, new_branch, room, two_used, usable, used_first}
+use Rattle.network_text.proofs.BackFront.{all_at, front, stream_at-take}
+use Rattle.network_text.proofs.BackBranches.{IsLine, IsMade, adds_none, adds_one, adds_two, front_length, made_number, many_names, new_branch, room, two_used, usable, used_first}
 use Rattle.network_text.proofs.BackExchangers.{declared, passable}
 
 abbrev network_of : List Branch → List Line → Network
@@ -94,7 +93,7 @@ mix_step case network place first second to is =
     let streams = one_stream case network place l is in
     let one_mixed = stream_at-take network.branches m second early_two ∙ streams.0 ∙ sym (stream_at-take network.branches m first early) in
     let follows = mix_follows case (front case network place) first second (branch_name network first) (branch_name network second) (branch_name network to) (room case network place l is) (usable case network place l is 0 (omega arith)) (usable case network place l is 1 (omega arith))
-        (two_used case network place l is first second refl) one_mixed (new_branch case network place l is 0 to made) in
+    (two_used case network place l is first second refl) one_mixed (new_branch case network place l is 0 to made) in
     let number = number_is case network place l is to made in
     and_then case (front case network place) _ _ _ _ l _ follows (λ i. line.Mix first second (number i)) (adds_one case network place l is first to refl early streams.1 made)
 

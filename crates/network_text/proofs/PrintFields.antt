@@ -1,13 +1,12 @@
 -- Names, words and fractions are plain fields, and a printed fraction is read as itself.
-use Rattle.std.proofs.Common.{◌≡◌, ◌≢◌, ◌∙◌, ◌<◌, ◌≤◌, ◌+◌, ◌∷◌, ◌++◌, ◌==◌, ◌||◌, ◌^◌, ℕ, ℤ, pos, negsuc, suc, zero, Bool, true, false, List, [], All, Option, Some, None, get_or, option_map, length, nat_le, drop, take, append_assoc, refl, sym, ap, subst, arith, inl, inr, length-append}
+use Rattle.std.proofs.Common.{◌≡◌, ◌≢◌, ◌∙◌, ◌<◌, ◌≤◌, ◌+◌, ◌∷◌, ◌++◌, ◌==◌, ◌||◌, ◌^◌, ℕ, ℤ, pos, negsuc, suc, zero, Bool, true, false, List, [], All, Some, get_or, option_map, length, nat_le, drop, take, append_assoc, refl, sym, ap, subst, arith, inl, inr, length-append}
 use Rattle.std.specs.Prelude.{unsigned_abs, if◌then◌else◌}
 use Rattle.std.specs.Fmt.{decimal, signed_decimal}
 use Rattle.std.specs.List.{after_first, before_first, list_any, position_or_len}
 use Rattle.std.specs.Str.{all_ascii_digits}
-use Rattle.std.specs.Str.Parse.{AllDigits, digits_value}
+use Rattle.std.specs.Str.Parse.{digits_value}
 use Rattle.std.proofs.lemmas.Bool.Decides.{nat_tests}
 use Rattle.std.proofs.lemmas.Fmt.{decimal_is_IsNumeral_wide, length-decimal-le_wide}
-use Rattle.std.proofs.lemmas.Int.{ints}
 use Rattle.std.proofs.lemmas.List.{get_or_append_left, get_or_at, get_or_default, take_at, take_all, drop_at}
 use Rattle.std.proofs.lemmas.List.Elements.{All-append, All-cons, All-weaker}
 use Rattle.std.proofs.lemmas.List.Folds.{list_any-append, list_any_none}
@@ -16,7 +15,7 @@ use Rattle.std.proofs.lemmas.Str.Parse.{IsNumeralModel, numerals_by_value, tells
 use Rattle.stream_case.specs.Name.{IsAnyName, IsName, is_name_byte}
 use Rattle.fractions.specs.LowestForms.{ratio-self}
 use Rattle.fractions.specs.Rationals.{IsWithinLimits, Rational, fraction_text, is_within_limits, ratio}
-use Rattle.network_text.specs.Fractions.{bounded_ratio, denominator_in, fraction_in, is_slash, natural_in, negative, numerator_in, ratio_of}
+use Rattle.network_text.specs.Fractions.{bounded_ratio, denominator_in, fraction_in, is_slash, natural_in, negative, numerator_in}
 use Rattle.network_text.proofs.PrintText.{IsPlainField, IsVisible}
 
 -- ---- names

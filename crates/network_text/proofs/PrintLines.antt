@@ -1,5 +1,5 @@
 -- The text of a network, line by line.
-use Rattle.std.proofs.Common.{◌≡◌, ◌∙◌, ◌<◌, ◌≤◌, ◌+◌, ◌∷◌, ◌++◌, ℕ, List, [], Option, Some, None, get_or, length, map, take, refl, sym, ap, subst, arith, append_assoc}
+use Rattle.std.proofs.Common.{◌≡◌, ◌∙◌, ◌<◌, ◌≤◌, ◌+◌, ◌∷◌, ◌++◌, ℕ, List, [], None, get_or, length, map, take, refl, sym, ap, subst, arith, append_assoc}
 use Rattle.std.specs.List.{cons_option, filter_map}
 use Rattle.std.proofs.lemmas.List.{append-nil, get_or_default, length-map, map-append, map_more, take_all, take_more}
 use Rattle.std.proofs.lemmas.List.Elements.{filter_map-append}

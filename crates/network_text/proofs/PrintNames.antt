@@ -1,13 +1,12 @@
 -- Sources, branches and exchangers are found by the names that are printed.
-use Rattle.std.proofs.Common.{◌≡◌, ◌≢◌, ◌∙◌, ◌<◌, ◌≤◌, ◌+◌, ◌∷◌, ◌++◌, ◌==◌, ◌&&◌, ◌||◌, ℕ, Bool, true, false, not, cond, List, [], All, AllPairs, Option, Some, None, pos, get_or, slice_get, option_map, unwrap_or, position, length, map, nat_le, nat_lt, take, drop, refl, sym, ap, subst, arith, inl, inr, length-append, length-drop}
-use Rattle.std.specs.List.{list_all, position_or_len, prefix_len}
+use Rattle.std.proofs.Common.{◌≡◌, ◌≢◌, ◌∙◌, ◌<◌, ◌≤◌, ◌+◌, ◌∷◌, ◌==◌, ◌||◌, ℕ, Bool, true, false, not, cond, List, [], All, AllPairs, Option, Some, None, pos, get_or, slice_get, option_map, unwrap_or, position, length, map, nat_le, nat_lt, take, drop, refl, sym, ap, subst, arith, inl, inr}
+use Rattle.std.specs.List.{prefix_len}
 use Rattle.std.specs.Str.{bytes_eq}
 use Rattle.std.proofs.lemmas.Bool.Decides.{nat_tests}
-use Rattle.std.proofs.lemmas.List.{get_or-take, get_or_default, get_or_past, length-map, length-take-le, take-append-drop}
-use Rattle.std.proofs.lemmas.List.Elements.{All-append}
+use Rattle.std.proofs.lemmas.List.{get_or-take, get_or_default, length-map, length-take-le, take-append-drop}
 use Rattle.std.proofs.lemmas.List.Sums.{list_all-from_AllPass}
 use Rattle.std.proofs.lemmas.Option.{slice_get-map, slice_get_within, get_or_from_slice_get, unwrap_or-slice_get}
-use Rattle.stream_case.specs.Case.{IsValidStream, names_of, side_of}
+use Rattle.stream_case.specs.Case.{side_of}
 use Rattle.stream_case.specs.Name.{IsAnyName, IsDottedName, IsName, is_name_byte}
 use Rattle.stream_case.specs.declared.case.Case.{Case}
 use Rattle.stream_case.specs.declared.source.Side.{Side}
@@ -16,11 +15,11 @@ use Rattle.stream_case.specs.declared.source.Source.{Source}
 use Rattle.stream_case.specs.declared.source.Source.TheVariants as source
 use Rattle.stream_case.specs.declared.stream.Stream.{Stream}
 use Rattle.stream_case.specs.declared.utility.Utility.{Utility}
-use Rattle.stream_case.proofs.CompleteLemmas.{IsUtility, StaysValid}
+use Rattle.stream_case.proofs.CompleteLemmas.{StaysValid}
 use Rattle.stream_case.proofs.DistinctLemmas.{AllPairs-across, AllPairs-back, AllPairs-front, no_place_of, place_of}
 use Rattle.network_text.specs.Names.{is_branch_name, is_dotted_name, is_name}
 use Rattle.network_text.specs.Lines.{exchangers_of, names_of as branch_names}
-use Rattle.network_text.specs.Given.{first_source, source_named}
+use Rattle.network_text.specs.Given.{source_named}
 use Rattle.network_text.specs.Printed.{branch_name, exchanger_name, exchanger_names, source_name}
 use Rattle.network_text.specs.declared.network.Network.{Network}
 
@@ -139,8 +138,8 @@ utility_found case valid i x at =
     let distinct = AllPairs-back Differ (stream_names case) (utility_names case) valid.distinct_names in
     let place = position-map (bytes_eq (get_or (utility_names case) i [])) (λ (u : Utility). u.name) case.utilities ∙ place_of (utility_names case) i distinct within in
     let others : All (λ other. other ≢ get_or (utility_names case) i []) (stream_names case) = λ k d early.
-        let across = AllPairs-across Differ (stream_names case) (utility_names case) k d valid.distinct_names early in
-        across i [] within in
+    let across = AllPairs-across Differ (stream_names case) (utility_names case) k d valid.distinct_names early in
+    across i [] within in
     let nowhere = position-map (bytes_eq (get_or (utility_names case) i [])) (λ (s : Stream). s.name) case.streams ∙ no_place_of (stream_names case) (get_or (utility_names case) i []) others in
     record {
       name = rw at (subst (λ (u : Utility). IsName u.name) here (valid.utilities i no_utility own).name);

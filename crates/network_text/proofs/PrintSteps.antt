@@ -1,5 +1,5 @@
 -- Statements that are not at fault, and what is given with them, kind by kind.
-use Rattle.std.proofs.Common.{◌≡◌, ◌≢◌, ◌∙◌, ◌<◌, ◌∷◌, ◌==◌, ◌&&◌, ℕ, Bool, true, false, not, List, [], Option, Some, None, is_some, unwrap_or, length, nat_lt, pos, refl, ap, arith}
+use Rattle.std.proofs.Common.{◌≡◌, ◌≢◌, ◌∙◌, ◌<◌, ◌∷◌, ◌==◌, ◌&&◌, ℕ, Bool, true, false, not, List, [], Some, None, is_some, unwrap_or, length, nat_lt, pos, refl, ap, arith}
 use Rattle.std.specs.Prelude.{codes, int_lt}
 use Rattle.std.specs.Str.{bytes_eq}
 use Rattle.std.proofs.lemmas.Bool.Decides.{nat_tests}
@@ -13,12 +13,12 @@ use Rattle.stream_case.specs.declared.source.Side.TheVariants as side
 use Rattle.stream_case.specs.declared.source.Source.{Source}
 use Rattle.stream_case.specs.declared.source.Source.TheVariants as source
 use Rattle.fractions.specs.Rationals.{Rational, fraction_text, rational_zero}
-use Rattle.network_text.specs.Names.{is_branch_name, is_name}
+use Rattle.network_text.specs.Names.{is_branch_name}
 use Rattle.network_text.specs.Fractions.{fraction, fraction_in, is_positive}
 use Rattle.network_text.specs.Lines.{exchangers_of, stream_at}
 use Rattle.network_text.specs.Statements.{Statement}
-use Rattle.network_text.specs.Given.{branch_at, branch_named, entry_in, exchanger_at, exchanger_named, kind_of, next, source_at, source_named, with_entry}
-use Rattle.network_text.specs.Checks.{Check, checks, end_checks, exchanger_checks, first_failing, fraction_checks, is_free_side, is_on, is_side, is_used, kind_checks, mix_checks, mixed_checks, most_exchangers, most_statements, new_branch_checks, new_exchanger_checks, pass_checks, passed_checks, source_checks, split_checks, used_branch_checks}
+use Rattle.network_text.specs.Given.{branch_at, branch_named, entry_in, exchanger_at, exchanger_named, kind_of, next, source_at, with_entry}
+use Rattle.network_text.specs.Checks.{Check, checks, end_checks, exchanger_checks, first_failing, fraction_checks, is_free_side, is_on, is_used, kind_checks, mix_checks, mixed_checks, most_exchangers, most_statements, new_branch_checks, new_exchanger_checks, pass_checks, passed_checks, source_checks, split_checks, used_branch_checks}
 use Rattle.network_text.specs.Shape.{IsPositive}
 use Rattle.network_text.specs.Printed.{source_name}
 use Rattle.network_text.specs.declared.found.Entry.TheVariants as entry

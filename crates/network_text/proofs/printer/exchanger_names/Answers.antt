@@ -12,11 +12,11 @@ loop-line-preserved c =
     let within : c.loop-line.line-index < length lines = omega (arith, ap length c.as_slice-line-items.ensures, c.loop-line-test.true) in
     let item : c.line-item.result ≡ get_or lines c.loop-line.line-index c.line-item.result = c.line-item.is ∙ ap (λ ls. get_or ls c.loop-line.line-index c.line-item.result) c.as_slice-line-items.ensures in
     elim c.match-line.branch [
-    | in-Exchanger+in_ok-push w ↦
-        ap (λ v. v.items) w.names-is ∙ w.in_ok-push.ensures.items ∙ ap (λ names. names ++ w.in-Exchanger.name ∷ []) c.loop-line.invariant
-        ∙ sym (declares_one lines c.loop-line.line-index c.line-item.result w.in-Exchanger.name w.in-Exchanger.hot w.in-Exchanger.cold w.in-Exchanger.duty within item w.in-Exchanger.is)
-    | in_default w ↦
-        ap (λ v. v.items) w.names-is ∙ c.loop-line.invariant ∙ sym (declares_none lines c.loop-line.line-index c.line-item.result within item (declares_nothing c.line-item.result w.in_default.not-Exchanger))
+      | in-Exchanger+in_ok-push w ↦
+          ap (λ v. v.items) w.names-is ∙ w.in_ok-push.ensures.items ∙ ap (λ names. names ++ w.in-Exchanger.name ∷ []) c.loop-line.invariant
+          ∙ sym (declares_one lines c.loop-line.line-index c.line-item.result w.in-Exchanger.name w.in-Exchanger.hot w.in-Exchanger.cold w.in-Exchanger.duty within item w.in-Exchanger.is)
+      | in_default w ↦
+          ap (λ v. v.items) w.names-is ∙ c.loop-line.invariant ∙ sym (declares_none lines c.loop-line.line-index c.line-item.result within item (declares_nothing c.line-item.result w.in_default.not-Exchanger))
     ]
 
 pub returns : goal.returns

@@ -1,4 +1,4 @@
-use Rattle.std.proofs.Common.{◌<◌, ◌≡◌, length, sym, ap, arith}
+use Rattle.std.proofs.Common.{◌<◌, ◌≡◌, length, ap, arith}
 use Rattle.network_text.specs.Printed.{exchanger_name}
 use Rattle.network_text.proofs.PrintLines.{exchanger_within, name_read}
 use Rattle.network_text.proofs.printer.statement_line.Goals as goal
