@@ -6,6 +6,7 @@ mod BackFront
 mod BackLaw
 mod BackNames
 mod BackSteps
+mod PrintExample
 mod PrintFields
 mod PrintLines
 mod PrintNames

@@ -25,4 +25,6 @@ pub use printer::{networks_are_printed_and_read_again, print_network};
 pub use reader::read_network;
 
 #[cfg(test)]
+mod printer_tests;
+#[cfg(test)]
 mod tests;
