@@ -1,4 +1,3 @@
-mod Worked
 mod BackBranches
 mod BackCounts
 mod BackExchangers
@@ -12,3 +11,4 @@ mod PrintLines
 mod PrintNames
 mod PrintSteps
 mod PrintText
+mod Worked
