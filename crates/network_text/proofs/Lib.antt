@@ -1,1 +1,6 @@
 mod Worked
+pub mod NameTests
+pub mod DigitTexts
+pub mod Positions
+pub mod Bounds
+pub mod LineCuts

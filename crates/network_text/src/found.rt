@@ -217,13 +217,7 @@ impl Found {
         Ok(found)
     }
 
-    fn with_split(
-        self,
-        from: u32,
-        first: Name,
-        cp: Frac,
-        second: Name,
-    ) -> Result<Found, AllocError>
+    fn with_split(self, from: u32, first: Name, cp: Frac, second: Name) -> Result<Found, AllocError>
         requires room { length self.lines < most_statements }
         requires fresh { IsFresh self (Entry.Split from first cp second) }
         ensures { IfOk result (λ found. found ≡ with_entry self (Entry.Split from first cp second)) }
