@@ -4,3 +4,5 @@ pub mod DigitTexts
 pub mod Positions
 pub mod Bounds
 pub mod LineCuts
+pub mod LineLaws
+pub mod Tables

@@ -1,5 +1,5 @@
 -- The first byte that passes a test.
-use Rattle.std.proofs.Common.{◌≡◌, ◌≤◌, ◌<◌, ◌-◌, ℕ, Bool, true, false, List, length, Option, Some, None, get_or, arith, cond, refl, take, drop, length-drop}
+use Rattle.std.proofs.Common.{◌≡◌, ◌≤◌, ◌<◌, ◌-◌, ℕ, Bool, true, false, List, length, Option, Some, None, arith, cond, refl, take, drop, length-drop, ◌∙◌, ◌+◌, ◌∷◌, [], suc, is_some}
 use Rattle.std.proofs.lemmas.List.{take_all}
 use Rattle.std.specs.Prelude.{position, nat_lt}
 use Rattle.std.specs.List.{list_any, position_or_len}
@@ -39,3 +39,32 @@ position-none p bs e = by (nat_lt (position_or_len p bs) (length bs)) refl e
 -- what `&bs[k..]` reads
 pub behind : (bs : List ℕ) (k : ℕ) → take (length bs - k) (drop k bs) ≡ drop k bs
 behind bs k = take_all (length bs - k) (drop k bs) (omega (arith, length-drop k bs))
+
+-- ---- in any list
+
+shifted : (m n : ℕ) → nat_lt (1 + m) (suc n) ≡ nat_lt m n
+shifted m n = by (nat_lt m n) refl
+  where
+    by : (b : Bool) → nat_lt m n ≡ b → nat_lt (1 + m) (suc n) ≡ b
+    by true e = grind (arith, nat_tests, e)
+    by false e = grind (arith, nat_tests, e)
+
+lt-list_any : {X : Type 0} (p : X → Bool) (xs : List X) → nat_lt (position_or_len p xs) (length xs) ≡ list_any p xs
+lt-list_any p [] = refl
+lt-list_any p (x ∷ xs) = by (p x) refl (lt-list_any p xs)
+  where
+    by : (b : Bool) → p x ≡ b → nat_lt (position_or_len p xs) (length xs) ≡ list_any p xs → nat_lt (position_or_len p (x ∷ xs)) (length (x ∷ xs)) ≡ list_any p (x ∷ xs)
+    by true e rest = let some : nat_lt 0 (suc (length xs)) ≡ true = grind (arith, nat_tests) in rw (e, some) refl
+    by false e rest = rw (e, shifted (position_or_len p xs) (length xs)) rest
+
+is_some-cond : {X : Type 0} (b : Bool) (x : X) → is_some (cond b (Some x) None) ≡ b
+is_some-cond true x = refl
+is_some-cond false x = refl
+
+-- there is a place exactly where some element passes
+pub is_some-position : {X : Type 0} (p : X → Bool) (xs : List X) → is_some (position p xs) ≡ list_any p xs
+is_some-position p xs = is_some-cond (nat_lt (position_or_len p xs) (length xs)) (position_or_len p xs) ∙ lt-list_any p xs
+
+pub none_there : {X : Type 0} (o : Option X) → is_some o ≡ false → o ≡ None
+none_there None e = refl
+none_there (Some x) e = cc e

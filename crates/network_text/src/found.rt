@@ -3,9 +3,10 @@
 ghost use Rattle.std.specs.Prelude.{◌≡◌, ◌<◌, false, length, IfOk, IfSome};
 ghost use Rattle.network_text.specs.Lines.{exchangers_of, stream_at};
 ghost use Rattle.network_text.specs.Given.{branch_named, exchanger_named, start, with_entry};
-ghost use Rattle.network_text.specs.Checks.{first_missing, is_free_side, is_used, most_statements};
+ghost use Rattle.network_text.specs.Checks.{first_missing, is_free_side, is_passed, is_stream, is_used, joins_stream, most_statements};
 ghost use Rattle.network_text.specs.Answers.{HasFewSources, IsFresh};
 
+use crate::names::branch_name;
 use crate::network::{Branch, Line, Network};
 use fractions::Frac;
 use indexmap::{IndexMap, IndexSet};
@@ -55,6 +56,16 @@ pub struct Sides {
 pub struct Passage {
     pub exchanger: u32,
     pub stream: u32,
+}
+
+/// Whether a source is the stream with this number.
+fn is_stream(source: Source, stream: u32) -> bool
+    ensures { result ≡ is_stream stream source }
+{
+    match source {
+        Source::Stream(place) => place == stream,
+        Source::Utility(_) => false,
+    }
 }
 
 /// What the statements read so far give: the network so far, and tables to look things up in it.
@@ -121,8 +132,13 @@ impl Found {
         ensures number { result ≡ branch_named self.now name.now }
         ensures within { IfSome result (λ number. number < length self.now.branches) }
     {
-        let name = Name::new(name)?;
-        let number = self.branches.get_index_of(&name)?;
+        let branches = &self.branches;
+        let Some(name) = branch_name(name) else {
+            return None;
+        };
+        let Some(number) = branches.get_index_of(&name) else {
+            return None;
+        };
         Some(number as u32)
     }
 
@@ -130,8 +146,13 @@ impl Found {
     pub fn exchanger_named(&self, name: &[u8]) -> Option<u32>
         ensures { result ≡ exchanger_named self.now name.now }
     {
-        let name = Name::new(name)?;
-        let number = self.exchangers.get_index_of(&name)?;
+        let exchangers = &self.exchangers;
+        let Some(name) = branch_name(name) else {
+            return None;
+        };
+        let Some(number) = exchangers.get_index_of(&name) else {
+            return None;
+        };
         Some(number as u32)
     }
 
@@ -152,18 +173,35 @@ impl Found {
         }
     }
 
+    /// Whether the exchanger with this number has a side of the stream.
+    #[tactic(auto, unfolding(crate::specs::Checks::joins_stream))]
+    fn joins_stream(&self, exchanger: u32, stream: u32) -> bool
+        ensures { result ≡ joins_stream self.now exchanger stream }
+    {
+        match self.exchangers.get_index(exchanger as usize) {
+            Some((_, sides)) => is_stream(sides.hot, stream) || is_stream(sides.cold, stream),
+            None => false,
+        }
+    }
+
+    /// Whether an earlier statement passed the exchanger with this number on the side of the
+    /// stream.
+    #[tactic(auto, unfolding(crate::specs::Checks::is_passed))]
+    fn is_passed(&self, exchanger: u32, stream: u32) -> bool
+        ensures { result ≡ is_passed self.now exchanger stream }
+    {
+        self.passed.contains(&Passage { exchanger, stream })
+    }
+
     /// Whether the exchanger with this number has a side of the stream, and no earlier statement
     /// passed it.
     pub fn is_free_side(&self, exchanger: u32, stream: u32) -> bool
         ensures { result ≡ is_free_side self.now exchanger stream }
     {
-        let Some((_, sides)) = self.exchangers.get_index(exchanger as usize) else {
-            return false;
-        };
-        if sides.hot != Source::Stream(stream) && sides.cold != Source::Stream(stream) {
+        if !self.joins_stream(exchanger, stream) {
             return false;
         }
-        !self.passed.contains(&Passage { exchanger, stream })
+        !self.is_passed(exchanger, stream)
     }
 
     /// What there is with the entry of one statement more.
