@@ -1,5 +1,5 @@
 -- The tables of what was found: look-ups in them, and one line more.
-use Rattle.std.proofs.Common.{◌≡◌, ◌∙◌, ◌<◌, ◌≤◌, ◌+◌, ◌∷◌, ◌++◌, ◌&&◌, ◌||◌, ℕ, Bool, true, false, List, [], All, Option, Some, None, is_some, length, map, option_map, slice_get, refl, sym, ap, arith, length-append}
+use Rattle.std.proofs.Common.{◌≡◌, ◌∙◌, ◌<◌, ◌≤◌, ◌+◌, ◌∷◌, ◌++◌, ◌&&◌, ◌||◌, ◌==◌, ℕ, Bool, true, false, List, [], All, Option, Some, None, is_some, length, map, option_map, slice_get, refl, sym, ap, arith, length-append}
 use Rattle.std.specs.Prelude.{position}
 use Rattle.std.specs.List.{list_all, list_any}
 use Rattle.std.specs.Map.{keys_of}
@@ -8,7 +8,7 @@ use Rattle.std.specs.Str.{bytes_eq}
 use Rattle.std.specs.Cmp.Lexicographic.{bytes_decides}
 use Rattle.std.proofs.lemmas.List.{length-map, map-append}
 use Rattle.std.proofs.lemmas.List.Elements.{All-append, All-weaker}
-use Rattle.std.proofs.lemmas.List.Folds.{list_all-append}
+use Rattle.std.proofs.lemmas.List.Folds.{list_all-append, list_any-append}
 use Rattle.std.proofs.lemmas.Option.{slice_get-map}
 use Rattle.std.proofs.lemmas.Simd.{map-map}
 use Rattle.indexmap.specs.IndexMap.{IndexMap, insert_entry}
@@ -16,13 +16,18 @@ use Rattle.indexmap.proofs.CallerLemmas.{insert_entry-new}
 use Rattle.indexmap.proofs.MapLemmas.{some_index}
 use Rattle.network_text.specs.Names.{is_branch_name}
 use Rattle.network_text.specs.Lines.{Exchanger, exchanger_of, exchangers_of, names_of, passage_of, passages_of, stream_at, used_by, uses}
-use Rattle.network_text.specs.Given.{branch_named, exchanger_named}
+use Rattle.fractions.specs.Rationals.{Rational}
+use Rattle.network_text.specs.Given.{branch_named, exchanger_named, with_entry}
+use Rattle.network_text.specs.declared.found.Entry.TheVariants as entry
+use Rattle.network_text.specs.declared.network.Line.TheVariants as line
 use Rattle.network_text.specs.Checks.{is_stream, has_stream, most_statements}
-use Rattle.network_text.specs.Answers.{IsTracked, named_branch, named_sides}
+use Rattle.network_text.specs.Answers.{IsFree, IsNew, IsTracked, named_branch, named_sides}
 use Rattle.network_text.specs.declared.found.Passage.{Passage}
 use Rattle.network_text.specs.declared.found.Sides.{Sides}
 use Rattle.network_text.specs.declared.network.Branch.{Branch}
 use Rattle.network_text.specs.declared.network.Line.{Line}
+use Rattle.network_text.specs.declared.network.Network.{Network}
+use Rattle.stream_case.specs.declared.source.Source.{Source}
 use Rattle.network_text.proofs.NameTests.{both}
 use Rattle.network_text.proofs.Positions.{is_some-position, none_there}
 use Rattle.network_text.proofs.LineLaws.{exchangers_of-push, few_exchangers, passages_of-front, passages_of-push, used_by-push}
@@ -101,8 +106,7 @@ new_entry m name v none = insert_entry-new bytes_eq m name v (none_there _ (sym 
 
 -- ---- one line more
 
--- what one line more adds to each table
-pub tracked-push : (es more : List (List ℕ × ℕ)) (used : List ℕ) (xs xs' : List (List ℕ × Sides)) (passed : List Passage) (ls : List Line) (l : Line)
+pushed : (es more : List (List ℕ × ℕ)) (used : List ℕ) (xs xs' : List (List ℕ × Sides)) (passed : List Passage) (ls : List Line) (l : Line)
     → IsTracked es used xs passed ls
     → xs' ≡ xs ++ map named_sides (option_to_list (exchanger_of l))
     → All (λ k. k < length es) (uses l)
@@ -111,7 +115,7 @@ pub tracked-push : (es more : List (List ℕ × ℕ)) (used : List ℕ) (xs xs' 
     → length ls < most_statements
     → length more ≤ 2
     → IsTracked (es ++ more) (used ++ uses l) xs' (passed ++ option_to_list (passage_of (map named_branch es) l)) (ls ++ l ∷ [])
-tracked-push es more used xs xs' passed ls l is declared made names exchanger_names room few =
+pushed es more used xs xs' passed ls l is declared made names exchanger_names room few =
     let bs : List Branch = map named_branch es in
     let all : map named_branch (es ++ more) ≡ bs ++ map named_branch more = map-append named_branch es more in
     let wide : length bs ≡ length es = length-map es named_branch in
@@ -128,3 +132,85 @@ tracked-push es more used xs xs' passed ls l is declared made names exchanger_na
       few_lines = omega (arith, room, length-append ls (l ∷ []));
       few_branches = omega (arith, is.few_branches, long, few, length-append ls (l ∷ []));
     }
+
+-- what one line more adds to each table
+pub tracked-push : (es more es' : List (List ℕ × ℕ)) (used used' : List ℕ) (xs xs' : List (List ℕ × Sides)) (passed passed' : List Passage) (ls ls' : List Line) (l : Line)
+    → IsTracked es used xs passed ls
+    → es' ≡ es ++ more
+    → used' ≡ used ++ uses l
+    → xs' ≡ xs ++ map named_sides (option_to_list (exchanger_of l))
+    → passed' ≡ passed ++ option_to_list (passage_of (map named_branch es) l)
+    → ls' ≡ ls ++ l ∷ []
+    → All (λ k. k < length es) (uses l)
+    → list_all is_branch_name (keys_of more) ≡ true
+    → list_all is_branch_name (keys_of (map named_sides (option_to_list (exchanger_of l)))) ≡ true
+    → length ls < most_statements
+    → length more ≤ 2
+    → IsTracked es' used' xs' passed' ls'
+tracked-push es more es' used used' xs xs' passed passed' ls ls' l is branches uses_are declared passes lines made names exchanger_names room few =
+    let all = pushed es more used xs xs' passed ls l is declared made names exchanger_names room few in
+    rw (branches, uses_are, passes, lines) all
+
+-- ---- what a fresh entry needs
+
+abbrev pub so_far : List (List ℕ × ℕ) → List Line → Network
+so_far es ls = record { branches = map named_branch es; lines = ls }
+
+-- a free branch is made, and not among the used ones
+pub free-made : (es : List (List ℕ × ℕ)) (ls : List Line) (k : ℕ) → IsFree (so_far es ls) k → k < length es
+free-made es ls k free = let within = free.0 in omega (arith, within, length-map es named_branch)
+
+pub free-unused : (es : List (List ℕ × ℕ)) (used : List ℕ) (xs : List (List ℕ × Sides)) (passed : List Passage) (ls : List Line) (k : ℕ) → IsTracked es used xs passed ls → IsFree (so_far es ls) k → list_any (λ other. k == other) used ≡ false
+free-unused es used xs passed ls k is free = ap (list_any (λ other. k == other)) is.used_are ∙ free.1
+
+-- a new name is no key
+pub new-unkeyed : (es : List (List ℕ × ℕ)) (ls : List Line) (name : List ℕ) → IsNew (so_far es ls) name → position (bytes_eq name) (keys_of es) ≡ None
+new-unkeyed es ls name new = sym (branch_named-keys es ls name) ∙ none_there _ new.1
+
+-- nor behind another new name
+pub second-unkeyed : (es : List (List ℕ × ℕ)) (name first : List ℕ) (s : ℕ) → position (bytes_eq name) (keys_of es) ≡ None → bytes_eq name first ≡ false → position (bytes_eq name) (keys_of (es ++ (first, s) ∷ [])) ≡ None
+second-unkeyed es name first s none other =
+    let before = sym (is_some-position (bytes_eq name) (keys_of es)) ∙ ap is_some none in
+    let all = ap (list_any (bytes_eq name)) (map-append (λ (e : List ℕ × ℕ). e.0) es ((first, s) ∷ [])) ∙ list_any-append (bytes_eq name) (keys_of es) (first ∷ []) in
+    none_there _ (is_some-position (bytes_eq name) (keys_of (es ++ (first, s) ∷ [])) ∙ all ∙ rw (before, other) refl)
+
+-- ---- the network with one entry more
+
+pub with_exchanger : (es : List (List ℕ × ℕ)) (ls : List Line) (name : List ℕ) (hot cold : Source) (duty : Rational)
+    → so_far es (ls ++ line.Exchanger name hot cold duty ∷ []) ≡ with_entry (so_far es ls) (entry.Exchanger name hot cold duty)
+unfolding with_entry
+with_exchanger es ls name hot cold duty = refl
+
+pub with_split : (es : List (List ℕ × ℕ)) (ls : List Line) (from : ℕ) (first : List ℕ) (cp : Rational) (second : List ℕ) (stream number : ℕ) → stream ≡ stream_at (map named_branch es) from → number ≡ length es
+    → so_far (es ++ (first, stream) ∷ (second, stream) ∷ []) (ls ++ line.Split from number cp (number + 1) ∷ []) ≡ with_entry (so_far es ls) (entry.Split from first cp second)
+unfolding with_entry
+with_split es ls from first cp second stream number own count =
+    let made = map-append named_branch es ((first, stream) ∷ (second, stream) ∷ []) in
+    let wide = count ∙ sym (length-map es named_branch) in
+    (λ i. record { branches = made i; lines = ls ++ line.Split from number cp (number + 1) ∷ [] })
+    ∙ (λ i. record {
+      branches = map named_branch es ++ named_branch (first, own i) ∷ named_branch (second, own i) ∷ [];
+      lines = ls ++ line.Split from (wide i) cp (wide i + 1) ∷ [];
+    })
+
+pub with_pass : (es : List (List ℕ × ℕ)) (ls : List Line) (from exchanger : ℕ) (to : List ℕ) (stream number : ℕ) → stream ≡ stream_at (map named_branch es) from → number ≡ length es
+    → so_far (es ++ (to, stream) ∷ []) (ls ++ line.Pass from exchanger number ∷ []) ≡ with_entry (so_far es ls) (entry.Pass from exchanger to)
+unfolding with_entry
+with_pass es ls from exchanger to stream number own count =
+    let made = map-append named_branch es ((to, stream) ∷ []) in
+    let wide = count ∙ sym (length-map es named_branch) in
+    (λ i. record { branches = made i; lines = ls ++ line.Pass from exchanger number ∷ [] })
+    ∙ (λ i. record { branches = map named_branch es ++ named_branch (to, own i) ∷ []; lines = ls ++ line.Pass from exchanger (wide i) ∷ [] })
+
+pub with_mix : (es : List (List ℕ × ℕ)) (ls : List Line) (first second : ℕ) (to : List ℕ) (stream number : ℕ) → stream ≡ stream_at (map named_branch es) first → number ≡ length es
+    → so_far (es ++ (to, stream) ∷ []) (ls ++ line.Mix first second number ∷ []) ≡ with_entry (so_far es ls) (entry.Mix first second to)
+unfolding with_entry
+with_mix es ls first second to stream number own count =
+    let made = map-append named_branch es ((to, stream) ∷ []) in
+    let wide = count ∙ sym (length-map es named_branch) in
+    (λ i. record { branches = made i; lines = ls ++ line.Mix first second number ∷ [] })
+    ∙ (λ i. record { branches = map named_branch es ++ named_branch (to, own i) ∷ []; lines = ls ++ line.Mix first second (wide i) ∷ [] })
+
+pub with_end : (es : List (List ℕ × ℕ)) (ls : List Line) (branch : ℕ) → so_far es (ls ++ line.End branch ∷ []) ≡ with_entry (so_far es ls) (entry.End branch)
+unfolding with_entry
+with_end es ls branch = refl

@@ -1,9 +1,12 @@
 //! What the statements that were read give.
 
-ghost use Rattle.std.specs.Prelude.{◌≡◌, ◌<◌, false, length, IfOk, IfSome};
+ghost use Rattle.std.specs.Prelude.{◌≡◌, ◌==◌, ◌<◌, [], ◌∷◌, ◌++◌, None, false, length, position, IfOk, IfSome, OnOk};
+ghost use Rattle.std.specs.List.{list_any};
+ghost use Rattle.std.specs.Map.{keys_of};
+ghost use Rattle.std.specs.Str.{bytes_eq};
 ghost use Rattle.network_text.specs.Lines.{exchangers_of, stream_at};
 ghost use Rattle.network_text.specs.Given.{branch_named, exchanger_named, start, with_entry};
-ghost use Rattle.network_text.specs.Checks.{first_missing, is_free_side, is_passed, is_stream, is_used, joins_stream, most_statements};
+ghost use Rattle.network_text.specs.Checks.{first_missing, is_free_side, is_passed, is_stream, is_used, joins_stream, most_statements, same_passage};
 ghost use Rattle.network_text.specs.Answers.{HasFewSources, IsFresh};
 
 use crate::names::branch_name;
@@ -66,6 +69,50 @@ fn is_stream(source: Source, stream: u32) -> bool
         Source::Stream(place) => place == stream,
         Source::Utility(_) => false,
     }
+}
+
+/// Adds a branch to those that are used.
+fn mark_used(used: &mut IndexSet<u32>, number: u32) -> Result<(), AllocError>
+    requires { list_any (λ other. number == other) used.old.keys ≡ false }
+    ensures { OnOk result (used.new.keys ≡ used.old.keys ++ number ∷ []) }
+{
+    used.insert(number)?;
+    Ok(())
+}
+
+/// Adds a side of an exchanger to those that are passed.
+fn mark_passed(passed: &mut IndexSet<Passage>, passage: Passage) -> Result<(), AllocError>
+    requires { list_any (same_passage passage) passed.old.keys ≡ false }
+    ensures { OnOk result (passed.new.keys ≡ passed.old.keys ++ passage ∷ []) }
+{
+    passed.insert(passage)?;
+    Ok(())
+}
+
+/// Adds a branch with a new name.
+fn add_branch(
+    branches: &mut IndexMap<Name, u32>,
+    name: Name,
+    stream: u32,
+) -> Result<(), AllocError>
+    requires { position (bytes_eq name) (keys_of branches.old.entries) ≡ None }
+    ensures { OnOk result (branches.new.entries ≡ branches.old.entries ++ (name, stream) ∷ []) }
+{
+    branches.insert(name, stream)?;
+    Ok(())
+}
+
+/// Adds an exchanger with a new name.
+fn add_exchanger(
+    exchangers: &mut IndexMap<Name, Sides>,
+    name: Name,
+    sides: Sides,
+) -> Result<(), AllocError>
+    requires { position (bytes_eq name) (keys_of exchangers.old.entries) ≡ None }
+    ensures { OnOk result (exchangers.new.entries ≡ exchangers.old.entries ++ (name, sides) ∷ []) }
+{
+    exchangers.insert(name, sides)?;
+    Ok(())
 }
 
 /// What the statements read so far give: the network so far, and tables to look things up in it.
@@ -245,7 +292,7 @@ impl Found {
         ensures { IfOk result (λ found. found ≡ with_entry self (Entry.Exchanger name hot cold duty)) }
     {
         let mut found = self;
-        found.exchangers.insert(name, Sides { hot, cold })?;
+        add_exchanger(&mut found.exchangers, name, Sides { hot, cold })?;
         found.lines.push(Line::Exchanger {
             name,
             hot,
@@ -263,9 +310,9 @@ impl Found {
         let stream = self.stream_of(from);
         let number = self.branches.len() as u32;
         let mut found = self;
-        found.used.insert(from)?;
-        found.branches.insert(first, stream)?;
-        found.branches.insert(second, stream)?;
+        mark_used(&mut found.used, from)?;
+        add_branch(&mut found.branches, first, stream)?;
+        add_branch(&mut found.branches, second, stream)?;
         found.lines.push(Line::Split {
             from,
             first: number,
@@ -283,9 +330,9 @@ impl Found {
         let stream = self.stream_of(from);
         let number = self.branches.len() as u32;
         let mut found = self;
-        found.used.insert(from)?;
-        found.passed.insert(Passage { exchanger, stream })?;
-        found.branches.insert(to, stream)?;
+        mark_used(&mut found.used, from)?;
+        mark_passed(&mut found.passed, Passage { exchanger, stream })?;
+        add_branch(&mut found.branches, to, stream)?;
         found.lines.push(Line::Pass {
             from,
             exchanger,
@@ -302,9 +349,9 @@ impl Found {
         let stream = self.stream_of(first);
         let number = self.branches.len() as u32;
         let mut found = self;
-        found.used.insert(first)?;
-        found.used.insert(second)?;
-        found.branches.insert(to, stream)?;
+        mark_used(&mut found.used, first)?;
+        mark_used(&mut found.used, second)?;
+        add_branch(&mut found.branches, to, stream)?;
         found.lines.push(Line::Mix {
             first,
             second,
@@ -319,7 +366,7 @@ impl Found {
         ensures { IfOk result (λ found. found ≡ with_entry self (Entry.End branch)) }
     {
         let mut found = self;
-        found.used.insert(branch)?;
+        mark_used(&mut found.used, branch)?;
         found.lines.push(Line::End { branch })?;
         Ok(found)
     }
