@@ -6,7 +6,7 @@ use Rattle.std.specs.Map.{keys_of}
 use Rattle.std.specs.Option.{option_to_list}
 use Rattle.std.specs.Str.{bytes_eq}
 use Rattle.std.specs.Cmp.Lexicographic.{bytes_decides}
-use Rattle.std.proofs.lemmas.List.{length-map, map-append}
+use Rattle.std.proofs.lemmas.List.{append_assoc, length-map, map-append}
 use Rattle.std.proofs.lemmas.List.Elements.{All-append, All-weaker}
 use Rattle.std.proofs.lemmas.List.Folds.{list_all-append, list_any-append}
 use Rattle.std.proofs.lemmas.Option.{slice_get-map}
@@ -20,7 +20,7 @@ use Rattle.fractions.specs.Rationals.{Rational}
 use Rattle.network_text.specs.Given.{branch_named, exchanger_named, with_entry}
 use Rattle.network_text.specs.declared.found.Entry.TheVariants as entry
 use Rattle.network_text.specs.declared.network.Line.TheVariants as line
-use Rattle.network_text.specs.Checks.{is_stream, has_stream, most_statements}
+use Rattle.network_text.specs.Checks.{has_stream, is_passed, is_stream, most_statements, same_passage}
 use Rattle.network_text.specs.Answers.{IsFree, IsNew, IsTracked, named_branch, named_sides}
 use Rattle.network_text.specs.declared.found.Passage.{Passage}
 use Rattle.network_text.specs.declared.found.Sides.{Sides}
@@ -151,6 +151,10 @@ tracked-push es more es' used used' xs xs' passed passed' ls ls' l is branches u
     let all = pushed es more used xs xs' passed ls l is declared made names exchanger_names room few in
     rw (branches, uses_are, passes, lines) all
 
+-- few enough branches that their numbers fit in 32 bits
+pub few_made : (es : List (List ℕ × ℕ)) (used : List ℕ) (xs : List (List ℕ × Sides)) (passed : List Passage) (ls : List Line) → IsTracked es used xs passed ls → length es < 1000000
+few_made es used xs passed ls is = omega (arith, is.few_branches, is.few_lines)
+
 -- ---- what a fresh entry needs
 
 abbrev pub so_far : List (List ℕ × ℕ) → List Line → Network
@@ -181,36 +185,56 @@ pub with_exchanger : (es : List (List ℕ × ℕ)) (ls : List Line) (name : List
 unfolding with_entry
 with_exchanger es ls name hot cold duty = refl
 
-pub with_split : (es : List (List ℕ × ℕ)) (ls : List Line) (from : ℕ) (first : List ℕ) (cp : Rational) (second : List ℕ) (stream number : ℕ) → stream ≡ stream_at (map named_branch es) from → number ≡ length es
+pub with_split : (es : List (List ℕ × ℕ)) (ls : List Line) (from : ℕ) (first : List ℕ) (cp : Rational) (second : List ℕ) (stream number : ℕ) → stream ≡ stream_at (map named_branch es) from → number ≡ length (map named_branch es)
     → so_far (es ++ (first, stream) ∷ (second, stream) ∷ []) (ls ++ line.Split from number cp (number + 1) ∷ []) ≡ with_entry (so_far es ls) (entry.Split from first cp second)
 unfolding with_entry
 with_split es ls from first cp second stream number own count =
     let made = map-append named_branch es ((first, stream) ∷ (second, stream) ∷ []) in
-    let wide = count ∙ sym (length-map es named_branch) in
     (λ i. record { branches = made i; lines = ls ++ line.Split from number cp (number + 1) ∷ [] })
     ∙ (λ i. record {
       branches = map named_branch es ++ named_branch (first, own i) ∷ named_branch (second, own i) ∷ [];
-      lines = ls ++ line.Split from (wide i) cp (wide i + 1) ∷ [];
+      lines = ls ++ line.Split from (count i) cp (count i + 1) ∷ [];
     })
 
-pub with_pass : (es : List (List ℕ × ℕ)) (ls : List Line) (from exchanger : ℕ) (to : List ℕ) (stream number : ℕ) → stream ≡ stream_at (map named_branch es) from → number ≡ length es
+pub with_pass : (es : List (List ℕ × ℕ)) (ls : List Line) (from exchanger : ℕ) (to : List ℕ) (stream number : ℕ) → stream ≡ stream_at (map named_branch es) from → number ≡ length (map named_branch es)
     → so_far (es ++ (to, stream) ∷ []) (ls ++ line.Pass from exchanger number ∷ []) ≡ with_entry (so_far es ls) (entry.Pass from exchanger to)
 unfolding with_entry
 with_pass es ls from exchanger to stream number own count =
     let made = map-append named_branch es ((to, stream) ∷ []) in
-    let wide = count ∙ sym (length-map es named_branch) in
     (λ i. record { branches = made i; lines = ls ++ line.Pass from exchanger number ∷ [] })
-    ∙ (λ i. record { branches = map named_branch es ++ named_branch (to, own i) ∷ []; lines = ls ++ line.Pass from exchanger (wide i) ∷ [] })
+    ∙ (λ i. record { branches = map named_branch es ++ named_branch (to, own i) ∷ []; lines = ls ++ line.Pass from exchanger (count i) ∷ [] })
 
-pub with_mix : (es : List (List ℕ × ℕ)) (ls : List Line) (first second : ℕ) (to : List ℕ) (stream number : ℕ) → stream ≡ stream_at (map named_branch es) first → number ≡ length es
+pub with_mix : (es : List (List ℕ × ℕ)) (ls : List Line) (first second : ℕ) (to : List ℕ) (stream number : ℕ) → stream ≡ stream_at (map named_branch es) first → number ≡ length (map named_branch es)
     → so_far (es ++ (to, stream) ∷ []) (ls ++ line.Mix first second number ∷ []) ≡ with_entry (so_far es ls) (entry.Mix first second to)
 unfolding with_entry
 with_mix es ls first second to stream number own count =
     let made = map-append named_branch es ((to, stream) ∷ []) in
-    let wide = count ∙ sym (length-map es named_branch) in
     (λ i. record { branches = made i; lines = ls ++ line.Mix first second number ∷ [] })
-    ∙ (λ i. record { branches = map named_branch es ++ named_branch (to, own i) ∷ []; lines = ls ++ line.Mix first second (wide i) ∷ [] })
+    ∙ (λ i. record { branches = map named_branch es ++ named_branch (to, own i) ∷ []; lines = ls ++ line.Mix first second (count i) ∷ [] })
 
 pub with_end : (es : List (List ℕ × ℕ)) (ls : List Line) (branch : ℕ) → so_far es (ls ++ line.End branch ∷ []) ≡ with_entry (so_far es ls) (entry.End branch)
 unfolding with_entry
 with_end es ls branch = refl
+
+pub exchanger-unkeyed : (es : List (List ℕ × ℕ)) (used : List ℕ) (xs : List (List ℕ × Sides)) (passed : List Passage) (ls : List Line) (name : List ℕ) → IsTracked es used xs passed ls → is_some (exchanger_named (so_far es ls) name) ≡ false → position (bytes_eq name) (keys_of xs) ≡ None
+exchanger-unkeyed es used xs passed ls name is new = sym (exchanger_named-keys xs (map named_branch es) ls name is.exchangers_are) ∙ none_there _ new
+
+-- the second of two mixed branches is not the first
+pub second-unused : (used used' : List ℕ) (first second : ℕ) → used' ≡ used ++ first ∷ [] → list_any (λ other. second == other) used ≡ false → (second == first) ≡ false → list_any (λ other. second == other) used' ≡ false
+second-unused used used' first second is before other = rw (is, list_any-append (λ other. second == other) used (first ∷ []), before, other) refl
+
+-- a free side is not among those that are passed
+pub free-unpassed : (es : List (List ℕ × ℕ)) (used : List ℕ) (xs : List (List ℕ × Sides)) (passed : List Passage) (ls : List Line) (exchanger stream from : ℕ) → IsTracked es used xs passed ls → stream ≡ stream_at (map named_branch es) from
+    → is_passed (so_far es ls) exchanger (stream_at (map named_branch es) from) ≡ false → list_any (same_passage (record { exchanger = exchanger; stream = stream })) passed ≡ false
+unfolding is_passed
+free-unpassed es used xs passed ls exchanger stream from is own free =
+    ap (λ s. list_any (same_passage (record { exchanger = exchanger; stream = s })) passed) own ∙ ap (list_any (same_passage (record { exchanger = exchanger; stream = stream_at (map named_branch es) from }))) is.passed_are ∙ free
+
+pub one_name : (name : List ℕ) → is_branch_name name ≡ true → list_all is_branch_name (name ∷ []) ≡ true
+one_name name is = rw is refl
+
+pub two_names : (first second : List ℕ) → is_branch_name first ≡ true → is_branch_name second ≡ true → list_all is_branch_name (first ∷ second ∷ []) ≡ true
+two_names first second a b = rw (a, b) refl
+
+pub two_branches : (es one two : List (List ℕ × ℕ)) (first second : List ℕ) (stream : ℕ) → one ≡ es ++ (first, stream) ∷ [] → two ≡ one ++ (second, stream) ∷ [] → two ≡ es ++ (first, stream) ∷ (second, stream) ∷ []
+two_branches es one two first second stream a b = b ∙ ap (λ l. l ++ (second, stream) ∷ []) a ∙ append_assoc es ((first, stream) ∷ []) ((second, stream) ∷ [])

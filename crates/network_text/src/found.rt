@@ -167,6 +167,14 @@ impl Found {
         self.lines.len()
     }
 
+    /// How many branches there are.
+    fn count_branches(&self) -> u32
+        ensures count { result ≡ length self.now.branches }
+        ensures small { result < 1000000 }
+    {
+        self.branches.len() as u32
+    }
+
     /// How many exchangers are declared.
     pub fn count_exchangers(&self) -> usize
         ensures { result ≡ length (exchangers_of self.now.lines) }
@@ -308,7 +316,7 @@ impl Found {
         ensures { IfOk result (λ found. found ≡ with_entry self (Entry.Split from first cp second)) }
     {
         let stream = self.stream_of(from);
-        let number = self.branches.len() as u32;
+        let number = self.count_branches();
         let mut found = self;
         mark_used(&mut found.used, from)?;
         add_branch(&mut found.branches, first, stream)?;
@@ -328,7 +336,7 @@ impl Found {
         ensures { IfOk result (λ found. found ≡ with_entry self (Entry.Pass from exchanger to)) }
     {
         let stream = self.stream_of(from);
-        let number = self.branches.len() as u32;
+        let number = self.count_branches();
         let mut found = self;
         mark_used(&mut found.used, from)?;
         mark_passed(&mut found.passed, Passage { exchanger, stream })?;
@@ -347,7 +355,7 @@ impl Found {
         ensures { IfOk result (λ found. found ≡ with_entry self (Entry.Mix first second to)) }
     {
         let stream = self.stream_of(first);
-        let number = self.branches.len() as u32;
+        let number = self.count_branches();
         let mut found = self;
         mark_used(&mut found.used, first)?;
         mark_used(&mut found.used, second)?;
