@@ -6,3 +6,4 @@ pub mod Bounds
 pub mod LineCuts
 pub mod LineLaws
 pub mod Tables
+pub mod OwnBranches

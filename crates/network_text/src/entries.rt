@@ -3,7 +3,7 @@
 ghost use Rattle.std.specs.Prelude.{◌≡◌, Some, IfOk};
 ghost use Rattle.network_text.specs.Given.{entry_by, entry_in};
 ghost use Rattle.network_text.specs.Checks.{checks, end_checks, exchanger_checks, first_failing, kind_checks, mix_checks, pass_checks, split_checks};
-ghost use Rattle.network_text.specs.Answers.{Checked, HasFewSources, IsFresh};
+ghost use Rattle.network_text.specs.Answers.{Checked, HasSources, IsFresh};
 
 use crate::branch_fields::{check_mixed, new_branch, new_exchanger, passed_exchanger, used_branch};
 use crate::fault::NetWhy;

@@ -1,13 +1,13 @@
 //! What the statements that were read give.
 
-ghost use Rattle.std.specs.Prelude.{◌≡◌, ◌==◌, ◌<◌, [], ◌∷◌, ◌++◌, None, false, length, position, IfOk, IfSome, OnOk};
+ghost use Rattle.std.specs.Prelude.{◌≡◌, ◌≢◌, ◌==◌, ◌<◌, ◌≤◌, [], ◌∷◌, ◌++◌, None, false, length, position, AllPairs, is_some, IfOk, IfSome, OnOk};
 ghost use Rattle.std.specs.List.{list_any};
 ghost use Rattle.std.specs.Map.{keys_of};
 ghost use Rattle.std.specs.Str.{bytes_eq};
-ghost use Rattle.network_text.specs.Lines.{exchangers_of, stream_at};
+ghost use Rattle.network_text.specs.Lines.{exchanger_of, exchangers_of, stream_at};
 ghost use Rattle.network_text.specs.Given.{branch_named, exchanger_named, start, with_entry};
-ghost use Rattle.network_text.specs.Checks.{first_missing, is_free_side, is_passed, is_stream, is_used, joins_stream, most_statements, same_passage};
-ghost use Rattle.network_text.specs.Answers.{HasFewSources, IsFresh};
+ghost use Rattle.network_text.specs.Checks.{first_missing, is_free_side, is_missed, is_passed, is_stream, is_used, joins_stream, misses_side, most_statements, same_passage};
+ghost use Rattle.network_text.specs.Answers.{HasSources, IsFresh, own_entries};
 
 use crate::names::branch_name;
 use crate::network::{Branch, Line, Network};
@@ -15,7 +15,7 @@ use fractions::Frac;
 use indexmap::{IndexMap, IndexSet};
 use std::alloc::{AllocError, Global};
 use std::marker::Model;
-use stream_case::{Case, Items, Name, Source};
+use stream_case::{Case, Items, Name, Source, Stream};
 
 /// What a statement gives, with the names that it makes.
 #[derive(Clone, Copy)]
@@ -71,6 +71,13 @@ fn is_stream(source: Source, stream: u32) -> bool
     }
 }
 
+/// Whether a line declares an exchanger.
+fn is_exchanger(line: &Line) -> bool
+    ensures { result ≡ is_some (exchanger_of line.now) }
+{
+    matches!(line, Line::Exchanger { .. })
+}
+
 /// Adds a branch to those that are used.
 fn mark_used(used: &mut IndexSet<u32>, number: u32) -> Result<(), AllocError>
     requires { list_any (λ other. number == other) used.old.keys ≡ false }
@@ -100,6 +107,19 @@ fn add_branch(
 {
     branches.insert(name, stream)?;
     Ok(())
+}
+
+/// The branches of the streams themselves, by name.
+fn own_branches(alloc: Global, streams: &[Stream]) -> Result<IndexMap<Name, u32>, AllocError>
+    requires few { length streams.now ≤ 24 }
+    requires distinct { AllPairs (λ s t. s.name ≢ t.name) streams.now }
+    ensures { IfOk result (λ branches. branches.entries ≡ own_entries streams.now) }
+{
+    let mut branches = IndexMap::new(alloc);
+    for (place, stream) in streams.iter().enumerate() {
+        add_branch(&mut branches, stream.name, place as u32)?;
+    }
+    Ok(branches)
 }
 
 /// Adds an exchanger with a new name.
@@ -144,15 +164,11 @@ impl Model for Found {
 impl Found {
     /// What no statement gives: the streams' own branches.
     pub fn new(alloc: Global, case: &Case) -> Result<Found, AllocError>
-        requires { HasFewSources case.now }
+        requires { HasSources case.now }
         ensures { IfOk result (λ found. found ≡ start case.now) }
     {
-        let mut branches = IndexMap::new(alloc);
-        for (place, stream) in case.streams.as_slice().iter().enumerate() {
-            branches.insert(stream.name, place as u32)?;
-        }
         Ok(Found {
-            branches,
+            branches: own_branches(alloc, case.streams.as_slice())?,
             used: IndexSet::new(alloc),
             exchangers: IndexMap::new(alloc),
             passed: IndexSet::new(alloc),
@@ -380,23 +396,40 @@ impl Found {
     }
 
     /// Whether a source is a stream, and no statement passes the exchanger on its side.
-    fn is_missed(&self, exchanger: u32, source: Source) -> bool {
+    fn is_missed(&self, exchanger: u32, source: Source) -> bool
+        ensures { result ≡ is_missed self.now exchanger source }
+    {
         match source {
-            Source::Stream(stream) => !self.passed.contains(&Passage { exchanger, stream }),
+            Source::Stream(stream) => !self.is_passed(exchanger, stream),
             Source::Utility(_) => false,
         }
     }
 
+    /// Whether a line declares an exchanger, the one with this number, that has a side which no
+    /// statement passes.
+    fn misses_side(&self, exchanger: u32, line: &Line) -> bool
+        ensures { result ≡ misses_side self.now exchanger (exchanger_of line.now) }
+    {
+        let Line::Exchanger { hot, cold, .. } = line else {
+            return false;
+        };
+        if self.is_missed(exchanger, *hot) {
+            return true;
+        }
+        self.is_missed(exchanger, *cold)
+    }
+
     /// The place of the first exchanger with a side that no statement passes, among the lines.
     pub fn first_missing(&self) -> Option<u32>
-        ensures { result ≡ first_missing self.now }
+        ensures place { result ≡ first_missing self.now }
+        ensures small { IfSome result (λ place. place < most_statements) }
     {
         let mut exchanger = 0;
         for (place, line) in self.lines.iter().enumerate() {
-            if let Line::Exchanger { hot, cold, .. } = line {
-                if self.is_missed(exchanger, *hot) || self.is_missed(exchanger, *cold) {
-                    return Some(place as u32);
-                }
+            if self.misses_side(exchanger, line) {
+                return Some(place as u32);
+            }
+            if is_exchanger(line) {
                 exchanger += 1;
             }
         }

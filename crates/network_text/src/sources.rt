@@ -4,7 +4,7 @@ ghost use Rattle.std.specs.Prelude.{◌≡◌, is_some, position, IfSome};
 ghost use Rattle.std.specs.Str.{bytes_eq};
 ghost use Rattle.network_text.specs.Given.{source_at, source_named};
 ghost use Rattle.network_text.specs.Checks.{first_failing, is_on, source_checks};
-ghost use Rattle.network_text.specs.Answers.{Checked, HasFewSources};
+ghost use Rattle.network_text.specs.Answers.{Checked, HasSources};
 
 use crate::fault::NetWhy;
 use stream_case::{Case, Side, Source, Stream, Utility};
@@ -26,7 +26,7 @@ fn utility_place(utilities: &[Utility], name: &[u8]) -> Option<usize>
 /// The source of the case with this name.
 #[tactic(auto, unfolding(crate::specs::Given::source_named))]
 fn source_named(case: &Case, name: &[u8]) -> Option<Source>
-    requires { HasFewSources case.now }
+    requires { HasSources case.now }
     ensures { result ≡ source_named case.now name.now }
 {
     if let Some(place) = stream_place(case.streams.as_slice(), name) {
@@ -41,7 +41,7 @@ fn source_named(case: &Case, name: &[u8]) -> Option<Source>
 /// The same, with the word for a source that is known.
 #[tactic(auto, unfolding(crate::specs::Given::source_at))]
 fn known_source(case: &Case, name: &[u8]) -> Option<Source>
-    requires { HasFewSources case.now }
+    requires { HasSources case.now }
     ensures some { is_some result ≡ is_some (source_named case.now name.now) }
     ensures value { IfSome result (λ source. source ≡ source_at case.now name.now) }
 {
@@ -63,7 +63,7 @@ fn is_on(case: &Case, side: Side, source: Source) -> bool
 /// The hot and the cold source of an exchanger.
 #[tactic(auto, unfolding(crate::specs::Checks::source_checks))]
 pub fn hot_and_cold(case: &Case, hot: &[u8], cold: &[u8]) -> Result<(Source, Source), NetWhy>
-    requires { HasFewSources case.now }
+    requires { HasSources case.now }
     ensures { Checked (first_failing (source_checks case.now hot.now cold.now)) (λ s. (s.0 ≡ source_at case.now hot.now) × (s.1 ≡ source_at case.now cold.now)) result }
 {
     let Some(hot) = known_source(case, hot) else {

@@ -1,4 +1,4 @@
-use Rattle.std.proofs.Common.{◌≡◌, ◌<◌, ◌∷◌, ℕ, [], refl, sym, arith, length}
+use Rattle.std.proofs.Common.{◌<◌, [], refl, sym, arith, length}
 use Rattle.std.proofs.lemmas.List.{append-nil}
 use Rattle.std.proofs.lemmas.List.Elements.{All-nil}
 use Rattle.network_text.specs.declared.network.Line.TheVariants as line

@@ -1,4 +1,4 @@
-use Rattle.std.proofs.Common.{◌≡◌, ◌<◌, ◌∷◌, ◌∙◌, ◌++◌, ℕ, [], List, refl, sym, ap, arith, length}
+use Rattle.std.proofs.Common.{◌<◌, ◌∷◌, ◌∙◌, ◌++◌, ℕ, [], List, refl, sym, ap, arith, length}
 use Rattle.std.proofs.lemmas.List.{append-nil, append_assoc}
 use Rattle.std.proofs.lemmas.List.Elements.{All-cons, All-nil}
 use Rattle.network_text.specs.declared.network.Line.TheVariants as line

@@ -1,8 +1,6 @@
-use Rattle.std.proofs.Common.{◌≡◌, ◌<◌, ◌∷◌, ◌∙◌, ◌++◌, ℕ, [], List, refl, sym, ap, arith, length, map}
+use Rattle.std.proofs.Common.{◌<◌, ◌∷◌, ◌∙◌, ◌++◌, [], refl, sym, ap, arith, length}
 use Rattle.std.proofs.lemmas.List.{append-nil}
 use Rattle.std.proofs.lemmas.List.Elements.{All-cons, All-nil}
-use Rattle.network_text.specs.Lines.{stream_at}
-use Rattle.network_text.specs.Answers.{named_branch}
 use Rattle.network_text.specs.declared.found.Passage.{Passage}
 use Rattle.network_text.specs.declared.network.Line.TheVariants as line
 use Rattle.network_text.proofs.Tables.{free-made, free-unpassed, free-unused, new-unkeyed, one_name, tracked-push, with_pass}

@@ -1,5 +1,5 @@
-use Rattle.std.proofs.Common.{◌≡◌, ◌<◌, ◌∷◌, ◌∙◌, ◌++◌, ℕ, [], List, refl, sym, ap, arith, length, map}
-use Rattle.std.proofs.lemmas.List.{append-nil, append_assoc}
+use Rattle.std.proofs.Common.{◌<◌, ◌∷◌, [], refl, sym, arith, length}
+use Rattle.std.proofs.lemmas.List.{append-nil}
 use Rattle.std.proofs.lemmas.List.Elements.{All-cons, All-nil}
 use Rattle.network_text.specs.declared.network.Line.TheVariants as line
 use Rattle.network_text.proofs.Tables.{free-made, free-unused, new-unkeyed, second-unkeyed, tracked-push, two_branches, two_names, with_split}
