@@ -7,3 +7,4 @@ pub mod LineCuts
 pub mod LineLaws
 pub mod Tables
 pub mod OwnBranches
+pub mod Missing

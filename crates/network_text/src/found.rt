@@ -1,13 +1,13 @@
 //! What the statements that were read give.
 
-ghost use Rattle.std.specs.Prelude.{◌≡◌, ◌≢◌, ◌==◌, ◌<◌, ◌≤◌, [], ◌∷◌, ◌++◌, None, false, length, position, AllPairs, is_some, IfOk, IfSome, OnOk};
+ghost use Rattle.std.specs.Prelude.{◌≡◌, ◌≢◌, ◌==◌, ◌<◌, ◌≤◌, [], ◌∷◌, ◌++◌, None, false, length, map, position, AllPairs, is_some, IfOk, IfSome, OnOk};
 ghost use Rattle.std.specs.List.{list_any};
 ghost use Rattle.std.specs.Map.{keys_of};
 ghost use Rattle.std.specs.Str.{bytes_eq};
 ghost use Rattle.network_text.specs.Lines.{exchanger_of, exchangers_of, stream_at};
 ghost use Rattle.network_text.specs.Given.{branch_named, exchanger_named, start, with_entry};
 ghost use Rattle.network_text.specs.Checks.{first_missing, is_free_side, is_missed, is_passed, is_stream, is_used, joins_stream, misses_side, most_statements, same_passage};
-ghost use Rattle.network_text.specs.Answers.{HasSources, IsFresh, own_entries};
+ghost use Rattle.network_text.specs.Answers.{HasSources, IsFresh, named_branch, own_entries};
 
 use crate::names::branch_name;
 use crate::network::{Branch, Line, Network};
@@ -71,6 +71,23 @@ fn is_stream(source: Source, stream: u32) -> bool
     }
 }
 
+/// The branch with this name and stream.
+fn named_branch(name: Name, stream: u32) -> Branch
+    ensures { result ≡ named_branch (name, stream) }
+{
+    Branch { name, stream }
+}
+
+/// The branches of a table, as a list.
+fn listed(alloc: Global, branches: &IndexMap<Name, u32>) -> Result<Vec<Branch>, AllocError>
+    ensures { IfOk result (λ listed. listed.items ≡ map named_branch branches.now.entries) }
+{
+    branches
+        .iter()
+        .map(|(name, stream)| named_branch(*name, *stream))
+        .collect(alloc)
+}
+
 /// Whether a line declares an exchanger.
 fn is_exchanger(line: &Line) -> bool
     ensures { result ≡ is_some (exchanger_of line.now) }
@@ -97,11 +114,7 @@ fn mark_passed(passed: &mut IndexSet<Passage>, passage: Passage) -> Result<(), A
 }
 
 /// Adds a branch with a new name.
-fn add_branch(
-    branches: &mut IndexMap<Name, u32>,
-    name: Name,
-    stream: u32,
-) -> Result<(), AllocError>
+fn add_branch(branches: &mut IndexMap<Name, u32>, name: Name, stream: u32) -> Result<(), AllocError>
     requires { position (bytes_eq name) (keys_of branches.old.entries) ≡ None }
     ensures { OnOk result (branches.new.entries ≡ branches.old.entries ++ (name, stream) ∷ []) }
 {
@@ -440,14 +453,7 @@ impl Found {
     pub fn into_network(self, alloc: Global) -> Result<Network, AllocError>
         ensures { IfOk result (λ network. network ≡ self) }
     {
-        let branches = self
-            .branches
-            .iter()
-            .map(|(name, stream)| Branch {
-                name: *name,
-                stream: *stream,
-            })
-            .collect(alloc)?;
+        let branches = listed(alloc, &self.branches)?;
         Ok(Network {
             branches: Items::from_vec(branches),
             lines: Items::from_vec(self.lines),
