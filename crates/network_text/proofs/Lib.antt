@@ -8,3 +8,4 @@ pub mod LineLaws
 pub mod Tables
 pub mod OwnBranches
 pub mod Missing
+pub mod FirstFailing
