@@ -12,3 +12,13 @@ mod PrintNames
 mod PrintSteps
 mod PrintText
 mod Worked
+pub mod NameTests
+pub mod DigitTexts
+pub mod Positions
+pub mod Bounds
+pub mod LineCuts
+pub mod LineLaws
+pub mod Tables
+pub mod OwnBranches
+pub mod Missing
+pub mod FirstFailing
