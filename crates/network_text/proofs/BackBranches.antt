@@ -16,7 +16,8 @@ use Rattle.network_text.specs.Printed.{branch_name}
 use Rattle.network_text.specs.declared.network.Branch.{Branch}
 use Rattle.network_text.specs.declared.network.Line.{Line}
 use Rattle.network_text.specs.declared.network.Network.{Network}
-use Rattle.network_text.proofs.PrintNames.{branch_name-at, branch_name-passes, none_in_front, place_in_front}
+use Rattle.network_text.proofs.NameTests.{branch_name-passes}
+use Rattle.network_text.proofs.PrintNames.{branch_name-at, none_in_front, place_in_front}
 use Rattle.network_text.proofs.PrintSteps.{HasRoom, IsNewBranch, IsUsable}
 use Rattle.network_text.proofs.BackFront.{StandsAt, branch_is, front, made_at, made_next, made_within, stands_at, stream_at-take, used_parts}
 

@@ -1,21 +1,21 @@
 -- Names, words and fractions are plain fields, and a printed fraction is read as itself.
-use Rattle.std.proofs.Common.{◌≡◌, ◌≢◌, ◌∙◌, ◌<◌, ◌≤◌, ◌+◌, ◌∷◌, ◌++◌, ◌==◌, ◌||◌, ◌^◌, ℕ, ℤ, pos, negsuc, suc, zero, Bool, true, false, List, [], All, Some, get_or, option_map, length, nat_le, drop, take, append_assoc, refl, sym, ap, subst, arith, inl, inr, length-append}
+use Rattle.std.proofs.Common.{◌≡◌, ◌≢◌, ◌∙◌, ◌<◌, ◌≤◌, ◌+◌, ◌∷◌, ◌++◌, ◌==◌, ◌||◌, ◌^◌, ℕ, ℤ, pos, negsuc, suc, zero, Bool, true, false, List, [], All, Some, get_or, option_map, length, drop, take, append_assoc, refl, sym, ap, subst, arith, inl, inr, length-append}
 use Rattle.std.specs.Prelude.{unsigned_abs, if◌then◌else◌}
 use Rattle.std.specs.Fmt.{decimal, signed_decimal}
 use Rattle.std.specs.List.{after_first, before_first, list_any, position_or_len}
-use Rattle.std.specs.Str.{all_ascii_digits}
-use Rattle.std.specs.Str.Parse.{digits_value}
 use Rattle.std.proofs.lemmas.Bool.Decides.{nat_tests}
 use Rattle.std.proofs.lemmas.Fmt.{decimal_is_IsNumeral_wide, length-decimal-le_wide}
 use Rattle.std.proofs.lemmas.List.{get_or_append_left, get_or_at, get_or_default, take_at, take_all, drop_at}
 use Rattle.std.proofs.lemmas.List.Elements.{All-append, All-cons, All-weaker}
 use Rattle.std.proofs.lemmas.List.Folds.{list_any-append, list_any_none}
 use Rattle.std.proofs.lemmas.List.Sums.{position_or_len_is}
-use Rattle.std.proofs.lemmas.Str.Parse.{IsNumeralModel, numerals_by_value, tells_all_ascii_digits, digit_at}
+use Rattle.std.proofs.lemmas.Str.Parse.{digit_at}
 use Rattle.stream_case.specs.Name.{IsAnyName, IsName, is_name_byte}
 use Rattle.fractions.specs.LowestForms.{ratio-self}
-use Rattle.fractions.specs.Rationals.{IsWithinLimits, Rational, fraction_text, is_within_limits, ratio}
+use Rattle.fractions.specs.Rationals.{IsWithinLimits, Rational, fraction_text, ratio}
 use Rattle.network_text.specs.Fractions.{bounded_ratio, denominator_in, fraction_in, is_slash, natural_in, negative, numerator_in}
+use Rattle.network_text.proofs.Bounds.{test_from_within}
+use Rattle.network_text.proofs.DigitTexts.{all_read}
 use Rattle.network_text.proofs.PrintText.{IsPlainField, IsVisible}
 
 -- ---- names
@@ -75,18 +75,10 @@ signed_some : (z : ℤ) → IsShort z → 0 < length (signed_decimal z)
 signed_some (pos n) short = decimal_some n (omega (arith, short))
 signed_some (negsuc n) short = omega arith
 
-own : IsNumeralModel (λ ds. all_ascii_digits ds ≡ true) (digits_value 10)
-own = numerals_by_value _ tells_all_ascii_digits
-
 natural_read : (n : ℕ) → n < 10 ^ 24 → natural_in (decimal n) ≡ Some n
-unfolding natural_in
 natural_read n small =
     let numeral = decimal_is_IsNumeral_wide n (omega (arith, small)) in
-    let short = length-decimal-le_wide 24 n (omega arith) small (omega (arith, small)) in
-    let digits = own.from (decimal n) numeral.0.1 in
-    let some : nat_le 1 (length (decimal n)) ≡ true = grind (arith, nat_tests, numeral.0.0) in
-    let few : nat_le (length (decimal n)) 24 ≡ true = grind (arith, nat_tests, short) in
-    rw (some, few, digits) (ap Some numeral.1)
+    all_read (decimal n) numeral.0.0 (length-decimal-le_wide 24 n (omega arith) small (omega (arith, small))) numeral.0.1 ∙ ap Some numeral.1
 
 numerator_read : (z : ℤ) → IsShort z → numerator_in (signed_decimal z) ≡ Some z
 unfolding numerator_in
@@ -126,9 +118,7 @@ unfolding bounded_ratio
 bounded_back a within zero none = absurd (omega (arith, none, a.positive))
 bounded_back a within (suc d) some =
     let same : ratio a.num (suc d) ≡ a = ap (ratio a.num) (sym some) ∙ ratio-self a in
-    let den : nat_le a.den (2 ^ 48) ≡ true = grind (arith, nat_tests, within.den) in
-    let num : nat_le (unsigned_abs a.num) (2 ^ 76) ≡ true = grind (arith, nat_tests, within.num) in
-    let fits : is_within_limits a ≡ true = rw (den, num) refl in
+    let fits = test_from_within a within in
     rw (same, fits) refl
 
 denominator_read : (front : List ℕ) (d : ℕ) → All (λ b. is_slash b ≡ false) front → d < 10 ^ 24 → denominator_in (front ++ 47 ∷ decimal d) ≡ Some d

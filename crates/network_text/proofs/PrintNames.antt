@@ -1,13 +1,11 @@
 -- Sources, branches and exchangers are found by the names that are printed.
-use Rattle.std.proofs.Common.{◌≡◌, ◌≢◌, ◌∙◌, ◌<◌, ◌≤◌, ◌+◌, ◌∷◌, ◌==◌, ◌||◌, ℕ, Bool, true, false, not, cond, List, [], All, AllPairs, Option, Some, None, pos, get_or, slice_get, option_map, unwrap_or, position, length, map, nat_le, nat_lt, take, drop, refl, sym, ap, subst, arith, inl, inr}
+use Rattle.std.proofs.Common.{◌≡◌, ◌≢◌, ◌∙◌, ◌<◌, ◌≤◌, ◌+◌, ◌∷◌, ℕ, Bool, not, cond, List, [], All, AllPairs, Option, Some, None, pos, get_or, slice_get, option_map, unwrap_or, position, length, map, nat_lt, take, drop, refl, sym, ap, subst, arith}
 use Rattle.std.specs.List.{prefix_len}
 use Rattle.std.specs.Str.{bytes_eq}
-use Rattle.std.proofs.lemmas.Bool.Decides.{nat_tests}
 use Rattle.std.proofs.lemmas.List.{get_or-take, get_or_default, length-map, length-take-le, take-append-drop}
-use Rattle.std.proofs.lemmas.List.Sums.{list_all-from_AllPass}
 use Rattle.std.proofs.lemmas.Option.{slice_get-map, slice_get_within, get_or_from_slice_get, unwrap_or-slice_get}
 use Rattle.stream_case.specs.Case.{side_of}
-use Rattle.stream_case.specs.Name.{IsAnyName, IsDottedName, IsName, is_name_byte}
+use Rattle.stream_case.specs.Name.{IsName}
 use Rattle.stream_case.specs.declared.case.Case.{Case}
 use Rattle.stream_case.specs.declared.source.Side.{Side}
 use Rattle.stream_case.specs.declared.source.Side.TheVariants as side
@@ -17,38 +15,10 @@ use Rattle.stream_case.specs.declared.stream.Stream.{Stream}
 use Rattle.stream_case.specs.declared.utility.Utility.{Utility}
 use Rattle.stream_case.proofs.CompleteLemmas.{StaysValid}
 use Rattle.stream_case.proofs.DistinctLemmas.{AllPairs-across, AllPairs-back, AllPairs-front, no_place_of, place_of}
-use Rattle.network_text.specs.Names.{is_branch_name, is_dotted_name, is_name}
 use Rattle.network_text.specs.Lines.{exchangers_of, names_of as branch_names}
 use Rattle.network_text.specs.Given.{source_named}
 use Rattle.network_text.specs.Printed.{branch_name, exchanger_name, exchanger_names, source_name}
 use Rattle.network_text.specs.declared.network.Network.{Network}
-
--- ---- the tests of names
-
-pub name-passes : (text : List ℕ) → IsName text → is_name text ≡ true
-unfolding is_name
-name-passes [] h = absurd h
-name-passes (b ∷ bs) h =
-    let first = h.0 in
-    let bytes = list_all-from_AllPass is_name_byte bs h.1 in
-    let short : nat_le (length bs) 15 ≡ true = grind (arith, nat_tests, h.2) in
-    rw (first, bytes, short) refl
-
-dotted-passes : (text : List ℕ) → IsDottedName text → is_dotted_name text ≡ true
-unfolding is_dotted_name
-dotted-passes [] h = absurd h
-dotted-passes (b ∷ bs) h =
-    let dot : (b == 46) ≡ true = ap (λ n. n == 46) h.0 in
-    rw (dot, name-passes bs h.1) refl
-
-pub branch_name-passes : (text : List ℕ) → IsAnyName text → is_branch_name text ≡ true
-unfolding is_branch_name
-branch_name-passes text (inl h) = rw (name-passes text h) refl
-branch_name-passes text (inr h) = or_true (is_name text) (is_dotted_name text) (dotted-passes text h)
-  where
-    or_true : (a b : Bool) → b ≡ true → (a || b) ≡ true
-    or_true true b e = refl
-    or_true false b e = e
 
 -- ---- places
 
