@@ -12,3 +12,8 @@ mod PrintLines
 mod PrintNames
 mod PrintSteps
 mod PrintText
+mod Bounds
+mod NameTests
+mod Positions
+mod ShapeUnique
+mod ShapeLists
