@@ -17,14 +17,7 @@ use Rattle.network_text.specs.declared.kind.Kind.TheVariants as kind
 use Rattle.network_text.specs.declared.network.Line.{Line}
 use Rattle.network_text.specs.declared.network.Network.{Network}
 use Rattle.network_text.proofs.PrintSteps.{Passes}
-
-none_fails : (checks : List Check) → first_failing checks ≡ None → Passes checks
-none_fails [] e = tt
-none_fails (check ∷ rest) e = by check.0 refl (none_fails rest)
-  where
-    by : (b : Bool) → check.0 ≡ b → (first_failing rest ≡ None → Passes rest) → (check.0 ≡ true) × Passes rest
-    by true holds more = (holds, more (rw holds at e))
-    by false fails more = cc (rw fails at e)
+use Rattle.network_text.proofs.ShapeFronts.{network-has}
 
 -- no more statements and exchangers than a text may have
 pub record IsFew (given : Network) : Type 0 where
@@ -59,24 +52,13 @@ few_by case given s (Some kind.Pass) few room passes = record { lines = few_line
 few_by case given s (Some kind.Mix) few room passes = record { lines = few_lines given.lines _ room; exchangers = none_more given.lines _ refl few.exchangers }
 few_by case given s (Some kind.End) few room passes = record { lines = few_lines given.lines _ room; exchangers = none_more given.lines _ refl few.exchangers }
 
-few_next : (case : Case) (given : Network) (s : Statement) → IsFew given → first_failing (checks case given s) ≡ None → IsFew (next case given s)
+few_next : (case : Case) (given : Network) (s : Statement) → IsFew given → Passes (checks case given s) → IsFew (next case given s)
 unfolding entry_in checks
-few_next case given s few sound =
-    let passes = none_fails (checks case given s) sound in
-    few_by case given s (kind_of s) few passes.0 passes.1.1
+few_next case given s few passes = few_by case given s (kind_of s) few passes.0 passes.1.1
 
-few_front : (case : Case) (statements : List Statement) → SoundBefore case statements (length statements) → (place : ℕ) → place ≤ length statements → IsFew (given_by case (take place statements))
-unfolding given_by start exchangers_of
-few_front case statements sound zero within = record { lines = omega arith; exchangers = omega arith }
-few_front case statements sound (suc place) within =
-    let inside : place < length statements = omega (arith, within) in
-    let more = take-suc statements place [] inside in
-    let before = few_front case statements sound place (omega (arith, within)) in
-    let s = get_or statements place [] in
-    let step = few_next case (given_by case (take place statements)) s before (sound place inside) in
-    subst IsFew (sym (ap (fold (next case) (start case)) more ∙ fold_push (next case) (start case) (take place statements) s)) step
+few_first : (case : Case) → IsFew (start case)
+unfolding start exchangers_of
+few_first case = record { lines = omega arith; exchangers = omega arith }
 
 pub network-few : (case : Case) (statements : List Statement) (network : Network) → IsNetwork case statements network → IsFew network
-network-few case statements network is =
-    let all = take_all (length statements) statements (omega arith) in
-    subst IsFew (ap (given_by case) all ∙ sym is.given) (few_front case statements is.sound (length statements) (omega arith))
+network-few case statements network is = network-has IsFew case statements network (few_first case) (few_next case) is

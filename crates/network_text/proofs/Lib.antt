@@ -17,3 +17,5 @@ mod NameTests
 mod Positions
 mod ShapeUnique
 mod ShapeLists
+mod ShapeFronts
+mod ShapeBranches

@@ -1,4 +1,3 @@
-use Rattle.network_text.proofs.ShapeLists.{stands_before}
 use Rattle.network_text.proofs.ShapeUnique.{no_network, one_fault, same_network}
 use Rattle.network_text.proofs.laws.statements_have_one_outcome.Goals as goal
 
