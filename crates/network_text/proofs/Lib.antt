@@ -19,3 +19,5 @@ mod ShapeUnique
 mod ShapeLists
 mod ShapeFronts
 mod ShapeBranches
+mod ShapeExchangers
+mod ShapePasses

@@ -1,4 +1,5 @@
-use Rattle.network_text.proofs.ShapeBranches.{branches_first}
+use Rattle.network_text.proofs.ShapeExchangers.{declared_none}
+use Rattle.network_text.proofs.ShapePasses.{passed_none}
 use Rattle.network_text.proofs.BackLaw.{printed-again, printed-only}
 use Rattle.network_text.proofs.printer.networks_are_printed_and_read_again.Goals as goal
 

@@ -1,0 +1,56 @@
+-- The exchangers of a network keep their shape with one line more.
+use Rattle.std.proofs.Common.{◌≡◌, ◌≢◌, ◌∙◌, ◌<◌, ◌≤◌, ◌+◌, ◌∷◌, ◌++◌, ◌==◌, ◌&&◌, ◌⊎◌, inl, inr, ℕ, Bool, true, false, cond, List, [], All, AllPairs, Option, Some, None, get_or, slice_get, length, take, refl, sym, ap, subst, arith}
+use Rattle.std.specs.Prelude.{count_by}
+use Rattle.std.specs.List.{cons_option, filter_map}
+use Rattle.std.proofs.lemmas.Bool.{and_parts}
+use Rattle.std.proofs.lemmas.Bool.Decides.{nat_tests}
+use Rattle.std.proofs.lemmas.List.{take-append-le, take_at}
+use Rattle.std.proofs.lemmas.List.Elements.{All-append, All-head, All-nil, All-push, filter_map-append}
+use Rattle.std.proofs.lemmas.List.Sums.{sum_by-append}
+use Rattle.std.proofs.lemmas.Option.{slice_get_within}
+use Rattle.sums.proofs.OrderLemmas.{AllPairs-nil}
+use Rattle.stream_case.specs.declared.case.Case.{Case}
+use Rattle.network_text.specs.Lines.{Exchanger, exchanger_of, exchangers_of, passage_of, passages_of, stream_at, uses}
+use Rattle.network_text.specs.Given.{start}
+use Rattle.network_text.specs.Checks.{is_passed, same_passage}
+use Rattle.network_text.specs.Shape.{AreExchangers, ArePassedWhenDeclared, HasPositiveFlow, IsExchanger, Joins, PassesDeclared, passes}
+use Rattle.network_text.specs.declared.found.Passage.{Passage}
+use Rattle.network_text.specs.declared.network.Branch.{Branch}
+use Rattle.network_text.specs.declared.network.Line.{Line}
+use Rattle.network_text.specs.declared.network.Line.TheVariants as line
+use Rattle.network_text.specs.declared.network.Network.{Network}
+use Rattle.network_text.proofs.BackFront.{all_at, passages-take}
+use Rattle.network_text.proofs.ShapeBranches.{AreBranches, stream_at-append, used_there, with_line}
+use Rattle.network_text.proofs.ShapeLists.{slice_get_push, uncounted}
+
+-- what the shape says of exchangers and flows
+pub record AreDeclared (case : Case) (network : Network) : Type 0 where
+  pub exchangers : AreExchangers case network
+  pub flows : All HasPositiveFlow network.lines
+
+-- what the line declares is an exchanger with a name of its own
+pub record AddsExchanger (case : Case) (given : Network) (l : Line) : Type 0 where
+  pub each : All (IsExchanger case) (exchangers_of (l ∷ []))
+  pub distinct : AllPairs (λ a b. a.name ≢ b.name) (exchangers_of given.lines ++ exchangers_of (l ∷ []))
+  pub flow : HasPositiveFlow l
+
+pub exchangers-more : (lines : List Line) (l : Line) → exchangers_of (lines ++ l ∷ []) ≡ exchangers_of lines ++ exchangers_of (l ∷ [])
+unfolding exchangers_of
+exchangers-more lines l = filter_map-append exchanger_of lines (l ∷ [])
+
+pub declared_kept : (case : Case) (given : Network) (new : List Branch) (l : Line) → AreDeclared case given → AddsExchanger case given l → AreDeclared case (with_line given new l)
+declared_kept case given new l are adds =
+    let all = sym (exchangers-more given.lines l) in record {
+      exchangers = record {
+        each = subst (All (IsExchanger case)) all (All-append (IsExchanger case) (exchangers_of given.lines) (exchangers_of (l ∷ [])) are.exchangers.each adds.each);
+        distinct = subst (AllPairs (λ (a b : Exchanger). a.name ≢ b.name)) all adds.distinct;
+      };
+      flows = All-push HasPositiveFlow given.lines l are.flows adds.flow;
+    }
+
+pub declared_none : (case : Case) → AreDeclared case (start case)
+unfolding start exchangers_of
+declared_none case = record {
+  exchangers = record { each = All-nil (IsExchanger case); distinct = AllPairs-nil (λ (a b : Exchanger). a.name ≢ b.name) };
+  flows = All-nil HasPositiveFlow;
+}
