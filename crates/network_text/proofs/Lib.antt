@@ -21,3 +21,5 @@ mod ShapeFronts
 mod ShapeBranches
 mod ShapeExchangers
 mod ShapePasses
+mod ShapeFields
+mod ShapeSteps

@@ -1,3 +1,5 @@
+use Rattle.network_text.proofs.ShapeSteps.{shape_so_far}
+use Rattle.network_text.proofs.ShapeFields.{joined}
 use Rattle.network_text.proofs.ShapeExchangers.{declared_none}
 use Rattle.network_text.proofs.ShapePasses.{passed_none}
 use Rattle.network_text.proofs.BackLaw.{printed-again, printed-only}
