@@ -23,3 +23,4 @@ mod ShapeExchangers
 mod ShapePasses
 mod ShapeFields
 mod ShapeSteps
+mod ShapeLaw

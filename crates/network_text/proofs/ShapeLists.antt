@@ -1,9 +1,9 @@
 -- Lists with one item more, first places, counts and filters.
-use Rattle.std.proofs.Common.{◌≡◌, ◌∙◌, ◌<◌, ◌≤◌, ◌+◌, ◌∷◌, ◌++◌, ◌⊎◌, inl, inr, ℕ, zero, suc, Bool, true, false, List, [], All, AllPairs, Option, Some, None, get_or, slice_get, is_some, unwrap_or, position, length, take, refl, sym, ap, subst, arith, append_assoc}
-use Rattle.std.specs.Prelude.{count_by}
+use Rattle.std.proofs.Common.{◌≡◌, ◌∙◌, ◌<◌, ◌≤◌, ◌+◌, ◌∷◌, ◌++◌, ◌⊎◌, inl, inr, ℕ, zero, suc, Bool, true, false, cond, List, [], All, AllPairs, Option, Some, None, get_or, slice_get, is_some, unwrap_or, position, length, take, refl, sym, ap, subst, arith, append_assoc}
+use Rattle.std.specs.Prelude.{count_by, find}
 use Rattle.std.specs.List.{cons_option, filter_map, list_any, range_with_len}
 use Rattle.std.proofs.lemmas.Bool.{cases_lt, cases_order, false≢true, false_from_ne_true}
-use Rattle.std.proofs.lemmas.List.Elements.{All-push}
+use Rattle.std.proofs.lemmas.List.Elements.{All-cons, All-nil, All-push}
 use Rattle.std.proofs.lemmas.List.Folds.{list_any_at}
 use Rattle.std.proofs.lemmas.List.Quantifiers.{all_pairs_push, position-Some}
 use Rattle.network_text.proofs.BackFront.{none_counted, some_counted}
@@ -52,6 +52,14 @@ counted p xs some = by (cases_lt 0 (count_by p xs))
     by : (0 < count_by p xs) ⊎ (count_by p xs ≤ 0) → 0 < count_by p xs
     by (inl above) = above
     by (inr none) = absurd (false≢true (sym (none_counted p xs (omega (arith, none))) ∙ some))
+
+pub none_found : {X : Type 0} (p : X → Bool) (xs : List X) → find p xs ≡ None → All (λ x. p x ≡ false) xs
+none_found p [] none = All-nil (λ x. p x ≡ false)
+none_found p (x ∷ xs) none = by (p x) refl none (none_found p xs)
+  where
+    by : (b : Bool) → p x ≡ b → cond b (Some x) (find p xs) ≡ None → (find p xs ≡ None → All (λ y. p y ≡ false) xs) → All (λ y. p y ≡ false) (x ∷ xs)
+    by true is none rest = cc none
+    by false is none rest = All-cons (λ y. p y ≡ false) x xs is (rest none)
 
 -- the place of the first of them
 pub place_within : {X : Type 0} (p : X → Bool) (xs : List X) → is_some (position p xs) ≡ true → unwrap_or (position p xs) 0 < length xs
