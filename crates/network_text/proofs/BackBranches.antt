@@ -67,7 +67,7 @@ not_used case network place l is j within =
     let later = used_by (drop (suc place) network.lines) in
     let b = get_or (uses l) j 0 in
     let pairs = subst (AllPairs (λ (x y : ℕ). x ≢ y)) (used_parts network.lines place l (drop (suc place) network.lines) is.at) is.readable.shape.used_once in
-    list_any_none (λ used. used == b) before (λ k d early.
+    list_any_none (λ used. b == used) before (λ k d early.
     let across = AllPairs-across (λ (x y : ℕ). x ≢ y) before (uses l ++ later) k d pairs early j 0 (omega (arith, within, length-append (uses l) later)) in
     let other : get_or before k d ≢ b = λ e. across (e ∙ sym (get_or_append_left (uses l) later 0 j within)) in
     grind (arith, nat_tests, other))

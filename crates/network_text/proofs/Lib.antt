@@ -1,4 +1,3 @@
-mod Worked
 mod BackBranches
 mod BackCounts
 mod BackExchangers
@@ -12,15 +11,23 @@ mod PrintLines
 mod PrintNames
 mod PrintSteps
 mod PrintText
-mod Bounds
-mod NameTests
-mod Positions
-mod ShapeUnique
-mod ShapeLists
-mod ShapeFronts
+mod Worked
+pub mod NameTests
+pub mod DigitTexts
+pub mod Positions
+pub mod Bounds
+pub mod LineCuts
+pub mod LineLaws
+pub mod Tables
+pub mod OwnBranches
+pub mod Missing
+pub mod FirstFailing
 mod ShapeBranches
 mod ShapeExchangers
-mod ShapePasses
 mod ShapeFields
-mod ShapeSteps
+mod ShapeFronts
 mod ShapeLaw
+mod ShapeLists
+mod ShapePasses
+mod ShapeSteps
+mod ShapeUnique

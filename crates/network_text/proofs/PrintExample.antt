@@ -1,9 +1,9 @@
 -- The shape of a network with one cooler, which a test prints.
-use Rattle.std.proofs.Common.{◌≡◌, ◌≢◌, ◌∙◌, ◌<◌, ◌≤◌, ◌∷◌, ℕ, zero, suc, pos, Bool, true, List, [], All, AllPairs, Option, Some, None, get_or, length, nat_le, slice_get, add-zero, zero-add, add-suc, suc-add, ◌+◌, ◌==◌, take, refl, sym, ap, subst, arith, inl, inr}
+use Rattle.std.proofs.Common.{◌≡◌, ◌≢◌, ◌∙◌, ◌<◌, ◌∷◌, ℕ, zero, suc, pos, true, List, [], All, AllPairs, Some, length, nat_le, slice_get, add-zero, zero-add, add-suc, suc-add, ◌+◌, ◌==◌, take, refl, sym, ap, subst, arith, inl, inr}
 use Rattle.std.specs.Prelude.{codes}
 use Rattle.std.specs.Char.{is_ascii_alphanumeric}
 use Rattle.std.specs.Cmp.Lexicographic.{bytes_decides}
-use Rattle.std.specs.List.{IsDistinct, list_all, range_with_len}
+use Rattle.std.specs.List.{IsDistinct, list_all}
 use Rattle.std.specs.Str.{bytes_eq}
 use Rattle.std.proofs.lemmas.Bool.Decides.{Decides-eqb, nat_tests}
 use Rattle.std.proofs.lemmas.Int.{ints}
@@ -12,41 +12,17 @@ use Rattle.std.proofs.lemmas.List.Sums.{AllPass-from_list_all}
 use Rattle.std.proofs.lemmas.Map.Made.{AllPairs-from_IsDistinct}
 use Rattle.std.proofs.lemmas.Option.{none-some, same_Some}
 use Rattle.stream_case.specs.Name.{IsAnyName, IsName, is_name_byte}
-use Rattle.stream_case.specs.declared.case.Case.{Case}
-use Rattle.stream_case.specs.declared.source.Side.TheVariants as side
-use Rattle.stream_case.specs.declared.source.Source.{Source}
 use Rattle.stream_case.specs.declared.source.Source.TheVariants as source
 use Rattle.fractions.specs.Lowest.{gcd, last_remainder}
 use Rattle.fractions.specs.Rationals.{Rational, lowest_form, ratio, whole}
 use Rattle.sums.proofs.OrderLemmas.{AllPairs-cons, AllPairs-nil}
 use Rattle.network_text.specs.Lines.{Exchanger, exchangers_of, made_by, names_of, passages_of, stream_at, used_by, uses}
 use Rattle.network_text.specs.Given.{own_branches}
-use Rattle.network_text.specs.Checks.{same_passage}
-use Rattle.network_text.specs.Shape.{AreMadeBeforeUse, AreExchangers, ArePassedOnce, ArePassedWhenDeclared, HasPositiveFlow, HasShape, IsExchanger, IsOfOneStream, IsPositive, Joins, PassesDeclared, made_before, passes}
+use Rattle.network_text.specs.Shape.{AreMadeBeforeUse, AreExchangers, ArePassedOnce, ArePassedWhenDeclared, HasPositiveFlow, HasShape, IsExchanger, IsOfOneStream, IsPositive, PassesDeclared, made_before, passes}
+use Rattle.network_text.specs.Examples.{cooled, one_cooler, one_stream}
 use Rattle.network_text.specs.declared.network.Branch.{Branch}
 use Rattle.network_text.specs.declared.network.Line.{Line}
 use Rattle.network_text.specs.declared.network.Line.TheVariants as line
-use Rattle.network_text.specs.declared.network.Network.{Network}
-
--- a hot stream H, completed with HOT and COLD
-abbrev pub one_stream : Case
-one_stream = record {
-  contribution = pos 50;
-  streams = record { name = codes "H"; side = side.Hot; supply = pos 1000; target = pos 500; cp = pos 10; contribution = pos 50 } ∷ [];
-  utilities = record { name = codes "HOT"; side = side.Hot; level = pos 1000; least = pos 0; most = pos 1000000000000; price = pos 1; contribution = pos 50 }
-      ∷ record { name = codes "COLD"; side = side.Cold; level = pos 400; least = pos 0; most = pos 1000000000000; price = pos 0; contribution = pos 50 } ∷ [];
-  forbids = [];
-}
-
-abbrev pub of_stream : List ℕ → Branch
-of_stream name = record { name = name; stream = 0 }
-
--- H is divided and mixed again, and passes a cooler on its way to its end
-abbrev pub one_cooler : Rational → Network
-one_cooler duty = record {
-  branches = of_stream (codes "H") ∷ of_stream (codes ".a") ∷ of_stream (codes ".b") ∷ of_stream (codes "c") ∷ of_stream (codes "d_1") ∷ [];
-  lines = line.Exchanger (codes "Q-1") (source.Stream 0) (source.Utility 1) duty ∷ line.Split 0 1 (whole (pos 4)) 2 ∷ line.Mix 2 1 3 ∷ line.Pass 3 0 4 ∷ line.End 4 ∷ [];
-}
 
 -- ---- what holds of each line, place by place
 
@@ -60,29 +36,29 @@ at_each P n [] each k l here = absurd (none-some l here)
 at_each P n (x ∷ ls) each zero l here = subst (P (0 + n)) (same_Some x l here) (subst (λ m. P m x) (sym (zero-add n)) each.0)
 at_each P n (x ∷ ls) each (suc k) l here = subst (λ m. P m l) (add-suc k n ∙ sym (suc-add k n)) (at_each P (suc n) ls each.1 k l here)
 
-made_first : (duty : Rational) → AreMadeBeforeUse one_stream (one_cooler duty)
+made_first : (duty : Rational) → AreMadeBeforeUse one_stream (cooled duty)
 unfolding ByPlace made_by
 made_first duty place l here =
     let one : (b m : ℕ) → b < m → All (λ x. x < m) (b ∷ []) = λ b m before. All-cons (λ x. x < m) b [] before (All-nil (λ x. x < m)) in
     let two : (b c m : ℕ) → b < m → c < m → All (λ x. x < m) (b ∷ c ∷ []) = λ b c m before and. All-cons (λ x. x < m) b (c ∷ []) before (one c m and) in
-    let each = at_each (λ n x. All (λ b. b < made_before one_stream (one_cooler duty) n) (uses x)) 0 (one_cooler duty).lines
-        (All-nil (λ x. x < 1), (one 0 1 (omega arith), (two 2 1 3 (omega arith) (omega arith), (one 3 4 (omega arith), (one 4 5 (omega arith), tt))))) place l here in
-    subst (λ n. All (λ b. b < made_before one_stream (one_cooler duty) n) (uses l)) (add-zero place) each
+    let each = at_each (λ n x. All (λ b. b < made_before one_stream (cooled duty) n) (uses x)) 0 (cooled duty).lines
+    (All-nil (λ x. x < 1), (one 0 1 (omega arith), (two 2 1 3 (omega arith) (omega arith), (one 3 4 (omega arith), (one 4 5 (omega arith), tt))))) place l here in
+    subst (λ n. All (λ b. b < made_before one_stream (cooled duty) n) (uses l)) (add-zero place) each
 
-declared_first : (duty : Rational) → ArePassedWhenDeclared (one_cooler duty)
+declared_first : (duty : Rational) → ArePassedWhenDeclared (cooled duty)
 unfolding ByPlace exchangers_of stream_at
 declared_first duty place l here =
     let e : Exchanger = record { name = codes "Q-1"; hot = source.Stream 0; cold = source.Utility 1; duty = duty } in
-    let passed : PassesDeclared (one_cooler duty).branches (e ∷ []) (line.Pass 3 0 4) = (e, refl, inl refl) in
-    let each = at_each (λ n x. PassesDeclared (one_cooler duty).branches (exchangers_of (take n (one_cooler duty).lines)) x) 0 (one_cooler duty).lines (tt, (tt, (tt, (passed, (tt, tt))))) place l here in
-    subst (λ n. PassesDeclared (one_cooler duty).branches (exchangers_of (take n (one_cooler duty).lines)) l) (add-zero place) each
+    let passed : PassesDeclared (cooled duty).branches (e ∷ []) (line.Pass 3 0 4) = (e, refl, inl refl) in
+    let each = at_each (λ n x. PassesDeclared (cooled duty).branches (exchangers_of (take n (cooled duty).lines)) x) 0 (cooled duty).lines (tt, (tt, (tt, (passed, (tt, tt))))) place l here in
+    subst (λ n. PassesDeclared (cooled duty).branches (exchangers_of (take n (cooled duty).lines)) l) (add-zero place) each
 
-passed_once : (duty : Rational) → ArePassedOnce (one_cooler duty)
+passed_once : (duty : Rational) → ArePassedOnce (cooled duty)
 unfolding exchangers_of passages_of stream_at
 passed_once duty zero stream e here (inl hot) =
     let same = ap (λ x. x.hot) (same_Some _ e here) ∙ hot in
     let own : 0 ≡ stream = cc same in
-    subst (λ s. passes (one_cooler duty) 0 s ≡ 1) own refl
+    subst (λ s. passes (cooled duty) 0 s ≡ 1) own refl
 passed_once duty zero stream e here (inr cold) = let other = ap (λ x. x.cold) (same_Some _ e here) ∙ cold in cc other
 passed_once duty (suc number) stream e here joins = absurd (none-some e here)
 
@@ -104,7 +80,7 @@ duty_positive : IsPositive (ratio (pos 10) 4)
 unfolding ratio lowest_form gcd last_remainder
 duty_positive = record { above = omega (arith, ints); within = record { den = omega arith; num = omega arith } }
 
-cooler_exchangers : (duty : Rational) → IsPositive duty → AreExchangers one_stream (one_cooler duty)
+cooler_exchangers : (duty : Rational) → IsPositive duty → AreExchangers one_stream (cooled duty)
 unfolding exchangers_of
 cooler_exchangers duty positive =
     let e : Exchanger = record { name = codes "Q-1"; hot = source.Stream 0; cold = source.Utility 1; duty = duty } in
@@ -114,10 +90,10 @@ cooler_exchangers duty positive =
       distinct = AllPairs-cons (λ (a b : Exchanger). a.name ≢ b.name) e [] (All-nil (λ (b : Exchanger). e.name ≢ b.name)) (AllPairs-nil (λ (a b : Exchanger). a.name ≢ b.name));
     }
 
-cooler_shape : (duty : Rational) → IsPositive duty → HasShape one_stream (one_cooler duty)
+cooler_shape : (duty : Rational) → IsPositive duty → HasShape one_stream (cooled duty)
 unfolding made_by own_branches used_by names_of stream_at IsDistinct
 cooler_shape duty positive =
-    let network = one_cooler duty in
+    let network = cooled duty in
     record {
       few = omega arith;
       made_once = record { own = refl; made = refl };
@@ -135,5 +111,5 @@ cooler_shape duty positive =
       passed_once = passed_once duty;
     }
 
-pub example_shape : HasShape one_stream (one_cooler (ratio (pos 10) 4))
-example_shape = cooler_shape (ratio (pos 10) 4) duty_positive
+pub one_cooler-shape : HasShape one_stream one_cooler
+one_cooler-shape = cooler_shape (ratio (pos 10) 4) duty_positive

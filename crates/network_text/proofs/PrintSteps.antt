@@ -81,6 +81,7 @@ unfolding fraction
 value_back a positive = ap (λ o. unwrap_or o rational_zero) (fraction-back a positive.within)
 
 fraction_passes : (a : Rational) → IsPositive a → (is_some (fraction_in (fraction_text a)) ≡ true) × (is_positive (fraction (fraction_text a)) ≡ true)
+unfolding is_positive
 fraction_passes a positive =
     let above : int_lt (pos 0) a.num ≡ true = grind (arith, ints, positive.above) in
     (ap is_some (fraction-back a positive.within), rw (value_back a positive) above)

@@ -1,9 +1,11 @@
 -- What the functions that read a statement answer, and what they keep.
-use Rattle.std.specs.Prelude.{◌≡◌, ℕ, ◌+◌, ◌*◌, ◌<◌, ◌≤◌, ◌==◌, true, false, List, length, map, All, Option, Some, None, is_some, Result, Ok, Err}
-use Rattle.std.specs.List.{list_all}
+use Rattle.std.specs.Prelude.{◌≡◌, ◌≢◌, ℕ, ◌+◌, ◌*◌, ◌<◌, ◌≤◌, ◌==◌, true, false, List, length, map, All, AllPairs, Option, Some, None, is_some, Result, Ok, Err}
+use Rattle.std.specs.List.{enumerate_from, list_all}
 use Rattle.std.specs.Map.{keys_of}
 use Rattle.std.specs.Str.{bytes_eq}
+use Rattle.stream_case.specs.Name.{IsName}
 use Rattle.stream_case.specs.declared.case.Case.{Case}
+use Rattle.stream_case.specs.declared.stream.Stream.{Stream}
 use Rattle.network_text.specs.Names.{is_branch_name}
 use Rattle.network_text.specs.Lines.{Exchanger, exchangers_of, passages_of, stream_at, used_by}
 use Rattle.network_text.specs.Given.{branch_named, exchanger_named}
@@ -22,10 +24,12 @@ abbrev pub Checked : {T : Type 0} → Option NetWhy → (T → Type 0) → Resul
 Checked fault P (Ok x) = (fault ≡ None) × P x
 Checked fault P (Err why) = fault ≡ Some why
 
--- few enough sources that their places fit in 32 bits
-pub record HasFewSources (case : Case) : Type 0 where
-  pub streams : length case.streams ≤ 24
-  pub utilities : length case.utilities ≤ 8
+-- what reading needs of a case: few enough sources that their places fit in 32 bits, and streams with names that differ
+pub record HasSources (case : Case) : Type 0 where
+  pub few_streams : length case.streams ≤ 24
+  pub few_utilities : length case.utilities ≤ 8
+  pub names : All (λ s. IsName s.name) case.streams
+  pub distinct : AllPairs (λ s t. s.name ≢ t.name) case.streams
 
 -- ---- what may be added
 
@@ -50,6 +54,13 @@ IsFresh given (entry.End branch) = IsFree given branch
 -- the branch with a name and a stream
 abbrev pub named_branch : List ℕ × ℕ → Branch
 named_branch (name, stream) = record { name = name; stream = stream }
+
+-- the names of streams, with their places
+abbrev pub own_entry : ℕ × Stream → List ℕ × ℕ
+own_entry (place, s) = (s.name, place)
+
+unfoldable pub own_entries : List Stream → List (List ℕ × ℕ)
+own_entries streams = map own_entry (enumerate_from 0 streams)
 
 -- the name and the two sources of an exchanger
 abbrev pub named_sides : Exchanger → List ℕ × Sides

@@ -45,7 +45,7 @@ most_exchangers = 20000
 
 -- an earlier statement uses the branch with this number
 abbrev pub is_used : Network → ℕ → Bool
-is_used given number = list_any (λ used. used == number) (used_by given.lines)
+is_used given number = list_any (λ used. number == used) (used_by given.lines)
 
 unfoldable pub used_branch_checks : Network → List ℕ → List Check
 used_branch_checks given name =

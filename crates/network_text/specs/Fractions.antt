@@ -48,5 +48,5 @@ unfoldable pub fraction : List ℕ → Rational
 fraction text = unwrap_or (fraction_in text) rational_zero
 
 -- above 0
-abbrev pub is_positive : Rational → Bool
+unfoldable pub is_positive : Rational → Bool
 is_positive a = int_lt (pos 0) a.num

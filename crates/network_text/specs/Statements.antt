@@ -11,6 +11,10 @@ Statement = List (List ℕ)
 abbrev pub field : Statement → ℕ → List ℕ
 field statement place = slice_index_or statement place []
 
+-- `\n`
+abbrev pub is_newline : ℕ → Bool
+is_newline b = b == 10
+
 -- a space or a tab
 abbrev pub is_blank : ℕ → Bool
 is_blank b = (b == 32) || (b == 9)

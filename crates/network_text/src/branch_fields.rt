@@ -1,9 +1,9 @@
 //! The fields that name branches and exchangers.
 
-ghost use Rattle.std.specs.Prelude.{◌≡◌, ◌<◌, false, length, is_some, IfOk, OnOk};
+ghost use Rattle.std.specs.Prelude.{◌≡◌, ◌==◌, ◌<◌, true, false, length, is_some, IfOk, IfSome};
 ghost use Rattle.network_text.specs.Names.{is_branch_name, is_name};
 ghost use Rattle.network_text.specs.Lines.{stream_at};
-ghost use Rattle.network_text.specs.Given.{branch_at, exchanger_at, exchanger_named};
+ghost use Rattle.network_text.specs.Given.{branch_at, branch_named, exchanger_at, exchanger_named};
 ghost use Rattle.network_text.specs.Checks.{first_failing, is_passed, mixed_checks, new_branch_checks, new_exchanger_checks, passed_checks, used_branch_checks};
 ghost use Rattle.network_text.specs.Answers.{Checked, IsFree, IsNew};
 
@@ -12,13 +12,32 @@ use crate::found::Found;
 use crate::names::{branch_name, exchanger_name};
 use stream_case::Name;
 
+/// The number of the branch with this name, if it was made.
+#[tactic(auto, unfolding(crate::specs::Given::branch_at))]
+fn known_branch(found: &Found, name: &[u8]) -> Option<u32>
+    ensures some { is_some result ≡ is_some (branch_named found.now name.now) }
+    ensures value { IfSome result (λ number. number ≡ branch_at found.now name.now) }
+    ensures within { IfSome result (λ number. number < length found.now.branches) }
+{
+    found.branch_named(name)
+}
+
+/// The number of the exchanger with this name, if it was declared.
+#[tactic(auto, unfolding(crate::specs::Given::exchanger_at))]
+fn known_exchanger(found: &Found, name: &[u8]) -> Option<u32>
+    ensures some { is_some result ≡ is_some (exchanger_named found.now name.now) }
+    ensures value { IfSome result (λ number. number ≡ exchanger_at found.now name.now) }
+{
+    found.exchanger_named(name)
+}
+
 /// The number of a branch that is used.
 #[tactic(auto, unfolding(crate::specs::Checks::used_branch_checks))]
 pub fn used_branch(found: &Found, field: &[u8]) -> Result<u32, NetWhy>
     ensures fresh { IfOk result (IsFree found.now) }
     ensures checked { Checked (first_failing (used_branch_checks found.now field.now)) (λ number. number ≡ branch_at found.now field.now) result }
 {
-    let Some(number) = found.branch_named(field) else {
+    let Some(number) = known_branch(found, field) else {
         return Err(NetWhy::UnknownBranch);
     };
     if found.is_used(number) {
@@ -63,7 +82,7 @@ pub fn passed_exchanger(found: &Found, branch: u32, field: &[u8]) -> Result<u32,
     ensures fresh { IfOk result (λ exchanger. is_passed found.now exchanger (stream_at found.now.branches branch) ≡ false) }
     ensures checked { Checked (first_failing (passed_checks found.now branch field.now)) (λ exchanger. exchanger ≡ exchanger_at found.now field.now) result }
 {
-    let Some(exchanger) = found.exchanger_named(field) else {
+    let Some(exchanger) = known_exchanger(found, field) else {
         return Err(NetWhy::UnknownName);
     };
     if !found.is_free_side(exchanger, found.stream_of(branch)) {

@@ -1,9 +1,11 @@
 //! What the statements of each kind give.
 
 ghost use Rattle.std.specs.Prelude.{◌≡◌, Some, IfOk};
-ghost use Rattle.network_text.specs.Given.{entry_by, entry_in};
-ghost use Rattle.network_text.specs.Checks.{checks, end_checks, exchanger_checks, first_failing, kind_checks, mix_checks, pass_checks, split_checks};
-ghost use Rattle.network_text.specs.Answers.{Checked, HasFewSources, IsFresh};
+ghost use Rattle.network_text.specs.Statements.{field};
+ghost use Rattle.network_text.specs.Fractions.{fraction};
+ghost use Rattle.network_text.specs.Given.{branch_at, entry_in, exchanger_at, source_at};
+ghost use Rattle.network_text.specs.Checks.{checks, end_checks, exchanger_checks, first_failing, mix_checks, pass_checks, split_checks};
+ghost use Rattle.network_text.specs.Answers.{Checked, HasSources, IsFresh};
 
 use crate::branch_fields::{check_mixed, new_branch, new_exchanger, passed_exchanger, used_branch};
 use crate::fault::NetWhy;
@@ -20,7 +22,13 @@ const MOST_STATEMENTS: usize = 100_000;
 /// The most exchangers of a text.
 const MOST_EXCHANGERS: usize = 20_000;
 
-fn exchanger_entry(case: &Case, found: &Found, s: &Statement<'_>) -> Result<Entry, NetWhy> {
+/// What the statement of an exchanger gives.
+#[tactic(auto, using(crate::proofs::FirstFailing::then_others), unfolding(crate::specs::Checks::exchanger_checks))]
+fn exchanger_entry(case: &Case, found: &Found, s: &Statement<'_>) -> Result<Entry, NetWhy>
+    requires { HasSources case.now }
+    ensures fresh { IfOk result (IsFresh found.now) }
+    ensures checked { Checked (first_failing (exchanger_checks case.now found.now s.now)) (λ e. e ≡ Entry.Exchanger (field s.now 1) (source_at case.now (field s.now 2)) (source_at case.now (field s.now 3)) (fraction (field s.now 4))) result }
+{
     if s.len() != 5 {
         return Err(NetWhy::FieldCount);
     }
@@ -38,7 +46,12 @@ fn exchanger_entry(case: &Case, found: &Found, s: &Statement<'_>) -> Result<Entr
     })
 }
 
-fn split_entry(found: &Found, s: &Statement<'_>) -> Result<Entry, NetWhy> {
+/// What the statement of a split gives.
+#[tactic(auto, using(crate::proofs::FirstFailing::then_others), unfolding(crate::specs::Checks::split_checks))]
+fn split_entry(found: &Found, s: &Statement<'_>) -> Result<Entry, NetWhy>
+    ensures fresh { IfOk result (IsFresh found.now) }
+    ensures checked { Checked (first_failing (split_checks found.now s.now)) (λ e. e ≡ Entry.Split (branch_at found.now (field s.now 1)) (field s.now 2) (fraction (field s.now 3)) (field s.now 4)) result }
+{
     if s.len() != 5 {
         return Err(NetWhy::FieldCount);
     }
@@ -57,7 +70,12 @@ fn split_entry(found: &Found, s: &Statement<'_>) -> Result<Entry, NetWhy> {
     })
 }
 
-fn pass_entry(found: &Found, s: &Statement<'_>) -> Result<Entry, NetWhy> {
+/// What the statement of a pass gives.
+#[tactic(auto, using(crate::proofs::FirstFailing::then_others), unfolding(crate::specs::Checks::pass_checks))]
+fn pass_entry(found: &Found, s: &Statement<'_>) -> Result<Entry, NetWhy>
+    ensures fresh { IfOk result (IsFresh found.now) }
+    ensures checked { Checked (first_failing (pass_checks found.now s.now)) (λ e. e ≡ Entry.Pass (branch_at found.now (field s.now 1)) (exchanger_at found.now (field s.now 2)) (field s.now 3)) result }
+{
     if s.len() != 4 {
         return Err(NetWhy::FieldCount);
     }
@@ -71,7 +89,12 @@ fn pass_entry(found: &Found, s: &Statement<'_>) -> Result<Entry, NetWhy> {
     })
 }
 
-fn mix_entry(found: &Found, s: &Statement<'_>) -> Result<Entry, NetWhy> {
+/// What the statement of a mix gives.
+#[tactic(auto, using(crate::proofs::FirstFailing::then_others), unfolding(crate::specs::Checks::mix_checks))]
+fn mix_entry(found: &Found, s: &Statement<'_>) -> Result<Entry, NetWhy>
+    ensures fresh { IfOk result (IsFresh found.now) }
+    ensures checked { Checked (first_failing (mix_checks found.now s.now)) (λ e. e ≡ Entry.Mix (branch_at found.now (field s.now 1)) (branch_at found.now (field s.now 2)) (field s.now 3)) result }
+{
     if s.len() != 4 {
         return Err(NetWhy::FieldCount);
     }
@@ -82,7 +105,12 @@ fn mix_entry(found: &Found, s: &Statement<'_>) -> Result<Entry, NetWhy> {
     Ok(Entry::Mix { first, second, to })
 }
 
-fn end_entry(found: &Found, s: &Statement<'_>) -> Result<Entry, NetWhy> {
+/// What the statement of an end gives.
+#[tactic(auto, using(crate::proofs::FirstFailing::then_others), unfolding(crate::specs::Checks::end_checks))]
+fn end_entry(found: &Found, s: &Statement<'_>) -> Result<Entry, NetWhy>
+    ensures fresh { IfOk result (IsFresh found.now) }
+    ensures checked { Checked (first_failing (end_checks found.now s.now)) (λ e. e ≡ Entry.End (branch_at found.now (field s.now 1))) result }
+{
     if s.len() != 2 {
         return Err(NetWhy::FieldCount);
     }
@@ -91,7 +119,12 @@ fn end_entry(found: &Found, s: &Statement<'_>) -> Result<Entry, NetWhy> {
 }
 
 /// What a statement gives, or the first of its checks that fails.
-pub fn entry_of(case: &Case, found: &Found, s: &Statement<'_>) -> Result<Entry, NetWhy> {
+#[tactic(auto, unfolding(crate::specs::Checks::checks, crate::specs::Checks::kind_checks, crate::specs::Given::entry_in))]
+pub fn entry_of(case: &Case, found: &Found, s: &Statement<'_>) -> Result<Entry, NetWhy>
+    requires { HasSources case.now }
+    ensures fresh { IfOk result (IsFresh found.now) }
+    ensures checked { Checked (first_failing (checks case.now found.now s.now)) (λ e. entry_in case.now found.now s.now ≡ Some e) result }
+{
     if found.count_lines() >= MOST_STATEMENTS {
         return Err(NetWhy::TooMany);
     }

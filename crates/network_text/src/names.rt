@@ -1,6 +1,6 @@
 //! The names of branches and exchangers.
 
-ghost use Rattle.std.specs.Prelude.{◌≡◌, IfSome, is_some};
+ghost use Rattle.std.specs.Prelude.{◌≡◌, true, IfSome, is_some};
 ghost use Rattle.network_text.specs.Names.{is_branch_name, is_name};
 
 use stream_case::Name;
@@ -17,6 +17,7 @@ pub fn branch_name(field: &[u8]) -> Option<Name>
 pub fn exchanger_name(field: &[u8]) -> Option<Name>
     ensures some { is_some result ≡ is_name field.now }
     ensures value { IfSome result (λ name. name ≡ field.now) }
+    ensures name { IfSome result (λ name. is_branch_name name ≡ true) }
 {
     let Some(name) = Name::new(field) else {
         return None;

@@ -1,14 +1,21 @@
+ghost use Rattle.std.specs.Prelude.{◌≡◌, IfOk, pos};
+ghost use Rattle.network_text.specs.Examples.{of_stream, one_cooler, one_stream};
+
 use crate::{Branch, Line, Network, print_network};
 use fractions::Frac;
 use std::alloc::Global;
 use std::test::Fail;
 use stream_case::{Case, Items, Name, Side, Source, Stream, Utility, is_complete};
 
-fn name(text: &str) -> Result<Name, Fail> {
+fn name(text: &str) -> Result<Name, Fail>
+    ensures { IfOk result (λ name. name ≡ text.now) }
+{
     Ok(Name::new(text.as_bytes()).ok_or("a name")?)
 }
 
-fn utility(text: &str, side: Side, level: i32, price: i64) -> Result<Utility, Fail> {
+fn utility(text: &str, side: Side, level: i32, price: i64) -> Result<Utility, Fail>
+    ensures { IfOk result (λ utility. utility ≡ record { name = text.now; side = side; level = level; least = pos 0; most = pos 1000000000000; price = price; contribution = pos 50 }) }
+{
     Ok(Utility {
         name: name(text)?,
         side,
@@ -21,7 +28,9 @@ fn utility(text: &str, side: Side, level: i32, price: i64) -> Result<Utility, Fa
 }
 
 /// A hot stream H, with HOT and COLD.
-fn one_stream(alloc: Global) -> Result<Case, Fail> {
+fn one_stream(alloc: Global) -> Result<Case, Fail>
+    ensures { IfOk result (λ case. case ≡ one_stream) }
+{
     let stream = Stream {
         name: name("H")?,
         side: Side::Hot,
@@ -35,13 +44,15 @@ fn one_stream(alloc: Global) -> Result<Case, Fail> {
         streams: Items::from_vec(vec![in alloc; stream]?),
         utilities: Items::from_vec(vec![in alloc;
             utility("HOT", Side::Hot, 1000, 1)?,
-            utility("COLD", Side::Cold, 400, 0)?
+            utility("COLD", Side::Cold, 400, 0)?,
         ]?),
         forbids: Items::new(alloc),
     })
 }
 
-fn branch(text: &str) -> Result<Branch, Fail> {
+fn branch(text: &str) -> Result<Branch, Fail>
+    ensures { IfOk result (λ branch. branch ≡ of_stream text.now) }
+{
     Ok(Branch {
         name: name(text)?,
         stream: 0,
@@ -49,13 +60,15 @@ fn branch(text: &str) -> Result<Branch, Fail> {
 }
 
 /// H is divided and mixed again, and passes a cooler of 2.5 W on its way to its end.
-fn one_cooler(alloc: Global) -> Result<Network, Fail> {
+fn one_cooler(alloc: Global) -> Result<Network, Fail>
+    ensures { IfOk result (λ network. network ≡ one_cooler) }
+{
     let branches = vec![in alloc;
         branch("H")?,
         branch(".a")?,
         branch(".b")?,
         branch("c")?,
-        branch("d_1")?
+        branch("d_1")?,
     ]?;
     let lines = vec![in alloc;
         Line::Exchanger {
@@ -80,7 +93,7 @@ fn one_cooler(alloc: Global) -> Result<Network, Fail> {
             exchanger: 0,
             to: 4,
         },
-        Line::End { branch: 4 }
+        Line::End { branch: 4 },
     ]?;
     Ok(Network {
         branches: Items::from_vec(branches),
@@ -94,7 +107,8 @@ fn a_cooler(rt: HostRuntime) -> Result<(), Fail> {
     assert!(rt; is_complete(&case));
     let network = one_cooler(rt.alloc())?;
     let text = print_network(rt.alloc(), &case, &network)?;
-    let expected = b"exchanger Q-1 H COLD 5/2\nsplit H .a 4 .b\nmix .b .a c\npass c Q-1 d_1\nend d_1\n";
+    let expected =
+        b"exchanger Q-1 H COLD 5/2\nsplit H .a 4 .b\nmix .b .a c\npass c Q-1 d_1\nend d_1\n";
     assert_eq!(rt; text.as_slice(), expected.as_slice());
     Ok(())
 }

@@ -1,27 +1,51 @@
 //! The sources of a case.
 
-ghost use Rattle.std.specs.Prelude.{◌≡◌};
-ghost use Rattle.stream_case.specs.declared.source.Side.TheVariants as side;
+ghost use Rattle.std.specs.Prelude.{◌≡◌, is_some, position, IfSome};
+ghost use Rattle.std.specs.Str.{bytes_eq};
 ghost use Rattle.network_text.specs.Given.{source_at, source_named};
 ghost use Rattle.network_text.specs.Checks.{first_failing, is_on, source_checks};
-ghost use Rattle.network_text.specs.Answers.{Checked, HasFewSources};
+ghost use Rattle.network_text.specs.Answers.{Checked, HasSources};
 
 use crate::fault::NetWhy;
-use stream_case::{Case, Side, Source};
+use stream_case::{Case, Side, Source, Stream, Utility};
+
+/// The place of the stream with this name.
+fn stream_place(streams: &[Stream], name: &[u8]) -> Option<usize>
+    ensures { result ≡ position (λ s. bytes_eq name.now s.name) streams.now }
+{
+    streams.iter().position(|s| name == s.name.as_bytes())
+}
+
+/// The place of the utility with this name.
+fn utility_place(utilities: &[Utility], name: &[u8]) -> Option<usize>
+    ensures { result ≡ position (λ u. bytes_eq name.now u.name) utilities.now }
+{
+    utilities.iter().position(|u| name == u.name.as_bytes())
+}
 
 /// The source of the case with this name.
 #[tactic(auto, unfolding(crate::specs::Given::source_named))]
 fn source_named(case: &Case, name: &[u8]) -> Option<Source>
-    requires { HasFewSources case.now }
+    requires { HasSources case.now }
     ensures { result ≡ source_named case.now name.now }
 {
-    let streams = case.streams.as_slice();
-    if let Some(place) = streams.iter().position(|s| name == s.name.as_bytes()) {
+    if let Some(place) = stream_place(case.streams.as_slice(), name) {
         return Some(Source::Stream(place as u32));
     }
-    let utilities = case.utilities.as_slice();
-    let place = utilities.iter().position(|u| name == u.name.as_bytes())?;
+    let Some(place) = utility_place(case.utilities.as_slice(), name) else {
+        return None;
+    };
     Some(Source::Utility(place as u32))
+}
+
+/// The same, with the word for a source that is known.
+#[tactic(auto, unfolding(crate::specs::Given::source_at))]
+fn known_source(case: &Case, name: &[u8]) -> Option<Source>
+    requires { HasSources case.now }
+    ensures some { is_some result ≡ is_some (source_named case.now name.now) }
+    ensures value { IfSome result (λ source. source ≡ source_at case.now name.now) }
+{
+    source_named(case, name)
 }
 
 /// Whether a source is on a side.
@@ -39,13 +63,13 @@ fn is_on(case: &Case, side: Side, source: Source) -> bool
 /// The hot and the cold source of an exchanger.
 #[tactic(auto, unfolding(crate::specs::Checks::source_checks))]
 pub fn hot_and_cold(case: &Case, hot: &[u8], cold: &[u8]) -> Result<(Source, Source), NetWhy>
-    requires { HasFewSources case.now }
+    requires { HasSources case.now }
     ensures { Checked (first_failing (source_checks case.now hot.now cold.now)) (λ s. (s.0 ≡ source_at case.now hot.now) × (s.1 ≡ source_at case.now cold.now)) result }
 {
-    let Some(hot) = source_named(case, hot) else {
+    let Some(hot) = known_source(case, hot) else {
         return Err(NetWhy::UnknownName);
     };
-    let Some(cold) = source_named(case, cold) else {
+    let Some(cold) = known_source(case, cold) else {
         return Err(NetWhy::UnknownName);
     };
     if !is_on(case, Side::Hot, hot) {

@@ -36,11 +36,11 @@ fn two_streams(alloc: Global) -> Result<Case, Fail> {
         contribution: 50,
         streams: Items::from_vec(vec![in alloc;
             stream("H", Side::Hot, 1000, 500)?,
-            stream("C", Side::Cold, 300, 700)?
+            stream("C", Side::Cold, 300, 700)?,
         ]?),
         utilities: Items::from_vec(vec![in alloc;
             utility("HOT", Side::Hot, 1000)?,
-            utility("COLD", Side::Cold, 300)?
+            utility("COLD", Side::Cold, 300)?,
         ]?),
         forbids: Items::new(alloc),
     })
@@ -59,17 +59,29 @@ fn refusals(rt: HostRuntime) -> Result<(), Fail> {
         ("exchanger E1 H C x", 1, NetWhy::BadNumber),
         ("exchanger E1 H D 5", 1, NetWhy::UnknownName),
         ("exchanger E1 C H 5", 1, NetWhy::WrongSide),
-        ("exchanger E1 H C 5\nexchanger E1 H C 6", 2, NetWhy::SameName),
+        (
+            "exchanger E1 H C 5\nexchanger E1 H C 6",
+            2,
+            NetWhy::SameName,
+        ),
         ("end z", 1, NetWhy::UnknownBranch),
         ("end H\nend H", 2, NetWhy::SpentBranch),
-        ("exchanger E1 H C 5\npass H E1 a\npass a E1 b", 3, NetWhy::WrongPass),
+        (
+            "exchanger E1 H C 5\npass H E1 a\npass a E1 b",
+            3,
+            NetWhy::WrongPass,
+        ),
         ("exchanger E1 H C 5\npass H E1 a", 1, NetWhy::MissingPass),
         ("exchanger E1 H C 0", 1, NetWhy::NotPositive),
         ("mix H C a", 1, NetWhy::OtherStream),
         ("split H a+ 1 b", 1, NetWhy::BadName),
     ];
     for (text, line, why) in texts {
-        assert_eq!(rt; read_network(rt.alloc(), &case, text.as_bytes()), refused(line, why), "at {text}");
+        assert_eq!(rt;
+            read_network(rt.alloc(), &case, text.as_bytes()),
+            refused(line, why),
+            "at {text}"
+        );
     }
     Ok(())
 }

@@ -1,4 +1,3 @@
-use Rattle.network_text.proofs.PrintExample.{one_cooler}
 use Rattle.std.proofs.Common.{◌∙◌, ◌≡◌, ◌<◌, ◌≤◌, List, ℕ, get_or, length, sym, ap, subst, arith, refl}
 use Rattle.std.proofs.lemmas.Option.{slice_get_read}
 use Rattle.network_text.specs.Statements.{statements_of}
