@@ -21,6 +21,7 @@ use Rattle.network_text.specs.declared.network.Line.{Line}
 use Rattle.network_text.specs.declared.network.Line.TheVariants as line
 use Rattle.network_text.specs.declared.network.Network.{Network}
 use Rattle.network_text.proofs.BackFront.{all_made, made_at, made_no_more, made_within, stands_at, stream_at-take, streams_first}
+use Rattle.network_text.proofs.LineLaws.{made_by-push, names_of-append, stream_at-front, used_by-push}
 use Rattle.network_text.proofs.ShapeLists.{range_with_len-append, slice_get_push}
 
 -- the network with one line more, and the branches that it makes
@@ -48,10 +49,6 @@ pub record AddsBranches (case : Case) (given : Network) (new : List Branch) (l :
 
 -- ---- the streams of branches
 
--- a branch keeps its stream
-pub stream_at-append : (branches new : List Branch) (i : ℕ) → i < length branches → stream_at (branches ++ new) i ≡ stream_at branches i
-stream_at-append branches new i within = sym (stream_at-take (branches ++ new) (length branches) i within) ∙ ap (λ bs. stream_at bs i) (take_at branches new (length branches) refl)
-
 -- the branches of a line
 record AreThere (branches : List Branch) (l : Line) : Type 0 where
   used : All (λ b. b < length branches) (uses l)
@@ -60,12 +57,12 @@ record AreThere (branches : List Branch) (l : Line) : Type 0 where
 still_one : (branches new : List Branch) (l : Line) → AreThere branches l → IsOfOneStream branches l → IsOfOneStream (branches ++ new) l
 still_one branches new (line.Exchanger name hot cold duty) there one = tt
 still_one branches new (line.Split from first cp second) there one =
-    let from_same = stream_at-append branches new from (there.used 0 0 (omega arith)) in
-    (stream_at-append branches new first (there.made 0 0 (omega arith)) ∙ one.0 ∙ sym from_same, stream_at-append branches new second (there.made 1 0 (omega arith)) ∙ one.1 ∙ sym from_same)
-still_one branches new (line.Pass from exchanger to) there one = stream_at-append branches new to (there.made 0 0 (omega arith)) ∙ one ∙ sym (stream_at-append branches new from (there.used 0 0 (omega arith)))
+    let from_same = stream_at-front branches new from (there.used 0 0 (omega arith)) in
+    (stream_at-front branches new first (there.made 0 0 (omega arith)) ∙ one.0 ∙ sym from_same, stream_at-front branches new second (there.made 1 0 (omega arith)) ∙ one.1 ∙ sym from_same)
+still_one branches new (line.Pass from exchanger to) there one = stream_at-front branches new to (there.made 0 0 (omega arith)) ∙ one ∙ sym (stream_at-front branches new from (there.used 0 0 (omega arith)))
 still_one branches new (line.Mix first second to) there one =
-    let first_same = stream_at-append branches new first (there.used 0 0 (omega arith)) in
-    (stream_at-append branches new second (there.used 1 0 (omega arith)) ∙ one.0 ∙ sym first_same, stream_at-append branches new to (there.made 0 0 (omega arith)) ∙ one.1 ∙ sym first_same)
+    let first_same = stream_at-front branches new first (there.used 0 0 (omega arith)) in
+    (stream_at-front branches new second (there.used 1 0 (omega arith)) ∙ one.0 ∙ sym first_same, stream_at-front branches new to (there.made 0 0 (omega arith)) ∙ one.1 ∙ sym first_same)
 still_one branches new (line.End branch) there one = tt
 
 -- ---- the lines that are there
@@ -92,7 +89,6 @@ branches_there case network are k d within = record {
 -- ---- one line more
 
 made_in_order : (case : Case) (given : Network) (new : List Branch) (l : Line) → AreMadeInOrder case given → makes l ≡ range_with_len (length given.branches) (length new) → AreMadeInOrder case (with_line given new l)
-unfolding made_by
 made_in_order case given new l are made =
     let n = length case.streams in
     let some = streams_first case given are in
@@ -101,17 +97,16 @@ made_in_order case given new l are made =
     let all : count + length new ≡ length (given.branches ++ new) - n = omega (arith, some, length-append given.branches new) in
     record {
       own = take-append-le n given.branches new some ∙ are.own;
-      made = flat_map-append makes given.lines (l ∷ [])
-          ∙ (λ i. are.made i ++ append-nil (makes l) i)
-          ∙ ap (λ ns. range_with_len n count ++ ns) (made ∙ ap (λ b. range_with_len b (length new)) next)
+      made = made_by-push given.lines l
+          ∙ (λ i. are.made i ++ made i)
+          ∙ ap (λ b. range_with_len n count ++ range_with_len b (length new)) next
           ∙ range_with_len-append n count (length new)
           ∙ ap (range_with_len n) all;
     }
 
 -- the lines before a place, where there is one line more
 lines_before : (case : Case) (given : Network) (new : List Branch) (l : Line) (place : ℕ) → place ≤ length given.lines → made_before case given place ≡ made_before case (with_line given new l) place
-unfolding made_by
-lines_before case given new l place within = ap (λ ls. length case.streams + length (flat_map makes ls)) (sym (take-append-le place given.lines (l ∷ []) within))
+lines_before case given new l place within = ap (λ ls. length case.streams + length (made_by ls)) (sym (take-append-le place given.lines (l ∷ []) within))
 
 made_first_still : (case : Case) (given : Network) (new : List Branch) (l : Line) → AreMadeInOrder case given → AreMadeBeforeUse case given → All (λ b. b < length given.branches) (uses l) → AreMadeBeforeUse case (with_line given new l)
 made_first_still case given new l made first known place k at = by (slice_get_push given.lines l place k at)
@@ -129,17 +124,12 @@ made_first_still case given new l made first known place k at = by (slice_get_pu
         subst (λ (m : Line). All (λ b. b < made_before case (with_line given new l) place) (uses m)) (sym is) (λ j d inside. omega (arith, same, all, count, known j d inside))
 
 used_once_still : (given : Network) (new : List Branch) (l : Line) → AllPairs (λ a b. a ≢ b) (used_by given.lines ++ uses l) → AreUsedOnce (with_line given new l)
-unfolding used_by
-used_once_still given new l pairs =
-    let all = flat_map-append uses given.lines (l ∷ []) ∙ ap (λ ns. flat_map uses given.lines ++ ns) (append-nil (uses l)) in
-    subst (AllPairs (λ a b. a ≢ b)) (sym all) pairs
+used_once_still given new l pairs = subst (AllPairs (λ (a b : ℕ). a ≢ b)) (sym (used_by-push given.lines l)) pairs
 
 named_still : (given : Network) (new : List Branch) (l : Line) → AreNamed given → All IsAnyName (names_of new) → AllPairs (λ a b. a ≢ b) (names_of given.branches ++ names_of new) → AreNamed (with_line given new l)
-unfolding names_of
 named_still given new l named names distinct =
-    let name : Branch → List ℕ = λ b. b.name in
-    let all = sym (map-append name given.branches new) in record {
-      names = subst (All IsAnyName) all (All-append IsAnyName (map name given.branches) (map name new) named.names names);
+    let all = sym (names_of-append given.branches new) in record {
+      names = subst (All IsAnyName) all (All-append IsAnyName (names_of given.branches) (names_of new) named.names names);
       distinct = subst (AllPairs (λ a b. a ≢ b)) all distinct;
     }
 

@@ -2,6 +2,7 @@
 use Rattle.std.proofs.Common.{◌≡◌, ◌≢◌, ◌∙◌, ◌<◌, ◌≤◌, ◌+◌, ◌∷◌, ◌++◌, ◌==◌, ◌&&◌, ◌⊎◌, inl, inr, ℕ, Bool, true, false, cond, List, [], All, AllPairs, Option, Some, None, get_or, slice_get, length, take, refl, sym, ap, subst, arith}
 use Rattle.std.specs.Prelude.{count_by}
 use Rattle.std.specs.List.{cons_option, filter_map}
+use Rattle.std.specs.Option.{option_to_list}
 use Rattle.std.proofs.lemmas.Bool.{and_parts}
 use Rattle.std.proofs.lemmas.Bool.Decides.{nat_tests}
 use Rattle.std.proofs.lemmas.List.{take-append-le, take_at}
@@ -20,7 +21,8 @@ use Rattle.network_text.specs.declared.network.Line.{Line}
 use Rattle.network_text.specs.declared.network.Line.TheVariants as line
 use Rattle.network_text.specs.declared.network.Network.{Network}
 use Rattle.network_text.proofs.BackFront.{all_at, passages-take}
-use Rattle.network_text.proofs.ShapeBranches.{AreBranches, stream_at-append, used_there, with_line}
+use Rattle.network_text.proofs.LineLaws.{exchangers_of-push}
+use Rattle.network_text.proofs.ShapeBranches.{with_line}
 use Rattle.network_text.proofs.ShapeLists.{slice_get_push, uncounted}
 
 -- what the shape says of exchangers and flows
@@ -30,19 +32,15 @@ pub record AreDeclared (case : Case) (network : Network) : Type 0 where
 
 -- what the line declares is an exchanger with a name of its own
 pub record AddsExchanger (case : Case) (given : Network) (l : Line) : Type 0 where
-  pub each : All (IsExchanger case) (exchangers_of (l ∷ []))
-  pub distinct : AllPairs (λ a b. a.name ≢ b.name) (exchangers_of given.lines ++ exchangers_of (l ∷ []))
+  pub each : All (IsExchanger case) (option_to_list (exchanger_of l))
+  pub distinct : AllPairs (λ a b. a.name ≢ b.name) (exchangers_of given.lines ++ option_to_list (exchanger_of l))
   pub flow : HasPositiveFlow l
-
-pub exchangers-more : (lines : List Line) (l : Line) → exchangers_of (lines ++ l ∷ []) ≡ exchangers_of lines ++ exchangers_of (l ∷ [])
-unfolding exchangers_of
-exchangers-more lines l = filter_map-append exchanger_of lines (l ∷ [])
 
 pub declared_kept : (case : Case) (given : Network) (new : List Branch) (l : Line) → AreDeclared case given → AddsExchanger case given l → AreDeclared case (with_line given new l)
 declared_kept case given new l are adds =
-    let all = sym (exchangers-more given.lines l) in record {
+    let all = sym (exchangers_of-push given.lines l) in record {
       exchangers = record {
-        each = subst (All (IsExchanger case)) all (All-append (IsExchanger case) (exchangers_of given.lines) (exchangers_of (l ∷ [])) are.exchangers.each adds.each);
+        each = subst (All (IsExchanger case)) all (All-append (IsExchanger case) (exchangers_of given.lines) (option_to_list (exchanger_of l)) are.exchangers.each adds.each);
         distinct = subst (AllPairs (λ (a b : Exchanger). a.name ≢ b.name)) all adds.distinct;
       };
       flows = All-push HasPositiveFlow given.lines l are.flows adds.flow;

@@ -4,7 +4,7 @@ use Rattle.std.specs.Prelude.{find}
 use Rattle.std.specs.List.{range_with_len}
 use Rattle.std.proofs.lemmas.Bool.{not-false, or_parts}
 use Rattle.std.proofs.lemmas.List.FromFn.{get_or-range_with_len, length-range_with_len}
-use Rattle.std.proofs.lemmas.Option.{slice_get_within}
+use Rattle.std.proofs.lemmas.Option.{get_or_from_slice_get, slice_get_within}
 use Rattle.stream_case.specs.Case.{IsComplete}
 use Rattle.stream_case.specs.declared.case.Case.{Case}
 use Rattle.stream_case.specs.declared.source.Source.{Source}
@@ -18,6 +18,7 @@ use Rattle.network_text.specs.Shape.{ArePassedOnce, HasShape, Joins, passes}
 use Rattle.network_text.specs.declared.network.Line.{Line}
 use Rattle.network_text.specs.declared.network.Network.{Network}
 use Rattle.network_text.proofs.BackCounts.{network-few}
+use Rattle.network_text.proofs.Missing.{missing-at}
 use Rattle.network_text.proofs.ShapeLists.{StandsBefore, counted, none_found, stands_before}
 use Rattle.network_text.proofs.ShapeSteps.{shape_so_far}
 
@@ -34,8 +35,11 @@ none_misses network none place within =
     ap (misses_pass network) number ∙ here
 
 no_side_missed : (network : Network) (number : ℕ) (e : Exchanger) (place : ℕ) (l : Line) → StandsBefore exchanger_of network.lines number e place l → misses_pass network place ≡ false → misses_side network number (Some e) ≡ false
-unfolding misses_pass exchangers_of
-no_side_missed network number e place l stands none = rw (stands.here, stands.gives, stands.earlier) at none
+unfolding exchangers_of
+no_side_missed network number e place l stands none =
+    let within = slice_get_within network.lines place l stands.here in
+    let at = missing-at network place number l within (sym (get_or_from_slice_get network.lines place l l stands.here)) (sym stands.earlier) in
+    ap (misses_side network number) (sym stands.gives) ∙ sym at ∙ none
 
 passed : (network : Network) (number stream : ℕ) (s : Source) → s ≡ source.Stream stream → is_missed network number s ≡ false → 0 < passes network number stream
 unfolding is_passed

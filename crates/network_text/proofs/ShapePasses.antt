@@ -2,6 +2,7 @@
 use Rattle.std.proofs.Common.{◌≡◌, ◌≢◌, ◌∙◌, ◌<◌, ◌≤◌, ◌+◌, ◌∷◌, ◌++◌, ◌==◌, ◌&&◌, ◌⊎◌, inl, inr, ℕ, Bool, true, false, cond, List, [], All, AllPairs, Option, Some, None, get_or, slice_get, length, take, refl, sym, ap, subst, arith}
 use Rattle.std.specs.Prelude.{count_by}
 use Rattle.std.specs.List.{cons_option, filter_map}
+use Rattle.std.specs.Option.{option_to_list}
 use Rattle.std.proofs.lemmas.Bool.{and_parts}
 use Rattle.std.proofs.lemmas.Bool.Decides.{nat_tests}
 use Rattle.std.proofs.lemmas.List.{take-append-le, take_at}
@@ -20,7 +21,8 @@ use Rattle.network_text.specs.declared.network.Line.{Line}
 use Rattle.network_text.specs.declared.network.Line.TheVariants as line
 use Rattle.network_text.specs.declared.network.Network.{Network}
 use Rattle.network_text.proofs.BackFront.{all_at, passages-take}
-use Rattle.network_text.proofs.ShapeBranches.{AreBranches, stream_at-append, used_there, with_line}
+use Rattle.network_text.proofs.LineLaws.{passages_of-push, stream_at-front}
+use Rattle.network_text.proofs.ShapeBranches.{AreBranches, used_there, with_line}
 use Rattle.network_text.proofs.ShapeLists.{slice_get_push, uncounted}
 
 -- what the shape says of passes, but that none is missing
@@ -37,7 +39,7 @@ pub record AddsPass (given : Network) (new : List Branch) (l : Line) : Type 0 wh
 still_declared : (branches new : List Branch) (declared : List Exchanger) (l : Line) → All (λ b. b < length branches) (uses l) → PassesDeclared branches declared l → PassesDeclared (branches ++ new) declared l
 still_declared branches new declared (line.Exchanger name hot cold duty) there passes = tt
 still_declared branches new declared (line.Split from first cp second) there passes = tt
-still_declared branches new declared (line.Pass from exchanger to) there (e, at, joins) = (e, at, subst (Joins e) (sym (stream_at-append branches new from (there 0 0 (omega arith)))) joins)
+still_declared branches new declared (line.Pass from exchanger to) there (e, at, joins) = (e, at, subst (Joins e) (sym (stream_at-front branches new from (there 0 0 (omega arith)))) joins)
 still_declared branches new declared (line.Mix first second to) there passes = tt
 still_declared branches new declared (line.End branch) there passes = tt
 
@@ -61,17 +63,16 @@ passages_still case given new branches =
     sym (passages-take (given.branches ++ new) (length given.branches) given.lines (used_there case given branches.made_once branches.made_first)) ∙ ap (λ bs. passages_of bs given.lines) front
 
 passages-more : (case : Case) (given : Network) (new : List Branch) (l : Line) → AreBranches case given
-    → passages_of (given.branches ++ new) (given.lines ++ l ∷ []) ≡ passages_of given.branches given.lines ++ cons_option (passage_of (given.branches ++ new) l) []
-unfolding passages_of
+    → passages_of (given.branches ++ new) (given.lines ++ l ∷ []) ≡ passages_of given.branches given.lines ++ option_to_list (passage_of (given.branches ++ new) l)
 passages-more case given new l branches =
-    filter_map-append (passage_of (given.branches ++ new)) given.lines (l ∷ []) ∙ ap (λ ps. ps ++ cons_option (passage_of (given.branches ++ new) l) []) (passages_still case given new branches)
+    passages_of-push (given.branches ++ new) given.lines l ∙ ap (λ ps. ps ++ option_to_list (passage_of (given.branches ++ new) l)) (passages_still case given new branches)
 
 -- how many passes there are with one more
 passes-more : (case : Case) (given : Network) (new : List Branch) (l : Line) (exchanger stream : ℕ) → AreBranches case given
-    → passes (with_line given new l) exchanger stream ≡ passes given exchanger stream + count_by (same_passage (record { exchanger = exchanger; stream = stream })) (cons_option (passage_of (given.branches ++ new) l) [])
+    → passes (with_line given new l) exchanger stream ≡ passes given exchanger stream + count_by (same_passage (record { exchanger = exchanger; stream = stream })) (option_to_list (passage_of (given.branches ++ new) l))
 passes-more case given new l exchanger stream branches =
     let this = same_passage (record { exchanger = exchanger; stream = stream }) in
-    ap (count_by this) (passages-more case given new l branches) ∙ sum_by-append (λ p. cond (this p) 1 0) (passages_of given.branches given.lines) (cons_option (passage_of (given.branches ++ new) l) [])
+    ap (count_by this) (passages-more case given new l branches) ∙ sum_by-append (λ p. cond (this p) 1 0) (passages_of given.branches given.lines) (option_to_list (passage_of (given.branches ++ new) l))
 
 -- a side that is free was not passed
 none_so_far : (given : Network) (exchanger stream : ℕ) → is_passed given exchanger stream ≡ false → passes given exchanger stream ≡ 0
@@ -98,7 +99,7 @@ at_most_once_still case given new l branches few free exchanger stream =
     subst (λ n. n ≤ 1) (sym more) (by (passage_of (given.branches ++ new) l) free)
   where
     by : (o : Option Passage) → ((p : Passage) → o ≡ Some p → is_passed given p.exchanger p.stream ≡ false)
-        → passes given exchanger stream + count_by (same_passage (record { exchanger = exchanger; stream = stream })) (cons_option o []) ≤ 1
+        → passes given exchanger stream + count_by (same_passage (record { exchanger = exchanger; stream = stream })) (option_to_list o) ≤ 1
     by None free = omega (arith, few exchanger stream)
     by (Some p) free = one_more given exchanger stream p (few exchanger stream) (free p refl)
 

@@ -1,6 +1,6 @@
 -- A statement that is not at fault keeps the shape, kind by kind.
 use Rattle.std.proofs.Common.{◌≡◌, ◌≢◌, ◌∙◌, ◌<◌, ◌+◌, ◌∷◌, ◌++◌, ◌==◌, ℕ, true, false, not, List, [], All, AllPairs, Option, Some, None, is_some, get_or, slice_get, option_map, unwrap_or, length, refl, sym, ap, subst, arith, append_assoc, length-append}
-use Rattle.std.specs.List.{cons_option}
+use Rattle.std.specs.Option.{option_to_list}
 use Rattle.std.specs.Str.{bytes_eq}
 use Rattle.std.specs.Cmp.Lexicographic.{bytes_decides}
 use Rattle.std.proofs.lemmas.Bool.{and_parts, eqb-false, eqb-true, false≢true, not-true}
@@ -31,8 +31,9 @@ use Rattle.network_text.specs.declared.network.Line.TheVariants as line
 use Rattle.network_text.specs.declared.network.Network.{Network}
 use Rattle.network_text.proofs.NameTests.{passed-branch_name, passed-name}
 use Rattle.network_text.proofs.BackFront.{branch_is}
+use Rattle.network_text.proofs.LineLaws.{stream_at-front}
 use Rattle.network_text.proofs.PrintSteps.{Passes}
-use Rattle.network_text.proofs.ShapeBranches.{AddsBranches, AreBranches, branches_first, branches_kept, stream_at-append, with_line}
+use Rattle.network_text.proofs.ShapeBranches.{AddsBranches, AreBranches, branches_first, branches_kept, with_line}
 use Rattle.network_text.proofs.ShapeExchangers.{AddsExchanger, AreDeclared, declared_kept, declared_none}
 use Rattle.network_text.proofs.ShapeFields.{fraction_sound, joined, name_new, new_each, on_side, undeclared_each, unused_each, used_free}
 use Rattle.network_text.proofs.ShapeFronts.{IsKept, network-has}
@@ -141,9 +142,8 @@ makes_two case given l from first second are made within new_first new_second di
 -- ---- lines that declare no exchanger
 
 declares_none : (case : Case) (given : Network) (l : Line) → AreDeclared case given → exchanger_of l ≡ None → HasPositiveFlow l → AddsExchanger case given l
-unfolding exchangers_of
 declares_none case given l are none flow =
-    let own : exchangers_of (l ∷ []) ≡ [] = ap (λ o. cons_option o []) none in
+    let own : option_to_list (exchanger_of l) ≡ [] = ap option_to_list none in
     record {
       each = subst (All (IsExchanger case)) (sym own) (All-nil (IsExchanger case));
       distinct = subst (AllPairs (λ (a b : Exchanger). a.name ≢ b.name)) (sym (ap (λ es. exchangers_of given.lines ++ es) own ∙ append-nil (exchangers_of given.lines))) are.exchangers.distinct;
@@ -154,7 +154,7 @@ declares_none case given l are none flow =
 
 exchanger_kept : (case : Case) (given : Network) (s : Statement) → HasShapeSoFar case given → Passes (exchanger_checks case given s)
     → HasShapeSoFar case (with_entry given (entry.Exchanger (field s 1) (source_at case (field s 2)) (source_at case (field s 3)) (fraction (field s 4))))
-unfolding exchanger_checks new_exchanger_checks source_checks fraction_checks with_entry exchangers_of
+unfolding exchanger_checks new_exchanger_checks source_checks fraction_checks with_entry
 exchanger_kept case given s shape passes =
     let name = field s 1 in
     let hot = source_at case (field s 2) in
@@ -199,7 +199,7 @@ split_kept case given s shape passes =
     let free = used_free given (field s 1) used.0 used.1.0 in
     let apart = not-true (bytes_eq second first) last.1.1.0 in
     let differ : first ≢ second = λ e. false≢true (sym apart ∙ (bytes_decides second first).1 (sym e)) in
-    let same = sym (stream_at-append given.branches new from free.0) in
+    let same = sym (stream_at-front given.branches new from free.0) in
     let streams : IsOfOneStream (given.branches ++ new) l = (stream_made given.branches (two ∷ []) one ∙ same, stream_made_next given.branches one two ∙ same) in
     let known = All-from_recursion (λ (b : ℕ). b < length given.branches) (from ∷ []) (free.0, tt) in
     shape_kept case given new l shape (record {
@@ -225,7 +225,7 @@ pass_kept case given s shape passes =
     let stream = stream_at given.branches from in
     let side = and_parts (joins_stream given exchanger stream) (not (is_passed given exchanger stream)) passed.1.0 in
     let (e, at, joins) = joined given exchanger stream side.0 in
-    let kept = stream_at-append given.branches new from free.0 in
+    let kept = stream_at-front given.branches new from free.0 in
     let known = All-from_recursion (λ (b : ℕ). b < length given.branches) (from ∷ []) (free.0, tt) in
     let unpassed = ap (is_passed given exchanger) kept ∙ not-true (is_passed given exchanger stream) side.1 in
     shape_kept case given new l shape (record {
@@ -256,8 +256,8 @@ mix_kept case given s shape passes =
     let apart : (second == first) ≡ false = not-true (second == first) mixed.0 in
     let differ : first ≢ second = λ e. eqb-false second first apart (sym e) in
     let one_stream = sym (eqb-true (stream_at given.branches first) (stream_at given.branches second) mixed.1.0) in
-    let kept = stream_at-append given.branches new first free.0 in
-    let streams : IsOfOneStream (given.branches ++ new) l = (stream_at-append given.branches new second free_next.0 ∙ one_stream ∙ sym kept, stream_made given.branches [] one ∙ sym kept) in
+    let kept = stream_at-front given.branches new first free.0 in
+    let streams : IsOfOneStream (given.branches ++ new) l = (stream_at-front given.branches new second free_next.0 ∙ one_stream ∙ sym kept, stream_made given.branches [] one ∙ sym kept) in
     let known = All-from_recursion (λ (b : ℕ). b < length given.branches) (first ∷ second ∷ []) (free.0, (free_next.0, tt)) in
     shape_kept case given new l shape (record {
       branches = makes_one case given l first to shape.branches refl free.0 (name_new given to made.0 made.1.0) known (used_two given first second shape.branches.used_once free free_next differ) streams;
