@@ -1,17 +1,15 @@
 -- A network that the grammar gives has no more statements and exchangers than a text may have.
-use Rattle.std.proofs.Common.{◌≡◌, ◌∙◌, ◌<◌, ◌≤◌, ◌∷◌, ◌++◌, ℕ, zero, suc, Bool, true, false, List, [], Option, Some, None, get_or, length, nat_lt, take, refl, sym, ap, subst, arith, length-append}
-use Rattle.std.specs.List.{cons_option, filter_map, fold}
-use Rattle.std.proofs.Math.Seq.{take-suc}
+use Rattle.std.proofs.Common.{◌≡◌, ◌∙◌, ◌<◌, ◌≤◌, ◌∷◌, ◌++◌, true, List, [], Option, Some, None, length, nat_lt, refl, ap, arith, length-append}
+use Rattle.std.specs.List.{cons_option, filter_map}
 use Rattle.std.proofs.lemmas.Bool.Decides.{nat_tests}
-use Rattle.std.proofs.lemmas.List.{append-nil, take_all}
+use Rattle.std.proofs.lemmas.List.{append-nil}
 use Rattle.std.proofs.lemmas.List.Elements.{filter_map-append}
-use Rattle.std.proofs.lemmas.List.Sums.{fold_push}
 use Rattle.stream_case.specs.declared.case.Case.{Case}
 use Rattle.network_text.specs.Lines.{exchanger_of, exchangers_of}
 use Rattle.network_text.specs.Statements.{Statement}
-use Rattle.network_text.specs.Given.{entry_by, entry_in, given_by, kind_of, next, start, with_any, with_entry}
-use Rattle.network_text.specs.Checks.{Check, checks, exchanger_checks, first_failing, kind_checks, most_exchangers, most_statements}
-use Rattle.network_text.specs.Outcome.{IsNetwork, SoundBefore}
+use Rattle.network_text.specs.Given.{entry_by, entry_in, kind_of, next, start, with_any, with_entry}
+use Rattle.network_text.specs.Checks.{checks, exchanger_checks, kind_checks, most_exchangers, most_statements}
+use Rattle.network_text.specs.Outcome.{IsNetwork}
 use Rattle.network_text.specs.declared.kind.Kind.{Kind}
 use Rattle.network_text.specs.declared.kind.Kind.TheVariants as kind
 use Rattle.network_text.specs.declared.network.Line.{Line}

@@ -1,26 +1,25 @@
 -- The branches of a network keep their shape with one line more.
-use Rattle.std.proofs.Common.{◌≡◌, ◌≢◌, ◌∙◌, ◌<◌, ◌≤◌, ◌-◌, ◌+◌, ◌∷◌, ◌++◌, ◌⊎◌, inl, inr, ℕ, suc, List, [], All, AllPairs, Some, get_or, slice_get, length, drop, take, map, refl, sym, ap, subst, arith, length-append}
-use Rattle.std.specs.List.{enumerate_from, flat_map, range_with_len}
-use Rattle.std.proofs.lemmas.List.{append-nil, get_or_default, length-map, map-append, take-append-le, take_all, take_at}
-use Rattle.std.proofs.lemmas.List.Concat.{flat_map-append}
+use Rattle.std.proofs.Common.{◌≡◌, ◌≢◌, ◌∙◌, ◌<◌, ◌≤◌, ◌-◌, ◌+◌, ◌∷◌, ◌++◌, ◌⊎◌, inl, inr, ℕ, suc, List, [], All, AllPairs, Some, get_or, slice_get, length, drop, map, refl, sym, ap, subst, arith, length-append}
+use Rattle.std.specs.List.{enumerate_from, range_with_len}
+use Rattle.std.proofs.lemmas.List.{get_or_default, length-map, take-append-le, take_all}
 use Rattle.std.proofs.lemmas.List.Elements.{All-append, All-map, All-nil, All-push}
 use Rattle.std.proofs.lemmas.List.FromFn.{get_or-enumerate_from, length-enumerate_from}
 use Rattle.std.proofs.lemmas.Option.{slice_get-get_or, slice_get_within}
 use Rattle.sums.proofs.OrderLemmas.{AllPairs-nil}
-use Rattle.stream_case.specs.Name.{IsAnyName, IsName}
+use Rattle.stream_case.specs.Name.{IsAnyName}
 use Rattle.stream_case.specs.declared.case.Case.{Case}
 use Rattle.stream_case.specs.declared.stream.Stream.{Stream}
 use Rattle.stream_case.specs.declared.utility.Utility.{Utility}
 use Rattle.stream_case.proofs.CompleteLemmas.{StaysValid}
 use Rattle.stream_case.proofs.DistinctLemmas.{AllPairs-front}
-use Rattle.network_text.specs.Lines.{made_by, makes, names_of, stream_at, used_by, uses}
+use Rattle.network_text.specs.Lines.{made_by, makes, names_of, used_by, uses}
 use Rattle.network_text.specs.Given.{own_branch, own_branches, start}
 use Rattle.network_text.specs.Shape.{AreMadeBeforeUse, AreMadeInOrder, AreNamed, AreUsedOnce, IsOfOneStream, made_before}
 use Rattle.network_text.specs.declared.network.Branch.{Branch}
 use Rattle.network_text.specs.declared.network.Line.{Line}
 use Rattle.network_text.specs.declared.network.Line.TheVariants as line
 use Rattle.network_text.specs.declared.network.Network.{Network}
-use Rattle.network_text.proofs.BackFront.{all_made, made_at, made_no_more, made_within, stands_at, stream_at-take, streams_first}
+use Rattle.network_text.proofs.BackFront.{all_made, made_at, made_no_more, made_within, stands_at, streams_first}
 use Rattle.network_text.proofs.LineLaws.{made_by-push, names_of-append, stream_at-front, used_by-push}
 use Rattle.network_text.proofs.ShapeLists.{range_with_len-append, slice_get_push}
 

@@ -1,29 +1,17 @@
 -- The exchangers of a network keep their shape with one line more.
-use Rattle.std.proofs.Common.{◌≡◌, ◌≢◌, ◌∙◌, ◌<◌, ◌≤◌, ◌+◌, ◌∷◌, ◌++◌, ◌==◌, ◌&&◌, ◌⊎◌, inl, inr, ℕ, Bool, true, false, cond, List, [], All, AllPairs, Option, Some, None, get_or, slice_get, length, take, refl, sym, ap, subst, arith}
-use Rattle.std.specs.Prelude.{count_by}
-use Rattle.std.specs.List.{cons_option, filter_map}
+use Rattle.std.proofs.Common.{◌≢◌, ◌++◌, List, All, AllPairs, sym, subst}
 use Rattle.std.specs.Option.{option_to_list}
-use Rattle.std.proofs.lemmas.Bool.{and_parts}
-use Rattle.std.proofs.lemmas.Bool.Decides.{nat_tests}
-use Rattle.std.proofs.lemmas.List.{take-append-le, take_at}
-use Rattle.std.proofs.lemmas.List.Elements.{All-append, All-head, All-nil, All-push, filter_map-append}
-use Rattle.std.proofs.lemmas.List.Sums.{sum_by-append}
-use Rattle.std.proofs.lemmas.Option.{slice_get_within}
+use Rattle.std.proofs.lemmas.List.Elements.{All-append, All-nil, All-push}
 use Rattle.sums.proofs.OrderLemmas.{AllPairs-nil}
 use Rattle.stream_case.specs.declared.case.Case.{Case}
-use Rattle.network_text.specs.Lines.{Exchanger, exchanger_of, exchangers_of, passage_of, passages_of, stream_at, uses}
+use Rattle.network_text.specs.Lines.{Exchanger, exchanger_of, exchangers_of}
 use Rattle.network_text.specs.Given.{start}
-use Rattle.network_text.specs.Checks.{is_passed, same_passage}
-use Rattle.network_text.specs.Shape.{AreExchangers, ArePassedWhenDeclared, HasPositiveFlow, IsExchanger, Joins, PassesDeclared, passes}
-use Rattle.network_text.specs.declared.found.Passage.{Passage}
+use Rattle.network_text.specs.Shape.{AreExchangers, HasPositiveFlow, IsExchanger}
 use Rattle.network_text.specs.declared.network.Branch.{Branch}
 use Rattle.network_text.specs.declared.network.Line.{Line}
-use Rattle.network_text.specs.declared.network.Line.TheVariants as line
 use Rattle.network_text.specs.declared.network.Network.{Network}
-use Rattle.network_text.proofs.BackFront.{all_at, passages-take}
 use Rattle.network_text.proofs.LineLaws.{exchangers_of-push}
 use Rattle.network_text.proofs.ShapeBranches.{with_line}
-use Rattle.network_text.proofs.ShapeLists.{slice_get_push, uncounted}
 
 -- what the shape says of exchangers and flows
 pub record AreDeclared (case : Case) (network : Network) : Type 0 where

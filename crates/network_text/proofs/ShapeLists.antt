@@ -1,5 +1,5 @@
 -- Lists with one item more, first places, counts and filters.
-use Rattle.std.proofs.Common.{◌≡◌, ◌∙◌, ◌<◌, ◌≤◌, ◌+◌, ◌∷◌, ◌++◌, ◌⊎◌, inl, inr, ℕ, zero, suc, Bool, true, false, cond, List, [], All, AllPairs, Option, Some, None, get_or, slice_get, is_some, unwrap_or, position, length, take, refl, sym, ap, subst, arith, append_assoc}
+use Rattle.std.proofs.Common.{◌≡◌, ◌∙◌, ◌<◌, ◌≤◌, ◌+◌, ◌∷◌, ◌++◌, ◌⊎◌, inl, inr, ℕ, zero, suc, Bool, true, false, cond, List, [], All, AllPairs, Option, Some, None, slice_get, is_some, unwrap_or, position, length, take, refl, sym, ap, subst, arith, append_assoc}
 use Rattle.std.specs.Prelude.{count_by, find}
 use Rattle.std.specs.List.{cons_option, filter_map, list_any, range_with_len}
 use Rattle.std.proofs.lemmas.Bool.{cases_lt, cases_order, false≢true, false_from_ne_true}

@@ -1,20 +1,17 @@
 -- The passes of a network keep their shape with one line more.
-use Rattle.std.proofs.Common.{◌≡◌, ◌≢◌, ◌∙◌, ◌<◌, ◌≤◌, ◌+◌, ◌∷◌, ◌++◌, ◌==◌, ◌&&◌, ◌⊎◌, inl, inr, ℕ, Bool, true, false, cond, List, [], All, AllPairs, Option, Some, None, get_or, slice_get, length, take, refl, sym, ap, subst, arith}
+use Rattle.std.proofs.Common.{◌≡◌, ◌∙◌, ◌<◌, ◌≤◌, ◌+◌, ◌∷◌, ◌++◌, ◌==◌, ◌⊎◌, inl, inr, ℕ, Bool, true, false, cond, List, [], All, Option, Some, None, slice_get, length, take, refl, sym, ap, subst, arith}
 use Rattle.std.specs.Prelude.{count_by}
-use Rattle.std.specs.List.{cons_option, filter_map}
 use Rattle.std.specs.Option.{option_to_list}
 use Rattle.std.proofs.lemmas.Bool.{and_parts}
 use Rattle.std.proofs.lemmas.Bool.Decides.{nat_tests}
 use Rattle.std.proofs.lemmas.List.{take-append-le, take_at}
-use Rattle.std.proofs.lemmas.List.Elements.{All-append, All-head, All-nil, All-push, filter_map-append}
 use Rattle.std.proofs.lemmas.List.Sums.{sum_by-append}
 use Rattle.std.proofs.lemmas.Option.{slice_get_within}
-use Rattle.sums.proofs.OrderLemmas.{AllPairs-nil}
 use Rattle.stream_case.specs.declared.case.Case.{Case}
-use Rattle.network_text.specs.Lines.{Exchanger, exchanger_of, exchangers_of, passage_of, passages_of, stream_at, uses}
+use Rattle.network_text.specs.Lines.{Exchanger, exchangers_of, passage_of, passages_of, uses}
 use Rattle.network_text.specs.Given.{start}
 use Rattle.network_text.specs.Checks.{is_passed, same_passage}
-use Rattle.network_text.specs.Shape.{AreExchangers, ArePassedWhenDeclared, HasPositiveFlow, IsExchanger, Joins, PassesDeclared, passes}
+use Rattle.network_text.specs.Shape.{ArePassedWhenDeclared, Joins, PassesDeclared, passes}
 use Rattle.network_text.specs.declared.found.Passage.{Passage}
 use Rattle.network_text.specs.declared.network.Branch.{Branch}
 use Rattle.network_text.specs.declared.network.Line.{Line}

@@ -1,10 +1,9 @@
 -- A statement that is not at fault keeps the shape, kind by kind.
-use Rattle.std.proofs.Common.{◌≡◌, ◌≢◌, ◌∙◌, ◌<◌, ◌+◌, ◌∷◌, ◌++◌, ◌==◌, ℕ, true, false, not, List, [], All, AllPairs, Option, Some, None, is_some, get_or, slice_get, option_map, unwrap_or, length, refl, sym, ap, subst, arith, append_assoc, length-append}
+use Rattle.std.proofs.Common.{◌≡◌, ◌≢◌, ◌∙◌, ◌<◌, ◌+◌, ◌∷◌, ◌++◌, ◌==◌, ℕ, true, false, not, List, [], All, AllPairs, Option, Some, None, is_some, option_map, unwrap_or, length, refl, sym, ap, subst, arith, append_assoc, length-append}
 use Rattle.std.specs.Option.{option_to_list}
 use Rattle.std.specs.Str.{bytes_eq}
 use Rattle.std.specs.Cmp.Lexicographic.{bytes_decides}
 use Rattle.std.proofs.lemmas.Bool.{and_parts, eqb-false, eqb-true, false≢true, not-true}
-use Rattle.std.proofs.lemmas.Bool.Decides.{nat_tests}
 use Rattle.std.proofs.lemmas.List.{append-nil, get_or_at}
 use Rattle.std.proofs.lemmas.List.Elements.{All-from_recursion, All-nil}
 use Rattle.std.proofs.lemmas.List.Quantifiers.{all_pairs_push}
@@ -12,13 +11,12 @@ use Rattle.std.proofs.lemmas.Option.{same_Some, slice_get-get_or}
 use Rattle.stream_case.specs.Name.{IsAnyName}
 use Rattle.stream_case.specs.declared.case.Case.{Case}
 use Rattle.stream_case.specs.declared.source.Side.TheVariants as side
-use Rattle.fractions.specs.Rationals.{rational_zero}
 use Rattle.network_text.specs.Answers.{IsFree, IsNew}
 use Rattle.network_text.specs.Fractions.{fraction}
-use Rattle.network_text.specs.Lines.{Exchanger, exchanger_of, exchangers_of, makes, names_of, passage_of, stream_at, used_by, uses}
+use Rattle.network_text.specs.Lines.{Exchanger, exchanger_of, exchangers_of, makes, names_of, stream_at, used_by, uses}
 use Rattle.network_text.specs.Statements.{Statement, field}
-use Rattle.network_text.specs.Given.{branch_at, branch_of, entry_by, entry_in, exchanger_at, kind_of, next, source_at, start, with_any, with_entry}
-use Rattle.network_text.specs.Checks.{checks, end_checks, exchanger_checks, fraction_checks, is_free_side, is_on, is_passed, joins_stream, kind_checks, mix_checks, mixed_checks, new_branch_checks, new_exchanger_checks, pass_checks, passed_checks, source_checks, split_checks, used_branch_checks}
+use Rattle.network_text.specs.Given.{branch_at, branch_of, entry_by, entry_in, exchanger_at, kind_of, source_at, start, with_any, with_entry}
+use Rattle.network_text.specs.Checks.{checks, end_checks, exchanger_checks, fraction_checks, is_on, is_passed, joins_stream, kind_checks, mix_checks, mixed_checks, new_branch_checks, new_exchanger_checks, pass_checks, passed_checks, source_checks, split_checks, used_branch_checks}
 use Rattle.network_text.specs.Outcome.{IsNetwork}
 use Rattle.network_text.specs.Shape.{HasPositiveFlow, IsExchanger, IsOfOneStream, Joins}
 use Rattle.network_text.specs.declared.found.Entry.TheVariants as entry

@@ -8,7 +8,8 @@ ghost use Rattle.network_text.specs.Outcome.{IsFault, IsNetwork};
 use crate::fault::NetWhy;
 use crate::network::Network;
 
-/// Statements have one outcome: one fault with one cause, or one network, and never both.
+/// Statements have one outcome: never two faults, two causes of one fault, two networks, or a fault
+/// and a network.
 pub fn statements_have_one_outcome()
     ensures fault { (case : Case) (statements : List Statement) (number other : ℕ) (why because : NetWhy) → IsFault case statements number why → IsFault case statements other because → (number ≡ other) × (why ≡ because) }
     ensures apart { (case : Case) (statements : List Statement) (number : ℕ) (why : NetWhy) (network : Network) → IsFault case statements number why → IsNetwork case statements network → ⊥ }
