@@ -78,14 +78,14 @@ exchanger_at lines place name hot cold duty here =
 
 -- ---- the numbers of branches
 
-streams_first : (case : Case) (network : Network) → AreMadeInOrder case network → length case.streams ≤ length network.branches
+pub streams_first : (case : Case) (network : Network) → AreMadeInOrder case network → length case.streams ≤ length network.branches
 unfolding own_branches
 streams_first case network made =
     let own : length (take (length case.streams) network.branches) ≡ length case.streams = ap length made.own ∙ length-map (enumerate_from 0 case.streams) own_branch ∙ length-enumerate_from 0 case.streams in
     omega (arith, own, length-take (length case.streams) network.branches)
 
 -- there are the streams' branches and those that lines make
-all_made : (case : Case) (network : Network) → AreMadeInOrder case network → length case.streams + length (made_by network.lines) ≡ length network.branches
+pub all_made : (case : Case) (network : Network) → AreMadeInOrder case network → length case.streams + length (made_by network.lines) ≡ length network.branches
 all_made case network made =
     let long = ap length made.made ∙ length-range_with_len (length case.streams) (length network.branches - length case.streams) in
     omega (arith, long, streams_first case network made)
@@ -179,7 +179,7 @@ passage-take branches m (line.Pass from exchanger to) early = ap (λ s. Some (re
 passage-take branches m (line.Mix first second to) early = refl
 passage-take branches m (line.End branch) early = refl
 
-passages-take : (branches : List Branch) (m : ℕ) (ls : List Line) → All (λ l. All (λ b. b < m) (uses l)) ls → passages_of (take m branches) ls ≡ passages_of branches ls
+pub passages-take : (branches : List Branch) (m : ℕ) (ls : List Line) → All (λ l. All (λ b. b < m) (uses l)) ls → passages_of (take m branches) ls ≡ passages_of branches ls
 unfolding passages_of
 passages-take branches m [] early = refl
 passages-take branches m (l ∷ ls) early =

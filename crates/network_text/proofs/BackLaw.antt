@@ -29,9 +29,10 @@ use Rattle.network_text.proofs.PrintSteps.{Follows}
 use Rattle.network_text.proofs.PrintText.{IsPlainStatement, statements-back}
 use Rattle.network_text.proofs.BackFront.{exchanger_at, front, front-first, front-last, some_counted}
 use Rattle.network_text.proofs.BackBranches.{IsReadable, is_line}
-use Rattle.network_text.proofs.BackCounts.{network-few}
 use Rattle.network_text.proofs.BackSteps.{line_follows}
 use Rattle.network_text.proofs.BackNames.{statement_plain}
+use Rattle.network_text.proofs.ShapeLaw.{network-has_shape, network-keeps_counts}
+use Rattle.network_text.proofs.ShapeUnique.{no_network, same_network}
 
 abbrev no_line : Line
 no_line = line.End 0
@@ -150,16 +151,15 @@ shape-is_network case network complete shape few_lines few_exchangers =
 
 -- where there is a network, it is the one outcome
 one_network : (case : Case) (statements : List Statement) (network : Network) (outcome : Result Network NetFault) → IsNetwork case statements network → IsOutcome case statements outcome → (outcome ≡ Ok network) ⊎ (outcome ≡ Err fault.OutOfMemory)
-one_network case statements network (Ok other) is outcome = inl (ap Ok (outcome.given ∙ sym is.given))
-one_network case statements network (Err (fault.At number because)) is (inl (place, same, first)) = cc (sym (is.sound place first.within) ∙ first.cause)
-one_network case statements network (Err (fault.At number because)) is (inr (place, same, missing, lacks)) = cc (sym is.complete ∙ lacks.missing)
+one_network case statements network (Ok other) is outcome = inl (ap Ok (same_network case statements other network outcome is))
+one_network case statements network (Err (fault.At number because)) is outcome = absurd (no_network case statements number because network outcome is)
 one_network case statements network (Err fault.OutOfMemory) is outcome = inr refl
 
-pub printed-again : (case : Case) (statements : List Statement) (network : Network) → IsComplete case → HasShape case network → IsNetwork case statements network → IsNetwork case (statements_of (text_of case network)) network
-printed-again case statements network complete shape is =
-    let few = network-few case statements network is in
-    shape-is_network case network complete shape few.lines few.exchangers
+pub printed-again : (case : Case) (statements : List Statement) (network : Network) → IsComplete case → IsNetwork case statements network → IsNetwork case (statements_of (text_of case network)) network
+printed-again case statements network complete is =
+    let counts = network-keeps_counts case statements network is in
+    shape-is_network case network complete (network-has_shape case statements network complete is) counts.0 counts.1
 
-pub printed-only : (case : Case) (statements : List Statement) (network : Network) (outcome : Result Network NetFault) → IsComplete case → HasShape case network → IsNetwork case statements network → IsOutcome case (statements_of (text_of case network)) outcome
+pub printed-once : (case : Case) (statements : List Statement) (network : Network) (outcome : Result Network NetFault) → IsComplete case → IsNetwork case statements network → IsOutcome case (statements_of (text_of case network)) outcome
     → (outcome ≡ Ok network) ⊎ (outcome ≡ Err fault.OutOfMemory)
-printed-only case statements network outcome complete shape is = one_network case (statements_of (text_of case network)) network outcome (printed-again case statements network complete shape is)
+printed-once case statements network outcome complete is = one_network case (statements_of (text_of case network)) network outcome (printed-again case statements network complete is)

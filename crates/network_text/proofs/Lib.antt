@@ -22,3 +22,12 @@ pub mod Tables
 pub mod OwnBranches
 pub mod Missing
 pub mod FirstFailing
+mod ShapeBranches
+mod ShapeExchangers
+mod ShapeFields
+mod ShapeFronts
+mod ShapeLaw
+mod ShapeLists
+mod ShapePasses
+mod ShapeSteps
+mod ShapeUnique

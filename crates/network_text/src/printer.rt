@@ -192,9 +192,12 @@ pub fn print_network(alloc: Global, case: &Case, network: &Network) -> Result<Ve
     Ok(text)
 }
 
-/// What is printed is read again: the text of a network that the grammar gives for a completed
-/// case has that network as its one outcome, but for want of memory.
+/// A network that the grammar gives for a completed case has the shape and keeps the two counts,
+/// and what is printed of it is read again: its text has that network as its one outcome, but for
+/// want of memory.
 pub fn networks_are_printed_and_read_again()
-    ensures again { (case : Case) (statements : List Statement) (network : Network) → IsComplete case → HasShape case network → IsNetwork case statements network → IsNetwork case (statements_of (text_of case network)) network }
-    ensures only { (case : Case) (statements : List Statement) (network : Network) (outcome : Result Network NetFault) → IsComplete case → HasShape case network → IsNetwork case statements network → IsOutcome case (statements_of (text_of case network)) outcome → (outcome ≡ Ok network) ⊎ (outcome ≡ Err NetFault.OutOfMemory) }
+    ensures shape { (case : Case) (statements : List Statement) (network : Network) → IsComplete case → IsNetwork case statements network → HasShape case network }
+    ensures counts { (case : Case) (statements : List Statement) (network : Network) → IsNetwork case statements network → (length network.lines ≤ most_statements) × (length (exchangers_of network.lines) ≤ most_exchangers) }
+    ensures again { (case : Case) (statements : List Statement) (network : Network) → IsComplete case → IsNetwork case statements network → IsNetwork case (statements_of (text_of case network)) network }
+    ensures once { (case : Case) (statements : List Statement) (network : Network) (outcome : Result Network NetFault) → IsComplete case → IsNetwork case statements network → IsOutcome case (statements_of (text_of case network)) outcome → (outcome ≡ Ok network) ⊎ (outcome ≡ Err NetFault.OutOfMemory) }
 {}
