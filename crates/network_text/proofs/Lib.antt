@@ -1,0 +1,33 @@
+mod BackBranches
+mod BackCounts
+mod BackExchangers
+mod BackFront
+mod BackLaw
+mod BackNames
+mod BackSteps
+mod PrintExample
+mod PrintFields
+mod PrintLines
+mod PrintNames
+mod PrintSteps
+mod PrintText
+mod Worked
+pub mod NameTests
+pub mod DigitTexts
+pub mod Positions
+pub mod Bounds
+pub mod LineCuts
+pub mod LineLaws
+pub mod Tables
+pub mod OwnBranches
+pub mod Missing
+pub mod FirstFailing
+mod ShapeBranches
+mod ShapeExchangers
+mod ShapeFields
+mod ShapeFronts
+mod ShapeLaw
+mod ShapeLists
+mod ShapePasses
+mod ShapeSteps
+mod ShapeUnique

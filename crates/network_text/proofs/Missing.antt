@@ -1,0 +1,62 @@
+-- The first exchanger with a side that is not passed.
+use Rattle.std.proofs.Common.{◌≡◌, ◌∙◌, ◌<◌, ◌≤◌, ◌+◌, ◌∷◌, ◌++◌, ℕ, Bool, true, false, cond, List, [], Option, Some, None, length, take, get_or, is_some, slice_get, refl, sym, ap, arith, length-append}
+use Rattle.std.specs.List.{range_with_len}
+use Rattle.std.specs.Option.{option_to_list}
+use Rattle.std.proofs.lemmas.List.{length-take-le, take_more}
+use Rattle.std.proofs.lemmas.List.Folds.{find_at}
+use Rattle.std.proofs.lemmas.List.FromFn.{get_or-range_with_len, length-range_with_len}
+use Rattle.std.proofs.lemmas.List.Sums.{position_or_len_is}
+use Rattle.std.proofs.lemmas.Option.{slice_get_past, slice_get-get_or, slice_get_read}
+use Rattle.network_text.specs.Lines.{Exchanger, exchanger_of, exchangers_of}
+use Rattle.network_text.specs.Checks.{first_missing, misses_pass, misses_side}
+use Rattle.network_text.specs.declared.network.Line.{Line}
+use Rattle.network_text.specs.declared.network.Network.{Network}
+use Rattle.network_text.proofs.LineLaws.{exchangers_of-push, few_exchangers}
+
+-- what the line at a place misses
+pub missing-at : (n : Network) (place count : ℕ) (l : Line) → place < length n.lines → l ≡ get_or n.lines place l → count ≡ length (exchangers_of (take place n.lines)) → misses_pass n place ≡ misses_side n count (exchanger_of l)
+unfolding misses_pass
+missing-at n place count l within here is =
+    let at = slice_get_read n.lines (length n.lines) place l refl within here in
+    rw (at, ← is) refl
+
+-- one line more, which declares an exchanger or does not
+count-push : (o : Option Exchanger) (xs : List Exchanger) (b : Bool) → is_some o ≡ b → length (xs ++ option_to_list o) ≡ length xs + cond b 1 0
+count-push None xs true e = cc e
+count-push None xs false e = omega (arith, length-append xs [])
+count-push (Some x) xs true e = omega (arith, length-append xs (x ∷ []))
+count-push (Some x) xs false e = cc e
+
+pub count-more : (ls : List Line) (place : ℕ) (l : Line) (b : Bool) → place < length ls → l ≡ get_or ls place l → is_some (exchanger_of l) ≡ b → length (exchangers_of (take (place + 1) ls)) ≡ length (exchangers_of (take place ls)) + cond b 1 0
+count-more ls place l b within here is =
+    let more = take_more ls place l within ∙ ap (λ x. take place ls ++ x ∷ []) (sym here) in
+    ap (λ s. length (exchangers_of s)) more ∙ ap length (exchangers_of-push (take place ls) l) ∙ count-push (exchanger_of l) (exchangers_of (take place ls)) b is
+
+-- so few that their number fits
+pub few_before : (ls : List Line) (place : ℕ) → place < length ls → length (exchangers_of (take place ls)) ≤ place
+few_before ls place within = omega (arith, few_exchangers (take place ls), length-take-le place ls (omega arith))
+
+-- ---- the first place
+
+none_before : (n : Network) (place count : ℕ) → place ≤ count → ((k : ℕ) → k < place → misses_pass n k ≡ false) → (k : ℕ) → k < place → misses_pass n (get_or (range_with_len 0 count) k 0) ≡ false
+none_before n place count fits before k within =
+    let at : get_or (range_with_len 0 count) k 0 ≡ k = get_or-range_with_len 0 count k 0 (omega (arith, within, fits)) ∙ omega arith in
+    ap (misses_pass n) at ∙ before k within
+
+pub first-found : (n : Network) (place : ℕ) → place < length n.lines → ((k : ℕ) → k < place → misses_pass n k ≡ false) → misses_pass n place ≡ true → first_missing n ≡ Some place
+unfolding first_missing
+first-found n place within before here =
+    let all = range_with_len 0 (length n.lines) in
+    let wide = length-range_with_len 0 (length n.lines) in
+    let at : get_or all place 0 ≡ place = get_or-range_with_len 0 (length n.lines) place 0 within ∙ omega arith in
+    let first = position_or_len_is (misses_pass n) all place 0 (omega (arith, wide, within)) (none_before n place (length n.lines) (omega (arith, within)) before) (λ inside. ap (misses_pass n) at ∙ here) in
+    find_at (misses_pass n) all ∙ ap (slice_get all) first ∙ slice_get-get_or all place 0 (omega (arith, wide, within)) ∙ ap Some at
+
+pub none-found : (n : Network) (place : ℕ) → length n.lines ≤ place → ((k : ℕ) → k < place → misses_pass n k ≡ false) → first_missing n ≡ None
+unfolding first_missing
+none-found n place past before =
+    let all = range_with_len 0 (length n.lines) in
+    let wide = length-range_with_len 0 (length n.lines) in
+    let none : (k : ℕ) → k < length all → misses_pass n (get_or all k 0) ≡ false = none_before n (length all) (length n.lines) (omega (arith, wide)) (λ k within. before k (omega (arith, within, wide, past))) in
+    let first = position_or_len_is (misses_pass n) all (length all) 0 (omega arith) none (λ inside. absurd (omega (arith, inside))) in
+    find_at (misses_pass n) all ∙ ap (slice_get all) first ∙ slice_get_past all (length all) (omega arith)

@@ -1,0 +1,46 @@
+use Rattle.std.proofs.Common.{arith, get_or, ap, ◌∙◌, Some, sym}
+use Rattle.std.proofs.lemmas.Bool.Decides.{nat_tests}
+use Rattle.std.proofs.lemmas.Int.Digits.{digits_more, digits_value_more}
+use Rattle.std.proofs.lemmas.List.{take_all}
+use Rattle.network_text.proofs.DigitTexts.{small, digit, all_read, too_long, empty, no_digit}
+use Rattle.network_text.proofs.fraction_text.natural_of.Goals as goal
+use Rattle.network_text.proofs.fraction_text.natural_of.Goals.{then-is_empty-via-then-is_empty, then-is_empty-via-else-is_empty+then-text-gt-MOST_DIGITS}
+
+pub returns-then-is_empty-clause-number : goal.returns-then-is_empty-clause-number
+returns-then-is_empty-clause-number c =
+    elim c.then-is_empty.branch [
+      | then-is_empty-via-then-is_empty w ↦ sym (empty c.args.text.now (grind (arith, nat_tests)))
+      | then-is_empty-via-else-is_empty+then-text-gt-MOST_DIGITS w ↦ sym (too_long c.args.text.now (omega arith))
+    ]
+
+pub returns-then-not-is_ascii_digit-clause-number : goal.returns-then-not-is_ascii_digit-clause-number
+returns-then-not-is_ascii_digit-clause-number c =
+    sym (no_digit c.args.text.now c.loop-digit.digit-index c.loop-digit-test.true (sym c.is_ascii_digit.ensures.value ∙ c.if-not-is_ascii_digit.true))
+
+pub overflow_mul-number : goal.overflow_mul-number
+overflow_mul-number c =
+    let s = small c.args.text.now c.loop-digit.digit-index (omega arith) c.loop-digit.invariant.digits in
+    omega (arith, s)
+
+pub overflow_add-number : goal.overflow_add-number
+overflow_add-number c =
+    let s = small c.args.text.now c.loop-digit.digit-index (omega arith) c.loop-digit.invariant.digits in
+    let d = digit (get_or c.args.text.now c.loop-digit.digit-index 0) (sym c.is_ascii_digit.ensures.value ∙ c.if-not-is_ascii_digit.false) in
+    omega (arith, s, d)
+
+pub loop-digit-preserved : goal.loop-digit-preserved
+loop-digit-preserved c =
+    let d = digit (get_or c.args.text.now c.loop-digit.digit-index 0) (sym c.is_ascii_digit.ensures.value ∙ c.if-not-is_ascii_digit.false) in
+    record {
+      digits = digits_more 10 c.args.text.now c.loop-digit.digit-index c.loop-digit-test.true c.loop-digit.invariant.digits (omega (arith, d));
+      value = omega (arith, d, digits_value_more 10 c.args.text.now c.loop-digit.digit-index c.loop-digit-test.true);
+    }
+
+pub returns-clause-number : goal.returns-clause-number
+returns-clause-number c =
+    let whole = take_all c.loop-digit.digit-index c.args.text.now c.loop-digit-test.false in
+    let read = all_read c.args.text.now (grind (arith, nat_tests)) c.if-text-gt-MOST_DIGITS.false (rw whole at c.loop-digit.invariant.digits) in
+    ap Some (rw whole at c.loop-digit.invariant.value) ∙ sym read
+
+pub returns-clause-small : goal.returns-clause-small
+returns-clause-small c = omega (arith, small c.args.text.now c.loop-digit.digit-index (omega arith) c.loop-digit.invariant.digits)

@@ -1,0 +1,11 @@
+pub mod Names
+pub mod Fractions
+pub mod Statements
+pub mod Lines
+pub mod Given
+pub mod Checks
+pub mod Outcome
+pub mod Shape
+pub mod Printed
+pub mod Answers
+pub mod Examples

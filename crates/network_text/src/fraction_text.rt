@@ -1,0 +1,110 @@
+//! Fraction texts.
+
+ghost use Rattle.std.specs.Prelude.{◌≡◌, ◌<◌, ◌^◌, position, IfSome};
+ghost use Rattle.std.specs.List.{before_first};
+ghost use Rattle.network_text.specs.Fractions.{bounded_ratio, denominator_in, fraction, fraction_in, is_positive, is_slash, natural_in, numerator_in};
+ghost use Rattle.network_text.specs.Checks.{first_failing, fraction_checks};
+ghost use Rattle.network_text.specs.Answers.{Checked};
+
+use crate::fault::NetWhy;
+use fractions::Frac;
+
+/// The most digits of a number in a fraction text.
+const MOST_DIGITS: usize = 24;
+
+/// The number of 1 to 24 digits.
+fn natural_of(text: &[u8]) -> Option<u128>
+    ensures number { result ≡ natural_in text.now }
+    ensures small { IfSome result (λ n. n < 10 ^ 24) }
+{
+    if text.is_empty() || text.len() > MOST_DIGITS {
+        return None;
+    }
+    let mut number = 0;
+    for digit in text {
+        if !digit.is_ascii_digit() {
+            return None;
+        }
+        number = number * 10 + u128::from(*digit - b'0');
+    }
+    Some(number)
+}
+
+/// The whole number of an optional `-` and 1 to 24 digits.
+#[tactic(auto, unfolding(crate::specs::Fractions::numerator_in))]
+fn numerator_of(text: &[u8]) -> Option<i128>
+    ensures { result ≡ numerator_in text.now }
+{
+    if !text.is_empty() && text[0] == b'-' {
+        natural_of(&text[1..]).map(|n| -(n as i128))
+    } else {
+        natural_of(text).map(|n| n as i128)
+    }
+}
+
+/// The place of the first `/`.
+fn slash_in(text: &[u8]) -> Option<usize>
+    ensures { result ≡ position is_slash text.now }
+{
+    text.iter().position(|byte| *byte == b'/')
+}
+
+/// What stands before the first `/`.
+fn before_slash(text: &[u8]) -> &[u8]
+    ensures { result.now ≡ before_first is_slash text.now }
+{
+    let Some(slash) = slash_in(text) else {
+        return text;
+    };
+    &text[..slash]
+}
+
+/// The denominator, behind the first `/`; it is 1 where there is none.
+fn denominator_of(text: &[u8]) -> Option<u128>
+    ensures { result ≡ denominator_in text.now }
+{
+    let Some(slash) = slash_in(text) else {
+        return Some(1);
+    };
+    natural_of(&text[slash + 1..])
+}
+
+/// The fraction that a text spells, if it is a fraction text of a fraction: an optional `-`, 1 to
+/// 24 digits, and optionally `/` and 1 to 24 digits, which are not all 0 (this project's rule).
+/// The lowest terms have to be within the limits of a `Frac`.
+#[tactic(auto, unfolding(crate::specs::Fractions::fraction_in))]
+pub fn fraction_of(text: &[u8]) -> Option<Frac>
+    ensures { result ≡ fraction_in text.now }
+{
+    let numerator = numerator_of(before_slash(text))?;
+    let denominator = denominator_of(text)?;
+    bounded(numerator, denominator)
+}
+
+/// The fraction of a numerator and a denominator.
+fn bounded(numerator: i128, denominator: u128) -> Option<Frac>
+    ensures { result ≡ bounded_ratio numerator denominator }
+{
+    Frac::from_parts(numerator, denominator)
+}
+
+#[tactic(auto, unfolding(crate::specs::Fractions::is_positive))]
+fn is_positive(value: &Frac) -> bool
+    ensures { result ≡ is_positive value.now }
+{
+    value.num() > 0
+}
+
+/// The fraction above 0 that a field spells: a duty or a heat-capacity flow.
+#[tactic(auto, unfolding(crate::specs::Checks::fraction_checks, crate::specs::Fractions::fraction))]
+pub fn positive_fraction(field: &[u8]) -> Result<Frac, NetWhy>
+    ensures { Checked (first_failing (fraction_checks field.now)) (λ value. value ≡ fraction field.now) result }
+{
+    let Some(value) = fraction_of(field) else {
+        return Err(NetWhy::BadNumber);
+    };
+    if !is_positive(&value) {
+        return Err(NetWhy::NotPositive);
+    }
+    Ok(value)
+}

@@ -1,0 +1,32 @@
+//! The text of an exchanger network: its grammar, and reading and printing it.
+//!
+//! An engineer writes a proposed network down as statements, one a line: exchangers with their
+//! duties, splits, passes of branches through exchangers, mixes, and where each stream ends. The
+//! grammar says of a text and a completed case either which network the text gives, or which
+//! statement is at fault and why.
+#![tactic(auto)]
+
+mod branch_fields;
+mod entries;
+mod fault;
+mod found;
+mod fraction_text;
+mod kind;
+mod laws;
+mod names;
+mod network;
+mod printer;
+mod reader;
+mod sources;
+mod statement;
+
+pub use fault::{NetFault, NetWhy};
+pub use laws::statements_have_one_outcome;
+pub use network::{Branch, Line, Network};
+pub use printer::{networks_are_printed_and_read_again, print_network};
+pub use reader::read_network;
+
+#[cfg(test)]
+mod printer_tests;
+#[cfg(test)]
+mod tests;

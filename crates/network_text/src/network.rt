@@ -1,0 +1,58 @@
+//! A network of exchangers.
+
+use fractions::Frac;
+use stream_case::{Items, Name, Source};
+
+/// A branch of a stream, or a whole stream: the flow between two statements.
+#[derive(Clone, Copy, Debug, PartialEq, Eq)]
+pub struct Branch {
+    pub name: Name,
+    /// The stream that it is a part of, by its place in the case.
+    pub stream: u32,
+}
+
+/// A statement of a network. Branches and exchangers are named by number, from 0: the branches in
+/// the order in which they are made, those of the streams themselves first, and the exchangers in
+/// the order in which they are declared.
+#[derive(Clone, Copy, Debug, PartialEq, Eq)]
+pub enum Line {
+    /// An exchanger between a hot and a cold source, with its duty in W.
+    Exchanger {
+        name: Name,
+        hot: Source,
+        cold: Source,
+        duty: Frac,
+    },
+    /// A branch is divided in two: the first has this heat-capacity flow, in 10 W/K, and the
+    /// second has the rest.
+    Split {
+        from: u32,
+        first: u32,
+        cp: Frac,
+        second: u32,
+    },
+    /// A branch passes an exchanger, on the side of its stream.
+    Pass {
+        from: u32,
+        exchanger: u32,
+        to: u32,
+    },
+    /// Two branches of one stream are joined.
+    Mix {
+        first: u32,
+        second: u32,
+        to: u32,
+    },
+    /// A branch is where its stream ends.
+    End {
+        branch: u32,
+    },
+}
+
+/// A network of exchangers for the streams and utilities of a case: all branches that it has, and
+/// its statements.
+#[derive(Debug, PartialEq, Eq, Drop)]
+pub struct Network {
+    pub branches: Items<Branch>,
+    pub lines: Items<Line>,
+}

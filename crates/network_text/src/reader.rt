@@ -1,0 +1,37 @@
+//! Reading the text of a network.
+
+use crate::entries::entry_of;
+use crate::fault::{NetFault, NetWhy};
+use crate::found::Found;
+use crate::network::Network;
+use crate::statement::{Statement, first_line};
+use std::alloc::Global;
+use stream_case::Case;
+
+/// Reads the text of a network for a completed case: the network of the grammar, or the first
+/// statement at fault with its cause.
+pub fn read_network(alloc: Global, case: &Case, bytes: &[u8]) -> Result<Network, NetFault> {
+    let mut found = Found::new(alloc, case)?;
+    let mut rest = bytes;
+    let mut number: u32 = 0;
+    while !rest.is_empty() {
+        let (line, after) = first_line(rest);
+        rest = after;
+        let statement = Statement::of_line(alloc, line)?;
+        if statement.is_passed_over() {
+            continue;
+        }
+        number += 1;
+        match entry_of(case, &found, &statement) {
+            Ok(entry) => found = found.with(entry)?,
+            Err(why) => return Err(NetFault::At { line: number, why }),
+        }
+    }
+    match found.first_missing() {
+        None => Ok(found.into_network(alloc)?),
+        Some(place) => Err(NetFault::At {
+            line: place + 1,
+            why: NetWhy::MissingPass,
+        }),
+    }
+}
