@@ -133,11 +133,14 @@ mixed_checks given first second =
 
 -- ---- the checks of each kind of statement: the number of fields, and then the fields from left to right
 
+unfoldable pub exchanger_field_checks : Case → Network → Statement → List Check
+exchanger_field_checks case given s = in_turn (new_exchanger_checks given (field s 1) ∷ source_checks case (field s 2) (field s 3) ∷ fraction_checks (field s 4) ∷ [])
+
 unfoldable pub exchanger_checks : Case → Network → Statement → List Check
 exchanger_checks case given s =
     (length s == 5, why.FieldCount)
     ∷ (nat_lt (length (exchangers_of given.lines)) most_exchangers, why.TooMany)
-    ∷ in_turn (new_exchanger_checks given (field s 1) ∷ source_checks case (field s 2) (field s 3) ∷ fraction_checks (field s 4) ∷ [])
+    ∷ exchanger_field_checks case given s
 
 -- for the second new branch, the first counts as made
 unfoldable pub split_checks : Network → Statement → List Check
