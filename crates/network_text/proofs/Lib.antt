@@ -9,3 +9,4 @@ pub mod Tables
 pub mod OwnBranches
 pub mod Missing
 pub mod FirstFailing
+pub mod Steps

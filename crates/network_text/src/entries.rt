@@ -1,10 +1,10 @@
 //! What the statements of each kind give.
 
-ghost use Rattle.std.specs.Prelude.{◌≡◌, Some, IfOk};
+ghost use Rattle.std.specs.Prelude.{◌≡◌, ◌<◌, Some, length, IfOk, OnOk};
 ghost use Rattle.network_text.specs.Statements.{field};
 ghost use Rattle.network_text.specs.Fractions.{fraction};
 ghost use Rattle.network_text.specs.Given.{branch_at, entry_in, exchanger_at, source_at};
-ghost use Rattle.network_text.specs.Checks.{checks, end_checks, exchanger_checks, exchanger_field_checks, first_failing, mix_checks, pass_checks, split_checks};
+ghost use Rattle.network_text.specs.Checks.{checks, end_checks, exchanger_checks, exchanger_field_checks, first_failing, mix_checks, most_statements, pass_checks, split_checks};
 ghost use Rattle.network_text.specs.Answers.{Checked, HasSources, IsFresh};
 
 use crate::branch_fields::{check_mixed, new_branch, new_exchanger, passed_exchanger, used_branch};
@@ -132,6 +132,7 @@ fn end_entry(found: &Found, s: &Statement<'_>) -> Result<Entry, NetWhy>
 #[tactic(auto, unfolding(crate::specs::Checks::checks, crate::specs::Checks::kind_checks, crate::specs::Given::entry_in))]
 pub fn entry_of(case: &Case, found: &Found, s: &Statement<'_>) -> Result<Entry, NetWhy>
     requires { HasSources case.now }
+    ensures room { OnOk result (length found.now.lines < most_statements) }
     ensures fresh { IfOk result (IsFresh found.now) }
     ensures checked { Checked (first_failing (checks case.now found.now s.now)) (λ e. entry_in case.now found.now s.now ≡ Some e) result }
 {
