@@ -10,3 +10,4 @@ pub mod OwnBranches
 pub mod Missing
 pub mod FirstFailing
 pub mod Steps
+pub mod Unique
