@@ -11,3 +11,4 @@ pub mod Missing
 pub mod FirstFailing
 pub mod Steps
 pub mod Unique
+pub mod Places
