@@ -30,7 +30,8 @@ use Rattle.case_text.specs.declared.found.Entry.TheVariants as entry
 use Rattle.case_text.specs.declared.found.StreamData.{StreamData}
 use Rattle.case_text.specs.declared.found.UtilityData.{UtilityData}
 use Rattle.case_text.proofs.Counts.{count_on}
-use Rattle.case_text.proofs.Distinct.{AllPairs-across, AllPairs-back, AllPairs-before, AllPairs-front, not_found, not_taken, place_of}
+use Rattle.stream_case.proofs.DistinctLemmas.{AllPairs-across, AllPairs-back, AllPairs-before, AllPairs-front, place_of_name}
+use Rattle.case_text.proofs.Distinct.{not_found, not_taken}
 use Rattle.case_text.proofs.Entries.{none_there}
 use Rattle.stream_case.proofs.NameTests.{not_true}
 use Rattle.case_text.proofs.Passes.{both}
@@ -160,7 +161,7 @@ key_at {V = V} entry_of xs i x at =
 
 named_stream : (k : Case) → IsValid k → (i : ℕ) (x : Stream) → slice_get k.streams i ≡ Some x → source_named (sources_of k) x.name ≡ Some (source.Stream i)
 unfolding source_named
-named_stream k valid i x at = rw (place_of (keys_of (map stream_entry k.streams)) i x.name (stream_keys k valid) (key_at stream_entry k.streams i x at)) refl
+named_stream k valid i x at = rw (place_of_name (keys_of (map stream_entry k.streams)) i x.name (stream_keys k valid) (key_at stream_entry k.streams i x at)) refl
 
 named_utility : (k : Case) → IsValid k → (i : ℕ) (x : Utility) → slice_get k.utilities i ≡ Some x → source_named (sources_of k) x.name ≡ Some (source.Utility i)
 unfolding source_named
@@ -169,7 +170,7 @@ named_utility k valid i x at =
     let same = get_or_from_slice_get k.utilities i x no_utility at in
     let apart = subst (λ (u : Utility). All (λ other. other ≢ u.name) (keys_of es)) same (streams_apart k valid i (slice_get_within k.utilities i x at)) in
     let nowhere = none_there (position (bytes_eq x.name) (keys_of es)) (some_index (bytes_eq x.name) es ∙ not_found es x.name apart) in
-    rw (nowhere, place_of (keys_of (map utility_entry k.utilities)) i x.name (utility_keys k valid) (key_at utility_entry k.utilities i x at)) refl
+    rw (nowhere, place_of_name (keys_of (map utility_entry k.utilities)) i x.name (utility_keys k valid) (key_at utility_entry k.utilities i x at)) refl
 
 pub found : (k : Case) → IsValid k → (of : Side) (s : Source) → side_of k s ≡ Some of → IsFound k (sources_of k) of s
 found k valid of (source.Stream i) on = by (slice_get k.streams i) refl

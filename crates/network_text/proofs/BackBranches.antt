@@ -25,8 +25,7 @@ use Rattle.network_text.proofs.BackFront.{StandsAt, branch_is, front, made_at, m
 pub record IsReadable (case : Case) (network : Network) : Type 0 where
   pub valid : StaysValid case
   pub shape : HasShape case network
-  pub few_lines : length network.lines ≤ most_statements
-  pub few_exchangers : length (exchangers_of network.lines) ≤ most_exchangers
+  pub counts : KeepsCounts network
 
 -- a line of the network
 pub record IsLine (case : Case) (network : Network) (place : ℕ) (l : Line) : Type 0 where
@@ -38,7 +37,7 @@ pub is_line : (case : Case) (network : Network) (place : ℕ) (l : Line) → IsR
 is_line case network place l readable here = record { readable = readable; here = here; at = stands_at network.lines place l here }
 
 pub room : (case : Case) (network : Network) (place : ℕ) (l : Line) → IsLine case network place l → HasRoom (front case network place)
-room case network place l is = omega (arith, length-take-le place network.lines (omega (arith, is.at.within)), is.at.within, is.readable.few_lines)
+room case network place l is = omega (arith, length-take-le place network.lines (omega (arith, is.at.within)), is.at.within, is.readable.counts.lines)
 
 -- ---- branches
 

@@ -10,17 +10,13 @@ use Rattle.network_text.specs.Statements.{Statement}
 use Rattle.network_text.specs.Given.{entry_by, entry_in, kind_of, next, start, with_any, with_entry}
 use Rattle.network_text.specs.Checks.{checks, exchanger_checks, kind_checks, most_exchangers, most_statements}
 use Rattle.network_text.specs.Outcome.{IsNetwork}
+use Rattle.network_text.specs.Shape.{KeepsCounts}
 use Rattle.network_text.specs.declared.kind.Kind.{Kind}
 use Rattle.network_text.specs.declared.kind.Kind.TheVariants as kind
 use Rattle.network_text.specs.declared.network.Line.{Line}
 use Rattle.network_text.specs.declared.network.Network.{Network}
 use Rattle.network_text.proofs.PrintSteps.{Passes}
 use Rattle.network_text.proofs.ShapeFronts.{network-has}
-
--- no more statements and exchangers than a text may have
-pub record IsFew (given : Network) : Type 0 where
-  pub lines : length given.lines ≤ most_statements
-  pub exchangers : length (exchangers_of given.lines) ≤ most_exchangers
 
 few_lines : (ls : List Line) (l : Line) → nat_lt (length ls) most_statements ≡ true → length (ls ++ l ∷ []) ≤ most_statements
 few_lines ls l test =
@@ -41,7 +37,7 @@ one_more ls l test one =
     let all = ap length (filter_map-append exchanger_of ls (l ∷ [])) ∙ length-append (filter_map exchanger_of ls) (filter_map exchanger_of (l ∷ [])) in
     omega (arith, all, room, one)
 
-few_by : (case : Case) (given : Network) (s : Statement) (k : Option Kind) → IsFew given → nat_lt (length given.lines) most_statements ≡ true → Passes (kind_checks k case given s) → IsFew (with_any given (entry_by k case given s))
+few_by : (case : Case) (given : Network) (s : Statement) (k : Option Kind) → KeepsCounts given → nat_lt (length given.lines) most_statements ≡ true → Passes (kind_checks k case given s) → KeepsCounts (with_any given (entry_by k case given s))
 unfolding kind_checks exchanger_checks with_entry exchangers_of
 few_by case given s None few room passes = few
 few_by case given s (Some kind.Exchanger) few room passes = record { lines = few_lines given.lines _ room; exchangers = one_more given.lines _ passes.1.0 (omega arith) }
@@ -50,13 +46,13 @@ few_by case given s (Some kind.Pass) few room passes = record { lines = few_line
 few_by case given s (Some kind.Mix) few room passes = record { lines = few_lines given.lines _ room; exchangers = none_more given.lines _ refl few.exchangers }
 few_by case given s (Some kind.End) few room passes = record { lines = few_lines given.lines _ room; exchangers = none_more given.lines _ refl few.exchangers }
 
-few_next : (case : Case) (given : Network) (s : Statement) → IsFew given → Passes (checks case given s) → IsFew (next case given s)
+few_next : (case : Case) (given : Network) (s : Statement) → KeepsCounts given → Passes (checks case given s) → KeepsCounts (next case given s)
 unfolding entry_in checks
 few_next case given s few passes = few_by case given s (kind_of s) few passes.0 passes.1.1
 
-few_first : (case : Case) → IsFew (start case)
+few_first : (case : Case) → KeepsCounts (start case)
 unfolding start exchangers_of
 few_first case = record { lines = omega arith; exchangers = omega arith }
 
-pub network-few : (case : Case) (statements : List Statement) (network : Network) → IsNetwork case statements network → IsFew network
-network-few case statements network is = network-has IsFew case statements network (few_first case) (few_next case) is
+pub network-keeps_counts : (case : Case) (statements : List Statement) (network : Network) → IsNetwork case statements network → KeepsCounts network
+network-keeps_counts case statements network is = network-has KeepsCounts case statements network (few_first case) (few_next case) is

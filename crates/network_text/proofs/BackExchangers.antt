@@ -82,7 +82,7 @@ declared case network place name hot cold duty is =
     let none = none_in_front (exchanger_names network) q q distinct (omega arith) (omega (arith, within, many_exchangers network)) in
     record {
       sound = own_exchanger case network is.readable.shape place name hot cold duty is.here;
-      few = omega (arith, within, is.readable.few_exchangers);
+      few = omega (arith, within, is.readable.counts.exchangers);
       free = (λ i. position (bytes_eq (back i)) (declared_names case network place l is i)) ∙ none;
     }
 

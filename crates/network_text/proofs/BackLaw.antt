@@ -16,9 +16,9 @@ use Rattle.stream_case.proofs.CompleteLemmas.{StaysValid, StaysValid-IsComplete}
 use Rattle.network_text.specs.Lines.{Exchanger, exchangers_of, passages_of}
 use Rattle.network_text.specs.Statements.{Statement, statements_of}
 use Rattle.network_text.specs.Given.{given_by, next, start}
-use Rattle.network_text.specs.Checks.{checks, first_failing, first_missing, is_missed, is_passed, misses_pass, most_exchangers, most_statements, same_passage}
+use Rattle.network_text.specs.Checks.{checks, first_failing, first_missing, is_missed, is_passed, misses_pass, same_passage}
 use Rattle.network_text.specs.Outcome.{IsNetwork, IsOutcome, SoundBefore}
-use Rattle.network_text.specs.Shape.{HasShape, Joins}
+use Rattle.network_text.specs.Shape.{HasShape, Joins, KeepsCounts}
 use Rattle.network_text.specs.Printed.{printed_statements, statement_of, text_of}
 use Rattle.network_text.specs.declared.fault.NetFault.{NetFault}
 use Rattle.network_text.specs.declared.fault.NetFault.TheVariants as fault
@@ -31,7 +31,8 @@ use Rattle.network_text.proofs.BackFront.{exchanger_at, front, front-first, fron
 use Rattle.network_text.proofs.BackBranches.{IsReadable, is_line}
 use Rattle.network_text.proofs.BackSteps.{line_follows}
 use Rattle.network_text.proofs.BackNames.{statement_plain}
-use Rattle.network_text.proofs.ShapeLaw.{network-has_shape, network-keeps_counts}
+use Rattle.network_text.proofs.ShapeLaw.{network-has_shape}
+use Rattle.network_text.proofs.BackCounts.{network-keeps_counts}
 use Rattle.network_text.proofs.ShapeUnique.{no_network, same_network}
 
 abbrev no_line : Line
@@ -136,9 +137,9 @@ pub text-statements : (case : Case) (network : Network) → IsComplete case → 
 text-statements case network complete shape = statements-back (printed_statements case network) (statements_plain case network (StaysValid-IsComplete case complete) shape)
 
 -- a network of a shape is what the grammar gives for its text, where the text is not too long
-pub shape-is_network : (case : Case) (network : Network) → IsComplete case → HasShape case network → length network.lines ≤ most_statements → length (exchangers_of network.lines) ≤ most_exchangers → IsNetwork case (statements_of (text_of case network)) network
-shape-is_network case network complete shape few_lines few_exchangers =
-    let readable : IsReadable case network = record { valid = StaysValid-IsComplete case complete; shape = shape; few_lines = few_lines; few_exchangers = few_exchangers } in
+pub shape-is_network : (case : Case) (network : Network) → IsComplete case → HasShape case network → KeepsCounts network → IsNetwork case (statements_of (text_of case network)) network
+shape-is_network case network complete shape counts =
+    let readable : IsReadable case network = record { valid = StaysValid-IsComplete case complete; shape = shape; counts = counts } in
     let all = given_all case network readable in
     let is : IsNetwork case (printed_statements case network) network = record {
       sound = no_fault case network readable;
@@ -157,8 +158,7 @@ one_network case statements network (Err fault.OutOfMemory) is outcome = inr ref
 
 pub printed-again : (case : Case) (statements : List Statement) (network : Network) → IsComplete case → IsNetwork case statements network → IsNetwork case (statements_of (text_of case network)) network
 printed-again case statements network complete is =
-    let counts = network-keeps_counts case statements network is in
-    shape-is_network case network complete (network-has_shape case statements network complete is) counts.0 counts.1
+    shape-is_network case network complete (network-has_shape case statements network complete is) (network-keeps_counts case statements network is)
 
 pub printed-once : (case : Case) (statements : List Statement) (network : Network) (outcome : Result Network NetFault) → IsComplete case → IsNetwork case statements network → IsOutcome case (statements_of (text_of case network)) outcome
     → (outcome ≡ Ok network) ⊎ (outcome ≡ Err fault.OutOfMemory)

@@ -1,5 +1,5 @@
 -- Fractions within the limits.
-use Rattle.std.proofs.Common.{◌≡◌, ◌<◌, ◌≤◌, ◌^◌, ℕ, zero, suc, ℤ, Bool, true, false, ◌&&◌, Option, Some, None, IfSome, IsSome, refl, arith, if◌then◌else◌}
+use Rattle.std.proofs.Common.{◌≡◌, ◌<◌, ◌≤◌, ◌^◌, ℕ, zero, suc, ℤ, Bool, true, false, Option, Some, None, refl, arith, if◌then◌else◌}
 use Rattle.std.specs.Prelude.{nat_le, unsigned_abs}
 use Rattle.std.proofs.lemmas.Bool.Decides.{nat_tests}
 use Rattle.fractions.specs.Rationals.{Gives, IsWithinLimits, Rational, is_within_limits, ratio}

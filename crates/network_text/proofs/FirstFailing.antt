@@ -4,7 +4,6 @@ use Rattle.std.specs.List.{find}
 use Rattle.std.specs.Option.{option_or}
 use Rattle.std.proofs.lemmas.List.Folds.{find-append}
 use Rattle.network_text.specs.Checks.{Check, first_failing}
-use Rattle.network_text.specs.declared.fault.NetWhy.{NetWhy}
 
 map_or : (a b : Option Check) → option_map (λ (c : Check). c.1) (option_or a b) ≡ option_or (option_map (λ (c : Check). c.1) a) (option_map (λ (c : Check). c.1) b)
 map_or None b = refl

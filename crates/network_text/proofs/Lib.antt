@@ -13,7 +13,6 @@ mod PrintSteps
 mod PrintText
 mod Worked
 pub mod NameTests
-pub mod DigitTexts
 pub mod Positions
 pub mod Bounds
 pub mod LineCuts
@@ -31,3 +30,4 @@ mod ShapeLists
 mod ShapePasses
 mod ShapeSteps
 mod ShapeUnique
+pub mod Steps

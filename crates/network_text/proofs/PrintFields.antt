@@ -13,9 +13,10 @@ use Rattle.std.proofs.lemmas.Str.Parse.{digit_at}
 use Rattle.stream_case.specs.Name.{IsAnyName, IsName, is_name_byte}
 use Rattle.fractions.specs.LowestForms.{ratio-self}
 use Rattle.fractions.specs.Rationals.{IsWithinLimits, Rational, fraction_text, ratio}
-use Rattle.network_text.specs.Fractions.{bounded_ratio, denominator_in, fraction_in, is_slash, natural_in, negative, numerator_in}
+use Rattle.stream_case.specs.Digits.{natural_in}
+use Rattle.stream_case.proofs.DigitLemmas.{natural_read}
+use Rattle.network_text.specs.Fractions.{bounded_ratio, denominator_in, fraction_in, is_slash, negative, numerator_in}
 use Rattle.network_text.proofs.Bounds.{test_from_within}
-use Rattle.network_text.proofs.DigitTexts.{all_read}
 use Rattle.network_text.proofs.PrintText.{IsPlainField, IsVisible}
 
 -- ---- names
@@ -75,19 +76,14 @@ signed_some : (z : ℤ) → IsShort z → 0 < length (signed_decimal z)
 signed_some (pos n) short = decimal_some n (omega (arith, short))
 signed_some (negsuc n) short = omega arith
 
-natural_read : (n : ℕ) → n < 10 ^ 24 → natural_in (decimal n) ≡ Some n
-natural_read n small =
-    let numeral = decimal_is_IsNumeral_wide n (omega (arith, small)) in
-    all_read (decimal n) numeral.0.0 (length-decimal-le_wide 24 n (omega arith) small (omega (arith, small))) numeral.0.1 ∙ ap Some numeral.1
-
 numerator_read : (z : ℤ) → IsShort z → numerator_in (signed_decimal z) ≡ Some z
 unfolding numerator_in
 numerator_read (pos n) short =
     let least : n < 10 ^ 24 = omega (arith, short) in
     let digit = decimal_digits n least 0 0 (decimal_some n least) in
     let plain : (get_or (decimal n) 0 0 == 45) ≡ false = grind (arith, nat_tests, digit) in
-    rw plain (ap (option_map pos) (natural_read n least))
-numerator_read (negsuc n) short = ap (option_map negative) (natural_read (suc n) (omega (arith, short)))
+    rw plain (ap (option_map pos) (natural_read 24 n (omega arith) least (omega (arith, least))))
+numerator_read (negsuc n) short = ap (option_map negative) (natural_read 24 (suc n) (omega arith) (omega (arith, short)) (omega (arith, short)))
 
 -- ---- fractions
 
@@ -125,7 +121,7 @@ denominator_read : (front : List ℕ) (d : ℕ) → All (λ b. is_slash b ≡ fa
 unfolding denominator_in
 denominator_read front d none small =
     let some : list_any is_slash (front ++ 47 ∷ decimal d) ≡ true = list_any-append is_slash front (47 ∷ decimal d) ∙ or_true (list_any is_slash front) in
-    rw some (ap natural_in (after_slash front (decimal d) none) ∙ natural_read d small)
+    rw some (ap (natural_in 24) (after_slash front (decimal d) none) ∙ natural_read 24 d (omega arith) small (omega (arith, small)))
   where
     or_true : (b : Bool) → (b || true) ≡ true
     or_true true = refl

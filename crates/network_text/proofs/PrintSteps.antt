@@ -26,7 +26,7 @@ use Rattle.network_text.specs.declared.kind.Kind.{Kind}
 use Rattle.network_text.specs.declared.kind.Kind.TheVariants as kind
 use Rattle.network_text.specs.declared.network.Network.{Network}
 use Rattle.network_text.proofs.PrintFields.{fraction-back}
-use Rattle.network_text.proofs.NameTests.{name-passes}
+use Rattle.stream_case.proofs.NameTests.{name-passes}
 use Rattle.network_text.proofs.PrintNames.{IsFound}
 
 -- each check holds

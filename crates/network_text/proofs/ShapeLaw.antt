@@ -11,12 +11,12 @@ use Rattle.stream_case.specs.declared.source.Source.TheVariants as source
 use Rattle.stream_case.proofs.CompleteLemmas.{StaysValid-IsComplete}
 use Rattle.network_text.specs.Lines.{Exchanger, exchanger_of, exchangers_of, passages_of}
 use Rattle.network_text.specs.Statements.{Statement}
-use Rattle.network_text.specs.Checks.{first_missing, is_missed, is_passed, misses_pass, misses_side, most_exchangers, most_statements, same_passage}
+use Rattle.network_text.specs.Checks.{first_missing, is_missed, is_passed, misses_pass, misses_side, same_passage}
 use Rattle.network_text.specs.Outcome.{IsNetwork}
 use Rattle.network_text.specs.Shape.{ArePassedOnce, HasShape, Joins, passes}
 use Rattle.network_text.specs.declared.network.Line.{Line}
 use Rattle.network_text.specs.declared.network.Network.{Network}
-use Rattle.network_text.proofs.BackCounts.{network-few}
+use Rattle.network_text.proofs.BackCounts.{network-keeps_counts}
 use Rattle.network_text.proofs.Missing.{missing-at}
 use Rattle.network_text.proofs.ShapeLists.{StandsBefore, counted, none_found, stands_before}
 use Rattle.network_text.proofs.ShapeSteps.{shape_so_far}
@@ -55,12 +55,12 @@ passed_once network few none number stream e at joins =
     let some : Joins e stream → 0 < passes network number stream = λ j. elim j [ inl hot ↦ passed network number stream e.hot hot sides.0 | inr cold ↦ passed network number stream e.cold cold sides.1 ] in
     omega (arith, some joins, few number stream)
 
--- ---- the shape and the counts
+-- ---- the shape
 
 pub network-has_shape : (case : Case) (statements : List Statement) (network : Network) → IsComplete case → IsNetwork case statements network → HasShape case network
 network-has_shape case statements network complete is =
     let shape = shape_so_far case statements network (StaysValid-IsComplete case complete) is in
-    let few = network-few case statements network is in record {
+    let few = network-keeps_counts case statements network is in record {
       few = omega (arith, few.lines);
       made_once = shape.branches.made_once;
       made_first = shape.branches.made_first;
@@ -73,6 +73,3 @@ network-has_shape case statements network complete is =
       declared_first = shape.passes.declared_first;
       passed_once = passed_once network shape.passes.at_most_once (ap first_missing is.given ∙ is.complete);
     }
-
-pub network-keeps_counts : (case : Case) (statements : List Statement) (network : Network) → IsNetwork case statements network → (length network.lines ≤ most_statements) × (length (exchangers_of network.lines) ≤ most_exchangers)
-network-keeps_counts case statements network is = let few = network-few case statements network is in (few.lines, few.exchangers)

@@ -27,7 +27,8 @@ use Rattle.network_text.specs.declared.network.Branch.{Branch}
 use Rattle.network_text.specs.declared.network.Line.{Line}
 use Rattle.network_text.specs.declared.network.Line.TheVariants as line
 use Rattle.network_text.specs.declared.network.Network.{Network}
-use Rattle.network_text.proofs.NameTests.{passed-branch_name, passed-name}
+use Rattle.stream_case.proofs.NameTests.{passed-name}
+use Rattle.network_text.proofs.NameTests.{passed-branch_name}
 use Rattle.network_text.proofs.BackFront.{branch_is}
 use Rattle.network_text.proofs.LineLaws.{stream_at-front}
 use Rattle.network_text.proofs.PrintSteps.{Passes}

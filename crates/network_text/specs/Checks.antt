@@ -9,7 +9,8 @@ use Rattle.stream_case.specs.declared.source.Source.{Source}
 use Rattle.stream_case.specs.declared.source.Source.TheVariants as source
 use Rattle.stream_case.specs.Case.{side_of}
 use Rattle.stream_case.specs.Stream.{same_side}
-use Rattle.network_text.specs.Names.{is_branch_name, is_name}
+use Rattle.stream_case.specs.Name.{is_name}
+use Rattle.network_text.specs.Names.{is_branch_name}
 use Rattle.network_text.specs.Fractions.{fraction, fraction_in, is_positive}
 use Rattle.network_text.specs.Lines.{Exchanger, exchanger_of, exchangers_of, passages_of, stream_at, used_by}
 use Rattle.network_text.specs.Statements.{Statement, field}
@@ -133,11 +134,14 @@ mixed_checks given first second =
 
 -- ---- the checks of each kind of statement: the number of fields, and then the fields from left to right
 
+unfoldable pub exchanger_field_checks : Case → Network → Statement → List Check
+exchanger_field_checks case given s = in_turn (new_exchanger_checks given (field s 1) ∷ source_checks case (field s 2) (field s 3) ∷ fraction_checks (field s 4) ∷ [])
+
 unfoldable pub exchanger_checks : Case → Network → Statement → List Check
 exchanger_checks case given s =
     (length s == 5, why.FieldCount)
     ∷ (nat_lt (length (exchangers_of given.lines)) most_exchangers, why.TooMany)
-    ∷ in_turn (new_exchanger_checks given (field s 1) ∷ source_checks case (field s 2) (field s 3) ∷ fraction_checks (field s 4) ∷ [])
+    ∷ exchanger_field_checks case given s
 
 -- for the second new branch, the first counts as made
 unfoldable pub split_checks : Network → Statement → List Check

@@ -1,25 +1,16 @@
 -- Fraction texts: an optional `-`, 1 to 24 digits, and optionally `/` and 1 to 24 digits.
 use Rattle.std.specs.Prelude.{ℕ, zero, suc, ℤ, pos, int_lt, Bool, List, length, drop, Option, Some, None, option_map, unwrap_or, nat_le, ◌&&◌, ◌==◌, if◌then◌else◌, slice_index}
 use Rattle.std.specs.List.{after_first, before_first, list_any}
-use Rattle.std.specs.Str.{all_ascii_digits}
-use Rattle.std.specs.Str.Parse.{digits_value}
 use Rattle.std.proofs.Common.{neg_ℤ}
+use Rattle.stream_case.specs.Digits.{natural_in}
 use Rattle.fractions.specs.Rationals.{Rational, is_within_limits, ratio, rational_zero}
-
--- 1 to 24 digits; zeros may lead
-abbrev pub is_digits : List ℕ → Bool
-is_digits text = nat_le 1 (length text) && nat_le (length text) 24 && all_ascii_digits text
-
--- the number that 1 to 24 digits spell
-unfoldable pub natural_in : List ℕ → Option ℕ
-natural_in text = if is_digits text then Some (digits_value 10 text) else None
 
 abbrev pub negative : ℕ → ℤ
 negative n = neg_ℤ (pos n)
 
 -- the whole number of an optional `-` (45) and digits
 unfoldable pub numerator_in : List ℕ → Option ℤ
-numerator_in text = if slice_index text 0 == 45 then option_map negative (natural_in (drop 1 text)) else option_map pos (natural_in text)
+numerator_in text = if slice_index text 0 == 45 then option_map negative (natural_in 24 (drop 1 text)) else option_map pos (natural_in 24 text)
 
 -- `/`
 abbrev pub is_slash : ℕ → Bool
@@ -27,7 +18,7 @@ is_slash b = b == 47
 
 -- the denominator, behind the first `/`; it is 1 where there is none
 unfoldable pub denominator_in : List ℕ → Option ℕ
-denominator_in text = if list_any is_slash text then natural_in (after_first is_slash text) else Some 1
+denominator_in text = if list_any is_slash text then natural_in 24 (after_first is_slash text) else Some 1
 
 -- the fraction n/d: d is not 0, and the lowest form is within the limits
 unfoldable pub bounded_ratio : ℤ → ℕ → Option Rational

@@ -1,13 +1,6 @@
 -- Tests of names.
-use Rattle.std.specs.Prelude.{ℕ, Bool, false, ◌==◌, ◌&&◌, ◌||◌, List, [], ◌∷◌, length, nat_le}
-use Rattle.std.specs.Char.{is_ascii_alphanumeric}
-use Rattle.std.specs.List.{list_all}
-use Rattle.stream_case.specs.Name.{is_name_byte}
-
--- 1 to 16 letters, digits, `_` and `-`, the first a letter or a digit
-unfoldable pub is_name : List ℕ → Bool
-is_name [] = false
-is_name (b ∷ bs) = is_ascii_alphanumeric b && list_all is_name_byte bs && nat_le (length bs) 15
+use Rattle.std.specs.Prelude.{ℕ, Bool, false, ◌==◌, ◌&&◌, ◌||◌, List, [], ◌∷◌}
+use Rattle.stream_case.specs.Name.{is_name}
 
 -- a name behind a `.` (46)
 unfoldable pub is_dotted_name : List ℕ → Bool

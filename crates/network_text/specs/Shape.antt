@@ -9,7 +9,7 @@ use Rattle.stream_case.specs.declared.source.Source.TheVariants as source
 use Rattle.fractions.specs.Rationals.{IsWithinLimits, Rational}
 use Rattle.network_text.specs.Lines.{Exchanger, exchangers_of, made_by, names_of, passages_of, stream_at, used_by, uses}
 use Rattle.network_text.specs.Given.{own_branches}
-use Rattle.network_text.specs.Checks.{same_passage}
+use Rattle.network_text.specs.Checks.{most_exchangers, most_statements, same_passage}
 use Rattle.network_text.specs.declared.network.Branch.{Branch}
 use Rattle.network_text.specs.declared.network.Line.{Line}
 use Rattle.network_text.specs.declared.network.Line.TheVariants as line
@@ -115,3 +115,8 @@ pub record HasShape (case : Case) (network : Network) : Type 0 where
   pub exchangers : AreExchangers case network
   pub declared_first : ArePassedWhenDeclared network
   pub passed_once : ArePassedOnce network
+
+-- the two counts of a text, which are no part of the shape
+pub record KeepsCounts (network : Network) : Type 0 where
+  pub lines : length network.lines ≤ most_statements
+  pub exchangers : length (exchangers_of network.lines) ≤ most_exchangers

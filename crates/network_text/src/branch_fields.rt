@@ -1,7 +1,8 @@
 //! The fields that name branches and exchangers.
 
 ghost use Rattle.std.specs.Prelude.{◌≡◌, ◌==◌, ◌<◌, true, false, length, is_some, IfOk, IfSome};
-ghost use Rattle.network_text.specs.Names.{is_branch_name, is_name};
+ghost use Rattle.stream_case.specs.Name.{is_name};
+ghost use Rattle.network_text.specs.Names.{is_branch_name};
 ghost use Rattle.network_text.specs.Lines.{stream_at};
 ghost use Rattle.network_text.specs.Given.{branch_at, branch_named, exchanger_at, exchanger_named};
 ghost use Rattle.network_text.specs.Checks.{first_failing, is_passed, mixed_checks, new_branch_checks, new_exchanger_checks, passed_checks, used_branch_checks};

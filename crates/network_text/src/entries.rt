@@ -1,10 +1,10 @@
 //! What the statements of each kind give.
 
-ghost use Rattle.std.specs.Prelude.{◌≡◌, Some, IfOk};
+ghost use Rattle.std.specs.Prelude.{◌≡◌, ◌<◌, Some, length, IfOk, OnOk};
 ghost use Rattle.network_text.specs.Statements.{field};
 ghost use Rattle.network_text.specs.Fractions.{fraction};
 ghost use Rattle.network_text.specs.Given.{branch_at, entry_in, exchanger_at, source_at};
-ghost use Rattle.network_text.specs.Checks.{checks, end_checks, exchanger_checks, first_failing, mix_checks, pass_checks, split_checks};
+ghost use Rattle.network_text.specs.Checks.{checks, end_checks, exchanger_checks, exchanger_field_checks, first_failing, mix_checks, most_statements, pass_checks, split_checks};
 ghost use Rattle.network_text.specs.Answers.{Checked, HasSources, IsFresh};
 
 use crate::branch_fields::{check_mixed, new_branch, new_exchanger, passed_exchanger, used_branch};
@@ -22,8 +22,26 @@ const MOST_STATEMENTS: usize = 100_000;
 /// The most exchangers of a text.
 const MOST_EXCHANGERS: usize = 20_000;
 
+/// What the fields of the statement of an exchanger give.
+#[tactic(auto, using(crate::proofs::FirstFailing::then_others), unfolding(crate::specs::Checks::exchanger_field_checks))]
+fn exchanger_fields(case: &Case, found: &Found, s: &Statement<'_>) -> Result<Entry, NetWhy>
+    requires { HasSources case.now }
+    ensures fresh { IfOk result (IsFresh found.now) }
+    ensures checked { Checked (first_failing (exchanger_field_checks case.now found.now s.now)) (λ e. e ≡ Entry.Exchanger (field s.now 1) (source_at case.now (field s.now 2)) (source_at case.now (field s.now 3)) (fraction (field s.now 4))) result }
+{
+    let name = new_exchanger(found, s.field(1))?;
+    let sides = hot_and_cold(case, s.field(2), s.field(3))?;
+    let duty = positive_fraction(s.field(4))?;
+    Ok(Entry::Exchanger {
+        name,
+        hot: sides.hot,
+        cold: sides.cold,
+        duty,
+    })
+}
+
 /// What the statement of an exchanger gives.
-#[tactic(auto, using(crate::proofs::FirstFailing::then_others), unfolding(crate::specs::Checks::exchanger_checks))]
+#[tactic(auto, unfolding(crate::specs::Checks::exchanger_checks))]
 fn exchanger_entry(case: &Case, found: &Found, s: &Statement<'_>) -> Result<Entry, NetWhy>
     requires { HasSources case.now }
     ensures fresh { IfOk result (IsFresh found.now) }
@@ -35,15 +53,7 @@ fn exchanger_entry(case: &Case, found: &Found, s: &Statement<'_>) -> Result<Entr
     if found.count_exchangers() >= MOST_EXCHANGERS {
         return Err(NetWhy::TooMany);
     }
-    let name = new_exchanger(found, s.field(1))?;
-    let (hot, cold) = hot_and_cold(case, s.field(2), s.field(3))?;
-    let duty = positive_fraction(s.field(4))?;
-    Ok(Entry::Exchanger {
-        name,
-        hot,
-        cold,
-        duty,
-    })
+    exchanger_fields(case, found, s)
 }
 
 /// What the statement of a split gives.
@@ -122,6 +132,7 @@ fn end_entry(found: &Found, s: &Statement<'_>) -> Result<Entry, NetWhy>
 #[tactic(auto, unfolding(crate::specs::Checks::checks, crate::specs::Checks::kind_checks, crate::specs::Given::entry_in))]
 pub fn entry_of(case: &Case, found: &Found, s: &Statement<'_>) -> Result<Entry, NetWhy>
     requires { HasSources case.now }
+    ensures room { OnOk result (length found.now.lines < most_statements) }
     ensures fresh { IfOk result (IsFresh found.now) }
     ensures checked { Checked (first_failing (checks case.now found.now s.now)) (λ e. entry_in case.now found.now s.now ≡ Some e) result }
 {

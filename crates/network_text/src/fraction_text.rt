@@ -1,34 +1,17 @@
 //! Fraction texts.
 
-ghost use Rattle.std.specs.Prelude.{◌≡◌, ◌<◌, ◌^◌, position, IfSome};
+ghost use Rattle.std.specs.Prelude.{◌≡◌, position};
 ghost use Rattle.std.specs.List.{before_first};
-ghost use Rattle.network_text.specs.Fractions.{bounded_ratio, denominator_in, fraction, fraction_in, is_positive, is_slash, natural_in, numerator_in};
+ghost use Rattle.network_text.specs.Fractions.{bounded_ratio, denominator_in, fraction, fraction_in, is_positive, is_slash, numerator_in};
 ghost use Rattle.network_text.specs.Checks.{first_failing, fraction_checks};
 ghost use Rattle.network_text.specs.Answers.{Checked};
 
 use crate::fault::NetWhy;
 use fractions::Frac;
+use stream_case::natural_of;
 
 /// The most digits of a number in a fraction text.
 const MOST_DIGITS: usize = 24;
-
-/// The number of 1 to 24 digits.
-fn natural_of(text: &[u8]) -> Option<u128>
-    ensures number { result ≡ natural_in text.now }
-    ensures small { IfSome result (λ n. n < 10 ^ 24) }
-{
-    if text.is_empty() || text.len() > MOST_DIGITS {
-        return None;
-    }
-    let mut number = 0;
-    for digit in text {
-        if !digit.is_ascii_digit() {
-            return None;
-        }
-        number = number * 10 + u128::from(*digit - b'0');
-    }
-    Some(number)
-}
 
 /// The whole number of an optional `-` and 1 to 24 digits.
 #[tactic(auto, unfolding(crate::specs::Fractions::numerator_in))]
@@ -36,9 +19,9 @@ fn numerator_of(text: &[u8]) -> Option<i128>
     ensures { result ≡ numerator_in text.now }
 {
     if !text.is_empty() && text[0] == b'-' {
-        natural_of(&text[1..]).map(|n| -(n as i128))
+        natural_of(&text[1..], MOST_DIGITS).map(|n| -(n as i128))
     } else {
-        natural_of(text).map(|n| n as i128)
+        natural_of(text, MOST_DIGITS).map(|n| n as i128)
     }
 }
 
@@ -66,7 +49,7 @@ fn denominator_of(text: &[u8]) -> Option<u128>
     let Some(slash) = slash_in(text) else {
         return Some(1);
     };
-    natural_of(&text[slash + 1..])
+    natural_of(&text[slash + 1..], MOST_DIGITS)
 }
 
 /// The fraction that a text spells, if it is a fraction text of a fraction: an optional `-`, 1 to

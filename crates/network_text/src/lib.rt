@@ -21,9 +21,9 @@ mod sources;
 mod statement;
 
 pub use fault::{NetFault, NetWhy};
-pub use laws::statements_have_one_outcome;
+pub use laws::{networks_are_printed_and_read_again, statements_have_one_outcome};
 pub use network::{Branch, Line, Network};
-pub use printer::{networks_are_printed_and_read_again, print_network};
+pub use printer::print_network;
 pub use reader::read_network;
 
 #[cfg(test)]

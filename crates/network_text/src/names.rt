@@ -1,7 +1,8 @@
 //! The names of branches and exchangers.
 
 ghost use Rattle.std.specs.Prelude.{◌≡◌, true, IfSome, is_some};
-ghost use Rattle.network_text.specs.Names.{is_branch_name, is_name};
+ghost use Rattle.stream_case.specs.Name.{is_name};
+ghost use Rattle.network_text.specs.Names.{is_branch_name};
 
 use stream_case::Name;
 
@@ -19,11 +20,5 @@ pub fn exchanger_name(field: &[u8]) -> Option<Name>
     ensures value { IfSome result (λ name. name ≡ field.now) }
     ensures name { IfSome result (λ name. is_branch_name name ≡ true) }
 {
-    let Some(name) = Name::new(field) else {
-        return None;
-    };
-    if name.is_dotted() {
-        return None;
-    }
-    Some(name)
+    Name::undotted(field)
 }

@@ -6,9 +6,8 @@ ghost use Rattle.stream_case.specs.declared.case.Case.{Case};
 ghost use Rattle.fractions.specs.Rationals.{fraction_text};
 ghost use Rattle.network_text.specs.Lines.{exchangers_of};
 ghost use Rattle.network_text.specs.Statements.{Statement, statements_of};
-ghost use Rattle.network_text.specs.Checks.{most_exchangers, most_statements};
-ghost use Rattle.network_text.specs.Outcome.{IsNetwork, IsOutcome};
-ghost use Rattle.network_text.specs.Shape.{HasShape};
+ghost use Rattle.network_text.specs.Outcome.{IsNetwork};
+ghost use Rattle.network_text.specs.Shape.{HasShape, KeepsCounts};
 ghost use Rattle.network_text.specs.Printed.{NamesKnown, branch_name, exchanger_name, exchanger_names, source_name, statement_of, statement_text, text_of};
 
 use crate::fault::NetFault;
@@ -181,7 +180,7 @@ pub fn print_network(alloc: Global, case: &Case, network: &Network) -> Result<Ve
     requires complete { IsComplete case.now }
     requires shape { HasShape case.now network.now }
     ensures text { IfOk result (λ text. text.items ≡ text_of case.now network.now) }
-    ensures read_back { length network.now.lines ≤ most_statements → length (exchangers_of network.now.lines) ≤ most_exchangers → IfOk result (λ text. IsNetwork case.now (statements_of text.items) network.now) }
+    ensures read_back { KeepsCounts network.now → IfOk result (λ text. IsNetwork case.now (statements_of text.items) network.now) }
 {
     let exchangers = exchanger_names(alloc, network)?;
     let mut text = Vec::new(alloc);
@@ -191,13 +190,3 @@ pub fn print_network(alloc: Global, case: &Case, network: &Network) -> Result<Ve
     }
     Ok(text)
 }
-
-/// A network that the grammar gives for a completed case has the shape and keeps the two counts,
-/// and what is printed of it is read again: its text has that network as its one outcome, but for
-/// want of memory.
-pub fn networks_are_printed_and_read_again()
-    ensures shape { (case : Case) (statements : List Statement) (network : Network) → IsComplete case → IsNetwork case statements network → HasShape case network }
-    ensures counts { (case : Case) (statements : List Statement) (network : Network) → IsNetwork case statements network → (length network.lines ≤ most_statements) × (length (exchangers_of network.lines) ≤ most_exchangers) }
-    ensures again { (case : Case) (statements : List Statement) (network : Network) → IsComplete case → IsNetwork case statements network → IsNetwork case (statements_of (text_of case network)) network }
-    ensures once { (case : Case) (statements : List Statement) (network : Network) (outcome : Result Network NetFault) → IsComplete case → IsNetwork case statements network → IsOutcome case (statements_of (text_of case network)) outcome → (outcome ≡ Ok network) ⊎ (outcome ≡ Err NetFault.OutOfMemory) }
-{}

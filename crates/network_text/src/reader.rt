@@ -1,5 +1,11 @@
 //! Reading the text of a network.
 
+ghost use Rattle.std.specs.Prelude.{IfOk};
+ghost use Rattle.stream_case.specs.Case.{IsComplete};
+ghost use Rattle.network_text.specs.Statements.{statements_of};
+ghost use Rattle.network_text.specs.Outcome.{IsOutcome};
+ghost use Rattle.network_text.specs.Shape.{HasShape};
+
 use crate::entries::entry_of;
 use crate::fault::{NetFault, NetWhy};
 use crate::found::Found;
@@ -10,7 +16,12 @@ use stream_case::Case;
 
 /// Reads the text of a network for a completed case: the network of the grammar, or the first
 /// statement at fault with its cause.
-pub fn read_network(alloc: Global, case: &Case, bytes: &[u8]) -> Result<Network, NetFault> {
+pub fn read_network(alloc: Global, case: &Case, bytes: &[u8]) -> Result<Network, NetFault>
+    requires { IsComplete case.now }
+    ensures outcome { IsOutcome case.now (statements_of bytes.now) result }
+    ensures shape { IfOk result (HasShape case.now) }
+    ensures counts { IfOk result KeepsCounts }
+{
     let mut found = Found::new(alloc, case)?;
     let mut rest = bytes;
     let mut number: u32 = 0;

@@ -7,6 +7,7 @@ ghost use Rattle.network_text.specs.Checks.{first_failing, is_on, source_checks}
 ghost use Rattle.network_text.specs.Answers.{Checked, HasSources};
 
 use crate::fault::NetWhy;
+use crate::found::Sides;
 use stream_case::{Case, Side, Source, Stream, Utility};
 
 /// The place of the stream with this name.
@@ -62,9 +63,9 @@ fn is_on(case: &Case, side: Side, source: Source) -> bool
 
 /// The hot and the cold source of an exchanger.
 #[tactic(auto, unfolding(crate::specs::Checks::source_checks))]
-pub fn hot_and_cold(case: &Case, hot: &[u8], cold: &[u8]) -> Result<(Source, Source), NetWhy>
+pub fn hot_and_cold(case: &Case, hot: &[u8], cold: &[u8]) -> Result<Sides, NetWhy>
     requires { HasSources case.now }
-    ensures { Checked (first_failing (source_checks case.now hot.now cold.now)) (λ s. (s.0 ≡ source_at case.now hot.now) × (s.1 ≡ source_at case.now cold.now)) result }
+    ensures { Checked (first_failing (source_checks case.now hot.now cold.now)) (λ sides. (sides.hot ≡ source_at case.now hot.now) × (sides.cold ≡ source_at case.now cold.now)) result }
 {
     let Some(hot) = known_source(case, hot) else {
         return Err(NetWhy::UnknownName);
@@ -78,5 +79,5 @@ pub fn hot_and_cold(case: &Case, hot: &[u8], cold: &[u8]) -> Result<(Source, Sou
     if !is_on(case, Side::Cold, cold) {
         return Err(NetWhy::WrongSide);
     }
-    Ok((hot, cold))
+    Ok(Sides { hot, cold })
 }

@@ -1,11 +1,13 @@
 -- Lists whose items all differ, one more item at a time, and places in them.
-use Rattle.std.proofs.Common.{◌≡◌, ◌≢◌, ℕ, ◌+◌, ◌<◌, ◌≤◌, ◌++◌, Bool, true, false, cond, List, [], All, Some, None, length, get_or, take, position, nat_lt, AllPairs, Contains, refl, sym, ap, subst, subst₂, ◌∙◌, arith, length-append}
+use Rattle.std.proofs.Common.{◌≡◌, ◌≢◌, ℕ, ◌+◌, ◌<◌, ◌≤◌, ◌++◌, true, false, cond, List, [], All, Some, None, length, get_or, slice_get, take, position, nat_lt, AllPairs, Contains, refl, sym, ap, subst, subst₂, ◌∙◌, arith, length-append}
 use Rattle.std.specs.Str.{bytes_eq}
 use Rattle.std.specs.Cmp.Lexicographic.{bytes_decides}
 use Rattle.std.proofs.lemmas.Bool.Decides.{nat_tests}
 use Rattle.std.proofs.lemmas.List.{take_more, take_all, get_or_append_left, get_or-append-add, get_or-take, get_or_default, length-take-le}
 use Rattle.std.proofs.lemmas.List.Quantifiers.{all_pairs_push}
 use Rattle.std.proofs.lemmas.List.Sums.{position_or_len_is}
+use Rattle.std.proofs.lemmas.Option.{get_or_from_slice_get, slice_get_within}
+use Rattle.stream_case.proofs.NameTests.{not_true}
 
 pub AllPairs-more : {X : Type 0} (R : X → X → Type 0) (xs : List X) (i : ℕ) → i < length xs → AllPairs R (take i xs) → ((k : ℕ) (d : X) → k < i → R (get_or xs k d) (get_or xs i d)) → AllPairs R (take (i + 1) xs)
 AllPairs-more {X} R xs i within before new a b d =
@@ -51,11 +53,14 @@ AllPairs-across R xs ys i d pairs early j e within =
     let first = get_or_append_left xs ys e i early ∙ get_or_default xs i e d early in
     subst₂ R first (get_or-append-add xs ys j e) (pairs i (length xs + j) e (omega (arith, early)) (omega (arith, within, long)))
 
--- ---- the place of a name among names that differ
+-- the items before one
+pub AllPairs-before : {X : Type 0} (R : X → X → Type 0) (xs : List X) (i : ℕ) (d : X) → AllPairs R xs → i < length xs → All (λ x. R x (get_or xs i d)) (take i xs)
+AllPairs-before R xs i d pairs within k e early =
+    let short = length-take-le i xs (omega (arith, within)) in
+    let inside : k < i = omega (arith, early, short) in
+    subst₂ R (sym (get_or-take i xs k e inside)) (get_or_default xs i e d within) (pairs k i e inside within)
 
-not_true : (b : Bool) → (b ≡ true → ⊥) → b ≡ false
-not_true true never = absurd (never refl)
-not_true false never = refl
+-- ---- the place of a name among names that differ
 
 -- a name that differs from another fails the test of that one
 pub other_name : (name other : List ℕ) → other ≢ name → bytes_eq name other ≡ false
@@ -68,6 +73,10 @@ place_of names i distinct within =
     let first = position_or_len_is (bytes_eq name) names i [] (omega (arith, within)) earlier (λ w. (bytes_decides name name).1 refl) in
     let inside : nat_lt i (length names) ≡ true = grind (arith, nat_tests, within) in
     ap (λ n. cond (nat_lt n (length names)) (Some n) None) first ∙ rw inside refl
+
+pub place_of_name : (names : List (List ℕ)) (i : ℕ) (name : List ℕ) → AllPairs (λ a b. a ≢ b) names → slice_get names i ≡ Some name → position (bytes_eq name) names ≡ Some i
+place_of_name names i name distinct at =
+    subst (λ (n : List ℕ). position (bytes_eq n) names ≡ Some i) (get_or_from_slice_get names i name [] at) (place_of names i distinct (slice_get_within names i name at))
 
 -- a name that is not among them
 pub no_place_of : (names : List (List ℕ)) (name : List ℕ) → All (λ other. other ≢ name) names → position (bytes_eq name) names ≡ None

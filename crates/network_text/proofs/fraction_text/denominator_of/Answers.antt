@@ -1,5 +1,6 @@
 use Rattle.std.proofs.Common.{◌+◌, ◌∙◌, sym, refl, ap}
-use Rattle.network_text.specs.Fractions.{denominator_in, is_slash, natural_in}
+use Rattle.network_text.specs.Fractions.{denominator_in, is_slash}
+use Rattle.stream_case.specs.Digits.{natural_in}
 use Rattle.network_text.proofs.Positions.{behind, position-none, position-some}
 use Rattle.network_text.proofs.fraction_text.denominator_of.Goals as goal
 
@@ -13,4 +14,4 @@ pub returns : goal.returns
 unfolding denominator_in
 returns c =
     let at = position-some is_slash c.args.text.now c.in-Some.slash (sym c.in-Some.ensures) in
-    rw (at.some, at.place) (c.natural_of.ensures.number ∙ ap natural_in (behind c.args.text.now (c.in-Some.slash + 1)))
+    rw (at.some, at.place) (c.natural_of.ensures.number ∙ ap (natural_in 24) (behind c.args.text.now (c.in-Some.slash + 1)))

@@ -36,5 +36,5 @@ pub returns-clause-text : goal.returns-clause-text
 returns-clause-text c = text_is c
 
 pub returns-clause-read_back : goal.returns-clause-read_back
-returns-clause-read_back c = λ few_lines few_exchangers.
-    subst (λ (text : List ℕ). IsNetwork c.args.case.now (statements_of text) c.args.network.now) (sym (text_is c)) (shape-is_network c.args.case.now c.args.network.now c.requires.complete c.requires.shape few_lines few_exchangers)
+returns-clause-read_back c = λ counts.
+    subst (λ (text : List ℕ). IsNetwork c.args.case.now (statements_of text) c.args.network.now) (sym (text_is c)) (shape-is_network c.args.case.now c.args.network.now c.requires.complete c.requires.shape counts)

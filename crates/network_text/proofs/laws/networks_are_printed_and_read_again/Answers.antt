@@ -1,6 +1,7 @@
 use Rattle.network_text.proofs.BackLaw.{printed-again, printed-once}
-use Rattle.network_text.proofs.ShapeLaw.{network-has_shape, network-keeps_counts}
-use Rattle.network_text.proofs.printer.networks_are_printed_and_read_again.Goals as goal
+use Rattle.network_text.proofs.ShapeLaw.{network-has_shape}
+use Rattle.network_text.proofs.BackCounts.{network-keeps_counts}
+use Rattle.network_text.proofs.laws.networks_are_printed_and_read_again.Goals as goal
 
 pub returns-clause-shape : goal.returns-clause-shape
 returns-clause-shape c = network-has_shape
