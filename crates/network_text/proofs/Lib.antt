@@ -12,3 +12,4 @@ pub mod FirstFailing
 pub mod Steps
 pub mod Unique
 pub mod Places
+pub mod Growth
