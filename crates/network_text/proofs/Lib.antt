@@ -10,6 +10,3 @@ pub mod OwnBranches
 pub mod Missing
 pub mod FirstFailing
 pub mod Steps
-pub mod Unique
-pub mod Places
-pub mod Growth

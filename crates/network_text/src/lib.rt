@@ -20,7 +20,7 @@ mod statement;
 
 pub use fault::{NetFault, NetWhy};
 pub use network::{Branch, Line, Network};
-pub use reader::{read_network, statements_have_one_outcome};
+pub use reader::read_network;
 
 #[cfg(test)]
 mod tests;

@@ -1,12 +1,9 @@
 //! Reading the text of a network.
 
-ghost use Rattle.std.specs.Prelude.{◌≡◌, ◌≤◌, ℕ, List, length, IfOk};
+ghost use Rattle.std.specs.Prelude.{IfOk};
 ghost use Rattle.stream_case.specs.Case.{IsComplete};
-ghost use Rattle.stream_case.specs.declared.case.Case.{Case};
-ghost use Rattle.network_text.specs.Statements.{Statement, statements_of};
-ghost use Rattle.network_text.specs.Outcome.{IsFault, IsNetwork, IsOutcome};
-ghost use Rattle.network_text.specs.declared.network.Network.{Network};
-ghost use Rattle.network_text.specs.declared.fault.NetWhy.{NetWhy};
+ghost use Rattle.network_text.specs.Statements.{statements_of};
+ghost use Rattle.network_text.specs.Outcome.{IsOutcome};
 
 use crate::entries::entry_of;
 use crate::fault::{NetFault, NetWhy};
@@ -46,12 +43,3 @@ pub fn read_network(alloc: Global, case: &Case, bytes: &[u8]) -> Result<Network,
         }),
     }
 }
-
-/// The statements of a text have one outcome. So a fault that the grammar names is what
-/// `read_network` answers, and a network that the grammar gives is what it answers, but for want
-/// of memory.
-pub fn statements_have_one_outcome()
-    ensures fault { (case : Case) (ss : List Statement) (number other : ℕ) (why because : NetWhy) → IsFault case ss number why → IsFault case ss other because → (number ≡ other) × (why ≡ because) }
-    ensures apart { (case : Case) (ss : List Statement) (number : ℕ) (why : NetWhy) (network : Network) → IsFault case ss number why → IsNetwork case ss network → ⊥ }
-    ensures network { (case : Case) (ss : List Statement) (network other : Network) → IsNetwork case ss network → IsNetwork case ss other → network ≡ other }
-{}
