@@ -1,3 +1,16 @@
+mod BackBranches
+mod BackCounts
+mod BackExchangers
+mod BackFront
+mod BackLaw
+mod BackNames
+mod BackSteps
+mod PrintExample
+mod PrintFields
+mod PrintLines
+mod PrintNames
+mod PrintSteps
+mod PrintText
 mod Worked
 pub mod NameTests
 pub mod DigitTexts
@@ -10,3 +23,12 @@ pub mod OwnBranches
 pub mod Missing
 pub mod FirstFailing
 pub mod Steps
+mod ShapeBranches
+mod ShapeExchangers
+mod ShapeFields
+mod ShapeFronts
+mod ShapeLaw
+mod ShapeLists
+mod ShapePasses
+mod ShapeSteps
+mod ShapeUnique

@@ -8,3 +8,4 @@ pub mod Outcome
 pub mod Shape
 pub mod Printed
 pub mod Answers
+pub mod Examples

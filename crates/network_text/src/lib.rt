@@ -12,15 +12,21 @@ mod fault;
 mod found;
 mod fraction_text;
 mod kind;
+mod laws;
 mod names;
 mod network;
+mod printer;
 mod reader;
 mod sources;
 mod statement;
 
 pub use fault::{NetFault, NetWhy};
+pub use laws::statements_have_one_outcome;
 pub use network::{Branch, Line, Network};
+pub use printer::{networks_are_printed_and_read_again, print_network};
 pub use reader::read_network;
 
+#[cfg(test)]
+mod printer_tests;
 #[cfg(test)]
 mod tests;

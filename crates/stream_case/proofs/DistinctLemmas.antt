@@ -1,7 +1,11 @@
--- Lists whose items all differ, one more item at a time.
-use Rattle.std.proofs.Common.{◌≢◌, ℕ, ◌+◌, ◌<◌, ◌≤◌, List, length, get_or, take, AllPairs, Contains, sym, subst, subst₂, ◌∙◌, arith}
-use Rattle.std.proofs.lemmas.List.{take_more, take_all, get_or-take, get_or_default, length-take-le}
+-- Lists whose items all differ, one more item at a time, and places in them.
+use Rattle.std.proofs.Common.{◌≡◌, ◌≢◌, ℕ, ◌+◌, ◌<◌, ◌≤◌, ◌++◌, Bool, true, false, cond, List, [], All, Some, None, length, get_or, take, position, nat_lt, AllPairs, Contains, refl, sym, ap, subst, subst₂, ◌∙◌, arith, length-append}
+use Rattle.std.specs.Str.{bytes_eq}
+use Rattle.std.specs.Cmp.Lexicographic.{bytes_decides}
+use Rattle.std.proofs.lemmas.Bool.Decides.{nat_tests}
+use Rattle.std.proofs.lemmas.List.{take_more, take_all, get_or_append_left, get_or-append-add, get_or-take, get_or_default, length-take-le}
 use Rattle.std.proofs.lemmas.List.Quantifiers.{all_pairs_push}
+use Rattle.std.proofs.lemmas.List.Sums.{position_or_len_is}
 
 pub AllPairs-more : {X : Type 0} (R : X → X → Type 0) (xs : List X) (i : ℕ) → i < length xs → AllPairs R (take i xs) → ((k : ℕ) (d : X) → k < i → R (get_or xs k d) (get_or xs i d)) → AllPairs R (take (i + 1) xs)
 AllPairs-more {X} R xs i within before new a b d =
@@ -27,3 +31,48 @@ differ_before xs i e within new k d early same =
     let short = length-take-le i xs (omega arith) in
     let inside : k < length (take i xs) = omega arith in
     new (k, inside, get_or-take i xs k _ early ∙ get_or_default xs k _ d (omega arith) ∙ same ∙ get_or_default xs i d e within)
+
+-- ---- pairs of two lists
+
+pub AllPairs-front : {X : Type 0} (R : X → X → Type 0) (xs ys : List X) → AllPairs R (xs ++ ys) → AllPairs R xs
+AllPairs-front R xs ys pairs i j d before within =
+    let long = length-append xs ys in
+    subst₂ R (get_or_append_left xs ys d i (omega (arith, before, within))) (get_or_append_left xs ys d j within) (pairs i j d before (omega (arith, within, long)))
+
+pub AllPairs-back : {X : Type 0} (R : X → X → Type 0) (xs ys : List X) → AllPairs R (xs ++ ys) → AllPairs R ys
+AllPairs-back R xs ys pairs i j d before within =
+    let long = length-append xs ys in
+    subst₂ R (get_or-append-add xs ys i d) (get_or-append-add xs ys j d) (pairs (length xs + i) (length xs + j) d (omega (arith, before)) (omega (arith, within, long)))
+
+-- an item of the first list and the items of the second
+pub AllPairs-across : {X : Type 0} (R : X → X → Type 0) (xs ys : List X) (i : ℕ) (d : X) → AllPairs R (xs ++ ys) → i < length xs → All (λ y. R (get_or xs i d) y) ys
+AllPairs-across R xs ys i d pairs early j e within =
+    let long = length-append xs ys in
+    let first = get_or_append_left xs ys e i early ∙ get_or_default xs i e d early in
+    subst₂ R first (get_or-append-add xs ys j e) (pairs i (length xs + j) e (omega (arith, early)) (omega (arith, within, long)))
+
+-- ---- the place of a name among names that differ
+
+not_true : (b : Bool) → (b ≡ true → ⊥) → b ≡ false
+not_true true never = absurd (never refl)
+not_true false never = refl
+
+-- a name that differs from another fails the test of that one
+pub other_name : (name other : List ℕ) → other ≢ name → bytes_eq name other ≡ false
+other_name name other differs = not_true (bytes_eq name other) (λ e. differs (sym ((bytes_decides name other).0 e)))
+
+pub place_of : (names : List (List ℕ)) (i : ℕ) → AllPairs (λ a b. a ≢ b) names → i < length names → position (bytes_eq (get_or names i [])) names ≡ Some i
+place_of names i distinct within =
+    let name = get_or names i [] in
+    let earlier : (k : ℕ) → k < i → bytes_eq name (get_or names k []) ≡ false = λ k early. other_name name (get_or names k []) (distinct k i [] early within) in
+    let first = position_or_len_is (bytes_eq name) names i [] (omega (arith, within)) earlier (λ w. (bytes_decides name name).1 refl) in
+    let inside : nat_lt i (length names) ≡ true = grind (arith, nat_tests, within) in
+    ap (λ n. cond (nat_lt n (length names)) (Some n) None) first ∙ rw inside refl
+
+-- a name that is not among them
+pub no_place_of : (names : List (List ℕ)) (name : List ℕ) → All (λ other. other ≢ name) names → position (bytes_eq name) names ≡ None
+no_place_of names name others =
+    let fails : (k : ℕ) → k < length names → bytes_eq name (get_or names k []) ≡ false = λ k within. other_name name (get_or names k []) (others k [] within) in
+    let last = position_or_len_is (bytes_eq name) names (length names) [] (omega arith) fails (λ within. absurd (omega (arith, within))) in
+    let past : nat_lt (length names) (length names) ≡ false = grind (arith, nat_tests) in
+    ap (λ n. cond (nat_lt n (length names)) (Some n) None) last ∙ rw past refl

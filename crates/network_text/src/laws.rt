@@ -1,0 +1,17 @@
+//! Laws of the grammar.
+
+ghost use Rattle.std.specs.Prelude.{◌≡◌, ℕ, List};
+ghost use Rattle.stream_case.specs.declared.case.Case.{Case};
+ghost use Rattle.network_text.specs.Statements.{Statement};
+ghost use Rattle.network_text.specs.Outcome.{IsFault, IsNetwork};
+
+use crate::fault::NetWhy;
+use crate::network::Network;
+
+/// Statements have one outcome: never two faults, two causes of one fault, two networks, or a fault
+/// and a network.
+pub fn statements_have_one_outcome()
+    ensures fault { (case : Case) (statements : List Statement) (number other : ℕ) (why because : NetWhy) → IsFault case statements number why → IsFault case statements other because → (number ≡ other) × (why ≡ because) }
+    ensures apart { (case : Case) (statements : List Statement) (number : ℕ) (why : NetWhy) (network : Network) → IsFault case statements number why → IsNetwork case statements network → ⊥ }
+    ensures network { (case : Case) (statements : List Statement) (network other : Network) → IsNetwork case statements network → IsNetwork case statements other → network ≡ other }
+{}
