@@ -1,9 +1,12 @@
 //! Reading the text of a network.
 
-ghost use Rattle.std.specs.Prelude.{IfOk};
+ghost use Rattle.std.specs.Prelude.{◌≤◌, length, IfOk};
 ghost use Rattle.stream_case.specs.Case.{IsComplete};
 ghost use Rattle.network_text.specs.Statements.{statements_of};
+ghost use Rattle.network_text.specs.Lines.{exchangers_of};
+ghost use Rattle.network_text.specs.Checks.{most_exchangers, most_statements};
 ghost use Rattle.network_text.specs.Outcome.{IsOutcome};
+ghost use Rattle.network_text.specs.Shape.{HasShape};
 
 use crate::entries::entry_of;
 use crate::fault::{NetFault, NetWhy};
@@ -18,6 +21,9 @@ use stream_case::Case;
 pub fn read_network(alloc: Global, case: &Case, bytes: &[u8]) -> Result<Network, NetFault>
     requires { IsComplete case.now }
     ensures outcome { IsOutcome case.now (statements_of bytes.now) result }
+    ensures shape { IfOk result (HasShape case.now) }
+    ensures statements { IfOk result (λ network. length network.lines ≤ most_statements) }
+    ensures exchangers { IfOk result (λ network. length (exchangers_of network.lines) ≤ most_exchangers) }
 {
     let mut found = Found::new(alloc, case)?;
     let mut rest = bytes;
