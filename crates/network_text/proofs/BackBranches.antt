@@ -10,8 +10,8 @@ use Rattle.stream_case.proofs.CompleteLemmas.{StaysValid}
 use Rattle.stream_case.proofs.DistinctLemmas.{AllPairs-across, AllPairs-back, AllPairs-front}
 use Rattle.network_text.specs.Lines.{exchangers_of, makes, names_of, stream_at, used_by, uses}
 use Rattle.network_text.specs.Given.{branch_named, branch_of}
-use Rattle.network_text.specs.Checks.{is_used, most_exchangers, most_statements}
-use Rattle.network_text.specs.Shape.{HasShape, made_before}
+use Rattle.network_text.specs.Checks.{is_used}
+use Rattle.network_text.specs.Shape.{HasShape, KeepsCounts, made_before}
 use Rattle.network_text.specs.Printed.{branch_name}
 use Rattle.network_text.specs.declared.network.Branch.{Branch}
 use Rattle.network_text.specs.declared.network.Line.{Line}

@@ -21,6 +21,7 @@ pub mod Tables
 pub mod OwnBranches
 pub mod Missing
 pub mod FirstFailing
+pub mod Steps
 mod ShapeBranches
 mod ShapeExchangers
 mod ShapeFields
@@ -30,4 +31,3 @@ mod ShapeLists
 mod ShapePasses
 mod ShapeSteps
 mod ShapeUnique
-pub mod Steps

@@ -6,7 +6,6 @@ use Rattle.std.proofs.lemmas.List.{append-nil, map-append}
 use Rattle.std.proofs.Math.Seq.{drop-append_seam, take-append_seam}
 use Rattle.std.proofs.lemmas.List.Concat.{flat_map-append}
 use Rattle.std.proofs.lemmas.List.Elements.{All-drop, All-head, All-take, filter_map-append}
-use Rattle.network_text.proofs.Places.{all_back, all_front, slice_get-front}
 use Rattle.network_text.specs.Lines.{exchanger_of, exchangers_of, made_by, makes, names_of, passage_of, passages_of, stream_at, used_by, uses}
 use Rattle.network_text.specs.declared.network.Branch.{Branch}
 use Rattle.network_text.specs.declared.network.Line.{Line}
@@ -51,6 +50,11 @@ few_exchangers (l ∷ ls) = omega (arith, length-option (exchanger_of l) (filter
 
 -- ---- more branches
 
+slice_get-front : {X : Type 0} (xs ys : List X) (k : ℕ) → k < length xs → slice_get (xs ++ ys) k ≡ slice_get xs k
+slice_get-front [] ys k within = absurd (omega (arith, within))
+slice_get-front (x ∷ xs) ys zero within = refl
+slice_get-front (x ∷ xs) ys (suc k) within = slice_get-front xs ys k (omega (arith, within))
+
 -- a branch keeps its stream
 pub stream_at-front : (bs more : List Branch) (k : ℕ) → k < length bs → stream_at (bs ++ more) k ≡ stream_at bs k
 unfolding stream_at
@@ -62,6 +66,13 @@ passage_of-front bs more (line.Split from first cp second) made = refl
 passage_of-front bs more (line.Pass from exchanger to) made = ap (λ s. Some (record { exchanger = exchanger; stream = s })) (stream_at-front bs more from (All-head (λ k. k < length bs) from [] made))
 passage_of-front bs more (line.Mix first second to) made = refl
 passage_of-front bs more (line.End branch) made = refl
+
+-- each of two lists in a row
+pub all_front : {X : Type 0} (P : X → Type 0) (xs ys : List X) → All P (xs ++ ys) → All P xs
+all_front P xs ys all = subst (All P) (take-append_seam xs ys) (All-take P (length xs) (xs ++ ys) all)
+
+pub all_back : {X : Type 0} (P : X → Type 0) (xs ys : List X) → All P (xs ++ ys) → All P ys
+all_back P xs ys all = subst (All P) (drop-append_seam xs ys) (All-drop P (length xs) (xs ++ ys) all)
 
 pub passages_of-front : (bs more : List Branch) (ls : List Line) → All (λ k. k < length bs) (used_by ls) → passages_of (bs ++ more) ls ≡ passages_of bs ls
 unfolding passages_of used_by

@@ -26,7 +26,7 @@ use Rattle.network_text.specs.declared.network.Line.{Line}
 use Rattle.stream_case.proofs.NameTests.{name-passes, not_true}
 use Rattle.network_text.proofs.NameTests.{branch_name-passes, name-branch_name}
 use Rattle.network_text.proofs.Positions.{is_some-position, none_there}
-use Rattle.network_text.proofs.Places.{all_front}
+use Rattle.network_text.proofs.LineLaws.{all_front}
 use Rattle.network_text.proofs.Tables.{so_far}
 
 enumerate-push : {X : Type 0} (n : ℕ) (xs : List X) (x : X) → enumerate_from n (xs ++ x ∷ []) ≡ enumerate_from n xs ++ (n + length xs, x) ∷ []

@@ -18,7 +18,7 @@ use Rattle.network_text.specs.Fractions.{fraction, fraction_in, is_positive}
 use Rattle.network_text.specs.Lines.{exchangers_of, stream_at}
 use Rattle.network_text.specs.Statements.{Statement}
 use Rattle.network_text.specs.Given.{branch_at, branch_named, entry_in, exchanger_at, exchanger_named, kind_of, next, source_at, with_entry}
-use Rattle.network_text.specs.Checks.{Check, checks, end_checks, exchanger_checks, first_failing, fraction_checks, is_free_side, is_on, is_used, kind_checks, mix_checks, mixed_checks, most_exchangers, most_statements, new_branch_checks, new_exchanger_checks, pass_checks, passed_checks, source_checks, split_checks, used_branch_checks}
+use Rattle.network_text.specs.Checks.{Check, checks, end_checks, exchanger_checks, first_failing, fraction_checks, is_free_side, is_on, is_used, kind_checks, mix_checks, mixed_checks, most_exchangers, most_statements, new_branch_checks, new_exchanger_checks, exchanger_field_checks, pass_checks, passed_checks, source_checks, split_checks, used_branch_checks}
 use Rattle.network_text.specs.Shape.{IsPositive}
 use Rattle.network_text.specs.Printed.{source_name}
 use Rattle.network_text.specs.declared.found.Entry.TheVariants as entry
@@ -107,7 +107,7 @@ both_true a b ea eb = rw (ea, eb) refl
 pub exchanger_follows : (case : Case) (given : Network) (name : List ℕ) (hot cold : Source) (duty : Rational) → HasRoom given → length (exchangers_of given.lines) < most_exchangers
     → IsName name → exchanger_named given name ≡ None → IsFound case hot → IsFound case cold → side_of case hot ≡ Some side.Hot → side_of case cold ≡ Some side.Cold → IsPositive duty
     → Follows case given (codes "exchanger" ∷ name ∷ source_name case hot ∷ source_name case cold ∷ fraction_text duty ∷ []) (with_entry given (entry.Exchanger name hot cold duty))
-unfolding entry_in kind_checks exchanger_checks new_exchanger_checks source_checks fraction_checks
+unfolding entry_in kind_checks exchanger_checks exchanger_field_checks new_exchanger_checks source_checks fraction_checks
 exchanger_follows case given name hot cold duty room few is free found_hot found_cold is_hot is_cold positive =
     let s = codes "exchanger" ∷ name ∷ source_name case hot ∷ source_name case cold ∷ fraction_text duty ∷ [] in
     let count : nat_lt (length (exchangers_of given.lines)) most_exchangers ≡ true = grind (arith, nat_tests, few) in

@@ -16,7 +16,7 @@ use Rattle.network_text.specs.Fractions.{fraction}
 use Rattle.network_text.specs.Lines.{Exchanger, exchanger_of, exchangers_of, makes, names_of, stream_at, used_by, uses}
 use Rattle.network_text.specs.Statements.{Statement, field}
 use Rattle.network_text.specs.Given.{branch_at, branch_of, entry_by, entry_in, exchanger_at, kind_of, source_at, start, with_any, with_entry}
-use Rattle.network_text.specs.Checks.{checks, end_checks, exchanger_checks, fraction_checks, is_on, is_passed, joins_stream, kind_checks, mix_checks, mixed_checks, new_branch_checks, new_exchanger_checks, pass_checks, passed_checks, source_checks, split_checks, used_branch_checks}
+use Rattle.network_text.specs.Checks.{checks, end_checks, exchanger_checks, fraction_checks, is_on, is_passed, joins_stream, kind_checks, mix_checks, mixed_checks, new_branch_checks, new_exchanger_checks, exchanger_field_checks, pass_checks, passed_checks, source_checks, split_checks, used_branch_checks}
 use Rattle.network_text.specs.Outcome.{IsNetwork}
 use Rattle.network_text.specs.Shape.{HasPositiveFlow, IsExchanger, IsOfOneStream, Joins}
 use Rattle.network_text.specs.declared.found.Entry.TheVariants as entry
@@ -153,7 +153,7 @@ declares_none case given l are none flow =
 
 exchanger_kept : (case : Case) (given : Network) (s : Statement) → HasShapeSoFar case given → Passes (exchanger_checks case given s)
     → HasShapeSoFar case (with_entry given (entry.Exchanger (field s 1) (source_at case (field s 2)) (source_at case (field s 3)) (fraction (field s 4))))
-unfolding exchanger_checks new_exchanger_checks source_checks fraction_checks with_entry
+unfolding exchanger_checks exchanger_field_checks new_exchanger_checks source_checks fraction_checks with_entry
 exchanger_kept case given s shape passes =
     let name = field s 1 in
     let hot = source_at case (field s 2) in

@@ -4,7 +4,7 @@ ghost use Rattle.std.specs.Prelude.{IfOk};
 ghost use Rattle.stream_case.specs.Case.{IsComplete};
 ghost use Rattle.network_text.specs.Statements.{statements_of};
 ghost use Rattle.network_text.specs.Outcome.{IsOutcome};
-ghost use Rattle.network_text.specs.Shape.{HasShape};
+ghost use Rattle.network_text.specs.Shape.{HasShape, KeepsCounts};
 
 use crate::entries::entry_of;
 use crate::fault::{NetFault, NetWhy};
