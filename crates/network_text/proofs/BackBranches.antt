@@ -8,7 +8,7 @@ use Rattle.stream_case.specs.Name.{IsAnyName}
 use Rattle.stream_case.specs.declared.case.Case.{Case}
 use Rattle.stream_case.proofs.CompleteLemmas.{StaysValid}
 use Rattle.stream_case.proofs.DistinctLemmas.{AllPairs-across, AllPairs-back, AllPairs-front}
-use Rattle.network_text.specs.Lines.{exchangers_of, makes, names_of, stream_at, used_by, uses}
+use Rattle.network_text.specs.Lines.{makes, names_of, stream_at, used_by, uses}
 use Rattle.network_text.specs.Given.{branch_named, branch_of}
 use Rattle.network_text.specs.Checks.{is_used}
 use Rattle.network_text.specs.Shape.{HasShape, KeepsCounts, made_before}

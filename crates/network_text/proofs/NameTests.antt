@@ -1,10 +1,7 @@
 -- The tests of names of branches.
-use Rattle.std.proofs.Common.{◌≡◌, ◌≤◌, ℕ, Bool, true, false, List, [], ◌∷◌, length, get_or, refl, sym, ap, ◌∙◌, arith, inl, inr, ◌&&◌, ◌||◌, ◌==◌, nat_le}
+use Rattle.std.proofs.Common.{◌≡◌, ℕ, Bool, true, false, List, [], ◌∷◌, refl, sym, ap, ◌∙◌, inl, inr, ◌&&◌, ◌||◌, ◌==◌}
 use Rattle.std.specs.Prelude.{Option, Some, None, SomeIff, IfSome, is_some}
-use Rattle.std.specs.Char.{is_ascii_alphanumeric}
 use Rattle.std.proofs.lemmas.Bool.{eqb-true}
-use Rattle.std.proofs.lemmas.Bool.Decides.{nat_tests}
-use Rattle.std.proofs.lemmas.List.Sums.{AllPass-from_list_all, list_all-from_AllPass}
 use Rattle.stream_case.specs.Name.{IsAnyName, IsDottedName, is_name}
 use Rattle.stream_case.proofs.NameTests.{name-passes, not_true, passed-name}
 use Rattle.network_text.specs.Names.{is_branch_name, is_dotted_name}

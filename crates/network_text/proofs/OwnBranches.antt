@@ -1,5 +1,5 @@
 -- The branches of the streams themselves.
-use Rattle.std.proofs.Common.{◌≡◌, ◌≢◌, ◌∙◌, ◌<◌, ◌≤◌, ◌+◌, ◌*◌, ◌∷◌, ◌++◌, ◌||◌, ◌&&◌, ℕ, suc, Bool, true, false, List, [], All, AllPairs, Option, Some, None, length, map, take, get_or, refl, sym, ap, subst, arith, length-append}
+use Rattle.std.proofs.Common.{◌≡◌, ◌≢◌, ◌∙◌, ◌<◌, ◌+◌, ◌∷◌, ◌++◌, ℕ, suc, true, false, List, [], All, AllPairs, None, length, map, take, get_or, refl, sym, ap, subst, arith, length-append}
 use Rattle.std.specs.Prelude.{position}
 use Rattle.std.specs.List.{enumerate_from, list_all, list_any}
 use Rattle.std.specs.Map.{keys_of}
@@ -19,12 +19,10 @@ use Rattle.stream_case.proofs.CaseLemmas.{length-HasValidStreams}
 use Rattle.stream_case.proofs.CompleteLemmas.{StaysValid-IsComplete}
 use Rattle.network_text.specs.Names.{is_branch_name}
 use Rattle.network_text.specs.Lines.{exchangers_of, passages_of, used_by}
-use Rattle.network_text.specs.Given.{own_branch, own_branches, start}
+use Rattle.network_text.specs.Given.{own_branches, start}
 use Rattle.network_text.specs.Answers.{HasSources, IsTracked, named_branch, own_entries, own_entry}
-use Rattle.network_text.specs.declared.network.Branch.{Branch}
-use Rattle.network_text.specs.declared.network.Line.{Line}
 use Rattle.stream_case.proofs.NameTests.{name-passes, not_true}
-use Rattle.network_text.proofs.NameTests.{branch_name-passes, name-branch_name}
+use Rattle.network_text.proofs.NameTests.{name-branch_name}
 use Rattle.network_text.proofs.Positions.{is_some-position, none_there}
 use Rattle.network_text.proofs.LineLaws.{all_front}
 use Rattle.network_text.proofs.Tables.{so_far}

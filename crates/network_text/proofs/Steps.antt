@@ -1,5 +1,5 @@
 -- One statement more.
-use Rattle.std.proofs.Common.{◌≡◌, ◌∙◌, ◌<◌, ◌≤◌, ◌+◌, ◌∷◌, ◌++◌, ◌==◌, ℕ, Bool, true, false, not, cond, Result, Ok, Err, IfOk, List, [], Option, Some, None, length, map, filter, fold, refl, sym, ap, subst, arith, length-append, append_assoc, below_more}
+use Rattle.std.proofs.Common.{◌≡◌, ◌∙◌, ◌<◌, ◌≤◌, ◌+◌, ◌∷◌, ◌++◌, ◌==◌, ℕ, Bool, true, false, not, cond, Result, Ok, Err, IfOk, List, [], Some, None, length, map, filter, fold, refl, sym, ap, subst, arith, length-append, append_assoc, below_more}
 use Rattle.std.specs.Str.Lines.{lines}
 use Rattle.std.proofs.Math.ListN.{get_or-append}
 use Rattle.std.proofs.Math.Seq.{get_or-append_seam, take-append_seam}

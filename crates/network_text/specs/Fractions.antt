@@ -1,5 +1,5 @@
 -- Fraction texts: an optional `-`, 1 to 24 digits, and optionally `/` and 1 to 24 digits.
-use Rattle.std.specs.Prelude.{ℕ, zero, suc, ℤ, pos, int_lt, Bool, List, length, drop, Option, Some, None, option_map, unwrap_or, nat_le, ◌&&◌, ◌==◌, if◌then◌else◌, slice_index}
+use Rattle.std.specs.Prelude.{ℕ, zero, suc, ℤ, pos, int_lt, Bool, List, drop, Option, Some, None, option_map, unwrap_or, ◌==◌, if◌then◌else◌, slice_index}
 use Rattle.std.specs.List.{after_first, before_first, list_any}
 use Rattle.std.proofs.Common.{neg_ℤ}
 use Rattle.stream_case.specs.Digits.{natural_in}

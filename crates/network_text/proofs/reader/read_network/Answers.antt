@@ -1,8 +1,6 @@
-use Rattle.std.proofs.Common.{◌≡◌, ◌∙◌, ◌≤◌, Some, None, length, inl, inr, refl, sym, ap}
+use Rattle.std.proofs.Common.{◌∙◌, inl, inr, refl, sym}
 use Rattle.network_text.specs.Statements.{statements_of}
-use Rattle.network_text.specs.Lines.{exchangers_of}
-use Rattle.network_text.specs.Checks.{most_exchangers, most_statements}
-use Rattle.network_text.specs.Shape.{HasShape}
+use Rattle.network_text.specs.Shape.{HasShape, KeepsCounts}
 use Rattle.network_text.proofs.ShapeLaw.{network-has_shape}
 use Rattle.network_text.proofs.BackCounts.{network-keeps_counts}
 use Rattle.network_text.proofs.OwnBranches.{complete-sources}
@@ -24,8 +22,7 @@ returns-in_err-statement c =
     record {
       outcome = no_outcome c.args.case.now (statements_of c.args.bytes.now) c.from_residual-in_err-statement.result refused;
       shape = no_network (HasShape c.args.case.now) c.from_residual-in_err-statement.result refused;
-      statements = no_network (λ network. length network.lines ≤ most_statements) c.from_residual-in_err-statement.result refused;
-      exchangers = no_network (λ network. length (exchangers_of network.lines) ≤ most_exchangers) c.from_residual-in_err-statement.result refused;
+      counts = no_network KeepsCounts c.from_residual-in_err-statement.result refused;
     }
 
 pub loop-rest-preserved-then-is_passed_over : goal.loop-rest-preserved-then-is_passed_over
