@@ -1,5 +1,6 @@
 //! The program, from its words to what it writes.
 #![tactic(auto)]
+
 ghost use Rattle.std.specs.Prelude.{◌≡◌, map, drop, IfOk, string_bytes};
 ghost use Rattle.std.specs.Process.{exit_status};
 ghost use Rattle.std.specs.Vec.Iter.{into_iter_items};
@@ -54,5 +55,9 @@ fn collect_words<R: Env + AllocGlobal>(rt: &R) -> Result<Items<Word>, AllocError
 fn words_after_name(alloc: Global, texts: Args) -> Result<Items<Word>, AllocError>
     ensures { IfOk result (λ words. words ≡ map string_bytes (drop 1 (into_iter_items texts))) }
 {
-    Ok(Items::from_vec(texts.skip(1).map(Word::new).collect(alloc)?))
+    let mut words = Items::new(alloc);
+    for text in texts.skip(1) {
+        words.push(Word::new(text))?;
+    }
+    Ok(words)
 }
