@@ -1,5 +1,5 @@
 //! How much the arcs of a net can carry, and amounts sent along them.
-ghost use Rattle.std.specs.Prelude.{◌≡◌, pos, ◌<ℤ◌, ◌≤ℤ◌, All};
+ghost use Rattle.std.specs.Prelude.{◌≡◌, pos, ◌<ℤ◌, ◌≤ℤ◌, ◌⊎◌, All, Any};
 ghost use Rattle.flow_net.specs.Adjacency.{IsArc};
 ghost use Rattle.flow_net.specs.Flow.{spare_of, sent_along, sent_along_path, CanCarry};
 ghost use Rattle.flow_net.specs.Net.{IsWithinLimits, IsWithinRooms};
@@ -30,6 +30,7 @@ pub(crate) fn bottleneck(net: &Net, flow: &[i64], path: &[Arc], limit: i64) -> i
     ensures spare { All (λ a. result ≤ℤ spare_of net.now.links flow.now a) path.now }
     ensures some { pos 0 <ℤ result }
     ensures limited { result ≤ℤ limit }
+    ensures reached { (result ≡ limit) ⊎ Any (λ a. spare_of net.now.links flow.now a ≡ result) path.now }
 {
     let mut least = limit;
     for arc in path {

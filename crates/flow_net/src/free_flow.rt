@@ -1,5 +1,5 @@
 //! Amounts sent along paths without reduced cost.
-ghost use Rattle.std.specs.Prelude.{◌≡◌, pos, ◌<ℤ◌, ◌≤ℤ◌, IfOk, All};
+ghost use Rattle.std.specs.Prelude.{◌≡◌, pos, ◌<ℤ◌, ◌≤ℤ◌, ◌⊎◌, IfOk, All, Any};
 ghost use Rattle.flow_net.specs.Adjacency.{IsAdjacency};
 ghost use Rattle.flow_net.specs.Flow.{spare_of, sent_along_path, AreApart};
 ghost use Rattle.flow_net.specs.Guide.{IsFreeArc};
@@ -88,6 +88,7 @@ fn send_what_fits(net: &Net, routing: &mut Routing, path: &[Arc], limit: i64) ->
     ensures some { pos 0 <ℤ result }
     ensures limited { result ≤ℤ limit }
     ensures spare { All (λ a. result ≤ℤ spare_of net.now.links routing.old.flow.items a) path.now }
+    ensures reached { (result ≡ limit) ⊎ Any (λ a. spare_of net.now.links routing.old.flow.items a ≡ result) path.now }
     ensures flow { routing.new.flow.items ≡ sent_along_path routing.old.flow.items path.now result }
     ensures potentials { routing.new.potentials.items ≡ routing.old.potentials.items }
 {

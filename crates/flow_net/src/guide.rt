@@ -1,5 +1,5 @@
 //! Paths without reduced cost, the shortest first (Dinic 1970).
-ghost use Rattle.std.specs.Prelude.{◌≡◌, ◌<◌, ◌≤◌, true, length, IfSome, IfOk, OnOk};
+ghost use Rattle.std.specs.Prelude.{◌≡◌, ◌<◌, ◌≤◌, true, false, length, IfSome, IfOk, OnOk};
 ghost use Rattle.flow_net.specs.Adjacency.{IsArc, IsAdjacency};
 ghost use Rattle.flow_net.specs.Guide.{IsFreeArc, StepsDown, IsFreePath, IsGuide, AreLevels, IfPath, IfDeadEnd, IsDeadEnd};
 ghost use Rattle.flow_net.specs.Net.{IsWithinLimits};
@@ -192,7 +192,8 @@ fn spread(
 fn steps_down(levels: &[Option<u32>], arc: &Arc) -> bool
     requires tail { arc.now.tail < length levels.now }
     requires head { arc.now.head < length levels.now }
-    ensures { result ≡ true → StepsDown levels.now arc.now }
+    ensures steps { result ≡ true → StepsDown levels.now arc.now }
+    ensures no_step { result ≡ false → StepsDown levels.now arc.now → ⊥ }
 {
     match (levels[arc.tail as usize], levels[arc.head as usize]) {
         (Some(tail), Some(head)) => tail > 0 && tail - 1 == head,
@@ -205,7 +206,8 @@ fn is_free(net: &Net, routing: &Routing, arc: &Arc) -> bool
     requires net { IsWithinLimits net.now }
     requires routing { IsSearchable net.now routing.now }
     requires arc { IsArc net.now.links arc.now }
-    ensures { result ≡ true → IsFreeArc net.now routing.now arc.now }
+    ensures free { result ≡ true → IsFreeArc net.now routing.now arc.now }
+    ensures not_free { result ≡ false → IsFreeArc net.now routing.now arc.now → ⊥ }
 {
     let slack = arc.cost + routing.potentials[arc.tail as usize]
         - routing.potentials[arc.head as usize];

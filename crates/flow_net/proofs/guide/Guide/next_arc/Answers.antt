@@ -13,7 +13,7 @@ returns-then-is_free-clause-levels c = c.loop-place.invariant.levels
 pub returns-then-is_free-clause-steps_down : goal.returns-then-is_free-clause-steps_down
 returns-then-is_free-clause-steps_down c =
     let a : Arc = get_or c.arcs_from-arcs.result.now c.loop-place.place (record { tail = 0; head = 0; link = 0; forward = false; cost = pos 0 }) in
-    subst (λ xs. StepsDown xs a) (c.deref.ensures.value ∙ c.loop-place.invariant.levels) (c.steps_down.ensures c.if-steps_down.true)
+    subst (λ xs. StepsDown xs a) (c.deref.ensures.value ∙ c.loop-place.invariant.levels) (c.steps_down.ensures.steps c.if-steps_down.true)
 
 pub returns-clause-levels : goal.returns-clause-levels
 returns-clause-levels c = c.loop-place.invariant.levels
