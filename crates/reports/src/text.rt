@@ -128,6 +128,11 @@ mod tests {
                 },
                 "case row 14 TooMany\n",
             ),
+            (
+                Shown::BadWords,
+                "words: targets flow curves design vertical audit \
+                 site sweep sample certify prices\n",
+            ),
             (Shown::NotStandard, "case not standard\n"),
             (
                 Shown::TooLong {
