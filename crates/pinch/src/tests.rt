@@ -107,6 +107,14 @@ fn targets_of_worked_tables(rt: HostRuntime) -> Result<(), Fail> {
             status: 0,
             text: "hot 200000000\ncold 200000000\npinch 29000\npinch -1731\n",
         },
+        // Two reactors (Smith 2005): 7.5 and 10 MW, and a pinch at 145 °C.
+        Answered {
+            case: "contribution,,50,,,,\ncold,Feed-1,200,1800,20000,,\n\
+                   hot,Product-1,2500,400,15000,,\ncold,Feed-2,1400,2300,30000,,\n\
+                   hot,Product-2,2000,800,25000,,\n",
+            status: 0,
+            text: "hot 7500000\ncold 10000000\npinch 1450\n",
+        },
     ];
     for row in &rows {
         check_targets(&rt, row)?;
