@@ -4,7 +4,6 @@ use Rattle.std.specs.List.{list_any}
 use Rattle.std.specs.Map.{keys_of}
 use Rattle.std.proofs.Math.ListN.{get_or-map}
 use Rattle.std.proofs.Math.Seq.{take-suc}
-use Rattle.std.proofs.lemmas.Bool.{eqb-true}
 use Rattle.std.proofs.lemmas.Bool.Decides.{nat_tests}
 use Rattle.std.proofs.lemmas.List.{length-map, length-take-le, take-map, take_all}
 use Rattle.std.proofs.lemmas.List.Elements.{All-head, All-nil, All-tail}
@@ -23,7 +22,9 @@ use Rattle.stream_case.specs.declared.source.Source.TheVariants as source
 use Rattle.stream_case.specs.declared.stream.Stream.{Stream}
 use Rattle.stream_case.specs.declared.utility.Utility.{Utility}
 use Rattle.case_text.specs.Given.{Given, Sources, case_of, source_named, stream_of, utility_of}
-use Rattle.case_text.specs.Checks.{end_checks, first_failing, is_side, is_source, same_forbid, same_source}
+use Rattle.stream_case.specs.Source.{same_source}
+use Rattle.stream_case.proofs.SourceLemmas.{same_source-true}
+use Rattle.case_text.specs.Checks.{end_checks, first_failing, is_side, is_source, same_forbid}
 use Rattle.case_text.specs.Outcome.{IsCase}
 use Rattle.case_text.specs.Printed.{contribution_row, forbid_row, name_at, printed_rows, stream_row, utility_row}
 use Rattle.case_text.specs.declared.found.Entry.TheVariants as entry
@@ -32,9 +33,8 @@ use Rattle.case_text.specs.declared.found.UtilityData.{UtilityData}
 use Rattle.case_text.proofs.Counts.{count_on}
 use Rattle.stream_case.proofs.DistinctLemmas.{AllPairs-across, AllPairs-back, AllPairs-before, AllPairs-front, place_of_name}
 use Rattle.case_text.proofs.Distinct.{not_found, not_taken}
-use Rattle.case_text.proofs.Entries.{none_there}
 use Rattle.stream_case.proofs.NameTests.{not_true}
-use Rattle.case_text.proofs.Passes.{both}
+use Rattle.stream_case.proofs.CommonLemmas.{both, none_there, own_side}
 use Rattle.indexmap.proofs.MapLemmas.{some_index}
 use Rattle.std.specs.Str.{bytes_eq}
 use Rattle.case_text.proofs.Lookups.{named_side, side_at}
@@ -64,10 +64,6 @@ keys_before {V = V} es i d distinct within =
 all_on : (k : Case) → IsValid k → (of : Side) → count_on of (map stream_entry k.streams) ≤ most_streams
 all_on k valid side.Hot = omega (arith, counts_map (λ (e : List ℕ × StreamData). same_side side.Hot e.1.side) (λ (s : Stream). is_hot s.side) stream_entry (λ s. sym (hot_side s.side)) k.streams, valid.streams.hot)
 all_on k valid side.Cold = omega (arith, counts_map (λ (e : List ℕ × StreamData). same_side side.Cold e.1.side) (λ (s : Stream). not (is_hot s.side)) stream_entry (λ s. sym (cold_side s.side)) k.streams, valid.streams.cold)
-
-own_side : (of : Side) → same_side of of ≡ true
-own_side side.Hot = refl
-own_side side.Cold = refl
 
 room_at : (of : Side) (es : List (List ℕ × StreamData)) (i : ℕ) (d : List ℕ × StreamData) → i < length es → (get_or es i d).1.side ≡ of → count_on of es ≤ most_streams → nat_lt (count_on of (take i es)) most_streams ≡ true
 room_at of es i d within is few =
@@ -192,16 +188,10 @@ found k valid of (source.Utility i) on = by (slice_get k.utilities i) refl
         let each = subst IsValidUtility same (valid.utilities i no_utility (slice_get_within k.utilities i x at)) in
         found_by k of (source.Utility i) on (rw name each.name) (rw name (named_utility k valid i x at))
 
-same_places : (a b : Source) → same_source a b ≡ true → b ≡ a
-same_places (source.Stream i) (source.Stream j) e = ap (λ (n : ℕ). source.Stream n) (sym (eqb-true i j e))
-same_places (source.Stream i) (source.Utility j) e = cc e
-same_places (source.Utility i) (source.Stream j) e = cc e
-same_places (source.Utility i) (source.Utility j) e = ap (λ (n : ℕ). source.Utility n) (sym (eqb-true i j e))
-
 other_forbid : (f g : Forbid) → g ≢ f → same_forbid f g ≡ false
 other_forbid f g differs = not_true (same_forbid f g) (λ e.
     let each = both (same_source f.hot g.hot) (same_source f.cold g.cold) e in
-    differs (λ i. record { hot = same_places f.hot g.hot each.0 i; cold = same_places f.cold g.cold each.1 i }))
+    differs (λ i. record { hot = sym (same_source-true f.hot g.hot each.0) i; cold = sym (same_source-true f.cold g.cold each.1) i }))
 
 not_among : (forbids : List Forbid) (f : Forbid) → All (λ g. g ≢ f) forbids → list_any (same_forbid f) forbids ≡ false
 not_among [] f others = refl

@@ -1,15 +1,12 @@
 -- The entries of a map of names.
-use Rattle.std.proofs.Common.{◌≡◌, ◌∷◌, ◌++◌, ◌||◌, ℕ, Bool, true, false, List, [], Option, Some, None, is_some, refl}
+use Rattle.std.proofs.Common.{◌≡◌, ◌∷◌, ◌++◌, ◌||◌, ℕ, Bool, true, false, List, [], is_some, refl}
 use Rattle.std.specs.Map.{lookup}
 use Rattle.std.specs.Str.{bytes_eq}
 use Rattle.indexmap.specs.IndexMap.{IndexMap, insert_entry}
 use Rattle.indexmap.proofs.CallerLemmas.{insert_entry-new}
 use Rattle.case_text.specs.Given.{Sources}
 use Rattle.case_text.specs.Checks.{is_taken}
-
-pub none_there : {X : Type 0} (o : Option X) → is_some o ≡ false → o ≡ None
-none_there None e = refl
-none_there (Some x) e = cc e
+use Rattle.stream_case.proofs.CommonLemmas.{none_there}
 
 -- a new name goes last
 pub new_entry : {V S : Type 0} (m : IndexMap (List ℕ) V S) (name : List ℕ) (v : V) → is_some (lookup (bytes_eq name) m.entries) ≡ false

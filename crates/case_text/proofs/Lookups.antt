@@ -12,7 +12,7 @@ use Rattle.stream_case.specs.declared.source.Side.{Side}
 use Rattle.stream_case.specs.declared.source.Side.TheVariants as side
 use Rattle.stream_case.specs.declared.source.Source.{Source}
 use Rattle.stream_case.specs.declared.source.Source.TheVariants as source
-use Rattle.case_text.proofs.Entries.{none_there}
+use Rattle.stream_case.proofs.CommonLemmas.{none_there}
 use Rattle.case_text.specs.Given.{Sources, first_source, source_named}
 use Rattle.case_text.specs.Checks.{first_side, is_source, side_named}
 

@@ -1,10 +1,11 @@
 -- What the checks of a table say where none of them fails.
-use Rattle.std.proofs.Common.{◌≡◌, ◌≤ℤ◌, ℤ, Bool, true, false, not, List, [], ◌∷◌, None, refl, arith, ◌&&◌}
+use Rattle.std.proofs.Common.{◌≡◌, ◌≤ℤ◌, ℤ, Bool, true, false, not, List, [], ◌∷◌, None, refl, arith}
 use Rattle.std.proofs.lemmas.Int.{ints}
 use Rattle.std.specs.Prelude.{int_le}
 use Rattle.stream_case.specs.Case.{IsBetween, IsRightWay}
 use Rattle.stream_case.specs.declared.source.Side.{Side}
 use Rattle.stream_case.specs.declared.source.Side.TheVariants as side
+use Rattle.stream_case.proofs.CommonLemmas.{both}
 use Rattle.case_text.specs.Checks.{Check, first_failing, goes_right, is_at_most, is_within}
 
 -- each check holds
@@ -23,11 +24,6 @@ none_fails (check ∷ rest) e = by check.0 refl (none_fails rest)
 pub all_pass : (checks : List Check) → Passes checks → first_failing checks ≡ None
 all_pass [] passes = refl
 all_pass (check ∷ rest) passes = rw passes.0 (all_pass rest passes.1)
-
-pub both : (a b : Bool) → (a && b) ≡ true → (a ≡ true) × (b ≡ true)
-both true true e = (refl, refl)
-both true false e = cc e
-both false b e = cc e
 
 pub is_false : (b : Bool) → not b ≡ true → b ≡ false
 is_false true e = cc e

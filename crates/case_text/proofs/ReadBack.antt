@@ -1,5 +1,5 @@
 -- The rows of a valid case give the case.
-use Rattle.std.proofs.Common.{◌≡◌, ◌∙◌, ◌∷◌, ◌++◌, ◌<◌, ◌≤◌, ◌==◌, ◌&&◌, ℕ, ℤ, pos, negsuc, Bool, true, false, not, List, [], Option, Some, None, is_some, unwrap_or, zero, suc, take, length, map, get_or, nat_lt, refl, sym, ap, subst, arith, append_assoc}
+use Rattle.std.proofs.Common.{◌≡◌, ◌∙◌, ◌∷◌, ◌++◌, ◌<◌, ◌≤◌, ◌==◌, ℕ, ℤ, pos, negsuc, true, false, not, List, [], Option, Some, None, is_some, unwrap_or, zero, suc, take, length, map, get_or, nat_lt, refl, sym, ap, subst, arith, append_assoc}
 use Rattle.std.proofs.Math.Seq.{take-suc}
 use Rattle.std.proofs.lemmas.List.{append-nil, map-append}
 use Rattle.csv_rows.specs.Rows.{Row}
@@ -33,6 +33,7 @@ use Rattle.case_text.specs.Numbers.{number_in}
 use Rattle.case_text.proofs.Counts.{count_on}
 use Rattle.stream_case.specs.Name.{is_name}
 use Rattle.stream_case.proofs.NameTests.{name-passes, not_true}
+use Rattle.stream_case.proofs.CommonLemmas.{both_true}
 use Rattle.case_text.proofs.Passes.{Passes, all_pass, goes_right_way, is_ordered, within}
 use Rattle.case_text.proofs.Plain.{IsPrintable, number_read}
 use Rattle.case_text.proofs.Valid.{of_kind}
@@ -68,9 +69,6 @@ row_passes given row k long counts is passes =
     rw (seven, counts, known, is) (all_pass (kind_checks (Some k) given row) passes)
 
 -- ---- the fields of a printed row
-
-both_true : (a b : Bool) → a ≡ true → b ≡ true → (a && b) ≡ true
-both_true a b ea eb = rw (ea, eb) refl
 
 -- a printed number is read as itself
 record Reads (row : Row) (place : ℕ) (z : ℤ) : Type 0 where

@@ -5,10 +5,10 @@ use Rattle.std.proofs.Math.Seq.{get_or-append_seam, take-append_seam}
 use Rattle.std.proofs.lemmas.List.{append-nil, take-append-le}
 use Rattle.std.specs.List.{cons_option, filter_map, range_with_len}
 use Rattle.std.specs.Option.{option_to_list}
-use Rattle.std.proofs.lemmas.List.Elements.{filter_map-append}
 use Rattle.csv_rows.specs.Rows.{Row}
 use Rattle.stream_case.specs.declared.case.Case.{Case}
 use Rattle.stream_case.specs.declared.case.Forbid.{Forbid}
+use Rattle.stream_case.proofs.CommonLemmas.{filter_map-push}
 use Rattle.case_text.specs.Given.{Given, case_of, contribution_by, forbid_at, forbid_by, given_by, kind_of, sources_by, stream_by, utility_by}
 use Rattle.case_text.specs.Checks.{checks, end_checks, first_failing}
 use Rattle.case_text.specs.Answers.{GivesEach, GivesEntry, with_entry}
@@ -36,13 +36,6 @@ fault_at-seam rows row more =
 abbrev pub with_any : Given → Option Entry → Given
 with_any given None = given
 with_any given (Some e) = with_entry given e
-
-filter_map-push : {X Y : Type 0} (h : X → Option Y) (xs : List X) (x : X) → filter_map h (xs ++ x ∷ []) ≡ filter_map h xs ++ option_to_list (h x)
-filter_map-push {Y = Y} h xs x = filter_map-append h xs (x ∷ []) ∙ ap (λ ys. filter_map h xs ++ ys) (alone (h x))
-  where
-    alone : (o : Option Y) → cons_option o [] ≡ option_to_list o
-    alone None = refl
-    alone (Some y) = refl
 
 -- numbers up to one more
 range-more : (a n : ℕ) → range_with_len a (suc n) ≡ range_with_len a n ++ (a + n) ∷ []

@@ -1,10 +1,9 @@
 -- The case of a file that is accepted is valid.
 use Rattle.std.proofs.Common.{◌≡◌, ◌≢◌, ◌∙◌, ◌∷◌, ◌++◌, ◌<◌, ◌≤◌, ◌==◌, ℕ, ℤ, pos, negsuc, Bool, true, false, not, ◌&&◌, List, [], All, AllPairs, Option, Some, None, option_map, cond, if◌then◌else◌, zero, suc, take, length, map, count_by, slice_get, get_or, refl, sym, ap, subst, arith, length-append}
-use Rattle.std.proofs.Math.ListN.{get_or-append}
 use Rattle.std.proofs.Math.Seq.{take-suc}
 use Rattle.std.proofs.lemmas.List.Sums.{sum_by-cons}
-use Rattle.std.proofs.lemmas.Bool.{eq-eqb, ltb-true}
-use Rattle.std.proofs.lemmas.Option.{slice_get-get_or, slice_get-map, slice_get_within}
+use Rattle.std.proofs.lemmas.Bool.{ltb-true}
+use Rattle.std.proofs.lemmas.Option.{slice_get-map}
 use Rattle.std.proofs.lemmas.List.{length-map, map-append, take_all}
 use Rattle.std.proofs.lemmas.Bool.Decides.{nat_tests}
 use Rattle.std.proofs.lemmas.Simd.{map-map}
@@ -28,7 +27,8 @@ use Rattle.stream_case.specs.declared.stream.Stream.{Stream}
 use Rattle.stream_case.specs.declared.utility.Utility.{Utility}
 use Rattle.csv_rows.specs.Rows.{Row}
 use Rattle.case_text.specs.Given.{Given, Sources, case_of, contribution_by, field, forbid_by, forbid_named, given_by, kind_of, number, row_at, sources_by, stream_by, stream_data, stream_of, utility_by, utility_data, utility_of}
-use Rattle.case_text.specs.Checks.{checks, contribution_checks, end_checks, first_failing, forbid_checks, further_checks, is_among, is_heat, is_passed_over, is_price, is_reserved, is_reserved_from, is_source, is_taken, is_temperature, is_within, kind_checks, same_forbid, same_source, stream_checks, stream_number_checks, utility_checks, utility_number_checks}
+use Rattle.stream_case.proofs.SourceLemmas.{same_source-same}
+use Rattle.case_text.specs.Checks.{checks, contribution_checks, end_checks, first_failing, forbid_checks, further_checks, is_among, is_heat, is_passed_over, is_price, is_reserved, is_reserved_from, is_source, is_taken, is_temperature, is_within, kind_checks, same_forbid, stream_checks, stream_number_checks, utility_checks, utility_number_checks}
 use Rattle.case_text.specs.Answers.{GivesEach, GivesEntry, HasFewSources}
 use Rattle.case_text.specs.Outcome.{IsCase, SoundBefore}
 use Rattle.case_text.specs.declared.found.Entry.{Entry}
@@ -42,8 +42,9 @@ use Rattle.case_text.proofs.Entries.{free_name, neither}
 use Rattle.case_text.proofs.Lookups.{AllPairs-append, other_names, side_at, source_on, source_there}
 use Rattle.stream_case.specs.Name.{is_name}
 use Rattle.stream_case.proofs.NameTests.{passed-name}
+use Rattle.stream_case.proofs.CommonLemmas.{both, slice_get-append}
 use Rattle.case_text.proofs.RowFields.{passed_over-kind}
-use Rattle.case_text.proofs.Passes.{Passes, at_most, between, both, is_false, none_fails, right_way}
+use Rattle.case_text.proofs.Passes.{Passes, at_most, between, is_false, none_fails, right_way}
 use Rattle.case_text.proofs.Steps.{added, given_by-push, with_any, with_each}
 
 -- a stream, a utility and a forbidden match of a valid case with this contribution
@@ -174,18 +175,12 @@ one_utility_more contribution sources name utility fit fits room free =
 
 -- ---- one forbidden match more
 
-slice_get_front : {X : Type 0} (xs ys : List X) (i : ℕ) (x : X) → slice_get xs i ≡ Some x → slice_get (xs ++ ys) i ≡ Some x
-slice_get_front xs ys i x e =
-    let within = slice_get_within xs i x e in
-    let long = length-append xs ys in
-    slice_get-get_or (xs ++ ys) i x (omega (arith, within, long)) ∙ ap Some (get_or-append xs ys x i within) ∙ sym (slice_get-get_or xs i x within) ∙ e
-
 option_map_front : {X Y : Type 0} (f : X → Y) (xs ys : List X) (i : ℕ) (y : Y) → option_map f (slice_get xs i) ≡ Some y → option_map f (slice_get (xs ++ ys) i) ≡ Some y
 option_map_front {X = X} {Y = Y} f xs ys i y e = by (slice_get xs i) refl
   where
     by : (o : Option X) → slice_get xs i ≡ o → option_map f (slice_get (xs ++ ys) i) ≡ Some y
     by None here = cc (rw here at e)
-    by (Some x) here = ap (option_map f) (slice_get_front xs ys i x here) ∙ rw here at e
+    by (Some x) here = ap (option_map f) (slice_get-append xs ys i x here) ∙ rw here at e
 
 -- a source keeps its place and side where a stream or a utility is added
 stream_added : (sources : Sources) (ss : List (List ℕ × StreamData)) (s : Source) (of : Side) → side_at sources s ≡ Some of → side_at (record { streams = sources.streams ++ ss; utilities = sources.utilities }) s ≡ Some of
@@ -204,12 +199,8 @@ forbids_stay sources more stays forbids fit = record {
 }
 
 -- two forbidden matches that are the same pass the test
-pub same_itself : (s : Source) → same_source s s ≡ true
-same_itself (source.Stream i) = eq-eqb i i refl
-same_itself (source.Utility i) = eq-eqb i i refl
-
 forbid_itself : (f : Forbid) → same_forbid f f ≡ true
-forbid_itself f = rw (same_itself f.hot, same_itself f.cold) refl
+forbid_itself f = rw (same_source-same f.hot, same_source-same f.cold) refl
 
 other_forbids : (forbids : List Forbid) (f : Forbid) → list_any (same_forbid f) forbids ≡ false → All (λ g. g ≢ f) forbids
 other_forbids [] f none = All-nil (λ (g : Forbid). g ≢ f)

@@ -6,12 +6,11 @@ use Rattle.std.specs.Str.{bytes_eq}
 use Rattle.csv_rows.specs.Rows.{Row}
 use Rattle.stream_case.specs.Case.{most_forbids, most_streams, most_utilities}
 use Rattle.stream_case.specs.Name.{is_name}
+use Rattle.stream_case.specs.Source.{same_source}
 use Rattle.stream_case.specs.Stream.{same_side}
 use Rattle.stream_case.specs.declared.case.Forbid.{Forbid}
 use Rattle.stream_case.specs.declared.source.Side.{Side}
 use Rattle.stream_case.specs.declared.source.Side.TheVariants as side
-use Rattle.stream_case.specs.declared.source.Source.{Source}
-use Rattle.stream_case.specs.declared.source.Source.TheVariants as source
 use Rattle.case_text.specs.Numbers.{number_in}
 use Rattle.case_text.specs.Given.{Given, Sources, field, forbid_named, kind_of, number}
 use Rattle.case_text.specs.declared.found.StreamData.{StreamData}
@@ -103,12 +102,6 @@ unfoldable pub is_source : Side → Sources → List ℕ → Bool
 is_source of earlier name = is_side of (side_named earlier name)
 
 -- ---- forbidden matches
-
-abbrev pub same_source : Source → Source → Bool
-same_source (source.Stream i) (source.Stream j) = i == j
-same_source (source.Stream i) (source.Utility j) = false
-same_source (source.Utility i) (source.Stream j) = false
-same_source (source.Utility i) (source.Utility j) = i == j
 
 abbrev pub same_forbid : Forbid → Forbid → Bool
 same_forbid a b = same_source a.hot b.hot && same_source a.cold b.cold

@@ -8,6 +8,7 @@ ghost use Rattle.stream_case.specs.declared.case.Case.{Case};
 ghost use Rattle.case_text.specs.Checks.{checks, first_failing, further_checks};
 ghost use Rattle.case_text.specs.Answers.{Checked, GivesEntry, IsFreshIfAny};
 ghost use Rattle.case_text.specs.Outcome.{IsCase, IsFault, IsOutcome};
+ghost use Rattle.case_text.specs.Printed.{printed_rows, rows_text};
 
 use crate::contribution_row::contribution_of;
 use crate::fault::{CaseFault, CaseWhy};
@@ -91,4 +92,11 @@ pub fn rows_have_one_outcome()
     ensures fault { (rows : List Row) (row other : ℕ) (why because : CaseWhy) → IsFault rows row why → IsFault rows other because → (row ≡ other) × (why ≡ because) }
     ensures apart { (rows : List Row) (row : ℕ) (why : CaseWhy) (case : Case) → IsFault rows row why → IsCase rows case → ⊥ }
     ensures case { (rows : List Row) (case other : Case) → IsCase rows case → IsCase rows other → case ≡ other }
+{}
+
+/// The cases that the grammar gives are exactly the valid ones: what it gives is valid, and it gives
+/// each valid case for the rows that are printed of it.
+pub fn valid_cases_are_those_of_the_grammar()
+    ensures valid { (rows : List Row) (case : Case) → IsCase rows case → IsValid case }
+    ensures given { (case : Case) → IsValid case → IsCase (rows_of (rows_text (printed_rows case))) case }
 {}

@@ -24,7 +24,7 @@ use Rattle.problem_table.proofs.DeficitLemmas.{hot_target-between, cold_target-b
 use Rattle.grid.specs.declared.part.Part.{Part}
 use Rattle.grid.specs.Grid.{IsGrid}
 use Rattle.grid.specs.Part.{is_stream, AreCaseParts}
-use Rattle.grid.proofs.CaseLemmas.{streams_of_complete}
+use Rattle.stream_case.proofs.CompleteLemmas.{HasValidStreams-IsComplete}
 use Rattle.grid.proofs.PlaceLemmas.{interval_falls}
 use Rattle.grid.proofs.HeatLemmas.{heat_from}
 use Rattle.heat_flow.specs.declared.flow.Transfer.{Transfer}
@@ -220,7 +220,7 @@ cold_value f cold =
 
 pub corner-value : (c : Case) (hot cold : List Part) (place : ℤ) → IsComplete c → IsStandard c → AreCaseParts c hot cold → IsTight c.streams place → value_of hot cold (map (corner_price (hot_target c.streams) place) hot) (map (corner_price (hot_target c.streams) place) cold) ≡ hot_target c.streams
 corner-value c hot cold place complete standard parts reference =
-    let valid = streams_of_complete c complete in
+    let valid = HasValidStreams-IsComplete c complete in
     let target = hot_target c.streams in
     let price = corner_price target place in
     let hots = hot_side c parts.grid hot complete standard parts.is_grid parts.hot_parts in
@@ -254,7 +254,7 @@ corner-value c hot cold place complete standard parts reference =
 
 pub cost-at_least : (c : Case) (hot cold : List Part) (ts : List Transfer) → IsComplete c → IsStandard c → AreCaseParts c hot cold → IsFlowOf c hot cold ts → hot_target c.streams ≤ℤ cost_of hot cold ts
 cost-at_least c hot cold ts complete standard parts flow =
-    let (place, tight) = some_tight c.streams (streams_of_complete c complete) in
+    let (place, tight) = some_tight c.streams (HasValidStreams-IsComplete c complete) in
     let price = corner_price (hot_target c.streams) place in
     let bound = weak_duality (reach_between c hot cold) hot cold (map price hot) (map price cold) (corner-supports c hot cold place complete standard parts) ts flow in
     let value = corner-value c hot cold place complete standard parts tight in
@@ -276,7 +276,7 @@ as_pair-as_transfer (p ∷ ps) = ap (λ qs. p ∷ qs) (as_pair-as_transfer ps)
 -- the hot target is the least cost of a standard case
 pub least_cost : (c : Case) (hot cold : List Part) → IsComplete c → IsStandard c → AreCaseParts c hot cold → IsLeastCost (reach_between c hot cold) hot cold (hot_target c.streams)
 least_cost c hot cold complete standard parts =
-    let valid = streams_of_complete c complete in
+    let valid = HasValidStreams-IsComplete c complete in
     let ht = hot_target c.streams in
     let ct = cold_target c.streams in
     let hots = hot_side c parts.grid hot complete standard parts.is_grid parts.hot_parts in

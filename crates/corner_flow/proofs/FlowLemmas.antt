@@ -21,7 +21,7 @@ use Rattle.grid.specs.declared.part.Part.{Part}
 use Rattle.grid.specs.Bounds.{IsBounded}
 use Rattle.grid.specs.Grid.{IsGrid}
 use Rattle.grid.specs.Part.{is_stream, AreCaseParts}
-use Rattle.grid.proofs.CaseLemmas.{streams_of_complete}
+use Rattle.stream_case.proofs.CompleteLemmas.{HasValidStreams-IsComplete}
 use Rattle.grid.proofs.PlaceLemmas.{interval_ends}
 use Rattle.grid.proofs.HeatLemmas.{heat_from}
 use Rattle.heat_flow.specs.declared.flow.Transfer.{Transfer}
@@ -101,7 +101,7 @@ target_within m h = let from = h.from in let upto = h.upto in record { from = om
 
 pub corner-gives : (c : Case) (hot cold : List Part) (ts : List Transfer) → IsComplete c → IsStandard c → AreCaseParts c hot cold → IsCornerFlow c hot cold ts → GivesHeats c hot cold ts
 corner-gives c hot cold ts complete standard parts lists =
-    let valid = streams_of_complete c complete in
+    let valid = HasValidStreams-IsComplete c complete in
     let hots = hot_side c parts.grid hot complete standard parts.is_grid parts.hot_parts in
     let colds = cold_side c parts.grid cold complete standard parts.is_grid parts.cold_parts in
     let ht = hot_target c.streams in
@@ -127,7 +127,7 @@ part_at parts P h a p at = subst P (get_or_from_slice_get parts a p blank at) (h
 -- the corner flow is a heat flow
 pub corner-is_flow : (c : Case) (hot cold : List Part) (ts : List Transfer) → IsComplete c → IsStandard c → AreCaseParts c hot cold → IsCornerFlow c hot cold ts → IsFlowOf c hot cold ts
 corner-is_flow c hot cold ts complete standard parts lists =
-    let valid = streams_of_complete c complete in
+    let valid = HasValidStreams-IsComplete c complete in
     let hots = hot_side c parts.grid hot complete standard parts.is_grid parts.hot_parts in
     let colds = cold_side c parts.grid cold complete standard parts.is_grid parts.cold_parts in
     let ht = hot_target c.streams in

@@ -18,7 +18,7 @@ use Rattle.problem_table.specs.Deficit.{hot_target, IsPinch}
 use Rattle.problem_table.proofs.EndLemmas.{IsLeast-least, length-stream_ends}
 use Rattle.grid.specs.declared.part.Part.{Part}
 use Rattle.grid.specs.Part.{AreCaseParts}
-use Rattle.grid.proofs.CaseLemmas.{streams_of_complete}
+use Rattle.stream_case.proofs.CompleteLemmas.{HasValidStreams-IsComplete}
 use Rattle.grid.proofs.PlaceLemmas.{interval_falls}
 use Rattle.grid.proofs.HeatLemmas.{heat_from}
 use Rattle.heat_flow.specs.declared.flow.Transfer.{Transfer}
@@ -106,12 +106,12 @@ module _ (c : Case) (hot cold : List Part) (complete : IsComplete c) (standard :
 
   -- the hot utility stands above the pinch, and the cold one below it
   top_above : place ≤ℤ top_of c
-  top_above = (grid_within c parts.grid (streams_of_complete c complete) standard parts.is_grid place on_grid).1
+  top_above = (grid_within c parts.grid (HasValidStreams-IsComplete c complete) standard parts.is_grid place on_grid).1
 
   bottom_below : bottom_of c <ℤ place
   bottom_below =
       let (k, x, within, is, less) = pinch.inside.above_some in
-      let lowest = IsLeast-least (stream_ends c.streams) (length-stream_ends c.streams (streams_of_complete c complete).some) in
+      let lowest = IsLeast-least (stream_ends c.streams) (length-stream_ends c.streams (HasValidStreams-IsComplete c complete).some) in
       let bound = All-contains (λ y. bottom_of c ≤ℤ y) (stream_ends c.streams) x lowest.bound (k, within, is) in
       omega (arith, ints)
 

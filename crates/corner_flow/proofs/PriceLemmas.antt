@@ -16,7 +16,7 @@ use Rattle.problem_table.specs.Deficit.{hot_target}
 use Rattle.grid.specs.declared.part.Part.{Part}
 use Rattle.grid.specs.Grid.{shifted_level}
 use Rattle.grid.specs.Part.{is_stream, IsPartOf, comes_before_source, comes_before, AreParts, AreCaseParts}
-use Rattle.grid.proofs.CaseLemmas.{streams_of_complete}
+use Rattle.stream_case.proofs.CompleteLemmas.{HasValidStreams-IsComplete}
 use Rattle.grid.proofs.HeatLemmas.{heat_from}
 use Rattle.heat_flow.specs.declared.flow.Transfer.{Transfer}
 use Rattle.heat_flow.specs.Flow.{heat_at, side_cost, cost_of}
@@ -133,7 +133,7 @@ cost-is_hot c hot cold ts complete standard parts a p at utility =
 
 pub corner-cost : (c : Case) (hot cold : List Part) (ts : List Transfer) → IsComplete c → IsStandard c → AreCaseParts c hot cold → IsCornerFlow c hot cold ts → cost_of hot cold ts ≡ hot_target c.streams
 corner-cost c hot cold ts complete standard parts lists =
-    let valid = streams_of_complete c complete in
+    let valid = HasValidStreams-IsComplete c complete in
     let hots = hot_side c parts.grid hot complete standard parts.is_grid parts.hot_parts in
     let colds = cold_side c parts.grid cold complete standard parts.is_grid parts.cold_parts in
     let gives = corner-gives c hot cold ts complete standard parts lists in

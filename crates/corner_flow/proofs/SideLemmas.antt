@@ -17,7 +17,8 @@ use Rattle.grid.specs.declared.part.Part.{Part}
 use Rattle.grid.specs.Bounds.{IsBounded}
 use Rattle.grid.specs.Grid.{shifted_level, IsGrid}
 use Rattle.grid.specs.Part.{is_stream, IsInterval, IsPartOf, comes_before, AreParts}
-use Rattle.grid.proofs.CaseLemmas.{streams_of_complete, standard_hot_level, standard_cold_level}
+use Rattle.stream_case.proofs.CompleteLemmas.{HasValidStreams-IsComplete}
+use Rattle.grid.proofs.CaseLemmas.{standard_hot_level, standard_cold_level}
 use Rattle.grid.proofs.MakingLemmas.{AreParts-made}
 use Rattle.grid.proofs.HeatLemmas.{heat_from, sum-heat_from}
 use Rattle.grid.proofs.SizeLemmas.{IsBounded-part}
@@ -107,7 +108,7 @@ standard_side c grid side place price parts complete standard on_grid kind are =
   ordered = are.ordered;
   sum = λ at each found.
       ap (int_sum_by (heat_from at each)) (AreParts-made c side grid parts on_grid are)
-      ∙ sum-heat_from c side grid at each (streams_of_complete c complete).each on_grid found
+      ∙ sum-heat_from c side grid at each (HasValidStreams-IsComplete c complete).each on_grid found
       ∙ ap (λ z. z +ℤ side_heat c side at) (sum_utilities c standard side each);
 }
 

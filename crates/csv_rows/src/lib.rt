@@ -1,4 +1,4 @@
-//! The rows of a CSV text, one after the other: case files, site files and study files are read through them.
+//! The rows of a CSV text, one after the other; case files are read through them.
 #![tactic(auto)]
 
 mod row_reader;

@@ -15,7 +15,8 @@ use Rattle.stream_case.specs.declared.stream.Stream.{Stream}
 use Rattle.stream_case.specs.Stream.{is_hot, same_side}
 use Rattle.stream_case.specs.Case.{IsBetween, IsRightWay, IsValidStream, HasValidStreams}
 use Rattle.problem_table.specs.Sides.{most_stream_heat, most_heat}
-use Rattle.problem_table.proofs.DeficitLemmas.{length-HasValidStreams, sum_hot-between, sum_cold-between}
+use Rattle.stream_case.proofs.CaseLemmas.{length-HasValidStreams}
+use Rattle.problem_table.proofs.DeficitLemmas.{sum_hot-between, sum_cold-between}
 use Rattle.curves.specs.Below.{lower_temperature, higher_temperature, length_below, heat_below, sum_side, temperatures_of}
 
 -- ---- one stream

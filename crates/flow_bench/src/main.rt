@@ -1,5 +1,6 @@
 //! Solves a net of the DIMACS form for minimum-cost flow problems, from the file that the argument
-//! names, checks the answer, and prints its cost. The time goes to the standard error.
+//! names, checks that the potentials prove the flow, and prints what it costs. The time goes to the
+//! standard error.
 #![tactic(auto)]
 
 mod answer;

@@ -65,8 +65,8 @@ abbrev pub greatest_size : {X : Type 0} → (X → ℤ) → List X → ℕ
 greatest_size f [] = 0
 greatest_size f (x ∷ xs) = max (unsigned_abs (f x)) (greatest_size f xs)
 
--- how large a potential may be: three times the largest start number, and the number of nodes
--- times the largest cost
+-- how large a potential may be: three times the greatest absolute start number, plus the number of nodes
+-- times the greatest absolute cost
 abbrev pub potential_bound : Net → List ℤ → ℕ
 potential_bound net start = 3 * greatest_size (λ s. s) start + net.nodes * greatest_size (λ l. l.cost) net.links
 

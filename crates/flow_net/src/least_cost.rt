@@ -19,8 +19,11 @@ use stream_case::Items;
 ///
 /// The start numbers, one for each node, are potentials at which no link with room has a reduced
 /// cost below 0: its cost with the start number of its first node, less that of its second.
-/// Each potential of the answer is in absolute value at most three times the largest start number,
-/// and the number of nodes times the largest cost.
+/// Each potential of the answer is in absolute value at most three times the greatest absolute start
+/// number plus the number of nodes times the greatest absolute cost.
+///
+/// The net has at most 200,000 nodes and 1,000,000 links, with rooms from 0 to 10^16 and costs from
+/// -10^12 to 10^12; the amount is at most 10^16. Rooms, amounts and costs have any units.
 pub fn solve(
     alloc: Global,
     net: &Net,

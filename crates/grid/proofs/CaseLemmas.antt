@@ -10,10 +10,9 @@ use Rattle.stream_case.specs.declared.stream.Stream.{Stream}
 use Rattle.stream_case.specs.declared.utility.Utility.{Utility}
 use Rattle.stream_case.specs.declared.case.Case.{Case}
 use Rattle.stream_case.specs.Shift.{shifted}
-use Rattle.stream_case.specs.Stream.{is_hot, same_side, stream_ends}
-use Rattle.stream_case.specs.Case.{most_streams, most_utilities, IsBetween, IsValidStream, HasValidStreams, IsValidUtility, greatest, least, standard_hot, standard_cold, unless_given, IsComplete}
+use Rattle.stream_case.specs.Stream.{same_side, stream_ends}
+use Rattle.stream_case.specs.Case.{most_utilities, IsBetween, IsValidStream, IsValidUtility, greatest, least, standard_hot, standard_cold, unless_given, IsComplete}
 use Rattle.stream_case.proofs.EndLemmas.{TakesEnd-high, TakesEnd-low, whole_ends-between}
-use Rattle.sums.proofs.CountLemmas.{count_by-add-not}
 use Rattle.grid.specs.Grid.{shifted_level}
 use Rattle.grid.specs.Utilities.{IsPlaced}
 
@@ -65,9 +64,6 @@ length-unless_given u us = either (list_any (λ v. same_side v.side u.side) us)
     either true = omega arith
     either false = omega arith
 
-pub streams_of_complete : (c : Case) → IsComplete c → HasValidStreams c.streams
-streams_of_complete c (k, valid, is) = subst HasValidStreams (sym (ap (λ z. z.streams) is)) valid.streams
-
 pub utilities_of_complete : (c : Case) → IsComplete c → All IsPlaced c.utilities
 utilities_of_complete c (k, valid, is) =
     let hot = unless_given (standard_hot k) k.utilities in
@@ -79,14 +75,7 @@ utilities_of_complete c (k, valid, is) =
     (All-unless_given IsPlaced (standard_hot k) k.utilities (IsPlaced-standard_hot k streams)))
     (All-unless_given IsPlaced (standard_cold k) k.utilities (IsPlaced-standard_cold k streams)))
 
--- how many streams and utilities there are
-pub length-streams : (ss : List Stream) → HasValidStreams ss → length ss ≤ 2 * most_streams
-length-streams ss h =
-    let both = count_by-add-not (λ s. is_hot s.side) ss in
-    let hot = h.hot in
-    let cold = h.cold in
-    omega arith
-
+-- how many utilities there are
 pub length-utilities : (c : Case) → IsComplete c → length c.utilities ≤ most_utilities + 2
 length-utilities c (k, valid, is) =
     let hot = unless_given (standard_hot k) k.utilities in

@@ -27,7 +27,9 @@ use Rattle.grid.specs.Part.{IsStreamPart, IsUtilityPart, IsPartOf}
 use Rattle.grid.specs.Utilities.{IsPlaced}
 use Rattle.grid.specs.Grid.{shifted_level, places_of, IsGrid}
 use Rattle.grid.specs.Making.{picked, is_here, covers, utility_part, stream_part, interval_parts, made_parts}
-use Rattle.grid.proofs.CaseLemmas.{streams_of_complete, utilities_of_complete, length-streams, length-utilities}
+use Rattle.stream_case.proofs.CompleteLemmas.{HasValidStreams-IsComplete}
+use Rattle.stream_case.proofs.CaseLemmas.{length-HasValidStreams}
+use Rattle.grid.proofs.CaseLemmas.{utilities_of_complete, length-utilities}
 use Rattle.grid.proofs.PlaceLemmas.{interval_falls}
 use Rattle.grid.proofs.MakingLemmas.{same_side-from, is_here-true, covers-true, made_parts-AreParts}
 
@@ -104,8 +106,8 @@ length-made c side (g ∷ grid) falls =
 -- a side has few parts
 pub length-made-few : (c : Case) (side : Side) (grid : List ℤ) → IsComplete c → IsGrid c grid → length (made_parts c side grid) ≤ most_parts
 length-made-few c side grid complete h =
-    let streams = streams_of_complete c complete in
-    let places : length grid ≤ 2 * (2 * most_streams) + (most_utilities + 2) = omega (arith, length-grid c grid h, length-streams c.streams streams, length-utilities c complete) in
+    let streams = HasValidStreams-IsComplete c complete in
+    let places : length grid ≤ 2 * (2 * most_streams) + (most_utilities + 2) = omega (arith, length-grid c grid h, length-HasValidStreams c.streams streams, length-utilities c complete) in
     let product = mul-le-mul places (few_on_side c.streams side streams) in
     omega (arith, length-made c side grid h.ordered, product, length-utilities c complete)
 
@@ -130,7 +132,7 @@ stream_ends-push xs i x before now between next high low within is so_far is_hig
 -- a stream's part is within the stream's range, so its heat is within the limits
 stream_bounds : (c : Case) (grid : List ℤ) (side : Side) (i : ℕ) (s : Stream) (p : Part) → IsComplete c → IsGrid c grid → IsStreamPart c grid side i s p → IsBounded p
 stream_bounds c grid side i s p complete on_grid h =
-    let streams = streams_of_complete c complete in
+    let streams = HasValidStreams-IsComplete c complete in
     let valid = All-contains IsValidStream c.streams s streams.each (i, slice_get_within c.streams i s h.stream, get_or_from_slice_get c.streams i s s h.stream) in
     let falls = interval_falls grid p.high p.low on_grid.ordered h.interval in
     let ends = AreEnds-IsValidStream s valid in

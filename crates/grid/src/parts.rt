@@ -5,7 +5,10 @@ ghost use Rattle.grid.specs.Bounds.{IsBounded, most_parts};
 use crate::part::Part;
 use stream_case::Items;
 
-/// The hot and the cold parts.
+/// The hot and the cold parts of a case. Each list goes by falling high, then by falling low, then
+/// streams before utilities in the order of the case. It has at most 5,000 parts; each has a least
+/// from 0 to its most, a most of at most 1,000,000,000,000 W and a price from -1,000,000 to
+/// 1,000,000 a watt, which is 0 for a stream.
 #[derive(Debug, Drop)]
 pub struct Parts {
     pub hot: Items<Part>,

@@ -2,7 +2,7 @@
 use Rattle.std.proofs.Common.{◌≡◌, ◌≢◌, ⊎_elim, inl, inr, ◌∙◌, refl, sym, ap, ap₂, subst, ℕ, zero, suc, ◌+◌, ◌*◌, ◌<◌, Bool, true, false, not, ◌&&◌, ◌||◌, List, [], ◌∷◌, ◌++◌, length, get_or, take, set, map, Some, arith, length-set, length-append}
 use Rattle.std.specs.Prelude.{ℤ, nat_lt, All, slice_get, option_map}
 use Rattle.std.specs.List.{list_any}
-use Rattle.std.proofs.lemmas.Bool.{and_left, eqb-true, eqb-false, eq-eqb, lt-ltb, le-ltb, cases_Bool, cases_lt}
+use Rattle.std.proofs.lemmas.Bool.{and_left, eqb-false, lt-ltb, le-ltb, cases_Bool, cases_lt}
 use Rattle.std.proofs.lemmas.List.{get_or-set_same, get_or-set_other, get_or_append_left, get_or-append-add, get_or-map, length-map}
 use Rattle.std.proofs.lemmas.List.Elements.{All-weaker}
 use Rattle.std.proofs.lemmas.List.Folds.{list_any_more}
@@ -16,7 +16,9 @@ use Rattle.stream_case.specs.declared.case.Case.{Case}
 use Rattle.stream_case.specs.Case.{side_of, IsValidForbid, standard_hot, standard_cold, unless_given, completed, IsComplete}
 use Rattle.grid.specs.declared.part.Part.{Part}
 use Rattle.grid.specs.Part.{IsPartOf, AreParts}
-use Rattle.heat_flow.specs.Reach.{IsSourceOf, same_source, is_forbidden, part_reaches, both_reach, reach_between}
+use Rattle.stream_case.specs.Source.{same_source}
+use Rattle.stream_case.proofs.SourceLemmas.{same_source-true}
+use Rattle.heat_flow.specs.Reach.{IsSourceOf, is_forbidden, part_reaches, both_reach, reach_between}
 use Rattle.heat_flow.specs.Cells.{source_place, ArePermissions, cell_rows}
 use Rattle.heat_flow.proofs.PriceLemmas.{blank}
 
@@ -50,16 +52,6 @@ or_true false = refl
 or_false : (b : Bool) → (b || false) ≡ b
 or_false true = refl
 or_false false = refl
-
-same_source-true : (a b : Source) → same_source a b ≡ true → a ≡ b
-same_source-true (of_stream i) (of_stream j) h = ap of_stream (eqb-true i j h)
-same_source-true (of_stream i) (of_utility j) h = cc
-same_source-true (of_utility i) (of_stream j) h = cc
-same_source-true (of_utility i) (of_utility j) h = ap of_utility (eqb-true i j h)
-
-same_source-same : (a : Source) → same_source a a ≡ true
-same_source-same (of_stream i) = eq-eqb i i refl
-same_source-same (of_utility i) = eq-eqb i i refl
 
 source_place-apart : (c : Case) (a b : Source) → IsSourceOf c a → IsSourceOf c b → same_source a b ≡ false → source_place c b ≢ source_place c a
 source_place-apart c (of_stream i) (of_stream j) h k apart e = eqb-false i j apart (sym e)

@@ -1,23 +1,18 @@
 -- Which parts reach which: heat passes downward or within an interval, unless the match is forbidden.
-use Rattle.std.specs.Prelude.{◌<◌, ℕ, int_le, Bool, false, not, ◌&&◌, ◌||◌, ◌==◌, List, length, Option, Some, None, slice_get}
+use Rattle.std.specs.Prelude.{◌<◌, ℕ, int_le, Bool, false, not, ◌&&◌, ◌||◌, List, length, Option, Some, None, slice_get}
 use Rattle.std.specs.Ordering.{int_eq}
 use Rattle.std.specs.List.{list_any}
 use Rattle.stream_case.specs.declared.source.Source.{Source}
 use Rattle.stream_case.specs.declared.source.Source.TheVariants.{Stream as of_stream, Utility as of_utility}
 use Rattle.stream_case.specs.declared.case.Forbid.{Forbid}
 use Rattle.stream_case.specs.declared.case.Case.{Case}
+use Rattle.stream_case.specs.Source.{same_source}
 use Rattle.grid.specs.declared.part.Part.{Part}
 
 -- a source of the case
 abbrev pub IsSourceOf : Case → Source → Type 0
 IsSourceOf c (of_stream i) = i < length c.streams
 IsSourceOf c (of_utility i) = i < length c.utilities
-
-abbrev pub same_source : Source → Source → Bool
-same_source (of_stream i) (of_stream j) = i == j
-same_source (of_stream i) (of_utility j) = false
-same_source (of_utility i) (of_stream j) = false
-same_source (of_utility i) (of_utility j) = i == j
 
 -- the pair of sources is a forbidden match
 abbrev pub is_forbidden : List Forbid → Source → Source → Bool

@@ -3,7 +3,8 @@ ghost use Rattle.std.specs.Prelude.{◌≡◌, ◌≤◌, ℕ, ◌++◌, map, le
 ghost use Rattle.stream_case.specs.Case.{IsComplete};
 ghost use Rattle.grid.specs.Bounds.{most_parts};
 ghost use Rattle.heat_flow.specs.Cells.{source_place, ArePermissions, cell_rows};
-ghost use Rattle.heat_flow.specs.Reach.{IsSourceOf, same_source, passes_heat, part_reaches, reach_between};
+ghost use Rattle.stream_case.specs.Source.{same_source};
+ghost use Rattle.heat_flow.specs.Reach.{IsSourceOf, passes_heat, part_reaches, reach_between};
 ghost use Rattle.heat_flow.specs.Table.{reaches};
 
 use crate::reach::Reach;

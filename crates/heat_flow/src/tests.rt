@@ -6,6 +6,10 @@ use std::test::Fail;
 use stream_case::Side::{Cold, Hot};
 use stream_case::{Case, Items, Name, Side, Stream, complete, is_complete, is_valid};
 
+const T: bool = true;
+
+const F: bool = false;
+
 // A stream with a contribution of 5 °C.
 fn stream(rt: &impl Abort, name: &[u8], side: Side, supply: i32, target: i32, cp: i64) -> Stream {
     Stream {
@@ -40,6 +44,12 @@ fn heat_passes_downward_and_within_an_interval(rt: HostRuntime) -> Result<(), Fa
     assert_eq!(rt; reach.hots, 9);
     assert_eq!(rt; reach.colds, 6);
     assert!(rt; reach.hots == 9 && reach.colds == 6);
+    // Row by row over the hot parts: all reach what lies in their interval or below it.
+    let cells = [
+        T, T, T, T, T, T, T, T, T, T, T, T, T, T, T, T, T, T, T, T, T, T, T, T, F, T, T, T, T, T,
+        F, T, T, T, T, T, F, F, F, T, T, T, F, F, F, T, T, T, F, F, F, F, T, T,
+    ];
+    assert_eq!(rt; reach.cells.as_slice(), cells.as_slice());
     // HOT reaches every cold part.
     assert!(rt; reaches(&reach, 0, 0));
     assert!(rt; reaches(&reach, 0, 5));

@@ -9,6 +9,7 @@ use Rattle.std.proofs.lemmas.List.Sums.{sum_by-append, sum_by-cons}
 use Rattle.std.proofs.lemmas.Option.{get_or_from_slice_get, slice_get_within}
 use Rattle.stream_case.specs.declared.case.Case.{Case}
 use Rattle.stream_case.specs.declared.source.Source.{Source}
+use Rattle.stream_case.proofs.CommonLemmas.{slice_get-append}
 use Rattle.fractions.specs.Rationals.{Rational}
 use Rattle.network_text.specs.Lines.{Exchanger, exchangers_of, passages_of, stream_at}
 use Rattle.network_text.specs.Given.{exchanger_named}
@@ -87,11 +88,6 @@ declared case network place name hot cold duty is =
     }
 
 -- ---- a pass
-
-slice_get-append : {X : Type 0} (xs ys : List X) (i : ℕ) (x : X) → slice_get xs i ≡ Some x → slice_get (xs ++ ys) i ≡ Some x
-slice_get-append [] ys i x at = cc at
-slice_get-append (a ∷ xs) ys zero x at = at
-slice_get-append (a ∷ xs) ys (suc i) x at = slice_get-append xs ys i x at
 
 joined : (e : Exchanger) (stream : ℕ) → Joins e stream → has_stream stream (Some e) ≡ true
 joined e stream (inl hot) =

@@ -4,7 +4,7 @@ use Rattle.std.specs.Prelude.{nat_le, unsigned_abs}
 use Rattle.std.proofs.lemmas.Bool.Decides.{nat_tests}
 use Rattle.fractions.specs.Rationals.{Gives, IsWithinLimits, Rational, is_within_limits, ratio}
 use Rattle.network_text.specs.Fractions.{bounded_ratio}
-use Rattle.network_text.proofs.NameTests.{both}
+use Rattle.stream_case.proofs.CommonLemmas.{both}
 
 le_from_test : (m n : ℕ) → nat_le m n ≡ true → m ≤ n
 le_from_test m n e = grind (arith, nat_tests, e)

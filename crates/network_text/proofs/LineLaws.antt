@@ -10,15 +10,9 @@ use Rattle.network_text.specs.Lines.{exchanger_of, exchangers_of, made_by, makes
 use Rattle.network_text.specs.declared.network.Branch.{Branch}
 use Rattle.network_text.specs.declared.network.Line.{Line}
 use Rattle.network_text.specs.declared.network.Line.TheVariants as line
+use Rattle.stream_case.proofs.CommonLemmas.{filter_map-push}
 
 -- one element more
-pub filter_map-push : {X Y : Type 0} (h : X → Option Y) (xs : List X) (x : X) → filter_map h (xs ++ x ∷ []) ≡ filter_map h xs ++ option_to_list (h x)
-filter_map-push {Y = Y} h xs x = filter_map-append h xs (x ∷ []) ∙ ap (λ ys. filter_map h xs ++ ys) (alone (h x))
-  where
-    alone : (o : Option Y) → cons_option o [] ≡ option_to_list o
-    alone None = refl
-    alone (Some y) = refl
-
 pub flat_map-push : {X Y : Type 0} (h : X → List Y) (xs : List X) (x : X) → flat_map h (xs ++ x ∷ []) ≡ flat_map h xs ++ h x
 flat_map-push h xs x = flat_map-append h xs (x ∷ []) ∙ ap (λ ys. flat_map h xs ++ ys) (append-nil (h x))
 

@@ -4,12 +4,8 @@ use Rattle.std.specs.Prelude.{Option, Some, None, SomeIff, IfSome, is_some}
 use Rattle.std.proofs.lemmas.Bool.{eqb-true}
 use Rattle.stream_case.specs.Name.{IsAnyName, IsDottedName, is_name}
 use Rattle.stream_case.proofs.NameTests.{name-passes, not_true, passed-name}
+use Rattle.stream_case.proofs.CommonLemmas.{both}
 use Rattle.network_text.specs.Names.{is_branch_name, is_dotted_name}
-
-pub both : (a b : Bool) → (a && b) ≡ true → (a ≡ true) × (b ≡ true)
-both true true e = (refl, refl)
-both true false e = cc e
-both false b e = cc e
 
 dotted-passes : (text : List ℕ) → IsDottedName text → is_dotted_name text ≡ true
 unfolding is_dotted_name

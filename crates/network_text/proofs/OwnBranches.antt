@@ -22,8 +22,9 @@ use Rattle.network_text.specs.Lines.{exchangers_of, passages_of, used_by}
 use Rattle.network_text.specs.Given.{own_branches, start}
 use Rattle.network_text.specs.Answers.{HasSources, IsTracked, named_branch, own_entries, own_entry}
 use Rattle.stream_case.proofs.NameTests.{name-passes, not_true}
+use Rattle.stream_case.proofs.CommonLemmas.{none_there}
 use Rattle.network_text.proofs.NameTests.{name-branch_name}
-use Rattle.network_text.proofs.Positions.{is_some-position, none_there}
+use Rattle.network_text.proofs.Positions.{is_some-position}
 use Rattle.network_text.proofs.LineLaws.{all_front}
 use Rattle.network_text.proofs.Tables.{so_far}
 

@@ -27,6 +27,7 @@ use Rattle.network_text.specs.declared.kind.Kind.TheVariants as kind
 use Rattle.network_text.specs.declared.network.Network.{Network}
 use Rattle.network_text.proofs.PrintFields.{fraction-back}
 use Rattle.stream_case.proofs.NameTests.{name-passes}
+use Rattle.stream_case.proofs.CommonLemmas.{both_true, own_side}
 use Rattle.network_text.proofs.PrintNames.{IsFound}
 
 -- each check holds
@@ -89,10 +90,6 @@ fraction_passes a positive =
 
 -- ---- exchangers
 
-own_side : (of : Side) → same_side of of ≡ true
-own_side side.Hot = refl
-own_side side.Cold = refl
-
 at_source : (case : Case) (s : Source) → IsFound case s → source_at case (source_name case s) ≡ s
 unfolding source_at
 at_source case s found = ap (λ o. unwrap_or o (source.Stream 0)) found.named
@@ -100,9 +97,6 @@ at_source case s found = ap (λ o. unwrap_or o (source.Stream 0)) found.named
 on_side : (case : Case) (s : Source) (of : Side) → IsFound case s → side_of case s ≡ Some of → is_on case of (source_at case (source_name case s)) ≡ true
 unfolding is_on
 on_side case s of found on = rw (at_source case s found, on) (own_side of)
-
-both_true : (a b : Bool) → a ≡ true → b ≡ true → (a && b) ≡ true
-both_true a b ea eb = rw (ea, eb) refl
 
 pub exchanger_follows : (case : Case) (given : Network) (name : List ℕ) (hot cold : Source) (duty : Rational) → HasRoom given → length (exchangers_of given.lines) < most_exchangers
     → IsName name → exchanger_named given name ≡ None → IsFound case hot → IsFound case cold → side_of case hot ≡ Some side.Hot → side_of case cold ≡ Some side.Cold → IsPositive duty

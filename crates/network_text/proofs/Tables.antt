@@ -28,8 +28,8 @@ use Rattle.network_text.specs.declared.network.Branch.{Branch}
 use Rattle.network_text.specs.declared.network.Line.{Line}
 use Rattle.network_text.specs.declared.network.Network.{Network}
 use Rattle.stream_case.specs.declared.source.Source.{Source}
-use Rattle.network_text.proofs.NameTests.{both}
-use Rattle.network_text.proofs.Positions.{is_some-position, none_there}
+use Rattle.stream_case.proofs.CommonLemmas.{both, none_there}
+use Rattle.network_text.proofs.Positions.{is_some-position}
 use Rattle.network_text.proofs.LineLaws.{exchangers_of-push, few_exchangers, passages_of-front, passages_of-push, used_by-push}
 
 -- ---- names

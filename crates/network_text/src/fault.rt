@@ -16,11 +16,11 @@ pub enum NetWhy {
     UnknownName,
     /// The hot source of an exchanger is cold, or the cold one hot.
     WrongSide,
-    /// An earlier exchanger, or an earlier branch, has the name.
+    /// An earlier exchanger, or an earlier branch, has the name, or the first new branch of this split.
     SameName,
     /// No earlier statement made this branch.
     UnknownBranch,
-    /// An earlier statement used this branch.
+    /// An earlier statement used this branch, or it is the first one of this mix.
     SpentBranch,
     /// The exchanger has no side of the branch's stream, or that side was passed already.
     WrongPass,
@@ -43,6 +43,7 @@ pub enum NetFault {
     /// pass that is missing at the end, it is the statement of the exchanger.
     #[error("statement {line}: {why:?}")]
     At { line: u32, why: NetWhy },
+    /// There was not memory enough.
     #[error("out of memory")]
     OutOfMemory,
 }

@@ -31,13 +31,13 @@ pub enum Line {
         cp: Frac,
         second: u32,
     },
-    /// A branch passes an exchanger, on the side of its stream.
+    /// A branch passes an exchanger, on the side of its stream; behind it, it is the branch `to`.
     Pass {
         from: u32,
         exchanger: u32,
         to: u32,
     },
-    /// Two branches of one stream are joined.
+    /// Two branches of one stream are joined to the branch `to`.
     Mix {
         first: u32,
         second: u32,

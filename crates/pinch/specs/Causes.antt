@@ -13,7 +13,7 @@ use Rattle.reports.specs.declared.shown.Shown.TheVariants.{BadWords, ReadFault, 
 abbrev pub file_name : List (List ℕ) → FileRole → List ℕ
 file_name words Case = word_at words 1
 
--- When the answers that are no result come, for words that are a command of one or two files.
+-- When the answers that are no result come, for words that are a command.
 pub record Causes (words : List (List ℕ)) (old new : ShelfState) (shown : Shown) : Type 0 where
   -- the words are not blamed
   pub words_stand : shown ≡ BadWords → ⊥

@@ -24,8 +24,8 @@ use stream_case::Items;
 /// How the program ended, and what it showed.
 #[derive(Debug, Drop)]
 pub struct Done {
-    /// The exit status: 0 answered, 2 no command, 3 case refused, 5 file too long, 6 read fault,
-    /// 7 write fault, 8 want of memory.
+    /// The exit status: 0 answered, 2 no command, 3 case refused or not standard, 5 file too long,
+    /// 6 read fault, 7 write fault, 8 want of memory.
     pub status: u8,
     /// What is shown; nothing exactly where memory is wanted.
     pub shown: Option<Shown>,

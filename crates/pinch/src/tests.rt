@@ -1,6 +1,7 @@
 use super::*;
 use pinch_outside::{MemoryFile, MemoryShelf, MemorySink};
 use std::alloc::Global;
+use std::env::FillError;
 use std::process::Abort;
 use std::test::Fail;
 use std::thread::Threads;
@@ -442,6 +443,14 @@ take COLD 250 250 0
                    move H 350 250 COLD 250 250 1000\ngive HOT 750 750 1\ngive H 350 250 0\n\
                    take C 750 650 1\ntake COLD 250 250 0\n",
         },
+        // The standard utilities, given by the file in the other order, at the ends of the stream.
+        Answered {
+            case: "contribution,,50,,,,\nhot,H,1000,500,10,,\n\
+                   cooler,COLD,400,0,1000000000000,0,\nheater,HOT,1000,0,1000000000000,1,\n",
+            status: 0,
+            text: "cost 0\nuse COLD 5000\nuse HOT 0\nmove H 950 450 COLD 450 450 5000\n\
+                   give HOT 950 950 0\ngive H 950 450 0\ntake COLD 450 450 0\n",
+        },
         // Two heaters: the case is not standard.
         Answered {
             case: "contribution,,50,,,,\ncold,C1,200,1350,200,,\nhot,H2,1700,600,300,,\n\
@@ -476,6 +485,49 @@ fn curves_of_worked_tables(rt: HostRuntime) -> Result<(), Fail> {
     ];
     for row in &rows {
         check_command(&rt, "curves", row)?;
+    }
+    Ok(())
+}
+
+/// The arguments of a program, from its name on.
+#[derive(Drop)]
+struct Arguments<'a> {
+    words: &'a [&'a [u8]],
+}
+
+impl Env for Arguments<'_> {
+    fn arg(&self, i: usize, buf: &mut [u8]) -> Result<usize, FillError> {
+        let Some(word) = self.words.get(i) else {
+            return Err(FillError::NotPresent);
+        };
+        if buf.len() < word.len() {
+            return Err(FillError::TooLong);
+        }
+        buf[..word.len()].copy_from_slice(word);
+        Ok(word.len())
+    }
+
+    fn var(&self, _name: &str, _buf: &mut [u8]) -> Result<usize, FillError> {
+        Err(FillError::NotPresent)
+    }
+
+    fn var_at(&self, _i: usize, _buf: &mut [u8]) -> Result<usize, FillError> {
+        Err(FillError::NotPresent)
+    }
+}
+
+#[test]
+fn an_argument_that_is_no_text_leaves_no_words(rt: HostRuntime) -> Result<(), Fail> {
+    let name = b"pinch".as_slice();
+    let targets = b"targets".as_slice();
+    let rows = [
+        ([name, targets, b"plant.csv".as_slice()], 2),
+        ([name, targets, b"\xff".as_slice()], 0),
+        ([name, b"\xff".as_slice(), targets], 0),
+    ];
+    for (arguments, count) in &rows {
+        let words = collect_words(&(Arguments { words: arguments }, rt.alloc()))?;
+        assert_eq!(rt; words.len(), *count);
     }
     Ok(())
 }

@@ -13,23 +13,12 @@ use Rattle.stream_case.specs.declared.source.Side.TheVariants.{Hot, Cold}
 use Rattle.stream_case.specs.declared.stream.Stream.{Stream}
 use Rattle.stream_case.specs.Stream.{is_hot, high_end, low_end, heat_above, heat_of, stream_ends}
 use Rattle.stream_case.specs.Case.{IsBetween, IsValidStream, HasValidStreams, greatest, least}
+use Rattle.stream_case.proofs.CaseLemmas.{length-HasValidStreams}
 use Rattle.stream_case.proofs.EndLemmas.{AreEnds-IsValidStream}
 use Rattle.problem_table.specs.Sides.{sum_hot, sum_cold, most_stream_heat, most_heat}
 use Rattle.problem_table.specs.Deficit.{deficit_above, hot_target, cold_target, IsTight}
 use Rattle.problem_table.proofs.HeatLemmas.{heat_above-between, heat_above-le, heat_above-none, heat_above-all, heat_of-between}
 use Rattle.problem_table.proofs.EndLemmas.{stream_ends-more, IsGreatest-greatest, IsLeast-least, length-stream_ends, each_high_end, each_low_end}
-
--- ---- the number of streams
-
-length-by_side : (streams : List Stream) → count_by (λ s. is_hot s.side) streams + count_by (λ s. not (is_hot s.side)) streams ≡ length streams
-length-by_side streams =
-    let hot = λ (s : Stream). is_hot s.side in
-    let cold = λ (s : Stream). not (is_hot s.side) in
-    let moved = length_permutation streams (filter hot streams ++ filter cold streams) (IsPermutation-filter_both hot cold (λ s. refl) streams) in
-    omega (arith, moved, length-append (filter hot streams) (filter cold streams), length-filter hot streams, length-filter cold streams)
-
-pub length-HasValidStreams : (streams : List Stream) → HasValidStreams streams → length streams ≤ 60
-length-HasValidStreams streams h = let whole = length-by_side streams in let hot = h.hot in let cold = h.cold in omega arith
 
 -- ---- sums over one side, of a term that is not negative
 

@@ -3,5 +3,4 @@ pub mod EndLemmas
 pub mod HeatLemmas
 pub mod PinchLemmas
 pub mod PlaceLemmas
-pub mod ValidLemmas
 pub mod WorkedExample

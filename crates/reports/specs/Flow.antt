@@ -16,7 +16,7 @@ use Rattle.heat_flow.specs.declared.flow.Transfer.{Transfer}
 use Rattle.heat_flow.specs.declared.prices.Prices.{Prices}
 use Rattle.heat_flow.specs.Flow.{place_of}
 use Rattle.heat_flow.specs.Prices.{price_at}
-use Rattle.heat_flow.specs.Reach.{same_source}
+use Rattle.stream_case.specs.Source.{same_source}
 use Rattle.reports.specs.Lines.{line, texts_from}
 
 -- the name of a source of the case; empty where the case has no such source

@@ -3,7 +3,7 @@ ghost use Rattle.std.specs.Prelude.{◌≡◌, ◌++◌, IfOk, codes, string_byt
 ghost use Rattle.std.specs.List.{flat_map};
 ghost use Rattle.heat_flow.specs.Flow.{place_of};
 ghost use Rattle.heat_flow.specs.Prices.{price_at};
-ghost use Rattle.heat_flow.specs.Reach.{same_source};
+ghost use Rattle.stream_case.specs.Source.{same_source};
 ghost use Rattle.reports.specs.Lines.{line, texts_from};
 ghost use Rattle.reports.specs.Flow.{source_name, part_text, part_at, is_of_utility, heat_of_utility, utility_heat, side_parts, use_line, move_line, price_line, price_lines, flow_text};
 

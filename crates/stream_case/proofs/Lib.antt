@@ -1,4 +1,5 @@
 pub mod CaseLemmas
+pub mod CommonLemmas
 pub mod CompleteLemmas
 pub mod DigitLemmas
 pub mod DistinctLemmas
@@ -6,3 +7,4 @@ pub mod EndLemmas
 pub mod NameLemmas
 pub mod NameTests
 pub mod SameLemmas
+pub mod SourceLemmas

@@ -2,4 +2,5 @@ pub mod Case
 pub mod Digits
 pub mod Name
 pub mod Shift
+pub mod Source
 pub mod Stream

@@ -18,6 +18,7 @@ impl<T> Model for Items<T> {
 }
 
 impl<T> Items<T> {
+    /// An empty list, which takes no memory.
     pub fn new(alloc: Global) -> Items<T>
         ensures { result ≡ [] }
     {
@@ -26,36 +27,42 @@ impl<T> Items<T> {
         }
     }
 
+    /// The items of a vector, in their order.
     pub fn from_vec(items: Vec<T>) -> Items<T>
         ensures { result ≡ items.items }
     {
         Items { items }
     }
 
+    /// How many items there are.
     pub fn len(&self) -> usize
         ensures { result ≡ length self.now }
     {
         self.items.len()
     }
 
+    /// Whether there are none.
     pub fn is_empty(&self) -> bool
         ensures { IsTrue result ↔ (self.now ≡ []) }
     {
         self.items.is_empty()
     }
 
+    /// The item at a place, from 0; none exactly where the place is at least the number of items.
     pub fn get(&self, index: usize) -> Option<&T>
         ensures { option_copied result ≡ slice_get self.now index }
     {
         self.items.get(index)
     }
 
+    /// The items as a slice.
     pub fn as_slice(&self) -> &[T]
         ensures { result.now ≡ self.now }
     {
         self.items.as_slice()
     }
 
+    /// Appends an item, or changes nothing where there is not memory enough.
     pub fn push(&mut self, item: T) -> Result<(), AllocError>
     where
         T: Drop,

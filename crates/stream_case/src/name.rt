@@ -14,7 +14,9 @@ use std::fmt;
 use std::hash::{Hash, Hasher};
 use std::marker::Model;
 
-/// A name, or a dotted name. A contract sees it as its bytes.
+/// A name, or a dotted name. A name has 1 to 16 bytes out of ASCII letters, digits, `_` and `-`, and
+/// begins with a letter or a digit; a dotted name is `.` and a name, and only branches of a network
+/// have one (this project's rule). A contract sees it as its bytes.
 #[derive(Clone, Copy)]
 pub struct Name {
     // The name's bytes, and zeros after them.
@@ -109,6 +111,7 @@ impl Name {
         self.bytes[0] == b'.'
     }
 
+    /// The bytes of the name.
     pub fn as_bytes(&self) -> &[u8]
         ensures value { result.now ≡ self.now }
         ensures grammar { IsAnyName self.now }

@@ -1,4 +1,4 @@
-use Rattle.std.proofs.Common.{◌∙◌, sym, ap, map, drop, string_bytes}
+use Rattle.std.proofs.Common.{◌∙◌, sym, ap, map, string_bytes}
 use Rattle.std.specs.Vec.Iter.{into_iter_items}
 use Rattle.std.specs.Iterator.Adapters.{skip_source, skip_count}
 use Rattle.std.proofs.lemmas.List.{map-id}

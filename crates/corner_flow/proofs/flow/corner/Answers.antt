@@ -6,7 +6,7 @@ use Rattle.sums.specs.Spans.{NotNegative, ListsOverlaps}
 use Rattle.problem_table.specs.Deficit.{hot_target, cold_target}
 use Rattle.problem_table.proofs.DeficitLemmas.{hot_target-between, cold_target-between}
 use Rattle.grid.specs.declared.part.Part.{Part}
-use Rattle.grid.proofs.CaseLemmas.{streams_of_complete}
+use Rattle.stream_case.proofs.CompleteLemmas.{HasValidStreams-IsComplete}
 use Rattle.corner_flow.specs.Corner.{heats_of, as_pair, as_transfer, IsCornerFlow, UtilityHeat, NeedsHotHeat}
 use Rattle.corner_flow.proofs.SideLemmas.{hot_side, cold_side}
 use Rattle.corner_flow.proofs.FlowLemmas.{heats-not_negative, corner-is_flow, corner-hot, corner-cold}
@@ -34,14 +34,14 @@ pair_amounts-requires-clause-firsts c =
     let case = c.args.case.now in
     let parts = c.requires.parts in
     let hots = hot_side case parts.grid c.args.parts.now.hot c.requires.complete c.requires.standard parts.is_grid parts.hot_parts in
-    subst NotNegative (sym (hots_are c)) (heats-not_negative (hot_target case.streams) c.args.parts.now.hot (hot_target-between case.streams (streams_of_complete case c.requires.complete)).from hots.bounded)
+    subst NotNegative (sym (hots_are c)) (heats-not_negative (hot_target case.streams) c.args.parts.now.hot (hot_target-between case.streams (HasValidStreams-IsComplete case c.requires.complete)).from hots.bounded)
 
 pub pair_amounts-requires-clause-seconds : goal.pair_amounts-requires-clause-seconds
 pair_amounts-requires-clause-seconds c =
     let case = c.args.case.now in
     let parts = c.requires.parts in
     let colds = cold_side case parts.grid c.args.parts.now.cold c.requires.complete c.requires.standard parts.is_grid parts.cold_parts in
-    subst NotNegative (sym (colds_are c)) (heats-not_negative (cold_target case.streams) c.args.parts.now.cold (cold_target-between case.streams (streams_of_complete case c.requires.complete)).from colds.bounded)
+    subst NotNegative (sym (colds_are c)) (heats-not_negative (cold_target case.streams) c.args.parts.now.cold (cold_target-between case.streams (HasValidStreams-IsComplete case c.requires.complete)).from colds.bounded)
 
 spans : (c : goal.After-drop-hot-2) → IsCornerFlow c.args.case.now c.args.parts.now.hot c.args.parts.now.cold c.from_vec.result
 spans c =

@@ -1,8 +1,6 @@
-use Rattle.std.proofs.Common.{◌≡◌, ◌≤◌, get_or, All, ℤ, pos, ◌+ℤ◌, ◌-ℤ◌, ◌≤ℤ◌, to_z, of_z, w64, true, sym, subst, rules, arith}
+use Rattle.std.proofs.Common.{◌≡◌, get_or, ℤ, pos, ◌+ℤ◌, ◌-ℤ◌, ◌≤ℤ◌, to_z, of_z, w64, true, subst, arith}
 use Rattle.std.specs.Int.Signed.{le_z}
-use Rattle.std.specs.Int.RustNames.{unsigned_abs}
-use Rattle.std.proofs.lemmas.Int.{ints, to_z-of_z}
-use Rattle.flow_net.specs.Net.{reduced_cost}
+use Rattle.std.proofs.lemmas.Int.{ints}
 use Rattle.flow_net.proofs.Sizes.{size_upto, size_from}
 use Rattle.flow_bench.specs.Limits.{IsSmall}
 use Rattle.flow_bench.proofs.limits.is_fit.Goals as goal

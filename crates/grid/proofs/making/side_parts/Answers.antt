@@ -4,7 +4,9 @@ use Rattle.std.proofs.lemmas.Int.{to_z-of_z}
 use Rattle.grid.specs.Making.{picked, is_here, covers, utility_part, stream_part, made_parts}
 use Rattle.grid.proofs.MakingLemmas.{made-push, made-end}
 use Rattle.grid.specs.Utilities.{IsPlaced}
-use Rattle.grid.proofs.CaseLemmas.{streams_of_complete, utilities_of_complete, length-streams, length-utilities}
+use Rattle.stream_case.proofs.CompleteLemmas.{HasValidStreams-IsComplete}
+use Rattle.stream_case.proofs.CaseLemmas.{length-HasValidStreams}
+use Rattle.grid.proofs.CaseLemmas.{utilities_of_complete, length-utilities}
 use Rattle.grid.proofs.making.side_parts.Goals as goal
 use Rattle.grid.proofs.making.side_parts.Goals.{then-index-places+in_ok-push_streams, else-index-places}
 
@@ -15,7 +17,7 @@ pub push_utilities-requires-clause-few : goal.push_utilities-requires-clause-few
 push_utilities-requires-clause-few c = omega (arith, ap length c.as_slice.ensures, length-utilities c.args.case.now c.requires)
 
 pub push_streams-requires-clause-few : goal.push_streams-requires-clause-few
-push_streams-requires-clause-few c = omega (arith, ap length c.as_slice-then-index-places.ensures, length-streams c.args.case.now.streams (streams_of_complete c.args.case.now c.requires))
+push_streams-requires-clause-few c = omega (arith, ap length c.as_slice-then-index-places.ensures, length-HasValidStreams c.args.case.now.streams (HasValidStreams-IsComplete c.args.case.now c.requires))
 
 -- a place as it is read
 read_is : (place : ℤ) → FitsSigned w32 place → place ≡ to_z w32 (of_z w32 place)

@@ -2,7 +2,9 @@ use Rattle.std.proofs.Common.{◌∙◌, sym, ap, subst, ◌+◌, get_or, set, t
 use Rattle.std.specs.Prelude.{All, false}
 use Rattle.stream_case.specs.declared.source.Source.TheVariants.{Stream as of_stream}
 use Rattle.stream_case.specs.declared.case.Forbid.{Forbid}
-use Rattle.grid.proofs.CaseLemmas.{streams_of_complete, length-streams, length-utilities}
+use Rattle.stream_case.proofs.CompleteLemmas.{HasValidStreams-IsComplete}
+use Rattle.stream_case.proofs.CaseLemmas.{length-HasValidStreams}
+use Rattle.grid.proofs.CaseLemmas.{length-utilities}
 use Rattle.heat_flow.specs.Reach.{IsSourceOf}
 use Rattle.heat_flow.specs.Cells.{ArePermissions}
 use Rattle.heat_flow.proofs.ReachLemmas.{forbids_of_complete, source_place-within, ArePermissions-more, ArePermissions-other}
@@ -11,7 +13,7 @@ use Rattle.heat_flow.proofs.cells.permissions.Goals.{then-is_same_source, else-i
 
 pub overflow_add-len : goal.overflow_add-len
 overflow_add-len c =
-    omega (arith, c.len.ensures, c.len-2.ensures, length-streams c.args.case.now.streams (streams_of_complete c.args.case.now c.requires), length-utilities c.args.case.now c.requires)
+    omega (arith, c.len.ensures, c.len-2.ensures, length-HasValidStreams c.args.case.now.streams (HasValidStreams-IsComplete c.args.case.now c.requires), length-utilities c.args.case.now c.requires)
 
 abbrev no_forbid : Forbid
 no_forbid = record { hot = of_stream 0; cold = of_stream 0 }
