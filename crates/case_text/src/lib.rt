@@ -21,6 +21,3 @@ pub use fault::{CaseFault, CaseWhy};
 pub use number::number_of;
 pub use printer::print_case;
 pub use reader::{read_case, rows_have_one_outcome, valid_cases_are_those_of_the_grammar};
-
-#[cfg(test)]
-mod tests;

@@ -10,8 +10,6 @@
 mod flow;
 mod least;
 mod prices;
-#[cfg(test)]
-mod tests;
 
 pub use flow::corner;
 pub use least::standard_cost;

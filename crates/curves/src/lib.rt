@@ -6,8 +6,6 @@ mod below;
 mod composite;
 mod grand;
 mod point;
-#[cfg(test)]
-mod tests;
 
 pub use composite::{cold_curve, hot_curve};
 pub use grand::grand_curve;

@@ -9,8 +9,6 @@ mod making;
 mod part;
 mod parts;
 mod places;
-#[cfg(test)]
-mod tests;
 
 pub use making::parts_of;
 pub use part::Part;

@@ -13,8 +13,6 @@ mod prices;
 mod reach;
 mod support;
 mod table;
-#[cfg(test)]
-mod tests;
 
 pub use cells::reach_of;
 pub use check::is_flow;

@@ -5,13 +5,11 @@ mod BackFront
 mod BackLaw
 mod BackNames
 mod BackSteps
-mod PrintExample
 mod PrintFields
 mod PrintLines
 mod PrintNames
 mod PrintSteps
 mod PrintText
-mod Worked
 pub mod NameTests
 pub mod Positions
 pub mod Bounds

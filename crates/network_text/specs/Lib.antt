@@ -8,4 +8,3 @@ pub mod Outcome
 pub mod Shape
 pub mod Printed
 pub mod Answers
-pub mod Examples

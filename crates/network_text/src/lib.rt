@@ -25,8 +25,3 @@ pub use laws::{networks_are_printed_and_read_again, statements_have_one_outcome}
 pub use network::{Branch, Line, Network};
 pub use printer::print_network;
 pub use reader::read_network;
-
-#[cfg(test)]
-mod printer_tests;
-#[cfg(test)]
-mod tests;

@@ -8,8 +8,6 @@ mod heat;
 mod pinch;
 mod reference;
 mod target;
-#[cfg(test)]
-mod tests;
 
 pub use deficit::deficit_above;
 pub use ends::stream_ends;

@@ -5,7 +5,8 @@ use Rattle.std.proofs.lemmas.List.Sums.{sum_by-cons}
 use Rattle.stream_case.specs.declared.stream.Stream.{Stream}
 use Rattle.stream_case.specs.declared.case.Case.{Case}
 use Rattle.stream_case.specs.Stream.{is_hot}
-use Rattle.stream_case.specs.Case.{HasValidStreams, names_of, most_streams}
+use Rattle.stream_case.specs.declared.limits.TheConstants.{ALL_STREAMS}
+use Rattle.stream_case.specs.Case.{HasValidStreams, names_of}
 
 pub length-names_of : (c : Case) → length (names_of c) ≡ length c.streams + length c.utilities
 length-names_of c = simp (length-append, length-map)
@@ -24,6 +25,6 @@ count_by-add-count_by_not p (x ∷ xs) =
     let one = one_of_two (p x) in
     omega arith
 
-pub length-HasValidStreams : (streams : List Stream) → HasValidStreams streams → length streams ≤ 2 * most_streams
+pub length-HasValidStreams : (streams : List Stream) → HasValidStreams streams → length streams ≤ ALL_STREAMS
 length-HasValidStreams streams h =
     omega (arith, count_by-add-count_by_not (λ (s : Stream). is_hot s.side) streams, h.hot, h.cold)

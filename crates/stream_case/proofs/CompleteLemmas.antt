@@ -19,18 +19,20 @@ use Rattle.stream_case.specs.declared.case.Case.{Case}
 use Rattle.stream_case.specs.Name.{IsName, is_name_byte}
 use Rattle.stream_case.specs.Shift.{shifted}
 use Rattle.stream_case.specs.Stream.{same_side}
-use Rattle.stream_case.specs.Case.{IsBetween, IsValidStream, HasValidStreams, IsValidUtility, IsValidForbid, IsValid, IsComplete, completed, names_of, side_of, standard_hot, standard_cold, unless_given, with_utilities, most_utilities, most_forbids}
+use Rattle.stream_case.specs.declared.limits.TheConstants.{ALL_UTILITIES, MOST_FORBIDS, MOST_HEAT}
+use Rattle.stream_case.specs.Limits.{IsBetween, IsContribution, IsHeat, IsLevel, IsPrice, IsShifted, IsTemperature}
+use Rattle.stream_case.specs.Case.{IsValidStream, HasValidStreams, IsValidUtility, IsValidForbid, IsValid, IsComplete, completed, names_of, side_of, standard_hot, standard_cold, unless_given, with_utilities}
 use Rattle.stream_case.proofs.EndLemmas.{TakesEnd-high, TakesEnd-low, whole_ends-between}
 
 -- a utility of a completed case: its level may lie outside the range of a file
 pub record IsUtility (u : Utility) : Type 0 where
   pub name : IsName u.name
-  pub level : IsBetween (neg_ℤ (pos 4731)) (pos 32000) u.level
-  pub shifted_level : IsBetween (neg_ℤ (pos 3731)) (pos 31000) (shifted u.side u.level u.contribution)
-  pub least : IsBetween (pos 0) (pos 1000000000000) u.least
-  pub most : IsBetween u.least (pos 1000000000000) u.most
-  pub price : IsBetween (neg_ℤ (pos 1000000)) (pos 1000000) u.price
-  pub contribution : IsBetween (pos 0) (pos 1000) u.contribution
+  pub level : IsLevel u.level
+  pub shifted_level : IsShifted (shifted u.side u.level u.contribution)
+  pub least : IsHeat u.least
+  pub most : IsBetween u.least MOST_HEAT u.most
+  pub price : IsPrice u.price
+  pub contribution : IsContribution u.contribution
 
 -- some utility is on this side
 abbrev pub HasUtility : Side → List Utility → Type 0
@@ -38,19 +40,19 @@ HasUtility side utilities = list_any (λ u. same_side u.side side) utilities ≡
 
 -- what holds of each completed case
 pub record StaysValid (c : Case) : Type 0 where
-  pub contribution : IsBetween (pos 0) (pos 1000) c.contribution
+  pub contribution : IsContribution c.contribution
   pub streams : HasValidStreams c.streams
   pub utilities : All IsUtility c.utilities
   pub some_hot : HasUtility Hot c.utilities
   pub some_cold : HasUtility Cold c.utilities
-  pub few_utilities : length c.utilities ≤ most_utilities + 1
+  pub few_utilities : length c.utilities ≤ ALL_UTILITIES
   pub names : All IsName (names_of c)
   pub distinct_names : AllPairs (λ a b. a ≢ b) (names_of c)
   pub forbids : All (IsValidForbid c) c.forbids
-  pub few_forbids : length c.forbids ≤ most_forbids
+  pub few_forbids : length c.forbids ≤ MOST_FORBIDS
   pub distinct_forbids : AllPairs (λ f g. f ≢ g) c.forbids
 
-shifted_between : (side : Side) (level contribution : ℤ) → IsBetween (neg_ℤ (pos 2731)) (pos 30000) level → IsBetween (pos 0) (pos 1000) contribution → IsBetween (neg_ℤ (pos 3731)) (pos 31000) (shifted side level contribution)
+shifted_between : (side : Side) (level contribution : ℤ) → IsTemperature level → IsContribution contribution → IsShifted (shifted side level contribution)
 shifted_between Hot level contribution l c = record { from = omega (arith, ints); upto = omega (arith, ints) }
 shifted_between Cold level contribution l c = record { from = omega (arith, ints); upto = omega (arith, ints) }
 
@@ -76,7 +78,7 @@ HOT≢COLD : codes "HOT" ≢ codes "COLD"
 HOT≢COLD e = absurd (omega (arith, ap length e))
 
 -- the standard utilities of valid streams
-IsUtility-standard_hot : (c : Case) → All IsValidStream c.streams → IsBetween (pos 0) (pos 1000) c.contribution → IsUtility (standard_hot c)
+IsUtility-standard_hot : (c : Case) → All IsValidStream c.streams → IsContribution c.contribution → IsUtility (standard_hot c)
 IsUtility-standard_hot c each own =
     let highest = whole_ends-between TakesEnd-high c.streams each in record {
       name = IsName-HOT;
@@ -88,7 +90,7 @@ IsUtility-standard_hot c each own =
       contribution = own;
     }
 
-IsUtility-standard_cold : (c : Case) → All IsValidStream c.streams → IsBetween (pos 0) (pos 1000) c.contribution → IsUtility (standard_cold c)
+IsUtility-standard_cold : (c : Case) → All IsValidStream c.streams → IsContribution c.contribution → IsUtility (standard_cold c)
 IsUtility-standard_cold c each own =
     let lowest = whole_ends-between TakesEnd-low c.streams each in record {
       name = IsName-COLD;
@@ -178,15 +180,15 @@ forbid-append : (c : Case) (more : List Utility) (f : Forbid) → IsValidForbid 
 forbid-append c more f h = (side_of-append c more f.hot Hot h.0, side_of-append c more f.cold Cold h.1)
 
 -- at most one utility more than the limit: with none given there are two
-few-completed : (c : Case) → IsValid c → length (completed c).utilities ≤ most_utilities + 1
+few-completed : (c : Case) → IsValid c → length (completed c).utilities ≤ ALL_UTILITIES
 few-completed c h =
     let us = c.utilities in
     let few = h.few_utilities in
-    unless_given-elim (λ xs. length ((us ++ xs) ++ unless_given (standard_cold c) us) ≤ most_utilities + 1) (standard_hot c) us
-    (λ _. unless_given-elim (λ ys. length ((us ++ []) ++ ys) ≤ most_utilities + 1) (standard_cold c) us
+    unless_given-elim (λ xs. length ((us ++ xs) ++ unless_given (standard_cold c) us) ≤ ALL_UTILITIES) (standard_hot c) us
+    (λ _. unless_given-elim (λ ys. length ((us ++ []) ++ ys) ≤ ALL_UTILITIES) (standard_cold c) us
     (λ _. omega (arith, length-append {A = Utility}))
     (λ _. omega (arith, length-append {A = Utility})))
-    (λ no_hot. unless_given-elim (λ ys. length ((us ++ standard_hot c ∷ []) ++ ys) ≤ most_utilities + 1) (standard_cold c) us
+    (λ no_hot. unless_given-elim (λ ys. length ((us ++ standard_hot c ∷ []) ++ ys) ≤ ALL_UTILITIES) (standard_cold c) us
     (λ _. omega (arith, length-append {A = Utility}))
     (λ no_cold. let none = ap length (none_at_all us no_hot no_cold) in omega (arith, length-append {A = Utility})))
 

@@ -10,15 +10,17 @@ use Rattle.stream_case.specs.declared.source.Side.TheVariants.{Hot, Cold}
 use Rattle.stream_case.specs.declared.stream.Stream.{Stream}
 use Rattle.stream_case.specs.Shift.{shifted}
 use Rattle.stream_case.specs.Stream.{is_hot, high_end, low_end, stream_ends}
-use Rattle.stream_case.specs.Case.{IsBetween, IsRightWay, IsValidStream, greatest, least}
+use Rattle.stream_case.specs.declared.limits.TheConstants.{LOWEST_SHIFTED, HIGHEST_SHIFTED}
+use Rattle.stream_case.specs.Limits.{IsBetween, IsTemperature, IsContribution, IsShifted}
+use Rattle.stream_case.specs.Case.{IsRightWay, IsValidStream, greatest, least}
 
 -- the ends of a shifted range: in order, and within bounds
 pub record AreEnds (low high : ℤ) : Type 0 where
   pub order : low <ℤ high
-  pub from : neg_ℤ (pos 3731) ≤ℤ low
-  pub upto : high ≤ℤ pos 31000
+  pub from : LOWEST_SHIFTED ≤ℤ low
+  pub upto : high ≤ℤ HIGHEST_SHIFTED
 
-AreEnds-shifted : (side : Side) (supply target contribution : ℤ) → IsRightWay side supply target → IsBetween (neg_ℤ (pos 2731)) (pos 30000) supply → IsBetween (neg_ℤ (pos 2731)) (pos 30000) target → IsBetween (pos 0) (pos 1000) contribution → AreEnds (if is_hot side then shifted side target contribution else shifted side supply contribution) (if is_hot side then shifted side supply contribution else shifted side target contribution)
+AreEnds-shifted : (side : Side) (supply target contribution : ℤ) → IsRightWay side supply target → IsTemperature supply → IsTemperature target → IsContribution contribution → AreEnds (if is_hot side then shifted side target contribution else shifted side supply contribution) (if is_hot side then shifted side supply contribution else shifted side target contribution)
 AreEnds-shifted Hot supply target contribution way s t c = record { order = omega (arith, ints); from = omega (arith, ints); upto = omega (arith, ints) }
 AreEnds-shifted Cold supply target contribution way s t c = record { order = omega (arith, ints); from = omega (arith, ints); upto = omega (arith, ints) }
 
@@ -33,10 +35,10 @@ pub length-stream_ends : (streams : List Stream) → length (stream_ends streams
 length-stream_ends [] = refl
 length-stream_ends (s ∷ ss) = omega (arith, length-stream_ends ss)
 
-pub stream_ends-between : (streams : List Stream) → All IsValidStream streams → All (IsBetween (neg_ℤ (pos 3731)) (pos 31000)) (stream_ends streams)
-stream_ends-between [] each = All-nil (IsBetween (neg_ℤ (pos 3731)) (pos 31000))
+pub stream_ends-between : (streams : List Stream) → All IsValidStream streams → All (IsShifted) (stream_ends streams)
+stream_ends-between [] each = All-nil (IsShifted)
 stream_ends-between (s ∷ ss) each =
-    let P : ℤ → Type 0 = IsBetween (neg_ℤ (pos 3731)) (pos 31000) in
+    let P : ℤ → Type 0 = IsShifted in
     let ends = AreEnds-IsValidStream s (All-head IsValidStream s ss each) in
     let high : P (high_end s) = record { from = omega (arith, ints); upto = ends.upto } in
     let low : P (low_end s) = record { from = ends.from; upto = omega (arith, ints) } in
@@ -96,12 +98,12 @@ fold-between {op} laws low high a (x ∷ xs) within each =
     fold-between laws low high (op a x) xs (laws.keeps low high a x within (All-head (IsBetween low high) x xs each)) (All-tail (IsBetween low high) x xs each)
 
 -- the highest and the lowest end of valid streams lie within bounds
-pub whole_ends-between : {op : ℤ → ℤ → ℤ} {whole : List ℤ → ℤ} {end : Stream → ℤ} → TakesEnd op whole end → (streams : List Stream) → All IsValidStream streams → IsBetween (neg_ℤ (pos 3731)) (pos 31000) (whole (stream_ends streams))
+pub whole_ends-between : {op : ℤ → ℤ → ℤ} {whole : List ℤ → ℤ} {end : Stream → ℤ} → TakesEnd op whole end → (streams : List Stream) → All IsValidStream streams → IsShifted (whole (stream_ends streams))
 whole_ends-between laws [] each =
-    let P : ℤ → Type 0 = IsBetween (neg_ℤ (pos 3731)) (pos 31000) in
+    let P : ℤ → Type 0 = IsShifted in
     subst P (sym laws.none) (record { from = omega (arith, ints); upto = omega (arith, ints) })
 whole_ends-between laws (s ∷ ss) each =
-    let P : ℤ → Type 0 = IsBetween (neg_ℤ (pos 3731)) (pos 31000) in
+    let P : ℤ → Type 0 = IsShifted in
     let ends = stream_ends-between (s ∷ ss) each in
     let rest = low_end s ∷ stream_ends ss in
     subst P (sym (laws.begins (high_end s) rest)) (fold-between laws _ _ (high_end s) rest (All-head P (high_end s) rest ends) (All-tail P (high_end s) rest ends))

@@ -10,23 +10,10 @@ use Rattle.stream_case.specs.declared.stream.Stream.{Stream}
 use Rattle.stream_case.specs.declared.utility.Utility.{Utility}
 use Rattle.stream_case.specs.declared.case.Forbid.{Forbid}
 use Rattle.stream_case.specs.declared.case.Case.{Case}
+use Rattle.stream_case.specs.declared.limits.TheConstants.{MOST_STREAMS, MOST_UTILITIES, MOST_FORBIDS, MOST_HEAT}
+use Rattle.stream_case.specs.Limits.{IsBetween, IsTemperature, IsContribution, IsFlowRate, IsHeat, IsPrice}
 use Rattle.stream_case.specs.Name.{IsName}
 use Rattle.stream_case.specs.Stream.{is_hot, same_side, stream_ends}
-
--- the limits of a case: streams of one side, utilities of both, forbidden matches
-abbrev pub most_streams : ℕ
-most_streams = 12
-
-abbrev pub most_utilities : ℕ
-most_utilities = 6
-
-abbrev pub most_forbids : ℕ
-most_forbids = 400
-
--- x lies from low to high
-pub record IsBetween (low high x : ℤ) : Type 0 where
-  pub from : low ≤ℤ x
-  pub upto : x ≤ℤ high
 
 -- a hot stream falls from its supply to its target, and a cold one rises
 abbrev pub IsRightWay : Side → ℤ → ℤ → Type 0
@@ -36,27 +23,27 @@ IsRightWay Cold supply target = supply <ℤ target
 -- a stream that a case may have: an undotted name, numbers in their ranges, and the right way
 pub record IsValidStream (s : Stream) : Type 0 where
   pub name : IsName s.name
-  pub supply : IsBetween (neg_ℤ (pos 2731)) (pos 30000) s.supply
-  pub target : IsBetween (neg_ℤ (pos 2731)) (pos 30000) s.target
+  pub supply : IsTemperature s.supply
+  pub target : IsTemperature s.target
   pub way : IsRightWay s.side s.supply s.target
-  pub cp : IsBetween (pos 1) (pos 100000) s.cp
-  pub contribution : IsBetween (pos 0) (pos 1000) s.contribution
+  pub cp : IsFlowRate s.cp
+  pub contribution : IsContribution s.contribution
 
 -- the streams of a valid case, and of a completed one: some, and not too many on a side
 pub record HasValidStreams (streams : List Stream) : Type 0 where
   pub some : 0 < length streams
   pub each : All IsValidStream streams
-  pub hot : count_by (λ s. is_hot s.side) streams ≤ most_streams
-  pub cold : count_by (λ s. not (is_hot s.side)) streams ≤ most_streams
+  pub hot : count_by (λ s. is_hot s.side) streams ≤ MOST_STREAMS
+  pub cold : count_by (λ s. not (is_hot s.side)) streams ≤ MOST_STREAMS
 
 -- a utility that a case file may give
 pub record IsValidUtility (u : Utility) : Type 0 where
   pub name : IsName u.name
-  pub level : IsBetween (neg_ℤ (pos 2731)) (pos 30000) u.level
-  pub least : IsBetween (pos 0) (pos 1000000000000) u.least
-  pub most : IsBetween u.least (pos 1000000000000) u.most
-  pub price : IsBetween (neg_ℤ (pos 1000000)) (pos 1000000) u.price
-  pub contribution : IsBetween (pos 0) (pos 1000) u.contribution
+  pub level : IsTemperature u.level
+  pub least : IsHeat u.least
+  pub most : IsBetween u.least MOST_HEAT u.most
+  pub price : IsPrice u.price
+  pub contribution : IsContribution u.contribution
 
 -- the case with these utilities in place of its own
 abbrev pub with_utilities : Case → List Utility → Case
@@ -85,17 +72,17 @@ IsRightlyNamed u = (u.name ≡ codes "HOT" → u.side ≡ Hot) × (u.name ≡ co
 
 -- a case that the case grammar can give
 pub record IsValid (c : Case) : Type 0 where
-  pub contribution : IsBetween (pos 0) (pos 1000) c.contribution
+  pub contribution : IsContribution c.contribution
   pub streams : HasValidStreams c.streams
   pub utilities : All IsValidUtility c.utilities
-  pub few_utilities : length c.utilities ≤ most_utilities
+  pub few_utilities : length c.utilities ≤ MOST_UTILITIES
   pub stream_contributions : All (λ s. s.contribution ≡ c.contribution) c.streams
   pub utility_contributions : All (λ u. u.contribution ≡ c.contribution) c.utilities
   pub distinct_names : AllPairs (λ a b. a ≢ b) (names_of c)
   pub stream_names : All (λ s. IsUnreserved s.name) c.streams
   pub utility_names : All IsRightlyNamed c.utilities
   pub forbids : All (IsValidForbid c) c.forbids
-  pub few_forbids : length c.forbids ≤ most_forbids
+  pub few_forbids : length c.forbids ≤ MOST_FORBIDS
   pub distinct_forbids : AllPairs (λ f g. f ≢ g) c.forbids
 
 -- the greatest and the least of a list that is not empty
@@ -114,7 +101,7 @@ standard_hot c = record {
   side = Hot;
   level = greatest (stream_ends c.streams) +ℤ c.contribution;
   least = pos 0;
-  most = pos 1000000000000;
+  most = MOST_HEAT;
   price = pos 1;
   contribution = c.contribution;
 }
@@ -125,7 +112,7 @@ standard_cold c = record {
   side = Cold;
   level = least (stream_ends c.streams) -ℤ c.contribution;
   least = pos 0;
-  most = pos 1000000000000;
+  most = MOST_HEAT;
   price = pos 0;
   contribution = c.contribution;
 }

@@ -1,5 +1,6 @@
 pub mod Case
 pub mod Digits
+pub mod Limits
 pub mod Name
 pub mod Shift
 pub mod Source

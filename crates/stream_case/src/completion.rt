@@ -1,11 +1,13 @@
 //! Completion with the standard utilities.
-ghost use Rattle.std.specs.Prelude.{◌≡◌, ◌↔◌, ◌++◌, ◌-◌, [], ◌∷◌, ℕ, length, pos, neg_ℤ, take, IsTrue, IfOk, OnOk};
+ghost use Rattle.std.specs.Prelude.{◌≡◌, ◌↔◌, ◌++◌, ◌-◌, [], ◌∷◌, ℕ, length, take, IsTrue, IfOk, OnOk};
 ghost use Rattle.std.specs.List.{list_any};
 ghost use Rattle.stream_case.specs.Stream.{same_side, stream_ends};
-ghost use Rattle.stream_case.specs.Case.{IsBetween, HasValidStreams, IsValid, IsComplete, IsStandard, standard_hot, standard_cold, completed, unless_given, greatest, least, without_last};
+ghost use Rattle.stream_case.specs.Limits.{IsContribution, IsShifted};
+ghost use Rattle.stream_case.specs.Case.{HasValidStreams, IsValid, IsComplete, IsStandard, standard_hot, standard_cold, completed, unless_given, greatest, least, without_last};
 
 use crate::case::Case;
 use crate::items::Items;
+use crate::limits::MOST_HEAT;
 use crate::name::Name;
 use crate::source::Side;
 use crate::stream::Stream;
@@ -13,14 +15,11 @@ use crate::utility::Utility;
 use crate::validity::is_valid_with;
 use std::alloc::{AllocError, Global};
 
-/// The most heat that a standard utility can give or take, in W.
-const STANDARD_MOST: i64 = 1_000_000_000_000;
-
 /// The highest shifted stream end, in tenths of °C.
 fn highest_end(streams: &[Stream]) -> i32
     requires { HasValidStreams streams.now }
     ensures value { result ≡ greatest (stream_ends streams.now) }
-    ensures range { IsBetween (neg_ℤ (pos 3731)) (pos 31000) result }
+    ensures range { IsShifted result }
 {
     let mut highest = streams[0].high_end();
     for stream in streams {
@@ -33,7 +32,7 @@ fn highest_end(streams: &[Stream]) -> i32
 fn lowest_end(streams: &[Stream]) -> i32
     requires { HasValidStreams streams.now }
     ensures value { result ≡ least (stream_ends streams.now) }
-    ensures range { IsBetween (neg_ℤ (pos 3731)) (pos 31000) result }
+    ensures range { IsShifted result }
 {
     let mut lowest = streams[0].low_end();
     for stream in streams {
@@ -45,7 +44,7 @@ fn lowest_end(streams: &[Stream]) -> i32
 /// The utility of a case that gives no hot one: any heat at the highest shifted stream end.
 fn standard_hot(case: &Case) -> Utility
     requires streams { HasValidStreams case.now.streams }
-    requires contribution { IsBetween (pos 0) (pos 1000) case.now.contribution }
+    requires contribution { IsContribution case.now.contribution }
     ensures { result ≡ standard_hot case.now }
 {
     Utility {
@@ -53,7 +52,7 @@ fn standard_hot(case: &Case) -> Utility
         side: Side::Hot,
         level: highest_end(case.streams.as_slice()) + case.contribution,
         least: 0,
-        most: STANDARD_MOST,
+        most: MOST_HEAT,
         price: 1,
         contribution: case.contribution,
     }
@@ -62,7 +61,7 @@ fn standard_hot(case: &Case) -> Utility
 /// The utility of a case that gives no cold one: any heat at the lowest shifted stream end.
 fn standard_cold(case: &Case) -> Utility
     requires streams { HasValidStreams case.now.streams }
-    requires contribution { IsBetween (pos 0) (pos 1000) case.now.contribution }
+    requires contribution { IsContribution case.now.contribution }
     ensures { result ≡ standard_cold case.now }
 {
     Utility {
@@ -70,7 +69,7 @@ fn standard_cold(case: &Case) -> Utility
         side: Side::Cold,
         level: lowest_end(case.streams.as_slice()) - case.contribution,
         least: 0,
-        most: STANDARD_MOST,
+        most: MOST_HEAT,
         price: 0,
         contribution: case.contribution,
     }
@@ -130,7 +129,7 @@ fn are_two(utilities: &[Utility], first: &Utility, second: &Utility) -> bool
 /// Whether these are what completion adds to the given utilities.
 fn is_addition(case: &Case, given: &[Utility], added: &[Utility]) -> bool
     requires streams { HasValidStreams case.now.streams }
-    requires contribution { IsBetween (pos 0) (pos 1000) case.now.contribution }
+    requires contribution { IsContribution case.now.contribution }
     ensures { IsTrue result
         ↔ (added.now
         ≡ unless_given (standard_hot case.now) given.now

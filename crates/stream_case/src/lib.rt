@@ -8,11 +8,10 @@ mod case;
 mod completion;
 mod digits;
 mod items;
+mod limits;
 mod name;
 mod source;
 mod stream;
-#[cfg(test)]
-mod tests;
 mod utility;
 mod validity;
 
@@ -20,8 +19,14 @@ pub use case::{Case, Forbid};
 pub use completion::{complete, is_complete, is_standard};
 pub use digits::natural_of;
 pub use items::Items;
+pub use limits::{
+    ALL_STREAMS, ALL_STREAMS_HEAT, ALL_UTILITIES, HIGHEST_LEVEL, HIGHEST_SHIFTED,
+    HIGHEST_TEMPERATURE, LONGEST_RANGE, LOWEST_LEVEL, LOWEST_SHIFTED, LOWEST_TEMPERATURE,
+    MOST_CONTRIBUTION, MOST_CP, MOST_FORBIDS, MOST_HEAT, MOST_PART_PRICE, MOST_PRICE,
+    MOST_STREAM_HEAT, MOST_STREAMS, MOST_UTILITIES,
+};
 pub use name::Name;
 pub use source::{Side, Source};
 pub use stream::{Stream, shifted};
 pub use utility::Utility;
-pub use validity::{MOST_FORBIDS, MOST_STREAMS, MOST_UTILITIES, is_valid};
+pub use validity::is_valid;

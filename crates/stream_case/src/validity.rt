@@ -1,23 +1,19 @@
 //! Tests of a valid case.
-ghost use Rattle.std.specs.Prelude.{◌≡◌, ◌≢◌, ◌↔◌, ◌≤◌, ◌<◌, pos, neg_ℤ, IsTrue, All, AllPairs, Contains, [], length, count_by, not, ℕ, slice_index_or};
+ghost use Rattle.std.specs.Prelude.{◌≡◌, ◌≢◌, ◌↔◌, ◌≤◌, ◌<◌, IsTrue, All, AllPairs, Contains, [], length, count_by, not, ℕ, slice_index_or};
 ghost use Rattle.stream_case.specs.Name.{IsName};
 ghost use Rattle.stream_case.specs.Stream.{is_hot, same_side};
-ghost use Rattle.stream_case.specs.Case.{IsBetween, IsRightWay, IsValidStream, HasValidStreams, IsValidUtility, IsUnreserved, IsRightlyNamed, IsValidForbid, IsValid, with_utilities, names_of, side_of, most_utilities, most_forbids};
+ghost use Rattle.stream_case.specs.Limits.{IsBetween, IsTemperature, IsContribution};
+ghost use Rattle.stream_case.specs.Case.{IsRightWay, IsValidStream, HasValidStreams, IsValidUtility, IsUnreserved, IsRightlyNamed, IsValidForbid, IsValid, with_utilities, names_of, side_of};
 
 use crate::case::{Case, Forbid};
+use crate::limits::{
+    HIGHEST_TEMPERATURE, LOWEST_TEMPERATURE, MOST_CONTRIBUTION, MOST_CP, MOST_FORBIDS, MOST_HEAT,
+    MOST_PRICE, MOST_STREAMS, MOST_UTILITIES,
+};
 use crate::name::Name;
 use crate::source::{Side, Source};
 use crate::stream::Stream;
 use crate::utility::Utility;
-
-/// The most streams on one side of a case.
-pub const MOST_STREAMS: usize = 12;
-
-/// The most utilities of a case, those of both sides together.
-pub const MOST_UTILITIES: usize = 6;
-
-/// The most forbidden matches of a case.
-pub const MOST_FORBIDS: usize = 400;
 
 fn is_between(low: i64, high: i64, x: i64) -> bool
     ensures { IsTrue result ↔ IsBetween low high x }
@@ -26,15 +22,19 @@ fn is_between(low: i64, high: i64, x: i64) -> bool
 }
 
 fn is_temperature(t: i32) -> bool
-    ensures { IsTrue result ↔ IsBetween (neg_ℤ (pos 2731)) (pos 30000) t }
+    ensures { IsTrue result ↔ IsTemperature t }
 {
-    is_between(-2731, 30000, i64::from(t))
+    is_between(
+        i64::from(LOWEST_TEMPERATURE),
+        i64::from(HIGHEST_TEMPERATURE),
+        i64::from(t),
+    )
 }
 
 fn is_contribution(contribution: i32) -> bool
-    ensures { IsTrue result ↔ IsBetween (pos 0) (pos 1000) contribution }
+    ensures { IsTrue result ↔ IsContribution contribution }
 {
-    is_between(0, 1000, i64::from(contribution))
+    is_between(0, i64::from(MOST_CONTRIBUTION), i64::from(contribution))
 }
 
 fn is_right_way(side: Side, supply: i32, target: i32) -> bool
@@ -68,7 +68,7 @@ fn is_valid_stream(stream: &Stream) -> bool
     if !is_right_way(stream.side, stream.supply, stream.target) {
         return false;
     }
-    if !is_between(1, 100_000, stream.cp) {
+    if !is_between(1, MOST_CP, stream.cp) {
         return false;
     }
     is_contribution(stream.contribution)
@@ -83,13 +83,13 @@ fn is_valid_utility(utility: &Utility) -> bool
     if !is_temperature(utility.level) {
         return false;
     }
-    if !is_between(0, 1_000_000_000_000, utility.least) {
+    if !is_between(0, MOST_HEAT, utility.least) {
         return false;
     }
-    if !is_between(utility.least, 1_000_000_000_000, utility.most) {
+    if !is_between(utility.least, MOST_HEAT, utility.most) {
         return false;
     }
-    if !is_between(-1_000_000, 1_000_000, utility.price) {
+    if !is_between(-MOST_PRICE, MOST_PRICE, utility.price) {
         return false;
     }
     is_contribution(utility.contribution)
@@ -283,7 +283,7 @@ fn are_distinct_forbids(forbids: &[Forbid]) -> bool
 fn shares_contribution(case: &Case, utilities: &[Utility]) -> bool
     ensures { let k = with_utilities case.now utilities.now in
         IsTrue result
-        ↔ (IsBetween (pos 0) (pos 1000) k.contribution
+        ↔ (IsContribution k.contribution
         × All (λ s. s.contribution ≡ k.contribution) k.streams
         × All (λ u. u.contribution ≡ k.contribution) k.utilities) }
 {
@@ -300,7 +300,7 @@ fn has_valid_sources(case: &Case, utilities: &[Utility]) -> bool
     ensures { let k = with_utilities case.now utilities.now in
         IsTrue result
         ↔ (HasValidStreams k.streams
-        × (length k.utilities ≤ most_utilities)
+        × (length k.utilities ≤ MOST_UTILITIES)
         × All IsValidUtility k.utilities) }
 {
     if !has_valid_streams(case.streams.as_slice()) {
@@ -331,7 +331,7 @@ fn has_valid_names(case: &Case, utilities: &[Utility]) -> bool
 fn has_valid_forbids(case: &Case, utilities: &[Utility]) -> bool
     ensures { let k = with_utilities case.now utilities.now in
         IsTrue result
-        ↔ ((length k.forbids ≤ most_forbids)
+        ↔ ((length k.forbids ≤ MOST_FORBIDS)
         × All (IsValidForbid k) k.forbids
         × AllPairs (λ f g. f ≢ g) k.forbids) }
 {

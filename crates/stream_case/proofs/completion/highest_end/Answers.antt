@@ -1,7 +1,7 @@
 use Rattle.std.proofs.Common.{rules, sym, ap, ◌∙◌, subst, w32, ℤ, pos, neg_ℤ}
 use Rattle.std.specs.Int.{int_max}
 use Rattle.std.proofs.lemmas.Int.{to_z-of_z}
-use Rattle.stream_case.specs.Case.{IsBetween}
+use Rattle.stream_case.specs.Limits.{IsShifted}
 use Rattle.stream_case.proofs.EndLemmas.{TakesEnd-high, fold_ends-more, fold_ends-all, whole_ends-between}
 use Rattle.stream_case.proofs.completion.highest_end.Goals as goal
 
@@ -17,5 +17,5 @@ returns-clause-value c =
 
 pub returns-clause-range : goal.returns-clause-range
 returns-clause-range c =
-    let P : ℤ → Type 0 = IsBetween (neg_ℤ (pos 3731)) (pos 31000) in
+    let P : ℤ → Type 0 = IsShifted in
     subst P (sym (returns-clause-value c)) (whole_ends-between TakesEnd-high c.args.streams.now c.requires.each)

@@ -1,5 +1,5 @@
 //! The grid and the parts of the four-stream example, worked by hand.
-use crate::{Part, grid_of, parts_of};
+use grid::{Part, grid_of, parts_of};
 use std::process::Abort;
 use std::test::Fail;
 use stream_case::Side::{Cold, Hot};

@@ -1,5 +1,5 @@
 //! The problem tables of cases that were worked by hand.
-use crate::{deficit_above, pinches, reference_place, stream_ends, targets};
+use problem_table::{deficit_above, pinches, reference_place, stream_ends, targets};
 use std::alloc::Global;
 use std::process::Abort;
 use std::test::Fail;

@@ -1,4 +1,4 @@
-use crate::{CaseFault, CaseWhy, number_of, print_case, read_case};
+use case_text::{CaseFault, CaseWhy, number_of, print_case, read_case};
 use std::alloc::Global;
 use std::test::Fail;
 use stream_case::{Case, Forbid, Name, Side, Source, Utility};

@@ -1,5 +1,5 @@
 //! The corner flow of the four-stream example and its certificate, worked by hand.
-use crate::{corner, corner_prices, standard_cost};
+use corner_flow::{corner, corner_prices, standard_cost};
 use grid::{grid_of, parts_of};
 use heat_flow::{Transfer, cost_of, is_flow, is_supported, reach_of, value_of};
 use problem_table::{reference_place, targets};

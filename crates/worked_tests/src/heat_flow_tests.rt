@@ -1,5 +1,5 @@
 //! The pairs of the four-stream example that reach.
-use crate::{Flow, Prices, is_flow, is_supported, reach_of, reaches};
+use heat_flow::{Flow, Prices, is_flow, is_supported, reach_of, reaches};
 use grid::{grid_of, parts_of};
 use std::process::Abort;
 use std::test::Fail;

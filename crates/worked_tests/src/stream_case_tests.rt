@@ -1,4 +1,4 @@
-use crate::{
+use stream_case::{
     Case, Forbid, Items, Name, Side, Source, Stream, Utility, complete, is_complete, is_standard,
     is_valid, natural_of, shifted,
 };

@@ -1,5 +1,5 @@
 //! The curves of cases that were worked by hand.
-use crate::{Point, cold_curve, grand_curve, hot_curve};
+use curves::{Point, cold_curve, grand_curve, hot_curve};
 use std::alloc::Global;
 use std::process::Abort;
 use std::test::Fail;

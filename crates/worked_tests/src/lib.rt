@@ -1,0 +1,30 @@
+//! Tests of the library crates from outside, as a user calls them, on tables that were worked by
+//! hand.
+#![tactic(auto)]
+
+#[cfg(test)]
+mod case_text_tests;
+#[cfg(test)]
+mod corner_flow_tests;
+#[cfg(test)]
+mod csv_rows_tests;
+#[cfg(test)]
+mod curves_tests;
+#[cfg(test)]
+mod fractions_tests;
+#[cfg(test)]
+mod grid_tests;
+#[cfg(test)]
+mod heat_flow_tests;
+#[cfg(test)]
+mod network_text_tests;
+#[cfg(test)]
+mod problem_table_tests;
+#[cfg(test)]
+mod reports_tests;
+#[cfg(test)]
+mod stream_case_tests;
+#[cfg(test)]
+mod sums_order_tests;
+#[cfg(test)]
+mod sums_pairs_tests;
