@@ -1,14 +1,2 @@
-pub mod RowFields
-pub mod Entries
 pub mod Counts
-pub mod Steps
-pub mod Unique
-pub mod Passes
-pub mod Lookups
-pub mod Valid
-pub mod Texts
-pub mod Plain
-pub mod Distinct
-pub mod ReadBack
-pub mod CaseBack
-pub mod TextBack
+pub mod Names

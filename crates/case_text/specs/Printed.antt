@@ -1,6 +1,7 @@
 -- How a case is printed.
 use Rattle.std.specs.Prelude.{ℕ, ℤ, List, [], ◌∷◌, ◌++◌, map, option_map, unwrap_or, slice_get, codes}
 use Rattle.std.specs.Fmt.{signed_decimal}
+use Rattle.std.specs.List.{flat_map}
 use Rattle.csv_rows.specs.Rows.{Row}
 use Rattle.stream_case.specs.declared.case.Case.{Case}
 use Rattle.stream_case.specs.declared.case.Forbid.{Forbid}
@@ -54,6 +55,6 @@ abbrev pub row_text : Row → List ℕ
 row_text [] = 10 ∷ []
 row_text (field ∷ fields) = field ++ fields_text fields
 
-unfoldable pub rows_text : List Row → List ℕ
-rows_text [] = []
-rows_text (row ∷ rows) = row_text row ++ rows_text rows
+-- rows as lines, one behind the other
+abbrev pub rows_text : List Row → List ℕ
+rows_text rows = flat_map row_text rows

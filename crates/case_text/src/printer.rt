@@ -1,6 +1,7 @@
 //! Printing a case.
 
-ghost use Rattle.std.specs.Prelude.{◌≡◌, ◌≤◌, ◌++◌, All, IfOk, IsSome, OnOk, length, map, string_bytes};
+ghost use Rattle.std.specs.Prelude.{◌≡◌, ◌≤◌, ◌++◌, All, IfOk, IsSome, OnOk, length, string_bytes};
+ghost use Rattle.std.specs.List.{flat_map};
 ghost use Rattle.csv_rows.specs.Rows.{rows_of};
 ghost use Rattle.stream_case.specs.Case.{IsValid, IsValidForbid, side_of};
 ghost use Rattle.case_text.specs.Outcome.{IsCase};
@@ -71,7 +72,7 @@ fn forbid_line(alloc: Global, case: &Case, forbid: &Forbid) -> Result<String, Al
 
 /// Appends the lines of the streams.
 fn push_streams(alloc: Global, text: &mut Vec<u8>, streams: &[Stream]) -> Result<(), AllocError>
-    ensures { OnOk result (text.new.items ≡ text.old.items ++ rows_text (map stream_row streams.now)) }
+    ensures { OnOk result (text.new.items ≡ text.old.items ++ flat_map (λ s. row_text (stream_row s)) streams.now) }
 {
     for stream in streams {
         text.extend_from_slice(stream_line(alloc, stream)?.as_bytes())?;
@@ -85,7 +86,7 @@ fn push_utilities(
     text: &mut Vec<u8>,
     utilities: &[Utility],
 ) -> Result<(), AllocError>
-    ensures { OnOk result (text.new.items ≡ text.old.items ++ rows_text (map utility_row utilities.now)) }
+    ensures { OnOk result (text.new.items ≡ text.old.items ++ flat_map (λ u. row_text (utility_row u)) utilities.now) }
 {
     for utility in utilities {
         text.extend_from_slice(utility_line(alloc, utility)?.as_bytes())?;
@@ -101,7 +102,7 @@ fn push_forbids(
     forbids: &[Forbid],
 ) -> Result<(), AllocError>
     requires { All (IsValidForbid case.now) forbids.now }
-    ensures { OnOk result (text.new.items ≡ text.old.items ++ rows_text (map (forbid_row case.now) forbids.now)) }
+    ensures { OnOk result (text.new.items ≡ text.old.items ++ flat_map (λ f. row_text (forbid_row case.now f)) forbids.now) }
 {
     for forbid in forbids {
         text.extend_from_slice(forbid_line(alloc, case, forbid)?.as_bytes())?;
