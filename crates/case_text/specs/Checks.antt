@@ -1,18 +1,19 @@
 -- The checks of a row, in their order. A check is a sentence on the row and on what the rows before it gave.
-use Rattle.std.specs.Prelude.{ℕ, ℤ, pos, neg_ℤ, Bool, false, not, ◌==◌, ◌&&◌, ◌||◌, List, [], ◌∷◌, length, count_by, Option, Some, None, is_some, is_none, nat_lt, int_le, int_lt, option_and_then, codes}
+use Rattle.std.specs.Prelude.{ℕ, ℤ, pos, neg_ℤ, Bool, false, not, ◌==◌, ◌&&◌, ◌||◌, List, [], ◌∷◌, length, Option, Some, None, is_some, is_none, nat_lt, int_le, option_and_then, codes}
 use Rattle.std.specs.List.{list_any}
 use Rattle.std.specs.Str.{bytes_eq}
 use Rattle.csv_rows.specs.Rows.{Row}
 use Rattle.first_fault.specs.Checks.{Check}
+use Rattle.stream_case.specs.Case.{is_forbidden, names_of, side_of, source_named}
 use Rattle.stream_case.specs.Name.{is_name}
-use Rattle.stream_case.specs.Source.{same_source}
-use Rattle.stream_case.specs.Stream.{same_side}
-use Rattle.stream_case.specs.declared.case.Forbid.{Forbid}
+use Rattle.stream_case.specs.Source.{is_right_way, same_side}
+use Rattle.stream_case.specs.Stream.{count_on}
+use Rattle.stream_case.specs.declared.case.Case.{Case}
 use Rattle.stream_case.specs.declared.limits.TheConstants.{HIGHEST_TEMPERATURE, LOWEST_TEMPERATURE, MOST_CONTRIBUTION, MOST_CP, MOST_FORBIDS, MOST_HEAT, MOST_PRICE, MOST_STREAMS, MOST_UTILITIES}
 use Rattle.stream_case.specs.declared.source.Side.{Side}
 use Rattle.stream_case.specs.declared.source.Side.TheVariants as side
 use Rattle.case_text.specs.Rows.{are_empty, field, is_number, kind_of, number}
-use Rattle.case_text.specs.Given.{Given, forbid_in, names_in, side_in, source_named}
+use Rattle.case_text.specs.Given.{Given, case_of, source_at}
 use Rattle.case_text.specs.declared.fault.CaseWhy.{CaseWhy}
 use Rattle.case_text.specs.declared.fault.CaseWhy.TheVariants as why
 use Rattle.case_text.specs.declared.kind.Kind.{Kind}
@@ -43,11 +44,6 @@ is_heat n = is_within (pos 0) MOST_HEAT n
 abbrev pub is_price : ℤ → Bool
 is_price n = is_within (neg_ℤ MOST_PRICE) MOST_PRICE n
 
--- a hot stream falls, and a cold one rises
-unfoldable pub is_right_way : Side → ℤ → ℤ → Bool
-is_right_way side.Hot supply target = int_lt target supply
-is_right_way side.Cold supply target = int_lt supply target
-
 -- ---- names
 
 -- the names of the standard utilities, which no stream may have
@@ -59,9 +55,9 @@ unfoldable pub is_reserved_from : Side → List ℕ → Bool
 is_reserved_from side.Hot name = bytes_eq name (codes "COLD")
 is_reserved_from side.Cold name = bytes_eq name (codes "HOT")
 
--- an earlier stream or utility has this name
-unfoldable pub is_taken : Given → List ℕ → Bool
-is_taken earlier name = list_any (bytes_eq name) (names_in earlier)
+-- a stream or a utility of the case so far has this name
+unfoldable pub is_taken : Case → List ℕ → Bool
+is_taken earlier name = list_any (bytes_eq name) (names_of earlier)
 
 -- ---- sources
 
@@ -69,20 +65,9 @@ abbrev pub is_on : Side → Option Side → Bool
 is_on of None = false
 is_on of (Some other) = same_side of other
 
--- an earlier source of this side has this name
-unfoldable pub is_source : Side → Given → List ℕ → Bool
-is_source of earlier name = is_on of (option_and_then (side_in earlier) (source_named earlier name))
-
--- how many streams an earlier row gave to a side
-unfoldable pub count_on : Side → Given → ℕ
-count_on of earlier = count_by (λ s. same_side of s.1.side) earlier.streams
-
-abbrev pub same_forbid : Forbid → Forbid → Bool
-same_forbid a b = same_source a.hot b.hot && same_source a.cold b.cold
-
--- an earlier row forbade this match
-unfoldable pub is_forbidden : Given → Forbid → Bool
-is_forbidden earlier forbid = list_any (same_forbid forbid) earlier.forbids
+-- a source of the case so far, on this side, has this name
+unfoldable pub is_source : Side → Case → List ℕ → Bool
+is_source of earlier name = is_on of (option_and_then (side_of earlier) (source_named earlier name))
 
 -- ---- the checks of each kind of row
 
@@ -108,10 +93,10 @@ stream_number_checks of row =
 unfoldable pub stream_checks : Side → Given → Row → List (Check CaseWhy)
 stream_checks of earlier row =
     (are_empty row (5 ∷ 6 ∷ []), why.FieldCount)
-    ∷ (nat_lt (count_on of earlier) MOST_STREAMS, why.TooMany)
+    ∷ (nat_lt (count_on of (case_of earlier).streams) MOST_STREAMS, why.TooMany)
     ∷ (is_name (field row 1), why.BadName)
     ∷ (not (is_reserved (field row 1)), why.BadName)
-    ∷ (not (is_taken earlier (field row 1)), why.SameName)
+    ∷ (not (is_taken (case_of earlier) (field row 1)), why.SameName)
     ∷ stream_number_checks of row
 
 unfoldable pub utility_number_checks : Row → List (Check CaseWhy)
@@ -133,7 +118,7 @@ utility_checks of earlier row =
     ∷ (nat_lt (length earlier.utilities) MOST_UTILITIES, why.TooMany)
     ∷ (is_name (field row 1), why.BadName)
     ∷ (not (is_reserved_from of (field row 1)), why.BadName)
-    ∷ (not (is_taken earlier (field row 1)), why.SameName)
+    ∷ (not (is_taken (case_of earlier) (field row 1)), why.SameName)
     ∷ utility_number_checks row
 
 unfoldable pub forbid_checks : Given → Row → List (Check CaseWhy)
@@ -142,9 +127,9 @@ forbid_checks earlier row =
     ∷ (nat_lt (length earlier.forbids) MOST_FORBIDS, why.TooMany)
     ∷ (is_name (field row 1), why.BadName)
     ∷ (is_name (field row 2), why.BadName)
-    ∷ (is_source side.Hot earlier (field row 1), why.UnknownName)
-    ∷ (is_source side.Cold earlier (field row 2), why.UnknownName)
-    ∷ (not (is_forbidden earlier (forbid_in earlier row)), why.Repeated)
+    ∷ (is_source side.Hot (case_of earlier) (field row 1), why.UnknownName)
+    ∷ (is_source side.Cold (case_of earlier) (field row 2), why.UnknownName)
+    ∷ (not (is_forbidden earlier.forbids (source_at earlier (field row 1)) (source_at earlier (field row 2))), why.Repeated)
     ∷ []
 
 unfoldable pub kind_checks : Option Kind → Given → Row → List (Check CaseWhy)

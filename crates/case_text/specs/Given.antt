@@ -1,8 +1,7 @@
 -- What the rows of a case file give, one after the other, and the case that is made of it.
-use Rattle.std.specs.Prelude.{ℕ, ℤ, pos, List, [], ◌∷◌, ◌++◌, map, position, Option, Some, None, option_map, unwrap_or, slice_get}
-use Rattle.std.specs.Map.{keys_of}
-use Rattle.std.specs.Str.{bytes_eq}
+use Rattle.std.specs.Prelude.{ℕ, ℤ, pos, List, [], ◌∷◌, ◌++◌, map, Option, Some, None, unwrap_or}
 use Rattle.csv_rows.specs.Rows.{Row}
+use Rattle.stream_case.specs.Case.{source_named}
 use Rattle.stream_case.specs.declared.case.Case.{Case}
 use Rattle.stream_case.specs.declared.case.Forbid.{Forbid}
 use Rattle.stream_case.specs.declared.source.Side.{Side}
@@ -28,28 +27,45 @@ pub record Given : Type 0 where
 abbrev pub nothing : Given
 nothing = record { contribution = None; streams = []; utilities = []; forbids = [] }
 
--- ---- the sources that were given
+-- ---- the case that is made of it
 
-abbrev pub names_in : Given → List (List ℕ)
-names_in given = keys_of given.streams ++ keys_of given.utilities
+abbrev pub stream_of : ℤ → List ℕ × StreamData → Stream
+stream_of contribution (name, stream) = record {
+  name = name;
+  side = stream.side;
+  supply = stream.supply;
+  target = stream.target;
+  cp = stream.cp;
+  contribution = contribution;
+}
 
-abbrev pub first_source : Option ℕ → Option ℕ → Option Source
-first_source (Some i) utility = Some (source.Stream i)
-first_source None (Some i) = Some (source.Utility i)
-first_source None None = None
+abbrev pub utility_of : ℤ → List ℕ × UtilityData → Utility
+utility_of contribution (name, utility) = record {
+  name = name;
+  side = utility.side;
+  level = utility.level;
+  least = utility.least;
+  most = utility.most;
+  price = utility.price;
+  contribution = contribution;
+}
 
--- the source with a name
-unfoldable pub source_named : Given → List ℕ → Option Source
-source_named given name = first_source (position (bytes_eq name) (keys_of given.streams)) (position (bytes_eq name) (keys_of given.utilities))
+-- each source has the contribution
+abbrev pub case_with : ℤ → Given → Case
+case_with contribution given = record {
+  contribution = contribution;
+  streams = map (stream_of contribution) given.streams;
+  utilities = map (utility_of contribution) given.utilities;
+  forbids = given.forbids;
+}
 
--- the same where it is known; the first stream, of which no rule speaks, where it is not
-unfoldable pub source_at : Given → List ℕ → Source
-source_at given name = unwrap_or (source_named given name) (source.Stream 0)
+-- the case so far; its contribution is 0 where none was given yet
+abbrev pub case_of : Given → Case
+case_of given = case_with (unwrap_or given.contribution (pos 0)) given
 
--- the side of a source
-unfoldable pub side_in : Given → Source → Option Side
-side_in given (source.Stream i) = option_map (λ s. s.1.side) (slice_get given.streams i)
-side_in given (source.Utility i) = option_map (λ u. u.1.side) (slice_get given.utilities i)
+-- the source so far with a name; the first stream, of which no rule speaks, where there is none
+abbrev pub source_at : Given → List ℕ → Source
+source_at given name = unwrap_or (source_named (case_of given) name) (source.Stream 0)
 
 -- ---- what a row gives, behind rows that gave this
 
@@ -83,39 +99,3 @@ with_entry given (entry.Forbid forbid) = record given { forbids = given.forbids 
 
 abbrev pub next : Given → Row → Given
 next given row = with_entry given (entry_in given row)
-
--- ---- the case
-
-abbrev pub stream_of : ℤ → List ℕ × StreamData → Stream
-stream_of contribution (name, stream) = record {
-  name = name;
-  side = stream.side;
-  supply = stream.supply;
-  target = stream.target;
-  cp = stream.cp;
-  contribution = contribution;
-}
-
-abbrev pub utility_of : ℤ → List ℕ × UtilityData → Utility
-utility_of contribution (name, utility) = record {
-  name = name;
-  side = utility.side;
-  level = utility.level;
-  least = utility.least;
-  most = utility.most;
-  price = utility.price;
-  contribution = contribution;
-}
-
--- the case with this contribution, which each source has too
-abbrev pub case_with : ℤ → Given → Case
-case_with contribution given = record {
-  contribution = contribution;
-  streams = map (stream_of contribution) given.streams;
-  utilities = map (utility_of contribution) given.utilities;
-  forbids = given.forbids;
-}
-
--- the case of what all rows gave, where there was a contribution
-abbrev pub case_of : Given → Case
-case_of given = case_with (unwrap_or given.contribution (pos 0)) given

@@ -2,8 +2,10 @@
 
 ghost use Rattle.std.specs.Prelude.{◌≡◌, [], ◌∷◌, Some, length, map, is_some, IfOk, OnOk, MatchOption, None};
 ghost use Rattle.first_fault.specs.Checks.{Checked};
-ghost use Rattle.case_text.specs.Given.{case_with, nothing, side_in, source_at, source_named, stream_of, utility_of, with_entry};
-ghost use Rattle.case_text.specs.Checks.{count_on, end_checks, is_forbidden, is_source, is_taken};
+ghost use Rattle.stream_case.specs.Case.{is_forbidden, side_of, source_named};
+ghost use Rattle.stream_case.specs.Stream.{count_on};
+ghost use Rattle.case_text.specs.Given.{case_of, case_with, nothing, source_at, stream_of, utility_of, with_entry};
+ghost use Rattle.case_text.specs.Checks.{end_checks, is_source, is_taken};
 ghost use Rattle.case_text.specs.Answers.{IsFresh};
 
 use crate::entry::{Entry, StreamData, UtilityData};
@@ -55,15 +57,14 @@ impl Found {
     /// Whether an earlier stream or utility has this name.
     #[tactic(auto, unfolding(crate::specs::Checks::is_taken))]
     pub fn has_name(&self, name: &Name) -> bool
-        ensures { result ≡ is_taken self.now name.now }
+        ensures { result ≡ is_taken (case_of self.now) name.now }
     {
         self.streams.contains_key(name) || self.utilities.contains_key(name)
     }
 
     /// How many streams a side has.
-    #[tactic(auto, unfolding(crate::specs::Checks::count_on))]
     pub fn count_streams(&self, side: Side) -> usize
-        ensures { result ≡ count_on side self.now }
+        ensures { result ≡ count_on side (case_of self.now).streams }
     {
         self.streams
             .iter()
@@ -87,7 +88,7 @@ impl Found {
 
     /// The earlier source with this name, and its side.
     fn source_named(&self, name: &Name) -> Option<(Source, Side)>
-        ensures { MatchOption result (source_named self.now name.now ≡ None) (λ s. (source_named self.now name.now ≡ Some s.0) × (side_in self.now s.0 ≡ Some s.1)) }
+        ensures { MatchOption result (source_named (case_of self.now) name.now ≡ None) (λ s. (source_named (case_of self.now) name.now ≡ Some s.0) × (side_of (case_of self.now) s.0 ≡ Some s.1)) }
     {
         if let Some((index, _, stream)) = self.streams.get_full(name) {
             return Some((Source::Stream(index as u32), stream.side));
@@ -97,9 +98,9 @@ impl Found {
     }
 
     /// The earlier source with this name, if it is one of this side.
-    #[tactic(auto, unfolding(crate::specs::Checks::is_source, crate::specs::Given::source_at))]
+    #[tactic(auto, unfolding(crate::specs::Checks::is_source))]
     pub fn source(&self, side: Side, name: &Name) -> Result<Source, CaseWhy>
-        ensures { Checked ((is_source side self.now name.now, CaseWhy.UnknownName) ∷ []) (λ source. source ≡ source_at self.now name.now) result }
+        ensures { Checked ((is_source side (case_of self.now) name.now, CaseWhy.UnknownName) ∷ []) (λ source. source ≡ source_at self.now name.now) result }
     {
         match self.source_named(name) {
             Some((source, own)) if own == side => Ok(source),
@@ -108,9 +109,8 @@ impl Found {
     }
 
     /// Whether an earlier row forbade this match.
-    #[tactic(auto, unfolding(crate::specs::Checks::is_forbidden))]
     pub fn is_forbidden(&self, forbid: Forbid) -> bool
-        ensures { result ≡ is_forbidden self.now forbid }
+        ensures { result ≡ is_forbidden self.now.forbids forbid.hot forbid.cold }
     {
         self.forbids.contains(&forbid)
     }

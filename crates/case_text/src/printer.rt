@@ -1,14 +1,14 @@
 //! Printing a case.
 
-ghost use Rattle.std.specs.Prelude.{◌≡◌, ◌≤◌, ◌++◌, All, IfOk, IsSome, OnOk, length, string_bytes};
+ghost use Rattle.std.specs.Prelude.{◌≡◌, ◌≤◌, ◌++◌, All, IfOk, OnOk, length, string_bytes};
 ghost use Rattle.std.specs.List.{flat_map};
 ghost use Rattle.csv_rows.specs.Rows.{rows_of};
-ghost use Rattle.stream_case.specs.Case.{IsValid, IsValidForbid, side_of};
+ghost use Rattle.stream_case.specs.Case.{IsValid, IsValidForbid};
 ghost use Rattle.case_text.specs.Outcome.{IsCase};
-ghost use Rattle.case_text.specs.Printed.{contribution_row, forbid_row, name_at, printed_rows, row_text, rows_text, stream_row, utility_row};
+ghost use Rattle.case_text.specs.Printed.{contribution_row, forbid_row, printed_rows, row_text, rows_text, stream_row, utility_row};
 
 use std::alloc::{AllocError, Global};
-use stream_case::{Case, Forbid, Name, Side, Source, Stream, Utility};
+use stream_case::{Case, Forbid, Side, Stream, Utility};
 
 /// The line of the contribution.
 #[tactic(auto, unfolding(crate::specs::Printed::fields_text))]
@@ -48,25 +48,14 @@ fn utility_line(alloc: Global, utility: &Utility) -> Result<String, AllocError>
     )
 }
 
-/// The name of a source of the case.
-fn name_of(case: &Case, source: Source) -> Name
-    requires { IsSome (side_of case.now source) }
-    ensures { result ≡ name_at case.now source }
-{
-    match source {
-        Source::Stream(index) => case.streams.as_slice()[index as usize].name,
-        Source::Utility(index) => case.utilities.as_slice()[index as usize].name,
-    }
-}
-
 /// The line of a forbidden match.
 #[tactic(auto, unfolding(crate::specs::Printed::fields_text))]
 fn forbid_line(alloc: Global, case: &Case, forbid: &Forbid) -> Result<String, AllocError>
     requires { IsValidForbid case.now forbid.now }
     ensures { IfOk result (λ line. string_bytes line ≡ row_text (forbid_row case.now forbid.now)) }
 {
-    let hot = name_of(case, forbid.hot);
-    let cold = name_of(case, forbid.cold);
+    let hot = case.name_of(forbid.hot);
+    let cold = case.name_of(forbid.cold);
     format!(in alloc; "forbid,{hot},{cold},,,,\n")
 }
 

@@ -5,7 +5,7 @@ ghost use Rattle.csv.specs.Records.{fields_of};
 ghost use Rattle.first_fault.specs.Checks.{Checked};
 ghost use Rattle.case_text.specs.Rows.{field};
 ghost use Rattle.case_text.specs.Given.{stream_data};
-ghost use Rattle.case_text.specs.Checks.{is_reserved, is_right_way, stream_checks, stream_number_checks};
+ghost use Rattle.case_text.specs.Checks.{is_reserved, stream_checks, stream_number_checks};
 ghost use Rattle.case_text.specs.Answers.{IsFresh};
 
 use crate::entry::{Entry, StreamData};
@@ -24,17 +24,6 @@ fn is_reserved(name: &[u8]) -> bool
     name == b"HOT".as_slice() || name == b"COLD".as_slice()
 }
 
-/// Whether a stream goes the way of its side.
-#[tactic(auto, unfolding(crate::specs::Checks::is_right_way))]
-fn is_right_way(side: Side, supply: i32, target: i32) -> bool
-    ensures { result ≡ is_right_way side supply target }
-{
-    match side {
-        Side::Hot => target < supply,
-        Side::Cold => supply < target,
-    }
-}
-
 /// What the numbers of a stream's row say.
 #[tactic(auto, unfolding(crate::specs::Checks::stream_number_checks))]
 fn stream_data(side: Side, row: &ByteRecord) -> Result<StreamData, CaseWhy>
@@ -46,7 +35,7 @@ fn stream_data(side: Side, row: &ByteRecord) -> Result<StreamData, CaseWhy>
     let supply = temperature(supply)?;
     let target = temperature(target)?;
     let cp = flow_rate(cp)?;
-    if !is_right_way(side, supply, target) {
+    if !side.is_right_way(supply, target) {
         return Err(CaseWhy::WrongWay);
     }
     Ok(StreamData {
