@@ -1,1 +1,4 @@
 pub mod Sources
+pub mod Tests
+pub mod Pairs
+pub mod Accepted
