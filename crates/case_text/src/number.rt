@@ -11,6 +11,9 @@ use stream_case::{
     natural_of,
 };
 
+/// The most digits of a number text.
+const MOST_DIGITS: usize = 13;
+
 /// The number that a field spells, if it is a number text: an optional `-` and then 1 to 13
 /// ASCII digits (this project's rule).
 #[tactic(auto, unfolding(crate::specs::Numbers::number_in))]
@@ -18,9 +21,9 @@ pub fn number_of(field: &[u8]) -> Option<i64>
     ensures { result ≡ number_in field.now }
 {
     if !field.is_empty() && field[0] == b'-' {
-        natural_of(&field[1..], 13).map(|n| -(n as i64))
+        natural_of(&field[1..], MOST_DIGITS).map(|n| -(n as i64))
     } else {
-        natural_of(field, 13).map(|n| n as i64)
+        natural_of(field, MOST_DIGITS).map(|n| n as i64)
     }
 }
 
