@@ -5,3 +5,5 @@ pub mod Accepted
 pub mod NumberTexts
 pub mod PrintedRows
 pub mod PrintedCase
+pub mod PlainRows
+pub mod PrintedText
