@@ -1,5 +1,5 @@
 -- Items have one outcome.
-use Rattle.std.proofs.Common.{◌≡◌, ℕ, ◌+◌, ◌∷◌, List, [], Option, Some, None, Result, Ok, Err, refl, arith}
+use Rattle.std.proofs.Common.{◌≡◌, ◌⊎◌, inl, inr, ℕ, ◌+◌, ◌∷◌, List, [], Option, Some, None, Result, Ok, Err, refl, arith}
 use Rattle.std.proofs.lemmas.Option.{slice_get_within}
 use Rattle.first_fault.specs.Checks.{first_failing}
 use Rattle.first_fault.specs.Outcome.{Grammar, IsFault, IsOutcome, IsValue}
@@ -33,3 +33,10 @@ module _ {Item Given Value Cause : Type 0} (grammar : Grammar Item Given Value C
 
   pub some_outcome : (outcome : Result Value (ℕ × Cause)) × IsOutcome grammar items outcome
   some_outcome = outcome_left items grammar.start 0 (none_read items refl)
+
+  pub fault_or_value : ((number : ℕ) × (cause : Cause) × IsFault grammar items number cause) ⊎ ((value : Value) × IsValue grammar items value)
+  fault_or_value = by some_outcome.0 some_outcome.1
+    where
+      by : (outcome : Result Value (ℕ × Cause)) → IsOutcome grammar items outcome → ((number : ℕ) × (cause : Cause) × IsFault grammar items number cause) ⊎ ((value : Value) × IsValue grammar items value)
+      by (Ok value) is = inr (value, is)
+      by (Err (number, cause)) is = inl (number, cause, is)
