@@ -1,136 +1,33 @@
--- What the rows of a case file give, and the case that is made of it.
-use Rattle.std.specs.Prelude.{ℕ, ℤ, pos, List, [], map, length, take, position, Option, Some, None, unwrap_or, slice_index_or, if◌then◌else◌, codes}
-use Rattle.std.specs.List.{filter_map, range_with_len}
-use Rattle.std.specs.Map.{keys_of}
-use Rattle.std.specs.Str.{bytes_eq}
+-- What the rows of a case file give, one after the other, and the case that is made of it.
+use Rattle.std.specs.Prelude.{ℕ, ℤ, pos, List, [], ◌∷◌, ◌++◌, map, Option, Some, None, unwrap_or}
 use Rattle.csv_rows.specs.Rows.{Row}
+use Rattle.stream_case.specs.Case.{source_named}
 use Rattle.stream_case.specs.declared.case.Case.{Case}
 use Rattle.stream_case.specs.declared.case.Forbid.{Forbid}
 use Rattle.stream_case.specs.declared.source.Side.{Side}
-use Rattle.stream_case.specs.declared.source.Side.TheVariants as side
 use Rattle.stream_case.specs.declared.source.Source.{Source}
 use Rattle.stream_case.specs.declared.source.Source.TheVariants as source
 use Rattle.stream_case.specs.declared.stream.Stream.{Stream}
 use Rattle.stream_case.specs.declared.utility.Utility.{Utility}
-use Rattle.case_text.specs.Numbers.{number_in}
-use Rattle.case_text.specs.declared.found.StreamData.{StreamData}
-use Rattle.case_text.specs.declared.found.UtilityData.{UtilityData}
+use Rattle.case_text.specs.Rows.{field, kind_of, number}
+use Rattle.case_text.specs.declared.entry.Entry.{Entry}
+use Rattle.case_text.specs.declared.entry.Entry.TheVariants as entry
+use Rattle.case_text.specs.declared.entry.StreamData.{StreamData}
+use Rattle.case_text.specs.declared.entry.UtilityData.{UtilityData}
 use Rattle.case_text.specs.declared.kind.Kind.{Kind}
 use Rattle.case_text.specs.declared.kind.Kind.TheVariants as kind
 
--- ---- fields and kinds
-
--- the field at a place, from 0; there is nothing behind the last one
-abbrev pub field : Row → ℕ → List ℕ
-field row place = slice_index_or row place []
-
-abbrev pub kind_in : List ℕ → Option Kind
-kind_in text =
-    if bytes_eq text (codes "contribution") then Some kind.Contribution
-    else if bytes_eq text (codes "hot") then Some (kind.Stream side.Hot)
-    else if bytes_eq text (codes "cold") then Some (kind.Stream side.Cold)
-    else if bytes_eq text (codes "heater") then Some (kind.Utility side.Hot)
-    else if bytes_eq text (codes "cooler") then Some (kind.Utility side.Cold)
-    else if bytes_eq text (codes "forbid") then Some kind.Forbid
-    else None
-
--- the first field names the kind of the row
-abbrev pub kind_of : Row → Option Kind
-kind_of row = kind_in (field row 0)
-
--- the number in a field
-abbrev pub number : Row → ℕ → ℤ
-number row place = unwrap_or (number_in (field row place)) (pos 0)
-
--- ---- contributions and sources, which each row gives by itself
-
-abbrev pub contribution_by : Option Kind → Row → Option ℤ
-contribution_by (Some kind.Contribution) row = Some (number row 2)
-contribution_by (Some (kind.Stream of)) row = None
-contribution_by (Some (kind.Utility of)) row = None
-contribution_by (Some kind.Forbid) row = None
-contribution_by None row = None
-
-abbrev pub stream_data : Side → Row → StreamData
-stream_data of row = record { side = of; supply = number row 2; target = number row 3; cp = number row 4 }
-
-abbrev pub stream_by : Option Kind → Row → Option (List ℕ × StreamData)
-stream_by (Some kind.Contribution) row = None
-stream_by (Some (kind.Stream of)) row = Some (field row 1, stream_data of row)
-stream_by (Some (kind.Utility of)) row = None
-stream_by (Some kind.Forbid) row = None
-stream_by None row = None
-
-abbrev pub utility_data : Side → Row → UtilityData
-utility_data of row = record { side = of; level = number row 2; least = number row 3; most = number row 4; price = number row 5 }
-
-abbrev pub utility_by : Option Kind → Row → Option (List ℕ × UtilityData)
-utility_by (Some kind.Contribution) row = None
-utility_by (Some (kind.Stream of)) row = None
-utility_by (Some (kind.Utility of)) row = Some (field row 1, utility_data of row)
-utility_by (Some kind.Forbid) row = None
-utility_by None row = None
-
--- the data of streams and utilities, by name
-pub record Sources : Type 0 where
+-- the contribution, the data of streams and utilities by name, and the forbidden matches, each in the order of their rows
+pub record Given : Type 0 where
+  pub contribution : Option ℤ
   pub streams : List (List ℕ × StreamData)
   pub utilities : List (List ℕ × UtilityData)
-
-unfoldable pub sources_by : List Row → Sources
-sources_by rows = record {
-  streams = filter_map (λ row. stream_by (kind_of row) row) rows;
-  utilities = filter_map (λ row. utility_by (kind_of row) row) rows;
-}
-
--- ---- forbidden matches, whose names are those of sources of earlier rows
-
-abbrev pub first_source : Option ℕ → Option ℕ → Option Source
-first_source (Some i) utility = Some (source.Stream i)
-first_source None (Some i) = Some (source.Utility i)
-first_source None None = None
-
--- the source with a name: a place among the streams, or one among the utilities
-unfoldable pub source_named : Sources → List ℕ → Option Source
-source_named sources name = first_source (position (bytes_eq name) (keys_of sources.streams)) (position (bytes_eq name) (keys_of sources.utilities))
-
-abbrev pub forbid_of : Option Source → Option Source → Option Forbid
-forbid_of (Some hot) (Some cold) = Some (record { hot = hot; cold = cold })
-forbid_of (Some hot) None = None
-forbid_of None cold = None
-
-abbrev pub forbid_named : Sources → Row → Option Forbid
-forbid_named earlier row = forbid_of (source_named earlier (field row 1)) (source_named earlier (field row 2))
-
-abbrev pub forbid_by : Option Kind → Sources → Row → Option Forbid
-forbid_by (Some kind.Contribution) earlier row = None
-forbid_by (Some (kind.Stream of)) earlier row = None
-forbid_by (Some (kind.Utility of)) earlier row = None
-forbid_by (Some kind.Forbid) earlier row = forbid_named earlier row
-forbid_by None earlier row = None
-
--- the row at a place
-abbrev pub row_at : List Row → ℕ → Row
-row_at rows place = slice_index_or rows place []
-
--- what the row at a place forbids, by the sources of the rows before it
-abbrev pub forbid_at : List Row → ℕ → Option Forbid
-forbid_at rows place = forbid_by (kind_of (row_at rows place)) (sources_by (take place rows)) (row_at rows place)
-
--- ---- all that rows give
-
-pub record Given : Type 0 where
-  pub contributions : List ℤ
-  pub sources : Sources
   pub forbids : List Forbid
 
-unfoldable pub given_by : List Row → Given
-given_by rows = record {
-  contributions = filter_map (λ row. contribution_by (kind_of row) row) rows;
-  sources = sources_by rows;
-  forbids = filter_map (forbid_at rows) (range_with_len 0 (length rows));
-}
+abbrev pub nothing : Given
+nothing = record { contribution = None; streams = []; utilities = []; forbids = [] }
 
--- ---- the case
+-- ---- the case that is made of it
 
 abbrev pub stream_of : ℤ → List ℕ × StreamData → Stream
 stream_of contribution (name, stream) = record {
@@ -153,11 +50,52 @@ utility_of contribution (name, utility) = record {
   contribution = contribution;
 }
 
--- the case of what was given, with the one contribution in each source
-abbrev pub case_of : ℤ → Given → Case
-case_of contribution given = record {
+-- each source has the contribution
+abbrev pub case_with : ℤ → Given → Case
+case_with contribution given = record {
   contribution = contribution;
-  streams = map (stream_of contribution) given.sources.streams;
-  utilities = map (utility_of contribution) given.sources.utilities;
+  streams = map (stream_of contribution) given.streams;
+  utilities = map (utility_of contribution) given.utilities;
   forbids = given.forbids;
 }
+
+-- the case so far; its contribution is 0 where none was given yet
+abbrev pub case_of : Given → Case
+case_of given = case_with (unwrap_or given.contribution (pos 0)) given
+
+-- the source so far with a name; the first stream, of which no rule speaks, where there is none
+abbrev pub source_at : Given → List ℕ → Source
+source_at given name = unwrap_or (source_named (case_of given) name) (source.Stream 0)
+
+-- ---- what a row gives, behind rows that gave this
+
+abbrev pub stream_data : Side → Row → StreamData
+stream_data of row = record { side = of; supply = number row 2; target = number row 3; cp = number row 4 }
+
+abbrev pub utility_data : Side → Row → UtilityData
+utility_data of row = record { side = of; level = number row 2; least = number row 3; most = number row 4; price = number row 5 }
+
+-- the names of a forbidden match are those of sources of earlier rows
+abbrev pub forbid_in : Given → Row → Forbid
+forbid_in given row = record { hot = source_at given (field row 1); cold = source_at given (field row 2) }
+
+abbrev pub entry_by : Option Kind → Given → Row → Entry
+entry_by None given row = entry.Nothing
+entry_by (Some kind.PassedOver) given row = entry.Nothing
+entry_by (Some kind.Contribution) given row = entry.Contribution (number row 2)
+entry_by (Some (kind.Stream of)) given row = entry.Stream (field row 1) (stream_data of row)
+entry_by (Some (kind.Utility of)) given row = entry.Utility (field row 1) (utility_data of row)
+entry_by (Some kind.Forbid) given row = entry.Forbid (forbid_in given row)
+
+abbrev pub entry_in : Given → Row → Entry
+entry_in given row = entry_by (kind_of row) given row
+
+abbrev pub with_entry : Given → Entry → Given
+with_entry given entry.Nothing = given
+with_entry given (entry.Contribution n) = record given { contribution = Some n }
+with_entry given (entry.Stream name stream) = record given { streams = given.streams ++ (name, stream) ∷ [] }
+with_entry given (entry.Utility name utility) = record given { utilities = given.utilities ++ (name, utility) ∷ [] }
+with_entry given (entry.Forbid forbid) = record given { forbids = given.forbids ++ forbid ∷ [] }
+
+abbrev pub next : Given → Row → Given
+next given row = with_entry given (entry_in given row)

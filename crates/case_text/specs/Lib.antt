@@ -1,4 +1,5 @@
 pub mod Numbers
+pub mod Rows
 pub mod Given
 pub mod Checks
 pub mod Outcome

@@ -1,13 +1,13 @@
 -- How a case is printed.
-use Rattle.std.specs.Prelude.{ℕ, ℤ, List, [], ◌∷◌, ◌++◌, map, option_map, unwrap_or, slice_get, codes}
+use Rattle.std.specs.Prelude.{ℕ, ℤ, List, [], ◌∷◌, ◌++◌, map, codes}
 use Rattle.std.specs.Fmt.{signed_decimal}
+use Rattle.std.specs.List.{flat_map}
 use Rattle.csv_rows.specs.Rows.{Row}
+use Rattle.stream_case.specs.Case.{source_name}
 use Rattle.stream_case.specs.declared.case.Case.{Case}
 use Rattle.stream_case.specs.declared.case.Forbid.{Forbid}
 use Rattle.stream_case.specs.declared.source.Side.{Side}
 use Rattle.stream_case.specs.declared.source.Side.TheVariants as side
-use Rattle.stream_case.specs.declared.source.Source.{Source}
-use Rattle.stream_case.specs.declared.source.Source.TheVariants as source
 use Rattle.stream_case.specs.declared.stream.Stream.{Stream}
 use Rattle.stream_case.specs.declared.utility.Utility.{Utility}
 
@@ -21,11 +21,6 @@ abbrev pub utility_kind : Side → List ℕ
 utility_kind side.Hot = codes "heater"
 utility_kind side.Cold = codes "cooler"
 
--- the name of a source; nothing where the case has no such source
-abbrev pub name_at : Case → Source → List ℕ
-name_at case (source.Stream i) = unwrap_or (option_map (λ s. s.name) (slice_get case.streams i)) []
-name_at case (source.Utility i) = unwrap_or (option_map (λ u. u.name) (slice_get case.utilities i)) []
-
 abbrev pub contribution_row : ℤ → Row
 contribution_row contribution = codes "contribution" ∷ [] ∷ signed_decimal contribution ∷ [] ∷ [] ∷ [] ∷ [] ∷ []
 
@@ -36,7 +31,7 @@ abbrev pub utility_row : Utility → Row
 utility_row u = utility_kind u.side ∷ u.name ∷ signed_decimal u.level ∷ signed_decimal u.least ∷ signed_decimal u.most ∷ signed_decimal u.price ∷ [] ∷ []
 
 abbrev pub forbid_row : Case → Forbid → Row
-forbid_row case f = codes "forbid" ∷ name_at case f.hot ∷ name_at case f.cold ∷ [] ∷ [] ∷ [] ∷ [] ∷ []
+forbid_row case f = codes "forbid" ∷ source_name case f.hot ∷ source_name case f.cold ∷ [] ∷ [] ∷ [] ∷ [] ∷ []
 
 -- the contribution, the streams, the utilities and the forbidden matches, in their order
 unfoldable pub printed_rows : Case → List Row
@@ -54,6 +49,6 @@ abbrev pub row_text : Row → List ℕ
 row_text [] = 10 ∷ []
 row_text (field ∷ fields) = field ++ fields_text fields
 
-unfoldable pub rows_text : List Row → List ℕ
-rows_text [] = []
-rows_text (row ∷ rows) = row_text row ++ rows_text rows
+-- rows as lines, one behind the other
+abbrev pub rows_text : List Row → List ℕ
+rows_text rows = flat_map row_text rows

@@ -1,21 +1,22 @@
 //! The row of a forbidden match.
 
-ghost use Rattle.std.specs.Prelude.{◌≡◌, Some};
+ghost use Rattle.std.specs.Prelude.{◌≡◌};
 ghost use Rattle.csv.specs.Records.{fields_of};
-ghost use Rattle.case_text.specs.Given.{forbid_named};
-ghost use Rattle.case_text.specs.Checks.{first_failing, forbid_checks};
-ghost use Rattle.case_text.specs.Answers.{Checked};
+ghost use Rattle.first_fault.specs.Checks.{Checked};
+ghost use Rattle.case_text.specs.Given.{forbid_in};
+ghost use Rattle.case_text.specs.Checks.{forbid_checks};
 
+use crate::entry::Entry;
 use crate::fault::CaseWhy;
-use crate::fields::{are_empty, field};
+use crate::fields::{are_empty, name_in};
 use crate::found::Found;
 use csv::ByteRecord;
-use stream_case::{Forbid, MOST_FORBIDS, Name, Side};
+use stream_case::{Forbid, MOST_FORBIDS, Side};
 
-/// The forbidden match of a row of that kind.
-#[tactic(auto, unfolding(crate::specs::Checks::forbid_checks, crate::specs::Checks::is_among))]
-pub fn forbid_of(found: &Found, row: &ByteRecord) -> Result<Forbid, CaseWhy>
-    ensures { Checked (first_failing (forbid_checks found.now (fields_of row.now))) (λ f. forbid_named found.now.sources (fields_of row.now) ≡ Some f) result }
+/// What a row of that kind gives.
+#[tactic(auto, unfolding(crate::specs::Checks::forbid_checks))]
+pub fn forbid_entry(found: &Found, row: &ByteRecord) -> Result<Entry, CaseWhy>
+    ensures { Checked (forbid_checks found.now (fields_of row.now)) (λ e. e ≡ Entry.Forbid (forbid_in found.now (fields_of row.now))) result }
 {
     if !are_empty(row, &[3, 4, 5, 6]) {
         return Err(CaseWhy::FieldCount);
@@ -23,21 +24,14 @@ pub fn forbid_of(found: &Found, row: &ByteRecord) -> Result<Forbid, CaseWhy>
     if found.count_forbids() >= MOST_FORBIDS {
         return Err(CaseWhy::TooMany);
     }
-    let Some(hot) = Name::undotted(field(row, 1)) else {
-        return Err(CaseWhy::BadName);
+    let hot = name_in(row, 1)?;
+    let cold = name_in(row, 2)?;
+    let forbid = Forbid {
+        hot: found.source(Side::Hot, &hot)?,
+        cold: found.source(Side::Cold, &cold)?,
     };
-    let Some(cold) = Name::undotted(field(row, 2)) else {
-        return Err(CaseWhy::BadName);
-    };
-    let Some(hot) = found.source(Side::Hot, &hot) else {
-        return Err(CaseWhy::UnknownName);
-    };
-    let Some(cold) = found.source(Side::Cold, &cold) else {
-        return Err(CaseWhy::UnknownName);
-    };
-    let forbid = Forbid { hot, cold };
-    if found.has_forbid(forbid) {
+    if found.is_forbidden(forbid) {
         return Err(CaseWhy::Repeated);
     }
-    Ok(forbid)
+    Ok(Entry::Forbid(forbid))
 }

@@ -1,36 +1,64 @@
 //! The kinds of rows.
 
 ghost use Rattle.std.specs.Prelude.{◌≡◌};
-ghost use Rattle.case_text.specs.Given.{kind_in};
+ghost use Rattle.csv.specs.Records.{fields_of};
+ghost use Rattle.case_text.specs.Rows.{is_passed_over, kind_in, kind_of};
 
+use crate::fields::{are_empty, field};
+use csv::ByteRecord;
 use stream_case::Side;
 
 /// What a row describes.
 #[derive(Clone, Copy)]
 pub enum Kind {
+    /// The row counts, but says nothing.
+    PassedOver,
     Contribution,
     Stream(Side),
     Utility(Side),
     Forbid,
 }
 
-/// The kind that the first field of a row names.
-pub fn kind_of(field: &[u8]) -> Option<Kind>
-    ensures { result ≡ kind_in field.now }
+/// Whether a row of seven fields is passed over: its fields are empty, or the first one begins
+/// with `#`.
+#[tactic(auto, unfolding(crate::specs::Rows::is_passed_over))]
+fn is_passed_over(row: &ByteRecord) -> bool
+    ensures { result ≡ is_passed_over (fields_of row.now) }
 {
-    if field == b"contribution".as_slice() {
+    if are_empty(row, &[0, 1, 2, 3, 4, 5, 6]) {
+        return true;
+    }
+    field(row, 0).starts_with(b"#")
+}
+
+/// The kind that a text names.
+fn kind_in(text: &[u8]) -> Option<Kind>
+    ensures { result ≡ kind_in text.now }
+{
+    if text == b"contribution".as_slice() {
         Some(Kind::Contribution)
-    } else if field == b"hot".as_slice() {
+    } else if text == b"hot".as_slice() {
         Some(Kind::Stream(Side::Hot))
-    } else if field == b"cold".as_slice() {
+    } else if text == b"cold".as_slice() {
         Some(Kind::Stream(Side::Cold))
-    } else if field == b"heater".as_slice() {
+    } else if text == b"heater".as_slice() {
         Some(Kind::Utility(Side::Hot))
-    } else if field == b"cooler".as_slice() {
+    } else if text == b"cooler".as_slice() {
         Some(Kind::Utility(Side::Cold))
-    } else if field == b"forbid".as_slice() {
+    } else if text == b"forbid".as_slice() {
         Some(Kind::Forbid)
     } else {
         None
     }
+}
+
+/// The kind of a row of seven fields, if it is of one.
+#[tactic(auto, unfolding(crate::specs::Rows::kind_of))]
+pub fn kind_of(row: &ByteRecord) -> Option<Kind>
+    ensures { result ≡ kind_of (fields_of row.now) }
+{
+    if is_passed_over(row) {
+        return Some(Kind::PassedOver);
+    }
+    kind_in(field(row, 0))
 }

@@ -6,11 +6,13 @@
 #![tactic(auto)]
 
 mod contribution_row;
+mod entry;
 mod fault;
 mod fields;
 mod forbid_row;
 mod found;
 mod kind;
+mod laws;
 mod number;
 mod printer;
 mod reader;
@@ -18,6 +20,7 @@ mod stream_row;
 mod utility_row;
 
 pub use fault::{CaseFault, CaseWhy};
+pub use laws::{rows_have_one_outcome, valid_cases_are_those_of_the_grammar};
 pub use number::number_of;
 pub use printer::print_case;
-pub use reader::{read_case, rows_have_one_outcome, valid_cases_are_those_of_the_grammar};
+pub use reader::read_case;

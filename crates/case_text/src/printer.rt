@@ -1,13 +1,14 @@
 //! Printing a case.
 
-ghost use Rattle.std.specs.Prelude.{◌≡◌, ◌≤◌, ◌++◌, All, IfOk, IsSome, OnOk, length, map, string_bytes};
+ghost use Rattle.std.specs.Prelude.{◌≡◌, ◌≤◌, ◌++◌, All, IfOk, OnOk, length, string_bytes};
+ghost use Rattle.std.specs.List.{flat_map};
 ghost use Rattle.csv_rows.specs.Rows.{rows_of};
-ghost use Rattle.stream_case.specs.Case.{IsValid, IsValidForbid, side_of};
+ghost use Rattle.stream_case.specs.Case.{IsValid, IsValidForbid};
 ghost use Rattle.case_text.specs.Outcome.{IsCase};
-ghost use Rattle.case_text.specs.Printed.{contribution_row, forbid_row, name_at, printed_rows, row_text, rows_text, stream_row, utility_row};
+ghost use Rattle.case_text.specs.Printed.{contribution_row, forbid_row, printed_rows, row_text, rows_text, stream_row, utility_row};
 
 use std::alloc::{AllocError, Global};
-use stream_case::{Case, Forbid, Name, Side, Source, Stream, Utility};
+use stream_case::{Case, Forbid, Side, Stream, Utility};
 
 /// The line of the contribution.
 #[tactic(auto, unfolding(crate::specs::Printed::fields_text))]
@@ -47,31 +48,20 @@ fn utility_line(alloc: Global, utility: &Utility) -> Result<String, AllocError>
     )
 }
 
-/// The name of a source of the case.
-fn name_of(case: &Case, source: Source) -> Name
-    requires { IsSome (side_of case.now source) }
-    ensures { result ≡ name_at case.now source }
-{
-    match source {
-        Source::Stream(index) => case.streams.as_slice()[index as usize].name,
-        Source::Utility(index) => case.utilities.as_slice()[index as usize].name,
-    }
-}
-
 /// The line of a forbidden match.
 #[tactic(auto, unfolding(crate::specs::Printed::fields_text))]
 fn forbid_line(alloc: Global, case: &Case, forbid: &Forbid) -> Result<String, AllocError>
     requires { IsValidForbid case.now forbid.now }
     ensures { IfOk result (λ line. string_bytes line ≡ row_text (forbid_row case.now forbid.now)) }
 {
-    let hot = name_of(case, forbid.hot);
-    let cold = name_of(case, forbid.cold);
+    let hot = case.name_of(forbid.hot);
+    let cold = case.name_of(forbid.cold);
     format!(in alloc; "forbid,{hot},{cold},,,,\n")
 }
 
 /// Appends the lines of the streams.
 fn push_streams(alloc: Global, text: &mut Vec<u8>, streams: &[Stream]) -> Result<(), AllocError>
-    ensures { OnOk result (text.new.items ≡ text.old.items ++ rows_text (map stream_row streams.now)) }
+    ensures { OnOk result (text.new.items ≡ text.old.items ++ flat_map (λ s. row_text (stream_row s)) streams.now) }
 {
     for stream in streams {
         text.extend_from_slice(stream_line(alloc, stream)?.as_bytes())?;
@@ -85,7 +75,7 @@ fn push_utilities(
     text: &mut Vec<u8>,
     utilities: &[Utility],
 ) -> Result<(), AllocError>
-    ensures { OnOk result (text.new.items ≡ text.old.items ++ rows_text (map utility_row utilities.now)) }
+    ensures { OnOk result (text.new.items ≡ text.old.items ++ flat_map (λ u. row_text (utility_row u)) utilities.now) }
 {
     for utility in utilities {
         text.extend_from_slice(utility_line(alloc, utility)?.as_bytes())?;
@@ -101,7 +91,7 @@ fn push_forbids(
     forbids: &[Forbid],
 ) -> Result<(), AllocError>
     requires { All (IsValidForbid case.now) forbids.now }
-    ensures { OnOk result (text.new.items ≡ text.old.items ++ rows_text (map (forbid_row case.now) forbids.now)) }
+    ensures { OnOk result (text.new.items ≡ text.old.items ++ flat_map (λ f. row_text (forbid_row case.now f)) forbids.now) }
 {
     for forbid in forbids {
         text.extend_from_slice(forbid_line(alloc, case, forbid)?.as_bytes())?;

@@ -2,75 +2,55 @@
 
 ghost use Rattle.std.specs.Prelude.{◌≡◌, IfOk};
 ghost use Rattle.csv.specs.Records.{fields_of};
-ghost use Rattle.case_text.specs.Given.{field as field_at, stream_data};
-ghost use Rattle.case_text.specs.Checks.{first_failing, goes_right, is_reserved, stream_checks, stream_number_checks};
-ghost use Rattle.case_text.specs.Answers.{Checked, IsFresh};
+ghost use Rattle.first_fault.specs.Checks.{Checked};
+ghost use Rattle.case_text.specs.Rows.{field};
+ghost use Rattle.case_text.specs.Given.{stream_data};
+ghost use Rattle.case_text.specs.Checks.{is_reserved, stream_checks, stream_number_checks};
+ghost use Rattle.case_text.specs.Answers.{IsFresh};
 
+use crate::entry::{Entry, StreamData};
 use crate::fault::CaseWhy;
-use crate::fields::{are_empty, field};
-use crate::found::{Entry, Found, StreamData};
-use crate::number::{in_range, number_of};
+use crate::fields::{are_empty, name_in, number_in};
+use crate::found::Found;
+use crate::number::{flow_rate, temperature};
 use csv::ByteRecord;
-use stream_case::{MOST_STREAMS, Name, Side};
+use stream_case::{MOST_STREAMS, Side};
 
 /// Whether no stream may have this name.
 #[tactic(auto, unfolding(crate::specs::Checks::is_reserved))]
-fn is_reserved_name(text: &[u8]) -> bool
-    ensures { result ≡ is_reserved text.now }
+fn is_reserved(name: &[u8]) -> bool
+    ensures { result ≡ is_reserved name.now }
 {
-    text == b"HOT".as_slice() || text == b"COLD".as_slice()
-}
-
-/// Whether a stream goes the way of its side.
-#[tactic(auto, unfolding(crate::specs::Checks::goes_right))]
-fn goes_right_way(side: Side, supply: i32, target: i32) -> bool
-    ensures { result ≡ goes_right side supply target }
-{
-    match side {
-        Side::Hot => target < supply,
-        Side::Cold => supply < target,
-    }
+    name == b"HOT".as_slice() || name == b"COLD".as_slice()
 }
 
 /// What the numbers of a stream's row say.
 #[tactic(auto, unfolding(crate::specs::Checks::stream_number_checks))]
-fn data_of(side: Side, row: &ByteRecord) -> Result<StreamData, CaseWhy>
-    ensures { Checked (first_failing (stream_number_checks side (fields_of row.now))) (λ s. s ≡ stream_data side (fields_of row.now)) result }
+fn stream_data(side: Side, row: &ByteRecord) -> Result<StreamData, CaseWhy>
+    ensures { Checked (stream_number_checks side (fields_of row.now)) (λ s. s ≡ stream_data side (fields_of row.now)) result }
 {
-    let Some(supply) = number_of(field(row, 2)) else {
-        return Err(CaseWhy::BadNumber);
-    };
-    let Some(target) = number_of(field(row, 3)) else {
-        return Err(CaseWhy::BadNumber);
-    };
-    let Some(cp) = number_of(field(row, 4)) else {
-        return Err(CaseWhy::BadNumber);
-    };
-    let Some(supply) = in_range(-2731, 30000, supply) else {
-        return Err(CaseWhy::OutOfRange);
-    };
-    let Some(target) = in_range(-2731, 30000, target) else {
-        return Err(CaseWhy::OutOfRange);
-    };
-    let Some(cp) = in_range(1, 100_000, cp) else {
-        return Err(CaseWhy::OutOfRange);
-    };
-    if !goes_right_way(side, supply, target) {
+    let supply = number_in(row, 2)?;
+    let target = number_in(row, 3)?;
+    let cp = number_in(row, 4)?;
+    let supply = temperature(supply)?;
+    let target = temperature(target)?;
+    let cp = flow_rate(cp)?;
+    if !side.is_right_way(supply, target) {
         return Err(CaseWhy::WrongWay);
     }
     Ok(StreamData {
         side,
         supply,
         target,
-        cp: i64::from(cp),
+        cp,
     })
 }
 
-/// The stream of a row of that kind.
+/// What a row of that kind gives.
 #[tactic(auto, unfolding(crate::specs::Checks::stream_checks))]
-pub fn stream_of(found: &Found, side: Side, row: &ByteRecord) -> Result<(Name, StreamData), CaseWhy>
-    ensures fresh { IfOk result (λ s. IsFresh found.now (Entry.Stream s.0 s.1)) }
-    ensures checked { Checked (first_failing (stream_checks side found.now (fields_of row.now))) (λ s. (s.0 ≡ field_at (fields_of row.now) 1) × (s.1 ≡ stream_data side (fields_of row.now))) result }
+pub fn stream_entry(found: &Found, side: Side, row: &ByteRecord) -> Result<Entry, CaseWhy>
+    ensures fresh { IfOk result (IsFresh found.now) }
+    ensures checked { Checked (stream_checks side found.now (fields_of row.now)) (λ e. e ≡ Entry.Stream (field (fields_of row.now) 1) (stream_data side (fields_of row.now))) result }
 {
     if !are_empty(row, &[5, 6]) {
         return Err(CaseWhy::FieldCount);
@@ -78,14 +58,12 @@ pub fn stream_of(found: &Found, side: Side, row: &ByteRecord) -> Result<(Name, S
     if found.count_streams(side) >= MOST_STREAMS {
         return Err(CaseWhy::TooMany);
     }
-    let Some(name) = Name::undotted(field(row, 1)) else {
-        return Err(CaseWhy::BadName);
-    };
-    if is_reserved_name(field(row, 1)) {
+    let name = name_in(row, 1)?;
+    if is_reserved(name.as_bytes()) {
         return Err(CaseWhy::BadName);
     }
     if found.has_name(&name) {
         return Err(CaseWhy::SameName);
     }
-    Ok((name, data_of(side, row)?))
+    Ok(Entry::Stream(name, stream_data(side, row)?))
 }

@@ -1,6 +1,7 @@
-use Rattle.std.proofs.Common.{◌≡◌, ◌++◌, map, take}
-use Rattle.case_text.specs.Printed.{forbid_row, rows_text}
+use Rattle.std.proofs.Common.{◌≡◌, ◌++◌, take}
+use Rattle.std.specs.List.{flat_map}
+use Rattle.case_text.specs.Printed.{row_text, forbid_row}
 use Rattle.case_text.proofs.printer.push_forbids.Given as goal
 
 abbrev pub invariant-loop-forbid : goal.invariant-loop-forbid
-invariant-loop-forbid l = l.text.items ≡ l.initial.text.items ++ rows_text (map (forbid_row l.case) (take l.forbid-index l.forbids))
+invariant-loop-forbid l = l.text.items ≡ l.initial.text.items ++ flat_map (λ x. row_text (forbid_row l.case x)) (take l.forbid-index l.forbids)

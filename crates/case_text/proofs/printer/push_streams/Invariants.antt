@@ -1,6 +1,7 @@
-use Rattle.std.proofs.Common.{◌≡◌, ◌++◌, map, take}
-use Rattle.case_text.specs.Printed.{rows_text, stream_row}
+use Rattle.std.proofs.Common.{◌≡◌, ◌++◌, take}
+use Rattle.std.specs.List.{flat_map}
+use Rattle.case_text.specs.Printed.{row_text, stream_row}
 use Rattle.case_text.proofs.printer.push_streams.Given as goal
 
 abbrev pub invariant-loop-stream : goal.invariant-loop-stream
-invariant-loop-stream l = l.text.items ≡ l.initial.text.items ++ rows_text (map stream_row (take l.stream-index l.streams))
+invariant-loop-stream l = l.text.items ≡ l.initial.text.items ++ flat_map (λ x. row_text (stream_row x)) (take l.stream-index l.streams)

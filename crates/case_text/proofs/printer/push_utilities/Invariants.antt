@@ -1,6 +1,7 @@
-use Rattle.std.proofs.Common.{◌≡◌, ◌++◌, map, take}
-use Rattle.case_text.specs.Printed.{rows_text, utility_row}
+use Rattle.std.proofs.Common.{◌≡◌, ◌++◌, take}
+use Rattle.std.specs.List.{flat_map}
+use Rattle.case_text.specs.Printed.{row_text, utility_row}
 use Rattle.case_text.proofs.printer.push_utilities.Given as goal
 
 abbrev pub invariant-loop-utility : goal.invariant-loop-utility
-invariant-loop-utility l = l.text.items ≡ l.initial.text.items ++ rows_text (map utility_row (take l.utility-index l.utilities))
+invariant-loop-utility l = l.text.items ≡ l.initial.text.items ++ flat_map (λ x. row_text (utility_row x)) (take l.utility-index l.utilities)

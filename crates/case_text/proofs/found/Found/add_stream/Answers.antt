@@ -1,18 +1,18 @@
-use Rattle.std.proofs.Common.{◌∙◌, refl}
-use Rattle.case_text.specs.Given.{Sources}
-use Rattle.case_text.proofs.Counts.{HasFewSources-stream}
-use Rattle.case_text.proofs.Entries.{free_name, new_entry}
+use Rattle.std.proofs.Common.{◌∙◌, refl, sym}
+use Rattle.std.specs.Str.{bytes_eq}
+use Rattle.indexmap.proofs.CallerLemmas.{insert_entry-new}
+use Rattle.case_text.proofs.Sources.{count_on-case, few_with_stream, free_name}
 use Rattle.case_text.proofs.found.Found.add_stream.Goals as goal
 
 pub invariant_of-self-2 : goal.invariant_of-self-2
 invariant_of-self-2 c =
-    let fresh = rw (← c.self.view_is) at c.requires in
-    let entries = c.in_ok-insert.ensures.entries ∙ new_entry c.self.inside.streams c.args.name c.args.stream (free_name _ c.args.name fresh.0).0 in
-    let sources : Sources = record { streams = c.self.inside.streams.entries; utilities = c.self.inside.utilities.entries } in
-    rw entries (HasFewSources-stream sources c.args.name c.args.stream c.self.invariant fresh.1)
+    let new = rw (← c.self.view_is) at (free_name c.args.self.now c.args.name c.requires.0).0 in
+    let entries = c.in_ok-insert.ensures.entries ∙ insert_entry-new bytes_eq c.self.inside.streams c.args.name c.args.stream new in
+    let room = rw (count_on-case c.args.stream.side _ c.args.self.now.streams, ← c.self.view_is) at c.requires.1 in
+    rw entries (few_with_stream c.self.inside.streams.entries c.self.inside.utilities.entries (c.args.name, c.args.stream) c.self.invariant room)
 
 pub returns : goal.returns
 returns c =
-    let fresh = rw (← c.self.view_is) at c.requires in
-    let entries = c.in_ok-insert.ensures.entries ∙ new_entry c.self.inside.streams c.args.name c.args.stream (free_name _ c.args.name fresh.0).0 in
+    let new = rw (← c.self.view_is) at (free_name c.args.self.now c.args.name c.requires.0).0 in
+    let entries = c.in_ok-insert.ensures.entries ∙ insert_entry-new bytes_eq c.self.inside.streams c.args.name c.args.stream new in
     rw (← c.self.view_is, entries) refl

@@ -1,0 +1,165 @@
+-- The printed rows of a valid case give the case.
+use Rattle.std.proofs.Common.{◌≡◌, ◌≢◌, ◌∙◌, ◌∷◌, ◌++◌, ◌<◌, ◌≤◌, ℕ, ℤ, cond, List, [], All, AllPairs, Option, Some, None, is_some, true, length, map, refl, sym, ap, subst, arith, append_assoc}
+use Rattle.std.specs.Map.{keys_of}
+use Rattle.std.proofs.lemmas.Bool.Decides.{nat_tests}
+use Rattle.std.proofs.lemmas.List.{append-nil, length-map, map-append}
+use Rattle.std.proofs.lemmas.List.Elements.{All-append, All-head, All-map, All-tail, All-weaker}
+use Rattle.std.proofs.lemmas.List.Sums.{sum_by-append, sum_by-cons}
+use Rattle.std.proofs.lemmas.Simd.{map-map}
+use Rattle.csv_rows.specs.Rows.{Row}
+use Rattle.first_fault.proofs.Steps.{Follows, Give, all_give, nothing_gives, one_more_gives}
+use Rattle.stream_case.specs.Case.{IsRightlyNamed, IsSourceOf, IsUnreserved, IsValid, IsValidForbid, names_of, side_of, source_name, source_named}
+use Rattle.stream_case.specs.Name.{IsName}
+use Rattle.stream_case.specs.Source.{same_side}
+use Rattle.stream_case.specs.Stream.{IsValidStream, count_on}
+use Rattle.stream_case.specs.Utility.{IsValidUtility}
+use Rattle.stream_case.specs.declared.case.Case.{Case}
+use Rattle.stream_case.specs.declared.case.Forbid.{Forbid}
+use Rattle.stream_case.specs.declared.limits.TheConstants.{MOST_FORBIDS, MOST_STREAMS, MOST_UTILITIES}
+use Rattle.stream_case.specs.declared.source.Side.{Side}
+use Rattle.stream_case.specs.declared.source.Side.TheVariants as side
+use Rattle.stream_case.specs.declared.source.Source.{Source}
+use Rattle.stream_case.specs.declared.stream.Stream.{Stream}
+use Rattle.stream_case.specs.declared.utility.Utility.{Utility}
+use Rattle.stream_case.proofs.CaseLemmas.{IsName-source_name, IsSourceOf-side, source_named-source_name}
+use Rattle.stream_case.proofs.SourceLemmas.{own_side}
+use Rattle.case_text.specs.Given.{Given, case_of, nothing, stream_of, utility_of, with_entry}
+use Rattle.case_text.specs.Checks.{end_checks}
+use Rattle.case_text.specs.Outcome.{IsCase, end_fault, grammar}
+use Rattle.case_text.specs.Printed.{contribution_row, forbid_row, printed_rows, stream_row, utility_row}
+use Rattle.case_text.specs.declared.entry.StreamData.{StreamData}
+use Rattle.case_text.specs.declared.entry.UtilityData.{UtilityData}
+use Rattle.case_text.proofs.Pairs.{All-seam, AllPairs-seam, length-seam}
+use Rattle.case_text.proofs.PrintedRows.{IsFound, contribution_follows, forbid_follows, stream_entry, stream_follows, utility_entry, utility_follows}
+use Rattle.case_text.proofs.Sources.{count_by-map, count_of}
+
+-- the streams, the utilities and the forbidden matches that are given so far
+abbrev given_with : Case → List Stream → List Utility → List Forbid → Given
+given_with k streams utilities forbids = record { contribution = Some k.contribution; streams = map stream_entry streams; utilities = map utility_entry utilities; forbids = forbids }
+
+-- an item more, where there are items before it
+entries-more : {X V : Type 0} (entry_of : X → V) (before : List X) (x : X) → map entry_of (before ++ x ∷ []) ≡ map entry_of before ++ entry_of x ∷ []
+entries-more entry_of before x = map-append entry_of before (x ∷ [])
+
+abbrev Differ : List ℕ → List ℕ → Type 0
+Differ a b = a ≢ b
+
+stream_keys : (ss : List Stream) → keys_of (map stream_entry ss) ≡ map (λ s. s.name) ss
+stream_keys ss = map-map (λ (e : List ℕ × StreamData). e.0) stream_entry ss
+
+utility_keys : (us : List Utility) → keys_of (map utility_entry us) ≡ map (λ u. u.name) us
+utility_keys us = map-map (λ (e : List ℕ × UtilityData). e.0) utility_entry us
+
+-- ---- streams
+
+-- a side has room for a stream behind the ones before it
+room_before : (all before : List Stream) (s : Stream) (after : List Stream) → all ≡ before ++ s ∷ after → count_on s.side all ≤ MOST_STREAMS → count_of s.side (map stream_entry before) < MOST_STREAMS
+room_before all before s after is few =
+    let one : Stream → ℕ = λ t. cond (same_side t.side s.side) 1 0 in
+    let own : one s ≡ 1 = ap (λ b. cond b 1 0) (own_side s.side) in
+    let before_is = count_by-map (λ (e : List ℕ × StreamData). same_side e.1.side s.side) stream_entry before in
+    omega (arith, few, ap (count_on s.side) is, sum_by-append one before (s ∷ after), sum_by-cons one s after, own, before_is)
+
+stream_step : (k : Case) → IsValid k → (before : List Stream) (s : Stream) (after : List Stream) → k.streams ≡ before ++ s ∷ after → Follows grammar (given_with k before [] []) (stream_row s) (given_with k (before ++ s ∷ []) [] [])
+stream_step k valid before s after is =
+    let names : names_of k ≡ map (λ s. s.name) before ++ s.name ∷ (map (λ s. s.name) after ++ map (λ u. u.name) k.utilities) =
+    ap (λ (ss : List Stream). map (λ s. s.name) ss ++ map (λ u. u.name) k.utilities) is ∙ ap (λ (ns : List (List ℕ)). ns ++ map (λ u. u.name) k.utilities) (map-append (λ (t : Stream). t.name) before (s ∷ after))
+    ∙ append_assoc (map (λ (t : Stream). t.name) before) (s.name ∷ map (λ (t : Stream). t.name) after) (map (λ (u : Utility). u.name) k.utilities) in
+    let new = AllPairs-seam Differ (names_of k) _ s.name _ names valid.distinct_names in
+    let keys : keys_of (map stream_entry before) ++ [] ≡ map (λ s. s.name) before = append-nil _ ∙ stream_keys before in
+    let room = room_before k.streams before s after is (valid.streams.are_streams.few s.side) in
+    let each = All-seam IsValidStream k.streams before s after is valid.streams.are_streams.each in
+    let unreserved = All-seam (λ (s : Stream). IsUnreserved s.name) k.streams before s after is valid.stream_names in
+    rw (entries-more stream_entry before s) (stream_follows (given_with k before [] []) s each unreserved room (subst (All (λ (o : List ℕ). o ≢ s.name)) (sym keys) new))
+
+-- ---- utilities
+
+utility_step : (k : Case) → IsValid k → (before : List Utility) (u : Utility) (after : List Utility) → k.utilities ≡ before ++ u ∷ after → Follows grammar (given_with k k.streams before []) (utility_row u) (given_with k k.streams (before ++ u ∷ []) [])
+utility_step k valid before u after is =
+    let names : names_of k ≡ (map (λ s. s.name) k.streams ++ map (λ u. u.name) before) ++ u.name ∷ map (λ u. u.name) after =
+    ap (λ (us : List Utility). map (λ s. s.name) k.streams ++ map (λ u. u.name) us) is ∙ ap (λ (ns : List (List ℕ)). map (λ s. s.name) k.streams ++ ns) (map-append (λ (t : Utility). t.name) before (u ∷ after))
+    ∙ sym (append_assoc (map (λ (s : Stream). s.name) k.streams) (map (λ (t : Utility). t.name) before) (u.name ∷ map (λ (t : Utility). t.name) after)) in
+    let new = AllPairs-seam Differ (names_of k) _ u.name _ names valid.distinct_names in
+    let keys : keys_of (map stream_entry k.streams) ++ keys_of (map utility_entry before) ≡ map (λ s. s.name) k.streams ++ map (λ u. u.name) before = λ i. stream_keys k.streams i ++ utility_keys before i in
+    let room : length (map utility_entry before) < MOST_UTILITIES = omega (arith, length-map before utility_entry, length-seam k.utilities before u after is, valid.few_utilities) in
+    let each = All-seam IsValidUtility k.utilities before u after is valid.utilities in
+    let named = All-seam IsRightlyNamed k.utilities before u after is valid.utility_names in
+    rw (entries-more utility_entry before u) (utility_follows (given_with k k.streams before []) u each named room (subst (All (λ (o : List ℕ). o ≢ u.name)) (sym keys) new))
+
+-- ---- the case of what is given
+
+streams_back : (contribution : ℤ) (ss : List Stream) → All (λ s. s.contribution ≡ contribution) ss → map (stream_of contribution) (map stream_entry ss) ≡ ss
+streams_back contribution [] same = refl
+streams_back contribution (s ∷ ss) same =
+    let here = sym (All-head (λ (t : Stream). t.contribution ≡ contribution) s ss same) in
+    let rest = streams_back contribution ss (All-tail (λ (t : Stream). t.contribution ≡ contribution) s ss same) in
+    λ i. record s { contribution = here i } ∷ rest i
+
+utilities_back : (contribution : ℤ) (us : List Utility) → All (λ u. u.contribution ≡ contribution) us → map (utility_of contribution) (map utility_entry us) ≡ us
+utilities_back contribution [] same = refl
+utilities_back contribution (u ∷ us) same =
+    let here = sym (All-head (λ (t : Utility). t.contribution ≡ contribution) u us same) in
+    let rest = utilities_back contribution us (All-tail (λ (t : Utility). t.contribution ≡ contribution) u us same) in
+    λ i. record u { contribution = here i } ∷ rest i
+
+case_back : (k : Case) → IsValid k → (forbids : List Forbid) → case_of (given_with k k.streams k.utilities forbids) ≡ record k { forbids = forbids }
+case_back k valid forbids =
+    let streams = streams_back k.contribution k.streams valid.stream_contributions in
+    let utilities = utilities_back k.contribution k.utilities valid.utility_contributions in
+    λ i. record { contribution = k.contribution; streams = streams i; utilities = utilities i; forbids = forbids }
+
+-- ---- forbidden matches
+
+all_names : (k : Case) → IsValid k → All IsName (names_of k)
+all_names k valid =
+    let streams = All-map IsName (λ (s : Stream). s.name) k.streams (All-weaker IsValidStream (λ s. IsName s.name) (λ s each. each.name) k.streams valid.streams.are_streams.each) in
+    let utilities = All-map IsName (λ (u : Utility). u.name) k.utilities (All-weaker IsValidUtility (λ u. IsName u.name) (λ u each. each.name) k.utilities valid.utilities) in
+    All-append IsName (map (λ s. s.name) k.streams) (map (λ u. u.name) k.utilities) streams utilities
+
+pub name_of : (k : Case) → IsValid k → (of : Side) (s : Source) → side_of k s ≡ Some of → IsName (source_name k s)
+name_of k valid of s on = IsName-source_name k (all_names k valid) s (IsSourceOf-side k s (ap is_some on))
+
+found : (k : Case) → IsValid k → (forbids : List Forbid) (of : Side) (s : Source) → side_of k s ≡ Some of → IsFound (given_with k k.streams k.utilities forbids) of s (source_name k s)
+unfolding source_named
+found k valid forbids of s on =
+    let back = sym (case_back k valid forbids) in
+    let named : source_named (record k { forbids = forbids }) (source_name k s) ≡ Some s = source_named-source_name k valid.distinct_names s (IsSourceOf-side k s (ap is_some on)) in
+    record {
+      is_name = name_of k valid of s on;
+      named = subst (λ c. source_named c (source_name k s) ≡ Some s) back named;
+      on = subst (λ c. side_of c s ≡ Some of) back on;
+    }
+
+forbid_step : (k : Case) → IsValid k → (before : List Forbid) (f : Forbid) (after : List Forbid) → k.forbids ≡ before ++ f ∷ after
+    → Follows grammar (given_with k k.streams k.utilities before) (forbid_row k f) (given_with k k.streams k.utilities (before ++ f ∷ []))
+forbid_step k valid before f after is =
+    let (hot, cold) = All-seam (IsValidForbid k) k.forbids before f after is valid.forbids in
+    let room : length before < MOST_FORBIDS = omega (arith, length-seam k.forbids before f after is, valid.few_forbids) in
+    let new = AllPairs-seam (λ (g h : Forbid). g ≢ h) k.forbids before f after is valid.distinct_forbids in
+    forbid_follows (given_with k k.streams k.utilities before) k f (found k valid before side.Hot f.hot hot) (found k valid before side.Cold f.cold cold) room new
+
+-- ---- all rows
+
+rows_give : (k : Case) → IsValid k → Give grammar (printed_rows k) (given_with k k.streams k.utilities k.forbids)
+unfolding printed_rows
+rows_give k valid =
+    let first = one_more_gives grammar [] nothing (contribution_row k.contribution) (given_with k [] [] []) (nothing_gives grammar nothing refl) (contribution_follows k.contribution valid.contribution) in
+    let streams = all_give grammar stream_row (λ ss. given_with k ss [] []) (contribution_row k.contribution ∷ []) k.streams (stream_step k valid) first in
+    let utilities = all_give grammar utility_row (λ us. given_with k k.streams us []) (contribution_row k.contribution ∷ map stream_row k.streams) k.utilities (utility_step k valid) streams in
+    all_give grammar (forbid_row k) (given_with k k.streams k.utilities) (contribution_row k.contribution ∷ (map stream_row k.streams ++ map utility_row k.utilities)) k.forbids (forbid_step k valid) utilities
+
+-- the end is not at fault where there are a contribution and a stream
+lacks_nothing : (rows : ℕ) (given : Given) → is_some given.contribution ≡ true → 0 < length given.streams → end_fault rows given ≡ None
+unfolding end_checks
+lacks_nothing rows given first some = grind (arith, nat_tests)
+
+pub rows_back : (k : Case) → IsValid k → IsCase (printed_rows k) k
+rows_back k valid =
+    let gives = rows_give k valid in
+    let rows = length (printed_rows k) in
+    let complete : end_fault rows (given_with k k.streams k.utilities k.forbids) ≡ None = lacks_nothing rows (given_with k k.streams k.utilities k.forbids) refl (omega (arith, length-map k.streams stream_entry, valid.streams.some)) in
+    record {
+      sound = gives.sound;
+      complete = ap (end_fault rows) (sym gives.given_is) ∙ complete;
+      value_is = sym (case_back k valid k.forbids) ∙ ap case_of gives.given_is;
+    }

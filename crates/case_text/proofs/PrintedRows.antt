@@ -1,0 +1,120 @@
+-- Each printed row follows on the rows before it.
+use Rattle.std.proofs.Common.{◌≡◌, ◌≢◌, ◌∙◌, ◌∷◌, ◌++◌, ◌<◌, ℕ, ℤ, pos, true, false, not, List, [], All, Option, Some, None, is_some, unwrap_or, length, nat_lt, refl, sym, ap, subst, arith}
+use Rattle.std.specs.Map.{keys_of}
+use Rattle.std.proofs.lemmas.Bool.Decides.{Decides-ltb}
+use Rattle.std.proofs.lemmas.Int.{ints}
+use Rattle.csv_rows.specs.Rows.{Row}
+use Rattle.first_fault.proofs.CheckLemmas.{Passes, none_fails}
+use Rattle.first_fault.proofs.Steps.{Follows}
+use Rattle.stream_case.specs.Case.{IsRightlyNamed, IsUnreserved, names_of, side_of, source_name, source_named}
+use Rattle.stream_case.specs.Limits.{IsBetween, IsContribution, IsHeat}
+use Rattle.stream_case.specs.Name.{IsName}
+use Rattle.stream_case.specs.Stream.{IsValidStream, count_on}
+use Rattle.stream_case.specs.Utility.{IsValidUtility}
+use Rattle.stream_case.specs.declared.case.Case.{Case}
+use Rattle.stream_case.specs.declared.case.Forbid.{Forbid}
+use Rattle.stream_case.specs.declared.limits.TheConstants.{MOST_FORBIDS, MOST_STREAMS, MOST_UTILITIES}
+use Rattle.stream_case.specs.declared.source.Side.{Side}
+use Rattle.stream_case.specs.declared.source.Side.TheVariants as side
+use Rattle.stream_case.specs.declared.source.Source.{Source}
+use Rattle.stream_case.specs.declared.source.Source.TheVariants as source
+use Rattle.stream_case.specs.declared.stream.Stream.{Stream}
+use Rattle.stream_case.specs.declared.utility.Utility.{Utility}
+use Rattle.stream_case.proofs.NameTests.{name-passes}
+use Rattle.stream_case.proofs.SourceLemmas.{Decides-is_right_way}
+use Rattle.case_text.specs.Rows.{are_empty, is_number, is_passed_over, kind_of, number}
+use Rattle.case_text.specs.Given.{Given, case_of, nothing, with_entry}
+use Rattle.case_text.specs.Checks.{checks, contribution_checks, forbid_checks, is_within, kind_checks, stream_checks, stream_number_checks, utility_checks, utility_number_checks}
+use Rattle.case_text.specs.Outcome.{grammar}
+use Rattle.case_text.specs.Printed.{contribution_row, forbid_row, stream_kind, stream_row, utility_kind, utility_row}
+use Rattle.case_text.specs.declared.entry.Entry.TheVariants as entry
+use Rattle.case_text.specs.declared.entry.StreamData.{StreamData}
+use Rattle.case_text.specs.declared.entry.UtilityData.{UtilityData}
+use Rattle.case_text.specs.declared.kind.Kind.TheVariants as kind
+use Rattle.case_text.proofs.NumberTexts.{contribution, flow_rate, heat, number_read, price, temperature}
+use Rattle.case_text.proofs.Sources.{count_of, count_on-case, names_of-case}
+use Rattle.case_text.proofs.Tests.{Decides-int_le, Decides-is_forbidden, Decides-is_reserved, Decides-is_reserved_from, Decides-is_taken, Decides-is_within, is_source-named}
+
+within : (low high n : ℤ) → IsBetween low high n → is_within low high n ≡ true
+within low high n = (Decides-is_within low high n).1
+
+room : (n most : ℕ) → n < most → nat_lt n most ≡ true
+room n most = (Decides-ltb n most).1
+
+-- the row of the contribution comes first
+pub contribution_follows : (c : ℤ) → IsContribution c → Follows grammar nothing (contribution_row c) (with_entry nothing (entry.Contribution c))
+unfolding checks kind_checks contribution_checks kind_of is_passed_over are_empty is_number number
+contribution_follows c range =
+    let read = number_read c (contribution c range) in
+    let passes : Passes (checks nothing (contribution_row c)) = rw read (refl, (refl, (refl, (refl, (refl, (within _ _ _ range, tt)))))) in
+    record { passes = none_fails (checks nothing (contribution_row c)) passes; next_is = rw read refl }
+
+-- ---- streams
+
+abbrev pub stream_entry : Stream → List ℕ × StreamData
+stream_entry s = (s.name, record { side = s.side; supply = s.supply; target = s.target; cp = s.cp })
+
+stream_row_kind : (of : Side) (fields : Row) → kind_of (stream_kind of ∷ fields) ≡ Some (kind.Stream of)
+unfolding kind_of is_passed_over are_empty
+stream_row_kind side.Hot fields = refl
+stream_row_kind side.Cold fields = refl
+
+-- a stream of which an earlier row gave neither the name nor too many of its side
+pub stream_follows : (given : Given) (s : Stream) → IsValidStream s → IsUnreserved s.name → count_of s.side given.streams < MOST_STREAMS → All (λ other. other ≢ s.name) (keys_of given.streams ++ keys_of given.utilities)
+    → Follows grammar given (stream_row s) (with_entry given (entry.Stream s.name (stream_entry s).1))
+unfolding checks kind_checks stream_checks stream_number_checks are_empty is_number number
+stream_follows given s valid unreserved few new =
+    let is : kind_of (stream_row s) ≡ Some (kind.Stream s.side) = stream_row_kind s.side _ in
+    let supply = number_read s.supply (temperature s.supply valid.supply) in
+    let target = number_read s.target (temperature s.target valid.target) in
+    let cp = number_read s.cp (flow_rate s.cp valid.cp) in
+    let place = room (count_on s.side (case_of given).streams) MOST_STREAMS (rw (count_on-case s.side (unwrap_or given.contribution (pos 0)) given.streams) few) in
+    let free = (Decides-is_taken (case_of given) s.name).1 (rw (names_of-case given) new) in
+    let numbers : Passes (stream_number_checks s.side (stream_row s)) =
+    rw (supply, target, cp) (refl, (refl, (refl, (within _ _ _ valid.supply, (within _ _ _ valid.target, (within _ _ _ valid.cp, ((Decides-is_right_way s.side s.supply s.target).1 valid.way, tt))))))) in
+    let passes : Passes (checks given (stream_row s)) = rw is (refl, (refl, (refl, (place, (name-passes s.name valid.name, ((Decides-is_reserved s.name).1 unreserved, (free, numbers))))))) in
+    record { passes = none_fails (checks given (stream_row s)) passes; next_is = rw (is, supply, target, cp) refl }
+
+-- ---- utilities
+
+abbrev pub utility_entry : Utility → List ℕ × UtilityData
+utility_entry u = (u.name, record { side = u.side; level = u.level; least = u.least; most = u.most; price = u.price })
+
+utility_row_kind : (of : Side) (fields : Row) → kind_of (utility_kind of ∷ fields) ≡ Some (kind.Utility of)
+unfolding kind_of is_passed_over are_empty
+utility_row_kind side.Hot fields = refl
+utility_row_kind side.Cold fields = refl
+
+pub utility_follows : (given : Given) (u : Utility) → IsValidUtility u → IsRightlyNamed u → length given.utilities < MOST_UTILITIES → All (λ other. other ≢ u.name) (keys_of given.streams ++ keys_of given.utilities)
+    → Follows grammar given (utility_row u) (with_entry given (entry.Utility u.name (utility_entry u).1))
+unfolding checks kind_checks utility_checks utility_number_checks are_empty is_number number
+utility_follows given u valid named few new =
+    let is : kind_of (utility_row u) ≡ Some (kind.Utility u.side) = utility_row_kind u.side _ in
+    let most_range : IsHeat u.most = record { from = omega (arith, ints, valid.least.from, valid.most.from); upto = valid.most.upto } in
+    let level = number_read u.level (temperature u.level valid.level) in
+    let least = number_read u.least (heat u.least valid.least) in
+    let most = number_read u.most (heat u.most most_range) in
+    let each = number_read u.price (price u.price valid.price) in
+    let free = (Decides-is_taken (case_of given) u.name).1 (rw (names_of-case given) new) in
+    let numbers : Passes (utility_number_checks (utility_row u)) =
+    rw (level, least, most, each) (refl, (refl, (refl, (refl, (within _ _ _ valid.level, (within _ _ _ valid.least, (within _ _ _ most_range, (within _ _ _ valid.price, ((Decides-int_le u.least u.most).1 valid.most.from, tt))))))))) in
+    let passes : Passes (checks given (utility_row u)) = rw is (refl, (refl, (refl, (room _ _ few, (name-passes u.name valid.name, ((Decides-is_reserved_from u.side u.name).1 named, (free, numbers))))))) in
+    record { passes = none_fails (checks given (utility_row u)) passes; next_is = rw (is, level, least, most, each) refl }
+
+-- ---- forbidden matches
+
+-- a source of the case so far, as its name finds it
+pub record IsFound (given : Given) (of : Side) (s : Source) (name : List ℕ) : Type 0 where
+  pub is_name : IsName name
+  pub named : source_named (case_of given) name ≡ Some s
+  pub on : side_of (case_of given) s ≡ Some of
+
+pub forbid_follows : (given : Given) (k : Case) (f : Forbid) → IsFound given side.Hot f.hot (source_name k f.hot) → IsFound given side.Cold f.cold (source_name k f.cold) → length given.forbids < MOST_FORBIDS → All (λ g. g ≢ f) given.forbids
+    → Follows grammar given (forbid_row k f) (with_entry given (entry.Forbid f))
+unfolding checks kind_checks forbid_checks kind_of is_passed_over are_empty
+forbid_follows given k f hot cold few new =
+    let h = is_source-named side.Hot (case_of given) (source_name k f.hot) f.hot hot.named hot.on in
+    let c = is_source-named side.Cold (case_of given) (source_name k f.cold) f.cold cold.named cold.on in
+    let fresh = (Decides-is_forbidden given.forbids f.hot f.cold).1 new in
+    let passes : Passes (checks given (forbid_row k f)) = (refl, (refl, (refl, (room _ _ few, (name-passes _ hot.is_name, (name-passes _ cold.is_name, (h, (c, (rw (hot.named, cold.named) fresh, tt))))))))) in
+    record { passes = none_fails (checks given (forbid_row k f)) passes; next_is = rw (hot.named, cold.named) refl }

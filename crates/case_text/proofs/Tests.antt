@@ -1,0 +1,88 @@
+-- What the tests of the checks decide.
+use Rattle.std.proofs.Common.{◌≡◌, ◌≢◌, ◌∙◌, ◌≤ℤ◌, ◌⊎◌, inl, inr, ℕ, ℤ, Bool, true, false, not, ◌&&◌, ◌||◌, List, [], ◌∷◌, All, Decides, Option, Some, None, option_and_then, refl, sym, ap, arith}
+use Rattle.std.specs.Prelude.{codes, int_le}
+use Rattle.std.specs.List.{list_any}
+use Rattle.std.specs.Str.{bytes_eq}
+use Rattle.std.specs.Cmp.Lexicographic.{bytes_decides}
+use Rattle.std.proofs.lemmas.Bool.Decides.{Decides-and, Decides-by_and, Decides-like, Decides-not, Decides-or}
+use Rattle.std.proofs.lemmas.Int.{ints}
+use Rattle.stream_case.specs.Case.{IsUnreserved, is_forbidden, names_of, side_of, source_named}
+use Rattle.stream_case.specs.Limits.{IsBetween}
+use Rattle.stream_case.specs.Source.{same_side, same_source}
+use Rattle.stream_case.specs.declared.case.Case.{Case}
+use Rattle.stream_case.specs.declared.case.Forbid.{Forbid}
+use Rattle.stream_case.specs.declared.source.Side.{Side}
+use Rattle.stream_case.specs.declared.source.Side.TheVariants as side
+use Rattle.stream_case.specs.declared.source.Source.{Source}
+use Rattle.stream_case.proofs.SourceLemmas.{own_side, same_side-true, same_source-same, same_source-true}
+use Rattle.case_text.specs.Given.{Given, case_of, source_at}
+use Rattle.case_text.specs.Checks.{is_on, is_reserved, is_reserved_from, is_source, is_taken, is_within}
+
+-- ---- numbers
+
+pub Decides-int_le : (a b : ℤ) → Decides (int_le a b) (a ≤ℤ b)
+Decides-int_le a b = (λ e. grind (arith, ints, e), λ h. grind (arith, ints, h))
+
+pub Decides-is_within : (low high n : ℤ) → Decides (is_within low high n) (IsBetween low high n)
+unfolding is_within
+Decides-is_within low high n = Decides-like _ (λ (from, upto). record { from = from; upto = upto }) (λ h. (h.from, h.upto)) (Decides-and _ _ (Decides-int_le low n) (Decides-int_le n high))
+
+-- ---- lists
+
+-- no item passes
+Decides-none : {X : Type 0} (p : X → Bool) (P : X → Type 0) → ((x : X) → Decides (p x) (P x)) → (xs : List X) → Decides (not (list_any p xs)) (All (λ x. ¬ (P x)) xs)
+Decides-none p P each xs = Decides-by_and (λ x. not (p x)) (λ x. ¬ (P x)) (λ ys. not (list_any p ys)) (λ x. Decides-not (p x) (each x)) refl (λ x ys. elim (p x) as (λ b. not (b || list_any p ys) ≡ (not b && not (list_any p ys))) [ true ↦ refl | false ↦ refl ]) xs
+
+-- ---- names
+
+-- a name that no source has
+pub Decides-is_taken : (c : Case) (name : List ℕ) → Decides (not (is_taken c name)) (All (λ other. other ≢ name) (names_of c))
+unfolding is_taken
+Decides-is_taken c name = Decides-none (bytes_eq name) (λ other. other ≡ name) (λ other. Decides-like _ sym sym (bytes_decides name other)) (names_of c)
+
+pub Decides-is_reserved : (name : List ℕ) → Decides (not (is_reserved name)) (IsUnreserved name)
+unfolding is_reserved
+Decides-is_reserved name =
+    Decides-like _ (λ neither. (λ e. neither (inl e), λ e. neither (inr e))) (λ (hot, cold). elim [ inl e ↦ hot e | inr e ↦ cold e ])
+    (Decides-not _ (Decides-or _ _ (bytes_decides name (codes "HOT")) (bytes_decides name (codes "COLD"))))
+
+-- a utility of this side may have the name
+abbrev pub IsRightNameOf : Side → List ℕ → Type 0
+IsRightNameOf of name = (name ≡ codes "HOT" → of ≡ side.Hot) × (name ≡ codes "COLD" → of ≡ side.Cold)
+
+pub Decides-is_reserved_from : (of : Side) (name : List ℕ) → Decides (not (is_reserved_from of name)) (IsRightNameOf of name)
+unfolding is_reserved_from
+Decides-is_reserved_from side.Hot name = Decides-like _ (λ other. (λ e. refl, λ e. absurd (other e))) (λ (hot, cold) e. cc (cold e)) (Decides-not _ (bytes_decides name (codes "COLD")))
+Decides-is_reserved_from side.Cold name = Decides-like _ (λ other. (λ e. absurd (other e), λ e. refl)) (λ (hot, cold) e. cc (hot e)) (Decides-not _ (bytes_decides name (codes "HOT")))
+
+-- ---- sources
+
+-- a source of this side has the name
+pub source_on : (of : Side) (given : Given) (name : List ℕ) → is_source of (case_of given) name ≡ true → side_of (case_of given) (source_at given name) ≡ Some of
+unfolding is_source
+source_on of given name is = by (source_named (case_of given) name) refl
+  where
+    on_side : (o : Option Side) → is_on of o ≡ true → o ≡ Some of
+    on_side None e = cc e
+    on_side (Some other) e = ap Some (sym (same_side-true of other e))
+
+    by : (o : Option Source) → source_named (case_of given) name ≡ o → side_of (case_of given) (source_at given name) ≡ Some of
+    by None named = cc (rw named at is)
+    by (Some s) named = rw named (on_side (side_of (case_of given) s) (rw named at is))
+
+pub is_source-named : (of : Side) (c : Case) (name : List ℕ) (s : Source) → source_named c name ≡ Some s → side_of c s ≡ Some of → is_source of c name ≡ true
+unfolding is_source
+is_source-named of c name s named on = rw (named, on) (own_side of)
+
+-- ---- forbidden matches
+
+same_forbid : (f : Forbid) (hot cold : Source) → Decides (same_source f.hot hot && same_source f.cold cold) (f ≡ record { hot = hot; cold = cold })
+same_forbid f hot cold =
+    Decides-like _ (λ (h, c). λ i. record { hot = h i; cold = c i }) (λ e. (ap (λ g. g.hot) e, ap (λ g. g.cold) e))
+    (Decides-and _ _ (Decides-same_source f.hot hot) (Decides-same_source f.cold cold))
+  where
+    Decides-same_source : (a b : Source) → Decides (same_source a b) (a ≡ b)
+    Decides-same_source a b = (same_source-true a b, λ e. ap (same_source a) (sym e) ∙ same_source-same a)
+
+pub Decides-is_forbidden : (forbids : List Forbid) (hot cold : Source) → Decides (not (is_forbidden forbids hot cold)) (All (λ f. f ≢ record { hot = hot; cold = cold }) forbids)
+Decides-is_forbidden forbids hot cold = Decides-none (λ (f : Forbid). same_source f.hot hot && same_source f.cold cold) (λ f. f ≡ record { hot = hot; cold = cold }) (λ f. same_forbid f hot cold) forbids

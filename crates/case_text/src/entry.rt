@@ -1,0 +1,76 @@
+//! What a row gives.
+
+ghost use Rattle.std.specs.Prelude.{◌≡◌};
+ghost use Rattle.case_text.specs.Given.{stream_of, utility_of};
+
+use stream_case::{Forbid, Name, Side, Stream, Utility};
+
+/// What the row of a stream says beside its name.
+#[derive(Clone, Copy)]
+pub struct StreamData {
+    pub side: Side,
+    /// In tenths of °C.
+    pub supply: i32,
+    /// In tenths of °C.
+    pub target: i32,
+    /// The heat-capacity flow, in 10 W/K.
+    pub cp: i64,
+}
+
+impl StreamData {
+    /// The stream with this name and contribution.
+    pub fn named(&self, name: Name, contribution: i32) -> Stream
+        ensures { result ≡ stream_of contribution (name, self.now) }
+    {
+        Stream {
+            name,
+            side: self.side,
+            supply: self.supply,
+            target: self.target,
+            cp: self.cp,
+            contribution,
+        }
+    }
+}
+
+/// What the row of a utility says beside its name.
+#[derive(Clone, Copy)]
+pub struct UtilityData {
+    pub side: Side,
+    /// In tenths of °C.
+    pub level: i32,
+    /// In W.
+    pub least: i64,
+    /// In W.
+    pub most: i64,
+    /// Of one W.
+    pub price: i64,
+}
+
+impl UtilityData {
+    /// The utility with this name and contribution.
+    pub fn named(&self, name: Name, contribution: i32) -> Utility
+        ensures { result ≡ utility_of contribution (name, self.now) }
+    {
+        Utility {
+            name,
+            side: self.side,
+            level: self.level,
+            least: self.least,
+            most: self.most,
+            price: self.price,
+            contribution,
+        }
+    }
+}
+
+/// What a row gives.
+pub enum Entry {
+    /// The row is passed over.
+    Nothing,
+    /// The contribution of each source, in tenths of °C.
+    Contribution(i32),
+    Stream(Name, StreamData),
+    Utility(Name, UtilityData),
+    Forbid(Forbid),
+}
