@@ -1,5 +1,5 @@
--- A walk along two lists of amounts that are laid end to end on one axis: from each place where an amount ends to the next such place.
-use Rattle.std.proofs.Common.{◌≡◌, ◌≢◌, ◌⊎◌, ⊎_elim, inl, inr, ◌∙◌, refl, sym, ap, ap₂, subst, add-zero, ℕ, zero, suc, ◌+◌, ◌-◌, ◌<◌, ◌≤◌, Bool, true, false, List, [], ◌∷◌, ◌++◌, length, get_or, take, arith}
+-- A walk along two lists of amounts that are laid end to end on one axis: from each point where an amount ends to the next such point.
+use Rattle.std.proofs.Common.{◌≡◌, ◌≢◌, ◌⊎◌, ⊎_elim, inl, inr, ◌∙◌, refl, sym, ap, ap₂, subst, add-zero, ℕ, zero, suc, ◌+◌, ◌-◌, ◌<◌, ◌≤◌, Bool, true, false, List, [], ◌∷◌, ◌++◌, length, get_or, arith}
 use Rattle.std.specs.Prelude.{ℤ, pos, ◌+ℤ◌, ◌-ℤ◌, ◌≤ℤ◌, ◌<ℤ◌, int_lt, ◌==◌, if◌then◌else◌, All, AllPairs, Contains}
 use Rattle.std.specs.Bool.{Decides}
 use Rattle.std.specs.Int.{int_max, int_min}
@@ -15,18 +15,9 @@ use Rattle.sums.specs.Pairing.{IsWithin, cons_if, cons_positive, progress_after}
 use Rattle.sums.specs.Spans.{NotNegative, begin_of, overlap, IsOverlap, pair_before, ListsOverlaps}
 use Rattle.sums.specs.Sum.{int_sum_by}
 use Rattle.sums.proofs.ConsLemmas.{All-cons_if, AllPairs-cons_if, Contains-cons_if_here}
+use Rattle.sums.proofs.IntegerLemmas.{if_zero, int_lt-from, int_lt-true}
 use Rattle.sums.proofs.OrderLemmas.{AllPairs-append, AllPairs-nil, Lists-unique}
 use Rattle.sums.proofs.SumLemmas.{int_sum_by-append}
-
-int_lt-true : (a b : ℤ) → int_lt a b ≡ true → a <ℤ b
-int_lt-true a b h = omega (arith, ints)
-
-int_lt-from : (a b : ℤ) → a <ℤ b → int_lt a b ≡ true
-int_lt-from a b h = grind (arith, ints)
-
-if_zero : (b : Bool) (x : ℤ) → x ≡ pos 0 → (if b then x else pos 0) ≡ pos 0
-if_zero true x e = e
-if_zero false x e = refl
 
 -- ---- the spans of one list
 
@@ -42,7 +33,7 @@ begin_of-next [] h (suc a) = omega (arith, ints)
 begin_of-next (x ∷ xs) h zero = let first = h 0 x (omega arith) in omega (arith, ints)
 begin_of-next (x ∷ xs) h (suc a) = let rest = begin_of-next xs (All-tail (λ y. pos 0 ≤ℤ y) x xs h) a in omega (arith, ints)
 
--- how much of a span lies before a place
+-- how much of a span lies before a point
 abbrev pub part_before : List ℤ → ℤ → ℕ → ℤ
 part_before xs at a = int_min at (begin_of xs (suc a)) -ℤ int_min at (begin_of xs a)
 
@@ -59,7 +50,7 @@ module _ (xs : List ℤ) (h : NotNegative xs) where
   index_upto a i before =
       ⊎_elim (λ later. let rises = begin_of-rises (suc i) a (omega (arith, later)) in absurd (omega (arith, ints))) (λ upto. upto) (cases_lt i a)
 
-  -- the place goes on to the next one within the span at i
+  -- the point goes on to the next one within the span at i
   part_before-moved : (i a : ℕ) (at next more : ℤ) → begin_of xs i ≤ℤ at → at ≤ℤ next → next ≤ℤ begin_of xs (suc i) → more ≡ next -ℤ at → part_before xs next a ≡ part_before xs at a +ℤ (if i == a then more else pos 0)
   part_before-moved i a at next more from some upto gives = by (cases_eq i a) (cases_lt a i)
     where
@@ -68,12 +59,12 @@ module _ (xs : List ℤ) (h : NotNegative xs) where
       by (inr differ) (inl before) = let rises = begin_of-rises (suc a) i (omega (arith, before)) in let own = begin_of-next xs h a in rw (ne_eqb i a differ) (omega (arith, ints, clamps))
       by (inr differ) (inr behind) = let rises = begin_of-rises (suc i) a (omega (arith, behind, differ)) in let own = begin_of-next xs h a in rw (ne_eqb i a differ) (omega (arith, ints, clamps))
 
--- a walk stands at a place of the span at its index
+-- a walk stands at a point of the span at its index
 pub record Stands (xs : List ℤ) (p : Progress) (at : ℤ) : Type 0 where
   pub within : IsWithin xs p
   pub given : p.given ≡ at -ℤ begin_of xs p.index
 
--- and goes on to the next place: to the next span, where this one ends
+-- and goes on to the next point: to the next span, where this one ends
 record GoesOn (xs : List ℤ) (p after : Progress) (next : ℤ) : Type 0 where
   stands : Stands xs after next
   behind : p.index ≤ after.index
@@ -116,7 +107,7 @@ pair_one_way p q (inr h) (inr k) = omega (arith, h.1, k.1)
 same_pair : (i j a b : ℕ) (x y : ℤ) → i ≡ a → j ≡ b → x ≡ y → ◌≡◌ {A = Pair} (record { first = i; second = j; amount = x }) (record { first = a; second = b; amount = y })
 same_pair i j a b x y p q r n = record { first = p n; second = q n; amount = r n }
 
--- an overlap that ends no later than a place
+-- an overlap that ends no later than a point
 pub record EndsBy (us vs : List ℤ) (at : ℤ) (r : Pair) : Type 0 where
   pub overlaps : IsOverlap us vs r
   pub ends : int_min (begin_of us (suc r.first)) (begin_of vs (suc r.second)) ≤ℤ at
@@ -137,7 +128,7 @@ sum_at-push index a ps i j amount some =
     either true e = omega (arith, ints)
     either false e = sym (if_zero (index r == a) amount (omega (arith, ints)))
 
--- a walk that has come so far along both lists, and its pairs: the overlaps that begin before its place
+-- a walk that has come so far along both lists, and its pairs: the overlaps that begin before its point
 pub record IsWalk (us vs : List ℤ) (p q : Progress) (ps : List Pair) : Type 0 where
   pub at : ℤ
   pub first : Stands us p at
@@ -185,14 +176,14 @@ module _ (us vs : List ℤ) (h : NotNegative us) (k : NotNegative vs) where
 
   -- the amounts where a walk stands give the lesser of what they have left
   module _ (p q : Progress) (ps : List Pair) (more : ℤ) (first : p.index < length us) (second : q.index < length vs) (is : more ≡ int_min (get_or us p.index (pos 0) -ℤ p.given) (get_or vs q.index (pos 0) -ℤ q.given)) (walk : IsWalk us vs p q ps) where
-    here : Pair
+    abbrev here : Pair
     here = record { first = p.index; second = q.index; amount = more }
 
-    pushed : List Pair
+    abbrev pushed : List Pair
     pushed = cons_positive p.index q.index more []
 
-    -- the next place where an amount ends
-    next : ℤ
+    -- the next point where an amount ends
+    abbrev next : ℤ
     next = int_min (begin_of us (suc p.index)) (begin_of vs (suc q.index))
 
     -- where the walk stands
@@ -206,7 +197,6 @@ module _ (us vs : List ℤ) (h : NotNegative us) (k : NotNegative vs) where
       overlaps : overlap us vs p.index q.index ≡ more
 
     knows : Knows
-    unfolding next
     knows =
         let us_end = begin_of-suc us p.index in
         let vs_end = begin_of-suc vs q.index in
@@ -226,11 +216,9 @@ module _ (us vs : List ℤ) (h : NotNegative us) (k : NotNegative vs) where
         }
 
     ends_here : pos 0 <ℤ more → EndsBy us vs next here
-    unfolding next here
-    ends_here positive = record { overlaps = record { first_place = first; second_place = second; amount = sym knows.overlaps; positive = positive }; ends = omega (arith, ints) }
+    ends_here positive = record { overlaps = record { first_within = first; second_within = second; amount = sym knows.overlaps; positive = positive }; ends = omega (arith, ints) }
 
     later : (r : Pair) → EndsBy us vs walk.at r → pos 0 <ℤ more → pair_before r here
-    unfolding next here
     later r e positive = by (cases_lt r.first p.index) (cases_lt r.second q.index)
       where
         begins : (begin_of us r.first <ℤ walk.at) × (begin_of vs r.second <ℤ walk.at)
@@ -252,9 +240,8 @@ module _ (us vs : List ℤ) (h : NotNegative us) (k : NotNegative vs) where
             let now = knows in
             absurd (omega (arith, ints, clamps))
 
-    -- an overlap that begins between the two places is that of the two amounts
+    -- an overlap that begins between the two points is that of the two amounts
     found : (a b : ℕ) → pos 0 <ℤ overlap us vs a b → walk.at ≤ℤ int_max (begin_of us a) (begin_of vs b) → int_max (begin_of us a) (begin_of vs b) <ℤ next → Contains pushed (record { first = a; second = b; amount = overlap us vs a b })
-    unfolding next here pushed
     found a b positive from upto =
         let now = knows in
         let us_upto = index_upto us h a p.index (omega (arith, ints, clamps)) in
@@ -268,7 +255,6 @@ module _ (us vs : List ℤ) (h : NotNegative us) (k : NotNegative vs) where
         (Contains-cons_if_here (int_lt (pos 0) more) here [] (int_lt-from (pos 0) more (omega (arith, ints))))
 
     pub IsWalk-more : IsNearer us vs (still_left us vs p q) (progress_after us p more) (progress_after vs q more) (ps ++ cons_positive p.index q.index more [])
-    unfolding next here pushed
     IsWalk-more =
         let now = knows in
         let one = goes_on us p walk.at next more h walk.first now.goes now.us_upto now.gives in
@@ -321,7 +307,7 @@ module _ (us vs : List ℤ) (h : NotNegative us) (k : NotNegative vs) where
   ended : Ended
   ended = let none : Progress = record { index = 0; given = pos 0 } in go_on (still_left us vs none none) none none [] (omega arith) IsWalk-none
 
-  -- its place is behind every overlap, so it has all of them
+  -- its point is behind every overlap, so it has all of them
   pub ListsOverlaps-walk : (p q : Progress) (ps : List Pair) → (length us ≤ p.index) ⊎ (length vs ≤ q.index) → IsWalk us vs p q ps → ListsOverlaps us vs ps
   ListsOverlaps-walk p q ps end walk = record {
     ordered = walk.ordered;
@@ -329,7 +315,7 @@ module _ (us vs : List ℤ) (h : NotNegative us) (k : NotNegative vs) where
     every = λ r e.
         let amount = e.amount in
         let positive = e.positive in
-        let ends = past end r.first r.second e.first_place e.second_place in
+        let ends = past end r.first r.second e.first_within e.second_within in
         subst (Contains ps) (same_pair r.first r.second r.first r.second (overlap us vs r.first r.second) r.amount refl refl (sym amount)) (walk.every r.first r.second (omega (arith, ints)) (omega (arith, ints, clamps)));
   }
     where
@@ -343,7 +329,7 @@ module _ (us vs : List ℤ) (h : NotNegative us) (k : NotNegative vs) where
 
 -- ---- what the pairs of one index add up to, where both lists have one total
 
--- the part of a span before the place where a walk ended is all of it
+-- the part of a span before the point where a walk ended is all of it
 all_before : (xs ys : List ℤ) → NotNegative xs → NotNegative ys → int_sum_by (λ x. x) xs ≡ int_sum_by (λ x. x) ys → (p q : Progress) (at : ℤ) → Stands xs p at → Stands ys q at → (length xs ≤ p.index) ⊎ (length ys ≤ q.index) → (a : ℕ) → a < length xs → part_before xs at a ≡ get_or xs a (pos 0)
 all_before xs ys h k total p q at stands other end a within = let before = past end in let own = begin_of-next xs h a in let span = begin_of-suc xs a in omega (arith, ints, clamps)
   where

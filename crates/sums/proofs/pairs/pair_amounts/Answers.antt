@@ -1,4 +1,4 @@
-use Rattle.std.proofs.Common.{ℤ, pos, ◌+ℤ◌, ◌-ℤ◌, ◌≡◌, ◌∙◌, ap₂, sym, subst, inl, inr, List, get_or, FitsSigned, w64, to_z, of_z, rules}
+use Rattle.std.proofs.Common.{ℤ, ◌≡◌, ◌∙◌, ap₂, sym, subst, inl, inr, FitsSigned, w64, to_z, of_z, rules}
 use Rattle.std.specs.Int.{int_min}
 use Rattle.std.proofs.lemmas.Int.{to_z-of_z}
 use Rattle.sums.proofs.WalkLemmas.{IsWalk, IsWalk-none, IsWalk-more, ListsOverlaps-walk, within_both}
