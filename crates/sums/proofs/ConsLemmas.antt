@@ -1,10 +1,9 @@
--- Lists with one more element in front, if a test holds; and the tests of whole numbers.
+-- Lists with one more element in front, if a test holds.
 use Rattle.std.proofs.Common.{◌≡◌, refl, Bool, true, false, List, [], ◌∷◌, ◌++◌, length, ◌+◌, cond, arith}
-use Rattle.std.specs.Prelude.{ℤ, ◌≤ℤ◌, ◌<ℤ◌, int_le, All, AllPairs, Contains}
-use Rattle.std.proofs.lemmas.Int.{ints}
+use Rattle.std.specs.Prelude.{All, AllPairs, Contains}
 use Rattle.std.proofs.lemmas.List.Elements.{All-cons, Contains-append_right}
+use Rattle.std.proofs.lemmas.List.Kept.{AllPairs-cons}
 use Rattle.sums.specs.Pairing.{cons_if}
-use Rattle.sums.proofs.OrderLemmas.{AllPairs-cons}
 
 module _ {X : Type 0} where
   pub All-cons_if : (P : X → Type 0) (b : Bool) (x : X) (xs : List X) → (b ≡ true → P x) → All P xs → All P (cons_if b x xs)
@@ -30,13 +29,3 @@ module _ {X : Type 0} where
   pub cons_if-append : (b : Bool) (x : X) (xs ys : List X) → cons_if b x xs ++ ys ≡ cons_if b x (xs ++ ys)
   cons_if-append true x xs ys = refl
   cons_if-append false x xs ys = refl
-
--- the test `<=` on whole numbers
-pub int_le-true : (a b : ℤ) → int_le a b ≡ true → a ≤ℤ b
-int_le-true a b h = omega (arith, ints)
-
-pub int_le-from : (a b : ℤ) → a ≤ℤ b → int_le a b ≡ true
-int_le-from a b h = grind (arith, ints)
-
-pub int_le-false : (a b : ℤ) → b <ℤ a → int_le a b ≡ false
-int_le-false a b h = grind (arith, ints)

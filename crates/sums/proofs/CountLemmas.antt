@@ -1,11 +1,14 @@
 -- How many elements a list has.
-use Rattle.std.proofs.Common.{◌≡◌, ◌+◌, ◌≤◌, Bool, true, false, cond, not, List, [], ◌∷◌, length, refl, arith}
-use Rattle.std.specs.Prelude.{ℤ, ◌<ℤ◌, All, AllPairs, Contains, count_by}
+use Rattle.std.proofs.Common.{◌≡◌, ◌∙◌, ℕ, suc, ◌+◌, ◌<◌, ◌≤◌, ◌||◌, Bool, true, false, cond, not, nat_lt, List, [], ◌∷◌, length, map, Some, None, refl, sym, ap, zero-add, arith}
+use Rattle.std.specs.Prelude.{ℤ, ◌<ℤ◌, All, AllPairs, Contains, count_by, slice_get}
+use Rattle.std.specs.List.{find, list_any}
+use Rattle.std.proofs.lemmas.Bool.{false_from_ne_true, false≢true, le-ltb, lt-ltb, ltb-false, ltb-true}
 use Rattle.std.proofs.lemmas.Int.{ints}
 use Rattle.std.proofs.lemmas.Bool.Decides.{Decides-int_eq}
 use Rattle.std.proofs.lemmas.Cmp.{int_eq_equiv}
 use Rattle.std.proofs.lemmas.List.Elements.{All-contains}
-use Rattle.std.proofs.lemmas.List.Sums.{sum_by-cons}
+use Rattle.std.proofs.lemmas.List.Folds.{fold-map, list_any_at}
+use Rattle.std.proofs.lemmas.List.Sums.{sum_by-cons, sum_by-le-sum_by}
 use Rattle.std.proofs.lemmas.Map.Made.{IsDistinct-from_AllPairs, is_member-Decides, length-le_from_is_member}
 
 -- few members: a falling list whose members all stand in another list is no longer than that one
@@ -17,19 +20,12 @@ length-le_falling xs ys falls within =
 
 -- one for a test that holds
 one_le : (a b : Bool) → (a ≡ true → b ≡ true) → cond a 1 0 ≤ cond b 1 0
-one_le true true h = omega arith
-one_le true false h = let wrong = h refl in cc
-one_le false true h = omega arith
-one_le false false h = omega arith
+one_le true b h = rw (h refl) (omega arith)
+one_le false b h = omega arith
 
 both_le : (a b c : Bool) → (a ≡ true → b ≡ false) → (a ≡ true → c ≡ true) → (b ≡ true → c ≡ true) → cond a 1 0 + cond b 1 0 ≤ cond c 1 0
-both_le true true c h k l = let wrong = h refl in cc
-both_le true false true h k l = omega arith
-both_le true false false h k l = let wrong = k refl in cc
-both_le false true true h k l = omega arith
-both_le false true false h k l = let wrong = l refl in cc
-both_le false false true h k l = omega arith
-both_le false false false h k l = omega arith
+both_le true b c h k l = rw (h refl, k refl) (omega arith)
+both_le false b c h k l = rw zero-add (one_le b c l)
 
 one_not : (b : Bool) → cond b 1 0 + cond (not b) 1 0 ≡ 1
 one_not true = omega arith
@@ -40,11 +36,7 @@ module _ {X : Type 0} where
   count_by-cons p x xs = sum_by-cons (λ y. cond (p y) 1 0) x xs
 
   pub count_by-le : (p q : X → Bool) (xs : List X) → ((x : X) → p x ≡ true → q x ≡ true) → count_by p xs ≤ count_by q xs
-  count_by-le p q [] h = omega arith
-  count_by-le p q (x ∷ xs) h =
-      let first = one_le (p x) (q x) (h x) in
-      let rest = count_by-le p q xs h in
-      omega (arith, count_by-cons p x xs, count_by-cons q x xs)
+  count_by-le p q xs h = sum_by-le-sum_by (λ x. cond (p x) 1 0) (λ x. cond (q x) 1 0) xs (λ x. one_le (p x) (q x) (h x))
 
   -- two tests that never hold together, and a third that holds where one of them does
   pub count_by-add-le : (p q r : X → Bool) (xs : List X) → ((x : X) → p x ≡ true → q x ≡ false) → ((x : X) → p x ≡ true → r x ≡ true) → ((x : X) → q x ≡ true → r x ≡ true) → count_by p xs + count_by q xs ≤ count_by r xs
@@ -61,3 +53,51 @@ module _ {X : Type 0} where
       let first = one_not (p x) in
       let rest = count_by-add-not p xs in
       omega (arith, count_by-cons p x xs, count_by-cons (λ y. not (p y)) x xs)
+
+  -- ---- whether some element passes
+
+  pub list_any-counted : (p : X → Bool) (xs : List X) → list_any p xs ≡ nat_lt 0 (count_by p xs)
+  list_any-counted p [] = refl
+  list_any-counted p (x ∷ xs) = by (p x) (count_by-cons p x xs) (list_any-counted p xs)
+    where
+      by : (b : Bool) → count_by p (x ∷ xs) ≡ cond b 1 0 + count_by p xs → list_any p xs ≡ nat_lt 0 (count_by p xs) → (b || list_any p xs) ≡ nat_lt 0 (count_by p (x ∷ xs))
+      by true count rest = sym (lt-ltb 0 (count_by p (x ∷ xs)) (omega (arith, count)))
+      by false count rest = rest ∙ ap (nat_lt 0) (omega (arith, count))
+
+  pub counted : (p : X → Bool) (xs : List X) → list_any p xs ≡ true → 0 < count_by p xs
+  counted p xs some = ltb-true 0 (count_by p xs) (sym (list_any-counted p xs) ∙ some)
+
+  pub uncounted : (p : X → Bool) (xs : List X) → list_any p xs ≡ false → count_by p xs ≡ 0
+  uncounted p xs none = let h = ltb-false 0 (count_by p xs) (sym (list_any-counted p xs) ∙ none) in omega (arith, h)
+
+  pub some_counted : (p : X → Bool) (xs : List X) → 0 < count_by p xs → list_any p xs ≡ true
+  some_counted p xs some = list_any-counted p xs ∙ lt-ltb 0 (count_by p xs) some
+
+  pub none_counted : (p : X → Bool) (xs : List X) → count_by p xs ≡ 0 → list_any p xs ≡ false
+  none_counted p xs none = list_any-counted p xs ∙ le-ltb 0 (count_by p xs) (omega (arith, none))
+
+  pub none_any : (p : X → Bool) (xs : List X) → list_any p xs ≡ false → All (λ x. p x ≡ false) xs
+  none_any p xs none k d within = false_from_ne_true _ (λ passes. false≢true (sym none ∙ list_any_at p xs k d within passes))
+
+  -- the first element that passes
+  pub record IsFound (p : X → Bool) (xs : List X) (i : ℕ) (x : X) : Type 0 where
+    pub at : slice_get xs i ≡ Some x
+    pub passes : p x ≡ true
+    pub first : find p xs ≡ Some x
+
+  pub found : (p : X → Bool) (xs : List X) → list_any p xs ≡ true → (i : ℕ) × (x : X) × IsFound p xs i x
+  found p [] some = cc some
+  found p (x ∷ xs) some = by (p x) refl some (found p xs)
+    where
+      by : (b : Bool) → p x ≡ b → (b || list_any p xs) ≡ true → (list_any p xs ≡ true → (i : ℕ) × (y : X) × IsFound p xs i y) → (i : ℕ) × (y : X) × IsFound p (x ∷ xs) i y
+      by true is some rest = (0, x, record { at = refl; passes = is; first = rw is refl })
+      by false is some rest = let (i, y, h) = rest some in (suc i, y, record { at = h.at; passes = h.passes; first = rw is h.first })
+
+  pub found_once : (p : X → Bool) (xs : List X) → count_by p xs ≡ 1 → (i : ℕ) × (x : X) × IsFound p xs i x
+  found_once p xs once = found p xs (some_counted p xs (omega (arith, once)))
+
+  pub none_found : (p : X → Bool) (xs : List X) → find p xs ≡ None → All (λ x. p x ≡ false) xs
+  none_found p xs none = none_any p xs (false_from_ne_true (list_any p xs) (λ some. let (i, x, h) = found p xs some in let first = h.first in cc))
+
+pub count_by-map : {X Y : Type 0} (p : Y → Bool) (f : X → Y) (xs : List X) → count_by p (map f xs) ≡ count_by (λ x. p (f x)) xs
+count_by-map p f xs = fold-map (λ a y. a + cond (p y) 1 0) f 0 xs

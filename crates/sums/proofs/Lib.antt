@@ -1,5 +1,8 @@
 pub mod ConsLemmas
 pub mod CountLemmas
+pub mod EnumerationLemmas
+pub mod IntegerLemmas
+pub mod ListLemmas
 pub mod OrderLemmas
 pub mod ProductLemmas
 pub mod SumLemmas

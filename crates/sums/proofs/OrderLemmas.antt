@@ -1,5 +1,5 @@
 -- Lists that are fixed by their members and their order.
-use Rattle.std.proofs.Common.{◌≡◌, zero, suc, ◌-◌, ◌<◌, ◌⊎◌, inl, inr, ⊎_elim, List, [], ◌∷◌, ◌++◌, length, get_or, reverse, refl, ap₂, sym, subst, subst₂, arith}
+use Rattle.std.proofs.Common.{◌≡◌, ◌∙◌, ℕ, zero, suc, ◌+◌, ◌-◌, ◌<◌, ◌⊎◌, inl, inr, ⊎_elim, List, [], ◌∷◌, ◌++◌, length, length-append, get_or, map, take, reverse, refl, ap₂, sym, subst, subst₂, arith}
 use Rattle.std.specs.Prelude.{ℤ, ◌<ℤ◌, All, AllPairs, Contains}
 use Rattle.std.specs.Ordering.{int_cmp, int_eq}
 use Rattle.std.specs.List.{dedup}
@@ -8,10 +8,10 @@ use Rattle.std.specs.declared.cmp.Ordering.TheVariants.{Less}
 use Rattle.std.proofs.lemmas.Int.{ints}
 use Rattle.std.proofs.lemmas.Cmp.{int_ranked, int_cmp_total, int_eq_equiv}
 use Rattle.std.proofs.lemmas.Bool.Decides.{Decides-int_eq}
-use Rattle.std.proofs.lemmas.List.{length-reverse, get_or-reverse}
-use Rattle.std.proofs.lemmas.List.Elements.{All-append, All-contains, All-head, All-tail, All-weaker, Contains-get_or}
+use Rattle.std.proofs.lemmas.List.{length-reverse, length-take-le, get_or-reverse, get_or-append-add, get_or-take, get_or_append_left, get_or_default}
+use Rattle.std.proofs.lemmas.List.Elements.{All-append, All-contains, All-head, All-map, All-tail, All-weaker, Contains-get_or}
 use Rattle.std.proofs.lemmas.List.Sorted.{IsPermutation-reverse, IsPermutation-sym, All-permutation, Contains-permutation}
-use Rattle.std.proofs.lemmas.List.Kept.{IsStrictlySortedBy-dedup, Contains-dedup, Contains-from_dedup}
+use Rattle.std.proofs.lemmas.List.Kept.{AllPairs-cons, IsStrictlySortedBy-dedup, Contains-dedup, Contains-from_dedup}
 use Rattle.std.proofs.lemmas.Map.Keys.{Less-from_sorted}
 use Rattle.sums.specs.Order.{Lists, ListsRising, ListsFalling}
 
@@ -52,12 +52,6 @@ module _ {X : Type 0} (R : X → X → Type 0) where
   pub AllPairs-nil : AllPairs R []
   AllPairs-nil i j d before within = absurd (omega arith)
 
-  pub AllPairs-cons : (x : X) (xs : List X) → All (R x) xs → AllPairs R xs → AllPairs R (x ∷ xs)
-  AllPairs-cons x xs first rest zero zero d before within = absurd (omega arith)
-  AllPairs-cons x xs first rest zero (suc j) d before within = first j d (omega arith)
-  AllPairs-cons x xs first rest (suc i) zero d before within = absurd (omega arith)
-  AllPairs-cons x xs first rest (suc i) (suc j) d before within = rest i j d (omega arith) (omega arith)
-
   pub AllPairs-head : (x : X) (xs : List X) → AllPairs R (x ∷ xs) → All (R x) xs
   AllPairs-head x xs h k d within = h 0 (suc k) d (omega arith) (omega arith)
 
@@ -68,7 +62,31 @@ module _ {X : Type 0} (R : X → X → Type 0) where
   pub AllPairs-append : (xs ys : List X) → AllPairs R xs → AllPairs R ys → All (λ x. All (R x) ys) xs → AllPairs R (xs ++ ys)
   AllPairs-append [] ys h k across = k
   AllPairs-append (x ∷ xs) ys h k across =
-      AllPairs-cons x (xs ++ ys) (All-append (R x) xs ys (AllPairs-head x xs h) (All-head (λ a. All (R a) ys) x xs across)) (AllPairs-append xs ys (AllPairs-tail x xs h) k (All-tail (λ a. All (R a) ys) x xs across))
+      AllPairs-cons R x (xs ++ ys) (All-append (R x) xs ys (AllPairs-head x xs h) (All-head (λ a. All (R a) ys) x xs across)) (AllPairs-append xs ys (AllPairs-tail x xs h) k (All-tail (λ a. All (R a) ys) x xs across))
+
+  -- each of the two lists, and an element of the first before those of the second
+  pub AllPairs-front : (xs ys : List X) → AllPairs R (xs ++ ys) → AllPairs R xs
+  AllPairs-front xs ys pairs i j d before within =
+      subst₂ R (get_or_append_left xs ys d i (omega (arith, before, within))) (get_or_append_left xs ys d j within) (pairs i j d before (omega (arith, within, length-append xs ys)))
+
+  pub AllPairs-back : (xs ys : List X) → AllPairs R (xs ++ ys) → AllPairs R ys
+  AllPairs-back xs ys pairs i j d before within =
+      subst₂ R (get_or-append-add xs ys i d) (get_or-append-add xs ys j d) (pairs (length xs + i) (length xs + j) d (omega (arith, before)) (omega (arith, within, length-append xs ys)))
+
+  pub AllPairs-across : (xs ys : List X) (i : ℕ) (d : X) → AllPairs R (xs ++ ys) → i < length xs → All (R (get_or xs i d)) ys
+  AllPairs-across xs ys i d pairs early j e within =
+      subst₂ R (get_or_append_left xs ys e i early ∙ get_or_default xs i e d early) (get_or-append-add xs ys j e) (pairs i (length xs + j) e (omega (arith, early)) (omega (arith, within, length-append xs ys)))
+
+  -- the elements before one
+  pub AllPairs-before : (xs : List X) (i : ℕ) (d : X) → AllPairs R xs → i < length xs → All (λ x. R x (get_or xs i d)) (take i xs)
+  AllPairs-before xs i d pairs within k e early =
+      let inside : k < i = omega (arith, early, length-take-le i xs (omega (arith, within))) in
+      subst₂ R (sym (get_or-take i xs k e inside)) (get_or_default xs i e d within) (pairs k i e inside within)
+
+pub AllPairs-map : {X Y : Type 0} (R : Y → Y → Type 0) (f : X → Y) (xs : List X) → AllPairs (λ a b. R (f a) (f b)) xs → AllPairs R (map f xs)
+AllPairs-map R f [] pairs = AllPairs-nil R
+AllPairs-map R f (x ∷ xs) pairs =
+    AllPairs-cons R (f x) (map f xs) (All-map (R (f x)) f xs (AllPairs-head (λ a b. R (f a) (f b)) x xs pairs)) (AllPairs-map R f xs (AllPairs-tail (λ a b. R (f a) (f b)) x xs pairs))
 
 -- ---- one list only
 

@@ -1,331 +1,101 @@
--- A walk along two lists of amounts: the amounts that stand first give what they both have left, and the one that then
--- has nothing left is passed over.
-use Rattle.std.proofs.Common.{◌≡◌, ◌⊎◌, inl, inr, ◌∙◌, refl, sym, ap, ap₂, subst, subst₂, append_assoc, drop, ℕ, zero, suc, ◌+◌, ◌<◌, ◌≤◌, Bool, true, false, List, [], ◌∷◌, ◌++◌, length, get_or, take, map, arith}
+-- A walk along two lists of amounts that are laid end to end on one axis: from each point where an amount ends to the next such point.
+use Rattle.std.proofs.Common.{◌≡◌, ◌≢◌, ◌⊎◌, ⊎_elim, inl, inr, ◌∙◌, refl, sym, ap, ap₂, subst, add-zero, ℕ, zero, suc, ◌+◌, ◌-◌, ◌<◌, ◌≤◌, Bool, true, false, List, [], ◌∷◌, ◌++◌, length, get_or, arith}
 use Rattle.std.specs.Prelude.{ℤ, pos, ◌+ℤ◌, ◌-ℤ◌, ◌≤ℤ◌, ◌<ℤ◌, int_lt, ◌==◌, if◌then◌else◌, All, AllPairs, Contains}
-use Rattle.std.proofs.lemmas.Bool.{eq-eqb, ne_eqb}
+use Rattle.std.specs.Bool.{Decides}
+use Rattle.std.specs.Int.{int_max, int_min}
+use Rattle.std.specs.Ordering.{int_eq}
+use Rattle.std.proofs.lemmas.Bool.Decides.{Decides-int_eq}
+use Rattle.std.proofs.lemmas.Bool.{cases_eq, cases_lt, eq-eqb, ne_eqb}
 use Rattle.std.proofs.lemmas.Int.{ints, clamps, by_lt_z}
-use Rattle.std.proofs.lemmas.List.{append-nil, drop_more, drop_all}
-use Rattle.std.proofs.lemmas.List.Elements.{All-nil, All-cons, All-head, All-tail, All-take, All-weaker}
+use Rattle.std.proofs.lemmas.List.{take_all}
+use Rattle.std.proofs.lemmas.List.Elements.{All-append, All-nil, All-tail, All-weaker, Contains-append_left, Contains-append_right}
 use Rattle.sums.specs.declared.pairs.Pair.{Pair}
-use Rattle.sums.specs.Pairing.{cons_if, cons_positive}
+use Rattle.sums.specs.declared.pairs.Progress.{Progress}
+use Rattle.sums.specs.Pairing.{IsWithin, cons_if, cons_positive, progress_after}
 use Rattle.sums.specs.Spans.{NotNegative, begin_of, overlap, IsOverlap, pair_before, ListsOverlaps}
 use Rattle.sums.specs.Sum.{int_sum_by}
-use Rattle.sums.proofs.ConsLemmas.{All-cons_if, AllPairs-cons_if, Contains-cons_if, Contains-cons_if_here, cons_if-append}
-use Rattle.sums.proofs.OrderLemmas.{AllPairs-nil, Lists-unique}
-use Rattle.sums.proofs.SumLemmas.{int_sum_by-not_negative, int_sum_by-zero, int_sum_by-map}
+use Rattle.sums.proofs.ConsLemmas.{All-cons_if, AllPairs-cons_if, Contains-cons_if_here}
+use Rattle.sums.proofs.IntegerLemmas.{if_zero, int_lt-from, int_lt-true}
+use Rattle.sums.proofs.OrderLemmas.{AllPairs-append, AllPairs-nil, Lists-unique}
+use Rattle.sums.proofs.SumLemmas.{int_sum_by-append}
 
--- the pairs of a walk along what is left of two lists, whose first amounts have the places i and j
-pub data Walks : ℕ → List ℤ → ℕ → List ℤ → List Pair → Type 0 where
-  first_done : {i j : ℕ} {vs : List ℤ} → Walks i [] j vs []
-  second_done : {i j : ℕ} {us : List ℤ} → Walks i us j [] []
-  first_ends : {i j : ℕ} {u v : ℤ} {us vs : List ℤ} {ps : List Pair} → u ≤ℤ v → Walks (suc i) us j ((v -ℤ u) ∷ vs) ps → Walks i (u ∷ us) j (v ∷ vs) (cons_positive i j u ps)
-  second_ends : {i j : ℕ} {u v : ℤ} {us vs : List ℤ} {ps : List Pair} → v ≤ℤ u → Walks i ((u -ℤ v) ∷ us) (suc j) vs ps → Walks i (u ∷ us) j (v ∷ vs) (cons_positive i j v ps)
+-- ---- the spans of one list
 
--- there is a walk along any two lists
-pub some_walk : (i : ℕ) (us : List ℤ) (j : ℕ) (vs : List ℤ) → (ps : List Pair) × Walks i us j vs ps
-some_walk i [] j vs = ([], first_done)
-some_walk i (u ∷ us) j vs = along (λ k ys. some_walk (suc i) us k ys) u j vs
+begin_of-suc : (xs : List ℤ) (a : ℕ) → begin_of xs (suc a) ≡ begin_of xs a +ℤ get_or xs a (pos 0)
+begin_of-suc [] zero = refl
+begin_of-suc [] (suc a) = refl
+begin_of-suc (x ∷ xs) zero = omega (arith, ints)
+begin_of-suc (x ∷ xs) (suc a) = let rest = begin_of-suc xs a in omega (arith, ints)
+
+begin_of-next : (xs : List ℤ) → NotNegative xs → (a : ℕ) → begin_of xs a ≤ℤ begin_of xs (suc a)
+begin_of-next [] h zero = omega (arith, ints)
+begin_of-next [] h (suc a) = omega (arith, ints)
+begin_of-next (x ∷ xs) h zero = let first = h 0 x (omega arith) in omega (arith, ints)
+begin_of-next (x ∷ xs) h (suc a) = let rest = begin_of-next xs (All-tail (λ y. pos 0 ≤ℤ y) x xs h) a in omega (arith, ints)
+
+-- how much of a span lies before a point
+abbrev pub part_before : List ℤ → ℤ → ℕ → ℤ
+part_before xs at a = int_min at (begin_of xs (suc a)) -ℤ int_min at (begin_of xs a)
+
+module _ (xs : List ℤ) (h : NotNegative xs) where
+  begin_of-rises : (a b : ℕ) → a ≤ b → begin_of xs a ≤ℤ begin_of xs b
+  begin_of-rises a b le = let same : a + (b - a) ≡ b = omega (arith, le) in subst (λ c. begin_of xs a ≤ℤ begin_of xs c) same (further (b - a))
+    where
+      further : (n : ℕ) → begin_of xs a ≤ℤ begin_of xs (a + n)
+      further zero = rw add-zero (omega (arith, ints))
+      further (suc n) = let before = further n in let step = begin_of-next xs h (a + n) in let same : a + suc n ≡ suc (a + n) = omega arith in rw same (omega (arith, ints))
+
+  -- a span that begins before another ends does not stand behind it
+  index_upto : (a i : ℕ) → begin_of xs a <ℤ begin_of xs (suc i) → a ≤ i
+  index_upto a i before =
+      ⊎_elim (λ later. let rises = begin_of-rises (suc i) a (omega (arith, later)) in absurd (omega (arith, ints))) (λ upto. upto) (cases_lt i a)
+
+  -- the point goes on to the next one within the span at i
+  part_before-moved : (i a : ℕ) (at next more : ℤ) → begin_of xs i ≤ℤ at → at ≤ℤ next → next ≤ℤ begin_of xs (suc i) → more ≡ next -ℤ at → part_before xs next a ≡ part_before xs at a +ℤ (if i == a then more else pos 0)
+  part_before-moved i a at next more from some upto gives = by (cases_eq i a) (cases_lt a i)
+    where
+      by : (i ≡ a) ⊎ (i ≢ a) → (a < i) ⊎ (i ≤ a) → part_before xs next a ≡ part_before xs at a +ℤ (if i == a then more else pos 0)
+      by (inl same) other = let here = ap (begin_of xs) same in let end = ap (λ c. begin_of xs (suc c)) same in rw (eq-eqb i a same) (omega (arith, ints, clamps))
+      by (inr differ) (inl before) = let rises = begin_of-rises (suc a) i (omega (arith, before)) in let own = begin_of-next xs h a in rw (ne_eqb i a differ) (omega (arith, ints, clamps))
+      by (inr differ) (inr behind) = let rises = begin_of-rises (suc i) a (omega (arith, behind, differ)) in let own = begin_of-next xs h a in rw (ne_eqb i a differ) (omega (arith, ints, clamps))
+
+-- a walk stands at a point of the span at its index
+pub record Stands (xs : List ℤ) (p : Progress) (at : ℤ) : Type 0 where
+  pub within : IsWithin xs p
+  pub given : p.given ≡ at -ℤ begin_of xs p.index
+
+-- and goes on to the next point: to the next span, where this one ends
+record GoesOn (xs : List ℤ) (p after : Progress) (next : ℤ) : Type 0 where
+  stands : Stands xs after next
+  behind : p.index ≤ after.index
+  ends : next ≡ begin_of xs (suc p.index) → after.index ≡ suc p.index
+
+goes_on : (xs : List ℤ) (p : Progress) (at next more : ℤ) → NotNegative xs → Stands xs p at → at ≤ℤ next → next ≤ℤ begin_of xs (suc p.index) → more ≡ next -ℤ at → GoesOn xs p (progress_after xs p more) next
+goes_on xs p at next more h stands some upto gives = by (int_eq given amount) (Decides-int_eq given amount)
   where
-    along : ((k : ℕ) (ys : List ℤ) → (ps : List Pair) × Walks (suc i) us k ys ps) → (x : ℤ) (k : ℕ) (ys : List ℤ) → (ps : List Pair) × Walks i (x ∷ us) k ys ps
-    along next x k [] = ([], second_done)
-    along next x k (y ∷ ys) =
-        by_lt_z y x
-        (λ less. let (ps, rest) = along next (x -ℤ y) (suc k) ys in (cons_positive i k y ps, second_ends (omega (arith, ints)) rest))
-        (λ most. let (ps, rest) = next k ((y -ℤ x) ∷ ys) in (cons_positive i k x ps, first_ends most rest))
+    given : ℤ
+    given = p.given +ℤ more
 
--- ---- the spans
+    amount : ℤ
+    amount = get_or xs p.index (pos 0)
 
-pub begin_of-not_negative : (xs : List ℤ) (i : ℕ) → NotNegative xs → pos 0 ≤ℤ begin_of xs i
-begin_of-not_negative xs i h = int_sum_by-not_negative (λ x. x) (take i xs) (All-take (λ x. pos 0 ≤ℤ x) i xs h)
+    by : (b : Bool) → Decides b (given ≡ amount) → GoesOn xs p (if b then record { index = p.index + 1; given = pos 0 } else record { index = p.index; given = given }) next
+    by true d =
+        let whole = d.0 refl in
+        let is = stands.given in
+        let end = begin_of-suc xs p.index in
+        let count : p.index + 1 ≡ suc p.index = omega arith in
+        let begin = ap (begin_of xs) count in
+        let step = begin_of-next xs h (p.index + 1) in
+        let span = begin_of-suc xs (p.index + 1) in
+        record { stands = record { within = record { from = omega (arith, ints); upto = omega (arith, ints) }; given = omega (arith, ints) }; behind = omega arith; ends = λ e. count }
+    by false d =
+        let is = stands.given in
+        let within = stands.within in
+        let end = begin_of-suc xs p.index in
+        record { stands = record { within = record { from = omega (arith, ints); upto = omega (arith, ints) }; given = omega (arith, ints) }; behind = omega arith; ends = λ e. let whole = d.1 (omega (arith, ints)) in cc whole }
 
--- the overlaps behind the first amount, where it ends first
-shift_first : (u v : ℤ) (us vs : List ℤ) (a b : ℕ) → pos 0 ≤ℤ u → u ≤ℤ v → NotNegative us → overlap (u ∷ us) (v ∷ vs) (suc a) b ≡ overlap us ((v -ℤ u) ∷ vs) a b
-shift_first u v us vs a zero h le rest =
-    let from = begin_of-not_negative us a rest in
-    let upto = begin_of-not_negative us (suc a) rest in
-    omega (arith, ints, clamps)
-shift_first u v us vs a (suc b) h le rest = omega (arith, ints, clamps)
-
-shift_second : (u v : ℤ) (us vs : List ℤ) (a b : ℕ) → pos 0 ≤ℤ v → v ≤ℤ u → NotNegative vs → overlap (u ∷ us) (v ∷ vs) a (suc b) ≡ overlap ((u -ℤ v) ∷ us) vs a b
-shift_second u v us vs zero b h less rest =
-    let from = begin_of-not_negative vs b rest in
-    let upto = begin_of-not_negative vs (suc b) rest in
-    omega (arith, ints, clamps)
-shift_second u v us vs (suc a) b h less rest = omega (arith, ints, clamps)
-
--- the first amount shares nothing behind its end
-apart_first : (u v : ℤ) (us vs : List ℤ) (b : ℕ) → u ≤ℤ v → NotNegative vs → overlap (u ∷ us) (v ∷ vs) 0 (suc b) ≤ℤ pos 0
-apart_first u v us vs b le rest = let from = begin_of-not_negative vs b rest in omega (arith, ints, clamps)
-
-apart_second : (u v : ℤ) (us vs : List ℤ) (a : ℕ) → v ≤ℤ u → NotNegative us → overlap (u ∷ us) (v ∷ vs) (suc a) 0 ≤ℤ pos 0
-apart_second u v us vs a less rest = let from = begin_of-not_negative us a rest in omega (arith, ints, clamps)
-
--- an overlap of what is left, with places from i and j on
-pub record IsOverlapFrom (i j : ℕ) (us vs : List ℤ) (p : Pair) : Type 0 where
-  pub a : ℕ
-  pub b : ℕ
-  pub first : p.first ≡ i + a
-  pub second : p.second ≡ j + b
-  pub first_place : a < length us
-  pub second_place : b < length vs
-  pub amount : p.amount ≡ overlap us vs a b
-  pub positive : pos 0 <ℤ p.amount
-
-positive-true : (amount : ℤ) → int_lt (pos 0) amount ≡ true → pos 0 <ℤ amount
-positive-true amount h = omega (arith, ints)
-
-positive-from : (amount : ℤ) → pos 0 <ℤ amount → int_lt (pos 0) amount ≡ true
-positive-from amount h = grind (arith, ints)
-
-behind_first : (i j : ℕ) (u v : ℤ) (us vs : List ℤ) → pos 0 ≤ℤ u → u ≤ℤ v → NotNegative us → (p : Pair) → IsOverlapFrom (suc i) j us ((v -ℤ u) ∷ vs) p → IsOverlapFrom i j (u ∷ us) (v ∷ vs) p
-behind_first i j u v us vs not_negative le rest p h = record {
-  a = suc h.a;
-  b = h.b;
-  first = h.first ∙ omega arith;
-  second = h.second;
-  first_place = omega (arith, h.first_place);
-  second_place = h.second_place;
-  amount = h.amount ∙ sym (shift_first u v us vs h.a h.b not_negative le rest);
-  positive = h.positive;
-}
-
-behind_second : (i j : ℕ) (u v : ℤ) (us vs : List ℤ) → pos 0 ≤ℤ v → v ≤ℤ u → NotNegative vs → (p : Pair) → IsOverlapFrom i (suc j) ((u -ℤ v) ∷ us) vs p → IsOverlapFrom i j (u ∷ us) (v ∷ vs) p
-behind_second i j u v us vs not_negative less rest p h = record {
-  a = h.a;
-  b = suc h.b;
-  first = h.first;
-  second = h.second ∙ omega arith;
-  first_place = h.first_place;
-  second_place = omega (arith, h.second_place);
-  amount = h.amount ∙ sym (shift_second u v us vs h.a h.b not_negative less rest);
-  positive = h.positive;
-}
-
--- each pair of a walk is an overlap
-walk_each : {i j : ℕ} {us vs : List ℤ} {ps : List Pair} → Walks i us j vs ps → NotNegative us → NotNegative vs → All (IsOverlapFrom i j us vs) ps
-walk_each {i} {j} {us} {vs} first_done h k = All-nil (IsOverlapFrom i j us vs)
-walk_each {i} {j} {us} {vs} second_done h k = All-nil (IsOverlapFrom i j us vs)
-walk_each {i} {j} (first_ends {u = u} {v = v} {us = us} {vs = vs} {ps = ps} le rest) h k =
-    let here = All-head (λ x. pos 0 ≤ℤ x) u us h in
-    let behind = All-tail (λ x. pos 0 ≤ℤ x) u us h in
-    let others = All-tail (λ x. pos 0 ≤ℤ x) v vs k in
-    let left : pos 0 ≤ℤ (v -ℤ u) = omega (arith, ints) in
-    All-cons_if (IsOverlapFrom i j (u ∷ us) (v ∷ vs)) (int_lt (pos 0) u) (record { first = i; second = j; amount = u }) ps
-    (λ e. record {
-      a = 0;
-      b = 0;
-      first = omega arith;
-      second = omega arith;
-      first_place = omega arith;
-      second_place = omega arith;
-      amount = omega (arith, ints, clamps);
-      positive = positive-true u e;
-    })
-    (All-weaker (IsOverlapFrom (suc i) j us ((v -ℤ u) ∷ vs)) (IsOverlapFrom i j (u ∷ us) (v ∷ vs)) (behind_first i j u v us vs here le behind) ps
-    (walk_each rest behind (All-cons (λ x. pos 0 ≤ℤ x) (v -ℤ u) vs left others)))
-walk_each {i} {j} (second_ends {u = u} {v = v} {us = us} {vs = vs} {ps = ps} less rest) h k =
-    let here = All-head (λ x. pos 0 ≤ℤ x) v vs k in
-    let behind = All-tail (λ x. pos 0 ≤ℤ x) v vs k in
-    let others = All-tail (λ x. pos 0 ≤ℤ x) u us h in
-    let left : pos 0 ≤ℤ (u -ℤ v) = omega (arith, ints) in
-    All-cons_if (IsOverlapFrom i j (u ∷ us) (v ∷ vs)) (int_lt (pos 0) v) (record { first = i; second = j; amount = v }) ps
-    (λ e. record {
-      a = 0;
-      b = 0;
-      first = omega arith;
-      second = omega arith;
-      first_place = omega arith;
-      second_place = omega arith;
-      amount = omega (arith, ints, clamps);
-      positive = positive-true v e;
-    })
-    (All-weaker (IsOverlapFrom i (suc j) ((u -ℤ v) ∷ us) vs) (IsOverlapFrom i j (u ∷ us) (v ∷ vs)) (behind_second i j u v us vs here less behind) ps
-    (walk_each rest (All-cons (λ x. pos 0 ≤ℤ x) (u -ℤ v) us left others) behind))
-
--- the pairs of a walk are in order
-walk_ordered : {i j : ℕ} {us vs : List ℤ} {ps : List Pair} → Walks i us j vs ps → NotNegative us → NotNegative vs → AllPairs pair_before ps
-walk_ordered first_done h k = AllPairs-nil pair_before
-walk_ordered second_done h k = AllPairs-nil pair_before
-walk_ordered {i} {j} (first_ends {u = u} {v = v} {us = us} {vs = vs} {ps = ps} le rest) h k =
-    let behind = All-tail (λ x. pos 0 ≤ℤ x) u us h in
-    let others = All-tail (λ x. pos 0 ≤ℤ x) v vs k in
-    let left : pos 0 ≤ℤ (v -ℤ u) = omega (arith, ints) in
-    let seconds = All-cons (λ x. pos 0 ≤ℤ x) (v -ℤ u) vs left others in
-    let p : Pair = record { first = i; second = j; amount = u } in
-    AllPairs-cons_if pair_before (int_lt (pos 0) u) p ps
-    (λ e. All-weaker (IsOverlapFrom (suc i) j us ((v -ℤ u) ∷ vs)) (pair_before p) (λ q e. inl (omega (arith, e.first))) ps (walk_each rest behind seconds))
-    (walk_ordered rest behind seconds)
-walk_ordered {i} {j} (second_ends {u = u} {v = v} {us = us} {vs = vs} {ps = ps} less rest) h k =
-    let behind = All-tail (λ x. pos 0 ≤ℤ x) v vs k in
-    let others = All-tail (λ x. pos 0 ≤ℤ x) u us h in
-    let left : pos 0 ≤ℤ (u -ℤ v) = omega (arith, ints) in
-    let firsts = All-cons (λ x. pos 0 ≤ℤ x) (u -ℤ v) us left others in
-    let p : Pair = record { first = i; second = j; amount = v } in
-    AllPairs-cons_if pair_before (int_lt (pos 0) v) p ps
-    (λ e. All-weaker (IsOverlapFrom i (suc j) ((u -ℤ v) ∷ us) vs) (pair_before p) (λ q e. later i j q e.a e.b e.first e.second) ps (walk_each rest firsts behind))
-    (walk_ordered rest firsts behind)
-  where
-    later : (i j : ℕ) (q : Pair) (a b : ℕ) → q.first ≡ i + a → q.second ≡ suc j + b → (i < q.first) ⊎ ((i ≡ q.first) × (j < q.second))
-    later i j q zero b first second = inr (omega arith, omega arith)
-    later i j q (suc a) b first second = inl (omega arith)
-
-same_pair : (i j k l : ℕ) (x y : ℤ) → i ≡ k → j ≡ l → x ≡ y → ◌≡◌ {A = Pair} (record { first = i; second = j; amount = x }) (record { first = k; second = l; amount = y })
-same_pair i j k l x y p q r n = record { first = p n; second = q n; amount = r n }
-
--- each overlap is a pair of the walk
-walk_every : {i j : ℕ} {us vs : List ℤ} {ps : List Pair} → Walks i us j vs ps → NotNegative us → NotNegative vs → (a b : ℕ) → a < length us → b < length vs → pos 0 <ℤ overlap us vs a b → Contains ps (record { first = i + a; second = j + b; amount = overlap us vs a b })
-walk_every first_done h k a b first second positive = absurd (omega arith)
-walk_every second_done h k a b first second positive = absurd (omega arith)
-walk_every {i} {j} (first_ends {u = u} {v = v} {us = us} {vs = vs} {ps = ps} le rest) h k zero zero first second positive =
-    let here = All-head (λ x. pos 0 ≤ℤ x) u us h in
-    let amount : u ≡ overlap (u ∷ us) (v ∷ vs) 0 0 = omega (arith, ints, clamps) in
-    let found = Contains-cons_if_here (int_lt (pos 0) u) (record { first = i; second = j; amount = u }) ps (positive-from u (subst (λ z. pos 0 <ℤ z) (sym amount) positive)) in
-    subst (λ q. Contains (cons_positive i j u ps) q) (same_pair i j (i + 0) (j + 0) u (overlap (u ∷ us) (v ∷ vs) 0 0) (omega arith) (omega arith) amount) found
-walk_every (first_ends {u = u} {v = v} {us = us} {vs = vs} le rest) h k zero (suc b) first second positive =
-    let none = apart_first u v us vs b le (All-tail (λ x. pos 0 ≤ℤ x) v vs k) in
-    absurd (omega (arith, ints))
-walk_every {i} {j} (first_ends {u = u} {v = v} {us = us} {vs = vs} {ps = ps} le rest) h k (suc a) b first second positive =
-    let here = All-head (λ x. pos 0 ≤ℤ x) u us h in
-    let behind = All-tail (λ x. pos 0 ≤ℤ x) u us h in
-    let others = All-tail (λ x. pos 0 ≤ℤ x) v vs k in
-    let left : pos 0 ≤ℤ (v -ℤ u) = omega (arith, ints) in
-    let same = shift_first u v us vs a b here le behind in
-    let found = walk_every rest behind (All-cons (λ x. pos 0 ≤ℤ x) (v -ℤ u) vs left others) a b (omega arith) second (subst (λ z. pos 0 <ℤ z) same positive) in
-    Contains-cons_if (int_lt (pos 0) u) (record { first = i; second = j; amount = u }) (record { first = i + suc a; second = j + b; amount = overlap (u ∷ us) (v ∷ vs) (suc a) b }) ps
-    (subst (λ q. Contains ps q) (same_pair (suc i + a) (j + b) (i + suc a) (j + b) (overlap us ((v -ℤ u) ∷ vs) a b) (overlap (u ∷ us) (v ∷ vs) (suc a) b) (omega arith) refl (sym same)) found)
-walk_every {i} {j} (second_ends {u = u} {v = v} {us = us} {vs = vs} {ps = ps} less rest) h k zero zero first second positive =
-    let here = All-head (λ x. pos 0 ≤ℤ x) v vs k in
-    let amount : v ≡ overlap (u ∷ us) (v ∷ vs) 0 0 = omega (arith, ints, clamps) in
-    let found = Contains-cons_if_here (int_lt (pos 0) v) (record { first = i; second = j; amount = v }) ps (positive-from v (subst (λ z. pos 0 <ℤ z) (sym amount) positive)) in
-    subst (λ q. Contains (cons_positive i j v ps) q) (same_pair i j (i + 0) (j + 0) v (overlap (u ∷ us) (v ∷ vs) 0 0) (omega arith) (omega arith) amount) found
-walk_every (second_ends {u = u} {v = v} {us = us} {vs = vs} less rest) h k (suc a) zero first second positive =
-    let none = apart_second u v us vs a less (All-tail (λ x. pos 0 ≤ℤ x) u us h) in
-    absurd (omega (arith, ints))
-walk_every {i} {j} (second_ends {u = u} {v = v} {us = us} {vs = vs} {ps = ps} less rest) h k a (suc b) first second positive =
-    let here = All-head (λ x. pos 0 ≤ℤ x) v vs k in
-    let behind = All-tail (λ x. pos 0 ≤ℤ x) v vs k in
-    let others = All-tail (λ x. pos 0 ≤ℤ x) u us h in
-    let left : pos 0 ≤ℤ (u -ℤ v) = omega (arith, ints) in
-    let same = shift_second u v us vs a b here less behind in
-    let found = walk_every rest (All-cons (λ x. pos 0 ≤ℤ x) (u -ℤ v) us left others) behind a b first (omega arith) (subst (λ z. pos 0 <ℤ z) same positive) in
-    Contains-cons_if (int_lt (pos 0) v) (record { first = i; second = j; amount = v }) (record { first = i + a; second = j + suc b; amount = overlap (u ∷ us) (v ∷ vs) a (suc b) }) ps
-    (subst (λ q. Contains ps q) (same_pair (i + a) (suc j + b) (i + a) (j + suc b) (overlap ((u -ℤ v) ∷ us) vs a b) (overlap (u ∷ us) (v ∷ vs) a (suc b)) refl (omega arith) (sym same)) found)
-
--- the pairs of a walk along two whole lists are exactly their overlaps, in order
-pub ListsOverlaps-walk : {us vs : List ℤ} {ps : List Pair} → Walks 0 us 0 vs ps → NotNegative us → NotNegative vs → ListsOverlaps us vs ps
-ListsOverlaps-walk {us} {vs} {ps} walk h k = record {
-  ordered = walk_ordered walk h k;
-  each = All-weaker (IsOverlapFrom 0 0 us vs) (IsOverlap us vs) (whole us vs) ps (walk_each walk h k);
-  every = λ p e. subst (λ q. Contains ps q) (same_pair (0 + p.first) (0 + p.second) p.first p.second (overlap us vs p.first p.second) p.amount (omega arith) (omega arith) (sym e.amount))
-      (walk_every walk h k p.first p.second e.first_place e.second_place (subst (λ z. pos 0 <ℤ z) e.amount e.positive));
-}
-  where
-    whole : (us vs : List ℤ) (p : Pair) → IsOverlapFrom 0 0 us vs p → IsOverlap us vs p
-    whole us vs p e =
-        let first : p.first ≡ e.a = e.first ∙ omega arith in
-        let second : p.second ≡ e.b = e.second ∙ omega arith in
-        record {
-          first_place = omega (arith, e.first_place);
-          second_place = omega (arith, e.second_place);
-          amount = e.amount ∙ ap₂ (overlap us vs) (sym first) (sym second);
-          positive = e.positive;
-        }
-
--- ---- what the pairs of one place add up to
-
-abbrev pub first_sum : ℕ → List Pair → ℤ
-first_sum k ps = int_sum_by (λ p. if p.first == k then p.amount else pos 0) ps
-
-first_sum-cons : (i j k : ℕ) (amount : ℤ) (ps : List Pair) → pos 0 ≤ℤ amount → first_sum k (cons_positive i j amount ps) ≡ (if i == k then amount else pos 0) +ℤ first_sum k ps
-first_sum-cons i j k amount ps h = either (int_lt (pos 0) amount) refl
-  where
-    either : (b : Bool) → int_lt (pos 0) amount ≡ b → first_sum k (cons_if b (record { first = i; second = j; amount = amount }) ps) ≡ (if i == k then amount else pos 0) +ℤ first_sum k ps
-    either true e = refl
-    either false e =
-        let none : amount ≡ pos 0 = omega (arith, ints) in
-        let term : (if i == k then amount else pos 0) ≡ pos 0 = ap (λ z. if i == k then z else pos 0) none ∙ same (i == k) in
-        omega (arith, ints)
-      where
-        same : (b : Bool) → (if b then pos 0 else pos 0) ≡ pos 0
-        same true = refl
-        same false = refl
-
--- amounts that add up to nothing are nothing
-zero_total : (xs : List ℤ) (a : ℕ) → NotNegative xs → int_sum_by (λ x. x) xs ≡ pos 0 → get_or xs a (pos 0) ≡ pos 0
-zero_total [] a h e = refl
-zero_total (x ∷ xs) zero h e =
-    let here = All-head (λ y. pos 0 ≤ℤ y) x xs h in
-    let rest = int_sum_by-not_negative (λ y. y) xs (All-tail (λ y. pos 0 ≤ℤ y) x xs h) in
-    omega (arith, ints)
-zero_total (x ∷ xs) (suc a) h e =
-    let here = All-head (λ y. pos 0 ≤ℤ y) x xs h in
-    let behind = All-tail (λ y. pos 0 ≤ℤ y) x xs h in
-    let rest = int_sum_by-not_negative (λ y. y) xs behind in
-    zero_total xs a behind (omega (arith, ints))
-
-not_here : (i j k : ℕ) (us vs : List ℤ) (ps : List Pair) → k < i → All (IsOverlapFrom i j us vs) ps → first_sum k ps ≡ pos 0
-not_here i j k us vs ps before h =
-    int_sum_by-zero (λ p. if p.first == k then p.amount else pos 0) ps
-    (λ n d within.
-    let p = get_or ps n d in
-    let e = h n d within in
-    let first = e.first in
-    ap (λ b. if b then p.amount else pos 0) (ne_eqb p.first k (λ same. omega arith)))
-
--- along lists of one total, each amount of the first list is given away whole
-walk_first_sum : {i j : ℕ} {us vs : List ℤ} {ps : List Pair} → Walks i us j vs ps → NotNegative us → NotNegative vs → int_sum_by (λ x. x) us ≡ int_sum_by (λ x. x) vs → (a k : ℕ) → k ≡ i + a → a < length us → first_sum k ps ≡ get_or us a (pos 0)
-walk_first_sum first_done h k e a n is within = absurd (omega arith)
-walk_first_sum {us = us} second_done h k e a n is within = sym (zero_total us a h e)
-walk_first_sum {i} {j} (first_ends {u = u} {v = v} {us = us} {vs = vs} {ps = ps} le rest) h k e zero n is within =
-    let here = All-head (λ x. pos 0 ≤ℤ x) u us h in
-    let behind = All-tail (λ x. pos 0 ≤ℤ x) u us h in
-    let others = All-cons (λ x. pos 0 ≤ℤ x) (v -ℤ u) vs (omega (arith, ints)) (All-tail (λ x. pos 0 ≤ℤ x) v vs k) in
-    let same : i ≡ n = omega arith in
-    let one : (if i == n then u else pos 0) ≡ u = ap (λ b. if b then u else pos 0) (eq-eqb i n same) in
-    let none = not_here (suc i) j n us ((v -ℤ u) ∷ vs) ps (omega arith) (walk_each rest behind others) in
-    let cons = first_sum-cons i j n u ps here in
-    omega (arith, ints)
-walk_first_sum {i} {j} (first_ends {u = u} {v = v} {us = us} {vs = vs} {ps = ps} le rest) h k e (suc a) n is within =
-    let here = All-head (λ x. pos 0 ≤ℤ x) u us h in
-    let behind = All-tail (λ x. pos 0 ≤ℤ x) u us h in
-    let others = All-cons (λ x. pos 0 ≤ℤ x) (v -ℤ u) vs (omega (arith, ints)) (All-tail (λ x. pos 0 ≤ℤ x) v vs k) in
-    let none : (if i == n then u else pos 0) ≡ pos 0 = ap (λ b. if b then u else pos 0) (ne_eqb i n (λ same. omega arith)) in
-    let later = walk_first_sum rest behind others (omega (arith, ints)) a n (omega arith) (omega (arith, within)) in
-    let cons = first_sum-cons i j n u ps here in
-    omega (arith, ints)
-walk_first_sum {i} {j} (second_ends {u = u} {v = v} {us = us} {vs = vs} {ps = ps} le rest) h k e zero n is within =
-    let here = All-head (λ x. pos 0 ≤ℤ x) v vs k in
-    let behind = All-tail (λ x. pos 0 ≤ℤ x) v vs k in
-    let others = All-cons (λ x. pos 0 ≤ℤ x) (u -ℤ v) us (omega (arith, ints)) (All-tail (λ x. pos 0 ≤ℤ x) u us h) in
-    let same : i ≡ n = omega arith in
-    let one : (if i == n then v else pos 0) ≡ v = ap (λ b. if b then v else pos 0) (eq-eqb i n same) in
-    let later = walk_first_sum rest others behind (omega (arith, ints)) 0 n is (omega arith) in
-    let cons = first_sum-cons i j n v ps here in
-    omega (arith, ints)
-walk_first_sum {i} {j} (second_ends {u = u} {v = v} {us = us} {vs = vs} {ps = ps} le rest) h k e (suc a) n is within =
-    let here = All-head (λ x. pos 0 ≤ℤ x) v vs k in
-    let behind = All-tail (λ x. pos 0 ≤ℤ x) v vs k in
-    let others = All-cons (λ x. pos 0 ≤ℤ x) (u -ℤ v) us (omega (arith, ints)) (All-tail (λ x. pos 0 ≤ℤ x) u us h) in
-    let none : (if i == n then v else pos 0) ≡ pos 0 = ap (λ b. if b then v else pos 0) (ne_eqb i n (λ same. omega arith)) in
-    let later = walk_first_sum rest others behind (omega (arith, ints)) (suc a) n is within in
-    let cons = first_sum-cons i j n v ps here in
-    omega (arith, ints)
-
--- the same walk with the two lists exchanged
-abbrev pub turned : Pair → Pair
-turned p = record { first = p.second; second = p.first; amount = p.amount }
-
-turned-cons_if : (b : Bool) (i j : ℕ) (amount : ℤ) (ps : List Pair) → cons_if b (record { first = j; second = i; amount = amount }) (map turned ps) ≡ map turned (cons_if b (record { first = i; second = j; amount = amount }) ps)
-turned-cons_if true i j amount ps = refl
-turned-cons_if false i j amount ps = refl
-
-turned_walk : {i j : ℕ} {us vs : List ℤ} {ps : List Pair} → Walks i us j vs ps → Walks j vs i us (map turned ps)
-turned_walk first_done = second_done
-turned_walk second_done = first_done
-turned_walk {i} {j} (first_ends {u = u} {v = v} {us = us} {vs = vs} {ps = ps} le rest) =
-    subst (Walks j (v ∷ vs) i (u ∷ us)) (turned-cons_if (int_lt (pos 0) u) i j u ps) (second_ends le (turned_walk rest))
-turned_walk {i} {j} (second_ends {u = u} {v = v} {us = us} {vs = vs} {ps = ps} le rest) =
-    subst (Walks j (v ∷ vs) i (u ∷ us)) (turned-cons_if (int_lt (pos 0) v) i j v ps) (first_ends le (turned_walk rest))
+-- ---- the pairs of a walk
 
 -- two pairs do not stand before each other
 pair_one_way : (p q : Pair) → pair_before p q → pair_before q p → ⊥
@@ -334,87 +104,256 @@ pair_one_way p q (inl h) (inr k) = omega (arith, k.0)
 pair_one_way p q (inr h) (inl k) = omega (arith, h.0)
 pair_one_way p q (inr h) (inr k) = omega (arith, h.1, k.1)
 
--- the overlaps of two lists are one list, that of the walk
-overlaps_walk : (us vs : List ℤ) (ps : List Pair) → NotNegative us → NotNegative vs → ListsOverlaps us vs ps → Walks 0 us 0 vs ps
-overlaps_walk us vs ps h k lists =
-    let (qs, walk) = some_walk 0 us 0 vs in
-    subst (Walks 0 us 0 vs) (Lists-unique pair_before pair_one_way (IsOverlap us vs) qs ps (ListsOverlaps-walk walk h k) lists) walk
+same_pair : (i j a b : ℕ) (x y : ℤ) → i ≡ a → j ≡ b → x ≡ y → ◌≡◌ {A = Pair} (record { first = i; second = j; amount = x }) (record { first = a; second = b; amount = y })
+same_pair i j a b x y p q r n = record { first = p n; second = q n; amount = r n }
 
--- what the overlaps of one place add up to, where both lists have one total
-pub overlaps_first : (us vs : List ℤ) (ps : List Pair) → NotNegative us → NotNegative vs → int_sum_by (λ x. x) us ≡ int_sum_by (λ x. x) vs → ListsOverlaps us vs ps → (a : ℕ) → a < length us → int_sum_by (λ p. if p.first == a then p.amount else pos 0) ps ≡ get_or us a (pos 0)
-overlaps_first us vs ps h k e lists a within = walk_first_sum (overlaps_walk us vs ps h k lists) h k e a a (omega arith) within
+-- an overlap that ends no later than a point
+pub record EndsBy (us vs : List ℤ) (at : ℤ) (r : Pair) : Type 0 where
+  pub overlaps : IsOverlap us vs r
+  pub ends : int_min (begin_of us (suc r.first)) (begin_of vs (suc r.second)) ≤ℤ at
 
-pub overlaps_second : (us vs : List ℤ) (ps : List Pair) → NotNegative us → NotNegative vs → int_sum_by (λ x. x) us ≡ int_sum_by (λ x. x) vs → ListsOverlaps us vs ps → (b : ℕ) → b < length vs → int_sum_by (λ p. if p.second == b then p.amount else pos 0) ps ≡ get_or vs b (pos 0)
-overlaps_second us vs ps h k e lists b within =
-    sym (int_sum_by-map (λ p. if p.first == b then p.amount else pos 0) turned ps)
-    ∙ walk_first_sum (turned_walk (overlaps_walk us vs ps h k lists)) k h (sym e) b b (omega arith) within
+-- what the pairs with an index give
+abbrev pub sum_at : (Pair → ℕ) → ℕ → List Pair → ℤ
+sum_at index a ps = int_sum_by (λ r. if index r == a then r.amount else pos 0) ps
 
--- and there is such a list
-pub some_overlaps : (us vs : List ℤ) → NotNegative us → NotNegative vs → (ps : List Pair) × ListsOverlaps us vs ps
-some_overlaps us vs h k = let (ps, walk) = some_walk 0 us 0 vs in (ps, ListsOverlaps-walk walk h k)
+sum_at-push : (index : Pair → ℕ) (a : ℕ) (ps : List Pair) (i j : ℕ) (amount : ℤ) → pos 0 ≤ℤ amount
+    → sum_at index a (ps ++ cons_positive i j amount []) ≡ sum_at index a ps +ℤ (if index (record { first = i; second = j; amount = amount }) == a then amount else pos 0)
+sum_at-push index a ps i j amount some =
+    int_sum_by-append (λ r. if index r == a then r.amount else pos 0) ps (cons_positive i j amount []) ∙ ap (λ z. sum_at index a ps +ℤ z) (either (int_lt (pos 0) amount) refl)
+  where
+    r : Pair
+    r = record { first = i; second = j; amount = amount }
 
--- ---- the walk as it is made
+    either : (b : Bool) → int_lt (pos 0) amount ≡ b → sum_at index a (cons_if b r []) ≡ (if index r == a then amount else pos 0)
+    either true e = omega (arith, ints)
+    either false e = sym (if_zero (index r == a) amount (omega (arith, ints)))
 
--- what is left of a list whose first amount has given some
-abbrev pub left_of : ℤ → List ℤ → List ℤ
-left_of given [] = []
-left_of given (x ∷ xs) = (x -ℤ given) ∷ xs
+-- a walk that has come so far along both lists, and its pairs: the overlaps that begin before its point
+pub record IsWalk (us vs : List ℤ) (p q : Progress) (ps : List Pair) : Type 0 where
+  pub at : ℤ
+  pub first : Stands us p at
+  pub second : Stands vs q at
+  pub begins : int_max (begin_of us p.index) (begin_of vs q.index) ≡ at
+  pub each : All (EndsBy us vs at) ps
+  pub every : (a b : ℕ) → pos 0 <ℤ overlap us vs a b → int_max (begin_of us a) (begin_of vs b) <ℤ at → Contains ps (record { first = a; second = b; amount = overlap us vs a b })
+  pub ordered : AllPairs pair_before ps
+  pub firsts : (a : ℕ) → sum_at (λ r. r.first) a ps ≡ part_before us at a
+  pub seconds : (b : ℕ) → sum_at (λ r. r.second) b ps ≡ part_before vs at b
 
-left_of-none : (xs : List ℤ) → left_of (pos 0) xs ≡ xs
-left_of-none [] = refl
-left_of-none (x ∷ xs) = let same : x -ℤ pos 0 ≡ x = omega (arith, ints) in ap (λ y. y ∷ xs) same
+-- the lesser of what both amounts have left is within both
+pub within_both : (us vs : List ℤ) (p q : Progress) (ps : List Pair) (more : ℤ) → more ≡ int_min (get_or us p.index (pos 0) -ℤ p.given) (get_or vs q.index (pos 0) -ℤ q.given) → IsWalk us vs p q ps
+    → IsWithin us (record { index = p.index; given = p.given +ℤ more }) × IsWithin vs (record { index = q.index; given = q.given +ℤ more })
+within_both us vs p q ps more is walk =
+    let one = walk.first.within in
+    let other = walk.second.within in
+    (record { from = omega (arith, ints, clamps); upto = omega (arith, ints, clamps) }, record { from = omega (arith, ints, clamps); upto = omega (arith, ints, clamps) })
 
--- the pairs so far, followed by those of a walk along what is left, are those of the whole walk
-abbrev pub IsWalked : List ℤ → List ℤ → ℕ → ℕ → ℤ → ℤ → List Pair → Type 0
-IsWalked firsts seconds i j first_given second_given pairs =
-    (ps : List Pair) → Walks i (left_of first_given (drop i firsts)) j (left_of second_given (drop j seconds)) ps → Walks 0 firsts 0 seconds (pairs ++ ps)
+-- how many amounts stand before the ends of the lists
+abbrev pub still_left : List ℤ → List ℤ → Progress → Progress → ℕ
+still_left us vs p q = (length us - p.index) + (length vs - q.index)
 
-pub IsWalked-none : (firsts seconds : List ℤ) → IsWalked firsts seconds 0 0 (pos 0) (pos 0) []
-IsWalked-none firsts seconds ps walk = subst₂ (λ us vs. Walks 0 us 0 vs ps) (left_of-none firsts) (left_of-none seconds) walk
+-- a walk that has come nearer to its end
+pub record IsNearer (us vs : List ℤ) (left : ℕ) (p q : Progress) (ps : List Pair) : Type 0 where
+  pub walk : IsWalk us vs p q ps
+  pub nearer : still_left us vs p q < left
 
-pub IsWalked-first : (firsts seconds : List ℤ) (i j : ℕ) (fg sg u v : ℤ) (now next : List Pair) → i < length firsts → j < length seconds → u ≡ get_or firsts i (pos 0) -ℤ fg → v ≡ get_or seconds j (pos 0) -ℤ sg → u ≤ℤ v → next ≡ now ++ cons_positive i j u [] → IsWalked firsts seconds i j fg sg now → IsWalked firsts seconds (i + 1) j (pos 0) (sg +ℤ u) next
-IsWalked-first firsts seconds i j fg sg u v now next first_within second_within is_u is_v le pushed walked ps walk =
-    let us = drop (i + 1) firsts in
-    let vs = drop (j + 1) seconds in
-    let first = drop_more firsts i (pos 0) first_within in
-    let second = drop_more seconds j (pos 0) second_within in
-    let left : get_or seconds j (pos 0) -ℤ (sg +ℤ u) ≡ v -ℤ u = omega (arith, ints) in
-    let seconds_left : left_of (sg +ℤ u) (drop j seconds) ≡ (v -ℤ u) ∷ vs = ap (left_of (sg +ℤ u)) second ∙ ap (λ y. y ∷ vs) left in
-    let rest = subst₂ (λ xs ys. Walks (i + 1) xs j ys ps) (left_of-none us) seconds_left walk in
-    let count : i + 1 ≡ suc i = omega arith in
-    let longer = first_ends le (subst (λ n. Walks n us j ((v -ℤ u) ∷ vs) ps) count rest) in
-    let firsts_left : (u ∷ us) ≡ left_of fg (drop i firsts) = ap (λ x. x ∷ us) is_u ∙ sym (ap (left_of fg) first) in
-    let others_left : (v ∷ vs) ≡ left_of sg (drop j seconds) = ap (λ y. y ∷ vs) is_v ∙ sym (ap (left_of sg) second) in
-    let whole = walked (cons_positive i j u ps) (subst₂ (λ xs ys. Walks i xs j ys (cons_positive i j u ps)) firsts_left others_left longer) in
-    let joined : now ++ cons_positive i j u ps ≡ next ++ ps =
-    ap (λ qs. now ++ qs) (sym (cons_if-append (int_lt (pos 0) u) (record { first = i; second = j; amount = u }) [] ps))
-    ∙ sym (append_assoc now (cons_positive i j u []) ps) ∙ ap (λ qs. qs ++ ps) (sym pushed) in
-    subst (Walks 0 firsts 0 seconds) joined whole
+module _ (us vs : List ℤ) (h : NotNegative us) (k : NotNegative vs) where
+  pub IsWalk-none : IsWalk us vs (record { index = 0; given = pos 0 }) (record { index = 0; given = pos 0 }) []
+  IsWalk-none =
+      let us_from = λ (a : ℕ). begin_of-rises us h 0 a (omega arith) in
+      let vs_from = λ (b : ℕ). begin_of-rises vs k 0 b (omega arith) in
+      record {
+        at = pos 0;
+        first = record { within = record { from = omega (arith, ints); upto = let span = begin_of-suc us 0 in let upto = us_from 1 in omega (arith, ints) }; given = refl };
+        second = record { within = record { from = omega (arith, ints); upto = let span = begin_of-suc vs 0 in let upto = vs_from 1 in omega (arith, ints) }; given = refl };
+        begins = omega (arith, ints, clamps);
+        each = All-nil (EndsBy us vs (pos 0));
+        every = λ a b positive before. let from = us_from a in absurd (omega (arith, ints, clamps));
+        ordered = AllPairs-nil pair_before;
+        firsts = λ a. let from = us_from a in let upto = us_from (suc a) in omega (arith, ints, clamps);
+        seconds = λ b. let from = vs_from b in let upto = vs_from (suc b) in omega (arith, ints, clamps);
+      }
 
-pub IsWalked-second : (firsts seconds : List ℤ) (i j : ℕ) (fg sg u v : ℤ) (now next : List Pair) → i < length firsts → j < length seconds → u ≡ get_or firsts i (pos 0) -ℤ fg → v ≡ get_or seconds j (pos 0) -ℤ sg → v ≤ℤ u → next ≡ now ++ cons_positive i j v [] → IsWalked firsts seconds i j fg sg now → IsWalked firsts seconds i (j + 1) (fg +ℤ v) (pos 0) next
-IsWalked-second firsts seconds i j fg sg u v now next first_within second_within is_u is_v le pushed walked ps walk =
-    let us = drop (i + 1) firsts in
-    let vs = drop (j + 1) seconds in
-    let first = drop_more firsts i (pos 0) first_within in
-    let second = drop_more seconds j (pos 0) second_within in
-    let left : get_or firsts i (pos 0) -ℤ (fg +ℤ v) ≡ u -ℤ v = omega (arith, ints) in
-    let firsts_left : left_of (fg +ℤ v) (drop i firsts) ≡ (u -ℤ v) ∷ us = ap (left_of (fg +ℤ v)) first ∙ ap (λ y. y ∷ us) left in
-    let rest = subst₂ (λ xs ys. Walks i xs (j + 1) ys ps) firsts_left (left_of-none vs) walk in
-    let count : j + 1 ≡ suc j = omega arith in
-    let longer = second_ends le (subst (λ n. Walks i ((u -ℤ v) ∷ us) n vs ps) count rest) in
-    let ones_left : (u ∷ us) ≡ left_of fg (drop i firsts) = ap (λ x. x ∷ us) is_u ∙ sym (ap (left_of fg) first) in
-    let others_left : (v ∷ vs) ≡ left_of sg (drop j seconds) = ap (λ y. y ∷ vs) is_v ∙ sym (ap (left_of sg) second) in
-    let whole = walked (cons_positive i j v ps) (subst₂ (λ xs ys. Walks i xs j ys (cons_positive i j v ps)) ones_left others_left longer) in
-    let joined : now ++ cons_positive i j v ps ≡ next ++ ps =
-    ap (λ qs. now ++ qs) (sym (cons_if-append (int_lt (pos 0) v) (record { first = i; second = j; amount = v }) [] ps))
-    ∙ sym (append_assoc now (cons_positive i j v []) ps) ∙ ap (λ qs. qs ++ ps) (sym pushed) in
-    subst (Walks 0 firsts 0 seconds) joined whole
+  -- the amounts where a walk stands give the lesser of what they have left
+  module _ (p q : Progress) (ps : List Pair) (more : ℤ) (first : p.index < length us) (second : q.index < length vs) (is : more ≡ int_min (get_or us p.index (pos 0) -ℤ p.given) (get_or vs q.index (pos 0) -ℤ q.given)) (walk : IsWalk us vs p q ps) where
+    abbrev here : Pair
+    here = record { first = p.index; second = q.index; amount = more }
 
--- where one of the lists has come to its end, the walk is whole
-pub IsWalked-all : (firsts seconds : List ℤ) (i j : ℕ) (fg sg : ℤ) (pairs : List Pair) → (length firsts ≤ i) ⊎ (length seconds ≤ j) → IsWalked firsts seconds i j fg sg pairs → Walks 0 firsts 0 seconds pairs
-IsWalked-all firsts seconds i j fg sg pairs (inl end) walked =
-    let none = drop_all i firsts end in
-    subst (Walks 0 firsts 0 seconds) (append-nil pairs) (walked [] (subst (λ us. Walks i (left_of fg us) j (left_of sg (drop j seconds)) []) (sym none) first_done))
-IsWalked-all firsts seconds i j fg sg pairs (inr end) walked =
-    let none = drop_all j seconds end in
-    subst (Walks 0 firsts 0 seconds) (append-nil pairs) (walked [] (subst (λ vs. Walks i (left_of fg (drop i firsts)) j (left_of sg vs) []) (sym none) second_done))
+    abbrev pushed : List Pair
+    pushed = cons_positive p.index q.index more []
+
+    -- the next point where an amount ends
+    abbrev next : ℤ
+    next = int_min (begin_of us (suc p.index)) (begin_of vs (suc q.index))
+
+    -- where the walk stands
+    record Knows : Type 0 where
+      us_from : begin_of us p.index ≤ℤ walk.at
+      vs_from : begin_of vs q.index ≤ℤ walk.at
+      us_upto : next ≤ℤ begin_of us (suc p.index)
+      vs_upto : next ≤ℤ begin_of vs (suc q.index)
+      goes : walk.at ≤ℤ next
+      gives : more ≡ next -ℤ walk.at
+      overlaps : overlap us vs p.index q.index ≡ more
+
+    knows : Knows
+    knows =
+        let us_end = begin_of-suc us p.index in
+        let vs_end = begin_of-suc vs q.index in
+        let us_given = walk.first.given in
+        let vs_given = walk.second.given in
+        let us_within = walk.first.within in
+        let vs_within = walk.second.within in
+        let begins = walk.begins in
+        record {
+          us_from = omega (arith, ints);
+          vs_from = omega (arith, ints);
+          us_upto = omega (arith, ints, clamps);
+          vs_upto = omega (arith, ints, clamps);
+          goes = omega (arith, ints, clamps);
+          gives = omega (arith, ints, clamps);
+          overlaps = omega (arith, ints, clamps);
+        }
+
+    ends_here : pos 0 <ℤ more → EndsBy us vs next here
+    ends_here positive = record { overlaps = record { first_within = first; second_within = second; amount = sym knows.overlaps; positive = positive }; ends = omega (arith, ints) }
+
+    later : (r : Pair) → EndsBy us vs walk.at r → pos 0 <ℤ more → pair_before r here
+    later r e positive = by (cases_lt r.first p.index) (cases_lt r.second q.index)
+      where
+        begins : (begin_of us r.first <ℤ walk.at) × (begin_of vs r.second <ℤ walk.at)
+        begins = let some = e.overlaps.positive in let amount = e.overlaps.amount in let ends = e.ends in (omega (arith, ints, clamps), omega (arith, ints, clamps))
+
+        firsts : r.first ≤ p.index
+        firsts = let before = begins.0 in let now = knows in index_upto us h r.first p.index (omega (arith, ints))
+
+        seconds : r.second ≤ q.index
+        seconds = let before = begins.1 in let now = knows in index_upto vs k r.second q.index (omega (arith, ints))
+
+        by : (r.first < p.index) ⊎ (p.index ≤ r.first) → (r.second < q.index) ⊎ (q.index ≤ r.second) → pair_before r here
+        by (inl before) other = inl before
+        by (inr from) (inl before) = inr (omega (arith, firsts, from), before)
+        by (inr from) (inr behind) =
+            let us_end = ap (λ a. begin_of us (suc a)) {x = r.first} {y = p.index} (omega (arith, firsts, from)) in
+            let vs_end = ap (λ b. begin_of vs (suc b)) {x = r.second} {y = q.index} (omega (arith, seconds, behind)) in
+            let ends = e.ends in
+            let now = knows in
+            absurd (omega (arith, ints, clamps))
+
+    -- an overlap that begins between the two points is that of the two amounts
+    found : (a b : ℕ) → pos 0 <ℤ overlap us vs a b → walk.at ≤ℤ int_max (begin_of us a) (begin_of vs b) → int_max (begin_of us a) (begin_of vs b) <ℤ next → Contains pushed (record { first = a; second = b; amount = overlap us vs a b })
+    found a b positive from upto =
+        let now = knows in
+        let us_upto = index_upto us h a p.index (omega (arith, ints, clamps)) in
+        let us_from = index_upto us h p.index a (omega (arith, ints, clamps)) in
+        let vs_upto = index_upto vs k b q.index (omega (arith, ints, clamps)) in
+        let vs_from = index_upto vs k q.index b (omega (arith, ints, clamps)) in
+        let one : p.index ≡ a = omega (arith, us_upto, us_from) in
+        let two : q.index ≡ b = omega (arith, vs_upto, vs_from) in
+        let amount : more ≡ overlap us vs a b = sym knows.overlaps ∙ ap₂ (overlap us vs) one two in
+        subst (Contains pushed) (same_pair p.index q.index a b more (overlap us vs a b) one two amount)
+        (Contains-cons_if_here (int_lt (pos 0) more) here [] (int_lt-from (pos 0) more (omega (arith, ints))))
+
+    pub IsWalk-more : IsNearer us vs (still_left us vs p q) (progress_after us p more) (progress_after vs q more) (ps ++ cons_positive p.index q.index more [])
+    IsWalk-more =
+        let now = knows in
+        let one = goes_on us p walk.at next more h walk.first now.goes now.us_upto now.gives in
+        let other = goes_on vs q walk.at next more k walk.second now.goes now.vs_upto now.gives in
+        let test = int_lt (pos 0) more in
+        let some : pos 0 ≤ℤ more = omega (arith, ints) in
+        let begins : (int_max (begin_of us (progress_after us p more).index) (begin_of vs (progress_after vs q more).index) ≡ next) × (still_left us vs (progress_after us p more) (progress_after vs q more) < still_left us vs p q) = by_lt_z (begin_of vs (suc q.index)) (begin_of us (suc p.index))
+        (λ less. let ends = other.ends (omega (arith, ints, clamps)) in let begin = ap (begin_of vs) ends in let within = one.stands.within in let given = one.stands.given in (omega (arith, ints, clamps), omega (arith, first, second, ends, one.behind)))
+        (λ most. let ends = one.ends (omega (arith, ints, clamps)) in let begin = ap (begin_of us) ends in let within = other.stands.within in let given = other.stands.given in (omega (arith, ints, clamps), omega (arith, first, second, ends, other.behind))) in
+        record {
+          walk = record {
+            at = next;
+            first = one.stands;
+            second = other.stands;
+            begins = begins.0;
+            each = All-append (EndsBy us vs next) ps pushed
+                (All-weaker (EndsBy us vs walk.at) (EndsBy us vs next) (λ r e. record { overlaps = e.overlaps; ends = let ends = e.ends in omega (arith, ints) }) ps walk.each)
+                (All-cons_if (EndsBy us vs next) test here [] (λ e. ends_here (int_lt-true (pos 0) more e)) (All-nil (EndsBy us vs next)));
+            every = λ a b positive upto. by_lt_z (int_max (begin_of us a) (begin_of vs b)) walk.at
+                (λ before. Contains-append_left ps pushed _ (walk.every a b positive before))
+                (λ from. Contains-append_right ps pushed _ (found a b positive from upto));
+            ordered = AllPairs-append pair_before ps pushed walk.ordered
+                (AllPairs-cons_if pair_before test here [] (λ e. All-nil (pair_before here)) (AllPairs-nil pair_before))
+                (λ n d within. All-cons_if (pair_before (get_or ps n d)) test here [] (λ e. later (get_or ps n d) (walk.each n d within) (int_lt-true (pos 0) more e)) (All-nil (pair_before (get_or ps n d))));
+            firsts = λ a. sum_at-push (λ r. r.first) a ps p.index q.index more some ∙ ap (λ z. z +ℤ (if p.index == a then more else pos 0)) (walk.firsts a)
+                ∙ sym (part_before-moved us h p.index a walk.at next more now.us_from now.goes now.us_upto now.gives);
+            seconds = λ b. sum_at-push (λ r. r.second) b ps p.index q.index more some ∙ ap (λ z. z +ℤ (if q.index == b then more else pos 0)) (walk.seconds b)
+                ∙ sym (part_before-moved vs k q.index b walk.at next more now.vs_from now.goes now.vs_upto now.gives);
+          };
+          nearer = begins.1;
+        }
+
+  -- a walk that has come to the end of a list
+  record Ended : Type 0 where
+    p : Progress
+    q : Progress
+    ps : List Pair
+    end : (length us ≤ p.index) ⊎ (length vs ≤ q.index)
+    walk : IsWalk us vs p q ps
+
+  go_on : (n : ℕ) (p q : Progress) (ps : List Pair) → still_left us vs p q ≤ n → IsWalk us vs p q ps → Ended
+  go_on zero p q ps few walk = record { p = p; q = q; ps = ps; end = inl (omega (arith, few)); walk = walk }
+  go_on (suc n) p q ps few walk = by (cases_lt p.index (length us)) (cases_lt q.index (length vs)) (go_on n)
+    where
+      by : (p.index < length us) ⊎ (length us ≤ p.index) → (q.index < length vs) ⊎ (length vs ≤ q.index) → ((p' q' : Progress) (ps' : List Pair) → still_left us vs p' q' ≤ n → IsWalk us vs p' q' ps' → Ended) → Ended
+      by (inr end) other later = record { p = p; q = q; ps = ps; end = inl end; walk = walk }
+      by (inl first) (inr end) later = record { p = p; q = q; ps = ps; end = inr end; walk = walk }
+      by (inl first) (inl second) later = let step = IsWalk-more p q ps _ first second refl walk in later _ _ _ (omega (arith, step.nearer, few)) step.walk
+
+  ended : Ended
+  ended = let none : Progress = record { index = 0; given = pos 0 } in go_on (still_left us vs none none) none none [] (omega arith) IsWalk-none
+
+  -- its point is behind every overlap, so it has all of them
+  pub ListsOverlaps-walk : (p q : Progress) (ps : List Pair) → (length us ≤ p.index) ⊎ (length vs ≤ q.index) → IsWalk us vs p q ps → ListsOverlaps us vs ps
+  ListsOverlaps-walk p q ps end walk = record {
+    ordered = walk.ordered;
+    each = All-weaker (EndsBy us vs walk.at) (IsOverlap us vs) (λ r e. e.overlaps) ps walk.each;
+    every = λ r e.
+        let amount = e.amount in
+        let positive = e.positive in
+        let ends = past end r.first r.second e.first_within e.second_within in
+        subst (Contains ps) (same_pair r.first r.second r.first r.second (overlap us vs r.first r.second) r.amount refl refl (sym amount)) (walk.every r.first r.second (omega (arith, ints)) (omega (arith, ints, clamps)));
+  }
+    where
+      past : (length us ≤ p.index) ⊎ (length vs ≤ q.index) → (a b : ℕ) → a < length us → b < length vs → int_min (begin_of us (suc a)) (begin_of vs (suc b)) ≤ℤ walk.at
+      past (inl end) a b first second = let within = walk.first.within in let given = walk.first.given in let rises = begin_of-rises us h (suc a) p.index (omega (arith, first, end)) in omega (arith, ints, clamps)
+      past (inr end) a b first second = let within = walk.second.within in let given = walk.second.given in let rises = begin_of-rises vs k (suc b) q.index (omega (arith, second, end)) in omega (arith, ints, clamps)
+
+  -- there is a list of the overlaps
+  pub some_overlaps : (ps : List Pair) × ListsOverlaps us vs ps
+  some_overlaps = (ended.ps, ListsOverlaps-walk ended.p ended.q ended.ps ended.end ended.walk)
+
+-- ---- what the pairs of one index add up to, where both lists have one total
+
+-- the part of a span before the point where a walk ended is all of it
+all_before : (xs ys : List ℤ) → NotNegative xs → NotNegative ys → int_sum_by (λ x. x) xs ≡ int_sum_by (λ x. x) ys → (p q : Progress) (at : ℤ) → Stands xs p at → Stands ys q at → (length xs ≤ p.index) ⊎ (length ys ≤ q.index) → (a : ℕ) → a < length xs → part_before xs at a ≡ get_or xs a (pos 0)
+all_before xs ys h k total p q at stands other end a within = let before = past end in let own = begin_of-next xs h a in let span = begin_of-suc xs a in omega (arith, ints, clamps)
+  where
+    past : (length xs ≤ p.index) ⊎ (length ys ≤ q.index) → begin_of xs (suc a) ≤ℤ at
+    past (inl end) = let inside = stands.within in let given = stands.given in let rises = begin_of-rises xs h (suc a) p.index (omega (arith, within, end)) in omega (arith, ints)
+    past (inr end) =
+        let inside = other.within in
+        let given = other.given in
+        let all = ap (int_sum_by (λ x. x)) (take_all (length xs) xs (omega arith)) in
+        let other_all = ap (int_sum_by (λ x. x)) (take_all (length ys) ys (omega arith)) in
+        let rises = begin_of-rises xs h (suc a) (length xs) (omega (arith, within)) in
+        let other_rises = begin_of-rises ys k (length ys) q.index end in
+        omega (arith, ints)
+
+module _ (us vs : List ℤ) (ps : List Pair) (h : NotNegative us) (k : NotNegative vs) (total : int_sum_by (λ x. x) us ≡ int_sum_by (λ x. x) vs) (lists : ListsOverlaps us vs ps) where
+  walked : Ended us vs h k
+  walked = ended us vs h k
+
+  -- the overlaps are one list, that of the walk
+  same : walked.ps ≡ ps
+  same = Lists-unique pair_before pair_one_way (IsOverlap us vs) walked.ps ps (ListsOverlaps-walk us vs h k walked.p walked.q walked.ps walked.end walked.walk) lists
+
+  pub overlaps_first : (a : ℕ) → a < length us → int_sum_by (λ p. if p.first == a then p.amount else pos 0) ps ≡ get_or us a (pos 0)
+  overlaps_first a within = sym (ap (sum_at (λ r. r.first) a) same) ∙ walked.walk.firsts a ∙ all_before us vs h k total walked.p walked.q walked.walk.at walked.walk.first walked.walk.second walked.end a within
+
+  pub overlaps_second : (b : ℕ) → b < length vs → int_sum_by (λ p. if p.second == b then p.amount else pos 0) ps ≡ get_or vs b (pos 0)
+  overlaps_second b within = sym (ap (sum_at (λ r. r.second) b) same) ∙ walked.walk.seconds b ∙ all_before vs us k h (sym total) walked.q walked.p walked.walk.at walked.walk.second walked.walk.first (⊎_elim inr inl walked.end) b within

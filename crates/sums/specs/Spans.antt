@@ -8,22 +8,22 @@ use Rattle.sums.specs.Sum.{int_sum_by}
 abbrev pub NotNegative : List ℤ → Type 0
 NotNegative = All (λ x. pos 0 ≤ℤ x)
 
--- where the span of the amount at place i begins: the sum of the amounts before it. It ends where the next one begins
+-- where the span of the amount at index i begins: the sum of the amounts before it. It ends where the next one begins
 abbrev pub begin_of : List ℤ → ℕ → ℤ
 begin_of amounts i = int_sum_by (λ x. x) (take i amounts)
 
--- the length that the span at place i of the one list shares with the span at place j of the other; not above 0 where they share none
+-- the length that the span at index i of the one list shares with the span at index j of the other; not above 0 where they share none
 abbrev pub overlap : List ℤ → List ℤ → ℕ → ℕ → ℤ
 overlap firsts seconds i j = int_min (begin_of firsts (suc i)) (begin_of seconds (suc j)) -ℤ int_max (begin_of firsts i) (begin_of seconds j)
 
--- two places whose spans overlap, with the length that they share
+-- two indices whose spans overlap, with the length that they share
 pub record IsOverlap (firsts seconds : List ℤ) (p : Pair) : Type 0 where
-  pub first_place : p.first < length firsts
-  pub second_place : p.second < length seconds
+  pub first_within : p.first < length firsts
+  pub second_within : p.second < length seconds
   pub amount : p.amount ≡ overlap firsts seconds p.first p.second
   pub positive : pos 0 <ℤ p.amount
 
--- by the first place, then by the second
+-- by the first index, then by the second
 abbrev pub pair_before : Pair → Pair → Type 0
 pair_before p q = (p.first < q.first) ⊎ ((p.first ≡ q.first) × (p.second < q.second))
 

@@ -1,0 +1,67 @@
+-- Elements of lists by their indices, and options.
+use Rattle.std.proofs.Common.{◌≡◌, ◌∙◌, ◌⊎◌, ⊎_elim, inl, inr, ℕ, zero, suc, ◌<◌, true, false, List, [], ◌∷◌, ◌++◌, length, take, Option, Some, None, is_some, refl, sym, ap, subst, arith}
+use Rattle.std.specs.Prelude.{All, Contains, slice_get}
+use Rattle.std.specs.List.{cons_option, filter_map, flat_map}
+use Rattle.std.specs.Option.{option_map, option_to_list}
+use Rattle.std.proofs.lemmas.List.Elements.{All-append, All-head, All-nil, All-tail, Contains-append_left, Contains-append_right, filter_map-append}
+use Rattle.std.proofs.lemmas.Option.{get_or_from_slice_get, slice_get_within}
+use Rattle.sums.proofs.OrderLemmas.{Contains-cons}
+
+module _ {X : Type 0} where
+  pub none_there : (o : Option X) → is_some o ≡ false → o ≡ None
+  none_there None e = refl
+  none_there (Some x) e = cc e
+
+  pub some_there : (o : Option X) → is_some o ≡ true → (x : X) × (o ≡ Some x)
+  some_there None e = cc e
+  some_there (Some x) e = (x, refl)
+
+  -- what stands in a list stands there too with more behind it, and in a front that is long enough
+  pub slice_get-append : (xs ys : List X) (i : ℕ) (x : X) → slice_get xs i ≡ Some x → slice_get (xs ++ ys) i ≡ Some x
+  slice_get-append [] ys i x at = cc at
+  slice_get-append (a ∷ xs) ys zero x at = at
+  slice_get-append (a ∷ xs) ys (suc i) x at = slice_get-append xs ys i x at
+
+  pub slice_get-take : (n : ℕ) (xs : List X) (i : ℕ) → i < n → slice_get (take n xs) i ≡ slice_get xs i
+  slice_get-take zero xs i early = absurd (omega (arith, early))
+  slice_get-take (suc n) [] i early = refl
+  slice_get-take (suc n) (x ∷ xs) zero early = refl
+  slice_get-take (suc n) (x ∷ xs) (suc i) early = slice_get-take n xs i (omega (arith, early))
+
+  pub slice_get_push : (xs : List X) (y : X) (i : ℕ) (x : X) → slice_get (xs ++ y ∷ []) i ≡ Some x → (slice_get xs i ≡ Some x) ⊎ ((i ≡ length xs) × (x ≡ y))
+  slice_get_push [] y zero x at = inr (refl, cc at)
+  slice_get_push [] y (suc i) x at = cc at
+  slice_get_push (a ∷ xs) y zero x at = inl at
+  slice_get_push (a ∷ xs) y (suc i) x at = ⊎_elim (λ here. inl here) (λ last. inr (ap suc last.0, last.1)) (slice_get_push xs y i x at)
+
+  -- what holds of each element holds of one at an index
+  pub All-slice_get : (P : X → Type 0) (xs : List X) (i : ℕ) (x : X) → All P xs → slice_get xs i ≡ Some x → P x
+  All-slice_get P xs i x each at = subst P (get_or_from_slice_get xs i x x at) (each i x (slice_get_within xs i x at))
+
+  pub Contains-slice_get : (xs : List X) (i : ℕ) (x : X) → slice_get xs i ≡ Some x → Contains xs x
+  Contains-slice_get xs i x at = (i, slice_get_within xs i x at, get_or_from_slice_get xs i x x at)
+
+module _ {X Y : Type 0} where
+  pub option_map-slice_get-append : (f : X → Y) (xs ys : List X) (i : ℕ) (y : Y) → option_map f (slice_get xs i) ≡ Some y → option_map f (slice_get (xs ++ ys) i) ≡ Some y
+  option_map-slice_get-append f [] ys i y at = cc at
+  option_map-slice_get-append f (x ∷ xs) ys zero y at = at
+  option_map-slice_get-append f (x ∷ xs) ys (suc i) y at = option_map-slice_get-append f xs ys i y at
+
+  -- one element more
+  pub filter_map-push : (f : X → Option Y) (xs : List X) (x : X) → filter_map f (xs ++ x ∷ []) ≡ filter_map f xs ++ option_to_list (f x)
+  filter_map-push f xs x = filter_map-append f xs (x ∷ []) ∙ ap (λ ys. filter_map f xs ++ ys) (alone (f x))
+    where
+      alone : (o : Option Y) → cons_option o [] ≡ option_to_list o
+      alone None = refl
+      alone (Some y) = refl
+
+  -- ---- lists joined end to end
+
+  pub All-flat_map : (P : Y → Type 0) (f : X → List Y) (xs : List X) → All (λ x. All P (f x)) xs → All P (flat_map f xs)
+  All-flat_map P f [] each = All-nil P
+  All-flat_map P f (x ∷ xs) each = All-append P (f x) (flat_map f xs) (All-head (λ z. All P (f z)) x xs each) (All-flat_map P f xs (All-tail (λ z. All P (f z)) x xs each))
+
+  pub Contains-flat_map : (f : X → List Y) (xs : List X) (x : X) (y : Y) → Contains xs x → Contains (f x) y → Contains (flat_map f xs) y
+  Contains-flat_map f [] x y (i, within, is) there = absurd (omega (arith, within))
+  Contains-flat_map f (z ∷ xs) x y found there =
+      ⊎_elim (λ same. Contains-append_left (f z) (flat_map f xs) y (subst (λ w. Contains (f w) y) (sym same) there)) (λ later. Contains-append_right (f z) (flat_map f xs) y (Contains-flat_map f xs x y later there)) (Contains-cons z xs x found)
