@@ -1,5 +1,6 @@
-pub mod Duality
-pub mod PriceLemmas
+pub mod Blanks
 pub mod CheckLemmas
 pub mod CostLemmas
+pub mod Duality
+pub mod RangeLemmas
 pub mod ReachLemmas

@@ -19,8 +19,8 @@ use Rattle.grid.specs.Part.{IsPartOf, AreParts}
 use Rattle.stream_case.specs.Source.{same_source}
 use Rattle.stream_case.proofs.SourceLemmas.{same_source-true}
 use Rattle.heat_flow.specs.Reach.{IsSourceOf, is_forbidden, part_reaches, both_reach, reach_between}
-use Rattle.heat_flow.specs.Cells.{source_place, ArePermissions, cell_rows}
-use Rattle.heat_flow.proofs.PriceLemmas.{blank}
+use Rattle.heat_flow.specs.Cells.{source_index, ArePermissions, cell_rows}
+use Rattle.heat_flow.proofs.Blanks.{blank}
 
 -- ---- the sources of forbidden matches
 
@@ -53,24 +53,24 @@ or_false : (b : Bool) → (b || false) ≡ b
 or_false true = refl
 or_false false = refl
 
-source_place-apart : (c : Case) (a b : Source) → IsSourceOf c a → IsSourceOf c b → same_source a b ≡ false → source_place c b ≢ source_place c a
-source_place-apart c (of_stream i) (of_stream j) h k apart e = eqb-false i j apart (sym e)
-source_place-apart c (of_stream i) (of_utility j) h k apart e = omega arith
-source_place-apart c (of_utility i) (of_stream j) h k apart e = omega arith
-source_place-apart c (of_utility i) (of_utility j) h k apart e = eqb-false i j apart (omega arith)
+source_index-apart : (c : Case) (a b : Source) → IsSourceOf c a → IsSourceOf c b → same_source a b ≡ false → source_index c b ≢ source_index c a
+source_index-apart c (of_stream i) (of_stream j) h k apart e = eqb-false i j apart (sym e)
+source_index-apart c (of_stream i) (of_utility j) h k apart e = omega arith
+source_index-apart c (of_utility i) (of_stream j) h k apart e = omega arith
+source_index-apart c (of_utility i) (of_utility j) h k apart e = eqb-false i j apart (omega arith)
 
-pub source_place-within : (c : Case) (s : Source) → IsSourceOf c s → source_place c s < length c.streams + length c.utilities
-source_place-within c (of_stream i) h = omega arith
-source_place-within c (of_utility i) h = omega arith
+pub source_index-within : (c : Case) (s : Source) → IsSourceOf c s → source_index c s < length c.streams + length c.utilities
+source_index-within c (of_stream i) h = omega arith
+source_index-within c (of_utility i) h = omega arith
 
 -- one more forbidden match of this hot source
-pub ArePermissions-more : (c : Case) (forbids : List Forbid) (hot : Source) (allowed : List Bool) (i : ℕ) (d : Forbid) → i < length forbids → IsSourceOf c (get_or forbids i d).cold → same_source (get_or forbids i d).hot hot ≡ true → ArePermissions c (take i forbids) hot allowed → ArePermissions c (take (i + 1) forbids) hot (set allowed (source_place c (get_or forbids i d).cold) false)
+pub ArePermissions-more : (c : Case) (forbids : List Forbid) (hot : Source) (allowed : List Bool) (i : ℕ) (d : Forbid) → i < length forbids → IsSourceOf c (get_or forbids i d).cold → same_source (get_or forbids i d).hot hot ≡ true → ArePermissions c (take i forbids) hot allowed → ArePermissions c (take (i + 1) forbids) hot (set allowed (source_index c (get_or forbids i d).cold) false)
 ArePermissions-more c forbids hot allowed i d within source same h = record {
   count = rw length-set h.count;
   each = λ cold inside.
       let f = get_or forbids i d in
-      let place = source_place c f.cold in
-      let room : place < length allowed = omega (arith, source_place-within c f.cold source, h.count) in
+      let place = source_index c f.cold in
+      let room : place < length allowed = omega (arith, source_index-within c f.cold source, h.count) in
       let test = λ (g : Forbid). same_source g.hot hot && same_source g.cold cold in
       let more = list_any_more test forbids i d within in
       ⊎_elim
@@ -78,14 +78,14 @@ ArePermissions-more c forbids hot allowed i d within source same h = record {
       let is = same_source-true f.cold cold e in
       let passes : test f ≡ true = ap₂ ◌&&◌ same e in
       let found : is_forbidden (take (i + 1) forbids) hot cold ≡ true = more ∙ ap (λ b. list_any test (take i forbids) || b) passes ∙ or_true (list_any test (take i forbids)) in
-      let written : get_or (set allowed place false) (source_place c cold) false ≡ false =
-      ap (λ s. get_or (set allowed place false) (source_place c s) false) (sym is) ∙ get_or-set_same allowed place false false room in
+      let written : get_or (set allowed place false) (source_index c cold) false ≡ false =
+      ap (λ s. get_or (set allowed place false) (source_index c s) false) (sym is) ∙ get_or-set_same allowed place false false room in
       written ∙ sym (ap not found))
       (λ e.
-      let apart = source_place-apart c f.cold cold source inside e in
+      let apart = source_index-apart c f.cold cold source inside e in
       let fails : test f ≡ false = ap₂ ◌&&◌ same e in
       let kept : is_forbidden (take (i + 1) forbids) hot cold ≡ is_forbidden (take i forbids) hot cold = more ∙ ap (λ b. list_any test (take i forbids) || b) fails ∙ or_false (list_any test (take i forbids)) in
-      get_or-set_other allowed place (source_place c cold) false false apart ∙ h.each cold inside ∙ sym (ap not kept))
+      get_or-set_other allowed place (source_index c cold) false false apart ∙ h.each cold inside ∙ sym (ap not kept))
       (cases_Bool (same_source f.cold cold));
 }
 

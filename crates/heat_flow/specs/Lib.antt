@@ -2,5 +2,6 @@ pub mod Cells
 pub mod Checks
 pub mod Flow
 pub mod Prices
+pub mod Ranges
 pub mod Reach
 pub mod Table

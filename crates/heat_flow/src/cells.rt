@@ -2,7 +2,7 @@
 ghost use Rattle.std.specs.Prelude.{◌≡◌, ◌≤◌, ℕ, ◌++◌, map, length, All, IfOk, OnOk};
 ghost use Rattle.stream_case.specs.Case.{IsComplete};
 ghost use Rattle.grid.specs.Bounds.{most_parts};
-ghost use Rattle.heat_flow.specs.Cells.{source_place, ArePermissions, cell_rows};
+ghost use Rattle.heat_flow.specs.Cells.{source_index, ArePermissions, cell_rows};
 ghost use Rattle.stream_case.specs.Source.{same_source};
 ghost use Rattle.heat_flow.specs.Reach.{IsSourceOf, passes_heat, part_reaches, reach_between};
 ghost use Rattle.heat_flow.specs.Table.{reaches};
@@ -19,11 +19,11 @@ fn is_same_source(first: Source, second: Source) -> bool
     first == second
 }
 
-/// The place of a source among the streams of the case and then its utilities.
-fn source_place(case: &Case, source: Source) -> usize
+/// The index of a source among the streams of the case and then its utilities.
+fn source_index(case: &Case, source: Source) -> usize
     requires complete { IsComplete case.now }
     requires source { IsSourceOf case.now source }
-    ensures { result ≡ source_place case.now source }
+    ensures { result ≡ source_index case.now source }
 {
     match source {
         Source::Stream(number) => number as usize,
@@ -41,7 +41,7 @@ fn permissions(alloc: Global, case: &Case, hot: Source) -> Result<Vec<bool>, All
     let forbids = case.forbids.as_slice();
     for forbid in forbids {
         if is_same_source(forbid.hot, hot) {
-            allowed[source_place(case, forbid.cold)] = false;
+            allowed[source_index(case, forbid.cold)] = false;
         }
     }
     Ok(allowed)
@@ -68,7 +68,7 @@ fn push_row(
     ensures { OnOk result (cells.new.items ≡ cells.old.items ++ map (part_reaches case.now hot.now) cold.now) }
 {
     for part in cold {
-        let is_allowed = allowed[source_place(case, part.source)];
+        let is_allowed = allowed[source_index(case, part.source)];
         cells.push(passes_heat(hot, part) && is_allowed)?;
     }
     Ok(())

@@ -1,9 +1,9 @@
 //! Whether transfers are a heat flow.
 ghost use Rattle.std.specs.Prelude.{◌≡◌, ◌↔◌, ◌<◌, ◌≤◌, ℕ, pos, ◌<ℤ◌, IsTrue, length, All, AllPairs, slice_index_or};
-ghost use Rattle.stream_case.specs.Case.{IsBetween};
+ghost use Rattle.stream_case.specs.Limits.{IsBetween};
 ghost use Rattle.grid.specs.Bounds.{most_parts};
 ghost use Rattle.heat_flow.specs.Checks.{IsTransfer, IsFlowOver, SumsWithin};
-ghost use Rattle.heat_flow.specs.Flow.{place_of, heat_at, precedes, KeepsRanges};
+ghost use Rattle.heat_flow.specs.Flow.{part_index, heat_at, precedes, HaveParts, ArePositive, KeepsRanges};
 
 use crate::flow::{Flow, Transfer};
 use crate::reach::Reach;
@@ -52,25 +52,15 @@ fn are_ordered(transfers: &[Transfer]) -> bool
     true
 }
 
-/// The place of a transfer's part of this side.
-fn place_of(side: Side, transfer: &Transfer) -> u32
-    ensures { result ≡ place_of side transfer.now }
-{
-    match side {
-        Side::Hot => transfer.hot,
-        Side::Cold => transfer.cold,
-    }
-}
-
 /// Adds each transfer to the sum of its part of this side. All sums are 0 before.
 fn add_heats(sums: &mut [i128], side: Side, transfers: &[Transfer])
     requires zeros { All (λ sum. sum ≡ pos 0) sums.old }
-    requires places { All (λ t. place_of side t < length sums.old) transfers.now }
-    requires positive { All (λ t. pos 0 <ℤ t.heat) transfers.now }
+    requires indexes { All (λ t. part_index side t < length sums.old) transfers.now }
+    requires positive { ArePositive transfers.now }
     ensures { (a : ℕ) → a < length sums.new → slice_index_or sums.new a (pos 0) ≡ heat_at side transfers.now a }
 {
     for transfer in transfers {
-        sums[place_of(side, transfer) as usize] += i128::from(transfer.heat);
+        sums[transfer.part_index(side) as usize] += i128::from(transfer.heat);
     }
 }
 
@@ -86,8 +76,8 @@ fn are_within(parts: &[Part], sums: &[i128]) -> bool
     requires { length parts.now ≤ length sums.now }
     ensures { IsTrue result ↔ SumsWithin parts.now sums.now }
 {
-    for (place, part) in parts.iter().enumerate() {
-        if !is_within(part, sums[place]) {
+    for (index, part) in parts.iter().enumerate() {
+        if !is_within(part, sums[index]) {
             return false;
         }
     }
@@ -98,8 +88,8 @@ fn are_within(parts: &[Part], sums: &[i128]) -> bool
 /// of all parts are formed in one pass over the transfers.
 fn keeps_ranges(side: Side, parts: &[Part], transfers: &[Transfer]) -> bool
     requires few { length parts.now ≤ most_parts }
-    requires places { All (λ t. place_of side t < length parts.now) transfers.now }
-    requires positive { All (λ t. pos 0 <ℤ t.heat) transfers.now }
+    requires indexes { HaveParts side parts.now transfers.now }
+    requires positive { ArePositive transfers.now }
     ensures { IsTrue result ↔ KeepsRanges side parts.now transfers.now }
 {
     let mut sums = [0i128; MOST_PARTS];
@@ -110,7 +100,7 @@ fn keeps_ranges(side: Side, parts: &[Part], transfers: &[Transfer]) -> bool
 /// Whether a list of transfers is a heat flow over these parts: each transfer is positive and
 /// joins parts that reach, the list rises strictly by hot part and then by cold part, and the
 /// sum of the transfers of each part is within the part's range. A table of other sizes than
-/// the parts' lists and places out of range give false.
+/// the parts' lists and indexes out of range give false.
 pub fn is_flow(parts: &Parts, reach: &Reach, flow: &Flow) -> bool
     ensures { IsTrue result ↔ IsFlowOver parts.now.hot parts.now.cold reach.now flow.now.transfers }
 {

@@ -7,7 +7,7 @@ use Rattle.stream_case.proofs.CaseLemmas.{length-HasValidStreams}
 use Rattle.grid.proofs.CaseLemmas.{length-utilities}
 use Rattle.heat_flow.specs.Reach.{IsSourceOf}
 use Rattle.heat_flow.specs.Cells.{ArePermissions}
-use Rattle.heat_flow.proofs.ReachLemmas.{forbids_of_complete, source_place-within, ArePermissions-more, ArePermissions-other}
+use Rattle.heat_flow.proofs.ReachLemmas.{forbids_of_complete, source_index-within, ArePermissions-more, ArePermissions-other}
 use Rattle.heat_flow.proofs.cells.permissions.Goals as goal
 use Rattle.heat_flow.proofs.cells.permissions.Goals.{then-is_same_source, else-is_same_source}
 
@@ -18,8 +18,8 @@ overflow_add-len c =
 abbrev no_forbid : Forbid
 no_forbid = record { hot = of_stream 0; cold = of_stream 0 }
 
-pub source_place-requires-clause-source : goal.source_place-requires-clause-source
-source_place-requires-clause-source c =
+pub source_index-requires-clause-source : goal.source_index-requires-clause-source
+source_index-requires-clause-source c =
     let sources = subst (All (λ f. IsSourceOf c.args.case.now f.cold)) (sym c.as_slice-forbids.ensures) (forbids_of_complete c.args.case.now c.requires) in
     sources c.loop-forbid.forbid-index no_forbid c.loop-forbid-test.true
 
@@ -27,9 +27,9 @@ pub index_mut-requires : goal.index_mut-requires
 index_mut-requires c =
     let sources = subst (All (λ f. IsSourceOf c.args.case.now f.cold)) (sym c.as_slice-forbids.ensures) (forbids_of_complete c.args.case.now c.requires) in
     let f = get_or c.as_slice-forbids.result.now c.loop-forbid.forbid-index no_forbid in
-    let within = source_place-within c.args.case.now f.cold (sources c.loop-forbid.forbid-index no_forbid c.loop-forbid-test.true) in
+    let within = source_index-within c.args.case.now f.cold (sources c.loop-forbid.forbid-index no_forbid c.loop-forbid-test.true) in
     let count = c.loop-forbid.invariant.count in
-    let place = c.source_place.ensures in
+    let place = c.source_index.ensures in
     omega arith
 
 pub loop-forbid-preserved : goal.loop-forbid-preserved
@@ -43,7 +43,7 @@ loop-forbid-preserved c =
     let sources = subst (All (λ g. IsSourceOf case g.cold)) (sym c.as_slice-forbids.ensures) (forbids_of_complete case c.requires) in
     elim c.if-is_same_source.branch [
       | then-is_same_source w ↦
-          subst (ArePermissions case (take (i + 1) forbids) c.args.hot) (ap (λ n. set allowed n false) (sym w.source_place.ensures) ∙ sym (ap (λ v. v.items) w.allowed-is))
+          subst (ArePermissions case (take (i + 1) forbids) c.args.hot) (ap (λ n. set allowed n false) (sym w.source_index.ensures) ∙ sym (ap (λ v. v.items) w.allowed-is))
           (ArePermissions-more case forbids c.args.hot allowed i no_forbid within (sources i no_forbid within) (sym c.is_same_source.ensures ∙ w.if-is_same_source.true) c.loop-forbid.invariant)
       | else-is_same_source w ↦
           subst (ArePermissions case (take (i + 1) forbids) c.args.hot) (sym (ap (λ v. v.items) w.allowed-is))
