@@ -1,17 +1,15 @@
 -- The checks of a heat flow.
-use Rattle.std.proofs.Common.{◌≡◌, ⊎_elim, inl, inr, ◌∙◌, sym, ap, ap₂, subst, subst₂, ℕ, ◌+◌, ◌-◌, ◌<◌, ◌≤◌, List, length, get_or, take, set, length-set, Some, arith}
-use Rattle.std.specs.Prelude.{◌==◌, if◌then◌else◌, ℤ, pos, ◌+ℤ◌, slice_get}
+use Rattle.std.proofs.Common.{◌≡◌, ⊎_elim, inl, inr, ◌∙◌, sym, subst, ℕ, ◌+◌, ◌-◌, ◌<◌, ◌≤◌, List, length, get_or, take, set, length-set, arith}
+use Rattle.std.specs.Prelude.{◌==◌, if◌then◌else◌, ℤ, pos, ◌+ℤ◌}
 use Rattle.std.proofs.lemmas.Int.{ints}
 use Rattle.std.proofs.lemmas.Bool.Decides.{nat_tests}
-use Rattle.std.proofs.lemmas.Bool.{eq-eqb, ne_eqb, cases_eq, cases_lt}
+use Rattle.std.proofs.lemmas.Bool.{cases_eq, cases_lt}
 use Rattle.std.proofs.lemmas.List.{get_or-set_same, get_or-set_other}
-use Rattle.std.proofs.lemmas.Option.{get_or_from_slice_get}
 use Rattle.stream_case.specs.declared.source.Side.{Side}
 use Rattle.sums.proofs.SumLemmas.{int_sum_by-more}
-use Rattle.grid.specs.declared.part.Part.{Part}
 use Rattle.heat_flow.specs.declared.flow.Transfer.{Transfer}
 use Rattle.heat_flow.specs.Flow.{part_index, heat_at, precedes}
-use Rattle.heat_flow.proofs.Blanks.{blank, no_transfer}
+use Rattle.heat_flow.proofs.Blanks.{no_transfer}
 
 -- ---- the order
 
@@ -49,13 +47,3 @@ AreHeats-more side ts i sums index next within is room added so_far a inside =
     let more = int_sum_by-more (λ u. if part_index side u == a then u.heat else pos 0) ts i no_transfer within in
     let old = so_far a here in
     grind (arith, ints, nat_tests, get_or-set_same sums index next (pos 0) room, get_or-set_other sums index a next (pos 0))
-
--- what holds of each part below an index, and of the part at that index
-pub parts_more : (P : ℕ → Part → Type 0) (parts : List Part) (i : ℕ) → ((a : ℕ) (p : Part) → a < i → slice_get parts a ≡ Some p → P a p) → P i (get_or parts i blank) → (a : ℕ) (p : Part) → a < i + 1 → slice_get parts a ≡ Some p → P a p
-parts_more P parts i below here a p within at =
-    ⊎_elim (λ lt. below a p lt at)
-    (λ ge.
-    let same : i ≡ a = omega arith in
-    let is : get_or parts i blank ≡ p = ap (λ n. get_or parts n blank) same ∙ get_or_from_slice_get parts a p blank at in
-    subst₂ P same is here)
-    (cases_lt a i)

@@ -1,20 +1,19 @@
 -- The cost of a heat flow, transfer by transfer.
-use Rattle.std.proofs.Common.{◌≡◌, ◌∙◌, sym, ap, ap₂, refl, ℕ, zero, suc, ◌<◌, Bool, true, false, List, [], ◌∷◌, length, get_or, arith}
-use Rattle.std.specs.Prelude.{◌==◌, if◌then◌else◌, ℤ, pos, ◌+ℤ◌, ◌*ℤ◌, ◌≤ℤ◌, ◌<ℤ◌, All}
+use Rattle.std.proofs.Common.{◌≡◌, ◌∙◌, sym, ap, refl, ℕ, zero, suc, ◌<◌, Bool, true, false, List, [], ◌∷◌, length, get_or, arith}
+use Rattle.std.specs.Prelude.{◌==◌, if◌then◌else◌, ℤ, pos, ◌*ℤ◌, ◌≤ℤ◌, ◌<ℤ◌, All}
 use Rattle.std.proofs.lemmas.Int.{ints}
 use Rattle.std.proofs.lemmas.Bool.{eq-eqb}
 use Rattle.std.proofs.lemmas.List.Elements.{All-head, All-tail}
 use Rattle.std.proofs.lemmas.Option.{get_or_from_slice_get, slice_get-get_or}
 use Rattle.stream_case.specs.declared.source.Side.{Side}
-use Rattle.stream_case.specs.declared.source.Side.TheVariants.{Hot, Cold}
+use Rattle.stream_case.specs.declared.source.Side.TheVariants.{Hot}
 use Rattle.stream_case.specs.Limits.{IsHeat}
 use Rattle.sums.specs.Sum.{int_sum_by}
-use Rattle.sums.proofs.ProductLemmas.{+ℤ-*ℤ}
-use Rattle.sums.proofs.SumLemmas.{int_sum_by-same, int_sum_by-add, int_sum_by-not_negative, int_sum_from-same_each, int_sum_from-grouped}
+use Rattle.sums.proofs.SumLemmas.{int_sum_by-not_negative, int_sum_from-same_each, int_sum_from-grouped}
 use Rattle.grid.specs.declared.part.Part.{Part}
 use Rattle.grid.specs.Bounds.{IsBounded}
 use Rattle.heat_flow.specs.declared.flow.Transfer.{Transfer}
-use Rattle.heat_flow.specs.Flow.{part_index, heat_at, HaveParts, ArePositive, IsHeatFlow, side_cost, cost_of}
+use Rattle.heat_flow.specs.Flow.{part_index, heat_at, HaveParts, IsHeatFlow, side_cost}
 use Rattle.heat_flow.specs.Checks.{HasCost}
 use Rattle.heat_flow.proofs.Blanks.{blank}
 

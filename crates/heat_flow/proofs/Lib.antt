@@ -2,5 +2,6 @@ pub mod Blanks
 pub mod CheckLemmas
 pub mod CostLemmas
 pub mod Duality
+pub mod LoopSums
 pub mod RangeLemmas
 pub mod ReachLemmas

@@ -5,10 +5,11 @@ use Rattle.stream_case.specs.declared.source.Source.{Source}
 use Rattle.stream_case.specs.declared.source.Source.TheVariants.{Stream as of_stream, Utility as of_utility}
 use Rattle.stream_case.specs.declared.case.Forbid.{Forbid}
 use Rattle.stream_case.specs.declared.case.Case.{Case}
+use Rattle.stream_case.specs.Case.{IsSourceOf, is_forbidden}
 use Rattle.grid.specs.declared.part.Part.{Part}
-use Rattle.heat_flow.specs.Reach.{IsSourceOf, is_forbidden, part_reaches}
+use Rattle.heat_flow.specs.Reach.{part_reaches}
 
--- the place of a source among the streams of the case and then its utilities
+-- the index of a source among the streams of the case and then its utilities
 abbrev pub source_index : Case → Source → ℕ
 source_index c (of_stream i) = i
 source_index c (of_utility i) = length c.streams + i

@@ -1,7 +1,6 @@
 //! Whether transfers are a heat flow.
 ghost use Rattle.std.specs.Prelude.{◌≡◌, ◌↔◌, ◌<◌, ◌≤◌, ℕ, pos, ◌<ℤ◌, IsTrue, length, All, AllPairs, slice_index_or};
 ghost use Rattle.stream_case.specs.Limits.{IsBetween};
-ghost use Rattle.grid.specs.Bounds.{most_parts};
 ghost use Rattle.heat_flow.specs.Checks.{IsTransfer, IsFlowOver, SumsWithin};
 ghost use Rattle.heat_flow.specs.Flow.{part_index, heat_at, precedes, HaveParts, ArePositive, KeepsRanges};
 
@@ -9,10 +8,7 @@ use crate::flow::{Flow, Transfer};
 use crate::reach::Reach;
 use crate::table::reaches;
 use grid::{Part, Parts};
-use stream_case::Side;
-
-/// The most parts of a side.
-const MOST_PARTS: usize = 5000;
+use stream_case::{MOST_PARTS, Side};
 
 /// Whether a transfer is positive and joins parts that reach.
 fn is_transfer(reach: &Reach, transfer: &Transfer) -> bool
@@ -87,7 +83,7 @@ fn are_within(parts: &[Part], sums: &[i128]) -> bool
 /// Whether the sum of the transfers of each part of a side is within the part's range. The sums
 /// of all parts are formed in one pass over the transfers.
 fn keeps_ranges(side: Side, parts: &[Part], transfers: &[Transfer]) -> bool
-    requires few { length parts.now ≤ most_parts }
+    requires few { length parts.now ≤ MOST_PARTS }
     requires indexes { HaveParts side parts.now transfers.now }
     requires positive { ArePositive transfers.now }
     ensures { IsTrue result ↔ KeepsRanges side parts.now transfers.now }

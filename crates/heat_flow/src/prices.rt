@@ -1,8 +1,8 @@
 //! Prices of parts, and their value.
 ghost use Rattle.std.specs.Prelude.{◌≡◌, ℕ, Bool, ◌≤◌, ℤ, pos, ◌≤ℤ◌, ◌*ℤ◌, length, All};
-ghost use Rattle.stream_case.specs.declared.limits.TheConstants.{MOST_HEAT};
+ghost use Rattle.stream_case.specs.declared.limits.TheConstants.{MOST_HEAT, MOST_PARTS};
 ghost use Rattle.stream_case.specs.Limits.{IsHeat, IsPrice, IsPartPrice};
-ghost use Rattle.grid.specs.Bounds.{IsBounded, most_parts};
+ghost use Rattle.grid.specs.Bounds.{IsBounded};
 ghost use Rattle.heat_flow.specs.Prices.{least_product, IsLeastProduct, excess_price, side_value, value_of, WeakDuality};
 ghost use Rattle.heat_flow.specs.Ranges.{IsWithin, most_excess, most_part_value};
 
@@ -72,11 +72,11 @@ fn part_value(part: &Part, part_price: i64, side: Side) -> i128
 /// The sum of the values of the parts of a side.
 fn side_value(parts: &[Part], prices: &[i64], side: Side) -> i128
     requires count { length prices.now ≡ length parts.now }
-    requires few { length parts.now ≤ most_parts }
+    requires few { length parts.now ≤ MOST_PARTS }
     requires bounded { All IsBounded parts.now }
     requires prices { All IsPartPrice prices.now }
     ensures value { result ≡ side_value side parts.now prices.now }
-    ensures range { IsWithin (pos most_parts *ℤ most_part_value) result }
+    ensures range { IsWithin (pos MOST_PARTS *ℤ most_part_value) result }
 {
     let mut total = 0i128;
     for (index, part) in parts.iter().enumerate() {

@@ -1,4 +1,4 @@
-use Rattle.std.proofs.Common.{◌≡◌, ℕ, ◌*◌, ◌^◌, ◌<◌, length, get_or, take}
+use Rattle.std.proofs.Common.{◌*◌, ◌^◌, take}
 use Rattle.std.specs.Prelude.{pos, All}
 use Rattle.stream_case.specs.Limits.{IsBetween}
 use Rattle.heat_flow.proofs.CheckLemmas.{AreHeats}
