@@ -7,12 +7,7 @@ use Rattle.heat_flow.specs.declared.flow.Transfer.{Transfer}
 use Rattle.heat_flow.specs.declared.reach.Reach.{Reach}
 use Rattle.heat_flow.specs.Flow.{heat_at, HaveParts, ArePositive, IsHeatFlow}
 use Rattle.heat_flow.specs.Prices.{IsSupporting}
-use Rattle.heat_flow.specs.Table.{reaches}
-
--- the table has a row for each hot part and a column for each cold part
-pub record HasSizes (r : Reach) (rows columns : ℕ) : Type 0 where
-  pub hots : r.hots ≡ rows
-  pub colds : r.colds ≡ columns
+use Rattle.heat_flow.specs.Table.{HasSizes, reaches}
 
 -- a transfer of heat between two parts that reach
 pub record IsTransfer (r : Reach) (t : Transfer) : Type 0 where

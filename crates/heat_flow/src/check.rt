@@ -6,7 +6,7 @@ ghost use Rattle.heat_flow.specs.Flow.{part_index, heat_at, precedes, HaveParts,
 
 use crate::flow::{Flow, Transfer};
 use crate::reach::Reach;
-use crate::table::reaches;
+use crate::table::{has_sizes, reaches};
 use grid::{Part, Parts};
 use stream_case::{MOST_PARTS, Side};
 
@@ -103,14 +103,8 @@ pub fn is_flow(parts: &Parts, reach: &Reach, flow: &Flow) -> bool
     let hot = parts.hot.as_slice();
     let cold = parts.cold.as_slice();
     let transfers = flow.transfers.as_slice();
-    if reach.hots as usize != hot.len() || reach.colds as usize != cold.len() {
+    if !has_sizes(reach, parts) || !are_transfers(reach, transfers) || !are_ordered(transfers) {
         return false;
     }
-    if !are_transfers(reach, transfers) || !are_ordered(transfers) {
-        return false;
-    }
-    if !keeps_ranges(Side::Hot, hot, transfers) {
-        return false;
-    }
-    keeps_ranges(Side::Cold, cold, transfers)
+    keeps_ranges(Side::Hot, hot, transfers) && keeps_ranges(Side::Cold, cold, transfers)
 }
