@@ -13,7 +13,7 @@ use Rattle.sums.proofs.SumLemmas.{int_sum_by-not_negative, int_sum_from-same_eac
 use Rattle.grid.specs.declared.part.Part.{Part}
 use Rattle.grid.specs.Bounds.{IsBounded}
 use Rattle.heat_flow.specs.declared.flow.Transfer.{Transfer}
-use Rattle.heat_flow.specs.Flow.{part_index, heat_at, HaveParts, IsHeatFlow, side_cost}
+use Rattle.heat_flow.specs.Flow.{part_index, heat_at, HaveParts, ArePositive, IsHeatFlow, side_cost}
 use Rattle.heat_flow.specs.Checks.{HasCost}
 use Rattle.heat_flow.proofs.Blanks.{blank}
 
@@ -42,14 +42,16 @@ one_or_none : (b : Bool) (heat : ℤ) → pos 0 <ℤ heat → pos 0 ≤ℤ (if b
 one_or_none true heat h = omega (arith, ints)
 one_or_none false heat h = omega (arith, ints)
 
+pub heats_at-not_negative : (side : Side) (ts : List Transfer) (a : ℕ) → ArePositive ts → All (λ t. pos 0 ≤ℤ (if part_index side t == a then t.heat else pos 0)) ts
+heats_at-not_negative side ts a h k d within = one_or_none (part_index side (get_or ts k d) == a) (get_or ts k d).heat (h k d within)
+
 -- a transfer is at most what its hot part gives, and so within the limit of a part
 pub heats_within : (hot cold : List Part) (ts : List Transfer) → All IsBounded hot → HasCost hot cold ts → All (λ t. IsHeat t.heat) ts
 heats_within hot cold ts bounded h k d within =
     let t = get_or ts k d in
     let row = h.hot_indexes k d within in
     let above = h.positive k d within in
-    let each = λ (i : ℕ) (e : Transfer) (inside : i < length ts). one_or_none (part_index Hot (get_or ts i e) == t.hot) (get_or ts i e).heat (h.positive i e inside) in
-    let sum = int_sum_by-term (λ u. if part_index Hot u == t.hot then u.heat else pos 0) ts k d each within in
+    let sum = int_sum_by-term (λ u. if part_index Hot u == t.hot then u.heat else pos 0) ts k d (heats_at-not_negative Hot ts t.hot h.positive) within in
     let own : (if t.hot == t.hot then t.heat else pos 0) ≡ t.heat = ap (λ b. if b then t.heat else pos 0) (eq-eqb t.hot t.hot refl) in
     let limit = h.most t.hot (get_or hot t.hot blank) (slice_get-get_or hot t.hot blank row) in
     let bound = (bounded t.hot blank row).most in

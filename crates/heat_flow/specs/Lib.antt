@@ -1,5 +1,6 @@
 pub mod Cells
 pub mod Checks
+pub mod Cuts
 pub mod Flow
 pub mod Prices
 pub mod Ranges

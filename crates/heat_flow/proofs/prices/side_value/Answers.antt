@@ -1,4 +1,4 @@
-use Rattle.std.proofs.Common.{get_or, FitsSigned, w64, to_z, of_z, rules, arith}
+use Rattle.std.proofs.Common.{get_or, FitsSigned, w64, to_z, rules, arith}
 use Rattle.std.specs.Int.{w128}
 use Rattle.std.specs.Prelude.{pos}
 use Rattle.std.proofs.lemmas.Int.{ints, to_z-of_z}
