@@ -7,7 +7,8 @@ use Rattle.stream_case.specs.declared.stream.Stream.{Stream}
 use Rattle.stream_case.specs.Stream.{stream_ends}
 use Rattle.problem_table.specs.Deficit.{deficit_above, hot_target}
 use Rattle.curves.specs.declared.point.Point.{Point}
-use Rattle.curves.specs.Below.{heat_below, sum_side, temperatures_of}
+use Rattle.problem_table.specs.Sides.{sum_side}
+use Rattle.curves.specs.Below.{heat_below, temperatures_of}
 
 -- the points of a side at an actual temperature: the heat of the side below it
 abbrev pub side_points : Side → List Stream → ℤ → List Point

@@ -1,6 +1,6 @@
 //! The grand composite curve.
 ghost use Rattle.std.specs.Prelude.{IfOk};
-ghost use Rattle.stream_case.specs.Case.{HasValidStreams};
+ghost use Rattle.stream_case.specs.Stream.{AreStreams};
 ghost use Rattle.curves.specs.Curve.{IsGrandCurve};
 
 use crate::point::Point;
@@ -12,11 +12,11 @@ use sums::falling;
 /// The grand composite curve: for each shifted stream end, falling and each once, the hot
 /// target less the deficit above it.
 pub fn grand_curve(alloc: Global, case: &Case) -> Result<Items<Point>, AllocError>
-    requires { HasValidStreams case.now.streams }
+    requires { AreStreams case.now.streams }
     ensures { IfOk result (λ curve. IsGrandCurve case.now.streams curve) }
 {
     let hot = targets(case).hot;
-    let places = falling(stream_ends(alloc, case)?);
+    let places = falling(stream_ends(alloc, case.streams.as_slice())?);
     let mut points = Items::new(alloc);
     for t in places.as_slice() {
         points.push(Point {

@@ -3,4 +3,4 @@ pub mod EndLemmas
 pub mod HeatLemmas
 pub mod PinchLemmas
 pub mod PlaceLemmas
-pub mod WorkedExample
+pub mod SideLemmas

@@ -1,19 +1,18 @@
 //! The shifted stream ends.
-ghost use Rattle.std.specs.Prelude.{◌≡◌, IfOk};
-ghost use Rattle.stream_case.specs.Stream.{stream_ends};
-ghost use Rattle.stream_case.specs.Case.{HasValidStreams};
+ghost use Rattle.std.specs.Prelude.{◌≡◌, All, IfOk};
+ghost use Rattle.stream_case.specs.Stream.{stream_ends, IsValidStream};
 
 use std::alloc::{AllocError, Global};
-use stream_case::Case;
+use stream_case::Stream;
 
-/// The shifted stream ends, in tenths of °C: for each stream, in the order of the case, the
-/// high end and then the low end.
-pub fn stream_ends(alloc: Global, case: &Case) -> Result<Vec<i32>, AllocError>
-    requires { HasValidStreams case.now.streams }
-    ensures { IfOk result (λ ends. ends.items ≡ stream_ends case.now.streams) }
+/// The shifted stream ends, in tenths of °C: for each stream, in order, the high end and then
+/// the low end.
+pub fn stream_ends(alloc: Global, streams: &[Stream]) -> Result<Vec<i32>, AllocError>
+    requires { All IsValidStream streams.now }
+    ensures { IfOk result (λ ends. ends.items ≡ stream_ends streams.now) }
 {
     let mut ends = Vec::new(alloc);
-    for stream in case.streams.as_slice() {
+    for stream in streams {
         ends.push(stream.high_end())?;
         ends.push(stream.low_end())?;
     }

@@ -1,17 +1,15 @@
-//! The problem table: deficits, targets and pinches of the streams of a case (Linnhoff and
-//! Flower 1978). Utilities and forbidden matches do not matter to them.
+//! The problem table: deficits, targets and pinches of streams (Linnhoff and Flower 1978). For a
+//! case they are those of its streams; utilities and forbidden matches do not matter to them.
 #![tactic(auto)]
 
 mod deficit;
 mod ends;
-mod heat;
 mod pinch;
 mod reference;
 mod target;
 
-pub use deficit::deficit_above;
+pub use deficit::{deficit_above, deficit_of};
 pub use ends::stream_ends;
-pub use heat::{distance_above, heat_over};
-pub use pinch::pinches;
-pub use reference::reference_place;
-pub use target::{Target, targets};
+pub use pinch::{pinches, pinches_of};
+pub use reference::{reference_place, reference_place_of};
+pub use target::{Target, targets, targets_of};

@@ -1,29 +1,36 @@
 //! The pinches.
 ghost use Rattle.std.specs.Prelude.{◌≡◌, ◌<ℤ◌, ◌↔◌, IsTrue, IfOk, Any, Contains};
-ghost use Rattle.stream_case.specs.Stream.{stream_ends};
-ghost use Rattle.stream_case.specs.Case.{HasValidStreams};
+ghost use Rattle.stream_case.specs.Stream.{stream_ends, AreStreams};
 ghost use Rattle.sums.specs.Order.{ListsFalling};
 ghost use Rattle.problem_table.specs.Deficit.{hot_target, IsInside, IsPinch};
 
 use crate::ends::stream_ends;
 use crate::target::{hot_target, is_tight};
 use std::alloc::{AllocError, Global};
-use stream_case::{Case, Items};
+use stream_case::{Case, Items, Stream};
 use sums::falling;
 
-/// The pinches, in tenths of °C on the shifted scale, each once and from the highest down: the
-/// stream ends strictly between the greatest and the least whose deficit is the hot target
-/// (Linnhoff and Flower 1978).
+/// The pinches of the streams of a case: `pinches_of` of these.
 pub fn pinches(alloc: Global, case: &Case) -> Result<Items<i32>, AllocError>
-    requires { HasValidStreams case.now.streams }
+    requires { AreStreams case.now.streams }
     ensures { IfOk result (λ places. ListsFalling (IsPinch case.now.streams) places) }
 {
-    let hot = hot_target(case);
-    let all = stream_ends(alloc, case)?;
+    pinches_of(alloc, case.streams.as_slice())
+}
+
+/// The pinches of streams, in tenths of °C on the shifted scale, each once and from the highest
+/// down: the stream ends strictly between the greatest and the least whose deficit is the hot
+/// target (Linnhoff and Flower 1978).
+pub fn pinches_of(alloc: Global, streams: &[Stream]) -> Result<Items<i32>, AllocError>
+    requires { AreStreams streams.now }
+    ensures { IfOk result (λ places. ListsFalling (IsPinch streams.now) places) }
+{
+    let hot = hot_target(streams);
+    let all = stream_ends(alloc, streams)?;
     let ends = all.as_slice();
     let mut found = Vec::new(alloc);
     for end in ends {
-        if is_pinch(case, hot, ends, *end) {
+        if is_pinch(streams, hot, ends, *end) {
             found.push(*end)?;
         }
     }
@@ -31,17 +38,17 @@ pub fn pinches(alloc: Global, case: &Case) -> Result<Items<i32>, AllocError>
 }
 
 // Whether a stream end is a pinch.
-fn is_pinch(case: &Case, hot: i64, ends: &[i32], end: i32) -> bool
-    requires streams { HasValidStreams case.now.streams }
-    requires hot { hot ≡ hot_target case.now.streams }
-    requires ends { ends.now ≡ stream_ends case.now.streams }
+fn is_pinch(streams: &[Stream], hot: i64, ends: &[i32], end: i32) -> bool
+    requires streams { AreStreams streams.now }
+    requires hot { hot ≡ hot_target streams.now }
+    requires ends { ends.now ≡ stream_ends streams.now }
     requires end { Contains ends.now end }
-    ensures { IsTrue result ↔ IsPinch case.now.streams end }
+    ensures { IsTrue result ↔ IsPinch streams.now end }
 {
     if !is_inside(ends, end) {
         return false;
     }
-    is_tight(case, hot, end)
+    is_tight(streams, hot, end)
 }
 
 // Whether `end` lies strictly between the greatest and the least of the ends.

@@ -42,6 +42,14 @@ pub length-stream_ends : (streams : List Stream) → length (stream_ends streams
 length-stream_ends [] = refl
 length-stream_ends (s ∷ ss) = omega (arith, length-stream_ends ss)
 
+-- the ends of a stream are stream ends
+pub each_end : (P : ℤ → Type 0) (streams : List Stream) → All P (stream_ends streams) → All (λ s. P (high_end s) × P (low_end s)) streams
+each_end P [] h = All-nil (λ s. P (high_end s) × P (low_end s))
+each_end P (s ∷ ss) h =
+    let rest = All-tail P (high_end s) (low_end s ∷ stream_ends ss) h in
+    All-cons (λ x. P (high_end x) × P (low_end x)) s ss (All-head P (high_end s) (low_end s ∷ stream_ends ss) h, All-head P (low_end s) (stream_ends ss) rest)
+    (each_end P ss (All-tail P (low_end s) (stream_ends ss) rest))
+
 pub stream_ends-between : (streams : List Stream) → All IsValidStream streams → All IsShifted (stream_ends streams)
 stream_ends-between [] each = All-nil IsShifted
 stream_ends-between (s ∷ ss) each =

@@ -23,7 +23,15 @@ pub struct Stream {
 }
 
 impl Stream {
+    ghost use Rattle.stream_case.specs.Source.{same_side};
     ghost use Rattle.stream_case.specs.Stream.{lower_temperature, higher_temperature, high_end, low_end, heat_between, heat_above, IsValidStream};
+
+    /// Whether the stream is on this side.
+    pub fn is_on(&self, side: Side) -> bool
+        ensures { result ≡ same_side self.now.side side }
+    {
+        self.side == side
+    }
 
     /// The lower end of the actual range, in tenths of °C.
     pub fn lower_temperature(&self) -> i32

@@ -4,5 +4,4 @@ use Rattle.curves.specs.Below.{temperatures_of}
 use Rattle.curves.proofs.composite.temperatures_of.Given as goal
 
 abbrev pub invariant-loop-stream : goal.invariant-loop-stream
-invariant-loop-stream l =
-    (l.stream-items ≡ l.case.streams) × (l.ends.items ≡ temperatures_of l.side (take l.stream-index l.stream-items))
+invariant-loop-stream l = l.ends.items ≡ temperatures_of l.side (take l.stream-index l.streams)

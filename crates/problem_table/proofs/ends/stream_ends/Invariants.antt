@@ -4,4 +4,4 @@ use Rattle.stream_case.specs.Stream.{stream_ends}
 use Rattle.problem_table.proofs.ends.stream_ends.Given as goal
 
 abbrev pub invariant-loop-stream : goal.invariant-loop-stream
-invariant-loop-stream l = (l.stream-items ≡ l.case.streams) × (l.ends.items ≡ stream_ends (take l.stream-index l.stream-items))
+invariant-loop-stream l = l.ends.items ≡ stream_ends (take l.stream-index l.streams)

@@ -7,5 +7,4 @@ use Rattle.problem_table.specs.Deficit.{deficit_above}
 use Rattle.problem_table.proofs.target.hot_target.Given as goal
 
 abbrev pub invariant-loop-stream : goal.invariant-loop-stream
-invariant-loop-stream l =
-    (l.stream-items ≡ l.case.streams) × (l.greatest ≡ fold int_max (pos 0) (map (deficit_above l.case.streams) (stream_ends (take l.stream-index l.stream-items))))
+invariant-loop-stream l = l.greatest ≡ fold int_max (pos 0) (map (deficit_above l.streams) (stream_ends (take l.stream-index l.streams)))

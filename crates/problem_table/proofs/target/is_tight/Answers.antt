@@ -8,8 +8,8 @@ use Rattle.problem_table.proofs.target.is_tight.Goals as goal
 
 pub returns : goal.returns
 returns c =
-    let fits : FitsSigned w64 c.deficit_above.result = search rules in
-    let value = c.deficit_above.ensures.value ∙ ap (deficit_above c.args.case.now.streams) (to_z-of_z w32 c.args.t c.ranges.t) in (
-      λ same. sym value ∙ sym (to_z-of_z w64 c.deficit_above.result fits) ∙ ap (to_z w64) (eqb-true _ _ same) ∙ to_z-of_z w64 c.args.hot c.ranges.hot ∙ c.requires.hot,
+    let fits : FitsSigned w64 c.deficit_of.result = search rules in
+    let value = c.deficit_of.ensures.value ∙ ap (deficit_above c.args.streams.now) (to_z-of_z w32 c.args.t c.ranges.t) in (
+      λ same. sym value ∙ sym (to_z-of_z w64 c.deficit_of.result fits) ∙ ap (to_z w64) (eqb-true _ _ same) ∙ to_z-of_z w64 c.args.hot c.ranges.hot ∙ c.requires.hot,
       λ tight. eq-eqb _ _ (ap (of_z w64) (value ∙ tight ∙ sym c.requires.hot)),
     )

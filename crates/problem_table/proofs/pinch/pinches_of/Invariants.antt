@@ -1,7 +1,7 @@
 -- Each found end is a pinch, and each pinch among the ends so far was found.
 use Rattle.std.proofs.Common.{take}
 use Rattle.problem_table.proofs.PinchLemmas.{Finds}
-use Rattle.problem_table.proofs.pinch.pinches.Given as goal
+use Rattle.problem_table.proofs.pinch.pinches_of.Given as goal
 
 abbrev pub invariant-loop-end : goal.invariant-loop-end
-invariant-loop-end l = Finds l.case.streams (take l.end-index l.ends) l.found.items
+invariant-loop-end l = Finds l.streams (take l.end-index l.ends) l.found.items

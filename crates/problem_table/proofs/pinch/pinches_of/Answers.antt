@@ -6,12 +6,12 @@ use Rattle.std.proofs.lemmas.List.{take_all}
 use Rattle.problem_table.proofs.PinchLemmas.{Finds, Finds-other, Finds-pinch, ListsFalling-pinches}
 use Rattle.sums.specs.Order.{ListsFalling}
 use Rattle.problem_table.specs.Deficit.{IsPinch}
-use Rattle.problem_table.proofs.pinch.pinches.Goals as goal
-use Rattle.problem_table.proofs.pinch.pinches.Goals.{then-is_pinch+in_ok-push, else-is_pinch}
+use Rattle.problem_table.proofs.pinch.pinches_of.Goals as goal
+use Rattle.problem_table.proofs.pinch.pinches_of.Goals.{then-is_pinch+in_ok-push, else-is_pinch}
 
 pub loop-end-preserved : goal.loop-end-preserved
 loop-end-preserved c =
-    let streams = c.args.case.now.streams in
+    let streams = c.args.streams.now in
     let ends = c.as_slice-ends.result.now in
     let i = c.loop-end.end-index in
     let end = get_or ends i (pos 0) in
@@ -29,7 +29,7 @@ loop-end-preserved c =
 
 pub returns : goal.returns
 returns c =
-    let streams = c.args.case.now.streams in
+    let streams = c.args.streams.now in
     let ends = c.as_slice-ends.result.now in
     let whole = take_all c.loop-end.end-index ends c.loop-end-test.false in
     let all = c.as_slice-ends.ensures.value ∙ c.in_ok-all.ensures in

@@ -1,9 +1,0 @@
--- The highest of the ends so far whose deficit is the hot target.
-use Rattle.std.proofs.Common.{◌≡◌, take}
-use Rattle.stream_case.specs.Stream.{stream_ends}
-use Rattle.problem_table.specs.Deficit.{FindsHighestTight}
-use Rattle.problem_table.proofs.reference.reference_place.Given as goal
-
-abbrev pub invariant-loop-stream : goal.invariant-loop-stream
-invariant-loop-stream l =
-    (l.stream-items ≡ l.case.streams) × FindsHighestTight l.case.streams (stream_ends (take l.stream-index l.stream-items)) l.place
