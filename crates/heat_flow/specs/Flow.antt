@@ -2,23 +2,30 @@
 use Rattle.std.specs.Prelude.{◌≡◌, ◌⊎◌, Bool, IsTrue, ℕ, ◌<◌, ◌==◌, if◌then◌else◌, ℤ, pos, ◌+ℤ◌, ◌*ℤ◌, ◌≤ℤ◌, ◌<ℤ◌, List, length, Some, slice_get, All, AllPairs}
 use Rattle.stream_case.specs.declared.source.Side.{Side}
 use Rattle.stream_case.specs.declared.source.Side.TheVariants.{Hot, Cold}
-use Rattle.stream_case.specs.Case.{IsBetween}
+use Rattle.stream_case.specs.Limits.{IsBetween}
 use Rattle.sums.specs.Sum.{int_sum_by, int_sum_from}
 use Rattle.grid.specs.declared.part.Part.{Part}
 use Rattle.heat_flow.specs.declared.flow.Transfer.{Transfer}
 
--- the place of a transfer's part of this side
-abbrev pub place_of : Side → Transfer → ℕ
-place_of Hot t = t.hot
-place_of Cold t = t.cold
+-- the index of a transfer's part of this side
+abbrev pub part_index : Side → Transfer → ℕ
+part_index Hot t = t.hot
+part_index Cold t = t.cold
 
--- the sum of the transfers of the part at a place of this side: what a hot part gives, or a cold one takes
+-- the sum of the transfers of the part at an index of this side: what a hot part gives, or a cold one takes
 abbrev pub heat_at : Side → List Transfer → ℕ → ℤ
-heat_at side transfers a = int_sum_by (λ t. if place_of side t == a then t.heat else pos 0) transfers
+heat_at side transfers a = int_sum_by (λ t. if part_index side t == a then t.heat else pos 0) transfers
 
 -- by the hot part, then by the cold part
 abbrev pub precedes : Transfer → Transfer → Type 0
 precedes s t = (s.hot < t.hot) ⊎ ((s.hot ≡ t.hot) × (s.cold < t.cold))
+
+-- each transfer's part of this side is one of these
+abbrev pub HaveParts : Side → List Part → List Transfer → Type 0
+HaveParts side parts transfers = All (λ t. part_index side t < length parts) transfers
+
+abbrev pub ArePositive : List Transfer → Type 0
+ArePositive transfers = All (λ t. pos 0 <ℤ t.heat) transfers
 
 -- the sum of the transfers of each part is within the part's range
 abbrev pub KeepsRanges : Side → List Part → List Transfer → Type 0
@@ -26,9 +33,9 @@ KeepsRanges side parts transfers = (a : ℕ) (p : Part) → slice_get parts a �
 
 -- a heat flow of these parts, where `reach a b` tells whether hot part a reaches cold part b
 pub record IsHeatFlow (reach : ℕ → ℕ → Bool) (hot cold : List Part) (transfers : List Transfer) : Type 0 where
-  pub positive : All (λ t. pos 0 <ℤ t.heat) transfers
-  pub hot_places : All (λ t. t.hot < length hot) transfers
-  pub cold_places : All (λ t. t.cold < length cold) transfers
+  pub positive : ArePositive transfers
+  pub hot_indexes : HaveParts Hot hot transfers
+  pub cold_indexes : HaveParts Cold cold transfers
   pub joined : All (λ t. IsTrue (reach t.hot t.cold)) transfers
   pub ordered : AllPairs precedes transfers
   pub hot_ranges : KeepsRanges Hot hot transfers
@@ -47,3 +54,7 @@ pub record IsLeastCost (reach : ℕ → ℕ → Bool) (hot cold : List Part) (co
   pub flow : IsHeatFlow reach hot cold transfers
   pub costs : cost_of hot cold transfers ≡ cost
   pub least : (others : List Transfer) → IsHeatFlow reach hot cold others → cost ≤ℤ cost_of hot cold others
+
+-- there is at most one least cost
+abbrev pub OneLeastCost : (ℕ → ℕ → Bool) → List Part → List Part → Type 0
+OneLeastCost reach hot cold = (cost other : ℤ) → IsLeastCost reach hot cold cost → IsLeastCost reach hot cold other → cost ≡ other

@@ -1,14 +1,15 @@
 -- Prices of parts that support heat flows, and their value.
-use Rattle.std.specs.Prelude.{Bool, IsTrue, ℕ, ℤ, pos, ◌+ℤ◌, ◌-ℤ◌, ◌*ℤ◌, ◌≤ℤ◌, List, slice_index_or}
+use Rattle.std.specs.Prelude.{◌≡◌, Bool, IsTrue, ℕ, ℤ, pos, ◌+ℤ◌, ◌-ℤ◌, ◌*ℤ◌, ◌≤ℤ◌, List, slice_index_or}
 use Rattle.std.specs.Int.{int_min}
 use Rattle.stream_case.specs.declared.source.Side.{Side}
 use Rattle.stream_case.specs.declared.source.Side.TheVariants.{Hot, Cold}
+use Rattle.stream_case.specs.Limits.{IsBetween}
 use Rattle.sums.specs.Sum.{int_sum_from}
 use Rattle.grid.specs.declared.part.Part.{Part}
 use Rattle.heat_flow.specs.declared.flow.Transfer.{Transfer}
 use Rattle.heat_flow.specs.Flow.{IsHeatFlow, cost_of}
 
--- the price at a place
+-- the price of the part at an index
 abbrev pub price_at : List ℤ → ℕ → ℤ
 price_at prices i = slice_index_or prices i (pos 0)
 
@@ -20,7 +21,14 @@ IsSupporting reach y z = (a b : ℕ) → IsTrue (reach a b) → price_at z b ≤
 abbrev pub least_product : ℤ → ℤ → ℤ → ℤ
 least_product c low high = int_min (c *ℤ low) (c *ℤ high)
 
--- what a watt costs beyond the price at its place: a hot part gives at that price, and a cold part takes at it
+-- c * s for some s from low to high, and at most c * s for each
+pub record IsLeastProduct (c low high value : ℤ) : Type 0 where
+  pub at : ℤ
+  pub within : IsBetween low high at
+  pub is : value ≡ c *ℤ at
+  pub least : (s : ℤ) → IsBetween low high s → value ≤ℤ (c *ℤ s)
+
+-- what a watt of a part costs beyond its price in the certificate, at which a hot part gives and a cold part takes
 abbrev pub excess_price : Side → ℤ → ℤ → ℤ
 excess_price Hot price y = price -ℤ y
 excess_price Cold price z = price +ℤ z

@@ -1,33 +1,38 @@
 //! The table of pairs of the parts of a case.
-ghost use Rattle.std.specs.Prelude.{◌≡◌, ◌≤◌, ℕ, ◌++◌, map, length, All, IfOk, OnOk};
-ghost use Rattle.stream_case.specs.Case.{IsComplete};
-ghost use Rattle.grid.specs.Bounds.{most_parts};
-ghost use Rattle.heat_flow.specs.Cells.{source_place, ArePermissions, cell_rows};
-ghost use Rattle.stream_case.specs.Source.{same_source};
-ghost use Rattle.heat_flow.specs.Reach.{IsSourceOf, passes_heat, part_reaches, reach_between};
+ghost use Rattle.std.specs.Prelude.{◌≡◌, ℕ, ◌++◌, map, length, [], All, IfOk, OnOk};
+ghost use Rattle.stream_case.specs.Case.{IsComplete, IsSourceOf};
+ghost use Rattle.heat_flow.specs.Cells.{source_index, ArePermissions};
+ghost use Rattle.heat_flow.specs.Reach.{passes_heat, part_reaches, reach_between};
 ghost use Rattle.heat_flow.specs.Table.{reaches};
 
 use crate::reach::Reach;
 use grid::{Part, Parts};
 use std::alloc::{AllocError, Global};
-use stream_case::{Case, Items, Source};
+use stream_case::{Case, Forbid, Items, Source};
 
-/// Whether two sources are one.
-fn is_same_source(first: Source, second: Source) -> bool
-    ensures { result ≡ same_source first second }
-{
-    first == second
-}
-
-/// The place of a source among the streams of the case and then its utilities.
-fn source_place(case: &Case, source: Source) -> usize
+/// The index of a source among the streams of the case and then its utilities.
+fn source_index(case: &Case, source: Source) -> usize
     requires complete { IsComplete case.now }
     requires source { IsSourceOf case.now source }
-    ensures { result ≡ source_place case.now source }
+    ensures { result ≡ source_index case.now source }
 {
     match source {
         Source::Stream(number) => number as usize,
         Source::Utility(number) => case.streams.len() + number as usize,
+    }
+}
+
+/// Takes away the permissions that these forbidden matches of a hot source refuse.
+fn forbid_matches(allowed: &mut [bool], case: &Case, forbids: &[Forbid], hot: Source)
+    requires complete { IsComplete case.now }
+    requires sources { All (λ f. IsSourceOf case.now f.cold) forbids.now }
+    requires all { ArePermissions case.now [] hot allowed.old }
+    ensures { ArePermissions case.now forbids.now hot allowed.new }
+{
+    for forbid in forbids {
+        if forbid.hot == hot {
+            allowed[source_index(case, forbid.cold)] = false;
+        }
     }
 }
 
@@ -38,12 +43,7 @@ fn permissions(alloc: Global, case: &Case, hot: Source) -> Result<Vec<bool>, All
     ensures { IfOk result (λ allowed. ArePermissions case.now case.now.forbids hot allowed.items) }
 {
     let mut allowed = vec![in alloc; true; case.streams.len() + case.utilities.len()]?;
-    let forbids = case.forbids.as_slice();
-    for forbid in forbids {
-        if is_same_source(forbid.hot, hot) {
-            allowed[source_place(case, forbid.cold)] = false;
-        }
-    }
+    forbid_matches(allowed.as_mut_slice(), case, case.forbids.as_slice(), hot);
     Ok(allowed)
 }
 
@@ -68,7 +68,7 @@ fn push_row(
     ensures { OnOk result (cells.new.items ≡ cells.old.items ++ map (part_reaches case.now hot.now) cold.now) }
 {
     for part in cold {
-        let is_allowed = allowed[source_place(case, part.source)];
+        let is_allowed = allowed[source_index(case, part.source)];
         cells.push(passes_heat(hot, part) && is_allowed)?;
     }
     Ok(())

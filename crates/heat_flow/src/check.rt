@@ -1,18 +1,14 @@
 //! Whether transfers are a heat flow.
 ghost use Rattle.std.specs.Prelude.{◌≡◌, ◌↔◌, ◌<◌, ◌≤◌, ℕ, pos, ◌<ℤ◌, IsTrue, length, All, AllPairs, slice_index_or};
-ghost use Rattle.stream_case.specs.Case.{IsBetween};
-ghost use Rattle.grid.specs.Bounds.{most_parts};
+ghost use Rattle.stream_case.specs.Limits.{IsBetween};
 ghost use Rattle.heat_flow.specs.Checks.{IsTransfer, IsFlowOver, SumsWithin};
-ghost use Rattle.heat_flow.specs.Flow.{place_of, heat_at, precedes, KeepsRanges};
+ghost use Rattle.heat_flow.specs.Flow.{part_index, heat_at, precedes, HaveParts, ArePositive, KeepsRanges};
 
 use crate::flow::{Flow, Transfer};
 use crate::reach::Reach;
-use crate::table::reaches;
+use crate::table::{has_sizes, reaches};
 use grid::{Part, Parts};
-use stream_case::Side;
-
-/// The most parts of a side.
-const MOST_PARTS: usize = 5000;
+use stream_case::{MOST_PARTS, Side};
 
 /// Whether a transfer is positive and joins parts that reach.
 fn is_transfer(reach: &Reach, transfer: &Transfer) -> bool
@@ -52,25 +48,15 @@ fn are_ordered(transfers: &[Transfer]) -> bool
     true
 }
 
-/// The place of a transfer's part of this side.
-fn place_of(side: Side, transfer: &Transfer) -> u32
-    ensures { result ≡ place_of side transfer.now }
-{
-    match side {
-        Side::Hot => transfer.hot,
-        Side::Cold => transfer.cold,
-    }
-}
-
 /// Adds each transfer to the sum of its part of this side. All sums are 0 before.
 fn add_heats(sums: &mut [i128], side: Side, transfers: &[Transfer])
     requires zeros { All (λ sum. sum ≡ pos 0) sums.old }
-    requires places { All (λ t. place_of side t < length sums.old) transfers.now }
-    requires positive { All (λ t. pos 0 <ℤ t.heat) transfers.now }
+    requires indexes { All (λ t. part_index side t < length sums.old) transfers.now }
+    requires positive { ArePositive transfers.now }
     ensures { (a : ℕ) → a < length sums.new → slice_index_or sums.new a (pos 0) ≡ heat_at side transfers.now a }
 {
     for transfer in transfers {
-        sums[place_of(side, transfer) as usize] += i128::from(transfer.heat);
+        sums[transfer.part_index(side) as usize] += i128::from(transfer.heat);
     }
 }
 
@@ -86,8 +72,8 @@ fn are_within(parts: &[Part], sums: &[i128]) -> bool
     requires { length parts.now ≤ length sums.now }
     ensures { IsTrue result ↔ SumsWithin parts.now sums.now }
 {
-    for (place, part) in parts.iter().enumerate() {
-        if !is_within(part, sums[place]) {
+    for (index, part) in parts.iter().enumerate() {
+        if !is_within(part, sums[index]) {
             return false;
         }
     }
@@ -97,9 +83,9 @@ fn are_within(parts: &[Part], sums: &[i128]) -> bool
 /// Whether the sum of the transfers of each part of a side is within the part's range. The sums
 /// of all parts are formed in one pass over the transfers.
 fn keeps_ranges(side: Side, parts: &[Part], transfers: &[Transfer]) -> bool
-    requires few { length parts.now ≤ most_parts }
-    requires places { All (λ t. place_of side t < length parts.now) transfers.now }
-    requires positive { All (λ t. pos 0 <ℤ t.heat) transfers.now }
+    requires few { length parts.now ≤ MOST_PARTS }
+    requires indexes { HaveParts side parts.now transfers.now }
+    requires positive { ArePositive transfers.now }
     ensures { IsTrue result ↔ KeepsRanges side parts.now transfers.now }
 {
     let mut sums = [0i128; MOST_PARTS];
@@ -110,21 +96,15 @@ fn keeps_ranges(side: Side, parts: &[Part], transfers: &[Transfer]) -> bool
 /// Whether a list of transfers is a heat flow over these parts: each transfer is positive and
 /// joins parts that reach, the list rises strictly by hot part and then by cold part, and the
 /// sum of the transfers of each part is within the part's range. A table of other sizes than
-/// the parts' lists and places out of range give false.
+/// the parts' lists and indexes out of range give false.
 pub fn is_flow(parts: &Parts, reach: &Reach, flow: &Flow) -> bool
     ensures { IsTrue result ↔ IsFlowOver parts.now.hot parts.now.cold reach.now flow.now.transfers }
 {
     let hot = parts.hot.as_slice();
     let cold = parts.cold.as_slice();
     let transfers = flow.transfers.as_slice();
-    if reach.hots as usize != hot.len() || reach.colds as usize != cold.len() {
+    if !has_sizes(reach, parts) || !are_transfers(reach, transfers) || !are_ordered(transfers) {
         return false;
     }
-    if !are_transfers(reach, transfers) || !are_ordered(transfers) {
-        return false;
-    }
-    if !keeps_ranges(Side::Hot, hot, transfers) {
-        return false;
-    }
-    keeps_ranges(Side::Cold, cold, transfers)
+    keeps_ranges(Side::Hot, hot, transfers) && keeps_ranges(Side::Cold, cold, transfers)
 }

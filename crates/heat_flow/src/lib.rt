@@ -8,6 +8,8 @@
 mod cells;
 mod check;
 mod cost;
+mod cut;
+mod cut_check;
 mod flow;
 mod prices;
 mod reach;
@@ -16,9 +18,11 @@ mod table;
 
 pub use cells::reach_of;
 pub use check::is_flow;
-pub use cost::cost_of;
+pub use cost::{cost_of, least_cost_is_one};
+pub use cut::{Cut, CutKind};
+pub use cut_check::is_cut;
 pub use flow::{Flow, Transfer};
-pub use prices::{Prices, value_of};
+pub use prices::{Prices, least_product_is_least, value_of};
 pub use reach::Reach;
 pub use support::is_supported;
 pub use table::reaches;

@@ -1,8 +1,10 @@
 //! Prices of parts, and their value.
-ghost use Rattle.std.specs.Prelude.{◌≡◌, ℕ, Bool, ◌+◌, ◌≤◌, ℤ, pos, neg_ℤ, ◌≤ℤ◌, length, All};
-ghost use Rattle.stream_case.specs.Case.{IsBetween};
-ghost use Rattle.grid.specs.Bounds.{IsBounded, most_parts};
-ghost use Rattle.heat_flow.specs.Prices.{least_product, excess_price, side_value, value_of, WeakDuality};
+ghost use Rattle.std.specs.Prelude.{◌≡◌, ℕ, Bool, ◌≤◌, ℤ, pos, ◌≤ℤ◌, ◌*ℤ◌, length, All};
+ghost use Rattle.stream_case.specs.declared.limits.TheConstants.{MOST_HEAT, MOST_PARTS};
+ghost use Rattle.stream_case.specs.Limits.{IsHeat, IsPrice, IsPartPrice};
+ghost use Rattle.grid.specs.Bounds.{IsBounded};
+ghost use Rattle.heat_flow.specs.Prices.{least_product, IsLeastProduct, excess_price, side_value, value_of, WeakDuality};
+ghost use Rattle.heat_flow.specs.Ranges.{IsWithin, most_excess, most_part_value};
 
 use grid::{Part, Parts};
 use stream_case::{Items, Side};
@@ -14,39 +16,54 @@ pub struct Prices {
     pub cold: Items<i64>,
 }
 
-/// What a watt of a part costs beyond the price at its place.
-fn excess_price(side: Side, price: i64, at_place: i64) -> i128
-    requires price { IsBetween (neg_ℤ (pos 1000000)) (pos 1000000) price }
-    requires at_place { IsBetween (neg_ℤ (pos 1000000000000000)) (pos 1000000000000000) at_place }
-    ensures value { result ≡ excess_price side price at_place }
-    ensures range { IsBetween (neg_ℤ (pos 1000000001000000)) (pos 1000000001000000) result }
+/// What a watt of a part costs beyond its price in the certificate.
+fn excess_price(side: Side, price: i64, part_price: i64) -> i64
+    requires price { IsPrice price }
+    requires part_price { IsPartPrice part_price }
+    ensures value { result ≡ excess_price side price part_price }
+    ensures range { IsWithin most_excess result }
 {
     match side {
-        Side::Hot => i128::from(price) - i128::from(at_place),
-        Side::Cold => i128::from(price) + i128::from(at_place),
+        Side::Hot => price - part_price,
+        Side::Cold => price + part_price,
     }
 }
 
-/// The least of `factor * heat` for heats from `least` to `most`.
-fn least_product(factor: i128, least: i64, most: i64) -> i128
-    requires factor { IsBetween (neg_ℤ (pos 1000000001000000)) (pos 1000000001000000) factor }
-    requires least { IsBetween (pos 0) (pos 1000000000000) least }
-    requires most { IsBetween (pos 0) (pos 1000000000000) most }
-    ensures value { result ≡ least_product factor least most }
-    ensures range { IsBetween (neg_ℤ (pos 1000000001000000000000000000)) (pos 1000000001000000000000000000) result }
+/// A price times a heat.
+pub(crate) fn product(price: i64, heat: i64) -> i128
+    requires price { IsWithin most_excess price }
+    requires heat { IsHeat heat }
+    ensures value { result ≡ price *ℤ heat }
+    ensures range { (most : ℤ) → IsWithin most price → IsWithin (most *ℤ MOST_HEAT) result }
 {
-    (factor * i128::from(least)).min(factor * i128::from(most))
+    i128::from(price) * i128::from(heat)
 }
 
+/// The least of `price * heat` for heats from `least` to `most`.
+fn least_product(price: i64, least: i64, most: i64) -> i128
+    requires price { IsWithin most_excess price }
+    requires least { IsHeat least }
+    requires most { IsHeat most }
+    ensures value { result ≡ least_product price least most }
+    ensures range { IsWithin most_part_value result }
+{
+    product(price, least).min(product(price, most))
+}
+
+/// The least product is the product with one heat of the range, and at most that with any other.
+pub fn least_product_is_least()
+    ensures { (price low high : ℤ) → low ≤ℤ high → IsLeastProduct price low high (least_product price low high) }
+{}
+
 /// The least that a part can cost at this price.
-fn part_value(part: &Part, at_place: i64, side: Side) -> i128
+fn part_value(part: &Part, part_price: i64, side: Side) -> i128
     requires part { IsBounded part.now }
-    requires at_place { IsBetween (neg_ℤ (pos 1000000000000000)) (pos 1000000000000000) at_place }
-    ensures value { result ≡ least_product (excess_price side part.now.price at_place) part.now.least part.now.most }
-    ensures range { IsBetween (neg_ℤ (pos 1000000001000000000000000000)) (pos 1000000001000000000000000000) result }
+    requires part_price { IsPartPrice part_price }
+    ensures value { result ≡ least_product (excess_price side part.now.price part_price) part.now.least part.now.most }
+    ensures range { IsWithin most_part_value result }
 {
     least_product(
-        excess_price(side, part.price, at_place),
+        excess_price(side, part.price, part_price),
         part.least,
         part.most,
     )
@@ -55,15 +72,15 @@ fn part_value(part: &Part, at_place: i64, side: Side) -> i128
 /// The sum of the values of the parts of a side.
 fn side_value(parts: &[Part], prices: &[i64], side: Side) -> i128
     requires count { length prices.now ≡ length parts.now }
-    requires few { length parts.now ≤ most_parts }
+    requires few { length parts.now ≤ MOST_PARTS }
     requires bounded { All IsBounded parts.now }
-    requires prices { All (IsBetween (neg_ℤ (pos 1000000000000000)) (pos 1000000000000000)) prices.now }
+    requires prices { All IsPartPrice prices.now }
     ensures value { result ≡ side_value side parts.now prices.now }
-    ensures range { IsBetween (neg_ℤ (pos 10000000010000000000000000000000)) (pos 10000000010000000000000000000000) result }
+    ensures range { IsWithin (pos MOST_PARTS *ℤ most_part_value) result }
 {
     let mut total = 0i128;
-    for (place, part) in parts.iter().enumerate() {
-        total += part_value(part, prices[place], side);
+    for (index, part) in parts.iter().enumerate() {
+        total += part_value(part, prices[index], side);
     }
     total
 }
@@ -75,8 +92,8 @@ fn side_value(parts: &[Part], prices: &[i64], side: Side) -> i128
 pub fn value_of(parts: &Parts, prices: &Prices) -> i128
     requires hot_count { length prices.now.hot ≡ length parts.now.hot }
     requires cold_count { length prices.now.cold ≡ length parts.now.cold }
-    requires hot_range { All (IsBetween (neg_ℤ (pos 1000000000000000)) (pos 1000000000000000)) prices.now.hot }
-    requires cold_range { All (IsBetween (neg_ℤ (pos 1000000000000000)) (pos 1000000000000000)) prices.now.cold }
+    requires hot_range { All IsPartPrice prices.now.hot }
+    requires cold_range { All IsPartPrice prices.now.cold }
     ensures value { result ≡ value_of parts.now.hot parts.now.cold prices.now.hot prices.now.cold }
     ensures weak_duality { (reach : ℕ → ℕ → Bool)
         → WeakDuality reach parts.now.hot parts.now.cold prices.now.hot prices.now.cold }

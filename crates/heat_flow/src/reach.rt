@@ -1,6 +1,6 @@
 //! Which hot parts reach which cold parts.
 ghost use Rattle.std.specs.Prelude.{◌≡◌, ◌≤◌, ◌<◌, ◌*◌, length};
-ghost use Rattle.grid.specs.Bounds.{most_parts};
+ghost use Rattle.stream_case.specs.declared.limits.TheConstants.{MOST_PARTS};
 
 use stream_case::Items;
 
@@ -14,7 +14,7 @@ pub struct Reach {
     pub colds: u32,
     /// The truth values, row by row over the hot parts.
     pub cells: Items<bool>,
-    ghost few_hots: { hots ≤ most_parts },
-    ghost few_colds: { colds ≤ most_parts },
+    ghost few_hots: { hots ≤ MOST_PARTS },
+    ghost few_colds: { colds ≤ MOST_PARTS },
     ghost whole: { length cells ≡ hots * colds },
 }

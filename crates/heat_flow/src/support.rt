@@ -10,7 +10,7 @@ use crate::table::reaches;
 
 /// Whether no cold part that the hot part reaches has a price above this one.
 fn is_row_supported(reach: &Reach, hot: u32, price: i64, cold_prices: &[i64]) -> bool
-    requires hot_place { hot < reach.now.hots }
+    requires hot_index { hot < reach.now.hots }
     requires cold_count { length cold_prices.now ≡ reach.now.colds }
     ensures { IsTrue result ↔ ((cold : ℕ) → IsTrue (reaches reach.now hot cold) → price_at cold_prices.now cold ≤ℤ price) }
 {

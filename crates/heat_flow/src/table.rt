@@ -1,13 +1,21 @@
 //! Reading the table of pairs.
-ghost use Rattle.std.specs.Prelude.{◌≡◌, ◌<◌};
-ghost use Rattle.heat_flow.specs.Table.{reaches};
+ghost use Rattle.std.specs.Prelude.{◌≡◌, ◌↔◌, ◌<◌, IsTrue, length};
+ghost use Rattle.heat_flow.specs.Table.{HasSizes, reaches};
 
 use crate::reach::Reach;
+use grid::Parts;
 
-/// Whether the hot part at place `hot` reaches the cold part at place `cold`.
+/// Whether the table has a row for each hot part and a column for each cold part.
+pub(crate) fn has_sizes(reach: &Reach, parts: &Parts) -> bool
+    ensures { IsTrue result ↔ HasSizes reach.now (length parts.now.hot) (length parts.now.cold) }
+{
+    reach.hots as usize == parts.hot.len() && reach.colds as usize == parts.cold.len()
+}
+
+/// Whether the hot part of index `hot` reaches the cold part of index `cold`.
 pub fn reaches(reach: &Reach, hot: u32, cold: u32) -> bool
-    requires hot_place { hot < reach.now.hots }
-    requires cold_place { cold < reach.now.colds }
+    requires hot_index { hot < reach.now.hots }
+    requires cold_index { cold < reach.now.colds }
     ensures { result ≡ reaches reach.now hot cold }
 {
     reach.cells.as_slice()[hot as usize * reach.colds as usize + cold as usize]

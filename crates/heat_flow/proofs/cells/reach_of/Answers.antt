@@ -1,7 +1,7 @@
 use Rattle.std.proofs.Common.{◌≡◌, ◌∙◌, sym, ap, ap₂, ◌*◌, length, arith}
 use Rattle.std.proofs.lemmas.List.{take_all}
 use Rattle.heat_flow.specs.Cells.{cell_rows}
-use Rattle.heat_flow.proofs.ReachLemmas.{length-cell_rows, reaches-rows}
+use Rattle.heat_flow.proofs.ReachLemmas.{length-cell_rows, cell_rows-reach}
 use Rattle.heat_flow.proofs.cells.reach_of.Goals as goal
 
 cells_are : (c : goal.After-from_vec) → c.from_vec.result ≡ cell_rows c.args.case.now c.args.parts.now.hot c.args.parts.now.cold
@@ -21,5 +21,5 @@ invariant_of-result c =
     }
 
 pub returns-clause-cells : goal.returns-clause-cells
-returns-clause-cells c =
-    reaches-rows c.args.case.now c.args.parts.now.hot c.args.parts.now.cold (length c.as_slice-hot.result.now) (length c.as_slice-cold.result.now) c.from_vec.result (ap length c.as_slice-hot.ensures) (ap length c.as_slice-cold.ensures) (cells_are c.before)
+returns-clause-cells c a b =
+    rw (cells_are c.before, c.as_slice-hot.ensures, c.as_slice-cold.ensures) (cell_rows-reach c.args.case.now c.args.parts.now.hot c.args.parts.now.cold a b)

@@ -1,7 +1,8 @@
 use Rattle.std.proofs.Common.{refl, subst₂, ◌-◌, arith}
 use Rattle.std.proofs.lemmas.List.{get_or_default}
 use Rattle.heat_flow.specs.Flow.{precedes}
-use Rattle.heat_flow.proofs.CheckLemmas.{no_transfer, ordered_more}
+use Rattle.heat_flow.proofs.Blanks.{no_transfer}
+use Rattle.heat_flow.proofs.CheckLemmas.{precedes-trans, AllPairsBelow-more}
 use Rattle.heat_flow.proofs.check.are_ordered.Goals as goal
 
 pub loop-i-preserved : goal.loop-i-preserved
@@ -11,5 +12,5 @@ loop-i-preserved c =
     let from = c.loop-i.auto.i in
     let within = c.loop-i-test.true in
     let next = c.if-not-precedes.ensures.0 refl in
-    ordered_more ts i from c.loop-i.invariant
+    AllPairsBelow-more precedes precedes-trans ts i from c.loop-i.invariant
     (λ d. subst₂ precedes (get_or_default ts (i - 1) no_transfer d (omega arith)) (get_or_default ts i no_transfer d within) next)

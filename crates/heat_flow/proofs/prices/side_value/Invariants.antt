@@ -1,12 +1,7 @@
-use Rattle.std.proofs.Common.{◌≡◌, ◌*◌, take}
-use Rattle.std.specs.Prelude.{pos, neg_ℤ}
-use Rattle.stream_case.specs.Case.{IsBetween}
-use Rattle.heat_flow.specs.Prices.{side_value}
+use Rattle.heat_flow.specs.Prices.{price_at, least_product, excess_price}
+use Rattle.heat_flow.specs.Ranges.{most_part_value}
+use Rattle.heat_flow.proofs.LoopSums.{SumSoFar}
 use Rattle.heat_flow.proofs.prices.side_value.Given as goal
 
-abbrev pub invariant-loop-place : goal.invariant-loop-place
-invariant-loop-place l =
-    record {
-      sum : l.total ≡ side_value l.side (take l.place l.parts) l.prices;
-      range : IsBetween (neg_ℤ (pos (l.place * 1000000001000000000000000000))) (pos (l.place * 1000000001000000000000000000)) l.total;
-    }
+abbrev pub invariant-loop-index : goal.invariant-loop-index
+invariant-loop-index l = SumSoFar (λ i p. least_product (excess_price l.side p.price (price_at l.prices i)) p.least p.most) most_part_value l.parts l.index l.total

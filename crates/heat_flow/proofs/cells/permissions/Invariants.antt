@@ -1,6 +1,0 @@
-use Rattle.std.proofs.Common.{take}
-use Rattle.heat_flow.specs.Cells.{ArePermissions}
-use Rattle.heat_flow.proofs.cells.permissions.Given as goal
-
-abbrev pub invariant-loop-forbid : goal.invariant-loop-forbid
-invariant-loop-forbid l = ArePermissions l.case (take l.forbid-index l.forbids) l.hot l.allowed.items

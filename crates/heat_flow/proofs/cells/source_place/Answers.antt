@@ -1,7 +1,0 @@
-use Rattle.std.proofs.Common.{arith}
-use Rattle.stream_case.proofs.CompleteLemmas.{HasValidStreams-IsComplete}
-use Rattle.stream_case.proofs.CaseLemmas.{length-HasValidStreams}
-use Rattle.heat_flow.proofs.cells.source_place.Goals as goal
-
-pub overflow_add-result : goal.overflow_add-result
-overflow_add-result c = omega (arith, c.len.ensures, length-HasValidStreams c.args.case.now.streams (HasValidStreams-IsComplete c.args.case.now c.requires.complete))

@@ -1,0 +1,7 @@
+use Rattle.stream_case.specs.declared.limits.TheConstants.{MOST_HEAT}
+use Rattle.heat_flow.specs.Cuts.{least_at}
+use Rattle.heat_flow.proofs.LoopSums.{SumSoFar}
+use Rattle.heat_flow.proofs.cut_check.need_of.Given as goal
+
+abbrev pub invariant-loop-member : goal.invariant-loop-member
+invariant-loop-member l = SumSoFar (λ i m. least_at l.parts m) MOST_HEAT l.members l.member-index l.need

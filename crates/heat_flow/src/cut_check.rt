@@ -1,0 +1,146 @@
+//! Whether parts are a cut.
+ghost use Rattle.std.specs.Prelude.{◌≡◌, ◌↔◌, ◌<◌, ◌≤◌, pos, ◌<ℤ◌, if◌then◌else◌, IsTrue, length, All, AllPairs};
+ghost use Rattle.stream_case.specs.declared.limits.TheConstants.{MOST_PARTS};
+ghost use Rattle.stream_case.specs.Limits.{IsHeat};
+ghost use Rattle.grid.specs.Bounds.{IsBounded};
+ghost use Rattle.heat_flow.specs.Cuts.{opposite, parts_of, joins, meets, least_at, need_of, offer_of, IsCutOver, HasNoFlow};
+ghost use Rattle.heat_flow.specs.Table.{reaches};
+
+use crate::cut::Cut;
+use crate::reach::Reach;
+use crate::table::{has_sizes, reaches};
+use grid::{Part, Parts};
+use stream_case::Side;
+
+fn opposite(side: Side) -> Side
+    ensures { result ≡ opposite side }
+{
+    match side {
+        Side::Hot => Side::Cold,
+        Side::Cold => Side::Hot,
+    }
+}
+
+fn parts_of(side: Side, parts: &Parts) -> &[Part]
+    ensures { result.now ≡ parts_of side parts.now.hot parts.now.cold }
+{
+    match side {
+        Side::Hot => parts.hot.as_slice(),
+        Side::Cold => parts.cold.as_slice(),
+    }
+}
+
+/// The least of the part at an index, and 0 for none.
+fn least_at(parts: &[Part], index: u32) -> i64
+    requires { All IsBounded parts.now }
+    ensures value { result ≡ least_at parts.now index }
+    ensures range { IsHeat result }
+{
+    parts.get(index as usize).map_or(0, |part| part.least)
+}
+
+/// Whether each of these is the index of a part that has to have some heat.
+fn are_needing(parts: &[Part], members: &[u32]) -> bool
+    requires { All IsBounded parts.now }
+    ensures { IsTrue result ↔ All (λ i. pos 0 <ℤ least_at parts.now i) members.now }
+{
+    members.iter().all(|member| least_at(parts, *member) > 0)
+}
+
+/// Whether indexes rise strictly.
+fn are_rising(members: &[u32]) -> bool
+    ensures { IsTrue result ↔ AllPairs (λ i j. i < j) members.now }
+{
+    for i in 1..members.len() {
+        if members[i - 1] >= members[i] {
+            return false;
+        }
+    }
+    true
+}
+
+/// What the members have to give or take.
+fn need_of(parts: &[Part], members: &[u32]) -> i128
+    requires { All IsBounded parts.now }
+    ensures { result ≡ need_of parts.now members.now }
+{
+    let mut need = 0i128;
+    for member in members {
+        need += i128::from(least_at(parts, *member));
+    }
+    need
+}
+
+/// Whether a part of this side and one of the other side reach.
+fn joins(side: Side, reach: &Reach, member: u32, other: u32) -> bool
+    ensures { result ≡ joins side (reaches reach.now) member other }
+{
+    let (hot, cold) = match side {
+        Side::Hot => (member, other),
+        Side::Cold => (other, member),
+    };
+    hot < reach.hots && cold < reach.colds && reaches(reach, hot, cold)
+}
+
+/// Whether a part of the other side reaches one of the members, or one of them reaches it.
+fn meets(side: Side, reach: &Reach, members: &[u32], other: u32) -> bool
+    ensures { result ≡ meets side (reaches reach.now) members.now other }
+{
+    members
+        .iter()
+        .any(|member| joins(side, reach, *member, other))
+}
+
+/// The most that a part of the other side can take or give, if it meets a member.
+fn part_offer(side: Side, reach: &Reach, members: &[u32], index: u32, part: &Part) -> i64
+    requires { IsBounded part.now }
+    ensures value { result ≡ if meets side (reaches reach.now) members.now index then part.now.most else pos 0 }
+    ensures range { IsHeat result }
+{
+    if meets(side, reach, members, index) {
+        part.most
+    } else {
+        0
+    }
+}
+
+/// The sum of these over all parts of the other side.
+fn offer_of(side: Side, reach: &Reach, others: &[Part], members: &[u32]) -> i128
+    requires few { length others.now ≤ MOST_PARTS }
+    requires bounded { All IsBounded others.now }
+    ensures { result ≡ offer_of side (reaches reach.now) others.now members.now }
+{
+    let mut offer = 0i128;
+    for (index, part) in others.iter().enumerate() {
+        offer += i128::from(part_offer(side, reach, members, index as u32, part));
+    }
+    offer
+}
+
+/// Whether a cut has this need and this offer, and its need is the greater one.
+fn is_short(cut: &Cut, need: i128, offer: i128) -> bool
+    ensures { IsTrue result ↔ (cut.now.need ≡ need) × (cut.now.offer ≡ offer) × (offer <ℤ need) }
+{
+    i128::from(cut.need) == need && i128::from(cut.offer) == offer && offer < need
+}
+
+/// Whether a cut is one of these parts. Its indexes rise strictly, and each names a part with a
+/// least above 0. Its need is the sum of their leasts, its offer the sum of the mosts of all parts
+/// of the other side that meet one of them, and the need is greater than the offer. A table of
+/// other sizes than the parts' lists, indexes out of range, and another need or offer than these
+/// sums give false. Where there is a cut there is no heat flow.
+pub fn is_cut(parts: &Parts, reach: &Reach, cut: &Cut) -> bool
+    ensures exact { IsTrue result ↔ IsCutOver parts.now.hot parts.now.cold reach.now cut.now }
+    ensures refuses { IsTrue result → HasNoFlow (reaches reach.now) parts.now.hot parts.now.cold }
+{
+    let side = cut.kind.side();
+    let own = parts_of(side, parts);
+    let others = parts_of(opposite(side), parts);
+    let members = cut.parts.as_slice();
+    if !has_sizes(reach, parts) || !are_rising(members) || !are_needing(own, members) {
+        return false;
+    }
+    let need = need_of(own, members);
+    let offer = offer_of(side, reach, others, members);
+    is_short(cut, need, offer)
+}
