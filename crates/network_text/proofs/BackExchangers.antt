@@ -11,12 +11,11 @@ use Rattle.stream_case.specs.declared.case.Case.{Case}
 use Rattle.stream_case.specs.declared.source.Source.{Source}
 use Rattle.stream_case.proofs.CommonLemmas.{slice_get-append}
 use Rattle.fractions.specs.Rationals.{Rational}
-use Rattle.network_text.specs.Lines.{Exchanger, exchangers_of, passages_of, stream_at}
+use Rattle.network_text.specs.Lines.{Exchanger, exchangers_of, passages_of, stream_at, same_passage}
 use Rattle.network_text.specs.Given.{exchanger_named}
-use Rattle.network_text.specs.Checks.{has_stream, is_free_side, is_passed, is_stream, joins_stream, most_exchangers, same_passage}
+use Rattle.network_text.specs.Checks.{has_stream, is_free_side, is_passed, is_stream, joins_stream}
 use Rattle.network_text.specs.Shape.{AreExchangers, IsExchanger, Joins, made_before, passes}
 use Rattle.network_text.specs.Printed.{exchanger_name, exchanger_names}
-use Rattle.network_text.specs.declared.found.Passage.{Passage}
 use Rattle.network_text.specs.declared.network.Line.{Line}
 use Rattle.network_text.specs.declared.network.Line.TheVariants as line
 use Rattle.network_text.specs.declared.network.Network.{Network}
@@ -24,6 +23,8 @@ use Rattle.network_text.proofs.PrintNames.{exchanger_name-at, none_in_front, pla
 use Rattle.network_text.proofs.BackFront.{declared_parts, exchanger_at, front, front-passages, none_counted, passed_parts, stream_at-take}
 use Rattle.network_text.proofs.BackBranches.{IsLine}
 use Rattle.network_text.proofs.BackNames.{own_exchanger}
+use Rattle.network_text.specs.declared.limits.TheConstants.{MOST_EXCHANGERS}
+use Rattle.network_text.specs.declared.network.Passage.{Passage}
 
 -- ---- names
 
@@ -64,7 +65,7 @@ many_exchangers network = length-map (exchangers_of network.lines) (λ (e : Exch
 -- the exchanger that a line declares
 pub record IsDeclared (case : Case) (network : Network) (place : ℕ) (e : Exchanger) : Type 0 where
   pub sound : IsExchanger case e
-  pub few : declared_before network place < most_exchangers
+  pub few : declared_before network place < MOST_EXCHANGERS
   pub free : exchanger_named (front case network place) e.name ≡ None
 
 pub declared : (case : Case) (network : Network) (place : ℕ) (name : List ℕ) (hot cold : Source) (duty : Rational) → IsLine case network place (line.Exchanger name hot cold duty)

@@ -12,8 +12,7 @@ use Rattle.std.proofs.lemmas.Option.{get_or_from_slice_get, slice_get-get_or, sl
 use Rattle.stream_case.specs.declared.case.Case.{Case}
 use Rattle.stream_case.specs.declared.source.Source.{Source}
 use Rattle.fractions.specs.Rationals.{Rational}
-use Rattle.network_text.specs.Lines.{Exchanger, exchanger_of, exchangers_of, made_by, makes, passage_of, passages_of, stream_at, used_by, uses}
-use Rattle.network_text.specs.Given.{own_branch, own_branches}
+use Rattle.network_text.specs.Lines.{Exchanger, exchanger_of, exchangers_of, made_by, makes, passage_of, passages_of, stream_at, used_by, uses, own_branch, own_branches}
 use Rattle.network_text.specs.Shape.{AreMadeBeforeUse, AreMadeInOrder, made_before}
 use Rattle.network_text.specs.Printed.{branch_name}
 use Rattle.network_text.specs.declared.network.Branch.{Branch}

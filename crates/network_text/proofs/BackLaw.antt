@@ -13,10 +13,10 @@ use Rattle.stream_case.specs.declared.case.Case.{Case}
 use Rattle.stream_case.specs.declared.source.Source.{Source}
 use Rattle.stream_case.specs.declared.source.Source.TheVariants as source
 use Rattle.stream_case.proofs.CompleteLemmas.{StaysValid, StaysValid-IsComplete}
-use Rattle.network_text.specs.Lines.{Exchanger, exchangers_of, passages_of}
+use Rattle.network_text.specs.Lines.{Exchanger, exchangers_of, passages_of, same_passage}
 use Rattle.network_text.specs.Statements.{Statement, statements_of}
 use Rattle.network_text.specs.Given.{given_by, next, start}
-use Rattle.network_text.specs.Checks.{checks, first_failing, first_missing, is_missed, is_passed, misses_pass, same_passage}
+use Rattle.network_text.specs.Checks.{checks, first_failing, first_missing, is_missed, is_passed, misses_pass}
 use Rattle.network_text.specs.Outcome.{IsNetwork, IsOutcome, SoundBefore}
 use Rattle.network_text.specs.Shape.{HasShape, Joins, KeepsCounts}
 use Rattle.network_text.specs.Printed.{printed_statements, statement_of, text_of}

@@ -17,8 +17,8 @@ use Rattle.stream_case.specs.Case.{side_of}
 use Rattle.stream_case.proofs.CompleteLemmas.{StaysValid}
 use Rattle.network_text.specs.Lines.{Exchanger, exchangers_of, makes, names_of, uses}
 use Rattle.network_text.specs.Statements.{Statement}
-use Rattle.network_text.specs.Shape.{HasPositiveFlow, HasShape, IsExchanger}
-use Rattle.network_text.specs.Printed.{NamesKnown, branch_name, exchanger_name, exchanger_names, source_name, statement_of}
+use Rattle.network_text.specs.Shape.{HasPositiveFlow, HasShape, IsExchanger, NamesKnown}
+use Rattle.network_text.specs.Printed.{branch_name, exchanger_name, exchanger_names, source_name, statement_of}
 use Rattle.network_text.specs.declared.network.Line.{Line}
 use Rattle.network_text.specs.declared.network.Line.TheVariants as line
 use Rattle.network_text.specs.declared.network.Network.{Network}

@@ -18,8 +18,8 @@ use Rattle.stream_case.specs.declared.utility.Utility.{Utility}
 use Rattle.stream_case.proofs.CaseLemmas.{length-HasValidStreams}
 use Rattle.stream_case.proofs.CompleteLemmas.{StaysValid-IsComplete}
 use Rattle.network_text.specs.Names.{is_branch_name}
-use Rattle.network_text.specs.Lines.{exchangers_of, passages_of, used_by}
-use Rattle.network_text.specs.Given.{own_branches, start}
+use Rattle.network_text.specs.Lines.{exchangers_of, passages_of, used_by, own_branches}
+use Rattle.network_text.specs.Given.{start}
 use Rattle.network_text.specs.Answers.{HasSources, IsTracked, named_branch, own_entries, own_entry}
 use Rattle.stream_case.proofs.NameTests.{name-passes, not_true}
 use Rattle.stream_case.proofs.CommonLemmas.{none_there}

@@ -8,11 +8,12 @@ use Rattle.stream_case.specs.declared.case.Case.{Case}
 use Rattle.fractions.specs.Rationals.{Rational}
 use Rattle.network_text.specs.Lines.{Exchanger, exchanger_of, exchangers_of}
 use Rattle.network_text.specs.Statements.{Statement}
-use Rattle.network_text.specs.Printed.{NamesKnown, exchanger_name, exchanger_names, printed_statements, statement_of, statement_text, statements_text, text_of}
+use Rattle.network_text.specs.Printed.{exchanger_name, exchanger_names, printed_statements, statement_of, statement_text, statements_text, text_of}
 use Rattle.network_text.specs.declared.network.Line.{Line}
 use Rattle.network_text.specs.declared.network.Line.TheVariants as line
 use Rattle.network_text.specs.declared.network.Network.{Network}
 use Rattle.network_text.proofs.PrintNames.{exchanger_name-at}
+use Rattle.network_text.specs.Shape.{NamesKnown}
 
 -- ---- the names of the exchangers
 

@@ -18,7 +18,7 @@ use Rattle.network_text.specs.Fractions.{fraction, fraction_in, is_positive}
 use Rattle.network_text.specs.Lines.{exchangers_of, stream_at}
 use Rattle.network_text.specs.Statements.{Statement}
 use Rattle.network_text.specs.Given.{branch_at, branch_named, entry_in, exchanger_at, exchanger_named, kind_of, next, source_at, with_entry}
-use Rattle.network_text.specs.Checks.{Check, checks, end_checks, exchanger_checks, first_failing, fraction_checks, is_free_side, is_on, is_used, kind_checks, mix_checks, mixed_checks, most_exchangers, most_statements, new_branch_checks, new_exchanger_checks, exchanger_field_checks, pass_checks, passed_checks, source_checks, split_checks, used_branch_checks}
+use Rattle.network_text.specs.Checks.{Check, checks, end_checks, exchanger_checks, first_failing, fraction_checks, is_free_side, is_on, is_used, kind_checks, mix_checks, mixed_checks, new_branch_checks, new_exchanger_checks, exchanger_field_checks, pass_checks, passed_checks, source_checks, split_checks, used_branch_checks}
 use Rattle.network_text.specs.Shape.{IsPositive}
 use Rattle.network_text.specs.Printed.{source_name}
 use Rattle.network_text.specs.declared.found.Entry.TheVariants as entry
@@ -29,6 +29,7 @@ use Rattle.network_text.proofs.PrintFields.{fraction-back}
 use Rattle.stream_case.proofs.NameTests.{name-passes}
 use Rattle.stream_case.proofs.CommonLemmas.{both_true, own_side}
 use Rattle.network_text.proofs.PrintNames.{IsFound}
+use Rattle.network_text.specs.declared.limits.TheConstants.{MOST_EXCHANGERS, MOST_STATEMENTS}
 
 -- each check holds
 abbrev pub Passes : List Check → Type 0
@@ -46,12 +47,12 @@ pub record Follows (case : Case) (given : Network) (s : Statement) (after : Netw
 
 -- there is room for one statement more
 abbrev pub HasRoom : Network → Type 0
-HasRoom given = length given.lines < most_statements
+HasRoom given = length given.lines < MOST_STATEMENTS
 
 passes_of : (case : Case) (given : Network) (s : Statement) (k : Kind) → HasRoom given → kind_of s ≡ Some k → Passes (kind_checks (Some k) case given s) → first_failing (checks case given s) ≡ None
 unfolding checks
 passes_of case given s k room is passes =
-    let few : nat_lt (length given.lines) most_statements ≡ true = grind (arith, nat_tests, room) in
+    let few : nat_lt (length given.lines) MOST_STATEMENTS ≡ true = grind (arith, nat_tests, room) in
     let known : is_some (kind_of s) ≡ true = ap is_some is in
     rw (few, known, is) (all_pass (kind_checks (Some k) case given s) passes)
 
@@ -98,13 +99,13 @@ on_side : (case : Case) (s : Source) (of : Side) → IsFound case s → side_of 
 unfolding is_on
 on_side case s of found on = rw (at_source case s found, on) (own_side of)
 
-pub exchanger_follows : (case : Case) (given : Network) (name : List ℕ) (hot cold : Source) (duty : Rational) → HasRoom given → length (exchangers_of given.lines) < most_exchangers
+pub exchanger_follows : (case : Case) (given : Network) (name : List ℕ) (hot cold : Source) (duty : Rational) → HasRoom given → length (exchangers_of given.lines) < MOST_EXCHANGERS
     → IsName name → exchanger_named given name ≡ None → IsFound case hot → IsFound case cold → side_of case hot ≡ Some side.Hot → side_of case cold ≡ Some side.Cold → IsPositive duty
     → Follows case given (codes "exchanger" ∷ name ∷ source_name case hot ∷ source_name case cold ∷ fraction_text duty ∷ []) (with_entry given (entry.Exchanger name hot cold duty))
 unfolding entry_in kind_checks exchanger_checks exchanger_field_checks new_exchanger_checks source_checks fraction_checks
 exchanger_follows case given name hot cold duty room few is free found_hot found_cold is_hot is_cold positive =
     let s = codes "exchanger" ∷ name ∷ source_name case hot ∷ source_name case cold ∷ fraction_text duty ∷ [] in
-    let count : nat_lt (length (exchangers_of given.lines)) most_exchangers ≡ true = grind (arith, nat_tests, few) in
+    let count : nat_lt (length (exchangers_of given.lines)) MOST_EXCHANGERS ≡ true = grind (arith, nat_tests, few) in
     let known = both_true _ _ (ap is_some found_hot.named) (ap is_some found_cold.named) in
     let sides = both_true _ _ (on_side case hot side.Hot found_hot is_hot) (on_side case cold side.Cold found_cold is_cold) in
     let number = fraction_passes duty positive in

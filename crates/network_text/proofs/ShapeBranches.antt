@@ -12,8 +12,8 @@ use Rattle.stream_case.specs.declared.stream.Stream.{Stream}
 use Rattle.stream_case.specs.declared.utility.Utility.{Utility}
 use Rattle.stream_case.proofs.CompleteLemmas.{StaysValid}
 use Rattle.stream_case.proofs.DistinctLemmas.{AllPairs-front}
-use Rattle.network_text.specs.Lines.{made_by, makes, names_of, used_by, uses}
-use Rattle.network_text.specs.Given.{own_branch, own_branches, start}
+use Rattle.network_text.specs.Lines.{made_by, makes, names_of, used_by, uses, own_branch, own_branches}
+use Rattle.network_text.specs.Given.{start}
 use Rattle.network_text.specs.Shape.{AreMadeBeforeUse, AreMadeInOrder, AreNamed, AreUsedOnce, IsOfOneStream, made_before}
 use Rattle.network_text.specs.declared.network.Branch.{Branch}
 use Rattle.network_text.specs.declared.network.Line.{Line}

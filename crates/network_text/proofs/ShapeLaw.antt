@@ -9,9 +9,9 @@ use Rattle.stream_case.specs.declared.case.Case.{Case}
 use Rattle.stream_case.specs.declared.source.Source.{Source}
 use Rattle.stream_case.specs.declared.source.Source.TheVariants as source
 use Rattle.stream_case.proofs.CompleteLemmas.{StaysValid-IsComplete}
-use Rattle.network_text.specs.Lines.{Exchanger, exchanger_of, exchangers_of, passages_of}
+use Rattle.network_text.specs.Lines.{Exchanger, exchanger_of, exchangers_of, passages_of, same_passage}
 use Rattle.network_text.specs.Statements.{Statement}
-use Rattle.network_text.specs.Checks.{first_missing, is_missed, is_passed, misses_pass, misses_side, same_passage}
+use Rattle.network_text.specs.Checks.{first_missing, is_missed, is_passed, misses_pass, misses_side}
 use Rattle.network_text.specs.Outcome.{IsNetwork}
 use Rattle.network_text.specs.Shape.{ArePassedOnce, HasShape, Joins, passes}
 use Rattle.network_text.specs.declared.network.Line.{Line}

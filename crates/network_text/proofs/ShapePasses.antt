@@ -8,11 +8,10 @@ use Rattle.std.proofs.lemmas.List.{take-append-le, take_at}
 use Rattle.std.proofs.lemmas.List.Sums.{sum_by-append}
 use Rattle.std.proofs.lemmas.Option.{slice_get_within}
 use Rattle.stream_case.specs.declared.case.Case.{Case}
-use Rattle.network_text.specs.Lines.{Exchanger, exchangers_of, passage_of, passages_of, uses}
+use Rattle.network_text.specs.Lines.{Exchanger, exchangers_of, passage_of, passages_of, uses, same_passage}
 use Rattle.network_text.specs.Given.{start}
-use Rattle.network_text.specs.Checks.{is_passed, same_passage}
+use Rattle.network_text.specs.Checks.{is_passed}
 use Rattle.network_text.specs.Shape.{ArePassedWhenDeclared, Joins, PassesDeclared, passes}
-use Rattle.network_text.specs.declared.found.Passage.{Passage}
 use Rattle.network_text.specs.declared.network.Branch.{Branch}
 use Rattle.network_text.specs.declared.network.Line.{Line}
 use Rattle.network_text.specs.declared.network.Line.TheVariants as line
@@ -21,6 +20,7 @@ use Rattle.network_text.proofs.BackFront.{all_at, passages-take}
 use Rattle.network_text.proofs.LineLaws.{passages_of-push, stream_at-front}
 use Rattle.network_text.proofs.ShapeBranches.{AreBranches, used_there, with_line}
 use Rattle.network_text.proofs.ShapeLists.{slice_get_push, uncounted}
+use Rattle.network_text.specs.declared.network.Passage.{Passage}
 
 -- what the shape says of passes, but that none is missing
 pub record ArePassed (network : Network) : Type 0 where

@@ -20,7 +20,6 @@ use Rattle.network_text.specs.Checks.{checks, end_checks, exchanger_checks, frac
 use Rattle.network_text.specs.Outcome.{IsNetwork}
 use Rattle.network_text.specs.Shape.{HasPositiveFlow, IsExchanger, IsOfOneStream, Joins}
 use Rattle.network_text.specs.declared.found.Entry.TheVariants as entry
-use Rattle.network_text.specs.declared.found.Passage.{Passage}
 use Rattle.network_text.specs.declared.kind.Kind.{Kind}
 use Rattle.network_text.specs.declared.kind.Kind.TheVariants as kind
 use Rattle.network_text.specs.declared.network.Branch.{Branch}
@@ -39,6 +38,7 @@ use Rattle.network_text.proofs.ShapeFronts.{IsKept, network-has}
 use Rattle.network_text.proofs.ShapeLists.{two_pushed}
 use Rattle.network_text.proofs.ShapePasses.{AddsPass, ArePassed, passed_kept, passed_none}
 use Rattle.stream_case.proofs.CompleteLemmas.{StaysValid}
+use Rattle.network_text.specs.declared.network.Passage.{Passage}
 
 -- the shape, but that a pass may still be missing
 pub record HasShapeSoFar (case : Case) (network : Network) : Type 0 where

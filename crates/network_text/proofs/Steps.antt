@@ -9,7 +9,7 @@ use Rattle.std.specs.Result.{IsErrAnd}
 use Rattle.stream_case.specs.declared.case.Case.{Case}
 use Rattle.network_text.specs.Statements.{Statement, fields_of, is_statement, statements_of}
 use Rattle.network_text.specs.Given.{entry_in, given_by, next, start, with_any, with_entry}
-use Rattle.network_text.specs.Checks.{checks, first_failing, first_missing, most_statements}
+use Rattle.network_text.specs.Checks.{checks, first_failing, first_missing}
 use Rattle.network_text.specs.Outcome.{IsFirstFault, IsMissingPass, IsNetwork, IsOutcome, SoundBefore, fault_at}
 use Rattle.network_text.specs.declared.fault.NetFault.{NetFault}
 use Rattle.network_text.specs.declared.fault.NetFault.TheVariants as fault
@@ -17,6 +17,7 @@ use Rattle.network_text.specs.declared.fault.NetWhy.{NetWhy}
 use Rattle.network_text.specs.declared.found.Entry.{Entry}
 use Rattle.network_text.specs.declared.found.Entry.TheVariants as entry
 use Rattle.network_text.specs.declared.network.Network.{Network}
+use Rattle.network_text.specs.declared.limits.TheConstants.{MOST_STATEMENTS}
 
 -- ---- what statements give
 
@@ -81,7 +82,7 @@ pub record Reads (case : Case) (statements left : List Statement) (given : Netwo
   pub statements_are : statements ≡ done ++ left
   pub number_is : number ≡ length done
   pub count : length given.lines ≡ number
-  pub few : number ≤ most_statements
+  pub few : number ≤ MOST_STATEMENTS
   pub is_sound : IsSound case done given
 
 pub none_read : (case : Case) (statements : List Statement) (given : Network) → given ≡ start case → Reads case statements statements given 0
@@ -129,7 +130,7 @@ fault_here case statements left given number s rest why reads e fault =
 
 -- the next statement is not
 pub one_more : (case : Case) (statements left : List Statement) (given : Network) (number : ℕ) (s : Statement) (rest : List Statement) (e : Entry) (new : Network) → Reads case statements left given number → left ≡ s ∷ rest
-    → length given.lines < most_statements → first_failing (checks case given s) ≡ None → entry_in case given s ≡ Some e → new ≡ with_entry given e → Reads case statements rest new (number + 1)
+    → length given.lines < MOST_STATEMENTS → first_failing (checks case given s) ≡ None → entry_in case given s ≡ Some e → new ≡ with_entry given e → Reads case statements rest new (number + 1)
 one_more case statements left given number s rest e new reads at room passes gives is = record {
   done = reads.done ++ s ∷ [];
   statements_are = reads.statements_are ∙ ap (λ l. reads.done ++ l) at ∙ sym (append_assoc reads.done (s ∷ []) rest);

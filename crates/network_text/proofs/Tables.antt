@@ -15,14 +15,13 @@ use Rattle.indexmap.specs.IndexMap.{IndexMap, insert_entry}
 use Rattle.indexmap.proofs.CallerLemmas.{insert_entry-new}
 use Rattle.indexmap.proofs.MapLemmas.{some_index}
 use Rattle.network_text.specs.Names.{is_branch_name}
-use Rattle.network_text.specs.Lines.{Exchanger, exchanger_of, exchangers_of, names_of, passage_of, passages_of, stream_at, used_by, uses}
+use Rattle.network_text.specs.Lines.{Exchanger, exchanger_of, exchangers_of, names_of, passage_of, passages_of, stream_at, used_by, uses, same_passage}
 use Rattle.fractions.specs.Rationals.{Rational}
 use Rattle.network_text.specs.Given.{branch_named, exchanger_named, with_entry}
 use Rattle.network_text.specs.declared.found.Entry.TheVariants as entry
 use Rattle.network_text.specs.declared.network.Line.TheVariants as line
-use Rattle.network_text.specs.Checks.{has_stream, is_passed, is_stream, most_statements, same_passage}
+use Rattle.network_text.specs.Checks.{has_stream, is_passed, is_stream}
 use Rattle.network_text.specs.Answers.{IsFree, IsNew, IsTracked, named_branch, named_sides}
-use Rattle.network_text.specs.declared.found.Passage.{Passage}
 use Rattle.network_text.specs.declared.found.Sides.{Sides}
 use Rattle.network_text.specs.declared.network.Branch.{Branch}
 use Rattle.network_text.specs.declared.network.Line.{Line}
@@ -31,6 +30,8 @@ use Rattle.stream_case.specs.declared.source.Source.{Source}
 use Rattle.stream_case.proofs.CommonLemmas.{both, none_there}
 use Rattle.network_text.proofs.Positions.{is_some-position}
 use Rattle.network_text.proofs.LineLaws.{exchangers_of-push, few_exchangers, passages_of-front, passages_of-push, used_by-push}
+use Rattle.network_text.specs.declared.limits.TheConstants.{MOST_STATEMENTS}
+use Rattle.network_text.specs.declared.network.Passage.{Passage}
 
 -- ---- names
 
@@ -72,7 +73,7 @@ branch_named-is es ls name made r is found = found ∙ ap (λ n. position (bytes
 pub exchanger_named-is : (es : List (List ℕ × Sides)) (bs : List Branch) (ls : List Line) (name made : List ℕ) (r : Option ℕ) → es ≡ map named_sides (exchangers_of ls) → made ≡ name → r ≡ position (bytes_eq made) (keys_of es) → r ≡ exchanger_named (record { branches = bs; lines = ls }) name
 exchanger_named-is es bs ls name made r entries is found = found ∙ ap (λ n. position (bytes_eq n) (keys_of es)) is ∙ sym (exchanger_named-keys es bs ls name entries)
 
-pub few_declared : (es : List (List ℕ × ℕ)) (used : List ℕ) (xs : List (List ℕ × Sides)) (passed : List Passage) (ls : List Line) → IsTracked es used xs passed ls → length xs ≤ most_statements
+pub few_declared : (es : List (List ℕ × ℕ)) (used : List ℕ) (xs : List (List ℕ × Sides)) (passed : List Passage) (ls : List Line) → IsTracked es used xs passed ls → length xs ≤ MOST_STATEMENTS
 few_declared es used xs passed ls is =
     let same = ap length is.exchangers_are ∙ length-map (exchangers_of ls) named_sides in
     omega (arith, same, few_exchangers ls, is.few_lines)
@@ -112,7 +113,7 @@ pushed : (es more : List (List ℕ × ℕ)) (used : List ℕ) (xs xs' : List (Li
     → All (λ k. k < length es) (uses l)
     → list_all is_branch_name (keys_of more) ≡ true
     → list_all is_branch_name (keys_of (map named_sides (option_to_list (exchanger_of l)))) ≡ true
-    → length ls < most_statements
+    → length ls < MOST_STATEMENTS
     → length more ≤ 2
     → IsTracked (es ++ more) (used ++ uses l) xs' (passed ++ option_to_list (passage_of (map named_branch es) l)) (ls ++ l ∷ [])
 pushed es more used xs xs' passed ls l is declared made names exchanger_names room few =
@@ -144,7 +145,7 @@ pub tracked-push : (es more es' : List (List ℕ × ℕ)) (used used' : List ℕ
     → All (λ k. k < length es) (uses l)
     → list_all is_branch_name (keys_of more) ≡ true
     → list_all is_branch_name (keys_of (map named_sides (option_to_list (exchanger_of l)))) ≡ true
-    → length ls < most_statements
+    → length ls < MOST_STATEMENTS
     → length more ≤ 2
     → IsTracked es' used' xs' passed' ls'
 tracked-push es more es' used used' xs xs' passed passed' ls ls' l is branches uses_are declared passes lines made names exchanger_names room few =

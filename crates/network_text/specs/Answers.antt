@@ -9,15 +9,16 @@ use Rattle.stream_case.specs.declared.stream.Stream.{Stream}
 use Rattle.network_text.specs.Names.{is_branch_name}
 use Rattle.network_text.specs.Lines.{Exchanger, exchangers_of, passages_of, stream_at, used_by}
 use Rattle.network_text.specs.Given.{branch_named, exchanger_named}
-use Rattle.network_text.specs.Checks.{is_passed, is_used, most_statements}
+use Rattle.network_text.specs.Checks.{is_passed, is_used}
 use Rattle.network_text.specs.declared.fault.NetWhy.{NetWhy}
 use Rattle.network_text.specs.declared.found.Entry.{Entry}
 use Rattle.network_text.specs.declared.found.Entry.TheVariants as entry
-use Rattle.network_text.specs.declared.found.Passage.{Passage}
 use Rattle.network_text.specs.declared.found.Sides.{Sides}
 use Rattle.network_text.specs.declared.network.Branch.{Branch}
 use Rattle.network_text.specs.declared.network.Line.{Line}
 use Rattle.network_text.specs.declared.network.Network.{Network}
+use Rattle.network_text.specs.declared.network.Passage.{Passage}
+use Rattle.network_text.specs.declared.limits.TheConstants.{MOST_STATEMENTS}
 
 -- an Ok where no check fails, and an Err with the cause of the first that does
 abbrev pub Checked : {T : Type 0} → Option NetWhy → (T → Type 0) → Result T NetWhy → Type 0
@@ -74,5 +75,5 @@ pub record IsTracked (branches : List (List ℕ × ℕ)) (used : List ℕ) (exch
   pub made : All (λ number. number < length branches) (used_by lines)
   pub branch_names : list_all is_branch_name (keys_of branches) ≡ true
   pub exchanger_names : list_all is_branch_name (keys_of exchangers) ≡ true
-  pub few_lines : length lines ≤ most_statements
+  pub few_lines : length lines ≤ MOST_STATEMENTS
   pub few_branches : length branches ≤ 24 + 2 * length lines

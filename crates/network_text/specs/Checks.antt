@@ -12,14 +12,14 @@ use Rattle.stream_case.specs.Stream.{same_side}
 use Rattle.stream_case.specs.Name.{is_name}
 use Rattle.network_text.specs.Names.{is_branch_name}
 use Rattle.network_text.specs.Fractions.{fraction, fraction_in, is_positive}
-use Rattle.network_text.specs.Lines.{Exchanger, exchanger_of, exchangers_of, passages_of, stream_at, used_by}
+use Rattle.network_text.specs.Lines.{Exchanger, exchanger_of, exchangers_of, passages_of, same_passage, stream_at, used_by}
 use Rattle.network_text.specs.Statements.{Statement, field}
 use Rattle.network_text.specs.Given.{branch_at, branch_named, exchanger_at, exchanger_named, kind_of, source_at, source_named}
 use Rattle.network_text.specs.declared.fault.NetWhy.{NetWhy}
 use Rattle.network_text.specs.declared.fault.NetWhy.TheVariants as why
-use Rattle.network_text.specs.declared.found.Passage.{Passage}
 use Rattle.network_text.specs.declared.kind.Kind.{Kind}
 use Rattle.network_text.specs.declared.kind.Kind.TheVariants as kind
+use Rattle.network_text.specs.declared.limits.TheConstants.{MOST_EXCHANGERS, MOST_STATEMENTS}
 use Rattle.network_text.specs.declared.network.Line.{Line}
 use Rattle.network_text.specs.declared.network.Network.{Network}
 
@@ -34,13 +34,6 @@ first_failing checks = option_map (λ check. check.1) (find (λ check. not check
 -- the checks of one field after those of the other
 abbrev pub in_turn : List (List Check) → List Check
 in_turn groups = flat_map (λ group. group) groups
-
--- the limits of a text: statements, and exchangers among them
-abbrev pub most_statements : ℕ
-most_statements = 100000
-
-abbrev pub most_exchangers : ℕ
-most_exchangers = 20000
 
 -- ---- a branch that is used
 
@@ -106,9 +99,6 @@ has_stream stream (Some exchanger) = is_stream stream exchanger.hot || is_stream
 unfoldable pub joins_stream : Network → ℕ → ℕ → Bool
 joins_stream given exchanger stream = has_stream stream (slice_get (exchangers_of given.lines) exchanger)
 
-abbrev pub same_passage : Passage → Passage → Bool
-same_passage a b = (a.exchanger == b.exchanger) && (a.stream == b.stream)
-
 -- an earlier statement passed that side
 unfoldable pub is_passed : Network → ℕ → ℕ → Bool
 is_passed given exchanger stream = list_any (same_passage (record { exchanger = exchanger; stream = stream })) (passages_of given.branches given.lines)
@@ -140,7 +130,7 @@ exchanger_field_checks case given s = in_turn (new_exchanger_checks given (field
 unfoldable pub exchanger_checks : Case → Network → Statement → List Check
 exchanger_checks case given s =
     (length s == 5, why.FieldCount)
-    ∷ (nat_lt (length (exchangers_of given.lines)) most_exchangers, why.TooMany)
+    ∷ (nat_lt (length (exchangers_of given.lines)) MOST_EXCHANGERS, why.TooMany)
     ∷ exchanger_field_checks case given s
 
 -- for the second new branch, the first counts as made
@@ -173,7 +163,7 @@ kind_checks (Some kind.End) case given s = end_checks given s
 -- the checks of a statement, behind statements that gave this
 unfoldable pub checks : Case → Network → Statement → List Check
 checks case given statement =
-    (nat_lt (length given.lines) most_statements, why.TooMany)
+    (nat_lt (length given.lines) MOST_STATEMENTS, why.TooMany)
     ∷ (is_some (kind_of statement), why.UnknownWord)
     ∷ kind_checks (kind_of statement) case given statement
 

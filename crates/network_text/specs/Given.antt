@@ -1,13 +1,11 @@
 -- What statements say, and the network that they give.
 use Rattle.std.specs.Prelude.{ℕ, ◌+◌, List, [], ◌∷◌, ◌++◌, map, fold, length, position, Option, Some, None, unwrap_or, if◌then◌else◌, codes}
-use Rattle.std.specs.List.{enumerate_from}
 use Rattle.std.specs.Str.{bytes_eq}
 use Rattle.stream_case.specs.declared.case.Case.{Case}
 use Rattle.stream_case.specs.declared.source.Source.{Source}
 use Rattle.stream_case.specs.declared.source.Source.TheVariants as source
-use Rattle.stream_case.specs.declared.stream.Stream.{Stream}
 use Rattle.network_text.specs.Fractions.{fraction}
-use Rattle.network_text.specs.Lines.{exchangers_of, names_of, stream_at}
+use Rattle.network_text.specs.Lines.{exchangers_of, names_of, own_branches, stream_at}
 use Rattle.network_text.specs.Statements.{Statement, field}
 use Rattle.network_text.specs.declared.found.Entry.{Entry}
 use Rattle.network_text.specs.declared.found.Entry.TheVariants as entry
@@ -104,13 +102,6 @@ with_entry given (entry.End branch) = record {
 abbrev pub with_any : Network → Option Entry → Network
 with_any given None = given
 with_any given (Some entry) = with_entry given entry
-
--- each stream has a branch of its own, with the stream's name
-abbrev pub own_branch : ℕ × Stream → Branch
-own_branch (i, s) = record { name = s.name; stream = i }
-
-unfoldable pub own_branches : Case → List Branch
-own_branches case = map own_branch (enumerate_from 0 case.streams)
 
 -- before the first statement
 unfoldable pub start : Case → Network

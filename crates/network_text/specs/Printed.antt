@@ -1,6 +1,5 @@
 -- How a network is printed.
-use Rattle.std.specs.Prelude.{ℕ, ◌<◌, List, [], ◌∷◌, ◌++◌, length, map, option_map, unwrap_or, IsSome, slice_get, codes}
-use Rattle.stream_case.specs.Case.{side_of}
+use Rattle.std.specs.Prelude.{ℕ, List, [], ◌∷◌, ◌++◌, map, option_map, unwrap_or, slice_get, codes}
 use Rattle.stream_case.specs.declared.case.Case.{Case}
 use Rattle.stream_case.specs.declared.source.Source.{Source}
 use Rattle.stream_case.specs.declared.source.Source.TheVariants as source
@@ -25,14 +24,6 @@ exchanger_names network = map (λ e. e.name) (exchangers_of network.lines)
 
 unfoldable pub exchanger_name : Network → ℕ → List ℕ
 exchanger_name network number = unwrap_or (option_map (λ e. e.name) (slice_get (exchangers_of network.lines) number)) []
-
--- the sources, branches and exchangers of a line are there
-abbrev pub NamesKnown : Case → Network → Line → Type 0
-NamesKnown case network (line.Exchanger name hot cold duty) = IsSome (side_of case hot) × IsSome (side_of case cold)
-NamesKnown case network (line.Split from first cp second) = (from < length network.branches) × (first < length network.branches) × (second < length network.branches)
-NamesKnown case network (line.Pass from exchanger to) = (from < length network.branches) × (exchanger < length (exchangers_of network.lines)) × (to < length network.branches)
-NamesKnown case network (line.Mix first second to) = (first < length network.branches) × (second < length network.branches) × (to < length network.branches)
-NamesKnown case network (line.End branch) = branch < length network.branches
 
 -- a line as a statement, with names in place of numbers
 abbrev pub statement_of : Case → Network → Line → Statement

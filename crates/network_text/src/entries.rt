@@ -4,7 +4,7 @@ ghost use Rattle.std.specs.Prelude.{◌≡◌, ◌<◌, Some, length, IfOk, OnOk
 ghost use Rattle.network_text.specs.Statements.{field};
 ghost use Rattle.network_text.specs.Fractions.{fraction};
 ghost use Rattle.network_text.specs.Given.{branch_at, entry_in, exchanger_at, source_at};
-ghost use Rattle.network_text.specs.Checks.{checks, end_checks, exchanger_checks, exchanger_field_checks, first_failing, mix_checks, most_statements, pass_checks, split_checks};
+ghost use Rattle.network_text.specs.Checks.{checks, end_checks, exchanger_checks, exchanger_field_checks, first_failing, mix_checks, pass_checks, split_checks};
 ghost use Rattle.network_text.specs.Answers.{Checked, HasSources, IsFresh};
 
 use crate::branch_fields::{check_mixed, new_branch, new_exchanger, passed_exchanger, used_branch};
@@ -12,15 +12,10 @@ use crate::fault::NetWhy;
 use crate::found::{Entry, Found};
 use crate::fraction_text::positive_fraction;
 use crate::kind::{Kind, kind_of};
+use crate::limits::{MOST_EXCHANGERS, MOST_STATEMENTS};
 use crate::sources::hot_and_cold;
 use crate::statement::Statement;
 use stream_case::Case;
-
-/// The most statements of a text.
-const MOST_STATEMENTS: usize = 100_000;
-
-/// The most exchangers of a text.
-const MOST_EXCHANGERS: usize = 20_000;
 
 /// What the fields of the statement of an exchanger give.
 #[tactic(auto, using(crate::proofs::FirstFailing::then_others), unfolding(crate::specs::Checks::exchanger_field_checks))]
@@ -132,7 +127,7 @@ fn end_entry(found: &Found, s: &Statement<'_>) -> Result<Entry, NetWhy>
 #[tactic(auto, unfolding(crate::specs::Checks::checks, crate::specs::Checks::kind_checks, crate::specs::Given::entry_in))]
 pub fn entry_of(case: &Case, found: &Found, s: &Statement<'_>) -> Result<Entry, NetWhy>
     requires { HasSources case.now }
-    ensures room { OnOk result (length found.now.lines < most_statements) }
+    ensures room { OnOk result (length found.now.lines < MOST_STATEMENTS) }
     ensures fresh { IfOk result (IsFresh found.now) }
     ensures checked { Checked (first_failing (checks case.now found.now s.now)) (λ e. entry_in case.now found.now s.now ≡ Some e) result }
 {

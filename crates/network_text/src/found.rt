@@ -4,13 +4,14 @@ ghost use Rattle.std.specs.Prelude.{◌≡◌, ◌≢◌, ◌==◌, ◌<◌, ◌
 ghost use Rattle.std.specs.List.{list_any};
 ghost use Rattle.std.specs.Map.{keys_of};
 ghost use Rattle.std.specs.Str.{bytes_eq};
-ghost use Rattle.network_text.specs.Lines.{exchanger_of, exchangers_of, stream_at};
+ghost use Rattle.network_text.specs.Lines.{exchanger_of, exchangers_of, same_passage, stream_at};
 ghost use Rattle.network_text.specs.Given.{branch_named, exchanger_named, start, with_entry};
-ghost use Rattle.network_text.specs.Checks.{first_missing, is_free_side, is_missed, is_passed, is_stream, is_used, joins_stream, misses_side, most_statements, same_passage};
+ghost use Rattle.network_text.specs.Checks.{first_missing, is_free_side, is_missed, is_passed, is_stream, is_used, joins_stream, misses_side};
 ghost use Rattle.network_text.specs.Answers.{HasSources, IsFresh, named_branch, own_entries};
 
+use crate::limits::MOST_STATEMENTS;
 use crate::names::branch_name;
-use crate::network::{Branch, Line, Network};
+use crate::network::{Branch, Line, Network, Passage};
 use fractions::Frac;
 use indexmap::{IndexMap, IndexSet};
 use std::alloc::{AllocError, Global};
@@ -52,13 +53,6 @@ pub enum Entry {
 pub struct Sides {
     pub hot: Source,
     pub cold: Source,
-}
-
-/// A passage through an exchanger, on the side of a stream.
-#[derive(Clone, Copy, PartialEq, Eq, Hash)]
-pub struct Passage {
-    pub exchanger: u32,
-    pub stream: u32,
 }
 
 /// Whether a source is the stream with this number.
@@ -290,7 +284,7 @@ impl Found {
 
     /// What there is with the entry of one statement more.
     pub fn with(self, entry: Entry) -> Result<Found, AllocError>
-        requires room { length self.lines < most_statements }
+        requires room { length self.lines < MOST_STATEMENTS }
         requires fresh { IsFresh self entry }
         ensures { IfOk result (λ found. found ≡ with_entry self entry) }
     {
@@ -324,7 +318,7 @@ impl Found {
         cold: Source,
         duty: Frac,
     ) -> Result<Found, AllocError>
-        requires room { length self.lines < most_statements }
+        requires room { length self.lines < MOST_STATEMENTS }
         requires fresh { IsFresh self (Entry.Exchanger name hot cold duty) }
         ensures { IfOk result (λ found. found ≡ with_entry self (Entry.Exchanger name hot cold duty)) }
     {
@@ -340,7 +334,7 @@ impl Found {
     }
 
     fn with_split(self, from: u32, first: Name, cp: Frac, second: Name) -> Result<Found, AllocError>
-        requires room { length self.lines < most_statements }
+        requires room { length self.lines < MOST_STATEMENTS }
         requires fresh { IsFresh self (Entry.Split from first cp second) }
         ensures { IfOk result (λ found. found ≡ with_entry self (Entry.Split from first cp second)) }
     {
@@ -360,7 +354,7 @@ impl Found {
     }
 
     fn with_pass(self, from: u32, exchanger: u32, to: Name) -> Result<Found, AllocError>
-        requires room { length self.lines < most_statements }
+        requires room { length self.lines < MOST_STATEMENTS }
         requires fresh { IsFresh self (Entry.Pass from exchanger to) }
         ensures { IfOk result (λ found. found ≡ with_entry self (Entry.Pass from exchanger to)) }
     {
@@ -379,7 +373,7 @@ impl Found {
     }
 
     fn with_mix(self, first: u32, second: u32, to: Name) -> Result<Found, AllocError>
-        requires room { length self.lines < most_statements }
+        requires room { length self.lines < MOST_STATEMENTS }
         requires fresh { IsFresh self (Entry.Mix first second to) }
         ensures { IfOk result (λ found. found ≡ with_entry self (Entry.Mix first second to)) }
     {
@@ -398,7 +392,7 @@ impl Found {
     }
 
     fn with_end(self, branch: u32) -> Result<Found, AllocError>
-        requires room { length self.lines < most_statements }
+        requires room { length self.lines < MOST_STATEMENTS }
         requires fresh { IsFresh self (Entry.End branch) }
         ensures { IfOk result (λ found. found ≡ with_entry self (Entry.End branch)) }
     {
@@ -435,7 +429,7 @@ impl Found {
     /// The place of the first exchanger with a side that no statement passes, among the lines.
     pub fn first_missing(&self) -> Option<u32>
         ensures place { result ≡ first_missing self.now }
-        ensures small { IfSome result (λ place. place < most_statements) }
+        ensures small { IfSome result (λ place. place < MOST_STATEMENTS) }
     {
         let mut exchanger = 0;
         for (place, line) in self.lines.iter().enumerate() {

@@ -7,11 +7,9 @@ ghost use Rattle.network_text.specs.Checks.{first_failing, fraction_checks};
 ghost use Rattle.network_text.specs.Answers.{Checked};
 
 use crate::fault::NetWhy;
+use crate::limits::MOST_DIGITS;
 use fractions::Frac;
 use stream_case::natural_of;
-
-/// The most digits of a number in a fraction text.
-const MOST_DIGITS: usize = 24;
 
 /// The whole number of an optional `-` and 1 to 24 digits.
 #[tactic(auto, unfolding(crate::specs::Fractions::numerator_in))]

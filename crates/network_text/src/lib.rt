@@ -13,6 +13,7 @@ mod found;
 mod fraction_text;
 mod kind;
 mod laws;
+mod limits;
 mod names;
 mod network;
 mod printer;
@@ -22,6 +23,7 @@ mod statement;
 
 pub use fault::{NetFault, NetWhy};
 pub use laws::{networks_are_printed_and_read_again, statements_have_one_outcome};
-pub use network::{Branch, Line, Network};
+pub use limits::{MOST_DIGITS, MOST_EXCHANGERS, MOST_LINES, MOST_STATEMENTS};
+pub use network::{Branch, Line, Network, Passage};
 pub use printer::print_network;
 pub use reader::read_network;

@@ -7,7 +7,14 @@ use stream_case::{Items, Name, Source};
 #[derive(Clone, Copy, Debug, PartialEq, Eq)]
 pub struct Branch {
     pub name: Name,
-    /// The stream that it is a part of, by its place in the case.
+    /// The stream that it is a part of, by its index in the case.
+    pub stream: u32,
+}
+
+/// A passage through an exchanger, on the side of a stream.
+#[derive(Clone, Copy, PartialEq, Eq, Hash)]
+pub struct Passage {
+    pub exchanger: u32,
     pub stream: u32,
 }
 

@@ -7,8 +7,8 @@ ghost use Rattle.fractions.specs.Rationals.{fraction_text};
 ghost use Rattle.network_text.specs.Lines.{exchangers_of};
 ghost use Rattle.network_text.specs.Statements.{Statement, statements_of};
 ghost use Rattle.network_text.specs.Outcome.{IsNetwork};
-ghost use Rattle.network_text.specs.Shape.{HasShape, KeepsCounts};
-ghost use Rattle.network_text.specs.Printed.{NamesKnown, branch_name, exchanger_name, exchanger_names, source_name, statement_of, statement_text, text_of};
+ghost use Rattle.network_text.specs.Shape.{HasShape, KeepsCounts, NamesKnown};
+ghost use Rattle.network_text.specs.Printed.{branch_name, exchanger_name, exchanger_names, source_name, statement_of, statement_text, text_of};
 
 use crate::fault::NetFault;
 use crate::network::{Line, Network};

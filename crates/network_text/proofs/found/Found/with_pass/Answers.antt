@@ -1,10 +1,10 @@
 use Rattle.std.proofs.Common.{◌<◌, ◌∷◌, ◌∙◌, ◌++◌, [], refl, sym, ap, arith, length}
 use Rattle.std.proofs.lemmas.List.{append-nil}
 use Rattle.std.proofs.lemmas.List.Elements.{All-cons, All-nil}
-use Rattle.network_text.specs.declared.found.Passage.{Passage}
 use Rattle.network_text.specs.declared.network.Line.TheVariants as line
 use Rattle.network_text.proofs.Tables.{free-made, free-unpassed, free-unused, new-unkeyed, one_name, tracked-push, with_pass}
 use Rattle.network_text.proofs.found.Found.with_pass.Goals as goal
+use Rattle.network_text.specs.declared.network.Passage.{Passage}
 
 pub mark_used-requires : goal.mark_used-requires
 mark_used-requires c =
