@@ -1,5 +1,5 @@
 -- The exchangers that printed lines declare and pass.
-use Rattle.std.proofs.Common.{◌≡◌, ◌≢◌, ◌∙◌, ◌<◌, ◌≤◌, ◌∷◌, ◌++◌, ◌==◌, ◌||◌, ℕ, zero, suc, Bool, true, false, cond, List, [], AllPairs, Some, None, get_or, slice_get, position, length, map, take, drop, refl, sym, ap, subst₂, arith, inl, inr, length-append}
+use Rattle.std.proofs.Common.{◌≡◌, ◌≢◌, ◌∙◌, ◌<◌, ◌≤◌, ◌∷◌, ◌==◌, ◌||◌, ℕ, suc, Bool, true, false, cond, List, [], AllPairs, Some, None, get_or, slice_get, position, length, map, take, drop, refl, sym, ap, subst₂, arith, inl, inr, length-append}
 use Rattle.std.specs.Prelude.{count_by}
 use Rattle.std.specs.List.{list_any}
 use Rattle.std.specs.Str.{bytes_eq}

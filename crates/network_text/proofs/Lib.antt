@@ -1,3 +1,6 @@
+pub mod Lists
+pub mod Counts
+pub mod OfShape
 mod BackBranches
 mod BackCounts
 mod BackExchangers

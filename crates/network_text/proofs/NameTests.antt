@@ -1,5 +1,5 @@
 -- The tests of names of branches.
-use Rattle.std.proofs.Common.{◌≡◌, ℕ, Bool, true, false, List, [], ◌∷◌, refl, sym, ap, ◌∙◌, inl, inr, ◌&&◌, ◌||◌, ◌==◌}
+use Rattle.std.proofs.Common.{◌≡◌, ℕ, Bool, true, false, List, [], ◌∷◌, refl, sym, ap, ◌∙◌, inl, inr, ◌||◌, ◌==◌}
 use Rattle.std.specs.Prelude.{Option, Some, None, SomeIff, IfSome, is_some}
 use Rattle.std.proofs.lemmas.Bool.{eqb-true}
 use Rattle.stream_case.specs.Name.{IsAnyName, IsDottedName, is_name}

@@ -1,5 +1,5 @@
 -- The first byte that passes a test.
-use Rattle.std.proofs.Common.{◌≡◌, ◌≤◌, ◌<◌, ◌-◌, ℕ, Bool, true, false, List, length, Option, Some, None, arith, cond, refl, take, drop, length-drop, ◌∙◌, ◌+◌, ◌∷◌, [], suc, is_some}
+use Rattle.std.proofs.Common.{◌≡◌, ◌≤◌, ◌<◌, ◌-◌, ℕ, Bool, true, false, List, length, Some, None, arith, cond, refl, take, drop, length-drop, ◌∙◌, ◌+◌, ◌∷◌, [], suc, is_some}
 use Rattle.std.proofs.lemmas.List.{take_all}
 use Rattle.std.specs.Prelude.{position, nat_lt}
 use Rattle.std.specs.List.{list_any, position_or_len}

@@ -1,12 +1,11 @@
 -- Statements that are not at fault, and what is given with them, kind by kind.
-use Rattle.std.proofs.Common.{◌≡◌, ◌≢◌, ◌∙◌, ◌<◌, ◌∷◌, ◌==◌, ◌&&◌, ℕ, Bool, true, false, not, List, [], Some, None, is_some, unwrap_or, length, nat_lt, pos, refl, ap, arith}
+use Rattle.std.proofs.Common.{◌≡◌, ◌≢◌, ◌∙◌, ◌<◌, ◌∷◌, ◌==◌, ℕ, true, false, not, List, [], Some, None, is_some, unwrap_or, length, nat_lt, pos, refl, ap, arith}
 use Rattle.std.specs.Prelude.{codes, int_lt}
 use Rattle.std.specs.Str.{bytes_eq}
 use Rattle.std.proofs.lemmas.Bool.Decides.{nat_tests}
 use Rattle.std.proofs.lemmas.Int.{ints}
 use Rattle.stream_case.specs.Case.{side_of}
 use Rattle.stream_case.specs.Name.{IsName}
-use Rattle.stream_case.specs.Stream.{same_side}
 use Rattle.stream_case.specs.declared.case.Case.{Case}
 use Rattle.stream_case.specs.declared.source.Side.{Side}
 use Rattle.stream_case.specs.declared.source.Side.TheVariants as side
