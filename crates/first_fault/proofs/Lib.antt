@@ -1,0 +1,4 @@
+pub mod CheckLemmas
+pub mod Steps
+pub mod Reading
+pub mod OneOutcome
