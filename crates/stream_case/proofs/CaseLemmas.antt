@@ -1,30 +1,99 @@
--- Counts of the parts of a case.
-use Rattle.std.proofs.Common.{◌≡◌, ◌+◌, ◌*◌, ◌≤◌, Bool, true, false, not, cond, List, [], ◌∷◌, length, count_by, refl, arith}
-use Rattle.std.proofs.lemmas.List.{length-append, length-map}
+-- How many streams there are, and the sources of a case.
+use Rattle.std.proofs.Common.{◌≡◌, ◌≢◌, ℕ, zero, suc, ◌+◌, ◌<◌, ◌≤◌, cond, List, [], ◌∷◌, length, map, get_or, slice_get, Some, refl, sym, subst, ◌∙◌, arith}
+use Rattle.std.specs.Prelude.{All, AllPairs, IsSome, option_map}
+use Rattle.std.specs.Option.{option_map_or}
+use Rattle.std.specs.Str.{bytes_eq}
+use Rattle.std.proofs.lemmas.Bool.{false≢true}
+use Rattle.std.proofs.lemmas.List.{get_or_append_left, get_or-append-add, length-append, length-map}
 use Rattle.std.proofs.lemmas.List.Sums.{sum_by-cons}
+use Rattle.stream_case.specs.declared.source.Side.{Side}
+use Rattle.stream_case.specs.declared.source.Side.TheVariants.{Hot, Cold}
+use Rattle.stream_case.specs.declared.source.Source.{Source}
+use Rattle.stream_case.specs.declared.source.Source.TheVariants.{Stream as of_stream, Utility as of_utility}
 use Rattle.stream_case.specs.declared.stream.Stream.{Stream}
+use Rattle.stream_case.specs.declared.utility.Utility.{Utility}
 use Rattle.stream_case.specs.declared.case.Case.{Case}
-use Rattle.stream_case.specs.Stream.{is_hot}
 use Rattle.stream_case.specs.declared.limits.TheConstants.{ALL_STREAMS}
-use Rattle.stream_case.specs.Case.{HasValidStreams, names_of}
+use Rattle.stream_case.specs.Name.{IsName}
+use Rattle.stream_case.specs.Source.{same_side}
+use Rattle.stream_case.specs.Stream.{count_on, AreStreams}
+use Rattle.stream_case.specs.Case.{IsSourceOf, names_of, side_of, source_name, source_named}
+use Rattle.stream_case.proofs.DistinctLemmas.{AllPairs-front, AllPairs-back, AllPairs-across, place_of, no_place_of}
+use Rattle.stream_case.proofs.ListLemmas.{position-map}
+
+-- ---- counts
 
 pub length-names_of : (c : Case) → length (names_of c) ≡ length c.streams + length c.utilities
 length-names_of c = simp (length-append, length-map)
 
-one_of_two : (b : Bool) → cond b 1 0 + cond (not b) 1 0 ≡ 1
-one_of_two true = refl
-one_of_two false = refl
-
--- each item passes a test or fails it
-pub count_by-add-count_by_not : {X : Type 0} (p : X → Bool) (xs : List X) → count_by p xs + count_by (λ x. not (p x)) xs ≡ length xs
-count_by-add-count_by_not p [] = refl
-count_by-add-count_by_not p (x ∷ xs) =
-    let passes = sum_by-cons (λ y. cond (p y) 1 0) x xs in
-    let fails = sum_by-cons (λ y. cond (not (p y)) 1 0) x xs in
-    let rest = count_by-add-count_by_not p xs in
-    let one = one_of_two (p x) in
+-- each stream is on one of the two sides
+pub count_on-add : (streams : List Stream) → count_on Hot streams + count_on Cold streams ≡ length streams
+count_on-add [] = refl
+count_on-add (s ∷ ss) =
+    let one = λ (side : Side). sum_by-cons (λ (x : Stream). cond (same_side x.side side) 1 0) s ss in
+    let hot = one Hot in
+    let cold = one Cold in
+    let rest = count_on-add ss in
+    let sides = one_side s.side in
     omega arith
+  where
+    one_side : (side : Side) → cond (same_side side Hot) 1 0 + cond (same_side side Cold) 1 0 ≡ 1
+    one_side Hot = refl
+    one_side Cold = refl
 
-pub length-HasValidStreams : (streams : List Stream) → HasValidStreams streams → length streams ≤ ALL_STREAMS
-length-HasValidStreams streams h =
-    omega (arith, count_by-add-count_by_not (λ (s : Stream). is_hot s.side) streams, h.hot, h.cold)
+pub length-AreStreams : (streams : List Stream) → AreStreams streams → length streams ≤ ALL_STREAMS
+length-AreStreams streams h = omega (arith, count_on-add streams, h.few Hot, h.few Cold)
+
+-- ---- sources
+
+within_map : {X Y : Type 0} (f : X → Y) (xs : List X) (i : ℕ) → IsSome (option_map f (slice_get xs i)) → i < length xs
+within_map f [] i some = absurd (false≢true some)
+within_map f (x ∷ xs) zero some = omega arith
+within_map f (x ∷ xs) (suc i) some = let rest = within_map f xs i some in omega arith
+
+-- what has a side is a source
+pub IsSourceOf-side : (c : Case) (source : Source) → IsSome (side_of c source) → IsSourceOf c source
+IsSourceOf-side c (of_stream i) some = within_map (λ s. s.side) c.streams i some
+IsSourceOf-side c (of_utility i) some = within_map (λ u. u.side) c.utilities i some
+
+name_at : {X : Type 0} (name : X → List ℕ) (xs : List X) (i : ℕ) → option_map_or name (slice_get xs i) [] ≡ get_or (map name xs) i []
+name_at name [] i = refl
+name_at name (x ∷ xs) zero = refl
+name_at name (x ∷ xs) (suc i) = name_at name xs i
+
+abbrev stream_names : Case → List (List ℕ)
+stream_names c = map (λ s. s.name) c.streams
+
+abbrev utility_names : Case → List (List ℕ)
+utility_names c = map (λ u. u.name) c.utilities
+
+abbrev Differ : List ℕ → List ℕ → Type 0
+Differ a b = a ≢ b
+
+-- what is named is found by its name, where the names differ
+pub source_named-source_name : (c : Case) → AllPairs (λ a b. a ≢ b) (names_of c) → (source : Source) → IsSourceOf c source → source_named c (source_name c source) ≡ Some source
+unfolding source_named
+source_named-source_name c distinct (of_stream i) within =
+    let names = stream_names c in
+    let place = place_of names i (AllPairs-front Differ names (utility_names c) distinct) (omega (arith, within, length-map c.streams (λ (s : Stream). s.name))) in
+    rw (name_at (λ (s : Stream). s.name) c.streams i) (rw (position-map (bytes_eq (get_or names i [])) (λ (s : Stream). s.name) c.streams ∙ place) refl)
+source_named-source_name c distinct (of_utility i) within =
+    let names = utility_names c in
+    let name = get_or names i [] in
+    let inside : i < length names = omega (arith, within, length-map c.utilities (λ (u : Utility). u.name)) in
+    let place = place_of names i (AllPairs-back Differ (stream_names c) names distinct) inside in
+    let nowhere = no_place_of (stream_names c) name (λ k d early. AllPairs-across Differ (stream_names c) names k d distinct early i [] inside) in
+    rw (name_at (λ (u : Utility). u.name) c.utilities i)
+    (rw (position-map (bytes_eq name) (λ (s : Stream). s.name) c.streams ∙ nowhere, position-map (bytes_eq name) (λ (u : Utility). u.name) c.utilities ∙ place) refl)
+
+pub IsName-source_name : (c : Case) → All IsName (names_of c) → (source : Source) → IsSourceOf c source → IsName (source_name c source)
+IsName-source_name c each (of_stream i) within =
+    let long = length-map c.streams (λ (s : Stream). s.name) in
+    let whole = length-names_of c in
+    let is = name_at (λ (s : Stream). s.name) c.streams i ∙ sym (get_or_append_left (stream_names c) (utility_names c) [] i (omega (arith, within, long))) in
+    subst IsName (sym is) (each i [] (omega (arith, within, whole)))
+IsName-source_name c each (of_utility i) within =
+    let long = length-map c.streams (λ (s : Stream). s.name) in
+    let whole = length-names_of c in
+    let is = name_at (λ (u : Utility). u.name) c.utilities i ∙ sym (get_or-append-add (stream_names c) (utility_names c) i []) in
+    subst IsName (sym is) (each (length (stream_names c) + i) [] (omega (arith, within, whole, long)))

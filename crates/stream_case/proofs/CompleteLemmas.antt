@@ -1,10 +1,9 @@
 -- What a completed case keeps of a valid one.
-use Rattle.std.proofs.Common.{◌≡◌, ◌≢◌, ◌⊎◌, inl, inr, ℕ, zero, suc, ◌+◌, ◌≤◌, ℤ, pos, neg_ℤ, Bool, true, false, ◌||◌, if◌then◌else◌, List, [], ◌∷◌, ◌++◌, length, map, All, AllPairs, Some, sym, ap, ◌∙◌, refl, subst, lit≤, arith}
+use Rattle.std.proofs.Common.{◌≡◌, ◌≢◌, ◌⊎◌, inl, inr, ℕ, ◌≤◌, ℤ, Bool, true, false, if◌then◌else◌, List, [], ◌∷◌, ◌++◌, length, map, All, AllPairs, Option, None, Some, get_or, sym, ap, ◌∙◌, refl, subst, lit≤, arith}
 use Rattle.std.specs.Prelude.{codes, IsTrue, slice_get, option_map}
 use Rattle.std.specs.List.{list_any}
 use Rattle.std.proofs.lemmas.Int.{ints}
-use Rattle.std.proofs.lemmas.Bool.{false≢true}
-use Rattle.std.proofs.lemmas.Option.{none-some}
+use Rattle.std.proofs.lemmas.Bool.{false≢true, or_left, or_right}
 use Rattle.std.proofs.lemmas.List.{append-nil, append_assoc, map-append, length-append}
 use Rattle.std.proofs.lemmas.List.Elements.{All-nil, All-cons, All-append, All-from_recursion, All-map, All-weaker}
 use Rattle.std.proofs.lemmas.List.Folds.{list_any_at, list_any-append}
@@ -16,35 +15,31 @@ use Rattle.stream_case.specs.declared.source.Source.TheVariants.{Stream as of_st
 use Rattle.stream_case.specs.declared.utility.Utility.{Utility}
 use Rattle.stream_case.specs.declared.case.Forbid.{Forbid}
 use Rattle.stream_case.specs.declared.case.Case.{Case}
+use Rattle.stream_case.specs.declared.limits.TheConstants.{ALL_UTILITIES, MOST_FORBIDS}
 use Rattle.stream_case.specs.Name.{IsName, is_name_byte}
 use Rattle.stream_case.specs.Shift.{shifted}
-use Rattle.stream_case.specs.Stream.{same_side}
-use Rattle.stream_case.specs.declared.limits.TheConstants.{ALL_UTILITIES, MOST_FORBIDS, MOST_HEAT}
-use Rattle.stream_case.specs.Limits.{IsBetween, IsContribution, IsHeat, IsLevel, IsPrice, IsShifted, IsTemperature}
-use Rattle.stream_case.specs.Case.{IsValidStream, HasValidStreams, IsValidUtility, IsValidForbid, IsValid, IsComplete, completed, names_of, side_of, standard_hot, standard_cold, unless_given, with_utilities}
-use Rattle.stream_case.proofs.EndLemmas.{TakesEnd-high, TakesEnd-low, whole_ends-between}
+use Rattle.stream_case.specs.Source.{same_side}
+use Rattle.stream_case.specs.Stream.{stream_ends, IsValidStream, AreStreams, HasValidStreams}
+use Rattle.stream_case.specs.Utility.{shifted_level, IsPlaced, IsValidUtility}
+use Rattle.stream_case.specs.Limits.{IsContribution, IsLevel, IsShifted, IsTemperature}
+use Rattle.stream_case.specs.Case.{IsRightlyNamed, IsUnreserved, IsValidForbid, IsValid, IsComplete, completed, has_utility, names_of, outermost, side_of, standard_utility, unless_given, with_utilities}
+use Rattle.stream_case.proofs.EndLemmas.{outermost-between}
+use Rattle.stream_case.proofs.ListLemmas.{slice_get-append}
+use Rattle.stream_case.proofs.SourceLemmas.{each_side, own_side}
 
 -- a utility of a completed case: its level may lie outside the range of a file
 pub record IsUtility (u : Utility) : Type 0 where
   pub name : IsName u.name
   pub level : IsLevel u.level
-  pub shifted_level : IsShifted (shifted u.side u.level u.contribution)
-  pub least : IsHeat u.least
-  pub most : IsBetween u.least MOST_HEAT u.most
-  pub price : IsPrice u.price
+  pub placed : IsPlaced u
   pub contribution : IsContribution u.contribution
-
--- some utility is on this side
-abbrev pub HasUtility : Side → List Utility → Type 0
-HasUtility side utilities = list_any (λ u. same_side u.side side) utilities ≡ true
 
 -- what holds of each completed case
 pub record StaysValid (c : Case) : Type 0 where
   pub contribution : IsContribution c.contribution
   pub streams : HasValidStreams c.streams
   pub utilities : All IsUtility c.utilities
-  pub some_hot : HasUtility Hot c.utilities
-  pub some_cold : HasUtility Cold c.utilities
+  pub some_utility : (side : Side) → has_utility side c.utilities ≡ true
   pub few_utilities : length c.utilities ≤ ALL_UTILITIES
   pub names : All IsName (names_of c)
   pub distinct_names : AllPairs (λ a b. a ≢ b) (names_of c)
@@ -52,69 +47,63 @@ pub record StaysValid (c : Case) : Type 0 where
   pub few_forbids : length c.forbids ≤ MOST_FORBIDS
   pub distinct_forbids : AllPairs (λ f g. f ≢ g) c.forbids
 
-shifted_between : (side : Side) (level contribution : ℤ) → IsTemperature level → IsContribution contribution → IsShifted (shifted side level contribution)
-shifted_between Hot level contribution l c = record { from = omega (arith, ints); upto = omega (arith, ints) }
-shifted_between Cold level contribution l c = record { from = omega (arith, ints); upto = omega (arith, ints) }
+-- ---- the utilities
+
+IsShifted-shifted : (side : Side) (level contribution : ℤ) → IsTemperature level → IsContribution contribution → IsShifted (shifted side level contribution)
+IsShifted-shifted Hot level contribution l c = record { from = omega (arith, ints); upto = omega (arith, ints) }
+IsShifted-shifted Cold level contribution l c = record { from = omega (arith, ints); upto = omega (arith, ints) }
 
 pub IsUtility-IsValidUtility : (u : Utility) → IsValidUtility u → IsUtility u
 IsUtility-IsValidUtility u h =
     let level = h.level in record {
       name = h.name;
       level = record { from = omega (arith, ints); upto = omega (arith, ints) };
-      shifted_level = shifted_between u.side u.level u.contribution h.level h.contribution;
-      least = h.least;
-      most = h.most;
-      price = h.price;
+      placed = record { level = IsShifted-shifted u.side u.level u.contribution h.level h.contribution; least = h.least; most = h.most; price = h.price };
       contribution = h.contribution;
     }
 
-IsName-HOT : IsName (codes "HOT")
-IsName-HOT = (refl, All-from_recursion (λ x. IsTrue (is_name_byte x)) (codes "OT") (refl, (refl, tt)), lit≤ tt)
+IsName-standard : (side : Side) (c : Case) → IsName (standard_utility side c).name
+IsName-standard Hot c = (refl, All-from_recursion (λ x. IsTrue (is_name_byte x)) (codes "OT") (refl, (refl, tt)), lit≤ tt)
+IsName-standard Cold c = (refl, All-from_recursion (λ x. IsTrue (is_name_byte x)) (codes "OLD") (refl, (refl, (refl, tt))), lit≤ tt)
 
-IsName-COLD : IsName (codes "COLD")
-IsName-COLD = (refl, All-from_recursion (λ x. IsTrue (is_name_byte x)) (codes "OLD") (refl, (refl, (refl, tt))), lit≤ tt)
-
-HOT≢COLD : codes "HOT" ≢ codes "COLD"
-HOT≢COLD e = absurd (omega (arith, ap length e))
+pub shifted_level-standard : (side : Side) (c : Case) → shifted_level (standard_utility side c) ≡ outermost side (stream_ends c.streams)
+shifted_level-standard Hot c = omega (arith, ints)
+shifted_level-standard Cold c = omega (arith, ints)
 
 -- the standard utilities of valid streams
-IsUtility-standard_hot : (c : Case) → All IsValidStream c.streams → IsContribution c.contribution → IsUtility (standard_hot c)
-IsUtility-standard_hot c each own =
-    let highest = whole_ends-between TakesEnd-high c.streams each in record {
-      name = IsName-HOT;
+IsUtility-standard : (side : Side) (c : Case) → All IsValidStream c.streams → IsContribution c.contribution → IsUtility (standard_utility side c)
+IsUtility-standard side c each own =
+    let end = outermost-between side c.streams each in
+    let placed = subst IsShifted (sym (shifted_level-standard side c)) end in
+    by side end placed
+  where
+    by : (side : Side) → IsShifted (outermost side (stream_ends c.streams)) → IsShifted (shifted_level (standard_utility side c)) → IsUtility (standard_utility side c)
+    by Hot end placed = record {
+      name = IsName-standard Hot c;
       level = record { from = omega (arith, ints); upto = omega (arith, ints) };
-      shifted_level = record { from = omega (arith, ints); upto = omega (arith, ints) };
-      least = record { from = omega (arith, ints); upto = omega (arith, ints) };
-      most = record { from = omega (arith, ints); upto = omega (arith, ints) };
-      price = record { from = omega (arith, ints); upto = omega (arith, ints) };
+      placed = record { level = placed; least = record { from = omega (arith, ints); upto = omega (arith, ints) }; most = record { from = omega (arith, ints); upto = omega (arith, ints) }; price = record { from = omega (arith, ints); upto = omega (arith, ints) } };
       contribution = own;
     }
-
-IsUtility-standard_cold : (c : Case) → All IsValidStream c.streams → IsContribution c.contribution → IsUtility (standard_cold c)
-IsUtility-standard_cold c each own =
-    let lowest = whole_ends-between TakesEnd-low c.streams each in record {
-      name = IsName-COLD;
+    by Cold end placed = record {
+      name = IsName-standard Cold c;
       level = record { from = omega (arith, ints); upto = omega (arith, ints) };
-      shifted_level = record { from = omega (arith, ints); upto = omega (arith, ints) };
-      least = record { from = omega (arith, ints); upto = omega (arith, ints) };
-      most = record { from = omega (arith, ints); upto = omega (arith, ints) };
-      price = record { from = omega (arith, ints); upto = omega (arith, ints) };
+      placed = record { level = placed; least = record { from = omega (arith, ints); upto = omega (arith, ints) }; most = record { from = omega (arith, ints); upto = omega (arith, ints) }; price = record { from = omega (arith, ints); upto = omega (arith, ints) } };
       contribution = own;
     }
 
 -- a fact of what is added, from the two cases
-pub unless_given-elim : (Q : List Utility → Type 0) (u : Utility) (us : List Utility) → (HasUtility u.side us → Q []) → (list_any (λ v. same_side v.side u.side) us ≡ false → Q (u ∷ [])) → Q (unless_given u us)
-unless_given-elim Q u us given absent =
-    let answer = list_any (λ v. same_side v.side u.side) us in
-    (elim answer as (λ b. answer ≡ b → Q (if b then [] else u ∷ [])) [ true ↦ given | false ↦ absent ]) refl
+unless_given-elim : (Q : List Utility → Type 0) (side : Side) (c : Case) → (has_utility side c.utilities ≡ true → Q []) → (has_utility side c.utilities ≡ false → Q (standard_utility side c ∷ [])) → Q (unless_given side c)
+unless_given-elim Q side c given absent =
+    let answer = has_utility side c.utilities in
+    (elim answer as (λ b. answer ≡ b → Q (if b then [] else standard_utility side c ∷ [])) [ true ↦ given | false ↦ absent ]) refl
 
 -- no utility on a side
-none_on : (side : Side) (us : List Utility) → list_any (λ v. same_side v.side side) us ≡ false → All (λ u. u.side ≢ side) us
-none_on Hot us absent k d within same = false≢true (sym absent ∙ list_any_at _ us k d within (ap (λ s. same_side s Hot) same))
-none_on Cold us absent k d within same = false≢true (sym absent ∙ list_any_at _ us k d within (ap (λ s. same_side s Cold) same))
+none_on : (side : Side) (us : List Utility) → has_utility side us ≡ false → All (λ u. u.side ≢ side) us
+none_on side us absent k d within same =
+    false≢true (sym absent ∙ list_any_at (λ u. same_side u.side side) us k d within (ap (λ s. same_side s side) same ∙ own_side side))
 
 -- a case with no utility on either side has none
-none_at_all : (us : List Utility) → list_any (λ v. same_side v.side Hot) us ≡ false → list_any (λ v. same_side v.side Cold) us ≡ false → us ≡ []
+none_at_all : (us : List Utility) → has_utility Hot us ≡ false → has_utility Cold us ≡ false → us ≡ []
 none_at_all [] hot cold = refl
 none_at_all (u ∷ us) hot cold = absurd (neither u.side (none_on Hot (u ∷ us) hot 0 u (omega arith)) (none_on Cold (u ∷ us) cold 0 u (omega arith)))
   where
@@ -123,31 +112,58 @@ none_at_all (u ∷ us) hot cold = absurd (neither u.side (none_on Hot (u ∷ us)
     neither Cold a b = b refl
 
 list_any-left : {X : Type 0} (p : X → Bool) (xs ys : List X) → list_any p xs ≡ true → list_any p (xs ++ ys) ≡ true
-list_any-left p xs ys h = list_any-append p xs ys ∙ ap (λ b. b || list_any p ys) h
+list_any-left p xs ys h = list_any-append p xs ys ∙ or_left (list_any p xs) (list_any p ys) h
 
 list_any-right : {X : Type 0} (p : X → Bool) (xs ys : List X) → list_any p ys ≡ true → list_any p (xs ++ ys) ≡ true
-list_any-right p xs ys h = list_any-append p xs ys ∙ grind (arith, h)
+list_any-right p xs ys h = list_any-append p xs ys ∙ or_right (list_any p xs) (list_any p ys) h
+
+-- with what is added on a side there is one
+has_added : (side : Side) (c : Case) (us : List Utility) → (has_utility side c.utilities ≡ true → has_utility side us ≡ true) → has_utility side (us ++ unless_given side c) ≡ true
+has_added side c us stays =
+    let on_side = λ (u : Utility). same_side u.side side in
+    unless_given-elim (λ xs. has_utility side (us ++ xs) ≡ true) side c (λ given. list_any-left on_side us [] (stays given)) (λ absent. list_any-right on_side us (standard_utility side c ∷ []) (here side))
+  where
+    here : (side : Side) → has_utility side (standard_utility side c ∷ []) ≡ true
+    here Hot = refl
+    here Cold = refl
+
+-- at most one utility more than the limit: with none given there are two
+few-completed : (c : Case) → IsValid c → length (completed c).utilities ≤ ALL_UTILITIES
+few-completed c h =
+    let us = c.utilities in
+    let few = h.few_utilities in
+    unless_given-elim (λ xs. length ((us ++ xs) ++ unless_given Cold c) ≤ ALL_UTILITIES) Hot c
+    (λ _. unless_given-elim (λ ys. length ((us ++ []) ++ ys) ≤ ALL_UTILITIES) Cold c
+    (λ _. omega (arith, length-append {A = Utility}))
+    (λ _. omega (arith, length-append {A = Utility})))
+    (λ no_hot. unless_given-elim (λ ys. length ((us ++ standard_utility Hot c ∷ []) ++ ys) ≤ ALL_UTILITIES) Cold c
+    (λ _. omega (arith, length-append {A = Utility}))
+    (λ no_cold. let none = ap length (none_at_all us no_hot no_cold) in omega (arith, length-append {A = Utility})))
+
+-- ---- the names
+
+unreserved : (side : Side) (c : Case) (name : List ℕ) → IsUnreserved name → name ≢ (standard_utility side c).name
+unreserved Hot c name h = h.0
+unreserved Cold c name h = h.1
+
+rightly_named : (side : Side) (c : Case) (u : Utility) → IsRightlyNamed u → u.name ≡ (standard_utility side c).name → u.side ≡ side
+rightly_named Hot c u h = h.0
+rightly_named Cold c u h = h.1
+
+-- where no utility is on a side none has the name of its standard one
+name-free : (side : Side) (c : Case) → IsValid c → has_utility side c.utilities ≡ false → All (λ n. n ≢ (standard_utility side c).name) (names_of c)
+name-free side c h absent =
+    let P = λ (n : List ℕ). n ≢ (standard_utility side c).name in
+    let none = none_on side c.utilities absent in
+    All-append P (map (λ s. s.name) c.streams) (map (λ u. u.name) c.utilities)
+    (All-map P (λ s. s.name) c.streams (λ k d within. unreserved side c (get_or c.streams k d).name (h.stream_names k d within)))
+    (All-map P (λ u. u.name) c.utilities (λ k d within same. none k d within (rightly_named side c (get_or c.utilities k d) (h.utility_names k d within) same)))
 
 -- names stay distinct where an added utility has a new one
-distinct-added : (names : List (List ℕ)) (u : Utility) (us : List Utility) → AllPairs (λ a b. a ≢ b) names → (list_any (λ v. same_side v.side u.side) us ≡ false → All (λ n. n ≢ u.name) names) → AllPairs (λ a b. a ≢ b) (names ++ map (λ v. v.name) (unless_given u us))
-distinct-added names u us distinct new =
+distinct-added : (names : List (List ℕ)) (side : Side) (c : Case) → AllPairs (λ a b. a ≢ b) names → (has_utility side c.utilities ≡ false → All (λ n. n ≢ (standard_utility side c).name) names) → AllPairs (λ a b. a ≢ b) (names ++ map (λ v. v.name) (unless_given side c))
+distinct-added names side c distinct new =
     let P : List (List ℕ) → Type 0 = λ ns. AllPairs (λ a b. a ≢ b) ns in
-    unless_given-elim (λ xs. P (names ++ map (λ v. v.name) xs)) u us (λ _. subst P (sym (append-nil names)) distinct) (λ absent. all_pairs_push (λ a b. a ≢ b) names u.name distinct (new absent))
-
--- where no utility is hot none has the name `HOT`, and likewise for `COLD`
-no_HOT : (c : Case) → IsValid c → list_any (λ v. same_side v.side Hot) c.utilities ≡ false → All (λ n. n ≢ codes "HOT") (names_of c)
-no_HOT c h absent =
-    let none = none_on Hot c.utilities absent in
-    All-append (λ n. n ≢ codes "HOT") (map (λ s. s.name) c.streams) (map (λ u. u.name) c.utilities)
-    (All-map (λ n. n ≢ codes "HOT") (λ s. s.name) c.streams (λ k d within. (h.stream_names k d within).0))
-    (All-map (λ n. n ≢ codes "HOT") (λ u. u.name) c.utilities (λ k d within same. none k d within ((h.utility_names k d within).0 same)))
-
-no_COLD : (c : Case) → IsValid c → list_any (λ v. same_side v.side Cold) c.utilities ≡ false → All (λ n. n ≢ codes "COLD") (names_of c)
-no_COLD c h absent =
-    let none = none_on Cold c.utilities absent in
-    All-append (λ n. n ≢ codes "COLD") (map (λ s. s.name) c.streams) (map (λ u. u.name) c.utilities)
-    (All-map (λ n. n ≢ codes "COLD") (λ s. s.name) c.streams (λ k d within. (h.stream_names k d within).1))
-    (All-map (λ n. n ≢ codes "COLD") (λ u. u.name) c.utilities (λ k d within same. none k d within ((h.utility_names k d within).1 same)))
+    unless_given-elim (λ xs. P (names ++ map (λ v. v.name) xs)) side c (λ _. subst P (sym (append-nil names)) distinct) (λ absent. all_pairs_push (λ a b. a ≢ b) names (standard_utility side c).name distinct (new absent))
 
 -- the names with further utilities
 names_of-append : (c : Case) (more : List Utility) → names_of (with_utilities c (c.utilities ++ more)) ≡ names_of c ++ map (λ u. u.name) more
@@ -157,20 +173,24 @@ names_of-append c more =
 distinct-completed : (c : Case) → IsValid c → AllPairs (λ a b. a ≢ b) (names_of (completed c))
 distinct-completed c h =
     let us = c.utilities in
-    let hot = unless_given (standard_hot c) us in
-    let cold = unless_given (standard_cold c) us in
+    let hot = unless_given Hot c in
+    let cold = unless_given Cold c in
     let P : List (List ℕ) → Type 0 = λ ns. AllPairs (λ a b. a ≢ b) ns in
-    let N : List (List ℕ) → Type 0 = All (λ n. n ≢ codes "COLD") in
-    let first = distinct-added (names_of c) (standard_hot c) us h.distinct_names (no_HOT c h) in
-    let not_COLD : N (map (λ u. u.name) hot) = unless_given-elim (λ xs. N (map (λ u. u.name) xs)) (standard_hot c) us (λ _. All-nil (λ n. n ≢ codes "COLD")) (λ _. All-cons (λ n. n ≢ codes "COLD") (codes "HOT") [] HOT≢COLD (All-nil (λ n. n ≢ codes "COLD"))) in
-    let both = distinct-added (names_of c ++ map (λ u. u.name) hot) (standard_cold c) us first (λ absent. All-append (λ n. n ≢ codes "COLD") (names_of c) (map (λ u. u.name) hot) (no_COLD c h absent) not_COLD) in
+    let other = λ (n : List ℕ). n ≢ codes "COLD" in
+    let first = distinct-added (names_of c) Hot c h.distinct_names (name-free Hot c h) in
+    let apart = unless_given-elim (λ xs. All other (map (λ u. u.name) xs)) Hot c (λ _. All-nil other) (λ _. All-cons other (codes "HOT") [] (λ e. absurd (omega (arith, ap length e))) (All-nil other)) in
+    let both = distinct-added (names_of c ++ map (λ u. u.name) hot) Cold c first (λ absent. All-append other (names_of c) (map (λ u. u.name) hot) (name-free Cold c h absent) apart) in
     subst P (sym (names_of-append (with_utilities c (us ++ hot)) cold ∙ ap (λ ns. ns ++ map (λ u. u.name) cold) (names_of-append c hot))) both
+
+-- ---- the forbidden matches
 
 -- a source that a case has keeps its side where utilities are added
 side_at-append : (us more : List Utility) (i : ℕ) (side : Side) → option_map (λ u. u.side) (slice_get us i) ≡ Some side → option_map (λ u. u.side) (slice_get (us ++ more) i) ≡ Some side
-side_at-append [] more i side h = absurd (none-some side h)
-side_at-append (u ∷ us) more zero side h = h
-side_at-append (u ∷ us) more (suc i) side h = side_at-append us more i side h
+side_at-append us more i side h = by (slice_get us i) refl
+  where
+    by : (o : Option Utility) → slice_get us i ≡ o → option_map (λ u. u.side) (slice_get (us ++ more) i) ≡ Some side
+    by None at = cc (rw at at h)
+    by (Some u) at = ap (option_map (λ u. u.side)) (slice_get-append us more i u at) ∙ rw at at h
 
 pub side_of-append : (c : Case) (more : List Utility) (source : Source) (side : Side) → side_of c source ≡ Some side → side_of (with_utilities c (c.utilities ++ more)) source ≡ Some side
 side_of-append c more (of_stream i) side h = h
@@ -179,36 +199,28 @@ side_of-append c more (of_utility i) side h = side_at-append c.utilities more i 
 forbid-append : (c : Case) (more : List Utility) (f : Forbid) → IsValidForbid c f → IsValidForbid (with_utilities c (c.utilities ++ more)) f
 forbid-append c more f h = (side_of-append c more f.hot Hot h.0, side_of-append c more f.cold Cold h.1)
 
--- at most one utility more than the limit: with none given there are two
-few-completed : (c : Case) → IsValid c → length (completed c).utilities ≤ ALL_UTILITIES
-few-completed c h =
-    let us = c.utilities in
-    let few = h.few_utilities in
-    unless_given-elim (λ xs. length ((us ++ xs) ++ unless_given (standard_cold c) us) ≤ ALL_UTILITIES) (standard_hot c) us
-    (λ _. unless_given-elim (λ ys. length ((us ++ []) ++ ys) ≤ ALL_UTILITIES) (standard_cold c) us
-    (λ _. omega (arith, length-append {A = Utility}))
-    (λ _. omega (arith, length-append {A = Utility})))
-    (λ no_hot. unless_given-elim (λ ys. length ((us ++ standard_hot c ∷ []) ++ ys) ≤ ALL_UTILITIES) (standard_cold c) us
-    (λ _. omega (arith, length-append {A = Utility}))
-    (λ no_cold. let none = ap length (none_at_all us no_hot no_cold) in omega (arith, length-append {A = Utility})))
+-- ---- the whole case
+
+All-added : (side : Side) (c : Case) → All IsValidStream c.streams → IsContribution c.contribution → All IsUtility (unless_given side c)
+All-added side c each own =
+    unless_given-elim (All IsUtility) side c (λ _. All-nil IsUtility) (λ _. All-cons IsUtility (standard_utility side c) [] (IsUtility-standard side c each own) (All-nil IsUtility))
 
 pub StaysValid-completed : (c : Case) → IsValid c → StaysValid (completed c)
 StaysValid-completed c h =
     let us = c.utilities in
-    let hot = unless_given (standard_hot c) us in
-    let cold = unless_given (standard_cold c) us in
-    let all_utilities = All-append IsUtility (us ++ hot) cold
-    (All-append IsUtility us hot (All-weaker IsValidUtility IsUtility IsUtility-IsValidUtility us h.utilities)
-    (unless_given-elim (All IsUtility) (standard_hot c) us (λ _. All-nil IsUtility) (λ _. All-cons IsUtility (standard_hot c) [] (IsUtility-standard_hot c h.streams.each h.contribution) (All-nil IsUtility))))
-    (unless_given-elim (All IsUtility) (standard_cold c) us (λ _. All-nil IsUtility) (λ _. All-cons IsUtility (standard_cold c) [] (IsUtility-standard_cold c h.streams.each h.contribution) (All-nil IsUtility))) in record {
+    let hot = unless_given Hot c in
+    let cold = unless_given Cold c in
+    let each = h.streams.are_streams.each in
+    let all_utilities = All-append IsUtility (us ++ hot) cold (All-append IsUtility us hot (All-weaker IsValidUtility IsUtility IsUtility-IsValidUtility us h.utilities) (All-added Hot c each h.contribution)) (All-added Cold c each h.contribution) in record {
       contribution = h.contribution;
       streams = h.streams;
       utilities = all_utilities;
-      some_hot = list_any-left _ (us ++ hot) cold (unless_given-elim (λ xs. HasUtility Hot (us ++ xs)) (standard_hot c) us (λ given. list_any-left _ us [] given) (λ _. list_any-right _ us (standard_hot c ∷ []) refl));
-      some_cold = unless_given-elim (λ xs. HasUtility Cold ((us ++ hot) ++ xs)) (standard_cold c) us (λ given. list_any-left _ (us ++ hot) [] (list_any-left _ us hot given)) (λ _. list_any-right _ (us ++ hot) (standard_cold c ∷ []) refl);
+      some_utility = each_side (λ side. has_utility side (completed c).utilities ≡ true)
+          (list_any-left (λ u. same_side u.side Hot) (us ++ hot) cold (has_added Hot c us (λ given. given)))
+          (has_added Cold c (us ++ hot) (λ given. list_any-left (λ u. same_side u.side Cold) us hot given));
       few_utilities = few-completed c h;
       names = All-append IsName (map (λ s. s.name) c.streams) (map (λ u. u.name) ((us ++ hot) ++ cold))
-          (All-map IsName (λ s. s.name) c.streams (All-weaker IsValidStream (λ s. IsName s.name) (λ s k. k.name) c.streams h.streams.each))
+          (All-map IsName (λ s. s.name) c.streams (All-weaker IsValidStream (λ s. IsName s.name) (λ s k. k.name) c.streams each))
           (All-map IsName (λ u. u.name) ((us ++ hot) ++ cold) (All-weaker IsUtility (λ u. IsName u.name) (λ u k. k.name) ((us ++ hot) ++ cold) all_utilities));
       distinct_names = distinct-completed c h;
       forbids = All-weaker (IsValidForbid c) (IsValidForbid (completed c)) (λ f k. forbid-append (with_utilities c (us ++ hot)) cold f (forbid-append c hot f k)) c.forbids h.forbids;
@@ -225,3 +237,12 @@ HasValidStreams-IsComplete c h = (StaysValid-IsComplete c h).streams
 pub HasValidStreams-either : (c : Case) → IsValid c ⊎ IsComplete c → HasValidStreams c.streams
 HasValidStreams-either c (inl h) = h.streams
 HasValidStreams-either c (inr h) = HasValidStreams-IsComplete c h
+
+pub AreStreams-IsComplete : (c : Case) → IsComplete c → AreStreams c.streams
+AreStreams-IsComplete c h = (HasValidStreams-IsComplete c h).are_streams
+
+pub IsPlaced-IsComplete : (c : Case) → IsComplete c → All IsPlaced c.utilities
+IsPlaced-IsComplete c h = All-weaker IsUtility IsPlaced (λ u k. k.placed) c.utilities (StaysValid-IsComplete c h).utilities
+
+pub length-utilities : (c : Case) → IsComplete c → length c.utilities ≤ ALL_UTILITIES
+length-utilities c h = (StaysValid-IsComplete c h).few_utilities

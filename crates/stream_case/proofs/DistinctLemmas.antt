@@ -2,12 +2,12 @@
 use Rattle.std.proofs.Common.{◌≡◌, ◌≢◌, ℕ, ◌+◌, ◌<◌, ◌≤◌, ◌++◌, true, false, cond, List, [], All, Some, None, length, get_or, slice_get, take, position, nat_lt, AllPairs, Contains, refl, sym, ap, subst, subst₂, ◌∙◌, arith, length-append}
 use Rattle.std.specs.Str.{bytes_eq}
 use Rattle.std.specs.Cmp.Lexicographic.{bytes_decides}
+use Rattle.std.proofs.lemmas.Bool.{false_from_ne_true}
 use Rattle.std.proofs.lemmas.Bool.Decides.{nat_tests}
 use Rattle.std.proofs.lemmas.List.{take_more, take_all, get_or_append_left, get_or-append-add, get_or-take, get_or_default, length-take-le}
 use Rattle.std.proofs.lemmas.List.Quantifiers.{all_pairs_push}
 use Rattle.std.proofs.lemmas.List.Sums.{position_or_len_is}
 use Rattle.std.proofs.lemmas.Option.{get_or_from_slice_get, slice_get_within}
-use Rattle.stream_case.proofs.NameTests.{not_true}
 
 pub AllPairs-more : {X : Type 0} (R : X → X → Type 0) (xs : List X) (i : ℕ) → i < length xs → AllPairs R (take i xs) → ((k : ℕ) (d : X) → k < i → R (get_or xs k d) (get_or xs i d)) → AllPairs R (take (i + 1) xs)
 AllPairs-more {X} R xs i within before new a b d =
@@ -64,7 +64,7 @@ AllPairs-before R xs i d pairs within k e early =
 
 -- a name that differs from another fails the test of that one
 pub other_name : (name other : List ℕ) → other ≢ name → bytes_eq name other ≡ false
-other_name name other differs = not_true (bytes_eq name other) (λ e. differs (sym ((bytes_decides name other).0 e)))
+other_name name other differs = false_from_ne_true (bytes_eq name other) (λ e. differs (sym ((bytes_decides name other).0 e)))
 
 pub place_of : (names : List (List ℕ)) (i : ℕ) → AllPairs (λ a b. a ≢ b) names → i < length names → position (bytes_eq (get_or names i [])) names ≡ Some i
 place_of names i distinct within =

@@ -1,9 +1,10 @@
 pub mod CaseLemmas
-pub mod CommonLemmas
 pub mod CompleteLemmas
 pub mod DigitLemmas
 pub mod DistinctLemmas
 pub mod EndLemmas
+pub mod HeatLemmas
+pub mod ListLemmas
 pub mod NameLemmas
 pub mod NameTests
 pub mod SameLemmas

@@ -1,15 +1,9 @@
 -- What the test of a name says.
-use Rattle.std.proofs.Common.{◌≡◌, ◌≤◌, ℕ, Bool, true, false, List, [], ◌∷◌, length, refl, arith, ◌&&◌, nat_le}
+use Rattle.std.proofs.Common.{◌≡◌, ◌≤◌, ℕ, true, false, List, [], ◌∷◌, length, refl, arith, nat_le}
+use Rattle.std.proofs.lemmas.Bool.{and_parts, false_from_ne_true}
 use Rattle.std.proofs.lemmas.Bool.Decides.{nat_tests}
 use Rattle.std.proofs.lemmas.List.Sums.{AllPass-from_list_all, list_all-from_AllPass}
 use Rattle.stream_case.specs.Name.{IsName, is_name, is_name_byte}
-
--- three tests that are true
-pub all_three : (a b c : Bool) → ((a && b) && c) ≡ true → (a ≡ true) × (b ≡ true) × (c ≡ true)
-all_three true true true e = (refl, refl, refl)
-all_three true true false e = cc e
-all_three true false c e = cc e
-all_three false b c e = cc e
 
 pub name-passes : (text : List ℕ) → IsName text → is_name text ≡ true
 unfolding is_name
@@ -24,13 +18,10 @@ pub passed-name : (text : List ℕ) → is_name text ≡ true → IsName text
 unfolding is_name
 passed-name [] e = cc e
 passed-name (b ∷ bs) e =
-    let h = all_three _ _ _ e in
-    let short : length bs ≤ 15 = grind (arith, nat_tests, h.2) in
-    (h.0, AllPass-from_list_all is_name_byte bs h.1, short)
-
-pub not_true : (b : Bool) → (b ≡ true → ⊥) → b ≡ false
-not_true true never = absurd (never refl)
-not_true false never = refl
+    let outer = and_parts _ _ e in
+    let inner = and_parts _ _ outer.0 in
+    let short : length bs ≤ 15 = grind (arith, nat_tests, outer.1) in
+    (inner.0, AllPass-from_list_all is_name_byte bs inner.1, short)
 
 pub fails-name : (text : List ℕ) → (IsName text → ⊥) → is_name text ≡ false
-fails-name text never = not_true _ (λ passes. never (passed-name text passes))
+fails-name text never = false_from_ne_true _ (λ passes. never (passed-name text passes))

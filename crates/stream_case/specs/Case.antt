@@ -1,7 +1,9 @@
--- Valid, completed and standard cases.
-use Rattle.std.specs.Prelude.{◌≡◌, ◌≢◌, ◌⊎◌, ℕ, ℤ, pos, neg_ℤ, ◌+ℤ◌, ◌-ℤ◌, ◌≤ℤ◌, ◌<ℤ◌, ◌<◌, ◌≤◌, not, if◌then◌else◌, List, [], ◌∷◌, ◌++◌, length, count_by, map, fold, All, AllPairs, Option, Some, option_map, slice_get, take, ◌-◌, codes}
+-- The sources of a case; valid, completed and standard cases.
+use Rattle.std.specs.Prelude.{◌≡◌, ◌≢◌, ◌⊎◌, ℕ, ℤ, pos, ◌+ℤ◌, ◌-ℤ◌, ◌<◌, ◌≤◌, Bool, ◌&&◌, if◌then◌else◌, List, [], ◌∷◌, ◌++◌, length, map, fold, position, All, AllPairs, Option, Some, None, option_map, slice_get, take, ◌-◌, codes}
 use Rattle.std.specs.Int.{int_max, int_min}
 use Rattle.std.specs.List.{list_any}
+use Rattle.std.specs.Option.{option_map_or}
+use Rattle.std.specs.Str.{bytes_eq}
 use Rattle.stream_case.specs.declared.source.Side.{Side}
 use Rattle.stream_case.specs.declared.source.Side.TheVariants.{Hot, Cold}
 use Rattle.stream_case.specs.declared.source.Source.{Source}
@@ -10,53 +12,55 @@ use Rattle.stream_case.specs.declared.stream.Stream.{Stream}
 use Rattle.stream_case.specs.declared.utility.Utility.{Utility}
 use Rattle.stream_case.specs.declared.case.Forbid.{Forbid}
 use Rattle.stream_case.specs.declared.case.Case.{Case}
-use Rattle.stream_case.specs.declared.limits.TheConstants.{MOST_STREAMS, MOST_UTILITIES, MOST_FORBIDS, MOST_HEAT}
-use Rattle.stream_case.specs.Limits.{IsBetween, IsTemperature, IsContribution, IsFlowRate, IsHeat, IsPrice}
-use Rattle.stream_case.specs.Name.{IsName}
-use Rattle.stream_case.specs.Stream.{is_hot, same_side, stream_ends}
+use Rattle.stream_case.specs.declared.limits.TheConstants.{MOST_UTILITIES, MOST_FORBIDS, MOST_HEAT}
+use Rattle.stream_case.specs.Limits.{IsContribution}
+use Rattle.stream_case.specs.Source.{same_side, same_source}
+use Rattle.stream_case.specs.Stream.{stream_ends, HasValidStreams}
+use Rattle.stream_case.specs.Utility.{IsValidUtility}
 
--- a hot stream falls from its supply to its target, and a cold one rises
-abbrev pub IsRightWay : Side → ℤ → ℤ → Type 0
-IsRightWay Hot supply target = target <ℤ supply
-IsRightWay Cold supply target = supply <ℤ target
+-- ---- the sources of a case
 
--- a stream that a case may have: an undotted name, numbers in their ranges, and the right way
-pub record IsValidStream (s : Stream) : Type 0 where
-  pub name : IsName s.name
-  pub supply : IsTemperature s.supply
-  pub target : IsTemperature s.target
-  pub way : IsRightWay s.side s.supply s.target
-  pub cp : IsFlowRate s.cp
-  pub contribution : IsContribution s.contribution
+abbrev pub IsSourceOf : Case → Source → Type 0
+IsSourceOf c (of_stream i) = i < length c.streams
+IsSourceOf c (of_utility i) = i < length c.utilities
 
--- the streams of a valid case, and of a completed one: some, and not too many on a side
-pub record HasValidStreams (streams : List Stream) : Type 0 where
-  pub some : 0 < length streams
-  pub each : All IsValidStream streams
-  pub hot : count_by (λ s. is_hot s.side) streams ≤ MOST_STREAMS
-  pub cold : count_by (λ s. not (is_hot s.side)) streams ≤ MOST_STREAMS
+-- the side of a source among these streams and utilities, if it is one of them
+abbrev pub side_among : List Stream → List Utility → Source → Option Side
+side_among streams utilities (of_stream i) = option_map (λ s. s.side) (slice_get streams i)
+side_among streams utilities (of_utility i) = option_map (λ u. u.side) (slice_get utilities i)
 
--- a utility that a case file may give
-pub record IsValidUtility (u : Utility) : Type 0 where
-  pub name : IsName u.name
-  pub level : IsTemperature u.level
-  pub least : IsHeat u.least
-  pub most : IsBetween u.least MOST_HEAT u.most
-  pub price : IsPrice u.price
-  pub contribution : IsContribution u.contribution
+-- the same of a case
+abbrev pub side_of : Case → Source → Option Side
+side_of c source = side_among c.streams c.utilities source
 
--- the case with these utilities in place of its own
-abbrev pub with_utilities : Case → List Utility → Case
-with_utilities c utilities = record c { utilities = utilities }
+-- the name of a source of the case; nothing where it has no such source
+abbrev pub source_name : Case → Source → List ℕ
+source_name c (of_stream i) = option_map_or (λ s. s.name) (slice_get c.streams i) []
+source_name c (of_utility i) = option_map_or (λ u. u.name) (slice_get c.utilities i) []
+
+-- the source that was found at an index among the streams, or else at one among the utilities
+abbrev pub first_source : Option ℕ → Option ℕ → Option Source
+first_source (Some i) utility = Some (of_stream i)
+first_source None (Some i) = Some (of_utility i)
+first_source None None = None
+
+-- the source of the case with a name
+unfoldable pub source_named : Case → List ℕ → Option Source
+source_named c name = first_source (position (λ s. bytes_eq name s.name) c.streams) (position (λ u. bytes_eq name u.name) c.utilities)
 
 -- the names of its streams, then those of its utilities
 abbrev pub names_of : Case → List (List ℕ)
 names_of c = map (λ s. s.name) c.streams ++ map (λ u. u.name) c.utilities
 
--- the side of a source, if the case has the source
-abbrev pub side_of : Case → Source → Option Side
-side_of c (of_stream i) = option_map (λ s. s.side) (slice_get c.streams i)
-side_of c (of_utility i) = option_map (λ u. u.side) (slice_get c.utilities i)
+-- the pair of sources is a forbidden match
+abbrev pub is_forbidden : List Forbid → Source → Source → Bool
+is_forbidden forbids hot cold = list_any (λ f. same_source f.hot hot && same_source f.cold cold) forbids
+
+-- ---- valid cases
+
+-- the case with these utilities in place of its own
+abbrev pub with_utilities : Case → List Utility → Case
+with_utilities c utilities = record c { utilities = utilities }
 
 -- it joins a hot source with a cold one
 abbrev pub IsValidForbid : Case → Forbid → Type 0
@@ -85,6 +89,8 @@ pub record IsValid (c : Case) : Type 0 where
   pub few_forbids : length c.forbids ≤ MOST_FORBIDS
   pub distinct_forbids : AllPairs (λ f g. f ≢ g) c.forbids
 
+-- ---- completion
+
 -- the greatest and the least of a list that is not empty
 abbrev pub greatest : List ℤ → ℤ
 greatest [] = pos 0
@@ -94,9 +100,18 @@ abbrev pub least : List ℤ → ℤ
 least [] = pos 0
 least (x ∷ xs) = fold int_min x xs
 
--- the utilities of a case that gives none: their shifted levels are the highest and the lowest stream end
-abbrev pub standard_hot : Case → Utility
-standard_hot c = record {
+-- the outer one of two temperatures on a side, and the outermost one of a list: outward is up for hot and down for cold
+abbrev pub outer_of : Side → ℤ → ℤ → ℤ
+outer_of Hot = int_max
+outer_of Cold = int_min
+
+abbrev pub outermost : Side → List ℤ → ℤ
+outermost Hot xs = greatest xs
+outermost Cold xs = least xs
+
+-- the utility of a case that gives none on a side: its shifted level is the outermost stream end
+abbrev pub standard_utility : Side → Case → Utility
+standard_utility Hot c = record {
   name = codes "HOT";
   side = Hot;
   level = greatest (stream_ends c.streams) +ℤ c.contribution;
@@ -105,9 +120,7 @@ standard_hot c = record {
   price = pos 1;
   contribution = c.contribution;
 }
-
-abbrev pub standard_cold : Case → Utility
-standard_cold c = record {
+standard_utility Cold c = record {
   name = codes "COLD";
   side = Cold;
   level = least (stream_ends c.streams) -ℤ c.contribution;
@@ -117,12 +130,16 @@ standard_cold c = record {
   contribution = c.contribution;
 }
 
--- u, if no utility is on its side
-abbrev pub unless_given : Utility → List Utility → List Utility
-unless_given u us = if list_any (λ v. same_side v.side u.side) us then [] else u ∷ []
+-- whether a utility is on a side
+abbrev pub has_utility : Side → List Utility → Bool
+has_utility side utilities = list_any (λ u. same_side u.side side) utilities
+
+-- the standard utility of a side, if no utility is on it
+abbrev pub unless_given : Side → Case → List Utility
+unless_given side c = if has_utility side c.utilities then [] else standard_utility side c ∷ []
 
 abbrev pub completed : Case → Case
-completed c = record c { utilities = (c.utilities ++ unless_given (standard_hot c) c.utilities) ++ unless_given (standard_cold c) c.utilities }
+completed c = with_utilities c ((c.utilities ++ unless_given Hot c) ++ unless_given Cold c)
 
 -- the case without its last utilities, n of them
 abbrev pub without_last : Case → ℕ → Case
@@ -135,4 +152,4 @@ IsComplete c = (k : Case) × IsValid k × (c ≡ completed k)
 -- a completed case with no forbidden match, and with just the two standard utilities
 pub record IsStandard (c : Case) : Type 0 where
   pub free : c.forbids ≡ []
-  pub utilities : (c.utilities ≡ standard_hot c ∷ standard_cold c ∷ []) ⊎ (c.utilities ≡ standard_cold c ∷ standard_hot c ∷ [])
+  pub utilities : (c.utilities ≡ standard_utility Hot c ∷ standard_utility Cold c ∷ []) ⊎ (c.utilities ≡ standard_utility Cold c ∷ standard_utility Hot c ∷ [])

@@ -5,3 +5,4 @@ pub mod Name
 pub mod Shift
 pub mod Source
 pub mod Stream
+pub mod Utility

@@ -1,6 +1,6 @@
 -- Numbers within the limits.
 use Rattle.std.specs.Prelude.{ℤ, pos, neg_ℤ, ◌≤ℤ◌}
-use Rattle.stream_case.specs.declared.limits.TheConstants.{LOWEST_TEMPERATURE, HIGHEST_TEMPERATURE, MOST_CONTRIBUTION, MOST_CP, MOST_HEAT, MOST_PRICE, LOWEST_SHIFTED, HIGHEST_SHIFTED, LOWEST_LEVEL, HIGHEST_LEVEL, MOST_STREAM_HEAT, ALL_STREAMS_HEAT, MOST_PART_PRICE}
+use Rattle.stream_case.specs.declared.limits.TheConstants.{LOWEST_TEMPERATURE, HIGHEST_TEMPERATURE, MOST_CONTRIBUTION, MOST_CP, LONGEST_RANGE, MOST_HEAT, MOST_PRICE, LOWEST_SHIFTED, HIGHEST_SHIFTED, LOWEST_LEVEL, HIGHEST_LEVEL, MOST_STREAM_HEAT, ALL_STREAMS_HEAT, MOST_PART_PRICE}
 
 -- x lies from low to high
 pub record IsBetween (low high x : ℤ) : Type 0 where
@@ -26,6 +26,10 @@ IsHeat heat = IsBetween (pos 0) MOST_HEAT heat
 -- a price of one watt
 abbrev pub IsPrice : ℤ → Type 0
 IsPrice price = IsBetween (neg_ℤ MOST_PRICE) MOST_PRICE price
+
+-- the length of a stream's range or of a part of it, in tenths of °C
+abbrev pub IsLength : ℤ → Type 0
+IsLength length = IsBetween (pos 0) LONGEST_RANGE length
 
 -- a temperature on the shifted scale, in tenths of °C
 abbrev pub IsShifted : ℤ → Type 0

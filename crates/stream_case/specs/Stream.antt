@@ -1,33 +1,36 @@
--- The shifted range of a stream, and its heat above a shifted temperature.
-use Rattle.std.specs.Prelude.{ℤ, pos, ◌-ℤ◌, ◌*ℤ◌, Bool, true, false, List, [], ◌∷◌, if◌then◌else◌}
+-- The ranges of a stream, its heat, and valid streams.
+use Rattle.std.specs.Prelude.{ℕ, ◌<◌, ◌≤◌, ℤ, pos, ◌-ℤ◌, ◌*ℤ◌, List, [], ◌∷◌, length, count_by, All, if◌then◌else◌}
 use Rattle.std.specs.Int.{int_max}
 use Rattle.stream_case.specs.declared.source.Side.{Side}
-use Rattle.stream_case.specs.declared.source.Side.TheVariants.{Hot, Cold}
 use Rattle.stream_case.specs.declared.stream.Stream.{Stream}
+use Rattle.stream_case.specs.declared.limits.TheConstants.{MOST_STREAMS}
+use Rattle.stream_case.specs.Limits.{IsTemperature, IsContribution, IsFlowRate}
+use Rattle.stream_case.specs.Name.{IsName}
 use Rattle.stream_case.specs.Shift.{shifted}
+use Rattle.stream_case.specs.Source.{is_hot, same_side, IsRightWay}
 
-abbrev pub is_hot : Side → Bool
-is_hot Hot = true
-is_hot Cold = false
+-- ---- ranges
 
-abbrev pub same_side : Side → Side → Bool
-same_side Hot Hot = true
-same_side Hot Cold = false
-same_side Cold Hot = false
-same_side Cold Cold = true
+-- the ends of the actual range: a hot stream falls to its target, and a cold one rises from its supply
+abbrev pub lower_temperature : Stream → ℤ
+lower_temperature s = if is_hot s.side then s.target else s.supply
 
-abbrev pub shifted_supply : Stream → ℤ
-shifted_supply s = shifted s.side s.supply s.contribution
+abbrev pub higher_temperature : Stream → ℤ
+higher_temperature s = if is_hot s.side then s.supply else s.target
 
-abbrev pub shifted_target : Stream → ℤ
-shifted_target s = shifted s.side s.target s.contribution
-
--- the ends of the shifted range: a hot stream falls from its supply, and a cold one rises to its target
+-- the ends of the shifted range
 abbrev pub high_end : Stream → ℤ
-high_end s = if is_hot s.side then shifted_supply s else shifted_target s
+high_end s = shifted s.side (higher_temperature s) s.contribution
 
 abbrev pub low_end : Stream → ℤ
-low_end s = if is_hot s.side then shifted_target s else shifted_supply s
+low_end s = shifted s.side (lower_temperature s) s.contribution
+
+-- the shifted stream ends
+abbrev pub stream_ends : List Stream → List ℤ
+stream_ends [] = []
+stream_ends (s ∷ ss) = high_end s ∷ low_end s ∷ stream_ends ss
+
+-- ---- heats
 
 -- by how much x is above t, and 0 where it is not
 abbrev pub distance_above : ℤ → ℤ → ℤ
@@ -37,15 +40,39 @@ distance_above x t = int_max (x -ℤ t) (pos 0)
 abbrev pub length_above : ℤ → ℤ → ℤ → ℤ
 length_above low high t = distance_above high t -ℤ distance_above low t
 
--- the heat that a stream gives or takes above the shifted temperature t
+-- the heat that a stream gives or takes between two temperatures of its range
+abbrev pub heat_between : ℤ → ℤ → Stream → ℤ
+heat_between high low s = s.cp *ℤ (high -ℤ low)
+
+-- its heat above the shifted temperature t
 abbrev pub heat_above : ℤ → Stream → ℤ
 heat_above t s = s.cp *ℤ length_above (low_end s) (high_end s) t
 
--- the whole heat of a stream
+-- its whole heat
 abbrev pub heat_of : Stream → ℤ
-heat_of s = s.cp *ℤ (high_end s -ℤ low_end s)
+heat_of s = heat_between (high_end s) (low_end s) s
 
--- the shifted stream ends
-abbrev pub stream_ends : List Stream → List ℤ
-stream_ends [] = []
-stream_ends (s ∷ ss) = high_end s ∷ low_end s ∷ stream_ends ss
+-- ---- valid streams
+
+-- a stream that a case may have: an undotted name, numbers in their ranges, and the right way
+pub record IsValidStream (s : Stream) : Type 0 where
+  pub name : IsName s.name
+  pub supply : IsTemperature s.supply
+  pub target : IsTemperature s.target
+  pub way : IsRightWay s.side s.supply s.target
+  pub cp : IsFlowRate s.cp
+  pub contribution : IsContribution s.contribution
+
+-- how many streams are on a side
+abbrev pub count_on : Side → List Stream → ℕ
+count_on side streams = count_by (λ s. same_side s.side side) streams
+
+-- streams that are valid each, and not too many on a side
+pub record AreStreams (streams : List Stream) : Type 0 where
+  pub each : All IsValidStream streams
+  pub few : (side : Side) → count_on side streams ≤ MOST_STREAMS
+
+-- the streams of a valid case, and of a completed one: there is one
+pub record HasValidStreams (streams : List Stream) : Type 0 where
+  pub some : 0 < length streams
+  pub are_streams : AreStreams streams

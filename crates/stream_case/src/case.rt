@@ -1,7 +1,11 @@
 //! A case: the streams, the utilities, and the matches that are forbidden.
+ghost use Rattle.std.specs.Prelude.{◌≡◌, ◌<◌, ◌^◌, length, position};
+ghost use Rattle.std.specs.Str.{bytes_eq};
+ghost use Rattle.stream_case.specs.Case.{IsSourceOf, side_among, side_of, source_name, source_named, is_forbidden};
 
 use crate::items::Items;
-use crate::source::Source;
+use crate::name::Name;
+use crate::source::{Side, Source};
 use crate::stream::Stream;
 use crate::utility::Utility;
 
@@ -21,4 +25,79 @@ pub struct Case {
     pub streams: Items<Stream>,
     pub utilities: Items<Utility>,
     pub forbids: Items<Forbid>,
+}
+
+impl Case {
+    /// The side of a source, if the case has the source.
+    pub fn side_of(&self, source: Source) -> Option<Side>
+        ensures { result ≡ side_of self.now source }
+    {
+        side_among(self.streams.as_slice(), self.utilities.as_slice(), source)
+    }
+
+    /// The name of a source of the case.
+    pub fn name_of(&self, source: Source) -> Name
+        requires { IsSourceOf self.now source }
+        ensures { result ≡ source_name self.now source }
+    {
+        match source {
+            Source::Stream(index) => self.streams.as_slice()[index as usize].name,
+            Source::Utility(index) => self.utilities.as_slice()[index as usize].name,
+        }
+    }
+
+    /// The source with this name, if the case has one: the first stream with the name, and the
+    /// first utility where no stream has it.
+    #[tactic(auto, unfolding(crate::specs::Case::source_named))]
+    pub fn source_named(&self, name: &[u8]) -> Option<Source>
+        requires few_streams { length self.now.streams < 2 ^ 32 }
+        requires few_utilities { length self.now.utilities < 2 ^ 32 }
+        ensures { result ≡ source_named self.now name.now }
+    {
+        if let Some(index) = stream_index(self.streams.as_slice(), name) {
+            return Some(Source::Stream(index as u32));
+        }
+        let Some(index) = utility_index(self.utilities.as_slice(), name) else {
+            return None;
+        };
+        Some(Source::Utility(index as u32))
+    }
+
+    /// Whether a hot and a cold source are a forbidden match.
+    pub fn is_forbidden(&self, hot: Source, cold: Source) -> bool
+        ensures { result ≡ is_forbidden self.now.forbids hot cold }
+    {
+        self.forbids
+            .as_slice()
+            .iter()
+            .any(|forbid| forbid.hot == hot && forbid.cold == cold)
+    }
+}
+
+/// The side of a source among these streams and utilities, if it is one of them.
+pub(crate) fn side_among(streams: &[Stream], utilities: &[Utility], source: Source) -> Option<Side>
+    ensures { result ≡ side_among streams.now utilities.now source }
+{
+    match source {
+        Source::Stream(index) => streams.get(index as usize).map(|stream| stream.side),
+        Source::Utility(index) => utilities.get(index as usize).map(|utility| utility.side),
+    }
+}
+
+/// The index of the first stream with this name.
+fn stream_index(streams: &[Stream], name: &[u8]) -> Option<usize>
+    ensures { result ≡ position (λ s. bytes_eq name.now s.name) streams.now }
+{
+    streams
+        .iter()
+        .position(|stream| name == stream.name.as_bytes())
+}
+
+/// The index of the first utility with this name.
+fn utility_index(utilities: &[Utility], name: &[u8]) -> Option<usize>
+    ensures { result ≡ position (λ u. bytes_eq name.now u.name) utilities.now }
+{
+    utilities
+        .iter()
+        .position(|utility| name == utility.name.as_bytes())
 }

@@ -1,9 +1,8 @@
 //! Completion with the standard utilities.
-ghost use Rattle.std.specs.Prelude.{◌≡◌, ◌↔◌, ◌++◌, ◌-◌, [], ◌∷◌, ℕ, length, take, IsTrue, IfOk, OnOk};
-ghost use Rattle.std.specs.List.{list_any};
-ghost use Rattle.stream_case.specs.Stream.{same_side, stream_ends};
+ghost use Rattle.std.specs.Prelude.{◌≡◌, ◌↔◌, ◌++◌, [], ◌∷◌, IsTrue, IfOk, OnOk};
+ghost use Rattle.stream_case.specs.Stream.{stream_ends, HasValidStreams};
 ghost use Rattle.stream_case.specs.Limits.{IsContribution, IsShifted};
-ghost use Rattle.stream_case.specs.Case.{HasValidStreams, IsValid, IsComplete, IsStandard, standard_hot, standard_cold, completed, unless_given, greatest, least, without_last};
+ghost use Rattle.stream_case.specs.Case.{IsValid, IsComplete, IsStandard, completed, has_utility, outer_of, outermost, standard_utility, unless_given, with_utilities, without_last};
 
 use crate::case::Case;
 use crate::items::Items;
@@ -15,81 +14,79 @@ use crate::utility::Utility;
 use crate::validity::is_valid_with;
 use std::alloc::{AllocError, Global};
 
-/// The highest shifted stream end, in tenths of °C.
-fn highest_end(streams: &[Stream]) -> i32
+/// The outer one of two temperatures: the higher one for the hot side, the lower one for the
+/// cold side.
+fn outer_of(side: Side, a: i32, b: i32) -> i32
+    ensures { result ≡ outer_of side a b }
+{
+    match side {
+        Side::Hot => a.max(b),
+        Side::Cold => a.min(b),
+    }
+}
+
+/// The outermost shifted stream end, in tenths of °C.
+fn outermost_end(side: Side, streams: &[Stream]) -> i32
     requires { HasValidStreams streams.now }
-    ensures value { result ≡ greatest (stream_ends streams.now) }
+    ensures value { result ≡ outermost side (stream_ends streams.now) }
     ensures range { IsShifted result }
 {
-    let mut highest = streams[0].high_end();
+    let mut outermost = streams[0].high_end();
     for stream in streams {
-        highest = highest.max(stream.high_end());
+        outermost = outer_of(side, outermost, stream.high_end());
+        outermost = outer_of(side, outermost, stream.low_end());
     }
-    highest
+    outermost
 }
 
-/// The lowest shifted stream end, in tenths of °C.
-fn lowest_end(streams: &[Stream]) -> i32
-    requires { HasValidStreams streams.now }
-    ensures value { result ≡ least (stream_ends streams.now) }
-    ensures range { IsShifted result }
-{
-    let mut lowest = streams[0].low_end();
-    for stream in streams {
-        lowest = lowest.min(stream.low_end());
-    }
-    lowest
-}
-
-/// The utility of a case that gives no hot one: any heat at the highest shifted stream end.
-fn standard_hot(case: &Case) -> Utility
+/// The utility of a case that gives none on a side: any heat at the outermost shifted stream
+/// end.
+fn standard_utility(side: Side, case: &Case) -> Utility
     requires streams { HasValidStreams case.now.streams }
     requires contribution { IsContribution case.now.contribution }
-    ensures { result ≡ standard_hot case.now }
+    ensures { result ≡ standard_utility side case.now }
 {
-    Utility {
-        name: Name::new(b"HOT").unwrap(),
-        side: Side::Hot,
-        level: highest_end(case.streams.as_slice()) + case.contribution,
-        least: 0,
-        most: MOST_HEAT,
-        price: 1,
-        contribution: case.contribution,
-    }
-}
-
-/// The utility of a case that gives no cold one: any heat at the lowest shifted stream end.
-fn standard_cold(case: &Case) -> Utility
-    requires streams { HasValidStreams case.now.streams }
-    requires contribution { IsContribution case.now.contribution }
-    ensures { result ≡ standard_cold case.now }
-{
-    Utility {
-        name: Name::new(b"COLD").unwrap(),
-        side: Side::Cold,
-        level: lowest_end(case.streams.as_slice()) - case.contribution,
-        least: 0,
-        most: MOST_HEAT,
-        price: 0,
-        contribution: case.contribution,
+    let end = outermost_end(side, case.streams.as_slice());
+    match side {
+        Side::Hot => Utility {
+            name: Name::new(b"HOT").unwrap(),
+            side: Side::Hot,
+            level: end + case.contribution,
+            least: 0,
+            most: MOST_HEAT,
+            price: 1,
+            contribution: case.contribution,
+        },
+        Side::Cold => Utility {
+            name: Name::new(b"COLD").unwrap(),
+            side: Side::Cold,
+            level: end - case.contribution,
+            least: 0,
+            most: MOST_HEAT,
+            price: 0,
+            contribution: case.contribution,
+        },
     }
 }
 
 fn has_utility(side: Side, utilities: &[Utility]) -> bool
-    ensures { result ≡ list_any (λ u. same_side u.side side) utilities.now }
+    ensures { result ≡ has_utility side utilities.now }
 {
     utilities.iter().any(|utility| utility.side == side)
 }
 
+/// Appends the standard utility of a side, if the case gives none there.
 fn push_unless_given(
     utilities: &mut Items<Utility>,
-    given: &[Utility],
-    utility: Utility,
+    side: Side,
+    case: &Case,
 ) -> Result<(), AllocError>
-    ensures { OnOk result (utilities.new ≡ utilities.old ++ unless_given utility given.now) }
+    requires streams { HasValidStreams case.now.streams }
+    requires contribution { IsContribution case.now.contribution }
+    ensures { OnOk result (utilities.new ≡ utilities.old ++ unless_given side case.now) }
 {
-    if !has_utility(utility.side, given) {
-        utilities.push(utility)?;
+    if !has_utility(side, case.utilities.as_slice()) {
+        utilities.push(standard_utility(side, case))?;
     }
     Ok(())
 }
@@ -102,10 +99,9 @@ pub fn complete(alloc: Global, case: &Case) -> Result<Case, AllocError>
     requires { IsValid case.now }
     ensures { IfOk result (λ c. c ≡ completed case.now) }
 {
-    let given = case.utilities.as_slice();
     let mut utilities = case.utilities.copied(alloc)?;
-    push_unless_given(&mut utilities, given, standard_hot(case))?;
-    push_unless_given(&mut utilities, given, standard_cold(case))?;
+    push_unless_given(&mut utilities, Side::Hot, case)?;
+    push_unless_given(&mut utilities, Side::Cold, case)?;
     Ok(Case {
         contribution: case.contribution,
         streams: case.streams.copied(alloc)?,
@@ -130,13 +126,11 @@ fn are_two(utilities: &[Utility], first: &Utility, second: &Utility) -> bool
 fn is_addition(case: &Case, given: &[Utility], added: &[Utility]) -> bool
     requires streams { HasValidStreams case.now.streams }
     requires contribution { IsContribution case.now.contribution }
-    ensures { IsTrue result
-        ↔ (added.now
-        ≡ unless_given (standard_hot case.now) given.now
-        ++ unless_given (standard_cold case.now) given.now) }
+    ensures { let k = with_utilities case.now given.now in
+        IsTrue result ↔ (added.now ≡ unless_given Side.Hot k ++ unless_given Side.Cold k) }
 {
-    let hot = standard_hot(case);
-    let cold = standard_cold(case);
+    let hot = standard_utility(Side::Hot, case);
+    let cold = standard_utility(Side::Cold, case);
     match (
         has_utility(Side::Hot, given),
         has_utility(Side::Cold, given),
@@ -185,8 +179,8 @@ pub fn is_standard(case: &Case) -> bool
         return false;
     }
     let utilities = case.utilities.as_slice();
-    let hot = standard_hot(case);
-    let cold = standard_cold(case);
+    let hot = standard_utility(Side::Hot, case);
+    let cold = standard_utility(Side::Cold, case);
     if are_two(utilities, &hot, &cold) {
         return true;
     }

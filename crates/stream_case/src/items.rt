@@ -48,7 +48,7 @@ impl<T> Items<T> {
         self.items.is_empty()
     }
 
-    /// The item at a place, from 0; none exactly where the place is at least the number of items.
+    /// The item at an index, from 0; none exactly where the index is at least the number of items.
     pub fn get(&self, index: usize) -> Option<&T>
         ensures { option_copied result ≡ slice_get self.now index }
     {
@@ -73,7 +73,8 @@ impl<T> Items<T> {
         Ok(())
     }
 
-    pub(crate) fn copied(&self, alloc: Global) -> Result<Items<T>, AllocError>
+    /// The same items in a list of their own.
+    pub fn copied(&self, alloc: Global) -> Result<Items<T>, AllocError>
     where
         T: Copy,
         ensures { IfOk result (λ copy. copy ≡ self.now) }

@@ -30,11 +30,22 @@ pub const MOST_UTILITIES: usize = 6;
 /// The most forbidden matches of a case.
 pub const MOST_FORBIDS: usize = 400;
 
+/// The most mains of a site, at each of which heat passes between its plants.
+pub const MOST_MAINS: usize = 4;
+
 /// The most streams of a case, on both sides.
 pub const ALL_STREAMS: usize = 2 * MOST_STREAMS;
 
 /// The most utilities of a completed case: completion adds two only where there is none.
 pub const ALL_UTILITIES: usize = MOST_UTILITIES + 1;
+
+/// The most places of a grid: the ends of all streams, the levels of all utilities, and a place
+/// above and one below each main.
+pub const MOST_PLACES: usize = 2 * ALL_STREAMS + ALL_UTILITIES + 2 * MOST_MAINS;
+
+/// The most parts of a side. Each stream has at most one part below each place, and each utility
+/// one; this number leaves room for larger limits.
+pub const MOST_PARTS: usize = 5000;
 
 /// The least temperature on the shifted scale, in tenths of °C.
 pub const LOWEST_SHIFTED: i32 = LOWEST_TEMPERATURE - MOST_CONTRIBUTION;

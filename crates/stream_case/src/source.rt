@@ -1,4 +1,5 @@
-//! The two sides of heat exchange, and where heat comes from or goes to.
+//! The two sides, and where heat comes from or goes to.
+ghost use Rattle.std.specs.Prelude.{◌≡◌, ◌↔◌, IsTrue};
 
 /// The side of a source: a hot one gives heat, a cold one takes it.
 #[derive(Clone, Copy, Debug, PartialEq, Eq, Hash)]
@@ -7,7 +8,23 @@ pub enum Side {
     Cold,
 }
 
-/// A stream or a utility of a case, by its place in the case's list, from 0.
+impl Side {
+    ghost use Rattle.stream_case.specs.Source.{IsRightWay, is_right_way};
+
+    /// Whether a stream of this side may go from `supply` to `target`, in tenths of °C: a hot
+    /// one falls, a cold one rises.
+    pub fn is_right_way(self, supply: i32, target: i32) -> bool
+        ensures value { result ≡ is_right_way self supply target }
+        ensures way { IsTrue result ↔ IsRightWay self supply target }
+    {
+        match self {
+            Side::Hot => target < supply,
+            Side::Cold => supply < target,
+        }
+    }
+}
+
+/// A stream or a utility of a case, by its index in the case's list, from 0.
 #[derive(Clone, Copy, Debug, PartialEq, Eq, Hash)]
 pub enum Source {
     Stream(u32),

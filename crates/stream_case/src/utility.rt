@@ -1,7 +1,10 @@
 //! Utilities.
+ghost use Rattle.std.specs.Prelude.{◌≡◌};
+ghost use Rattle.stream_case.specs.Limits.{IsShifted};
 
 use crate::name::Name;
 use crate::source::Side;
+use crate::stream::shifted;
 
 /// A utility: it gives heat (hot) or takes it (cold) at one temperature.
 #[derive(Clone, Copy, Debug, PartialEq, Eq, Hash)]
@@ -18,4 +21,16 @@ pub struct Utility {
     pub price: i64,
     /// The utility's share of the least approach, in tenths of °C.
     pub contribution: i32,
+}
+
+impl Utility {
+    ghost use Rattle.stream_case.specs.Utility.{shifted_level};
+
+    /// The level on the shifted scale, in tenths of °C.
+    pub fn shifted_level(&self) -> i32
+        requires { IsShifted (shifted_level self.now) }
+        ensures { result ≡ shifted_level self.now }
+    {
+        shifted(self.side, self.level, self.contribution)
+    }
 }

@@ -1,17 +1,18 @@
 //! Tests of a valid case.
-ghost use Rattle.std.specs.Prelude.{◌≡◌, ◌≢◌, ◌↔◌, ◌≤◌, ◌<◌, IsTrue, All, AllPairs, Contains, [], length, count_by, not, ℕ, slice_index_or};
+ghost use Rattle.std.specs.Prelude.{◌≡◌, ◌≢◌, ◌↔◌, ◌≤◌, ◌<◌, IsTrue, All, AllPairs, Contains, [], length, ℕ, slice_index_or};
 ghost use Rattle.stream_case.specs.Name.{IsName};
-ghost use Rattle.stream_case.specs.Stream.{is_hot, same_side};
+ghost use Rattle.stream_case.specs.Stream.{count_on, IsValidStream, AreStreams, HasValidStreams};
+ghost use Rattle.stream_case.specs.Utility.{IsValidUtility};
 ghost use Rattle.stream_case.specs.Limits.{IsBetween, IsTemperature, IsContribution};
-ghost use Rattle.stream_case.specs.Case.{IsRightWay, IsValidStream, HasValidStreams, IsValidUtility, IsUnreserved, IsRightlyNamed, IsValidForbid, IsValid, with_utilities, names_of, side_of};
+ghost use Rattle.stream_case.specs.Case.{IsUnreserved, IsRightlyNamed, IsValidForbid, IsValid, with_utilities, names_of};
 
-use crate::case::{Case, Forbid};
+use crate::case::{Case, Forbid, side_among};
 use crate::limits::{
     HIGHEST_TEMPERATURE, LOWEST_TEMPERATURE, MOST_CONTRIBUTION, MOST_CP, MOST_FORBIDS, MOST_HEAT,
     MOST_PRICE, MOST_STREAMS, MOST_UTILITIES,
 };
 use crate::name::Name;
-use crate::source::{Side, Source};
+use crate::source::Side;
 use crate::stream::Stream;
 use crate::utility::Utility;
 
@@ -37,15 +38,6 @@ fn is_contribution(contribution: i32) -> bool
     is_between(0, i64::from(MOST_CONTRIBUTION), i64::from(contribution))
 }
 
-fn is_right_way(side: Side, supply: i32, target: i32) -> bool
-    ensures { IsTrue result ↔ IsRightWay side supply target }
-{
-    match side {
-        Side::Hot => target < supply,
-        Side::Cold => supply < target,
-    }
-}
-
 fn is_undotted(name: &Name) -> bool
     ensures { IsTrue result ↔ IsName name.now }
 {
@@ -65,7 +57,7 @@ fn is_valid_stream(stream: &Stream) -> bool
     if !is_temperature(stream.target) {
         return false;
     }
-    if !is_right_way(stream.side, stream.supply, stream.target) {
+    if !stream.side.is_right_way(stream.supply, stream.target) {
         return false;
     }
     if !is_between(1, MOST_CP, stream.cp) {
@@ -95,22 +87,10 @@ fn is_valid_utility(utility: &Utility) -> bool
     is_contribution(utility.contribution)
 }
 
-fn count_hot(streams: &[Stream]) -> usize
-    ensures { result ≡ count_by (λ s. is_hot s.side) streams.now }
+fn count_on(streams: &[Stream], side: Side) -> usize
+    ensures { result ≡ count_on side streams.now }
 {
-    streams
-        .iter()
-        .filter(|stream| stream.side == Side::Hot)
-        .count()
-}
-
-fn count_cold(streams: &[Stream]) -> usize
-    ensures { result ≡ count_by (λ s. not (is_hot s.side)) streams.now }
-{
-    streams
-        .iter()
-        .filter(|stream| stream.side == Side::Cold)
-        .count()
+    streams.iter().filter(|stream| stream.side == side).count()
 }
 
 fn are_valid_streams(streams: &[Stream]) -> bool
@@ -119,19 +99,25 @@ fn are_valid_streams(streams: &[Stream]) -> bool
     streams.iter().all(|stream| is_valid_stream(stream))
 }
 
+fn are_streams(streams: &[Stream]) -> bool
+    ensures { IsTrue result ↔ AreStreams streams.now }
+{
+    if !are_valid_streams(streams) {
+        return false;
+    }
+    if count_on(streams, Side::Hot) > MOST_STREAMS {
+        return false;
+    }
+    count_on(streams, Side::Cold) <= MOST_STREAMS
+}
+
 fn has_valid_streams(streams: &[Stream]) -> bool
     ensures { IsTrue result ↔ HasValidStreams streams.now }
 {
     if streams.is_empty() {
         return false;
     }
-    if !are_valid_streams(streams) {
-        return false;
-    }
-    if count_hot(streams) > MOST_STREAMS {
-        return false;
-    }
-    count_cold(streams) <= MOST_STREAMS
+    are_streams(streams)
 }
 
 fn has_name(name: &Name, bytes: &[u8]) -> bool
@@ -194,28 +180,28 @@ fn utilities_share_contribution(case: &Case, utilities: &[Utility]) -> bool
         .all(|utility| utility.contribution == case.contribution)
 }
 
-/// The name at a place of the list of names, in which the streams come first.
-fn name_at(case: &Case, utilities: &[Utility], place: usize) -> Name
-    requires { place < length (names_of (with_utilities case.now utilities.now)) }
-    ensures { result ≡ slice_index_or (names_of (with_utilities case.now utilities.now)) place [] }
+/// The name at an index of the list of names, in which the streams come first.
+fn name_at(case: &Case, utilities: &[Utility], index: usize) -> Name
+    requires { index < length (names_of (with_utilities case.now utilities.now)) }
+    ensures { result ≡ slice_index_or (names_of (with_utilities case.now utilities.now)) index [] }
 {
     let streams = case.streams.as_slice();
-    if place < streams.len() {
-        streams[place].name
+    if index < streams.len() {
+        streams[index].name
     } else {
-        utilities[place - streams.len()].name
+        utilities[index - streams.len()].name
     }
 }
 
-/// Whether no earlier source has the name at this place.
-fn is_new_name(case: &Case, utilities: &[Utility], place: usize) -> bool
-    requires { place < length (names_of (with_utilities case.now utilities.now)) }
+/// Whether no earlier source has the name at this index.
+fn is_new_name(case: &Case, utilities: &[Utility], index: usize) -> bool
+    requires { index < length (names_of (with_utilities case.now utilities.now)) }
     ensures { let names = names_of (with_utilities case.now utilities.now) in
         IsTrue result
-        ↔ ((i : ℕ) → i < place → slice_index_or names i [] ≢ slice_index_or names place []) }
+        ↔ ((i : ℕ) → i < index → slice_index_or names i [] ≢ slice_index_or names index []) }
 {
-    let name = name_at(case, utilities, place);
-    for earlier in 0..place {
+    let name = name_at(case, utilities, index);
+    for earlier in 0..index {
         if name_at(case, utilities, earlier) == name {
             return false;
         }
@@ -228,29 +214,21 @@ fn has_distinct_names(case: &Case, utilities: &[Utility]) -> bool
         ↔ AllPairs (λ a b. a ≢ b) (names_of (with_utilities case.now utilities.now)) }
 {
     let streams = case.streams.as_slice();
-    for place in 0..streams.len() + utilities.len() {
-        if !is_new_name(case, utilities, place) {
+    for index in 0..streams.len() + utilities.len() {
+        if !is_new_name(case, utilities, index) {
             return false;
         }
     }
     true
 }
 
-fn side_of(case: &Case, utilities: &[Utility], source: Source) -> Option<Side>
-    ensures { result ≡ side_of (with_utilities case.now utilities.now) source }
-{
-    match source {
-        Source::Stream(index) => case.streams.get(index as usize).map(|stream| stream.side),
-        Source::Utility(index) => utilities.get(index as usize).map(|utility| utility.side),
-    }
-}
-
 fn is_valid_forbid(case: &Case, utilities: &[Utility], forbid: &Forbid) -> bool
     ensures { IsTrue result
         ↔ IsValidForbid (with_utilities case.now utilities.now) forbid.now }
 {
-    side_of(case, utilities, forbid.hot) == Some(Side::Hot)
-        && side_of(case, utilities, forbid.cold) == Some(Side::Cold)
+    let streams = case.streams.as_slice();
+    side_among(streams, utilities, forbid.hot) == Some(Side::Hot)
+        && side_among(streams, utilities, forbid.cold) == Some(Side::Cold)
 }
 
 fn are_valid_forbids(case: &Case, utilities: &[Utility]) -> bool
@@ -272,8 +250,8 @@ fn contains_forbid(forbids: &[Forbid], forbid: &Forbid) -> bool
 fn are_distinct_forbids(forbids: &[Forbid]) -> bool
     ensures { IsTrue result ↔ AllPairs (λ f g. f ≢ g) forbids.now }
 {
-    for (place, forbid) in forbids.iter().enumerate() {
-        if contains_forbid(&forbids[..place], forbid) {
+    for (index, forbid) in forbids.iter().enumerate() {
+        if contains_forbid(&forbids[..index], forbid) {
             return false;
         }
     }

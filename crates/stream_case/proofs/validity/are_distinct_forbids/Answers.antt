@@ -3,10 +3,10 @@ use Rattle.std.proofs.lemmas.Bool.Decides.{not_from_Decides}
 use Rattle.stream_case.proofs.DistinctLemmas.{AllPairs-more, AllPairs-all, differ_before}
 use Rattle.stream_case.proofs.validity.are_distinct_forbids.Goals as goal
 
-pub loop-place-preserved : goal.loop-place-preserved
-loop-place-preserved c =
+pub loop-index-preserved : goal.loop-index-preserved
+loop-index-preserved c =
     let new = not_from_Decides _ c.contains_forbid.ensures c.if-contains_forbid.false in
-    AllPairs-more (λ f g. f ≢ g) c.args.forbids.now c.loop-place.place c.loop-place-test.true c.loop-place.invariant (differ_before c.args.forbids.now c.loop-place.place _ c.loop-place-test.true new)
+    AllPairs-more (λ f g. f ≢ g) c.args.forbids.now c.loop-index.index c.loop-index-test.true c.loop-index.invariant (differ_before c.args.forbids.now c.loop-index.index _ c.loop-index-test.true new)
 
 pub returns : goal.returns
-returns c = (λ _. AllPairs-all (λ f g. f ≢ g) c.args.forbids.now c.loop-place.place c.loop-place-test.false c.loop-place.invariant, λ _. refl)
+returns c = (λ _. AllPairs-all (λ f g. f ≢ g) c.args.forbids.now c.loop-index.index c.loop-index-test.false c.loop-index.invariant, λ _. refl)

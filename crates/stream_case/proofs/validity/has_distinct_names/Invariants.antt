@@ -2,5 +2,5 @@ use Rattle.std.proofs.Common.{◌≢◌, AllPairs, take}
 use Rattle.stream_case.specs.Case.{with_utilities, names_of}
 use Rattle.stream_case.proofs.validity.has_distinct_names.Given as goal
 
-abbrev pub invariant-loop-place : goal.invariant-loop-place
-invariant-loop-place l = AllPairs (λ a b. a ≢ b) (take l.place (names_of (with_utilities l.case l.utilities)))
+abbrev pub invariant-loop-index : goal.invariant-loop-index
+invariant-loop-index l = AllPairs (λ a b. a ≢ b) (take l.index (names_of (with_utilities l.case l.utilities)))

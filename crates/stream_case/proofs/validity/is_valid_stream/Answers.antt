@@ -1,7 +1,7 @@
 -- The record of a valid stream from its parts.
 use Rattle.std.proofs.Common.{rules, arith, subst₂, w32, w64, FitsSigned}
 use Rattle.std.proofs.lemmas.Int.{ints, to_z-of_z}
-use Rattle.stream_case.specs.Case.{IsRightWay}
+use Rattle.stream_case.specs.Source.{IsRightWay}
 use Rattle.stream_case.proofs.validity.is_valid_stream.Goals as goal
 
 pub returns : goal.returns
@@ -13,7 +13,7 @@ returns c =
     let contribution_fits : FitsSigned w32 s.contribution = search rules in
     let supply = c.is_temperature.ensures.0 c.if-not-is_temperature.false in
     let target = c.is_temperature-2.ensures.0 c.if-not-is_temperature-2.false in
-    let way = c.is_right_way.ensures.0 c.if-not-is_right_way.false in
+    let way = c.is_right_way.ensures.way.0 c.if-not-is_right_way.false in
     let cp = c.is_between.ensures.0 c.if-not-is_between.false in (
       λ h.
           let contribution = c.is_contribution.ensures.0 h in

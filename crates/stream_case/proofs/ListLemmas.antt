@@ -1,19 +1,9 @@
--- Truth values, options, lists and sides: what the readers of texts need and std has not.
-use Rattle.std.proofs.Common.{◌≡◌, ◌∙◌, ◌∷◌, ◌++◌, ◌&&◌, ℕ, zero, suc, Bool, true, false, List, [], Option, Some, None, is_some, slice_get, refl, ap}
-use Rattle.std.specs.List.{cons_option, filter_map}
+-- Options, and lists one element longer.
+use Rattle.std.proofs.Common.{◌≡◌, ◌∙◌, ◌+◌, ◌∷◌, ◌++◌, ℕ, zero, suc, Bool, false, not, cond, nat_lt, List, [], Option, Some, None, is_some, map, position, slice_get, refl, sym, ap}
+use Rattle.std.specs.List.{cons_option, filter_map, prefix_len}
 use Rattle.std.specs.Option.{option_to_list}
+use Rattle.std.proofs.lemmas.List.{length-map}
 use Rattle.std.proofs.lemmas.List.Elements.{filter_map-append}
-use Rattle.stream_case.specs.declared.source.Side.{Side}
-use Rattle.stream_case.specs.declared.source.Side.TheVariants.{Hot, Cold}
-use Rattle.stream_case.specs.Stream.{same_side}
-
-pub both : (a b : Bool) → (a && b) ≡ true → (a ≡ true) × (b ≡ true)
-both true true e = (refl, refl)
-both true false e = cc e
-both false b e = cc e
-
-pub both_true : (a b : Bool) → a ≡ true → b ≡ true → (a && b) ≡ true
-both_true a b ea eb = rw (ea, eb) refl
 
 pub none_there : {X : Type 0} (o : Option X) → is_some o ≡ false → o ≡ None
 none_there None e = refl
@@ -33,7 +23,13 @@ filter_map-push {Y = Y} h xs x = filter_map-append h xs (x ∷ []) ∙ ap (λ ys
     alone None = refl
     alone (Some y) = refl
 
--- each side is itself
-pub own_side : (side : Side) → same_side side side ≡ true
-own_side Hot = refl
-own_side Cold = refl
+-- the first of the values that passes
+pub position-map : {X Y : Type 0} (p : Y → Bool) (f : X → Y) (xs : List X) → position (λ x. p (f x)) xs ≡ position p (map f xs)
+position-map {X} {Y} p f xs =
+    let place = front (λ y. not (p y)) xs in
+    let long = sym (length-map xs f) in
+    λ i. cond (nat_lt (place i) (long i)) (Some (place i)) None
+  where
+    front : (q : Y → Bool) (ys : List X) → prefix_len (λ x. q (f x)) ys ≡ prefix_len q (map f ys)
+    front q [] = refl
+    front q (x ∷ ys) = ap (λ n. cond (q (f x)) (1 + n) 0) (front q ys)
