@@ -1,10 +1,9 @@
 -- The laws of the order.
-use Rattle.std.proofs.Common.{◌≡◌, ◌≢◌, ◌∙◌, ◌*◌, ◌<◌, ◌⊎◌, inl, inr, ◌+ℤ◌, ◌-ℤ◌, ◌*ℤ◌, ◌<ℤ◌, ◌≤ℤ◌, ℕ, ℤ, suc, pos, negsuc, List, [], ◌∷◌, refl, sym, ap, subst, arith}
+use Rattle.std.proofs.Common.{Bool, int_lt, true, false, not, ◌≡◌, ◌≢◌, ◌∙◌, ◌*◌, ◌<◌, ◌⊎◌, inl, inr, ◌+ℤ◌, ◌-ℤ◌, ◌*ℤ◌, ◌<ℤ◌, ◌≤ℤ◌, ℕ, ℤ, pos, negsuc, refl, sym, ap, subst, arith}
 use Rattle.std.specs.Bool.{Decides}
-use Rattle.std.specs.List.{All}
-use Rattle.std.specs.Ordering.{MatchOrdering, is_ge, is_gt, is_le, is_lt}
-use Rattle.std.specs.declared.cmp.Ordering.{Ordering}
-use Rattle.std.specs.declared.cmp.Ordering.TheVariants.{Less, Equal, Greater}
+use Rattle.std.proofs.lemmas.Bool.Decides.{Decides-like, Decides-not, same_from_decides}
+use Rattle.std.specs.Bool.{MatchBool}
+use Rattle.std.specs.Ordering.{int_cmp, is_ge, is_gt, is_le, is_lt}
 use Rattle.std.specs.Int.Signed.{≤ℤ_refl, clash_ℤ}
 use Rattle.std.proofs.lemmas.Int.{by_lt_z, ints}
 use mathlib.Core.Path.{subst₂}
@@ -12,11 +11,9 @@ use Rattle.std.proofs.Math.Nat.{mul-pos}
 use Rattle.sums.proofs.ProductLemmas.{*ℤ-≤ℤ_right}
 use Rattle.fractions.specs.Integers.{*ℤ-<ℤ, *ℤ_assoc, *ℤ_swap, <ℤ_from_*ℤ, ≤ℤ_from_*ℤ}
 use Rattle.fractions.specs.LowestForms.{ratio-value, same_from_value}
-use Rattle.fractions.specs.Rationals.{IsAtMost, IsBelow, Rational, minus, over, plus, ratio, rational_cmp, rational_sum_by, rational_zero, times, whole}
-use Rattle.fractions.specs.Order.{rational_ranks}
-use Rattle.fractions.proofs.Products.{over-times, times-over_assoc, times_comm, zero-over, zero-times}
+use Rattle.fractions.specs.Rationals.{IsAtMost, IsBelow, is_below, Rational, minus, over, plus, ratio, rational_cmp, rational_zero, times, whole}
+use Rattle.fractions.proofs.Products.{over-times, times-minus, times-over_assoc, times-zero, times_comm, zero-over, zero-times}
 use Rattle.fractions.proofs.Ratios.{by_four, by_three, by_two, one_denominator, ratio-one, ratio-zero, times-ratio}
-use Rattle.fractions.proofs.Sums.{rational_sum_by-cons}
 use Rattle.fractions.proofs.Wholes.{ratio-multiple}
 
 -- ---- ratios over one denominator are ordered as their numerators are
@@ -103,39 +100,47 @@ at_most_below_trans = by_three (λ a b c. IsAtMost a b → IsBelow b c → IsBel
 pub below_trans : (a b c : Rational) → IsBelow a b → IsBelow b c → IsBelow a c
 below_trans a b c h k = below_at_most_trans a b c h (at_most_from_below b c k)
 
--- ---- what the code's `<`, `<=`, `>` and `>=` say (for `==`: Decides-rational_eq of specs/Order.antt)
+-- ---- the tests (for `==`: Decides-rational_eq of specs/Order.antt)
 
-pub Decides-is_lt : (a b : Rational) → Decides (is_lt (rational_cmp a b)) (IsBelow a b)
-Decides-is_lt a b = by (rational_cmp a b) (rational_ranks a b)
-  where
-    by : (r : Ordering) → MatchOrdering r (IsBelow a b) (a ≡ b) (IsBelow b a) → Decides (is_lt r) (IsBelow a b)
-    by Less m = (λ _. m, λ _. refl)
-    by Equal m = (λ e. cc e, λ less. absurd (below_not_same a b less m))
-    by Greater m = (λ e. cc e, λ less. absurd (below_not_at_most a b less (at_most_from_below b a m)))
+int_lt-decides : (x y : ℤ) → Decides (is_lt (int_cmp x y)) (x <ℤ y)
+int_lt-decides x y = (λ e. grind (arith, ints), λ h. grind (arith, ints))
+
+int_le-decides : (x y : ℤ) → Decides (is_le (int_cmp x y)) (x ≤ℤ y)
+int_le-decides x y = (λ e. grind (arith, ints), λ h. grind (arith, ints))
+
+int_gt-decides : (x y : ℤ) → Decides (is_gt (int_cmp x y)) (y <ℤ x)
+int_gt-decides x y = (λ e. grind (arith, ints), λ h. grind (arith, ints))
+
+int_ge-decides : (x y : ℤ) → Decides (is_ge (int_cmp x y)) (y ≤ℤ x)
+int_ge-decides x y = (λ e. grind (arith, ints), λ h. grind (arith, ints))
+
+pub Decides-is_below : (a b : Rational) → Decides (is_below a b) (IsBelow a b)
+unfolding rational_cmp
+Decides-is_below a b = Decides-like _ (λ h. record { cross = h }) (λ h. h.cross) (int_lt-decides _ _)
 
 pub Decides-is_le : (a b : Rational) → Decides (is_le (rational_cmp a b)) (IsAtMost a b)
-Decides-is_le a b = by (rational_cmp a b) (rational_ranks a b)
-  where
-    by : (r : Ordering) → MatchOrdering r (IsBelow a b) (a ≡ b) (IsBelow b a) → Decides (is_le r) (IsAtMost a b)
-    by Less m = (λ _. at_most_from_below a b m, λ _. refl)
-    by Equal m = (λ _. at_most_from_same a b m, λ _. refl)
-    by Greater m = (λ e. cc e, λ more. absurd (below_not_at_most b a m more))
+unfolding rational_cmp
+Decides-is_le a b = Decides-like _ (λ h. record { cross = h }) (λ h. h.cross) (int_le-decides _ _)
 
 pub Decides-is_gt : (a b : Rational) → Decides (is_gt (rational_cmp a b)) (IsBelow b a)
-Decides-is_gt a b = by (rational_cmp a b) (rational_ranks a b)
-  where
-    by : (r : Ordering) → MatchOrdering r (IsBelow a b) (a ≡ b) (IsBelow b a) → Decides (is_gt r) (IsBelow b a)
-    by Less m = (λ e. cc e, λ more. absurd (below_not_at_most b a more (at_most_from_below a b m)))
-    by Equal m = (λ e. cc e, λ more. absurd (below_not_same b a more (sym m)))
-    by Greater m = (λ _. m, λ _. refl)
+unfolding rational_cmp
+Decides-is_gt a b = Decides-like _ (λ h. record { cross = h }) (λ h. h.cross) (int_gt-decides _ _)
 
 pub Decides-is_ge : (a b : Rational) → Decides (is_ge (rational_cmp a b)) (IsAtMost b a)
-Decides-is_ge a b = by (rational_cmp a b) (rational_ranks a b)
+unfolding rational_cmp
+Decides-is_ge a b = Decides-like _ (λ h. record { cross = h }) (λ h. h.cross) (int_ge-decides _ _)
+
+-- of two, b is at most a exactly where a is not below b
+pub Decides-not_below : (a b : Rational) → Decides (not (is_below a b)) (IsAtMost b a)
+Decides-not_below a b =
+    Decides-like _ (at_most_from_not_below a b) (λ more less. below_not_at_most a b less more) (Decides-not (is_below a b) (Decides-is_below a b))
+
+pub is_below-ranks : (a b : Rational) → MatchBool (is_below a b) (IsBelow a b) (IsAtMost b a)
+is_below-ranks a b = by (is_below a b) (Decides-is_below a b) (Decides-not_below a b)
   where
-    by : (r : Ordering) → MatchOrdering r (IsBelow a b) (a ≡ b) (IsBelow b a) → Decides (is_ge r) (IsAtMost b a)
-    by Less m = (λ e. cc e, λ more. absurd (below_not_at_most a b m more))
-    by Equal m = (λ _. at_most_from_same b a (sym m), λ _. refl)
-    by Greater m = (λ _. at_most_from_below b a m, λ _. refl)
+    by : (t : Bool) → Decides t (IsBelow a b) → Decides (not t) (IsAtMost b a) → MatchBool t (IsBelow a b) (IsAtMost b a)
+    by true less more = less.0 refl
+    by false less more = more.0 refl
 
 -- ---- sums and differences
 
@@ -185,7 +190,41 @@ pub below_from_minus_right : (a b c : Rational) → IsBelow a (minus b c) → Is
 below_from_minus_right = by_three (λ a b c. IsBelow a (minus b c) → IsBelow (plus a c) b) (λ n m l d some h.
     let x = below_from_ratio n (m -ℤ l) d some (simp one_denominator at h) in simp one_denominator (below-ratio (n +ℤ l) m d some (omega (arith, ints, x))))
 
+pub at_most-minus_left : (a b c : Rational) → IsAtMost a (plus b c) → IsAtMost (minus a c) b
+at_most-minus_left = by_three _ (λ n m l d some h.
+    let x = at_most_from_ratio n (m +ℤ l) d some (simp one_denominator at h) in simp one_denominator (at_most-ratio (n -ℤ l) m d some (omega (arith, ints, x))))
+
+pub at_most_from_minus_left : (a b c : Rational) → IsAtMost (minus a c) b → IsAtMost a (plus b c)
+at_most_from_minus_left = by_three _ (λ n m l d some h.
+    let x = at_most_from_ratio (n -ℤ l) m d some (simp one_denominator at h) in simp one_denominator (at_most-ratio n (m +ℤ l) d some (omega (arith, ints, x))))
+
+pub at_most-minus : (a b c : Rational) → IsAtMost a b → IsAtMost (minus a c) (minus b c)
+at_most-minus a b c h = at_most-minus_minus a b c c h (at_most_refl c)
+
+pub at_most_from_minus : (a b c : Rational) → IsAtMost (minus a c) (minus b c) → IsAtMost a b
+at_most_from_minus = by_three _ (λ n m l d some h.
+    let x = at_most_from_ratio (n -ℤ l) (m -ℤ l) d some (simp one_denominator at h) in at_most-ratio n m d some (omega (arith, ints, x)))
+
+-- what is taken away turns the order
+pub at_most_from_minus_turned : (a b c : Rational) → IsAtMost (minus c b) (minus c a) → IsAtMost a b
+at_most_from_minus_turned = by_three _ (λ n m l d some h.
+    let x = at_most_from_ratio (l -ℤ m) (l -ℤ n) d some (simp one_denominator at h) in at_most-ratio n m d some (omega (arith, ints, x)))
+
+pub at_most-minus_swap : (h c x y : Rational) → IsAtMost (minus y x) (minus h c) → IsAtMost (minus c x) (minus h y)
+at_most-minus_swap = by_four _ (λ n m l k d some h.
+    let x = at_most_from_ratio (k -ℤ l) (n -ℤ m) d some (simp one_denominator at h) in simp one_denominator (at_most-ratio (m -ℤ l) (n -ℤ k) d some (omega (arith, ints, x))))
+
 -- ---- against 0
+
+-- a rational is above 0 where its numerator is
+pub positive-is : (a : Rational) → pos 0 <ℤ a.num → IsBelow rational_zero a
+positive-is a h = record { cross = omega (arith, ints, h) }
+
+pub positive_num : (a : Rational) → IsBelow rational_zero a → pos 0 <ℤ a.num
+positive_num a h = let less = h.cross in omega (arith, ints)
+
+pub is_below-zero : (a : Rational) → is_below rational_zero a ≡ int_lt (pos 0) a.num
+is_below-zero a = same_from_decides (is_below rational_zero a) (int_lt (pos 0) a.num) (Decides-is_below rational_zero a) (λ e. positive-is a (omega (arith, ints)), λ h. let less = positive_num a h in grind (arith, ints))
 
 -- 0 as a ratio over any denominator
 pub not_negative-ratio : (n : ℤ) (d : ℕ) → 0 < d → pos 0 ≤ℤ n → IsAtMost rational_zero (ratio n d)
@@ -244,6 +283,9 @@ at_most-times = by_three (λ a b c. IsAtMost rational_zero c → IsAtMost a b �
     subst₂ IsAtMost (sym (times-ratio n l d d some some)) (sym (times-ratio m l d d some some))
     (at_most-ratio (n *ℤ l) (m *ℤ l) (d * d) (mul-pos some some) (at_most-*ℤ n m l (not_negative_from_ratio l d some h) (at_most_from_ratio n m d some k))))
 
+pub at_most-times_left : (c a b : Rational) → IsAtMost rational_zero c → IsAtMost a b → IsAtMost (times c a) (times c b)
+at_most-times_left c a b some h = subst₂ IsAtMost (times_comm a c) (times_comm b c) (at_most-times a b c some h)
+
 pub below-times : (a b c : Rational) → IsBelow rational_zero c → IsBelow a b → IsBelow (times a c) (times b c)
 below-times = by_three (λ a b c. IsBelow rational_zero c → IsBelow a b → IsBelow (times a c) (times b c)) (λ n m l d some h k.
     subst₂ IsBelow (sym (times-ratio n l d d some some)) (sym (times-ratio m l d d some some))
@@ -268,6 +310,20 @@ not_negative-times a b one two = subst (λ x. IsAtMost x (times a b)) (zero-time
 
 pub positive-times : (a b : Rational) → IsBelow rational_zero a → IsBelow rational_zero b → IsBelow rational_zero (times a b)
 positive-times a b one two = subst (λ x. IsBelow x (times a b)) (zero-times b) (below-times rational_zero a b two one)
+
+-- a factor that is not above 0 turns the order
+pub times-turned : (f h x : Rational) → IsAtMost f h → IsAtMost x rational_zero → IsAtMost (times h x) (times f x)
+times-turned f h x more below =
+    at_most_from_minus_turned (times h x) (times f x) rational_zero
+    (subst₂ IsAtMost (away f) (away h) (at_most-times f h (minus rational_zero x) (not_negative-minus x rational_zero below) more))
+  where
+    away : (g : Rational) → times g (minus rational_zero x) ≡ minus rational_zero (times g x)
+    away g = times-minus g rational_zero x ∙ ap (λ y. minus y (times g x)) (times-zero g)
+
+-- what is above 0 by a factor that is not negative
+pub positive_factor : (f x : Rational) → IsAtMost rational_zero f → IsBelow rational_zero (times f x) → IsBelow rational_zero x
+positive_factor f x some h =
+    below_from_not_at_most rational_zero x (λ none. below_not_at_most rational_zero (times f x) h (subst (IsAtMost (times f x)) (times-zero f) (at_most-times_left f x rational_zero some none)))
 
 -- a quotient by what is above 0, by the product
 pub at_most-over_right : (q a b : Rational) → IsBelow rational_zero b → IsAtMost (times q b) a → IsAtMost q (over a b)
@@ -321,17 +377,9 @@ at_most-whole_ratio n m d some h = rw (← ratio-multiple n d some) (at_most-rat
 pub at_most_from_whole_ratio : (n m : ℤ) (d : ℕ) → 0 < d → IsAtMost (whole n) (ratio m d) → (n *ℤ pos d) ≤ℤ m
 at_most_from_whole_ratio n m d some h = at_most_from_ratio (n *ℤ pos d) m d some (rw (← ratio-multiple n d some) at h)
 
--- ---- sums over lists
+-- what is added, where it is not negative
+pub at_most-plus_right : (a b : Rational) → IsAtMost rational_zero b → IsAtMost a (plus a b)
+at_most-plus_right = by_two _ (λ n m d some h. let x = not_negative_from_ratio m d some h in simp one_denominator (at_most-ratio n (n +ℤ m) d some (omega (arith, ints, x))))
 
-pub at_most-rational_sum_by : {X : Type 0} (f g : X → Rational) (xs : List X) → All (λ x. IsAtMost (f x) (g x)) xs → IsAtMost (rational_sum_by f xs) (rational_sum_by g xs)
-at_most-rational_sum_by f g [] all = at_most_refl rational_zero
-at_most-rational_sum_by f g (x ∷ xs) all =
-    rw (rational_sum_by-cons f x xs, rational_sum_by-cons g x xs)
-    (at_most-plus_plus (f x) (g x) (rational_sum_by f xs) (rational_sum_by g xs)
-    (all 0 x (omega arith)) (at_most-rational_sum_by f g xs (λ k d h. all (suc k) d (omega (arith, h)))))
-
-pub not_negative-rational_sum_by : {X : Type 0} (f : X → Rational) (xs : List X) → All (λ x. IsAtMost rational_zero (f x)) xs → IsAtMost rational_zero (rational_sum_by f xs)
-not_negative-rational_sum_by f [] all = at_most_refl rational_zero
-not_negative-rational_sum_by f (x ∷ xs) all =
-    rw (rational_sum_by-cons f x xs)
-    (not_negative-plus (f x) (rational_sum_by f xs) (all 0 x (omega arith)) (not_negative-rational_sum_by f xs (λ k d h. all (suc k) d (omega (arith, h)))))
+pub at_most-plus_left : (a b : Rational) → IsAtMost rational_zero a → IsAtMost b (plus a b)
+at_most-plus_left = by_two _ (λ n m d some h. let x = not_negative_from_ratio n d some h in simp one_denominator (at_most-ratio m (n +ℤ m) d some (omega (arith, ints, x))))

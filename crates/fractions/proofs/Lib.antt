@@ -2,6 +2,7 @@ pub mod Ratios
 pub mod Sums
 pub mod Products
 pub mod Wholes
+pub mod RationalSums
 pub mod Comparisons
 pub mod Limits
 mod InLowestTerms

@@ -1,7 +1,8 @@
 -- Rationals within the limits, and what a call gives.
-use Rattle.std.proofs.Common.{◌≡◌, ◌^◌, ◌<◌, ◌≤◌, ℕ, ℤ, pos, negsuc, unsigned_abs, SFits, true, None, Some, refl, arith}
+use Rattle.std.proofs.Common.{◌≡◌, ◌^◌, ◌<◌, ◌≤◌, ℕ, ℤ, pos, negsuc, unsigned_abs, SFits, true, false, Option, None, Some, if◌then◌else◌, ap, refl, arith}
 use Rattle.std.specs.Bool.{Decides}
 use Rattle.std.proofs.lemmas.Bool.Decides.{nat_tests}
+use Rattle.std.proofs.lemmas.Bool.{false_from_ne_true}
 use Rattle.std.specs.Int.{w64}
 use Rattle.fractions.specs.LowestForms.{ratio-den_le, ratio-num_le}
 use Rattle.fractions.specs.Rationals.{Gives, IsWithinLimits, Rational, is_within_limits, ratio, whole}
@@ -28,6 +29,21 @@ Decides-is_within_limits a = (to, from)
 
     from : IsWithinLimits a → is_within_limits a ≡ true
     from within = let den = within.den in let num = within.num in grind (arith, nat_tests)
+
+-- what a call forms
+pub value_formed : (a b : Rational) (r : Option Rational) → r ≡ Some b → Gives r a → b ≡ a
+value_formed a b r formed is = (rw formed at is).value
+
+pub within_formed : (a b : Rational) (r : Option Rational) → r ≡ Some b → Gives r a → is_within_limits a ≡ true
+within_formed a b r formed is = (Decides-is_within_limits a).1 (within_from_some a b (rw formed at is))
+
+pub within_not_formed : (a : Rational) (r : Option Rational) → r ≡ None → Gives r a → is_within_limits a ≡ false
+within_not_formed a r none is = false_from_ne_true (is_within_limits a) (λ e. outside_from_none a (rw none at is) ((Decides-is_within_limits a).0 e))
+
+-- and so the whole answer
+pub Gives-is : (a : Rational) (r : Option Rational) → Gives r a → r ≡ (if is_within_limits a then Some a else None)
+Gives-is a None is = rw (within_not_formed a None refl is) refl
+Gives-is a (Some b) is = rw (within_formed a b (Some b) refl is) (ap Some is.value)
 
 -- numbers within the bounds are so in lowest form too
 pub within-ratio : (n : ℤ) (d : ℕ) → 0 < d → unsigned_abs n ≤ 2 ^ 76 → d ≤ 2 ^ 48 → IsWithinLimits (ratio n d)

@@ -1,14 +1,13 @@
 -- The laws of products and quotients.
-use Rattle.std.proofs.Common.{◌≡◌, ◌≢◌, ◌∙◌, ◌*◌, ◌<◌, ◌+ℤ◌, ◌-ℤ◌, ◌*ℤ◌, ◌⊎◌, inl, inr, ℕ, ℤ, pos, int_lt, unsigned_abs, Bool, true, false, List, [], ◌∷◌, refl, sym, ap, arith}
+use Rattle.std.proofs.Common.{◌≡◌, ◌≢◌, ◌∙◌, ◌*◌, ◌<◌, ◌+ℤ◌, ◌-ℤ◌, ◌*ℤ◌, ◌⊎◌, inl, inr, ℕ, ℤ, pos, int_lt, unsigned_abs, Bool, true, false, refl, sym, ap, arith}
 use Rattle.std.proofs.lemmas.Int.{ints}
 use Rattle.std.proofs.Math.IntN.{*ℤ-zero, *ℤ_comm}
 use Rattle.std.proofs.Math.Nat.{eq-zero-or-pos, mul-one, mul-pos}
 use Rattle.sums.proofs.ProductLemmas.{*ℤ-+ℤ, *ℤ--ℤ}
 use Rattle.fractions.specs.Integers.{*ℤ-pos_one, *ℤ_assoc, signed, signed-*ℤ-signed, signed-sign, zero_from_size}
 use Rattle.fractions.specs.LowestForms.{ratio-self}
-use Rattle.fractions.specs.Rationals.{Rational, minus, over, plus, ratio, rational_one, rational_sum_by, rational_zero, reciprocal, times}
+use Rattle.fractions.specs.Rationals.{Rational, minus, over, plus, ratio, rational_one, rational_zero, reciprocal, times}
 use Rattle.fractions.proofs.Ratios.{by_one, by_three, by_two, minus-ratio_same_den, plus-ratio_same_den, ratio-one, ratio-same, ratio-zero, times-ratio}
-use Rattle.fractions.proofs.Sums.{rational_sum_by-cons}
 
 -- ---- products
 
@@ -60,13 +59,6 @@ times_swap a b c = times_assoc a b c ∙ ap (times a) (times_comm b c) ∙ sym (
 
 pub times-interchange : (a b c e : Rational) → times (times a b) (times c e) ≡ times (times a c) (times b e)
 times-interchange a b c e = sym (times_assoc (times a b) c e) ∙ ap (λ x. times x e) (times_swap a b c) ∙ times_assoc (times a c) b e
-
--- a factor goes into a sum
-pub times-rational_sum_by : {X : Type 0} (a : Rational) (f : X → Rational) (xs : List X) → times a (rational_sum_by f xs) ≡ rational_sum_by (λ x. times a (f x)) xs
-times-rational_sum_by a f [] = times-zero a
-times-rational_sum_by a f (x ∷ xs) =
-    ap (times a) (rational_sum_by-cons f x xs) ∙ times-plus a (f x) (rational_sum_by f xs) ∙ ap (plus (times a (f x))) (times-rational_sum_by a f xs)
-    ∙ sym (rational_sum_by-cons (λ y. times a (f y)) x xs)
 
 -- ---- reciprocals
 
@@ -157,9 +149,3 @@ over-one a = sym (over_from_times a a rational_one one≢zero (times-one a))
 -- the mean of two equal values, with any weights
 pub over-same_values : (a b t : Rational) → plus a b ≢ rational_zero → over (plus (times a t) (times b t)) (plus a b) ≡ t
 over-same_values a b t some = ap (λ x. over x (plus a b)) (sym (plus-times a b t) ∙ times_comm (plus a b) t) ∙ over-cancel_factor t (plus a b) some
-
-pub over-rational_sum_by : {X : Type 0} (f : X → Rational) (b : Rational) (xs : List X) → over (rational_sum_by f xs) b ≡ rational_sum_by (λ x. over (f x) b) xs
-over-rational_sum_by f b [] = zero-over b
-over-rational_sum_by f b (x ∷ xs) =
-    ap (λ y. over y b) (rational_sum_by-cons f x xs) ∙ over-plus (f x) (rational_sum_by f xs) b ∙ ap (plus (over (f x) b)) (over-rational_sum_by f b xs)
-    ∙ sym (rational_sum_by-cons (λ y. over (f y) b) x xs)

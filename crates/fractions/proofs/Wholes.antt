@@ -1,10 +1,9 @@
 -- Whole numbers among the rationals, and ratios as quotients of them.
-use Rattle.std.proofs.Common.{◌≡◌, ◌≢◌, ◌∙◌, ◌<◌, ◌+ℤ◌, ◌-ℤ◌, ◌*ℤ◌, ℕ, ℤ, pos, List, [], ◌∷◌, sym, ap, arith}
+use Rattle.std.proofs.Common.{◌≡◌, ◌≢◌, ◌∙◌, ◌<◌, ◌+ℤ◌, ◌-ℤ◌, ◌*ℤ◌, ℕ, ℤ, pos, sym, ap, arith}
 use Rattle.std.proofs.lemmas.Int.{ints}
-use Rattle.fractions.specs.Rationals.{minus, over, plus, ratio, rational_sum_by, rational_zero, times, whole}
+use Rattle.fractions.specs.Rationals.{minus, over, plus, ratio, rational_zero, times, whole}
 use Rattle.fractions.proofs.Products.{over_from_times, times_comm, zero-times}
 use Rattle.fractions.proofs.Ratios.{minus-ratio_same_den, plus-ratio_same_den, ratio-cancel, ratio-one, times-ratio}
-use Rattle.fractions.proofs.Sums.{rational_sum_by-cons}
 
 pub whole-plus : (n m : ℤ) → plus (whole n) (whole m) ≡ whole (n +ℤ m)
 whole-plus n m = rw (← ratio-one n, ← ratio-one m, ← ratio-one (n +ℤ m)) (plus-ratio_same_den n m 1)
@@ -20,12 +19,6 @@ same_from_whole n m same = ap (λ a. a.num) same
 
 pub whole-nonzero : (n : ℤ) → n ≢ pos 0 → whole n ≢ rational_zero
 whole-nonzero n some none = some (same_from_whole n (pos 0) none)
-
--- a sum of whole numbers, where `total` sums them too
-pub rational_sum_by-whole : {X : Type 0} (f : X → ℤ) (total : List X → ℤ) → total [] ≡ pos 0 → ((x : X) (xs : List X) → total (x ∷ xs) ≡ f x +ℤ total xs) → (xs : List X) → rational_sum_by (λ x. whole (f x)) xs ≡ whole (total xs)
-rational_sum_by-whole f total none more [] = ap whole (sym none)
-rational_sum_by-whole f total none more (x ∷ xs) =
-    rational_sum_by-cons (λ y. whole (f y)) x xs ∙ ap (plus (whole (f x))) (rational_sum_by-whole f total none more xs) ∙ whole-plus (f x) (total xs) ∙ ap whole (sym (more x xs))
 
 -- a whole number over any denominator
 pub ratio-multiple : (n : ℤ) (d : ℕ) → 0 < d → ratio (n *ℤ pos d) d ≡ whole n

@@ -1,7 +1,7 @@
 -- Rationals of any size, in lowest form: the sums, products and order that bounded fractions answer.
-use Rattle.std.specs.Prelude.{◌≡◌, ℕ, zero, suc, ◌*◌, ◌/◌, ◌^◌, ◌<◌, ◌≤◌, ℤ, pos, ◌+ℤ◌, ◌-ℤ◌, ◌*ℤ◌, ◌<ℤ◌, ◌≤ℤ◌, unsigned_abs, int_lt, Bool, ◌&&◌, nat_le, List, ◌∷◌, ◌++◌, fold, Option, IsSome, IfSome, ◌↔◌, if◌then◌else◌, ◌==◌}
+use Rattle.std.specs.Prelude.{◌≡◌, ℕ, zero, suc, ◌*◌, ◌/◌, ◌^◌, ◌<◌, ◌≤◌, ℤ, pos, ◌+ℤ◌, ◌-ℤ◌, ◌*ℤ◌, ◌<ℤ◌, ◌≤ℤ◌, unsigned_abs, int_lt, Bool, ◌&&◌, nat_le, List, [], ◌∷◌, ◌++◌, Option, IsSome, IfSome, ◌↔◌, if◌then◌else◌, ◌==◌}
 use Rattle.std.specs.Fmt.{decimal, signed_decimal}
-use Rattle.std.specs.Ordering.{int_cmp, int_eq}
+use Rattle.std.specs.Ordering.{int_cmp, int_eq, is_lt}
 use Rattle.std.specs.declared.cmp.Ordering.{Ordering}
 use Rattle.std.proofs.Common.{sym, subst, arith}
 use Rattle.fractions.specs.Integers.{signed, unsigned_abs-signed}
@@ -71,7 +71,8 @@ over a b = times a (reciprocal b)
 
 -- the sum of f over a list, and of a list itself
 abbrev pub rational_sum_by : {X : Type 0} → (X → Rational) → List X → Rational
-rational_sum_by f xs = fold (λ total x. plus total (f x)) rational_zero xs
+rational_sum_by f [] = rational_zero
+rational_sum_by f (x ∷ xs) = plus (f x) (rational_sum_by f xs)
 
 abbrev pub rational_sum : List Rational → Rational
 rational_sum xs = rational_sum_by (λ a. a) xs
@@ -86,6 +87,10 @@ pub record IsAtMost (a b : Rational) : Type 0 where
 
 unfoldable pub rational_cmp : Rational → Rational → Ordering
 rational_cmp a b = int_cmp (a.num *ℤ pos b.den) (b.num *ℤ pos a.den)
+
+-- the test whether a is below b
+abbrev pub is_below : Rational → Rational → Bool
+is_below a b = is_lt (rational_cmp a b)
 
 -- two are equal where both numbers are
 abbrev pub rational_eq : Rational → Rational → Bool

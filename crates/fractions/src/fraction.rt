@@ -1,10 +1,10 @@
 //! The type of a fraction, its operations, its order and its text.
 #![tactic(auto, using(crate::specs::Fields::fields))]
 
-ghost use Rattle.std.specs.Prelude.{◌≡◌, ◌≢◌, ◌↔◌, ◌+◌, ◌*◌, ◌<◌, ◌≤◌, ◌^◌, ℕ, pos, ◌+ℤ◌, ◌-ℤ◌, ◌*ℤ◌, unsigned_abs};
+ghost use Rattle.std.specs.Prelude.{◌≡◌, ◌≢◌, ◌↔◌, ◌+◌, ◌*◌, ◌<◌, ◌≤◌, ◌^◌, ℕ, pos, ◌+ℤ◌, ◌-ℤ◌, ◌*ℤ◌, unsigned_abs, MatchBool};
 ghost use Rattle.std.specs.Ordering.{MatchOrdering};
 ghost use Rattle.fractions.specs.Integers.{signed};
-ghost use Rattle.fractions.specs.Rationals.{Gives, IsBelow, IsWithinLimits, minus, over, plus, ratio, rational_cmp, rational_zero, times, whole};
+ghost use Rattle.fractions.specs.Rationals.{Gives, IsAtMost, IsBelow, IsWithinLimits, is_below, minus, over, plus, ratio, rational_cmp, rational_zero, times, whole};
 
 use crate::terms::LowestTerms;
 use std::cmp::Ordering;
@@ -148,6 +148,22 @@ impl Frac {
         ensures ranks { MatchOrdering result (IsBelow self.now other.now) (self.now ≡ other.now) (IsBelow other.now self.now) }
     {
         self.cross(other).cmp(&other.cross(self))
+    }
+
+    /// Whether the fraction is below another.
+    pub fn is_below(&self, other: &Frac) -> bool
+        ensures value { result ≡ is_below self.now other.now }
+        ensures ranks { MatchBool result (IsBelow self.now other.now) (IsAtMost other.now self.now) }
+    {
+        self.compare(other).is_lt()
+    }
+
+    /// Whether the fraction is above 0.
+    pub fn is_positive(&self) -> bool
+        ensures value { result ≡ is_below rational_zero self.now }
+        ensures ranks { MatchBool result (IsBelow rational_zero self.now) (IsAtMost self.now rational_zero) }
+    {
+        self.num() > 0
     }
 
     /// The numerator times the other denominator.

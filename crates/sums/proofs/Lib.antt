@@ -1,5 +1,6 @@
 pub mod ConsLemmas
 pub mod CountLemmas
+pub mod EnumerationLemmas
 pub mod OrderLemmas
 pub mod ProductLemmas
 pub mod SumLemmas

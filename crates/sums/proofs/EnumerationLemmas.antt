@@ -1,0 +1,25 @@
+-- Lists whose elements stand beside their indices.
+use Rattle.std.proofs.Common.{◌≡◌, ℕ, suc, ◌+◌, List, [], ◌∷◌, length, map, Some, refl, ap, arith, zero-add}
+use Rattle.std.specs.Prelude.{All, slice_get}
+use Rattle.std.specs.List.{enumerate_from, range_with_len}
+use Rattle.std.proofs.lemmas.List.Elements.{All-nil, All-cons}
+
+module _ {X : Type 0} where
+  -- what holds of each element with its index
+  All-enumerate_from : (P : ℕ × X → Type 0) (n : ℕ) (xs : List X) → ((i : ℕ) (x : X) → slice_get xs i ≡ Some x → P (n + i, x)) → All P (enumerate_from n xs)
+  All-enumerate_from P n [] h = All-nil P
+  All-enumerate_from P n (x ∷ xs) h =
+      All-cons P (n, x) (enumerate_from (n + 1) xs) (let first : n + 0 ≡ n = omega arith in rw first at (h 0 x refl))
+      (All-enumerate_from P (n + 1) xs (λ i y at. let index : n + 1 + i ≡ n + suc i = omega arith in rw index (h (suc i) y at)))
+
+  pub All-enumerated : (P : ℕ × X → Type 0) (xs : List X) → ((i : ℕ) (x : X) → slice_get xs i ≡ Some x → P (i, x)) → All P (enumerate_from 0 xs)
+  All-enumerated P xs h = All-enumerate_from P 0 xs (λ i x at. rw zero-add (h i x at))
+
+  -- the indices alone, and the elements alone
+  pub map-enumerate_from_index : (n : ℕ) (xs : List X) → map (λ (p : ℕ × X). p.0) (enumerate_from n xs) ≡ range_with_len n (length xs)
+  map-enumerate_from_index n [] = refl
+  map-enumerate_from_index n (x ∷ xs) = ap (λ is. n ∷ is) (map-enumerate_from_index (n + 1) xs)
+
+  pub map-enumerate_from_item : (n : ℕ) (xs : List X) → map (λ (p : ℕ × X). p.1) (enumerate_from n xs) ≡ xs
+  map-enumerate_from_item n [] = refl
+  map-enumerate_from_item n (x ∷ xs) = ap (λ ys. x ∷ ys) (map-enumerate_from_item (n + 1) xs)
