@@ -1,12 +1,13 @@
 -- Tests of the items of a list: none that passes, some, and just one; the items of a filtered list before the filter.
-use Rattle.std.proofs.Common.{◌≡◌, ◌∙◌, ◌<◌, ◌≤◌, ◌∷◌, ◌⊎◌, inl, inr, ℕ, zero, suc, Bool, true, false, cond, List, [], All, Option, Some, None, slice_get, is_some, unwrap_or, position, length, take, refl, sym, ap, arith}
+use Rattle.std.proofs.Common.{◌≡◌, ◌∙◌, ◌<◌, ◌≤◌, ◌+◌, ◌∷◌, ◌⊎◌, inl, inr, ℕ, zero, suc, Bool, true, false, cond, List, [], All, Option, Some, None, slice_get, is_some, nat_lt, unwrap_or, position, length, take, refl, sym, ap, arith}
 use Rattle.std.specs.Prelude.{count_by, find}
-use Rattle.std.specs.List.{cons_option, filter_map, list_any}
+use Rattle.std.specs.List.{cons_option, filter_map, list_any, position_or_len}
+use Rattle.std.proofs.lemmas.Bool.Decides.{nat_tests}
 use Rattle.std.proofs.lemmas.Bool.{cases_lt, cases_order, false≢true, false_from_ne_true}
 use Rattle.std.proofs.lemmas.List.Elements.{All-cons, All-head, All-nil, All-tail}
 use Rattle.std.proofs.lemmas.List.Folds.{list_any_at}
 use Rattle.std.proofs.lemmas.List.Quantifiers.{position-Some}
-use Rattle.std.proofs.lemmas.Option.{get_or_from_slice_get, slice_get_within}
+use Rattle.std.proofs.lemmas.Option.{cond_some, get_or_from_slice_get, slice_get_within}
 use Rattle.sums.proofs.CountLemmas.{count_by-cons}
 
 -- ---- none passes
@@ -61,7 +62,41 @@ counted p xs some = by (cases_lt 0 (count_by p xs))
     by (inl above) = above
     by (inr none) = absurd (false≢true (sym (none_counted p xs (omega (arith, none))) ∙ some))
 
+shifted : (m n : ℕ) → nat_lt (1 + m) (suc n) ≡ nat_lt m n
+shifted m n = by (nat_lt m n) refl
+  where
+    by : (b : Bool) → nat_lt m n ≡ b → nat_lt (1 + m) (suc n) ≡ b
+    by true e = grind (arith, nat_tests, e)
+    by false e = grind (arith, nat_tests, e)
+
+lt-list_any : {X : Type 0} (p : X → Bool) (xs : List X) → nat_lt (position_or_len p xs) (length xs) ≡ list_any p xs
+lt-list_any p [] = refl
+lt-list_any p (x ∷ xs) = by (p x) refl (lt-list_any p xs)
+  where
+    by : (b : Bool) → p x ≡ b → nat_lt (position_or_len p xs) (length xs) ≡ list_any p xs → nat_lt (position_or_len p (x ∷ xs)) (length (x ∷ xs)) ≡ list_any p (x ∷ xs)
+    by true e rest = let some : nat_lt 0 (suc (length xs)) ≡ true = grind (arith, nat_tests) in rw (e, some) refl
+    by false e rest = rw (e, shifted (position_or_len p xs) (length xs)) rest
+
+is_some-cond : {X : Type 0} (b : Bool) (x : X) → is_some (cond b (Some x) None) ≡ b
+is_some-cond true x = refl
+is_some-cond false x = refl
+
+-- there is an index exactly where some item passes
+pub is_some-position : {X : Type 0} (p : X → Bool) (xs : List X) → is_some (position p xs) ≡ list_any p xs
+is_some-position p xs = is_some-cond (nat_lt (position_or_len p xs) (length xs)) (position_or_len p xs) ∙ lt-list_any p xs
+
 -- the index of the first of them
+pub record IsAt {X : Type 0} (p : X → Bool) (xs : List X) (i : ℕ) : Type 0 where
+  pub index_is : position_or_len p xs ≡ i
+  pub within : i < length xs
+  pub some : list_any p xs ≡ true
+
+pub position-some : {X : Type 0} (p : X → Bool) (xs : List X) (i : ℕ) → position p xs ≡ Some i → IsAt p xs i
+position-some p [] i e = cc e
+position-some {X} p (x ∷ xs) i e =
+    let at = position-Some p (x ∷ xs) i x e in
+    record { index_is = (cond_some _ _ _ e).1; within = at.0; some = list_any_at p (x ∷ xs) i x at.0 at.1 }
+
 pub index_within : {X : Type 0} (p : X → Bool) (xs : List X) → is_some (position p xs) ≡ true → unwrap_or (position p xs) 0 < length xs
 index_within p [] some = cc some
 index_within p (x ∷ xs) some = by (position p (x ∷ xs)) refl some

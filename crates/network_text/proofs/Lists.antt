@@ -1,8 +1,10 @@
 -- Items of a list, of its front, and of a list with more behind it; ranges of numbers.
 use Rattle.std.proofs.Common.{◌≡◌, ◌∙◌, ◌<◌, ◌+◌, ◌∷◌, ◌++◌, ◌⊎◌, inl, inr, ℕ, zero, suc, List, [], All, AllPairs, Some, slice_get, length, map, take, drop, refl, sym, ap, subst, subst₂, arith, append_assoc}
-use Rattle.std.specs.List.{flat_map, range_with_len}
-use Rattle.std.proofs.lemmas.List.{get_or-map, length-map, take-append-drop}
-use Rattle.std.proofs.lemmas.List.Elements.{All-append, All-head, All-nil, All-push, All-tail}
+use Rattle.std.specs.List.{enumerate_from, flat_map, range_with_len}
+use Rattle.std.proofs.Math.Seq.{drop-append_seam, take-append_seam}
+use Rattle.std.proofs.lemmas.List.Concat.{flat_map-append}
+use Rattle.std.proofs.lemmas.List.{append-nil, get_or-map, length-map, take-append-drop}
+use Rattle.std.proofs.lemmas.List.Elements.{All-append, All-drop, All-head, All-nil, All-push, All-tail, All-take}
 use Rattle.std.proofs.lemmas.List.Quantifiers.{all_pairs_push}
 use Rattle.std.proofs.lemmas.Option.{get_or_from_slice_get, slice_get_within}
 use Rattle.stream_case.proofs.DistinctLemmas.{AllPairs-front}
@@ -37,6 +39,23 @@ All-flat_map P f [] each = All-nil P
 All-flat_map {X} P f (x ∷ xs) each =
     let Q : X → Type 0 = λ y. All P (f y) in
     All-append P (f x) (flat_map f xs) (All-head Q x xs each) (All-flat_map P f xs (All-tail Q x xs each))
+
+-- each of two lists in a row
+pub All-front : {X : Type 0} (P : X → Type 0) (xs ys : List X) → All P (xs ++ ys) → All P xs
+All-front P xs ys all = subst (All P) (take-append_seam xs ys) (All-take P (length xs) (xs ++ ys) all)
+
+pub All-back : {X : Type 0} (P : X → Type 0) (xs ys : List X) → All P (xs ++ ys) → All P ys
+All-back P xs ys all = subst (All P) (drop-append_seam xs ys) (All-drop P (length xs) (xs ++ ys) all)
+
+-- one element more
+pub flat_map-push : {X Y : Type 0} (h : X → List Y) (xs : List X) (x : X) → flat_map h (xs ++ x ∷ []) ≡ flat_map h xs ++ h x
+flat_map-push h xs x = flat_map-append h xs (x ∷ []) ∙ ap (λ ys. flat_map h xs ++ ys) (append-nil (h x))
+
+pub enumerate_from-push : {X : Type 0} (n : ℕ) (xs : List X) (x : X) → enumerate_from n (xs ++ x ∷ []) ≡ enumerate_from n xs ++ (n + length xs, x) ∷ []
+enumerate_from-push n [] x = ap (λ k. (k, x) ∷ []) (omega arith)
+enumerate_from-push n (y ∷ xs) x =
+    let next : n + 1 + length xs ≡ n + suc (length xs) = omega arith in
+    ap (λ l. (n, y) ∷ l) (enumerate_from-push (n + 1) xs x ∙ ap (λ k. enumerate_from (n + 1) xs ++ (k, x) ∷ []) next)
 
 -- ---- pairs
 

@@ -1,5 +1,5 @@
--- Fraction texts: an optional `-`, digits, and optionally `/` and digits; 1 to MOST_DIGITS of them in each number.
-use Rattle.std.specs.Prelude.{ℕ, zero, suc, ℤ, pos, int_lt, Bool, List, drop, Option, Some, None, option_map, unwrap_or, ◌==◌, if◌then◌else◌, slice_index}
+-- Fraction texts: an optional `-`, a number, and optionally `/` and a number. A number has 1 to MOST_DIGITS digits.
+use Rattle.std.specs.Prelude.{ℕ, zero, suc, ℤ, pos, Bool, List, drop, Option, Some, None, option_map, unwrap_or, ◌==◌, if◌then◌else◌, slice_index}
 use Rattle.std.specs.List.{after_first, before_first, list_any}
 use Rattle.std.proofs.Common.{neg_ℤ}
 use Rattle.stream_case.specs.Digits.{natural_in}
@@ -38,7 +38,3 @@ fraction_in text = ratio_of (numerator_in (before_first is_slash text)) (denomin
 -- the same, or 0 where there is none
 unfoldable pub fraction : List ℕ → Rational
 fraction text = unwrap_or (fraction_in text) rational_zero
-
--- above 0
-unfoldable pub is_positive : Rational → Bool
-is_positive a = int_lt (pos 0) a.num

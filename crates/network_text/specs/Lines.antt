@@ -5,11 +5,19 @@ use Rattle.stream_case.specs.declared.case.Case.{Case}
 use Rattle.stream_case.specs.declared.source.Source.{Source}
 use Rattle.stream_case.specs.declared.stream.Stream.{Stream}
 use Rattle.fractions.specs.Rationals.{Rational}
+use Rattle.network_text.specs.declared.few.AtMostTwo.{AtMostTwo}
+use Rattle.network_text.specs.declared.few.AtMostTwo.TheVariants as few
 use Rattle.network_text.specs.declared.network.Branch.{Branch}
 use Rattle.network_text.specs.declared.network.Line.{Line}
 use Rattle.network_text.specs.declared.network.Line.TheVariants as line
 use Rattle.network_text.specs.declared.network.Network.{Network}
 use Rattle.network_text.specs.declared.network.Passage.{Passage}
+
+-- none, one or two of a kind, as a list
+abbrev pub members : {T : Type 0} → AtMostTwo T → List T
+members few.Nothing = []
+members (few.One a) = a ∷ []
+members (few.Two a b) = a ∷ b ∷ []
 
 -- ---- exchangers
 
