@@ -1,13 +1,12 @@
 -- The first line of a text.
-use Rattle.std.proofs.Common.{◌≡◌, ◌<◌, ◌+◌, ◌∷◌, ◌∙◌, ◌==◌, ℕ, false, List, [], length, take, drop, refl, ap, arith, Some, None}
+use Rattle.std.proofs.Common.{◌≡◌, ◌<◌, ◌+◌, ◌∷◌, ◌∙◌, ◌==◌, ℕ, false, List, [], is_some, length, take, drop, refl, sym, ap, arith, Some, None}
 use Rattle.std.specs.Prelude.{position}
 use Rattle.std.specs.List.{slice_split, position_or_len}
 use Rattle.std.specs.Str.Lines.{lines, lines_of_parts, strip_carriage_return}
 use Rattle.std.proofs.lemmas.Bool.Decides.{nat_tests}
 use Rattle.std.proofs.lemmas.List.Splits.{length-slice_split, slice_split_first, slice_split_none}
-use Rattle.std.proofs.lemmas.List.Sums.{fails_before_first}
 use Rattle.network_text.specs.Statements.{is_newline}
-use Rattle.network_text.proofs.Positions.{position-none, position-some}
+use Rattle.network_text.proofs.Counts.{is_some-position, none_any, position-some}
 
 -- a part before another is a line
 before_more : (part : List ℕ) (parts : List (List ℕ)) → 0 < length parts → lines_of_parts (part ∷ parts) ≡ strip_carriage_return part ∷ lines_of_parts parts
@@ -17,16 +16,15 @@ before_more part (next ∷ more) some = refl
 pub first_of_more : (text : List ℕ) (n : ℕ) → position is_newline text ≡ Some n → lines text ≡ strip_carriage_return (take n text) ∷ lines (drop (n + 1) text)
 first_of_more text n e =
     let at = position-some is_newline text n e in
-    let cut = slice_split_first is_newline text 0 (omega (arith, at.place, at.within)) in
+    let cut = slice_split_first is_newline text 0 (omega (arith, at.index_is, at.within)) in
     let some : 0 < length (slice_split is_newline (drop (position_or_len is_newline text + 1) text)) = omega (arith, length-slice_split is_newline (drop (position_or_len is_newline text + 1) text)) in
-    ap lines_of_parts cut ∙ before_more _ _ some ∙ ap (λ k. strip_carriage_return (take k text) ∷ lines (drop (k + 1) text)) at.place
+    ap lines_of_parts cut ∙ before_more _ _ some ∙ ap (λ k. strip_carriage_return (take k text) ∷ lines (drop (k + 1) text)) at.index_is
 
 -- a last line without an end
 pub last_alone : (text : List ℕ) → 0 < length text → position is_newline text ≡ None → lines text ≡ text ∷ lines []
 last_alone text some e =
-    let at = position-none is_newline text e in
-    let one = slice_split_none is_newline text (λ k d within. fails_before_first is_newline text k d (omega (arith, within, at.place))) in
-    ap lines_of_parts one ∙ alone text some
+    let none = none_any is_newline text (sym (is_some-position is_newline text) ∙ ap is_some e) in
+    ap lines_of_parts (slice_split_none is_newline text none) ∙ alone text some
   where
     alone : (l : List ℕ) → 0 < length l → lines_of_parts (l ∷ []) ≡ l ∷ []
     alone l some = let other : (length l == 0) ≡ false = grind (arith, nat_tests, some) in rw other refl

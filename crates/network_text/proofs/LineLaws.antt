@@ -1,20 +1,16 @@
 -- What one line more declares, makes, uses and passes.
-use Rattle.std.proofs.Common.{◌≡◌, ◌∙◌, ◌<◌, ◌≤◌, ◌∷◌, ◌++◌, ℕ, zero, suc, List, [], All, Option, Some, None, length, option_map, unwrap_or, slice_get, refl, subst, ap, arith}
+use Rattle.std.proofs.Common.{◌≡◌, ◌<◌, ◌≤◌, ◌∷◌, ◌++◌, ℕ, suc, List, [], All, Option, Some, None, length, option_map, unwrap_or, refl, ap, arith}
 use Rattle.std.specs.List.{cons_option, filter_map, flat_map}
 use Rattle.std.specs.Option.{option_to_list}
-use Rattle.std.proofs.lemmas.List.{append-nil, map-append}
-use Rattle.std.proofs.Math.Seq.{drop-append_seam, take-append_seam}
-use Rattle.std.proofs.lemmas.List.Concat.{flat_map-append}
-use Rattle.std.proofs.lemmas.List.Elements.{All-drop, All-head, All-take, filter_map-append}
+use Rattle.std.proofs.lemmas.List.{map-append}
+use Rattle.std.proofs.lemmas.List.Elements.{All-head}
 use Rattle.network_text.specs.Lines.{exchanger_of, exchangers_of, made_by, makes, names_of, passage_of, passages_of, stream_at, used_by, uses}
+use Rattle.network_text.proofs.Lists.{All-back, All-front, flat_map-push}
 use Rattle.network_text.specs.declared.network.Branch.{Branch}
 use Rattle.network_text.specs.declared.network.Line.{Line}
 use Rattle.network_text.specs.declared.network.Line.TheVariants as line
-use Rattle.stream_case.proofs.CommonLemmas.{filter_map-push}
-
--- one element more
-pub flat_map-push : {X Y : Type 0} (h : X → List Y) (xs : List X) (x : X) → flat_map h (xs ++ x ∷ []) ≡ flat_map h xs ++ h x
-flat_map-push h xs x = flat_map-append h xs (x ∷ []) ∙ ap (λ ys. flat_map h xs ++ ys) (append-nil (h x))
+use Rattle.first_fault.proofs.Steps.{slice_get-front}
+use Rattle.stream_case.proofs.ListLemmas.{filter_map-push}
 
 pub exchangers_of-push : (ls : List Line) (l : Line) → exchangers_of (ls ++ l ∷ []) ≡ exchangers_of ls ++ option_to_list (exchanger_of l)
 unfolding exchangers_of
@@ -44,36 +40,24 @@ few_exchangers (l ∷ ls) = omega (arith, length-option (exchanger_of l) (filter
 
 -- ---- more branches
 
-slice_get-front : {X : Type 0} (xs ys : List X) (k : ℕ) → k < length xs → slice_get (xs ++ ys) k ≡ slice_get xs k
-slice_get-front [] ys k within = absurd (omega (arith, within))
-slice_get-front (x ∷ xs) ys zero within = refl
-slice_get-front (x ∷ xs) ys (suc k) within = slice_get-front xs ys k (omega (arith, within))
-
 -- a branch keeps its stream
 pub stream_at-front : (bs more : List Branch) (k : ℕ) → k < length bs → stream_at (bs ++ more) k ≡ stream_at bs k
 unfolding stream_at
 stream_at-front bs more k within = ap (λ o. unwrap_or (option_map (λ (b : Branch). b.stream) o) 0) (slice_get-front bs more k within)
 
-passage_of-front : (bs more : List Branch) (l : Line) → All (λ k. k < length bs) (uses l) → passage_of (bs ++ more) l ≡ passage_of bs l
+pub passage_of-front : (bs more : List Branch) (l : Line) → All (λ k. k < length bs) (uses l) → passage_of (bs ++ more) l ≡ passage_of bs l
 passage_of-front bs more (line.Exchanger name hot cold duty) made = refl
 passage_of-front bs more (line.Split from first cp second) made = refl
 passage_of-front bs more (line.Pass from exchanger to) made = ap (λ s. Some (record { exchanger = exchanger; stream = s })) (stream_at-front bs more from (All-head (λ k. k < length bs) from [] made))
 passage_of-front bs more (line.Mix first second to) made = refl
 passage_of-front bs more (line.End branch) made = refl
 
--- each of two lists in a row
-pub all_front : {X : Type 0} (P : X → Type 0) (xs ys : List X) → All P (xs ++ ys) → All P xs
-all_front P xs ys all = subst (All P) (take-append_seam xs ys) (All-take P (length xs) (xs ++ ys) all)
-
-pub all_back : {X : Type 0} (P : X → Type 0) (xs ys : List X) → All P (xs ++ ys) → All P ys
-all_back P xs ys all = subst (All P) (drop-append_seam xs ys) (All-drop P (length xs) (xs ++ ys) all)
-
 pub passages_of-front : (bs more : List Branch) (ls : List Line) → All (λ k. k < length bs) (used_by ls) → passages_of (bs ++ more) ls ≡ passages_of bs ls
 unfolding passages_of used_by
 passages_of-front bs more [] made = refl
 passages_of-front bs more (l ∷ ls) made =
-    let here = passage_of-front bs more l (all_front (λ k. k < length bs) (uses l) (flat_map uses ls) made) in
-    let rest = passages_of-front bs more ls (all_back (λ k. k < length bs) (uses l) (flat_map uses ls) made) in
+    let here = passage_of-front bs more l (All-front (λ k. k < length bs) (uses l) (flat_map uses ls) made) in
+    let rest = passages_of-front bs more ls (All-back (λ k. k < length bs) (uses l) (flat_map uses ls) made) in
     λ i. cons_option (here i) (rest i)
 
 pub names_of-append : (bs more : List Branch) → names_of (bs ++ more) ≡ names_of bs ++ names_of more

@@ -1,10 +1,9 @@
 -- The tests of names of branches.
-use Rattle.std.proofs.Common.{◌≡◌, ℕ, Bool, true, false, List, [], ◌∷◌, refl, sym, ap, ◌∙◌, inl, inr, ◌&&◌, ◌||◌, ◌==◌}
+use Rattle.std.proofs.Common.{◌≡◌, ℕ, Bool, true, false, List, [], ◌∷◌, refl, sym, ap, ◌∙◌, inl, inr, ◌||◌, ◌==◌}
 use Rattle.std.specs.Prelude.{Option, Some, None, SomeIff, IfSome, is_some}
-use Rattle.std.proofs.lemmas.Bool.{eqb-true}
+use Rattle.std.proofs.lemmas.Bool.{and_parts, eqb-true, false_from_ne_true}
 use Rattle.stream_case.specs.Name.{IsAnyName, IsDottedName, is_name}
-use Rattle.stream_case.proofs.NameTests.{name-passes, not_true, passed-name}
-use Rattle.stream_case.proofs.CommonLemmas.{both}
+use Rattle.stream_case.proofs.NameTests.{name-passes, passed-name}
 use Rattle.network_text.specs.Names.{is_branch_name, is_dotted_name}
 
 dotted-passes : (text : List ℕ) → IsDottedName text → is_dotted_name text ≡ true
@@ -18,7 +17,7 @@ passed-dotted : (text : List ℕ) → is_dotted_name text ≡ true → IsDottedN
 unfolding is_dotted_name
 passed-dotted [] e = cc e
 passed-dotted (b ∷ bs) e =
-    let h = both _ _ e in
+    let h = and_parts _ _ e in
     (eqb-true _ _ h.0, passed-name bs h.1)
 
 -- ---- names of branches
@@ -42,7 +41,7 @@ passed-branch_name text e = by (is_name text) (is_dotted_name text) refl refl e
     by false false name dotted e = cc e
 
 pub no_name-fails : (text : List ℕ) → (IsAnyName text → ⊥) → is_branch_name text ≡ false
-no_name-fails text never = not_true _ (λ passes. never (passed-branch_name text passes))
+no_name-fails text never = false_from_ne_true _ (λ passes. never (passed-branch_name text passes))
 
 -- an undotted name is one for a branch
 pub name-branch_name : (text : List ℕ) → is_name text ≡ true → is_branch_name text ≡ true

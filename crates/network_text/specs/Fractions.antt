@@ -1,16 +1,17 @@
--- Fraction texts: an optional `-`, 1 to 24 digits, and optionally `/` and 1 to 24 digits.
-use Rattle.std.specs.Prelude.{ℕ, zero, suc, ℤ, pos, int_lt, Bool, List, drop, Option, Some, None, option_map, unwrap_or, ◌==◌, if◌then◌else◌, slice_index}
+-- Fraction texts: an optional `-`, a number, and optionally `/` and a number. A number has 1 to MOST_DIGITS digits.
+use Rattle.std.specs.Prelude.{ℕ, zero, suc, ℤ, pos, Bool, List, drop, Option, Some, None, option_map, unwrap_or, ◌==◌, if◌then◌else◌, slice_index}
 use Rattle.std.specs.List.{after_first, before_first, list_any}
 use Rattle.std.proofs.Common.{neg_ℤ}
 use Rattle.stream_case.specs.Digits.{natural_in}
 use Rattle.fractions.specs.Rationals.{Rational, is_within_limits, ratio, rational_zero}
+use Rattle.network_text.specs.declared.limits.TheConstants.{MOST_DIGITS}
 
 abbrev pub negative : ℕ → ℤ
 negative n = neg_ℤ (pos n)
 
 -- the whole number of an optional `-` (45) and digits
 unfoldable pub numerator_in : List ℕ → Option ℤ
-numerator_in text = if slice_index text 0 == 45 then option_map negative (natural_in 24 (drop 1 text)) else option_map pos (natural_in 24 text)
+numerator_in text = if slice_index text 0 == 45 then option_map negative (natural_in MOST_DIGITS (drop 1 text)) else option_map pos (natural_in MOST_DIGITS text)
 
 -- `/`
 abbrev pub is_slash : ℕ → Bool
@@ -18,7 +19,7 @@ is_slash b = b == 47
 
 -- the denominator, behind the first `/`; it is 1 where there is none
 unfoldable pub denominator_in : List ℕ → Option ℕ
-denominator_in text = if list_any is_slash text then natural_in 24 (after_first is_slash text) else Some 1
+denominator_in text = if list_any is_slash text then natural_in MOST_DIGITS (after_first is_slash text) else Some 1
 
 -- the fraction n/d: d is not 0, and the lowest form is within the limits
 unfoldable pub bounded_ratio : ℤ → ℕ → Option Rational
@@ -37,7 +38,3 @@ fraction_in text = ratio_of (numerator_in (before_first is_slash text)) (denomin
 -- the same, or 0 where there is none
 unfoldable pub fraction : List ℕ → Rational
 fraction text = unwrap_or (fraction_in text) rational_zero
-
--- above 0
-unfoldable pub is_positive : Rational → Bool
-is_positive a = int_lt (pos 0) a.num

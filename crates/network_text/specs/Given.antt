@@ -1,16 +1,15 @@
 -- What statements say, and the network that they give.
-use Rattle.std.specs.Prelude.{ℕ, ◌+◌, List, [], ◌∷◌, ◌++◌, map, fold, length, position, Option, Some, None, unwrap_or, if◌then◌else◌, codes}
-use Rattle.std.specs.List.{enumerate_from}
+use Rattle.std.specs.Prelude.{ℕ, ◌+◌, List, [], ◌∷◌, ◌++◌, map, length, position, Option, Some, None, unwrap_or, if◌then◌else◌, codes}
 use Rattle.std.specs.Str.{bytes_eq}
+use Rattle.stream_case.specs.Case.{source_named}
 use Rattle.stream_case.specs.declared.case.Case.{Case}
 use Rattle.stream_case.specs.declared.source.Source.{Source}
 use Rattle.stream_case.specs.declared.source.Source.TheVariants as source
-use Rattle.stream_case.specs.declared.stream.Stream.{Stream}
 use Rattle.network_text.specs.Fractions.{fraction}
-use Rattle.network_text.specs.Lines.{exchangers_of, names_of, stream_at}
+use Rattle.network_text.specs.Lines.{exchangers_of, members, names_of, own_branches, stream_at, uses}
 use Rattle.network_text.specs.Statements.{Statement, field}
-use Rattle.network_text.specs.declared.found.Entry.{Entry}
-use Rattle.network_text.specs.declared.found.Entry.TheVariants as entry
+use Rattle.network_text.specs.declared.entry.Entry.{Entry}
+use Rattle.network_text.specs.declared.few.AtMostTwo.TheVariants as few
 use Rattle.network_text.specs.declared.kind.Kind.{Kind}
 use Rattle.network_text.specs.declared.kind.Kind.TheVariants as kind
 use Rattle.network_text.specs.declared.network.Branch.{Branch}
@@ -32,15 +31,6 @@ kind_in word =
 abbrev pub kind_of : Statement → Option Kind
 kind_of statement = kind_in (field statement 0)
 
-abbrev pub first_source : Option ℕ → Option ℕ → Option Source
-first_source (Some i) utility = Some (source.Stream i)
-first_source None (Some i) = Some (source.Utility i)
-first_source None None = None
-
--- the source of the case with a name
-unfoldable pub source_named : Case → List ℕ → Option Source
-source_named case name = first_source (position (λ s. bytes_eq name s.name) case.streams) (position (λ u. bytes_eq name u.name) case.utilities)
-
 -- the number of the branch with a name
 unfoldable pub branch_named : Network → List ℕ → Option ℕ
 branch_named given name = position (bytes_eq name) (names_of given.branches)
@@ -49,7 +39,7 @@ branch_named given name = position (bytes_eq name) (names_of given.branches)
 unfoldable pub exchanger_named : Network → List ℕ → Option ℕ
 exchanger_named given name = position (bytes_eq name) (map (λ e. e.name) (exchangers_of given.lines))
 
--- the same where they are known, and the first of them where they are not
+-- the same, and the source with a name, where they are known; the first of them where they are not
 unfoldable pub source_at : Case → List ℕ → Source
 source_at case name = unwrap_or (source_named case name) (source.Stream 0)
 
@@ -59,66 +49,72 @@ branch_at given name = unwrap_or (branch_named given name) 0
 unfoldable pub exchanger_at : Network → List ℕ → ℕ
 exchanger_at given name = unwrap_or (exchanger_named given name) 0
 
--- ---- what a statement says, behind statements that gave this
+-- ---- what a statement says, behind statements that gave this: its line, and the names of the branches that the line makes, which take the next numbers
+
+abbrev pub exchanger_entry : Case → Statement → Entry
+exchanger_entry case s = record {
+  line = line.Exchanger (field s 1) (source_at case (field s 2)) (source_at case (field s 3)) (fraction (field s 4));
+  names = few.Nothing;
+}
+
+abbrev pub split_entry : Network → Statement → Entry
+split_entry given s = record {
+  line = line.Split (branch_at given (field s 1)) (length given.branches) (fraction (field s 3)) (length given.branches + 1);
+  names = few.Two (field s 2) (field s 4);
+}
+
+abbrev pub pass_entry : Network → Statement → Entry
+pass_entry given s = record {
+  line = line.Pass (branch_at given (field s 1)) (exchanger_at given (field s 2)) (length given.branches);
+  names = few.One (field s 3);
+}
+
+abbrev pub mix_entry : Network → Statement → Entry
+mix_entry given s = record {
+  line = line.Mix (branch_at given (field s 1)) (branch_at given (field s 2)) (length given.branches);
+  names = few.One (field s 3);
+}
+
+abbrev pub end_entry : Network → Statement → Entry
+end_entry given s = record { line = line.End (branch_at given (field s 1)); names = few.Nothing }
 
 abbrev pub entry_by : Option Kind → Case → Network → Statement → Option Entry
 entry_by None case given s = None
-entry_by (Some kind.Exchanger) case given s = Some (entry.Exchanger (field s 1) (source_at case (field s 2)) (source_at case (field s 3)) (fraction (field s 4)))
-entry_by (Some kind.Split) case given s = Some (entry.Split (branch_at given (field s 1)) (field s 2) (fraction (field s 3)) (field s 4))
-entry_by (Some kind.Pass) case given s = Some (entry.Pass (branch_at given (field s 1)) (exchanger_at given (field s 2)) (field s 3))
-entry_by (Some kind.Mix) case given s = Some (entry.Mix (branch_at given (field s 1)) (branch_at given (field s 2)) (field s 3))
-entry_by (Some kind.End) case given s = Some (entry.End (branch_at given (field s 1)))
+entry_by (Some kind.Exchanger) case given s = Some (exchanger_entry case s)
+entry_by (Some kind.Split) case given s = Some (split_entry given s)
+entry_by (Some kind.Pass) case given s = Some (pass_entry given s)
+entry_by (Some kind.Mix) case given s = Some (mix_entry given s)
+entry_by (Some kind.End) case given s = Some (end_entry given s)
 
 unfoldable pub entry_in : Case → Network → Statement → Option Entry
 entry_in case given statement = entry_by (kind_of statement) case given statement
 
 -- ---- the network of statements
 
--- a new branch of the stream of the branch with a number
-abbrev pub branch_of : Network → ℕ → List ℕ → Branch
-branch_of given number name = record { name = name; stream = stream_at given.branches number }
+-- the stream of the first of some branches; 0, of which no rule speaks, where there are none
+abbrev pub first_stream : List Branch → List ℕ → ℕ
+first_stream branches [] = 0
+first_stream branches (number ∷ numbers) = stream_at branches number
 
--- an entry adds its line, and the branches that it makes; they take the next numbers
+abbrev pub branch_of : ℕ → List ℕ → Branch
+branch_of stream name = record { name = name; stream = stream }
+
+-- the branches that an entry makes are of the stream of the first branch that its line uses
+abbrev pub branches_in : Network → Entry → List Branch
+branches_in given entry = map (branch_of (first_stream given.branches (uses entry.line))) (members entry.names)
+
+-- an entry adds its line, and the branches that it makes
 unfoldable pub with_entry : Network → Entry → Network
-with_entry given (entry.Exchanger name hot cold duty) = record {
-  branches = given.branches;
-  lines = given.lines ++ line.Exchanger name hot cold duty ∷ [];
-}
-with_entry given (entry.Split from first cp second) = record {
-  branches = given.branches ++ branch_of given from first ∷ branch_of given from second ∷ [];
-  lines = given.lines ++ line.Split from (length given.branches) cp (length given.branches + 1) ∷ [];
-}
-with_entry given (entry.Pass from exchanger to) = record {
-  branches = given.branches ++ branch_of given from to ∷ [];
-  lines = given.lines ++ line.Pass from exchanger (length given.branches) ∷ [];
-}
-with_entry given (entry.Mix first second to) = record {
-  branches = given.branches ++ branch_of given first to ∷ [];
-  lines = given.lines ++ line.Mix first second (length given.branches) ∷ [];
-}
-with_entry given (entry.End branch) = record {
-  branches = given.branches;
-  lines = given.lines ++ line.End branch ∷ [];
-}
+with_entry given entry = record { branches = given.branches ++ branches_in given entry; lines = given.lines ++ entry.line ∷ [] }
 
 abbrev pub with_any : Network → Option Entry → Network
 with_any given None = given
 with_any given (Some entry) = with_entry given entry
 
--- each stream has a branch of its own, with the stream's name
-abbrev pub own_branch : ℕ × Stream → Branch
-own_branch (i, s) = record { name = s.name; stream = i }
-
-unfoldable pub own_branches : Case → List Branch
-own_branches case = map own_branch (enumerate_from 0 case.streams)
-
 -- before the first statement
 unfoldable pub start : Case → Network
 start case = record { branches = own_branches case; lines = [] }
 
+-- what there is with one statement more
 abbrev pub next : Case → Network → Statement → Network
 next case given statement = with_any given (entry_in case given statement)
-
--- what statements give, one after the other
-unfoldable pub given_by : Case → List Statement → Network
-given_by case statements = fold (next case) (start case) statements

@@ -6,5 +6,4 @@ pub mod Given
 pub mod Checks
 pub mod Outcome
 pub mod Shape
-pub mod Printed
-pub mod Answers
+pub mod Building

@@ -1,5 +1,5 @@
 -- The shape of a network: what the grammar asks of it but the two counts, said of its branches and lines.
-use Rattle.std.specs.Prelude.{◌≡◌, ◌≢◌, ℕ, pos, ◌-◌, ◌+◌, ◌<◌, ◌≤◌, ◌<ℤ◌, ◌⊎◌, List, length, take, count_by, All, AllPairs, Some, slice_get}
+use Rattle.std.specs.Prelude.{◌≡◌, ◌≢◌, ℕ, pos, ◌-◌, ◌+◌, ◌<◌, ◌≤◌, ◌<ℤ◌, ◌⊎◌, List, length, take, count_by, All, AllPairs, IsSome, Some, slice_get}
 use Rattle.std.specs.List.{range_with_len}
 use Rattle.stream_case.specs.Case.{side_of}
 use Rattle.stream_case.specs.Name.{IsAnyName, IsName}
@@ -7,17 +7,12 @@ use Rattle.stream_case.specs.declared.case.Case.{Case}
 use Rattle.stream_case.specs.declared.source.Side.TheVariants as side
 use Rattle.stream_case.specs.declared.source.Source.TheVariants as source
 use Rattle.fractions.specs.Rationals.{IsWithinLimits, Rational}
-use Rattle.network_text.specs.Lines.{Exchanger, exchangers_of, made_by, names_of, passages_of, stream_at, used_by, uses}
-use Rattle.network_text.specs.Given.{own_branches}
-use Rattle.network_text.specs.Checks.{most_exchangers, most_statements, same_passage}
+use Rattle.network_text.specs.Lines.{Exchanger, exchangers_of, made_by, names_of, own_branches, passages_of, same_passage, stream_at, used_by, uses}
+use Rattle.network_text.specs.declared.limits.TheConstants.{MOST_EXCHANGERS, MOST_LINES, MOST_STATEMENTS}
 use Rattle.network_text.specs.declared.network.Branch.{Branch}
 use Rattle.network_text.specs.declared.network.Line.{Line}
 use Rattle.network_text.specs.declared.network.Line.TheVariants as line
 use Rattle.network_text.specs.declared.network.Network.{Network}
-
--- the most statements of a network of any origin, so that its numbers fit in 32 bits
-abbrev pub most_lines : ℕ
-most_lines = 2000000000
 
 -- ---- branches
 
@@ -26,13 +21,13 @@ pub record AreMadeInOrder (case : Case) (network : Network) : Type 0 where
   pub own : take (length case.streams) network.branches ≡ own_branches case
   pub made : made_by network.lines ≡ range_with_len (length case.streams) (length network.branches - length case.streams)
 
--- how many branches there are before the line at a place
+-- how many branches there are before the line at an index
 abbrev pub made_before : Case → Network → ℕ → ℕ
-made_before case network place = length case.streams + length (made_by (take place network.lines))
+made_before case network index = length case.streams + length (made_by (take index network.lines))
 
 -- a line uses branches that were made before it
 abbrev pub AreMadeBeforeUse : Case → Network → Type 0
-AreMadeBeforeUse case network = (place : ℕ) (l : Line) → slice_get network.lines place ≡ Some l → All (λ b. b < made_before case network place) (uses l)
+AreMadeBeforeUse case network = (index : ℕ) (l : Line) → slice_get network.lines index ≡ Some l → All (λ b. b < made_before case network index) (uses l)
 
 -- each branch is used at most once
 abbrev pub AreUsedOnce : Network → Type 0
@@ -91,7 +86,7 @@ PassesDeclared branches declared (line.Mix first second to) = Unit {0}
 PassesDeclared branches declared (line.End branch) = Unit {0}
 
 abbrev pub ArePassedWhenDeclared : Network → Type 0
-ArePassedWhenDeclared network = (place : ℕ) (l : Line) → slice_get network.lines place ≡ Some l → PassesDeclared network.branches (exchangers_of (take place network.lines)) l
+ArePassedWhenDeclared network = (index : ℕ) (l : Line) → slice_get network.lines index ≡ Some l → PassesDeclared network.branches (exchangers_of (take index network.lines)) l
 
 -- how many lines lead a branch of the stream through the exchanger with this number
 abbrev pub passes : Network → ℕ → ℕ → ℕ
@@ -101,10 +96,20 @@ passes network exchanger stream = count_by (same_passage (record { exchanger = e
 abbrev pub ArePassedOnce : Network → Type 0
 ArePassedOnce network = (number stream : ℕ) (e : Exchanger) → slice_get (exchangers_of network.lines) number ≡ Some e → Joins e stream → passes network number stream ≡ 1
 
+-- ---- what lines name
+
+-- the sources, branches and exchangers of a line are there
+abbrev pub NamesKnown : Case → Network → Line → Type 0
+NamesKnown case network (line.Exchanger name hot cold duty) = IsSome (side_of case hot) × IsSome (side_of case cold)
+NamesKnown case network (line.Split from first cp second) = (from < length network.branches) × (first < length network.branches) × (second < length network.branches)
+NamesKnown case network (line.Pass from exchanger to) = (from < length network.branches) × (exchanger < length (exchangers_of network.lines)) × (to < length network.branches)
+NamesKnown case network (line.Mix first second to) = (first < length network.branches) × (second < length network.branches) × (to < length network.branches)
+NamesKnown case network (line.End branch) = branch < length network.branches
+
 -- ---- the shape
 
 pub record HasShape (case : Case) (network : Network) : Type 0 where
-  pub few : length network.lines ≤ most_lines
+  pub few : length network.lines ≤ MOST_LINES
   pub made_once : AreMadeInOrder case network
   pub made_first : AreMadeBeforeUse case network
   pub used_once : AreUsedOnce network
@@ -118,5 +123,5 @@ pub record HasShape (case : Case) (network : Network) : Type 0 where
 
 -- the two counts of a text, which are no part of the shape
 pub record KeepsCounts (network : Network) : Type 0 where
-  pub lines : length network.lines ≤ most_statements
-  pub exchangers : length (exchangers_of network.lines) ≤ most_exchangers
+  pub lines : length network.lines ≤ MOST_STATEMENTS
+  pub exchangers : length (exchangers_of network.lines) ≤ MOST_EXCHANGERS

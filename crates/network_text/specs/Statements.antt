@@ -7,9 +7,9 @@ use Rattle.std.specs.Str.Lines.{lines}
 abbrev pub Statement : Type 0
 Statement = List (List ℕ)
 
--- the field at a place, from 0, where the word of the statement stands; there is nothing behind the last one
+-- the field at an index, from 0, where the word of the statement stands; there is nothing behind the last one
 abbrev pub field : Statement → ℕ → List ℕ
-field statement place = slice_index_or statement place []
+field statement index = slice_index_or statement index []
 
 -- `\n`
 abbrev pub is_newline : ℕ → Bool

@@ -2,18 +2,16 @@
 
 ghost use Rattle.std.specs.Prelude.{◌≡◌, position};
 ghost use Rattle.std.specs.List.{before_first};
-ghost use Rattle.network_text.specs.Fractions.{bounded_ratio, denominator_in, fraction, fraction_in, is_positive, is_slash, numerator_in};
-ghost use Rattle.network_text.specs.Checks.{first_failing, fraction_checks};
-ghost use Rattle.network_text.specs.Answers.{Checked};
+ghost use Rattle.first_fault.specs.Checks.{Checked};
+ghost use Rattle.network_text.specs.Fractions.{bounded_ratio, denominator_in, fraction, fraction_in, is_slash, numerator_in};
+ghost use Rattle.network_text.specs.Checks.{fraction_checks};
 
 use crate::fault::NetWhy;
+use crate::limits::MOST_DIGITS;
 use fractions::Frac;
 use stream_case::natural_of;
 
-/// The most digits of a number in a fraction text.
-const MOST_DIGITS: usize = 24;
-
-/// The whole number of an optional `-` and 1 to 24 digits.
+/// The whole number of an optional `-` and 1 to `MOST_DIGITS` digits.
 #[tactic(auto, unfolding(crate::specs::Fractions::numerator_in))]
 fn numerator_of(text: &[u8]) -> Option<i128>
     ensures { result ≡ numerator_in text.now }
@@ -25,7 +23,7 @@ fn numerator_of(text: &[u8]) -> Option<i128>
     }
 }
 
-/// The place of the first `/`.
+/// The index of the first `/`.
 fn slash_in(text: &[u8]) -> Option<usize>
     ensures { result ≡ position is_slash text.now }
 {
@@ -53,8 +51,8 @@ fn denominator_of(text: &[u8]) -> Option<u128>
 }
 
 /// The fraction that a text spells, if it is a fraction text of a fraction: an optional `-`, 1 to
-/// 24 digits, and optionally `/` and 1 to 24 digits, which are not all 0 (this project's rule).
-/// The lowest terms have to be within the limits of a `Frac`.
+/// `MOST_DIGITS` digits, and optionally `/` and 1 to `MOST_DIGITS` digits, which are not all 0
+/// (this project's rule). The lowest terms have to be within the limits of a `Frac`.
 #[tactic(auto, unfolding(crate::specs::Fractions::fraction_in))]
 pub fn fraction_of(text: &[u8]) -> Option<Frac>
     ensures { result ≡ fraction_in text.now }
@@ -71,22 +69,15 @@ fn bounded(numerator: i128, denominator: u128) -> Option<Frac>
     Frac::from_parts(numerator, denominator)
 }
 
-#[tactic(auto, unfolding(crate::specs::Fractions::is_positive))]
-fn is_positive(value: &Frac) -> bool
-    ensures { result ≡ is_positive value.now }
-{
-    value.num() > 0
-}
-
 /// The fraction above 0 that a field spells: a duty or a heat-capacity flow.
 #[tactic(auto, unfolding(crate::specs::Checks::fraction_checks, crate::specs::Fractions::fraction))]
 pub fn positive_fraction(field: &[u8]) -> Result<Frac, NetWhy>
-    ensures { Checked (first_failing (fraction_checks field.now)) (λ value. value ≡ fraction field.now) result }
+    ensures { Checked (fraction_checks field.now) (λ value. value ≡ fraction field.now) result }
 {
     let Some(value) = fraction_of(field) else {
         return Err(NetWhy::BadNumber);
     };
-    if !is_positive(&value) {
+    if !value.is_positive() {
         return Err(NetWhy::NotPositive);
     }
     Ok(value)

@@ -1,5 +1,9 @@
 //! A network of exchangers.
 
+ghost use Rattle.std.specs.Prelude.{◌≡◌};
+ghost use Rattle.network_text.specs.Lines.{makes, members, uses};
+
+use crate::few::AtMostTwo;
 use fractions::Frac;
 use stream_case::{Items, Name, Source};
 
@@ -7,7 +11,14 @@ use stream_case::{Items, Name, Source};
 #[derive(Clone, Copy, Debug, PartialEq, Eq)]
 pub struct Branch {
     pub name: Name,
-    /// The stream that it is a part of, by its place in the case.
+    /// The stream that it is a part of, by its index in the case.
+    pub stream: u32,
+}
+
+/// A passage through an exchanger, on the side of a stream.
+#[derive(Clone, Copy, PartialEq, Eq, Hash)]
+pub struct Passage {
+    pub exchanger: u32,
     pub stream: u32,
 }
 
@@ -47,6 +58,34 @@ pub enum Line {
     End {
         branch: u32,
     },
+}
+
+impl Line {
+    /// The branches that the statement uses.
+    pub fn uses(&self) -> AtMostTwo<u32>
+        ensures { members result ≡ uses self.now }
+    {
+        match *self {
+            Line::Exchanger { .. } => AtMostTwo::Nothing,
+            Line::Split { from, .. } => AtMostTwo::One(from),
+            Line::Pass { from, .. } => AtMostTwo::One(from),
+            Line::Mix { first, second, .. } => AtMostTwo::Two(first, second),
+            Line::End { branch } => AtMostTwo::One(branch),
+        }
+    }
+
+    /// The branches that the statement makes.
+    pub fn makes(&self) -> AtMostTwo<u32>
+        ensures { members result ≡ makes self.now }
+    {
+        match *self {
+            Line::Exchanger { .. } => AtMostTwo::Nothing,
+            Line::Split { first, second, .. } => AtMostTwo::Two(first, second),
+            Line::Pass { to, .. } => AtMostTwo::One(to),
+            Line::Mix { to, .. } => AtMostTwo::One(to),
+            Line::End { .. } => AtMostTwo::Nothing,
+        }
+    }
 }
 
 /// A network of exchangers for the streams and utilities of a case: all branches that it has, and

@@ -6,9 +6,9 @@ ghost use Rattle.network_text.specs.Statements.{statements_of};
 ghost use Rattle.network_text.specs.Outcome.{IsOutcome};
 ghost use Rattle.network_text.specs.Shape.{HasShape, KeepsCounts};
 
-use crate::entries::entry_of;
+use crate::builder::NetworkBuilder;
+use crate::entry::entry_of;
 use crate::fault::{NetFault, NetWhy};
-use crate::found::Found;
 use crate::network::Network;
 use crate::statement::{Statement, first_line};
 use std::alloc::Global;
@@ -22,7 +22,7 @@ pub fn read_network(alloc: Global, case: &Case, bytes: &[u8]) -> Result<Network,
     ensures shape { IfOk result (HasShape case.now) }
     ensures counts { IfOk result KeepsCounts }
 {
-    let mut found = Found::new(alloc, case)?;
+    let mut builder = NetworkBuilder::new(alloc, case)?;
     let mut rest = bytes;
     let mut number: u32 = 0;
     while !rest.is_empty() {
@@ -33,15 +33,15 @@ pub fn read_network(alloc: Global, case: &Case, bytes: &[u8]) -> Result<Network,
             continue;
         }
         number += 1;
-        match entry_of(case, &found, &statement) {
-            Ok(entry) => found = found.with(entry)?,
+        match entry_of(case, &builder, &statement) {
+            Ok(entry) => builder = builder.with(entry)?,
             Err(why) => return Err(NetFault::At { line: number, why }),
         }
     }
-    match found.first_missing() {
-        None => Ok(found.into_network(alloc)?),
-        Some(place) => Err(NetFault::At {
-            line: place + 1,
+    match builder.first_missing() {
+        None => Ok(builder.into_network(alloc)?),
+        Some(index) => Err(NetFault::At {
+            line: index + 1,
             why: NetWhy::MissingPass,
         }),
     }

@@ -20,7 +20,7 @@ pub fn first_line(text: &[u8]) -> (&[u8], &[u8])
     (without_return(&text[..end]), &text[end + 1..])
 }
 
-/// The place of the first `\n`.
+/// The index of the first `\n`.
 fn newline_in(text: &[u8]) -> Option<usize>
     ensures { result ≡ position is_newline text.now }
 {
@@ -83,11 +83,11 @@ impl<'a> Statement<'a> {
         self.fields.len()
     }
 
-    /// The field at a place, from 0; there is nothing behind the last one.
-    pub fn field(&self, place: usize) -> &[u8]
-        ensures { result.now ≡ field self.now place }
+    /// The field at an index, from 0; there is nothing behind the last one.
+    pub fn field(&self, index: usize) -> &[u8]
+        ensures { result.now ≡ field self.now index }
     {
-        match self.fields.get(place) {
+        match self.fields.get(index) {
             Some(field) => field,
             None => &[],
         }

@@ -1,61 +1,77 @@
-use Rattle.std.proofs.Common.{◌∙◌, inl, inr, refl, sym}
+use Rattle.std.proofs.Common.{◌∙◌, ◌+◌, ◌<◌, length, sym, ap, subst, arith}
+use Rattle.std.specs.Prelude.{option_map}
+use Rattle.first_fault.proofs.Reading.{Reads, end_here, fault_here, none_read, one_more, value_here}
 use Rattle.network_text.specs.Statements.{statements_of}
-use Rattle.network_text.specs.Shape.{HasShape, KeepsCounts}
-use Rattle.network_text.proofs.ShapeLaw.{network-has_shape}
-use Rattle.network_text.proofs.BackCounts.{network-keeps_counts}
-use Rattle.network_text.proofs.OwnBranches.{complete-sources}
-use Rattle.network_text.proofs.Steps.{fault_here, network_read, no_network, no_outcome, none_read, nothing, one_more, pass_missing, passed_over, statement_next}
+use Rattle.network_text.specs.Given.{with_any}
+use Rattle.network_text.specs.Outcome.{grammar}
+use Rattle.network_text.specs.declared.limits.TheConstants.{MOST_STATEMENTS}
+use Rattle.network_text.specs.declared.network.Network.{Network}
+use Rattle.network_text.proofs.shape.Counts.{network-keeps_counts}
+use Rattle.network_text.proofs.shape.Law.{network-has_shape}
+use Rattle.network_text.proofs.Reading.{fresh_next, lines-with_entry, lines-start, no_outcome, nothing_left, passed_over, room_next, statement_next}
 use Rattle.network_text.proofs.reader.read_network.Goals as goal
 
-pub new-requires : goal.new-requires
-new-requires c = complete-sources c.args.case.now c.requires
-
-pub entry_of-requires : goal.entry_of-requires
-entry_of-requires c = complete-sources c.args.case.now c.requires
-
 pub loop-rest-init : goal.loop-rest-init
-loop-rest-init c = none_read c.args.case.now (statements_of c.args.bytes.now) c.in_ok-found.found c.in_ok-found.ensures
+loop-rest-init c = record {
+  reads = none_read (statements_of c.args.bytes.now) c.in_ok-builder.ensures;
+  count = ap (λ (n : Network). length n.lines) c.in_ok-builder.ensures ∙ lines-start c.args.case.now;
+  few = omega arith;
+}
 
-pub returns-in_err-statement : goal.returns-in_err-statement
-returns-in_err-statement c =
-    let refused = c.from_residual-in_err-statement.ensures.1 in
-    record {
-      outcome = no_outcome c.args.case.now (statements_of c.args.bytes.now) c.from_residual-in_err-statement.result refused;
-      shape = no_network (HasShape c.args.case.now) c.from_residual-in_err-statement.result refused;
-      counts = no_network KeepsCounts c.from_residual-in_err-statement.result refused;
-    }
+pub returns-in_err-statement-clause-outcome : goal.returns-in_err-statement-clause-outcome
+returns-in_err-statement-clause-outcome c = no_outcome c.args.case.now (statements_of c.args.bytes.now) c.from_residual-in_err-statement.result c.from_residual-in_err-statement.ensures.1
 
 pub loop-rest-preserved-then-is_passed_over : goal.loop-rest-preserved-then-is_passed_over
 loop-rest-preserved-then-is_passed_over c =
     let over = sym c.is_passed_over.ensures ∙ c.if-is_passed_over.true in
-    passed_over c.args.case.now (statements_of c.args.bytes.now) c.loop-rest.rest.now c.first_line.result.0.now c.first_line.result.1.now c.loop-rest.found c.loop-rest.number c.in_ok-statement.statement c.loop-rest.invariant c.first_line.ensures.line c.in_ok-statement.ensures over
+    let same = passed_over c.loop-rest.rest.now c.first_line.result.0.now c.first_line.result.1.now c.first_line.ensures.line c.in_ok-statement.ensures over in
+    record {
+      reads = subst (λ left. Reads (grammar c.args.case.now) (statements_of c.args.bytes.now) left c.loop-rest.builder c.loop-rest.number) same c.loop-rest.invariant.reads;
+      count = c.loop-rest.invariant.count;
+      few = c.loop-rest.invariant.few;
+    }
 
-pub returns-in-Err : goal.returns-in-Err
-returns-in-Err c =
-    let over = sym c.is_passed_over.ensures ∙ c.if-is_passed_over.false in
-    let at = statement_next c.loop-rest.rest.now c.first_line.result.0.now c.first_line.result.1.now c.in_ok-statement.statement c.first_line.ensures.line c.in_ok-statement.ensures over in
-    let fault = fault_here c.args.case.now (statements_of c.args.bytes.now) (statements_of c.loop-rest.rest.now) c.loop-rest.found c.loop-rest.number c.in_ok-statement.statement (statements_of c.first_line.result.1.now) c.in-Err.why c.loop-rest.invariant at c.in-Err.ensures.checked in
-    record { outcome = inl (c.loop-rest.number, refl, fault); shape = tt; counts = tt }
+pub with-requires-clause-room : goal.with-requires-clause-room
+with-requires-clause-room c = room_next c.args.case.now c.loop-rest.builder c.in_ok-statement.statement c.in-Ok.ensures.0
+
+pub with-requires-clause-fresh : goal.with-requires-clause-fresh
+with-requires-clause-fresh c = fresh_next c.requires c.loop-rest.invariant.reads c.in_ok-statement.statement c.in-Ok.ensures.0 c.in-Ok.ensures.1
+
+pub returns-in-Err-clause-outcome : goal.returns-in-Err-clause-outcome
+returns-in-Err-clause-outcome c =
+    let counts = sym c.is_passed_over.ensures ∙ c.if-is_passed_over.false in
+    fault_here c.loop-rest.invariant.reads (statement_next c.loop-rest.rest.now c.first_line.result.0.now c.first_line.result.1.now c.first_line.ensures.line c.in_ok-statement.ensures counts) c.in-Err.ensures
 
 pub loop-rest-preserved : goal.loop-rest-preserved
 loop-rest-preserved c =
-    let over = sym c.is_passed_over.ensures ∙ c.if-is_passed_over.false in
-    let at = statement_next c.loop-rest.rest.now c.first_line.result.0.now c.first_line.result.1.now c.in_ok-statement.statement c.first_line.ensures.line c.in_ok-statement.ensures over in
-    one_more c.args.case.now (statements_of c.args.bytes.now) (statements_of c.loop-rest.rest.now) c.loop-rest.found c.loop-rest.number c.in_ok-statement.statement (statements_of c.first_line.result.1.now) c.in-Ok.entry c.in_ok-found-in-Ok.found
-    c.loop-rest.invariant at c.in-Ok.ensures.room c.in-Ok.ensures.checked.0 c.in-Ok.ensures.checked.1 c.in_ok-found-in-Ok.ensures
-
-pub returns-in_ok-into_network-in-None : goal.returns-in_ok-into_network-in-None
-returns-in_ok-into_network-in-None c =
-    let nothing = nothing c.loop-rest.rest.now c.loop-rest-test.ensures in
-    let is = network_read c.args.case.now (statements_of c.args.bytes.now) c.loop-rest.rest.now c.loop-rest.found c.loop-rest.number c.in_ok-into_network-in-None.field-0 c.loop-rest.invariant nothing (sym c.in-None.ensures.place) c.in_ok-into_network-in-None.ensures in
+    let case = c.args.case.now in
+    let given = c.loop-rest.builder in
+    let counts = sym c.is_passed_over.ensures ∙ c.if-is_passed_over.false in
+    let at = statement_next c.loop-rest.rest.now c.first_line.result.0.now c.first_line.result.1.now c.first_line.ensures.line c.in_ok-statement.ensures counts in
+    let next = c.in_ok-builder-in-Ok.ensures ∙ sym (ap (with_any given) c.in-Ok.ensures.1) in
+    let room : length given.lines < MOST_STATEMENTS = room_next case given c.in_ok-statement.statement c.in-Ok.ensures.0 in
+    let lines = ap (λ (n : Network). length n.lines) c.in_ok-builder-in-Ok.ensures ∙ lines-with_entry given c.in-Ok.entry in
+    let count = c.loop-rest.invariant.count in
     record {
-      outcome = is;
-      shape = network-has_shape c.args.case.now (statements_of c.args.bytes.now) c.in_ok-into_network-in-None.field-0 c.requires is;
-      counts = network-keeps_counts c.args.case.now (statements_of c.args.bytes.now) c.in_ok-into_network-in-None.field-0 is;
+      reads = one_more c.loop-rest.invariant.reads at c.in-Ok.ensures.0 next;
+      count = lines ∙ ap (λ n. n + 1) count;
+      few = omega (arith, room, count);
     }
 
-pub returns-in-Some : goal.returns-in-Some
-returns-in-Some c =
-    let nothing = nothing c.loop-rest.rest.now c.loop-rest-test.ensures in
-    let missing = pass_missing c.args.case.now (statements_of c.args.bytes.now) c.loop-rest.rest.now c.loop-rest.found c.loop-rest.number c.in-Some.place c.loop-rest.invariant nothing (sym c.in-Some.ensures.place) in
-    record { outcome = inr (c.in-Some.place, refl, refl, missing); shape = tt; counts = tt }
+pub returns-in_ok-into_network-in-None-clause-outcome : goal.returns-in_ok-into_network-in-None-clause-outcome
+returns-in_ok-into_network-in-None-clause-outcome c =
+    let complete = ap (option_map _) (sym c.in-None.ensures.index) in
+    value_here c.loop-rest.invariant.reads (nothing_left c.loop-rest.rest.now c.loop-rest-test.ensures) complete c.in_ok-into_network-in-None.ensures
+
+pub returns-in_ok-into_network-in-None-clause-shape : goal.returns-in_ok-into_network-in-None-clause-shape
+returns-in_ok-into_network-in-None-clause-shape c =
+    network-has_shape c.args.case.now (statements_of c.args.bytes.now) c.in_ok-into_network-in-None.field-0 c.requires (returns-in_ok-into_network-in-None-clause-outcome c)
+
+pub returns-in_ok-into_network-in-None-clause-counts : goal.returns-in_ok-into_network-in-None-clause-counts
+returns-in_ok-into_network-in-None-clause-counts c =
+    network-keeps_counts c.args.case.now (statements_of c.args.bytes.now) c.in_ok-into_network-in-None.field-0 (returns-in_ok-into_network-in-None-clause-outcome c)
+
+pub returns-in-Some-clause-outcome : goal.returns-in-Some-clause-outcome
+returns-in-Some-clause-outcome c =
+    let fault = ap (option_map _) (sym c.in-Some.ensures.index) in
+    end_here c.loop-rest.invariant.reads (nothing_left c.loop-rest.rest.now c.loop-rest-test.ensures) fault

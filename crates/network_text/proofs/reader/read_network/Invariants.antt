@@ -1,10 +1,16 @@
-use Rattle.std.proofs.Common.{length}
+use Rattle.std.proofs.Common.{◌≡◌, ◌≤◌, length}
+use Rattle.first_fault.proofs.Reading.{Reads}
 use Rattle.network_text.specs.Statements.{statements_of}
-use Rattle.network_text.proofs.Steps.{Reads}
+use Rattle.network_text.specs.Outcome.{grammar}
+use Rattle.network_text.specs.declared.limits.TheConstants.{MOST_STATEMENTS}
 use Rattle.network_text.proofs.reader.read_network.Given as goal
 
 abbrev pub invariant-loop-rest : goal.invariant-loop-rest
-invariant-loop-rest l = Reads l.case (statements_of l.bytes) (statements_of l.rest) l.found l.number
+invariant-loop-rest l = record {
+  reads : Reads (grammar l.case) (statements_of l.bytes) (statements_of l.rest) l.builder l.number;
+  count : length l.builder.lines ≡ l.number;
+  few : l.number ≤ MOST_STATEMENTS;
+}
 
 abbrev pub decreases-loop-rest : goal.decreases-loop-rest
 decreases-loop-rest l = length l.rest

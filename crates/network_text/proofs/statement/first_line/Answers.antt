@@ -1,6 +1,6 @@
 use Rattle.std.proofs.Common.{◌+◌, sym}
 use Rattle.network_text.proofs.LineCuts.{first_of_more, last_alone}
-use Rattle.network_text.proofs.Positions.{behind}
+use Rattle.std.proofs.lemmas.List.{take_rest}
 use Rattle.network_text.proofs.statement.first_line.Goals as goal
 
 pub returns-in_default-clause-line : goal.returns-in_default-clause-line
@@ -9,4 +9,4 @@ returns-in_default-clause-line c = last_alone c.args.text.now c.requires (sym c.
 pub returns-clause-line : goal.returns-clause-line
 returns-clause-line c =
     let cut = first_of_more c.args.text.now c.in-Some.end (sym c.in-Some.ensures) in
-    rw (behind c.args.text.now (c.in-Some.end + 1), c.without_return.ensures) cut
+    rw (take_rest c.args.text.now (c.in-Some.end + 1), c.without_return.ensures) cut

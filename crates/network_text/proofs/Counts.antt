@@ -1,0 +1,161 @@
+-- Tests of the items of a list: none that passes, some, and just one; the items of a filtered list before the filter.
+use Rattle.std.proofs.Common.{◌≡◌, ◌∙◌, ◌<◌, ◌≤◌, ◌+◌, ◌∷◌, ◌⊎◌, inl, inr, ℕ, zero, suc, Bool, true, false, cond, List, [], All, Option, Some, None, slice_get, is_some, nat_lt, unwrap_or, position, length, take, refl, sym, ap, arith}
+use Rattle.std.specs.Prelude.{count_by, find}
+use Rattle.std.specs.List.{cons_option, filter_map, list_any, position_or_len}
+use Rattle.std.proofs.lemmas.Bool.Decides.{nat_tests}
+use Rattle.std.proofs.lemmas.Bool.{cases_lt, cases_order, false≢true, false_from_ne_true}
+use Rattle.std.proofs.lemmas.List.Elements.{All-cons, All-head, All-nil, All-tail}
+use Rattle.std.proofs.lemmas.List.Folds.{list_any_at}
+use Rattle.std.proofs.lemmas.List.Quantifiers.{position-Some}
+use Rattle.std.proofs.lemmas.Option.{cond_some, get_or_from_slice_get, slice_get_within}
+use Rattle.sums.proofs.CountLemmas.{count_by-cons}
+
+-- ---- none passes
+
+pub none_counted : {X : Type 0} (p : X → Bool) (xs : List X) → count_by p xs ≡ 0 → list_any p xs ≡ false
+none_counted p [] none = refl
+none_counted p (x ∷ xs) none = by (p x) refl (none_counted p xs)
+  where
+    by : (b : Bool) → p x ≡ b → (count_by p xs ≡ 0 → list_any p xs ≡ false) → list_any p (x ∷ xs) ≡ false
+    by true is rest = let one = ap {B = ℕ} (λ b. cond b 1 0) is in absurd (omega (arith, none, count_by-cons p x xs, one))
+    by false is rest = let no = ap {B = ℕ} (λ b. cond b 1 0) is in rw is (rest (omega (arith, none, count_by-cons p x xs, no)))
+
+pub none_any : {X : Type 0} (p : X → Bool) (xs : List X) → list_any p xs ≡ false → All (λ x. p x ≡ false) xs
+none_any p xs none k d within = false_from_ne_true _ (λ passes. false≢true (sym none ∙ list_any_at p xs k d within passes))
+
+pub none_found : {X : Type 0} (p : X → Bool) (xs : List X) → find p xs ≡ None → All (λ x. p x ≡ false) xs
+none_found p [] none = All-nil (λ x. p x ≡ false)
+none_found p (x ∷ xs) none = by (p x) refl none (none_found p xs)
+  where
+    by : (b : Bool) → p x ≡ b → cond b (Some x) (find p xs) ≡ None → (find p xs ≡ None → All (λ y. p y ≡ false) xs) → All (λ y. p y ≡ false) (x ∷ xs)
+    by true is none rest = cc none
+    by false is none rest = All-cons (λ y. p y ≡ false) x xs is (rest none)
+
+pub find_none : {X : Type 0} (p : X → Bool) (xs : List X) → All (λ x. p x ≡ false) xs → find p xs ≡ None
+find_none p [] none = refl
+find_none p (x ∷ xs) none =
+    let here = All-head (λ y. p y ≡ false) x xs none in
+    rw here (find_none p xs (All-tail (λ y. p y ≡ false) x xs none))
+
+-- ---- some item passes
+
+pub some_counted : {X : Type 0} (p : X → Bool) (xs : List X) → 0 < count_by p xs → list_any p xs ≡ true
+some_counted p [] some = absurd (omega (arith, some))
+some_counted p (x ∷ xs) some = by (p x) refl (some_counted p xs)
+  where
+    by : (b : Bool) → p x ≡ b → (0 < count_by p xs → list_any p xs ≡ true) → list_any p (x ∷ xs) ≡ true
+    by true is rest = rw is refl
+    by false is rest = let no = ap {B = ℕ} (λ b. cond b 1 0) is in rw is (rest (omega (arith, some, count_by-cons p x xs, no)))
+
+pub uncounted : {X : Type 0} (p : X → Bool) (xs : List X) → list_any p xs ≡ false → count_by p xs ≡ 0
+uncounted p xs none = by (cases_order (count_by p xs) 0)
+  where
+    by : (count_by p xs ≡ 0) ⊎ ((count_by p xs < 0) ⊎ (0 < count_by p xs)) → count_by p xs ≡ 0
+    by (inl e) = e
+    by (inr (inl below)) = absurd (omega (arith, below))
+    by (inr (inr some)) = absurd (false≢true (sym none ∙ some_counted p xs some))
+
+pub counted : {X : Type 0} (p : X → Bool) (xs : List X) → list_any p xs ≡ true → 0 < count_by p xs
+counted p xs some = by (cases_lt 0 (count_by p xs))
+  where
+    by : (0 < count_by p xs) ⊎ (count_by p xs ≤ 0) → 0 < count_by p xs
+    by (inl above) = above
+    by (inr none) = absurd (false≢true (sym (none_counted p xs (omega (arith, none))) ∙ some))
+
+shifted : (m n : ℕ) → nat_lt (1 + m) (suc n) ≡ nat_lt m n
+shifted m n = by (nat_lt m n) refl
+  where
+    by : (b : Bool) → nat_lt m n ≡ b → nat_lt (1 + m) (suc n) ≡ b
+    by true e = grind (arith, nat_tests, e)
+    by false e = grind (arith, nat_tests, e)
+
+lt-list_any : {X : Type 0} (p : X → Bool) (xs : List X) → nat_lt (position_or_len p xs) (length xs) ≡ list_any p xs
+lt-list_any p [] = refl
+lt-list_any p (x ∷ xs) = by (p x) refl (lt-list_any p xs)
+  where
+    by : (b : Bool) → p x ≡ b → nat_lt (position_or_len p xs) (length xs) ≡ list_any p xs → nat_lt (position_or_len p (x ∷ xs)) (length (x ∷ xs)) ≡ list_any p (x ∷ xs)
+    by true e rest = let some : nat_lt 0 (suc (length xs)) ≡ true = grind (arith, nat_tests) in rw (e, some) refl
+    by false e rest = rw (e, shifted (position_or_len p xs) (length xs)) rest
+
+is_some-cond : {X : Type 0} (b : Bool) (x : X) → is_some (cond b (Some x) None) ≡ b
+is_some-cond true x = refl
+is_some-cond false x = refl
+
+-- there is an index exactly where some item passes
+pub is_some-position : {X : Type 0} (p : X → Bool) (xs : List X) → is_some (position p xs) ≡ list_any p xs
+is_some-position p xs = is_some-cond (nat_lt (position_or_len p xs) (length xs)) (position_or_len p xs) ∙ lt-list_any p xs
+
+-- the index of the first of them
+pub record IsAt {X : Type 0} (p : X → Bool) (xs : List X) (i : ℕ) : Type 0 where
+  pub index_is : position_or_len p xs ≡ i
+  pub within : i < length xs
+  pub some : list_any p xs ≡ true
+
+pub position-some : {X : Type 0} (p : X → Bool) (xs : List X) (i : ℕ) → position p xs ≡ Some i → IsAt p xs i
+position-some p [] i e = cc e
+position-some {X} p (x ∷ xs) i e =
+    let at = position-Some p (x ∷ xs) i x e in
+    record { index_is = (cond_some _ _ _ e).1; within = at.0; some = list_any_at p (x ∷ xs) i x at.0 at.1 }
+
+pub index_within : {X : Type 0} (p : X → Bool) (xs : List X) → is_some (position p xs) ≡ true → unwrap_or (position p xs) 0 < length xs
+index_within p [] some = cc some
+index_within p (x ∷ xs) some = by (position p (x ∷ xs)) refl some
+  where
+    by : (o : Option ℕ) → position p (x ∷ xs) ≡ o → is_some o ≡ true → unwrap_or o 0 < length (x ∷ xs)
+    by None is some = cc some
+    by (Some i) is some = (position-Some p (x ∷ xs) i x is).0
+
+-- ---- just one passes
+
+-- the one item that passes, and its index
+pub record IsOnly {X : Type 0} (p : X → Bool) (xs : List X) (index : ℕ) (x : X) : Type 0 where
+  pub here : slice_get xs index ≡ Some x
+  pub passes : p x ≡ true
+  pub found : find p xs ≡ Some x
+  pub only : (other : ℕ) (y : X) → slice_get xs other ≡ Some y → p y ≡ true → other ≡ index
+
+only_first : {X : Type 0} (p : X → Bool) (a : X) (xs : List X) → list_any p xs ≡ false → (other : ℕ) (y : X) → slice_get (a ∷ xs) other ≡ Some y → p y ≡ true → other ≡ 0
+only_first p a xs none zero y at passes = refl
+only_first p a xs none (suc other) y at passes =
+    absurd (false≢true (sym none ∙ list_any_at p xs other y (slice_get_within xs other y at) (ap p (get_or_from_slice_get xs other y y at) ∙ passes)))
+
+only_later : {X : Type 0} (p : X → Bool) (a : X) (xs : List X) (index : ℕ) → p a ≡ false → ((other : ℕ) (y : X) → slice_get xs other ≡ Some y → p y ≡ true → other ≡ index)
+    → (other : ℕ) (y : X) → slice_get (a ∷ xs) other ≡ Some y → p y ≡ true → other ≡ suc index
+only_later p a xs index fails only zero y at passes = let same : a ≡ y = cc at in absurd (false≢true (sym fails ∙ ap p same ∙ passes))
+only_later p a xs index fails only (suc other) y at passes = ap suc (only other y at passes)
+
+pub found_once : {X : Type 0} (p : X → Bool) (xs : List X) → count_by p xs ≡ 1 → (index : ℕ) × (x : X) × IsOnly p xs index x
+found_once p [] once = absurd (omega (arith, once))
+found_once {X} p (a ∷ xs) once = by (p a) refl (found_once p xs)
+  where
+    by : (b : Bool) → p a ≡ b → (count_by p xs ≡ 1 → (index : ℕ) × (x : X) × IsOnly p xs index x) → (index : ℕ) × (x : X) × IsOnly p (a ∷ xs) index x
+    by true is rest =
+        let one = ap {B = ℕ} (λ b. cond b 1 0) is in
+        let none = none_counted p xs (omega (arith, once, count_by-cons p a xs, one)) in
+        (0, a, record { here = refl; passes = is; found = ap (λ b. cond b (Some a) (find p xs)) is; only = only_first p a xs none })
+    by false is rest =
+        let no = ap {B = ℕ} (λ b. cond b 1 0) is in
+        let (index, x, it) = rest (omega (arith, once, count_by-cons p a xs, no)) in
+        (suc index, x, record { here = it.here; passes = it.passes; found = ap (λ b. cond b (Some a) (find p xs)) is ∙ it.found; only = only_later p a xs index is it.only })
+
+-- ---- filters
+
+-- where an item of a filtered list stands before the filter
+pub record StandsBefore {X Y : Type 0} (f : X → Option Y) (xs : List X) (number : ℕ) (y : Y) (index : ℕ) (x : X) : Type 0 where
+  pub here : slice_get xs index ≡ Some x
+  pub gives : f x ≡ Some y
+  pub earlier : length (filter_map f (take index xs)) ≡ number
+
+pub stands_before : {X Y : Type 0} (f : X → Option Y) (xs : List X) (number : ℕ) (y : Y) → slice_get (filter_map f xs) number ≡ Some y → (index : ℕ) × (x : X) × StandsBefore f xs number y index x
+stands_before f [] number y at = cc at
+stands_before {X} {Y} f (a ∷ xs) number y at = by (f a) refl number at (stands_before f xs)
+  where
+    by : (o : Option Y) → f a ≡ o → (n : ℕ) → slice_get (cons_option o (filter_map f xs)) n ≡ Some y → ((m : ℕ) (z : Y) → slice_get (filter_map f xs) m ≡ Some z → (index : ℕ) × (x : X) × StandsBefore f xs m z index x)
+        → (index : ℕ) × (x : X) × StandsBefore f (a ∷ xs) n y index x
+    by None is n at rest =
+        let (index, x, stands) = rest n y at in
+        (suc index, x, record { here = stands.here; gives = stands.gives; earlier = ap (λ o. length (cons_option o (filter_map f (take index xs)))) is ∙ stands.earlier })
+    by (Some b) is zero at rest = (0, a, record { here = refl; gives = is ∙ at; earlier = refl })
+    by (Some b) is (suc n) at rest =
+        let (index, x, stands) = rest n y at in
+        (suc index, x, record { here = stands.here; gives = stands.gives; earlier = ap (λ o. length (cons_option o (filter_map f (take index xs)))) is ∙ ap suc stands.earlier })

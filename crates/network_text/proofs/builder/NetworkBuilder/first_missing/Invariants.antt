@@ -1,0 +1,10 @@
+use Rattle.std.proofs.Common.{◌≡◌, ◌<◌, ℕ, false, length, take}
+use Rattle.network_text.specs.Lines.{exchangers_of}
+use Rattle.network_text.specs.Checks.{misses_pass}
+use Rattle.network_text.proofs.builder.NetworkBuilder.first_missing.Given as goal
+
+abbrev pub invariant-loop-index : goal.invariant-loop-index
+invariant-loop-index l = record {
+  count : l.exchanger ≡ length (exchangers_of (take l.index l.self.lines));
+  none : (k : ℕ) → k < l.index → misses_pass l.self k ≡ false;
+}

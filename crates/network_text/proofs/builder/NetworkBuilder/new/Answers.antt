@@ -1,0 +1,24 @@
+use Rattle.std.proofs.Common.{List, ℕ, ◌≢◌, map}
+use Rattle.stream_case.specs.declared.stream.Stream.{Stream}
+use Rattle.stream_case.specs.declared.utility.Utility.{Utility}
+use Rattle.stream_case.proofs.CaseLemmas.{length-AreStreams}
+use Rattle.stream_case.proofs.CompleteLemmas.{StaysValid-IsComplete}
+use Rattle.stream_case.proofs.DistinctLemmas.{AllPairs-front}
+use Rattle.network_text.proofs.OwnBranches.{own-tracked, own-view}
+use Rattle.network_text.proofs.builder.NetworkBuilder.new.Goals as goal
+
+pub own_branches-requires : goal.own_branches-requires
+own_branches-requires c =
+    let case = c.args.case.now in
+    let valid = StaysValid-IsComplete case c.requires in
+    rw c.as_slice.ensures (record {
+      few = length-AreStreams case.streams valid.streams.are_streams;
+      distinct = AllPairs-front (λ (a b : List ℕ). a ≢ b) (map (λ (s : Stream). s.name) case.streams) (map (λ (u : Utility). u.name) case.utilities) valid.distinct_names;
+    })
+
+pub invariant_of-result : goal.invariant_of-result
+invariant_of-result c =
+    rw (c.in_ok-own_branches.ensures, c.as_slice.ensures, c.new.ensures.empty, c.new-2.ensures.empty, c.new-3.ensures.empty, c.new-4.ensures.items) (own-tracked c.args.case.now (StaysValid-IsComplete c.args.case.now c.requires))
+
+pub returns : goal.returns
+returns c = rw (c.in_ok-own_branches.ensures, c.as_slice.ensures, c.new-4.ensures.items) (own-view c.args.case.now)

@@ -1,0 +1,22 @@
+use Rattle.std.proofs.Common.{◌∙◌, ◌∷◌, ◌++◌, [], List, ℕ, sym, ap}
+use Rattle.std.proofs.lemmas.List.{take_all}
+use Rattle.network_text.specs.Building.{own_entries}
+use Rattle.network_text.proofs.OwnBranches.{own_entries-more, own_entries-new}
+use Rattle.network_text.proofs.builder.own_branches.Goals as goal
+
+pub loop-index-init : goal.loop-index-init
+unfolding own_entries
+loop-index-init c = c.new-branches.ensures.empty
+
+pub add_branch-requires : goal.add_branch-requires
+add_branch-requires c =
+    rw c.loop-index.invariant (own_entries-new c.args.streams.now c.loop-index.index c.index-streams-index.result c.loop-index-test.true (sym c.index-streams-index.is) c.requires.distinct)
+
+pub loop-index-preserved : goal.loop-index-preserved
+loop-index-preserved c =
+    let s = c.index-streams-index.result in
+    c.in_ok-add_branch.ensures ∙ ap (λ (l : List (List ℕ × ℕ)). l ++ (s.name, c.loop-index.index) ∷ []) c.loop-index.invariant
+    ∙ sym (own_entries-more c.args.streams.now c.loop-index.index s c.loop-index-test.true (sym c.index-streams-index.is))
+
+pub returns : goal.returns
+returns c = c.loop-index.invariant ∙ ap own_entries (take_all c.loop-index.index c.args.streams.now c.loop-index-test.false)

@@ -1,0 +1,6 @@
+use Rattle.std.proofs.Common.{◌≡◌, take}
+use Rattle.network_text.specs.Building.{own_entries}
+use Rattle.network_text.proofs.builder.own_branches.Given as goal
+
+abbrev pub invariant-loop-index : goal.invariant-loop-index
+invariant-loop-index l = l.branches.entries ≡ own_entries (take l.index l.streams)

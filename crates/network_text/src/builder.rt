@@ -1,0 +1,407 @@
+//! The network that the statements read so far give.
+
+ghost use Rattle.std.specs.Prelude.{◌≡◌, ◌≢◌, ◌==◌, ◌<◌, ◌≤◌, ◌+◌, ◌*◌, [], ◌∷◌, ◌++◌, false, length, map, AllPairs, is_some, IfOk, IfSome, OnOk};
+ghost use Rattle.std.specs.List.{list_any};
+ghost use Rattle.std.specs.Map.{keys_of};
+ghost use Rattle.std.specs.Option.{ForSome, option_to_list};
+ghost use Rattle.std.specs.Str.{bytes_eq};
+ghost use Rattle.stream_case.specs.Case.{IsComplete};
+ghost use Rattle.network_text.specs.Lines.{exchanger_of, exchangers_of, members, passage_of, same_passage, stream_at, uses};
+ghost use Rattle.network_text.specs.Given.{branch_named, exchanger_named, first_stream, start, with_entry};
+ghost use Rattle.network_text.specs.Checks.{first_missing, is_free_side, is_missed, is_passed, is_stream, is_used, joins_stream, misses_side};
+ghost use Rattle.network_text.specs.Building.{IsFresh, named_branch, named_sides, own_entries};
+
+use crate::entry::Entry;
+use crate::few::AtMostTwo;
+use crate::limits::MOST_STATEMENTS;
+use crate::names::branch_name;
+use crate::network::{Branch, Line, Network, Passage};
+use indexmap::{IndexMap, IndexSet};
+use std::alloc::{AllocError, Global};
+use std::marker::Model;
+use stream_case::{ALL_STREAMS, Case, Items, Name, Source, Stream};
+
+/// The two sources that an exchanger joins.
+#[derive(Clone, Copy, PartialEq, Eq)]
+pub struct Sides {
+    pub hot: Source,
+    pub cold: Source,
+}
+
+/// Whether a source is the stream with this index.
+fn is_stream(source: Source, stream: u32) -> bool
+    ensures { result ≡ is_stream stream source }
+{
+    match source {
+        Source::Stream(index) => index == stream,
+        Source::Utility(_) => false,
+    }
+}
+
+/// The branch with this name and stream.
+fn named_branch(name: Name, stream: u32) -> Branch
+    ensures { result ≡ named_branch (name, stream) }
+{
+    Branch { name, stream }
+}
+
+/// The branches of a table, as a list.
+fn listed(alloc: Global, branches: &IndexMap<Name, u32>) -> Result<Vec<Branch>, AllocError>
+    ensures { IfOk result (λ listed. listed.items ≡ map named_branch branches.now.entries) }
+{
+    branches
+        .iter()
+        .map(|(name, stream)| named_branch(*name, *stream))
+        .collect(alloc)
+}
+
+/// Whether a line declares an exchanger.
+fn is_exchanger(line: &Line) -> bool
+    ensures { result ≡ is_some (exchanger_of line.now) }
+{
+    matches!(line, Line::Exchanger { .. })
+}
+
+/// Adds a branch to those that are used.
+fn mark_used(used: &mut IndexSet<u32>, number: u32) -> Result<(), AllocError>
+    requires { list_any (λ other. number == other) used.old.keys ≡ false }
+    ensures { OnOk result (used.new.keys ≡ used.old.keys ++ number ∷ []) }
+{
+    used.insert(number)?;
+    Ok(())
+}
+
+/// Adds the branches that a line uses to those that are used.
+fn mark_all_used(used: &mut IndexSet<u32>, numbers: AtMostTwo<u32>) -> Result<(), AllocError>
+    requires { AllPairs (λ a b. a ≢ b) (used.old.keys ++ members numbers) }
+    ensures { OnOk result (used.new.keys ≡ used.old.keys ++ members numbers) }
+{
+    match numbers {
+        AtMostTwo::Nothing => Ok(()),
+        AtMostTwo::One(number) => mark_used(used, number),
+        AtMostTwo::Two(first, second) => {
+            mark_used(used, first)?;
+            mark_used(used, second)
+        }
+    }
+}
+
+/// Adds a branch with a new name.
+fn add_branch(branches: &mut IndexMap<Name, u32>, name: Name, stream: u32) -> Result<(), AllocError>
+    requires { list_any (bytes_eq name) (keys_of branches.old.entries) ≡ false }
+    ensures { OnOk result (branches.new.entries ≡ branches.old.entries ++ (name, stream) ∷ []) }
+{
+    branches.insert(name, stream)?;
+    Ok(())
+}
+
+/// Adds branches of a stream with new names.
+fn add_branches(
+    branches: &mut IndexMap<Name, u32>,
+    names: AtMostTwo<Name>,
+    stream: u32,
+) -> Result<(), AllocError>
+    requires { AllPairs (λ a b. a ≢ b) (keys_of branches.old.entries ++ members names) }
+    ensures { OnOk result (branches.new.entries ≡ branches.old.entries ++ map (λ name. (name, stream)) (members names)) }
+{
+    match names {
+        AtMostTwo::Nothing => Ok(()),
+        AtMostTwo::One(name) => add_branch(branches, name, stream),
+        AtMostTwo::Two(first, second) => {
+            add_branch(branches, first, stream)?;
+            add_branch(branches, second, stream)
+        }
+    }
+}
+
+/// The branches of the streams themselves, by name.
+fn own_branches(alloc: Global, streams: &[Stream]) -> Result<IndexMap<Name, u32>, AllocError>
+    requires few { length streams.now ≤ ALL_STREAMS }
+    requires distinct { AllPairs (λ a b. a ≢ b) (map (λ s. s.name) streams.now) }
+    ensures { IfOk result (λ branches. branches.entries ≡ own_entries streams.now) }
+{
+    let mut branches = IndexMap::new(alloc);
+    for (index, stream) in streams.iter().enumerate() {
+        add_branch(&mut branches, stream.name, index as u32)?;
+    }
+    Ok(branches)
+}
+
+/// Adds the exchanger that a line declares, if it declares one.
+fn add_declared(exchangers: &mut IndexMap<Name, Sides>, line: &Line) -> Result<(), AllocError>
+    requires { AllPairs (λ a b. a ≢ b) (keys_of exchangers.old.entries ++ map (λ e. e.name) (option_to_list (exchanger_of line.now))) }
+    ensures { OnOk result (exchangers.new.entries ≡ exchangers.old.entries ++ map named_sides (option_to_list (exchanger_of line.now))) }
+{
+    if let Line::Exchanger {
+        name,
+        hot,
+        cold,
+        ..
+    } = *line
+    {
+        exchangers.insert(name, Sides { hot, cold })?;
+    }
+    Ok(())
+}
+
+/// Adds a side of an exchanger to those that are passed.
+fn mark_passed(passed: &mut IndexSet<Passage>, passage: Passage) -> Result<(), AllocError>
+    requires { list_any (same_passage passage) passed.old.keys ≡ false }
+    ensures { OnOk result (passed.new.keys ≡ passed.old.keys ++ passage ∷ []) }
+{
+    passed.insert(passage)?;
+    Ok(())
+}
+
+/// Adds the side that a line passes, if it passes one, to those that are passed.
+fn mark_any_passed(
+    passed: &mut IndexSet<Passage>,
+    passage: Option<Passage>,
+) -> Result<(), AllocError>
+    requires { ForSome passage (λ p. list_any (same_passage p) passed.old.keys ≡ false) }
+    ensures { OnOk result (passed.new.keys ≡ passed.old.keys ++ option_to_list passage) }
+{
+    match passage {
+        None => Ok(()),
+        Some(passage) => mark_passed(passed, passage),
+    }
+}
+
+/// The network that the statements read so far give, and tables to look things up in it.
+#[derive(Drop)]
+pub struct NetworkBuilder {
+    /// The streams of the branches, by name, in the order of their numbers.
+    branches: IndexMap<Name, u32>,
+    /// The branches that are used.
+    used: IndexSet<u32>,
+    /// The exchangers, by name, in the order of their numbers.
+    exchangers: IndexMap<Name, Sides>,
+    /// The sides of exchangers that are passed.
+    passed: IndexSet<Passage>,
+    lines: Vec<Line>,
+}
+
+impl Model for NetworkBuilder {
+    ghost use Rattle.std.specs.Prelude.{map};
+    ghost use Rattle.network_text.specs.declared.network.Network.{Network};
+    ghost use Rattle.network_text.specs.Building.{IsTracked, named_branch};
+
+    ghost Value = { Network };
+
+    ghost view = { λ b. record { branches = map named_branch b.branches.entries; lines = b.lines.items } };
+
+    ghost invariant = { λ b. IsTracked b.branches.entries b.used.keys b.exchangers.entries b.passed.keys b.lines.items };
+}
+
+impl NetworkBuilder {
+    /// What no statement gives: the streams' own branches.
+    pub fn new(alloc: Global, case: &Case) -> Result<NetworkBuilder, AllocError>
+        requires { IsComplete case.now }
+        ensures { IfOk result (λ builder. builder ≡ start case.now) }
+    {
+        Ok(NetworkBuilder {
+            branches: own_branches(alloc, case.streams.as_slice())?,
+            used: IndexSet::new(alloc),
+            exchangers: IndexMap::new(alloc),
+            passed: IndexSet::new(alloc),
+            lines: Vec::new(alloc),
+        })
+    }
+
+    /// How many statements there were.
+    pub fn count_lines(&self) -> usize
+        ensures { result ≡ length self.now.lines }
+    {
+        self.lines.len()
+    }
+
+    /// How many branches there are.
+    pub fn count_branches(&self) -> u32
+        ensures count { result ≡ length self.now.branches }
+        ensures small { result ≤ ALL_STREAMS + 2 * MOST_STATEMENTS }
+    {
+        self.branches.len() as u32
+    }
+
+    /// How many exchangers are declared.
+    pub fn count_exchangers(&self) -> usize
+        ensures { result ≡ length (exchangers_of self.now.lines) }
+    {
+        self.exchangers.len()
+    }
+
+    /// The number of the branch with this name.
+    pub fn branch_named(&self, name: &[u8]) -> Option<u32>
+        ensures { result ≡ branch_named self.now name.now }
+    {
+        let branches = &self.branches;
+        let Some(name) = branch_name(name) else {
+            return None;
+        };
+        let Some(number) = branches.get_index_of(&name) else {
+            return None;
+        };
+        Some(number as u32)
+    }
+
+    /// The number of the exchanger with this name.
+    pub fn exchanger_named(&self, name: &[u8]) -> Option<u32>
+        ensures { result ≡ exchanger_named self.now name.now }
+    {
+        let exchangers = &self.exchangers;
+        let Some(name) = branch_name(name) else {
+            return None;
+        };
+        let Some(number) = exchangers.get_index_of(&name) else {
+            return None;
+        };
+        Some(number as u32)
+    }
+
+    /// Whether an earlier statement used the branch with this number.
+    pub fn is_used(&self, number: u32) -> bool
+        ensures { result ≡ is_used self.now number }
+    {
+        self.used.contains(&number)
+    }
+
+    /// The stream of the branch with this number.
+    pub fn stream_of(&self, number: u32) -> u32
+        ensures { result ≡ stream_at self.now.branches number }
+    {
+        match self.branches.get_index(number as usize) {
+            Some((_, stream)) => *stream,
+            None => 0,
+        }
+    }
+
+    /// The stream of the first of some branches.
+    fn first_stream(&self, numbers: AtMostTwo<u32>) -> u32
+        ensures { result ≡ first_stream self.now.branches (members numbers) }
+    {
+        match numbers {
+            AtMostTwo::Nothing => 0,
+            AtMostTwo::One(number) => self.stream_of(number),
+            AtMostTwo::Two(number, _) => self.stream_of(number),
+        }
+    }
+
+    /// The side of an exchanger that a line passes, if it passes one.
+    fn passage_of(&self, line: &Line) -> Option<Passage>
+        ensures { result ≡ passage_of self.now.branches line.now }
+    {
+        let Line::Pass {
+            from,
+            exchanger,
+            ..
+        } = *line
+        else {
+            return None;
+        };
+        Some(Passage {
+            exchanger,
+            stream: self.stream_of(from),
+        })
+    }
+
+    /// Whether the exchanger with this number has a side of the stream.
+    #[tactic(auto, unfolding(crate::specs::Checks::joins_stream))]
+    fn joins_stream(&self, exchanger: u32, stream: u32) -> bool
+        ensures { result ≡ joins_stream self.now exchanger stream }
+    {
+        match self.exchangers.get_index(exchanger as usize) {
+            Some((_, sides)) => is_stream(sides.hot, stream) || is_stream(sides.cold, stream),
+            None => false,
+        }
+    }
+
+    /// Whether an earlier statement passed the exchanger with this number on the side of the
+    /// stream.
+    #[tactic(auto, unfolding(crate::specs::Checks::is_passed))]
+    fn is_passed(&self, exchanger: u32, stream: u32) -> bool
+        ensures { result ≡ is_passed self.now exchanger stream }
+    {
+        self.passed.contains(&Passage { exchanger, stream })
+    }
+
+    /// Whether the exchanger with this number has a side of the stream, and no earlier statement
+    /// passed it.
+    pub fn is_free_side(&self, exchanger: u32, stream: u32) -> bool
+        ensures { result ≡ is_free_side self.now exchanger stream }
+    {
+        if !self.joins_stream(exchanger, stream) {
+            return false;
+        }
+        !self.is_passed(exchanger, stream)
+    }
+
+    /// What there is with one statement more, which gives this entry.
+    pub fn with(self, entry: Entry) -> Result<NetworkBuilder, AllocError>
+        requires room { length self.lines < MOST_STATEMENTS }
+        requires fresh { IsFresh self entry }
+        ensures { IfOk result (λ builder. builder ≡ with_entry self entry) }
+    {
+        let used = entry.line.uses();
+        let stream = self.first_stream(used);
+        let passage = self.passage_of(&entry.line);
+        let mut builder = self;
+        mark_all_used(&mut builder.used, used)?;
+        add_declared(&mut builder.exchangers, &entry.line)?;
+        mark_any_passed(&mut builder.passed, passage)?;
+        add_branches(&mut builder.branches, entry.names, stream)?;
+        builder.lines.push(entry.line)?;
+        Ok(builder)
+    }
+
+    /// Whether a source is a stream, and no statement passes the exchanger on its side.
+    fn is_missed(&self, exchanger: u32, source: Source) -> bool
+        ensures { result ≡ is_missed self.now exchanger source }
+    {
+        match source {
+            Source::Stream(stream) => !self.is_passed(exchanger, stream),
+            Source::Utility(_) => false,
+        }
+    }
+
+    /// Whether a line declares an exchanger, the one with this number, that has a side which no
+    /// statement passes.
+    fn misses_side(&self, exchanger: u32, line: &Line) -> bool
+        ensures { result ≡ misses_side self.now exchanger (exchanger_of line.now) }
+    {
+        let Line::Exchanger { hot, cold, .. } = line else {
+            return false;
+        };
+        if self.is_missed(exchanger, *hot) {
+            return true;
+        }
+        self.is_missed(exchanger, *cold)
+    }
+
+    /// The index, among the lines, of the first exchanger with a side that no statement passes.
+    pub fn first_missing(&self) -> Option<u32>
+        ensures index { result ≡ first_missing self.now }
+        ensures small { IfSome result (λ index. index < MOST_STATEMENTS) }
+    {
+        let mut exchanger = 0;
+        for (index, line) in self.lines.iter().enumerate() {
+            if self.misses_side(exchanger, line) {
+                return Some(index as u32);
+            }
+            if is_exchanger(line) {
+                exchanger += 1;
+            }
+        }
+        None
+    }
+
+    /// The network.
+    pub fn into_network(self, alloc: Global) -> Result<Network, AllocError>
+        ensures { IfOk result (λ network. network ≡ self) }
+    {
+        let branches = listed(alloc, &self.branches)?;
+        Ok(Network {
+            branches: Items::from_vec(branches),
+            lines: Items::from_vec(self.lines),
+        })
+    }
+}
