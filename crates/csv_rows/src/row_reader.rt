@@ -1,5 +1,6 @@
 //! The rows of a CSV text, one after the other.
 ghost use Rattle.std.specs.Prelude.{◌≡◌, [], ◌∷◌, ◌≤◌, length, IfOk, OnErr, MatchBool};
+ghost use Rattle.std.specs.Bool.{OnFalse};
 ghost use Rattle.csv.specs.Records.{fields_of};
 ghost use Rattle.csv_rows.specs.Rows.{rows_of};
 
@@ -42,9 +43,10 @@ impl<'a> Rows<'a> {
         }
     }
 
-    /// Reads the next row, if there is one. After an `Err` no row is left.
+    /// Reads the next row, if there is one. None is left after it found none, nor after an `Err`.
     pub fn read(&mut self, row: &mut ByteRecord) -> Result<bool, AllocError>
         ensures found { IfOk result (λ found. MatchBool found (self.old ≡ fields_of row.new ∷ self.new) (self.old ≡ [])) }
+        ensures ended { IfOk result (λ found. OnFalse found (self.new ≡ [])) }
         ensures err { OnErr result (self.new ≡ []) }
     {
         if self.ended {

@@ -1,51 +1,19 @@
 -- The laws of the order.
-use Rattle.std.proofs.Common.{Bool, int_lt, true, false, not, ◌≡◌, ◌≢◌, ◌∙◌, ◌*◌, ◌<◌, ◌⊎◌, inl, inr, ◌+ℤ◌, ◌-ℤ◌, ◌*ℤ◌, ◌<ℤ◌, ◌≤ℤ◌, ℕ, ℤ, pos, negsuc, refl, sym, ap, subst, arith}
-use Rattle.std.specs.Bool.{Decides}
-use Rattle.std.proofs.lemmas.Bool.Decides.{Decides-like, Decides-not, same_from_decides}
-use Rattle.std.specs.Bool.{MatchBool}
+use Rattle.std.proofs.Common.{◌≡◌, ◌≢◌, ◌∙◌, ◌*◌, ◌<◌, ◌⊎◌, ⊎_elim, inl, inr, ◌+ℤ◌, ◌-ℤ◌, ◌*ℤ◌, ◌<ℤ◌, ◌≤ℤ◌, ◌↔◌, ℕ, ℤ, pos, Bool, true, false, not, int_lt, refl, sym, ap, subst, arith}
+use Rattle.std.specs.Bool.{Decides, MatchBool}
 use Rattle.std.specs.Ordering.{int_cmp, is_ge, is_gt, is_le, is_lt}
 use Rattle.std.specs.Int.Signed.{≤ℤ_refl, clash_ℤ}
+use Rattle.std.proofs.lemmas.Bool.Decides.{Decides-like, Decides-not, same_from_decides}
 use Rattle.std.proofs.lemmas.Int.{by_lt_z, ints}
 use mathlib.Core.Path.{subst₂}
 use Rattle.std.proofs.Math.Nat.{mul-pos}
-use Rattle.sums.proofs.ProductLemmas.{*ℤ-≤ℤ_right}
-use Rattle.fractions.specs.Integers.{*ℤ-<ℤ, *ℤ_assoc, *ℤ_swap, <ℤ_from_*ℤ, ≤ℤ_from_*ℤ}
-use Rattle.fractions.specs.LowestForms.{ratio-value, same_from_value}
-use Rattle.fractions.specs.Rationals.{IsAtMost, IsBelow, is_below, Rational, minus, over, plus, ratio, rational_cmp, rational_zero, times, whole}
+use Rattle.sums.proofs.ProductLemmas.{*ℤ-<ℤ_right, *ℤ-≤ℤ_right, <ℤ_from_*ℤ, ≤ℤ_from_*ℤ}
+use Rattle.fractions.specs.Integers.{pos_above}
+use Rattle.fractions.specs.LowestForms.{same_from_value}
+use Rattle.fractions.specs.Rationals.{IsAtMost, IsBelow, Rational, is_below, minus, over, plus, ratio, rational_cmp, rational_zero, times, whole}
 use Rattle.fractions.proofs.Products.{over-times, times-minus, times-over_assoc, times-zero, times_comm, zero-over, zero-times}
-use Rattle.fractions.proofs.Ratios.{by_four, by_three, by_two, one_denominator, ratio-one, ratio-zero, times-ratio}
+use Rattle.fractions.proofs.Ratios.{by_four, by_three, by_two, one_denominator, ratio-one, ratio-zero, rational_cmp-ratio, times-ratio}
 use Rattle.fractions.proofs.Wholes.{ratio-multiple}
-
--- ---- ratios over one denominator are ordered as their numerators are
-
--- a cross product of two ratios over d, times d
-cross-scaled : (n m : ℤ) (d : ℕ) → 0 < d → (ratio n d).num *ℤ pos (ratio m d).den *ℤ pos d ≡ n *ℤ pos ((ratio n d).den * (ratio m d).den)
-cross-scaled n m d some =
-    let a = ratio n d in let b = ratio m d in
-    *ℤ_swap a.num (pos b.den) (pos d) ∙ ap (λ z. z *ℤ pos b.den) (ratio-value n d some) ∙ *ℤ_assoc n (pos a.den) (pos b.den)
-
-other-scaled : (n m : ℤ) (d : ℕ) → 0 < d → (ratio m d).num *ℤ pos (ratio n d).den *ℤ pos d ≡ m *ℤ pos ((ratio n d).den * (ratio m d).den)
-other-scaled n m d some = cross-scaled m n d some ∙ ap (λ k. m *ℤ pos k) (omega arith)
-
-pub at_most-ratio : (n m : ℤ) (d : ℕ) → 0 < d → n ≤ℤ m → IsAtMost (ratio n d) (ratio m d)
-at_most-ratio n m d some h = record {
-  cross = ≤ℤ_from_*ℤ _ _ d some (subst₂ ◌≤ℤ◌ (sym (cross-scaled n m d some)) (sym (other-scaled n m d some)) (*ℤ-≤ℤ_right (pos ((ratio n d).den * (ratio m d).den)) n m (omega (arith, ints)) h));
-}
-
-pub at_most_from_ratio : (n m : ℤ) (d : ℕ) → 0 < d → IsAtMost (ratio n d) (ratio m d) → n ≤ℤ m
-at_most_from_ratio n m d some h =
-    ≤ℤ_from_*ℤ n m ((ratio n d).den * (ratio m d).den) (mul-pos (ratio n d).positive (ratio m d).positive)
-    (subst₂ ◌≤ℤ◌ (cross-scaled n m d some) (other-scaled n m d some) (*ℤ-≤ℤ_right (pos d) _ _ (omega (arith, ints)) h.cross))
-
-pub below-ratio : (n m : ℤ) (d : ℕ) → 0 < d → n <ℤ m → IsBelow (ratio n d) (ratio m d)
-below-ratio n m d some h = record {
-  cross = <ℤ_from_*ℤ _ _ d (subst₂ ◌<ℤ◌ (sym (cross-scaled n m d some)) (sym (other-scaled n m d some))
-      (*ℤ-<ℤ n m ((ratio n d).den * (ratio m d).den) (mul-pos (ratio n d).positive (ratio m d).positive) h));
-}
-
-pub below_from_ratio : (n m : ℤ) (d : ℕ) → 0 < d → IsBelow (ratio n d) (ratio m d) → n <ℤ m
-below_from_ratio n m d some h =
-    <ℤ_from_*ℤ n m ((ratio n d).den * (ratio m d).den) (subst₂ ◌<ℤ◌ (cross-scaled n m d some) (other-scaled n m d some) (*ℤ-<ℤ _ _ d some h.cross))
 
 -- ---- a total order
 
@@ -69,36 +37,13 @@ pub below_or_at_most : (a b : Rational) → IsBelow a b ⊎ IsAtMost b a
 below_or_at_most a b = by_lt_z (a.num *ℤ pos b.den) (b.num *ℤ pos a.den) (λ h. inl (record { cross = h })) (λ h. inr (record { cross = h }))
 
 pub at_most_from_not_below : (a b : Rational) → (IsBelow a b → ⊥) → IsAtMost b a
-at_most_from_not_below a b not_less = by (below_or_at_most a b)
-  where
-    by : IsBelow a b ⊎ IsAtMost b a → IsAtMost b a
-    by (inl less) = absurd (not_less less)
-    by (inr more) = more
+at_most_from_not_below a b not_less = ⊎_elim (λ less. absurd (not_less less)) (λ more. more) (below_or_at_most a b)
 
 pub below_from_not_at_most : (a b : Rational) → (IsAtMost b a → ⊥) → IsBelow a b
-below_from_not_at_most a b not_more = by (below_or_at_most a b)
-  where
-    by : IsBelow a b ⊎ IsAtMost b a → IsBelow a b
-    by (inl less) = less
-    by (inr more) = absurd (not_more more)
+below_from_not_at_most a b not_more = ⊎_elim (λ less. less) (λ more. absurd (not_more more)) (below_or_at_most a b)
 
 pub at_most_antisymm : (a b : Rational) → IsAtMost a b → IsAtMost b a → a ≡ b
 at_most_antisymm a b one two = let x = one.cross in let y = two.cross in same_from_value a b (omega (arith, ints, x, y))
-
-pub at_most_trans : (a b c : Rational) → IsAtMost a b → IsAtMost b c → IsAtMost a c
-at_most_trans = by_three (λ a b c. IsAtMost a b → IsAtMost b c → IsAtMost a c) (λ n m l d some h k.
-    let x = at_most_from_ratio n m d some h in let y = at_most_from_ratio m l d some k in at_most-ratio n l d some (omega (arith, ints, x, y)))
-
-pub below_at_most_trans : (a b c : Rational) → IsBelow a b → IsAtMost b c → IsBelow a c
-below_at_most_trans = by_three (λ a b c. IsBelow a b → IsAtMost b c → IsBelow a c) (λ n m l d some h k.
-    let x = below_from_ratio n m d some h in let y = at_most_from_ratio m l d some k in below-ratio n l d some (omega (arith, ints, x, y)))
-
-pub at_most_below_trans : (a b c : Rational) → IsAtMost a b → IsBelow b c → IsBelow a c
-at_most_below_trans = by_three (λ a b c. IsAtMost a b → IsBelow b c → IsBelow a c) (λ n m l d some h k.
-    let x = at_most_from_ratio n m d some h in let y = below_from_ratio m l d some k in below-ratio n l d some (omega (arith, ints, x, y)))
-
-pub below_trans : (a b c : Rational) → IsBelow a b → IsBelow b c → IsBelow a c
-below_trans a b c h k = below_at_most_trans a b c h (at_most_from_below b c k)
 
 -- ---- the tests (for `==`: Decides-rational_eq of specs/Order.antt)
 
@@ -142,77 +87,98 @@ is_below-ranks a b = by (is_below a b) (Decides-is_below a b) (Decides-not_below
     by true less more = less.0 refl
     by false less more = more.0 refl
 
+-- ---- ratios are ordered as their cross products are, and over one denominator as their numerators
+
+one_test : {P Q : Type 0} (b : Bool) → Decides b P → Decides b Q → P ↔ Q
+one_test b p q = (λ h. q.0 (p.1 h), λ h. p.0 (q.1 h))
+
+pub below-cross : (n m : ℤ) (d e : ℕ) → 0 < d → 0 < e → IsBelow (ratio n d) (ratio m e) ↔ ((n *ℤ pos e) <ℤ (m *ℤ pos d))
+below-cross n m d e hd he = one_test _ (Decides-is_below (ratio n d) (ratio m e)) (rw (rational_cmp-ratio n m d e hd he) (int_lt-decides (n *ℤ pos e) (m *ℤ pos d)))
+
+pub at_most-cross : (n m : ℤ) (d e : ℕ) → 0 < d → 0 < e → IsAtMost (ratio n d) (ratio m e) ↔ ((n *ℤ pos e) ≤ℤ (m *ℤ pos d))
+at_most-cross n m d e hd he = one_test _ (Decides-is_le (ratio n d) (ratio m e)) (rw (rational_cmp-ratio n m d e hd he) (int_le-decides (n *ℤ pos e) (m *ℤ pos d)))
+
+pub at_most-ratio : (n m : ℤ) (d : ℕ) → 0 < d → n ≤ℤ m → IsAtMost (ratio n d) (ratio m d)
+at_most-ratio n m d some h = (at_most-cross n m d d some some).1 (*ℤ-≤ℤ_right (pos d) n m (omega (arith, ints)) h)
+
+pub at_most_from_ratio : (n m : ℤ) (d : ℕ) → 0 < d → IsAtMost (ratio n d) (ratio m d) → n ≤ℤ m
+at_most_from_ratio n m d some h = ≤ℤ_from_*ℤ (pos d) n m (pos_above d some) ((at_most-cross n m d d some some).0 h)
+
+pub below-ratio : (n m : ℤ) (d : ℕ) → 0 < d → n <ℤ m → IsBelow (ratio n d) (ratio m d)
+below-ratio n m d some h = (below-cross n m d d some some).1 (*ℤ-<ℤ_right (pos d) n m (pos_above d some) h)
+
+pub below_from_ratio : (n m : ℤ) (d : ℕ) → 0 < d → IsBelow (ratio n d) (ratio m d) → n <ℤ m
+below_from_ratio n m d some h = <ℤ_from_*ℤ (pos d) n m (omega (arith, ints)) ((below-cross n m d d some some).0 h)
+
+-- ---- from one to the next
+
+pub at_most_trans : (a b c : Rational) → IsAtMost a b → IsAtMost b c → IsAtMost a c
+at_most_trans = by_three _ (λ n m l d some h k. let x = at_most_from_ratio n m d some h in let y = at_most_from_ratio m l d some k in at_most-ratio n l d some (omega (arith, ints, x, y)))
+
+pub below_at_most_trans : (a b c : Rational) → IsBelow a b → IsAtMost b c → IsBelow a c
+below_at_most_trans = by_three _ (λ n m l d some h k. let x = below_from_ratio n m d some h in let y = at_most_from_ratio m l d some k in below-ratio n l d some (omega (arith, ints, x, y)))
+
+pub at_most_below_trans : (a b c : Rational) → IsAtMost a b → IsBelow b c → IsBelow a c
+at_most_below_trans = by_three _ (λ n m l d some h k. let x = at_most_from_ratio n m d some h in let y = below_from_ratio m l d some k in below-ratio n l d some (omega (arith, ints, x, y)))
+
+pub below_trans : (a b c : Rational) → IsBelow a b → IsBelow b c → IsBelow a c
+below_trans a b c h k = below_at_most_trans a b c h (at_most_from_below b c k)
+
 -- ---- sums and differences
 
 pub at_most-plus : (a b c : Rational) → IsAtMost a b → IsAtMost (plus a c) (plus b c)
-at_most-plus = by_three (λ a b c. IsAtMost a b → IsAtMost (plus a c) (plus b c)) (λ n m l d some h.
-    let x = at_most_from_ratio n m d some h in simp one_denominator (at_most-ratio (n +ℤ l) (m +ℤ l) d some (omega (arith, ints, x))))
+at_most-plus = by_three _ (λ n m l d some h. let x = at_most_from_ratio n m d some h in simp one_denominator (at_most-ratio (n +ℤ l) (m +ℤ l) d some (omega (arith, ints, x))))
 
 pub at_most_from_plus : (a b c : Rational) → IsAtMost (plus a c) (plus b c) → IsAtMost a b
-at_most_from_plus = by_three (λ a b c. IsAtMost (plus a c) (plus b c) → IsAtMost a b) (λ n m l d some h.
-    let x = at_most_from_ratio (n +ℤ l) (m +ℤ l) d some (simp one_denominator at h) in at_most-ratio n m d some (omega (arith, ints, x)))
+at_most_from_plus = by_three _ (λ n m l d some h. let x = at_most_from_ratio (n +ℤ l) (m +ℤ l) d some (simp one_denominator at h) in at_most-ratio n m d some (omega (arith, ints, x)))
 
 pub at_most-plus_plus : (a b c e : Rational) → IsAtMost a b → IsAtMost c e → IsAtMost (plus a c) (plus b e)
-at_most-plus_plus = by_four (λ a b c e. IsAtMost a b → IsAtMost c e → IsAtMost (plus a c) (plus b e)) (λ n m l k d some h g.
-    let x = at_most_from_ratio n m d some h in let y = at_most_from_ratio l k d some g in simp one_denominator (at_most-ratio (n +ℤ l) (m +ℤ k) d some (omega (arith, ints, x, y))))
+at_most-plus_plus = by_four _ (λ n m l k d some h g. let x = at_most_from_ratio n m d some h in let y = at_most_from_ratio l k d some g in simp one_denominator (at_most-ratio (n +ℤ l) (m +ℤ k) d some (omega (arith, ints, x, y))))
 
 pub below-plus : (a b c : Rational) → IsBelow a b → IsBelow (plus a c) (plus b c)
-below-plus = by_three (λ a b c. IsBelow a b → IsBelow (plus a c) (plus b c)) (λ n m l d some h.
-    let x = below_from_ratio n m d some h in simp one_denominator (below-ratio (n +ℤ l) (m +ℤ l) d some (omega (arith, ints, x))))
+below-plus = by_three _ (λ n m l d some h. let x = below_from_ratio n m d some h in simp one_denominator (below-ratio (n +ℤ l) (m +ℤ l) d some (omega (arith, ints, x))))
 
 pub below_from_plus : (a b c : Rational) → IsBelow (plus a c) (plus b c) → IsBelow a b
-below_from_plus = by_three (λ a b c. IsBelow (plus a c) (plus b c) → IsBelow a b) (λ n m l d some h.
-    let x = below_from_ratio (n +ℤ l) (m +ℤ l) d some (simp one_denominator at h) in below-ratio n m d some (omega (arith, ints, x)))
+below_from_plus = by_three _ (λ n m l d some h. let x = below_from_ratio (n +ℤ l) (m +ℤ l) d some (simp one_denominator at h) in below-ratio n m d some (omega (arith, ints, x)))
 
 pub below-plus_at_most : (a b c e : Rational) → IsBelow a b → IsAtMost c e → IsBelow (plus a c) (plus b e)
-below-plus_at_most = by_four (λ a b c e. IsBelow a b → IsAtMost c e → IsBelow (plus a c) (plus b e)) (λ n m l k d some h g.
-    let x = below_from_ratio n m d some h in let y = at_most_from_ratio l k d some g in simp one_denominator (below-ratio (n +ℤ l) (m +ℤ k) d some (omega (arith, ints, x, y))))
+below-plus_at_most = by_four _ (λ n m l k d some h g. let x = below_from_ratio n m d some h in let y = at_most_from_ratio l k d some g in simp one_denominator (below-ratio (n +ℤ l) (m +ℤ k) d some (omega (arith, ints, x, y))))
 
 -- a lesser value less a greater one
 pub at_most-minus_minus : (a b c e : Rational) → IsAtMost a b → IsAtMost c e → IsAtMost (minus a e) (minus b c)
-at_most-minus_minus = by_four (λ a b c e. IsAtMost a b → IsAtMost c e → IsAtMost (minus a e) (minus b c)) (λ n m l k d some h g.
-    let x = at_most_from_ratio n m d some h in let y = at_most_from_ratio l k d some g in simp one_denominator (at_most-ratio (n -ℤ k) (m -ℤ l) d some (omega (arith, ints, x, y))))
+at_most-minus_minus = by_four _ (λ n m l k d some h g. let x = at_most_from_ratio n m d some h in let y = at_most_from_ratio l k d some g in simp one_denominator (at_most-ratio (n -ℤ k) (m -ℤ l) d some (omega (arith, ints, x, y))))
 
 -- a is at most b less c where a and c together are at most b
 pub at_most-minus_right : (a b c : Rational) → IsAtMost (plus a c) b → IsAtMost a (minus b c)
-at_most-minus_right = by_three (λ a b c. IsAtMost (plus a c) b → IsAtMost a (minus b c)) (λ n m l d some h.
-    let x = at_most_from_ratio (n +ℤ l) m d some (simp one_denominator at h) in simp one_denominator (at_most-ratio n (m -ℤ l) d some (omega (arith, ints, x))))
+at_most-minus_right = by_three _ (λ n m l d some h. let x = at_most_from_ratio (n +ℤ l) m d some (simp one_denominator at h) in simp one_denominator (at_most-ratio n (m -ℤ l) d some (omega (arith, ints, x))))
 
 pub at_most_from_minus_right : (a b c : Rational) → IsAtMost a (minus b c) → IsAtMost (plus a c) b
-at_most_from_minus_right = by_three (λ a b c. IsAtMost a (minus b c) → IsAtMost (plus a c) b) (λ n m l d some h.
-    let x = at_most_from_ratio n (m -ℤ l) d some (simp one_denominator at h) in simp one_denominator (at_most-ratio (n +ℤ l) m d some (omega (arith, ints, x))))
+at_most_from_minus_right = by_three _ (λ n m l d some h. let x = at_most_from_ratio n (m -ℤ l) d some (simp one_denominator at h) in simp one_denominator (at_most-ratio (n +ℤ l) m d some (omega (arith, ints, x))))
 
 pub below-minus_right : (a b c : Rational) → IsBelow (plus a c) b → IsBelow a (minus b c)
-below-minus_right = by_three (λ a b c. IsBelow (plus a c) b → IsBelow a (minus b c)) (λ n m l d some h.
-    let x = below_from_ratio (n +ℤ l) m d some (simp one_denominator at h) in simp one_denominator (below-ratio n (m -ℤ l) d some (omega (arith, ints, x))))
+below-minus_right = by_three _ (λ n m l d some h. let x = below_from_ratio (n +ℤ l) m d some (simp one_denominator at h) in simp one_denominator (below-ratio n (m -ℤ l) d some (omega (arith, ints, x))))
 
 pub below_from_minus_right : (a b c : Rational) → IsBelow a (minus b c) → IsBelow (plus a c) b
-below_from_minus_right = by_three (λ a b c. IsBelow a (minus b c) → IsBelow (plus a c) b) (λ n m l d some h.
-    let x = below_from_ratio n (m -ℤ l) d some (simp one_denominator at h) in simp one_denominator (below-ratio (n +ℤ l) m d some (omega (arith, ints, x))))
+below_from_minus_right = by_three _ (λ n m l d some h. let x = below_from_ratio n (m -ℤ l) d some (simp one_denominator at h) in simp one_denominator (below-ratio (n +ℤ l) m d some (omega (arith, ints, x))))
 
 pub at_most-minus_left : (a b c : Rational) → IsAtMost a (plus b c) → IsAtMost (minus a c) b
-at_most-minus_left = by_three _ (λ n m l d some h.
-    let x = at_most_from_ratio n (m +ℤ l) d some (simp one_denominator at h) in simp one_denominator (at_most-ratio (n -ℤ l) m d some (omega (arith, ints, x))))
+at_most-minus_left = by_three _ (λ n m l d some h. let x = at_most_from_ratio n (m +ℤ l) d some (simp one_denominator at h) in simp one_denominator (at_most-ratio (n -ℤ l) m d some (omega (arith, ints, x))))
 
 pub at_most_from_minus_left : (a b c : Rational) → IsAtMost (minus a c) b → IsAtMost a (plus b c)
-at_most_from_minus_left = by_three _ (λ n m l d some h.
-    let x = at_most_from_ratio (n -ℤ l) m d some (simp one_denominator at h) in simp one_denominator (at_most-ratio n (m +ℤ l) d some (omega (arith, ints, x))))
+at_most_from_minus_left = by_three _ (λ n m l d some h. let x = at_most_from_ratio (n -ℤ l) m d some (simp one_denominator at h) in simp one_denominator (at_most-ratio n (m +ℤ l) d some (omega (arith, ints, x))))
 
 pub at_most-minus : (a b c : Rational) → IsAtMost a b → IsAtMost (minus a c) (minus b c)
 at_most-minus a b c h = at_most-minus_minus a b c c h (at_most_refl c)
 
 pub at_most_from_minus : (a b c : Rational) → IsAtMost (minus a c) (minus b c) → IsAtMost a b
-at_most_from_minus = by_three _ (λ n m l d some h.
-    let x = at_most_from_ratio (n -ℤ l) (m -ℤ l) d some (simp one_denominator at h) in at_most-ratio n m d some (omega (arith, ints, x)))
+at_most_from_minus = by_three _ (λ n m l d some h. let x = at_most_from_ratio (n -ℤ l) (m -ℤ l) d some (simp one_denominator at h) in at_most-ratio n m d some (omega (arith, ints, x)))
 
 -- what is taken away turns the order
 pub at_most_from_minus_turned : (a b c : Rational) → IsAtMost (minus c b) (minus c a) → IsAtMost a b
-at_most_from_minus_turned = by_three _ (λ n m l d some h.
-    let x = at_most_from_ratio (l -ℤ m) (l -ℤ n) d some (simp one_denominator at h) in at_most-ratio n m d some (omega (arith, ints, x)))
+at_most_from_minus_turned = by_three _ (λ n m l d some h. let x = at_most_from_ratio (l -ℤ m) (l -ℤ n) d some (simp one_denominator at h) in at_most-ratio n m d some (omega (arith, ints, x)))
 
 pub at_most-minus_swap : (h c x y : Rational) → IsAtMost (minus y x) (minus h c) → IsAtMost (minus c x) (minus h y)
-at_most-minus_swap = by_four _ (λ n m l k d some h.
-    let x = at_most_from_ratio (k -ℤ l) (n -ℤ m) d some (simp one_denominator at h) in simp one_denominator (at_most-ratio (m -ℤ l) (n -ℤ k) d some (omega (arith, ints, x))))
+at_most-minus_swap = by_four _ (λ n m l k d some h. let x = at_most_from_ratio (k -ℤ l) (n -ℤ m) d some (simp one_denominator at h) in simp one_denominator (at_most-ratio (m -ℤ l) (n -ℤ k) d some (omega (arith, ints, x))))
 
 -- ---- against 0
 
@@ -244,66 +210,49 @@ positive-nonzero a some none = below_not_same rational_zero a some (sym none)
 
 -- a difference is not negative exactly where it goes down
 pub not_negative-minus : (a b : Rational) → IsAtMost a b → IsAtMost rational_zero (minus b a)
-not_negative-minus = by_two (λ a b. IsAtMost a b → IsAtMost rational_zero (minus b a)) (λ n m d some h.
-    let x = at_most_from_ratio n m d some h in simp one_denominator (not_negative-ratio (m -ℤ n) d some (omega (arith, ints, x))))
+not_negative-minus = by_two _ (λ n m d some h. let x = at_most_from_ratio n m d some h in simp one_denominator (not_negative-ratio (m -ℤ n) d some (omega (arith, ints, x))))
 
 pub at_most_from_not_negative : (a b : Rational) → IsAtMost rational_zero (minus b a) → IsAtMost a b
-at_most_from_not_negative = by_two (λ a b. IsAtMost rational_zero (minus b a) → IsAtMost a b) (λ n m d some h.
-    let x = not_negative_from_ratio (m -ℤ n) d some (simp one_denominator at h) in at_most-ratio n m d some (omega (arith, ints, x)))
+at_most_from_not_negative = by_two _ (λ n m d some h. let x = not_negative_from_ratio (m -ℤ n) d some (simp one_denominator at h) in at_most-ratio n m d some (omega (arith, ints, x)))
 
 pub positive-minus : (a b : Rational) → IsBelow a b → IsBelow rational_zero (minus b a)
-positive-minus = by_two (λ a b. IsBelow a b → IsBelow rational_zero (minus b a)) (λ n m d some h.
-    let x = below_from_ratio n m d some h in simp one_denominator (positive-ratio (m -ℤ n) d some (omega (arith, ints, x))))
+positive-minus = by_two _ (λ n m d some h. let x = below_from_ratio n m d some h in simp one_denominator (positive-ratio (m -ℤ n) d some (omega (arith, ints, x))))
 
 pub below_from_positive : (a b : Rational) → IsBelow rational_zero (minus b a) → IsBelow a b
-below_from_positive = by_two (λ a b. IsBelow rational_zero (minus b a) → IsBelow a b) (λ n m d some h.
-    let x = positive_from_ratio (m -ℤ n) d some (simp one_denominator at h) in below-ratio n m d some (omega (arith, ints, x)))
+below_from_positive = by_two _ (λ n m d some h. let x = positive_from_ratio (m -ℤ n) d some (simp one_denominator at h) in below-ratio n m d some (omega (arith, ints, x)))
 
 pub not_negative-plus : (a b : Rational) → IsAtMost rational_zero a → IsAtMost rational_zero b → IsAtMost rational_zero (plus a b)
-not_negative-plus = by_two (λ a b. IsAtMost rational_zero a → IsAtMost rational_zero b → IsAtMost rational_zero (plus a b)) (λ n m d some h k.
-    let x = not_negative_from_ratio n d some h in let y = not_negative_from_ratio m d some k in simp one_denominator (not_negative-ratio (n +ℤ m) d some (omega (arith, ints, x, y))))
+not_negative-plus = by_two _ (λ n m d some h k. let x = not_negative_from_ratio n d some h in let y = not_negative_from_ratio m d some k in simp one_denominator (not_negative-ratio (n +ℤ m) d some (omega (arith, ints, x, y))))
 
 pub positive-plus : (a b : Rational) → IsBelow rational_zero a → IsAtMost rational_zero b → IsBelow rational_zero (plus a b)
-positive-plus = by_two (λ a b. IsBelow rational_zero a → IsAtMost rational_zero b → IsBelow rational_zero (plus a b)) (λ n m d some h k.
-    let x = positive_from_ratio n d some h in let y = not_negative_from_ratio m d some k in simp one_denominator (positive-ratio (n +ℤ m) d some (omega (arith, ints, x, y))))
+positive-plus = by_two _ (λ n m d some h k. let x = positive_from_ratio n d some h in let y = not_negative_from_ratio m d some k in simp one_denominator (positive-ratio (n +ℤ m) d some (omega (arith, ints, x, y))))
+
+-- what is added, where it is not negative
+pub at_most-plus_right : (a b : Rational) → IsAtMost rational_zero b → IsAtMost a (plus a b)
+at_most-plus_right = by_two _ (λ n m d some h. let x = not_negative_from_ratio m d some h in simp one_denominator (at_most-ratio n (n +ℤ m) d some (omega (arith, ints, x))))
+
+pub at_most-plus_left : (a b : Rational) → IsAtMost rational_zero a → IsAtMost b (plus a b)
+at_most-plus_left = by_two _ (λ n m d some h. let x = not_negative_from_ratio n d some h in simp one_denominator (at_most-ratio m (n +ℤ m) d some (omega (arith, ints, x))))
 
 -- ---- products and quotients
 
 -- a factor that is not negative keeps the order
-at_most-*ℤ : (n m l : ℤ) → pos 0 ≤ℤ l → n ≤ℤ m → (n *ℤ l) ≤ℤ (m *ℤ l)
-at_most-*ℤ n m (pos k) some h = *ℤ-≤ℤ_right (pos k) n m (omega (arith, ints)) h
-at_most-*ℤ n m (negsuc k) some h = absurd (omega (arith, ints, some))
-
-below-*ℤ : (n m l : ℤ) → pos 0 <ℤ l → n <ℤ m → (n *ℤ l) <ℤ (m *ℤ l)
-below-*ℤ n m (pos k) some h = *ℤ-<ℤ n m k (omega (arith, ints, some)) h
-below-*ℤ n m (negsuc k) some h = absurd (omega (arith, ints, some))
-
 pub at_most-times : (a b c : Rational) → IsAtMost rational_zero c → IsAtMost a b → IsAtMost (times a c) (times b c)
-at_most-times = by_three (λ a b c. IsAtMost rational_zero c → IsAtMost a b → IsAtMost (times a c) (times b c)) (λ n m l d some h k.
-    subst₂ IsAtMost (sym (times-ratio n l d d some some)) (sym (times-ratio m l d d some some))
-    (at_most-ratio (n *ℤ l) (m *ℤ l) (d * d) (mul-pos some some) (at_most-*ℤ n m l (not_negative_from_ratio l d some h) (at_most_from_ratio n m d some k))))
+at_most-times = by_three _ (λ n m l d some h k. let square = mul-pos some some in
+    simp times-ratio (at_most-ratio (n *ℤ l) (m *ℤ l) (d * d) square (*ℤ-≤ℤ_right l n m (not_negative_from_ratio l d some h) (at_most_from_ratio n m d some k))))
 
 pub at_most-times_left : (c a b : Rational) → IsAtMost rational_zero c → IsAtMost a b → IsAtMost (times c a) (times c b)
 at_most-times_left c a b some h = subst₂ IsAtMost (times_comm a c) (times_comm b c) (at_most-times a b c some h)
 
 pub below-times : (a b c : Rational) → IsBelow rational_zero c → IsBelow a b → IsBelow (times a c) (times b c)
-below-times = by_three (λ a b c. IsBelow rational_zero c → IsBelow a b → IsBelow (times a c) (times b c)) (λ n m l d some h k.
-    subst₂ IsBelow (sym (times-ratio n l d d some some)) (sym (times-ratio m l d d some some))
-    (below-ratio (n *ℤ l) (m *ℤ l) (d * d) (mul-pos some some) (below-*ℤ n m l (positive_from_ratio l d some h) (below_from_ratio n m d some k))))
+below-times = by_three _ (λ n m l d some h k. let square = mul-pos some some in
+    simp times-ratio (below-ratio (n *ℤ l) (m *ℤ l) (d * d) square (*ℤ-<ℤ_right l n m (positive_from_ratio l d some h) (below_from_ratio n m d some k))))
 
 pub at_most_from_times : (a b c : Rational) → IsBelow rational_zero c → IsAtMost (times a c) (times b c) → IsAtMost a b
-at_most_from_times a b c some h = by (below_or_at_most b a)
-  where
-    by : IsBelow b a ⊎ IsAtMost a b → IsAtMost a b
-    by (inl less) = absurd (below_not_at_most (times b c) (times a c) (below-times b a c some less) h)
-    by (inr more) = more
+at_most_from_times a b c some h = ⊎_elim (λ less. absurd (below_not_at_most (times b c) (times a c) (below-times b a c some less) h)) (λ more. more) (below_or_at_most b a)
 
 pub below_from_times : (a b c : Rational) → IsAtMost rational_zero c → IsBelow (times a c) (times b c) → IsBelow a b
-below_from_times a b c some h = by (below_or_at_most a b)
-  where
-    by : IsBelow a b ⊎ IsAtMost b a → IsBelow a b
-    by (inl less) = less
-    by (inr more) = absurd (below_not_at_most (times a c) (times b c) h (at_most-times b a c some more))
+below_from_times a b c some h = ⊎_elim (λ less. less) (λ more. absurd (below_not_at_most (times a c) (times b c) h (at_most-times b a c some more))) (below_or_at_most a b)
 
 pub not_negative-times : (a b : Rational) → IsAtMost rational_zero a → IsAtMost rational_zero b → IsAtMost rational_zero (times a b)
 not_negative-times a b one two = subst (λ x. IsAtMost x (times a b)) (zero-times b) (at_most-times rational_zero a b two one)
@@ -376,10 +325,3 @@ at_most-whole_ratio n m d some h = rw (← ratio-multiple n d some) (at_most-rat
 
 pub at_most_from_whole_ratio : (n m : ℤ) (d : ℕ) → 0 < d → IsAtMost (whole n) (ratio m d) → (n *ℤ pos d) ≤ℤ m
 at_most_from_whole_ratio n m d some h = at_most_from_ratio (n *ℤ pos d) m d some (rw (← ratio-multiple n d some) at h)
-
--- what is added, where it is not negative
-pub at_most-plus_right : (a b : Rational) → IsAtMost rational_zero b → IsAtMost a (plus a b)
-at_most-plus_right = by_two _ (λ n m d some h. let x = not_negative_from_ratio m d some h in simp one_denominator (at_most-ratio n (n +ℤ m) d some (omega (arith, ints, x))))
-
-pub at_most-plus_left : (a b : Rational) → IsAtMost rational_zero a → IsAtMost b (plus a b)
-at_most-plus_left = by_two _ (λ n m d some h. let x = not_negative_from_ratio n d some h in simp one_denominator (at_most-ratio m (n +ℤ m) d some (omega (arith, ints, x))))

@@ -1,58 +1,48 @@
 -- The laws of products and quotients.
-use Rattle.std.proofs.Common.{◌≡◌, ◌≢◌, ◌∙◌, ◌*◌, ◌<◌, ◌+ℤ◌, ◌-ℤ◌, ◌*ℤ◌, ◌⊎◌, inl, inr, ℕ, ℤ, pos, int_lt, unsigned_abs, Bool, true, false, refl, sym, ap, arith}
+use Rattle.std.proofs.Common.{◌≡◌, ◌≢◌, ◌∙◌, ◌*◌, ◌<◌, ◌*ℤ◌, ⊎_elim, ℕ, pos, int_lt, unsigned_abs, Bool, true, false, refl, sym, ap, ap₂, arith}
 use Rattle.std.proofs.lemmas.Int.{ints}
 use Rattle.std.proofs.Math.IntN.{*ℤ-zero, *ℤ_comm}
 use Rattle.std.proofs.Math.Nat.{eq-zero-or-pos, mul-one, mul-pos}
-use Rattle.sums.proofs.ProductLemmas.{*ℤ-+ℤ, *ℤ--ℤ}
-use Rattle.fractions.specs.Integers.{*ℤ-pos_one, *ℤ_assoc, signed, signed-*ℤ-signed, signed-sign, zero_from_size}
+use Rattle.sums.proofs.ProductLemmas.{*ℤ-+ℤ, *ℤ--ℤ, *ℤ-pos_one, *ℤ_assoc}
+use Rattle.fractions.specs.Integers.{signed, signed-*ℤ-signed, signed-sign, zero_from_size}
 use Rattle.fractions.specs.LowestForms.{ratio-self}
 use Rattle.fractions.specs.Rationals.{Rational, minus, over, plus, ratio, rational_one, rational_zero, reciprocal, times}
-use Rattle.fractions.proofs.Ratios.{by_one, by_three, by_two, minus-ratio_same_den, plus-ratio_same_den, ratio-one, ratio-same, ratio-zero, times-ratio}
+use Rattle.fractions.proofs.Ratios.{by_one, by_three, by_two, one_denominator, ratio-one, ratio-same, ratio-zero, times-ratio}
 
 -- ---- products
 
 pub times_comm : (a b : Rational) → times a b ≡ times b a
-times_comm = by_two (λ a b. times a b ≡ times b a) (λ n m d some. times-ratio n m d d some some ∙ ap (λ z. ratio z (d * d)) (*ℤ_comm n m) ∙ sym (times-ratio m n d d some some))
+times_comm = by_two _ (λ n m d some. simp times-ratio (ap (λ z. ratio z (d * d)) (*ℤ_comm n m)))
 
 pub times_assoc : (a b c : Rational) → times (times a b) c ≡ times a (times b c)
-times_assoc = by_three (λ a b c. times (times a b) c ≡ times a (times b c)) same
-  where
-    same : (n m l : ℤ) (d : ℕ) → 0 < d → times (times (ratio n d) (ratio m d)) (ratio l d) ≡ times (ratio n d) (times (ratio m d) (ratio l d))
-    same n m l d some =
-        let square = mul-pos some some in
-        ap (λ x. times x (ratio l d)) (times-ratio n m d d some some) ∙ times-ratio (n *ℤ m) l (d * d) d square some
-        ∙ ap (λ z. ratio z (d * d * d)) (*ℤ_assoc n m l) ∙ ap (ratio (n *ℤ (m *ℤ l))) (omega arith)
-        ∙ sym (times-ratio n (m *ℤ l) d (d * d) some square) ∙ ap (times (ratio n d)) (sym (times-ratio m l d d some some))
+times_assoc = by_three _ (λ n m l d some.
+    let square = mul-pos some some in
+    ap (λ x. times x (ratio l d)) (times-ratio n m d d some some) ∙ times-ratio (n *ℤ m) l (d * d) d square some ∙ ap₂ ratio (*ℤ_assoc n m l) (omega arith)
+    ∙ sym (times-ratio n (m *ℤ l) d (d * d) some square) ∙ ap (times (ratio n d)) (sym (times-ratio m l d d some some)))
 
 pub times-one : (a : Rational) → times a rational_one ≡ a
-times-one = by_one (λ a. times a rational_one ≡ a) (λ n d some. ap (times (ratio n d)) (sym (ratio-one (pos 1))) ∙ times-ratio n (pos 1) d 1 some (omega arith) ∙ ap (λ z. ratio z (d * 1)) (*ℤ-pos_one n) ∙ ap (ratio n) (mul-one d))
+times-one = by_one _ (λ n d some. ap (times (ratio n d)) (sym (ratio-one (pos 1))) ∙ times-ratio n (pos 1) d 1 some (omega arith) ∙ ap₂ ratio (*ℤ-pos_one n) (mul-one d))
 
 pub one-times : (a : Rational) → times rational_one a ≡ a
 one-times a = times_comm rational_one a ∙ times-one a
 
 pub times-zero : (a : Rational) → times a rational_zero ≡ rational_zero
-times-zero = by_one (λ a. times a rational_zero ≡ rational_zero) (λ n d some. ap (times (ratio n d)) (sym (ratio-one (pos 0))) ∙ times-ratio n (pos 0) d 1 some (omega arith) ∙ ap (λ z. ratio z (d * 1)) (*ℤ-zero n) ∙ ratio-zero (d * 1))
+times-zero = by_one _ (λ n d some. ap (times (ratio n d)) (sym (ratio-one (pos 0))) ∙ times-ratio n (pos 0) d 1 some (omega arith) ∙ ap (λ z. ratio z (d * 1)) (*ℤ-zero n) ∙ ratio-zero (d * 1))
 
 pub zero-times : (a : Rational) → times rational_zero a ≡ rational_zero
 zero-times a = times_comm rational_zero a ∙ times-zero a
 
 pub times-plus : (a b c : Rational) → times a (plus b c) ≡ plus (times a b) (times a c)
-times-plus = by_three (λ a b c. times a (plus b c) ≡ plus (times a b) (times a c)) (λ n m l d some.
-    ap (times (ratio n d)) (plus-ratio_same_den m l d) ∙ times-ratio n (m +ℤ l) d d some some ∙ ap (λ z. ratio z (d * d)) (*ℤ-+ℤ n m l)
-    ∙ sym (plus-ratio_same_den (n *ℤ m) (n *ℤ l) (d * d)) ∙ ap (λ x. plus x (ratio (n *ℤ l) (d * d))) (sym (times-ratio n m d d some some))
-    ∙ ap (plus (times (ratio n d) (ratio m d))) (sym (times-ratio n l d d some some)))
+times-plus = by_three _ (λ n m l d some. simp (one_denominator, times-ratio) (ap (λ z. ratio z (d * d)) (*ℤ-+ℤ n m l)))
 
 pub times-minus : (a b c : Rational) → times a (minus b c) ≡ minus (times a b) (times a c)
-times-minus = by_three (λ a b c. times a (minus b c) ≡ minus (times a b) (times a c)) (λ n m l d some.
-    ap (times (ratio n d)) (minus-ratio_same_den m l d) ∙ times-ratio n (m -ℤ l) d d some some ∙ ap (λ z. ratio z (d * d)) (*ℤ--ℤ n m l)
-    ∙ sym (minus-ratio_same_den (n *ℤ m) (n *ℤ l) (d * d)) ∙ ap (λ x. minus x (ratio (n *ℤ l) (d * d))) (sym (times-ratio n m d d some some))
-    ∙ ap (minus (times (ratio n d) (ratio m d))) (sym (times-ratio n l d d some some)))
+times-minus = by_three _ (λ n m l d some. simp (one_denominator, times-ratio) (ap (λ z. ratio z (d * d)) (*ℤ--ℤ n m l)))
 
 pub plus-times : (a b c : Rational) → times (plus a b) c ≡ plus (times a c) (times b c)
-plus-times a b c = times_comm (plus a b) c ∙ times-plus c a b ∙ ap (λ x. plus x (times c b)) (times_comm c a) ∙ ap (plus (times a c)) (times_comm c b)
+plus-times a b c = times_comm (plus a b) c ∙ times-plus c a b ∙ ap₂ plus (times_comm c a) (times_comm c b)
 
 pub minus-times : (a b c : Rational) → times (minus a b) c ≡ minus (times a c) (times b c)
-minus-times a b c = times_comm (minus a b) c ∙ times-minus c a b ∙ ap (λ x. minus x (times c b)) (times_comm c a) ∙ ap (minus (times a c)) (times_comm c b)
+minus-times a b c = times_comm (minus a b) c ∙ times-minus c a b ∙ ap₂ minus (times_comm c a) (times_comm c b)
 
 pub times_swap : (a b c : Rational) → times (times a b) c ≡ times (times a c) b
 times_swap a b c = times_assoc a b c ∙ ap (times a) (times_comm b c) ∙ sym (times_assoc a c b)
@@ -66,11 +56,7 @@ pub zero_from_num : (a : Rational) → a.num ≡ pos 0 → a ≡ rational_zero
 zero_from_num a none = sym (ratio-self a) ∙ ap (λ z. ratio z a.den) none ∙ ratio-zero a.den
 
 pub size-positive : (a : Rational) → a ≢ rational_zero → 0 < unsigned_abs a.num
-size-positive a some = by (eq-zero-or-pos (unsigned_abs a.num))
-  where
-    by : (unsigned_abs a.num ≡ 0) ⊎ (0 < unsigned_abs a.num) → 0 < unsigned_abs a.num
-    by (inl none) = absurd (some (zero_from_num a (zero_from_size a.num none)))
-    by (inr above) = above
+size-positive a some = ⊎_elim (λ none. absurd (some (zero_from_num a (zero_from_size a.num none)))) (λ above. above) (eq-zero-or-pos (unsigned_abs a.num))
 
 square_of_sign : (negative : Bool) (a b : ℕ) → signed negative a *ℤ signed negative b ≡ pos (a * b)
 square_of_sign false a b = signed-*ℤ-signed false false a b

@@ -1,18 +1,20 @@
--- Ratios: two are one exactly where the cross products are equal; their sums, differences and products.
-use Rattle.std.proofs.Common.{◌≡◌, ◌∙◌, ◌+◌, ◌*◌, ◌<◌, ◌+ℤ◌, ◌-ℤ◌, ◌*ℤ◌, ℕ, ℤ, zero, suc, pos, refl, sym, ap, subst, arith}
+-- Ratios: two are one exactly where the cross products are equal; their order, sums, differences and products.
+use Rattle.std.proofs.Common.{◌≡◌, ◌∙◌, ◌*◌, ◌<◌, ◌+ℤ◌, ◌-ℤ◌, ◌*ℤ◌, ℕ, ℤ, zero, suc, pos, refl, sym, ap, ap₂, subst, arith}
+use Rattle.std.specs.Ordering.{int_cmp}
 use Rattle.std.proofs.Math.Nat.{mul-pos, mul_comm}
-use mathlib.Core.Path.{subst₂, subst₃}
-use Rattle.fractions.specs.Integers.{*ℤ-interchange, *ℤ_cancel_right, *ℤ_swap, as_diff, diff, diff-add, diff-from_same, diff-mul, diff-pos, diff-same, diff-sub}
+use mathlib.Core.Path.{subst₂}
+use Rattle.sums.proofs.ProductLemmas.{*ℤ-interchange, *ℤ_assoc, *ℤ_cancel_right, *ℤ_swap, +ℤ-*ℤ, -ℤ-*ℤ}
+use Rattle.fractions.specs.Integers.{pos_above}
 use Rattle.fractions.specs.LowestForms.{ratio-self, ratio-value, same_from_value}
-use Rattle.fractions.specs.Rationals.{Rational, SameValue, minus, plus, ratio, rational_zero, times, whole}
+use Rattle.fractions.specs.Order.{cmp-scale}
+use Rattle.fractions.specs.Rationals.{Rational, SameValue, minus, plus, ratio, rational_cmp, rational_zero, times, whole}
 
 -- ---- equality
 
-pub same_value-trans : (m n l : ℤ) (e d c : ℕ) → 0 < d → SameValue m e n d → SameValue n d l c → SameValue m e l c
+same_value-trans : (m n l : ℤ) (e d c : ℕ) → 0 < d → SameValue m e n d → SameValue n d l c → SameValue m e l c
 same_value-trans m n l e d c some one two =
-    *ℤ_cancel_right (m *ℤ pos c) (l *ℤ pos e) d some (
-    *ℤ_swap m (pos c) (pos d) ∙ ap (λ z. z *ℤ pos c) one ∙ *ℤ_swap n (pos e) (pos c) ∙ ap (λ z. z *ℤ pos e) two ∙ *ℤ_swap l (pos d) (pos e)
-    )
+    *ℤ_cancel_right (pos d) (m *ℤ pos c) (l *ℤ pos e) (pos_above d some)
+    (*ℤ_swap m (pos c) (pos d) ∙ ap (λ z. z *ℤ pos c) one ∙ *ℤ_swap n (pos e) (pos c) ∙ ap (λ z. z *ℤ pos e) two ∙ *ℤ_swap l (pos d) (pos e))
 
 -- equal cross products make equal ratios
 pub ratio-same : (n m : ℤ) (d e : ℕ) → 0 < d → 0 < e → SameValue n d m e → ratio n d ≡ ratio m e
@@ -25,15 +27,11 @@ ratio-same n m d e hd he same =
 pub same_from_ratio : (n m : ℤ) (d e : ℕ) → 0 < d → 0 < e → ratio n d ≡ ratio m e → SameValue n d m e
 same_from_ratio n m d e hd he same =
     let a = ratio n d in
-    let right : SameValue a.num a.den m e = rw same (ratio-value m e he) in
-    same_value-trans n a.num m d a.den e a.positive (sym (ratio-value n d hd)) right
+    same_value-trans n a.num m d a.den e a.positive (sym (ratio-value n d hd)) (rw same (ratio-value m e he))
 
 -- a common factor is taken away
 pub ratio-cancel : (n : ℤ) (d k : ℕ) → 0 < d → 0 < k → ratio (n *ℤ pos k) (d * k) ≡ ratio n d
-ratio-cancel n d k hd hk =
-    let x = as_diff n in
-    ratio-same (n *ℤ pos k) n (d * k) d (mul-pos hd hk) hd
-    (rw (x.is, diff-pos d, diff-pos (d * k), diff-pos k) (simp diff-mul (diff-same _ _ _ _ (omega arith))))
+ratio-cancel n d k hd hk = ratio-same (n *ℤ pos k) n (d * k) d (mul-pos hd hk) hd (*ℤ_assoc n (pos k) (pos d) ∙ ap (λ j. n *ℤ pos j) (mul_comm k d))
 
 pub ratio-one : (n : ℤ) → ratio n 1 ≡ whole n
 ratio-one n = ratio-self (whole n)
@@ -46,65 +44,42 @@ pub ratio-zero : (d : ℕ) → ratio (pos 0) d ≡ rational_zero
 ratio-zero zero = ratio-by_zero (pos 0)
 ratio-zero (suc d) = ratio-same (pos 0) (pos 0) (suc d) 1 (omega arith) (omega arith) (let e : 0 * 1 ≡ 0 * suc d = omega arith in ap pos e) ∙ ratio-one (pos 0)
 
--- ---- sums, differences and products of equal values are equal
+-- ---- what is made of equal values is equal
 
--- the equation of two values, as one of naturals
-cross : (a b a' b' d d' : ℕ) → diff a b *ℤ diff d' 0 ≡ diff a' b' *ℤ diff d 0 → a * d' + b' * d ≡ a' * d + b * d'
-cross a b a' b' d d' e = let h = diff-from_same _ _ _ _ (sym (diff-mul a b d' 0) ∙ e ∙ diff-mul a' b' d 0) in omega (arith, h)
+-- both sides of an equation of values, times another number over another one
+crossed : (n n' : ℤ) (d d' e e' : ℕ) → SameValue n d n' d' → n *ℤ pos e *ℤ pos (d' * e') ≡ n' *ℤ pos e' *ℤ pos (d * e)
+crossed n n' d d' e e' same = *ℤ-interchange n (pos e) (pos d') (pos e') ∙ ap₂ ◌*ℤ◌ same (ap pos (mul_comm e e')) ∙ *ℤ-interchange n' (pos d) (pos e') (pos e)
 
-same-plus : (n m n' m' : ℤ) (d e d' e' : ℕ) → SameValue n d n' d' → SameValue m e m' e'
-    → SameValue (n *ℤ pos e +ℤ m *ℤ pos d) (d * e) (n' *ℤ pos e' +ℤ m' *ℤ pos d') (d' * e')
-same-plus n m n' m' d e d' e' one two =
-    let x = as_diff n in let y = as_diff m in let x' = as_diff n' in let y' = as_diff m' in
-    let h = cross x.over x.under x'.over x'.under d d' (rw (x.is, x'.is, diff-pos d', diff-pos d) at one) in
-    let k = cross y.over y.under y'.over y'.under e e' (rw (y.is, y'.is, diff-pos e', diff-pos e) at two) in
-    rw (x.is, y.is, x'.is, y'.is) (simp (diff-pos, diff-add, diff-mul)
-    (diff-same _ _ _ _ (omega (arith, ap (λ v. v * (e * e')) h, ap (λ v. v * (d * d')) k))))
+-- the same steps for sums and for differences
+module _ (op : ℤ → ℤ → ℤ) (spread : (x y z : ℤ) → op x y *ℤ z ≡ op (x *ℤ z) (y *ℤ z)) where
+  joined-ratio : (n m : ℤ) (d e : ℕ) → 0 < d → 0 < e
+      → ratio (op ((ratio n d).num *ℤ pos (ratio m e).den) ((ratio m e).num *ℤ pos (ratio n d).den)) ((ratio n d).den * (ratio m e).den) ≡ ratio (op (n *ℤ pos e) (m *ℤ pos d)) (d * e)
+  joined-ratio n m d e hd he =
+      let a = ratio n d in let b = ratio m e in
+      let first = crossed a.num n a.den d b.den e (ratio-value n d hd) in
+      let second = crossed b.num m b.den e a.den d (ratio-value m e he) in
+      ratio-same _ _ (a.den * b.den) (d * e) (mul-pos a.positive b.positive) (mul-pos hd he)
+      (spread _ _ _ ∙ ap₂ op first (ap (λ k. b.num *ℤ pos a.den *ℤ pos k) (mul_comm d e) ∙ second ∙ ap (λ k. m *ℤ pos d *ℤ pos k) (mul_comm b.den a.den)) ∙ sym (spread _ _ _))
 
-same-minus : (n m n' m' : ℤ) (d e d' e' : ℕ) → SameValue n d n' d' → SameValue m e m' e'
-    → SameValue (n *ℤ pos e -ℤ m *ℤ pos d) (d * e) (n' *ℤ pos e' -ℤ m' *ℤ pos d') (d' * e')
-same-minus n m n' m' d e d' e' one two =
-    let x = as_diff n in let y = as_diff m in let x' = as_diff n' in let y' = as_diff m' in
-    let h = cross x.over x.under x'.over x'.under d d' (rw (x.is, x'.is, diff-pos d', diff-pos d) at one) in
-    let k = cross y.over y.under y'.over y'.under e e' (rw (y.is, y'.is, diff-pos e', diff-pos e) at two) in
-    rw (x.is, y.is, x'.is, y'.is) (simp (diff-pos, diff-sub, diff-mul)
-    (diff-same _ _ _ _ (omega (arith, ap (λ v. v * (e * e')) h, ap (λ v. v * (d * d')) k))))
-
-same-times : (n m n' m' : ℤ) (d e d' e' : ℕ) → SameValue n d n' d' → SameValue m e m' e' → SameValue (n *ℤ m) (d * e) (n' *ℤ m') (d' * e')
-same-times n m n' m' d e d' e' one two =
-    *ℤ-interchange n m (pos d') (pos e') ∙ ap (λ z. z *ℤ (m *ℤ pos e')) one ∙ ap (λ z. n' *ℤ pos d *ℤ z) two ∙ *ℤ-interchange n' (pos d) m' (pos e)
+  joined-same_den : (n m : ℤ) (d : ℕ) → 0 < d → ratio (op (n *ℤ pos d) (m *ℤ pos d)) (d * d) ≡ ratio (op n m) d
+  joined-same_den n m d some = ap (λ z. ratio z (d * d)) (sym (spread n m (pos d))) ∙ ratio-cancel (op n m) d d some some
 
 pub plus-ratio : (n m : ℤ) (d e : ℕ) → 0 < d → 0 < e → plus (ratio n d) (ratio m e) ≡ ratio (n *ℤ pos e +ℤ m *ℤ pos d) (d * e)
 unfolding plus
-plus-ratio n m d e hd he =
-    let a = ratio n d in let b = ratio m e in
-    ratio-same _ _ (a.den * b.den) (d * e) (mul-pos a.positive b.positive) (mul-pos hd he) (same-plus a.num b.num n m a.den b.den d e (ratio-value n d hd) (ratio-value m e he))
+plus-ratio = joined-ratio ◌+ℤ◌ +ℤ-*ℤ
 
 pub minus-ratio : (n m : ℤ) (d e : ℕ) → 0 < d → 0 < e → minus (ratio n d) (ratio m e) ≡ ratio (n *ℤ pos e -ℤ m *ℤ pos d) (d * e)
 unfolding minus
-minus-ratio n m d e hd he =
-    let a = ratio n d in let b = ratio m e in
-    ratio-same _ _ (a.den * b.den) (d * e) (mul-pos a.positive b.positive) (mul-pos hd he) (same-minus a.num b.num n m a.den b.den d e (ratio-value n d hd) (ratio-value m e he))
+minus-ratio = joined-ratio ◌-ℤ◌ -ℤ-*ℤ
 
--- ---- over one denominator, which may be 0 here too
-
+-- over one denominator, which may be 0 here too
 pub plus-ratio_same_den : (n m : ℤ) (d : ℕ) → plus (ratio n d) (ratio m d) ≡ ratio (n +ℤ m) d
 plus-ratio_same_den n m zero = rw (ratio-by_zero n, ratio-by_zero m, ratio-by_zero (n +ℤ m), ← ratio-one (pos 0)) (plus-ratio (pos 0) (pos 0) 1 1 (omega arith) (omega arith))
-plus-ratio_same_den n m (suc d) =
-    let e = suc d in let some : 0 < e = omega arith in
-    let x = as_diff n in let y = as_diff m in
-    plus-ratio n m e e some some
-    ∙ ap (λ z. ratio z (e * e)) (rw (x.is, y.is, diff-pos e) (simp (diff-mul, diff-add) (diff-same _ _ _ _ (omega arith))))
-    ∙ ratio-cancel (n +ℤ m) e e some some
+plus-ratio_same_den n m (suc d) = let some : 0 < suc d = omega arith in plus-ratio n m (suc d) (suc d) some some ∙ joined-same_den ◌+ℤ◌ +ℤ-*ℤ n m (suc d) some
 
 pub minus-ratio_same_den : (n m : ℤ) (d : ℕ) → minus (ratio n d) (ratio m d) ≡ ratio (n -ℤ m) d
 minus-ratio_same_den n m zero = rw (ratio-by_zero n, ratio-by_zero m, ratio-by_zero (n -ℤ m), ← ratio-one (pos 0)) (minus-ratio (pos 0) (pos 0) 1 1 (omega arith) (omega arith))
-minus-ratio_same_den n m (suc d) =
-    let e = suc d in let some : 0 < e = omega arith in
-    let x = as_diff n in let y = as_diff m in
-    minus-ratio n m e e some some
-    ∙ ap (λ z. ratio z (e * e)) (rw (x.is, y.is, diff-pos e) (simp (diff-mul, diff-sub) (diff-same _ _ _ _ (omega arith))))
-    ∙ ratio-cancel (n -ℤ m) e e some some
+minus-ratio_same_den n m (suc d) = let some : 0 < suc d = omega arith in minus-ratio n m (suc d) (suc d) some some ∙ joined-same_den ◌-ℤ◌ -ℤ-*ℤ n m (suc d) some
 
 -- sums and differences over one denominator, for `simp`
 pub ruleset one_denominator = (plus-ratio_same_den, minus-ratio_same_den)
@@ -113,42 +88,38 @@ pub times-ratio : (n m : ℤ) (d e : ℕ) → 0 < d → 0 < e → times (ratio n
 unfolding times
 times-ratio n m d e hd he =
     let a = ratio n d in let b = ratio m e in
-    ratio-same _ _ (a.den * b.den) (d * e) (mul-pos a.positive b.positive) (mul-pos hd he) (same-times a.num b.num n m a.den b.den d e (ratio-value n d hd) (ratio-value m e he))
+    ratio-same (a.num *ℤ b.num) (n *ℤ m) (a.den * b.den) (d * e) (mul-pos a.positive b.positive) (mul-pos hd he)
+    (*ℤ-interchange a.num b.num (pos d) (pos e) ∙ ap₂ ◌*ℤ◌ (ratio-value n d hd) (ratio-value m e he) ∙ *ℤ-interchange n (pos a.den) m (pos b.den))
 
--- ---- rationals over one denominator: what holds of ratios over any one denominator holds of all rationals
+-- the order is that of the cross products
+pub rational_cmp-ratio : (n m : ℤ) (d e : ℕ) → 0 < d → 0 < e → rational_cmp (ratio n d) (ratio m e) ≡ int_cmp (n *ℤ pos e) (m *ℤ pos d)
+unfolding rational_cmp
+rational_cmp-ratio n m d e hd he =
+    let a = ratio n d in let b = ratio m e in
+    let first = crossed a.num n a.den d b.den e (ratio-value n d hd) in
+    let second = crossed b.num m b.den e a.den d (ratio-value m e he) in
+    sym (cmp-scale (a.num *ℤ pos b.den) (b.num *ℤ pos a.den) (d * e) (mul-pos hd he))
+    ∙ ap₂ int_cmp first (ap (λ k. b.num *ℤ pos a.den *ℤ pos k) (mul_comm d e) ∙ second ∙ ap (λ k. m *ℤ pos d *ℤ pos k) (mul_comm b.den a.den))
+    ∙ cmp-scale (n *ℤ pos e) (m *ℤ pos d) (a.den * b.den) (mul-pos a.positive b.positive)
 
--- a, over d times its own denominator
-over_more : (a : Rational) (d : ℕ) → 0 < d → a ≡ ratio (a.num *ℤ pos d) (d * a.den)
-over_more a d some = sym (ratio-self a) ∙ sym (ratio-cancel a.num a.den d a.positive some) ∙ ap (ratio (a.num *ℤ pos d)) (mul_comm a.den d)
+-- ---- what holds of ratios over any one denominator holds of all rationals
 
 pub by_one : (P : Rational → Type 0) → ((n : ℤ) (d : ℕ) → 0 < d → P (ratio n d)) → (a : Rational) → P a
 by_one P h a = subst P (ratio-self a) (h a.num a.den a.positive)
 
-pub by_two : (P : Rational → Rational → Type 0) → ((n m : ℤ) (d : ℕ) → 0 < d → P (ratio n d) (ratio m d)) → (a b : Rational) → P a b
-by_two P h a b =
-    subst₂ P
-    (sym (over_more a b.den b.positive ∙ ap (ratio (a.num *ℤ pos b.den)) (mul_comm b.den a.den)))
-    (sym (over_more b a.den a.positive))
-    (h _ _ (a.den * b.den) (mul-pos a.positive b.positive))
-
-pub by_three : (P : Rational → Rational → Rational → Type 0) → ((n m l : ℤ) (d : ℕ) → 0 < d → P (ratio n d) (ratio m d) (ratio l d)) → (a b c : Rational) → P a b c
-by_three P h a b c =
-    by_two (λ x y. P x y c)
-    (λ n m d some. subst₃ P
-    (ratio-cancel n d c.den some c.positive)
-    (ratio-cancel m d c.den some c.positive)
-    (sym (over_more c d some))
-    (h _ _ _ (d * c.den) (mul-pos some c.positive)))
-    a b
+over_all : (a : Rational) (rest d : ℕ) → 0 < rest → a.den * rest ≡ d → ratio (a.num *ℤ pos rest) d ≡ a
+over_all a rest d some is = ap (ratio (a.num *ℤ pos rest)) (sym is) ∙ ratio-cancel a.num a.den rest a.positive some ∙ ratio-self a
 
 pub by_four : (P : Rational → Rational → Rational → Rational → Type 0) → ((n m l k : ℤ) (d : ℕ) → 0 < d → P (ratio n d) (ratio m d) (ratio l d) (ratio k d)) → (a b c e : Rational) → P a b c e
 by_four P h a b c e =
-    by_three (λ x y z. P x y z e)
-    (λ n m l d some. subst (P (ratio n d) (ratio m d) (ratio l d))
-    (sym (over_more e d some))
-    (subst₃ (λ x y z. P x y z (ratio (e.num *ℤ pos d) (d * e.den)))
-    (ratio-cancel n d e.den some e.positive)
-    (ratio-cancel m d e.den some e.positive)
-    (ratio-cancel l d e.den some e.positive)
-    (h _ _ _ _ (d * e.den) (mul-pos some e.positive))))
-    a b c
+    let ab = mul-pos a.positive b.positive in
+    let ce = mul-pos c.positive e.positive in
+    let d = a.den * b.den * (c.den * e.den) in
+    subst₂ (λ x y. P x y c e) (over_all a (b.den * (c.den * e.den)) d (mul-pos b.positive ce) (omega arith)) (over_all b (a.den * (c.den * e.den)) d (mul-pos a.positive ce) (omega arith))
+    (subst₂ (P _ _) (over_all c (a.den * b.den * e.den) d (mul-pos ab e.positive) (omega arith)) (over_all e (a.den * b.den * c.den) d (mul-pos ab c.positive) (omega arith)) (h _ _ _ _ d (mul-pos ab ce)))
+
+pub by_three : (P : Rational → Rational → Rational → Type 0) → ((n m l : ℤ) (d : ℕ) → 0 < d → P (ratio n d) (ratio m d) (ratio l d)) → (a b c : Rational) → P a b c
+by_three P h a b c = by_four (λ x y z w. P x y z) (λ n m l k d some. h n m l d some) a b c c
+
+pub by_two : (P : Rational → Rational → Type 0) → ((n m : ℤ) (d : ℕ) → 0 < d → P (ratio n d) (ratio m d)) → (a b : Rational) → P a b
+by_two P h a b = by_four (λ x y z w. P x y) (λ n m l k d some. h n m d some) a b b b

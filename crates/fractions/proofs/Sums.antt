@@ -7,48 +7,48 @@ use Rattle.fractions.proofs.Ratios.{by_four, by_one, by_three, by_two, minus-rat
 -- ---- sums
 
 pub plus_comm : (a b : Rational) → plus a b ≡ plus b a
-plus_comm = by_two (λ a b. plus a b ≡ plus b a) (λ n m d some. simp one_denominator (ap (λ k. ratio k d) (omega (arith, ints))))
+plus_comm = by_two _ (λ n m d some. simp one_denominator (ap (λ k. ratio k d) (omega (arith, ints))))
 
 pub plus_assoc : (a b c : Rational) → plus (plus a b) c ≡ plus a (plus b c)
-plus_assoc = by_three (λ a b c. plus (plus a b) c ≡ plus a (plus b c)) (λ n m l d some. simp one_denominator (ap (λ k. ratio k d) (omega (arith, ints))))
+plus_assoc = by_three _ (λ n m l d some. simp one_denominator (ap (λ k. ratio k d) (omega (arith, ints))))
 
 pub plus-zero : (a : Rational) → plus a rational_zero ≡ a
-plus-zero = by_one (λ a. plus a rational_zero ≡ a) (λ n d some. ap (plus (ratio n d)) (sym (ratio-zero d)) ∙ plus-ratio_same_den n (pos 0) d ∙ ap (λ k. ratio k d) (omega (arith, ints)))
+plus-zero = by_one _ (λ n d some. ap (plus (ratio n d)) (sym (ratio-zero d)) ∙ plus-ratio_same_den n (pos 0) d ∙ ap (λ k. ratio k d) (omega (arith, ints)))
 
 pub zero-plus : (a : Rational) → plus rational_zero a ≡ a
 zero-plus a = plus_comm rational_zero a ∙ plus-zero a
 
 pub plus_swap : (a b c : Rational) → plus (plus a b) c ≡ plus (plus a c) b
-plus_swap = by_three (λ a b c. plus (plus a b) c ≡ plus (plus a c) b) (λ n m l d some. simp one_denominator (ap (λ k. ratio k d) (omega (arith, ints))))
+plus_swap = by_three _ (λ n m l d some. simp one_denominator (ap (λ k. ratio k d) (omega (arith, ints))))
 
 pub plus_swap_left : (a b c : Rational) → plus a (plus b c) ≡ plus b (plus a c)
 plus_swap_left = by_three _ (λ n m l d some. simp one_denominator (ap (λ k. ratio k d) (omega (arith, ints))))
 
 pub plus-interchange : (a b c e : Rational) → plus (plus a b) (plus c e) ≡ plus (plus a c) (plus b e)
-plus-interchange = by_four (λ a b c e. plus (plus a b) (plus c e) ≡ plus (plus a c) (plus b e)) (λ n m l k d some. simp one_denominator (ap (λ z. ratio z d) (omega (arith, ints))))
+plus-interchange = by_four _ (λ n m l k d some. simp one_denominator (ap (λ z. ratio z d) (omega (arith, ints))))
 
 -- ---- differences
 
 pub minus-self : (a : Rational) → minus a a ≡ rational_zero
-minus-self = by_one (λ a. minus a a ≡ rational_zero) (λ n d some. minus-ratio_same_den n n d ∙ ap (λ k. ratio k d) (omega (arith, ints)) ∙ ratio-zero d)
+minus-self = by_one _ (λ n d some. minus-ratio_same_den n n d ∙ ap (λ k. ratio k d) (omega (arith, ints)) ∙ ratio-zero d)
 
 pub minus-zero : (a : Rational) → minus a rational_zero ≡ a
-minus-zero = by_one (λ a. minus a rational_zero ≡ a) (λ n d some. ap (minus (ratio n d)) (sym (ratio-zero d)) ∙ minus-ratio_same_den n (pos 0) d ∙ ap (λ k. ratio k d) (omega (arith, ints)))
+minus-zero = by_one _ (λ n d some. ap (minus (ratio n d)) (sym (ratio-zero d)) ∙ minus-ratio_same_den n (pos 0) d ∙ ap (λ k. ratio k d) (omega (arith, ints)))
 
 pub minus-plus : (a b : Rational) → minus (plus a b) b ≡ a
-minus-plus = by_two (λ a b. minus (plus a b) b ≡ a) (λ n m d some. simp one_denominator (ap (λ k. ratio k d) (omega (arith, ints))))
+minus-plus = by_two _ (λ n m d some. simp one_denominator (ap (λ k. ratio k d) (omega (arith, ints))))
 
 pub plus-minus : (a b : Rational) → plus (minus a b) b ≡ a
-plus-minus = by_two (λ a b. plus (minus a b) b ≡ a) (λ n m d some. simp one_denominator (ap (λ k. ratio k d) (omega (arith, ints))))
+plus-minus = by_two _ (λ n m d some. simp one_denominator (ap (λ k. ratio k d) (omega (arith, ints))))
 
 pub plus_minus_assoc : (a b c : Rational) → plus a (minus b c) ≡ minus (plus a b) c
-plus_minus_assoc = by_three (λ a b c. plus a (minus b c) ≡ minus (plus a b) c) (λ n m l d some. simp one_denominator (ap (λ k. ratio k d) (omega (arith, ints))))
+plus_minus_assoc = by_three _ (λ n m l d some. simp one_denominator (ap (λ k. ratio k d) (omega (arith, ints))))
 
 pub minus-minus : (a b c : Rational) → minus a (minus b c) ≡ plus (minus a b) c
-minus-minus = by_three (λ a b c. minus a (minus b c) ≡ plus (minus a b) c) (λ n m l d some. simp one_denominator (ap (λ k. ratio k d) (omega (arith, ints))))
+minus-minus = by_three _ (λ n m l d some. simp one_denominator (ap (λ k. ratio k d) (omega (arith, ints))))
 
 pub minus-plus_right : (a b c : Rational) → minus a (plus b c) ≡ minus (minus a b) c
-minus-plus_right = by_three (λ a b c. minus a (plus b c) ≡ minus (minus a b) c) (λ n m l d some. simp one_denominator (ap (λ k. ratio k d) (omega (arith, ints))))
+minus-plus_right = by_three _ (λ n m l d some. simp one_denominator (ap (λ k. ratio k d) (omega (arith, ints))))
 
 pub minus-minus_same : (a b c : Rational) → minus (minus a c) (minus b c) ≡ minus a b
 minus-minus_same = by_three _ (λ n m l d some. simp one_denominator (ap (λ k. ratio k d) (omega (arith, ints))))
@@ -60,7 +60,7 @@ pub minus-plus_plus : (a b c : Rational) → minus (plus a c) (plus b c) ≡ min
 minus-plus_plus = by_three _ (λ n m l d some. simp one_denominator (ap (λ k. ratio k d) (omega (arith, ints))))
 
 pub minus-interchange : (a b c e : Rational) → minus (plus a b) (plus c e) ≡ plus (minus a c) (minus b e)
-minus-interchange = by_four (λ a b c e. minus (plus a b) (plus c e) ≡ plus (minus a c) (minus b e)) (λ n m l k d some. simp one_denominator (ap (λ z. ratio z d) (omega (arith, ints))))
+minus-interchange = by_four _ (λ n m l k d some. simp one_denominator (ap (λ z. ratio z d) (omega (arith, ints))))
 
 -- ---- cancelling
 

@@ -6,7 +6,8 @@ use Rattle.std.proofs.Math.Bridge.{le_prop}
 use Rattle.std.proofs.lemmas.Int.{unsigned_abs-mul}
 use Rattle.std.specs.Coded.{Coded, Coded-set, code_by, coded×, coded_ℕ, coded_ℤ}
 use mathlib.Core.HLevel.{is_prop→PathP}
-use Rattle.fractions.specs.Integers.{*ℤ_cancel_right, signed, signed-sign, signed-*ℤ, unsigned_abs-signed}
+use Rattle.sums.proofs.ProductLemmas.{*ℤ_cancel_right}
+use Rattle.fractions.specs.Integers.{pos_above, signed, signed-sign, signed-*ℤ, unsigned_abs-signed}
 use Rattle.fractions.specs.Lowest.{IsLowest, gcd, gcd_is, divided, one_lowest}
 use Rattle.fractions.specs.Rationals.{Rational, SameValue, lowest_form, ratio, suc-positive}
 
@@ -30,7 +31,7 @@ sizes n m d e same = sym (unsigned_abs-mul n (pos e)) ∙ ap unsigned_abs same �
 pub same_from_value : (a b : Rational) → SameValue a.num a.den b.num b.den → a ≡ b
 same_from_value a b same =
     let form = one_lowest (unsigned_abs a.num) (unsigned_abs b.num) a.den b.den a.positive b.positive a.lowest b.lowest (sizes a.num b.num a.den b.den same) in
-    same_from_fields a b (*ℤ_cancel_right a.num b.num b.den b.positive (same ∙ ap (λ k. b.num *ℤ pos k) form.1)) form.1
+    same_from_fields a b (*ℤ_cancel_right (pos b.den) a.num b.num (pos_above b.den b.positive) (same ∙ ap (λ k. b.num *ℤ pos k) form.1)) form.1
 
 -- what is divided by g keeps its value
 pub same_divided : (negative : Bool) (a d g size den : ℕ) → a ≡ size * g → d ≡ den * g → SameValue (signed negative size) den (signed negative a) d

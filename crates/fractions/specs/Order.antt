@@ -1,14 +1,15 @@
 -- The order of rationals is total, and its ties are equal.
-use Rattle.std.specs.Prelude.{◌≡◌, ℕ, ℤ, pos, ◌*ℤ◌, ◌<◌, Bool, true, false, ◌&&◌, ◌==◌, refl}
-use Rattle.std.proofs.Common.{◌∙◌, sym, ap}
+use Rattle.std.specs.Prelude.{◌≡◌, ℕ, ℤ, pos, ◌*ℤ◌, ◌<◌, ◌==◌}
+use Rattle.std.proofs.Common.{◌∙◌, sym, ap, subst}
 use Rattle.std.specs.Bool.{Decides}
-use Rattle.std.proofs.lemmas.Bool.Decides.{Decides-eqb, Decides-int_eq, same_from_decides}
+use Rattle.std.proofs.lemmas.Bool.Decides.{Decides-and, Decides-eqb, Decides-int_eq, Decides-like, same_from_decides}
 use Rattle.std.proofs.lemmas.Cmp.{int_cmp_total}
 use Rattle.std.specs.Cmp.{Equal-is, IsTotalOrder, int_cmp_is, int_ranks}
 use Rattle.std.specs.Ordering.{MatchOrdering, int_cmp, int_eq, is_eq}
 use Rattle.std.specs.declared.cmp.Ordering.{Ordering}
 use Rattle.std.specs.declared.cmp.Ordering.TheVariants.{Less, Equal, Greater}
-use Rattle.fractions.specs.Integers.{*ℤ-<ℤ, *ℤ_swap}
+use Rattle.sums.proofs.ProductLemmas.{*ℤ-<ℤ_right, *ℤ_swap}
+use Rattle.fractions.specs.Integers.{pos_above}
 use Rattle.fractions.specs.LowestForms.{same_from_fields, same_from_value}
 use Rattle.fractions.specs.Rationals.{IsBelow, Rational, rational_cmp, rational_eq}
 
@@ -18,10 +19,11 @@ ranked Equal P P' Q Q' R R' f g h m = g m
 ranked Greater P P' Q Q' R R' f g h m = h m
 
 -- a common factor above 0 changes no order
-cmp-scale : (a b : ℤ) (k : ℕ) → 0 < k → int_cmp (a *ℤ pos k) (b *ℤ pos k) ≡ int_cmp a b
+pub cmp-scale : (a b : ℤ) (k : ℕ) → 0 < k → int_cmp (a *ℤ pos k) (b *ℤ pos k) ≡ int_cmp a b
 cmp-scale a b k some =
+    let above = pos_above k some in
     sym (int_cmp_is (a *ℤ pos k) (b *ℤ pos k) (int_cmp a b)
-    (ranked (int_cmp a b) _ _ _ _ _ _ (*ℤ-<ℤ a b k some) (λ e. ap (λ z. z *ℤ pos k) e) (*ℤ-<ℤ b a k some) (int_ranks a b)))
+    (ranked (int_cmp a b) _ _ _ _ _ _ (*ℤ-<ℤ_right (pos k) a b above) (λ e. ap (λ z. z *ℤ pos k) e) (*ℤ-<ℤ_right (pos k) b a above) (int_ranks a b)))
 
 -- how two rationals compare
 pub rational_ranks : (a b : Rational) → MatchOrdering (rational_cmp a b) (IsBelow a b) (a ≡ b) (IsBelow b a)
@@ -30,13 +32,8 @@ rational_ranks a b =
     ranked (rational_cmp a b) _ _ _ _ _ _ (λ h. record { cross = h }) (same_from_value a b) (λ h. record { cross = h })
     (int_ranks (a.num *ℤ pos b.den) (b.num *ℤ pos a.den))
 
-equal_from_ranks : (a b : Rational) (r : Ordering) → r ≡ Equal → MatchOrdering r (IsBelow a b) (a ≡ b) (IsBelow b a) → a ≡ b
-equal_from_ranks a b Less e m = cc e
-equal_from_ranks a b Equal e m = m
-equal_from_ranks a b Greater e m = cc e
-
 pub same_from_cmp : (a b : Rational) → rational_cmp a b ≡ Equal → a ≡ b
-same_from_cmp a b e = equal_from_ranks a b (rational_cmp a b) e (rational_ranks a b)
+same_from_cmp a b e = subst (λ r. MatchOrdering r (IsBelow a b) (a ≡ b) (IsBelow b a)) e (rational_ranks a b)
 
 pub cmp_from_same : (a b : Rational) → a ≡ b → rational_cmp a b ≡ Equal
 unfolding rational_cmp
@@ -59,23 +56,10 @@ rational_cmp_total = record {
         ∙ ap (λ z. int_cmp z (c.num *ℤ pos a.den *ℤ pos b.den)) (*ℤ_swap a.num (pos c.den) (pos b.den))
         ∙ ap (λ z. int_cmp (a.num *ℤ pos b.den *ℤ pos c.den) z) (*ℤ_swap c.num (pos a.den) (pos b.den)) ∙ both
 
-and_true : (a b : Bool) → (a && b) ≡ true → (a ≡ true) × (b ≡ true)
-and_true true b e = (refl, e)
-and_true false b e = cc e
-
 pub Decides-rational_eq : (a b : Rational) → Decides (rational_eq a b) (a ≡ b)
-Decides-rational_eq a b = (to, from)
-  where
-    to : rational_eq a b ≡ true → a ≡ b
-    to e =
-        let parts = and_true (int_eq a.num b.num) (a.den == b.den) e in
-        same_from_fields a b ((Decides-int_eq a.num b.num).0 parts.0) ((Decides-eqb a.den b.den).0 parts.1)
-
-    from : a ≡ b → rational_eq a b ≡ true
-    from same =
-        let num = (Decides-int_eq a.num b.num).1 (ap (λ r. r.num) same) in
-        let den = (Decides-eqb a.den b.den).1 (ap (λ r. r.den) same) in
-        rw (num, den) refl
+Decides-rational_eq a b =
+    Decides-like (rational_eq a b) (λ (num, den). same_from_fields a b num den) (λ same. (ap (λ r. r.num) same, ap (λ r. r.den) same))
+    (Decides-and (int_eq a.num b.num) (a.den == b.den) (Decides-int_eq a.num b.num) (Decides-eqb a.den b.den))
 
 -- a tie is an equality
 pub rational_cmp_ties : (a b : Rational) → rational_eq a b ≡ is_eq (rational_cmp a b)

@@ -110,18 +110,14 @@ impl Frac {
     pub fn plus(&self, other: &Frac) -> Option<Frac>
         ensures { Gives result (plus self.now other.now) }
     {
-        let num = self.cross(other) + other.cross(self);
-        let den = u128::from(self.den()) * u128::from(other.den());
-        Frac::within_limits(LowestTerms::reduced(num, den))
+        self.over_both(other, self.cross(other) + other.cross(self))
     }
 
     /// The difference: none where it is outside the limits.
     pub fn minus(&self, other: &Frac) -> Option<Frac>
         ensures { Gives result (minus self.now other.now) }
     {
-        let num = self.cross(other) - other.cross(self);
-        let den = u128::from(self.den()) * u128::from(other.den());
-        Frac::within_limits(LowestTerms::reduced(num, den))
+        self.over_both(other, self.cross(other) - other.cross(self))
     }
 
     /// The product: none where it is outside the limits.
@@ -172,6 +168,14 @@ impl Frac {
         ensures small { unsigned_abs result ≤ 2 ^ 124 }
     {
         self.num() * i128::from(other.den())
+    }
+
+    /// A numerator over the product of both denominators.
+    fn over_both(&self, other: &Frac, num: i128) -> Option<Frac>
+        ensures { Gives result (ratio num (self.now.den * other.now.den)) }
+    {
+        let den = u128::from(self.den()) * u128::from(other.den());
+        Frac::within_limits(LowestTerms::reduced(num, den))
     }
 
     /// The fraction by its sign and sizes.

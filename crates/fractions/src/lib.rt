@@ -6,7 +6,9 @@
 #![tactic(auto)]
 
 pub use fraction::Frac;
+pub use laws::ratios_are_ranked_by_cross_products;
 
 mod divisor;
 mod fraction;
+mod laws;
 mod terms;
