@@ -4,9 +4,9 @@ ghost use Rattle.stream_case.specs.Stream.{AreStreams};
 ghost use Rattle.curves.specs.Curve.{IsGrandCurve};
 
 use crate::point::Point;
-use problem_table::{deficit_above, stream_ends, targets};
+use problem_table::{deficit_above, targets};
 use std::alloc::{AllocError, Global};
-use stream_case::{Case, Items};
+use stream_case::{Case, Items, stream_ends};
 use sums::falling;
 
 /// The grand composite curve: for each shifted stream end, falling and each once, the hot

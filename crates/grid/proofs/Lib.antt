@@ -1,5 +1,5 @@
-pub mod MakingLemmas
-pub mod CaseLemmas
-pub mod SizeLemmas
 pub mod HeatLemmas
+pub mod MakingLemmas
 pub mod PlaceLemmas
+pub mod RunLemmas
+pub mod SizeLemmas

@@ -2,4 +2,3 @@ pub mod Bounds
 pub mod Grid
 pub mod Making
 pub mod Part
-pub mod Utilities

@@ -2,7 +2,8 @@
 //!
 //! The shifted stream ends and utility levels cut the shifted scale into intervals. On each
 //! interval inside its range a stream gives or takes a fixed heat; a utility does so at its
-//! level. These are the parts between which heat passes.
+//! level. These are the parts between which heat passes. Streams and utilities have parts on any
+//! places that hold their ends and levels; the grid of a case has no others.
 #![tactic(auto)]
 
 mod making;
@@ -10,7 +11,7 @@ mod part;
 mod parts;
 mod places;
 
-pub use making::parts_of;
+pub use making::{parts_of, parts_on};
 pub use part::Part;
 pub use parts::Parts;
-pub use places::{Grid, grid_of};
+pub use places::{Grid, grid_of, places_of};

@@ -1,24 +1,26 @@
-//! The parts of a case on its grid.
-ghost use Rattle.std.specs.Prelude.{◌≡◌, pos, ◌*ℤ◌, ◌-ℤ◌, ◌^◌, ◌<◌, ◌++◌, length, All, IfOk, OnOk};
+//! The parts of streams and utilities, and of a case on its grid.
+ghost use Rattle.std.specs.Prelude.{◌≡◌, ◌≤◌, ◌≤ℤ◌, ◌<ℤ◌, ◌^◌, ◌<◌, ◌++◌, length, All, AllPairs, IfOk, OnOk};
+ghost use Rattle.stream_case.specs.declared.limits.TheConstants.{ALL_UTILITIES, MOST_PLACES};
 ghost use Rattle.stream_case.specs.declared.source.Side.TheVariants.{Hot, Cold};
-ghost use Rattle.stream_case.specs.Case.{IsBetween, IsComplete, IsValidStream};
-ghost use Rattle.grid.specs.Grid.{IsGrid};
-ghost use Rattle.grid.specs.Part.{AreParts};
-ghost use Rattle.grid.specs.Making.{picked, is_here, covers, utility_part, stream_part, made_parts};
-ghost use Rattle.grid.specs.Utilities.{IsPlaced};
+ghost use Rattle.stream_case.specs.Case.{IsComplete};
+ghost use Rattle.stream_case.specs.Stream.{high_end, low_end, AreStreams, IsValidStream};
+ghost use Rattle.stream_case.specs.Utility.{IsPlaced};
+ghost use Rattle.grid.specs.Grid.{HoldsPlaces, IsGrid};
+ghost use Rattle.grid.specs.Part.{stream_part, utility_part, AreParts};
+ghost use Rattle.grid.specs.Making.{picked, is_here, covers, made_parts};
 
 use crate::part::Part;
 use crate::parts::Parts;
-use crate::places::{Grid, shifted_level};
+use crate::places::Grid;
 use std::alloc::{AllocError, Global};
 use stream_case::{Case, Items, Side, Source, Stream, Utility};
 
-/// Whether a utility is of this side and at this place of the shifted scale.
+/// Whether a utility is of this side and at this place.
 fn is_here(utility: &Utility, side: Side, place: i32) -> bool
     requires { IsPlaced utility.now }
     ensures { result ≡ is_here side place utility.now }
 {
-    utility.side == side && shifted_level(utility) == place
+    utility.side == side && utility.shifted_level() == place
 }
 
 /// Whether a stream is of this side and its range holds the interval.
@@ -30,13 +32,13 @@ fn covers(stream: &Stream, side: Side, high: i32, low: i32) -> bool
 }
 
 /// The part of a utility, at its level.
-fn utility_part(number: u32, utility: &Utility) -> Part
+fn utility_part(index: u32, utility: &Utility) -> Part
     requires { IsPlaced utility.now }
-    ensures { result ≡ utility_part number utility.now }
+    ensures { result ≡ utility_part index utility.now }
 {
-    let level = shifted_level(utility);
+    let level = utility.shifted_level();
     Part {
-        source: Source::Utility(number),
+        source: Source::Utility(index),
         side: utility.side,
         high: level,
         low: level,
@@ -46,22 +48,17 @@ fn utility_part(number: u32, utility: &Utility) -> Part
     }
 }
 
-/// The heat of a stream of this heat-capacity flow between two shifted temperatures, in W.
-fn heat_between(cp: i64, high: i32, low: i32) -> i64
-    requires { IsBetween (pos 1) (pos 100000) cp }
-    ensures { result ≡ cp *ℤ (high -ℤ low) }
+/// The part of a stream on an interval inside its range.
+fn stream_part(index: u32, stream: &Stream, high: i32, low: i32) -> Part
+    requires valid { IsValidStream stream.now }
+    requires order { low ≤ℤ high }
+    requires from { low_end stream.now ≤ℤ low }
+    requires upto { high ≤ℤ high_end stream.now }
+    ensures { result ≡ stream_part high low index stream.now }
 {
-    cp * (i64::from(high) - i64::from(low))
-}
-
-/// The part of a stream on an interval.
-fn stream_part(number: u32, stream: &Stream, high: i32, low: i32) -> Part
-    requires { IsValidStream stream.now }
-    ensures { result ≡ stream_part high low number stream.now }
-{
-    let heat = heat_between(stream.cp, high, low);
+    let heat = stream.heat_between(high, low);
     Part {
-        source: Source::Stream(number),
+        source: Source::Stream(index),
         side: stream.side,
         high,
         low,
@@ -82,9 +79,9 @@ fn push_utilities(
     requires few { length utilities.now < 2 ^ 32 }
     ensures { OnOk result (parts.new.items ≡ parts.old.items ++ picked (is_here side place) utility_part 0 utilities.now) }
 {
-    for (number, utility) in utilities.iter().enumerate() {
+    for (index, utility) in utilities.iter().enumerate() {
         if is_here(utility, side, place) {
-            parts.push(utility_part(number as u32, utility))?;
+            parts.push(utility_part(index as u32, utility))?;
         }
     }
     Ok(())
@@ -100,11 +97,12 @@ fn push_streams(
 ) -> Result<(), AllocError>
     requires valid { All IsValidStream streams.now }
     requires few { length streams.now < 2 ^ 32 }
+    requires order { low ≤ℤ high }
     ensures { OnOk result (parts.new.items ≡ parts.old.items ++ picked (covers side high low) (stream_part high low) 0 streams.now) }
 {
-    for (number, stream) in streams.iter().enumerate() {
+    for (index, stream) in streams.iter().enumerate() {
         if covers(stream, side, high, low) {
-            parts.push(stream_part(number as u32, stream, high, low))?;
+            parts.push(stream_part(index as u32, stream, high, low))?;
         }
     }
     Ok(())
@@ -113,43 +111,62 @@ fn push_streams(
 /// The parts of one side.
 fn side_parts(
     alloc: Global,
-    case: &Case,
+    streams: &[Stream],
+    utilities: &[Utility],
     places: &[i32],
     side: Side,
 ) -> Result<Vec<Part>, AllocError>
-    requires { IsComplete case.now }
-    ensures { IfOk result (λ parts. parts.items ≡ made_parts case.now side places.now) }
+    requires streams { AreStreams streams.now }
+    requires utilities { All IsPlaced utilities.now }
+    requires few_utilities { length utilities.now ≤ ALL_UTILITIES }
+    requires falls { AllPairs (λ a b. b <ℤ a) places.now }
+    ensures { IfOk result (λ parts. parts.items ≡ made_parts streams.now utilities.now side places.now) }
 {
     let mut parts = Vec::new(alloc);
     for (index, place) in places.iter().enumerate() {
-        push_utilities(&mut parts, case.utilities.as_slice(), side, *place)?;
+        push_utilities(&mut parts, utilities, side, *place)?;
         if index + 1 < places.len() {
-            push_streams(
-                &mut parts,
-                case.streams.as_slice(),
-                side,
-                *place,
-                places[index + 1],
-            )?;
+            push_streams(&mut parts, streams, side, *place, places[index + 1])?;
         }
     }
     Ok(parts)
 }
 
-/// The parts of a case on its grid. A stream has a part on each interval inside its range, with
-/// its heat there as least and most; a utility has one part at its level, with its own range
-/// and price. Each side goes by falling high, then by falling low, then streams before
-/// utilities in the order of the case (this project's own order).
-pub fn parts_of(alloc: Global, case: &Case, grid: &Grid) -> Result<Parts, AllocError>
-    requires complete { IsComplete case.now }
-    requires grid { IsGrid case.now grid.now.places }
-    ensures hot { IfOk result (λ parts. AreParts case.now grid.now.places Hot parts.hot) }
-    ensures cold { IfOk result (λ parts. AreParts case.now grid.now.places Cold parts.cold) }
+/// The parts of streams and utilities on strictly falling places, in tenths of °C on the shifted
+/// scale, that hold all shifted stream ends and utility levels. A stream has a part on each
+/// interval inside its range, with its heat there as least and most; a utility has one part at
+/// its level, with its own range and price. Each side goes by falling high, then by falling low,
+/// then streams before utilities in their order (this project's own order).
+pub fn parts_on(
+    alloc: Global,
+    streams: &[Stream],
+    utilities: &[Utility],
+    places: &[i32],
+) -> Result<Parts, AllocError>
+    requires streams { AreStreams streams.now }
+    requires utilities { All IsPlaced utilities.now }
+    requires few_utilities { length utilities.now ≤ ALL_UTILITIES }
+    requires places { HoldsPlaces streams.now utilities.now places.now }
+    requires few_places { length places.now ≤ MOST_PLACES }
+    ensures hot { IfOk result (λ parts. AreParts streams.now utilities.now places.now Hot parts.hot) }
+    ensures cold { IfOk result (λ parts. AreParts streams.now utilities.now places.now Cold parts.cold) }
 {
-    let hot = side_parts(alloc, case, grid.places.as_slice(), Side::Hot)?;
-    let cold = side_parts(alloc, case, grid.places.as_slice(), Side::Cold)?;
+    let hot = side_parts(alloc, streams, utilities, places, Side::Hot)?;
+    let cold = side_parts(alloc, streams, utilities, places, Side::Cold)?;
     Ok(Parts {
         hot: Items::from_vec(hot),
         cold: Items::from_vec(cold),
     })
+}
+
+/// The parts of a case on its grid: `parts_on` of its streams and utilities.
+pub fn parts_of(alloc: Global, case: &Case, grid: &Grid) -> Result<Parts, AllocError>
+    requires complete { IsComplete case.now }
+    requires grid { IsGrid case.now grid.now.places }
+    ensures hot { IfOk result (λ parts. AreParts case.now.streams case.now.utilities grid.now.places Hot parts.hot) }
+    ensures cold { IfOk result (λ parts. AreParts case.now.streams case.now.utilities grid.now.places Cold parts.cold) }
+{
+    let streams = case.streams.as_slice();
+    let utilities = case.utilities.as_slice();
+    parts_on(alloc, streams, utilities, grid.places.as_slice())
 }

@@ -1,9 +1,9 @@
-//! A part of a case.
+//! A part.
 
 use stream_case::{Side, Source};
 
-/// A stream on one interval of the grid, or a utility at its level (this project's own unit,
-/// after the intervals of Linnhoff and Flower 1978).
+/// A stream on one interval between two places, or a utility at its level (this project's own
+/// unit, after the intervals of Linnhoff and Flower 1978).
 #[derive(Clone, Copy, Debug, PartialEq, Eq)]
 pub struct Part {
     pub source: Source,

@@ -1,12 +1,12 @@
-//! The grid of a case.
+//! The places of streams and utilities, and the grid of a case.
 ghost use Rattle.std.specs.Prelude.{◌≡◌, ◌++◌, map, All, IfOk, OnOk};
-ghost use Rattle.stream_case.specs.Case.{IsComplete, IsValidStream};
-ghost use Rattle.stream_case.specs.Stream.{stream_ends};
-ghost use Rattle.grid.specs.Grid.{IsGrid, shifted_level};
-ghost use Rattle.grid.specs.Utilities.{IsPlaced};
+ghost use Rattle.stream_case.specs.Case.{IsComplete};
+ghost use Rattle.stream_case.specs.Stream.{IsValidStream};
+ghost use Rattle.stream_case.specs.Utility.{shifted_level, IsPlaced};
+ghost use Rattle.grid.specs.Grid.{places_of, IsGrid};
 
 use std::alloc::{AllocError, Global};
-use stream_case::{Case, Items, Stream, Utility, shifted};
+use stream_case::{Case, Items, Stream, Utility, stream_ends};
 use sums::falling;
 
 /// The places of a grid on the shifted scale, in tenths of °C, from the highest down.
@@ -15,35 +15,31 @@ pub struct Grid {
     pub places: Items<i32>,
 }
 
-/// The level of a utility on the shifted scale, in tenths of °C.
-pub(crate) fn shifted_level(utility: &Utility) -> i32
-    requires { IsPlaced utility.now }
-    ensures { result ≡ shifted_level utility.now }
-{
-    shifted(utility.side, utility.level, utility.contribution)
-}
-
-/// Appends the shifted stream ends.
-fn push_ends(places: &mut Vec<i32>, streams: &[Stream]) -> Result<(), AllocError>
-    requires { All IsValidStream streams.now }
-    ensures { OnOk result (places.new.items ≡ places.old.items ++ stream_ends streams.now) }
-{
-    for stream in streams {
-        places.push(stream.high_end())?;
-        places.push(stream.low_end())?;
-    }
-    Ok(())
-}
-
 /// Appends the shifted utility levels.
 fn push_levels(places: &mut Vec<i32>, utilities: &[Utility]) -> Result<(), AllocError>
     requires { All IsPlaced utilities.now }
     ensures { OnOk result (places.new.items ≡ places.old.items ++ map shifted_level utilities.now) }
 {
     for utility in utilities {
-        places.push(shifted_level(utility))?;
+        places.push(utility.shifted_level())?;
     }
     Ok(())
+}
+
+/// The shifted ends of streams and the shifted levels of utilities, in tenths of °C and in their
+/// order.
+pub fn places_of(
+    alloc: Global,
+    streams: &[Stream],
+    utilities: &[Utility],
+) -> Result<Vec<i32>, AllocError>
+    requires streams { All IsValidStream streams.now }
+    requires utilities { All IsPlaced utilities.now }
+    ensures { IfOk result (λ places. places.items ≡ places_of streams.now utilities.now) }
+{
+    let mut places = stream_ends(alloc, streams)?;
+    push_levels(&mut places, utilities)?;
+    Ok(places)
 }
 
 /// The grid of a case: its shifted stream ends and utility levels, each once (the interval
@@ -52,9 +48,7 @@ pub fn grid_of(alloc: Global, case: &Case) -> Result<Grid, AllocError>
     requires { IsComplete case.now }
     ensures { IfOk result (λ grid. IsGrid case.now grid.places) }
 {
-    let mut places = Vec::new(alloc);
-    push_ends(&mut places, case.streams.as_slice())?;
-    push_levels(&mut places, case.utilities.as_slice())?;
+    let places = places_of(alloc, case.streams.as_slice(), case.utilities.as_slice())?;
     Ok(Grid {
         places: Items::from_vec(falling(places)),
     })

@@ -3,13 +3,11 @@
 #![tactic(auto)]
 
 mod deficit;
-mod ends;
 mod pinch;
 mod reference;
 mod target;
 
 pub use deficit::{deficit_above, deficit_of};
-pub use ends::stream_ends;
 pub use pinch::{pinches, pinches_of};
 pub use reference::{reference_place, reference_place_of};
 pub use target::{Target, targets, targets_of};

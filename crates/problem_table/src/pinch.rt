@@ -4,10 +4,9 @@ ghost use Rattle.stream_case.specs.Stream.{stream_ends, AreStreams};
 ghost use Rattle.sums.specs.Order.{ListsFalling};
 ghost use Rattle.problem_table.specs.Deficit.{hot_target, IsInside, IsPinch};
 
-use crate::ends::stream_ends;
 use crate::target::{hot_target, is_tight};
 use std::alloc::{AllocError, Global};
-use stream_case::{Case, Items, Stream};
+use stream_case::{Case, Items, Stream, stream_ends};
 use sums::falling;
 
 /// The pinches of the streams of a case: `pinches_of` of these.

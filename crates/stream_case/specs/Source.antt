@@ -25,6 +25,10 @@ abbrev pub is_right_way : Side → ℤ → ℤ → Bool
 is_right_way Hot supply target = int_lt target supply
 is_right_way Cold supply target = int_lt supply target
 
+abbrev pub is_stream : Source → Bool
+is_stream (of_stream i) = true
+is_stream (of_utility i) = false
+
 -- both are a stream, or both a utility, with one number
 abbrev pub same_source : Source → Source → Bool
 same_source (of_stream i) (of_stream j) = i == j

@@ -7,6 +7,7 @@
 mod case;
 mod completion;
 mod digits;
+mod ends;
 mod items;
 mod limits;
 mod name;
@@ -18,6 +19,7 @@ mod validity;
 pub use case::{Case, Forbid};
 pub use completion::{complete, is_complete, is_standard};
 pub use digits::natural_of;
+pub use ends::stream_ends;
 pub use items::Items;
 pub use limits::{
     ALL_STREAMS, ALL_STREAMS_HEAT, ALL_UTILITIES, HIGHEST_LEVEL, HIGHEST_SHIFTED,

@@ -1,27 +1,18 @@
-use Rattle.std.proofs.Common.{◌≡◌, ◌∙◌, sym, ap, subst}
-use Rattle.stream_case.specs.declared.source.Side.TheVariants.{Hot, Cold}
-use Rattle.grid.specs.Making.{made_parts}
-use Rattle.grid.specs.Part.{AreParts}
-use Rattle.grid.proofs.MakingLemmas.{made_parts-AreParts}
-use Rattle.grid.proofs.SizeLemmas.{few_parts, bounded_parts}
+-- The grid of a completed case holds its places, and they are few.
+use Rattle.std.proofs.Common.{subst, sym}
+use Rattle.std.specs.Prelude.{All}
+use Rattle.stream_case.specs.Utility.{IsPlaced}
+use Rattle.stream_case.proofs.CompleteLemmas.{IsPlaced-IsComplete}
+use Rattle.grid.proofs.MakingLemmas.{HoldsPlaces-IsGrid}
+use Rattle.grid.proofs.SizeLemmas.{length-grid}
 use Rattle.grid.proofs.making.parts_of.Goals as goal
 
-hot_made : (c : goal.After-from_vec-2) → c.from_vec.result ≡ made_parts c.args.case.now Hot c.args.grid.now.places
-hot_made c = c.from_vec.ensures ∙ c.in_ok-hot.ensures ∙ ap (made_parts c.args.case.now Hot) c.as_slice.ensures
+pub parts_on-requires-clause-utilities : goal.parts_on-requires-clause-utilities
+parts_on-requires-clause-utilities c = subst (All IsPlaced) (sym c.as_slice-utilities.ensures) (IsPlaced-IsComplete c.args.case.now c.requires.complete)
 
-cold_made : (c : goal.After-from_vec-2) → c.from_vec-2.result ≡ made_parts c.args.case.now Cold c.args.grid.now.places
-cold_made c = c.from_vec-2.ensures ∙ c.in_ok-cold.ensures ∙ ap (made_parts c.args.case.now Cold) c.as_slice-2.ensures
+pub parts_on-requires-clause-places : goal.parts_on-requires-clause-places
+parts_on-requires-clause-places c =
+    rw (c.as_slice-streams.ensures, c.as_slice-utilities.ensures, c.as_slice.ensures) (HoldsPlaces-IsGrid c.args.case.now c.args.grid.now.places c.requires.grid)
 
-pub invariant_of-result : goal.invariant_of-result
-invariant_of-result c = record {
-  few_hot = few_parts c.args.case.now c.args.grid.now.places Hot c.from_vec.result c.requires.complete c.requires.grid (hot_made c);
-  few_cold = few_parts c.args.case.now c.args.grid.now.places Cold c.from_vec-2.result c.requires.complete c.requires.grid (cold_made c);
-  hot_bounded = bounded_parts c.args.case.now c.args.grid.now.places Hot c.from_vec.result c.requires.complete c.requires.grid (hot_made c);
-  cold_bounded = bounded_parts c.args.case.now c.args.grid.now.places Cold c.from_vec-2.result c.requires.complete c.requires.grid (cold_made c);
-}
-
-pub returns-clause-hot : goal.returns-clause-hot
-returns-clause-hot c = subst (AreParts c.args.case.now c.args.grid.now.places Hot) (sym (hot_made c.before)) (made_parts-AreParts c.args.case.now Hot c.args.grid.now.places c.requires.grid)
-
-pub returns-clause-cold : goal.returns-clause-cold
-returns-clause-cold c = subst (AreParts c.args.case.now c.args.grid.now.places Cold) (sym (cold_made c.before)) (made_parts-AreParts c.args.case.now Cold c.args.grid.now.places c.requires.grid)
+pub parts_on-requires-clause-few_places : goal.parts_on-requires-clause-few_places
+parts_on-requires-clause-few_places c = rw c.as_slice.ensures (length-grid c.args.case.now c.args.grid.now.places c.requires.complete c.requires.grid)

@@ -1,6 +1,7 @@
 use Rattle.std.proofs.Common.{◌≡◌, ◌++◌, take}
-use Rattle.grid.specs.Making.{picked, is_here, utility_part}
+use Rattle.grid.specs.Making.{picked, is_here}
+use Rattle.grid.specs.Part.{utility_part}
 use Rattle.grid.proofs.making.push_utilities.Given as goal
 
-abbrev pub invariant-loop-number : goal.invariant-loop-number
-invariant-loop-number l = l.parts.items ≡ l.initial.parts.items ++ picked (is_here l.side l.place) utility_part 0 (take l.number l.utilities)
+abbrev pub invariant-loop-index : goal.invariant-loop-index
+invariant-loop-index l = l.parts.items ≡ l.initial.parts.items ++ picked (is_here l.side l.place) utility_part 0 (take l.index l.utilities)

@@ -3,4 +3,4 @@ use Rattle.grid.specs.Making.{made_parts}
 use Rattle.grid.proofs.making.side_parts.Given as goal
 
 abbrev pub invariant-loop-index : goal.invariant-loop-index
-invariant-loop-index l = l.parts.items ++ made_parts l.case l.side (drop l.index l.places) ≡ made_parts l.case l.side l.places
+invariant-loop-index l = l.parts.items ++ made_parts l.streams l.utilities l.side (drop l.index l.places) ≡ made_parts l.streams l.utilities l.side l.places

@@ -1,5 +1,5 @@
 use Rattle.std.proofs.Common.{◌≡◌, ◌++◌, take, map}
-use Rattle.grid.specs.Grid.{shifted_level}
+use Rattle.stream_case.specs.Utility.{shifted_level}
 use Rattle.grid.proofs.places.push_levels.Given as goal
 
 abbrev pub invariant-loop-utility : goal.invariant-loop-utility

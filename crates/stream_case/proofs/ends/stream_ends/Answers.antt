@@ -2,7 +2,7 @@
 use Rattle.std.proofs.Common.{[], ◌∷◌, append_assoc, ◌∙◌, w32, FitsSigned, rules}
 use Rattle.std.proofs.lemmas.Int.{to_z-of_z}
 use Rattle.stream_case.proofs.EndLemmas.{stream_ends-more}
-use Rattle.problem_table.proofs.ends.stream_ends.Goals as goal
+use Rattle.stream_case.proofs.ends.stream_ends.Goals as goal
 
 pub loop-stream-preserved : goal.loop-stream-preserved
 loop-stream-preserved c =

@@ -2,8 +2,8 @@
 ghost use Rattle.std.specs.Prelude.{◌≡◌, All, IfOk};
 ghost use Rattle.stream_case.specs.Stream.{stream_ends, IsValidStream};
 
+use crate::stream::Stream;
 use std::alloc::{AllocError, Global};
-use stream_case::Stream;
 
 /// The shifted stream ends, in tenths of °C: for each stream, in order, the high end and then
 /// the low end.
