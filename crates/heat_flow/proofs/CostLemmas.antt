@@ -54,7 +54,7 @@ heats_within hot cold ts bounded h k d within =
     let sum = int_sum_by-term (λ u. if part_index Hot u == t.hot then u.heat else pos 0) ts k d (heats_at-not_negative Hot ts t.hot h.positive) within in
     let own : (if t.hot == t.hot then t.heat else pos 0) ≡ t.heat = ap (λ b. if b then t.heat else pos 0) (eq-eqb t.hot t.hot refl) in
     let limit = h.most t.hot (get_or hot t.hot blank) (slice_get-get_or hot t.hot blank row) in
-    let bound = (bounded t.hot blank row).most in
+    let bound = (bounded t.hot blank row).most.upto in
     record { from = omega (arith, ints); upto = omega (arith, ints) }
 
 -- a heat flow has a cost

@@ -41,11 +41,11 @@ least_product-is_least c low high order =
 
 -- ---- what a side costs and what it is worth
 
-excess_price-*ℤ : (side : Side) (price y s : ℤ) → excess_price side price y *ℤ s ≡ excess_price side (price *ℤ s) (y *ℤ s)
+pub excess_price-*ℤ : (side : Side) (price y s : ℤ) → excess_price side price y *ℤ s ≡ excess_price side (price *ℤ s) (y *ℤ s)
 excess_price-*ℤ Hot price y s = -ℤ-*ℤ price y s
 excess_price-*ℤ Cold price z s = +ℤ-*ℤ price z s
 
-int_sum_from-excess : (side : Side) (f g : ℕ → Part → ℤ) (parts : List Part) → int_sum_from (λ a p. excess_price side (f a p) (g a p)) 0 parts ≡ excess_price side (int_sum_from f 0 parts) (int_sum_from g 0 parts)
+pub int_sum_from-excess : (side : Side) (f g : ℕ → Part → ℤ) (parts : List Part) → int_sum_from (λ a p. excess_price side (f a p) (g a p)) 0 parts ≡ excess_price side (int_sum_from f 0 parts) (int_sum_from g 0 parts)
 int_sum_from-excess Hot f g parts = int_sum_from-sub f g 0 parts
 int_sum_from-excess Cold f g parts = int_sum_from-add f g 0 parts
 

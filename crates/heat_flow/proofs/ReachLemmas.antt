@@ -54,9 +54,9 @@ cell_rows-reach c hot cold a b =
 
 -- ---- the sources of a case's parts
 
-source_of_part : (c : Case) (grid : List ℤ) (side : Side) (p : Part) → IsPartOf c grid side p → IsSourceOf c p.source
-source_of_part c grid side p (inl (i, s, h)) = subst (IsSourceOf c) (sym h.source) (slice_get_within c.streams i s h.stream)
-source_of_part c grid side p (inr (i, u, h)) = subst (IsSourceOf c) (sym h.source) (slice_get_within c.utilities i u h.utility)
+source_of_part : (c : Case) (grid : List ℤ) (side : Side) (p : Part) → IsPartOf c.streams c.utilities grid side p → IsSourceOf c p.source
+source_of_part c grid side p (inl (i, s, h)) = subst (λ q. IsSourceOf c q.source) (sym h.is) (slice_get_within c.streams i s h.stream)
+source_of_part c grid side p (inr (i, u, h)) = subst (λ q. IsSourceOf c q.source) (sym h.is) (slice_get_within c.utilities i u h.utility)
 
-pub sources_of_parts : (c : Case) (grid : List ℤ) (side : Side) (parts : List Part) → AreParts c grid side parts → All (λ p. IsSourceOf c p.source) parts
-sources_of_parts c grid side parts h = All-weaker (IsPartOf c grid side) (λ p. IsSourceOf c p.source) (source_of_part c grid side) parts h.each
+pub sources_of_parts : (c : Case) (grid : List ℤ) (side : Side) (parts : List Part) → AreParts c.streams c.utilities grid side parts → All (λ p. IsSourceOf c p.source) parts
+sources_of_parts c grid side parts h = All-weaker (IsPartOf c.streams c.utilities grid side) (λ p. IsSourceOf c p.source) (source_of_part c grid side) parts h.each
