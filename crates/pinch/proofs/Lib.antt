@@ -1,4 +1,5 @@
 mod Causes
 mod Complete
-mod Corner
 mod Early
+mod Grammars
+mod Plain

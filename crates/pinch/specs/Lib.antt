@@ -1,7 +1,9 @@
 pub mod Answers
+pub mod Case
 pub mod Causes
 pub mod Command
 pub mod Complete
 pub mod Flow
-pub mod FromFile
+pub mod FromText
 pub mod Status
+pub mod Stop

@@ -18,6 +18,7 @@ mod word;
 pub use command::Command;
 use pinch_outside::{FileShelf, OutSink};
 pub use program::{Done, run};
+pub use status::Status;
 use std::alloc::{AllocError, Global};
 use std::env::{self, Args};
 use std::io::ErrorKind;
@@ -28,7 +29,7 @@ pub use word::Word;
 
 fn main(rt: HostRuntime) -> ExitCode {
     let Ok(words) = collect_words(&rt) else {
-        return ExitCode::from(8);
+        return ExitCode::from(Status::OutOfMemory.number());
     };
     let mut shelf = FileShelf::new(&rt);
     let mut sink = OutSink::new(&rt);
