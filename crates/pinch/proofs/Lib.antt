@@ -1,5 +1,6 @@
 mod Causes
 mod Complete
 mod Early
+mod Ends
 mod Grammars
 mod Plain

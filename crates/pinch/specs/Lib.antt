@@ -1,4 +1,5 @@
 pub mod Answers
+pub mod Arguments
 pub mod Case
 pub mod Causes
 pub mod Command
