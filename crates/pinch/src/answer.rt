@@ -47,11 +47,7 @@ pub fn answer<S: Shelf>(alloc: Global, words: &Items<Word>, shelf: &mut S) -> Re
 }
 
 #[tactic(auto, unfolding(crate::specs::Answers::ShowsCommand))]
-fn answer_command<S: Shelf>(
-    alloc: Global,
-    shelf: &mut S,
-    command: &Command,
-) -> Result<Shown, Stop>
+fn answer_command<S: Shelf>(alloc: Global, shelf: &mut S, command: &Command) -> Result<Shown, Stop>
     ensures { IfShown result (ShowsCommand (Some command.now) (S.state shelf.old) (S.state shelf.new)) }
 {
     match command {

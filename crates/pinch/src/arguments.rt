@@ -39,7 +39,7 @@ pub fn run_arguments<R: Threads + Sync, S: Shelf, K: Sink>(
 }
 
 /// The words behind the program's name, or none where an argument is no text.
-fn collect_words(alloc: Global, texts: io::Result<Args>) -> Result<Items<Word>, AllocError>
+pub fn collect_words(alloc: Global, texts: io::Result<Args>) -> Result<Items<Word>, AllocError>
     ensures words { IfOk result (λ words. words ≡ words_of texts) }
     ensures memory { OnOk result (IfErr texts (λ error. error_kind error ≢ ErrorKind.OutOfMemory)) }
 {

@@ -27,11 +27,7 @@ pub fn read_command(alloc: Global, words: &Items<Word>) -> Result<Option<Command
     }
 }
 
-fn command_of_word(
-    alloc: Global,
-    word: &str,
-    rest: &[Word],
-) -> Result<Option<Command>, AllocError>
+fn command_of_word(alloc: Global, word: &str, rest: &[Word]) -> Result<Option<Command>, AllocError>
     ensures { IfOk result (λ command. command ≡ command_of_word word.now rest.now) }
 {
     match word {

@@ -61,7 +61,7 @@ pub fn run<R: Threads + Sync, S: Shelf, K: Sink>(
         → ¬ Rose (S.state shelf.old).faults (S.state shelf.new).faults
         → ¬ Rose (K.faults sink.old) (K.faults sink.new)
         → IfSome result.shown (λ shown. (result.status ≡ number_of (status_of shown))
-            × IsAnswered (status_of shown)) }
+        × IsAnswered (status_of shown)) }
 
     // A file that its grammar refuses is told to be refused, with the place and the cause.
     ensures refused { (refusal : Shown)
