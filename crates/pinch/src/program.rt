@@ -63,7 +63,7 @@ pub fn run<R: Threads + Sync, S: Shelf, K: Sink>(
         → IfSome result.shown (λ shown. (result.status ≡ number_of (status_of shown))
         × IsAnswered (status_of shown)) }
 
-    // A file that its grammar refuses is told to be refused, with the place and the cause.
+    // A file that its grammar refuses is told to be refused, with where and why.
     ensures refused { (refusal : Shown)
         → HasBadFile (command_of words.now) (S.state shelf.old).files refusal
         → ¬ Rose (S.state shelf.old).faults (S.state shelf.new).faults

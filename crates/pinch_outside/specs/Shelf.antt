@@ -60,10 +60,10 @@ abbrev pub put_count : {E : Type 0} → Result ℕ E → ℕ
 put_count (Ok n) = n
 put_count (Err e) = 0
 
--- a take into so many places met the end of the file
+-- a take into room for so many bytes met the end of the file
 abbrev pub met_end : {E : Type 0} → Result ℕ E → ℕ → Bool
-met_end (Ok n) places = nat_eq n 0 && nat_lt 0 places
-met_end (Err e) places = false
+met_end (Ok n) room = nat_eq n 0 && nat_lt 0 room
+met_end (Err e) room = false
 
 -- into a buffer with room no byte is put exactly where none was to come, where the bytes to come are told
 abbrev pub PutsNoneAtEnd : {E : Type 0} → Option (List ℕ) → Result ℕ E → List ℕ → Type 0

@@ -2,7 +2,7 @@
 ghost use Rattle.std.specs.Prelude.{◌≡◌, ◌+◌, ◌-◌, ◌^◌, ◌≤◌, ◌↔◌, true, length, IfOk, IsErrOf};
 ghost use Rattle.pinch_outside.specs.Shelf.{ShelfState, IsToldTogether, Starts, Takes, KeepsFiles, file_limit, IsWhole, IsTooLong, HasFailed};
 
-use std::alloc::{AllocError, Global};
+use std::alloc::Global;
 
 /// A start or a take was refused.
 #[derive(Clone, Copy, Debug, PartialEq, Eq)]
@@ -55,17 +55,6 @@ impl From<ShelfFault> for TakeFault {
     }
 }
 
-impl From<AllocError> for TakeFault {
-    ghost use Rattle.std.specs.Prelude.{◌≡◌};
-    ghost use Rattle.pinch_outside.specs.declared.shelf.TakeFault.TheVariants.{OutOfMemory};
-
-    ghost from_gives = { λ _ fault. fault ≡ OutOfMemory };
-
-    fn from(_: AllocError) -> Self {
-        TakeFault::OutOfMemory
-    }
-}
-
 /// Starts a file and takes it to its end. It answers `Long` exactly where one byte above the limit was taken, and
 /// `Fault` only where the shelf counted a fault at this file.
 pub fn take_all<S: Shelf>(alloc: Global, shelf: &mut S, name: &str) -> Result<Vec<u8>, TakeFault>
@@ -91,7 +80,9 @@ pub fn take_all<S: Shelf>(alloc: Global, shelf: &mut S, name: &str) -> Result<Ve
         if bytes.len() + count > MAX_FILE {
             return Err(TakeFault::Long);
         }
-        bytes.extend_from_slice(&piece[..count])?;
+        bytes
+            .extend_from_slice(&piece[..count])
+            .map_err(|_| TakeFault::OutOfMemory)?;
     }
 }
 

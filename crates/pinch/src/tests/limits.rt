@@ -2,9 +2,6 @@ use super::support::{FOUR_STREAM, FOUR_STREAM_TARGETS, answer_of, check_answer};
 use std::alloc::{AllocError, Global};
 use std::test::Fail;
 
-/// The most streams of a side.
-const STREAMS: i32 = 12;
-
 /// The most utilities of a file.
 const UTILITIES: &str = "heater,S1,30000,0,1000000000000,3,
 heater,S2,25000,0,1000000000000,2,
@@ -17,12 +14,12 @@ cooler,W3,2000,0,1000000000000,-2,
 /// So many hot streams and so many cold ones as a file may have, no two of which share an end.
 fn largest_case(alloc: Global, more: &str) -> Result<String, AllocError> {
     let mut case = String::from_str(alloc, "contribution,,50,,,,\n")?;
-    for k in 0..STREAMS {
+    for k in 0..12u32 {
         let supply = 30_000 - 100 * k;
         let target = 5 + 100 * k;
         let cp = 100_000 - 7 * k;
         case.push_str(&format!(in alloc; "hot,H{k},{supply},{target},{cp},,\n")?)?;
-        let supply = -2731 + 100 * k;
+        let supply = 19 + 100 * k;
         let target = 29_903 - 100 * k;
         let cp = 90_000 + 5 * k;
         case.push_str(&format!(in alloc; "cold,C{k},{supply},{target},{cp},,\n")?)?;
