@@ -36,7 +36,7 @@ fn line_count(text: &[u8]) -> usize {
 #[test]
 fn the_largest_case_is_answered(rt: HostRuntime) -> Result<(), Fail> {
     let alloc = rt.alloc();
-    let targets = "hot 270000\ncold 594137490\npinch 29950\n";
+    let targets = "hot 270000\ncold 3565044990\npinch 29950\n";
     let rows = [
         ("targets", UTILITIES, 3, targets),
         ("targets", "", 3, targets),
@@ -48,7 +48,7 @@ fn the_largest_case_is_answered(rt: HostRuntime) -> Result<(), Fail> {
             "flow",
             "",
             1157,
-            "cost 270000\nuse HOT 270000\nuse COLD 594137490\n\
+            "cost 270000\nuse HOT 270000\nuse COLD 3565044990\n\
              move HOT 29953 29953 C0 29953 29950 270000\n",
         ),
     ];
