@@ -1,6 +1,7 @@
 -- Every command blames words, length and shelf only with cause.
 use Rattle.std.proofs.Common.{◌≡◌, ◌≤◌, ℕ, List, Bool, true, false, Option, Some, None, IsSomeAnd, refl, sym, ap, subst, arith}
-use Rattle.pinch_outside.specs.Shelf.{ShelfState, file_limit, KeepsFiles, IsWhole, IsTooLong, HasFailed}
+use Rattle.pinch_outside.specs.Shelf.{ShelfState, KeepsFiles, IsWhole, IsTooLong, HasFailed}
+use Rattle.pinch_outside.specs.declared.limits.TheConstants.{MAX_FILE}
 use Rattle.stream_case.specs.declared.case.Case.{Case}
 use Rattle.stream_case.specs.Case.{completed}
 use Rattle.pinch.specs.declared.command.Command.{Command}
@@ -18,7 +19,7 @@ use Rattle.pinch.proofs.Plain.{is_plain, plain_flow}
 
 -- the last file was read to its end
 pub record Ended (new : ShelfState) : Type 0 where
-  pub within : new.taken ≤ file_limit
+  pub within : new.taken ≤ MAX_FILE
   pub end : new.ended ≡ true
 
 of_whole : (name bytes : List ℕ) (old new : ShelfState) → IsWhole name old new bytes → Ended new

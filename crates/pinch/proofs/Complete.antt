@@ -1,7 +1,8 @@
 -- Files that answer a command are answered, and a file that is refused is told so, unless a call of the shelf is refused.
 use Rattle.std.proofs.Common.{◌≡◌, ◌≤◌, ℕ, List, Option, Some, None, length, ap, subst, arith}
 use Rattle.pinch_outside.specs.Faults.{Rose}
-use Rattle.pinch_outside.specs.Shelf.{ShelfState, NamedFile, file_limit, IsFile, IsFileAbove, KeepsFiles}
+use Rattle.pinch_outside.specs.Shelf.{ShelfState, NamedFile, IsFile, IsFileAbove, KeepsFiles}
+use Rattle.pinch_outside.specs.declared.limits.TheConstants.{MAX_FILE}
 use Rattle.stream_case.specs.declared.case.Case.{Case}
 use Rattle.stream_case.specs.Case.{completed, IsStandard}
 use Rattle.reports.specs.declared.shown.FileRole.{FileRole}
@@ -17,9 +18,9 @@ use Rattle.pinch.specs.Status.{status_of, IsAnswered}
 use Rattle.pinch.proofs.Grammars.{IsLawful, lawful_case}
 
 -- a file within the limit is not above it
-not_above : (files : Option (List NamedFile)) (name bytes : List ℕ) → Holds files name bytes → IsFileAbove files name file_limit → ⊥
+not_above : (files : Option (List NamedFile)) (name bytes : List ℕ) → Holds files name bytes → IsFileAbove files name MAX_FILE → ⊥
 not_above files name bytes holds above =
-    let told : IsFileAbove (Some holds.told) name file_limit = subst (λ f. IsFileAbove f name file_limit) holds.are above in
+    let told : IsFileAbove (Some holds.told) name MAX_FILE = subst (λ f. IsFileAbove f name MAX_FILE) holds.are above in
     let same : told.0 ≡ bytes = cc (told.1, holds.found) in
     omega (arith, told.2, ap length same, holds.within)
 

@@ -1,6 +1,7 @@
 -- When the answers come that are no result of a command.
 use Rattle.std.specs.Prelude.{◌≡◌, ◌+◌, ℕ, true, List, Option, Some, None, IsSomeAnd}
-use Rattle.pinch_outside.specs.Shelf.{ShelfState, file_limit, HasFailed, IsTooLong}
+use Rattle.pinch_outside.specs.Shelf.{ShelfState, HasFailed, IsTooLong}
+use Rattle.pinch_outside.specs.declared.limits.TheConstants.{MAX_FILE}
 use Rattle.pinch.specs.Command.{file_of}
 use Rattle.pinch.specs.Status.{status_of, IsAnswered}
 use Rattle.pinch.specs.declared.command.Command.{Command}
@@ -14,7 +15,7 @@ pub record Causes (files : FileRole → Option (List ℕ)) (old new : ShelfState
   pub words_stand : shown ≡ BadWords → ⊥
   -- a file is said to be too long exactly where one byte more than the limit was taken of it
   pub too_long : (role : FileRole) → shown ≡ TooLong role → IsSomeAnd (files role) (λ name. IsTooLong name old new)
-  pub over_limit : new.taken ≡ file_limit + 1 → (role : FileRole) × (shown ≡ TooLong role)
+  pub over_limit : new.taken ≡ MAX_FILE + 1 → (role : FileRole) × (shown ≡ TooLong role)
   -- a read fault is told only where the last call of the shelf, on the file of that role, was refused
   pub read_fault : (role : FileRole) → shown ≡ ReadFault role → IsSomeAnd (files role) (λ name. HasFailed name old new)
   -- where the command is answered, the last file was read to its end

@@ -1,6 +1,7 @@
 -- Which files answer a command, and which are refused.
 use Rattle.std.specs.Prelude.{◌≡◌, ◌≤◌, ℕ, List, length, ⊤, Option, Some, None}
-use Rattle.pinch_outside.specs.Shelf.{NamedFile, find_file, file_limit}
+use Rattle.pinch_outside.specs.Shelf.{NamedFile, find_file}
+use Rattle.pinch_outside.specs.declared.limits.TheConstants.{MAX_FILE}
 use Rattle.stream_case.specs.Case.{completed, IsStandard}
 use Rattle.reports.specs.declared.shown.Shown.{Shown}
 use Rattle.pinch.specs.Case.{case_file}
@@ -13,7 +14,7 @@ pub record Holds (files : Option (List NamedFile)) (name bytes : List ℕ) : Typ
   pub told : List NamedFile
   pub are : files ≡ Some told
   pub found : find_file name told ≡ Some bytes
-  pub within : length bytes ≤ file_limit
+  pub within : length bytes ≤ MAX_FILE
 
 -- it says something, of which this holds
 pub record HoldsText {T : Type 0} (g : Grammar T) (files : Option (List NamedFile)) (name : List ℕ) (P : T → Type 0) : Type 0 where

@@ -2,7 +2,7 @@
 
 mod arguments;
 mod case_rows;
-mod curves;
+mod composite_curves;
 mod faults;
 mod flow;
 mod limits;

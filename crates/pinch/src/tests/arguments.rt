@@ -5,15 +5,15 @@ use std::env::{self, FillError};
 use std::rt::Env;
 use std::test::Fail;
 
-/// The arguments of a program, from its name on.
+/// The arguments of a program, from its name on, with a bar between each two.
 #[derive(Drop)]
 struct Arguments<'a> {
-    words: &'a [&'a [u8]],
+    line: &'a [u8],
 }
 
 impl Env for Arguments<'_> {
     fn arg(&self, i: usize, buf: &mut [u8]) -> Result<usize, FillError> {
-        let Some(word) = self.words.get(i) else {
+        let Some(word) = self.line.split(|byte| *byte == b'|').nth(i) else {
             return Err(FillError::NotPresent);
         };
         if buf.len() < word.len() {
@@ -35,27 +35,23 @@ impl Env for Arguments<'_> {
 #[test]
 fn words_are_the_arguments_behind_the_name(rt: HostRuntime) -> Result<(), Fail> {
     let alloc = rt.alloc();
-    let rows: [(&[&[u8]], &[&str]); 6] = [
-        (&[], &[]),
-        (&[b"pinch"], &[]),
-        (
-            &[b"pinch", b"targets", b"plant.csv"],
-            &["targets", "plant.csv"],
-        ),
-        (
-            &[b"pinch", b"", b" a  b ", b"\xc3\xa9"],
-            &["", " a  b ", "é"],
-        ),
+    // The arguments, and the words with a bar behind each.
+    let rows = [
+        (b"pinch".as_slice(), ""),
+        (b"pinch|targets|plant.csv".as_slice(), "targets|plant.csv|"),
+        (b"pinch|| a  b |\xc3\xa9".as_slice(), "| a  b |é|"),
         // An argument that is no text leaves no words.
-        (&[b"pinch", b"targets", b"\xff"], &[]),
-        (&[b"pinch", b"\xff", b"targets"], &[]),
+        (b"pinch|targets|\xff".as_slice(), ""),
+        (b"pinch|\xff|targets".as_slice(), ""),
     ];
-    for (arguments, wanted) in rows {
-        let words = collect_words(alloc, env::args(&(Arguments { words: arguments }, alloc)))?;
-        assert_eq!(rt; words.len(), wanted.len(), "{wanted:?}");
-        for (word, text) in words.as_slice().iter().zip(wanted) {
-            assert_eq!(rt; word.as_str(), *text);
+    for (line, wanted) in &rows {
+        let words = collect_words(alloc, env::args(&(Arguments { line }, alloc)))?;
+        let mut text = String::new(alloc);
+        for word in words.as_slice() {
+            text.push_str(word.as_str())?;
+            text.push_str("|")?;
         }
+        assert_eq!(rt; text.as_str(), *wanted);
     }
     Ok(())
 }
@@ -63,22 +59,22 @@ fn words_are_the_arguments_behind_the_name(rt: HostRuntime) -> Result<(), Fail> 
 #[test]
 fn the_exit_code_is_the_status(rt: HostRuntime) -> Result<(), Fail> {
     let alloc = rt.alloc();
-    let rows: [(&[&[u8]], u8, &str); 4] = [
+    let rows = [
         (
-            &[b"pinch", b"targets", b"plant.csv"],
-            0,
+            b"pinch|targets|plant.csv".as_slice(),
+            0u8,
             FOUR_STREAM_TARGETS,
         ),
         (
-            &[b"pinch", b"targets", b"other.csv"],
+            b"pinch|targets|other.csv".as_slice(),
             6,
             "read fault case\n",
         ),
-        (&[b"pinch"], 2, WORDS),
-        (&[b"pinch", b"targets", b"\xff"], 2, WORDS),
+        (b"pinch".as_slice(), 2, WORDS),
+        (b"pinch|targets|\xff".as_slice(), 2, WORDS),
     ];
-    for (arguments, status, text) in rows {
-        let texts = env::args(&(Arguments { words: arguments }, alloc));
+    for (line, status, text) in &rows {
+        let texts = env::args(&(Arguments { line }, alloc));
         let bytes = FOUR_STREAM.as_bytes().to_vec(alloc)?;
         let mut shelf = shelf_of(alloc, "plant.csv", bytes, &[])?;
         let mut sink = MemorySink::new(alloc, 1000, 1000, Vec::new(alloc))?;
