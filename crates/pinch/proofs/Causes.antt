@@ -1,97 +1,105 @@
 -- Every command blames words, length and shelf only with cause.
-use Rattle.std.proofs.Common.{◌≡◌, ◌≤◌, ℕ, List, Bool, true, false, Option, Some, None, refl, ap, subst, arith}
-use Rattle.pinch_outside.specs.Shelf.{ShelfState, file_limit, KeepsFiles, IsWhole, IsTooLong, HasFailed}
+use Rattle.std.proofs.Common.{◌≡◌, ◌≤◌, ℕ, List, Bool, true, false, Option, Some, None, IsSomeAnd, refl, sym, ap, subst, arith}
+use Rattle.pinch_outside.specs.Shelf.{ShelfState, KeepsFiles, IsWhole, IsTooLong, HasFailed}
+use Rattle.pinch_outside.specs.declared.limits.TheConstants.{MAX_FILE}
 use Rattle.stream_case.specs.declared.case.Case.{Case}
+use Rattle.stream_case.specs.Case.{completed}
 use Rattle.pinch.specs.declared.command.Command.{Command}
-use Rattle.pinch.specs.declared.command.Command.TheVariants.{Targets as TargetsOf, Flow as FlowOf, Curves as CurvesOf}
+use Rattle.pinch.specs.declared.command.Command.TheVariants.{Targets, Flow, Curves}
 use Rattle.reports.specs.declared.shown.FileRole.{FileRole}
-use Rattle.reports.specs.declared.shown.FileRole.TheVariants.{Case as CaseFile}
 use Rattle.reports.specs.declared.shown.Shown.{Shown}
-use Rattle.reports.specs.declared.shown.Shown.TheVariants.{BadWords, ReadFault, TooLong}
-use Rattle.pinch.specs.FromFile.{NoFile, failed, too_long}
-use Rattle.pinch.specs.Answers.{NoCase, no_file, refused, FromCase, no_case, by_case, ShowsCase, ShowsCommand}
-use Rattle.pinch.specs.Flow.{AnswersFlow, corner_answer, not_standard}
-use Rattle.pinch.specs.Causes.{Causes, HasCause, file_name}
+use Rattle.pinch.specs.FromText.{Grammar, NoFile, failed, too_long, NoText, no_file, refused, FromText, no_text, by_text}
+use Rattle.pinch.specs.Case.{case_file, AreTargetsOf, AreCurvesOf}
+use Rattle.pinch.specs.Answers.{FromCase, ShowsCommand}
+use Rattle.pinch.specs.Causes.{Causes, HasCause}
+use Rattle.pinch.specs.Command.{file_of}
+use Rattle.pinch.specs.Flow.{ShowsFlow}
+use Rattle.pinch.proofs.Grammars.{IsLawful, lawful_case}
+use Rattle.pinch.proofs.Plain.{is_plain, plain_flow}
 
--- what is shown is a result, or blames what a file says
-abbrev pub is_plain : Shown → Bool
-is_plain BadWords = false
-is_plain (TooLong role) = false
-is_plain (ReadFault role) = false
-is_plain _ = true
+-- the last file was read to its end
+pub record Ended (new : ShelfState) : Type 0 where
+  pub within : new.taken ≤ MAX_FILE
+  pub end : new.ended ≡ true
 
-pub of_plain : (words : List (List ℕ)) (old new : ShelfState) (shown : Shown) → is_plain shown ≡ true → new.taken ≤ file_limit → new.ended ≡ true → Causes words old new shown
-of_plain words old new shown plain within end =
-    record {
-      words_stand = λ is. let e : is_plain shown ≡ false = ap is_plain is in cc;
-      too_long = λ role is. let e : is_plain shown ≡ false = ap is_plain is in cc;
-      over_limit = λ over. absurd (omega arith);
-      read_fault = λ role is. let e : is_plain shown ≡ false = ap is_plain is in cc;
-      ended = λ answered. end;
-    }
+of_whole : (name bytes : List ℕ) (old new : ShelfState) → IsWhole name old new bytes → Ended new
+of_whole name bytes old new whole = record { within = omega (arith, whole.count, whole.within); end = whole.ended }
 
--- the causes from an earlier state of the shelf
-pub of_later : (words : List (List ℕ)) (old mid new : ShelfState) (shown : Shown) → KeepsFiles old mid → Causes words mid new shown → Causes words old new shown
-of_later words old mid new shown keeps causes =
-    record {
-      words_stand = causes.words_stand;
-      too_long = λ role is. let long = causes.too_long role is in record { taken = long.taken; file = rw (← keeps.files) long.file };
-      over_limit = causes.over_limit;
-      read_fault = λ role is.
-          let fault = causes.read_fault role is in
-          record { rose = omega (arith, fault.rose, keeps.later); within = fault.within; failed = fault.failed; asked = rw (← keeps.files) fault.asked };
-      ended = causes.ended;
-    }
+-- the files of a command, by their roles
+module _ (files : FileRole → Option (List ℕ)) where
+  pub of_plain : (old new : ShelfState) (shown : Shown) → is_plain shown ≡ true → Ended new → Causes files old new shown
+  of_plain old new shown plain ended =
+      record {
+        words_stand = λ is. let e : is_plain shown ≡ false = ap is_plain is in cc;
+        too_long = λ role is. let e : is_plain shown ≡ false = ap is_plain is in cc;
+        over_limit = λ over. absurd (omega (arith, ended.within));
+        read_fault = λ role is. let e : is_plain shown ≡ false = ap is_plain is in cc;
+        ended = λ answered. ended.end;
+      }
 
-of_no_file : (words : List (List ℕ)) (role : FileRole) (old new : ShelfState) (shown : Shown) → NoFile role (file_name words role) old new shown → Causes words old new shown
-of_no_file words role old new shown (failed fault is) =
-    rw is (record {
-      words_stand = λ other. cc;
-      too_long = λ r other. cc;
-      over_limit = λ over. absurd (omega (arith, fault.within));
-      read_fault = λ r same. let e : role ≡ r = cc in subst (λ q. HasFailed (file_name words q) old new) e fault;
-      ended = λ answered. absurd (omega arith);
-    })
-of_no_file words role old new shown (too_long long is) =
-    rw is (record {
-      words_stand = λ other. cc;
-      too_long = λ r same. let e : role ≡ r = cc in subst (λ q. IsTooLong (file_name words q) old new) e long;
-      over_limit = λ over. (role, refl);
-      read_fault = λ r other. cc;
-      ended = λ answered. absurd (omega arith);
-    })
+  -- a fact of the file of a role
+  of_role : (role : FileRole) (name : List ℕ) (P : List ℕ → Type 0) → files role ≡ Some name → P name → IsSomeAnd (files role) P
+  of_role role name P is here = subst (λ o. IsSomeAnd o P) (sym is) here
 
--- a file that was taken whole, whose bytes are refused
-of_refused : (words : List (List ℕ)) (name bytes : List ℕ) (old new : ShelfState) (shown : Shown) → IsWhole name old new bytes → is_plain shown ≡ true → Causes words old new shown
-of_refused words name bytes old new shown whole plain = of_plain words old new shown plain (omega (arith, whole.count, whole.within)) whole.ended
+  weaker : (o : Option (List ℕ)) (P Q : List ℕ → Type 0) → ((name : List ℕ) → P name → Q name) → IsSomeAnd o P → IsSomeAnd o Q
+  weaker (Some name) P Q next here = next name here
+  weaker None P Q next here = absurd here
 
-of_no_case : (words : List (List ℕ)) (old new : ShelfState) (shown : Shown) → NoCase (file_name words CaseFile) old new shown → Causes words old new shown
-of_no_case words old new shown (no_file none) = of_no_file words CaseFile old new shown none
-of_no_case words old new shown (refused bytes row why whole none is) = of_refused words _ bytes old new shown whole (ap is_plain is)
+  -- the causes from an earlier state of the shelf
+  of_later : (old mid new : ShelfState) (shown : Shown) → KeepsFiles old mid → Causes files mid new shown → Causes files old new shown
+  of_later old mid new shown keeps causes =
+      record {
+        words_stand = causes.words_stand;
+        too_long = λ role is. weaker (files role) _ _ (λ name long. record { taken = long.taken; file = rw (← keeps.files) long.file }) (causes.too_long role is);
+        over_limit = causes.over_limit;
+        read_fault = λ role is.
+            weaker (files role) _ _
+            (λ name fault. record { rose = omega (arith, fault.rose, keeps.later); within = fault.within; failed = fault.failed; asked = rw (← keeps.files) fault.asked })
+            (causes.read_fault role is);
+        ended = causes.ended;
+      }
 
-of_case : (words : List (List ℕ)) (old new : ShelfState) (shown : Shown) (work : ShelfState → Case → Type 0)
-    → ((mid : ShelfState) (case : Case) → mid.taken ≤ file_limit → mid.ended ≡ true → work mid case → Causes words mid new shown)
-    → FromCase (file_name words CaseFile) old new shown work → Causes words old new shown
-of_case words old new shown work next (no_case none) = of_no_case words old new shown none
-of_case words old new shown work next (by_case mid case reads then) =
-    of_later words old mid new shown reads.keeps (next mid case (omega (arith, reads.whole.count, reads.whole.within)) reads.whole.ended then)
+  of_no_file : (role : FileRole) (name : List ℕ) (old new : ShelfState) (shown : Shown) → files role ≡ Some name → NoFile role name old new shown → Causes files old new shown
+  of_no_file role name old new shown here (failed fault is) =
+      rw is (record {
+        words_stand = λ other. cc;
+        too_long = λ r other. cc;
+        over_limit = λ over. absurd (omega (arith, fault.within));
+        read_fault = λ r same. let e : role ≡ r = cc in of_role r name (λ n. HasFailed n old new) (subst (λ q. files q ≡ Some name) e here) fault;
+        ended = λ answered. absurd answered;
+      })
+  of_no_file role name old new shown here (too_long long is) =
+      rw is (record {
+        words_stand = λ other. cc;
+        too_long = λ r same. let e : role ≡ r = cc in of_role r name (λ n. IsTooLong n old new) (subst (λ q. files q ≡ Some name) e here) long;
+        over_limit = λ over. (role, refl);
+        read_fault = λ r other. cc;
+        ended = λ answered. absurd answered;
+      })
 
--- what `flow` shows is a result
-plain_flow : (c : Case) (shown : Shown) → AnswersFlow c shown → is_plain shown ≡ true
-plain_flow c shown (corner_answer standard answer) = ap is_plain answer.is
-plain_flow c shown (not_standard other is) = ap is_plain is
+  module _ {T : Type 0} (g : Grammar T) (lawful : IsLawful g) (name : List ℕ) (here : files g.role ≡ Some name) where
+    of_no_text : (old new : ShelfState) (shown : Shown) → NoText g name old new shown → Causes files old new shown
+    of_no_text old new shown (no_file none) = of_no_file g.role name old new shown here none
+    of_no_text old new shown (refused bytes whole refuses) = of_plain old new shown (lawful.plain bytes shown refuses) (of_whole name bytes old new whole)
 
--- what a command shows of a case is a result
-plain_case : (command : Command) (case : Case) (shown : Shown) → ShowsCase command case shown → is_plain shown ≡ true
-unfolding ShowsCase
-plain_case TargetsOf case shown answer = ap is_plain answer.is
-plain_case FlowOf case shown answer = plain_flow _ shown answer
-plain_case CurvesOf case shown answer = ap is_plain answer.is
+    pub of_text : (old new : ShelfState) (shown : Shown) (work : ShelfState → T → Type 0)
+        → ((mid : ShelfState) (value : T) → Ended mid → work mid value → Causes files mid new shown)
+        → FromText g name old new shown work → Causes files old new shown
+    of_text old new shown work next (no_text none) = of_no_text old new shown none
+    of_text old new shown work next (by_text mid value reads then) =
+        of_later old mid new shown reads.keeps (next mid value (of_whole name reads.bytes old mid reads.whole) then)
 
-pub causes : (command : Option Command) (words : List (List ℕ)) (old new : ShelfState) (shown : Shown) → ShowsCommand command words old new shown → HasCause command words old new shown
+-- what a command shows of a case, where that is plain
+of_case : (files : FileRole → Option (List ℕ)) (name : List ℕ) (old new : ShelfState) (shown : Shown) (Shows : Case → Shown → Type 0)
+    → files case_file.role ≡ Some name → ((case : Case) → Shows case shown → is_plain shown ≡ true)
+    → FromCase name old new shown Shows → Causes files old new shown
+of_case files name old new shown Shows here plain shows =
+    of_text files case_file lawful_case name here old new shown _
+    (λ last case ended is. of_plain files last new shown (plain case is.1) (subst Ended (sym is.0) ended)) shows
+
+pub causes : (command : Option Command) (old new : ShelfState) (shown : Shown) → ShowsCommand command old new shown → HasCause command old new shown
 unfolding ShowsCommand HasCause
-causes None words old new shown shows = shows
-causes (Some command) words old new shown shows =
-    of_case words old new shown _
-    (λ last case within end is. of_plain words last new shown (plain_case command case shown is.1) (rw is.0 within) (rw is.0 end))
-    shows
+causes None old new shown shows = shows
+causes (Some (Targets case)) old new shown shows = of_case (file_of (Targets case)) case old new shown AreTargetsOf refl (λ c is. ap is_plain is.is) shows
+causes (Some (Flow case)) old new shown shows = of_case (file_of (Flow case)) case old new shown ShowsFlow refl (λ c. plain_flow (completed c) shown) shows
+causes (Some (Curves case)) old new shown shows = of_case (file_of (Curves case)) case old new shown AreCurvesOf refl (λ c is. ap is_plain is.is) shows

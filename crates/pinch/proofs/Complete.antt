@@ -1,28 +1,26 @@
--- Files that answer a command are answered, and a case file that is refused is told so, unless a call of the shelf is refused.
-use Rattle.std.proofs.Common.{◌≡◌, ◌≤◌, ◌∙◌, ℕ, List, Option, Some, None, inl, length, ap, ap₂, subst, arith}
+-- Files that answer a command are answered, and a file that is refused is told so, unless a call of the shelf is refused.
+use Rattle.std.proofs.Common.{◌≡◌, ◌≤◌, ℕ, List, Option, Some, None, length, ap, subst, arith}
 use Rattle.pinch_outside.specs.Faults.{Rose}
-use Rattle.pinch_outside.specs.Shelf.{ShelfState, NamedFile, file_limit, IsFile, IsFileAbove, KeepsFiles}
+use Rattle.pinch_outside.specs.Shelf.{ShelfState, NamedFile, IsFile, IsFileAbove, KeepsFiles}
+use Rattle.pinch_outside.specs.declared.limits.TheConstants.{MAX_FILE}
 use Rattle.stream_case.specs.declared.case.Case.{Case}
-use Rattle.csv_rows.specs.Rows.{rows_of}
-use Rattle.case_text.specs.declared.fault.CaseWhy.{CaseWhy}
-use Rattle.case_text.proofs.Unique.{one_fault, one_case, no_case as fault_or_case}
 use Rattle.stream_case.specs.Case.{completed, IsStandard}
 use Rattle.reports.specs.declared.shown.FileRole.{FileRole}
-use Rattle.reports.specs.declared.shown.FileRole.TheVariants.{Case as CaseFile}
 use Rattle.reports.specs.declared.shown.Shown.{Shown}
-use Rattle.reports.specs.declared.shown.Shown.TheVariants.{BadCase}
 use Rattle.pinch.specs.declared.command.Command.{Command}
-use Rattle.pinch.specs.declared.command.Command.TheVariants.{Targets as TargetsOf, Flow as FlowOf, Curves as CurvesOf}
+use Rattle.pinch.specs.declared.command.Command.TheVariants.{Targets, Flow, Curves}
+use Rattle.pinch.specs.Answers.{FromCase, ShowsCommand}
+use Rattle.pinch.specs.Case.{case_file, AreTargetsOf, AreCurvesOf}
+use Rattle.pinch.specs.Complete.{Holds, HoldsText, HoldsNoText, CanAnswer, HasBadFile}
+use Rattle.pinch.specs.Flow.{AnswersFlow, corner_answer, not_standard, ShowsFlow}
+use Rattle.pinch.specs.FromText.{Grammar, NoFile, failed, too_long, NoText, no_file, refused, FromText, no_text, by_text}
 use Rattle.pinch.specs.Status.{status_of, IsAnswered}
-use Rattle.pinch.specs.FromFile.{NoFile, failed, too_long}
-use Rattle.pinch.specs.Answers.{IsCaseText, IsRefused, NoCase, no_file, refused, FromCase, no_case, by_case, ShowsCase, ShowsCommand}
-use Rattle.pinch.specs.Flow.{AnswersFlow, corner_answer, not_standard}
-use Rattle.pinch.specs.Complete.{Holds, HoldsCase, HoldsNoCase, AnswersCase, CanAnswer, HasBadCase}
+use Rattle.pinch.proofs.Grammars.{IsLawful, lawful_case}
 
 -- a file within the limit is not above it
-not_above : (files : Option (List NamedFile)) (name bytes : List ℕ) → Holds files name bytes → IsFileAbove files name file_limit → ⊥
+not_above : (files : Option (List NamedFile)) (name bytes : List ℕ) → Holds files name bytes → IsFileAbove files name MAX_FILE → ⊥
 not_above files name bytes holds above =
-    let told : IsFileAbove (Some holds.told) name file_limit = subst (λ f. IsFileAbove f name file_limit) holds.are above in
+    let told : IsFileAbove (Some holds.told) name MAX_FILE = subst (λ f. IsFileAbove f name MAX_FILE) holds.are above in
     let same : told.0 ≡ bytes = cc (told.1, holds.found) in
     omega (arith, told.2, ap length same, holds.within)
 
@@ -32,65 +30,63 @@ same_bytes files name bytes taken holds file =
     let told : IsFile (Some holds.told) name (Some taken) = subst (λ f. IsFile f name (Some taken)) holds.are file in
     cc (told, holds.found)
 
-no_no_file : (role : FileRole) (name bytes : List ℕ) (old new : ShelfState) (shown : Shown) → Holds old.files name bytes → (Rose old.faults new.faults → ⊥) → NoFile role name old new shown → ⊥
-no_no_file role name bytes old new shown holds no_fault (failed fault is) = no_fault fault.rose
-no_no_file role name bytes old new shown holds no_fault (too_long long is) = not_above old.files name bytes holds long.file
+taken : (role : FileRole) (name bytes : List ℕ) (old new : ShelfState) (shown : Shown) → Holds old.files name bytes → (Rose old.faults new.faults → ⊥) → NoFile role name old new shown → ⊥
+taken role name bytes old new shown holds no_fault (failed fault is) = no_fault fault.rose
+taken role name bytes old new shown holds no_fault (too_long long is) = not_above old.files name bytes holds long.file
 
-no_no_case : (name : List ℕ) (case : Case) (old new : ShelfState) (shown : Shown) → HoldsCase old.files name case → (Rose old.faults new.faults → ⊥) → NoCase name old new shown → ⊥
-no_no_case name case old new shown held no_fault (no_file none) = no_no_file CaseFile name held.bytes old new shown held.file no_fault none
-no_no_case name case old new shown held no_fault (refused bytes row why whole none is) =
-    let same = same_bytes old.files name held.bytes bytes held.file whole.file in
-    let other : IsRefused held.bytes row why = subst (λ b. IsRefused b row why) same none in
-    fault_or_case (rows_of held.bytes) row why case other held.is
+module _ {T : Type 0} (g : Grammar T) (lawful : IsLawful g) (name : List ℕ) (old new : ShelfState) (shown : Shown) (no_fault : Rose old.faults new.faults → ⊥) where
+  not_refused : (P : T → Type 0) → HoldsText g old.files name P → NoText g name old new shown → ⊥
+  not_refused P held (no_file none) = taken g.role name held.bytes old new shown held.file no_fault none
+  not_refused P held (refused bytes whole refuses) =
+      let same = same_bytes old.files name held.bytes bytes held.file whole.file in
+      lawful.not_both held.bytes held.value shown held.says (subst (λ b. g.Refuses b shown) same refuses)
 
-of_case : (name : List ℕ) (case : Case) (old new : ShelfState) (shown : Shown) (work : ShelfState → Case → Type 0) (P : Type 0)
-    → HoldsCase old.files name case → (Rose old.faults new.faults → ⊥) → ((mid : ShelfState) → KeepsFiles old mid → work mid case → P)
-    → FromCase name old new shown work → P
-of_case name case old new shown work P held no_fault next (no_case none) = absurd (no_no_case name case old new shown held no_fault none)
-of_case name case old new shown work P held no_fault next (by_case mid other reads then) =
-    let bytes = same_bytes old.files name held.bytes reads.bytes held.file reads.whole.file in
-    let read : IsCaseText held.bytes other = subst (λ b. IsCaseText b other) bytes reads.is in
-    let same = one_case (rows_of held.bytes) other case read held.is in
-    next mid reads.keeps (subst (work mid) same then)
+  -- what is shown is shown of what the file says
+  pub of_held : (P : T → Type 0) (work : ShelfState → T → Type 0) (Q : Type 0) → HoldsText g old.files name P
+      → ((mid : ShelfState) (value : T) → KeepsFiles old mid → P value → work mid value → Q) → FromText g name old new shown work → Q
+  of_held P work Q held next (no_text none) = absurd (not_refused P held none)
+  of_held P work Q held next (by_text mid value reads then) =
+      let bytes = same_bytes old.files name held.bytes reads.bytes held.file reads.whole.file in
+      let same = lawful.one_value held.bytes value held.value (subst (λ b. g.Says b value) bytes reads.says) held.says in
+      next mid held.value reads.keeps held.then (subst (work mid) same then)
 
--- a case file that the grammar refuses is told to be so
-refused_case : (name : List ℕ) (row : ℕ) (why : CaseWhy) (old new : ShelfState) (shown : Shown) (work : ShelfState → Case → Type 0)
-    → HoldsNoCase old.files name row why → (Rose old.faults new.faults → ⊥) → FromCase name old new shown work → shown ≡ BadCase row why
-refused_case name row why old new shown work held no_fault (no_case (no_file none)) = absurd (no_no_file CaseFile name held.bytes old new shown held.file no_fault none)
-refused_case name row why old new shown work held no_fault (no_case (refused bytes other cause whole none is)) =
-    let same = same_bytes old.files name held.bytes bytes held.file whole.file in
-    let told : IsRefused held.bytes other cause = subst (λ b. IsRefused b other cause) same none in
-    let one = one_fault (rows_of held.bytes) other row cause why told held.is in
-    is ∙ ap₂ BadCase one.0 one.1
-refused_case name row why old new shown work held no_fault (by_case mid case reads then) =
-    let same = same_bytes old.files name held.bytes reads.bytes held.file reads.whole.file in
-    let read : IsCaseText held.bytes case = subst (λ b. IsCaseText b case) same reads.is in
-    absurd (fault_or_case (rows_of held.bytes) row why case held.is read)
+  -- a file that its grammar refuses is told to be so
+  pub of_refused : (refusal : Shown) (work : ShelfState → T → Type 0) → HoldsNoText g old.files name refusal → FromText g name old new shown work → shown ≡ refusal
+  of_refused refusal work held (no_text (no_file none)) = absurd (taken g.role name held.bytes old new shown held.file no_fault none)
+  of_refused refusal work held (no_text (refused bytes whole refuses)) =
+      let same = same_bytes old.files name held.bytes bytes held.file whole.file in
+      lawful.one_refusal held.bytes shown refusal (subst (λ b. g.Refuses b shown) same refuses) held.refuses
+  of_refused refusal work held (by_text mid value reads then) =
+      let same = same_bytes old.files name held.bytes reads.bytes held.file reads.whole.file in
+      absurd (lawful.not_both held.bytes value refusal (subst (λ b. g.Says b value) same reads.says) held.refuses)
 
 -- a result that answers
-answers : (shown result : Shown) → status_of result ≤ 1 → shown ≡ result → IsAnswered (status_of shown)
-answers shown result low is = rw is (inl low)
+answers : (shown result : Shown) → IsAnswered (status_of result) → shown ≡ result → IsAnswered (status_of shown)
+answers shown result answered is = rw is answered
 
 -- a standard case is answered by a heat flow
 flow_answers : (c : Case) (shown : Shown) → IsStandard c → AnswersFlow c shown → IsAnswered (status_of shown)
-flow_answers c shown standard (corner_answer h answer) = answers shown _ (omega arith) answer.is
+flow_answers c shown standard (corner_answer h answer) = answers shown _ tt answer.is
 flow_answers c shown standard (not_standard other is) = absurd (other standard)
 
-case_answers : (command : Command) (case : Case) (shown : Shown) → AnswersCase command case → ShowsCase command case shown → IsAnswered (status_of shown)
-unfolding AnswersCase ShowsCase
-case_answers TargetsOf case shown can answer = answers shown _ (omega arith) answer.is
-case_answers FlowOf case shown can answer = flow_answers (completed case) shown can answer
-case_answers CurvesOf case shown can answer = answers shown _ (omega arith) answer.is
+of_case : (name : List ℕ) (old new : ShelfState) (shown : Shown) (P : Case → Type 0) (Shows : Case → Shown → Type 0)
+    → (Rose old.faults new.faults → ⊥) → HoldsText case_file old.files name P
+    → ((case : Case) → P case → Shows case shown → IsAnswered (status_of shown)) → FromCase name old new shown Shows → IsAnswered (status_of shown)
+of_case name old new shown P Shows no_fault held next shows =
+    of_held case_file lawful_case name old new shown no_fault P _ _ held (λ mid case keeps holds is. next case holds is.1) shows
 
-pub complete : (command : Option Command) (words : List (List ℕ)) (old new : ShelfState) (shown : Shown) → ShowsCommand command words old new shown
-    → CanAnswer command words old.files → (Rose old.faults new.faults → ⊥) → IsAnswered (status_of shown)
+pub complete : (command : Option Command) (old new : ShelfState) (shown : Shown) → ShowsCommand command old new shown
+    → CanAnswer command old.files → (Rose old.faults new.faults → ⊥) → IsAnswered (status_of shown)
 unfolding ShowsCommand CanAnswer
-complete None words old new shown shows can no_fault = absurd can
-complete (Some command) words old new shown shows can no_fault =
-    of_case _ can.0 old new shown _ _ can.1 no_fault (λ last keeps is. case_answers command can.0 shown can.2 is.1) shows
+complete None old new shown shows can no_fault = absurd can
+complete (Some (Targets case)) old new shown shows can no_fault = of_case case old new shown _ AreTargetsOf no_fault can (λ c t is. answers shown _ tt is.is) shows
+complete (Some (Flow case)) old new shown shows can no_fault = of_case case old new shown _ ShowsFlow no_fault can (λ c. flow_answers (completed c) shown) shows
+complete (Some (Curves case)) old new shown shows can no_fault = of_case case old new shown _ AreCurvesOf no_fault can (λ c t is. answers shown _ tt is.is) shows
 
-pub bad_case : (command : Option Command) (words : List (List ℕ)) (old new : ShelfState) (shown : Shown) → ShowsCommand command words old new shown
-    → (row : ℕ) (why : CaseWhy) → HasBadCase command words old.files row why → (Rose old.faults new.faults → ⊥) → shown ≡ BadCase row why
-unfolding ShowsCommand HasBadCase
-bad_case None words old new shown shows row why bad no_fault = absurd bad
-bad_case (Some command) words old new shown shows row why bad no_fault = refused_case _ row why old new shown _ bad no_fault shows
+pub bad_file : (command : Option Command) (old new : ShelfState) (shown : Shown) → ShowsCommand command old new shown
+    → (refusal : Shown) → HasBadFile command old.files refusal → (Rose old.faults new.faults → ⊥) → shown ≡ refusal
+unfolding ShowsCommand HasBadFile
+bad_file None old new shown shows refusal bad no_fault = absurd bad
+bad_file (Some (Targets case)) old new shown shows refusal bad no_fault = of_refused case_file lawful_case case old new shown no_fault refusal _ bad shows
+bad_file (Some (Flow case)) old new shown shows refusal bad no_fault = of_refused case_file lawful_case case old new shown no_fault refusal _ bad shows
+bad_file (Some (Curves case)) old new shown shows refusal bad no_fault = of_refused case_file lawful_case case old new shown no_fault refusal _ bad shows

@@ -1,4 +1,6 @@
 mod Causes
 mod Complete
-mod Corner
 mod Early
+mod Ends
+mod Grammars
+mod Plain

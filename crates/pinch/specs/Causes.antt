@@ -1,31 +1,27 @@
 -- When the answers come that are no result of a command.
-use Rattle.std.specs.Prelude.{◌≡◌, ◌+◌, ℕ, true, List, Option, Some, None}
-use Rattle.pinch_outside.specs.Shelf.{ShelfState, file_limit, HasFailed, IsTooLong}
-use Rattle.pinch.specs.Command.{word_at}
+use Rattle.std.specs.Prelude.{◌≡◌, ◌+◌, ℕ, true, List, Option, Some, None, IsSomeAnd}
+use Rattle.pinch_outside.specs.Shelf.{ShelfState, HasFailed, IsTooLong}
+use Rattle.pinch_outside.specs.declared.limits.TheConstants.{MAX_FILE}
+use Rattle.pinch.specs.Command.{file_of}
 use Rattle.pinch.specs.Status.{status_of, IsAnswered}
 use Rattle.pinch.specs.declared.command.Command.{Command}
 use Rattle.reports.specs.declared.shown.FileRole.{FileRole}
-use Rattle.reports.specs.declared.shown.FileRole.TheVariants.{Case}
 use Rattle.reports.specs.declared.shown.Shown.{Shown}
 use Rattle.reports.specs.declared.shown.Shown.TheVariants.{BadWords, ReadFault, TooLong}
 
--- the name of the file of a role
-abbrev pub file_name : List (List ℕ) → FileRole → List ℕ
-file_name words Case = word_at words 1
-
--- When the answers that are no result come, for words that are a command.
-pub record Causes (words : List (List ℕ)) (old new : ShelfState) (shown : Shown) : Type 0 where
+-- when the answers come that are no result, for a command that reads the files of these roles and names
+pub record Causes (files : FileRole → Option (List ℕ)) (old new : ShelfState) (shown : Shown) : Type 0 where
   -- the words are not blamed
   pub words_stand : shown ≡ BadWords → ⊥
   -- a file is said to be too long exactly where one byte more than the limit was taken of it
-  pub too_long : (role : FileRole) → shown ≡ TooLong role → IsTooLong (file_name words role) old new
-  pub over_limit : new.taken ≡ file_limit + 1 → (role : FileRole) × (shown ≡ TooLong role)
+  pub too_long : (role : FileRole) → shown ≡ TooLong role → IsSomeAnd (files role) (λ name. IsTooLong name old new)
+  pub over_limit : new.taken ≡ MAX_FILE + 1 → (role : FileRole) × (shown ≡ TooLong role)
   -- a read fault is told only where the last call of the shelf, on the file of that role, was refused
-  pub read_fault : (role : FileRole) → shown ≡ ReadFault role → HasFailed (file_name words role) old new
+  pub read_fault : (role : FileRole) → shown ≡ ReadFault role → IsSomeAnd (files role) (λ name. HasFailed name old new)
   -- where the command is answered, the last file was read to its end
   pub ended : IsAnswered (status_of shown) → new.ended ≡ true
 
--- the same for all words: they are blamed exactly where they are no command
-unfoldable pub HasCause : Option Command → List (List ℕ) → ShelfState → ShelfState → Shown → Type 0
-HasCause None words old new shown = (shown ≡ BadWords) × (new ≡ old)
-HasCause (Some command) words old new shown = Causes words old new shown
+-- the same for all words: they are blamed exactly where they form no command
+unfoldable pub HasCause : Option Command → ShelfState → ShelfState → Shown → Type 0
+HasCause None old new shown = (shown ≡ BadWords) × (new ≡ old)
+HasCause (Some command) old new shown = Causes (file_of command) old new shown

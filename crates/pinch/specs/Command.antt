@@ -1,25 +1,31 @@
 -- The forms of a command.
-use Rattle.std.specs.Prelude.{ℕ, List, [], ◌∷◌, Option, Some, None, codes, slice_get, unwrap_or, if◌then◌else◌}
+use Rattle.std.specs.Prelude.{ℕ, List, [], ◌∷◌, Option, Some, None, option_map, codes, if◌then◌else◌}
 use Rattle.std.specs.Str.{bytes_eq}
+use Rattle.reports.specs.declared.shown.FileRole.{FileRole}
+use Rattle.reports.specs.declared.shown.FileRole.TheVariants.{Case}
 use Rattle.pinch.specs.declared.command.Command.{Command}
 use Rattle.pinch.specs.declared.command.Command.TheVariants.{Targets, Flow, Curves}
 
--- the command of one file that a word names
-abbrev pub command_of_file : List ℕ → Option Command
-command_of_file word =
-    if bytes_eq word (codes "targets") then Some Targets
-    else if bytes_eq word (codes "flow") then Some Flow
-    else if bytes_eq word (codes "curves") then Some Curves
+-- the name of a file, where the words are just that; it is not empty
+abbrev pub one_file : List (List ℕ) → Option (List ℕ)
+one_file ((byte ∷ name) ∷ []) = Some (byte ∷ name)
+one_file words = None
+
+-- the command that a word and those behind it form
+abbrev pub command_of_word : List ℕ → List (List ℕ) → Option Command
+command_of_word word rest =
+    if bytes_eq word (codes "targets") then option_map Targets (one_file rest)
+    else if bytes_eq word (codes "flow") then option_map Flow (one_file rest)
+    else if bytes_eq word (codes "curves") then option_map Curves (one_file rest)
     else None
 
--- the command that the words form: its own word, and the name of a file, which is not empty
+-- the command that the words form, if they form one
 abbrev pub command_of : List (List ℕ) → Option Command
 command_of [] = None
-command_of (word ∷ []) = None
-command_of (word ∷ [] ∷ []) = None
-command_of (word ∷ (byte ∷ name) ∷ []) = command_of_file word
-command_of (word ∷ first ∷ second ∷ words) = None
+command_of (word ∷ rest) = command_of_word word rest
 
--- the word at a place, and the empty word past the end
-abbrev pub word_at : List (List ℕ) → ℕ → List ℕ
-word_at words place = unwrap_or (slice_get words place) []
+-- the file that a command reads in this role, by its name
+abbrev pub file_of : Command → FileRole → Option (List ℕ)
+file_of (Targets case) Case = Some case
+file_of (Flow case) Case = Some case
+file_of (Curves case) Case = Some case

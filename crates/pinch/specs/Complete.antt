@@ -1,11 +1,11 @@
 -- Which files answer a command, and which are refused.
 use Rattle.std.specs.Prelude.{◌≡◌, ◌≤◌, ℕ, List, length, ⊤, Option, Some, None}
-use Rattle.pinch_outside.specs.Shelf.{NamedFile, find_file, file_limit}
-use Rattle.stream_case.specs.declared.case.Case.{Case}
+use Rattle.pinch_outside.specs.Shelf.{NamedFile, find_file}
+use Rattle.pinch_outside.specs.declared.limits.TheConstants.{MAX_FILE}
 use Rattle.stream_case.specs.Case.{completed, IsStandard}
-use Rattle.case_text.specs.declared.fault.CaseWhy.{CaseWhy}
-use Rattle.pinch.specs.Answers.{IsCaseText, IsRefused}
-use Rattle.pinch.specs.Command.{word_at}
+use Rattle.reports.specs.declared.shown.Shown.{Shown}
+use Rattle.pinch.specs.Case.{case_file}
+use Rattle.pinch.specs.FromText.{Grammar}
 use Rattle.pinch.specs.declared.command.Command.{Command}
 use Rattle.pinch.specs.declared.command.Command.TheVariants.{Targets, Flow, Curves}
 
@@ -14,32 +14,32 @@ pub record Holds (files : Option (List NamedFile)) (name bytes : List ℕ) : Typ
   pub told : List NamedFile
   pub are : files ≡ Some told
   pub found : find_file name told ≡ Some bytes
-  pub within : length bytes ≤ file_limit
+  pub within : length bytes ≤ MAX_FILE
 
--- the first file of that name is the text of a case
-pub record HoldsCase (files : Option (List NamedFile)) (name : List ℕ) (case : Case) : Type 0 where
+-- it says something, of which this holds
+pub record HoldsText {T : Type 0} (g : Grammar T) (files : Option (List NamedFile)) (name : List ℕ) (P : T → Type 0) : Type 0 where
   pub bytes : List ℕ
   pub file : Holds files name bytes
-  pub is : IsCaseText bytes case
+  pub value : T
+  pub says : g.Says bytes value
+  pub then : P value
 
--- the first file of that name is refused as a case
-pub record HoldsNoCase (files : Option (List NamedFile)) (name : List ℕ) (row : ℕ) (why : CaseWhy) : Type 0 where
+-- it says nothing, and this is shown
+pub record HoldsNoText {T : Type 0} (g : Grammar T) (files : Option (List NamedFile)) (name : List ℕ) (shown : Shown) : Type 0 where
   pub bytes : List ℕ
   pub file : Holds files name bytes
-  pub is : IsRefused bytes row why
+  pub refuses : g.Refuses bytes shown
 
--- the command answers this case: `flow` answers standard ones
-unfoldable pub AnswersCase : Command → Case → Type 0
-AnswersCase Targets case = ⊤
-AnswersCase Flow case = IsStandard (completed case)
-AnswersCase Curves case = ⊤
+-- the files of a command are there, and are what it wants: `flow` answers standard cases
+unfoldable pub CanAnswer : Option Command → Option (List NamedFile) → Type 0
+CanAnswer None files = ⊥
+CanAnswer (Some (Targets case)) files = HoldsText case_file files case (λ c. ⊤)
+CanAnswer (Some (Flow case)) files = HoldsText case_file files case (λ c. IsStandard (completed c))
+CanAnswer (Some (Curves case)) files = HoldsText case_file files case (λ c. ⊤)
 
--- the files that the words name are there, and are what the command wants
-unfoldable pub CanAnswer : Option Command → List (List ℕ) → Option (List NamedFile) → Type 0
-CanAnswer None words files = ⊥
-CanAnswer (Some command) words files = (case : Case) × HoldsCase files (word_at words 1) case × AnswersCase command case
-
--- the case file that the words name is there, and the grammar refuses it
-unfoldable pub HasBadCase : Option Command → List (List ℕ) → Option (List NamedFile) → ℕ → CaseWhy → Type 0
-HasBadCase None words files row why = ⊥
-HasBadCase (Some command) words files row why = HoldsNoCase files (word_at words 1) row why
+-- a file of a command is there, and its grammar refuses it, which is to be shown
+unfoldable pub HasBadFile : Option Command → Option (List NamedFile) → Shown → Type 0
+HasBadFile None files shown = ⊥
+HasBadFile (Some (Targets case)) files shown = HoldsNoText case_file files case shown
+HasBadFile (Some (Flow case)) files shown = HoldsNoText case_file files case shown
+HasBadFile (Some (Curves case)) files shown = HoldsNoText case_file files case shown

@@ -1,8 +1,9 @@
 -- What `flow` shows of a completed case.
 use Rattle.std.specs.Prelude.{◌≡◌, ◌^◌, ℤ, pos, neg_ℤ, ◌≤ℤ◌, List, map, All}
 use Rattle.stream_case.specs.declared.case.Case.{Case}
-use Rattle.stream_case.specs.Case.{IsBetween, IsStandard}
-use Rattle.problem_table.specs.Deficit.{hot_target, IsReferencePlace}
+use Rattle.stream_case.specs.Case.{IsBetween, IsStandard, completed}
+use Rattle.stream_case.specs.declared.source.Side.TheVariants.{Hot, Cold}
+use Rattle.problem_table.specs.Deficit.{hot_target, cold_target, IsReferencePlace}
 use Rattle.grid.specs.declared.part.Part.{Part}
 use Rattle.grid.specs.declared.parts.Parts.{Parts}
 use Rattle.grid.specs.Part.{AreCaseParts}
@@ -12,7 +13,7 @@ use Rattle.heat_flow.specs.declared.prices.Prices.{Prices}
 use Rattle.heat_flow.specs.Flow.{cost_of}
 use Rattle.heat_flow.specs.Prices.{IsSupporting, value_of}
 use Rattle.heat_flow.specs.Reach.{reach_between}
-use Rattle.corner_flow.specs.Corner.{IsCornerFlow, IsFlowOf, corner_price}
+use Rattle.corner_flow.specs.Corner.{IsCornerFlow, IsFlowOf, UtilityHeat, NeedsHotHeat, corner_price}
 use Rattle.reports.specs.declared.shown.Shown.{Shown}
 use Rattle.reports.specs.declared.shown.Shown.TheVariants as show
 
@@ -39,13 +40,17 @@ pub record AreCornerPrices (c : Case) (hot cold : List Part) (prices : Prices) :
   pub hot_prices : prices.hot ≡ map (corner_price (hot_target c.streams) place) hot
   pub cold_prices : prices.cold ≡ map (corner_price (hot_target c.streams) place) cold
 
--- the corner flow of a standard case, with its certificate; its cost is the hot target
+-- the corner flow of a standard case, with its certificate: its cost is the hot target, which `HOT` gives, and which no heat flow can do
+-- without, and `COLD` takes the cold target
 pub record IsCornerAnswer (c : Case) (shown : Shown) : Type 0 where
   pub parts : Parts
   pub flow : Flow
   pub prices : Prices
   pub certified : IsCertified c parts flow.transfers prices (hot_target c.streams)
   pub corner : IsCornerFlow c parts.hot parts.cold flow.transfers
+  pub hot_heat : UtilityHeat Hot parts.hot flow.transfers (hot_target c.streams)
+  pub cold_heat : UtilityHeat Cold parts.cold flow.transfers (cold_target c.streams)
+  pub least_hot : NeedsHotHeat c parts.hot parts.cold (hot_target c.streams)
   pub corner_prices : AreCornerPrices c parts.hot parts.cold prices
   pub is : shown ≡ show.Flow c parts flow prices (hot_target c.streams)
 
@@ -53,3 +58,7 @@ pub record IsCornerAnswer (c : Case) (shown : Shown) : Type 0 where
 pub data AnswersFlow (c : Case) (shown : Shown) : Type 0 where
   corner_answer : IsStandard c → IsCornerAnswer c shown → AnswersFlow c shown
   not_standard : (IsStandard c → ⊥) → shown ≡ show.NotStandard → AnswersFlow c shown
+
+-- what `flow` shows of a case
+abbrev pub ShowsFlow : Case → Shown → Type 0
+ShowsFlow case shown = AnswersFlow (completed case) shown

@@ -1,7 +1,10 @@
 pub mod Answers
+pub mod Arguments
+pub mod Case
 pub mod Causes
 pub mod Command
 pub mod Complete
 pub mod Flow
-pub mod FromFile
+pub mod FromText
 pub mod Status
+pub mod Stop

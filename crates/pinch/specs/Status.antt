@@ -1,19 +1,37 @@
--- The exit status of what is shown.
-use Rattle.std.specs.Prelude.{ℕ, ◌≡◌, ◌≤◌, ◌⊎◌}
+-- The exit status of the program.
+use Rattle.std.specs.Prelude.{ℕ, ⊤}
 use Rattle.reports.specs.declared.shown.Shown.{Shown}
-use Rattle.reports.specs.declared.shown.Shown.TheVariants.{Targets, Flow, Curves, BadWords, BadCase, NotStandard, ReadFault, TooLong}
+use Rattle.reports.specs.declared.shown.Shown.TheVariants as shows
+use Rattle.pinch.specs.declared.status.Status.{Status}
+use Rattle.pinch.specs.declared.status.Status.TheVariants.{Answered, NoCommand, CaseRefused, TooLong, ReadFault, WriteFault, OutOfMemory}
+
+-- the number of a status
+abbrev pub number_of : Status → ℕ
+number_of Answered = 0
+number_of NoCommand = 2
+number_of CaseRefused = 3
+number_of TooLong = 5
+number_of ReadFault = 6
+number_of WriteFault = 7
+number_of OutOfMemory = 8
 
 -- the status of what is shown, where all of its text was written
-abbrev pub status_of : Shown → ℕ
-status_of (Targets targets pinches) = 0
-status_of (Flow case parts flow prices cost) = 0
-status_of (Curves hot cold net) = 0
-status_of BadWords = 2
-status_of (BadCase row why) = 3
-status_of NotStandard = 3
-status_of (TooLong file) = 5
-status_of (ReadFault file) = 6
+abbrev pub status_of : Shown → Status
+status_of (shows.Targets targets pinches) = Answered
+status_of (shows.Flow case parts flow prices cost) = Answered
+status_of (shows.Curves hot cold net) = Answered
+status_of shows.BadWords = NoCommand
+status_of (shows.BadCase row why) = CaseRefused
+status_of shows.NotStandard = CaseRefused
+status_of (shows.TooLong file) = TooLong
+status_of (shows.ReadFault file) = ReadFault
 
--- a status that answers the command
-abbrev pub IsAnswered : ℕ → Type 0
-IsAnswered status = (status ≤ 1) ⊎ (status ≡ 9)
+-- the command is answered
+abbrev pub IsAnswered : Status → Type 0
+IsAnswered Answered = ⊤
+IsAnswered NoCommand = ⊥
+IsAnswered CaseRefused = ⊥
+IsAnswered TooLong = ⊥
+IsAnswered ReadFault = ⊥
+IsAnswered WriteFault = ⊥
+IsAnswered OutOfMemory = ⊥

@@ -1,13 +1,15 @@
 //! What is shown for the words and the files, before anything is written.
-ghost use Rattle.std.specs.Prelude.{◌≡◌, IfOk, IfErr};
+ghost use Rattle.std.specs.Prelude.{◌≡◌, Some, IfOk, IfErr};
 ghost use Rattle.stream_case.specs.Case.{IsValid};
 ghost use Rattle.pinch_outside.specs.Shelf.{KeepsFiles, IsWhole};
+ghost use Rattle.pinch.specs.Answers.{ShowsCommand};
+ghost use Rattle.pinch.specs.Case.{case_file};
 ghost use Rattle.pinch.specs.Command.{command_of};
-ghost use Rattle.pinch.specs.FromFile.{NoFile, IfEarly, IfShown};
-ghost use Rattle.pinch.specs.Answers.{ReadsCase, NoCase, ShowsFor, ShowsCommand};
+ghost use Rattle.pinch.specs.FromText.{NoFile, NoText, ReadsText};
+ghost use Rattle.pinch.specs.Stop.{IfEarly, IfShown};
 
-use crate::case_answer::show_case;
-use crate::command::{Command, read_command, word_text};
+use crate::case_answer::{show_curves, show_flow, show_targets};
+use crate::command::{Command, read_command};
 use crate::word::Word;
 use case_text::{CaseFault, read_case};
 use pinch_outside::{Shelf, TakeFault, take_all};
@@ -36,11 +38,31 @@ impl From<AllocError> for Stop {
 /// What is shown for the words and the files.
 #[tactic(auto, unfolding(crate::specs::Answers::ShowsCommand))]
 pub fn answer<S: Shelf>(alloc: Global, words: &Items<Word>, shelf: &mut S) -> Result<Shown, Stop>
-    ensures { IfShown result (ShowsCommand (command_of words.now) words.now (S.state shelf.old) (S.state shelf.new)) }
+    ensures { IfShown result (ShowsCommand (command_of words.now) (S.state shelf.old) (S.state shelf.new)) }
 {
-    match read_command(words) {
+    match read_command(alloc, words)? {
         None => Ok(Shown::BadWords),
-        Some(command) => answer_case(alloc, shelf, command, word_text(words, 1)),
+        Some(command) => answer_command(alloc, shelf, &command),
+    }
+}
+
+#[tactic(auto, unfolding(crate::specs::Answers::ShowsCommand))]
+fn answer_command<S: Shelf>(alloc: Global, shelf: &mut S, command: &Command) -> Result<Shown, Stop>
+    ensures { IfShown result (ShowsCommand (Some command.now) (S.state shelf.old) (S.state shelf.new)) }
+{
+    match command {
+        Command::Targets { case } => {
+            let case = take_case(alloc, shelf, case)?;
+            Ok(show_targets(alloc, &case)?)
+        }
+        Command::Flow { case } => {
+            let case = take_case(alloc, shelf, case)?;
+            Ok(show_flow(alloc, &case)?)
+        }
+        Command::Curves { case } => {
+            let case = take_case(alloc, shelf, case)?;
+            Ok(show_curves(alloc, &case)?)
+        }
     }
 }
 
@@ -48,13 +70,13 @@ fn take_file<S: Shelf>(
     alloc: Global,
     shelf: &mut S,
     role: FileRole,
-    name: &str,
+    name: &Word,
 ) -> Result<Vec<u8>, Stop>
     ensures whole { IfOk result (λ bytes. IsWhole name.now (S.state shelf.old) (S.state shelf.new) bytes.items) }
     ensures stop { IfErr result (λ stop. IfEarly stop (NoFile role name.now (S.state shelf.old) (S.state shelf.new))) }
     ensures keeps { KeepsFiles (S.state shelf.old) (S.state shelf.new) }
 {
-    match take_all(alloc, shelf, name) {
+    match take_all(alloc, shelf, name.as_str()) {
         Ok(bytes) => Ok(bytes),
         Err(TakeFault::Fault) => Err(Stop::Early(Shown::ReadFault { file: role })),
         Err(TakeFault::Long) => Err(Stop::Early(Shown::TooLong { file: role })),
@@ -62,10 +84,10 @@ fn take_file<S: Shelf>(
     }
 }
 
-fn take_case<S: Shelf>(alloc: Global, shelf: &mut S, name: &str) -> Result<Case, Stop>
-    ensures case { IfOk result (ReadsCase name.now (S.state shelf.old) (S.state shelf.new)) }
+fn take_case<S: Shelf>(alloc: Global, shelf: &mut S, name: &Word) -> Result<Case, Stop>
+    ensures case { IfOk result (ReadsText case_file name.now (S.state shelf.old) (S.state shelf.new)) }
     ensures valid { IfOk result IsValid }
-    ensures stop { IfErr result (λ stop. IfEarly stop (NoCase name.now (S.state shelf.old) (S.state shelf.new))) }
+    ensures stop { IfErr result (λ stop. IfEarly stop (NoText case_file name.now (S.state shelf.old) (S.state shelf.new))) }
 {
     let bytes = take_file(alloc, shelf, FileRole::Case, name)?;
     match read_case(alloc, &bytes) {
@@ -73,17 +95,4 @@ fn take_case<S: Shelf>(alloc: Global, shelf: &mut S, name: &str) -> Result<Case,
         Err(CaseFault::Row { row, why }) => Err(Stop::Early(Shown::BadCase { row, why })),
         Err(CaseFault::OutOfMemory) => Err(Stop::OutOfMemory),
     }
-}
-
-/// What a command shows of the case in the file of that name.
-fn answer_case<S: Shelf>(
-    alloc: Global,
-    shelf: &mut S,
-    command: Command,
-    name: &str,
-) -> Result<Shown, Stop>
-    ensures { IfShown result (ShowsFor command name.now (S.state shelf.old) (S.state shelf.new)) }
-{
-    let case = take_case(alloc, shelf, name)?;
-    Ok(show_case(alloc, command, &case)?)
 }

@@ -1,10 +1,9 @@
 //! What a command shows of the case that it reads.
 ghost use Rattle.std.specs.Prelude.{IfOk};
 ghost use Rattle.stream_case.specs.Case.{IsValid, completed};
-ghost use Rattle.pinch.specs.Answers.{AreTargetsOf, AreCurvesOf, ShowsCase};
+ghost use Rattle.pinch.specs.Case.{AreTargetsOf, AreCurvesOf};
 ghost use Rattle.pinch.specs.Flow.{AnswersFlow};
 
-use crate::command::Command;
 use crate::flow::answer_completed;
 use curves::{cold_curve, grand_curve, hot_curve};
 use problem_table::{pinches, targets};
@@ -12,20 +11,8 @@ use reports::Shown;
 use std::alloc::{AllocError, Global};
 use stream_case::{Case, complete};
 
-/// What a command shows of a case.
-#[tactic(auto, unfolding(crate::specs::Answers::ShowsCase))]
-pub fn show_case(alloc: Global, command: Command, case: &Case) -> Result<Shown, AllocError>
-    requires { IsValid case.now }
-    ensures { IfOk result (ShowsCase command case.now) }
-{
-    match command {
-        Command::Targets => show_targets(alloc, case),
-        Command::Flow => show_flow(alloc, case),
-        Command::Curves => show_curves(alloc, case),
-    }
-}
-
-fn show_targets(alloc: Global, case: &Case) -> Result<Shown, AllocError>
+/// The targets of a case and its pinches.
+pub fn show_targets(alloc: Global, case: &Case) -> Result<Shown, AllocError>
     requires { IsValid case.now }
     ensures { IfOk result (AreTargetsOf case.now) }
 {
@@ -35,14 +22,16 @@ fn show_targets(alloc: Global, case: &Case) -> Result<Shown, AllocError>
     })
 }
 
-fn show_flow(alloc: Global, case: &Case) -> Result<Shown, AllocError>
+/// A heat flow of the completed case.
+pub fn show_flow(alloc: Global, case: &Case) -> Result<Shown, AllocError>
     requires { IsValid case.now }
     ensures { IfOk result (AnswersFlow (completed case.now)) }
 {
     answer_completed(alloc, complete(alloc, case)?)
 }
 
-fn show_curves(alloc: Global, case: &Case) -> Result<Shown, AllocError>
+/// The three curves of a case.
+pub fn show_curves(alloc: Global, case: &Case) -> Result<Shown, AllocError>
     requires { IsValid case.now }
     ensures { IfOk result (AreCurvesOf case.now) }
 {

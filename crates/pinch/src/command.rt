@@ -1,51 +1,49 @@
 //! The forms of a command.
-ghost use Rattle.std.specs.Prelude.{◌≡◌};
-ghost use Rattle.pinch.specs.Command.{command_of, command_of_file, word_at};
+ghost use Rattle.std.specs.Prelude.{◌≡◌, IfOk};
+ghost use Rattle.pinch.specs.Command.{command_of, command_of_word, one_file};
 
 use crate::word::Word;
+use std::alloc::{AllocError, Global};
 use stream_case::Items;
 
-/// A command, by its first word.
-#[derive(Clone, Copy, Debug, PartialEq, Eq)]
+/// A command with what it needs, the names of its files.
+#[derive(Debug, Drop)]
 pub enum Command {
     /// `targets CASE`: the targets and the pinches.
-    Targets,
+    Targets { case: Word },
     /// `flow CASE`: a heat flow of least cost, with prices that prove it.
-    Flow,
+    Flow { case: Word },
     /// `curves CASE`: the composite curves and the grand composite curve.
-    Curves,
+    Curves { case: Word },
 }
 
 /// The command that the words form, if they form one.
-pub fn read_command(words: &Items<Word>) -> Option<Command>
-    ensures { result ≡ command_of words.now }
+pub fn read_command(alloc: Global, words: &Items<Word>) -> Result<Option<Command>, AllocError>
+    ensures { IfOk result (λ command. command ≡ command_of words.now) }
 {
     match words.as_slice() {
-        [word, name] if !name.as_str().is_empty() => file_command(word.as_str()),
-        _ => None,
+        [word, rest @ ..] => command_of_word(alloc, word.as_str(), rest),
+        [] => Ok(None),
     }
 }
 
-fn file_command(word: &str) -> Option<Command>
-    ensures { result ≡ command_of_file word.now }
+fn command_of_word(alloc: Global, word: &str, rest: &[Word]) -> Result<Option<Command>, AllocError>
+    ensures { IfOk result (λ command. command ≡ command_of_word word.now rest.now) }
 {
-    if word == "targets" {
-        Some(Command::Targets)
-    } else if word == "flow" {
-        Some(Command::Flow)
-    } else if word == "curves" {
-        Some(Command::Curves)
-    } else {
-        None
+    match word {
+        "targets" => Ok(one_file(alloc, rest)?.map(|case| Command::Targets { case })),
+        "flow" => Ok(one_file(alloc, rest)?.map(|case| Command::Flow { case })),
+        "curves" => Ok(one_file(alloc, rest)?.map(|case| Command::Curves { case })),
+        _ => Ok(None),
     }
 }
 
-/// The word at a place, and the empty word past the end.
-pub fn word_text(words: &Items<Word>, place: usize) -> &str
-    ensures { result.now ≡ word_at words.now place }
+/// The name of a file, where the words are just that; it is not empty.
+fn one_file(alloc: Global, words: &[Word]) -> Result<Option<Word>, AllocError>
+    ensures { IfOk result (λ name. name ≡ one_file words.now) }
 {
-    match words.as_slice().get(place) {
-        Some(word) => word.as_str(),
-        None => "",
+    match words {
+        [name] if !name.as_str().is_empty() => Ok(Some(name.copied(alloc)?)),
+        _ => Ok(None),
     }
 }

@@ -1,11 +1,8 @@
 //! The program, from its words to what it writes.
 #![tactic(auto)]
 
-ghost use Rattle.std.specs.Prelude.{◌≡◌, map, drop, IfOk, string_bytes};
-ghost use Rattle.std.specs.Process.{exit_status};
-ghost use Rattle.std.specs.Vec.Iter.{into_iter_items};
-
 mod answer;
+mod arguments;
 mod case_answer;
 mod command;
 mod flow;
@@ -15,49 +12,18 @@ mod status;
 mod tests;
 mod word;
 
+use arguments::run_arguments;
 pub use command::Command;
 use pinch_outside::{FileShelf, OutSink};
 pub use program::{Done, run};
-use std::alloc::{AllocError, Global};
-use std::env::{self, Args};
-use std::io::ErrorKind;
+pub use status::Status;
+use std::env;
 use std::process::ExitCode;
-use std::rt::Env;
-use stream_case::Items;
 pub use word::Word;
 
+// No contract can say what the system hands in and what becomes of the exit code: all else stands in `run_arguments`.
 fn main(rt: HostRuntime) -> ExitCode {
-    let Ok(words) = collect_words(&rt) else {
-        return ExitCode::from(8);
-    };
     let mut shelf = FileShelf::new(&rt);
     let mut sink = OutSink::new(&rt);
-    exit_code(&run(&rt, rt.alloc(), &words, &mut shelf, &mut sink))
-}
-
-/// The exit code of how the program ended.
-fn exit_code(done: &Done) -> ExitCode
-    ensures { exit_status result ≡ done.now.status }
-{
-    ExitCode::from(done.status)
-}
-
-/// The words after the program's own name, or none where one is no text.
-fn collect_words<R: Env + AllocGlobal>(rt: &R) -> Result<Items<Word>, AllocError> {
-    match env::args(rt) {
-        Ok(texts) => words_after_name(rt.alloc(), texts),
-        Err(error) if error.kind() == ErrorKind::OutOfMemory => Err(AllocError),
-        Err(_) => Ok(Items::new(rt.alloc())),
-    }
-}
-
-/// The words behind the first of these texts, in their order.
-fn words_after_name(alloc: Global, texts: Args) -> Result<Items<Word>, AllocError>
-    ensures { IfOk result (λ words. words ≡ map string_bytes (drop 1 (into_iter_items texts))) }
-{
-    let mut words = Items::new(alloc);
-    for text in texts.skip(1) {
-        words.push(Word::new(text))?;
-    }
-    Ok(words)
+    run_arguments(&rt, rt.alloc(), env::args(&rt), &mut shelf, &mut sink)
 }

@@ -3,17 +3,17 @@ ghost use Rattle.std.specs.Prelude.{◌≡◌, ◌⊎◌, ◌↔◌, ℕ, IsNone
 ghost use Rattle.std.specs.Io.KnownBytes.{Appends};
 ghost use Rattle.pinch_outside.specs.Faults.{Rose};
 ghost use Rattle.pinch_outside.specs.Sink.{AppendsFront};
-ghost use Rattle.pinch.specs.Command.{command_of};
-ghost use Rattle.pinch.specs.Status.{status_of, IsAnswered};
+ghost use Rattle.reports.specs.Text.{text};
+ghost use Rattle.reports.specs.declared.shown.Shown.{Shown};
 ghost use Rattle.pinch.specs.Answers.{ShowsCommand};
 ghost use Rattle.pinch.specs.Causes.{HasCause};
-ghost use Rattle.pinch.specs.Complete.{CanAnswer, HasBadCase};
-ghost use Rattle.reports.specs.Text.{text};
-ghost use Rattle.case_text.specs.declared.fault.CaseWhy.{CaseWhy};
-ghost use Rattle.reports.specs.declared.shown.Shown.TheVariants.{BadCase};
+ghost use Rattle.pinch.specs.Command.{command_of};
+ghost use Rattle.pinch.specs.Complete.{CanAnswer, HasBadFile};
+ghost use Rattle.pinch.specs.Status.{number_of, status_of, IsAnswered};
+ghost use Rattle.pinch.specs.declared.status.Status.TheVariants.{WriteFault, OutOfMemory};
 
 use crate::answer::{Stop, answer};
-use crate::status::{OUT_OF_MEMORY, WRITE_FAULT, status_of};
+use crate::status::{Status, status_of};
 use crate::word::Word;
 use pinch_outside::{Shelf, Sink, write_all_of};
 use reports::{Shown, text_of};
@@ -24,8 +24,7 @@ use stream_case::Items;
 /// How the program ended, and what it showed.
 #[derive(Debug, Drop)]
 pub struct Done {
-    /// The exit status: 0 answered, 2 no command, 3 case refused or not standard, 5 file too long,
-    /// 6 read fault, 7 write fault, 8 want of memory.
+    /// The number of a [`Status`], with which the program ends.
     pub status: u8,
     /// What is shown; nothing exactly where memory is wanted.
     pub shown: Option<Shown>,
@@ -33,7 +32,7 @@ pub struct Done {
 
 /// Does what the words say over the files of the shelf, and writes the text of what is shown to
 /// the sink. All room is taken before the first write.
-#[tactic(auto, using(crate::proofs::Causes::causes, crate::proofs::Complete::complete, crate::proofs::Complete::bad_case))]
+#[tactic(auto, using(crate::proofs::Causes::causes, crate::proofs::Complete::complete, crate::proofs::Complete::bad_file))]
 pub fn run<R: Threads + Sync, S: Shelf, K: Sink>(
     _rt: &R,
     alloc: Global,
@@ -42,31 +41,33 @@ pub fn run<R: Threads + Sync, S: Shelf, K: Sink>(
     sink: &mut K,
 ) -> Done
     ensures shown { IfSome result.shown
-        (ShowsCommand (command_of words.now) words.now (S.state shelf.old) (S.state shelf.new)) }
+        (ShowsCommand (command_of words.now) (S.state shelf.old) (S.state shelf.new)) }
     ensures causes { IfSome result.shown
-        (HasCause (command_of words.now) words.now (S.state shelf.old) (S.state shelf.new)) }
-    ensures status { IfSome result.shown (λ shown. (result.status ≡ status_of shown) ⊎ (result.status ≡ 7)) }
+        (HasCause (command_of words.now) (S.state shelf.old) (S.state shelf.new)) }
+    ensures status { IfSome result.shown (λ shown. (result.status ≡ number_of (status_of shown))
+        ⊎ (result.status ≡ number_of WriteFault)) }
 
     // Nothing is shown exactly where memory is wanted, and then nothing was written.
-    ensures memory { IsNone result.shown ↔ (result.status ≡ 8) }
-    ensures untouched { result.status ≡ 8 → sink.new ≡ sink.old }
+    ensures memory { IsNone result.shown ↔ (result.status ≡ number_of OutOfMemory) }
+    ensures untouched { result.status ≡ number_of OutOfMemory → sink.new ≡ sink.old }
 
-    ensures written { IfSome result.shown (λ shown. (result.status ≡ 7)
+    ensures written { IfSome result.shown (λ shown. (result.status ≡ number_of WriteFault)
         ⊎ Appends (K.written sink.old) (K.written sink.new) (text shown)) }
     ensures front { IfSome result.shown (λ shown. AppendsFront (K.written sink.old) (K.written sink.new) (text shown)) }
-    ensures write_fault { result.status ≡ 7 → Rose (K.faults sink.old) (K.faults sink.new) }
+    ensures write_fault { result.status ≡ number_of WriteFault → Rose (K.faults sink.old) (K.faults sink.new) }
 
     // Files that the command can read are answered, where no call is refused and memory is found.
-    ensures complete { CanAnswer (command_of words.now) words.now (S.state shelf.old).files
+    ensures complete { CanAnswer (command_of words.now) (S.state shelf.old).files
         → ¬ Rose (S.state shelf.old).faults (S.state shelf.new).faults
         → ¬ Rose (K.faults sink.old) (K.faults sink.new)
-        → IfSome result.shown (λ _. IsAnswered result.status) }
+        → IfSome result.shown (λ shown. (result.status ≡ number_of (status_of shown))
+        × IsAnswered (status_of shown)) }
 
-    // A case file that the grammar refuses is told to be refused, with its row and its cause.
-    ensures refused { (row : ℕ) → (why : CaseWhy)
-        → HasBadCase (command_of words.now) words.now (S.state shelf.old).files row why
+    // A file that its grammar refuses is told to be refused, with where and why.
+    ensures refused { (refusal : Shown)
+        → HasBadFile (command_of words.now) (S.state shelf.old).files refusal
         → ¬ Rose (S.state shelf.old).faults (S.state shelf.new).faults
-        → IfSome result.shown (λ shown. shown ≡ BadCase row why) }
+        → IfSome result.shown (λ shown. shown ≡ refusal) }
 {
     let shown = match answer(alloc, words, shelf) {
         Ok(shown) | Err(Stop::Early(shown)) => shown,
@@ -77,20 +78,20 @@ pub fn run<R: Threads + Sync, S: Shelf, K: Sink>(
     };
     let status = match write_all_of(sink, printed.as_slice()) {
         Ok(()) => status_of(&shown),
-        Err(_) => WRITE_FAULT,
+        Err(_) => Status::WriteFault,
     };
     Done {
-        status,
+        status: status.number(),
         shown: Some(shown),
     }
 }
 
 fn out_of_memory() -> Done
-    ensures status { result.status ≡ 8 }
+    ensures status { result.status ≡ number_of OutOfMemory }
     ensures shown { IsNone result.shown }
 {
     Done {
-        status: OUT_OF_MEMORY,
+        status: Status::OutOfMemory.number(),
         shown: None,
     }
 }

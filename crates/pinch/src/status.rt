@@ -1,24 +1,54 @@
 //! The exit statuses of the program.
 ghost use Rattle.std.specs.Prelude.{◌≡◌};
-ghost use Rattle.pinch.specs.Status.{status_of};
+ghost use Rattle.pinch.specs.Status.{number_of, status_of};
 
 use reports::Shown;
 
-/// The text of what is shown could not be written whole.
-pub const WRITE_FAULT: u8 = 7;
+/// How the program ends.
+#[derive(Clone, Copy, Debug, PartialEq, Eq)]
+pub enum Status {
+    /// The command is answered.
+    Answered,
+    /// The words are no command.
+    NoCommand,
+    /// The case file is refused, or the command does not answer its case.
+    CaseRefused,
+    /// A file is longer than the limit.
+    TooLong,
+    /// A file could not be read.
+    ReadFault,
+    /// The text of what is shown could not be written whole.
+    WriteFault,
+    /// There was not memory enough, and nothing was written.
+    OutOfMemory,
+}
 
-/// There was not memory enough, and nothing was written.
-pub const OUT_OF_MEMORY: u8 = 8;
+impl Status {
+    /// The number of the status, as the program ends with it.
+    pub fn number(self) -> u8
+        ensures { result ≡ number_of self }
+    {
+        match self {
+            Status::Answered => 0,
+            Status::NoCommand => 2,
+            Status::CaseRefused => 3,
+            Status::TooLong => 5,
+            Status::ReadFault => 6,
+            Status::WriteFault => 7,
+            Status::OutOfMemory => 8,
+        }
+    }
+}
 
 /// The status of what is shown, where all of its text was written.
-pub fn status_of(shown: &Shown) -> u8
+pub fn status_of(shown: &Shown) -> Status
     ensures { result ≡ status_of shown.now }
 {
     match shown {
-        Shown::Targets { .. } | Shown::Flow { .. } | Shown::Curves { .. } => 0,
-        Shown::BadWords => 2,
-        Shown::BadCase { .. } | Shown::NotStandard => 3,
-        Shown::TooLong { .. } => 5,
-        Shown::ReadFault { .. } => 6,
+        Shown::Targets { .. } | Shown::Flow { .. } | Shown::Curves { .. } => Status::Answered,
+        Shown::BadWords => Status::NoCommand,
+        Shown::BadCase { .. } | Shown::NotStandard => Status::CaseRefused,
+        Shown::TooLong { .. } => Status::TooLong,
+        Shown::ReadFault { .. } => Status::ReadFault,
     }
 }

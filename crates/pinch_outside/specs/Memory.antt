@@ -14,19 +14,19 @@ named_files files = map (λ file. record { name = string_bytes file.name; bytes 
 abbrev pub has_name : List ℕ → MemoryFile → Bool
 has_name name file = bytes_eq (string_bytes file.name) name
 
--- the place of the first file of that name
-abbrev pub place_of : List ℕ → List MemoryFile → Option ℕ
-place_of name files = position (has_name name) files
+-- the index of the first file of that name
+abbrev pub index_of : List ℕ → List MemoryFile → Option ℕ
+index_of name files = position (has_name name) files
 
--- the file at a place
+-- the file at an index
 abbrev pub file_at : List MemoryFile → Option ℕ → Option MemoryFile
 file_at files at = option_and_then (slice_get files) at
 
--- the name of the file at a place
+-- the name of the file at an index
 abbrev pub name_at : List MemoryFile → Option ℕ → Option (List ℕ)
 name_at files at = option_map (λ file. string_bytes file.name) (file_at files at)
 
--- the bytes of the file at a place from a position on
+-- the bytes of the file at an index, without the first of them, `pos` many
 abbrev pub bytes_from : List MemoryFile → Option ℕ → ℕ → List ℕ
 bytes_from files at pos = drop pos (option_map_or (λ file. file.bytes.items) (file_at files at) [])
 

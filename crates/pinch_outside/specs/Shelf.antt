@@ -4,6 +4,7 @@ use Rattle.std.specs.Io.{ReadsAtMost}
 use Rattle.std.specs.Io.KnownBytes.{ReadConsumes}
 use Rattle.std.specs.Str.{bytes_eq}
 use Rattle.pinch_outside.specs.Faults.{Rose, HasCause}
+use Rattle.pinch_outside.specs.declared.limits.TheConstants.{MAX_FILE}
 
 -- a file by its name and its bytes
 pub record NamedFile : Type 0 where
@@ -60,10 +61,10 @@ abbrev pub put_count : {E : Type 0} → Result ℕ E → ℕ
 put_count (Ok n) = n
 put_count (Err e) = 0
 
--- a take into so many places met the end of the file
+-- a take into room for so many bytes met the end of the file
 abbrev pub met_end : {E : Type 0} → Result ℕ E → ℕ → Bool
-met_end (Ok n) places = nat_eq n 0 && nat_lt 0 places
-met_end (Err e) places = false
+met_end (Ok n) room = nat_eq n 0 && nat_lt 0 room
+met_end (Err e) room = false
 
 -- into a buffer with room no byte is put exactly where none was to come, where the bytes to come are told
 abbrev pub PutsNoneAtEnd : {E : Type 0} → Option (List ℕ) → Result ℕ E → List ℕ → Type 0
@@ -99,26 +100,22 @@ pub record KeepsFiles (old new : ShelfState) : Type 0 where
   pub files : new.files ≡ old.files
   pub later : old.faults ≤ new.faults
 
--- the most bytes that a file may have
-abbrev pub file_limit : ℕ
-file_limit = 8388608
-
 -- the file of that name was taken to its end
 pub record IsWhole (name : List ℕ) (old new : ShelfState) (bytes : List ℕ) : Type 0 where
   pub file : IsFile old.files name (Some bytes)
   pub count : length bytes ≡ new.taken
-  pub within : length bytes ≤ file_limit
+  pub within : length bytes ≤ MAX_FILE
   pub failed : new.failed ≡ false
   pub ended : new.ended ≡ true
 
 -- the file of that name is longer than the limit, of which one byte more was taken
 pub record IsTooLong (name : List ℕ) (old new : ShelfState) : Type 0 where
-  pub taken : new.taken ≡ file_limit + 1
-  pub file : IsFileAbove old.files name file_limit
+  pub taken : new.taken ≡ MAX_FILE + 1
+  pub file : IsFileAbove old.files name MAX_FILE
 
 -- the last call, on the file of that name, was refused
 pub record HasFailed (name : List ℕ) (old new : ShelfState) : Type 0 where
   pub rose : Rose old.faults new.faults
-  pub within : new.taken ≤ file_limit
+  pub within : new.taken ≤ MAX_FILE
   pub failed : new.failed ≡ true
   pub asked : new.asked ≡ asked_for name old.files

@@ -5,6 +5,7 @@
 
 mod adapters;
 mod counts;
+mod limits;
 mod memory_shelf;
 mod memory_sink;
 mod shelf;
@@ -13,7 +14,8 @@ mod sink;
 mod tests;
 
 pub use adapters::{FileShelf, OutSink};
+pub use limits::MAX_FILE;
 pub use memory_shelf::{MemoryFile, MemoryShelf};
 pub use memory_sink::MemorySink;
-pub use shelf::{MAX_FILE, Shelf, ShelfFault, TakeFault, take_all};
+pub use shelf::{Shelf, ShelfFault, TakeFault, take_all};
 pub use sink::{Sink, SinkFault, write_all_of};

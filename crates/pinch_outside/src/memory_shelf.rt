@@ -3,7 +3,7 @@ ghost use Rattle.std.specs.Prelude.{◌≡◌, ◌+◌, ◌-◌, ◌^◌, ◌≤
 ghost use Rattle.pinch_outside.specs.Faults.{counted, faults_after};
 ghost use Rattle.pinch_outside.specs.Failing.{is_failing};
 ghost use Rattle.pinch_outside.specs.Shelf.{Starts, Takes, put_count, met_end};
-ghost use Rattle.pinch_outside.specs.Memory.{place_of, bytes_from, memory_state};
+ghost use Rattle.pinch_outside.specs.Memory.{index_of, bytes_from, memory_state};
 
 use crate::counts::count_call;
 use crate::{Shelf, ShelfFault};
@@ -19,7 +19,7 @@ pub struct MemoryFile {
 #[derive(Drop)]
 pub struct MemoryShelf {
     pub files: Vec<MemoryFile>,
-    /// The place of the file of the last start, the first of its name, if one has it.
+    /// The index of the file of the last start, the first of its name, if one has it.
     pub at: Option<usize>,
     /// How many bytes of that file were taken.
     pub pos: usize,
@@ -76,9 +76,9 @@ impl MemoryShelf {
     }
 }
 
-// The place of the first file of that name.
-fn find_place(files: &[MemoryFile], name: &str) -> Option<usize>
-    ensures { result ≡ place_of name.now files.now }
+// The index of the first file of that name.
+fn find_index(files: &[MemoryFile], name: &str) -> Option<usize>
+    ensures { result ≡ index_of name.now files.now }
 {
     files.iter().position(|file| file.name.as_str() == name)
 }
@@ -93,9 +93,9 @@ impl Shelf for MemoryShelf {
 
     fn start(&mut self, name: &str) -> Result<(), ShelfFault>
         ensures outcome { is_ok result ≡ (not (is_failing self.old.fails.items self.new.calls)
-            && is_some (place_of name.now self.old.files.items)) }
+            && is_some (index_of name.now self.old.files.items)) }
         ensures after { self.new ≡ record self.old {
-          at = place_of name.now self.old.files.items;
+          at = index_of name.now self.old.files.items;
           pos = 0;
           begun = is_ok result;
           failed = is_err result;
@@ -106,7 +106,7 @@ impl Shelf for MemoryShelf {
         ensures told { Starts name.now (memory_state self.old) (memory_state self.new) result }
     {
         let fails = count_call(&mut self.calls, &self.fails);
-        self.at = find_place(&self.files, name);
+        self.at = find_index(&self.files, name);
         self.pos = 0;
         self.ended = false;
         self.begun = !fails && self.at.is_some();

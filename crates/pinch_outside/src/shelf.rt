@@ -1,8 +1,9 @@
 // Where files are taken from.
 ghost use Rattle.std.specs.Prelude.{◌≡◌, ◌+◌, ◌-◌, ◌^◌, ◌≤◌, ◌↔◌, true, length, IfOk, IsErrOf};
-ghost use Rattle.pinch_outside.specs.Shelf.{ShelfState, IsToldTogether, Starts, Takes, KeepsFiles, file_limit, IsWhole, IsTooLong, HasFailed};
+ghost use Rattle.pinch_outside.specs.Shelf.{ShelfState, IsToldTogether, Starts, Takes, KeepsFiles, IsWhole, IsTooLong, HasFailed};
 
-use std::alloc::{AllocError, Global};
+use crate::limits::MAX_FILE;
+use std::alloc::Global;
 
 /// A start or a take was refused.
 #[derive(Clone, Copy, Debug, PartialEq, Eq)]
@@ -28,9 +29,6 @@ pub trait Shelf {
     ghost told_together: { (shelf : Self) → IsToldTogether (state shelf) };
 }
 
-/// The most bytes that a file may have.
-pub const MAX_FILE: usize = 8_388_608;
-
 const PIECE: usize = 4096;
 
 /// Why a file was not taken whole.
@@ -55,28 +53,17 @@ impl From<ShelfFault> for TakeFault {
     }
 }
 
-impl From<AllocError> for TakeFault {
-    ghost use Rattle.std.specs.Prelude.{◌≡◌};
-    ghost use Rattle.pinch_outside.specs.declared.shelf.TakeFault.TheVariants.{OutOfMemory};
-
-    ghost from_gives = { λ _ fault. fault ≡ OutOfMemory };
-
-    fn from(_: AllocError) -> Self {
-        TakeFault::OutOfMemory
-    }
-}
-
 /// Starts a file and takes it to its end. It answers `Long` exactly where one byte above the limit was taken, and
 /// `Fault` only where the shelf counted a fault at this file.
 pub fn take_all<S: Shelf>(alloc: Global, shelf: &mut S, name: &str) -> Result<Vec<u8>, TakeFault>
     ensures whole { IfOk result (λ bytes. IsWhole name.now (S.state shelf.old) (S.state shelf.new) bytes.items) }
-    ensures long { (result ≡ Err TakeFault.Long) ↔ ((S.state shelf.new).taken ≡ file_limit + 1) }
+    ensures long { (result ≡ Err TakeFault.Long) ↔ ((S.state shelf.new).taken ≡ MAX_FILE + 1) }
     ensures long_file { IsErrOf result TakeFault.Long → IsTooLong name.now (S.state shelf.old) (S.state shelf.new) }
     ensures failed { (result ≡ Err TakeFault.Fault) ↔ ((S.state shelf.new).failed ≡ true) }
     ensures fault { IsErrOf result TakeFault.Fault → HasFailed name.now (S.state shelf.old) (S.state shelf.new) }
 
     // It never takes more than one byte above the limit.
-    ensures most { (S.state shelf.new).taken ≤ file_limit + 1 }
+    ensures most { (S.state shelf.new).taken ≤ MAX_FILE + 1 }
     ensures keeps { KeepsFiles (S.state shelf.old) (S.state shelf.new) }
 {
     shelf.start(name)?;
@@ -91,14 +78,16 @@ pub fn take_all<S: Shelf>(alloc: Global, shelf: &mut S, name: &str) -> Result<Ve
         if bytes.len() + count > MAX_FILE {
             return Err(TakeFault::Long);
         }
-        bytes.extend_from_slice(&piece[..count])?;
+        bytes
+            .extend_from_slice(&piece[..count])
+            .map_err(|_| TakeFault::OutOfMemory)?;
     }
 }
 
 // One turn of `take_all`. What is asked for and what was taken before come to at most one byte above the limit.
 fn take_within_limit<S: Shelf>(shelf: &mut S, buf: &mut [u8]) -> Result<usize, ShelfFault>
     requires begun { (S.state shelf.old).begun ≡ true }
-    requires within_limit { (S.state shelf.old).taken + length buf.old ≤ file_limit + 1 }
+    requires within_limit { (S.state shelf.old).taken + length buf.old ≤ MAX_FILE + 1 }
     ensures { Takes (S.state shelf.old) (S.state shelf.new) buf.new result }
 {
     shelf.take(buf)

@@ -28,25 +28,29 @@ source_name c (of_utility i) = option_map_or (λ u. u.name) (slice_get c.utiliti
 abbrev pub part_text : Case → Part → List ℕ
 part_text c p = source_name c p.source ++ 32 ∷ (signed_decimal p.high ++ 32 ∷ signed_decimal p.low)
 
--- the part at a place of a list
+-- the part at an index of a list
 abbrev pub part_at : Case → List Part → ℕ → List ℕ
-part_at c parts place = option_map_or (part_text c) (slice_get parts place) []
+part_at c parts index = option_map_or (part_text c) (slice_get parts index) []
 
--- the part at a place is that of utility number i
+-- the part at an index is that of utility i
 abbrev pub is_of_utility : ℕ → List Part → ℕ → Bool
-is_of_utility i parts place = option_map_or (λ p. same_source p.source (of_utility i)) (slice_get parts place) false
+is_of_utility i parts index = option_map_or (λ p. same_source p.source (of_utility i)) (slice_get parts index) false
 
--- the heat of a transfer, if its part of this side is that of utility number i
+-- the heat of a transfer, if its part of this side is that of utility i
 abbrev pub heat_of_utility : ℕ → Side → List Part → Transfer → ℤ
 heat_of_utility i side parts t = if is_of_utility i parts (place_of side t) then t.heat else pos 0
 
--- what utility number i gives or takes in all
+-- what utility i gives or takes in all
 abbrev pub utility_heat : ℕ → Side → List Part → List Transfer → ℤ
 utility_heat i side parts transfers = int_sum_by (heat_of_utility i side parts) transfers
 
 abbrev pub side_parts : Side → Parts → List Part
 side_parts Hot parts = parts.hot
 side_parts Cold parts = parts.cold
+
+abbrev pub side_prices : Side → Prices → List ℤ
+side_prices Hot prices = prices.hot
+side_prices Cold prices = prices.cold
 
 -- use NAME HEAT
 abbrev pub use_line : Parts → List Transfer → ℕ → Utility → List ℕ
@@ -56,15 +60,20 @@ use_line parts transfers i u = line (codes "use " ++ u.name) (utility_heat i u.s
 abbrev pub move_line : Case → Parts → Transfer → List ℕ
 move_line c parts t = line (codes "move " ++ (part_at c parts.hot t.hot ++ 32 ∷ part_at c parts.cold t.cold)) t.heat
 
--- give NAME HIGH LOW PRICE, or take NAME HIGH LOW PRICE
-abbrev pub price_line : Case → List ℕ → List ℤ → ℕ → Part → List ℕ
-price_line c word prices place p = line (word ++ part_text c p) (price_at prices place)
+-- what a part of this side does with its heat
+abbrev pub price_word : Side → List ℕ
+price_word Hot = codes "give"
+price_word Cold = codes "take"
 
-abbrev pub price_lines : Case → List ℕ → List Part → List ℤ → List ℕ
-price_lines c word parts prices = texts_from (price_line c word prices) 0 parts
+-- give NAME HIGH LOW PRICE, or take NAME HIGH LOW PRICE
+abbrev pub price_line : Case → Side → ℤ → Part → List ℕ
+price_line c side price p = line (price_word side ++ 32 ∷ part_text c p) price
+
+abbrev pub price_lines : Case → Side → Parts → Prices → List ℕ
+price_lines c side parts prices = texts_from (λ i p. price_line c side (price_at (side_prices side prices) i) p) 0 (side_parts side parts)
 
 -- the cost, the use of each utility, the transfers and the prices
 abbrev pub flow_text : Case → Parts → List Transfer → Prices → ℤ → List ℕ
 flow_text c parts transfers prices cost =
     line (codes "cost") cost ++ texts_from (use_line parts transfers) 0 c.utilities ++ flat_map (move_line c parts) transfers
-    ++ price_lines c (codes "give ") parts.hot prices.hot ++ price_lines c (codes "take ") parts.cold prices.cold
+    ++ price_lines c Hot parts prices ++ price_lines c Cold parts prices

@@ -1,4 +1,6 @@
 pub mod Curves
 pub mod Flow
 pub mod Lines
+pub mod Refusals
+pub mod Targets
 pub mod Text

@@ -5,7 +5,7 @@ ghost use Rattle.heat_flow.specs.Flow.{place_of};
 ghost use Rattle.heat_flow.specs.Prices.{price_at};
 ghost use Rattle.stream_case.specs.Source.{same_source};
 ghost use Rattle.reports.specs.Lines.{line, texts_from};
-ghost use Rattle.reports.specs.Flow.{source_name, part_text, part_at, is_of_utility, heat_of_utility, utility_heat, side_parts, use_line, move_line, price_line, price_lines, flow_text};
+ghost use Rattle.reports.specs.Flow.{source_name, part_text, part_at, is_of_utility, heat_of_utility, utility_heat, side_parts, side_prices, use_line, move_line, price_word, price_line, price_lines, flow_text};
 
 use crate::line::line;
 use grid::{Part, Parts};
@@ -28,20 +28,8 @@ pub fn flow_text(
     let mut text = line(alloc, "cost", cost)?;
     text.push_str(&use_lines(alloc, case, parts, transfers)?)?;
     text.push_str(&move_lines(alloc, case, parts, transfers)?)?;
-    text.push_str(&price_lines(
-        alloc,
-        case,
-        "give ",
-        parts.hot.as_slice(),
-        prices.hot.as_slice(),
-    )?)?;
-    text.push_str(&price_lines(
-        alloc,
-        case,
-        "take ",
-        parts.cold.as_slice(),
-        prices.cold.as_slice(),
-    )?)?;
+    text.push_str(&price_lines(alloc, case, Side::Hot, parts, prices)?)?;
+    text.push_str(&price_lines(alloc, case, Side::Cold, parts, prices)?)?;
     Ok(text)
 }
 
@@ -55,8 +43,8 @@ fn use_lines(
         ≡ texts_from (use_line parts.now transfers.now) 0 case.now.utilities) }
 {
     let mut text = String::new(alloc);
-    for (number, utility) in case.utilities.as_slice().iter().enumerate() {
-        text.push_str(&use_line(alloc, parts, transfers, number, utility)?)?;
+    for (index, utility) in case.utilities.as_slice().iter().enumerate() {
+        text.push_str(&use_line(alloc, parts, transfers, index, utility)?)?;
     }
     Ok(text)
 }
@@ -65,14 +53,14 @@ fn use_line(
     alloc: Global,
     parts: &Parts,
     transfers: &[Transfer],
-    number: usize,
+    index: usize,
     utility: &Utility,
 ) -> Result<String, AllocError>
     ensures { IfOk result (λ text. string_bytes text
-        ≡ use_line parts.now transfers.now number utility.now) }
+        ≡ use_line parts.now transfers.now index utility.now) }
 {
     let side = utility.side;
-    let heat = utility_heat(number, side, side_parts(side, parts), transfers);
+    let heat = utility_heat(index, side, side_parts(side, parts), transfers);
     let word = format!(in alloc; "use {}", utility.name)?;
     line(alloc, &word, heat)
 }
@@ -87,28 +75,28 @@ fn side_parts(side: Side, parts: &Parts) -> &[Part]
 }
 
 /// What a utility gives or takes in all.
-fn utility_heat(number: usize, side: Side, parts: &[Part], transfers: &[Transfer]) -> i128
-    ensures { result ≡ utility_heat number side parts.now transfers.now }
+fn utility_heat(index: usize, side: Side, parts: &[Part], transfers: &[Transfer]) -> i128
+    ensures { result ≡ utility_heat index side parts.now transfers.now }
 {
     let mut total: i128 = 0;
     for transfer in transfers {
-        total += i128::from(heat_of_utility(number, side, parts, transfer));
+        total += i128::from(heat_of_utility(index, side, parts, transfer));
     }
     total
 }
 
 /// The heat of a transfer, if its part of this side is that of the utility.
-fn heat_of_utility(number: usize, side: Side, parts: &[Part], transfer: &Transfer) -> i64
-    ensures { result ≡ heat_of_utility number side parts.now transfer.now }
+fn heat_of_utility(index: usize, side: Side, parts: &[Part], transfer: &Transfer) -> i64
+    ensures { result ≡ heat_of_utility index side parts.now transfer.now }
 {
-    if is_of_utility(number, parts, place_of(side, transfer)) {
+    if is_of_utility(index, parts, part_of(side, transfer)) {
         transfer.heat
     } else {
         0
     }
 }
 
-fn place_of(side: Side, transfer: &Transfer) -> u32
+fn part_of(side: Side, transfer: &Transfer) -> u32
     ensures { result ≡ place_of side transfer.now }
 {
     match side {
@@ -117,12 +105,12 @@ fn place_of(side: Side, transfer: &Transfer) -> u32
     }
 }
 
-fn is_of_utility(number: usize, parts: &[Part], place: u32) -> bool
-    ensures { result ≡ is_of_utility number parts.now place }
+fn is_of_utility(index: usize, parts: &[Part], part: u32) -> bool
+    ensures { result ≡ is_of_utility index parts.now part }
 {
-    match parts.get(place as usize) {
+    match parts.get(part as usize) {
         Some(part) => match part.source {
-            Source::Utility(index) => index as usize == number,
+            Source::Utility(utility) => utility as usize == index,
             Source::Stream(_) => false,
         },
         None => false,
@@ -162,46 +150,66 @@ fn move_line(
 fn price_lines(
     alloc: Global,
     case: &Case,
-    word: &str,
-    parts: &[Part],
-    prices: &[i64],
+    side: Side,
+    parts: &Parts,
+    prices: &Prices,
 ) -> Result<String, AllocError>
-    ensures { IfOk result (λ text. string_bytes text ≡ price_lines case.now word.now parts.now prices.now) }
+    ensures { IfOk result (λ text. string_bytes text ≡ price_lines case.now side parts.now prices.now) }
 {
+    let prices = side_prices(side, prices);
     let mut text = String::new(alloc);
-    for (place, part) in parts.iter().enumerate() {
-        text.push_str(&price_line(alloc, case, word, price_at(prices, place), part)?)?;
+    for (index, part) in side_parts(side, parts).iter().enumerate() {
+        text.push_str(&price_line(alloc, case, side, price_at(prices, index), part)?)?;
     }
     Ok(text)
+}
+
+fn side_prices(side: Side, prices: &Prices) -> &[i64]
+    ensures { result.now ≡ side_prices side prices.now }
+{
+    match side {
+        Side::Hot => prices.hot.as_slice(),
+        Side::Cold => prices.cold.as_slice(),
+    }
 }
 
 fn price_line(
     alloc: Global,
     case: &Case,
-    word: &str,
+    side: Side,
     price: i64,
     part: &Part,
 ) -> Result<String, AllocError>
-    ensures { IfOk result (λ text. string_bytes text ≡ line (word.now ++ part_text case.now part.now) price) }
+    ensures { IfOk result (λ text. string_bytes text ≡ price_line case.now side price part.now) }
 {
-    let word = format!(in alloc; "{word}{}", part_text(alloc, case, part)?)?;
+    let word = format!(in alloc; "{} {}", price_word(side), part_text(alloc, case, part)?)?;
     line(alloc, &word, i128::from(price))
 }
 
-/// The price at a place, and 0 past the end.
-fn price_at(prices: &[i64], place: usize) -> i64
-    ensures { result ≡ price_at prices.now place }
+/// What a part of this side does with its heat.
+fn price_word(side: Side) -> &'static str
+    ensures { result.now ≡ price_word side }
 {
-    match prices.get(place) {
+    match side {
+        Side::Hot => "give",
+        Side::Cold => "take",
+    }
+}
+
+/// The price at an index, and 0 past the end.
+fn price_at(prices: &[i64], index: usize) -> i64
+    ensures { result ≡ price_at prices.now index }
+{
+    match prices.get(index) {
         Some(price) => *price,
         None => 0,
     }
 }
 
-fn part_at(alloc: Global, case: &Case, parts: &[Part], place: u32) -> Result<String, AllocError>
-    ensures { IfOk result (λ text. string_bytes text ≡ part_at case.now parts.now place) }
+fn part_at(alloc: Global, case: &Case, parts: &[Part], index: u32) -> Result<String, AllocError>
+    ensures { IfOk result (λ text. string_bytes text ≡ part_at case.now parts.now index) }
 {
-    match parts.get(place as usize) {
+    match parts.get(index as usize) {
         Some(part) => part_text(alloc, case, part),
         None => Ok(String::new(alloc)),
     }

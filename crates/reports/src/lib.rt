@@ -4,7 +4,9 @@
 mod flow;
 mod line;
 mod points;
+mod refusal;
 mod shown;
+mod targets;
 mod text;
 
 pub use shown::{FileRole, Shown};

@@ -19,6 +19,8 @@ mod heat_flow_tests;
 #[cfg(test)]
 mod network_text_tests;
 #[cfg(test)]
+mod pinch_outside_tests;
+#[cfg(test)]
 mod problem_table_tests;
 #[cfg(test)]
 mod reports_tests;

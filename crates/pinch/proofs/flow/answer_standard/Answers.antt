@@ -1,20 +1,48 @@
-use Rattle.std.proofs.Common.{◌∙◌, map, ap, arith, rules, FitsSigned, w32}
+use Rattle.std.proofs.Common.{◌≡◌, ◌∙◌, map, sym, ap, ap₂, subst, arith, rules, FitsSigned, w32}
 use Rattle.std.proofs.lemmas.Int.{ints, to_z-of_z}
-use Rattle.corner_flow.specs.Corner.{corner_price}
-use Rattle.pinch.proofs.Corner.{made}
+use Rattle.stream_case.specs.declared.source.Side.TheVariants.{Hot, Cold}
+use Rattle.heat_flow.specs.Reach.{reach_between}
+use Rattle.heat_flow.proofs.Duality.{weak_duality}
+use Rattle.problem_table.specs.Deficit.{hot_target}
+use Rattle.corner_flow.specs.Corner.{UtilityHeat, NeedsHotHeat, corner_price}
+use Rattle.reports.specs.declared.shown.Shown.TheVariants as show
 use Rattle.pinch.proofs.flow.answer_standard.Goals as goal
 
 pub returns : goal.returns
 returns c =
+    let case = c.args.case in
     let parts = c.in_ok-parts.parts in
-    let target = c.targets-targets.result.hot in
-    let place = c.reference_place-place.result in
-    let fits : FitsSigned w32 place = search rules in
-    let back = to_z-of_z w32 place fits in
-    made c.args.case parts c.in_ok-flow.flow c.in_ok-prices.prices target place
-    c.targets-targets.ensures.hot c.reference_place-place.ensures c.in_ok-parts.ensures c.in_ok-flow.ensures.spans c.in_ok-flow.ensures.flow
-    c.in_ok-flow.ensures.cost
-    (c.in_ok-prices.ensures.hot ∙ ap (λ p. map (corner_price target p) parts.hot) back)
-    (c.in_ok-prices.ensures.cold ∙ ap (λ p. map (corner_price target p) parts.cold) back)
-    c.in_ok-prices.ensures.hot_range c.in_ok-prices.ensures.cold_range c.in_ok-prices.ensures.supporting c.in_ok-prices.ensures.value
-    _ (omega (arith, ints, c.from.ensures))
+    let flow = c.in_ok-flow in
+    let prices = c.in_ok-prices in
+    let hot = c.targets-targets.ensures.hot in
+    let cold = c.targets-targets.ensures.cold in
+    let fits : FitsSigned w32 c.reference_place-place.result = search rules in
+    let place = ap₂ (λ t p. corner_price t p) hot (to_z-of_z w32 c.reference_place-place.result fits) in
+    record {
+      parts = parts;
+      flow = flow.flow;
+      prices = prices.prices;
+      certified = record {
+        parts_are = c.in_ok-parts.ensures;
+        flow = flow.ensures.flow;
+        supporting = prices.ensures.supporting;
+        hot_prices = prices.ensures.hot_range;
+        cold_prices = prices.ensures.cold_range;
+        cost_is = sym (flow.ensures.cost ∙ hot);
+        value_is = sym (prices.ensures.value ∙ hot);
+        least = λ others is.
+            let value = weak_duality (reach_between case parts.hot parts.cold) parts.hot parts.cold prices.prices.hot prices.prices.cold prices.ensures.supporting others is in
+            omega (arith, ints, value, prices.ensures.value, hot);
+      };
+      corner = flow.ensures.spans;
+      hot_heat = subst (UtilityHeat Hot parts.hot flow.flow.transfers) hot flow.ensures.hot_heat;
+      cold_heat = subst (UtilityHeat Cold parts.cold flow.flow.transfers) cold flow.ensures.cold_heat;
+      least_hot = subst (NeedsHotHeat case parts.hot parts.cold) hot flow.ensures.least;
+      corner_prices = record {
+        place = c.reference_place-place.result;
+        reference = c.reference_place-place.ensures;
+        hot_prices = prices.ensures.hot ∙ ap (λ f. map f parts.hot) place;
+        cold_prices = prices.ensures.cold ∙ ap (λ f. map f parts.cold) place;
+      };
+      is = ap (show.Flow case parts flow.flow prices.prices) (omega (arith, ints, c.from.ensures, hot));
+    }

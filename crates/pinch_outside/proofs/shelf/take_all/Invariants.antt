@@ -1,6 +1,7 @@
 use Rattle.std.proofs.Common.{◌≡◌, ◌-◌, ◌≤◌, true, length}
 use Rattle.std.specs.Io.KnownBytes.{Consumes}
 use Rattle.pinch_outside.specs.Shelf.{KeepsFiles}
+use Rattle.pinch_outside.specs.declared.limits.TheConstants.{MAX_FILE}
 use Rattle.pinch_outside.proofs.shelf.take_all.Given as goal
 
 abbrev pub invariant-loop-bytes : goal.invariant-loop-bytes
@@ -8,11 +9,11 @@ invariant-loop-bytes g l =
     record {
       left : Consumes (g.S.Shelf.state l.initial.shelf).left (g.S.Shelf.state l.shelf).left l.bytes.items;
       taken : (g.S.Shelf.state l.shelf).taken ≡ length l.bytes.items;
-      small : length l.bytes.items ≤ 8388608;
+      small : length l.bytes.items ≤ MAX_FILE;
       begun : (g.S.Shelf.state l.shelf).begun ≡ true;
       asked : (g.S.Shelf.state l.shelf).asked ≡ (g.S.Shelf.state l.initial.shelf).asked;
       keeps : KeepsFiles (g.S.Shelf.state l.initial.shelf) (g.S.Shelf.state l.shelf);
     }
 
 abbrev pub decreases-loop-bytes : goal.decreases-loop-bytes
-decreases-loop-bytes g l = 8388608 - length l.bytes.items
+decreases-loop-bytes g l = MAX_FILE - length l.bytes.items

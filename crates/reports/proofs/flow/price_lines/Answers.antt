@@ -1,18 +1,19 @@
-use Rattle.std.proofs.Common.{◌∙◌, ◌++◌, get_or, ap, ap₂, sym, rules, FitsSigned, w64}
+use Rattle.std.proofs.Common.{◌∙◌, ◌++◌, ℕ, get_or, ap, ap₂, sym, rules, FitsSigned, w64}
 use Rattle.std.proofs.lemmas.Int.{to_z-of_z}
-use Rattle.reports.specs.Flow.{price_line, part_text}
-use Rattle.reports.specs.Lines.{line}
-use Rattle.reports.proofs.TextLemmas.{texts_step}
+use Rattle.grid.specs.declared.part.Part.{Part}
 use Rattle.heat_flow.proofs.PriceLemmas.{blank}
+use Rattle.heat_flow.specs.Prices.{price_at}
+use Rattle.reports.specs.Flow.{price_line}
+use Rattle.reports.proofs.TextLemmas.{texts_step}
 use Rattle.reports.proofs.flow.price_lines.Goals as goal
 
-pub loop-place-preserved : goal.loop-place-preserved
-loop-place-preserved c =
-    let f = price_line c.args.case.now c.args.word.now c.args.prices.now in
-    let i = c.loop-place.place in
-    let parts = c.args.parts.now in
+pub loop-index-preserved : goal.loop-index-preserved
+loop-index-preserved c =
+    let f = λ (i : ℕ) (p : Part). price_line c.args.case.now c.args.side (price_at c.side_prices-prices.result.now i) p in
+    let i = c.loop-index.index in
+    let parts = c.side_parts-part-items.result.now in
     let fits : FitsSigned w64 c.price_at.result = search rules in
-    let word = c.args.word.now ++ part_text c.args.case.now (get_or parts i blank) in
+    let price = to_z-of_z w64 c.price_at.result fits ∙ c.price_at.ensures in
     c.in_ok-push_str.ensures.bytes
-    ∙ ap₂ ◌++◌ c.loop-place.invariant (c.deref.ensures ∙ c.in_ok-price_line.ensures ∙ ap (line word) (to_z-of_z w64 c.price_at.result fits ∙ c.price_at.ensures))
-    ∙ sym (texts_step f parts i blank c.loop-place-test.true)
+    ∙ ap₂ ◌++◌ c.loop-index.invariant (c.deref.ensures ∙ c.in_ok-price_line.ensures ∙ ap (λ p. price_line c.args.case.now c.args.side p (get_or parts i blank)) price)
+    ∙ sym (texts_step f parts i blank c.loop-index-test.true)

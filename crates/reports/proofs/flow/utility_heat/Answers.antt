@@ -12,7 +12,7 @@ no_transfer = record { hot = 0; cold = 0; heat = pos 0 }
 
 pub loop-transfer-preserved : goal.loop-transfer-preserved
 loop-transfer-preserved c =
-    let f = heat_of_utility c.args.number c.args.side c.args.parts.now in
+    let f = heat_of_utility c.args.index c.args.side c.args.parts.now in
     let i = c.loop-transfer.transfer-index in
     let ts = c.args.transfers.now in
     let total = to_z w128 c.loop-transfer.total-bits in

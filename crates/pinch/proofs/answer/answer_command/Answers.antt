@@ -1,0 +1,29 @@
+use Rattle.std.proofs.Common.{refl}
+use Rattle.pinch.specs.Answers.{ShowsCommand}
+use Rattle.pinch.specs.FromText.{by_text}
+use Rattle.pinch.proofs.Early.{without_case}
+use Rattle.pinch.proofs.answer.answer_command.Goals as goal
+
+pub returns-in_err-case-in-Targets : goal.returns-in_err-case-in-Targets
+unfolding ShowsCommand
+returns-in_err-case-in-Targets g c = rw c.in-Targets.is (without_case _ _ _ _ _ _ c.from_residual.ensures.1 c.in_err-case-in-Targets.ensures.stop)
+
+pub returns-in_ok-show_targets-in-Targets : goal.returns-in_ok-show_targets-in-Targets
+unfolding ShowsCommand
+returns-in_ok-show_targets-in-Targets g c = rw c.in-Targets.is (by_text _ _ c.in_ok-case-in-Targets.ensures.case (refl, c.in_ok-show_targets-in-Targets.ensures))
+
+pub returns-in_err-case-in-Flow : goal.returns-in_err-case-in-Flow
+unfolding ShowsCommand
+returns-in_err-case-in-Flow g c = rw c.in-Flow.is (without_case _ _ _ _ _ _ c.from_residual-in_err-case-in-Flow.ensures.1 c.in_err-case-in-Flow.ensures.stop)
+
+pub returns-in_ok-show_flow-in-Flow : goal.returns-in_ok-show_flow-in-Flow
+unfolding ShowsCommand
+returns-in_ok-show_flow-in-Flow g c = rw c.in-Flow.is (by_text _ _ c.in_ok-case-in-Flow.ensures.case (refl, c.in_ok-show_flow-in-Flow.ensures))
+
+pub returns-in_err-case-in-Curves : goal.returns-in_err-case-in-Curves
+unfolding ShowsCommand
+returns-in_err-case-in-Curves g c = rw c.in-Curves.is (without_case _ _ _ _ _ _ c.from_residual-in_err-case-in-Curves.ensures.1 c.in_err-case-in-Curves.ensures.stop)
+
+pub returns-in_ok-show_curves-in-Curves : goal.returns-in_ok-show_curves-in-Curves
+unfolding ShowsCommand
+returns-in_ok-show_curves-in-Curves g c = rw c.in-Curves.is (by_text _ _ c.in_ok-case-in-Curves.ensures.case (refl, c.in_ok-show_curves-in-Curves.ensures))

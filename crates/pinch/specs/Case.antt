@@ -1,0 +1,46 @@
+-- What a case file says, and what is shown of a case.
+use Rattle.std.specs.Prelude.{◌≡◌, ℕ, List, ℤ}
+use Rattle.csv_rows.specs.Rows.{rows_of}
+use Rattle.stream_case.specs.declared.case.Case.{Case}
+use Rattle.stream_case.specs.declared.source.Side.TheVariants.{Hot, Cold}
+use Rattle.sums.specs.Order.{ListsFalling}
+use Rattle.case_text.specs.Outcome.{IsCase, IsFault}
+use Rattle.case_text.specs.declared.fault.CaseWhy.{CaseWhy}
+use Rattle.problem_table.specs.Deficit.{hot_target, cold_target, IsPinch}
+use Rattle.curves.specs.declared.point.Point.{Point}
+use Rattle.curves.specs.Curve.{IsSideCurve, IsGrandCurve}
+use Rattle.reports.specs.declared.shown.FileRole.TheVariants.{Case as CaseFile}
+use Rattle.reports.specs.declared.shown.Shown.{Shown}
+use Rattle.reports.specs.declared.shown.Shown.TheVariants.{Targets, Curves, BadCase}
+use Rattle.pinch.specs.FromText.{Grammar}
+
+-- the case grammar gives this case for the bytes
+abbrev pub IsCaseText : List ℕ → Case → Type 0
+IsCaseText bytes case = IsCase (rows_of bytes) case
+
+-- it refuses the bytes, and the row and its cause are shown
+pub record IsBadCase (bytes : List ℕ) (shown : Shown) : Type 0 where
+  pub row : ℕ
+  pub why : CaseWhy
+  pub fault : IsFault (rows_of bytes) row why
+  pub is : shown ≡ BadCase row why
+
+-- the case file of a command
+abbrev pub case_file : Grammar Case
+case_file = record { role = CaseFile; Says = IsCaseText; Refuses = IsBadCase }
+
+-- the targets of a case, and its pinches from the highest down
+pub record AreTargetsOf (case : Case) (shown : Shown) : Type 0 where
+  pub pinches : List ℤ
+  pub falling : ListsFalling (IsPinch case.streams) pinches
+  pub is : shown ≡ Targets (record { hot = hot_target case.streams; cold = cold_target case.streams }) pinches
+
+-- the three curves of a case
+pub record AreCurvesOf (case : Case) (shown : Shown) : Type 0 where
+  pub hot : List Point
+  pub cold : List Point
+  pub net : List Point
+  pub hot_curve : IsSideCurve Hot case.streams hot
+  pub cold_curve : IsSideCurve Cold case.streams cold
+  pub grand_curve : IsGrandCurve case.streams net
+  pub is : shown ≡ Curves hot cold net

@@ -1,0 +1,51 @@
+use super::support::check_answer;
+use std::test::Fail;
+
+#[test]
+fn a_row_is_refused_with_its_cause(rt: HostRuntime) -> Result<(), Fail> {
+    let alloc = rt.alloc();
+    // Two sound rows come before each.
+    let rows = [
+        ("steam,S,1,2,3,4,", "UnknownKind"),
+        ("hot,K,900,400,10,", "FieldCount"),
+        ("hot,K,900,400,10,7,", "FieldCount"),
+        ("hot,K,900,400,10,,7", "FieldCount"),
+        ("hot,K,9x0,400,10,,", "BadNumber"),
+        ("hot,K,30001,400,10,,", "OutOfRange"),
+        ("hot,K L,900,400,10,,", "BadName"),
+        ("hot,HOT,900,400,10,,", "BadName"),
+        ("cold,H,300,700,10,,", "SameName"),
+        ("cold,K,700,300,10,,", "WrongWay"),
+        ("contribution,,50,,,,", "Repeated"),
+        ("forbid,H,C,,,,", "UnknownName"),
+        ("heater,S,1500,10,5,1,", "BadRange"),
+    ];
+    for (third, why) in rows {
+        let case = format!(in alloc; "contribution,,50,,,,\nhot,H,1000,500,10,,\n{third}\n")?;
+        let text = format!(in alloc; "case row 3 {why}\n")?;
+        check_answer(&rt, "targets", case.as_str(), 3, text.as_str())?;
+    }
+    Ok(())
+}
+
+#[test]
+fn a_file_is_refused_at_its_row(rt: HostRuntime) -> Result<(), Fail> {
+    let rows = [
+        ("", "case row 1 NoContribution\n"),
+        ("contribution,,50,,,,\n", "case row 2 NoStream\n"),
+        (
+            "contribution,,50,,,,\nhot,H,500,500,10,,\n",
+            "case row 2 WrongWay\n",
+        ),
+        (
+            "contribution,,50,,,,\ncold,C1,200,1350,200,",
+            "case row 2 FieldCount\n",
+        ),
+    ];
+    for (case, text) in rows {
+        for command in ["targets", "flow", "curves"] {
+            check_answer(&rt, command, case, 3, text)?;
+        }
+    }
+    Ok(())
+}

@@ -1,0 +1,84 @@
+use super::support::{FOUR_STREAM, FOUR_STREAM_TARGETS, shelf_of, words_of};
+use crate::run;
+use pinch_outside::MemorySink;
+use std::test::Fail;
+
+const LONGEST_FILE: usize = 8_388_608;
+
+#[test]
+fn faults_of_shelf_and_sink_are_told(rt: HostRuntime) -> Result<(), Fail> {
+    let alloc = rt.alloc();
+    // The name that is asked for, and the calls of the shelf and of the sink that fail.
+    let rows: [(&str, &[u64], &[u64], u8, &str); 6] = [
+        ("plant.csv", &[], &[], 0, FOUR_STREAM_TARGETS),
+        // The second write: only the first piece of five bytes is there.
+        ("plant.csv", &[], &[2], 7, "hot 2"),
+        // The start, and the second take.
+        ("plant.csv", &[1], &[], 6, "read fault case\n"),
+        ("plant.csv", &[3], &[], 6, "read fault case\n"),
+        ("no-such-file.csv", &[], &[], 6, "read fault case\n"),
+        // A take and the first write.
+        ("plant.csv", &[2], &[1], 7, ""),
+    ];
+    for (name, shelf_fails, sink_fails, status, written) in rows {
+        let words = words_of(alloc, &["targets", name])?;
+        let bytes = FOUR_STREAM.as_bytes().to_vec(alloc)?;
+        let mut shelf = shelf_of(alloc, "plant.csv", bytes, shelf_fails)?;
+        let mut sink = MemorySink::new(alloc, 1000, 5, sink_fails.to_vec(alloc)?)?;
+        let done = run(&rt, alloc, &words, &mut shelf, &mut sink);
+        assert_eq!(rt;
+            done.status,
+            status,
+            "{name}, {shelf_fails:?}, {sink_fails:?}"
+        );
+        assert_eq!(rt;
+            sink.written.as_slice(),
+            written.as_bytes(),
+            "{name}, {shelf_fails:?}, {sink_fails:?}"
+        );
+    }
+    Ok(())
+}
+
+#[test]
+fn a_file_above_the_limit_is_too_long(rt: HostRuntime) -> Result<(), Fail> {
+    let alloc = rt.alloc();
+    let rows = [
+        (LONGEST_FILE + 1, 5, "too long case\n"),
+        (LONGEST_FILE, 3, "case row 1 FieldCount\n"),
+    ];
+    for (count, status, text) in rows {
+        let words = words_of(alloc, &["targets", "long.csv"])?;
+        let mut shelf = shelf_of(alloc, "long.csv", vec![in alloc; b'#'; count]?, &[])?;
+        let mut sink = MemorySink::new(alloc, 1000, 1000, Vec::new(alloc))?;
+        let done = run(&rt, alloc, &words, &mut shelf, &mut sink);
+        assert_eq!(rt; done.status, status);
+        assert_eq!(rt; sink.written.as_slice(), text.as_bytes());
+    }
+    Ok(())
+}
+
+// For refused memory, one allocation at a time: the answer, or status 8 and nothing written.
+#[test]
+fn refused_memory_leaves_nothing_written(rt: HostRuntime) {
+    let alloc = rt.alloc();
+    let Ok(words) = words_of(alloc, &["targets", "plant.csv"]) else {
+        return;
+    };
+    let Ok(bytes) = FOUR_STREAM.as_bytes().to_vec(alloc) else {
+        return;
+    };
+    let Ok(mut shelf) = shelf_of(alloc, "plant.csv", bytes, &[]) else {
+        return;
+    };
+    let Ok(mut sink) = MemorySink::new(alloc, 100, 5, Vec::new(alloc)) else {
+        return;
+    };
+    let done = run(&rt, alloc, &words, &mut shelf, &mut sink);
+    if done.status == 8 {
+        assert!(rt; sink.written.is_empty());
+    } else {
+        assert_eq!(rt; done.status, 0);
+        assert_eq!(rt; sink.written.as_slice(), FOUR_STREAM_TARGETS.as_bytes());
+    }
+}
