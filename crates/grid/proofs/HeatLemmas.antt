@@ -13,7 +13,7 @@ use Rattle.stream_case.specs.Source.{is_stream, same_side}
 use Rattle.stream_case.specs.Stream.{high_end, low_end, length_above, heat_above, heat_between, IsValidStream}
 use Rattle.stream_case.proofs.EndLemmas.{AreEnds-IsValidStream}
 use Rattle.sums.specs.Sum.{int_sum_by}
-use Rattle.sums.proofs.ConsLemmas.{int_le-from, int_le-false}
+use Rattle.sums.proofs.IntegerLemmas.{int_le-from, int_le-false}
 use Rattle.sums.proofs.OrderLemmas.{AllPairs-head, AllPairs-tail, Contains-cons}
 use Rattle.sums.proofs.ProductLemmas.{*ℤ--ℤ}
 use Rattle.sums.proofs.SumLemmas.{int_sum_by-same}

@@ -21,7 +21,8 @@ use Rattle.stream_case.proofs.EndLemmas.{each_end}
 use Rattle.stream_case.proofs.SourceLemmas.{own_side, same_side-true}
 use Rattle.sums.specs.Pairing.{cons_if}
 use Rattle.sums.specs.Order.{ListsFalling}
-use Rattle.sums.proofs.ConsLemmas.{All-cons_if, AllPairs-cons_if, Contains-cons_if, Contains-cons_if_here, cons_if-append, int_le-true, int_le-from}
+use Rattle.sums.proofs.ConsLemmas.{All-cons_if, AllPairs-cons_if, Contains-cons_if, Contains-cons_if_here, cons_if-append}
+use Rattle.sums.proofs.IntegerLemmas.{int_le-true, int_le-from}
 use Rattle.sums.proofs.OrderLemmas.{AllPairs-nil, AllPairs-head, AllPairs-tail, AllPairs-append, Lists-unique}
 use Rattle.grid.specs.declared.part.Part.{Part}
 use Rattle.grid.specs.Grid.{HoldsPlaces, IsGrid, places_of}

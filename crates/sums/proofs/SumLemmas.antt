@@ -122,6 +122,10 @@ module _ {X : Type 0} where
   int_sum_from-add f g n [] = refl
   int_sum_from-add f g n (x ∷ xs) = let rest = int_sum_from-add f g (suc n) xs in omega (arith, ints)
 
+  pub int_sum_from-sub : (f g : ℕ → X → ℤ) (n : ℕ) (xs : List X) → int_sum_from (λ i x. f i x -ℤ g i x) n xs ≡ int_sum_from f n xs -ℤ int_sum_from g n xs
+  int_sum_from-sub f g n [] = refl
+  int_sum_from-sub f g n (x ∷ xs) = let rest = int_sum_from-sub f g (suc n) xs in omega (arith, ints)
+
   -- with no use of the indices
   pub int_sum_from-by : (f : X → ℤ) (n : ℕ) (xs : List X) → int_sum_from (λ i x. f x) n xs ≡ int_sum_by f xs
   int_sum_from-by f n [] = refl
