@@ -1,14 +1,15 @@
 //! Reading a case file.
 
-ghost use Rattle.std.specs.Prelude.{◌≡◌, ◌≤◌, length, IfOk};
+ghost use Rattle.std.specs.Prelude.{◌≡◌, ◌≤◌, Err, length, IfErr, IfOk, OnOk};
 ghost use Rattle.csv.specs.Records.{fields_of};
 ghost use Rattle.csv_rows.specs.Rows.{rows_of};
 ghost use Rattle.first_fault.specs.Checks.{Checked};
+ghost use Rattle.first_fault.specs.Outcome.{SoundBefore, given_by};
 ghost use Rattle.stream_case.specs.Case.{IsValid};
 ghost use Rattle.case_text.specs.Given.{entry_in};
 ghost use Rattle.case_text.specs.Checks.{checks};
 ghost use Rattle.case_text.specs.Answers.{IsFresh};
-ghost use Rattle.case_text.specs.Outcome.{IsOutcome};
+ghost use Rattle.case_text.specs.Outcome.{IsOutcome, grammar};
 
 use crate::contribution_row::contribution_entry;
 use crate::entry::Entry;
@@ -42,11 +43,14 @@ fn entry_of(found: &Found, row: &ByteRecord) -> Result<Entry, CaseWhy>
     }
 }
 
-/// Reads a case file: the case of the grammar, or the first row at fault with its cause.
-pub fn read_case(alloc: Global, bytes: &[u8]) -> Result<Case, CaseFault>
+/// What the rows of a case file give, and how many there are, or the first row at fault.
+fn read_rows(alloc: Global, bytes: &[u8]) -> Result<(Found, u32), CaseFault>
     requires { length bytes.now ≤ 2000000000 }
-    ensures outcome { IsOutcome (rows_of bytes.now) result }
-    ensures valid { IfOk result IsValid }
+    ensures sound { OnOk result (SoundBefore grammar (rows_of bytes.now) (length (rows_of bytes.now))) }
+    ensures given { IfOk result (λ r. r.0 ≡ given_by grammar (rows_of bytes.now)) }
+    ensures number { IfOk result (λ r. r.1 ≡ length (rows_of bytes.now)) }
+    ensures few { IfOk result (λ r. r.1 ≤ 2000000000) }
+    ensures fault { IfErr result (λ fault. IsOutcome (rows_of bytes.now) (Err fault)) }
 {
     let mut rows = Rows::new(alloc, bytes);
     let mut row = ByteRecord::new(alloc);
@@ -59,11 +63,18 @@ pub fn read_case(alloc: Global, bytes: &[u8]) -> Result<Case, CaseFault>
             Err(why) => return Err(CaseFault::Row { row: number, why }),
         }
     }
+    Ok((found, number))
+}
+
+/// Reads a case file: the case of the grammar, or the first row at fault with its cause.
+pub fn read_case(alloc: Global, bytes: &[u8]) -> Result<Case, CaseFault>
+    requires { length bytes.now ≤ 2000000000 }
+    ensures outcome { IsOutcome (rows_of bytes.now) result }
+    ensures valid { IfOk result IsValid }
+{
+    let (found, rows) = read_rows(alloc, bytes)?;
     match found.contribution() {
         Ok(contribution) => Ok(found.into_case(alloc, contribution)?),
-        Err(why) => Err(CaseFault::Row {
-            row: number + 1,
-            why,
-        }),
+        Err(why) => Err(CaseFault::Row { row: rows + 1, why }),
     }
 }
