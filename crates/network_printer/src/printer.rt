@@ -1,32 +1,19 @@
 //! Printing a network.
 
-ghost use Rattle.std.specs.Prelude.{◌≡◌, ◌<◌, ◌≤◌, ◌∷◌, ◌⊎◌, [], List, Result, Ok, Err, IfOk, IsSome, codes, length, map, string_bytes};
-ghost use Rattle.stream_case.specs.Case.{IsComplete, side_of};
-ghost use Rattle.stream_case.specs.declared.case.Case.{Case};
+ghost use Rattle.std.specs.Prelude.{◌≡◌, ◌<◌, ◌∷◌, [], IfOk, codes, length, option_map, string_bytes};
+ghost use Rattle.std.specs.List.{filter_map};
+ghost use Rattle.stream_case.specs.Case.{IsComplete, IsSourceOf, source_name};
 ghost use Rattle.fractions.specs.Rationals.{fraction_text};
-ghost use Rattle.network_text.specs.Lines.{exchangers_of};
-ghost use Rattle.network_text.specs.Statements.{Statement, statements_of};
+ghost use Rattle.network_text.specs.Lines.{exchanger_of};
+ghost use Rattle.network_text.specs.Statements.{statements_of};
 ghost use Rattle.network_text.specs.Outcome.{IsNetwork};
 ghost use Rattle.network_text.specs.Shape.{HasShape, KeepsCounts, NamesKnown};
-ghost use Rattle.network_text.specs.Printed.{branch_name, exchanger_name, exchanger_names, source_name, statement_of, statement_text, text_of};
+ghost use Rattle.network_printer.specs.Printed.{branch_name, exchanger_names, statement_of, statement_text, text_of};
 
-use crate::fault::NetFault;
-use crate::network::{Line, Network};
 use fractions::Frac;
+use network_text::{Line, Network};
 use std::alloc::{AllocError, Global};
 use stream_case::{Case, Name, Source};
-
-/// The name of a source of the case.
-#[tactic(auto, unfolding(crate::specs::Printed::source_name))]
-fn source_name(case: &Case, source: Source) -> Name
-    requires { IsSome (side_of case.now source) }
-    ensures { result ≡ source_name case.now source }
-{
-    match source {
-        Source::Stream(place) => case.streams.as_slice()[place as usize].name,
-        Source::Utility(place) => case.utilities.as_slice()[place as usize].name,
-    }
-}
 
 /// The name of a branch.
 #[tactic(auto, unfolding(crate::specs::Printed::branch_name))]
@@ -37,17 +24,24 @@ fn branch_name(network: &Network, number: u32) -> Name
     network.branches.as_slice()[number as usize].name
 }
 
-/// The names of the exchangers, in the order of their numbers.
-fn exchanger_names(alloc: Global, network: &Network) -> Result<Vec<Name>, AllocError>
-    ensures { IfOk result (λ names. names.items ≡ exchanger_names network.now) }
+/// The name of the exchanger that a line declares, if it declares one.
+fn declared_name(line: &Line) -> Option<Name>
+    ensures { result ≡ option_map (λ e. e.name) (exchanger_of line.now) }
 {
-    let mut names = Vec::new(alloc);
-    for line in network.lines.as_slice() {
-        if let Line::Exchanger { name, .. } = line {
-            names.push(*name)?;
-        }
+    match *line {
+        Line::Exchanger { name, .. } => Some(name),
+        _ => None,
     }
-    Ok(names)
+}
+
+/// The names of the exchangers that lines declare, in their order.
+fn declared_names(alloc: Global, lines: &[Line]) -> Result<Vec<Name>, AllocError>
+    ensures { IfOk result (λ names. names.items ≡ filter_map (λ l. option_map (λ e. e.name) (exchanger_of l)) lines.now) }
+{
+    lines
+        .iter()
+        .filter_map(|line| declared_name(line))
+        .collect(alloc)
 }
 
 /// The line that declares an exchanger.
@@ -60,12 +54,12 @@ fn exchanger_line(
     cold: Source,
     duty: Frac,
 ) -> Result<String, AllocError>
-    requires hot { IsSome (side_of case.now hot) }
-    requires cold { IsSome (side_of case.now cold) }
+    requires hot { IsSourceOf case.now hot }
+    requires cold { IsSourceOf case.now cold }
     ensures { IfOk result (λ line. string_bytes line ≡ statement_text (codes "exchanger" ∷ name ∷ source_name case.now hot ∷ source_name case.now cold ∷ fraction_text duty ∷ [])) }
 {
-    let hot = source_name(case, hot);
-    let cold = source_name(case, cold);
+    let hot = case.name_of(hot);
+    let cold = case.name_of(cold);
     format!(in alloc; "exchanger {name} {hot} {cold} {duty}\n")
 }
 
@@ -182,9 +176,10 @@ pub fn print_network(alloc: Global, case: &Case, network: &Network) -> Result<Ve
     ensures text { IfOk result (λ text. text.items ≡ text_of case.now network.now) }
     ensures read_back { KeepsCounts network.now → IfOk result (λ text. IsNetwork case.now (statements_of text.items) network.now) }
 {
-    let exchangers = exchanger_names(alloc, network)?;
+    let lines = network.lines.as_slice();
+    let exchangers = declared_names(alloc, lines)?;
     let mut text = Vec::new(alloc);
-    for line in network.lines.as_slice() {
+    for line in lines {
         let printed = statement_line(alloc, case, network, exchangers.as_slice(), line)?;
         text.extend_from_slice(printed.as_bytes())?;
     }

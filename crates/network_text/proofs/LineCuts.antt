@@ -9,7 +9,7 @@ use Rattle.network_text.specs.Statements.{is_newline}
 use Rattle.network_text.proofs.Counts.{is_some-position, none_any, position-some}
 
 -- a part before another is a line
-before_more : (part : List ℕ) (parts : List (List ℕ)) → 0 < length parts → lines_of_parts (part ∷ parts) ≡ strip_carriage_return part ∷ lines_of_parts parts
+pub before_more : (part : List ℕ) (parts : List (List ℕ)) → 0 < length parts → lines_of_parts (part ∷ parts) ≡ strip_carriage_return part ∷ lines_of_parts parts
 before_more part [] some = absurd (omega (arith, some))
 before_more part (next ∷ more) some = refl
 

@@ -14,6 +14,7 @@ use Rattle.sums.proofs.CountLemmas.{count_by-cons}
 use Rattle.stream_case.specs.declared.case.Case.{Case}
 use Rattle.stream_case.specs.declared.source.Source.{Source}
 use Rattle.stream_case.specs.declared.stream.Stream.{Stream}
+use Rattle.stream_case.proofs.CaseLemmas.{IsSourceOf-side}
 use Rattle.fractions.specs.Rationals.{Rational}
 use Rattle.network_text.specs.Lines.{Exchanger, exchanger_of, exchangers_of, is_pass_of, made_by, makes, own_branch, own_branches, pass_of, passage_of, passages_of, same_passage, stream_at, used_by, uses}
 use Rattle.network_text.specs.Shape.{AreMadeBeforeUse, AreMadeInOrder, HasPositiveFlow, HasShape, IsExchanger, IsOfOneStream, Joins, NamesKnown, PassesDeclared, made_before}
@@ -176,6 +177,16 @@ pub used_within : {case : Case} {network : Network} → AreMadeInOrder case netw
 unfolding used_by
 used_within {case} {network} made first = All-flat_map (λ b. b < length network.branches) uses network.lines (used_there made first)
 
+-- the branches that the lines before an index use were made before it
+pub used_before : (case : Case) (network : Network) → AreMadeBeforeUse case network → (index : ℕ) → All (λ b. b < made_before case network index) (used_by (take index network.lines))
+unfolding used_by
+used_before case network first index =
+    All-flat_map (λ b. b < made_before case network index) uses (take index network.lines) (λ k d inside.
+    let early : k < index = omega (arith, inside, length-take index network.lines) in
+    let at = sym (slice_get-take index network.lines k early) ∙ slice_get-get_or (take index network.lines) k d inside in
+    let fewer = made_fewer case network k index (omega (arith, early)) in
+    λ j e used. let before = first k (get_or (take index network.lines) k d) at j e used in omega (arith, before, fewer))
+
 -- ---- the streams of branches
 
 pub stream_at-take : (branches : List Branch) (m i : ℕ) → i < m → stream_at (take m branches) i ≡ stream_at branches i
@@ -227,7 +238,7 @@ exchanger_known {case} {network} {index} {from} {exchanger} {to} shape at =
 pub names-known : (case : Case) (network : Network) → HasShape case network → (index : ℕ) (l : Line) → slice_get network.lines index ≡ Some l → NamesKnown case network l
 names-known case network shape index (line.Exchanger name hot cold duty) here =
     let e = own_exchanger shape index name hot cold duty here in
-    (ap is_some e.hot, ap is_some e.cold)
+    (IsSourceOf-side case hot (ap is_some e.hot), IsSourceOf-side case cold (ap is_some e.cold))
 names-known case network shape index (line.Split from first cp second) here =
     let at = stands_at network.lines index (line.Split from first cp second) here in
     (used_known shape at 0 (omega arith), made_known shape at 0 (omega arith), made_known shape at 1 (omega arith))

@@ -1,7 +1,7 @@
 -- The shape of a network: what the grammar asks of it but the two counts, said of its branches and lines.
-use Rattle.std.specs.Prelude.{◌≡◌, ◌≢◌, ℕ, pos, ◌-◌, ◌+◌, ◌<◌, ◌≤◌, ◌<ℤ◌, ◌⊎◌, List, length, take, count_by, All, AllPairs, IsSome, Some, slice_get}
+use Rattle.std.specs.Prelude.{◌≡◌, ◌≢◌, ℕ, pos, ◌-◌, ◌+◌, ◌<◌, ◌≤◌, ◌<ℤ◌, ◌⊎◌, List, length, take, count_by, All, AllPairs, Some, slice_get}
 use Rattle.std.specs.List.{range_with_len}
-use Rattle.stream_case.specs.Case.{side_of}
+use Rattle.stream_case.specs.Case.{IsSourceOf, side_of}
 use Rattle.stream_case.specs.Name.{IsAnyName, IsName}
 use Rattle.stream_case.specs.declared.case.Case.{Case}
 use Rattle.stream_case.specs.declared.source.Side.TheVariants as side
@@ -100,7 +100,7 @@ ArePassedOnce network = (number stream : ℕ) (e : Exchanger) → slice_get (exc
 
 -- the sources, branches and exchangers of a line are there
 abbrev pub NamesKnown : Case → Network → Line → Type 0
-NamesKnown case network (line.Exchanger name hot cold duty) = IsSome (side_of case hot) × IsSome (side_of case cold)
+NamesKnown case network (line.Exchanger name hot cold duty) = IsSourceOf case hot × IsSourceOf case cold
 NamesKnown case network (line.Split from first cp second) = (from < length network.branches) × (first < length network.branches) × (second < length network.branches)
 NamesKnown case network (line.Pass from exchanger to) = (from < length network.branches) × (exchanger < length (exchangers_of network.lines)) × (to < length network.branches)
 NamesKnown case network (line.Mix first second to) = (first < length network.branches) × (second < length network.branches) × (to < length network.branches)
