@@ -5,8 +5,7 @@ use Rattle.std.specs.List.{flat_map}
 use Rattle.std.specs.Fmt.{signed_decimal}
 use Rattle.stream_case.specs.declared.source.Side.{Side}
 use Rattle.stream_case.specs.declared.source.Side.TheVariants.{Hot, Cold}
-use Rattle.stream_case.specs.declared.source.Source.{Source}
-use Rattle.stream_case.specs.declared.source.Source.TheVariants.{Stream as of_stream, Utility as of_utility}
+use Rattle.stream_case.specs.declared.source.Source.TheVariants.{Utility as of_utility}
 use Rattle.stream_case.specs.declared.case.Case.{Case}
 use Rattle.stream_case.specs.declared.utility.Utility.{Utility}
 use Rattle.sums.specs.Sum.{int_sum_by}
@@ -14,15 +13,11 @@ use Rattle.grid.specs.declared.part.Part.{Part}
 use Rattle.grid.specs.declared.parts.Parts.{Parts}
 use Rattle.heat_flow.specs.declared.flow.Transfer.{Transfer}
 use Rattle.heat_flow.specs.declared.prices.Prices.{Prices}
-use Rattle.heat_flow.specs.Flow.{place_of}
+use Rattle.heat_flow.specs.Flow.{part_index}
 use Rattle.heat_flow.specs.Prices.{price_at}
+use Rattle.stream_case.specs.Case.{source_name}
 use Rattle.stream_case.specs.Source.{same_source}
 use Rattle.reports.specs.Lines.{line, texts_from}
-
--- the name of a source of the case; empty where the case has no such source
-abbrev pub source_name : Case → Source → List ℕ
-source_name c (of_stream i) = option_map_or (λ s. s.name) (slice_get c.streams i) []
-source_name c (of_utility i) = option_map_or (λ u. u.name) (slice_get c.utilities i) []
 
 -- NAME HIGH LOW
 abbrev pub part_text : Case → Part → List ℕ
@@ -38,7 +33,7 @@ is_of_utility i parts index = option_map_or (λ p. same_source p.source (of_util
 
 -- the heat of a transfer, if its part of this side is that of utility i
 abbrev pub heat_of_utility : ℕ → Side → List Part → Transfer → ℤ
-heat_of_utility i side parts t = if is_of_utility i parts (place_of side t) then t.heat else pos 0
+heat_of_utility i side parts t = if is_of_utility i parts (part_index side t) then t.heat else pos 0
 
 -- what utility i gives or takes in all
 abbrev pub utility_heat : ℕ → Side → List Part → List Transfer → ℤ

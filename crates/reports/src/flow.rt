@@ -1,11 +1,11 @@
 //! The text of a heat flow with its prices.
 ghost use Rattle.std.specs.Prelude.{◌≡◌, ◌++◌, IfOk, codes, string_bytes};
 ghost use Rattle.std.specs.List.{flat_map};
-ghost use Rattle.heat_flow.specs.Flow.{place_of};
+ghost use Rattle.stream_case.specs.Case.{source_name};
 ghost use Rattle.heat_flow.specs.Prices.{price_at};
 ghost use Rattle.stream_case.specs.Source.{same_source};
 ghost use Rattle.reports.specs.Lines.{line, texts_from};
-ghost use Rattle.reports.specs.Flow.{source_name, part_text, part_at, is_of_utility, heat_of_utility, utility_heat, side_parts, side_prices, use_line, move_line, price_word, price_line, price_lines, flow_text};
+ghost use Rattle.reports.specs.Flow.{part_text, part_at, is_of_utility, heat_of_utility, utility_heat, side_parts, side_prices, use_line, move_line, price_word, price_line, price_lines, flow_text};
 
 use crate::line::line;
 use grid::{Part, Parts};
@@ -89,19 +89,10 @@ fn utility_heat(index: usize, side: Side, parts: &[Part], transfers: &[Transfer]
 fn heat_of_utility(index: usize, side: Side, parts: &[Part], transfer: &Transfer) -> i64
     ensures { result ≡ heat_of_utility index side parts.now transfer.now }
 {
-    if is_of_utility(index, parts, part_of(side, transfer)) {
+    if is_of_utility(index, parts, transfer.part_index(side)) {
         transfer.heat
     } else {
         0
-    }
-}
-
-fn part_of(side: Side, transfer: &Transfer) -> u32
-    ensures { result ≡ place_of side transfer.now }
-{
-    match side {
-        Side::Hot => transfer.hot,
-        Side::Cold => transfer.cold,
     }
 }
 

@@ -1,7 +1,7 @@
 use Rattle.std.proofs.Common.{◌∙◌, ◌++◌, ℕ, get_or, ap, ap₂, sym, rules, FitsSigned, w64}
 use Rattle.std.proofs.lemmas.Int.{to_z-of_z}
 use Rattle.grid.specs.declared.part.Part.{Part}
-use Rattle.heat_flow.proofs.PriceLemmas.{blank}
+use Rattle.heat_flow.proofs.Blanks.{blank}
 use Rattle.heat_flow.specs.Prices.{price_at}
 use Rattle.reports.specs.Flow.{price_line}
 use Rattle.reports.proofs.TextLemmas.{texts_step}
