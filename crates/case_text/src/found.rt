@@ -181,16 +181,14 @@ impl Found {
     }
 
     /// The case, with this contribution in each source.
-    pub fn into_case(self, alloc: Global, contribution: i32) -> Result<Case, AllocError>
-        ensures { IfOk result (λ case. case ≡ case_with contribution self) }
+    pub fn case(&self, alloc: Global, contribution: i32) -> Result<Case, AllocError>
+        ensures { IfOk result (λ case. case ≡ case_with contribution self.now) }
     {
-        let streams = self.streams(alloc, contribution)?;
-        let utilities = self.utilities(alloc, contribution)?;
         Ok(Case {
             contribution,
-            streams: Items::from_vec(streams),
-            utilities: Items::from_vec(utilities),
-            forbids: Items::from_vec(self.forbids),
+            streams: Items::from_vec(self.streams(alloc, contribution)?),
+            utilities: Items::from_vec(self.utilities(alloc, contribution)?),
+            forbids: Items::from_vec(Vec::from_slice(alloc, self.forbids.as_slice())?),
         })
     }
 }

@@ -6,7 +6,7 @@ ghost use Rattle.csv_rows.specs.Rows.{rows_of};
 ghost use Rattle.first_fault.specs.Checks.{Checked};
 ghost use Rattle.first_fault.specs.Outcome.{SoundBefore, given_by};
 ghost use Rattle.stream_case.specs.Case.{IsValid};
-ghost use Rattle.case_text.specs.Given.{entry_in};
+ghost use Rattle.case_text.specs.Given.{entry_in, nothing};
 ghost use Rattle.case_text.specs.Checks.{checks};
 ghost use Rattle.case_text.specs.Answers.{IsFresh};
 ghost use Rattle.case_text.specs.Outcome.{IsOutcome, grammar};
@@ -43,27 +43,25 @@ fn entry_of(found: &Found, row: &ByteRecord) -> Result<Entry, CaseWhy>
     }
 }
 
-/// What the rows of a case file give, and how many there are, or the first row at fault.
-fn read_rows(alloc: Global, bytes: &[u8]) -> Result<(Found, u32), CaseFault>
-    requires { length bytes.now ≤ 2000000000 }
-    ensures sound { OnOk result (SoundBefore grammar (rows_of bytes.now) (length (rows_of bytes.now))) }
-    ensures given { IfOk result (λ r. r.0 ≡ given_by grammar (rows_of bytes.now)) }
-    ensures number { IfOk result (λ r. r.1 ≡ length (rows_of bytes.now)) }
-    ensures few { IfOk result (λ r. r.1 ≤ 2000000000) }
-    ensures fault { IfErr result (λ fault. IsOutcome (rows_of bytes.now) (Err fault)) }
+/// Takes what rows give, and answers how many there are, or the first row at fault.
+fn take_rows(alloc: Global, found: &mut Found, rows: &mut Rows<'_>) -> Result<u32, CaseFault>
+    requires none { found.old ≡ nothing }
+    requires few { length rows.old ≤ 2000000000 }
+    ensures sound { OnOk result (SoundBefore grammar rows.old (length rows.old)) }
+    ensures given { OnOk result (found.new ≡ given_by grammar rows.old) }
+    ensures number { IfOk result (λ n. n ≡ length rows.old) }
+    ensures fault { IfErr result (λ fault. IsOutcome rows.old (Err fault)) }
 {
-    let mut rows = Rows::new(alloc, bytes);
     let mut row = ByteRecord::new(alloc);
-    let mut found = Found::new(alloc);
     let mut number: u32 = 0;
     while rows.read(&mut row)? {
         number += 1;
-        match entry_of(&found, &row) {
+        match entry_of(found, &row) {
             Ok(entry) => found.add(entry)?,
             Err(why) => return Err(CaseFault::Row { row: number, why }),
         }
     }
-    Ok((found, number))
+    Ok(number)
 }
 
 /// Reads a case file: the case of the grammar, or the first row at fault with its cause.
@@ -72,9 +70,10 @@ pub fn read_case(alloc: Global, bytes: &[u8]) -> Result<Case, CaseFault>
     ensures outcome { IsOutcome (rows_of bytes.now) result }
     ensures valid { IfOk result IsValid }
 {
-    let (found, rows) = read_rows(alloc, bytes)?;
+    let mut found = Found::new(alloc);
+    let rows = take_rows(alloc, &mut found, &mut Rows::new(alloc, bytes))?;
     match found.contribution() {
-        Ok(contribution) => Ok(found.into_case(alloc, contribution)?),
+        Ok(contribution) => Ok(found.case(alloc, contribution)?),
         Err(why) => Err(CaseFault::Row { row: rows + 1, why }),
     }
 }
