@@ -1,7 +1,9 @@
 pub mod StandardLemmas
 pub mod SideLemmas
+pub mod AboveLemmas
+pub mod BalanceLemmas
+pub mod PriceLemmas
 pub mod ReachLemmas
 pub mod FlowLemmas
-pub mod PriceLemmas
-pub mod CertificateLemmas
 pub mod PinchLaw
+pub mod PartsExist

@@ -1,90 +1,100 @@
--- The utilities and the grid of a standard case.
-use Rattle.std.proofs.Common.{◌≡◌, ◌⊎◌, ⊎_elim, inl, inr, ◌∙◌, sym, ap, subst, ℕ, zero, suc, ◌<◌, List, [], ◌∷◌, length, get_or, map, Some, arith}
-use Rattle.std.specs.Prelude.{ℤ, pos, ◌≤ℤ◌, if◌then◌else◌, Contains, slice_get}
+-- The utilities, the ends and the grid of a standard case.
+use Rattle.std.proofs.Common.{◌≡◌, ◌≢◌, ⊎_elim, ◌∙◌, refl, sym, ap, subst, ℕ, zero, suc, ◌<◌, List, [], ◌∷◌, length, get_or, map, Some, arith}
+use Rattle.std.specs.Prelude.{ℤ, pos, ◌-ℤ◌, ◌≤ℤ◌, if◌then◌else◌, Contains, slice_get}
 use Rattle.std.proofs.lemmas.Int.{ints}
 use Rattle.std.proofs.lemmas.List.{get_or-map, length-map}
-use Rattle.std.proofs.lemmas.List.Elements.{All-contains, Contains-append_left, Contains-append_cases}
+use Rattle.std.proofs.lemmas.List.Elements.{All-weaker, All-contains, Contains-append_left, Contains-append_cases}
 use Rattle.std.proofs.lemmas.Option.{none-some, same_Some, slice_get-get_or}
 use Rattle.stream_case.specs.declared.source.Side.{Side}
 use Rattle.stream_case.specs.declared.source.Side.TheVariants.{Hot, Cold}
 use Rattle.stream_case.specs.declared.utility.Utility.{Utility}
 use Rattle.stream_case.specs.declared.case.Case.{Case}
-use Rattle.stream_case.specs.Stream.{same_side, stream_ends}
-use Rattle.stream_case.specs.Case.{HasValidStreams, greatest, least, standard_hot, standard_cold, IsStandard}
+use Rattle.stream_case.specs.Case.{outermost, standard_utility, IsStandard}
+use Rattle.stream_case.specs.Source.{same_side}
+use Rattle.stream_case.specs.Stream.{high_end, low_end, stream_ends, HasValidStreams}
+use Rattle.stream_case.specs.Utility.{shifted_level}
+use Rattle.stream_case.proofs.CompleteLemmas.{shifted_level-standard}
+use Rattle.stream_case.proofs.EndLemmas.{length-stream_ends, each_end}
 use Rattle.sums.specs.Sum.{int_sum_by}
-use Rattle.problem_table.proofs.EndLemmas.{IsGreatest-greatest, IsLeast-least, length-stream_ends}
-use Rattle.grid.specs.Grid.{shifted_level, places_of, IsGrid}
-use Rattle.grid.proofs.CaseLemmas.{standard_hot_level, standard_cold_level}
+use Rattle.problem_table.specs.Deficit.{deficit_above, hot_target, cold_target}
+use Rattle.problem_table.proofs.DeficitLemmas.{deficit_above-lowest}
+use Rattle.problem_table.proofs.EndLemmas.{IsOutside, IsOutermost, IsOutermost-outermost}
+use Rattle.grid.specs.Grid.{places_of, IsGrid}
 
-pair_cases : (a b : Utility) (i : ℕ) (u : Utility) → slice_get (a ∷ b ∷ []) i ≡ Some u → (u ≡ a) ⊎ (u ≡ b)
-pair_cases a b zero u h = inl (sym (same_Some a u h))
-pair_cases a b (suc zero) u h = inr (sym (same_Some b u h))
-pair_cases a b (suc (suc i)) u h = absurd (none-some u h)
+-- the utilities of a standard case stand in one of two orders
+in_order : (c : Case) → IsStandard c → (P : List Utility → Type 0) → P (standard_utility Hot c ∷ standard_utility Cold c ∷ []) → P (standard_utility Cold c ∷ standard_utility Hot c ∷ []) → P c.utilities
+in_order c standard P h k = ⊎_elim (λ e. subst P (sym e) h) (λ e. subst P (sym e) k) standard.utilities
 
--- a utility of a standard case is one of the two
-standard_cases : (c : Case) → IsStandard c → (i : ℕ) (u : Utility) → slice_get c.utilities i ≡ Some u → (u ≡ standard_hot c) ⊎ (u ≡ standard_cold c)
-standard_cases c standard i u at =
-    ⊎_elim
-    (λ e. pair_cases (standard_hot c) (standard_cold c) i u (subst (λ us. slice_get us i ≡ Some u) e at))
-    (λ e. ⊎_elim (λ k. inr k) (λ k. inl k) (pair_cases (standard_cold c) (standard_hot c) i u (subst (λ us. slice_get us i ≡ Some u) e at)))
-    standard.utilities
+of_two : (P : Utility → Type 0) (a b : Utility) → P a → P b → (i : ℕ) (u : Utility) → slice_get (a ∷ b ∷ []) i ≡ Some u → P u
+of_two P a b h k zero u at = subst P (same_Some a u at) h
+of_two P a b h k (suc zero) u at = subst P (same_Some b u at) k
+of_two P a b h k (suc (suc i)) u at = absurd (none-some u at)
 
-pub hot_utility : (c : Case) → IsStandard c → (i : ℕ) (u : Utility) → slice_get c.utilities i ≡ Some u → u.side ≡ Hot → u ≡ standard_hot c
-hot_utility c standard i u at side =
-    ⊎_elim (λ e. e) (λ e. let clash : Cold ≡ Hot = sym (ap (λ v. v.side) e) ∙ side in absurd (cc)) (standard_cases c standard i u at)
+-- each is the standard one of its side
+pub own_utility : (c : Case) → IsStandard c → (i : ℕ) (u : Utility) → slice_get c.utilities i ≡ Some u → u ≡ standard_utility u.side c
+own_utility c standard =
+    in_order c standard (λ us. (i : ℕ) (u : Utility) → slice_get us i ≡ Some u → u ≡ standard_utility u.side c)
+    (of_two (λ u. u ≡ standard_utility u.side c) (standard_utility Hot c) (standard_utility Cold c) refl refl)
+    (of_two (λ u. u ≡ standard_utility u.side c) (standard_utility Cold c) (standard_utility Hot c) refl refl)
 
-pub cold_utility : (c : Case) → IsStandard c → (i : ℕ) (u : Utility) → slice_get c.utilities i ≡ Some u → u.side ≡ Cold → u ≡ standard_cold c
-cold_utility c standard i u at side =
-    ⊎_elim (λ e. let clash : Hot ≡ Cold = sym (ap (λ v. v.side) e) ∙ side in absurd (cc)) (λ e. e) (standard_cases c standard i u at)
+one_of_two : (a b : Utility) → a.side ≢ b.side → (i j : ℕ) (u v : Utility) → slice_get (a ∷ b ∷ []) i ≡ Some u → slice_get (a ∷ b ∷ []) j ≡ Some v → u.side ≡ v.side → i ≡ j
+one_of_two a b differ zero zero u v at other same = refl
+one_of_two a b differ zero (suc zero) u v at other same = absurd (differ (ap (λ w. w.side) (same_Some a u at) ∙ same ∙ sym (ap (λ w. w.side) (same_Some b v other))))
+one_of_two a b differ (suc zero) zero u v at other same = absurd (differ (ap (λ w. w.side) (same_Some a v other) ∙ sym same ∙ sym (ap (λ w. w.side) (same_Some b u at))))
+one_of_two a b differ (suc zero) (suc zero) u v at other same = refl
+one_of_two a b differ (suc (suc i)) j u v at other same = absurd (none-some u at)
+one_of_two a b differ zero (suc (suc j)) u v at other same = absurd (none-some v other)
+one_of_two a b differ (suc zero) (suc (suc j)) u v at other same = absurd (none-some v other)
 
--- each side has one utility
+-- and each side has one
+pub some_utility : (c : Case) → IsStandard c → (side : Side) → (i : ℕ) × (slice_get c.utilities i ≡ Some (standard_utility side c))
+some_utility c standard Hot = in_order c standard (λ us. (i : ℕ) × (slice_get us i ≡ Some (standard_utility Hot c))) (0, refl) (1, refl)
+some_utility c standard Cold = in_order c standard (λ us. (i : ℕ) × (slice_get us i ≡ Some (standard_utility Cold c))) (1, refl) (0, refl)
+
+pub one_utility : (c : Case) → IsStandard c → (i j : ℕ) (u v : Utility) → slice_get c.utilities i ≡ Some u → slice_get c.utilities j ≡ Some v → u.side ≡ v.side → i ≡ j
+one_utility c standard =
+    in_order c standard (λ us. (i j : ℕ) (u v : Utility) → slice_get us i ≡ Some u → slice_get us j ≡ Some v → u.side ≡ v.side → i ≡ j)
+    (one_of_two (standard_utility Hot c) (standard_utility Cold c) (λ e. cc))
+    (one_of_two (standard_utility Cold c) (standard_utility Hot c) (λ e. cc))
+
 pub sum_utilities : (c : Case) → IsStandard c → (side : Side) (each : ℤ) → int_sum_by (λ u. if same_side u.side side then each else pos 0) c.utilities ≡ each
-sum_utilities c standard Hot each =
-    ⊎_elim
-    (λ e. ap (int_sum_by (λ u. if same_side u.side Hot then each else pos 0)) e ∙ omega (arith, ints))
-    (λ e. ap (int_sum_by (λ u. if same_side u.side Hot then each else pos 0)) e ∙ omega (arith, ints))
-    standard.utilities
-sum_utilities c standard Cold each =
-    ⊎_elim
-    (λ e. ap (int_sum_by (λ u. if same_side u.side Cold then each else pos 0)) e ∙ omega (arith, ints))
-    (λ e. ap (int_sum_by (λ u. if same_side u.side Cold then each else pos 0)) e ∙ omega (arith, ints))
-    standard.utilities
+sum_utilities c standard Hot each = in_order c standard (λ us. int_sum_by (λ u. if same_side u.side Hot then each else pos 0) us ≡ each) (omega (arith, ints)) (omega (arith, ints))
+sum_utilities c standard Cold each = in_order c standard (λ us. int_sum_by (λ u. if same_side u.side Cold then each else pos 0) us ≡ each) (omega (arith, ints)) (omega (arith, ints))
 
--- the highest and the lowest stream end
-abbrev pub top_of : Case → ℤ
-top_of c = greatest (stream_ends c.streams)
+-- the place of the utility of a side: the outermost stream end
+abbrev pub end_of : Case → Side → ℤ
+end_of c side = outermost side (stream_ends c.streams)
 
-abbrev pub bottom_of : Case → ℤ
-bottom_of c = least (stream_ends c.streams)
+module _ (c : Case) (grid : List ℤ) (valid : HasValidStreams c.streams) (standard : IsStandard c) (on_grid : IsGrid c grid) where
+  outer : (side : Side) → IsOutermost side (stream_ends c.streams) (end_of c side)
+  outer side = IsOutermost-outermost side (stream_ends c.streams) (let some = valid.some in omega (arith, length-stream_ends c.streams))
 
--- each place of a standard grid is a stream end
-pub grid_is_ends : (c : Case) (grid : List ℤ) → HasValidStreams c.streams → IsStandard c → IsGrid c grid → (x : ℤ) → Contains grid x → Contains (stream_ends c.streams) x
-grid_is_ends c grid valid standard on_grid x at =
-    ⊎_elim (λ found. found)
-    (λ (k, within, is).
-    let u_within : k < length c.utilities = rw length-map at within in
-    let u = get_or c.utilities k (standard_hot c) in
-    let level : shifted_level u ≡ x = sym (get_or-map shifted_level c.utilities k (standard_hot c) x u_within) ∙ is in
-    let highest = IsGreatest-greatest (stream_ends c.streams) (length-stream_ends c.streams valid.some) in
-    let lowest = IsLeast-least (stream_ends c.streams) (length-stream_ends c.streams valid.some) in
-    ⊎_elim
-    (λ e. subst (Contains (stream_ends c.streams)) (sym (standard_hot_level c) ∙ sym (ap shifted_level e) ∙ level) highest.member)
-    (λ e. subst (Contains (stream_ends c.streams)) (sym (standard_cold_level c) ∙ sym (ap shifted_level e) ∙ level) lowest.member)
-    (standard_cases c standard k u (slice_get-get_or c.utilities k (standard_hot c) u_within)))
-    (Contains-append_cases (stream_ends c.streams) (map shifted_level c.utilities) x (All-contains (Contains (places_of c)) grid x on_grid.each at))
+  -- each place of the grid is a stream end
+  pub grid_is_ends : (x : ℤ) → Contains grid x → Contains (stream_ends c.streams) x
+  grid_is_ends x at =
+      ⊎_elim (λ found. found)
+      (λ (k, within, is).
+      let inside : k < length c.utilities = rw length-map at within in
+      let u = get_or c.utilities k (standard_utility Hot c) in
+      let own = own_utility c standard k u (slice_get-get_or c.utilities k (standard_utility Hot c) inside) in
+      let level : end_of c u.side ≡ x = sym (shifted_level-standard u.side c) ∙ sym (ap shifted_level own) ∙ sym (get_or-map shifted_level c.utilities k (standard_utility Hot c) x inside) ∙ is in
+      subst (Contains (stream_ends c.streams)) level (outer u.side).member)
+      (Contains-append_cases (stream_ends c.streams) (map shifted_level c.utilities) x (All-contains (Contains (places_of c.streams c.utilities)) grid x on_grid.each at))
 
--- and lies between the highest and the lowest of them, which are on the grid
-pub grid_within : (c : Case) (grid : List ℤ) → HasValidStreams c.streams → IsStandard c → IsGrid c grid → (x : ℤ) → Contains grid x → (bottom_of c ≤ℤ x) × (x ≤ℤ top_of c)
-grid_within c grid valid standard on_grid x at =
-    let found = grid_is_ends c grid valid standard on_grid x at in
-    let highest = IsGreatest-greatest (stream_ends c.streams) (length-stream_ends c.streams valid.some) in
-    let lowest = IsLeast-least (stream_ends c.streams) (length-stream_ends c.streams valid.some) in
-    (All-contains (λ y. bottom_of c ≤ℤ y) (stream_ends c.streams) x lowest.bound found, All-contains (λ y. y ≤ℤ top_of c) (stream_ends c.streams) x highest.bound found)
+  -- and lies between the outermost ones, which are on the grid
+  pub grid_within : (side : Side) (x : ℤ) → Contains grid x → IsOutside side (end_of c side) x
+  grid_within side x at = All-contains (IsOutside side (end_of c side)) (stream_ends c.streams) x (outer side).bound (grid_is_ends x at)
 
-pub end_on_grid : (c : Case) (grid : List ℤ) → IsGrid c grid → (x : ℤ) → Contains (stream_ends c.streams) x → Contains grid x
-end_on_grid c grid on_grid x at = on_grid.every x (Contains-append_left (stream_ends c.streams) (map shifted_level c.utilities) x at)
+  pub stream_end_on_grid : (x : ℤ) → Contains (stream_ends c.streams) x → Contains grid x
+  stream_end_on_grid x at = on_grid.every x (Contains-append_left (stream_ends c.streams) (map shifted_level c.utilities) x at)
 
-pub bottom_on_grid : (c : Case) (grid : List ℤ) → HasValidStreams c.streams → IsGrid c grid → Contains grid (bottom_of c)
-bottom_on_grid c grid valid on_grid =
-    let lowest = IsLeast-least (stream_ends c.streams) (length-stream_ends c.streams valid.some) in
-    end_on_grid c grid on_grid (bottom_of c) lowest.member
+  pub end_on_grid : (side : Side) → Contains grid (end_of c side)
+  end_on_grid side = stream_end_on_grid (end_of c side) (outer side).member
+
+  -- all heat lies above the lowest end
+  pub cold_target-lowest_end : cold_target c.streams ≡ hot_target c.streams -ℤ deficit_above c.streams (end_of c Cold)
+  cold_target-lowest_end =
+      let bottom = end_of c Cold in
+      let ends = each_end (λ e. bottom ≤ℤ e) c.streams (outer Cold).bound in
+      let lowest = deficit_above-lowest bottom c.streams valid.are_streams.each (All-weaker (λ s. (bottom ≤ℤ high_end s) × (bottom ≤ℤ low_end s)) (λ s. bottom ≤ℤ low_end s) (λ s h. h.1) c.streams ends) in
+      omega (arith, ints)

@@ -8,8 +8,10 @@ use Rattle.sums.specs.declared.pairs.Pair.{Pair}
 use Rattle.sums.specs.Spans.{ListsOverlaps}
 use Rattle.problem_table.specs.Deficit.{hot_target, cold_target, IsPinch}
 use Rattle.grid.specs.declared.part.Part.{Part}
-use Rattle.grid.specs.Part.{is_stream, AreCaseParts}
+use Rattle.stream_case.specs.Source.{is_stream}
+use Rattle.grid.specs.Part.{AreCaseParts}
 use Rattle.heat_flow.specs.declared.flow.Transfer.{Transfer}
+use Rattle.heat_flow.specs.Cuts.{parts_of}
 use Rattle.heat_flow.specs.Flow.{heat_at, IsHeatFlow, IsLeastCost}
 use Rattle.heat_flow.specs.Reach.{reach_between}
 
@@ -20,7 +22,7 @@ part_heat target p = if is_stream p.source then p.least else target
 abbrev pub heats_of : ℤ → List Part → List ℤ
 heats_of target parts = map (part_heat target) parts
 
--- a transfer as a pair of a place of each side and an amount
+-- a transfer as a pair of an index of each side and an amount
 abbrev pub as_pair : Transfer → Pair
 as_pair t = record { first = t.hot; second = t.cold; amount = t.heat }
 
@@ -50,17 +52,22 @@ UtilityHeat side parts transfers heat = (a : ℕ) (p : Part) → slice_get parts
 abbrev pub UtilityHeatAtLeast : Side → List Part → List Transfer → ℤ → Type 0
 UtilityHeatAtLeast side parts transfers heat = (a : ℕ) (p : Part) → slice_get parts a ≡ Some p → IsTrue (not (is_stream p.source)) → heat ≤ℤ heat_at side transfers a
 
--- in each heat flow of these parts the hot utility gives at least this heat
-abbrev pub NeedsHotHeat : Case → List Part → List Part → ℤ → Type 0
-NeedsHotHeat c hot cold heat = (transfers : List Transfer) → IsFlowOf c hot cold transfers → UtilityHeatAtLeast Hot hot transfers heat
+-- in each heat flow of these parts the utility of this side gives or takes at least this heat
+abbrev pub NeedsHeat : Case → List Part → List Part → Side → ℤ → Type 0
+NeedsHeat c hot cold side heat = (transfers : List Transfer) → IsFlowOf c hot cold transfers → UtilityHeatAtLeast side (parts_of side hot cold) transfers heat
 
--- the same for whatever lists are the parts of the case
-abbrev pub NeedsHotHeatOf : Case → ℤ → Type 0
-NeedsHotHeatOf c heat = (hot cold : List Part) → AreCaseParts c hot cold → NeedsHotHeat c hot cold heat
+-- the case has parts, and this holds of them
+pub record HoldsOfParts (c : Case) (P : List Part → List Part → Type 0) : Type 0 where
+  pub some : (hot : List Part) × (cold : List Part) × AreCaseParts c hot cold
+  pub each : (hot cold : List Part) → AreCaseParts c hot cold → P hot cold
+
+-- the same of the parts of the case
+abbrev pub NeedsHeatOf : Case → Side → ℤ → Type 0
+NeedsHeatOf c side heat = HoldsOfParts c (λ hot cold. NeedsHeat c hot cold side heat)
 
 -- this is the least cost of the heat flows of the case
 abbrev pub IsLeastCostOf : Case → ℤ → Type 0
-IsLeastCostOf c cost = (hot cold : List Part) → AreCaseParts c hot cold → IsLeastCost (reach_between c hot cold) hot cold cost
+IsLeastCostOf c cost = HoldsOfParts c (λ hot cold. IsLeastCost (reach_between c hot cold) hot cold cost)
 
 -- a transfer takes heat across a place where it joins a hot part above the place to a cold part below it
 pub record CrossesHeat (hot cold : List Part) (place : ℤ) (t : Transfer) : Type 0 where

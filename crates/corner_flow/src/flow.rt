@@ -2,10 +2,11 @@
 ghost use Rattle.std.specs.Prelude.{◌≡◌, map, IfOk};
 ghost use Rattle.stream_case.specs.declared.source.Side.TheVariants.{Hot, Cold};
 ghost use Rattle.stream_case.specs.Case.{IsComplete, IsStandard};
+ghost use Rattle.sums.specs.Spans.{NotNegative, ListsOverlaps};
 ghost use Rattle.problem_table.specs.Deficit.{hot_target, cold_target};
 ghost use Rattle.grid.specs.Part.{AreCaseParts};
 ghost use Rattle.heat_flow.specs.Flow.{cost_of};
-ghost use Rattle.corner_flow.specs.Corner.{part_heat, heats_of, as_transfer, IsCornerFlow, IsFlowOf, UtilityHeat, NeedsHotHeat, NoHeatCrossesPinch};
+ghost use Rattle.corner_flow.specs.Corner.{part_heat, heats_of, as_transfer, IsCornerFlow, IsFlowOf, UtilityHeat, NeedsHeat, NoHeatCrossesPinch};
 
 use grid::{Part, Parts};
 use heat_flow::{Flow, Transfer};
@@ -46,11 +47,23 @@ fn transfers_of(alloc: Global, pairs: &[Pair]) -> Result<Vec<Transfer>, AllocErr
         .collect(alloc)
 }
 
+/// The heats of each side laid end to end: the pairs of parts whose spans overlap.
+fn overlaps_of(alloc: Global, parts: &Parts, targets: Target) -> Result<Vec<Pair>, AllocError>
+    requires hot { NotNegative (heats_of targets.hot parts.now.hot) }
+    requires cold { NotNegative (heats_of targets.cold parts.now.cold) }
+    ensures { IfOk result (λ pairs. ListsOverlaps (heats_of targets.hot parts.now.hot) (heats_of targets.cold parts.now.cold) pairs.items) }
+{
+    let hot = heats_of(alloc, parts.hot.as_slice(), targets.hot)?;
+    let cold = heats_of(alloc, parts.cold.as_slice(), targets.cold)?;
+    pair_amounts(alloc, hot.as_slice(), cold.as_slice())
+}
+
 /// The corner flow of a standard case. The heats of each side, in W, are laid end to end in the
 /// order of the parts, the hot target for `HOT` and the cold target for `COLD`; the transfers are
 /// the pairs of a hot and a cold part whose spans overlap, each with the length that they share.
-/// No heat flow of these parts takes less from `HOT`, and in one that takes just the hot target no
-/// transfer crosses a pinch, from a hot part above it to a cold part below it (Kemp 2007).
+/// No heat flow of these parts takes less from `HOT` or gives less to `COLD`, and in one that takes
+/// just the hot target no transfer crosses a pinch, from a hot part above it to a cold part below
+/// it (Kemp 2007).
 pub fn corner(
     alloc: Global,
     case: &Case,
@@ -67,12 +80,11 @@ pub fn corner(
     ensures hot_heat { IfOk result (λ flow. UtilityHeat Hot parts.now.hot flow.transfers targets.hot) }
     ensures cold_heat { IfOk result (λ flow. UtilityHeat Cold parts.now.cold flow.transfers targets.cold) }
     ensures cost { IfOk result (λ flow. cost_of parts.now.hot parts.now.cold flow.transfers ≡ targets.hot) }
-    ensures least { IfOk result (λ _. NeedsHotHeat case.now parts.now.hot parts.now.cold targets.hot) }
+    ensures least_hot { IfOk result (λ _. NeedsHeat case.now parts.now.hot parts.now.cold Hot targets.hot) }
+    ensures least_cold { IfOk result (λ _. NeedsHeat case.now parts.now.hot parts.now.cold Cold targets.cold) }
     ensures pinch { IfOk result (λ _. NoHeatCrossesPinch case.now parts.now.hot parts.now.cold) }
 {
-    let hot = heats_of(alloc, parts.hot.as_slice(), targets.hot)?;
-    let cold = heats_of(alloc, parts.cold.as_slice(), targets.cold)?;
-    let pairs = pair_amounts(alloc, hot.as_slice(), cold.as_slice())?;
+    let pairs = overlaps_of(alloc, parts, targets)?;
     let transfers = transfers_of(alloc, pairs.as_slice())?;
     Ok(Flow {
         transfers: Items::from_vec(transfers),

@@ -1,6 +1,7 @@
 //! The prices of the corner flow.
-ghost use Rattle.std.specs.Prelude.{◌≡◌, pos, neg_ℤ, map, All, IfOk};
-ghost use Rattle.stream_case.specs.Case.{IsBetween, IsComplete, IsStandard};
+ghost use Rattle.std.specs.Prelude.{◌≡◌, map, All, IfOk};
+ghost use Rattle.stream_case.specs.Case.{IsComplete, IsStandard};
+ghost use Rattle.stream_case.specs.Limits.{IsPartPrice};
 ghost use Rattle.problem_table.specs.Deficit.{hot_target, cold_target, IsReferencePlace};
 ghost use Rattle.grid.specs.Part.{AreCaseParts};
 ghost use Rattle.heat_flow.specs.Prices.{IsSupporting, value_of};
@@ -56,8 +57,8 @@ pub fn corner_prices(
     requires cold_target { targets.cold ≡ cold_target case.now.streams }
     ensures hot { IfOk result (λ prices. prices.hot ≡ map (corner_price targets.hot place) parts.now.hot) }
     ensures cold { IfOk result (λ prices. prices.cold ≡ map (corner_price targets.hot place) parts.now.cold) }
-    ensures hot_range { IfOk result (λ prices. All (IsBetween (neg_ℤ (pos 1000000000000000)) (pos 1000000000000000)) prices.hot) }
-    ensures cold_range { IfOk result (λ prices. All (IsBetween (neg_ℤ (pos 1000000000000000)) (pos 1000000000000000)) prices.cold) }
+    ensures hot_range { IfOk result (λ prices. All IsPartPrice prices.hot) }
+    ensures cold_range { IfOk result (λ prices. All IsPartPrice prices.cold) }
     ensures supporting { IfOk result (λ prices. IsSupporting (reach_between case.now parts.now.hot parts.now.cold) prices.hot prices.cold) }
     ensures value { IfOk result (λ prices. value_of parts.now.hot parts.now.cold prices.hot prices.cold ≡ targets.hot) }
 {

@@ -1,19 +1,35 @@
-use Rattle.std.proofs.Common.{◌≡◌, ◌∙◌, sym, subst, FitsSigned, w64, to_z, of_z, rules, arith}
+use Rattle.std.proofs.Common.{◌≡◌, ◌∙◌, sym, subst, List, FitsSigned, w64, to_z, of_z, rules, arith}
 use Rattle.std.specs.Int.{w128}
 use Rattle.std.proofs.lemmas.Int.{ints}
+use Rattle.stream_case.specs.declared.source.Side.TheVariants.{Hot, Cold}
+use Rattle.grid.specs.declared.part.Part.{Part}
+use Rattle.grid.specs.Part.{AreCaseParts}
 use Rattle.heat_flow.specs.Flow.{IsLeastCost}
 use Rattle.heat_flow.specs.Reach.{reach_between}
-use Rattle.corner_flow.specs.Corner.{NeedsHotHeat}
-use Rattle.corner_flow.proofs.CertificateLemmas.{least_cost, hot-at_least}
+use Rattle.corner_flow.specs.Corner.{NeedsHeat}
+use Rattle.corner_flow.proofs.SideLemmas.{AreStandardParts, AreStandardParts-parts}
+use Rattle.corner_flow.proofs.BalanceLemmas.{needs_heat}
+use Rattle.corner_flow.proofs.FlowLemmas.{least_cost}
+use Rattle.corner_flow.proofs.PartsExist.{some_parts}
 use Rattle.corner_flow.proofs.least.standard_cost.Goals as goal
+
+standard : (c : goal.After-from) (hot cold : List Part) → AreCaseParts c.args.case.now hot cold → AreStandardParts c.args.case.now hot cold
+standard c hot cold = AreStandardParts-parts c.args.case.now hot cold c.requires.complete c.requires.standard
 
 target_is : (c : goal.After-from) → to_z w128 (of_z w128 c.from.result) ≡ c.args.targets.hot
 target_is c = let fits : FitsSigned w64 c.args.targets.hot = search rules in omega (arith, ints)
 
 pub returns-clause-least : goal.returns-clause-least
-returns-clause-least c hot cold parts =
-    subst (IsLeastCost (reach_between c.args.case.now hot cold) hot cold) (sym c.requires.hot_target ∙ sym (target_is c)) (least_cost c.args.case.now hot cold c.requires.complete c.requires.standard parts)
+returns-clause-least c = record {
+  some = some_parts c.args.case.now;
+  each = λ hot cold parts. subst (IsLeastCost (reach_between c.args.case.now hot cold) hot cold) (sym c.requires.hot_target ∙ sym (target_is c)) (least_cost c.args.case.now hot cold (standard c hot cold parts));
+}
 
 pub returns-clause-hot_heat : goal.returns-clause-hot_heat
-returns-clause-hot_heat c hot cold parts =
-    subst (NeedsHotHeat c.args.case.now hot cold) (sym c.requires.hot_target) (λ transfers flow. hot-at_least c.args.case.now hot cold transfers c.requires.complete c.requires.standard parts flow)
+returns-clause-hot_heat c = record {
+  some = some_parts c.args.case.now;
+  each = λ hot cold parts. subst (NeedsHeat c.args.case.now hot cold Hot) (sym c.requires.hot_target) (needs_heat c.args.case.now hot cold (standard c hot cold parts) Hot);
+}
+
+pub returns-clause-cold_heat : goal.returns-clause-cold_heat
+returns-clause-cold_heat c = record { some = some_parts c.args.case.now; each = λ hot cold parts. needs_heat c.args.case.now hot cold (standard c hot cold parts) Cold }
