@@ -8,7 +8,7 @@ use Rattle.stream_case.specs.declared.source.Side.{Side}
 use Rattle.stream_case.specs.declared.case.Case.{Case}
 use Rattle.stream_case.specs.Stream.{heat_above}
 use Rattle.sums.specs.Sum.{int_sum_from}
-use Rattle.sums.proofs.ConsLemmas.{int_le-from, int_le-false}
+use Rattle.sums.proofs.IntegerLemmas.{int_le-from, int_le-false}
 use Rattle.sums.proofs.SumLemmas.{int_sum_from-add, int_sum_from-by, int_sum_from-same_each}
 use Rattle.problem_table.specs.Sides.{sum_side}
 use Rattle.grid.specs.declared.part.Part.{Part}

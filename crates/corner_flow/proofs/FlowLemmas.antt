@@ -124,13 +124,13 @@ module _ (c : Case) (hot cold : List Part) (s : AreStandardParts c hot cold) whe
         let each = λ (k : ℕ) (d : Transfer) (within : k < length ts). subst (IsOverlap (heats Hot) (heats Cold)) (get_or-map as_pair ts k d (as_pair d) within) (lists.each k (as_pair d) (rw length-map within)) in
         record {
           positive = λ k d within. (each k d within).positive;
-          hot_indexes = λ k d within. rw length-map at (each k d within).first_place;
-          cold_indexes = λ k d within. rw length-map at (each k d within).second_place;
+          hot_indexes = λ k d within. rw length-map at (each k d within).first_within;
+          cold_indexes = λ k d within. rw length-map at (each k d within).second_within;
           joined = λ k d within.
               let t = get_or ts k d in
               let e = each k d within in
-              let from = slice_get-get_or hot t.hot blank (rw length-map at e.first_place) in
-              let to = slice_get-get_or cold t.cold blank (rw length-map at e.second_place) in
+              let from = slice_get-get_or hot t.hot blank (rw length-map at e.first_within) in
+              let to = slice_get-get_or cold t.cold blank (rw length-map at e.second_within) in
               let p = get_or hot t.hot blank in
               let q = get_or cold t.cold blank in
               let passes = overlap-passes c hot cold s t.hot t.cold p q from to (subst (λ z. pos 0 <ℤ z) e.amount e.positive) in

@@ -7,7 +7,8 @@ use Rattle.std.proofs.lemmas.List.Kept.{AllPairs-filter}
 use Rattle.stream_case.specs.declared.source.Side.TheVariants.{Hot, Cold}
 use Rattle.stream_case.specs.declared.case.Case.{Case}
 use Rattle.sums.specs.Order.{ListsFalling}
-use Rattle.sums.proofs.OrderLemmas.{AllPairs-nil, AllPairs-cons, AllPairs-append, Contains-cons}
+use Rattle.std.proofs.lemmas.List.Kept.{AllPairs-cons}
+use Rattle.sums.proofs.OrderLemmas.{AllPairs-nil, AllPairs-append, Contains-cons}
 use Rattle.grid.specs.declared.part.Part.{Part}
 use Rattle.grid.specs.Grid.{places_of}
 use Rattle.grid.specs.Making.{made_parts}

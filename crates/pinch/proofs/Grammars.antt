@@ -1,7 +1,8 @@
 -- Bytes say one thing, or are refused in one way.
 use Rattle.std.proofs.Common.{◌≡◌, ◌∙◌, true, List, ℕ, sym, ap, ap₂}
 use Rattle.csv_rows.specs.Rows.{rows_of}
-use Rattle.case_text.proofs.Unique.{one_fault, one_case, no_case}
+use Rattle.first_fault.proofs.OneOutcome.{one_fault, one_value, no_value}
+use Rattle.case_text.specs.Outcome.{grammar}
 use Rattle.stream_case.specs.declared.case.Case.{Case}
 use Rattle.reports.specs.declared.shown.Shown.{Shown}
 use Rattle.reports.specs.declared.shown.Shown.TheVariants.{BadCase}
@@ -18,10 +19,10 @@ pub record IsLawful {T : Type 0} (g : Grammar T) : Type 0 where
 pub lawful_case : IsLawful case_file
 lawful_case =
     record {
-      one_value = λ bytes a b. one_case (rows_of bytes) a b;
+      one_value = λ bytes a b. one_value grammar (rows_of bytes) a b;
       one_refusal = λ bytes a b is other.
-          let one = one_fault (rows_of bytes) is.row other.row is.why other.why is.fault other.fault in
+          let one = one_fault grammar (rows_of bytes) is.row other.row is.why other.why is.fault other.fault in
           is.is ∙ ap₂ BadCase one.0 one.1 ∙ sym other.is;
-      not_both = λ bytes case shown says refuses. no_case (rows_of bytes) refuses.row refuses.why case refuses.fault says;
+      not_both = λ bytes case shown says refuses. no_value grammar (rows_of bytes) refuses.row refuses.why case refuses.fault says;
       plain = λ bytes shown refuses. ap is_plain refuses.is;
     }

@@ -4,7 +4,7 @@ use Rattle.stream_case.specs.declared.source.Side.TheVariants.{Hot, Cold}
 use Rattle.heat_flow.specs.Reach.{reach_between}
 use Rattle.heat_flow.proofs.Duality.{weak_duality}
 use Rattle.problem_table.specs.Deficit.{hot_target}
-use Rattle.corner_flow.specs.Corner.{UtilityHeat, NeedsHotHeat, corner_price}
+use Rattle.corner_flow.specs.Corner.{UtilityHeat, NeedsHeat, corner_price}
 use Rattle.reports.specs.declared.shown.Shown.TheVariants as show
 use Rattle.pinch.proofs.flow.answer_standard.Goals as goal
 
@@ -37,7 +37,8 @@ returns c =
       corner = flow.ensures.spans;
       hot_heat = subst (UtilityHeat Hot parts.hot flow.flow.transfers) hot flow.ensures.hot_heat;
       cold_heat = subst (UtilityHeat Cold parts.cold flow.flow.transfers) cold flow.ensures.cold_heat;
-      least_hot = subst (NeedsHotHeat case parts.hot parts.cold) hot flow.ensures.least;
+      least_hot = subst (NeedsHeat case parts.hot parts.cold Hot) hot flow.ensures.least_hot;
+      least_cold = subst (NeedsHeat case parts.hot parts.cold Cold) cold flow.ensures.least_cold;
       corner_prices = record {
         place = c.reference_place-place.result;
         reference = c.reference_place-place.ensures;
