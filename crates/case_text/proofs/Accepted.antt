@@ -1,5 +1,5 @@
 -- The case of a file that is accepted is valid.
-use Rattle.std.proofs.Common.{◌≡◌, ◌≢◌, ◌∙◌, ◌∷◌, ◌++◌, ◌<◌, ◌≤◌, ◌+◌, ℕ, zero, suc, ℤ, pos, true, false, not, List, [], All, AllPairs, Option, Some, None, IfSome, is_some, option_map, unwrap_or, length, map, nat_lt, slice_get, refl, sym, ap, subst, arith, append_assoc, length-append}
+use Rattle.std.proofs.Common.{◌≡◌, ◌≢◌, ◌∙◌, ◌∷◌, ◌++◌, ◌<◌, ◌≤◌, ◌+◌, ℕ, zero, suc, ℤ, pos, true, false, not, List, [], All, AllPairs, Option, Some, None, Result, Ok, Err, IfOk, IfSome, is_some, option_map, unwrap_or, length, map, nat_lt, slice_get, refl, sym, ap, subst, arith, append_assoc, length-append}
 use Rattle.first_fault.specs.Checks.{first_failing}
 use Rattle.first_fault.specs.Outcome.{given_by}
 use Rattle.std.specs.Map.{keys_of}
@@ -30,7 +30,8 @@ use Rattle.case_text.specs.Rows.{field, kind_of, number}
 use Rattle.case_text.specs.Given.{Given, case_of, entry_by, nothing, source_at, stream_data, stream_of, utility_data, utility_of, with_entry}
 use Rattle.case_text.specs.Checks.{checks, contribution_checks, end_checks, forbid_checks, is_reserved, is_reserved_from, is_source, is_taken, is_within, kind_checks, stream_checks, stream_number_checks, utility_checks, utility_number_checks}
 use Rattle.case_text.specs.Answers.{HasFewSources}
-use Rattle.case_text.specs.Outcome.{IsCase, end_fault, grammar}
+use Rattle.case_text.specs.Outcome.{IsCase, IsOutcome, end_fault, grammar}
+use Rattle.case_text.specs.declared.fault.CaseFault.{CaseFault}
 use Rattle.case_text.specs.declared.entry.Entry.{Entry}
 use Rattle.case_text.specs.declared.entry.Entry.TheVariants as entry
 use Rattle.case_text.specs.declared.entry.StreamData.{StreamData}
@@ -276,3 +277,7 @@ pub case-is_valid : (rows : List Row) (case : Case) → IsCase rows case → IsV
 case-is_valid rows case is =
     let given = given_by grammar rows in
     rw is.value_is (case_valid given (given_has grammar Fits nothing_fits each_row_keeps rows is.sound) (some_stream (length rows) given is.complete))
+
+pub outcome_is_valid : (rows : List Row) (result : Result Case CaseFault) → IsOutcome rows result → IfOk result IsValid
+outcome_is_valid rows (Ok case) is = case-is_valid rows case is
+outcome_is_valid rows (Err fault) is = tt

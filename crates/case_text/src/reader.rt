@@ -44,9 +44,9 @@ fn entry_of(found: &Found, row: &ByteRecord) -> Result<Entry, CaseWhy>
 }
 
 /// Takes what rows give, and answers how many there are, or the first row at fault.
-fn take_rows(alloc: Global, found: &mut Found, rows: &mut Rows<'_>) -> Result<u32, CaseFault>
-    requires none { found.old ≡ nothing }
+fn take_rows(alloc: Global, rows: &mut Rows<'_>, found: &mut Found) -> Result<u32, CaseFault>
     requires few { length rows.old ≤ 2000000000 }
+    requires none { found.old ≡ nothing }
     ensures sound { OnOk result (SoundBefore grammar rows.old (length rows.old)) }
     ensures given { OnOk result (found.new ≡ given_by grammar rows.old) }
     ensures number { IfOk result (λ n. n ≡ length rows.old) }
@@ -64,16 +64,29 @@ fn take_rows(alloc: Global, found: &mut Found, rows: &mut Rows<'_>) -> Result<u3
     Ok(number)
 }
 
+/// The case of rows, or the first row at fault with its cause; `found` takes what they give.
+fn case_of(alloc: Global, rows: &mut Rows<'_>, found: &mut Found) -> Result<Case, CaseFault>
+    requires few { length rows.old ≤ 2000000000 }
+    requires none { found.old ≡ nothing }
+    ensures { IsOutcome rows.old result }
+{
+    let number = take_rows(alloc, rows, found)?;
+    match found.contribution() {
+        Ok(contribution) => Ok(found.case(alloc, contribution)?),
+        Err(why) => Err(CaseFault::Row {
+            row: number + 1,
+            why,
+        }),
+    }
+}
+
 /// Reads a case file: the case of the grammar, or the first row at fault with its cause.
+#[tactic(auto, using(crate::proofs::Accepted::outcome_is_valid))]
 pub fn read_case(alloc: Global, bytes: &[u8]) -> Result<Case, CaseFault>
     requires { length bytes.now ≤ 2000000000 }
     ensures outcome { IsOutcome (rows_of bytes.now) result }
     ensures valid { IfOk result IsValid }
 {
-    let mut found = Found::new(alloc);
-    let rows = take_rows(alloc, &mut found, &mut Rows::new(alloc, bytes))?;
-    match found.contribution() {
-        Ok(contribution) => Ok(found.case(alloc, contribution)?),
-        Err(why) => Err(CaseFault::Row { row: rows + 1, why }),
-    }
+    let mut rows = Rows::new(alloc, bytes);
+    case_of(alloc, &mut rows, &mut Found::new(alloc))
 }
