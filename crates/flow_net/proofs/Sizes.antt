@@ -1,25 +1,21 @@
 -- Absolute values.
-use Rattle.std.proofs.Common.{◌≡◌, ℕ, ◌<◌, ◌≤◌, zero, suc, List, [], ◌∷◌, length, get_or, ℤ, pos, negsuc, neg_ℤ, ◌≤ℤ◌, refl, arith}
+use Rattle.std.proofs.Common.{◌≡◌, ℕ, ◌+◌, ◌<◌, ◌≤◌, zero, suc, min, List, [], ◌∷◌, length, get_or, ℤ, pos, negsuc, arith}
 use Rattle.std.specs.Int.RustNames.{unsigned_abs}
 use Rattle.std.proofs.lemmas.Int.{ints}
+use borrow.Author.Differences.{up, down}
 use Rattle.flow_net.specs.Net.{greatest_size}
 
-pub size_upto : (z : ℤ) (n : ℕ) → unsigned_abs z ≤ n → z ≤ℤ pos n
-size_upto (pos a) n h = omega (arith, ints)
-size_upto (negsuc a) n h = omega (arith, ints)
+-- an integer z is read as `up z - down z`, one of which is 0
+pub abs_is : (z : ℤ) → unsigned_abs z ≡ up z + down z
+abs_is (pos n) = omega arith
+abs_is (negsuc n) = omega arith
 
-pub size_from : (z : ℤ) (n : ℕ) → unsigned_abs z ≤ n → neg_ℤ (pos n) ≤ℤ z
-size_from (pos a) n h = omega (arith, ints)
-size_from (negsuc a) n h = omega (arith, ints)
+pub one_side : (z : ℤ) → min (up z) (down z) ≡ 0
+one_side (pos n) = omega arith
+one_side (negsuc n) = omega arith
 
-pub size_between : (z : ℤ) (n : ℕ) → neg_ℤ (pos n) ≤ℤ z → z ≤ℤ pos n → unsigned_abs z ≤ n
-size_between (pos a) n h k = omega (arith, ints)
-size_between (negsuc a) n h k = omega (arith, ints)
-
-pub size_of_negative : (z : ℤ) → unsigned_abs (neg_ℤ z) ≡ unsigned_abs z
-size_of_negative (pos zero) = refl
-size_of_negative (pos (suc a)) = refl
-size_of_negative (negsuc a) = refl
+-- integers and their absolute values, for `omega`
+pub ruleset sizes = (ints, abs_is, one_side)
 
 pub size-le-greatest : {X : Type 0} (f : X → ℤ) (xs : List X) (k : ℕ) (d : X) → k < length xs → unsigned_abs (f (get_or xs k d)) ≤ greatest_size f xs
 size-le-greatest f [] k d l = absurd (omega arith)

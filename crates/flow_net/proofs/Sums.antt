@@ -4,7 +4,7 @@ use Rattle.std.proofs.lemmas.Int.{ints}
 use Rattle.std.proofs.lemmas.Bool.{cases_eq, eq-eqb, ne_eqb}
 use Rattle.flow_net.specs.Sum.{sum_below}
 use Rattle.sums.proofs.ProductLemmas.{*ℤ-+ℤ}
-use Rattle.flow_net.proofs.Products.{*ℤ-zero}
+use Rattle.std.proofs.Math.IntN.{*ℤ-zero}
 
 pub sum_below-same : (n : ℕ) (f g : ℕ → ℤ) → ((k : ℕ) → k < n → f k ≡ g k) → sum_below n f ≡ sum_below n g
 sum_below-same zero f g h = refl
@@ -39,7 +39,7 @@ sum_below-zero (suc n) f h =
     let here = h n (omega arith) in
     omega (arith, ints)
 
--- two sums whose terms differ at one place
+-- two sums whose terms differ at one index
 pub sum_below-change : (n : ℕ) (f g : ℕ → ℤ) (i : ℕ) → i < n → ((k : ℕ) → k < n → k ≢ i → g k ≡ f k) → sum_below n g ≡ sum_below n f +ℤ (g i -ℤ f i)
 sum_below-change zero f g i l h = absurd (omega arith)
 sum_below-change (suc n) f g i l h =

@@ -1,25 +1,27 @@
--- How much an arc can carry, and what is left after it has carried some.
-use Rattle.std.specs.Prelude.{◌≡◌, ◌≢◌, ℕ, ℤ, ◌+ℤ◌, ◌-ℤ◌, ◌≤ℤ◌, List, [], ◌∷◌, fold, slice_set, All, if◌then◌else◌}
+-- How much an arc can carry, what is left after it has carried some, and what it costs.
+use Rattle.std.specs.Prelude.{◌≡◌, ◌≢◌, ℕ, ◌+◌, ◌*◌, ◌<◌, ◌≤◌, ℤ, ◌+ℤ◌, ◌-ℤ◌, ◌≤ℤ◌, List, [], ◌∷◌, length, fold, slice_set, All, if◌then◌else◌}
+use Rattle.std.specs.Int.RustNames.{unsigned_abs}
+use Rattle.flow_net.specs.declared.limits.TheConstants.{MOST_NODES, MOST_COST, MOST_INITIAL_POTENTIAL}
 use Rattle.flow_net.specs.declared.net.Link.{Link}
-use Rattle.flow_net.specs.declared.adjacency.Arc.{Arc}
-use Rattle.flow_net.specs.Net.{link_at, flow_on, potential_at}
-use Rattle.flow_net.specs.Adjacency.{IsArc}
+use Rattle.flow_net.specs.declared.arc.Arc.{Arc}
+use Rattle.flow_net.specs.Net.{link_at, flow_on, potential_at, IsCost}
+use Rattle.flow_net.specs.Arc.{IsArc, carry}
 
 -- how much more an arc can carry
-abbrev pub spare_of : List Link → List ℤ → Arc → ℤ
-spare_of links flow a = if a.forward then (link_at links a.link).room -ℤ flow_on flow a.link else flow_on flow a.link
+abbrev pub residual_of : List Link → List ℤ → Arc → ℤ
+residual_of links flow a = if a.forward then (link_at links a.link).room -ℤ flow_on flow a.link else flow_on flow a.link
 
 -- the flow after an arc has carried an amount more
 abbrev pub sent_along : List ℤ → Arc → ℤ → List ℤ
-sent_along flow a amount = slice_set flow a.link (if a.forward then flow_on flow a.link +ℤ amount else flow_on flow a.link -ℤ amount)
+sent_along flow a amount = slice_set flow a.link (carry a (flow_on flow a.link) amount)
 
 -- the flow after each arc of a path has carried an amount more
 abbrev pub sent_along_path : List ℤ → List Arc → ℤ → List ℤ
 sent_along_path flow path amount = fold (λ f a. sent_along f a amount) flow path
 
 -- the reduced cost of an arc
-abbrev pub slack_of : List ℤ → Arc → ℤ
-slack_of potentials a = (a.cost +ℤ potential_at potentials a.tail) -ℤ potential_at potentials a.head
+abbrev pub reduced_cost_of : List ℤ → Arc → ℤ
+reduced_cost_of potentials a = (a.cost +ℤ potential_at potentials a.tail) -ℤ potential_at potentials a.head
 
 -- the arcs lead from node u to node v
 abbrev pub IsWalk : List Arc → ℕ → ℕ → Type 0
@@ -35,4 +37,28 @@ AreApart (a ∷ path) = All (λ b. b.link ≢ a.link) path × AreApart path
 pub record CanCarry (links : List Link) (flow : List ℤ) (path : List Arc) (amount : ℤ) : Type 0 where
   pub arcs : All (IsArc links) path
   pub apart : AreApart path
-  pub spare : All (λ a. amount ≤ℤ spare_of links flow a) path
+  pub residual : All (λ a. amount ≤ℤ residual_of links flow a) path
+
+-- how much a path costs at most, without its sign: it passes no node twice
+abbrev pub most_path_cost : ℕ
+most_path_cost = MOST_NODES * MOST_COST
+
+-- how large a potential gets, without its sign
+abbrev pub most_potential : ℕ
+most_potential = 3 * MOST_INITIAL_POTENTIAL + most_path_cost
+
+-- how far a potential has to rise at most
+abbrev pub most_rise : ℕ
+most_rise = 2 * most_potential + most_path_cost
+
+-- a potential within that
+abbrev pub IsPotential : ℤ → Type 0
+IsPotential z = unsigned_abs z ≤ most_potential
+
+-- an arc with a cost, and potentials at its ends, within the limits
+pub record IsPriced (potentials : List ℤ) (a : Arc) : Type 0 where
+  pub tail_in : a.tail < length potentials
+  pub head_in : a.head < length potentials
+  pub cost : IsCost a.cost
+  pub at_tail : IsPotential (potential_at potentials a.tail)
+  pub at_head : IsPotential (potential_at potentials a.head)

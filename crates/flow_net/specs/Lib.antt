@@ -1,7 +1,9 @@
-pub mod Adjacency
+pub mod Arc
+pub mod Entry
 pub mod Flow
-pub mod Guide
+pub mod LevelGraph
 pub mod Net
+pub mod Problem
+pub mod Queue
 pub mod Search
-pub mod Solve
 pub mod Sum

@@ -1,6 +1,8 @@
--- Routings of an amount through a net, potentials, and sets that cannot be left by so much.
+-- Routings of an amount through a net, potentials that prove one to cost least, cuts that show that there is none, and
+-- the limits.
 use Rattle.std.specs.Prelude.{◌≡◌, ◌==◌, ℕ, ◌+◌, ◌*◌, ◌<◌, ◌≤◌, max, ℤ, pos, ◌+ℤ◌, ◌-ℤ◌, ◌*ℤ◌, ◌<ℤ◌, ◌≤ℤ◌, ◌≢◌, Bool, true, false, not, ◌&&◌, List, [], ◌∷◌, length, slice_index_or, if◌then◌else◌}
 use Rattle.std.specs.Int.RustNames.{unsigned_abs}
+use Rattle.flow_net.specs.declared.limits.TheConstants.{MOST_NODES, MOST_LINKS, MOST_ROOM, MOST_COST, MOST_INITIAL_POTENTIAL}
 use Rattle.flow_net.specs.declared.net.Link.{Link}
 use Rattle.flow_net.specs.declared.net.Net.{Net}
 use Rattle.flow_net.specs.declared.net.Solved.{Solved}
@@ -65,27 +67,26 @@ abbrev pub greatest_size : {X : Type 0} → (X → ℤ) → List X → ℕ
 greatest_size f [] = 0
 greatest_size f (x ∷ xs) = max (unsigned_abs (f x)) (greatest_size f xs)
 
--- how large a potential may be: three times the greatest absolute start number, plus the number of nodes
+-- the greatest cost of the net, without its sign
+abbrev pub largest_cost : Net → ℕ
+largest_cost net = greatest_size (λ l. l.cost) net.links
+
+-- how large a potential may be: three times the greatest absolute initial potential, plus the number of nodes
 -- times the greatest absolute cost
 abbrev pub potential_bound : Net → List ℤ → ℕ
-potential_bound net start = 3 * greatest_size (λ s. s) start + net.nodes * greatest_size (λ l. l.cost) net.links
+potential_bound net start = 3 * greatest_size (λ s. s) start + net.nodes * largest_cost net
 
 -- one potential for each node, within that bound
 pub record AreBounded (net : Net) (start potentials : List ℤ) : Type 0 where
   pub one_each : length potentials ≡ net.nodes
   pub bounded : (v : ℕ) → v < net.nodes → unsigned_abs (potential_at potentials v) ≤ potential_bound net start
 
--- the nodes of the links are in range
-pub record HasNodesWithin (n : ℕ) (links : List Link) : Type 0 where
-  pub from_in : (k : ℕ) → k < length links → (link_at links k).from < n
-  pub to_in : (k : ℕ) → k < length links → (link_at links k).to < n
-
 -- whether a link leaves a set
 abbrev pub leaves : List Bool → Link → Bool
 leaves set link = is_in set link.from && not (is_in set link.to)
 
--- a set with the source and without the sink, whose leaving rooms add up to less than the amount
-pub record IsBarrier (net : Net) (source sink : ℕ) (amount : ℤ) (set : List Bool) : Type 0 where
+-- a cut, that is a set with the source and without the sink, whose leaving rooms add up to less than the amount
+pub record IsCutBelow (net : Net) (source sink : ℕ) (amount : ℤ) (set : List Bool) : Type 0 where
   pub one_each : length set ≡ net.nodes
   pub source_in : is_in set source ≡ true
   pub sink_out : is_in set sink ≡ false
@@ -104,27 +105,31 @@ IfBlocked (Blocked reached) p = p reached
 abbrev pub IsRoutable : Net → ℕ → ℕ → ℤ → Type 0
 IsRoutable net source sink amount = (flow : List ℤ) × IsRouting net source sink amount flow
 
--- a cost within 10^12
-abbrev pub IsSmallCost : Link → Type 0
-IsSmallCost link = unsigned_abs link.cost ≤ 1000000000000
+-- a room of a link, or an amount
+pub record IsRoom (z : ℤ) : Type 0 where
+  pub from : pos 0 ≤ℤ z
+  pub upto : z ≤ℤ MOST_ROOM
 
-abbrev pub HasSmallCosts : List Link → Type 0
-HasSmallCosts links = (k : ℕ) → k < length links → IsSmallCost (link_at links k)
+-- a cost of a link
+abbrev pub IsCost : ℤ → Type 0
+IsCost z = unsigned_abs z ≤ MOST_COST
 
--- a net within the limits: 200,000 nodes, 1,000,000 links, rooms from 0 to 10^16, costs within 10^12
+-- an initial potential
+abbrev pub IsInitialPotential : ℤ → Type 0
+IsInitialPotential z = unsigned_abs z ≤ MOST_INITIAL_POTENTIAL
+
+-- a link between two of n nodes, with a room and a cost within the limits
+pub record IsLinkWithin (n : ℕ) (link : Link) : Type 0 where
+  pub from_in : link.from < n
+  pub to_in : link.to < n
+  pub room : IsRoom link.room
+  pub cost : IsCost link.cost
+
+-- a net within the limits
 pub record IsWithinLimits (net : Net) : Type 0 where
-  pub few_nodes : net.nodes ≤ 200000
-  pub few_links : length net.links ≤ 1000000
-  pub within : HasNodesWithin net.nodes net.links
-  pub room_from : (k : ℕ) → k < length net.links → pos 0 ≤ℤ (link_at net.links k).room
-  pub room_upto : (k : ℕ) → k < length net.links → (link_at net.links k).room ≤ℤ pos 10000000000000000
-  pub costs : HasSmallCosts net.links
-
--- one potential for each node, within 2.03 * 10^17: so large they get by start numbers within 10^15 and
--- 200,000 links of cost 10^12
-pub record AreTame (net : Net) (potentials : List ℤ) : Type 0 where
-  pub one_each : length potentials ≡ net.nodes
-  pub tame : (v : ℕ) → v < net.nodes → unsigned_abs (potential_at potentials v) ≤ 203000000000000000
+  pub few_nodes : net.nodes ≤ MOST_NODES
+  pub few_links : length net.links ≤ MOST_LINKS
+  pub links : (k : ℕ) → k < length net.links → IsLinkWithin net.nodes (link_at net.links k)
 
 -- source and sink are two nodes of the net
 pub record AreEnds (net : Net) (source sink : ℕ) : Type 0 where
@@ -132,8 +137,8 @@ pub record AreEnds (net : Net) (source sink : ℕ) : Type 0 where
   pub sink_in : sink < net.nodes
   pub apart : source ≢ sink
 
--- one start number for each node, within 10^15, at which no link with room has a reduced cost below 0
-pub record IsStart (net : Net) (start : List ℤ) : Type 0 where
+-- one initial potential for each node, at which no link with room has a reduced cost below 0
+pub record AreInitialPotentials (net : Net) (start : List ℤ) : Type 0 where
   pub one_each : length start ≡ net.nodes
-  pub small : (v : ℕ) → v < net.nodes → unsigned_abs (potential_at start v) ≤ 1000000000000000
+  pub within : (v : ℕ) → v < net.nodes → IsInitialPotential (potential_at start v)
   pub fits : (k : ℕ) → k < length net.links → pos 0 <ℤ (link_at net.links k).room → pos 0 ≤ℤ reduced_cost (link_at net.links k) start

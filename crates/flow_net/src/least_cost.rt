@@ -1,29 +1,30 @@
-//! Routing an amount at least cost, or finding a set that it cannot leave (Ford and Fulkerson 1962,
-//! with the dual step of Edmonds and Karp 1972).
-ghost use Rattle.std.specs.Prelude.{◌≡◌, pos, ◌<ℤ◌, ◌≤ℤ◌, IfOk};
-ghost use Rattle.flow_net.specs.Adjacency.{IsAdjacency};
-ghost use Rattle.flow_net.specs.Net.{IsWithinLimits, AreEnds, IsStart, IsLeastRouting, AreProofOfLeast, AreBounded, IsBarrier, IsRoutable, IfRouted, IfBlocked};
-ghost use Rattle.flow_net.specs.Search.{IsSearchable, HasArrived};
-ghost use Rattle.flow_net.specs.Solve.{IfSent, IfStuck, Adds, BlocksMore};
+//! Routing an amount at least cost, or finding a cut that it cannot pass (Ford and Fulkerson 1962, with
+//! the dual step of Edmonds and Karp 1972).
+ghost use Rattle.std.specs.Prelude.{◌≡◌, pos, ◌<ℤ◌, ◌≤ℤ◌, IfOk, OnOk};
+ghost use Rattle.flow_net.specs.Net.{IsWithinLimits, AreEnds, IsRoom, AreInitialPotentials, IsLeastRouting, AreProofOfLeast, AreBounded, IsCutBelow, IsRoutable, IfRouted, IfBlocked};
+ghost use Rattle.flow_net.specs.Problem.{IsStanding};
+ghost use Rattle.flow_net.specs.Search.{HasArrived};
 
 use crate::adjacency::Adjacency;
-use crate::flow::{bottleneck, send_along};
-use crate::free_flow::send_freely;
+use crate::level_graph::LevelGraph;
 use crate::net::{Net, Solved};
+use crate::problem::Problem;
 use crate::routing::Routing;
-use crate::search::{Label, Search};
+use crate::search::Search;
 use std::alloc::{AllocError, Global};
 use stream_case::Items;
 
 /// Routes an amount from the source to the sink at least cost, if it can be routed.
 ///
-/// The start numbers, one for each node, are potentials at which no link with room has a reduced
-/// cost below 0: its cost with the start number of its first node, less that of its second.
-/// Each potential of the answer is in absolute value at most three times the greatest absolute start
-/// number plus the number of nodes times the greatest absolute cost.
+/// The start numbers are initial potentials, one for each node, at which no link with room has a
+/// reduced cost below 0: its cost with the potential of its first node, less that of its second. Each
+/// potential of the answer is in absolute value at most three times the greatest absolute initial
+/// potential plus the number of nodes times the greatest absolute cost.
 ///
-/// The net has at most 200,000 nodes and 1,000,000 links, with rooms from 0 to 10^16 and costs from
-/// -10^12 to 10^12; the amount is at most 10^16. Rooms, amounts and costs have any units.
+/// The net has at most [`MOST_NODES`](crate::MOST_NODES) nodes and [`MOST_LINKS`](crate::MOST_LINKS)
+/// links; a room and the amount are from 0 to [`MOST_ROOM`](crate::MOST_ROOM), a cost is in absolute
+/// value at most [`MOST_COST`](crate::MOST_COST), and an initial potential at most
+/// [`MOST_INITIAL_POTENTIAL`](crate::MOST_INITIAL_POTENTIAL). They have any units.
 pub fn solve(
     alloc: Global,
     net: &Net,
@@ -34,33 +35,31 @@ pub fn solve(
 ) -> Result<Solved, AllocError>
     requires net { IsWithinLimits net.now }
     requires ends { AreEnds net.now source sink }
-    requires amount_from { pos 0 ≤ℤ amount }
-    requires amount_upto { amount ≤ℤ pos 10000000000000000 }
-    requires start { IsStart net.now start.now }
+    requires amount { IsRoom amount }
+    requires start { AreInitialPotentials net.now start.now }
     ensures routed { IfOk result (λ s. IfRouted s (λ flow potentials. IsLeastRouting net.now source sink amount flow)) }
     ensures certified { IfOk result (λ s. IfRouted s (λ flow potentials. AreProofOfLeast net.now.links flow potentials)) }
     ensures bounded { IfOk result (λ s. IfRouted s (λ flow potentials. AreBounded net.now start.now potentials)) }
-    ensures blocked { IfOk result (λ s. IfBlocked s (λ set. IsBarrier net.now source sink amount set)) }
+    ensures blocked { IfOk result (λ s. IfBlocked s (λ set. IsCutBelow net.now source sink amount set)) }
     ensures blocked_only { IfOk result (λ s. IfBlocked s (λ set. ¬ IsRoutable net.now source sink amount)) }
 {
-    let adjacency = Adjacency::new(alloc, net)?;
-    let mut routing = Routing {
-        flow: vec![in alloc; 0; net.links.len()]?,
-        potentials: Vec::from_slice(alloc, start.as_slice())?,
+    let problem = Problem {
+        net,
+        adjacency: Adjacency::new(alloc, net)?,
+        source,
+        sink,
+        amount,
+        start: start.as_slice(),
     };
-    let mut left = amount;
-    while left > 0 {
-        match take_step(alloc, net, &adjacency, &mut routing, source, sink, left)? {
-            Step::Sent(sent) => {
-                left -= sent;
-                left -= send_freely(alloc, net, &adjacency, &mut routing, source, sink, left)?;
-            }
-            Step::Stuck(set) => {
-                return Ok(Solved::Blocked {
-                    reached: Items::from_vec(set),
-                });
-            }
+    let mut routing = Routing::new(alloc, &problem)?;
+    while routing.routed < amount {
+        let mut search = Search::new(alloc, &problem)?;
+        if !search.run(&problem, &routing)? {
+            return Ok(Solved::Blocked {
+                reached: Items::from_vec(search.reached),
+            });
         }
+        advance(alloc, &problem, &mut routing, search)?;
     }
     Ok(Solved::Routed {
         flow: Items::from_vec(routing.flow),
@@ -68,70 +67,29 @@ pub fn solve(
     })
 }
 
-/// What one search led to.
-#[derive(Drop)]
-enum Step {
-    /// So much was sent along a path without reduced cost.
-    Sent(i64),
-    /// No path is left from the source to the sink, and this is the set of the nodes with one.
-    Stuck(Vec<bool>),
-}
-
-/// Raises the potentials until a path without reduced cost leads to the sink, and sends along it what
-/// it can carry, at most what is left.
-fn take_step(
+/// Raises the potentials after a search that has reached the sink, and augments along the paths that
+/// have no reduced cost then: the one that the search found, and those of its level graph.
+fn advance(
     alloc: Global,
-    net: &Net,
-    adjacency: &Adjacency,
+    problem: &Problem,
     routing: &mut Routing,
-    source: u32,
-    sink: u32,
-    left: i64,
-) -> Result<Step, AllocError>
-    requires net { IsWithinLimits net.now }
-    requires adjacency { IsAdjacency net.now.nodes net.now.links adjacency.now }
-    requires routing { IsSearchable net.now routing.old }
-    requires ends { AreEnds net.now source sink }
-    requires left { pos 0 <ℤ left }
-    ensures some { IfOk result (λ s. IfSent s (λ sent. pos 0 <ℤ sent)) }
-    ensures limited { IfOk result (λ s. IfSent s (λ sent. sent ≤ℤ left)) }
-    ensures adds { IfOk result (λ s. IfSent s (λ sent. Adds net.now source sink routing.old routing.new sent)) }
-    ensures stuck { IfOk result (λ s. IfStuck s (λ set. BlocksMore net.now source sink routing.old set)) }
+    search: Search,
+) -> Result<(), AllocError>
+    requires standing { IsStanding problem.now routing.old }
+    requires arrived { HasArrived problem.now routing.old search }
+    requires short { routing.old.routed <ℤ problem.now.amount }
+    ensures standing { OnOk result (IsStanding problem.now routing.new) }
+    ensures rises { OnOk result (routing.old.routed <ℤ routing.new.routed) }
 {
-    let mut search = Search::new(alloc, net, routing, source)?;
-    match search.run(net, adjacency, routing, sink)? {
-        Some(label) => {
-            let sent = follow(alloc, net, routing, &search, sink, &label, left)?;
-            Ok(Step::Sent(sent))
+    search.raise(problem, routing);
+    let path = search.path(alloc, problem)?;
+    routing.augment(problem, &path);
+    let mut graph = LevelGraph::new(alloc, search)?;
+    while routing.routed < problem.amount {
+        match graph.find_path(alloc, problem, routing)? {
+            Some(path) => routing.augment(problem, &path),
+            None => return Ok(()),
         }
-        None => Ok(Step::Stuck(search.reached)),
     }
-}
-
-/// Raises the potentials after a search that has reached the sink, sends along the path that it found
-/// what that can carry, and answers how much.
-fn follow(
-    alloc: Global,
-    net: &Net,
-    routing: &mut Routing,
-    search: &Search,
-    sink: u32,
-    label: &Label,
-    left: i64,
-) -> Result<i64, AllocError>
-    requires net { IsWithinLimits net.now }
-    requires routing { IsSearchable net.now routing.old }
-    requires ends { AreEnds net.now search.now.source sink }
-    requires arrived { HasArrived net.now routing.old sink search.now label.now }
-    requires left { pos 0 <ℤ left }
-    ensures some { IfOk result (λ sent. pos 0 <ℤ sent) }
-    ensures limited { IfOk result (λ sent. sent ≤ℤ left) }
-    ensures adds { IfOk result (λ sent. Adds net.now search.now.source sink routing.old routing.new sent) }
-{
-    let rise = label.rise(&routing.potentials, sink);
-    search.raise(&mut routing.potentials, rise);
-    let path = search.path_to(alloc, sink)?;
-    let sent = bottleneck(net, &routing.flow, &path, left);
-    send_along(net, &mut routing.flow, &path, sent);
-    Ok(sent)
+    Ok(())
 }

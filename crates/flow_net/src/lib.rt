@@ -1,16 +1,19 @@
 //! The least-cost flow engine: an amount routed through a net at least cost, with potentials that
-//! prove it, or a set of nodes that cannot be left by so much (Ford and Fulkerson 1962, with the
-//! dual step of Edmonds and Karp 1972 and the levels of Dinic 1970).
+//! prove it, or a cut that the amount cannot pass (Ford and Fulkerson 1962, with the dual step of
+//! Edmonds and Karp 1972 and the level graph of Dinic 1970).
 #![tactic(auto)]
 
 mod adjacency;
-mod flow;
-mod free_flow;
-mod guide;
+mod arc;
 mod least_cost;
+mod level_graph;
+mod limits;
 mod net;
+mod problem;
+mod queue;
 mod routing;
 mod search;
 
 pub use least_cost::solve;
+pub use limits::{MOST_COST, MOST_INITIAL_POTENTIAL, MOST_LINKS, MOST_NODES, MOST_ROOM};
 pub use net::{Link, Net, Solved};

@@ -34,8 +34,8 @@ pub enum Solved {
     },
     /// The amount cannot be routed.
     Blocked {
-        /// Whether each node is in a set that holds the source and not the sink, and that the
-        /// links which leave it have too little room to leave by so much.
+        /// Whether each node is on the source's side of a cut: a set that holds the source and not
+        /// the sink, and that the links which leave it have too little room to leave by so much.
         reached: Items<bool>,
     },
 }

@@ -1,73 +1,83 @@
-use Rattle.std.proofs.Common.{None, get_or, ap, ◌∙◌, sym, subst, refl, inl, inr}
+use Rattle.std.proofs.Common.{◌≡◌, ◌≢◌, true, ap, ◌∙◌, sym, subst, refl, inl, inr}
 use Rattle.std.proofs.lemmas.Bool.{cases_eq, false≢true}
+use Rattle.flow_net.specs.declared.arc.Arc.{Arc}
+use Rattle.flow_net.specs.Arc.{IsArc}
 use Rattle.flow_net.specs.Net.{is_in}
-use Rattle.flow_net.specs.Search.{rise_of, HasArrived}
-use Rattle.flow_net.proofs.RelaxLemmas.{IsClosedAt-improves}
-use Rattle.flow_net.proofs.QueueLemmas.{reaching-mark, reaching-label, reaching-not_sink, reaching-closed}
+use Rattle.flow_net.specs.Search.{rise_of_label, rise_at, IsClosed, IsClosedAt}
+use Rattle.flow_net.proofs.SearchLemmas.{none_reached, IsSearch-fresh, reached_cases, IsSearch-reaching, IsAt-reaching, miss-reaching, all_reached-drained, IsClosedAt-improves}
 use Rattle.flow_net.proofs.search.Search.run.Goals as goal
+use Rattle.flow_net.proofs.search.Search.run.Goals.{In-Some}
 
 pub loop-node-init : goal.loop-node-init
-loop-node-init c = record {
-  source = refl;
-  level = _;
-  search = c.requires.fresh.search;
-  closed = λ a is reached. absurd (false≢true (sym (c.requires.fresh.none_reached a.tail) ∙ reached));
-  sink_out = c.requires.fresh.none_reached c.args.sink;
-}
+loop-node-init c =
+    let p = c.args.problem.now in
+    let r = c.args.routing.now in
+    let s = c.args.self.now in
+    let none = none_reached p r c.requires.standing s c.requires.fresh in
+    record {
+      search = IsSearch-fresh p r c.requires.standing s c.requires.fresh;
+      closed = λ a is hit. absurd (false≢true (sym (none a.tail) ∙ hit));
+      sink_out = none p.sink;
+    }
 
-pub returns-then-node-sink-clause-found : goal.returns-then-node-sink-clause-found
-returns-then-node-sink-clause-found c =
-    let s = c.loop-node.self in
-    let t = c.nearest.new.self in
-    let v = c.in-Some.node in
-    let l = c.in-Some.label in
-    let r = c.in-Some.ensures in
+-- the arcs from the nodes that were reached before are closed still
+closed_before : (c : In-Some) (a : Arc) → IsArc c.args.problem.now.net.now.links a → a.tail ≢ c.in-Some.node → is_in c.nearest.new.self.reached.items a.tail ≡ true → IsClosedAt c.args.problem.now c.args.routing.now c.nearest.new.self a
+closed_before c a is ne hit residual =
     let inv = c.loop-node.invariant in
-    subst (λ u. HasArrived c.args.net.now c.args.routing.now u t l) c.if-node-sink.true
-    (record {
-      search = r.kept c.args.net.now c.args.routing.now inv.level inv.search;
-      sink_reached = reaching-mark s t v l r;
-      labelled = reaching-label s t v l r;
-      closed = reaching-closed s t v l r c.args.net.now c.args.routing.now inv.closed;
-    })
+    let before = reached_cases c.args.problem.now c.args.routing.now c.loop-node.self c.nearest.new.self c.in-Some.node c.in-Some.label c.in-Some.ensures inv.search (λ u. u ≢ c.in-Some.node → is_in c.loop-node.self.reached.items u ≡ true) (λ no. absurd (no refl)) (λ u h _. h) a.tail hit ne in
+    subst (λ labels. IsClosed c.args.routing.now labels a) (sym c.in-Some.ensures.labels) (inv.closed a is before residual)
+
+pub scan-requires-clause-search : goal.scan-requires-clause-search
+scan-requires-clause-search c = IsSearch-reaching c.args.problem.now c.args.routing.now c.loop-node.self c.nearest.new.self c.in-Some.node c.in-Some.label c.in-Some.ensures c.loop-node.invariant.search
+
+pub scan-requires-clause-at : goal.scan-requires-clause-at
+scan-requires-clause-at c = IsAt-reaching c.args.problem.now c.args.routing.now c.loop-node.self c.nearest.new.self c.in-Some.node c.in-Some.label c.in-Some.ensures c.loop-node.invariant.search
+
+pub returns-then-node-problem : goal.returns-then-node-problem
+returns-then-node-problem c =
+    let t = c.nearest.new.self in
+    let at_sink = c.if-node-problem.true in
+    let search = IsSearch-reaching c.args.problem.now c.args.routing.now c.loop-node.self t c.in-Some.node c.in-Some.label c.in-Some.ensures c.loop-node.invariant.search in
+    let at = IsAt-reaching c.args.problem.now c.args.routing.now c.loop-node.self t c.in-Some.node c.in-Some.label c.in-Some.ensures c.loop-node.invariant.search in
+    record {
+      search = search;
+      sink_reached = subst (λ v. is_in t.reached.items v ≡ true) at_sink at.reached;
+      level = subst (λ v. rise_at t.labels.items v ≡ t.queue.level) at_sink (ap rise_of_label at.label ∙ at.level);
+      closed = λ a is hit ne. closed_before (goal.at.returns-then-node-problem c).In-Some a is (λ e. ne (e ∙ at_sink)) hit;
+    }
 
 pub loop-node-preserved : goal.loop-node-preserved
 loop-node-preserved c =
-    let net = c.args.net.now in
-    let routing = c.args.routing.now in
+    let p = c.args.problem.now in
+    let r = c.args.routing.now in
     let s = c.loop-node.self in
     let t = c.nearest.new.self in
     let u = c.scan.new.self in
     let v = c.in-Some.node in
-    let l = c.in-Some.label in
-    let r = c.in-Some.ensures in
+    let reaching = c.in-Some.ensures in
     let inv = c.loop-node.invariant in
     let scan = c.in_ok-scan.ensures in
     record {
-      source = scan.improves.source ∙ (r.source ∙ inv.source);
-      level = rise_of routing v l;
       search = scan.search;
-      closed = λ a is reached. elim (cases_eq a.tail v) [
+      closed = λ a is hit. elim (cases_eq a.tail v) [
         | inl e ↦ scan.closed a is e
         | inr ne ↦
-            let before = sym (ap (λ xs. is_in xs a.tail) scan.improves.reached) ∙ reached in
-            IsClosedAt-improves net routing t u a scan.improves before (reaching-closed s t v l r net routing inv.closed a is before ne)
+            let before = ap (λ xs. is_in xs a.tail) (sym scan.improves.reached) ∙ hit in
+            IsClosedAt-improves p r t u a scan.improves before (closed_before (goal.at.loop-node-preserved c).In-Some a is ne before)
       ];
-      sink_out = ap (λ xs. is_in xs c.args.sink) scan.improves.reached ∙ reaching-not_sink s t v l r c.args.sink (λ e. c.if-node-sink.false (sym e)) inv.sink_out;
+      sink_out = ap (λ xs. is_in xs p.sink) scan.improves.reached ∙ miss-reaching p r s t v c.in-Some.label reaching inv.search p.sink (λ e. c.if-node-problem.false (sym e)) inv.sink_out;
     }
 
-pub returns-clause-found : goal.returns-clause-found
-returns-clause-found c =
-    let s = c.loop-node.self in
+pub returns : goal.returns
+returns c =
+    let p = c.args.problem.now in
+    let r = c.args.routing.now in
     let t = c.nearest.new.self in
-    let d = c.in_default.ensures in
+    let drained = c.in_default.ensures in
     let inv = c.loop-node.invariant in
     record {
-      level = inv.level;
-      search = d.kept c.args.net.now c.args.routing.now inv.level inv.search;
-      queue = d.queue;
-      closed = λ a is reached k labelled spare.
-          let h = inv.closed a is (sym (ap (λ xs. is_in xs a.tail) d.reached) ∙ reached) k (sym (ap (λ xs. get_or xs a.tail None) d.labels) ∙ labelled) spare in
-          (h.0, ap (λ xs. get_or xs a.head None) d.labels ∙ h.1, h.2);
-      sink_out = ap (λ xs. is_in xs c.args.sink) d.reached ∙ inv.sink_out;
+      labels = rw (drained.labels, drained.reached) inv.search.labels;
+      all_reached = all_reached-drained c.loop-node.self t drained;
+      closed = λ a is hit residual. subst (λ labels. IsClosed r labels a) (sym drained.labels) (inv.closed a is (ap (λ xs. is_in xs a.tail) (sym drained.reached) ∙ hit) residual);
+      sink_out = ap (λ xs. is_in xs p.sink) drained.reached ∙ inv.sink_out;
     }

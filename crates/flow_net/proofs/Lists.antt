@@ -1,0 +1,25 @@
+-- Lists read past their ends, and with one element written.
+use Rattle.std.proofs.Common.{◌≡◌, ◌≢◌, ℕ, ◌<◌, List, length, get_or, set, replicate, sym, subst, inl, inr, arith}
+use Rattle.std.proofs.lemmas.Bool.{cases_eq, cases_lt}
+use Rattle.std.proofs.lemmas.List.{length-replicate, get_or-replicate, get_or-set_same, get_or-set_other, get_or_past}
+
+-- what holds of the element written, and of each other element, holds of each
+pub set_cases : {X : Type 0} (xs : List X) (i : ℕ) (x d : X) → i < length xs → (P : ℕ → X → Type 0) → P i x → ((v : ℕ) → v ≢ i → P v (get_or xs v d)) → (v : ℕ) → P v (get_or (set xs i x) v d)
+set_cases xs i x d within P here there v = elim (cases_eq v i) [
+  | inl e ↦ subst (λ u. P u (get_or (set xs i x) u d)) (sym e) (subst (P i) (sym (get_or-set_same xs i x d within)) here)
+  | inr ne ↦ subst (P v) (sym (get_or-set_other xs i v x d ne)) (there v ne)
+]
+
+-- an index at which a list does not read as past its end is within it
+pub within_from : {X : Type 0} (xs : List X) (v : ℕ) (d : X) → (get_or xs v d ≡ d → ⊥) → v < length xs
+within_from xs v d other = elim (cases_lt v (length xs)) [
+  | inl lt ↦ lt
+  | inr le ↦ absurd (other (get_or_past xs v d le))
+]
+
+-- copies of an element read as that element past their end too
+pub replicate_same : {X : Type 0} (n v : ℕ) (x : X) → get_or (replicate n x) v x ≡ x
+replicate_same {X} n v x = elim (cases_lt v n) [
+  | inl lt ↦ get_or-replicate n v x x lt
+  | inr le ↦ get_or_past (replicate n x) v x (let e = length-replicate {A = X} n x in omega arith)
+]

@@ -1,0 +1,191 @@
+-- What stands after the potentials are raised.
+use Rattle.std.proofs.Common.{◌≡◌, ℕ, ◌*◌, ◌<◌, ◌≤◌, Bool, true, false, Option, Some, None, is_some, List, length, ℤ, pos, ◌+ℤ◌, ◌-ℤ◌, ◌≤ℤ◌, FitsSigned, w64, ap, ◌∙◌, sym, refl, inl, inr, arith}
+use Rattle.std.proofs.lemmas.Int.{ints}
+use Rattle.std.proofs.lemmas.Bool.{cases_Bool, cases_eq, false≢true}
+use Rattle.std.proofs.lemmas.Nat.{mul-le}
+use Rattle.std.proofs.lemmas.List.Elements.{All-contains}
+use Rattle.std.proofs.lemmas.List.Sums.{count_by-le-length}
+use Rattle.std.specs.declared.cmp.Reverse.{Reverse}
+use Rattle.flow_net.specs.declared.arc.Arc.{Arc}
+use Rattle.flow_net.specs.declared.problem.Problem.{Problem}
+use Rattle.flow_net.specs.declared.routing.Routing.{Routing}
+use Rattle.flow_net.specs.declared.search.Label.{Label}
+use Rattle.flow_net.specs.declared.search.Search.{Search}
+use Rattle.flow_net.specs.Net.{link_at, potential_at, is_in, largest_cost, AreBounded, AreProofOfLeast}
+use Rattle.flow_net.specs.Arc.{arc_of, IsArc}
+use Rattle.flow_net.specs.Flow.{reduced_cost_of}
+use Rattle.flow_net.specs.Problem.{Stands, IsStanding, IsResidualArc}
+use Rattle.flow_net.specs.Queue.{entry, entries_of}
+use Rattle.flow_net.specs.Search.{label_at, is_labelled, rise_of_label, rise_at, depth_at, rise_or, rise_of, HasArrived, IsTreeArc}
+use Rattle.flow_net.proofs.Sizes.{sizes, size-le-greatest}
+use Rattle.flow_net.proofs.FlowLemmas.{arc-nodes}
+use Rattle.flow_net.proofs.StandingLemmas.{IsPotential-standing, reduced-residual}
+use Rattle.flow_net.proofs.SearchLemmas.{IsSmall-reached}
+use Rattle.flow_net.proofs.QueueLemmas.{above-entries}
+
+reached_rise : (o : Option Label) (b : Bool) (level : ℤ) → is_some o ≡ true → b ≡ true → rise_or o b level ≡ rise_of_label o
+reached_rise (Some l) true level h k = refl
+reached_rise (Some l) false level h k = absurd (false≢true k)
+reached_rise None b level h k = absurd (false≢true h)
+
+other_rise : (o : Option Label) (b : Bool) (level : ℤ) → b ≡ false → rise_or o b level ≡ level
+other_rise (Some l) true level k = absurd (false≢true (sym k))
+other_rise (Some l) false level k = refl
+other_rise None b level k = refl
+
+module _ (p : Problem) (r : Routing) (s : Search) (standing : IsStanding p r) (arrived : HasArrived p r s) where
+  -- no node rises more than the sink, or than its label says
+  pub record Rises (v : ℕ) : Type 0 where
+    pub from : pos 0 ≤ℤ rise_of s v
+    pub upto : rise_of s v ≤ℤ s.queue.level
+    pub low : is_labelled s.labels.items v ≡ true → rise_of s v ≤ℤ rise_at s.labels.items v
+
+  pub rises : (v : ℕ) → Rises v
+  rises v =
+      let labels = arrived.search.labels in
+      let risen = labels.risen v in
+      elim (cases_Bool (is_in s.reached.items v)) [
+        | inl hit ↦
+            let same = reached_rise (label_at s.labels.items v) (is_in s.reached.items v) s.queue.level (labels.reached_labelled v hit) hit in
+            let upto = arrived.search.queue.upto_level v hit in
+            record { from = omega (arith, ints, same, risen); upto = omega (arith, ints, same, upto); low = λ _. omega (arith, ints, same) }
+        | inr miss ↦
+            let same = other_rise (label_at s.labels.items v) (is_in s.reached.items v) s.queue.level miss in
+            let sink = labels.risen p.sink in
+            let level = arrived.level in
+            record {
+              from = omega (arith, ints, same, sink, level);
+              upto = omega (arith, ints, same);
+              low = λ labelled. (let above = All-contains (λ (e : Reverse ℤ × ℕ). s.queue.level ≤ℤ e.0.0) (entries_of s.queue) (entry (rise_at s.labels.items v) v) (above-entries s.queue) (arrived.search.queue.queued v labelled miss) in omega (arith, ints, same, above));
+            }
+      ]
+
+  -- a reached node rises as its label says
+  as_labelled : (v : ℕ) → is_in s.reached.items v ≡ true → rise_of s v ≡ rise_at s.labels.items v
+  as_labelled v hit = reached_rise (label_at s.labels.items v) (is_in s.reached.items v) s.queue.level (arrived.search.labels.reached_labelled v hit) hit
+
+  sink_rise : rise_of s p.sink ≡ s.queue.level
+  sink_rise = as_labelled p.sink arrived.sink_reached ∙ arrived.level
+
+  -- the raised potential fits 64 bits
+  pub rise_fits : (v : ℕ) → v < p.net.now.nodes → FitsSigned w64 (potential_at r.potentials.items v +ℤ rise_of s v)
+  rise_fits v within =
+      let potential = IsPotential-standing p r standing v within in
+      let from = (rises v).from in
+      let upto = (rises v).upto in
+      let sink = (IsSmall-reached p r standing s.labels.items s.reached.items arrived.search.labels p.sink arrived.sink_reached).rise in
+      let level = arrived.level in
+      omega (arith, sizes)
+
+  module _ (potentials : List ℤ) (one_each : length potentials ≡ length r.potentials.items) (raised : (v : ℕ) → v < length r.potentials.items → potential_at potentials v ≡ potential_at r.potentials.items v +ℤ rise_of s v) where
+    raised_at : (v : ℕ) → v < p.net.now.nodes → potential_at potentials v ≡ potential_at r.potentials.items v +ℤ rise_of s v
+    raised_at v within = raised v (let e = standing.bounded.one_each in omega arith)
+
+    raised_ends : (a : Arc) → IsArc p.net.now.links a → reduced_cost_of potentials a ≡ (reduced_cost_of r.potentials.items a +ℤ rise_of s a.tail) -ℤ rise_of s a.head
+    raised_ends a is =
+        let nodes = arc-nodes p.net.now standing.problem.net a is in
+        let tail = raised_at a.tail nodes.0 in
+        let head = raised_at a.head nodes.1 in
+        omega (arith, ints, tail, head)
+
+    -- no residual arc has a reduced cost below 0
+    raised_residual : (a : Arc) → IsResidualArc p r a → pos 0 ≤ℤ reduced_cost_of potentials a
+    raised_residual a residual =
+        let ends = raised_ends a residual.arc in
+        let was = reduced-residual p r standing a residual in
+        let head = (rises a.head).upto in
+        elim (cases_Bool (is_in s.reached.items a.tail)) [
+          | inr miss ↦ let tail = other_rise (label_at s.labels.items a.tail) (is_in s.reached.items a.tail) s.queue.level miss in omega (arith, ints, ends, was, head, tail)
+          | inl hit ↦ elim (cases_eq a.tail p.sink) [
+            | inl same ↦ let tail = ap (rise_of s) same ∙ sink_rise in omega (arith, ints, ends, was, head, tail)
+            | inr ne ↦
+                let closed = arrived.closed a residual.arc hit ne residual in
+                let upto = closed.low in
+                let low = (rises a.head).low closed.labelled in
+                let tail = as_labelled a.tail hit in
+                omega (arith, ints, ends, upto, low, tail)
+          ]
+        ]
+
+    -- an arc of the tree has none any more
+    pub tree_reduced : (a : Arc) → IsTreeArc s a → IsResidualArc p r a × (reduced_cost_of potentials a ≡ pos 0)
+    tree_reduced a last =
+        let by = arrived.search.labels.by_arc a.head a last.is_last in
+        let ends = raised_ends a by.residual.arc in
+        let head = as_labelled a.head last.head_reached in
+        let tail = as_labelled a.tail by.tail_reached in
+        let rise = by.rise in
+        (by.residual, omega (arith, ints, ends, head, tail, rise))
+
+    raised_proof : AreProofOfLeast p.net.now.links r.flow.items potentials
+    raised_proof = record {
+      left_to_add = λ k b left.
+          let h = raised_residual (arc_of (link_at p.net.now.links k) k true) (record { arc = record { below = b; is = refl }; residual = omega (arith, ints, left) }) in
+          omega (arith, ints, h);
+      flowing = λ k b some.
+          let h = raised_residual (arc_of (link_at p.net.now.links k) k false) (record { arc = record { below = b; is = refl }; residual = some }) in
+          omega (arith, ints, h);
+    }
+
+    source_stays : potential_at potentials p.source ≡ potential_at r.potentials.items p.source
+    source_stays =
+        let at = raised_at p.source standing.problem.ends.source_in in
+        let rise = rises p.source in
+        let from = rise.from in
+        let low = rise.low (ap is_some arrived.search.labels.source) in
+        let none = ap rise_of_label arrived.search.labels.source in
+        omega (arith, ints, at, from, low, none)
+
+    -- the sink's potential is not far above the source's
+    sink_near : potential_at potentials p.sink ≤ℤ (potential_at r.potentials.items p.source +ℤ pos (p.net.now.nodes * largest_cost p.net.now))
+    sink_near =
+        let n = p.net.now.nodes in
+        let labels = arrived.search.labels in
+        let near = (labels.near p.sink (labels.reached_labelled p.sink arrived.sink_reached)).upto in
+        let deep = labels.depths p.sink arrived.sink_reached in
+        let count = count_by-le-length (λ b. b) s.reached.items in
+        let each = labels.one_mark_each in
+        let depth = depth_at s.labels.items p.sink in
+        let times : depth * largest_cost p.net.now ≤ n * largest_cost p.net.now = mul-le depth (largest_cost p.net.now) n (largest_cost p.net.now) (omega (arith, deep, count, each)) (omega arith) in
+        let at = raised_at p.sink standing.problem.ends.sink_in in
+        let rise = as_labelled p.sink arrived.sink_reached in
+        omega (arith, ints, near, times, at, rise)
+
+    raised_bounded : AreBounded p.net.now p.start.now potentials
+    raised_bounded = record {
+      one_each = one_each ∙ standing.bounded.one_each;
+      bounded = λ v within.
+          let size = λ (u : ℕ) (b : u < p.net.now.nodes). size-le-greatest (λ (x : ℤ). x) p.start.now u (pos 0) (let e = standing.problem.start.one_each in omega (arith, b, e)) in
+          let at_v = size v within in
+          let at_sink = size p.sink standing.problem.ends.sink_in in
+          let at_source = size p.source standing.problem.ends.source_in in
+          let v_at = raised_at v within in
+          let sink_at = raised_at p.sink standing.problem.ends.sink_in in
+          let from = (rises v).from in
+          let upto = (rises v).upto in
+          let sink_up = sink_rise in
+          let risen = standing.risen v within in
+          let most = standing.sink_most v within in
+          let source = standing.at_source in
+          let near = sink_near in
+          omega (arith, sizes);
+    }
+
+    pub Stands-raised : Stands p r.flow.items potentials r.routed
+    Stands-raised = record {
+      problem = standing.problem;
+      routed_from = standing.routed_from;
+      routed_upto = standing.routed_upto;
+      routes = standing.routes;
+      proof = raised_proof;
+      bounded = raised_bounded;
+      at_source = source_stays ∙ standing.at_source;
+      risen = λ v within. (let at = raised_at v within in let from = (rises v).from in let was = standing.risen v within in omega (arith, ints, at, from, was));
+      sink_most = λ v within.
+          (let at = raised_at v within in
+          let sink = raised_at p.sink standing.problem.ends.sink_in in
+          let upto = (rises v).upto in
+          let up = sink_rise in
+          let was = standing.sink_most v within in
+          omega (arith, ints, at, sink, upto, up, was));
+    }

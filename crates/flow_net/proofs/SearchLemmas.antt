@@ -1,0 +1,368 @@
+-- A search as it begins, as a node is reached, and as a label is given.
+use Rattle.std.proofs.Common.{◌≡◌, ◌≢◌, ℕ, ◌+◌, ◌*◌, ◌<◌, ◌≤◌, Bool, true, false, cond, Option, Some, None, is_some, List, [], ◌∷◌, length, set, replicate, ℤ, pos, ◌+ℤ◌, ◌≤ℤ◌, ◌<ℤ◌, ap, ◌∙◌, sym, subst, refl, inl, inr, arith}
+use Rattle.std.specs.List.{All, Contains}
+use Rattle.std.specs.declared.cmp.Reverse.{Reverse}
+use Rattle.std.proofs.lemmas.Int.{ints}
+use Rattle.std.proofs.lemmas.Bool.{cases_Bool, false≢true}
+use Rattle.std.proofs.lemmas.Option.{same_Some, none-some}
+use Rattle.std.proofs.lemmas.List.{length-set, length-replicate, get_or-set_same, get_or-set_other}
+use Rattle.std.proofs.lemmas.List.Elements.{All-head, All-tail, All-weaker, All-contains, All-cons, All-nil, Contains-append_right}
+use Rattle.std.proofs.lemmas.List.Sorted.{All-permutation, Contains-permutation}
+use Rattle.std.proofs.lemmas.List.Sums.{sum_by-set, count_by-le-length}
+use Rattle.std.proofs.lemmas.Nat.{mul-le}
+use Rattle.sums.proofs.OrderLemmas.{Contains-cons}
+use Rattle.flow_net.specs.declared.limits.TheConstants.{MOST_NODES, MOST_COST}
+use Rattle.flow_net.specs.declared.arc.Arc.{Arc}
+use Rattle.flow_net.specs.declared.problem.Problem.{Problem}
+use Rattle.flow_net.specs.declared.queue.Queue.{Queue}
+use Rattle.flow_net.specs.declared.routing.Routing.{Routing}
+use Rattle.flow_net.specs.declared.search.Label.{Label}
+use Rattle.flow_net.specs.declared.search.Search.{Search}
+use Rattle.flow_net.specs.Net.{is_in, largest_cost}
+use Rattle.flow_net.specs.Flow.{reduced_cost_of, most_path_cost, most_rise}
+use Rattle.flow_net.specs.Problem.{IsStanding, IsResidualArc}
+use Rattle.flow_net.specs.Queue.{entry, entries_of, IsNext}
+use Rattle.flow_net.specs.Search.{label_at, is_labelled, rise_of_label, rise_at, depth_of_label, depth_at, arc_of_label, arc_at, reached_count, source_label, IsLabelledBy, IsNear, AreLabels, IsEntry, IsQueued, HasQueue, IsSearch, IsFresh, IsDrained, IsReaching, IsAt, IsEntered, Improves, IsClosedAt}
+use Rattle.flow_net.proofs.Lists.{set_cases, within_from, replicate_same}
+use Rattle.flow_net.proofs.Sizes.{sizes}
+use Rattle.flow_net.proofs.FlowLemmas.{arc-nodes, arc-cost}
+use Rattle.flow_net.proofs.StandingLemmas.{largest_cost-small, IsPotential-standing, reduced-residual}
+
+pub labelled_within : (labels : List (Option Label)) (v : ℕ) → is_labelled labels v ≡ true → v < length labels
+labelled_within labels v labelled = within_from labels v None (λ none. false≢true (sym (ap is_some none) ∙ labelled))
+
+pub reached_within : (reached : List Bool) (v : ℕ) → is_in reached v ≡ true → v < length reached
+reached_within reached v hit = within_from reached v false (λ miss. false≢true (sym miss ∙ hit))
+
+-- node v leaves the queue
+module _ (labels : List (Option Label)) (reached : List Bool) (old new : Queue) (v : ℕ) (next : IsNext old new v) (queued : IsQueued labels reached old.level (entries_of old)) where
+  entries_now : All (IsEntry labels) (entry new.level v ∷ entries_of new)
+  entries_now = All-permutation (IsEntry labels) _ _ next.taken queued.rises
+
+  pub next-entry : IsEntry labels (entry new.level v)
+  next-entry = All-head (IsEntry labels) (entry new.level v) (entries_of new) entries_now
+
+  still_queued : (u : ℕ) → u ≢ v → is_labelled labels u ≡ true → is_in reached u ≡ false → Contains (entries_of new) (entry (rise_at labels u) u)
+  still_queued u ne labelled free =
+      elim (Contains-cons (entry new.level v) (entries_of new) (entry (rise_at labels u) u) (Contains-permutation _ _ (entry (rise_at labels u) u) next.taken (queued.queued u labelled free))) [
+        | inl e ↦ absurd (ne (sym (ap (λ x. x.1) e)))
+        | inr left ↦ left
+      ]
+
+  -- it was reached before
+  pub IsQueued-stale : is_in reached v ≡ true → IsQueued labels reached new.level (entries_of new)
+  IsQueued-stale stale = record {
+    upto_level = λ u hit. let upto = queued.upto_level u hit in let level = next.level in omega (arith, ints);
+    queued = λ u labelled free. still_queued u (λ e. false≢true (sym free ∙ (ap (is_in reached) e ∙ stale))) labelled free;
+    rises = All-tail (IsEntry labels) (entry new.level v) (entries_of new) entries_now;
+  }
+
+  -- it is reached now, at the level
+  module _ (free : is_in reached v ≡ false) (within : v < length reached) where
+    pub IsQueued-reached : IsQueued labels (set reached v true) new.level (entries_of new)
+    IsQueued-reached = record {
+      upto_level = set_cases reached v true false within (λ u b. b ≡ true → rise_at labels u ≤ℤ new.level) (λ _. next-entry.no_less)
+          (λ u ne hit. let upto = queued.upto_level u hit in let level = next.level in omega (arith, ints));
+      queued = λ u labelled. set_cases reached v true false within (λ w b. w ≡ u → b ≡ false → Contains (entries_of new) (entry (rise_at labels u) u)) (λ _ e. absurd (false≢true (sym e)))
+          (λ w ne e miss. still_queued u (λ d. ne (e ∙ d)) labelled (sym (ap (is_in reached) e) ∙ miss)) u refl;
+      rises = All-tail (IsEntry labels) (entry new.level v) (entries_of new) entries_now;
+    }
+
+    pub reached-level : rise_at labels v ≡ new.level
+    reached-level =
+        let no_less = next-entry.no_less in
+        let among = Contains-permutation _ _ (entry (rise_at labels v) v) next.taken (queued.queued v next-entry.labelled free) in
+        let least = All-contains (λ (e : Reverse ℤ × ℕ). new.level ≤ℤ e.0.0) (entry new.level v ∷ entries_of new) (entry (rise_at labels v) v) (All-cons (λ (e : Reverse ℤ × ℕ). new.level ≤ℤ e.0.0) (entry new.level v) (entries_of new) (omega (arith, ints)) next.least) among in
+        omega (arith, ints)
+
+-- a labelled node more is reached
+pub AreLabels-reached : (p : Problem) (r : Routing) (labels : List (Option Label)) (reached : List Bool) (v : ℕ) → is_labelled labels v ≡ true → is_in reached v ≡ false → AreLabels p r labels reached → AreLabels p r labels (set reached v true)
+AreLabels-reached p r labels reached v labelled free h =
+    record {
+      one_each = h.one_each;
+      one_mark_each = length-set reached v true ∙ h.one_mark_each;
+      source = h.source;
+      reached_labelled = set_cases reached v true false within (λ u b. b ≡ true → is_labelled labels u ≡ true) (λ _. labelled) (λ u ne. h.reached_labelled u);
+      root = h.root;
+      by_arc = λ u a e. let by = h.by_arc u a e in record { residual = by.residual; head = by.head; tail_reached = still a.tail by.tail_reached; rise = by.rise; depth = by.depth };
+      risen = h.risen;
+      near = h.near;
+      depths = set_cases reached v true false within (λ u b. b ≡ true → depth_at labels u < reached_count (set reached v true)) (λ _. deep (arc_at labels v) refl)
+          (λ u ne hit. let below = h.depths u hit in let more = one_more in omega arith);
+    }
+  where
+    within : v < length reached
+    within = let b = labelled_within labels v labelled in let e = h.one_each in let m = h.one_mark_each in omega arith
+
+    still : (u : ℕ) → is_in reached u ≡ true → is_in (set reached v true) u ≡ true
+    still = set_cases reached v true false within (λ u b. is_in reached u ≡ true → b ≡ true) (λ _. refl) (λ u ne hit. hit)
+
+    one_more : reached_count (set reached v true) ≡ reached_count reached + 1
+    one_more =
+        let change = sum_by-set (λ (b : Bool). cond b 1 0) reached v true false within in
+        let was = ap {B = ℕ} (λ b. cond b 1 0) free in
+        omega (arith, change, was)
+
+    deep : (o : Option Arc) → arc_at labels v ≡ o → depth_at labels v < reached_count (set reached v true)
+    deep None none =
+        let root = ap (depth_at labels) (h.root v labelled none) in
+        let depth = ap depth_of_label h.source in
+        let more = one_more in
+        omega arith
+    deep (Some a) some =
+        let by = h.by_arc v a some in
+        let depth = by.depth in
+        let below = h.depths a.tail by.tail_reached in
+        let more = one_more in
+        omega arith
+
+-- a reached node rises by no more than a potential can, and few arcs lead to it
+pub record IsSmall (l : Option Label) : Type 0 where
+  pub rise : rise_of_label l ≤ℤ pos most_rise
+  pub depth : depth_of_label l < MOST_NODES
+
+pub IsSmall-reached : (p : Problem) (r : Routing) → IsStanding p r → (labels : List (Option Label)) (reached : List Bool) → AreLabels p r labels reached → (v : ℕ) → is_in reached v ≡ true → IsSmall (label_at labels v)
+IsSmall-reached p r standing labels reached h v hit =
+    let net = p.net.now in
+    let deep = h.depths v hit in
+    let count = count_by-le-length (λ b. b) reached in
+    let each = h.one_mark_each in
+    let few = standing.problem.net.few_nodes in
+    let cost = largest_cost-small net standing.problem.net in
+    let shallow : depth_at labels v < MOST_NODES = omega (arith, deep, count, each, few) in
+    let times : depth_at labels v * largest_cost net ≤ most_path_cost = mul-le (depth_at labels v) (largest_cost net) MOST_NODES MOST_COST (omega (arith, shallow)) cost in
+    let within = reached_within reached v hit in
+    let here = IsPotential-standing p r standing v (omega (arith, within, each)) in
+    let source = IsPotential-standing p r standing p.source standing.problem.ends.source_in in
+    let upto = (h.near v (h.reached_labelled v hit)).upto in
+    record { rise = omega (arith, sizes, times, here, source, upto); depth = shallow }
+
+-- an arc leads from the node that was reached last
+module _ (p : Problem) (r : Routing) (standing : IsStanding p r) (s : Search) (search : IsSearch p r s) (a : Arc) (l : Label) (at : IsAt s a.tail l) where
+  tail_rise : rise_at s.labels.items a.tail ≡ l.rise
+  tail_rise = ap rise_of_label at.label
+
+  pub IsSmall-tail : IsSmall (Some l)
+  IsSmall-tail = subst IsSmall at.label (IsSmall-reached p r standing s.labels.items s.reached.items search.labels a.tail at.reached)
+
+  -- it is closed where its head is reached, since that rises no more than its tail, and where the head's label is low
+  pub closed-reached : is_in s.reached.items a.head ≡ true → IsClosedAt p r s a
+  closed-reached hit residual =
+      let low = search.queue.upto_level a.head hit in
+      let level = at.level in
+      let tail = tail_rise in
+      let more = reduced-residual p r standing a residual in
+      record { labelled = search.labels.reached_labelled a.head hit; low = omega (arith, ints, low, level, tail, more) }
+
+  -- its head gets a label
+  module _ (rise : ℤ) (rise_is : rise ≡ l.rise +ℤ reduced_cost_of r.potentials.items a) where
+    pub closed-low : (is_labelled s.labels.items a.head ≡ true) × (rise_at s.labels.items a.head ≤ℤ rise) → IsClosedAt p r s a
+    closed-low low _ = let tail = tail_rise in let upto = low.1 in record { labelled = low.0; low = omega (arith, ints, rise_is, tail, upto) }
+
+    pub above-level : IsResidualArc p r a → s.queue.level ≤ℤ rise
+    above-level residual = let more = reduced-residual p r standing a residual in let level = at.level in omega (arith, ints, rise_is, more, level)
+
+    module _ (residual : IsResidualArc p r a) (free : is_in s.reached.items a.head ≡ false) (better : is_labelled s.labels.items a.head ≡ true → rise <ℤ rise_at s.labels.items a.head)
+        (t : Search) (entered : IsEntered s t a.head (record { rise = rise; depth = l.depth + 1; arc = Some a })) where
+      abbrev label_by : Label
+      label_by = record { rise = rise; depth = l.depth + 1; arc = Some a }
+
+      head_in : a.head < length s.labels.items
+      head_in = let e = search.labels.one_each in let nodes = arc-nodes p.net.now standing.problem.net a residual.arc in omega arith
+
+      by_node : (P : ℕ → Option Label → Type 0) → P a.head (Some label_by) → ((v : ℕ) → v ≢ a.head → P v (label_at s.labels.items v)) → (v : ℕ) → P v (label_at t.labels.items v)
+      by_node P here there = rw entered.labels (set_cases s.labels.items a.head (Some label_by) None head_in P here there)
+
+      at_head : label_at t.labels.items a.head ≡ Some label_by
+      at_head = ap (λ xs. label_at xs a.head) entered.labels ∙ get_or-set_same s.labels.items a.head (Some label_by) None head_in
+
+      kept : (v : ℕ) → is_in s.reached.items v ≡ true → label_at t.labels.items v ≡ label_at s.labels.items v
+      kept v hit = ap (λ xs. label_at xs v) entered.labels ∙ get_or-set_other s.labels.items a.head v (Some label_by) None (λ e. false≢true (sym free ∙ (ap (is_in s.reached.items) (sym e) ∙ hit)))
+
+      mark : (v : ℕ) → is_in t.reached.items v ≡ is_in s.reached.items v
+      mark v = ap (λ xs. is_in xs v) entered.reached
+
+      rise_from : pos 0 ≤ℤ rise
+      rise_from = let more = reduced-residual p r standing a residual in let from = search.labels.risen a.tail in let tail = tail_rise in omega (arith, ints, rise_is, more, from, tail)
+
+      -- other labels only fell
+      labelled : (v : ℕ) → is_labelled s.labels.items v ≡ true → is_labelled t.labels.items v ≡ true
+      labelled = by_node (λ v o. is_labelled s.labels.items v ≡ true → is_some o ≡ true) (λ _. refl) (λ v _ h. h)
+
+      fell : (v : ℕ) → is_labelled s.labels.items v ≡ true → rise_at t.labels.items v ≤ℤ rise_at s.labels.items v
+      fell = by_node (λ v o. is_labelled s.labels.items v ≡ true → rise_of_label o ≤ℤ rise_at s.labels.items v) (λ h. let less = better h in omega (arith, ints, less)) (λ v _ _. omega (arith, ints))
+
+      by_arc_now : IsLabelledBy p r t.labels.items t.reached.items a.head (Some label_by) a
+      by_arc_now = record {
+        residual = residual;
+        head = refl;
+        tail_reached = mark a.tail ∙ at.reached;
+        rise = rw (kept a.tail at.reached) (let tail = tail_rise in omega (arith, ints, rise_is, tail));
+        depth = rw (kept a.tail at.reached) (ap (λ o. depth_of_label o + 1) (sym at.label));
+      }
+
+      near : IsNear p r a.head rise (l.depth + 1)
+      near =
+          let at_tail = search.labels.near a.tail (search.labels.reached_labelled a.tail at.reached) in
+          let from = at_tail.from in
+          let upto = at_tail.upto in
+          let cost = (arc-cost p.net.now standing.problem.net a residual.arc).0 in
+          let times = ap (λ o. depth_of_label o * largest_cost p.net.now) at.label in
+          let tail = tail_rise in
+          record { from = omega (arith, sizes, from, cost, times, tail, rise_is); upto = omega (arith, sizes, upto, cost, times, tail, rise_is) }
+
+      not_source : a.head ≡ p.source → ⊥
+      not_source e =
+          let source = ap (label_at s.labels.items) e ∙ search.labels.source in
+          let at_source = ap rise_of_label source in
+          let less = better (ap is_some source) in
+          let from = rise_from in
+          omega (arith, ints, at_source, less, from)
+
+      relaxed-labels : AreLabels p r t.labels.items t.reached.items
+      relaxed-labels = record {
+        one_each = ap length entered.labels ∙ (length-set s.labels.items a.head (Some label_by) ∙ search.labels.one_each);
+        one_mark_each = ap length entered.reached ∙ search.labels.one_mark_each;
+        source = by_node (λ v o. v ≡ p.source → o ≡ Some source_label) (λ e. absurd (not_source e)) (λ v _ e. ap (label_at s.labels.items) e ∙ search.labels.source) p.source refl;
+        reached_labelled = λ v hit. labelled v (search.labels.reached_labelled v (sym (mark v) ∙ hit));
+        root = by_node (λ v o. is_some o ≡ true → arc_of_label o ≡ None → v ≡ p.source) (λ _ none. absurd (none-some a (sym none))) (λ v _. search.labels.root v);
+        by_arc = by_node (λ v o. (b : Arc) → arc_of_label o ≡ Some b → IsLabelledBy p r t.labels.items t.reached.items v o b)
+            (λ b e. subst (IsLabelledBy p r t.labels.items t.reached.items a.head (Some label_by)) (same_Some a b e) by_arc_now)
+            (λ v _ b e. let by = search.labels.by_arc v b e in record { residual = by.residual; head = by.head; tail_reached = mark b.tail ∙ by.tail_reached; rise = rw (kept b.tail by.tail_reached) by.rise; depth = rw (kept b.tail by.tail_reached) by.depth });
+        risen = by_node (λ v o. pos 0 ≤ℤ rise_of_label o) rise_from (λ v _. search.labels.risen v);
+        near = by_node (λ v o. is_some o ≡ true → IsNear p r v (rise_of_label o) (depth_of_label o)) (λ _. near) (λ v _. search.labels.near v);
+        depths = λ v hit. rw (kept v (sym (mark v) ∙ hit), entered.reached) (search.labels.depths v (sym (mark v) ∙ hit));
+      }
+
+      relaxed-queue : HasQueue t
+      relaxed-queue = record {
+        upto_level = λ v hit. rw (kept v (sym (mark v) ∙ hit), entered.level) (search.queue.upto_level v (sym (mark v) ∙ hit));
+        queued = by_node (λ v o. is_some o ≡ true → is_in t.reached.items v ≡ false → Contains (entries_of t.queue) (entry (rise_of_label o) v))
+            (λ _ _. Contains-permutation _ _ (entry rise a.head) entered.entries (0, omega arith, refl))
+            (λ v _ h miss. Contains-permutation _ _ (entry (rise_at s.labels.items v) v) entered.entries (Contains-append_right (entry rise a.head ∷ []) (entries_of s.queue) _ (search.queue.queued v h (sym (mark v) ∙ miss))));
+        rises = All-permutation (IsEntry t.labels.items) _ _ entered.entries
+            (All-cons (IsEntry t.labels.items) (entry rise a.head) (entries_of s.queue)
+            (record { labelled = ap is_some at_head; no_less = rw at_head (omega (arith, ints)) })
+            (All-weaker (IsEntry s.labels.items) (IsEntry t.labels.items) (λ e old. record {
+              labelled = labelled e.1 old.labelled;
+              no_less = (let less = fell e.1 old.labelled in let no_less = old.no_less in omega (arith, ints, less, no_less));
+            }) (entries_of s.queue) search.queue.rises));
+      }
+
+      pub relaxed-search : IsSearch p r t
+      relaxed-search = record { labels = relaxed-labels; queue = relaxed-queue }
+
+      pub relaxed-improves : Improves s t
+      relaxed-improves = record { reached = entered.reached; level = entered.level; kept = kept; labelled = labelled; fell = fell }
+
+      pub relaxed-closed : IsClosedAt p r t a
+      relaxed-closed _ = record {
+        labelled = ap is_some at_head;
+        low = rw (at_head, kept a.tail at.reached) (let tail = tail_rise in omega (arith, ints, rise_is, tail));
+      }
+
+-- the source alone is labelled
+module _ (p : Problem) (r : Routing) (standing : IsStanding p r) (s : Search) (fresh : IsFresh p s) where
+  none_labelled : (v : ℕ) → label_at (replicate p.net.now.nodes None) v ≡ None
+  none_labelled v = replicate_same p.net.now.nodes v None
+
+  source_in : p.source < length (replicate {A = Option Label} p.net.now.nodes None)
+  source_in = let e = length-replicate {A = Option Label} p.net.now.nodes None in let within = standing.problem.ends.source_in in omega arith
+
+  by_source : (P : ℕ → Option Label → Type 0) → P p.source (Some source_label) → ((v : ℕ) → P v None) → (v : ℕ) → P v (label_at s.labels.items v)
+  by_source P here there = rw fresh.labels (set_cases (replicate p.net.now.nodes None) p.source (Some source_label) None source_in P here (λ v _. subst (P v) (sym (none_labelled v)) (there v)))
+
+  at_source : label_at s.labels.items p.source ≡ Some source_label
+  at_source = ap (λ xs. label_at xs p.source) fresh.labels ∙ get_or-set_same (replicate p.net.now.nodes None) p.source (Some source_label) None source_in
+
+  pub none_reached : (v : ℕ) → is_in s.reached.items v ≡ false
+  none_reached v = ap (λ xs. is_in xs v) fresh.reached ∙ replicate_same p.net.now.nodes v false
+
+  never : (v : ℕ) → is_in s.reached.items v ≡ true → ⊥
+  never v hit = false≢true (sym (none_reached v) ∙ hit)
+
+  pub IsSearch-fresh : IsSearch p r s
+  IsSearch-fresh = record {
+    labels = record {
+      one_each = ap length fresh.labels ∙ (length-set (replicate p.net.now.nodes None) p.source (Some source_label) ∙ length-replicate {A = Option Label} p.net.now.nodes None);
+      one_mark_each = ap length fresh.reached ∙ length-replicate {A = Bool} p.net.now.nodes false;
+      source = at_source;
+      reached_labelled = λ v hit. absurd (never v hit);
+      root = by_source (λ v o. is_some o ≡ true → arc_of_label o ≡ None → v ≡ p.source) (λ _ _. refl) (λ v labelled. absurd (false≢true labelled));
+      by_arc = by_source (λ v o. (a : Arc) → arc_of_label o ≡ Some a → IsLabelledBy p r s.labels.items s.reached.items v o a) (λ a e. absurd (none-some a e)) (λ v a e. absurd (none-some a e));
+      risen = by_source (λ v o. pos 0 ≤ℤ rise_of_label o) (omega (arith, ints)) (λ v. omega (arith, ints));
+      near = by_source (λ v o. is_some o ≡ true → IsNear p r v (rise_of_label o) (depth_of_label o)) (λ _. record { from = omega (arith, ints); upto = omega (arith, ints) }) (λ v labelled. absurd (false≢true labelled));
+      depths = λ v hit. absurd (never v hit);
+    };
+    queue = record {
+      upto_level = λ v hit. absurd (never v hit);
+      queued = by_source (λ v o. is_some o ≡ true → is_in s.reached.items v ≡ false → Contains (entries_of s.queue) (entry (rise_of_label o) v))
+          (λ _ _. Contains-permutation _ _ (entry (pos 0) p.source) fresh.entries (0, omega arith, refl)) (λ v labelled. absurd (false≢true labelled));
+      rises = All-permutation (IsEntry s.labels.items) _ _ fresh.entries (All-cons (IsEntry s.labels.items) (entry (pos 0) p.source) [] (record { labelled = ap is_some at_source; no_less = rw at_source (omega (arith, ints)) }) (All-nil (IsEntry s.labels.items)));
+    };
+  }
+
+-- what a label more keeps, one label after another
+pub Improves-refl : (s : Search) → Improves s s
+Improves-refl s = record { reached = refl; level = refl; kept = λ v _. refl; labelled = λ v h. h; fell = λ v _. omega (arith, ints) }
+
+pub Improves-trans : (s t u : Search) → Improves s t → Improves t u → Improves s u
+Improves-trans s t u h k = record {
+  reached = k.reached ∙ h.reached;
+  level = k.level ∙ h.level;
+  kept = λ v hit. k.kept v (ap (λ xs. is_in xs v) h.reached ∙ hit) ∙ h.kept v hit;
+  labelled = λ v l. k.labelled v (h.labelled v l);
+  fell = λ v l. let first = h.fell v l in let second = k.fell v (h.labelled v l) in omega (arith, ints);
+}
+
+-- the node that was reached last still is, with its label
+pub IsAt-improves : (s t : Search) (v : ℕ) (l : Label) → Improves s t → IsAt s v l → IsAt t v l
+IsAt-improves s t v l h at = record {
+  label = h.kept v at.reached ∙ at.label;
+  reached = ap (λ xs. is_in xs v) h.reached ∙ at.reached;
+  level = at.level ∙ sym h.level;
+}
+
+-- a closed arc stays closed
+pub IsClosedAt-improves : (p : Problem) (r : Routing) (s t : Search) (a : Arc) → Improves s t → is_in s.reached.items a.tail ≡ true → IsClosedAt p r s a → IsClosedAt p r t a
+IsClosedAt-improves p r s t a h hit closed residual =
+    let was = closed residual in
+    let low = was.low in
+    let fell = h.fell a.head was.labelled in
+    let tail = ap rise_of_label (h.kept a.tail hit) in
+    record { labelled = h.labelled a.head was.labelled; low = omega (arith, ints) }
+
+-- node v is reached next
+module _ (p : Problem) (r : Routing) (s t : Search) (v : ℕ) (l : Label) (reaching : IsReaching s t v l) (search : IsSearch p r s) where
+  v_labelled : is_labelled s.labels.items v ≡ true
+  v_labelled = ap is_some reaching.label
+
+  v_in : v < length s.reached.items
+  v_in = let within = labelled_within s.labels.items v v_labelled in let e = s.one_mark_each in omega arith
+
+  -- what holds of v, and of each node reached before, holds of each node reached
+  pub reached_cases : (P : ℕ → Type 0) → P v → ((u : ℕ) → is_in s.reached.items u ≡ true → P u) → (u : ℕ) → is_in t.reached.items u ≡ true → P u
+  reached_cases P here before u hit = set_cases s.reached.items v true false v_in (λ w b. b ≡ true → P w) (λ _. here) (λ w _. before w) u (rw reaching.reached at hit)
+
+  pub IsSearch-reaching : IsSearch p r t
+  IsSearch-reaching = record {
+    labels = rw (reaching.labels, reaching.reached) (AreLabels-reached p r s.labels.items s.reached.items v v_labelled reaching.not_before search.labels);
+    queue = reaching.queue;
+  }
+
+  pub IsAt-reaching : IsAt t v l
+  IsAt-reaching = record {
+    label = ap (λ xs. label_at xs v) reaching.labels ∙ reaching.label;
+    reached = ap (λ xs. is_in xs v) reaching.reached ∙ get_or-set_same s.reached.items v true false v_in;
+    level = reaching.level;
+  }
+
+  pub miss-reaching : (u : ℕ) → u ≢ v → is_in s.reached.items u ≡ false → is_in t.reached.items u ≡ false
+  miss-reaching u ne miss = ap (λ xs. is_in xs u) reaching.reached ∙ (get_or-set_other s.reached.items v u true false ne ∙ miss)
+
+-- no labelled node is left to reach
+pub all_reached-drained : (s t : Search) → IsDrained s t → (v : ℕ) → is_labelled t.labels.items v ≡ true → is_in t.reached.items v ≡ true
+all_reached-drained s t drained v labelled = elim (cases_Bool (is_in t.reached.items v)) [
+  | inl hit ↦ hit
+  | inr miss ↦ let (k, within, _) = drained.queue.queued v labelled miss in let none = ap length drained.entries in absurd (omega (arith, within, none))
+]

@@ -1,0 +1,77 @@
+use Rattle.std.proofs.Common.{◌≡◌, ◌+◌, get_or, drop, set, pos, ◌+ℤ◌, ◌-ℤ◌, ◌≤ℤ◌, to_z, of_z, w64, ap, ◌∙◌, sym, subst, rules, arith}
+use Rattle.std.proofs.lemmas.Int.{ints, to_z-of_z}
+use Rattle.std.proofs.lemmas.List.{take_all}
+use Rattle.flow_net.specs.Arc.{carry}
+use Rattle.flow_net.specs.Flow.{sent_along, sent_along_path, CanCarry}
+use Rattle.flow_net.specs.Net.{IsWithinRooms}
+use Rattle.flow_net.specs.Problem.{IsBottleneck}
+use Rattle.flow_net.proofs.FlowLemmas.{no_arc, next_arc, next_carried, next_rooms, next_carries, next_sent}
+use Rattle.flow_net.proofs.StandingLemmas.{Stands-same, Stands-augmented}
+use Rattle.flow_net.proofs.routing.Routing.augment.Goals as goal
+
+pub carry-requires-clause-carried : goal.carry-requires-clause-carried
+carry-requires-clause-carried c =
+    let links = c.args.problem.now.net.now.links in
+    let inv = c.loop-arc.invariant in
+    let path = c.args.path.now in
+    let i = c.loop-arc.arc-index in
+    let k = (get_or path i no_arc).link in
+    let is = next_arc links c.loop-arc.self.flow.items path _ i c.loop-arc-test.true inv.rooms inv.can_carry in
+    let read = next_carried links c.loop-arc.self.flow.items path _ i c.loop-arc-test.true inv.rooms inv.can_carry c.index.result.now c.index.ensures in
+    let from = inv.rooms.not_negative k is.below in
+    let upto = inv.rooms.upto_room k is.below in
+    let room = (c.requires.standing.problem.net.links k is.below).room.upto in
+    record { from = omega (arith, ints); upto = omega (arith, ints) }
+
+pub loop-arc-preserved : goal.loop-arc-preserved
+loop-arc-preserved c =
+    let links = c.args.problem.now.net.now.links in
+    let path = c.args.path.now in
+    let m = to_z w64 (of_z w64 c.bottleneck-amount.result) in
+    let i = c.loop-arc.arc-index in
+    let flow = c.loop-arc.self.flow.items in
+    let within = c.loop-arc-test.true in
+    let inv = c.loop-arc.invariant in
+    let a = get_or path i no_arc in
+    let read = next_carried links flow path m i within inv.rooms inv.can_carry c.index.result.now c.index.ensures in
+    let from : pos 0 ≤ℤ m = (let some = c.bottleneck-amount.ensures.some in omega (arith, ints)) in
+    let kept_index = to_z-of_z w64 c.index.result.now (search rules) in
+    let kept = to_z-of_z w64 c.carry.result (search rules) in
+    let sent : set flow a.link (to_z w64 (of_z w64 c.carry.result)) ≡ sent_along flow a m =
+    ap (set flow a.link) (kept ∙ (c.carry.ensures ∙ ap (λ x. carry a x m) (kept_index ∙ read))) in
+    record {
+      rooms = subst (IsWithinRooms links) (sym sent) (next_rooms links flow path m i within inv.rooms inv.can_carry from);
+      can_carry = subst (λ f. CanCarry links f (drop (i + 1) path) m) (sym sent) (next_carries links flow path m i within inv.rooms inv.can_carry);
+      sent = sent ∙ next_sent links flow path m i within inv.rooms inv.can_carry c.args.self.now.flow.items inv.sent;
+      potentials = inv.potentials;
+      routed = inv.routed;
+    }
+
+pub returns-clause-standing : goal.returns-clause-standing
+returns-clause-standing c =
+    let p = c.args.problem.now in
+    let r = c.args.self.now in
+    let path = c.args.path.now in
+    let m = c.bottleneck-amount.result in
+    let most = c.bottleneck-amount.ensures in
+    let kept : to_z w64 (of_z w64 m) ≡ m = to_z-of_z w64 m (search rules) in
+    let inv = c.loop-arc.invariant in
+    let flow = inv.sent ∙ (ap (λ xs. sent_along_path r.flow.items xs (to_z w64 (of_z w64 m))) (take_all c.loop-arc.arc-index path c.loop-arc-test.false) ∙ ap (sent_along_path r.flow.items path) kept) in
+    let same = inv.routed in
+    let some = most.some in
+    let limited = most.limited in
+    let from = c.requires.standing.routed_from in
+    let limit = c.requires.standing.problem.amount.upto in
+    Stands-same p _ _ _ _ _ _ flow (ap (λ v. v.items) inv.potentials) (omega (arith, ints)) (Stands-augmented p r c.requires.standing path c.requires.path m most)
+
+pub returns-clause-amount : goal.returns-clause-amount
+returns-clause-amount c =
+    let m = c.bottleneck-amount.result in
+    let most = c.bottleneck-amount.ensures in
+    let same = c.loop-arc.invariant.routed in
+    let some = most.some in
+    let limited = most.limited in
+    let from = c.requires.standing.routed_from in
+    let limit = c.requires.standing.problem.amount.upto in
+    let is : m ≡ to_z w64 (of_z w64 (to_z w64 (of_z w64 c.loop-arc.self.routed) +ℤ to_z w64 (of_z w64 m))) -ℤ c.args.self.now.routed = omega (arith, ints) in
+    subst (IsBottleneck c.args.problem.now c.args.self.now c.args.path.now) is most

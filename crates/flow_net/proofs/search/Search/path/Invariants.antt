@@ -1,0 +1,16 @@
+use Rattle.std.proofs.Common.{◌≡◌, true, reverse}
+use Rattle.std.specs.List.{All}
+use Rattle.flow_net.specs.Flow.{IsWalk}
+use Rattle.flow_net.specs.Net.{is_in}
+use Rattle.flow_net.specs.Search.{depth_at, IsTreeArc}
+use Rattle.flow_net.proofs.search.Search.path.Given as goal
+
+abbrev pub decreases-loop-arc : goal.decreases-loop-arc
+decreases-loop-arc l = depth_at l.self.labels.items l.node
+
+abbrev pub invariant-loop-arc : goal.invariant-loop-arc
+invariant-loop-arc l = record {
+  reached : is_in l.self.reached.items l.node ≡ true;
+  walk : IsWalk (reverse l.path.items) l.node l.problem.sink;
+  arcs : All (IsTreeArc l.self) l.path.items;
+}
