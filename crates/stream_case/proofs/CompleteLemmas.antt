@@ -1,12 +1,11 @@
 -- What a completed case keeps of a valid one.
-use Rattle.std.proofs.Common.{◌≡◌, ◌≢◌, ◌⊎◌, inl, inr, ℕ, ◌≤◌, ℤ, Bool, true, false, if◌then◌else◌, List, [], ◌∷◌, ◌++◌, length, map, All, AllPairs, Option, None, Some, get_or, sym, ap, ◌∙◌, refl, subst, lit≤, arith}
+use Rattle.std.proofs.Common.{◌≡◌, ◌≢◌, ◌⊎◌, inl, inr, ℕ, ◌≤◌, ℤ, true, false, if◌then◌else◌, List, [], ◌∷◌, ◌++◌, length, map, All, AllPairs, Option, None, Some, get_or, sym, ap, ◌∙◌, refl, subst, lit≤, arith}
 use Rattle.std.specs.Prelude.{codes, IsTrue, slice_get, option_map}
-use Rattle.std.specs.List.{list_any}
 use Rattle.std.proofs.lemmas.Int.{ints}
-use Rattle.std.proofs.lemmas.Bool.{false≢true, or_left, or_right}
+use Rattle.std.proofs.lemmas.Bool.{false≢true}
 use Rattle.std.proofs.lemmas.List.{append-nil, append_assoc, map-append, length-append}
 use Rattle.std.proofs.lemmas.List.Elements.{All-nil, All-cons, All-append, All-from_recursion, All-map, All-weaker}
-use Rattle.std.proofs.lemmas.List.Folds.{list_any_at, list_any-append}
+use Rattle.std.proofs.lemmas.List.Folds.{list_any_at}
 use Rattle.std.proofs.lemmas.List.Quantifiers.{all_pairs_push}
 use Rattle.stream_case.specs.declared.source.Side.{Side}
 use Rattle.stream_case.specs.declared.source.Side.TheVariants.{Hot, Cold}
@@ -25,7 +24,7 @@ use Rattle.stream_case.specs.Limits.{IsContribution, IsLevel, IsShifted, IsTempe
 use Rattle.stream_case.specs.Case.{IsRightlyNamed, IsUnreserved, IsValidForbid, IsValid, IsComplete, completed, has_utility, names_of, outermost, side_of, standard_utility, unless_given, with_utilities}
 use Rattle.stream_case.proofs.EndLemmas.{outermost-between}
 use Rattle.stream_case.proofs.ListLemmas.{slice_get-append}
-use Rattle.stream_case.proofs.SourceLemmas.{each_side, own_side}
+use Rattle.stream_case.proofs.SourceLemmas.{own_side}
 
 -- a utility of a completed case: its level may lie outside the range of a file
 pub record IsUtility (u : Utility) : Type 0 where
@@ -39,7 +38,6 @@ pub record StaysValid (c : Case) : Type 0 where
   pub contribution : IsContribution c.contribution
   pub streams : HasValidStreams c.streams
   pub utilities : All IsUtility c.utilities
-  pub some_utility : (side : Side) → has_utility side c.utilities ≡ true
   pub few_utilities : length c.utilities ≤ ALL_UTILITIES
   pub names : All IsName (names_of c)
   pub distinct_names : AllPairs (λ a b. a ≢ b) (names_of c)
@@ -111,22 +109,6 @@ none_at_all (u ∷ us) hot cold = absurd (neither u.side (none_on Hot (u ∷ us)
     neither Hot a b = a refl
     neither Cold a b = b refl
 
-list_any-left : {X : Type 0} (p : X → Bool) (xs ys : List X) → list_any p xs ≡ true → list_any p (xs ++ ys) ≡ true
-list_any-left p xs ys h = list_any-append p xs ys ∙ or_left (list_any p xs) (list_any p ys) h
-
-list_any-right : {X : Type 0} (p : X → Bool) (xs ys : List X) → list_any p ys ≡ true → list_any p (xs ++ ys) ≡ true
-list_any-right p xs ys h = list_any-append p xs ys ∙ or_right (list_any p xs) (list_any p ys) h
-
--- with what is added on a side there is one
-has_added : (side : Side) (c : Case) (us : List Utility) → (has_utility side c.utilities ≡ true → has_utility side us ≡ true) → has_utility side (us ++ unless_given side c) ≡ true
-has_added side c us stays =
-    let on_side = λ (u : Utility). same_side u.side side in
-    unless_given-elim (λ xs. has_utility side (us ++ xs) ≡ true) side c (λ given. list_any-left on_side us [] (stays given)) (λ absent. list_any-right on_side us (standard_utility side c ∷ []) (here side))
-  where
-    here : (side : Side) → has_utility side (standard_utility side c ∷ []) ≡ true
-    here Hot = refl
-    here Cold = refl
-
 -- at most one utility more than the limit: with none given there are two
 few-completed : (c : Case) → IsValid c → length (completed c).utilities ≤ ALL_UTILITIES
 few-completed c h =
@@ -192,7 +174,7 @@ side_at-append us more i side h = by (slice_get us i) refl
     by None at = cc (rw at at h)
     by (Some u) at = ap (option_map (λ u. u.side)) (slice_get-append us more i u at) ∙ rw at at h
 
-pub side_of-append : (c : Case) (more : List Utility) (source : Source) (side : Side) → side_of c source ≡ Some side → side_of (with_utilities c (c.utilities ++ more)) source ≡ Some side
+side_of-append : (c : Case) (more : List Utility) (source : Source) (side : Side) → side_of c source ≡ Some side → side_of (with_utilities c (c.utilities ++ more)) source ≡ Some side
 side_of-append c more (of_stream i) side h = h
 side_of-append c more (of_utility i) side h = side_at-append c.utilities more i side h
 
@@ -215,9 +197,6 @@ StaysValid-completed c h =
       contribution = h.contribution;
       streams = h.streams;
       utilities = all_utilities;
-      some_utility = each_side (λ side. has_utility side (completed c).utilities ≡ true)
-          (list_any-left (λ u. same_side u.side Hot) (us ++ hot) cold (has_added Hot c us (λ given. given)))
-          (has_added Cold c (us ++ hot) (λ given. list_any-left (λ u. same_side u.side Cold) us hot given));
       few_utilities = few-completed c h;
       names = All-append IsName (map (λ s. s.name) c.streams) (map (λ u. u.name) ((us ++ hot) ++ cold))
           (All-map IsName (λ s. s.name) c.streams (All-weaker IsValidStream (λ s. IsName s.name) (λ s k. k.name) c.streams each))
