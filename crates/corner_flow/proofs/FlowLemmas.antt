@@ -1,5 +1,5 @@
 -- The corner flow is a heat flow in which the utilities give and take the targets, and it is of least cost.
-use Rattle.std.proofs.Common.{◌≡◌, ⊎_elim, inl, inr, ◌∙◌, refl, sym, ap, ap₂, subst, subst₂, ℕ, ◌<◌, not, ◌&&◌, List, [], ◌∷◌, length, get_or, map, Some, arith}
+use Rattle.std.proofs.Common.{◌≡◌, ⊎_elim, ◌∙◌, refl, sym, ap, ap₂, subst, subst₂, ℕ, ◌<◌, not, ◌&&◌, List, [], ◌∷◌, length, get_or, map, Some, arith}
 use Rattle.std.specs.Prelude.{◌==◌, ℤ, pos, ◌+ℤ◌, ◌≤ℤ◌, ◌<ℤ◌, if◌then◌else◌, slice_get}
 use Rattle.std.proofs.lemmas.Int.{ints}
 use Rattle.std.proofs.lemmas.Bool.{not-true}
@@ -16,33 +16,31 @@ use Rattle.stream_case.specs.Stream.{heat_above}
 use Rattle.sums.specs.declared.pairs.Pair.{Pair}
 use Rattle.sums.specs.Sum.{int_sum_by}
 use Rattle.sums.specs.Spans.{NotNegative, IsOverlap, pair_before, ListsOverlaps}
-use Rattle.sums.proofs.SumLemmas.{int_sum_by-map, int_sum_by-same}
+use Rattle.sums.proofs.SumLemmas.{int_sum_by-map, int_sum_from-by}
 use Rattle.sums.proofs.WalkLemmas.{overlaps_first, overlaps_second, some_overlaps}
 use Rattle.problem_table.specs.Deficit.{hot_target, cold_target}
 use Rattle.problem_table.specs.Sides.{sum_side}
 use Rattle.problem_table.proofs.DeficitLemmas.{hot_target-between, cold_target-between}
 use Rattle.grid.specs.declared.part.Part.{Part}
-use Rattle.grid.proofs.HeatLemmas.{heat_from}
 use Rattle.heat_flow.specs.declared.flow.Transfer.{Transfer}
 use Rattle.heat_flow.specs.Cuts.{parts_of}
 use Rattle.heat_flow.specs.Flow.{heat_at, KeepsRanges, cost_of, IsLeastCost}
 use Rattle.heat_flow.specs.Reach.{both_reach, reach_between}
 use Rattle.heat_flow.proofs.Blanks.{blank}
 use Rattle.corner_flow.specs.Corner.{part_heat, heats_of, as_pair, as_transfer, IsCornerFlow, IsFlowOf, UtilityHeat}
-use Rattle.corner_flow.proofs.StandardLemmas.{end_of, end_on_grid, cold_target-lowest_end}
-use Rattle.corner_flow.proofs.SideLemmas.{IsStandardPart, part_at, AreStandardParts, IsLying-part}
-use Rattle.corner_flow.proofs.AboveLemmas.{above, is_above, one_times, from_stream, from_utility}
-use Rattle.corner_flow.proofs.BalanceLemmas.{target_of, cost-hot_utility, cost-at_least}
+use Rattle.corner_flow.proofs.StandardLemmas.{end_of}
+use Rattle.corner_flow.proofs.SideLemmas.{IsStandardPart, AreStandardParts}
+use Rattle.corner_flow.proofs.HeatLemmas.{target_of, above, is_reached, one_times, from_stream, from_utility, sum_above, cost-hot_utility, cost-at_least}
 use Rattle.corner_flow.proofs.ReachLemmas.{heat_of_stream, heat_of_utility, overlap-passes}
 
 pub as_pair-as_transfer : (ps : List Pair) → map as_pair (map as_transfer ps) ≡ ps
 as_pair-as_transfer [] = refl
 as_pair-as_transfer (p ∷ ps) = ap (λ qs. p ∷ qs) (as_pair-as_transfer ps)
 
-module _ (c : Case) (hot cold : List Part) (s : AreStandardParts c hot cold) where
+module _ {c : Case} {hot cold : List Part} (s : AreStandardParts c hot cold) where
   target_within : (side : Side) → IsHeat (target_of side c.streams)
-  target_within Hot = let h = hot_target-between c.streams s.valid.are_streams in let upto = h.upto in record { from = h.from; upto = omega (arith, ints) }
-  target_within Cold = let h = cold_target-between c.streams s.valid.are_streams in let upto = h.upto in record { from = h.from; upto = omega (arith, ints) }
+  target_within Hot = let h = hot_target-between c.streams s.valid.are_streams in record { from = h.from; upto = omega (arith, ints, h.upto) }
+  target_within Cold = let h = cold_target-between c.streams s.valid.are_streams in record { from = h.from; upto = omega (arith, ints, h.upto) }
 
   -- ---- the heats of a side
 
@@ -51,27 +49,24 @@ module _ (c : Case) (hot cold : List Part) (s : AreStandardParts c hot cold) whe
 
   -- the heat of a part is within its range
   part_range : (side : Side) (p : Part) → IsStandardPart c s.grid side p → IsBetween p.least p.most (part_heat (target_of side c.streams) p)
-  part_range side p (inl h) =
-      let heat = heat_of_stream (target_of side c.streams) p h.source_is in
-      let fixed = h.fixed in
-      record { from = omega (arith, ints); upto = omega (arith, ints) }
-  part_range side p (inr h) =
-      let heat = heat_of_utility (target_of side c.streams) p h.source_is in
+  part_range side p h =
+      let target = target_of side c.streams in
+      ⊎_elim
+      (λ k. let heat = heat_of_stream target p k.source_is in record { from = omega (arith, ints, k.fixed); upto = omega (arith, ints, k.fixed) })
+      (λ k.
+      let heat = heat_of_utility target p k.source_is in
       let within = target_within side in
-      let least = h.least in
-      let most = h.most in
-      let from = within.from in
-      let upto = within.upto in
-      record { from = omega (arith, ints); upto = omega (arith, ints) }
+      record { from = omega (arith, ints, within.from, k.least); upto = omega (arith, ints, within.upto, k.most) })
+      h.kind
 
   pub heats-not_negative : (side : Side) → NotNegative (heats side)
   heats-not_negative side =
-      All-map (λ x. pos 0 ≤ℤ x) (part_heat (target_of side c.streams)) (parts_of side hot cold)
+      let parts = parts_of side hot cold in
+      All-map (λ x. pos 0 ≤ℤ x) (part_heat (target_of side c.streams)) parts
       (λ k d within.
-      let range = part_range side (get_or (parts_of side hot cold) k d) ((s.sides side).each k d within) in
-      let from = range.from in
-      let least = ((s.sides side).bounded k d within).least.from in
-      omega (arith, ints))
+      let part = (s.sides side).each k (get_or parts k d) (slice_get-get_or parts k d within) in
+      let range = part_range side (get_or parts k d) part in
+      omega (arith, ints, range.from, part.bounded.least.from))
 
   -- they add up to the target and all heat of the streams
   heats-sum : (side : Side) → int_sum_by (λ x. x) (heats side) ≡ target_of side c.streams +ℤ sum_side side (heat_above (end_of c Cold)) c.streams
@@ -79,23 +74,18 @@ module _ (c : Case) (hot cold : List Part) (s : AreStandardParts c hot cold) whe
       let target = target_of side c.streams in
       let parts = parts_of side hot cold in
       let bottom = end_of c Cold in
-      int_sum_by-map (λ x. x) (part_heat target) parts
-      ∙ int_sum_by-same (part_heat target) (heat_from bottom target) parts
-      (λ k d within.
-      let p = get_or parts k d in
-      let kind = (s.sides side).each k d within in
-      ⊎_elim
-      (λ h. heat_of_stream target p h.source_is ∙ sym (from_stream bottom target p h.source_is ∙ one_times (above bottom p) p.least (is_above bottom p (IsLying-part c hot cold s side p kind).from)))
-      (λ h. heat_of_utility target p h.source_is ∙ sym (from_utility bottom target p h.source_is))
-      kind)
-      ∙ (s.sides side).sum bottom target (end_on_grid c s.grid s.valid s.standard s.on_grid Cold)
+      int_sum_by-map (λ x. x) (part_heat target) parts ∙ sym (int_sum_from-by (part_heat target) 0 parts)
+      ∙ sum_above s side (λ a p. part_heat target p) bottom target (s.ends Cold)
+      (λ a p at h. ⊎_elim
+      (λ k. heat_of_stream target p k.source_is ∙ sym (from_stream bottom target p k.source_is ∙ one_times (above bottom p) p.least (is_reached bottom p.low h.from)))
+      (λ k. heat_of_utility target p k.source_is ∙ sym (from_utility bottom target p k.source_is))
+      h.kind)
 
   same_total : int_sum_by (λ x. x) (heats Hot) ≡ int_sum_by (λ x. x) (heats Cold)
   same_total =
       let given = heats-sum Hot in
       let taken = heats-sum Cold in
-      let targets = cold_target-lowest_end c s.grid s.valid s.standard s.on_grid in
-      omega (arith, ints)
+      omega (arith, ints, s.lowest)
 
   -- ---- the corner flow
 
@@ -114,7 +104,7 @@ module _ (c : Case) (hot cold : List Part) (s : AreStandardParts c hot cold) whe
         transfer_heat side a (rw length-map within) ∙ get_or-map (part_heat (target_of side c.streams)) parts a p (pos 0) within ∙ ap (part_heat (target_of side c.streams)) (get_or_from_slice_get parts a p p at)
 
     ranges : (side : Side) → KeepsRanges side (parts_of side hot cold) ts
-    ranges side a p at = subst (IsBetween p.least p.most) (sym (gives side a p at)) (part_range side p (part_at (IsStandardPart c s.grid side) (parts_of side hot cold) (s.sides side).each a p at))
+    ranges side a p at = subst (IsBetween p.least p.most) (sym (gives side a p at)) (part_range side p ((s.sides side).each a p at))
 
     pub corner-heat : (side : Side) → UtilityHeat side (parts_of side hot cold) ts (target_of side c.streams)
     corner-heat side a p at utility = gives side a p at ∙ heat_of_utility (target_of side c.streams) p (not-true (is_stream p.source) utility)
@@ -133,7 +123,7 @@ module _ (c : Case) (hot cold : List Part) (s : AreStandardParts c hot cold) whe
               let to = slice_get-get_or cold t.cold blank (rw length-map at e.second_within) in
               let p = get_or hot t.hot blank in
               let q = get_or cold t.cold blank in
-              let passes = overlap-passes c hot cold s t.hot t.cold p q from to (subst (λ z. pos 0 <ℤ z) e.amount e.positive) in
+              let passes = overlap-passes s t.hot t.cold p q from to (subst (λ z. pos 0 <ℤ z) e.amount e.positive) in
               ap₂ (both_reach c) from to ∙ ap₂ (λ x y. x && not y) passes (ap (λ fs. is_forbidden fs p.source q.source) s.standard.free);
           ordered = λ i j d before within.
               subst₂ pair_before (get_or-map as_pair ts i d (as_pair d) (omega (arith, before, within))) (get_or-map as_pair ts j d (as_pair d) within) (lists.ordered i j (as_pair d) before (rw length-map within));
@@ -142,7 +132,7 @@ module _ (c : Case) (hot cold : List Part) (s : AreStandardParts c hot cold) whe
         }
 
     pub corner-cost : cost_of hot cold ts ≡ hot_target c.streams
-    corner-cost = cost-hot_utility c hot cold s ts (hot_target c.streams) (cold_target c.streams) (corner-heat Hot) (corner-heat Cold)
+    corner-cost = cost-hot_utility s ts (hot_target c.streams) (cold_target c.streams) (corner-heat Hot) (corner-heat Cold)
 
   -- ---- there is one, and its cost is the least
 
@@ -155,5 +145,5 @@ module _ (c : Case) (hot cold : List Part) (s : AreStandardParts c hot cold) whe
         transfers = ts;
         flow = corner-is_flow ts corner;
         costs = corner-cost ts corner;
-        least = cost-at_least c hot cold s;
+        least = cost-at_least s;
       }

@@ -1,7 +1,6 @@
 pub mod StandardLemmas
 pub mod SideLemmas
-pub mod AboveLemmas
-pub mod BalanceLemmas
+pub mod HeatLemmas
 pub mod PriceLemmas
 pub mod ReachLemmas
 pub mod FlowLemmas

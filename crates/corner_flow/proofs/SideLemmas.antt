@@ -1,35 +1,34 @@
 -- The parts of a side of a standard case.
-use Rattle.std.proofs.Common.{◌≡◌, ◌⊎◌, inl, inr, ◌∙◌, refl, sym, ap, ap₂, subst, subst₂, ⊎_elim, ℕ, ◌<◌, true, false, List, map, arith}
-use Rattle.std.specs.Prelude.{ℤ, pos, ◌+ℤ◌, ◌≤ℤ◌, All, AllPairs, Contains, Some, slice_get}
+use Rattle.std.proofs.Common.{◌≡◌, ◌⊎◌, inl, inr, ◌∙◌, refl, sym, ap, ap₂, subst, subst₂, ⊎_elim, ℕ, ◌<◌, ◌≤◌, true, false, List, arith}
+use Rattle.std.specs.Prelude.{ℤ, pos, ◌+ℤ◌, ◌-ℤ◌, ◌≤ℤ◌, ◌<ℤ◌, AllPairs, Contains, Some, slice_get}
 use Rattle.std.proofs.lemmas.Int.{ints}
-use Rattle.std.proofs.lemmas.Bool.{cases_order, both_ways}
-use Rattle.std.proofs.lemmas.List.{get_or-map}
-use Rattle.std.proofs.lemmas.List.Elements.{All-weaker}
-use Rattle.std.proofs.lemmas.Option.{slice_get-get_or, slice_get_within, get_or_from_slice_get}
+use Rattle.std.proofs.lemmas.Bool.{cases_eq, cases_order, both_ways}
+use Rattle.std.proofs.lemmas.Option.{same_Some, slice_get-get_or, slice_get_within, get_or_from_slice_get}
 use Rattle.stream_case.specs.declared.source.Side.{Side}
 use Rattle.stream_case.specs.declared.source.Side.TheVariants.{Hot, Cold}
 use Rattle.stream_case.specs.declared.case.Case.{Case}
 use Rattle.stream_case.specs.declared.limits.TheConstants.{MOST_HEAT}
 use Rattle.stream_case.specs.Case.{standard_utility, IsComplete, IsStandard}
 use Rattle.stream_case.specs.Source.{is_stream}
-use Rattle.stream_case.specs.Stream.{heat_above, HasValidStreams}
+use Rattle.stream_case.specs.Stream.{stream_ends, heat_above, HasValidStreams}
 use Rattle.stream_case.proofs.CompleteLemmas.{HasValidStreams-IsComplete, IsPlaced-IsComplete, shifted_level-standard}
 use Rattle.stream_case.proofs.SourceLemmas.{each_side}
 use Rattle.sums.specs.Sum.{int_sum_by}
+use Rattle.problem_table.specs.Deficit.{deficit_above, hot_target, cold_target}
 use Rattle.problem_table.specs.Sides.{sum_side}
+use Rattle.problem_table.proofs.EndLemmas.{IsOutside}
 use Rattle.grid.specs.declared.part.Part.{Part}
 use Rattle.grid.specs.Bounds.{IsBounded}
-use Rattle.grid.specs.Grid.{IsGrid}
+use Rattle.grid.specs.Grid.{HoldsPlaces, IsGrid}
 use Rattle.grid.specs.Part.{IsInterval, utility_part, IsPartOf, comes_before, AreParts, AreCaseParts}
 use Rattle.grid.proofs.HeatLemmas.{heat_from, sum-heat_from}
 use Rattle.grid.proofs.MakingLemmas.{HoldsPlaces-IsGrid, AreParts-made}
 use Rattle.grid.proofs.PlaceLemmas.{interval_falls, interval_ends}
 use Rattle.grid.proofs.SizeLemmas.{IsBounded-part}
 use Rattle.heat_flow.specs.Cuts.{parts_of}
-use Rattle.heat_flow.specs.Prices.{price_at}
-use Rattle.corner_flow.proofs.StandardLemmas.{own_utility, some_utility, one_utility, sum_utilities, end_of, grid_within, end_on_grid}
+use Rattle.corner_flow.proofs.StandardLemmas.{own_utility, some_utility, one_utility, sum_utilities, end_of, grid_is_ends, grid_within, stream_end_on_grid, end_on_grid, cold_target-lowest_end}
 
--- ---- the kinds of parts
+-- ---- one part
 
 -- a stream on an interval of the grid, with one heat
 pub record IsStreamHere (grid : List ℤ) (p : Part) : Type 0 where
@@ -52,6 +51,39 @@ pub record IsUtilityHere (c : Case) (side : Side) (p : Part) : Type 0 where
   pub most : p.most ≡ MOST_HEAT
   pub price : p.price ≡ unit_price side
 
+-- a part between the ends of the grid, of one of the two kinds
+pub record IsStandardPart (c : Case) (grid : List ℤ) (side : Side) (p : Part) : Type 0 where
+  pub bounded : IsBounded p
+  pub from : end_of c Cold ≤ℤ p.low
+  pub falls : p.low ≤ℤ p.high
+  pub upto : p.high ≤ℤ end_of c Hot
+  pub kind : IsStreamHere grid p ⊎ IsUtilityHere c side p
+
+-- ---- a side
+
+-- what the proofs use of the parts of a side
+pub record IsStandardSide (c : Case) (grid : List ℤ) (side : Side) (parts : List Part) : Type 0 where
+  pub each : (a : ℕ) (p : Part) → slice_get parts a ≡ Some p → IsStandardPart c grid side p
+  pub falls : (a b : ℕ) (p q : Part) → slice_get parts a ≡ Some p → slice_get parts b ≡ Some q → a ≤ b → q.high ≤ℤ p.high
+  pub sum : (at each : ℤ) → Contains grid at → int_sum_by (heat_from at each) parts ≡ each +ℤ sum_side side (heat_above at) c.streams
+  pub utility : ℕ
+  pub only : (a : ℕ) (p : Part) → slice_get parts a ≡ Some p → is_stream p.source ≡ false → a ≡ utility
+
+-- what they use of a standard case with its parts
+pub record AreStandardParts (c : Case) (hot cold : List Part) : Type 0 where
+  pub valid : HasValidStreams c.streams
+  pub standard : IsStandard c
+  pub grid : List ℤ
+  pub grid_falls : AllPairs (λ a b. b <ℤ a) grid
+  pub grid_end : (x : ℤ) → Contains grid x → Contains (stream_ends c.streams) x
+  pub stream_end : (x : ℤ) → Contains (stream_ends c.streams) x → Contains grid x
+  pub within : (side : Side) (x : ℤ) → Contains grid x → IsOutside side (end_of c side) x
+  pub ends : (side : Side) → Contains grid (end_of c side)
+  pub lowest : cold_target c.streams ≡ hot_target c.streams -ℤ deficit_above c.streams (end_of c Cold)
+  pub sides : (side : Side) → IsStandardSide c grid side (parts_of side hot cold)
+
+-- ---- they are so
+
 standard_side : (side : Side) (c : Case) → (standard_utility side c).side ≡ side
 standard_side Hot c = refl
 standard_side Cold c = refl
@@ -60,131 +92,112 @@ IsUtilityHere-standard : (c : Case) (side : Side) (i : ℕ) → IsUtilityHere c 
 IsUtilityHere-standard c Hot i = record { source_is = refl; high = shifted_level-standard Hot c; low = shifted_level-standard Hot c; least = refl; most = refl; price = refl }
 IsUtilityHere-standard c Cold i = record { source_is = refl; high = shifted_level-standard Cold c; low = shifted_level-standard Cold c; least = refl; most = refl; price = refl }
 
-abbrev pub IsStandardPart : Case → List ℤ → Side → Part → Type 0
-IsStandardPart c grid side p = IsStreamHere grid p ⊎ IsUtilityHere c side p
+not_higher : (p q : Part) → comes_before p q → q.high ≤ℤ p.high
+not_higher p q (inl h) = omega (arith, ints)
+not_higher p q (inr (inl h)) = omega (arith, ints, h.0)
+not_higher p q (inr (inr h)) = omega (arith, ints, h.0)
 
-module _ (c : Case) (standard : IsStandard c) (side : Side) where
+module _ (c : Case) (grid : List ℤ) (complete : IsComplete c) (standard : IsStandard c) (on_grid : IsGrid c grid) (side : Side) (parts : List Part) (are : AreParts c.streams c.utilities grid side parts) where
+  valid : HasValidStreams c.streams
+  valid = HasValidStreams-IsComplete c complete
+
+  holds : HoldsPlaces c.streams c.utilities grid
+  holds = HoldsPlaces-IsGrid c grid on_grid
+
+  abbrev OnSide : Part → Type 0
+  OnSide = IsPartOf c.streams c.utilities grid side
+
+  on_side : (a : ℕ) (p : Part) → slice_get parts a ≡ Some p → OnSide p
+  on_side a p at = subst OnSide (get_or_from_slice_get parts a p p at) (are.each a p (slice_get_within parts a p at))
+
+  in_order : (a b : ℕ) (p q : Part) → slice_get parts a ≡ Some p → slice_get parts b ≡ Some q → a < b → comes_before p q
+  in_order a b p q at other less = subst₂ comes_before (get_or_from_slice_get parts a p q at) (get_or_from_slice_get parts b q q other) (are.ordered a b q less (slice_get_within parts b q other))
+
   -- the part of the utility of the side
-  own_part : Part
-  own_part = utility_part (some_utility c standard side).0 (standard_utility side c)
+  own : Part
+  own = utility_part (some_utility c standard side).0 (standard_utility side c)
 
-  own_part-is : (grid : List ℤ) (p : Part) → IsPartOf c.streams c.utilities grid side p → is_stream p.source ≡ false → p ≡ own_part
-  unfolding own_part
-  own_part-is grid p (inl (i, s, h)) e = absurd (both_ways (is_stream p.source) e (ap (λ q. is_stream q.source) h.is))
-  own_part-is grid p (inr (i, u, h)) e =
+  own-is : (p : Part) → OnSide p → is_stream p.source ≡ false → p ≡ own
+  unfolding own
+  own-is p (inl (i, s, h)) e = absurd (both_ways (is_stream p.source) e (ap (λ q. is_stream q.source) h.is))
+  own-is p (inr (i, u, h)) e =
       let (j, at) = some_utility c standard side in
       let is : u ≡ standard_utility side c = own_utility c standard i u h.utility ∙ ap (λ s. standard_utility s c) h.side_is in
       h.is ∙ ap₂ utility_part (one_utility c standard i j u (standard_utility side c) h.utility at (ap (λ v. v.side) is)) is
 
-  own_part-after : comes_before own_part own_part → ⊥
-  unfolding own_part
-  own_part-after (inl less) = omega (arith, ints)
-  own_part-after (inr (inl less)) = let lower = less.1 in omega (arith, ints)
-  own_part-after (inr (inr less)) = let later = less.2 in omega arith
+  not_after : (p q : Part) → OnSide p → OnSide q → is_stream p.source ≡ false → is_stream q.source ≡ false → comes_before p q → ⊥
+  unfolding own
+  not_after p q h k e f before = never (subst₂ comes_before (own-is p h e) (own-is q k f) before)
+    where
+      never : comes_before own own → ⊥
+      never (inl less) = omega (arith, ints)
+      never (inr (inl less)) = omega (arith, ints, less.1)
+      never (inr (inr less)) = omega (arith, less.2)
 
-  IsStandardPart-part : (grid : List ℤ) (p : Part) → IsPartOf c.streams c.utilities grid side p → IsStandardPart c grid side p
-  unfolding own_part
-  IsStandardPart-part grid p (inl (i, s, h)) =
+  kind : (p : Part) → OnSide p → IsStreamHere grid p ⊎ IsUtilityHere c side p
+  unfolding own
+  kind p (inl (i, s, h)) =
       inl (record { source_is = ap (λ q. is_stream q.source) h.is; interval = h.interval; fixed = ap (λ q. q.least) h.is ∙ sym (ap (λ q. q.most) h.is); price = ap (λ q. q.price) h.is })
-  IsStandardPart-part grid p (inr (i, u, h)) =
-      inr (subst (IsUtilityHere c side) (sym (own_part-is grid p (inr (i, u, h)) (ap (λ q. is_stream q.source) h.is))) (IsUtilityHere-standard c side (some_utility c standard side).0))
+  kind p (inr (i, u, h)) =
+      inr (subst (IsUtilityHere c side) (sym (own-is p (inr (i, u, h)) (ap (λ q. is_stream q.source) h.is))) (IsUtilityHere-standard c side (some_utility c standard side).0))
 
--- ---- a side
-
--- what holds of each part holds of the one at an index
-pub part_at : (P : Part → Type 0) (parts : List Part) → All P parts → (a : ℕ) (p : Part) → slice_get parts a ≡ Some p → P p
-part_at P parts h a p at = subst P (get_or_from_slice_get parts a p p at) (h a p (slice_get_within parts a p at))
-
-pub pair_at : (R : Part → Part → Type 0) (parts : List Part) → AllPairs R parts → (a b : ℕ) (p q : Part) → slice_get parts a ≡ Some p → slice_get parts b ≡ Some q → a < b → R p q
-pair_at R parts h a b p q at other less =
-    let second = h a b q less (slice_get_within parts b q other) in
-    subst₂ R (get_or_from_slice_get parts a p q at) (get_or_from_slice_get parts b q q other) second
-
--- what the proofs use of the parts of a side
-pub record IsStandardSide (c : Case) (grid : List ℤ) (side : Side) (parts : List Part) : Type 0 where
-  pub each : All (IsStandardPart c grid side) parts
-  pub bounded : All IsBounded parts
-  pub ordered : AllPairs comes_before parts
-  pub sum : (at each : ℤ) → Contains grid at → int_sum_by (heat_from at each) parts ≡ each +ℤ sum_side side (heat_above at) c.streams
-  pub utility : ℕ
-  pub only : (a : ℕ) (p : Part) → slice_get parts a ≡ Some p → is_stream p.source ≡ false → a ≡ utility
-
-module _ (c : Case) (grid : List ℤ) (side : Side) (parts : List Part) (complete : IsComplete c) (standard : IsStandard c) (on_grid : IsGrid c grid) (are : AreParts c.streams c.utilities grid side parts) where
-  abbrev OnSide : Part → Type 0
-  OnSide = IsPartOf c.streams c.utilities grid side
-
-  before : (a b : ℕ) (p q : Part) → slice_get parts a ≡ Some p → slice_get parts b ≡ Some q → is_stream p.source ≡ false → is_stream q.source ≡ false → a < b → ⊥
-  before a b p q at other e f less =
-      let own = own_part-is c standard side grid in
-      own_part-after c standard side
-      (subst₂ comes_before (own p (part_at OnSide parts are.each a p at) e) (own q (part_at OnSide parts are.each b q other) f) (pair_at comes_before parts are.ordered a b p q at other less))
+  lies : (p : Part) → IsStreamHere grid p ⊎ IsUtilityHere c side p → (end_of c Cold ≤ℤ p.low) × (p.low ≤ℤ p.high) × (p.high ≤ℤ end_of c Hot)
+  lies p (inl h) =
+      let ends = interval_ends grid p.high p.low h.interval in
+      let falls = interval_falls grid p.high p.low on_grid.ordered h.interval in
+      (grid_within c grid valid standard on_grid Cold p.low ends.1, omega (arith, ints), grid_within c grid valid standard on_grid Hot p.high ends.0)
+  lies p (inr h) =
+      let at = end_on_grid c grid valid standard on_grid side in
+      let from = grid_within c grid valid standard on_grid Cold (end_of c side) at in
+      let upto = grid_within c grid valid standard on_grid Hot (end_of c side) at in
+      (omega (arith, ints), omega (arith, ints), omega (arith, ints))
 
   -- the utility of the side is one of the parts
-  utility_at : (a : ℕ) × (slice_get parts a ≡ Some (own_part c standard side))
-  unfolding own_part
-  utility_at =
+  own-at : (a : ℕ) × (slice_get parts a ≡ Some own)
+  unfolding own
+  own-at =
       let (i, at) = some_utility c standard side in
-      let own = utility_part i (standard_utility side c) in
-      let (a, within, is) = are.every own (inr (i, standard_utility side c, record { utility = at; side_is = standard_side side c; is = refl })) in
-      (a, slice_get-get_or parts a own within ∙ ap Some is)
+      let (a, within, is) = are.every (utility_part i (standard_utility side c)) (inr (i, standard_utility side c, record { utility = at; side_is = standard_side side c; is = refl })) in
+      (a, slice_get-get_or parts a (utility_part i (standard_utility side c)) within ∙ ap Some is)
 
-  pub IsStandardSide-parts : IsStandardSide c grid side parts
-  unfolding own_part
+  IsStandardSide-parts : IsStandardSide c grid side parts
+  unfolding own
   IsStandardSide-parts =
-      let (b, other) = utility_at in
-      let holds = HoldsPlaces-IsGrid c grid on_grid in
-      let valid = (HasValidStreams-IsComplete c complete).are_streams.each in
+      let (b, other) = own-at in
       record {
-        each = All-weaker OnSide (IsStandardPart c grid side) (IsStandardPart-part c standard side grid) parts are.each;
-        bounded = All-weaker OnSide IsBounded (IsBounded-part c.streams c.utilities side grid valid (IsPlaced-IsComplete c complete) holds) parts are.each;
-        ordered = are.ordered;
+        each = λ a p at.
+            let here = on_side a p at in
+            let between = lies p (kind p here) in
+            record { bounded = IsBounded-part c.streams c.utilities side grid valid.are_streams.each (IsPlaced-IsComplete c complete) holds p here; from = between.0; falls = between.1; upto = between.2; kind = kind p here };
+        falls = λ a d p q at last le.
+            ⊎_elim (λ e. let high = ap (λ r. r.high) (same_Some p q (sym at ∙ ap (slice_get parts) e ∙ last)) in omega (arith, ints))
+            (λ differ. not_higher p q (in_order a d p q at last (omega (arith, differ)))) (cases_eq a d);
         sum = λ at each found.
             ap (int_sum_by (heat_from at each)) (AreParts-made c.streams c.utilities side grid parts holds are)
-            ∙ sum-heat_from c.streams c.utilities side grid at each valid holds found
+            ∙ sum-heat_from c.streams c.utilities side grid at each valid.are_streams.each holds found
             ∙ ap (λ z. z +ℤ sum_side side (heat_above at) c.streams) (sum_utilities c standard side each);
         utility = b;
-        only = λ a p at e. ⊎_elim (λ same. same) (⊎_elim (λ less. absurd (before a b p (own_part c standard side) at other e refl less)) (λ more. absurd (before b a (own_part c standard side) p other at refl e more))) (cases_order a b);
+        only = λ a p at e.
+            ⊎_elim (λ same. same)
+            (⊎_elim (λ less. absurd (not_after p own (on_side a p at) (on_side b own other) e refl (in_order a b p own at other less)))
+            (λ more. absurd (not_after own p (on_side b own other) (on_side a p at) refl e (in_order b a own p other at more))))
+            (cases_order a b);
       }
 
--- ---- a standard case with its parts
-
-pub record AreStandardParts (c : Case) (hot cold : List Part) : Type 0 where
-  pub valid : HasValidStreams c.streams
-  pub standard : IsStandard c
-  pub grid : List ℤ
-  pub on_grid : IsGrid c grid
-  pub sides : (side : Side) → IsStandardSide c grid side (parts_of side hot cold)
-
-pub AreStandardParts-parts : (c : Case) (hot cold : List Part) → IsComplete c → IsStandard c → AreCaseParts c hot cold → AreStandardParts c hot cold
-AreStandardParts-parts c hot cold complete standard parts = record {
-  valid = HasValidStreams-IsComplete c complete;
-  standard = standard;
-  grid = parts.grid;
-  on_grid = parts.is_grid;
-  sides = each_side (λ side. IsStandardSide c parts.grid side (parts_of side hot cold))
-      (IsStandardSide-parts c parts.grid Hot hot complete standard parts.is_grid parts.hot_parts)
-      (IsStandardSide-parts c parts.grid Cold cold complete standard parts.is_grid parts.cold_parts);
-}
-
--- a part lies between the ends of the grid
-pub record IsLying (c : Case) (p : Part) : Type 0 where
-  pub from : end_of c Cold ≤ℤ p.low
-  pub falls : p.low ≤ℤ p.high
-  pub upto : p.high ≤ℤ end_of c Hot
-
-pub IsLying-part : (c : Case) (hot cold : List Part) (s : AreStandardParts c hot cold) (side : Side) (p : Part) → IsStandardPart c s.grid side p → IsLying c p
-IsLying-part c hot cold s side p (inl h) =
-    let ends = interval_ends s.grid p.high p.low h.interval in
-    let falls = interval_falls s.grid p.high p.low s.on_grid.ordered h.interval in
-    record { from = grid_within c s.grid s.valid s.standard s.on_grid Cold p.low ends.1; falls = omega (arith, ints); upto = grid_within c s.grid s.valid s.standard s.on_grid Hot p.high ends.0 }
-IsLying-part c hot cold s side p (inr h) =
-    let at = end_on_grid c s.grid s.valid s.standard s.on_grid side in
-    let from = grid_within c s.grid s.valid s.standard s.on_grid Cold (end_of c side) at in
-    let upto = grid_within c s.grid s.valid s.standard s.on_grid Hot (end_of c side) at in
-    let high = h.high in
-    let low = h.low in
-    record { from = omega (arith, ints); falls = omega (arith, ints); upto = omega (arith, ints) }
-
--- the price of the part at an index, where each part has its own
-pub price_at-map : (f : Part → ℤ) (parts : List Part) (a : ℕ) (p : Part) → slice_get parts a ≡ Some p → price_at (map f parts) a ≡ f p
-price_at-map f parts a p at = get_or-map f parts a p (pos 0) (slice_get_within parts a p at) ∙ ap f (get_or_from_slice_get parts a p p at)
+pub AreStandardParts-parts : {c : Case} {hot cold : List Part} → IsComplete c → IsStandard c → AreCaseParts c hot cold → AreStandardParts c hot cold
+AreStandardParts-parts {c} {hot} {cold} complete standard parts =
+    let valid = HasValidStreams-IsComplete c complete in
+    record {
+      valid = valid;
+      standard = standard;
+      grid = parts.grid;
+      grid_falls = parts.is_grid.ordered;
+      grid_end = grid_is_ends c parts.grid valid standard parts.is_grid;
+      stream_end = stream_end_on_grid c parts.grid valid standard parts.is_grid;
+      within = grid_within c parts.grid valid standard parts.is_grid;
+      ends = end_on_grid c parts.grid valid standard parts.is_grid;
+      lowest = cold_target-lowest_end c parts.grid valid standard parts.is_grid;
+      sides = each_side (λ side. IsStandardSide c parts.grid side (parts_of side hot cold))
+          (IsStandardSide-parts c parts.grid complete standard parts.is_grid Hot hot parts.hot_parts)
+          (IsStandardSide-parts c parts.grid complete standard parts.is_grid Cold cold parts.cold_parts);
+    }

@@ -1,10 +1,19 @@
+ghost use Rattle.stream_case.specs.Case.{IsValid};
+
+use crate::compare::{assert_lists, assert_same};
+use crate::tables::{FOUR_STREAMS, TWO_STREAMS, Table, case_of, repeated};
 use case_text::{CaseFault, CaseWhy, number_of, print_case, read_case};
-use std::alloc::Global;
+use std::alloc::{AllocError, Global};
+use std::process::Abort;
 use std::test::Fail;
-use stream_case::{Case, Forbid, Name, Side, Source, Utility};
+use stream_case::Side::{Cold, Hot};
+use stream_case::{Case, Forbid, MOST_STREAMS, MOST_UTILITIES, Source};
+
+/// The most bytes of the tests' files.
+const LONGEST: usize = 2_000_000;
 
 /// A stream table with a contribution of 5 °C and four streams.
-const FOUR_STREAMS: &[u8] =
+const FOUR_STREAMS_TEXT: &[u8] =
     b"contribution,,50,,,,\ncold,C1,200,1350,200,,\nhot,H2,1700,600,300,,\ncold,C3,800,1400,400,,\nhot,H4,1500,300,150,,\n";
 
 /// A table as spreadsheets write it, with utilities, forbidden matches and rows that say nothing.
@@ -15,246 +24,181 @@ const SPREADSHEET: &[u8] =
 const PRINTED_SPREADSHEET: &[u8] =
     b"contribution,,50,,,,\nhot,H,1000,500,10,,\ncold,C,300,700,10,,\nheater,HOT,1700,0,1000,3,\ncooler,CW,-20,5,5,-1000000,\nforbid,H,C,,,,\nforbid,HOT,C,,,,\n";
 
+/// The case that it gives.
+const SPREADSHEET_CASE: Table = Table {
+    utilities: &[
+        ("HOT", Hot, 1700, 0, 1000, 3),
+        ("CW", Cold, -20, 5, 5, -1_000_000),
+    ],
+    forbids: &[
+        Forbid {
+            hot: Source::Stream(0),
+            cold: Source::Stream(1),
+        },
+        Forbid {
+            hot: Source::Utility(0),
+            cold: Source::Stream(1),
+        },
+    ],
+    ..TWO_STREAMS
+};
+
+/// Tables, how they are printed, and the cases that they give.
+const TABLES: [(&[u8], &[u8], Table); 2] = [
+    (FOUR_STREAMS_TEXT, FOUR_STREAMS_TEXT, FOUR_STREAMS),
+    (SPREADSHEET, PRINTED_SPREADSHEET, SPREADSHEET_CASE),
+];
+
+const NUMBERS: [(&str, Option<i64>); 12] = [
+    ("0", Some(0)),
+    ("-2731", Some(-2731)),
+    ("-0", Some(0)),
+    ("0000000000007", Some(7)),
+    ("9999999999999", Some(9_999_999_999_999)),
+    ("10000000000000", None),
+    ("", None),
+    ("-", None),
+    ("+5", None),
+    (" 5", None),
+    ("5.0", None),
+    ("--5", None),
+];
+
+/// Rows behind the contribution and the stream H, and why they are refused.
+const FAULTY_ROWS: [(&str, CaseWhy); 20] = [
+    ("steam,S,1,2,3,4,", CaseWhy::UnknownKind),
+    ("hot,K,900,400,10,", CaseWhy::FieldCount),
+    ("hot,K,900,400,10,7,", CaseWhy::FieldCount),
+    ("hot,K,900,400,10,,7", CaseWhy::FieldCount),
+    ("hot,K,9x0,400,10,,", CaseWhy::BadNumber),
+    ("hot,K,30001,400,10,,", CaseWhy::OutOfRange),
+    ("hot,K L,900,400,10,,", CaseWhy::BadName),
+    ("hot,HOT,900,400,10,,", CaseWhy::BadName),
+    ("cold,H,300,700,10,,", CaseWhy::SameName),
+    ("cold,K,700,300,10,,", CaseWhy::WrongWay),
+    ("contribution,,50,,,,", CaseWhy::Repeated),
+    ("forbid,H,C,,,,", CaseWhy::UnknownName),
+    ("heater,S,1500,10,5,1,", CaseWhy::BadRange),
+    ("hot,H,500,500,10,,", CaseWhy::SameName),
+    ("hot,K,500,500,10,,", CaseWhy::WrongWay),
+    ("heater,COLD,1500,0,5,1,", CaseWhy::BadName),
+    ("cooler,S,200,0,1000000000001,0,", CaseWhy::OutOfRange),
+    ("forbid,H,C,5,,,", CaseWhy::FieldCount),
+    ("# a comment", CaseWhy::FieldCount),
+    ("\u{feff}hot,K,900,400,10,,", CaseWhy::UnknownKind),
+];
+
+/// Files that end early or hold other bytes than text, the row at fault, and why.
+const FAULTY_FILES: [(&[u8], u32, CaseWhy); 8] = [
+    (b"", 1, CaseWhy::NoContribution),
+    (b"hot,H,1000,500,10,,\n", 2, CaseWhy::NoContribution),
+    (b"contribution,,50,,,,\n", 2, CaseWhy::NoStream),
+    (
+        b"#,,,,,,\ncontribution,,50,,,,\n,,,,,,\n",
+        4,
+        CaseWhy::NoStream,
+    ),
+    (b"hot,\xFF\xFE,900,400,10,,", 1, CaseWhy::BadName),
+    (b"h\0t,K,900,400,10,,", 1, CaseWhy::UnknownKind),
+    (b"hot,\"K,900,400,10,,\n", 1, CaseWhy::FieldCount),
+    (
+        b"hot,K,900,400,10,,\rcold,K,1,2,3,,\r",
+        2,
+        CaseWhy::SameName,
+    ),
+];
+
 /// What a text is read as.
-fn read(alloc: Global, text: &[u8]) -> Result<Result<Case, CaseFault>, Fail> {
-    if text.len() > 2_000_000 {
-        return Err("the text is short".into());
-    }
-    Ok(read_case(alloc, text))
+fn read(rt: &(impl Abort + AllocGlobal), text: &[u8]) -> Case
+    ensures { IsValid result }
+{
+    assert!(rt; text.len() <= LONGEST);
+    read_case(rt.alloc(), text).expect(rt, "a case")
 }
 
-/// A table, read and printed again.
-fn printed(alloc: Global, table: &[u8]) -> Result<Vec<u8>, Fail> {
-    if table.len() > 2_000_000 {
-        return Err("the table is short".into());
-    }
-    match read_case(alloc, table) {
-        Ok(case) => Ok(print_case(alloc, &case)?),
-        Err(fault) => Err(fault.into()),
-    }
-}
-
-/// What a table with one hot stream and then this row is read as.
-fn read_with_row(alloc: Global, row: &str) -> Result<Result<Case, CaseFault>, Fail> {
-    let text = format!(in alloc; "contribution,,50,,,,\nhot,H,1000,500,10,,\n{row}\n")?;
-    read(alloc, text.as_bytes())
-}
-
-fn refused(row: u32, why: CaseWhy) -> Result<Case, CaseFault> {
-    Err(CaseFault::Row { row, why })
+fn assert_refused(rt: &(impl Abort + AllocGlobal), text: &[u8], row: u32, why: CaseWhy) {
+    assert!(rt; text.len() <= LONGEST);
+    let fault = read_case(rt.alloc(), text).err();
+    assert_eq!(rt; fault, Some(CaseFault::Row { row, why }), "in {text:?}");
 }
 
 #[test]
-fn number_texts(rt: HostRuntime) {
-    let cases = [
-        (b"0".as_slice(), Some(0)),
-        (b"-2731".as_slice(), Some(-2731)),
-        (b"-0".as_slice(), Some(0)),
-        (b"0000000000007".as_slice(), Some(7)),
-        (b"9999999999999".as_slice(), Some(9_999_999_999_999)),
-        (b"10000000000000".as_slice(), None),
-        (b"".as_slice(), None),
-        (b"-".as_slice(), None),
-        (b"+5".as_slice(), None),
-        (b" 5".as_slice(), None),
-        (b"5.0".as_slice(), None),
-        (b"--5".as_slice(), None),
-    ];
-    for (text, number) in cases {
-        assert_eq!(rt; number_of(text), number);
+fn numbers_have_their_grammar(rt: HostRuntime) {
+    for (text, number) in &NUMBERS {
+        assert_same(&rt, text, &number_of(text.as_bytes()), number);
     }
 }
 
 #[test]
-fn four_streams(rt: HostRuntime) -> Result<(), Fail> {
-    let case = read(rt.alloc(), FOUR_STREAMS)??;
-    assert_eq!(rt; case.contribution, 50);
-    assert_eq!(rt; case.streams.len(), 4);
-    assert_eq!(rt; case.utilities.len(), 0);
-    let Some(third) = case.streams.get(2) else {
-        return Err("there are four streams".into());
-    };
-    assert_eq!(rt; third.name.as_bytes(), b"C3".as_slice());
-    assert_eq!(rt; third.side, Side::Cold);
-    assert_eq!(rt; third.supply, 800);
-    assert_eq!(rt; third.target, 1400);
-    assert_eq!(rt; third.cp, 400);
-    assert_eq!(rt; third.contribution, 50);
-    Ok(())
-}
-
-#[test]
-fn refused_rows(rt: HostRuntime) -> Result<(), Fail> {
-    let cases = [
-        ("steam,S,1,2,3,4,", CaseWhy::UnknownKind),
-        ("hot,K,900,400,10,", CaseWhy::FieldCount),
-        ("hot,K,900,400,10,7,", CaseWhy::FieldCount),
-        ("hot,K,900,400,10,,7", CaseWhy::FieldCount),
-        ("hot,K,9x0,400,10,,", CaseWhy::BadNumber),
-        ("hot,K,30001,400,10,,", CaseWhy::OutOfRange),
-        ("hot,K L,900,400,10,,", CaseWhy::BadName),
-        ("hot,HOT,900,400,10,,", CaseWhy::BadName),
-        ("cold,H,300,700,10,,", CaseWhy::SameName),
-        ("cold,K,700,300,10,,", CaseWhy::WrongWay),
-        ("contribution,,50,,,,", CaseWhy::Repeated),
-        ("forbid,H,C,,,,", CaseWhy::UnknownName),
-        ("heater,S,1500,10,5,1,", CaseWhy::BadRange),
-        ("hot,H,500,500,10,,", CaseWhy::SameName),
-        ("hot,K,500,500,10,,", CaseWhy::WrongWay),
-        ("heater,COLD,1500,0,5,1,", CaseWhy::BadName),
-        ("cooler,S,200,0,1000000000001,0,", CaseWhy::OutOfRange),
-        ("forbid,H,C,5,,,", CaseWhy::FieldCount),
-        ("# a comment", CaseWhy::FieldCount),
-        ("\u{feff}hot,K,900,400,10,,", CaseWhy::UnknownKind),
-    ];
-    for (row, why) in cases {
-        assert_eq!(rt;
-            read_with_row(rt.alloc(), row)?,
-            refused(3, why),
-            "at {row}"
-        );
+fn faulty_rows_are_refused(rt: HostRuntime) -> Result<(), Fail> {
+    for (row, why) in &FAULTY_ROWS {
+        let text = format!(in rt.alloc(); "contribution,,50,,,,\nhot,H,1000,500,10,,\n{row}\n")?;
+        assert_refused(&rt, text.as_bytes(), 3, *why);
     }
     Ok(())
 }
 
 #[test]
-fn the_end_of_the_file(rt: HostRuntime) -> Result<(), Fail> {
-    let cases = [
-        ("", 1, CaseWhy::NoContribution),
-        ("hot,H,1000,500,10,,\n", 2, CaseWhy::NoContribution),
-        ("contribution,,50,,,,\n", 2, CaseWhy::NoStream),
-        (
-            "#,,,,,,\ncontribution,,50,,,,\n,,,,,,\n",
-            4,
-            CaseWhy::NoStream,
-        ),
-    ];
-    for (text, row, why) in cases {
-        assert_eq!(rt; read(rt.alloc(), text.as_bytes())?, refused(row, why));
+fn faulty_files_are_refused(rt: HostRuntime) {
+    for (text, row, why) in &FAULTY_FILES {
+        assert_refused(&rt, text, *row, *why);
+    }
+}
+
+#[test]
+fn long_rows_and_long_fields_are_refused(rt: HostRuntime) -> Result<(), Fail> {
+    let text = repeated(rt.alloc(), b"", b",", 9_999, b"")?;
+    assert_refused(&rt, &text, 1, CaseWhy::FieldCount);
+    let text = repeated(rt.alloc(), b"hot,", b"K", 1_000_000, b",900,400,10,,")?;
+    assert_refused(&rt, &text, 1, CaseWhy::BadName);
+    Ok(())
+}
+
+/// So many rows that differ in their name's number.
+fn numbered_rows(alloc: Global, kind: &str, rest: &str, rows: usize) -> Result<String, AllocError> {
+    let mut text = String::new(alloc);
+    for number in 0..rows {
+        let row = format!(in alloc; "{kind},K{number},{rest}\n")?;
+        text.push_str(&row)?;
+    }
+    Ok(text)
+}
+
+#[test]
+fn rows_past_the_counts_are_refused(rt: HostRuntime) -> Result<(), Fail> {
+    let text = numbered_rows(rt.alloc(), "hot", "900,400,10,,", MOST_STREAMS + 1)?;
+    assert_refused(
+        &rt,
+        text.as_bytes(),
+        MOST_STREAMS as u32 + 1,
+        CaseWhy::TooMany,
+    );
+    let text = numbered_rows(rt.alloc(), "cooler", "0,0,1,0,", MOST_UTILITIES + 1)?;
+    assert_refused(
+        &rt,
+        text.as_bytes(),
+        MOST_UTILITIES as u32 + 1,
+        CaseWhy::TooMany,
+    );
+    Ok(())
+}
+
+#[test]
+fn tables_give_their_cases_and_are_printed(rt: HostRuntime) -> Result<(), Fail> {
+    for (table, wanted, given) in &TABLES {
+        let case = case_of(rt.alloc(), given)?;
+        assert_same(&rt, "a table", &read(&rt, table), &case);
+        let text = print_case(rt.alloc(), &case)?;
+        assert_lists(&rt, "a printed table", &text, wanted);
+        assert_same(&rt, "it read again", &read(&rt, &text), &case);
     }
     Ok(())
 }
 
 #[test]
-fn a_passed_over_row_counts(rt: HostRuntime) -> Result<(), Fail> {
-    let alloc = rt.alloc();
-    let mut text = b"#,,,,,,\n".to_vec(alloc)?;
-    text.extend_from_slice(FOUR_STREAMS)?;
-    assert_eq!(rt; read(alloc, &text)?, read(alloc, FOUR_STREAMS)?);
-    Ok(())
-}
-
-#[test]
-fn a_spreadsheet_with_utilities(rt: HostRuntime) -> Result<(), Fail> {
-    let case = read(rt.alloc(), SPREADSHEET)??;
-    assert_eq!(rt; case.streams.len(), 2);
-    let heater = Utility {
-        name: Name::new(b"HOT").ok_or("a name")?,
-        side: Side::Hot,
-        level: 1700,
-        least: 0,
-        most: 1000,
-        price: 3,
-        contribution: 50,
-    };
-    let cooler = Utility {
-        name: Name::new(b"CW").ok_or("a name")?,
-        side: Side::Cold,
-        level: -20,
-        least: 5,
-        most: 5,
-        price: -1_000_000,
-        contribution: 50,
-    };
-    assert_eq!(rt; case.utilities.as_slice(), [heater, cooler].as_slice());
-    Ok(())
-}
-
-#[test]
-fn forbidden_matches(rt: HostRuntime) -> Result<(), Fail> {
-    let case = read(rt.alloc(), SPREADSHEET)??;
-    let cold = Source::Stream(1);
-    let forbids = [Source::Stream(0), Source::Utility(0)].map(|hot| Forbid { hot, cold });
-    assert_eq!(rt; case.forbids.as_slice(), forbids.as_slice());
-    Ok(())
-}
-
-#[test]
-fn hostile_bytes(rt: HostRuntime) -> Result<(), Fail> {
-    let cases = [
-        (b"hot,\xFF\xFE,900,400,10,,".as_slice(), 1, CaseWhy::BadName),
-        (b"h\0t,K,900,400,10,,".as_slice(), 1, CaseWhy::UnknownKind),
-        (b"hot,\"K,900,400,10,,\n".as_slice(), 1, CaseWhy::FieldCount),
-        (
-            b"hot,K,900,400,10,,\rcold,K,1,2,3,,\r".as_slice(),
-            2,
-            CaseWhy::SameName,
-        ),
-    ];
-    for (text, row, why) in cases {
-        assert_eq!(rt; read(rt.alloc(), text)?, refused(row, why));
-    }
-    Ok(())
-}
-
-#[test]
-fn ten_thousand_fields(rt: HostRuntime) -> Result<(), Fail> {
-    let alloc = rt.alloc();
-    let mut text = Vec::new(alloc);
-    for _ in 0..9_999 {
-        text.push(b',')?;
-    }
-    assert_eq!(rt; read(alloc, &text)?, refused(1, CaseWhy::FieldCount));
-    Ok(())
-}
-
-#[test]
-fn a_field_of_a_megabyte(rt: HostRuntime) -> Result<(), Fail> {
-    let alloc = rt.alloc();
-    let mut text = b"hot,".to_vec(alloc)?;
-    for _ in 0..1_000_000 {
-        text.push(b'K')?;
-    }
-    text.extend_from_slice(b",900,400,10,,")?;
-    assert_eq!(rt; read(alloc, &text)?, refused(1, CaseWhy::BadName));
-    Ok(())
-}
-
-#[test]
-fn thirteen_streams_of_a_side(rt: HostRuntime) -> Result<(), Fail> {
-    let alloc = rt.alloc();
-    let mut text = b"contribution,,50,,,,\nhot,H,1000,500,10,,\n".to_vec(alloc)?;
-    for number in 1..13 {
-        let row = format!(in alloc; "hot,K{number},900,400,10,,\n")?;
-        text.extend_from_slice(row.as_bytes())?;
-    }
-    assert_eq!(rt; read(alloc, &text)?, refused(14, CaseWhy::TooMany));
-    Ok(())
-}
-
-#[test]
-fn seven_utilities(rt: HostRuntime) -> Result<(), Fail> {
-    let alloc = rt.alloc();
-    let mut text = Vec::new(alloc);
-    for number in 1..8 {
-        let row = format!(in alloc; "cooler,K{number},0,0,1,0,\n")?;
-        text.extend_from_slice(row.as_bytes())?;
-    }
-    assert_eq!(rt; read(alloc, &text)?, refused(7, CaseWhy::TooMany));
-    Ok(())
-}
-
-#[test]
-fn a_table_printed_again(rt: HostRuntime) -> Result<(), Fail> {
-    let alloc = rt.alloc();
-    let tables = [
-        (FOUR_STREAMS, FOUR_STREAMS),
-        (SPREADSHEET, PRINTED_SPREADSHEET),
-    ];
-    for (table, text) in tables {
-        let again = printed(alloc, table)?;
-        assert_eq!(rt; again.as_slice(), text);
-        assert_eq!(rt; read(alloc, &again)?, read(alloc, table)?);
-    }
+fn rows_that_are_passed_over_do_not_matter(rt: HostRuntime) -> Result<(), Fail> {
+    let text = repeated(rt.alloc(), b"", b"#,,,,,,\n", 100_000, FOUR_STREAMS_TEXT)?;
+    let case = case_of(rt.alloc(), &FOUR_STREAMS)?;
+    assert_same(&rt, "100,000 rows", &read(&rt, &text), &case);
     Ok(())
 }

@@ -1,116 +1,92 @@
 //! The curves of cases that were worked by hand.
+use crate::compare::assert_lists;
+use crate::tables::{FOUR_STREAMS, Table, case_of};
 use curves::{Point, cold_curve, grand_curve, hot_curve};
-use std::alloc::Global;
+use std::alloc::{AllocError, Global};
 use std::process::Abort;
 use std::test::Fail;
-use stream_case::Side::{Cold, Hot};
-use stream_case::{Case, Items, Name, Side, Stream, is_valid};
+use stream_case::Items;
+use stream_case::Side::Hot;
 
-// A stream with this contribution.
-fn stream(
-    rt: &impl Abort,
-    name: &[u8],
-    side: Side,
-    ends: (i32, i32),
-    cp: i64,
-    contribution: i32,
-) -> Stream {
-    let name = Name::new(name).expect(rt, "a name");
-    let (supply, target) = ends;
-    Stream {
-        name,
-        side,
-        supply,
-        target,
-        cp,
-        contribution,
+/// A heat and a temperature.
+type Corner = (i64, i32);
+
+struct Worked {
+    table: Table,
+    hot: &'static [Corner],
+    cold: &'static [Corner],
+    grand: &'static [Corner],
+}
+
+/// The four streams, one hot stream alone, and hot streams whose ends coincide or leave a gap.
+const CASES: [Worked; 3] = [
+    Worked {
+        table: FOUR_STREAMS,
+        hot: &[(0, 300), (45_000, 600), (450_000, 1500), (510_000, 1700)],
+        cold: &[(0, 200), (120_000, 800), (450_000, 1350), (470_000, 1400)],
+        grand: &[
+            (20_000, 1650),
+            (80_000, 1450),
+            (82_500, 1400),
+            (0, 850),
+            (75_000, 550),
+            (60_000, 250),
+        ],
+    },
+    Worked {
+        table: Table {
+            contribution: 50,
+            streams: &[("H", Hot, 1000, 500, 10)],
+            utilities: &[],
+            forbids: &[],
+        },
+        hot: &[(0, 500), (5000, 1000)],
+        cold: &[],
+        grand: &[(0, 950), (5000, 450)],
+    },
+    Worked {
+        table: Table {
+            contribution: 0,
+            streams: &[
+                ("H1", Hot, 900, 700, 2),
+                ("H2", Hot, 900, 800, 3),
+                ("H3", Hot, 500, 400, 1),
+            ],
+            utilities: &[],
+            forbids: &[],
+        },
+        hot: &[(0, 400), (100, 500), (100, 700), (300, 800), (800, 900)],
+        cold: &[],
+        grand: &[(0, 900), (500, 800), (700, 700), (700, 500), (800, 400)],
+    },
+];
+
+fn corners_of(alloc: Global, curve: &[Point]) -> Result<Vec<Corner>, AllocError> {
+    let mut corners = Vec::new(alloc);
+    for point in curve {
+        corners.push((point.heat, point.temperature))?;
     }
+    Ok(corners)
 }
 
-// A case of these streams, without utilities.
-fn case_of(alloc: Global, contribution: i32, streams: Items<Stream>) -> Case {
-    Case {
-        contribution,
-        streams,
-        utilities: Items::new(alloc),
-        forbids: Items::new(alloc),
+fn assert_curve(
+    rt: &(impl Abort + AllocGlobal),
+    at: &str,
+    curve: Result<Items<Point>, AllocError>,
+    wanted: &[Corner],
+) {
+    let curve = curve.expect(rt, "memory for a curve");
+    let corners = corners_of(rt.alloc(), curve.as_slice()).expect(rt, "memory for its corners");
+    assert_lists(rt, at, &corners, wanted);
+}
+
+#[test]
+fn cases_have_these_curves(rt: HostRuntime) -> Result<(), Fail> {
+    for worked in &CASES {
+        let case = case_of(rt.alloc(), &worked.table)?;
+        assert_curve(&rt, "hot", hot_curve(rt.alloc(), &case), worked.hot);
+        assert_curve(&rt, "cold", cold_curve(rt.alloc(), &case), worked.cold);
+        assert_curve(&rt, "grand", grand_curve(rt.alloc(), &case), worked.grand);
     }
-}
-
-fn at(heat: i64, temperature: i32) -> Point {
-    Point { heat, temperature }
-}
-
-#[test]
-fn four_streams_have_these_curves(rt: HostRuntime) -> Result<(), Fail> {
-    let mut streams = Items::new(rt.alloc());
-    streams.push(stream(&rt, b"C1", Cold, (200, 1350), 200, 50))?;
-    streams.push(stream(&rt, b"H2", Hot, (1700, 600), 300, 50))?;
-    streams.push(stream(&rt, b"C3", Cold, (800, 1400), 400, 50))?;
-    streams.push(stream(&rt, b"H4", Hot, (1500, 300), 150, 50))?;
-    let case = case_of(rt.alloc(), 50, streams);
-    assert!(rt; is_valid(&case));
-    let hot = [
-        at(0, 300),
-        at(45000, 600),
-        at(450000, 1500),
-        at(510000, 1700),
-    ];
-    assert_eq!(rt; hot_curve(rt.alloc(), &case)?.as_slice(), hot.as_slice());
-    let cold = [
-        at(0, 200),
-        at(120000, 800),
-        at(450000, 1350),
-        at(470000, 1400),
-    ];
-    assert_eq!(rt; cold_curve(rt.alloc(), &case)?.as_slice(), cold.as_slice());
-    let grand = [
-        at(20000, 1650),
-        at(80000, 1450),
-        at(82500, 1400),
-        at(0, 850),
-        at(75000, 550),
-        at(60000, 250),
-    ];
-    assert_eq!(rt;
-        grand_curve(rt.alloc(), &case)?.as_slice(),
-        grand.as_slice()
-    );
-    Ok(())
-}
-
-#[test]
-fn one_hot_stream_has_no_cold_curve(rt: HostRuntime) -> Result<(), Fail> {
-    let mut streams = Items::new(rt.alloc());
-    streams.push(stream(&rt, b"H", Hot, (1000, 500), 10, 50))?;
-    let case = case_of(rt.alloc(), 50, streams);
-    assert!(rt; is_valid(&case));
-    let hot = [at(0, 500), at(5000, 1000)];
-    assert_eq!(rt; hot_curve(rt.alloc(), &case)?.as_slice(), hot.as_slice());
-    assert_eq!(rt; cold_curve(rt.alloc(), &case)?.len(), 0);
-    let grand = [at(0, 950), at(5000, 450)];
-    assert_eq!(rt;
-        grand_curve(rt.alloc(), &case)?.as_slice(),
-        grand.as_slice()
-    );
-    Ok(())
-}
-
-#[test]
-fn ends_that_coincide_and_a_gap(rt: HostRuntime) -> Result<(), Fail> {
-    let mut streams = Items::new(rt.alloc());
-    streams.push(stream(&rt, b"H1", Hot, (900, 700), 2, 0))?;
-    streams.push(stream(&rt, b"H2", Hot, (900, 800), 3, 0))?;
-    streams.push(stream(&rt, b"H3", Hot, (500, 400), 1, 0))?;
-    let case = case_of(rt.alloc(), 0, streams);
-    assert!(rt; is_valid(&case));
-    let hot = [
-        at(0, 400),
-        at(100, 500),
-        at(100, 700),
-        at(300, 800),
-        at(800, 900),
-    ];
-    assert_eq!(rt; hot_curve(rt.alloc(), &case)?.as_slice(), hot.as_slice());
     Ok(())
 }

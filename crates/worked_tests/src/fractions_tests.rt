@@ -1,113 +1,154 @@
-use fractions::*;
+use crate::compare::assert_same;
+use fractions::Frac;
+use std::alloc::{AllocError, Global};
 use std::collections::HashSet;
+use std::process::Abort;
 use std::test::Fail;
+
+const MOST: i128 = 1 << 76;
+
+const FINEST: u64 = 1 << 48;
 
 const POWER_30_OF_3: u64 = 205891132094649;
 
 const POWER_47_OF_3: i128 = 26588814358957503287787;
 
-fn sum(a: Option<Frac>, b: Option<Frac>) -> Option<Frac> {
-    a?.plus(&b?)
+/// A numerator, a denominator, and the fraction.
+const FRACTIONS: [(i128, u64, &str); 9] = [
+    (4, 6, "2/3"),
+    (1, 0, "none"),
+    (MOST, 1, "75557863725914323419136"),
+    (MOST + 1, 1, "none"),
+    (-MOST, 1, "-75557863725914323419136"),
+    (-MOST - 1, 1, "none"),
+    (1, FINEST, "1/281474976710656"),
+    (1, FINEST + 1, "none"),
+    (-3, 6, "-1/2"),
+];
+
+/// The same with wide denominators.
+const WIDE_FRACTIONS: [(i128, u128, &str); 3] = [
+    (i128::MIN, 1 << 63, "-18446744073709551616"),
+    (500000000000000000000000, 1000000000000000000000000, "1/2"),
+    (3, 0, "none"),
+];
+
+#[derive(Clone, Copy)]
+enum Operation {
+    Plus,
+    Minus,
+    Times,
+    Over,
 }
 
-fn difference(a: Option<Frac>, b: Option<Frac>) -> Option<Frac> {
-    a?.minus(&b?)
+use Operation::{Minus, Over, Plus, Times};
+
+/// An operation, two fractions, and what it gives.
+const OPERATIONS: [(Operation, (i128, u64), (i128, u64), &str); 10] = [
+    (Plus, (1, 2), (1, 3), "5/6"),
+    (Plus, (1, FINEST), (1, FINEST - 1), "none"),
+    (Minus, (1, 3), (1, 2), "-1/6"),
+    (Times, (MOST, 1), (1, 2), "37778931862957161709568"),
+    (Times, (MOST, 3), (-3, FINEST), "-268435456"),
+    (Times, (MOST, 1), (MOST, 1), "none"),
+    // the product of the numerators passes 128 bits
+    (
+        Times,
+        (MOST, POWER_30_OF_3),
+        (POWER_47_OF_3, FINEST),
+        "34665798542819328",
+    ),
+    (Over, (1, 3), (0, 1), "none"),
+    (Over, (0, 1), (5, 1), "0"),
+    (Over, (1, 3), (-2, 5), "-5/6"),
+];
+
+/// Fractions near the limits, rising.
+const RISING: [(i128, u64); 7] = [
+    (-MOST, FINEST - 2),
+    (-MOST, FINEST - 1),
+    (1 - MOST, FINEST - 1),
+    (0, 5),
+    (MOST - 1, FINEST - 1),
+    (MOST, FINEST - 1),
+    (MOST, FINEST - 2),
+];
+
+fn answer(operation: Operation, a: &Frac, b: &Frac) -> Option<Frac> {
+    match operation {
+        Plus => a.plus(b),
+        Minus => a.minus(b),
+        Times => a.times(b),
+        Over => a.over(b),
+    }
 }
 
-fn product(a: Option<Frac>, b: Option<Frac>) -> Option<Frac> {
-    a?.times(&b?)
+fn text_of(alloc: Global, fraction: Option<Frac>) -> Result<String, AllocError> {
+    match fraction {
+        Some(fraction) => format!(in alloc; "{fraction}"),
+        None => String::from_str(alloc, "none"),
+    }
 }
 
-fn quotient(a: Option<Frac>, b: Option<Frac>) -> Option<Frac> {
-    a?.over(&b?)
+/// The fraction of a fraction's own numerator and denominator.
+fn again(fraction: Option<Frac>) -> Option<Frac> {
+    let fraction = fraction?;
+    Frac::new(fraction.num(), fraction.den())
+}
+
+fn assert_fraction(rt: &(impl Abort + AllocGlobal), found: Option<Frac>, wanted: &str) {
+    let text = text_of(rt.alloc(), found).expect(rt, "memory for a text");
+    assert_same(rt, "a fraction", &text.as_str(), &wanted);
+    assert_same(rt, wanted, &again(found), &found);
+}
+
+fn fraction((num, den): (i128, u64)) -> Result<Frac, Fail> {
+    Ok(Frac::new(num, den).ok_or("a fraction")?)
 }
 
 #[test]
-fn values(rt: HostRuntime) -> Result<(), Fail> {
-    let most = 1 << 76;
-    let finest = 1 << 48;
-    let one_over = |den| Frac::new(1, den);
-    let table = [
-        (Frac::new(4, 6), "2/3"),
-        (Frac::new(1, 0), "none"),
-        (Frac::new(most, 1), "75557863725914323419136"),
-        (Frac::new(most + 1, 1), "none"),
-        (Frac::new(-most, 1), "-75557863725914323419136"),
-        (Frac::new(-most - 1, 1), "none"),
-        (Frac::new(1, finest), "1/281474976710656"),
-        (Frac::new(1, finest + 1), "none"),
-        (Frac::new(-3, 6), "-1/2"),
-        (
-            Frac::from_parts(i128::MIN, 1 << 63),
-            "-18446744073709551616",
-        ),
-        (
-            Frac::from_parts(500000000000000000000000, 1000000000000000000000000),
-            "1/2",
-        ),
-        (Frac::from_parts(3, 0), "none"),
-        (Some(Frac::whole(-7)), "-7"),
-        (sum(one_over(2), one_over(3)), "5/6"),
-        (sum(one_over(finest), one_over(finest - 1)), "none"),
-        (difference(one_over(3), one_over(2)), "-1/6"),
-        (
-            product(Frac::new(most, 1), one_over(2)),
-            "37778931862957161709568",
-        ),
-        (
-            product(Frac::new(most, 3), Frac::new(-3, finest)),
-            "-268435456",
-        ),
-        (product(Frac::new(most, 1), Frac::new(most, 1)), "none"),
-        // the product of the numerators passes 128 bits
-        (
-            product(
-                Frac::new(most, POWER_30_OF_3),
-                Frac::new(POWER_47_OF_3, finest),
-            ),
-            "34665798542819328",
-        ),
-        (quotient(one_over(3), Frac::new(0, 1)), "none"),
-        (quotient(Frac::new(0, 1), Frac::new(5, 1)), "0"),
-        (quotient(one_over(3), Frac::new(-2, 5)), "-5/6"),
-    ];
-    for (fraction, want) in table {
-        let text = match fraction {
-            Some(fraction) => {
-                assert_eq!(rt; Frac::new(fraction.num(), fraction.den()), Some(fraction));
-                format!(in rt.alloc(); "{fraction}")?
-            }
-            None => String::from_str(rt.alloc(), "none")?,
-        };
-        assert_eq!(rt; text.as_str(), want);
+fn fractions_are_in_lowest_terms_within_the_limits(rt: HostRuntime) {
+    for (num, den, wanted) in &FRACTIONS {
+        assert_fraction(&rt, Frac::new(*num, *den), wanted);
+    }
+    assert_fraction(&rt, Some(Frac::whole(-7)), "-7");
+}
+
+#[test]
+fn wide_denominators_are_reduced_first(rt: HostRuntime) {
+    for (num, den, wanted) in &WIDE_FRACTIONS {
+        assert_fraction(&rt, Frac::from_parts(*num, *den), wanted);
+    }
+}
+
+#[test]
+fn operations_are_exact_or_tell(rt: HostRuntime) -> Result<(), Fail> {
+    for (operation, a, b, wanted) in &OPERATIONS {
+        let found = answer(*operation, &fraction(*a)?, &fraction(*b)?);
+        assert_fraction(&rt, found, wanted);
+    }
+    Ok(())
+}
+
+/// Compares a fraction with each of the rising ones, among which it has this index.
+fn compare_with_each(rt: &(impl Abort + AllocGlobal), index: usize, a: &Frac) -> Result<(), Fail> {
+    for (other, b) in RISING.iter().enumerate() {
+        let b = fraction(*b)?;
+        let found = (a.compare(&b), *a < b, *a == b);
+        let wanted = (index.cmp(&other), index < other, index == other);
+        assert_same(rt, "two fractions", &found, &wanted);
     }
     Ok(())
 }
 
 #[test]
-fn order(rt: HostRuntime) -> Result<(), Fail> {
-    let most = 1 << 76;
-    let finest = 1 << 48;
-    let rising = [
-        (-most, finest - 2),
-        (-most, finest - 1),
-        (1 - most, finest - 1),
-        (0, 5),
-        (most - 1, finest - 1),
-        (most, finest - 1),
-        (most, finest - 2),
-    ];
+fn fractions_near_the_limits_are_ordered_and_hashed(rt: HostRuntime) -> Result<(), Fail> {
     let mut seen = HashSet::new(rt.alloc());
-    for (i, &(num, den)) in rising.iter().enumerate() {
-        let a = Frac::new(num, den).ok_or("none")?;
-        assert!(rt; seen.insert(a)?);
-        for (j, &(num, den)) in rising.iter().enumerate() {
-            let b = Frac::new(num, den).ok_or("none")?;
-            assert_eq!(rt; a.compare(&b), i.cmp(&j));
-            assert_eq!(rt; a < b, i < j);
-            assert_eq!(rt; a == b, i == j);
-        }
+    for (index, a) in RISING.iter().enumerate() {
+        let a = fraction(*a)?;
+        compare_with_each(&rt, index, &a)?;
+        assert_same(&rt, "a new fraction", &seen.insert(a)?, &true);
     }
-    assert_eq!(rt; seen.len(), 7);
+    assert_same(&rt, "the fractions seen", &seen.len(), &7);
     Ok(())
 }

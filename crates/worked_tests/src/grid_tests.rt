@@ -1,90 +1,103 @@
-//! The grid and the parts of the four-stream example, worked by hand.
+//! The grid and the parts of cases that were worked by hand.
+ghost use Rattle.stream_case.specs.Case.{IsComplete};
+
+use crate::compare::assert_lists;
+use crate::tables::{FOUR_STREAMS, MOST_HEAT, RESTRICTED, completed_case};
 use grid::{Part, grid_of, parts_of};
+use std::alloc::{AllocError, Global};
 use std::process::Abort;
 use std::test::Fail;
-use stream_case::Side::{Cold, Hot};
-use stream_case::{Case, Items, Name, Side, Source, Stream, complete, is_complete, is_valid};
+use stream_case::Case;
+use stream_case::Side::{self, Cold, Hot};
+use stream_case::Source::{self, Stream, Utility};
 
-// A stream with a contribution of 5 °C.
-fn stream(rt: &impl Abort, name: &[u8], side: Side, supply: i32, target: i32, cp: i64) -> Stream {
-    Stream {
-        name: Name::new(name).expect(rt, "a name"),
-        side,
-        supply,
-        target,
-        cp,
-        contribution: 50,
+/// The source, its side, the upper and the lower end, the least and the most heat, and the price.
+type PartRow = (Source, Side, i32, i32, i64, i64, i64);
+
+const FOUR_STREAMS_HOT: [PartRow; 9] = [
+    (Utility(0), Hot, 1650, 1650, 0, MOST_HEAT, 1),
+    (Stream(1), Hot, 1650, 1450, 60_000, 60_000, 0),
+    (Stream(1), Hot, 1450, 1400, 15_000, 15_000, 0),
+    (Stream(3), Hot, 1450, 1400, 7_500, 7_500, 0),
+    (Stream(1), Hot, 1400, 850, 165_000, 165_000, 0),
+    (Stream(3), Hot, 1400, 850, 82_500, 82_500, 0),
+    (Stream(1), Hot, 850, 550, 90_000, 90_000, 0),
+    (Stream(3), Hot, 850, 550, 45_000, 45_000, 0),
+    (Stream(3), Hot, 550, 250, 45_000, 45_000, 0),
+];
+
+const FOUR_STREAMS_COLD: [PartRow; 6] = [
+    (Stream(2), Cold, 1450, 1400, 20_000, 20_000, 0),
+    (Stream(0), Cold, 1400, 850, 110_000, 110_000, 0),
+    (Stream(2), Cold, 1400, 850, 220_000, 220_000, 0),
+    (Stream(0), Cold, 850, 550, 60_000, 60_000, 0),
+    (Stream(0), Cold, 550, 250, 60_000, 60_000, 0),
+    (Utility(1), Cold, 250, 250, 0, MOST_HEAT, 0),
+];
+
+const RESTRICTED_HOT: [PartRow; 6] = [
+    (Utility(0), Hot, 1650, 1650, 0, 4000, 5),
+    (Utility(1), Hot, 950, 950, 0, 3000, 3),
+    (Stream(0), Hot, 950, 750, 2000, 2000, 0),
+    (Utility(2), Hot, 750, 750, 500, 2000, 2),
+    (Stream(0), Hot, 750, 650, 1000, 1000, 0),
+    (Stream(0), Hot, 650, 450, 2000, 2000, 0),
+];
+
+const RESTRICTED_COLD: [PartRow; 6] = [
+    (Stream(1), Cold, 750, 650, 1000, 1000, 0),
+    (Utility(3), Cold, 650, 650, 0, 2000, -1),
+    (Stream(1), Cold, 650, 450, 2000, 2000, 0),
+    (Stream(1), Cold, 450, 350, 1000, 1000, 0),
+    (Utility(4), Cold, 350, 350, 0, 1000, 0),
+    (Utility(5), Cold, 150, 150, 0, 9000, 4),
+];
+
+fn rows_of(alloc: Global, parts: &[Part]) -> Result<Vec<PartRow>, AllocError> {
+    let mut rows = Vec::new(alloc);
+    for part in parts {
+        rows.push((
+            part.source,
+            part.side,
+            part.high,
+            part.low,
+            part.least,
+            part.most,
+            part.price,
+        ))?;
     }
+    Ok(rows)
 }
 
-// The part of a stream.
-fn stream_part(number: u32, side: Side, high: i32, low: i32, heat: i64) -> Part {
-    Part {
-        source: Source::Stream(number),
-        side,
-        high,
-        low,
-        least: heat,
-        most: heat,
-        price: 0,
-    }
-}
-
-// The part of a standard utility.
-fn utility_part(number: u32, side: Side, level: i32, price: i64) -> Part {
-    Part {
-        source: Source::Utility(number),
-        side,
-        high: level,
-        low: level,
-        least: 0,
-        most: 1_000_000_000_000,
-        price,
-    }
+fn compare_with(
+    rt: &(impl Abort + AllocGlobal),
+    case: &Case,
+    places: &[i32],
+    hot: &[PartRow],
+    cold: &[PartRow],
+) -> Result<(), Fail>
+    requires { IsComplete case.now }
+{
+    let grid = grid_of(rt.alloc(), case)?;
+    assert_lists(rt, "the places", grid.places.as_slice(), places);
+    let parts = parts_of(rt.alloc(), case, &grid)?;
+    let rows = rows_of(rt.alloc(), parts.hot.as_slice())?;
+    assert_lists(rt, "the hot parts", &rows, hot);
+    let rows = rows_of(rt.alloc(), parts.cold.as_slice())?;
+    assert_lists(rt, "the cold parts", &rows, cold);
+    Ok(())
 }
 
 #[test]
 fn four_streams_have_their_grid_and_parts(rt: HostRuntime) -> Result<(), Fail> {
-    let mut streams = Items::new(rt.alloc());
-    streams.push(stream(&rt, b"C1", Cold, 200, 1350, 200))?;
-    streams.push(stream(&rt, b"H2", Hot, 1700, 600, 300))?;
-    streams.push(stream(&rt, b"C3", Cold, 800, 1400, 400))?;
-    streams.push(stream(&rt, b"H4", Hot, 1500, 300, 150))?;
-    let given = Case {
-        contribution: 50,
-        streams,
-        utilities: Items::new(rt.alloc()),
-        forbids: Items::new(rt.alloc()),
-    };
-    assert!(rt; is_valid(&given));
-    let case = complete(rt.alloc(), &given)?;
-    assert!(rt; is_complete(&case));
-    let grid = grid_of(rt.alloc(), &case)?;
-    assert_eq!(rt;
-        grid.places.as_slice(),
-        [1650, 1450, 1400, 850, 550, 250].as_slice()
-    );
-    let parts = parts_of(rt.alloc(), &case, &grid)?;
-    let hot = [
-        utility_part(0, Hot, 1650, 1),
-        stream_part(1, Hot, 1650, 1450, 60_000),
-        stream_part(1, Hot, 1450, 1400, 15_000),
-        stream_part(3, Hot, 1450, 1400, 7_500),
-        stream_part(1, Hot, 1400, 850, 165_000),
-        stream_part(3, Hot, 1400, 850, 82_500),
-        stream_part(1, Hot, 850, 550, 90_000),
-        stream_part(3, Hot, 850, 550, 45_000),
-        stream_part(3, Hot, 550, 250, 45_000),
-    ];
-    assert_eq!(rt; parts.hot.as_slice(), hot.as_slice());
-    let cold = [
-        stream_part(2, Cold, 1450, 1400, 20_000),
-        stream_part(0, Cold, 1400, 850, 110_000),
-        stream_part(2, Cold, 1400, 850, 220_000),
-        stream_part(0, Cold, 850, 550, 60_000),
-        stream_part(0, Cold, 550, 250, 60_000),
-        utility_part(1, Cold, 250, 0),
-    ];
-    assert_eq!(rt; parts.cold.as_slice(), cold.as_slice());
-    Ok(())
+    let case = completed_case(rt.alloc(), &FOUR_STREAMS)?;
+    let places = [1650, 1450, 1400, 850, 550, 250];
+    compare_with(&rt, &case, &places, &FOUR_STREAMS_HOT, &FOUR_STREAMS_COLD)
+}
+
+#[test]
+fn utilities_stand_before_the_streams_below_them(rt: HostRuntime) -> Result<(), Fail> {
+    let case = completed_case(rt.alloc(), &RESTRICTED)?;
+    let places = [1650, 950, 750, 650, 450, 350, 150];
+    compare_with(&rt, &case, &places, &RESTRICTED_HOT, &RESTRICTED_COLD)
 }

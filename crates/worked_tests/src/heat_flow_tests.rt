@@ -1,72 +1,98 @@
-//! The pairs of the four-stream example that reach.
-use heat_flow::{Flow, Prices, is_flow, is_supported, reach_of, reaches};
-use grid::{grid_of, parts_of};
-use std::process::Abort;
+//! Which parts reach, in cases that were worked by hand.
+ghost use Rattle.stream_case.specs.Case.{IsComplete};
+
+use crate::compare::{assert_lists, assert_same};
+use crate::flows::{four_streams, parts_of_case, reach_of_case};
+use crate::tables::{FOUR_STREAMS, RESTRICTED, Table, completed_case};
+use heat_flow::{Flow, Prices, is_flow, is_supported, reaches};
+use std::alloc::{AllocError, Global};
 use std::test::Fail;
-use stream_case::Side::{Cold, Hot};
-use stream_case::{Case, Items, Name, Side, Stream, complete, is_complete, is_valid};
+use stream_case::{Case, Items};
 
-const T: bool = true;
+/// Row by row over the hot parts: all reach what lies in their interval or below it, unless the
+/// match is forbidden.
+const CELLS: [(Table, &[u8]); 2] = [
+    (
+        FOUR_STREAMS,
+        b"\
+        TTTTTT\
+        TTTTTT\
+        TTTTTT\
+        TTTTTT\
+        FTTTTT\
+        FTTTTT\
+        FFFTTT\
+        FFFTTT\
+        FFFFTT",
+    ),
+    (
+        RESTRICTED,
+        b"\
+        TFTTTT\
+        FTFFTT\
+        TTTTFT\
+        TTTTTT\
+        TTTTFT\
+        FFTTFT",
+    ),
+];
 
-const F: bool = false;
-
-// A stream with a contribution of 5 °C.
-fn stream(rt: &impl Abort, name: &[u8], side: Side, supply: i32, target: i32, cp: i64) -> Stream {
-    Stream {
-        name: Name::new(name).expect(rt, "a name"),
-        side,
-        supply,
-        target,
-        cp,
-        contribution: 50,
+/// The cells of the table of a case, as letters.
+fn cells_of(alloc: Global, case: &Case) -> Result<Vec<u8>, AllocError>
+    requires { IsComplete case.now }
+{
+    let parts = parts_of_case(alloc, case)?;
+    let reach = reach_of_case(alloc, case, &parts)?;
+    let mut cells = Vec::new(alloc);
+    for reaches in reach.cells.as_slice() {
+        cells.push(if *reaches { b'T' } else { b'F' })?;
     }
+    Ok(cells)
 }
 
 #[test]
 fn heat_passes_downward_and_within_an_interval(rt: HostRuntime) -> Result<(), Fail> {
-    let mut streams = Items::new(rt.alloc());
-    streams.push(stream(&rt, b"C1", Cold, 200, 1350, 200))?;
-    streams.push(stream(&rt, b"H2", Hot, 1700, 600, 300))?;
-    streams.push(stream(&rt, b"C3", Cold, 800, 1400, 400))?;
-    streams.push(stream(&rt, b"H4", Hot, 1500, 300, 150))?;
-    let given = Case {
-        contribution: 50,
-        streams,
-        utilities: Items::new(rt.alloc()),
-        forbids: Items::new(rt.alloc()),
-    };
-    assert!(rt; is_valid(&given));
-    let case = complete(rt.alloc(), &given)?;
-    assert!(rt; is_complete(&case));
-    let grid = grid_of(rt.alloc(), &case)?;
-    let parts = parts_of(rt.alloc(), &case, &grid)?;
-    let reach = reach_of(rt.alloc(), &case, &parts)?;
-    assert_eq!(rt; reach.hots, 9);
-    assert_eq!(rt; reach.colds, 6);
+    for (table, wanted) in &CELLS {
+        let case = completed_case(rt.alloc(), table)?;
+        let cells = cells_of(rt.alloc(), &case)?;
+        assert_lists(&rt, "the cells", &cells, wanted);
+    }
+    Ok(())
+}
+
+#[test]
+fn a_table_tells_of_each_pair(rt: HostRuntime) -> Result<(), Fail> {
+    let four = four_streams(rt.alloc())?;
+    let reach = &four.reach;
     assert!(rt; reach.hots == 9 && reach.colds == 6);
-    // Row by row over the hot parts: all reach what lies in their interval or below it.
-    let cells = [
-        T, T, T, T, T, T, T, T, T, T, T, T, T, T, T, T, T, T, T, T, T, T, T, T, F, T, T, T, T, T,
-        F, T, T, T, T, T, F, F, F, T, T, T, F, F, F, T, T, T, F, F, F, F, T, T,
+    let pairs = [
+        // HOT and each cold part
+        reaches(reach, 0, 0),
+        reaches(reach, 0, 5),
+        // H2 between 145.0 and 140.0 °C, with C3 there and C1 below
+        reaches(reach, 2, 0),
+        reaches(reach, 2, 1),
+        // H2 between 140.0 and 85.0 °C, with C3 above
+        reaches(reach, 4, 0),
     ];
-    assert_eq!(rt; reach.cells.as_slice(), cells.as_slice());
-    // HOT reaches every cold part.
-    assert!(rt; reaches(&reach, 0, 0));
-    assert!(rt; reaches(&reach, 0, 5));
-    // H2 between 145.0 and 140.0 °C reaches C3 there, and C1 below.
-    assert!(rt; reaches(&reach, 2, 0));
-    assert!(rt; reaches(&reach, 2, 1));
-    // H2 between 140.0 and 85.0 °C does not reach C3 above.
-    assert!(rt; !reaches(&reach, 4, 0));
-    // No heat at all is no heat flow, and a price for no part supports none.
-    let empty = Flow {
+    assert_same(&rt, "pairs", &pairs, &[true, true, true, true, false]);
+    Ok(())
+}
+
+#[test]
+fn no_heat_and_no_prices_are_refused(rt: HostRuntime) -> Result<(), Fail> {
+    let four = four_streams(rt.alloc())?;
+    let flow = Flow {
         transfers: Items::new(rt.alloc()),
     };
-    assert!(rt; !is_flow(&parts, &reach, &empty));
-    let no_prices = Prices {
+    let prices = Prices {
         hot: Items::new(rt.alloc()),
         cold: Items::new(rt.alloc()),
     };
-    assert!(rt; !is_supported(&reach, &no_prices));
+    let found = (
+        is_flow(&four.parts, &four.reach, &flow),
+        is_supported(&four.reach, &prices),
+    );
+    assert_same(&rt, "none", &found, &(false, false));
     Ok(())
 }

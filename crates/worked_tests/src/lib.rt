@@ -5,17 +5,25 @@
 #[cfg(test)]
 mod case_text_tests;
 #[cfg(test)]
+mod compare;
+#[cfg(test)]
 mod corner_flow_tests;
 #[cfg(test)]
 mod csv_rows_tests;
 #[cfg(test)]
 mod curves_tests;
 #[cfg(test)]
+mod flows;
+#[cfg(test)]
 mod fractions_tests;
 #[cfg(test)]
 mod grid_tests;
 #[cfg(test)]
 mod heat_flow_tests;
+#[cfg(test)]
+mod largest_case_tests;
+#[cfg(test)]
+mod network_printer_tests;
 #[cfg(test)]
 mod network_text_tests;
 #[cfg(test)]
@@ -27,6 +35,6 @@ mod reports_tests;
 #[cfg(test)]
 mod stream_case_tests;
 #[cfg(test)]
-mod sums_order_tests;
+mod sums_tests;
 #[cfg(test)]
-mod sums_pairs_tests;
+mod tables;

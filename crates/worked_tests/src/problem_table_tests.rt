@@ -1,92 +1,76 @@
 //! The problem tables of cases that were worked by hand.
-use problem_table::{deficit_above, pinches, reference_place, stream_ends, targets};
-use std::alloc::Global;
-use std::process::Abort;
+use crate::compare::{assert_lists, assert_same};
+use crate::tables::{FOUR_STREAMS, Table, case_of};
+use problem_table::{Target, deficit_above, pinches, reference_place, targets};
 use std::test::Fail;
 use stream_case::Side::{Cold, Hot};
-use stream_case::{Case, Items, Name, Side, Stream, is_valid};
 
-// A stream with this contribution.
-fn stream(
-    rt: &impl Abort,
-    name: &[u8],
-    side: Side,
-    ends: (i32, i32),
-    cp: i64,
-    contribution: i32,
-) -> Stream {
-    let name = Name::new(name).expect(rt, "a name");
-    let (supply, target) = ends;
-    Stream {
-        name,
-        side,
-        supply,
-        target,
-        cp,
-        contribution,
-    }
+struct Worked {
+    table: Table,
+    targets: Target,
+    pinches: &'static [i32],
+    reference_place: i32,
 }
 
-// A case of these streams, without utilities.
-fn case_of(alloc: Global, contribution: i32, streams: Items<Stream>) -> Case {
-    Case {
-        contribution,
-        streams,
-        utilities: Items::new(alloc),
-        forbids: Items::new(alloc),
-    }
-}
+/// One pinch, two pinches, and none.
+const CASES: [Worked; 3] = [
+    Worked {
+        table: FOUR_STREAMS,
+        targets: Target {
+            hot: 20_000,
+            cold: 60_000,
+        },
+        pinches: &[850],
+        reference_place: 850,
+    },
+    Worked {
+        table: Table {
+            contribution: 0,
+            streams: &[
+                ("A", Cold, 200, 300, 1),
+                ("B", Hot, 200, 100, 1),
+                ("D", Cold, 100, 200, 1),
+                ("E", Hot, 100, 0, 1),
+            ],
+            utilities: &[],
+            forbids: &[],
+        },
+        targets: Target {
+            hot: 100,
+            cold: 100,
+        },
+        pinches: &[200, 100],
+        reference_place: 200,
+    },
+    Worked {
+        table: Table {
+            contribution: 50,
+            streams: &[("H", Hot, 1000, 500, 10)],
+            utilities: &[],
+            forbids: &[],
+        },
+        targets: Target { hot: 0, cold: 5000 },
+        pinches: &[],
+        reference_place: 950,
+    },
+];
 
 #[test]
-fn four_streams_have_one_pinch(rt: HostRuntime) -> Result<(), Fail> {
-    let mut streams = Items::new(rt.alloc());
-    streams.push(stream(&rt, b"C1", Cold, (200, 1350), 200, 50))?;
-    streams.push(stream(&rt, b"H2", Hot, (1700, 600), 300, 50))?;
-    streams.push(stream(&rt, b"C3", Cold, (800, 1400), 400, 50))?;
-    streams.push(stream(&rt, b"H4", Hot, (1500, 300), 150, 50))?;
-    let case = case_of(rt.alloc(), 50, streams);
-    assert!(rt; is_valid(&case));
-    assert_eq!(rt; deficit_above(&case, 850), 20000);
-    assert_eq!(rt; targets(&case).hot, 20000);
-    assert_eq!(rt; targets(&case).cold, 60000);
-    assert_eq!(rt; reference_place(&case), 850);
-    assert_eq!(rt; pinches(rt.alloc(), &case)?.as_slice(), [850].as_slice());
-    let ends = stream_ends(rt.alloc(), &case)?;
-    assert_eq!(rt;
-        ends.as_slice(),
-        [1400, 250, 1650, 550, 1450, 850, 1450, 250].as_slice()
-    );
+fn cases_have_these_targets_and_pinches(rt: HostRuntime) -> Result<(), Fail> {
+    for worked in &CASES {
+        let case = case_of(rt.alloc(), &worked.table)?;
+        assert_same(&rt, "targets", &targets(&case), &worked.targets);
+        let place = reference_place(&case);
+        assert_same(&rt, "reference place", &place, &worked.reference_place);
+        let pinches = pinches(rt.alloc(), &case)?;
+        assert_lists(&rt, "pinches", pinches.as_slice(), worked.pinches);
+    }
     Ok(())
 }
 
 #[test]
-fn two_pinches_fall(rt: HostRuntime) -> Result<(), Fail> {
-    let mut streams = Items::new(rt.alloc());
-    streams.push(stream(&rt, b"A", Cold, (200, 300), 1, 0))?;
-    streams.push(stream(&rt, b"B", Hot, (200, 100), 1, 0))?;
-    streams.push(stream(&rt, b"D", Cold, (100, 200), 1, 0))?;
-    streams.push(stream(&rt, b"E", Hot, (100, 0), 1, 0))?;
-    let case = case_of(rt.alloc(), 0, streams);
-    assert!(rt; is_valid(&case));
-    assert_eq!(rt; targets(&case).hot, 100);
-    assert_eq!(rt; targets(&case).cold, 100);
-    assert_eq!(rt;
-        pinches(rt.alloc(), &case)?.as_slice(),
-        [200, 100].as_slice()
-    );
-    assert_eq!(rt; reference_place(&case), 200);
-    Ok(())
-}
-
-#[test]
-fn one_hot_stream_has_no_pinch(rt: HostRuntime) -> Result<(), Fail> {
-    let mut streams = Items::new(rt.alloc());
-    streams.push(stream(&rt, b"H", Hot, (1000, 500), 10, 50))?;
-    let case = case_of(rt.alloc(), 50, streams);
-    assert!(rt; is_valid(&case));
-    assert_eq!(rt; targets(&case).hot, 0);
-    assert_eq!(rt; targets(&case).cold, 5000);
-    assert_eq!(rt; pinches(rt.alloc(), &case)?.len(), 0);
-    assert_eq!(rt; reference_place(&case), 950);
+fn four_streams_have_this_deficit(rt: HostRuntime) -> Result<(), Fail> {
+    let case = case_of(rt.alloc(), &FOUR_STREAMS)?;
+    assert_same(&rt, "deficit", &deficit_above(&case, 850), &20_000);
     Ok(())
 }

@@ -1,57 +1,43 @@
-use reports::*;
+use crate::compare::assert_same;
+use case_text::CaseWhy;
+use problem_table::Target;
+use reports::{FileRole, Shown, text_of};
+use std::process::Abort;
 use std::test::Fail;
 use stream_case::Items;
 
+/// What is shown of the targets and these pinches.
+fn targets_with(pinches: Vec<i32>) -> Shown {
+    Shown::Targets {
+        targets: Target {
+            hot: 20_000,
+            cold: 60_000,
+        },
+        pinches: Items::from_vec(pinches),
+    }
+}
+
+fn assert_printed(rt: &(impl Abort + AllocGlobal), shown: Shown, wanted: &str) {
+    let text = text_of(rt.alloc(), &shown).expect(rt, "memory for a text");
+    assert_same(rt, "a text", &str::from_utf8(&text), &Ok(wanted));
+}
+
 #[test]
 fn each_answer_has_its_text(rt: HostRuntime) -> Result<(), Fail> {
-    let alloc = rt.alloc();
-    let targets = Target {
-        hot: 20000,
-        cold: 60000,
-    };
-    let rows = [
-        (
-            Shown::Targets {
-                targets,
-                pinches: Items::from_vec(Vec::from_slice(alloc, &[850, -50])?),
-            },
-            "hot 20000\ncold 60000\npinch 850\npinch -50\n",
-        ),
-        (
-            Shown::Targets {
-                targets,
-                pinches: Items::new(alloc),
-            },
-            "hot 20000\ncold 60000\npinch none\n",
-        ),
-        (
-            Shown::BadCase {
-                row: 14,
-                why: CaseWhy::TooMany,
-            },
-            "case row 14 TooMany\n",
-        ),
-        (
-            Shown::BadWords,
-            "words: targets flow curves design vertical audit \
-             site sweep sample certify prices\n",
-        ),
-        (Shown::NotStandard, "case not standard\n"),
-        (
-            Shown::TooLong {
-                file: FileRole::Case,
-            },
-            "too long case\n",
-        ),
-        (
-            Shown::ReadFault {
-                file: FileRole::Case,
-            },
-            "read fault case\n",
-        ),
-    ];
-    for (shown, text) in rows {
-        assert_eq!(rt; text_of(alloc, &shown)?.as_slice(), text.as_bytes());
-    }
+    let pinches = [850, -50].to_vec(rt.alloc())?;
+    let text = "hot 20000\ncold 60000\npinch 850\npinch -50\n";
+    assert_printed(&rt, targets_with(pinches), text);
+    let text = "hot 20000\ncold 60000\npinch none\n";
+    assert_printed(&rt, targets_with(Vec::new(rt.alloc())), text);
+    let row = 14;
+    let why = CaseWhy::TooMany;
+    assert_printed(&rt, Shown::BadCase { row, why }, "case row 14 TooMany\n");
+    let words = "words: targets flow curves design vertical audit \
+                 site sweep sample certify prices\n";
+    assert_printed(&rt, Shown::BadWords, words);
+    assert_printed(&rt, Shown::NotStandard, "case not standard\n");
+    let file = FileRole::Case;
+    assert_printed(&rt, Shown::TooLong { file }, "too long case\n");
+    assert_printed(&rt, Shown::ReadFault { file }, "read fault case\n");
     Ok(())
 }

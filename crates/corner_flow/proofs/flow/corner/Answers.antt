@@ -3,7 +3,7 @@ use Rattle.stream_case.specs.declared.source.Side.TheVariants.{Hot, Cold}
 use Rattle.sums.specs.Spans.{NotNegative}
 use Rattle.corner_flow.specs.Corner.{heats_of, as_pair, as_transfer, IsCornerFlow, UtilityHeat, NeedsHeat}
 use Rattle.corner_flow.proofs.SideLemmas.{AreStandardParts, AreStandardParts-parts}
-use Rattle.corner_flow.proofs.BalanceLemmas.{needs_heat}
+use Rattle.corner_flow.proofs.HeatLemmas.{needs_heat}
 use Rattle.corner_flow.proofs.FlowLemmas.{heats-not_negative, corner-heat, corner-is_flow, corner-cost, as_pair-as_transfer}
 use Rattle.corner_flow.proofs.PinchLaw.{no_heat_crosses_pinch}
 use Rattle.corner_flow.proofs.flow.corner.Goals as goal
@@ -11,19 +11,15 @@ use Rattle.corner_flow.proofs.flow.corner.Goals as goal
 pub overlaps_of-requires-clause-hot : goal.overlaps_of-requires-clause-hot
 overlaps_of-requires-clause-hot c =
     let hot = c.args.parts.now.hot in
-    let cold = c.args.parts.now.cold in
-    let s = AreStandardParts-parts c.args.case.now hot cold c.requires.complete c.requires.standard c.requires.parts in
-    subst (λ t. NotNegative (heats_of t hot)) (sym c.requires.hot_target) (heats-not_negative c.args.case.now hot cold s Hot)
+    subst (λ t. NotNegative (heats_of t hot)) (sym c.requires.hot_target) (heats-not_negative (AreStandardParts-parts c.requires.complete c.requires.standard c.requires.parts) Hot)
 
 pub overlaps_of-requires-clause-cold : goal.overlaps_of-requires-clause-cold
 overlaps_of-requires-clause-cold c =
-    let hot = c.args.parts.now.hot in
     let cold = c.args.parts.now.cold in
-    let s = AreStandardParts-parts c.args.case.now hot cold c.requires.complete c.requires.standard c.requires.parts in
-    subst (λ t. NotNegative (heats_of t cold)) (sym c.requires.cold_target) (heats-not_negative c.args.case.now hot cold s Cold)
+    subst (λ t. NotNegative (heats_of t cold)) (sym c.requires.cold_target) (heats-not_negative (AreStandardParts-parts c.requires.complete c.requires.standard c.requires.parts) Cold)
 
 standard : (c : goal.After-drop-pairs-2) → AreStandardParts c.args.case.now c.args.parts.now.hot c.args.parts.now.cold
-standard c = AreStandardParts-parts c.args.case.now c.args.parts.now.hot c.args.parts.now.cold c.requires.complete c.requires.standard c.requires.parts
+standard c = AreStandardParts-parts c.requires.complete c.requires.standard c.requires.parts
 
 spans : (c : goal.After-drop-pairs-2) → IsCornerFlow c.args.case.now c.args.parts.now.hot c.args.parts.now.cold c.from_vec.result
 spans c =
@@ -34,26 +30,22 @@ pub returns-clause-spans : goal.returns-clause-spans
 returns-clause-spans c = spans c
 
 pub returns-clause-flow : goal.returns-clause-flow
-returns-clause-flow c = corner-is_flow c.args.case.now c.args.parts.now.hot c.args.parts.now.cold (standard c) c.from_vec.result (spans c)
+returns-clause-flow c = corner-is_flow (standard c) c.from_vec.result (spans c)
 
 pub returns-clause-hot_heat : goal.returns-clause-hot_heat
-returns-clause-hot_heat c =
-    subst (UtilityHeat Hot c.args.parts.now.hot c.from_vec.result) (sym c.requires.hot_target) (corner-heat c.args.case.now c.args.parts.now.hot c.args.parts.now.cold (standard c) c.from_vec.result (spans c) Hot)
+returns-clause-hot_heat c = subst (UtilityHeat Hot c.args.parts.now.hot c.from_vec.result) (sym c.requires.hot_target) (corner-heat (standard c) c.from_vec.result (spans c) Hot)
 
 pub returns-clause-cold_heat : goal.returns-clause-cold_heat
-returns-clause-cold_heat c =
-    subst (UtilityHeat Cold c.args.parts.now.cold c.from_vec.result) (sym c.requires.cold_target) (corner-heat c.args.case.now c.args.parts.now.hot c.args.parts.now.cold (standard c) c.from_vec.result (spans c) Cold)
+returns-clause-cold_heat c = subst (UtilityHeat Cold c.args.parts.now.cold c.from_vec.result) (sym c.requires.cold_target) (corner-heat (standard c) c.from_vec.result (spans c) Cold)
 
 pub returns-clause-cost : goal.returns-clause-cost
-returns-clause-cost c = corner-cost c.args.case.now c.args.parts.now.hot c.args.parts.now.cold (standard c) c.from_vec.result (spans c) ∙ sym c.requires.hot_target
+returns-clause-cost c = corner-cost (standard c) c.from_vec.result (spans c) ∙ sym c.requires.hot_target
 
 pub returns-clause-least_hot : goal.returns-clause-least_hot
-returns-clause-least_hot c =
-    subst (NeedsHeat c.args.case.now c.args.parts.now.hot c.args.parts.now.cold Hot) (sym c.requires.hot_target) (needs_heat c.args.case.now c.args.parts.now.hot c.args.parts.now.cold (standard c) Hot)
+returns-clause-least_hot c = subst (NeedsHeat c.args.case.now c.args.parts.now.hot c.args.parts.now.cold Hot) (sym c.requires.hot_target) (needs_heat (standard c) Hot)
 
 pub returns-clause-least_cold : goal.returns-clause-least_cold
-returns-clause-least_cold c =
-    subst (NeedsHeat c.args.case.now c.args.parts.now.hot c.args.parts.now.cold Cold) (sym c.requires.cold_target) (needs_heat c.args.case.now c.args.parts.now.hot c.args.parts.now.cold (standard c) Cold)
+returns-clause-least_cold c = subst (NeedsHeat c.args.case.now c.args.parts.now.hot c.args.parts.now.cold Cold) (sym c.requires.cold_target) (needs_heat (standard c) Cold)
 
 pub returns-clause-pinch : goal.returns-clause-pinch
-returns-clause-pinch c = no_heat_crosses_pinch c.args.case.now c.args.parts.now.hot c.args.parts.now.cold (standard c)
+returns-clause-pinch c = no_heat_crosses_pinch (standard c)

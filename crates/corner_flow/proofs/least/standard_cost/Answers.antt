@@ -8,13 +8,13 @@ use Rattle.heat_flow.specs.Flow.{IsLeastCost}
 use Rattle.heat_flow.specs.Reach.{reach_between}
 use Rattle.corner_flow.specs.Corner.{NeedsHeat}
 use Rattle.corner_flow.proofs.SideLemmas.{AreStandardParts, AreStandardParts-parts}
-use Rattle.corner_flow.proofs.BalanceLemmas.{needs_heat}
+use Rattle.corner_flow.proofs.HeatLemmas.{needs_heat}
 use Rattle.corner_flow.proofs.FlowLemmas.{least_cost}
 use Rattle.corner_flow.proofs.PartsExist.{some_parts}
 use Rattle.corner_flow.proofs.least.standard_cost.Goals as goal
 
 standard : (c : goal.After-from) (hot cold : List Part) → AreCaseParts c.args.case.now hot cold → AreStandardParts c.args.case.now hot cold
-standard c hot cold = AreStandardParts-parts c.args.case.now hot cold c.requires.complete c.requires.standard
+standard c hot cold = AreStandardParts-parts c.requires.complete c.requires.standard
 
 target_is : (c : goal.After-from) → to_z w128 (of_z w128 c.from.result) ≡ c.args.targets.hot
 target_is c = let fits : FitsSigned w64 c.args.targets.hot = search rules in omega (arith, ints)
@@ -22,14 +22,14 @@ target_is c = let fits : FitsSigned w64 c.args.targets.hot = search rules in ome
 pub returns-clause-least : goal.returns-clause-least
 returns-clause-least c = record {
   some = some_parts c.args.case.now;
-  each = λ hot cold parts. subst (IsLeastCost (reach_between c.args.case.now hot cold) hot cold) (sym c.requires.hot_target ∙ sym (target_is c)) (least_cost c.args.case.now hot cold (standard c hot cold parts));
+  each = λ hot cold parts. subst (IsLeastCost (reach_between c.args.case.now hot cold) hot cold) (sym c.requires.hot_target ∙ sym (target_is c)) (least_cost (standard c hot cold parts));
 }
 
 pub returns-clause-hot_heat : goal.returns-clause-hot_heat
 returns-clause-hot_heat c = record {
   some = some_parts c.args.case.now;
-  each = λ hot cold parts. subst (NeedsHeat c.args.case.now hot cold Hot) (sym c.requires.hot_target) (needs_heat c.args.case.now hot cold (standard c hot cold parts) Hot);
+  each = λ hot cold parts. subst (NeedsHeat c.args.case.now hot cold Hot) (sym c.requires.hot_target) (needs_heat (standard c hot cold parts) Hot);
 }
 
 pub returns-clause-cold_heat : goal.returns-clause-cold_heat
-returns-clause-cold_heat c = record { some = some_parts c.args.case.now; each = λ hot cold parts. needs_heat c.args.case.now hot cold (standard c hot cold parts) Cold }
+returns-clause-cold_heat c = record { some = some_parts c.args.case.now; each = λ hot cold parts. needs_heat (standard c hot cold parts) Cold }

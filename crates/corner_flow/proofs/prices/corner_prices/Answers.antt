@@ -11,7 +11,7 @@ use Rattle.corner_flow.proofs.PriceLemmas.{prices_within, corner-supports, corne
 use Rattle.corner_flow.proofs.prices.corner_prices.Goals as goal
 
 standard : (c : goal.After-from_vec-2) → AreStandardParts c.args.case.now c.args.parts.now.hot c.args.parts.now.cold
-standard c = AreStandardParts-parts c.args.case.now c.args.parts.now.hot c.args.parts.now.cold c.requires.complete c.requires.standard c.requires.parts
+standard c = AreStandardParts-parts c.requires.complete c.requires.standard c.requires.parts
 
 hot_prices : (c : goal.After-from_vec-2) → c.from_vec.result ≡ map (corner_price (hot_target c.args.case.now.streams) c.args.place) c.args.parts.now.hot
 hot_prices c =
@@ -32,9 +32,9 @@ returns-clause-cold_range c = subst (All IsPartPrice) (sym (cold_prices c)) (pri
 pub returns-clause-supporting : goal.returns-clause-supporting
 returns-clause-supporting c =
     subst₂ (IsSupporting (reach_between c.args.case.now c.args.parts.now.hot c.args.parts.now.cold)) (sym (hot_prices c)) (sym (cold_prices c))
-    (corner-supports c.args.case.now c.args.parts.now.hot c.args.parts.now.cold (standard c) c.args.place)
+    (corner-supports (standard c) c.args.place)
 
 pub returns-clause-value : goal.returns-clause-value
 returns-clause-value c =
     ap₂ (value_of c.args.parts.now.hot c.args.parts.now.cold) (hot_prices c) (cold_prices c)
-    ∙ corner-value c.args.case.now c.args.parts.now.hot c.args.parts.now.cold (standard c) c.args.place c.requires.place.at ∙ sym c.requires.hot_target
+    ∙ corner-value (standard c) c.args.place c.requires.place.at ∙ sym c.requires.hot_target

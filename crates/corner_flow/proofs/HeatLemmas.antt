@@ -1,0 +1,210 @@
+-- Heat goes down: what the cold parts take above a place is at most what the hot parts give above it.
+use Rattle.std.proofs.Common.{◌≡◌, ⊎_elim, ◌∙◌, refl, sym, ap, ap₂, subst₂, ℕ, Bool, true, false, not, ◌&&◌, List, map, Option, Some, None, arith}
+use Rattle.std.specs.Prelude.{ℤ, pos, ◌+ℤ◌, ◌*ℤ◌, ◌≤ℤ◌, ◌<ℤ◌, int_le, ◌==◌, if◌then◌else◌, All, Contains, slice_get}
+use Rattle.std.specs.Ordering.{int_eq}
+use Rattle.std.proofs.Math.IntN.{*ℤ-zero, *ℤ_comm}
+use Rattle.std.proofs.lemmas.Int.{ints}
+use Rattle.std.proofs.lemmas.Bool.{and_parts, or_cases, not-true}
+use Rattle.std.proofs.lemmas.Bool.Decides.{Decides-int_eq}
+use Rattle.std.proofs.lemmas.List.{get_or-map}
+use Rattle.std.proofs.lemmas.Option.{slice_get_within, get_or_from_slice_get}
+use Rattle.stream_case.specs.declared.source.Side.{Side}
+use Rattle.stream_case.specs.declared.source.Side.TheVariants.{Hot, Cold}
+use Rattle.stream_case.specs.declared.stream.Stream.{Stream}
+use Rattle.stream_case.specs.declared.case.Case.{Case}
+use Rattle.stream_case.specs.Case.{is_forbidden}
+use Rattle.stream_case.specs.Source.{is_stream}
+use Rattle.stream_case.specs.Stream.{heat_above}
+use Rattle.sums.specs.Sum.{int_sum_by, int_sum_from}
+use Rattle.sums.proofs.ConsLemmas.{int_le-from, int_le-false}
+use Rattle.sums.proofs.ProductLemmas.{product_not_negative}
+use Rattle.sums.proofs.SumLemmas.{int_sum_by-le, int_sum_by-not_negative, int_sum_from-add, int_sum_from-by, int_sum_from-grouped, int_sum_from-same_each}
+use Rattle.problem_table.specs.Sides.{sum_side}
+use Rattle.problem_table.specs.Deficit.{hot_target, cold_target}
+use Rattle.problem_table.proofs.DeficitLemmas.{some_tight}
+use Rattle.grid.specs.declared.part.Part.{Part}
+use Rattle.grid.proofs.HeatLemmas.{heat_from}
+use Rattle.heat_flow.specs.declared.flow.Transfer.{Transfer}
+use Rattle.heat_flow.specs.Cuts.{parts_of}
+use Rattle.heat_flow.specs.Flow.{part_index, heat_at, HaveParts, KeepsRanges, side_cost, cost_of}
+use Rattle.heat_flow.specs.Prices.{price_at, IsSupporting}
+use Rattle.heat_flow.specs.Reach.{passes_heat, part_reaches, both_reach, reach_between}
+use Rattle.heat_flow.proofs.CostLemmas.{heats_at-not_negative}
+use Rattle.heat_flow.proofs.Duality.{side_worth, side_worth-parts, worth-le}
+use Rattle.corner_flow.specs.Corner.{IsFlowOf, UtilityHeat, NeedsHeat}
+use Rattle.corner_flow.proofs.StandardLemmas.{end_of}
+use Rattle.corner_flow.proofs.SideLemmas.{unit_price, IsStandardPart, AreStandardParts}
+
+-- the target of a side
+abbrev pub target_of : Side → List Stream → ℤ
+target_of Hot streams = hot_target streams
+target_of Cold streams = cold_target streams
+
+-- ---- one part
+
+-- 1 for what is not below a place, and 0 for what is
+abbrev pub reached : ℤ → ℤ → ℤ
+reached place low = if int_le place low then pos 1 else pos 0
+
+abbrev pub above : ℤ → Part → ℤ
+above place p = reached place p.low
+
+pub is_reached : (place low : ℤ) → place ≤ℤ low → reached place low ≡ pos 1
+is_reached place low most = ap (λ b. if b then pos 1 else pos 0) (int_le-from place low most)
+
+pub is_missed : (place low : ℤ) → low <ℤ place → reached place low ≡ pos 0
+is_missed place low less = ap (λ b. if b then pos 1 else pos 0) (int_le-false place low less)
+
+pub zero_times : (x y : ℤ) → x ≡ pos 0 → x *ℤ y ≡ pos 0
+zero_times x y e = ap (λ z. z *ℤ y) e ∙ *ℤ_comm (pos 0) y ∙ *ℤ-zero y
+
+pub one_times : (x y : ℤ) → x ≡ pos 1 → x *ℤ y ≡ y
+one_times x y e = ap (λ z. z *ℤ y) e ∙ omega (arith, ints)
+
+chosen : (b : Bool) (x : ℤ) → (if b then x else pos 0) ≡ (if b then pos 1 else pos 0) *ℤ x
+chosen true x = omega (arith, ints)
+chosen false x = sym (zero_times (pos 0) x refl)
+
+pub from_stream : (place each : ℤ) (p : Part) → is_stream p.source ≡ true → heat_from place each p ≡ above place p *ℤ p.least
+from_stream place each p e = ap (λ b. if b then (if int_le place p.low then p.least else pos 0) else each) e ∙ chosen (int_le place p.low) p.least
+
+pub from_utility : (place each : ℤ) (p : Part) → is_stream p.source ≡ false → heat_from place each p ≡ each
+from_utility place each p e = ap (λ b. if b then (if int_le place p.low then p.least else pos 0) else each) e
+
+-- the price of the part at an index, where each part has its own
+pub price_at-map : (f : Part → ℤ) (parts : List Part) (a : ℕ) (p : Part) → slice_get parts a ≡ Some p → price_at (map f parts) a ≡ f p
+price_at-map f parts a p at = get_or-map f parts a p (pos 0) (slice_get_within parts a p at) ∙ ap f (get_or_from_slice_get parts a p p at)
+
+-- ---- parts that reach
+
+both_parts : (c : Case) (x y : Option Part) → both_reach c x y ≡ true → (p : Part) × (q : Part) × (x ≡ Some p) × (y ≡ Some q) × (part_reaches c p q ≡ true)
+both_parts c None y h = cc
+both_parts c (Some p) None h = cc
+both_parts c (Some p) (Some q) h = (p, q, refl, refl, h)
+
+passes_down : (p q : Part) → passes_heat p q ≡ true → q.low ≤ℤ q.high → q.low ≤ℤ p.low
+passes_down p q h order =
+    ⊎_elim (λ e. omega (arith, ints)) (λ e. let low = (Decides-int_eq p.low q.low).0 (and_parts (int_eq p.high q.high) (int_eq p.low q.low) e).1 in omega (arith, ints))
+    (or_cases (int_le q.high p.low) (int_eq p.high q.high && int_eq p.low q.low) h)
+
+module _ {c : Case} {hot cold : List Part} (s : AreStandardParts c hot cold) where
+  -- prices that do not rise downward support each heat flow
+  pub supports_down : (f : Part → ℤ) → ((p q : Part) → q.low ≤ℤ p.low → f q ≤ℤ f p) → IsSupporting (reach_between c hot cold) (map f hot) (map f cold)
+  supports_down f falls a b reach =
+      let (p, q, from, to, both) = both_parts c (slice_get hot a) (slice_get cold b) reach in
+      let passes = (and_parts (passes_heat p q) (not (is_forbidden c.forbids p.source q.source)) both).0 in
+      subst₂ (λ y z. z ≤ℤ y) (sym (price_at-map f hot a p from)) (sym (price_at-map f cold b q to))
+      (falls p q (passes_down p q passes ((s.sides Cold).each b q to).falls))
+
+  above_falls : (place : ℤ) (p q : Part) → q.low ≤ℤ p.low → above place q ≤ℤ above place p
+  above_falls place p q h = grind (arith, ints)
+
+  -- a sum over the parts of a side that each add what stands above a place of the grid, and something for the utility
+  pub sum_above : (side : Side) (f : ℕ → Part → ℤ) (place each : ℤ) → Contains s.grid place → ((a : ℕ) (p : Part) → slice_get (parts_of side hot cold) a ≡ Some p → IsStandardPart c s.grid side p → f a p ≡ heat_from place each p) → int_sum_from f 0 (parts_of side hot cold) ≡ each +ℤ sum_side side (heat_above place) c.streams
+  sum_above side f place each on h =
+      let parts = parts_of side hot cold in
+      int_sum_from-same_each f (λ a p. heat_from place each p) parts (λ a p at. h a p at ((s.sides side).each a p at))
+      ∙ int_sum_from-by (heat_from place each) 0 parts ∙ (s.sides side).sum place each on
+
+  -- what a side costs is what its utility costs
+  side_cost-standard : (side : Side) (ts : List Transfer) (heat : ℤ) → UtilityHeat side (parts_of side hot cold) ts heat → side_cost side (parts_of side hot cold) ts ≡ unit_price side *ℤ heat
+  side_cost-standard side ts heat utility =
+      let place = end_of c Cold in
+      let each = unit_price side *ℤ heat in
+      let whole =
+      sum_above side (λ a p. p.price *ℤ heat_at side ts a +ℤ heat_from place (pos 0) p) place each (s.ends Cold)
+      (λ a p at h. ⊎_elim
+      (λ k.
+      let free = zero_times p.price (heat_at side ts a) k.price in
+      let none = from_stream place (pos 0) p k.source_is in
+      let other = from_stream place each p k.source_is in
+      omega (arith, ints))
+      (λ k.
+      let priced = ap₂ ◌*ℤ◌ k.price (utility a p at (ap not k.source_is)) in
+      let none = from_utility place (pos 0) p k.source_is in
+      let other = from_utility place each p k.source_is in
+      omega (arith, ints))
+      h.kind) in
+      let split = int_sum_from-add (λ a p. p.price *ℤ heat_at side ts a) (λ a p. heat_from place (pos 0) p) 0 (parts_of side hot cold) in
+      let plain = int_sum_from-by (heat_from place (pos 0)) 0 (parts_of side hot cold) in
+      let above_place = (s.sides side).sum place (pos 0) (s.ends Cold) in
+      omega (arith, ints)
+
+  -- a heat flow costs what the hot utility gives
+  pub cost-hot_utility : (ts : List Transfer) (given taken : ℤ) → UtilityHeat Hot hot ts given → UtilityHeat Cold cold ts taken → cost_of hot cold ts ≡ given
+  cost-hot_utility ts given taken h k =
+      let hots = side_cost-standard Hot ts given h in
+      let colds = side_cost-standard Cold ts taken k ∙ zero_times (pos 0) taken refl in
+      omega (arith, ints)
+
+  -- the utility has one heat
+  abbrev pub heat : Side → List Transfer → ℤ
+  heat side ts = heat_at side ts (s.sides side).utility
+
+  pub utility_heat : (side : Side) (ts : List Transfer) → UtilityHeat side (parts_of side hot cold) ts (heat side ts)
+  utility_heat side ts a p at utility = ap (heat_at side ts) ((s.sides side).only a p at (not-true (is_stream p.source) utility))
+
+  module _ (ts : List Transfer) (flow : IsFlowOf c hot cold ts) where
+    on_side : (side : Side) → HaveParts side (parts_of side hot cold) ts × KeepsRanges side (parts_of side hot cold) ts
+    on_side Hot = (flow.hot_indexes, flow.hot_ranges)
+    on_side Cold = (flow.cold_indexes, flow.cold_ranges)
+
+    -- the heats of the parts of a side above a place
+    heats_above : (side : Side) (w : ℕ → Part → ℤ) (place each : ℤ) → Contains s.grid place → UtilityHeat side (parts_of side hot cold) ts each → ((a : ℕ) (p : Part) → slice_get (parts_of side hot cold) a ≡ Some p → w a p ≡ above place p) → int_sum_from (λ a p. w a p *ℤ heat_at side ts a) 0 (parts_of side hot cold) ≡ reached place (end_of c side) *ℤ each +ℤ sum_side side (heat_above place) c.streams
+    heats_above side w place each on utility weight =
+        sum_above side (λ a p. w a p *ℤ heat_at side ts a) place (reached place (end_of c side) *ℤ each) on
+        (λ a p at h. ap (λ z. z *ℤ heat_at side ts a) (weight a p at) ∙ ⊎_elim
+        (λ k. let range = (on_side side).1 a p at in let fixed = k.fixed in ap (λ z. above place p *ℤ z) (omega (arith, ints)) ∙ sym (from_stream place (reached place (end_of c side) *ℤ each) p k.source_is))
+        (λ k. ap₂ (λ low z. reached place low *ℤ z) k.low (utility a p at (ap not k.source_is)) ∙ sym (from_utility place (reached place (end_of c side) *ℤ each) p k.source_is))
+        h.kind)
+
+    -- the same, transfer by transfer
+    pub worth_above : (side : Side) (place each : ℤ) → Contains s.grid place → UtilityHeat side (parts_of side hot cold) ts each → side_worth side (map (above place) (parts_of side hot cold)) ts ≡ reached place (end_of c side) *ℤ each +ℤ sum_side side (heat_above place) c.streams
+    worth_above side place each on utility =
+        let parts = parts_of side hot cold in
+        sym (side_worth-parts side (map (above place) parts) parts ts (on_side side).0)
+        ∙ heats_above side (λ a p. price_at (map (above place) parts) a) place each on utility (price_at-map (above place) parts)
+
+    pub taken-le : (place : ℤ) → All (λ t. (price_at (map (above place) cold) t.cold *ℤ t.heat) ≤ℤ (price_at (map (above place) hot) t.hot *ℤ t.heat)) ts
+    taken-le place = worth-le (reach_between c hot cold) (map (above place) hot) (map (above place) cold) ts (supports_down (above place) (above_falls place)) flow.positive flow.joined
+
+    -- all heat of a side: that of its streams and of its utility
+    whole_heat : (side : Side) → int_sum_by (λ t. pos 1 *ℤ t.heat) ts ≡ heat side ts +ℤ sum_side side (heat_above (end_of c Cold)) c.streams
+    whole_heat side =
+        let bottom = end_of c Cold in
+        let all = one_times (reached bottom (end_of c side)) (heat side ts) (is_reached bottom (end_of c side) (s.within Cold (end_of c side) (s.ends side))) in
+        let sum = heats_above side (λ a p. pos 1) bottom (heat side ts) (s.ends Cold) (utility_heat side ts) (λ a p at. sym (is_reached bottom p.low ((s.sides side).each a p at).from)) in
+        sym (int_sum_from-grouped (part_index side) (λ t. t.heat) (λ a. pos 1) (parts_of side hot cold) ts (on_side side).0) ∙ sum ∙ ap (λ z. z +ℤ sum_side side (heat_above bottom) c.streams) all
+
+    -- above a place where the deficit is the hot target the cold parts need that much more than the hot streams give
+    hot-at_least : hot_target c.streams ≤ℤ heat Hot ts
+    hot-at_least =
+        let (place, tight) = some_tight c.streams s.valid in
+        let on = s.stream_end place tight.end in
+        let hots = worth_above Hot place (heat Hot ts) on (utility_heat Hot ts) in
+        let colds = worth_above Cold place (heat Cold ts) on (utility_heat Cold ts) in
+        let all = one_times (reached place (end_of c Hot)) (heat Hot ts) (is_reached place (end_of c Hot) (s.within Hot place on)) in
+        let some =
+        product_not_negative (reached place (end_of c Cold)) (heat Cold ts) (grind (arith, ints))
+        (int_sum_by-not_negative (λ t. if part_index Cold t == (s.sides Cold).utility then t.heat else pos 0) ts (heats_at-not_negative Cold ts (s.sides Cold).utility flow.positive)) in
+        let le = int_sum_by-le (λ t. price_at (map (above place) cold) t.cold *ℤ t.heat) (λ t. price_at (map (above place) hot) t.hot *ℤ t.heat) ts (taken-le place) in
+        omega (arith, ints, tight.tight)
+
+    -- the utilities give and take at least the targets
+    at_least : (side : Side) → target_of side c.streams ≤ℤ heat side ts
+    at_least Hot = hot-at_least
+    at_least Cold =
+        let least = hot-at_least in
+        let hots = whole_heat Hot in
+        let colds = whole_heat Cold in
+        let targets = s.lowest in
+        omega (arith, ints)
+
+    pub cost-at_least : hot_target c.streams ≤ℤ cost_of hot cold ts
+    cost-at_least = let least = hot-at_least in let cost = cost-hot_utility ts (heat Hot ts) (heat Cold ts) (utility_heat Hot ts) (utility_heat Cold ts) in omega (arith, ints)
+
+  pub needs_heat : (side : Side) → NeedsHeat c hot cold side (target_of side c.streams)
+  needs_heat side ts flow a p at utility =
+      let least = at_least ts flow side in
+      let one = utility_heat side ts a p at utility in
+      omega (arith, ints)
