@@ -16,7 +16,7 @@ use Rattle.stream_case.specs.Case.{is_forbidden}
 use Rattle.stream_case.specs.Source.{is_stream}
 use Rattle.stream_case.specs.Stream.{heat_above}
 use Rattle.sums.specs.Sum.{int_sum_by, int_sum_from}
-use Rattle.sums.proofs.ConsLemmas.{int_le-from, int_le-false}
+use Rattle.sums.proofs.IntegerLemmas.{int_le-from, int_le-false}
 use Rattle.sums.proofs.ProductLemmas.{product_not_negative}
 use Rattle.sums.proofs.SumLemmas.{int_sum_by-le, int_sum_by-not_negative, int_sum_from-add, int_sum_from-by, int_sum_from-grouped, int_sum_from-same_each}
 use Rattle.problem_table.specs.Sides.{sum_side}
