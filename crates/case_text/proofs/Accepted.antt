@@ -1,6 +1,5 @@
 -- The case of a file that is accepted is valid.
-use Rattle.std.proofs.Common.{◌≡◌, ◌≢◌, ◌∙◌, ◌∷◌, ◌++◌, ◌<◌, ◌≤◌, ◌+◌, ℕ, zero, suc, ℤ, pos, true, false, not, List, [], All, AllPairs, Option, Some, None, Result, Ok, Err, IfOk, IfSome, is_some, option_map, unwrap_or, length, map, nat_lt, slice_get, refl, sym, ap, subst, arith, append_assoc, length-append}
-use Rattle.first_fault.specs.Checks.{first_failing}
+use Rattle.std.proofs.Common.{◌≡◌, ◌≢◌, ◌∙◌, ◌∷◌, ◌++◌, ◌<◌, ◌≤◌, ℕ, zero, suc, ℤ, pos, true, not, List, [], All, AllPairs, Option, Some, None, Result, Ok, Err, IfOk, IfSome, option_map, unwrap_or, length, nat_lt, slice_get, refl, sym, arith, append_assoc, length-append}
 use Rattle.first_fault.specs.Outcome.{given_by}
 use Rattle.std.specs.Map.{keys_of}
 use Rattle.std.proofs.lemmas.Bool.Decides.{Decides-ltb, nat_tests}
@@ -8,16 +7,16 @@ use Rattle.std.proofs.lemmas.List.{length-map, map-append}
 use Rattle.std.proofs.lemmas.List.Elements.{All-map, All-nil, All-push, All-weaker}
 use Rattle.std.proofs.lemmas.List.Quantifiers.{all_pairs_push}
 use Rattle.csv_rows.specs.Rows.{Row}
-use Rattle.first_fault.proofs.CheckLemmas.{Passes, each_passes}
+use Rattle.first_fault.proofs.CheckLemmas.{Passes}
 use Rattle.first_fault.proofs.Steps.{IsKept, given_has}
-use Rattle.stream_case.specs.Case.{IsRightlyNamed, IsUnreserved, IsValid, IsValidForbid, names_of, side_of}
+use Rattle.stream_case.specs.Case.{IsRightlyNamed, IsUnreserved, IsValid, IsValidForbid}
 use Rattle.stream_case.specs.Limits.{IsBetween, IsContribution}
 use Rattle.stream_case.specs.Name.{is_name}
 use Rattle.stream_case.specs.Stream.{IsValidStream, count_on}
 use Rattle.stream_case.specs.Utility.{IsValidUtility}
 use Rattle.stream_case.specs.declared.case.Case.{Case}
 use Rattle.stream_case.specs.declared.case.Forbid.{Forbid}
-use Rattle.stream_case.specs.declared.limits.TheConstants.{HIGHEST_TEMPERATURE, LOWEST_TEMPERATURE, MOST_CONTRIBUTION, MOST_CP, MOST_FORBIDS, MOST_HEAT, MOST_PRICE, MOST_STREAMS, MOST_UTILITIES}
+use Rattle.stream_case.specs.declared.limits.TheConstants.{MOST_FORBIDS, MOST_STREAMS, MOST_UTILITIES}
 use Rattle.stream_case.specs.declared.source.Side.{Side}
 use Rattle.stream_case.specs.declared.source.Side.TheVariants as side
 use Rattle.stream_case.specs.declared.source.Source.{Source}
@@ -28,7 +27,7 @@ use Rattle.stream_case.proofs.NameTests.{passed-name}
 use Rattle.stream_case.proofs.SourceLemmas.{Decides-is_right_way}
 use Rattle.case_text.specs.Rows.{field, kind_of, number}
 use Rattle.case_text.specs.Given.{Given, case_of, entry_by, nothing, source_at, stream_data, stream_of, utility_data, utility_of, with_entry}
-use Rattle.case_text.specs.Checks.{checks, contribution_checks, end_checks, forbid_checks, is_reserved, is_reserved_from, is_source, is_taken, is_within, kind_checks, stream_checks, stream_number_checks, utility_checks, utility_number_checks}
+use Rattle.case_text.specs.Checks.{checks, contribution_checks, end_checks, forbid_checks, is_reserved, is_reserved_from, is_taken, is_within, kind_checks, stream_checks, stream_number_checks, utility_checks, utility_number_checks}
 use Rattle.case_text.specs.Answers.{HasFewSources}
 use Rattle.case_text.specs.Outcome.{IsCase, IsOutcome, end_fault, grammar}
 use Rattle.case_text.specs.declared.fault.CaseFault.{CaseFault}
@@ -38,7 +37,7 @@ use Rattle.case_text.specs.declared.entry.StreamData.{StreamData}
 use Rattle.case_text.specs.declared.entry.UtilityData.{UtilityData}
 use Rattle.case_text.specs.declared.kind.Kind.{Kind}
 use Rattle.case_text.specs.declared.kind.Kind.TheVariants as kind
-use Rattle.case_text.proofs.Pairs.{All-back, All-front, AllPairs-insert}
+use Rattle.case_text.proofs.ListLemmas.{All-back, All-front, AllPairs-insert}
 use Rattle.case_text.proofs.Sources.{Streams, Utilities, count_on-case, few_with_stream, names_of-case, side_in, side_of-case}
 use Rattle.case_text.proofs.Tests.{Decides-int_le, Decides-is_forbidden, Decides-is_reserved, Decides-is_reserved_from, Decides-is_taken, Decides-is_within, IsRightNameOf, source_on}
 

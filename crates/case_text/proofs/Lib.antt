@@ -1,9 +1,5 @@
+pub mod ListLemmas
 pub mod Sources
 pub mod Tests
-pub mod Pairs
 pub mod Accepted
-pub mod NumberTexts
-pub mod PrintedRows
-pub mod PrintedCase
-pub mod PlainRows
-pub mod PrintedText
+pub mod Printed

@@ -1,11 +1,11 @@
 -- The sources of the case so far, by the entries of the two maps.
-use Rattle.std.proofs.Common.{◌≡◌, ◌∙◌, ◌∷◌, ◌++◌, ◌<◌, ◌≤◌, ◌+◌, ◌||◌, ℕ, ℤ, pos, Bool, true, false, cond, List, [], length, map, count_by, position, Option, Some, None, is_some, option_map, unwrap_or, slice_get, refl, sym, ap, arith}
+use Rattle.std.proofs.Common.{◌≡◌, ◌∙◌, ◌∷◌, ◌++◌, ◌<◌, ◌≤◌, ◌+◌, ◌||◌, ℕ, ℤ, pos, true, false, cond, List, [], length, map, count_by, position, Option, None, is_some, option_map, unwrap_or, slice_get, refl, sym, ap, arith}
 use Rattle.std.specs.Map.{keys_of, lookup}
 use Rattle.std.specs.Str.{bytes_eq}
 use Rattle.std.proofs.lemmas.Bool.{or_parts}
 use Rattle.std.proofs.lemmas.List.{length-map}
 use Rattle.std.proofs.lemmas.List.Folds.{list_any-append}
-use Rattle.std.proofs.lemmas.List.Sums.{sum_by-cons, sum_by_push}
+use Rattle.std.proofs.lemmas.List.Sums.{sum_by_push}
 use Rattle.std.proofs.lemmas.Map.Made.{is_some-lookup}
 use Rattle.std.specs.List.{list_any}
 use Rattle.std.proofs.lemmas.Option.{slice_get-map}
@@ -23,11 +23,12 @@ use Rattle.stream_case.specs.declared.utility.Utility.{Utility}
 use Rattle.stream_case.proofs.CaseLemmas.{count_on-add}
 use Rattle.stream_case.proofs.ListLemmas.{none_there, position-map}
 use Rattle.stream_case.proofs.SourceLemmas.{same_side-true}
-use Rattle.case_text.specs.Given.{Given, case_of, case_with, stream_of, utility_of}
+use Rattle.case_text.specs.Given.{Given, case_of, stream_of, utility_of}
 use Rattle.case_text.specs.Answers.{HasFewSources}
 use Rattle.case_text.specs.Checks.{is_taken}
 use Rattle.case_text.specs.declared.entry.StreamData.{StreamData}
 use Rattle.case_text.specs.declared.entry.UtilityData.{UtilityData}
+use Rattle.case_text.proofs.ListLemmas.{count_by-map, option_map-option_map}
 
 abbrev pub Streams : Type 0
 Streams = List (List ℕ × StreamData)
@@ -74,22 +75,11 @@ abbrev pub side_in : Given → Source → Option Side
 side_in given (source.Stream i) = option_map (λ s. s.1.side) (slice_get given.streams i)
 side_in given (source.Utility i) = option_map (λ u. u.1.side) (slice_get given.utilities i)
 
-option_map_twice : {X Y Z : Type 0} (g : Y → Z) (f : X → Y) (o : Option X) → option_map g (option_map f o) ≡ option_map (λ x. g (f x)) o
-option_map_twice g f None = refl
-option_map_twice g f (Some x) = refl
-
 pub side_of-case : (given : Given) (s : Source) → side_of (case_of given) s ≡ side_in given s
-side_of-case given (source.Stream i) = let make = stream_of (unwrap_or given.contribution (pos 0)) in ap (option_map (λ (s : Stream). s.side)) (slice_get-map make given.streams i) ∙ option_map_twice (λ (s : Stream). s.side) make (slice_get given.streams i)
-side_of-case given (source.Utility i) = let make = utility_of (unwrap_or given.contribution (pos 0)) in ap (option_map (λ (u : Utility). u.side)) (slice_get-map make given.utilities i) ∙ option_map_twice (λ (u : Utility). u.side) make (slice_get given.utilities i)
+side_of-case given (source.Stream i) = let make = stream_of (unwrap_or given.contribution (pos 0)) in ap (option_map (λ (s : Stream). s.side)) (slice_get-map make given.streams i) ∙ option_map-option_map (λ (s : Stream). s.side) make (slice_get given.streams i)
+side_of-case given (source.Utility i) = let make = utility_of (unwrap_or given.contribution (pos 0)) in ap (option_map (λ (u : Utility). u.side)) (slice_get-map make given.utilities i) ∙ option_map-option_map (λ (u : Utility). u.side) make (slice_get given.utilities i)
 
 -- ---- how many streams a side has
-
-pub count_by-map : {X Y : Type 0} (p : Y → Bool) (f : X → Y) (xs : List X) → count_by p (map f xs) ≡ count_by (λ x. p (f x)) xs
-count_by-map p f [] = refl
-count_by-map p f (x ∷ xs) =
-    let left = sum_by-cons (λ y. cond (p y) 1 0) (f x) (map f xs) in
-    let right = sum_by-cons (λ y. cond (p (f y)) 1 0) x xs in
-    omega (arith, left, right, count_by-map p f xs)
 
 abbrev pub count_of : Side → Streams → ℕ
 count_of of ss = count_by (λ s. same_side s.1.side of) ss

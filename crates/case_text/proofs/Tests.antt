@@ -1,5 +1,5 @@
 -- What the tests of the checks decide.
-use Rattle.std.proofs.Common.{◌≡◌, ◌≢◌, ◌∙◌, ◌≤ℤ◌, ◌⊎◌, inl, inr, ℕ, ℤ, Bool, true, false, not, ◌&&◌, ◌||◌, List, [], ◌∷◌, All, Decides, Option, Some, None, option_and_then, refl, sym, ap, arith}
+use Rattle.std.proofs.Common.{◌≡◌, ◌≢◌, ◌∙◌, ◌≤ℤ◌, inl, inr, ℕ, ℤ, Bool, true, false, not, ◌&&◌, ◌||◌, List, All, Decides, Option, Some, None, refl, sym, ap, arith}
 use Rattle.std.specs.Prelude.{codes, int_le}
 use Rattle.std.specs.List.{list_any}
 use Rattle.std.specs.Str.{bytes_eq}
@@ -8,7 +8,7 @@ use Rattle.std.proofs.lemmas.Bool.Decides.{Decides-and, Decides-by_and, Decides-
 use Rattle.std.proofs.lemmas.Int.{ints}
 use Rattle.stream_case.specs.Case.{IsUnreserved, is_forbidden, names_of, side_of, source_named}
 use Rattle.stream_case.specs.Limits.{IsBetween}
-use Rattle.stream_case.specs.Source.{same_side, same_source}
+use Rattle.stream_case.specs.Source.{same_source}
 use Rattle.stream_case.specs.declared.case.Case.{Case}
 use Rattle.stream_case.specs.declared.case.Forbid.{Forbid}
 use Rattle.stream_case.specs.declared.source.Side.{Side}

@@ -1,5 +1,5 @@
 -- What the rows that were read keep, and what may be added to them.
-use Rattle.std.specs.Prelude.{◌≡◌, ℕ, ◌<◌, ◌≤◌, false, List, length, count_by, None}
+use Rattle.std.specs.Prelude.{◌≡◌, ℕ, ◌<◌, ◌≤◌, false, List, length, count_by}
 use Rattle.stream_case.specs.Source.{same_side}
 use Rattle.stream_case.specs.Stream.{count_on}
 use Rattle.stream_case.specs.declared.limits.TheConstants.{MOST_STREAMS, MOST_UTILITIES}

@@ -1,4 +1,4 @@
-use Rattle.std.proofs.Common.{◌≡◌, ◌∙◌, ℕ, zero, suc, Bor, List, [], ◌∷◌, Option, Some, None, option_map, unwrap_or, get_or, slice_get, refl, sym, ap}
+use Rattle.std.proofs.Common.{◌≡◌, ◌∙◌, ℕ, zero, suc, Bor, List, [], ◌∷◌, Option, Some, None, option_map, unwrap_or, slice_get, refl, ap}
 use Rattle.std.proofs.lemmas.Option.{unwrap_or-slice_get}
 use Rattle.csv.specs.Records.{field_at, fields_of}
 use Rattle.case_text.proofs.fields.field.Goals as goal

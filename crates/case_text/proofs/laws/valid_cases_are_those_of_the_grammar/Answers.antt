@@ -1,5 +1,5 @@
 use Rattle.case_text.proofs.Accepted.{case-is_valid}
-use Rattle.case_text.proofs.PrintedText.{text_back}
+use Rattle.case_text.proofs.Printed.Text.{text_back}
 use Rattle.case_text.proofs.laws.valid_cases_are_those_of_the_grammar.Goals as goal
 
 pub returns-clause-valid : goal.returns-clause-valid

@@ -12,7 +12,7 @@ overflow_cast-result c =
 pub returns-in-Some : goal.returns-in-Some
 returns-in-Some c = (
   rw (source_named-case, ← c.self.view_is, ← c.in-Some.ensures.index) refl,
-  side_of-case c.args.self.now (source.Stream c.in-Some.index) ∙ rw (← c.self.view_is, c.in-Some.ensures.entry) refl
+  side_of-case c.args.self.now (source.Stream c.in-Some.index) ∙ rw (← c.self.view_is, c.in-Some.ensures.entry) refl,
 )
 
 pub returns-in_err-index : goal.returns-in_err-index
@@ -21,5 +21,5 @@ returns-in_err-index c = rw (c.from_residual.ensures, source_named-case, ← c.s
 pub returns : goal.returns
 returns c = (
   rw (source_named-case, ← c.self.view_is, ← c.in_default.ensures.index, ← c.in_ok-index.ensures.index) refl,
-  side_of-case c.args.self.now (source.Utility c.in_ok-index.index) ∙ rw (← c.self.view_is, c.in_ok-index.ensures.entry) refl
+  side_of-case c.args.self.now (source.Utility c.in_ok-index.index) ∙ rw (← c.self.view_is, c.in_ok-index.ensures.entry) refl,
 )

@@ -1,14 +1,13 @@
 -- The printed rows of a valid case give the case.
-use Rattle.std.proofs.Common.{◌≡◌, ◌≢◌, ◌∙◌, ◌∷◌, ◌++◌, ◌<◌, ◌≤◌, ℕ, ℤ, cond, List, [], All, AllPairs, Option, Some, None, is_some, true, length, map, refl, sym, ap, subst, arith, append_assoc}
+use Rattle.std.proofs.Common.{◌≡◌, ◌≢◌, ◌∙◌, ◌∷◌, ◌++◌, ◌<◌, ◌≤◌, ℕ, ℤ, cond, List, [], All, Some, None, is_some, true, length, map, refl, sym, ap, subst, arith, append_assoc}
 use Rattle.std.specs.Map.{keys_of}
 use Rattle.std.proofs.lemmas.Bool.Decides.{nat_tests}
 use Rattle.std.proofs.lemmas.List.{append-nil, length-map, map-append}
 use Rattle.std.proofs.lemmas.List.Elements.{All-append, All-head, All-map, All-tail, All-weaker}
 use Rattle.std.proofs.lemmas.List.Sums.{sum_by-append, sum_by-cons}
 use Rattle.std.proofs.lemmas.Simd.{map-map}
-use Rattle.csv_rows.specs.Rows.{Row}
 use Rattle.first_fault.proofs.Steps.{Follows, Give, all_give, nothing_gives, one_more_gives}
-use Rattle.stream_case.specs.Case.{IsRightlyNamed, IsSourceOf, IsUnreserved, IsValid, IsValidForbid, names_of, side_of, source_name, source_named}
+use Rattle.stream_case.specs.Case.{IsRightlyNamed, IsUnreserved, IsValid, IsValidForbid, names_of, side_of, source_name, source_named}
 use Rattle.stream_case.specs.Name.{IsName}
 use Rattle.stream_case.specs.Source.{same_side}
 use Rattle.stream_case.specs.Stream.{IsValidStream, count_on}
@@ -23,15 +22,15 @@ use Rattle.stream_case.specs.declared.stream.Stream.{Stream}
 use Rattle.stream_case.specs.declared.utility.Utility.{Utility}
 use Rattle.stream_case.proofs.CaseLemmas.{IsName-source_name, IsSourceOf-side, source_named-source_name}
 use Rattle.stream_case.proofs.SourceLemmas.{own_side}
-use Rattle.case_text.specs.Given.{Given, case_of, nothing, stream_of, utility_of, with_entry}
+use Rattle.case_text.specs.Given.{Given, case_of, nothing, stream_of, utility_of}
 use Rattle.case_text.specs.Checks.{end_checks}
 use Rattle.case_text.specs.Outcome.{IsCase, end_fault, grammar}
 use Rattle.case_text.specs.Printed.{contribution_row, forbid_row, printed_rows, stream_row, utility_row}
 use Rattle.case_text.specs.declared.entry.StreamData.{StreamData}
 use Rattle.case_text.specs.declared.entry.UtilityData.{UtilityData}
-use Rattle.case_text.proofs.Pairs.{All-seam, AllPairs-seam, length-seam}
-use Rattle.case_text.proofs.PrintedRows.{IsFound, contribution_follows, forbid_follows, stream_entry, stream_follows, utility_entry, utility_follows}
-use Rattle.case_text.proofs.Sources.{count_by-map, count_of}
+use Rattle.case_text.proofs.ListLemmas.{All-seam, AllPairs-seam, count_by-map, length-seam}
+use Rattle.case_text.proofs.Printed.Rows.{IsFound, contribution_follows, forbid_follows, stream_entry, stream_follows, utility_entry, utility_follows}
+use Rattle.case_text.proofs.Sources.{count_of}
 
 -- the streams, the utilities and the forbidden matches that are given so far
 abbrev given_with : Case → List Stream → List Utility → List Forbid → Given

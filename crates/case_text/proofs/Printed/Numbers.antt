@@ -1,5 +1,5 @@
 -- Numbers as they are printed.
-use Rattle.std.proofs.Common.{◌≡◌, ◌<◌, ◌≤◌, ◌+◌, ◌==◌, ℕ, ℤ, pos, negsuc, neg_ℤ, ◌^◌, ◌-◌, suc, false, get_or, option_map, Some, length, ap, arith}
+use Rattle.std.proofs.Common.{◌≡◌, ◌<◌, ◌≤◌, ◌+◌, ◌==◌, ℤ, pos, negsuc, neg_ℤ, ◌^◌, ◌-◌, suc, false, get_or, option_map, Some, length, ap, arith}
 use Rattle.std.specs.Fmt.{decimal, signed_decimal}
 use Rattle.std.proofs.lemmas.Bool.Decides.{nat_tests}
 use Rattle.std.proofs.lemmas.Fmt.{decimal_is_IsNumeral, length-decimal-le}

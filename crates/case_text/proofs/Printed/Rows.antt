@@ -1,12 +1,12 @@
 -- Each printed row follows on the rows before it.
-use Rattle.std.proofs.Common.{◌≡◌, ◌≢◌, ◌∙◌, ◌∷◌, ◌++◌, ◌<◌, ℕ, ℤ, pos, true, false, not, List, [], All, Option, Some, None, is_some, unwrap_or, length, nat_lt, refl, sym, ap, subst, arith}
+use Rattle.std.proofs.Common.{◌≡◌, ◌≢◌, ◌∷◌, ◌++◌, ◌<◌, ℕ, ℤ, pos, true, List, All, Some, unwrap_or, length, nat_lt, refl, arith}
 use Rattle.std.specs.Map.{keys_of}
 use Rattle.std.proofs.lemmas.Bool.Decides.{Decides-ltb}
 use Rattle.std.proofs.lemmas.Int.{ints}
 use Rattle.csv_rows.specs.Rows.{Row}
 use Rattle.first_fault.proofs.CheckLemmas.{Passes, none_fails}
 use Rattle.first_fault.proofs.Steps.{Follows}
-use Rattle.stream_case.specs.Case.{IsRightlyNamed, IsUnreserved, names_of, side_of, source_name, source_named}
+use Rattle.stream_case.specs.Case.{IsRightlyNamed, IsUnreserved, side_of, source_name, source_named}
 use Rattle.stream_case.specs.Limits.{IsBetween, IsContribution, IsHeat}
 use Rattle.stream_case.specs.Name.{IsName}
 use Rattle.stream_case.specs.Stream.{IsValidStream, count_on}
@@ -17,7 +17,6 @@ use Rattle.stream_case.specs.declared.limits.TheConstants.{MOST_FORBIDS, MOST_ST
 use Rattle.stream_case.specs.declared.source.Side.{Side}
 use Rattle.stream_case.specs.declared.source.Side.TheVariants as side
 use Rattle.stream_case.specs.declared.source.Source.{Source}
-use Rattle.stream_case.specs.declared.source.Source.TheVariants as source
 use Rattle.stream_case.specs.declared.stream.Stream.{Stream}
 use Rattle.stream_case.specs.declared.utility.Utility.{Utility}
 use Rattle.stream_case.proofs.NameTests.{name-passes}
@@ -31,7 +30,7 @@ use Rattle.case_text.specs.declared.entry.Entry.TheVariants as entry
 use Rattle.case_text.specs.declared.entry.StreamData.{StreamData}
 use Rattle.case_text.specs.declared.entry.UtilityData.{UtilityData}
 use Rattle.case_text.specs.declared.kind.Kind.TheVariants as kind
-use Rattle.case_text.proofs.NumberTexts.{contribution, flow_rate, heat, number_read, price, temperature}
+use Rattle.case_text.proofs.Printed.Numbers.{contribution, flow_rate, heat, number_read, price, temperature}
 use Rattle.case_text.proofs.Sources.{count_of, count_on-case, names_of-case}
 use Rattle.case_text.proofs.Tests.{Decides-int_le, Decides-is_forbidden, Decides-is_reserved, Decides-is_reserved_from, Decides-is_taken, Decides-is_within, is_source-named}
 

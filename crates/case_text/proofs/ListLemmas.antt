@@ -1,16 +1,21 @@
--- Lists whose items all differ, with one item more in the midst.
-use Rattle.std.proofs.Common.{◌≡◌, ◌+◌, ◌<◌, ◌∷◌, ◌++◌, suc, List, [], All, AllPairs, length, get_or, ap, subst, arith, length-append}
+-- Parts of lists, lists whose items all differ, and maps.
+use Rattle.std.proofs.Common.{Bool, cond, count_by, map, Option, Some, None, option_map, refl, ◌≡◌, ◌<◌, ◌∷◌, ◌++◌, suc, List, [], All, AllPairs, length, get_or, ap, subst, arith, length-append}
 use Rattle.std.proofs.Math.Seq.{drop-append_seam, take-append_seam}
 use Rattle.std.proofs.lemmas.List.Elements.{All-append, All-drop, All-head, All-push, All-tail, All-take}
 use Rattle.std.proofs.lemmas.List.Kept.{AllPairs-cons}
+use Rattle.std.proofs.lemmas.List.Sums.{sum_by-cons}
 use Rattle.std.proofs.lemmas.List.Quantifiers.{all_pairs_push}
 use Rattle.stream_case.proofs.DistinctLemmas.{AllPairs-across, AllPairs-back, AllPairs-front}
+
+-- ---- the parts of a list
 
 pub All-front : {X : Type 0} (P : X → Type 0) (xs ys : List X) → All P (xs ++ ys) → All P xs
 All-front P xs ys all = rw take-append_seam at (All-take P (length xs) (xs ++ ys) all)
 
 pub All-back : {X : Type 0} (P : X → Type 0) (xs ys : List X) → All P (xs ++ ys) → All P ys
 All-back P xs ys all = rw drop-append_seam at (All-drop P (length xs) (xs ++ ys) all)
+
+-- ---- pairs
 
 pub AllPairs-append : {X : Type 0} (R : X → X → Type 0) (xs ys : List X) → AllPairs R xs → AllPairs R ys → All (λ x. All (R x) ys) xs → AllPairs R (xs ++ ys)
 AllPairs-append R [] ys front back across = back
@@ -20,6 +25,7 @@ AllPairs-append {X = X} R (x ∷ xs) ys front back across =
     let here = All-append (R x) xs ys head (All-head (λ (z : X). All (R z) ys) x xs across) in
     AllPairs-cons R x (xs ++ ys) here (AllPairs-append R xs ys tail back (All-tail (λ (z : X). All (R z) ys) x xs across))
 
+-- one item more in the midst
 pub AllPairs-insert : {X : Type 0} (R : X → X → Type 0) (xs ys : List X) (x : X) → AllPairs R (xs ++ ys) → All (λ z. R z x) xs → All (R x) ys → AllPairs R ((xs ++ x ∷ []) ++ ys)
 AllPairs-insert R xs ys x pairs before behind =
     AllPairs-append R (xs ++ x ∷ []) ys (all_pairs_push R xs x (AllPairs-front R xs ys pairs) before) (AllPairs-back R xs ys pairs) (All-push (λ z. All (R z) ys) xs x (λ i d within. AllPairs-across R xs ys i d pairs within) behind)
@@ -34,3 +40,16 @@ AllPairs-seam R all before x after is pairs i d early = All-head (R (get_or befo
 
 pub length-seam : {X : Type 0} (all before : List X) (x : X) (after : List X) → all ≡ before ++ x ∷ after → length before < length all
 length-seam all before x after is = omega (arith, ap length is, length-append before (x ∷ after))
+
+-- ---- maps
+
+pub count_by-map : {X Y : Type 0} (p : Y → Bool) (f : X → Y) (xs : List X) → count_by p (map f xs) ≡ count_by (λ x. p (f x)) xs
+count_by-map p f [] = refl
+count_by-map p f (x ∷ xs) =
+    let left = sum_by-cons (λ y. cond (p y) 1 0) (f x) (map f xs) in
+    let right = sum_by-cons (λ y. cond (p (f y)) 1 0) x xs in
+    omega (arith, left, right, count_by-map p f xs)
+
+pub option_map-option_map : {X Y Z : Type 0} (g : Y → Z) (f : X → Y) (o : Option X) → option_map g (option_map f o) ≡ option_map (λ x. g (f x)) o
+option_map-option_map g f None = refl
+option_map-option_map g f (Some x) = refl

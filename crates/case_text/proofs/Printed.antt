@@ -1,0 +1,5 @@
+pub mod Numbers
+pub mod Plain
+pub mod Rows
+pub mod Case
+pub mod Text
