@@ -62,10 +62,13 @@ some_falling (x ∷ xs) = let (ys, h) = some_falling xs in (among x ys, ListsFal
 pub some_parts : (c : Case) → (hot : List Part) × (cold : List Part) × AreCaseParts c hot cold
 some_parts c =
     let (grid, is_grid) = some_falling (places_of c.streams c.utilities) in
-    let holds = HoldsPlaces-IsGrid c grid is_grid in
-    (made_parts c.streams c.utilities Hot grid, made_parts c.streams c.utilities Cold grid, record {
-      grid = grid;
-      is_grid = is_grid;
-      hot_parts = made_parts-AreParts c.streams c.utilities Hot grid holds;
-      cold_parts = made_parts-AreParts c.streams c.utilities Cold grid holds;
-    })
+    let holds = HoldsPlaces-IsGrid c grid is_grid in (
+      made_parts c.streams c.utilities Hot grid,
+      made_parts c.streams c.utilities Cold grid,
+      record {
+        grid = grid;
+        is_grid = is_grid;
+        hot_parts = made_parts-AreParts c.streams c.utilities Hot grid holds;
+        cold_parts = made_parts-AreParts c.streams c.utilities Cold grid holds;
+      },
+    )

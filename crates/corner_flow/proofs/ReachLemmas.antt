@@ -51,9 +51,10 @@ begin_of-heats target parts n =
 apart : (p q : Part) → passes_heat p q ≡ false → (p.low <ℤ q.high) × (p.high ≡ q.high → p.low ≡ q.low → ⊥)
 apart p q h =
     let parts = or_parts (int_le q.high p.low) (int_eq p.high q.high && int_eq p.low q.low) h in
-    let lower = parts.0 in
-    ( omega (arith, ints),
-      λ e f. both_ways (int_eq p.high q.high && int_eq p.low q.low) parts.1 (and_from (int_eq p.high q.high) (int_eq p.low q.low) ((Decides-int_eq p.high q.high).1 e) ((Decides-int_eq p.low q.low).1 f)) )
+    let lower = parts.0 in (
+      omega (arith, ints),
+      λ e f. both_ways (int_eq p.high q.high && int_eq p.low q.low) parts.1 (and_from (int_eq p.high q.high) (int_eq p.low q.low) ((Decides-int_eq p.high q.high).1 e) ((Decides-int_eq p.low q.low).1 f)),
+    )
 
 pub heat_of_stream : (target : ℤ) (p : Part) → is_stream p.source ≡ true → part_heat target p ≡ p.least
 heat_of_stream target p e = ap (λ b. if b then p.least else target) e
