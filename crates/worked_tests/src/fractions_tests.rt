@@ -112,6 +112,7 @@ fn fractions_are_in_lowest_terms_within_the_limits(rt: HostRuntime) {
         assert_fraction(&rt, Frac::new(*num, *den), wanted);
     }
     assert_fraction(&rt, Some(Frac::whole(-7)), "-7");
+    assert!(rt; Frac::whole(7).is_positive() && !Frac::whole(0).is_positive());
 }
 
 #[test]
@@ -134,8 +135,9 @@ fn operations_are_exact_or_tell(rt: HostRuntime) -> Result<(), Fail> {
 fn compare_with_each(rt: &(impl Abort + AllocGlobal), index: usize, a: &Frac) -> Result<(), Fail> {
     for (other, b) in RISING.iter().enumerate() {
         let b = fraction(*b)?;
-        let found = (a.compare(&b), *a < b, *a == b);
-        let wanted = (index.cmp(&other), index < other, index == other);
+        let found = (a.compare(&b), a.is_below(&b), *a < b, *a == b);
+        let below = index < other;
+        let wanted = (index.cmp(&other), below, below, index == other);
         assert_same(rt, "two fractions", &found, &wanted);
     }
     Ok(())
