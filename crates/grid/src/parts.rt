@@ -7,9 +7,9 @@ use crate::part::Part;
 use stream_case::Items;
 
 /// The hot and the cold parts. Each list goes by falling high, then by falling low, then streams
-/// before utilities in their order. It has at most 5,000 parts; each has a least from 0 to its
-/// most, a most of at most 1,000,000,000,000 W and a price from -1,000,000 to 1,000,000 a watt,
-/// which is 0 for a stream.
+/// before utilities in their order. It has at most `MOST_PARTS` parts; each has a least from 0 to
+/// its most, a most of at most `MOST_HEAT` W and a price a watt of at most `MOST_PRICE` above or
+/// below 0, which is 0 for a stream.
 #[derive(Debug, Drop)]
 pub struct Parts {
     pub hot: Items<Part>,

@@ -94,7 +94,7 @@ fn push_unless_given(
 /// The case with the hot utility `HOT` behind its utilities where it has no hot one, and then
 /// the cold utility `COLD` where it has no cold one. `HOT` stands at the highest shifted stream
 /// end and costs 1 a watt, `COLD` at the lowest and costs nothing; each gives or takes any heat
-/// up to 1,000,000,000,000 W, with the contribution of the case (this project's rule).
+/// up to `MOST_HEAT` W, with the contribution of the case (this project's rule).
 pub fn complete(alloc: Global, case: &Case) -> Result<Case, AllocError>
     requires { IsValid case.now }
     ensures { IfOk result (λ c. c ≡ completed case.now) }
