@@ -1,4 +1,5 @@
-use network_text::{Branch, Line, NetFault, NetWhy, Network, print_network, read_network};
+use network_printer::print_network;
+use network_text::{Branch, Line, NetFault, NetWhy, Network, read_network};
 use fractions::Frac;
 use std::alloc::Global;
 use std::test::Fail;
