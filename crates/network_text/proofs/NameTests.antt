@@ -1,7 +1,7 @@
 -- The tests of names of branches.
 use Rattle.std.proofs.Common.{◌≡◌, ℕ, Bool, true, false, List, [], ◌∷◌, refl, sym, ap, ◌∙◌, inl, inr, ◌||◌, ◌==◌}
 use Rattle.std.specs.Prelude.{Option, Some, None, SomeIff, IfSome, is_some}
-use Rattle.std.proofs.lemmas.Bool.{and_parts, eqb-true, false_from_ne_true}
+use Rattle.std.proofs.lemmas.Bool.{and_parts, eqb-true, false_from_ne_true, or_right}
 use Rattle.stream_case.specs.Name.{IsAnyName, IsDottedName, is_name}
 use Rattle.stream_case.proofs.NameTests.{name-passes, passed-name}
 use Rattle.network_text.specs.Names.{is_branch_name, is_dotted_name}
@@ -25,11 +25,7 @@ passed-dotted (b ∷ bs) e =
 pub branch_name-passes : (text : List ℕ) → IsAnyName text → is_branch_name text ≡ true
 unfolding is_branch_name
 branch_name-passes text (inl h) = rw (name-passes text h) refl
-branch_name-passes text (inr h) = or_true (is_name text) (is_dotted_name text) (dotted-passes text h)
-  where
-    or_true : (a b : Bool) → b ≡ true → (a || b) ≡ true
-    or_true true b e = refl
-    or_true false b e = e
+branch_name-passes text (inr h) = or_right (is_name text) (is_dotted_name text) (dotted-passes text h)
 
 pub passed-branch_name : (text : List ℕ) → is_branch_name text ≡ true → IsAnyName text
 unfolding is_branch_name

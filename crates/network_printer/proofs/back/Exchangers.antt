@@ -3,7 +3,7 @@ use Rattle.std.proofs.Common.{◌≡◌, ◌≢◌, ◌∙◌, ◌<◌, ◌∷�
 use Rattle.std.specs.Prelude.{count_by}
 use Rattle.std.specs.List.{list_any}
 use Rattle.std.specs.Str.{bytes_eq}
-use Rattle.std.proofs.lemmas.Bool.{and_from}
+use Rattle.std.proofs.lemmas.Bool.{and_from, or_right}
 use Rattle.std.proofs.lemmas.Bool.Decides.{nat_tests}
 use Rattle.std.proofs.lemmas.List.{get_or-map, length-take-le, take-append-drop, take-map, take_at}
 use Rattle.std.proofs.lemmas.List.Sums.{sum_by-append}
@@ -54,11 +54,7 @@ joined e stream (inl hot) =
 joined e stream (inr cold) =
     let own : (stream == stream) ≡ true = grind (arith, nat_tests) in
     let second : is_stream stream e.cold ≡ true = ap (is_stream stream) cold ∙ own in
-    or_true (is_stream stream e.hot) (is_stream stream e.cold) second
-  where
-    or_true : (a b : Bool) → b ≡ true → (a || b) ≡ true
-    or_true true b e = refl
-    or_true false b e = e
+    or_right (is_stream stream e.hot) (is_stream stream e.cold) second
 
 -- how many exchangers the lines before an index declare
 abbrev declared_before : Network → ℕ → ℕ

@@ -3,6 +3,7 @@ use Rattle.std.proofs.Common.{◌≡◌, ◌≢◌, ◌∙◌, ◌<◌, ◌≤�
 use Rattle.std.specs.Prelude.{unsigned_abs, if◌then◌else◌}
 use Rattle.std.specs.Fmt.{decimal, signed_decimal}
 use Rattle.std.specs.List.{after_first, before_first, list_any, position_or_len}
+use Rattle.std.proofs.Math.Bool.{or-true}
 use Rattle.std.proofs.lemmas.Bool.Decides.{nat_tests}
 use Rattle.std.proofs.lemmas.Fmt.{decimal_is_IsNumeral_wide}
 use Rattle.std.proofs.lemmas.List.{get_or_append_left, get_or_at, get_or_default, take_at, take_all, drop_at}
@@ -124,12 +125,8 @@ bounded_back a within (suc d) some =
 denominator_read : (front : List ℕ) (d : ℕ) → All (λ b. is_slash b ≡ false) front → d < 10 ^ MOST_DIGITS → denominator_in (front ++ 47 ∷ decimal d) ≡ Some d
 unfolding denominator_in
 denominator_read front d none small =
-    let some : list_any is_slash (front ++ 47 ∷ decimal d) ≡ true = list_any-append is_slash front (47 ∷ decimal d) ∙ or_true (list_any is_slash front) in
+    let some : list_any is_slash (front ++ 47 ∷ decimal d) ≡ true = list_any-append is_slash front (47 ∷ decimal d) ∙ or-true (list_any is_slash front) in
     rw some (ap (natural_in MOST_DIGITS) (after_slash front (decimal d) none) ∙ natural_read MOST_DIGITS d (omega arith) small (omega (arith, small)))
-  where
-    or_true : (b : Bool) → (b || true) ≡ true
-    or_true true = refl
-    or_true false = refl
 
 -- a printed fraction is read as itself
 pub fraction-back : (a : Rational) → IsWithinLimits a → fraction_in (fraction_text a) ≡ Some a
