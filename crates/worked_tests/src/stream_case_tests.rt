@@ -122,6 +122,7 @@ fn items_keep_their_order(rt: HostRuntime) -> Result<(), Fail> {
     assert_lists(&rt, "both", items.as_slice(), &[7, 3]);
     let same = Items::from_vec([7, 3].to_vec(rt.alloc())?);
     assert_same(&rt, "a vector", &same, &items);
+    assert_same(&rt, "a copy", &items.copied(rt.alloc())?, &items);
     Ok(())
 }
 
