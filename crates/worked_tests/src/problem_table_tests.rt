@@ -4,6 +4,7 @@ use crate::tables::{FOUR_STREAMS, Table, case_of};
 use problem_table::{Target, deficit_above, pinches, reference_place, targets};
 use std::test::Fail;
 use stream_case::Side::{Cold, Hot};
+use stream_case::stream_ends;
 
 struct Worked {
     table: Table,
@@ -69,8 +70,11 @@ fn cases_have_these_targets_and_pinches(rt: HostRuntime) -> Result<(), Fail> {
 }
 
 #[test]
-fn four_streams_have_this_deficit(rt: HostRuntime) -> Result<(), Fail> {
+fn four_streams_have_these_ends_and_this_deficit(rt: HostRuntime) -> Result<(), Fail> {
     let case = case_of(rt.alloc(), &FOUR_STREAMS)?;
+    let ends = stream_ends(rt.alloc(), case.streams.as_slice())?;
+    let wanted = [1400, 250, 1650, 550, 1450, 850, 1450, 250];
+    assert_lists(&rt, "ends", &ends, &wanted);
     assert_same(&rt, "deficit", &deficit_above(&case, 850), &20_000);
     Ok(())
 }
