@@ -1,97 +1,71 @@
 //! Whether a net may be solved: the conditions of `solve`, tested.
-ghost use Rattle.std.specs.Prelude.{◌≡◌, ◌<◌, true, pos, ◌<ℤ◌, ◌≤ℤ◌, length, All};
-ghost use Rattle.flow_net.specs.Net.{IsWithinLimits, AreEnds, IsStart, reduced_cost};
-ghost use Rattle.flow_bench.specs.Limits.{IsLinkWithin, IsSmall};
+ghost use Rattle.std.specs.Prelude.{ℕ, ◌↔◌, ◌<◌, length, IsTrue};
+ghost use Rattle.flow_net.specs.Net.{IsWithinLimits, IsLinkWithin, AreEnds, IsRoom, IsInitialPotential, AreInitialPotentials, potential_at};
+ghost use Rattle.flow_bench.specs.Certificate.{IsSolvable, Fit};
 
+use crate::answer::reduced_cost;
 use crate::problem::Problem;
-use flow_net::{Link, Net};
-use stream_case::Items;
+use flow_net::{Link, MOST_COST, MOST_INITIAL_POTENTIAL, MOST_LINKS, MOST_NODES, MOST_ROOM, Net};
 
-/// Whether net, ends, amount and start numbers are within the limits.
-pub fn is_solvable(problem: &Problem, start: &Items<i64>) -> bool
-    ensures net { result ≡ true → IsWithinLimits problem.now.net }
-    ensures ends { result ≡ true → AreEnds problem.now.net problem.now.source problem.now.sink }
-    ensures amount_from { result ≡ true → pos 0 ≤ℤ problem.now.amount }
-    ensures amount_upto { result ≡ true → problem.now.amount ≤ℤ pos 10000000000000000 }
-    ensures start { result ≡ true → IsStart problem.now.net start.now }
+/// Whether net, ends, amount and initial potentials are within the limits of `solve`.
+pub fn is_solvable(problem: &Problem, start: &[i64]) -> bool
+    ensures { IsTrue result ↔ IsSolvable problem.now start.now }
 {
-    if !is_within_limits(&problem.net) || !are_ends(problem) {
-        return false;
-    }
-    if problem.amount < 0 || problem.amount > 10_000_000_000_000_000 {
-        return false;
-    }
-    is_start(&problem.net, start.as_slice())
+    is_within_limits(&problem.net)
+        && are_ends(problem)
+        && is_room(problem.amount)
+        && are_initial(&problem.net, start)
+}
+
+fn is_within_limits(net: &Net) -> bool
+    ensures { IsTrue result ↔ IsWithinLimits net.now }
+{
+    let links = net.links.as_slice();
+    net.nodes <= MOST_NODES
+        && links.len() <= MOST_LINKS
+        && links.iter().all(|link| is_link_within(link, net.nodes))
+}
+
+fn is_link_within(link: &Link, nodes: u32) -> bool
+    ensures { IsTrue result ↔ IsLinkWithin nodes link.now }
+{
+    link.from < nodes
+        && link.to < nodes
+        && is_room(link.room)
+        && link.cost.unsigned_abs() <= MOST_COST
+}
+
+fn is_room(number: i64) -> bool
+    ensures { IsTrue result ↔ IsRoom number }
+{
+    number >= 0 && number <= MOST_ROOM
 }
 
 fn are_ends(problem: &Problem) -> bool
-    ensures { result ≡ true → AreEnds problem.now.net problem.now.source problem.now.sink }
+    ensures { IsTrue result ↔ AreEnds problem.now.net problem.now.source problem.now.sink }
 {
     let nodes = problem.net.nodes;
     problem.source < nodes && problem.sink < nodes && problem.source != problem.sink
 }
 
-fn is_within_limits(net: &Net) -> bool
-    ensures { result ≡ true → IsWithinLimits net.now }
+fn are_initial(net: &Net, start: &[i64]) -> bool
+    ensures { IsTrue result ↔ AreInitialPotentials net.now start.now }
 {
-    if net.nodes > 200_000 || net.links.len() > 1_000_000 {
-        return false;
-    }
-    for link in net.links.as_slice() {
-        if !is_link_within(link, net.nodes) {
-            return false;
-        }
-    }
-    true
+    start.len() == net.nodes as usize && are_small(start) && fit(net, start)
 }
 
-fn is_link_within(link: &Link, nodes: u32) -> bool
-    ensures { result ≡ true → IsLinkWithin nodes link.now }
-{
-    if link.from >= nodes || link.to >= nodes {
-        return false;
-    }
-    if link.room < 0 || link.room > 10_000_000_000_000_000 {
-        return false;
-    }
-    link.cost.unsigned_abs() <= 1_000_000_000_000
-}
-
-fn is_start(net: &Net, start: &[i64]) -> bool
-    requires { IsWithinLimits net.now }
-    ensures { result ≡ true → IsStart net.now start.now }
-{
-    if start.len() != net.nodes as usize || !are_small(start) {
-        return false;
-    }
-    for link in net.links.as_slice() {
-        if !is_fit(link, start) {
-            return false;
-        }
-    }
-    true
-}
-
-/// Whether each number is within 10^15.
+/// Whether each number is within the limit of an initial potential.
 fn are_small(numbers: &[i64]) -> bool
-    ensures { result ≡ true → All IsSmall numbers.now }
+    ensures { IsTrue result ↔ ((v : ℕ) → v < length numbers.now → IsInitialPotential (potential_at numbers.now v)) }
 {
-    for number in numbers {
-        if number.unsigned_abs() > 1_000_000_000_000_000 {
-            return false;
-        }
-    }
-    true
+    numbers
+        .iter()
+        .all(|number| number.unsigned_abs() <= MOST_INITIAL_POTENTIAL)
 }
 
-/// Whether a link has no room, or no negative reduced cost at the start numbers.
-fn is_fit(link: &Link, start: &[i64]) -> bool
-    requires small { All IsSmall start.now }
-    requires cost { IsSmall link.now.cost }
-    requires from { link.now.from < length start.now }
-    requires to { link.now.to < length start.now }
-    ensures { result ≡ true → pos 0 <ℤ link.now.room → pos 0 ≤ℤ reduced_cost link.now start.now }
+/// Whether no link with room has a reduced cost below 0 at the potentials.
+fn fit(net: &Net, potentials: &[i64]) -> bool
+    ensures { IsTrue result ↔ Fit net.now.links potentials.now }
 {
-    let reduced = link.cost + start[link.from as usize] - start[link.to as usize];
-    link.room <= 0 || reduced >= 0
+    net.links.as_slice().iter().all(|link| link.room <= 0 || reduced_cost(link, potentials) >= 0)
 }

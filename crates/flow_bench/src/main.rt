@@ -1,6 +1,5 @@
 //! Solves a net of the DIMACS form for minimum-cost flow problems, from the file that the argument
-//! names, checks that the potentials prove the flow, and prints what it costs. The time goes to the
-//! standard error.
+//! names, checks the answer, and prints what it costs. The time goes to the standard error.
 #![tactic(auto)]
 
 mod answer;
@@ -9,8 +8,10 @@ mod problem;
 #[cfg(test)]
 mod tests;
 
+use crate::answer::{cost_of, is_certified};
+use crate::limits::is_solvable;
 use anyhow::{Context, Result, bail, ensure};
-use flow_net::{Net, Solved, solve};
+use flow_net::{Solved, solve};
 use std::time::Instant;
 use std::{env, fs};
 
@@ -20,10 +21,9 @@ fn main(rt: HostRuntime) -> Result<()> {
     let text = fs::read_to_string(&rt, path)?;
     let problem = problem::read(alloc, &text)?;
     let start = problem.start(alloc)?;
-    ensure!(
-        limits::is_solvable(&problem, &start),
-        "the net is not within the limits"
-    );
+    if !is_solvable(&problem, start.as_slice()) {
+        bail!("the net is not within the limits");
+    }
     let begun = Instant::now(&rt)?;
     let solved = solve(
         alloc,
@@ -35,19 +35,14 @@ fn main(rt: HostRuntime) -> Result<()> {
     )?;
     let took = begun.elapsed(&rt)?.as_millis();
     eprintln!(rt; "{took} ms")?;
-    print(&rt, &problem.net, &solved)
-}
-
-/// Prints what an answer costs, or that the net is blocked.
-fn print(rt: &impl Print, net: &Net, solved: &Solved) -> Result<()> {
-    match solved {
+    match &solved {
         Solved::Blocked { reached: _set } => println!(rt; "blocked")?,
         Solved::Routed { flow, potentials } => {
-            if !answer::is_certified(net, flow.as_slice(), potentials.as_slice()) {
-                bail!("the potentials do not prove the flow");
-            }
-            let cost = answer::cost_of(net, flow.as_slice());
-            println!(rt; "cost {cost}")?;
+            ensure!(
+                is_certified(alloc, &problem, flow.as_slice(), potentials.as_slice())?,
+                "the answer is not certified"
+            );
+            println!(rt; "cost {}", cost_of(&problem.net, flow.as_slice()))?;
         }
     }
     Ok(())

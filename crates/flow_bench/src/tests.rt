@@ -1,10 +1,10 @@
-//! Small nets with answers that were found by hand.
+//! Nets with answers that were found by hand.
 
-use crate::answer::cost_of;
+use crate::answer::{cost_of, is_certified};
 use crate::limits::is_solvable;
 use crate::problem::Problem;
-use anyhow::{Result, bail};
-use flow_net::{Link, Net, Solved, solve};
+use anyhow::{Result, bail, ensure};
+use flow_net::{Link, MOST_ROOM, Net, Solved, solve};
 use std::alloc::{AllocError, Global};
 use std::process::Abort;
 use stream_case::Items;
@@ -18,23 +18,28 @@ fn link(from: u32, to: u32, room: i64, cost: i64) -> Link {
     }
 }
 
-/// A problem from node 0 to node 3.
-fn problem(alloc: Global, links: &[Link], amount: i64) -> Result<Problem, AllocError> {
+/// A problem from the first node to the last.
+fn problem(alloc: Global, nodes: u32, links: &[Link], amount: i64) -> Result<Problem, AllocError>
+    requires { 0 < nodes }
+{
     Ok(Problem {
         net: Net {
-            nodes: 4,
+            nodes,
             links: Items::from_vec(Vec::from_slice(alloc, links)?),
         },
         source: 0,
-        sink: 3,
+        sink: nodes - 1,
         amount,
     })
 }
 
-/// The flow that is answered, or none where the net is blocked.
-fn flow_of(alloc: Global, problem: &Problem, start: [i64; 4]) -> Result<Option<Items<i64>>> {
-    let start = Items::from_vec(Vec::from_array(alloc, start)?);
-    if !is_solvable(problem, &start) {
+/// The flow that is answered and what it costs, or none where the net is blocked.
+fn answer(
+    alloc: Global,
+    problem: &Problem,
+    start: &Items<i64>,
+) -> Result<Option<(Items<i64>, i128)>> {
+    if !is_solvable(problem, start.as_slice()) {
         bail!("the net is not within the limits");
     }
     let solved = solve(
@@ -43,13 +48,17 @@ fn flow_of(alloc: Global, problem: &Problem, start: [i64; 4]) -> Result<Option<I
         problem.source,
         problem.sink,
         problem.amount,
-        &start,
+        start,
     )?;
     match solved {
-        Solved::Routed {
-            flow,
-            potentials: _potentials,
-        } => Ok(Some(flow)),
+        Solved::Routed { flow, potentials } => {
+            ensure!(
+                is_certified(alloc, problem, flow.as_slice(), potentials.as_slice())?,
+                "the answer is not certified"
+            );
+            let cost = cost_of(&problem.net, flow.as_slice());
+            Ok(Some((flow, cost)))
+        }
         Solved::Blocked { reached: _set } => Ok(None),
     }
 }
@@ -65,11 +74,12 @@ struct Row<'a> {
 }
 
 fn check<R: Abort + AllocGlobal>(rt: &R, row: &Row) -> Result<()> {
-    let problem = problem(rt.alloc(), row.links, row.amount)?;
-    match (flow_of(rt.alloc(), &problem, row.start)?, row.answer) {
-        (Some(flow), Some((want, cost))) => {
+    let problem = problem(rt.alloc(), 4, row.links, row.amount)?;
+    let start = Items::from_vec(Vec::from_array(rt.alloc(), row.start)?);
+    match (answer(rt.alloc(), &problem, &start)?, row.answer) {
+        (Some((flow, cost)), Some((want, least))) => {
             assert_eq!(rt; flow.as_slice(), want, "for {}", row.amount);
-            assert_eq!(rt; cost_of(&problem.net, flow.as_slice()), cost);
+            assert_eq!(rt; cost, least);
         }
         (None, None) => {}
         _ => bail!("{} is answered otherwise", row.amount),
@@ -89,7 +99,7 @@ fn routes_at_least_cost_or_is_blocked(rt: HostRuntime) -> Result<()> {
     // Parallel links, a loop, no room, a negative cost, and a way back from the sink.
     let odd = [
         link(0, 3, 4, 5),
-        link(0, 3, 10_000_000_000_000_000, 7),
+        link(0, 3, MOST_ROOM, 7),
         link(0, 0, 9, 1),
         link(0, 1, 0, -9),
         link(0, 2, 3, -4),
@@ -122,7 +132,7 @@ fn routes_at_least_cost_or_is_blocked(rt: HostRuntime) -> Result<()> {
         row(
             odd.as_slice(),
             [4, 0, 0, 0],
-            10_000_000_000_000_000,
+            MOST_ROOM,
             Some((
                 [4, 9_999_999_999_999_994, 0, 0, 2, 2, 0].as_slice(),
                 69_999_999_999_999_972,
@@ -131,6 +141,69 @@ fn routes_at_least_cost_or_is_blocked(rt: HostRuntime) -> Result<()> {
     ];
     for row in &rows {
         check(&rt, row)?;
+    }
+    Ok(())
+}
+
+/// A ladder of 1,000 nodes: two lanes of 498 steps, free to change between at each. A unit costs 1 a
+/// step on the first lane, whose room goes from 1 to 7 and again, and 3 on the second.
+fn ladder(alloc: Global, second_room: i64, amount: i64) -> Result<Problem, AllocError> {
+    let mut links = vec![in alloc;
+        link(0, 1, MOST_ROOM, 0),
+        link(0, 2, MOST_ROOM, 0),
+        link(997, 999, MOST_ROOM, 0),
+        link(998, 999, MOST_ROOM, 0),
+    ]?;
+    for step in 0..498 {
+        let first = 1 + 2 * step;
+        links.push(link(first, first + 1, MOST_ROOM, 0))?;
+        links.push(link(first + 1, first, MOST_ROOM, 0))?;
+        links.push(link(first, first + 2, i64::from(1 + step % 7), 1))?;
+        links.push(link(first + 1, first + 3, second_room, 3))?;
+    }
+    problem(alloc, 1000, &links, amount)
+}
+
+#[test]
+fn a_ladder_of_a_thousand_nodes(rt: HostRuntime) -> Result<()> {
+    let alloc = rt.alloc();
+    let start = Items::from_vec(vec![in alloc; 0; 1000]?);
+    // 71 times the rooms 1 to 7 and once 1: 1,989 units go the cheap way, of 12 or 6 a step.
+    let rows = [
+        (MOST_ROOM, 12, Some(498 * 36 - 2 * 1989)),
+        (5, 6, Some(498 * 18 - 2 * (1989 - 71))),
+        (5, 7, None),
+    ];
+    for (second_room, amount, least) in rows {
+        let problem = ladder(alloc, second_room, amount)?;
+        let cost = answer(alloc, &problem, &start)?.map(|(_flow, cost)| cost);
+        assert_eq!(rt; cost, least, "for {amount}");
+    }
+    Ok(())
+}
+
+#[test]
+fn a_wrong_flow_is_not_certified(rt: HostRuntime) -> Result<()> {
+    let alloc = rt.alloc();
+    let links = [link(0, 1, 2, 1), link(1, 2, 2, 1), link(0, 2, 5, 3)];
+    let problem = problem(alloc, 3, &links, 3)?;
+    let start = [0; 3];
+    ensure!(
+        is_solvable(&problem, &start),
+        "the net is not within the limits"
+    );
+    let rows = [
+        ([2, 2, 1], [0, 1, 3], true),
+        // The amount, a balance, a room, and the least cost are missed.
+        ([2, 2, 0], [0, 1, 3], false),
+        ([2, 1, 1], [0, 1, 3], false),
+        ([3, 3, 0], [0, 1, 3], false),
+        ([1, 1, 2], [0, 1, 3], false),
+        ([2, 2, 1], [0, 1, 2], false),
+    ];
+    for (flow, potentials, want) in rows {
+        let holds = is_certified(alloc, &problem, &flow, &potentials)?;
+        assert_eq!(rt; holds, want);
     }
     Ok(())
 }

@@ -14,7 +14,7 @@ use Rattle.flow_net.specs.declared.search.Search.{Search}
 use Rattle.flow_net.specs.Net.{link_at, potential_at, is_in, largest_cost, AreBounded, AreProofOfLeast}
 use Rattle.flow_net.specs.Arc.{arc_of, IsArc}
 use Rattle.flow_net.specs.Flow.{reduced_cost_of}
-use Rattle.flow_net.specs.Problem.{Stands, IsStanding, IsResidualArc}
+use Rattle.flow_net.specs.Problem.{Stands, IsStanding, IsResidualArc, IsFreeArc}
 use Rattle.flow_net.specs.Queue.{entry, entries_of}
 use Rattle.flow_net.specs.Search.{label_at, is_labelled, rise_of_label, rise_at, depth_at, rise_or, rise_of, HasArrived, IsTreeArc}
 use Rattle.flow_net.proofs.Sizes.{sizes, size-le-greatest}
@@ -189,3 +189,9 @@ module _ (p : Problem) (r : Routing) (s : Search) (standing : IsStanding p r) (a
           let was = standing.sink_most v within in
           omega (arith, ints, at, sink, upto, up, was));
     }
+
+-- where the sink rises by nothing, the tree's arcs have no reduced cost as it is
+pub tree_free : (p : Problem) (r : Routing) (s : Search) (standing : IsStanding p r) (arrived : HasArrived p r s) → s.queue.level ≡ pos 0 → (a : Arc) → IsTreeArc s a → IsFreeArc p r a
+tree_free p r s standing arrived level a last =
+    let tree = tree_reduced p r s standing arrived r.potentials.items refl (λ v _. let h = rises p r s standing arrived v in let from = h.from in let upto = h.upto in omega (arith, ints, level, from, upto)) a last in
+    record { residual = tree.0; free = tree.1 }

@@ -169,6 +169,9 @@ impl Search {
         ensures routed { routing.new.routed ≡ routing.old.routed }
         ensures free { (a : Arc) → IsTreeArc self.now a → IsFreeArc problem.now routing.new a }
     {
+        if self.queue.level == 0 {
+            return;
+        }
         for node in 0..routing.potentials.len() {
             routing.potentials[node] += self.rise(node);
         }

@@ -3,14 +3,14 @@ use Rattle.std.proofs.lemmas.Int.{ints}
 use Rattle.std.proofs.lemmas.List.{get_or_read}
 use Rattle.flow_net.specs.Net.{link_at, flow_on}
 use Rattle.flow_net.proofs.routing.Routing.residual.Goals as goal
-use Rattle.flow_net.proofs.routing.Routing.residual.Goals.{After-result-1}
+use Rattle.flow_net.proofs.routing.Routing.residual.Goals.{After-as_slice}
 
 -- the room of the arc's link, and the flow on it, as the code has them
-record IsRead (c : After-result-1) : Type 0 where
+record IsRead (c : After-as_slice) : Type 0 where
   flow : c.index-carried.result.now ≡ flow_on c.args.self.now.flow.items c.args.arc.now.link
   link : link_at c.as_slice.result.now c.args.arc.now.link ≡ link_at c.args.problem.now.net.now.links c.args.arc.now.link
 
-read : (c : After-result-1) → IsRead c
+read : (c : After-as_slice) → IsRead c
 read c = record {
   flow = get_or_read c.args.self.now.flow.items c.args.arc.now.link c.index-carried.result.now (let e = c.requires.standing.routes.rooms.one_each in let b = c.requires.arc.below in omega arith) c.index-carried.ensures (pos 0);
   link = ap (λ xs. link_at xs c.args.arc.now.link) c.as_slice.ensures;
@@ -19,7 +19,7 @@ read c = record {
 pub overflow_sub-result : goal.overflow_sub-result
 overflow_sub-result c =
     let k = c.args.arc.now.link in
-    let r = read (goal.at.overflow_sub-result c).After-result-1 in
+    let r = read (goal.at.overflow_sub-result c).After-as_slice in
     let flow = r.flow in
     let room_is = ap (λ l. l.room) r.link in
     let below = c.requires.arc.below in
@@ -31,7 +31,7 @@ overflow_sub-result c =
 pub returns-then-arc : goal.returns-then-arc
 returns-then-arc c =
     let k = c.args.arc.now.link in
-    let r = read (goal.at.returns-then-arc c).After-result-1 in
+    let r = read (goal.at.returns-then-arc c).After-as_slice in
     let flow = r.flow in
     let room_is = ap (λ l. l.room) r.link in
     let below = c.requires.arc.below in

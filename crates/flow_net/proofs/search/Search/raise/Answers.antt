@@ -1,39 +1,44 @@
 use Rattle.std.proofs.Common.{◌≡◌, ◌+◌, ◌<◌, ◌≤◌, length, pos, ◌+ℤ◌, ◌<ℤ◌, to_z, of_z, w64, FitsSigned, ap, ap₂, ◌∙◌, sym, subst, refl, rules, arith}
-use Rattle.std.proofs.lemmas.Int.{to_z-of_z}
+use Rattle.std.proofs.lemmas.Int.{ints, to_z-of_z}
 use Rattle.std.proofs.lemmas.List.{get_or_read, length-set}
 use Rattle.flow_net.specs.Net.{potential_at}
 use Rattle.flow_net.specs.Flow.{residual_of}
 use Rattle.flow_net.specs.Search.{rise_of}
 use Rattle.flow_net.proofs.Lists.{set_cases}
-use Rattle.flow_net.proofs.StandingLemmas.{Stands-same}
-use Rattle.flow_net.proofs.RaiseLemmas.{rise_fits, tree_reduced, Stands-raised}
+use Rattle.flow_net.proofs.Sizes.{sizes}
+use Rattle.flow_net.proofs.StandingLemmas.{IsPotential-standing, Stands-same}
+use Rattle.flow_net.proofs.RaiseLemmas.{rise_fits, tree_reduced, tree_free, Stands-raised}
 use Rattle.flow_net.proofs.search.Search.raise.Goals as goal
-use Rattle.flow_net.proofs.search.Search.raise.Goals.{After-t11-1}
+use Rattle.flow_net.proofs.search.Search.raise.Goals.{After-index_mut}
+
+pub returns-then-self-eq0-clause-free : goal.returns-then-self-eq0-clause-free
+returns-then-self-eq0-clause-free c =
+    tree_free c.args.problem.now c.args.routing.now c.args.self.now c.requires.standing c.requires.arrived (let none = c.if-self-eq0.true in omega (arith, ints))
 
 -- the potential that is raised, and the sum, as the code has them
-record IsSum (c : After-t11-1) : Type 0 where
+record IsSum (c : After-index_mut) : Type 0 where
   within : c.loop-node.node < length c.args.routing.now.potentials.items
   is : to_z w64 (of_z w64 c.index_mut.result.now) +ℤ to_z w64 (of_z w64 c.rise.result) ≡ potential_at c.args.routing.now.potentials.items c.loop-node.node +ℤ rise_of c.args.self.now c.loop-node.node
   fits : FitsSigned w64 (to_z w64 (of_z w64 c.index_mut.result.now) +ℤ to_z w64 (of_z w64 c.rise.result))
 
-sum : (c : After-t11-1) → IsSum c
+sum : (c : After-index_mut) → IsSum c
 sum c =
+    let p = c.args.problem.now in
     let r = c.args.routing.now in
     let v = c.loop-node.node in
     let within : v < length r.potentials.items = (let e = c.len-node-end.ensures in let l = c.loop-node-test.true in let ok = r.potentials.ok.0 in omega arith) in
     let each = c.loop-node.invariant.one_each in
+    let v_in : v < p.net.now.nodes = (let e = c.requires.standing.bounded.one_each in omega arith) in
     let read = get_or_read c.loop-node.routing.potentials.items v c.index_mut.result.now (omega arith) c.index_mut.ensures.value (pos 0) in
-    let first = to_z-of_z w64 c.index_mut.result.now (search rules) in
+    let left = c.loop-node.invariant.left v (omega arith) in
+    let small = IsPotential-standing p r c.requires.standing v v_in in
+    let first : to_z w64 (of_z w64 c.index_mut.result.now) ≡ potential_at r.potentials.items v = omega (arith, sizes, read, left, small) in
     let second = to_z-of_z w64 c.rise.result (search rules) in
-    let is = ap₂ ◌+ℤ◌ (first ∙ (read ∙ c.loop-node.invariant.left v (omega arith))) (second ∙ c.rise.ensures) in
-    record {
-      within = within;
-      is = is;
-      fits = rw is (rise_fits c.args.problem.now r c.args.self.now c.requires.standing c.requires.arrived v (let e = c.requires.standing.bounded.one_each in omega arith));
-    }
+    let is = ap₂ ◌+ℤ◌ first (second ∙ c.rise.ensures) in
+    record { within = within; is = is; fits = rw is (rise_fits p r c.args.self.now c.requires.standing c.requires.arrived v v_in) }
 
 pub overflow_add-index_mut : goal.overflow_add-index_mut
-overflow_add-index_mut c = (sum c).fits
+overflow_add-index_mut c = (sum (goal.at.overflow_add-index_mut c).After-index_mut).fits
 
 pub loop-node-preserved : goal.loop-node-preserved
 loop-node-preserved c =
@@ -41,7 +46,7 @@ loop-node-preserved c =
     let s = c.args.self.now in
     let v = c.loop-node.node in
     let inv = c.loop-node.invariant in
-    let at = sum (goal.at.loop-node-preserved c).After-t11-1 in
+    let at = sum (goal.at.loop-node-preserved c).After-index_mut in
     let value = to_z-of_z w64 _ at.fits ∙ at.is in
     let potentials = c.loop-node.routing.potentials.items in
     let within : v < length potentials = (let w = at.within in let e = inv.one_each in omega arith) in

@@ -1,0 +1,11 @@
+use Rattle.std.proofs.Common.{◌≡◌, ℕ, ◌<◌, length}
+use Rattle.flow_bench.specs.Certificate.{surplus_at}
+use Rattle.flow_bench.proofs.SumLemmas.{surplus_below}
+use Rattle.flow_bench.proofs.answer.add_flow.Given as goal
+
+abbrev pub invariant-loop-index : goal.invariant-loop-index
+invariant-loop-index l = record {
+  links : l.link-items ≡ l.net.links;
+  one_each : length l.surpluses ≡ l.net.nodes;
+  surplus : (v : ℕ) → v < l.net.nodes → surplus_at l.surpluses v ≡ surplus_below l.net.links l.flow l.index v;
+}
