@@ -19,16 +19,14 @@ fn link(from: u32, to: u32, room: i64, cost: i64) -> Link {
 }
 
 /// A problem from the first node to the last.
-fn problem(alloc: Global, nodes: u32, links: &[Link], amount: i64) -> Result<Problem, AllocError>
-    requires { 0 < nodes }
-{
+fn problem(alloc: Global, nodes: u32, links: &[Link], amount: i64) -> Result<Problem, AllocError> {
     Ok(Problem {
         net: Net {
             nodes,
             links: Items::from_vec(Vec::from_slice(alloc, links)?),
         },
         source: 0,
-        sink: nodes - 1,
+        sink: nodes.saturating_sub(1),
         amount,
     })
 }

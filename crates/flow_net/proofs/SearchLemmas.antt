@@ -22,7 +22,7 @@ use Rattle.flow_net.specs.Net.{is_in, largest_cost}
 use Rattle.flow_net.specs.Flow.{reduced_cost_of, most_path_cost, most_rise}
 use Rattle.flow_net.specs.Problem.{IsStanding, IsResidualArc}
 use Rattle.flow_net.specs.Queue.{entry, entries_of, IsNext}
-use Rattle.flow_net.specs.Search.{label_at, is_labelled, rise_of_label, rise_at, depth_of_label, depth_at, arc_of_label, arc_at, reached_count, source_label, IsLabelledBy, IsNear, AreLabels, IsEntry, IsQueued, HasQueue, IsSearch, IsFresh, IsDrained, IsReaching, IsAt, IsEntered, Improves, IsClosedAt}
+use Rattle.flow_net.specs.Search.{label_at, is_labelled, rise_of_label, rise_at, depth_of_label, depth_at, arc_of_label, arc_at, reached_count, source_label, IsLabelledBy, IsNear, AreLabels, IsEntry, IsQueued, HasQueue, IsSearch, IsFresh, IsDrained, IsReaching, IsAt, IsEntered, Improves, IsClosedAt, IsRelaxed}
 use Rattle.flow_net.proofs.Lists.{set_cases, within_from, replicate_same}
 use Rattle.flow_net.proofs.Sizes.{sizes}
 use Rattle.flow_net.proofs.FlowLemmas.{arc-nodes, arc-cost}
@@ -137,6 +137,9 @@ IsSmall-reached p r standing labels reached h v hit =
     let upto = (h.near v (h.reached_labelled v hit)).upto in
     record { rise = omega (arith, sizes, times, here, source, upto); depth = shallow }
 
+pub Improves-refl : (s : Search) → Improves s s
+Improves-refl s = record { reached = refl; level = refl; kept = λ v _. refl; labelled = λ v h. h; fell = λ v _. omega (arith, ints) }
+
 -- an arc leads from the node that was reached last
 module _ (p : Problem) (r : Routing) (standing : IsStanding p r) (s : Search) (search : IsSearch p r s) (a : Arc) (l : Label) (at : IsAt s a.tail l) where
   tail_rise : rise_at s.labels.items a.tail ≡ l.rise
@@ -145,19 +148,22 @@ module _ (p : Problem) (r : Routing) (standing : IsStanding p r) (s : Search) (s
   pub IsSmall-tail : IsSmall (Some l)
   IsSmall-tail = subst IsSmall at.label (IsSmall-reached p r standing s.labels.items s.reached.items search.labels a.tail at.reached)
 
+  pub IsRelaxed-same : IsClosedAt p r s a → IsRelaxed p r s s a
+  IsRelaxed-same closed = record { search = search; improves = Improves-refl s; closed = closed }
+
   -- it is closed where its head is reached, since that rises no more than its tail, and where the head's label is low
-  pub closed-reached : is_in s.reached.items a.head ≡ true → IsClosedAt p r s a
-  closed-reached hit residual =
+  pub IsRelaxed-reached : is_in s.reached.items a.head ≡ true → IsRelaxed p r s s a
+  IsRelaxed-reached hit = IsRelaxed-same (λ residual.
       let low = search.queue.upto_level a.head hit in
       let level = at.level in
       let tail = tail_rise in
       let more = reduced-residual p r standing a residual in
-      record { labelled = search.labels.reached_labelled a.head hit; low = omega (arith, ints, low, level, tail, more) }
+      record { labelled = search.labels.reached_labelled a.head hit; low = omega (arith, ints, low, level, tail, more) })
 
   -- its head gets a label
   module _ (rise : ℤ) (rise_is : rise ≡ l.rise +ℤ reduced_cost_of r.potentials.items a) where
-    pub closed-low : (is_labelled s.labels.items a.head ≡ true) × (rise_at s.labels.items a.head ≤ℤ rise) → IsClosedAt p r s a
-    closed-low low _ = let tail = tail_rise in let upto = low.1 in record { labelled = low.0; low = omega (arith, ints, rise_is, tail, upto) }
+    pub IsRelaxed-low : (is_labelled s.labels.items a.head ≡ true) × (rise_at s.labels.items a.head ≤ℤ rise) → IsRelaxed p r s s a
+    IsRelaxed-low low = IsRelaxed-same (λ _. let tail = tail_rise in let upto = low.1 in record { labelled = low.0; low = omega (arith, ints, rise_is, tail, upto) })
 
     pub above-level : IsResidualArc p r a → s.queue.level ≤ℤ rise
     above-level residual = let more = reduced-residual p r standing a residual in let level = at.level in omega (arith, ints, rise_is, more, level)
@@ -249,16 +255,14 @@ module _ (p : Problem) (r : Routing) (standing : IsStanding p r) (s : Search) (s
             }) (entries_of s.queue) search.queue.rises));
       }
 
-      pub relaxed-search : IsSearch p r t
-      relaxed-search = record { labels = relaxed-labels; queue = relaxed-queue }
-
-      pub relaxed-improves : Improves s t
-      relaxed-improves = record { reached = entered.reached; level = entered.level; kept = kept; labelled = labelled; fell = fell }
-
-      pub relaxed-closed : IsClosedAt p r t a
-      relaxed-closed _ = record {
-        labelled = ap is_some at_head;
-        low = rw (at_head, kept a.tail at.reached) (let tail = tail_rise in omega (arith, ints, rise_is, tail));
+      pub IsRelaxed-entered : IsRelaxed p r s t a
+      IsRelaxed-entered = record {
+        search = record { labels = relaxed-labels; queue = relaxed-queue };
+        improves = record { reached = entered.reached; level = entered.level; kept = kept; labelled = labelled; fell = fell };
+        closed = λ _. record {
+          labelled = ap is_some at_head;
+          low = rw (at_head, kept a.tail at.reached) (let tail = tail_rise in omega (arith, ints, rise_is, tail));
+        };
       }
 
 -- the source alone is labelled
@@ -303,9 +307,6 @@ module _ (p : Problem) (r : Routing) (standing : IsStanding p r) (s : Search) (f
   }
 
 -- what a label more keeps, one label after another
-pub Improves-refl : (s : Search) → Improves s s
-Improves-refl s = record { reached = refl; level = refl; kept = λ v _. refl; labelled = λ v h. h; fell = λ v _. omega (arith, ints) }
-
 pub Improves-trans : (s t u : Search) → Improves s t → Improves t u → Improves s u
 Improves-trans s t u h k = record {
   reached = k.reached ∙ h.reached;

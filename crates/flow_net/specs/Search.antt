@@ -155,6 +155,12 @@ pub record IsClosed (r : Routing) (labels : List (Option Label)) (a : Arc) : Typ
 abbrev pub IsClosedAt : Problem → Routing → Search → Arc → Type 0
 IsClosedAt p r s a = IsResidualArc p r a → IsClosed r s.labels.items a
 
+-- an arc was followed: it is closed, and the search goes on
+pub record IsRelaxed (p : Problem) (r : Routing) (old new : Search) (a : Arc) : Type 0 where
+  pub search : IsSearch p r new
+  pub improves : Improves old new
+  pub closed : IsClosedAt p r new a
+
 -- the sink is reached, and each node reached before it is closed
 pub record HasArrived (p : Problem) (r : Routing) (s : Search) : Type 0 where
   pub search : IsSearch p r s

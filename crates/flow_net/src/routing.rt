@@ -2,7 +2,7 @@
 ghost use Rattle.std.specs.Prelude.{◌≡◌, ◌↔◌, ◌-ℤ◌, ◌<ℤ◌, IfOk, IsTrue};
 ghost use Rattle.flow_net.specs.Arc.{IsArc};
 ghost use Rattle.flow_net.specs.Flow.{residual_of, reduced_cost_of, IsPriced};
-ghost use Rattle.flow_net.specs.Problem.{IsProblem, IsStanding, IsFreeArc, IsFreePath, IsBottleneck};
+ghost use Rattle.flow_net.specs.Problem.{IsProblem, IsStanding, IsResidualArc, IsFreeArc, IsFreePath, IsBottleneck};
 
 use crate::arc::Arc;
 use crate::problem::Problem;
@@ -30,7 +30,7 @@ impl Routing {
     }
 
     /// How much more an arc can carry: 0 where it is no residual arc.
-    pub fn residual(&self, problem: &Problem, arc: &Arc) -> i64
+    fn residual(&self, problem: &Problem, arc: &Arc) -> i64
         requires standing { IsStanding problem.now self.now }
         requires arc { IsArc problem.now.net.now.links arc.now }
         ensures { result ≡ residual_of problem.now.net.now.links self.now.flow.items arc.now }
@@ -51,13 +51,22 @@ impl Routing {
         arc.cost + self.potentials[arc.tail as usize] - self.potentials[arc.head as usize]
     }
 
+    /// Whether an arc can carry more.
+    pub fn is_residual(&self, problem: &Problem, arc: &Arc) -> bool
+        requires standing { IsStanding problem.now self.now }
+        requires arc { IsArc problem.now.net.now.links arc.now }
+        ensures { IsTrue result ↔ IsResidualArc problem.now self.now arc.now }
+    {
+        self.residual(problem, arc) > 0
+    }
+
     /// Whether an arc can carry more and has no reduced cost.
     pub fn is_free(&self, problem: &Problem, arc: &Arc) -> bool
         requires standing { IsStanding problem.now self.now }
         requires arc { IsArc problem.now.net.now.links arc.now }
         ensures { IsTrue result ↔ IsFreeArc problem.now self.now arc.now }
     {
-        self.reduced_cost(arc) == 0 && self.residual(problem, arc) > 0
+        self.reduced_cost(arc) == 0 && self.is_residual(problem, arc)
     }
 
     /// Sends along a path what it can carry, at most what is left to route.

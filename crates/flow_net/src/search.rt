@@ -32,7 +32,7 @@ impl Search {
     ghost use Rattle.std.specs.Prelude.{◌<◌, true, false, pos, ◌<ℤ◌, ◌≤ℤ◌, IfOk, OnOk, MatchBool, MatchOption};
     ghost use Rattle.flow_net.specs.Arc.{IsArc};
     ghost use Rattle.flow_net.specs.Problem.{IsProblem, IsStanding, IsFreeArc};
-    ghost use Rattle.flow_net.specs.Search.{IsSearch, IsFresh, HasQueue, IsDrained, IsReaching, IsAt, IsEntered, Improves, IsClosedAt, HasArrived, IsStuck, IsTree, IsTreeArc, IsTreePath, arc_at, rise_at, is_labelled, rise_of};
+    ghost use Rattle.flow_net.specs.Search.{IsSearch, IsFresh, HasQueue, IsDrained, IsReaching, IsAt, IsEntered, Improves, IsClosedAt, IsRelaxed, HasArrived, IsStuck, IsTree, IsTreeArc, IsTreePath, arc_at, rise_at, is_labelled, rise_of};
 
     /// A search that has labelled the source alone.
     pub fn new(alloc: Global, problem: &Problem) -> Result<Search, AllocError>
@@ -119,11 +119,9 @@ impl Search {
         requires search { IsSearch problem.now routing.now self.old }
         requires arc { IsArc problem.now.net.now.links arc.now }
         requires at { IsAt self.old arc.now.tail label.now }
-        ensures search { OnOk result (IsSearch problem.now routing.now self.new) }
-        ensures improves { OnOk result (Improves self.old self.new) }
-        ensures closed { OnOk result (IsClosedAt problem.now routing.now self.new arc.now) }
+        ensures { OnOk result (IsRelaxed problem.now routing.now self.old self.new arc.now) }
     {
-        if self.reached[arc.head as usize] || routing.residual(problem, arc) <= 0 {
+        if self.reached[arc.head as usize] || !routing.is_residual(problem, arc) {
             return Ok(());
         }
         let rise = label.rise + routing.reduced_cost(arc);

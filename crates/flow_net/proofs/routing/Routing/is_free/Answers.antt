@@ -1,5 +1,4 @@
-use Rattle.std.proofs.Common.{ℤ, pos, ◌<ℤ◌, ◌↔◌, IsTrue, to_z, of_z, w64, FitsSigned, rules, arith}
-use Rattle.std.specs.Int.Signed.{lt_z}
+use Rattle.std.proofs.Common.{arith}
 use Rattle.std.proofs.lemmas.Int.{ints}
 use Rattle.flow_net.proofs.StandingLemmas.{IsPriced-arc}
 use Rattle.flow_net.proofs.routing.Routing.is_free.Goals as goal
@@ -7,12 +6,8 @@ use Rattle.flow_net.proofs.routing.Routing.is_free.Goals as goal
 pub reduced_cost-requires : goal.reduced_cost-requires
 reduced_cost-requires c = IsPriced-arc c.args.problem.now c.args.self.now c.requires.standing c.args.arc.now c.requires.arc
 
-above_zero : (x : ℤ) → FitsSigned w64 x → IsTrue (lt_z (pos 0) (to_z w64 (of_z w64 x))) ↔ (pos 0 <ℤ x)
-above_zero x fits = (λ h. grind (arith, ints), λ h. grind (arith, ints))
-
 pub returns-then-reduced_cost-eq0 : goal.returns-then-reduced_cost-eq0
-returns-then-reduced_cost-eq0 c =
-    let above = above_zero c.residual.result (search rules) in (
-      λ h. record { residual = record { arc = c.requires.arc; residual = rw (← c.residual.ensures) (above.0 h) }; free = omega (arith, ints) },
-      λ free. above.1 (rw c.residual.ensures free.residual.residual),
-    )
+returns-then-reduced_cost-eq0 c = (
+  λ h. record { residual = c.is_residual.ensures.0 h; free = omega (arith, ints) },
+  λ free. c.is_residual.ensures.1 free.residual,
+)

@@ -1,6 +1,5 @@
-use Rattle.std.proofs.Common.{◌≡◌, true, false, ℤ, pos, ◌+ℤ◌, ◌<ℤ◌, ◌≤ℤ◌, w64, to_z, of_z, FitsSigned, sym, subst, ◌∙◌, rules, arith}
-use Rattle.std.specs.Int.Signed.{le_z}
-use Rattle.std.proofs.lemmas.Int.{ints}
+use Rattle.std.proofs.Common.{◌≡◌, true, false, ℤ, pos, ◌<◌, ◌+ℤ◌, ◌<ℤ◌, ◌≤ℤ◌, w64, to_z, of_z, FitsSigned, sym, subst, ◌∙◌, rules, arith}
+use Rattle.std.proofs.lemmas.Bool.{false≢true}
 use Rattle.std.proofs.lemmas.List.{get_or_read}
 use Rattle.std.proofs.lemmas.Result.{on_ok_weaker}
 use Rattle.flow_net.specs.Flow.{reduced_cost_of}
@@ -10,28 +9,28 @@ use Rattle.flow_net.specs.Search.{rise_of_label}
 use Rattle.flow_net.proofs.Sizes.{sizes}
 use Rattle.flow_net.proofs.FlowLemmas.{arc-nodes}
 use Rattle.flow_net.proofs.StandingLemmas.{IsPriced-arc}
-use Rattle.flow_net.proofs.SearchLemmas.{IsSmall-tail, closed-reached, closed-low, above-level, relaxed-search, relaxed-improves, relaxed-closed}
+use Rattle.flow_net.proofs.SearchLemmas.{IsSmall-tail, IsRelaxed-same, IsRelaxed-reached, IsRelaxed-low, IsRelaxed-entered, above-level}
 use Rattle.flow_net.proofs.search.Search.relax.Goals as goal
-use Rattle.flow_net.proofs.search.Search.relax.Goals.{then-index-via-then-index, then-index-via-else-index+then-residual-le0, After-reduced_cost, Else-not-is_lower}
+use Rattle.flow_net.proofs.search.Search.relax.Goals.{Start, After-index, then-index-via-then-index, then-index-via-else-index+then-not-is_residual, After-reduced_cost, Else-not-is_lower}
 
--- whether the head is reached, as the code has it
-not_above : (x : ℤ) → FitsSigned w64 x → le_z (to_z w64 (of_z w64 x)) (pos 0) ≡ true → pos 0 <ℤ x → ⊥
-not_above x fits le above = grind (arith, ints)
+head_in : (c : Start) → c.args.arc.now.head < c.args.problem.now.net.now.nodes
+head_in c = (arc-nodes c.args.problem.now.net.now c.requires.standing.problem.net c.args.arc.now c.requires.arc).1
 
-above_zero : (x : ℤ) → FitsSigned w64 x → le_z (to_z w64 (of_z w64 x)) (pos 0) ≡ false → pos 0 <ℤ x
-above_zero x fits le = grind (arith, ints)
+-- whether the head is reached, as the code reads it
+mark : (c : After-index) → c.index.result.now ≡ is_in c.args.self.now.reached.items c.args.arc.now.head
+mark c =
+    let within = head_in (goal.at.After-index c).Start in
+    let each = c.requires.search.labels.one_mark_each in
+    get_or_read c.args.self.now.reached.items c.args.arc.now.head c.index.result.now (omega arith) c.index.ensures false
 
-pub returns-then-index-clause-closed : goal.returns-then-index-clause-closed
-returns-then-index-clause-closed c =
+pub returns-then-index : goal.returns-then-index
+returns-then-index c =
     let p = c.args.problem.now in
     let s = c.args.self.now in
     let a = c.args.arc.now in
-    let within = (arc-nodes p.net.now c.requires.standing.problem.net a c.requires.arc).1 in
-    let each = c.requires.search.labels.one_mark_each in
-    let mark : c.index.result.now ≡ is_in s.reached.items a.head = get_or_read s.reached.items a.head c.index.result.now (omega arith) c.index.ensures false in
     elim c.then-index.branch [
-      | then-index-via-then-index w ↦ closed-reached p c.args.routing.now c.requires.standing s c.requires.search a c.args.label.now c.requires.at (sym mark ∙ w.if-index.true)
-      | then-index-via-else-index+then-residual-le0 w ↦ λ residual. absurd (not_above w.residual.result (search rules) w.if-residual-le0.true (rw w.residual.ensures residual.residual))
+      | then-index-via-then-index w ↦ IsRelaxed-reached p c.args.routing.now c.requires.standing s c.requires.search a c.args.label.now c.requires.at (sym (mark (goal.at.returns-then-index c).After-index) ∙ w.if-index.true)
+      | then-index-via-else-index+then-not-is_residual w ↦ IsRelaxed-same p c.args.routing.now c.requires.standing s c.requires.search a c.args.label.now c.requires.at (λ residual. absurd (false≢true (sym w.if-not-is_residual.true ∙ w.is_residual.ensures.1 residual)))
     ]
 
 pub reduced_cost-requires : goal.reduced_cost-requires
@@ -61,9 +60,9 @@ sum c =
 pub overflow_add-rise : goal.overflow_add-rise
 overflow_add-rise c = (sum (goal.at.overflow_add-rise c).After-reduced_cost).fits
 
-pub returns-then-not-is_lower-clause-closed : goal.returns-then-not-is_lower-clause-closed
-returns-then-not-is_lower-clause-closed c =
-    closed-low c.args.problem.now c.args.routing.now c.requires.standing c.args.self.now c.requires.search c.args.arc.now c.args.label.now c.requires.at _ (sum (goal.at.returns-then-not-is_lower-clause-closed c).After-reduced_cost).is (c.is_lower.ensures.no_lower c.if-not-is_lower.true)
+pub returns-then-not-is_lower : goal.returns-then-not-is_lower
+returns-then-not-is_lower c =
+    IsRelaxed-low c.args.problem.now c.args.routing.now c.requires.standing c.args.self.now c.requires.search c.args.arc.now c.args.label.now c.requires.at _ (sum (goal.at.returns-then-not-is_lower c).After-reduced_cost).is (c.is_lower.ensures.no_lower c.if-not-is_lower.true)
 
 pub overflow_add-label : goal.overflow_add-label
 overflow_add-label c =
@@ -76,32 +75,19 @@ record IsOpen (c : Else-not-is_lower) : Type 0 where
   free : is_in c.args.self.now.reached.items c.args.arc.now.head ≡ false
 
 open_arc : (c : Else-not-is_lower) → IsOpen c
-open_arc c =
-    let p = c.args.problem.now in
-    let s = c.args.self.now in
-    let a = c.args.arc.now in
-    let within = (arc-nodes p.net.now c.requires.standing.problem.net a c.requires.arc).1 in
-    let each = c.requires.search.labels.one_mark_each in
-    record {
-      residual = record { arc = c.requires.arc; residual = rw (← c.residual.ensures) (above_zero c.residual.result (search rules) c.if-residual-le0.false) };
-      free = sym (get_or_read s.reached.items a.head c.index.result.now (omega arith) c.index.ensures false) ∙ c.if-index.false;
-    }
+open_arc c = record {
+  residual = c.is_residual.ensures.0 c.if-not-is_residual.false;
+  free = sym (mark (goal.at.Else-not-is_lower c).After-index) ∙ c.if-index.false;
+}
+
+pub enter-requires-clause-node : goal.enter-requires-clause-node
+enter-requires-clause-node c = let within = head_in (goal.at.enter-requires-clause-node c).Start in let each = c.requires.search.labels.one_each in omega arith
 
 pub enter-requires-clause-rise : goal.enter-requires-clause-rise
 enter-requires-clause-rise c =
     above-level c.args.problem.now c.args.routing.now c.requires.standing c.args.self.now c.requires.search c.args.arc.now c.args.label.now c.requires.at _ (sum (goal.at.enter-requires-clause-rise c).After-reduced_cost).is (open_arc (goal.at.enter-requires-clause-rise c).Else-not-is_lower).residual
 
-pub returns-clause-search : goal.returns-clause-search
-returns-clause-search c =
-    let o = open_arc (goal.at.returns-clause-search c).Else-not-is_lower in
-    on_ok_weaker c.enter.result (relaxed-search c.args.problem.now c.args.routing.now c.requires.standing c.args.self.now c.requires.search c.args.arc.now c.args.label.now c.requires.at _ (sum (goal.at.returns-clause-search c).After-reduced_cost).is o.residual o.free (c.is_lower.ensures.lower c.if-not-is_lower.false) c.enter.new.self) c.enter.ensures
-
-pub returns-clause-improves : goal.returns-clause-improves
-returns-clause-improves c =
-    let o = open_arc (goal.at.returns-clause-improves c).Else-not-is_lower in
-    on_ok_weaker c.enter.result (relaxed-improves c.args.problem.now c.args.routing.now c.requires.standing c.args.self.now c.requires.search c.args.arc.now c.args.label.now c.requires.at _ (sum (goal.at.returns-clause-improves c).After-reduced_cost).is o.residual o.free (c.is_lower.ensures.lower c.if-not-is_lower.false) c.enter.new.self) c.enter.ensures
-
-pub returns-clause-closed : goal.returns-clause-closed
-returns-clause-closed c =
-    let o = open_arc (goal.at.returns-clause-closed c).Else-not-is_lower in
-    on_ok_weaker c.enter.result (relaxed-closed c.args.problem.now c.args.routing.now c.requires.standing c.args.self.now c.requires.search c.args.arc.now c.args.label.now c.requires.at _ (sum (goal.at.returns-clause-closed c).After-reduced_cost).is o.residual o.free (c.is_lower.ensures.lower c.if-not-is_lower.false) c.enter.new.self) c.enter.ensures
+pub returns : goal.returns
+returns c =
+    let o = open_arc (goal.at.returns c).Else-not-is_lower in
+    on_ok_weaker c.enter.result (IsRelaxed-entered c.args.problem.now c.args.routing.now c.requires.standing c.args.self.now c.requires.search c.args.arc.now c.args.label.now c.requires.at _ (sum (goal.at.returns c).After-reduced_cost).is o.residual o.free (c.is_lower.ensures.lower c.if-not-is_lower.false) c.enter.new.self) c.enter.ensures
