@@ -1,0 +1,4 @@
+pub mod HeightLemmas
+pub mod ShareLemmas
+pub mod MixLemmas
+pub mod CourseLemmas

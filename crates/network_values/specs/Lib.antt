@@ -1,2 +1,5 @@
 pub mod Values
 pub mod Sides
+pub mod Heights
+pub mod Mixes
+pub mod Courses
