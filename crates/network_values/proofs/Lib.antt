@@ -2,3 +2,7 @@ pub mod HeightLemmas
 pub mod ShareLemmas
 pub mod MixLemmas
 pub mod CourseLemmas
+pub mod WholeLemmas
+pub mod FlowBalance
+pub mod EndLemmas
+pub mod WeightLemmas

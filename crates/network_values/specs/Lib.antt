@@ -3,3 +3,4 @@ pub mod Sides
 pub mod Heights
 pub mod Mixes
 pub mod Courses
+pub mod Weights
