@@ -6,3 +6,4 @@ pub mod WholeLemmas
 pub mod FlowBalance
 pub mod EndLemmas
 pub mod WeightLemmas
+pub mod PassLemmas

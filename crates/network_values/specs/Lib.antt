@@ -4,3 +4,4 @@ pub mod Heights
 pub mod Mixes
 pub mod Courses
 pub mod Weights
+pub mod Penalties
