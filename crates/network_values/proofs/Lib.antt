@@ -7,3 +7,4 @@ pub mod FlowBalance
 pub mod EndLemmas
 pub mod WeightLemmas
 pub mod PassLemmas
+pub mod PenaltyLemmas
