@@ -8,3 +8,4 @@ pub mod EndLemmas
 pub mod WeightLemmas
 pub mod PassLemmas
 pub mod PenaltyLemmas
+pub mod SignLemmas

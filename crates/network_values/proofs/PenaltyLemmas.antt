@@ -27,7 +27,7 @@ use Rattle.network_text.specs.declared.network.Network.{Network}
 use Rattle.problem_table.specs.Deficit.{IsReferencePlace, deficit_above, hot_target}
 use Rattle.problem_table.specs.Sides.{sum_side}
 use Rattle.network_values.specs.Heights.{height, positive_part}
-use Rattle.network_values.specs.Penalties.{PenaltiesAddUp, PenaltiesAreTheExcess, absorbed, base_of, before, behind, course_of, exchanger_penalties, height_at, heights, hot_duty, hot_heat, hot_part, mix_penalties, penalty, released, stream_height, unshifted}
+use Rattle.network_values.specs.Penalties.{PenaltiesAddUp, PenaltiesAreTheExcess, absorbed, base_of, before, behind, course_of, exchanger_penalties, height_at, heights, hot_duty, hot_heat, utility_part, mix_penalties, penalty, released, stream_height, unshifted}
 use Rattle.network_values.specs.Courses.{height_on}
 use Rattle.network_values.specs.Mixes.{height_above}
 use Rattle.network_values.specs.Values.{AreEnded, IsWholeValuation, Valuation, first_value, last_value}
@@ -110,7 +110,7 @@ less_deficit used hot cold = ap (plus used) (sym (whole-minus hot cold)) ∙ sym
 
 module _ (weight : ℕ → Rational) (case : Case) (network : Network) (shape : HasShape case network) where
   by_parts : (number : ℕ) (duty : Rational) (hot cold : Source)
-      → minus (released weight network number duty hot) (absorbed weight network number cold) ≡ plus (hot_part duty hot) (plus (side_taken weight case network shape number hot) (side_taken weight case network shape number cold))
+      → minus (released weight network number duty hot) (absorbed weight network number cold) ≡ plus (utility_part duty hot) (plus (side_taken weight case network shape number hot) (side_taken weight case network shape number cold))
   by_parts number duty (source.Stream i) (source.Stream j) =
       let taken = side_taken weight case network shape number (source.Stream i) in
       minus_turned taken (behind weight (pass_of network number j)) (before weight (pass_of network number j)) ∙ sym (zero-plus (plus taken (side_taken weight case network shape number (source.Stream j))))

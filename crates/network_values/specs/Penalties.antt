@@ -87,12 +87,13 @@ mix_penalties case place network values = rational_sum_by (lost (height_at case 
 
 -- ---- the heat of the hot utilities
 
-abbrev pub hot_part : Rational → Source → Rational
-hot_part duty (source.Stream i) = rational_zero
-hot_part duty (source.Utility i) = duty
+-- a duty with a utility; nothing with a stream
+abbrev pub utility_part : Rational → Source → Rational
+utility_part duty (source.Stream i) = rational_zero
+utility_part duty (source.Utility i) = duty
 
 abbrev pub hot_duty : Exchanger → Rational
-hot_duty e = hot_part e.duty e.hot
+hot_duty e = utility_part e.duty e.hot
 
 -- the sum of the duties of the exchangers with a hot utility
 abbrev pub hot_heat : Network → Rational

@@ -6,6 +6,16 @@
 //! heat above a temperature away.
 #![tactic(auto)]
 
+mod balance;
+mod heights;
 mod values;
 
+pub use balance::{
+    deficits_are_met, penalties_add_up, penalties_are_not_negative, penalties_are_the_excess,
+    streams_end_once, targets_are_met, weights_balance,
+};
+pub use heights::{
+    hot_shares_are_at_least_cold_shares, mixes_lose_height, passes_take_shares, shares_are_parts,
+    shares_rise,
+};
 pub use values::BranchValue;
