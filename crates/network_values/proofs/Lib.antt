@@ -8,3 +8,6 @@ pub mod WholeLemmas
 pub mod FlowBalance
 pub mod EndLemmas
 pub mod WeightLemmas
+pub mod PassLemmas
+pub mod PenaltyLemmas
+pub mod SignLemmas

@@ -5,3 +5,4 @@ pub mod Heights
 pub mod Mixes
 pub mod Courses
 pub mod Weights
+pub mod Penalties

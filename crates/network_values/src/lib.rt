@@ -6,9 +6,19 @@
 //! heat above a temperature away.
 #![tactic(auto)]
 
+mod balance;
+mod heights;
 mod valuations;
 mod values;
 
+pub use balance::{
+    deficits_are_met, penalties_add_up, penalties_are_not_negative, penalties_are_the_excess,
+    streams_end_once, targets_are_met, weights_balance,
+};
+pub use heights::{
+    hot_shares_are_at_least_cold_shares, mixes_lose_height, passes_take_shares, shares_are_parts,
+    shares_rise,
+};
 pub use valuations::{
     valuations_agree, valuations_exist_where_splits_leave_room, valuations_go_line_by_line,
 };
