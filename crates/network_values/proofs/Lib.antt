@@ -1,3 +1,5 @@
+pub mod LineLemmas
+pub mod ValuationLemmas
 pub mod HeightLemmas
 pub mod ShareLemmas
 pub mod MixLemmas

@@ -1,4 +1,5 @@
 pub mod Values
+pub mod Made
 pub mod Sides
 pub mod Heights
 pub mod Mixes
