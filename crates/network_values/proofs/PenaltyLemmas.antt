@@ -108,15 +108,15 @@ less_deficit used hot cold = ap (plus used) (sym (whole-minus hot cold)) ∙ sym
 
 module _ (weight : ℕ → Rational) (case : Case) (network : Network) (shape : HasShape case network) where
   by_parts : (number : ℕ) (duty : Rational) (hot cold : Source)
-      → minus (released_heat weight network number duty hot) (absorbed_heat weight network number cold) ≡ plus (utility_part duty hot) (plus (side_taken weight case network shape number hot) (side_taken weight case network shape number cold))
+      → minus (released_heat weight network number duty hot) (absorbed_heat weight network number cold) ≡ plus (utility_part duty hot) (plus (side_taken weight network number hot) (side_taken weight network number cold))
   by_parts number duty (source.Stream i) (source.Stream j) =
-      let taken = side_taken weight case network shape number (source.Stream i) in
-      minus_turned taken (outlet_height weight (pass_of network number j)) (inlet_height weight (pass_of network number j)) ∙ sym (zero-plus (plus taken (side_taken weight case network shape number (source.Stream j))))
+      let taken = side_taken weight network number (source.Stream i) in
+      minus_turned taken (outlet_height weight (pass_of network number j)) (inlet_height weight (pass_of network number j)) ∙ sym (zero-plus (plus taken (side_taken weight network number (source.Stream j))))
   by_parts number duty (source.Stream i) (source.Utility j) =
-      let taken = side_taken weight case network shape number (source.Stream i) in
+      let taken = side_taken weight network number (source.Stream i) in
       minus-zero taken ∙ sym (zero-plus (plus taken rational_zero) ∙ plus-zero taken)
   by_parts number duty (source.Utility i) (source.Stream j) =
-      minus_turned duty (outlet_height weight (pass_of network number j)) (inlet_height weight (pass_of network number j)) ∙ ap (plus duty) (sym (zero-plus (side_taken weight case network shape number (source.Stream j))))
+      minus_turned duty (outlet_height weight (pass_of network number j)) (inlet_height weight (pass_of network number j)) ∙ ap (plus duty) (sym (zero-plus (side_taken weight network number (source.Stream j))))
   by_parts number duty (source.Utility i) (source.Utility j) = minus-zero duty ∙ sym (ap (plus duty) (plus-zero rational_zero) ∙ plus-zero duty)
 
   -- all exchangers: the hot utilities, and what the passes take
@@ -124,8 +124,8 @@ module _ (weight : ℕ → Rational) (case : Case) (network : Network) (shape : 
   exchangers_add_up =
       let es = exchangers_of network.lines in
       let given = λ (p : ℕ × Exchanger). hot_duty p.1 in
-      sum-enumerated (penalty weight network) (λ p. plus (given p) (sides_taken weight case network shape p)) es (λ number e at. by_parts number e.duty e.hot e.cold)
-      ∙ rational_sum_by-plus given (sides_taken weight case network shape) (enumerate_from 0 es)
+      sum-enumerated (penalty weight network) (λ p. plus (given p) (sides_taken weight network p)) es (λ number e at. by_parts number e.duty e.hot e.cold)
+      ∙ rational_sum_by-plus given (sides_taken weight network) (enumerate_from 0 es)
       ∙ ap₂ plus (sum-items given hot_duty es (λ number e at. refl)) (sym (passes_by_side weight case network shape))
 
 pub penalties_sum : PenaltiesAddUp

@@ -14,6 +14,7 @@ use Rattle.network_text.specs.Shape.{HasShape}
 use Rattle.network_text.specs.declared.network.Network.{Network}
 use Rattle.network_text.proofs.OfShape.{all_made}
 use Rattle.network_values.specs.Values.{IsWholeValuation, Solves, Valuation, first_value, no_value, value_at}
+use Rattle.network_values.proofs.ValuationLemmas.{branch_positive}
 
 -- ---- ranges
 
@@ -47,4 +48,4 @@ module _ {case : Case} {network : Network} {values : Valuation} (whole : IsWhole
   pub branch_above : HasShape case network → (branch : ℕ) → branch < length network.branches → IsBelow rational_zero (value_at values branch).cp
   branch_above shape branch within =
       let lines = ap (λ ls. length (made_by ls)) (take-length network.lines) in
-      whole.positive branch no_value (omega (arith, within, all_made shape.made_once, whole.count, lines))
+      branch_positive case network (length network.lines) values whole branch (omega (arith, within, all_made shape.made_once, lines))
