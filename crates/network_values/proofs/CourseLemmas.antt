@@ -1,5 +1,5 @@
 -- Heights and shares on the course of a stream.
-use Rattle.std.proofs.Common.{◌≡◌, ◌∙◌, Bool, true, false, refl, sym, ap, ap₂}
+use Rattle.std.proofs.Common.{◌≡◌, ◌∙◌, Bool, true, false, refl, sym, ap}
 use Rattle.std.specs.Prelude.{if◌then◌else◌}
 use mathlib.Core.Path.{subst₂}
 use Rattle.fractions.specs.Rationals.{IsAtMost, IsBelow, Rational, minus, plus, rational_zero, times}
@@ -7,12 +7,12 @@ use Rattle.fractions.proofs.Comparisons.{at_most-minus_minus, at_most_from_below
 use Rattle.fractions.proofs.Products.{plus-times, times-minus}
 use Rattle.fractions.proofs.Sums.{minus-minus_same, minus-self, plus-zero}
 use Rattle.network_values.specs.Courses.{Course, IsBetweenValues, Latent, PassesTakeShares, Sensible, SharesRise, height_on, side_on}
-use Rattle.network_values.specs.Heights.{HasDuty, counts, height, positive_part, share}
+use Rattle.network_values.specs.Heights.{HasDuty, is_above, height, positive_part, share}
 use Rattle.network_values.specs.Sides.{Between, Level, SideRun, high_of, low_of, seen_from}
 use Rattle.network_values.specs.Values.{IsMix}
 use Rattle.network_values.specs.declared.values.BranchValue.{BranchValue}
 use Rattle.network_values.proofs.MixLemmas.{mixes_lose}
-use Rattle.network_values.proofs.ShareLemmas.{HasDuty-seen, counts-itself, high_of-seen, hot_share_at_least, low_of-seen}
+use Rattle.network_values.proofs.ShareLemmas.{HasDuty-seen, is_above-itself, high_of-seen, hot_share_at_least, low_of-seen}
 
 has_duty-on : (course : Course) (duty : Rational) (low high : BranchValue) → IsBetweenValues duty low high → HasDuty duty (side_on course low high)
 has_duty-on (Sensible base) duty low high between = (between.some, ap (times high.cp) (minus-minus_same high.t low.t base) ∙ between.gives)
@@ -21,7 +21,7 @@ has_duty-on (Latent distance) duty low high between = tt
 takes-on : (from_itself : Bool) (course : Course) (duty : Rational) (low high : BranchValue) → IsBetweenValues duty low high
     → minus (height_on from_itself course high) (height_on from_itself course low) ≡ share from_itself duty (side_on course low high)
 takes-on from_itself (Sensible base) duty low high between = ap (λ f. minus (height high.cp (minus high.t base)) (height f (minus low.t base))) between.size
-takes-on from_itself (Latent distance) duty low high between = by (counts from_itself distance)
+takes-on from_itself (Latent distance) duty low high between = by (is_above from_itself distance)
   where
     by : (b : Bool) → minus (if b then times high.cp high.t else rational_zero) (if b then times low.cp low.t else rational_zero) ≡ (if b then duty else rational_zero)
     by true = ap (λ f. minus (times high.cp high.t) (times f low.t)) between.size ∙ sym (times-minus high.cp high.t low.t) ∙ between.gives
@@ -30,7 +30,7 @@ takes-on from_itself (Latent distance) duty low high between = by (counts from_i
 pub height_on-mixed : (from_itself : Bool) (course : Course) (first second to : BranchValue) → IsBelow rational_zero first.cp → IsBelow rational_zero second.cp → IsMix first second to
     → IsAtMost (height_on from_itself course to) (plus (height_on from_itself course first) (height_on from_itself course second))
 height_on-mixed from_itself (Sensible base) first second to some other mix = mixes_lose.mixes base first second to some other mix
-height_on-mixed from_itself (Latent distance) first second to some other mix = by (counts from_itself distance)
+height_on-mixed from_itself (Latent distance) first second to some other mix = by (is_above from_itself distance)
   where
     by : (b : Bool) → IsAtMost (if b then times to.cp to.t else rational_zero) (plus (if b then times first.cp first.t else rational_zero) (if b then times second.cp second.t else rational_zero))
     by true = at_most_from_same (times to.cp to.t) (plus (times first.cp first.t) (times second.cp second.t)) mix.heat
@@ -39,7 +39,7 @@ height_on-mixed from_itself (Latent distance) first second to some other mix = b
 pub height_on-additive : (from_itself : Bool) (course : Course) (f g t : Rational)
     → height_on from_itself course (record { cp = plus f g; t = t }) ≡ plus (height_on from_itself course (record { cp = f; t = t })) (height_on from_itself course (record { cp = g; t = t }))
 height_on-additive from_itself (Sensible base) f g t = plus-times f g (positive_part (minus t base))
-height_on-additive from_itself (Latent distance) f g t = by (counts from_itself distance)
+height_on-additive from_itself (Latent distance) f g t = by (is_above from_itself distance)
   where
     by : (b : Bool) → (if b then times (plus f g) t else rational_zero) ≡ plus (if b then times f t else rational_zero) (if b then times g t else rational_zero)
     by true = plus-times f g t
@@ -60,11 +60,11 @@ share-lower from_itself place other duty side positive has lower =
 
 share-itself : (duty : Rational) (side : SideRun) → IsBelow rational_zero duty → IsAtMost (share false duty side) (share true duty side)
 share-itself duty (Between size low high) positive = at_most_refl (share false duty (Between size low high))
-share-itself duty (Level at) positive = by (counts false at) refl
+share-itself duty (Level at) positive = by (is_above false at) refl
   where
-    by : (b : Bool) → counts false at ≡ b → IsAtMost (if b then duty else rational_zero) (share true duty (Level at))
-    by true above = at_most_from_same duty (share true duty (Level at)) (ap (λ b. if b then duty else rational_zero) (sym (counts-itself at above)))
-    by false other = either (counts true at)
+    by : (b : Bool) → is_above false at ≡ b → IsAtMost (if b then duty else rational_zero) (share true duty (Level at))
+    by true above = at_most_from_same duty (share true duty (Level at)) (ap (λ b. if b then duty else rational_zero) (sym (is_above-itself at above)))
+    by false other = either (is_above true at)
       where
         either : (c : Bool) → IsAtMost rational_zero (if c then duty else rational_zero)
         either true = at_most_from_below rational_zero duty positive

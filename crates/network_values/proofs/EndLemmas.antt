@@ -1,5 +1,5 @@
 -- Each stream ends just once, and no branch is left over.
-use Rattle.std.proofs.Common.{◌≡◌, ◌≢◌, ◌∙◌, ◌<◌, ◌≤◌, ◌+◌, ◌⊎◌, inl, inr, ℕ, zero, suc, Bool, true, false, List, [], ◌∷◌, Some, get_or, slice_get, length, map, refl, sym, ap, ap₂, subst, arith}
+use Rattle.std.proofs.Common.{◌≡◌, ◌≢◌, ◌∙◌, ◌<◌, ◌⊎◌, inl, inr, ℕ, zero, suc, Bool, true, false, List, [], ◌∷◌, get_or, slice_get, length, refl, sym, ap, ap₂, subst, arith}
 use Rattle.std.specs.Prelude.{All, AllPairs, Contains, if◌then◌else◌, ◌==◌}
 use Rattle.std.specs.List.{list_any, range_with_len}
 use mathlib.Core.Path.{subst₂}
@@ -10,7 +10,6 @@ use Rattle.std.proofs.lemmas.List.Elements.{All-head, All-nil, All-tail, All-wea
 use Rattle.sums.proofs.CountLemmas.{found, none_any}
 use Rattle.sums.proofs.ListLemmas.{Contains-slice_get}
 use Rattle.stream_case.specs.declared.case.Case.{Case}
-use Rattle.stream_case.specs.declared.stream.Stream.{Stream}
 use Rattle.fractions.specs.Rationals.{IsAtMost, IsBelow, Rational, minus, plus, rational_sum_by, rational_zero}
 use Rattle.fractions.proofs.Comparisons.{at_most-plus_left, at_most-plus_right, at_most_from_below, at_most_from_plus, at_most_refl, at_most_trans, below_not_at_most}
 use Rattle.fractions.proofs.RationalSums.{but_at, left_of, left_of-unused, not_negative-rational_sum_by, one_taken, rational_sum_by-zero, term-at_most}
@@ -22,8 +21,8 @@ use Rattle.network_text.specs.declared.network.Line.TheVariants as line
 use Rattle.network_text.specs.declared.network.Network.{Network}
 use Rattle.network_text.proofs.Lists.{All-flat_map}
 use Rattle.network_text.proofs.OfShape.{own_stream, stream_within, streams_first, used_there}
-use Rattle.network_values.specs.Values.{AreEnded, IsFullEnd, IsWholeValuation, Solves, Valuation, ended_by, ended_streams, ends, first_value, full_size, last_value, value_at}
-use Rattle.network_values.specs.Weights.{EndOnce, IsAdditive, StreamsEndOnce, Weight, lost, passed, weight_at}
+use Rattle.network_values.specs.Values.{AreEnded, IsWholeValuation, Solves, Valuation, ended_by, ended_streams, ends, last_value, value_at}
+use Rattle.network_values.specs.Weights.{EndOnce, IsAdditive, StreamsEndOnce, Weight, mix_loss, pass_loss, weight_at}
 use Rattle.network_values.specs.declared.values.BranchValue.{BranchValue}
 use Rattle.network_values.proofs.FlowBalance.{IsEven, flow_balance}
 use Rattle.network_values.proofs.WholeLemmas.{All-range, Contains-range, all_solved, branch_above, item_at, own_value}
@@ -129,19 +128,19 @@ module _ {case : Case} {network : Network} {values : Valuation} (shape : HasShap
   of-least i branch within = sizes-above i (stream_at network.branches branch) (value_at values branch) (branch_above whole shape branch within)
 
   -- passes and mixes take nothing of the sizes
-  passed-none : (i : ℕ) (l : Line) → IsOfOneStream network.branches l → Solves case network values l → passed (of i) l ≡ rational_zero
-  passed-none i (line.Exchanger name hot cold duty) one solves = refl
-  passed-none i (line.Split from first cp second) one solves = refl
-  passed-none i (line.Pass from exchanger to) one solves =
+  pass_loss-none : (i : ℕ) (l : Line) → IsOfOneStream network.branches l → Solves case network values l → pass_loss (of i) l ≡ rational_zero
+  pass_loss-none i (line.Exchanger name hot cold duty) one solves = refl
+  pass_loss-none i (line.Split from first cp second) one solves = refl
+  pass_loss-none i (line.Pass from exchanger to) one solves =
       ap (minus (of i from)) (sizes-same i (stream_at network.branches to) (stream_at network.branches from) (value_at values to) (value_at values from) one solves.size) ∙ minus-self (of i from)
-  passed-none i (line.Mix first second to) one solves = refl
-  passed-none i (line.End branch) one solves = refl
+  pass_loss-none i (line.Mix first second to) one solves = refl
+  pass_loss-none i (line.End branch) one solves = refl
 
-  lost-none : (i : ℕ) (l : Line) → IsOfOneStream network.branches l → Solves case network values l → lost (of i) l ≡ rational_zero
-  lost-none i (line.Exchanger name hot cold duty) one solves = refl
-  lost-none i (line.Split from first cp second) one solves = refl
-  lost-none i (line.Pass from exchanger to) one solves = refl
-  lost-none i (line.Mix first second to) one solves =
+  mix_loss-none : (i : ℕ) (l : Line) → IsOfOneStream network.branches l → Solves case network values l → mix_loss (of i) l ≡ rational_zero
+  mix_loss-none i (line.Exchanger name hot cold duty) one solves = refl
+  mix_loss-none i (line.Split from first cp second) one solves = refl
+  mix_loss-none i (line.Pass from exchanger to) one solves = refl
+  mix_loss-none i (line.Mix first second to) one solves =
       let s = stream_at network.branches first in
       let both : BranchValue = record { cp = plus (value_at values first).cp (value_at values second).cp; t = rational_zero } in
       let one_first = sizes-same i s s (value_at values first) (record { cp = (value_at values first).cp; t = rational_zero }) refl refl in
@@ -150,7 +149,7 @@ module _ {case : Case} {network : Network} {values : Valuation} (shape : HasShap
       (ap₂ plus one_first one_second ∙ sym (sizes-additive i s (value_at values first).cp (value_at values second).cp rational_zero))
       (sizes-same i (stream_at network.branches to) s (value_at values to) both one.1 solves.size)
       ∙ minus-self (sizes i s both)
-  lost-none i (line.End branch) one solves = refl
+  mix_loss-none i (line.End branch) one solves = refl
 
   -- a stream's own branch is the only one of them that is of the stream
   own_size : (i : ℕ) → i < length case.streams → rational_sum_by (of i) (range_with_len 0 (length case.streams)) ≡ (value_at values i).cp
@@ -175,11 +174,11 @@ module _ {case : Case} {network : Network} {values : Valuation} (shape : HasShap
       sym (own_size i within) ∙ flow_balance (of i) shape (all_even shape whole (sizes i) (sizes-additive i))
       ∙ ap (λ x. plus x (left i)) (ap (λ x. plus x (all_ended i)) (ap₂ plus passes mixes ∙ plus-zero rational_zero) ∙ zero-plus (all_ended i))
     where
-      passes : rational_sum_by (passed (of i)) network.lines ≡ rational_zero
-      passes = rational_sum_by-zero (passed (of i)) network.lines (λ k d inside. passed-none i (get_or network.lines k d) (shape.one_stream k d inside) (all_solved whole k d inside))
+      passes : rational_sum_by (pass_loss (of i)) network.lines ≡ rational_zero
+      passes = rational_sum_by-zero (pass_loss (of i)) network.lines (λ k d inside. pass_loss-none i (get_or network.lines k d) (shape.one_stream k d inside) (all_solved whole k d inside))
 
-      mixes : rational_sum_by (lost (of i)) network.lines ≡ rational_zero
-      mixes = rational_sum_by-zero (lost (of i)) network.lines (λ k d inside. lost-none i (get_or network.lines k d) (shape.one_stream k d inside) (all_solved whole k d inside))
+      mixes : rational_sum_by (mix_loss (of i)) network.lines ≡ rational_zero
+      mixes = rational_sum_by-zero (mix_loss (of i)) network.lines (λ k d inside. mix_loss-none i (get_or network.lines k d) (shape.one_stream k d inside) (all_solved whole k d inside))
 
   left_of-least : (i k : ℕ) → k < length network.branches → IsAtMost rational_zero (left_of (of i) (used_by network.lines) k)
   left_of-least i k within = by (list_any (λ u. k == u) (used_by network.lines))

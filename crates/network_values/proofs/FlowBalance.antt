@@ -1,11 +1,11 @@
 -- What the branches of a network weigh altogether: numbers of any kind, that add up where a branch is divided.
-use Rattle.std.proofs.Common.{◌≡◌, ◌∙◌, ◌+◌, ◌-◌, ℕ, ◌++◌, length, refl, sym, ap, ap₂, arith}
+use Rattle.std.proofs.Common.{◌≡◌, ◌∙◌, ◌+◌, ◌-◌, ℕ, length, refl, sym, ap, ap₂, arith}
 use Rattle.std.specs.Prelude.{All}
 use Rattle.std.specs.List.{range_with_len}
 use Rattle.std.proofs.lemmas.List.Elements.{All-weaker}
 use Rattle.stream_case.specs.declared.case.Case.{Case}
 use Rattle.sums.proofs.EnumerationLemmas.{range_with_len-append}
-use Rattle.fractions.specs.Rationals.{Rational, minus, plus, rational_sum_by, rational_zero}
+use Rattle.fractions.specs.Rationals.{Rational, minus, plus, rational_sum_by}
 use Rattle.fractions.proofs.RationalSums.{left_of, rational_sum_by-append, rational_sum_by-flat_map, rational_sum_by-plus, rational_sum_by-same, sum_over_used}
 use Rattle.fractions.proofs.Sums.{plus-minus, plus-zero, plus_assoc, plus_cancel_left, plus_comm, zero-plus}
 use Rattle.network_text.specs.Lines.{made_by, makes, used_by, uses}
@@ -15,7 +15,7 @@ use Rattle.network_text.specs.declared.network.Line.TheVariants as line
 use Rattle.network_text.specs.declared.network.Network.{Network}
 use Rattle.network_text.proofs.OfShape.{streams_first, used_within}
 use Rattle.network_values.specs.Values.{ended_by, ends}
-use Rattle.network_values.specs.Weights.{lost, passed}
+use Rattle.network_values.specs.Weights.{mix_loss, pass_loss}
 
 module _ (weight : ℕ → Rational) where
   abbrev pub IsEven : Line → Type 0
@@ -27,7 +27,7 @@ module _ (weight : ℕ → Rational) where
 
   -- what a line takes, beside what it makes
   abbrev taken : Line → Rational
-  taken l = plus (plus (passed weight l) (lost weight l)) (rational_sum_by weight (ends l))
+  taken l = plus (plus (pass_loss weight l) (mix_loss weight l)) (rational_sum_by weight (ends l))
 
   -- what is taken away, and put to it again
   put_back : (a b : Rational) → a ≡ plus b (minus a b)
@@ -42,19 +42,19 @@ module _ (weight : ℕ → Rational) where
 
   lines_balance : (network : Network) → All IsEven network.lines
       → rational_sum_by weight (used_by network.lines)
-      ≡ plus (rational_sum_by weight (made_by network.lines)) (plus (plus (rational_sum_by (passed weight) network.lines) (rational_sum_by (lost weight) network.lines)) (rational_sum_by weight (ended_by network.lines)))
+      ≡ plus (rational_sum_by weight (made_by network.lines)) (plus (plus (rational_sum_by (pass_loss weight) network.lines) (rational_sum_by (mix_loss weight) network.lines)) (rational_sum_by weight (ended_by network.lines)))
   unfolding used_by made_by ended_by
   lines_balance network even =
       let lines = network.lines in
       let make = λ (l : Line). rational_sum_by weight (makes l) in
       let end = λ (l : Line). rational_sum_by weight (ends l) in
-      let between = λ (l : Line). plus (passed weight l) (lost weight l) in
+      let between = λ (l : Line). plus (pass_loss weight l) (mix_loss weight l) in
       rational_sum_by-flat_map weight uses lines
       ∙ rational_sum_by-same (λ l. rational_sum_by weight (uses l)) (λ l. plus (make l) (taken l)) lines
       (All-weaker IsEven (λ l. rational_sum_by weight (uses l) ≡ plus (make l) (taken l)) line_balance lines even)
       ∙ rational_sum_by-plus make taken lines
       ∙ ap₂ plus (sym (rational_sum_by-flat_map weight makes lines))
-      (rational_sum_by-plus between end lines ∙ ap₂ plus (rational_sum_by-plus (passed weight) (lost weight) lines) (sym (rational_sum_by-flat_map weight ends lines)))
+      (rational_sum_by-plus between end lines ∙ ap₂ plus (rational_sum_by-plus (pass_loss weight) (mix_loss weight) lines) (sym (rational_sum_by-flat_map weight ends lines)))
 
   -- all branches are those of the streams and those that lines make
   all_made_by : {case : Case} {network : Network} → AreMadeInOrder case network
@@ -71,7 +71,7 @@ module _ (weight : ℕ → Rational) where
   -- the streams' own branches weigh what passes and mixes take, and the ended branches, and those that are left over
   pub flow_balance : {case : Case} {network : Network} → HasShape case network → All IsEven network.lines
       → rational_sum_by weight (range_with_len 0 (length case.streams))
-      ≡ plus (plus (plus (rational_sum_by (passed weight) network.lines) (rational_sum_by (lost weight) network.lines)) (rational_sum_by weight (ended_by network.lines)))
+      ≡ plus (plus (plus (rational_sum_by (pass_loss weight) network.lines) (rational_sum_by (mix_loss weight) network.lines)) (rational_sum_by weight (ended_by network.lines)))
       (rational_sum_by (left_of weight (used_by network.lines)) (range_with_len 0 (length network.branches)))
   flow_balance {case} {network} shape even =
       let own = rational_sum_by weight (range_with_len 0 (length case.streams)) in

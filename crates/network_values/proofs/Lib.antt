@@ -11,3 +11,4 @@ pub mod WeightLemmas
 pub mod PassLemmas
 pub mod PenaltyLemmas
 pub mod SignLemmas
+mod OnNetwork

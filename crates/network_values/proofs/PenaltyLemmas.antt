@@ -1,5 +1,5 @@
 -- The sum of all penalties.
-use Rattle.std.proofs.Common.{◌≡◌, ◌∙◌, ◌⊎◌, ◌+ℤ◌, ◌-ℤ◌, ◌*ℤ◌, ◌<ℤ◌, ◌≤ℤ◌, ℕ, ℤ, pos, false, Option, Some, None, slice_get, refl, sym, ap, ap₂, arith}
+use Rattle.std.proofs.Common.{◌≡◌, ◌∙◌, ◌+ℤ◌, ◌-ℤ◌, ◌*ℤ◌, ℕ, ℤ, pos, false, Option, Some, None, slice_get, refl, sym, ap, ap₂, arith}
 use Rattle.std.specs.Prelude.{if◌then◌else◌}
 use Rattle.std.specs.Int.{int_max}
 use Rattle.std.specs.List.{enumerate_from}
@@ -20,18 +20,16 @@ use Rattle.fractions.proofs.Comparisons.{at_most-whole}
 use Rattle.fractions.proofs.RationalSums.{rational_sum_by-plus, rational_sum_by-whole, sum-enumerated, sum-items}
 use Rattle.fractions.proofs.Ratios.{by_three, one_denominator}
 use Rattle.fractions.proofs.Sums.{minus-zero, plus-zero, plus_assoc, zero-plus}
-use Rattle.fractions.proofs.Wholes.{whole-minus, whole-plus, whole-times}
+use Rattle.fractions.proofs.Wholes.{whole-minus, whole-times}
 use Rattle.network_text.specs.Lines.{Exchanger, exchangers_of, pass_of}
 use Rattle.network_text.specs.Shape.{HasShape}
 use Rattle.network_text.specs.declared.network.Network.{Network}
-use Rattle.problem_table.specs.Deficit.{IsReferencePlace, deficit_above, hot_target}
 use Rattle.problem_table.specs.Sides.{sum_side}
 use Rattle.network_values.specs.Heights.{height, positive_part}
-use Rattle.network_values.specs.Penalties.{PenaltiesAddUp, PenaltiesAreTheExcess, absorbed, base_of, before, behind, course_of, exchanger_penalties, height_at, heights, hot_duty, hot_heat, utility_part, mix_penalties, penalty, released, stream_height, unshifted}
+use Rattle.network_values.specs.Penalties.{PenaltiesAddUp, PenaltiesAreTheExcess, absorbed_heat, inlet_height, outlet_height, course_of, height_at, heights, hot_duty, hot_heat, utility_part, mix_penalties, penalty, released_heat, stream_height}
 use Rattle.network_values.specs.Courses.{height_on}
-use Rattle.network_values.specs.Mixes.{height_above}
-use Rattle.network_values.specs.Values.{AreEnded, IsWholeValuation, Valuation, first_value, last_value}
-use Rattle.network_values.specs.Weights.{IsAdditive, given_away, lost, passed}
+use Rattle.network_values.specs.Values.{first_value, last_value}
+use Rattle.network_values.specs.Weights.{IsAdditive, stream_loss, pass_loss}
 use Rattle.network_values.proofs.CourseLemmas.{height_on-additive}
 use Rattle.network_values.proofs.HeightLemmas.{positive_part-above, positive_part-below}
 use Rattle.network_values.proofs.PassLemmas.{passes_by_side, side_taken, sides_taken}
@@ -81,12 +79,12 @@ stream_given place s = by s.side
         turned : (cp x y : ℤ) → cp *ℤ (x -ℤ y) ≡ pos 0 -ℤ cp *ℤ (y -ℤ x)
         turned cp x y = let one = *ℤ--ℤ cp x y in let two = *ℤ--ℤ cp y x in omega (arith, ints, one, two)
 
-pub streams_given : (case : Case) (place : ℤ) → rational_sum_by (given_away (heights case place)) (enumerate_from 0 case.streams) ≡ whole (sum_side side.Hot (heat_above place) case.streams -ℤ sum_side side.Cold (heat_above place) case.streams)
+pub streams_given : (case : Case) (place : ℤ) → rational_sum_by (stream_loss (heights case place)) (enumerate_from 0 case.streams) ≡ whole (sum_side side.Hot (heat_above place) case.streams -ℤ sum_side side.Cold (heat_above place) case.streams)
 unfolding heights
 streams_given case place =
     let hot = λ (s : Stream). if same_side s.side side.Hot then heat_above place s else pos 0 in
     let cold = λ (s : Stream). if same_side s.side side.Cold then heat_above place s else pos 0 in
-    sum-items (given_away (heights case place)) (λ s. whole (signed_heat place s)) case.streams
+    sum-items (stream_loss (heights case place)) (λ s. whole (signed_heat place s)) case.streams
     (λ i s at. ap₂ minus (ap (λ o. stream_height place o (first_value s)) at) (ap (λ o. stream_height place o (last_value s)) at) ∙ stream_given place s)
     ∙ rational_sum_by-whole (signed_heat place) (int_sum_by (signed_heat place)) refl (λ s ss. refl) case.streams
     ∙ ap whole (int_sum_by-sub hot cold case.streams)
@@ -110,30 +108,30 @@ less_deficit used hot cold = ap (plus used) (sym (whole-minus hot cold)) ∙ sym
 
 module _ (weight : ℕ → Rational) (case : Case) (network : Network) (shape : HasShape case network) where
   by_parts : (number : ℕ) (duty : Rational) (hot cold : Source)
-      → minus (released weight network number duty hot) (absorbed weight network number cold) ≡ plus (utility_part duty hot) (plus (side_taken weight case network shape number hot) (side_taken weight case network shape number cold))
+      → minus (released_heat weight network number duty hot) (absorbed_heat weight network number cold) ≡ plus (utility_part duty hot) (plus (side_taken weight network number hot) (side_taken weight network number cold))
   by_parts number duty (source.Stream i) (source.Stream j) =
-      let taken = side_taken weight case network shape number (source.Stream i) in
-      minus_turned taken (behind weight (pass_of network number j)) (before weight (pass_of network number j)) ∙ sym (zero-plus (plus taken (side_taken weight case network shape number (source.Stream j))))
+      let taken = side_taken weight network number (source.Stream i) in
+      minus_turned taken (outlet_height weight (pass_of network number j)) (inlet_height weight (pass_of network number j)) ∙ sym (zero-plus (plus taken (side_taken weight network number (source.Stream j))))
   by_parts number duty (source.Stream i) (source.Utility j) =
-      let taken = side_taken weight case network shape number (source.Stream i) in
+      let taken = side_taken weight network number (source.Stream i) in
       minus-zero taken ∙ sym (zero-plus (plus taken rational_zero) ∙ plus-zero taken)
   by_parts number duty (source.Utility i) (source.Stream j) =
-      minus_turned duty (behind weight (pass_of network number j)) (before weight (pass_of network number j)) ∙ ap (plus duty) (sym (zero-plus (side_taken weight case network shape number (source.Stream j))))
+      minus_turned duty (outlet_height weight (pass_of network number j)) (inlet_height weight (pass_of network number j)) ∙ ap (plus duty) (sym (zero-plus (side_taken weight network number (source.Stream j))))
   by_parts number duty (source.Utility i) (source.Utility j) = minus-zero duty ∙ sym (ap (plus duty) (plus-zero rational_zero) ∙ plus-zero duty)
 
   -- all exchangers: the hot utilities, and what the passes take
-  pub exchangers_add_up : rational_sum_by (penalty weight network) (enumerate_from 0 (exchangers_of network.lines)) ≡ plus (hot_heat network) (rational_sum_by (passed weight) network.lines)
+  pub exchangers_add_up : rational_sum_by (penalty weight network) (enumerate_from 0 (exchangers_of network.lines)) ≡ plus (hot_heat network) (rational_sum_by (pass_loss weight) network.lines)
   exchangers_add_up =
       let es = exchangers_of network.lines in
       let given = λ (p : ℕ × Exchanger). hot_duty p.1 in
-      sum-enumerated (penalty weight network) (λ p. plus (given p) (sides_taken weight case network shape p)) es (λ number e at. by_parts number e.duty e.hot e.cold)
-      ∙ rational_sum_by-plus given (sides_taken weight case network shape) (enumerate_from 0 es)
+      sum-enumerated (penalty weight network) (λ p. plus (given p) (sides_taken weight network p)) es (λ number e at. by_parts number e.duty e.hot e.cold)
+      ∙ rational_sum_by-plus given (sides_taken weight network) (enumerate_from 0 es)
       ∙ ap₂ plus (sum-items given hot_duty es (λ number e at. refl)) (sym (passes_by_side weight case network shape))
 
 pub penalties_sum : PenaltiesAddUp
 penalties_sum case network values place shape whole_values ended =
     let height = height_at case place network values in
-    let passes = rational_sum_by (passed height) network.lines in
+    let passes = rational_sum_by (pass_loss height) network.lines in
     let mixes = mix_penalties case place network values in
     let hot = sum_side side.Hot (heat_above place) case.streams in
     let cold = sum_side side.Cold (heat_above place) case.streams in

@@ -1,14 +1,15 @@
 -- Shares of a duty above a place: what they are, and those of the two sides of an exchanger.
 use Rattle.std.proofs.Common.{◌≡◌, ◌∙◌, ◌⊎◌, inl, inr, Bool, true, false, refl, sym, ap, ap₂, subst}
 use Rattle.std.specs.Prelude.{if◌then◌else◌}
-use Rattle.std.specs.Ordering.{is_le}
 use Rattle.std.proofs.lemmas.Bool.{false≢true}
+use Rattle.std.proofs.lemmas.List.Elements.{All-weaker}
 use mathlib.Core.Path.{subst₂}
-use Rattle.fractions.specs.Rationals.{IsAtMost, IsBelow, Rational, is_below, minus, over, plus, rational_cmp, rational_zero, times}
-use Rattle.fractions.proofs.Comparisons.{Decides-is_below, Decides-is_le, at_most-minus_minus, at_most-plus_plus, at_most-times, at_most-times_left, at_most_antisymm, at_most_below_trans, at_most_from_below, at_most_from_not_below, at_most_from_same, at_most_refl, at_most_trans, below_at_most_trans, below_from_not_at_most, below_from_positive, below_not_at_most, below_or_at_most, not_negative-minus, positive-minus, positive-nonzero, positive_factor, times-turned}
+use Rattle.fractions.specs.Rationals.{IsAtMost, IsBelow, Rational, is_below, minus, plus, rational_zero, times}
+use Rattle.fractions.proofs.Comparisons.{Decides-is_below, Decides-is_le, at_most-minus_minus, at_most-plus_plus, at_most-times, at_most-times_left, at_most_from_below, at_most_from_not_below, at_most_from_same, at_most_refl, at_most_trans, below_at_most_trans, below_from_positive, below_not_at_most, below_not_same, below_or_at_most, not_negative-minus, positive-minus, positive-nonzero, positive_factor, times-turned}
 use Rattle.fractions.proofs.Products.{over_from_times, times-minus, times-zero, times_swap}
+use Rattle.fractions.proofs.RationalSums.{at_most-rational_sum_by}
 use Rattle.fractions.proofs.Sums.{minus-minus_same, minus-self, minus-zero, plus-minus}
-use Rattle.network_values.specs.Heights.{HasDuty, HotSharesAreAtLeastColdShares, IsNowhereBelow, IsPart, SharesAreParts, counts, height, share}
+use Rattle.network_values.specs.Heights.{HasDuty, HotSharesAreAtLeastColdShares, IsNowhereBelow, IsPart, PricedSharesAreOrdered, SharesAreParts, is_above, height, share}
 use Rattle.network_values.specs.Sides.{Between, Level, SideRun, high_of, low_of, seen_from}
 use Rattle.network_values.proofs.HeightLemmas.{positive_part-above, positive_part-at_most, positive_part-below}
 
@@ -50,32 +51,41 @@ module _ (size low high : Rational) (some : IsBelow rational_zero size) where
 
 -- ---- levels
 
-counts-above : (from_itself : Bool) (at : Rational) → IsBelow rational_zero at → counts from_itself at ≡ true
-counts-above true at above = (Decides-is_le rational_zero at).1 (at_most_from_below rational_zero at above)
-counts-above false at above = (Decides-is_below rational_zero at).1 above
+is_above-above : (from_itself : Bool) (at : Rational) → IsBelow rational_zero at → is_above from_itself at ≡ true
+is_above-above true at above = (Decides-is_le rational_zero at).1 (at_most_from_below rational_zero at above)
+is_above-above false at above = (Decides-is_below rational_zero at).1 above
 
 -- a level that counts is at the place or above it, and one that doesn't at it or below it
-counts-true : (from_itself : Bool) (at : Rational) → counts from_itself at ≡ true → IsAtMost rational_zero at
-counts-true true at passes = (Decides-is_le rational_zero at).0 passes
-counts-true false at passes = at_most_from_below rational_zero at ((Decides-is_below rational_zero at).0 passes)
+is_above-true : (from_itself : Bool) (at : Rational) → is_above from_itself at ≡ true → IsAtMost rational_zero at
+is_above-true true at passes = (Decides-is_le rational_zero at).0 passes
+is_above-true false at passes = at_most_from_below rational_zero at ((Decides-is_below rational_zero at).0 passes)
 
-counts-false : (from_itself : Bool) (at : Rational) → counts from_itself at ≡ false → IsAtMost at rational_zero
-counts-false from_itself at fails = at_most_from_not_below rational_zero at (λ above. false≢true (sym fails ∙ counts-above from_itself at above))
+is_above-false : (from_itself : Bool) (at : Rational) → is_above from_itself at ≡ false → IsAtMost at rational_zero
+is_above-false from_itself at fails = at_most_from_not_below rational_zero at (λ above. false≢true (sym fails ∙ is_above-above from_itself at above))
 
-counts-below : (from_itself : Bool) (at : Rational) → IsBelow at rational_zero → counts from_itself at ≡ false
-counts-below from_itself at below = by (counts from_itself at) refl
+is_above-below : (from_itself : Bool) (at : Rational) → IsBelow at rational_zero → is_above from_itself at ≡ false
+is_above-below from_itself at below = by (is_above from_itself at) refl
   where
-    by : (b : Bool) → counts from_itself at ≡ b → b ≡ false
-    by true passes = absurd (below_not_at_most at rational_zero below (counts-true from_itself at passes))
+    by : (b : Bool) → is_above from_itself at ≡ b → b ≡ false
+    by true passes = absurd (below_not_at_most at rational_zero below (is_above-true from_itself at passes))
     by false fails = refl
 
-pub counts-higher : (from_itself : Bool) (at other : Rational) → IsAtMost at other → counts from_itself at ≡ true → counts from_itself other ≡ true
-counts-higher true at other more passes = (Decides-is_le rational_zero other).1 (at_most_trans rational_zero at other ((Decides-is_le rational_zero at).0 passes) more)
-counts-higher false at other more passes = (Decides-is_below rational_zero other).1 (below_at_most_trans rational_zero at other ((Decides-is_below rational_zero at).0 passes) more)
+pub is_above-higher : (from_itself : Bool) (at other : Rational) → IsAtMost at other → is_above from_itself at ≡ true → is_above from_itself other ≡ true
+is_above-higher true at other more passes = (Decides-is_le rational_zero other).1 (at_most_trans rational_zero at other ((Decides-is_le rational_zero at).0 passes) more)
+is_above-higher false at other more passes = (Decides-is_below rational_zero other).1 (below_at_most_trans rational_zero at other ((Decides-is_below rational_zero at).0 passes) more)
 
 -- what lies above the place counts from the place itself too
-pub counts-itself : (at : Rational) → counts false at ≡ true → counts true at ≡ true
-counts-itself at passes = counts-above true at ((Decides-is_below rational_zero at).0 passes)
+pub is_above-itself : (at : Rational) → is_above false at ≡ true → is_above true at ≡ true
+is_above-itself at passes = is_above-above true at ((Decides-is_below rational_zero at).0 passes)
+
+-- a level at the place itself
+is_above-at : (from_itself : Bool) (at : Rational) → at ≡ rational_zero → is_above from_itself at ≡ from_itself
+is_above-at true at same = (Decides-is_le rational_zero at).1 (at_most_from_same rational_zero at (sym same))
+is_above-at false at same = by (is_below rational_zero at) refl
+  where
+    by : (b : Bool) → is_below rational_zero at ≡ b → b ≡ false
+    by true passes = absurd (below_not_same rational_zero at ((Decides-is_below rational_zero at).0 passes) (sym same))
+    by false fails = refl
 
 -- ---- shares of a duty, by distances
 
@@ -92,15 +102,17 @@ module _ (from_itself : Bool) (duty : Rational) (positive : IsBelow rational_zer
             ∙ over_from_times (times size high) (times duty high) (minus high low)
             (positive-nonzero (minus high low) (positive-minus low high up))
             (times_swap size high (minus high low) ∙ ap (λ x. times x high) gives);
+        itself = λ at other. absurd (below_not_same low high up (at ∙ sym other));
         least = not_negative-minus (height size low) (height size high) (at_most-times_left size _ _ (at_most_from_below rational_zero size some) (positive_part-at_most low high upward));
         most = subst (IsAtMost (minus (height size high) (height size low))) gives (within size low high some up);
       }
   is_part (Level at) has = record {
-    above = λ from other. ap (λ b. if b then duty else rational_zero) (counts-above from_itself at other);
-    below = λ upto other. ap (λ b. if b then duty else rational_zero) (counts-below from_itself at other);
+    above = λ from other. ap (λ b. if b then duty else rational_zero) (is_above-above from_itself at other);
+    below = λ upto other. ap (λ b. if b then duty else rational_zero) (is_above-below from_itself at other);
     across = λ upto other. absurd (below_not_at_most rational_zero at other upto);
-    least = (bounds (counts from_itself at)).0;
-    most = (bounds (counts from_itself at)).1;
+    itself = λ here other. ap (λ b. if b then duty else rational_zero) (is_above-at from_itself at here);
+    least = (bounds (is_above from_itself at)).0;
+    most = (bounds (is_above from_itself at)).1;
   }
     where
       bounds : (b : Bool) → IsAtMost rational_zero (if b then duty else rational_zero) × IsAtMost (if b then duty else rational_zero) duty
@@ -148,26 +160,26 @@ module _ (from_itself : Bool) (duty : Rational) (positive : IsBelow rational_zer
   pub hot_share_at_least : (hot cold : SideRun) → HasDuty duty hot → HasDuty duty cold → IsNowhereBelow hot cold → IsAtMost (share from_itself duty cold) (share from_itself duty hot)
   hot_share_at_least (Between f hot_low hot_high) (Between h cold_low cold_high) of_hot of_cold order =
       flows f hot_low hot_high h cold_low cold_high of_hot of_cold order.high order.low (below_or_at_most hot_low rational_zero) (below_or_at_most rational_zero cold_high)
-  hot_share_at_least (Between f hot_low hot_high) (Level at) of_hot of_cold order = by (counts from_itself at) refl
+  hot_share_at_least (Between f hot_low hot_high) (Level at) of_hot of_cold order = by (is_above from_itself at) refl
     where
-      by : (b : Bool) → counts from_itself at ≡ b → IsAtMost (share from_itself duty (Level at)) (share from_itself duty (Between f hot_low hot_high))
+      by : (b : Bool) → is_above from_itself at ≡ b → IsAtMost (share from_itself duty (Level at)) (share from_itself duty (Between f hot_low hot_high))
       by true passes =
-          let from = counts-true from_itself at passes in
+          let from = is_above-true from_itself at passes in
           whole_or_nothing (Between f hot_low hot_high) (Level at) of_hot of_cold
           (inl (flow-above f hot_low hot_high (at_most_trans rational_zero at hot_low from order.low) (at_most_trans rational_zero at hot_high from order.high) ∙ of_hot.1))
       by false fails = whole_or_nothing (Between f hot_low hot_high) (Level at) of_hot of_cold (inr (ap (λ b. if b then duty else rational_zero) fails))
-  hot_share_at_least (Level at) (Between h cold_low cold_high) of_hot of_cold order = by (counts from_itself at) refl
+  hot_share_at_least (Level at) (Between h cold_low cold_high) of_hot of_cold order = by (is_above from_itself at) refl
     where
-      by : (b : Bool) → counts from_itself at ≡ b → IsAtMost (share from_itself duty (Between h cold_low cold_high)) (share from_itself duty (Level at))
+      by : (b : Bool) → is_above from_itself at ≡ b → IsAtMost (share from_itself duty (Between h cold_low cold_high)) (share from_itself duty (Level at))
       by true passes = whole_or_nothing (Level at) (Between h cold_low cold_high) of_hot of_cold (inl (ap (λ b. if b then duty else rational_zero) passes))
       by false fails =
-          let upto = counts-false from_itself at fails in
+          let upto = is_above-false from_itself at fails in
           whole_or_nothing (Level at) (Between h cold_low cold_high) of_hot of_cold
           (inr (flow-below h cold_low cold_high (at_most_trans cold_low at rational_zero order.low upto) (at_most_trans cold_high at rational_zero order.high upto)))
-  hot_share_at_least (Level at) (Level other) of_hot of_cold order = by (counts from_itself other) refl
+  hot_share_at_least (Level at) (Level other) of_hot of_cold order = by (is_above from_itself other) refl
     where
-      by : (b : Bool) → counts from_itself other ≡ b → IsAtMost (share from_itself duty (Level other)) (share from_itself duty (Level at))
-      by true passes = whole_or_nothing (Level at) (Level other) of_hot of_cold (inl (ap (λ b. if b then duty else rational_zero) (counts-higher from_itself other at order.high passes)))
+      by : (b : Bool) → is_above from_itself other ≡ b → IsAtMost (share from_itself duty (Level other)) (share from_itself duty (Level at))
+      by true passes = whole_or_nothing (Level at) (Level other) of_hot of_cold (inl (ap (λ b. if b then duty else rational_zero) (is_above-higher from_itself other at order.high passes)))
       by false fails = whole_or_nothing (Level at) (Level other) of_hot of_cold (inr (ap (λ b. if b then duty else rational_zero) fails))
 
 -- ---- the same at every place
@@ -190,6 +202,12 @@ hot_shares_lead from_itself place duty hot cold positive of_hot of_cold order =
       high = subst₂ IsAtMost (sym (high_of-seen place cold)) (sym (high_of-seen place hot)) (at_most-minus_minus (high_of cold) (high_of hot) place place order.high (at_most_refl place));
       low = subst₂ IsAtMost (sym (low_of-seen place cold)) (sym (low_of-seen place hot)) (at_most-minus_minus (low_of cold) (low_of hot) place place order.low (at_most_refl place));
     })
+
+pub priced_shares : PricedSharesAreOrdered
+priced_shares duty hot cold rises positive of_hot of_cold order up =
+    at_most-rational_sum_by (λ r. times r.rise (share r.from_itself duty (seen_from r.place cold))) (λ r. times r.rise (share r.from_itself duty (seen_from r.place hot))) rises
+    (All-weaker (λ r. IsAtMost rational_zero r.rise) (λ r. IsAtMost (times r.rise (share r.from_itself duty (seen_from r.place cold))) (times r.rise (share r.from_itself duty (seen_from r.place hot))))
+    (λ r some. at_most-times_left r.rise (share r.from_itself duty (seen_from r.place cold)) (share r.from_itself duty (seen_from r.place hot)) some (hot_shares_lead r.from_itself r.place duty hot cold positive of_hot of_cold order)) rises up)
 
 pub shares_parts : SharesAreParts
 shares_parts from_itself place duty side positive has = is_part from_itself duty positive (seen_from place side) (HasDuty-seen place duty side has)

@@ -1,13 +1,11 @@
 -- No penalty is negative, and the targets are met.
-use Rattle.std.proofs.Common.{◌≡◌, ◌∙◌, ◌⊎◌, ⊎_elim, inl, inr, ◌<◌, ◌+ℤ◌, ◌-ℤ◌, ℕ, ℤ, pos, false, List, Option, Some, None, get_or, slice_get, length, map, refl, sym, ap, ap₂, subst, arith}
-use Rattle.std.specs.Prelude.{All, fold, option_map, unwrap_or}
-use Rattle.std.specs.Int.{int_max}
-use Rattle.std.specs.List.{enumerate_from}
+use Rattle.std.proofs.Common.{◌≡◌, ◌∙◌, ⊎_elim, inl, inr, ◌<◌, ◌+ℤ◌, ◌-ℤ◌, ℕ, ℤ, pos, false, Option, Some, None, get_or, slice_get, length, map, refl, sym, ap, ap₂, subst, arith}
+use Rattle.std.specs.Prelude.{All, option_map, unwrap_or}
 use Rattle.std.specs.Option.{option_map_or}
 use mathlib.Core.Path.{subst₂}
 use Rattle.std.proofs.lemmas.Int.{fold-int_max_reached, ints}
 use Rattle.std.proofs.lemmas.List.{get_or-map, length-map}
-use Rattle.std.proofs.lemmas.Option.{same_Some, slice_get-get_or}
+use Rattle.std.proofs.lemmas.Option.{same_Some}
 use Rattle.stream_case.specs.Case.{side_of}
 use Rattle.stream_case.specs.Stream.{stream_ends}
 use Rattle.stream_case.specs.declared.case.Case.{Case}
@@ -16,7 +14,7 @@ use Rattle.stream_case.specs.declared.source.Side.TheVariants as side
 use Rattle.stream_case.specs.declared.source.Source.{Source}
 use Rattle.stream_case.specs.declared.source.Source.TheVariants as source
 use Rattle.stream_case.specs.declared.stream.Stream.{Stream}
-use Rattle.fractions.specs.Rationals.{IsAtMost, IsBelow, Rational, minus, plus, rational_sum_by, rational_zero, times, whole}
+use Rattle.fractions.specs.Rationals.{IsAtMost, IsBelow, Rational, minus, plus, rational_zero, times, whole}
 use Rattle.fractions.proofs.Comparisons.{at_most-minus_right, at_most-minus_swap, at_most_from_below, at_most_from_not_negative, at_most_from_same, at_most_refl, at_most_trans, not_negative-minus, not_negative-plus, positive-is}
 use Rattle.fractions.proofs.RationalSums.{not_negative-enumerated, not_negative-rational_sum_by}
 use Rattle.fractions.proofs.Sums.{plus_comm}
@@ -31,10 +29,10 @@ use Rattle.network_text.proofs.OfShape.{stream_within, the_pass_of, used_there}
 use Rattle.problem_table.specs.Deficit.{deficit_above, hot_target}
 use Rattle.network_values.specs.Courses.{IsBetweenValues, height_on, side_on}
 use Rattle.network_values.specs.Heights.{HasDuty, IsNowhereBelow, share}
-use Rattle.network_values.specs.Penalties.{DeficitsAreMet, HasNoNegativePenalty, PenaltiesAreNotNegative, TargetsAreMet, absorbed, base_of, before, behind, course_of, exchanger_penalties, height_at, heights, hot_duty, hot_heat, utility_part, mix_penalties, penalty, released, stream_height, unshifted}
-use Rattle.network_values.specs.Sides.{Between, KeepApproaches, KeepsApproach, Level, SideRun, contribution_of, enters, high_of, leaves, low_of, pass_run, run_between, side_run}
-use Rattle.network_values.specs.Values.{IsMix, IsWholeValuation, Solves, Valuation, branch_side, change, duty_at, duty_of, value_at}
-use Rattle.network_values.specs.Weights.{lost}
+use Rattle.network_values.specs.Penalties.{DeficitsAreMet, HasNoNegativePenalty, PenaltiesAreNotNegative, TargetsAreMet, absorbed_heat, base_of, inlet_height, outlet_height, course_of, exchanger_penalties, height_at, heights, hot_duty, hot_heat, utility_part, mix_penalties, penalty, released_heat, stream_height, unshifted}
+use Rattle.network_values.specs.Sides.{KeepApproaches, KeepsApproach, Level, SideRun, contribution_of, enters, high_of, leaves, low_of, pass_run, run_between, side_run}
+use Rattle.network_values.specs.Values.{IsWholeValuation, Solves, Valuation, branch_side, change, duty_at, duty_of, value_at}
+use Rattle.network_values.specs.Weights.{mix_loss}
 use Rattle.network_values.proofs.CourseLemmas.{height_on-mixed, passes_take}
 use Rattle.network_values.proofs.PenaltyLemmas.{penalties_sum}
 use Rattle.network_values.proofs.ShareLemmas.{hot_share_at_least, is_part}
@@ -118,13 +116,13 @@ module _ (case : Case) (network : Network) (values : Valuation) (place : ℤ) (s
     duty_is : HasDuty duty run
     high : high_of run ≡ minus (enters side.Hot (side_run case network values number s)) (base_at side.Hot s)
     low : low_of run ≡ minus (leaves side.Hot (side_run case network values number s)) (base_at side.Hot s)
-    least : IsAtMost (share false duty run) (released the_height network number duty s)
+    least : IsAtMost (share false duty run) (released_heat the_height network number duty s)
 
   record HasColdSide (number : ℕ) (duty : Rational) (s : Source) (run : SideRun) : Type 0 where
     duty_is : HasDuty duty run
     high : high_of run ≡ minus (leaves side.Cold (side_run case network values number s)) (base_at side.Cold s)
     low : low_of run ≡ minus (enters side.Cold (side_run case network values number s)) (base_at side.Cold s)
-    most : IsAtMost (absorbed the_height network number s) (share false duty run)
+    most : IsAtMost (absorbed_heat the_height network number s) (share false duty run)
 
   hot_side : (number : ℕ) (e : Exchanger) → slice_get (exchangers_of network.lines) number ≡ Some e → IsBelow rational_zero e.duty → (s : Source) → side_of case s ≡ Some side.Hot → ((i : ℕ) → s ≡ source.Stream i → Joins e i)
       → (run : SideRun) × HasHotSide number e.duty s run
@@ -141,7 +139,7 @@ module _ (case : Case) (network : Network) (values : Valuation) (place : ℤ) (s
           low = sym (ap₂ minus (ap low_of r.run) base);
           least = at_most_from_same _ _
               (sym (passes_take.takes false course e.duty (value_at values to) (value_at values from) between)
-              ∙ sym (ap (λ o. minus (before the_height o) (behind the_height o)) r.found ∙ ap₂ minus (branch_height i s from r.at r.of_from) (branch_height i s to r.at r.of_to)));
+              ∙ sym (ap (λ o. minus (inlet_height the_height o) (outlet_height the_height o)) r.found ∙ ap₂ minus (branch_height i s from r.at r.of_from) (branch_height i s to r.at r.of_to)));
         },
       )
   hot_side number e at positive (source.Utility i) is joins =
@@ -167,7 +165,7 @@ module _ (case : Case) (network : Network) (values : Valuation) (place : ℤ) (s
           high = sym (ap₂ minus (ap high_of r.run) base);
           low = sym (ap₂ minus (ap low_of r.run) base);
           most = at_most_from_same _ _
-              (ap (λ o. minus (behind the_height o) (before the_height o)) r.found ∙ ap₂ minus (branch_height i s to r.at r.of_to) (branch_height i s from r.at r.of_from)
+              (ap (λ o. minus (outlet_height the_height o) (inlet_height the_height o)) r.found ∙ ap₂ minus (branch_height i s to r.at r.of_to) (branch_height i s from r.at r.of_from)
               ∙ passes_take.takes false course e.duty (value_at values from) (value_at values to) between);
         },
       )
@@ -187,10 +185,10 @@ module _ (case : Case) (network : Network) (values : Valuation) (place : ℤ) (s
         low = subst₂ IsAtMost (sym of_cold.low) (sym of_hot.low) (approach_seen _ _ place (contribution_of case e.hot) (contribution_of case e.cold) apart.cold_end);
       } in
       let shares = hot_share_at_least false e.duty positive hot cold of_hot.duty_is of_cold.duty_is nowhere_below in
-      not_negative-minus (absorbed the_height network number e.cold) (released the_height network number e.duty e.hot)
+      not_negative-minus (absorbed_heat the_height network number e.cold) (released_heat the_height network number e.duty e.hot)
       (at_most_trans _ (share false e.duty cold) _ of_cold.most (at_most_trans _ (share false e.duty hot) _ shares of_hot.least))
 
-  mix_sign : (l : Line) → All (λ b. b < length network.branches) (uses l) → IsOfOneStream network.branches l → Solves case network values l → IsAtMost rational_zero (lost the_height l)
+  mix_sign : (l : Line) → All (λ b. b < length network.branches) (uses l) → IsOfOneStream network.branches l → Solves case network values l → IsAtMost rational_zero (mix_loss the_height l)
   mix_sign (line.Exchanger name hot cold duty) within one solves = at_most_refl rational_zero
   mix_sign (line.Split from first cp second) within one solves = at_most_refl rational_zero
   mix_sign (line.Pass from exchanger to) within one solves = at_most_refl rational_zero
@@ -215,7 +213,7 @@ module _ (case : Case) (network : Network) (values : Valuation) (place : ℤ) (s
   sum_sign apart =
       let none = no_negative apart in
       not_negative-plus (exchanger_penalties case place network values) (mix_penalties case place network values)
-      (not_negative-enumerated (penalty the_height network) (exchangers_of network.lines) none.exchangers) (not_negative-rational_sum_by (lost the_height) network.lines none.mixes)
+      (not_negative-enumerated (penalty the_height network) (exchangers_of network.lines) none.exchangers) (not_negative-rational_sum_by (mix_loss the_height) network.lines none.mixes)
 
 pub penalties_sign : PenaltiesAreNotNegative
 penalties_sign case network values place shape whole_values apart = no_negative case network values place shape whole_values apart

@@ -1,5 +1,5 @@
 -- The balance of any additive weight.
-use Rattle.std.proofs.Common.{◌≡◌, ◌∙◌, ◌<◌, ℕ, List, Some, Option, get_or, slice_get, length, refl, sym, ap, ap₂, arith}
+use Rattle.std.proofs.Common.{◌≡◌, ◌∙◌, ◌<◌, ℕ, List, Some, get_or, slice_get, length, sym, ap, ap₂}
 use Rattle.std.specs.Prelude.{All, Contains}
 use Rattle.std.specs.List.{enumerate_from, range_with_len}
 use Rattle.std.specs.Option.{option_map_or}
@@ -14,7 +14,7 @@ use Rattle.network_text.specs.Shape.{HasShape}
 use Rattle.network_text.specs.declared.network.Network.{Network}
 use Rattle.network_text.proofs.OfShape.{own_stream, stream_within}
 use Rattle.network_values.specs.Values.{AreEnded, IsWholeValuation, Valuation, ended_by, ended_streams, first_value, last_value, value_at}
-use Rattle.network_values.specs.Weights.{IsAdditive, Weight, WeightsBalance, given_away, lost, passed, weight_at}
+use Rattle.network_values.specs.Weights.{IsAdditive, Weight, WeightsBalance, stream_loss, mix_loss, pass_loss, weight_at}
 use Rattle.network_values.proofs.EndLemmas.{all_even, end_once, ended_within}
 use Rattle.network_values.proofs.FlowBalance.{flow_balance}
 use Rattle.network_values.proofs.WholeLemmas.{All-range, item_at, own_value}
@@ -35,7 +35,7 @@ module _ (case : Case) (network : Network) (values : Valuation) (weight : Weight
   branch_weight = weight_at weight network values
 
   abbrev taken : Rational
-  taken = plus (rational_sum_by (passed branch_weight) network.lines) (rational_sum_by (lost branch_weight) network.lines)
+  taken = plus (rational_sum_by (pass_loss branch_weight) network.lines) (rational_sum_by (mix_loss branch_weight) network.lines)
 
   streams : List ℕ
   streams = range_with_len 0 (length case.streams)
@@ -76,10 +76,10 @@ module _ (case : Case) (network : Network) (values : Valuation) (weight : Weight
         ∙ ap₂ plus (ap (plus taken) ends_weigh) (none_left-zero branch_weight (used_by network.lines) (length network.branches) once.none_left)
         ∙ plus-zero (plus taken (rational_sum_by end_weight streams))
 
-    pub weight_balance : rational_sum_by (given_away weight) (enumerate_from 0 case.streams) ≡ taken
+    pub weight_balance : rational_sum_by (stream_loss weight) (enumerate_from 0 case.streams) ≡ taken
     unfolding streams
     weight_balance =
-        sum-enumerate (given_away weight) (λ i. minus (begin_weight i) (end_weight i)) case.streams
+        sum-enumerate (stream_loss weight) (λ i. minus (begin_weight i) (end_weight i)) case.streams
         (λ i s at. ap₂ minus (sym (ap (λ o. option_map_or (λ t. weight i (first_value t)) o rational_zero) at)) (sym (ap (λ o. option_map_or (λ t. weight i (last_value t)) o rational_zero) at)))
         ∙ rational_sum_by-minus begin_weight end_weight streams ∙ ap (λ x. minus x (rational_sum_by end_weight streams)) begins_weigh ∙ minus-plus taken (rational_sum_by end_weight streams)
 

@@ -1,21 +1,20 @@
 -- A valuation of all lines, at a line, at a stream and at a branch; numbers of a range.
-use Rattle.std.proofs.Common.{◌≡◌, ◌∙◌, ◌<◌, ◌≤◌, ◌+◌, ℕ, zero, suc, List, [], ◌∷◌, Some, get_or, slice_get, length, map, take, sym, refl, ap, subst, arith}
+use Rattle.std.proofs.Common.{◌≡◌, ◌∙◌, ◌<◌, ℕ, zero, suc, List, [], ◌∷◌, Some, get_or, slice_get, length, sym, refl, ap, subst, arith}
 use Rattle.std.specs.Prelude.{All, Contains}
 use Rattle.std.specs.List.{range_with_len}
 use Rattle.std.proofs.Math.Seq.{take-length}
-use Rattle.std.proofs.lemmas.List.{get_or-map, get_or-take, get_or_default}
+use Rattle.std.proofs.lemmas.List.{get_or-map, get_or-take}
 use Rattle.std.proofs.lemmas.List.FromFn.{get_or-range_with_len, length-range_with_len}
 use Rattle.std.proofs.lemmas.Option.{get_or_from_slice_get, slice_get_within}
 use Rattle.stream_case.specs.declared.case.Case.{Case}
 use Rattle.stream_case.specs.declared.stream.Stream.{Stream}
-use Rattle.fractions.specs.Rationals.{IsBelow, Rational, rational_zero}
+use Rattle.fractions.specs.Rationals.{IsBelow, rational_zero}
 use Rattle.network_text.specs.Lines.{made_by}
-use Rattle.network_text.specs.Shape.{HasShape, made_before}
-use Rattle.network_text.specs.declared.network.Line.{Line}
+use Rattle.network_text.specs.Shape.{HasShape}
 use Rattle.network_text.specs.declared.network.Network.{Network}
 use Rattle.network_text.proofs.OfShape.{all_made}
 use Rattle.network_values.specs.Values.{IsWholeValuation, Solves, Valuation, first_value, no_value, value_at}
-use Rattle.network_values.specs.declared.values.BranchValue.{BranchValue}
+use Rattle.network_values.proofs.ValuationLemmas.{branch_positive}
 
 -- ---- ranges
 
@@ -49,4 +48,4 @@ module _ {case : Case} {network : Network} {values : Valuation} (whole : IsWhole
   pub branch_above : HasShape case network → (branch : ℕ) → branch < length network.branches → IsBelow rational_zero (value_at values branch).cp
   branch_above shape branch within =
       let lines = ap (λ ls. length (made_by ls)) (take-length network.lines) in
-      whole.positive branch no_value (omega (arith, within, all_made shape.made_once, whole.count, lines))
+      branch_positive case network (length network.lines) values whole branch (omega (arith, within, all_made shape.made_once, lines))

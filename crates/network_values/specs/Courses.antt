@@ -1,7 +1,7 @@
 -- The course of a stream, seen from a place, and the heights and sides on it.
 use Rattle.std.specs.Prelude.{◌≡◌, Bool, true, false, if◌then◌else◌}
 use Rattle.fractions.specs.Rationals.{IsAtMost, IsBelow, Rational, minus, plus, rational_zero, times}
-use Rattle.network_values.specs.Heights.{HasDuty, counts, share}
+use Rattle.network_values.specs.Heights.{HasDuty, is_above, share}
 use Rattle.network_values.specs.Mixes.{height_above}
 use Rattle.network_values.specs.Sides.{Between, Level, SideRun, seen_from}
 use Rattle.network_values.specs.Values.{IsMix}
@@ -16,7 +16,7 @@ pub data Course : Type 0 where
 -- the height of a branch; of a latent one, whose state is the part that it still has to give or has taken, all or nothing
 abbrev pub height_on : Bool → Course → BranchValue → Rational
 height_on from_itself (Sensible base) value = height_above base value
-height_on from_itself (Latent distance) value = if counts from_itself distance then times value.cp value.t else rational_zero
+height_on from_itself (Latent distance) value = if is_above from_itself distance then times value.cp value.t else rational_zero
 
 -- the side of an exchanger that a branch passes between a lower and a higher state, as distances
 abbrev pub side_on : Course → BranchValue → BranchValue → SideRun

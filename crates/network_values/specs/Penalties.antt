@@ -17,7 +17,7 @@ use Rattle.problem_table.specs.Deficit.{IsReferencePlace, deficit_above, hot_tar
 use Rattle.network_values.specs.Courses.{Course, Sensible, height_on}
 use Rattle.network_values.specs.Sides.{KeepApproaches}
 use Rattle.network_values.specs.Values.{AreEnded, IsWholeValuation, Valuation}
-use Rattle.network_values.specs.Weights.{Weight, lost, weight_at}
+use Rattle.network_values.specs.Weights.{Weight, mix_loss, weight_at}
 use Rattle.network_values.specs.declared.values.BranchValue.{BranchValue}
 
 -- ---- heights above a place of the shifted scale
@@ -48,42 +48,42 @@ height_at case place network values = weight_at (heights case place) network val
 
 -- ---- penalties, by the heights of the branches
 
--- the height of the branch before a pass and of that behind it; 0, of which no rule speaks, where the line is no pass
-abbrev pub before : (ℕ → Rational) → Option Line → Rational
-before height None = rational_zero
-before height (Some (line.Exchanger name hot cold duty)) = rational_zero
-before height (Some (line.Split from first cp second)) = rational_zero
-before height (Some (line.Pass from exchanger to)) = height from
-before height (Some (line.Mix first second to)) = rational_zero
-before height (Some (line.End branch)) = rational_zero
+-- the height of the branch that enters an exchanger by a pass, and of that which leaves it; 0, of which no rule speaks, where the line is no pass
+abbrev pub inlet_height : (ℕ → Rational) → Option Line → Rational
+inlet_height height None = rational_zero
+inlet_height height (Some (line.Exchanger name hot cold duty)) = rational_zero
+inlet_height height (Some (line.Split from first cp second)) = rational_zero
+inlet_height height (Some (line.Pass from exchanger to)) = height from
+inlet_height height (Some (line.Mix first second to)) = rational_zero
+inlet_height height (Some (line.End branch)) = rational_zero
 
-abbrev pub behind : (ℕ → Rational) → Option Line → Rational
-behind height None = rational_zero
-behind height (Some (line.Exchanger name hot cold duty)) = rational_zero
-behind height (Some (line.Split from first cp second)) = rational_zero
-behind height (Some (line.Pass from exchanger to)) = height to
-behind height (Some (line.Mix first second to)) = rational_zero
-behind height (Some (line.End branch)) = rational_zero
+abbrev pub outlet_height : (ℕ → Rational) → Option Line → Rational
+outlet_height height None = rational_zero
+outlet_height height (Some (line.Exchanger name hot cold duty)) = rational_zero
+outlet_height height (Some (line.Split from first cp second)) = rational_zero
+outlet_height height (Some (line.Pass from exchanger to)) = height to
+outlet_height height (Some (line.Mix first second to)) = rational_zero
+outlet_height height (Some (line.End branch)) = rational_zero
 
 -- what the hot side of an exchanger releases above the place: a stream the height that it loses, a utility the whole duty
-abbrev pub released : (ℕ → Rational) → Network → ℕ → Rational → Source → Rational
-released height network number duty (source.Stream i) = minus (before height (pass_of network number i)) (behind height (pass_of network number i))
-released height network number duty (source.Utility i) = duty
+abbrev pub released_heat : (ℕ → Rational) → Network → ℕ → Rational → Source → Rational
+released_heat height network number duty (source.Stream i) = minus (inlet_height height (pass_of network number i)) (outlet_height height (pass_of network number i))
+released_heat height network number duty (source.Utility i) = duty
 
 -- what the cold side absorbs above the place: a stream the height that it gains, a utility nothing
-abbrev pub absorbed : (ℕ → Rational) → Network → ℕ → Source → Rational
-absorbed height network number (source.Stream i) = minus (behind height (pass_of network number i)) (before height (pass_of network number i))
-absorbed height network number (source.Utility i) = rational_zero
+abbrev pub absorbed_heat : (ℕ → Rational) → Network → ℕ → Source → Rational
+absorbed_heat height network number (source.Stream i) = minus (outlet_height height (pass_of network number i)) (inlet_height height (pass_of network number i))
+absorbed_heat height network number (source.Utility i) = rational_zero
 
--- the penalty of the exchanger with a number; that of a mix is the height that it loses, `lost`
+-- the penalty of the exchanger with a number; that of a mix is the height that its branches lose, `mix_loss`
 abbrev pub penalty : (ℕ → Rational) → Network → ℕ × Exchanger → Rational
-penalty height network (number, e) = minus (released height network number e.duty e.hot) (absorbed height network number e.cold)
+penalty height network (number, e) = minus (released_heat height network number e.duty e.hot) (absorbed_heat height network number e.cold)
 
 abbrev pub exchanger_penalties : Case → ℤ → Network → Valuation → Rational
 exchanger_penalties case place network values = rational_sum_by (penalty (height_at case place network values) network) (enumerate_from 0 (exchangers_of network.lines))
 
 abbrev pub mix_penalties : Case → ℤ → Network → Valuation → Rational
-mix_penalties case place network values = rational_sum_by (lost (height_at case place network values)) network.lines
+mix_penalties case place network values = rational_sum_by (mix_loss (height_at case place network values)) network.lines
 
 -- ---- the heat of the hot utilities
 
@@ -118,7 +118,7 @@ PenaltiesAreTheExcess =
 -- no exchanger and no mix has a penalty below 0
 pub record HasNoNegativePenalty (case : Case) (place : ℤ) (network : Network) (values : Valuation) : Type 0 where
   pub exchangers : (number : ℕ) (e : Exchanger) → slice_get (exchangers_of network.lines) number ≡ Some e → IsAtMost rational_zero (penalty (height_at case place network values) network (number, e))
-  pub mixes : All (λ l. IsAtMost rational_zero (lost (height_at case place network values) l)) network.lines
+  pub mixes : All (λ l. IsAtMost rational_zero (mix_loss (height_at case place network values) l)) network.lines
 
 abbrev pub PenaltiesAreNotNegative : Type 0
 PenaltiesAreNotNegative =

@@ -37,28 +37,28 @@ IsAdditive weight = (stream : ℕ) (f g t : Rational) → weight stream (record 
 abbrev pub weight_at : Weight → Network → Valuation → ℕ → Rational
 weight_at weight network values branch = weight (stream_at network.branches branch) (value_at values branch)
 
--- what a line takes of the weights of the branches: as a pass, and as a mix
-abbrev pub passed : (ℕ → Rational) → Line → Rational
-passed weight (line.Exchanger name hot cold duty) = rational_zero
-passed weight (line.Split from first cp second) = rational_zero
-passed weight (line.Pass from exchanger to) = minus (weight from) (weight to)
-passed weight (line.Mix first second to) = rational_zero
-passed weight (line.End branch) = rational_zero
+-- what branches lose of their weight at a line: at a pass, and at a mix
+abbrev pub pass_loss : (ℕ → Rational) → Line → Rational
+pass_loss weight (line.Exchanger name hot cold duty) = rational_zero
+pass_loss weight (line.Split from first cp second) = rational_zero
+pass_loss weight (line.Pass from exchanger to) = minus (weight from) (weight to)
+pass_loss weight (line.Mix first second to) = rational_zero
+pass_loss weight (line.End branch) = rational_zero
 
-abbrev pub lost : (ℕ → Rational) → Line → Rational
-lost weight (line.Exchanger name hot cold duty) = rational_zero
-lost weight (line.Split from first cp second) = rational_zero
-lost weight (line.Pass from exchanger to) = rational_zero
-lost weight (line.Mix first second to) = minus (plus (weight first) (weight second)) (weight to)
-lost weight (line.End branch) = rational_zero
+abbrev pub mix_loss : (ℕ → Rational) → Line → Rational
+mix_loss weight (line.Exchanger name hot cold duty) = rational_zero
+mix_loss weight (line.Split from first cp second) = rational_zero
+mix_loss weight (line.Pass from exchanger to) = rational_zero
+mix_loss weight (line.Mix first second to) = minus (plus (weight first) (weight second)) (weight to)
+mix_loss weight (line.End branch) = rational_zero
 
 -- what a stream weighs less at its end than at its beginning
-abbrev pub given_away : Weight → ℕ × Stream → Rational
-given_away weight (i, s) = minus (weight i (first_value s)) (weight i (last_value s))
+abbrev pub stream_loss : Weight → ℕ × Stream → Rational
+stream_loss weight (i, s) = minus (weight i (first_value s)) (weight i (last_value s))
 
--- whatever branches weigh: what the streams give away is what the passes and the mixes take
+-- whatever branches weigh: what the streams lose, they lose at the passes and at the mixes
 abbrev pub WeightsBalance : Type 0
 WeightsBalance =
     (case : Case) (network : Network) (values : Valuation) (weight : Weight) → HasShape case network → IsWholeValuation case network values → AreEnded case network values → IsAdditive weight
-    → rational_sum_by (given_away weight) (enumerate_from 0 case.streams)
-    ≡ plus (rational_sum_by (passed (weight_at weight network values)) network.lines) (rational_sum_by (lost (weight_at weight network values)) network.lines)
+    → rational_sum_by (stream_loss weight) (enumerate_from 0 case.streams)
+    ≡ plus (rational_sum_by (pass_loss (weight_at weight network values)) network.lines) (rational_sum_by (mix_loss (weight_at weight network values)) network.lines)

@@ -1,7 +1,7 @@
 //! The facts on one exchanger and on one mix.
 
 ghost use Rattle.network_values.specs.Courses.{PassesTakeShares, SharesRise};
-ghost use Rattle.network_values.specs.Heights.{HotSharesAreAtLeastColdShares, SharesAreParts};
+ghost use Rattle.network_values.specs.Heights.{HotSharesAreAtLeastColdShares, PricedSharesAreOrdered, SharesAreParts};
 ghost use Rattle.network_values.specs.Mixes.{MixesLoseHeight};
 
 /// Along an exchanger whose hot side is nowhere below its cold side, the hot side has at least as
@@ -11,8 +11,15 @@ pub fn hot_shares_are_at_least_cold_shares()
     ensures { HotSharesAreAtLeastColdShares }
 {}
 
+/// The same with prices that rise at some places: shares times rises add up to no less on the hot
+/// side.
+pub fn priced_shares_are_ordered()
+    ensures { PricedSharesAreOrdered }
+{}
+
 /// The share of a side above a place is the duty where the side lies above it, nothing where it
-/// lies below, and by the part of its range that is above where it crosses the place.
+/// lies below, and by the part of its range that is above where it crosses the place. A level at
+/// the place has all of the duty where the place counts from itself, else nothing.
 pub fn shares_are_parts()
     ensures { SharesAreParts }
 {}
