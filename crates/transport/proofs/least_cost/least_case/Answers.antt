@@ -7,7 +7,7 @@ use Rattle.heat_flow.specs.Table.{reaches}
 use Rattle.transport.specs.Answer.{IfStuck, IsCutOf}
 use Rattle.transport.proofs.least_cost.least_case.Goals as goal
 
-same_reach : (c : goal.After-least) → reaches c.in_ok-reach.reach ≡ reach_between c.args.case.now c.args.parts.now.hot c.args.parts.now.cold
+same_reach : (c : goal.After-drop-reach) → reaches c.in_ok-reach.reach ≡ reach_between c.args.case.now c.args.parts.now.hot c.args.parts.now.cold
 same_reach c = fun_ext (λ a. fun_ext (λ b. c.in_ok-reach.ensures.cells a b))
 
 pub returns-clause-cut : goal.returns-clause-cut
