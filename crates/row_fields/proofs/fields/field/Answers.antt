@@ -1,7 +1,7 @@
 use Rattle.std.proofs.Common.{◌≡◌, ◌∙◌, ℕ, zero, suc, Bor, List, [], ◌∷◌, Option, Some, None, option_map, unwrap_or, slice_get, refl, ap}
 use Rattle.std.proofs.lemmas.Option.{unwrap_or-slice_get}
 use Rattle.csv.specs.Records.{field_at, fields_of}
-use Rattle.case_text.proofs.fields.field.Goals as goal
+use Rattle.row_fields.proofs.fields.field.Goals as goal
 
 field_at-slice_get : (fields : List (List ℕ)) (i : ℕ) → field_at fields i ≡ slice_get fields i
 unfolding field_at

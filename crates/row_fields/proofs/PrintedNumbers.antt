@@ -7,8 +7,8 @@ use Rattle.std.proofs.lemmas.Int.{ints}
 use Rattle.std.proofs.lemmas.Str.Parse.{digit_at}
 use Rattle.stream_case.specs.Limits.{IsBetween, IsContribution, IsFlowRate, IsHeat, IsPrice, IsTemperature}
 use Rattle.stream_case.proofs.DigitLemmas.{natural_read}
-use Rattle.case_text.specs.Numbers.{negative, number_in}
-use Rattle.case_text.specs.declared.number.TheConstants.{MOST_DIGITS}
+use Rattle.row_fields.specs.Numbers.{negative, number_in}
+use Rattle.row_fields.specs.declared.numbers.TheConstants.{MOST_DIGITS}
 
 -- numbers of a number text
 abbrev pub IsPrintable : ℤ → Type 0

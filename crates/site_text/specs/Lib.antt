@@ -1,0 +1,4 @@
+pub mod Given
+pub mod Checks
+pub mod Outcome
+pub mod Answers
