@@ -1,16 +1,15 @@
 -- The places of a valid site, and the levels of its utilities.
 use Rattle.std.proofs.Common.{◌≡◌, ◌∙◌, append_assoc, ℕ, ◌+◌, ◌*◌, ◌<◌, ◌≤◌, ⊎_elim, List, [], ◌∷◌, ◌++◌, length, get_or, take, map, refl, sym, ap, subst, arith}
-use Rattle.std.specs.Prelude.{ℤ, ◌+ℤ◌, ◌-ℤ◌, All, Contains}
+use Rattle.std.specs.Prelude.{ℤ, ◌-ℤ◌, All, Contains}
 use Rattle.std.proofs.lemmas.Int.{ints}
 use Rattle.std.proofs.lemmas.List.{length-append, length-map, take_more}
-use Rattle.std.proofs.lemmas.List.Elements.{All-append, All-cons, All-contains, All-head, All-nil, All-tail, All-weaker, Contains-append_left, Contains-append_right, Contains-get_or}
+use Rattle.std.proofs.lemmas.List.Elements.{All-append, All-cons, All-contains, All-head, All-nil, All-tail, Contains-append_left, Contains-append_right, Contains-get_or}
 use Rattle.stream_case.specs.Case.{greatest, least}
-use Rattle.stream_case.specs.Limits.{IsBetween, IsContribution, IsShifted, IsTemperature}
+use Rattle.stream_case.specs.Limits.{IsContribution, IsShifted, IsTemperature}
 use Rattle.stream_case.specs.Stream.{stream_ends}
 use Rattle.stream_case.specs.Utility.{IsPlaced, shifted_level}
 use Rattle.stream_case.specs.declared.limits.TheConstants.{MOST_PLACES}
 use Rattle.stream_case.specs.declared.source.Side.TheVariants.{Cold, Hot}
-use Rattle.stream_case.specs.declared.utility.Utility.{Utility}
 use Rattle.stream_case.proofs.CaseLemmas.{length-AreStreams}
 use Rattle.stream_case.proofs.EndLemmas.{length-stream_ends, stream_ends-between}
 use Rattle.sums.proofs.CountLemmas.{length-le_falling}

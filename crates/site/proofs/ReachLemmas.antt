@@ -5,7 +5,7 @@ use Rattle.std.specs.List.{flat_map}
 use Rattle.std.proofs.lemmas.Bool.Decides.{nat_tests}
 use Rattle.std.proofs.lemmas.Bool.{cases_lt}
 use Rattle.std.proofs.lemmas.List.{get_or-map, append-nil, length-map, length-take-le, take_more}
-use Rattle.std.proofs.lemmas.List.Concat.{get_or-flat_map}
+use Rattle.std.proofs.lemmas.List.Concat.{flat_map-append, get_or-flat_map}
 use Rattle.std.proofs.lemmas.Option.{slice_get-get_or, slice_get_past}
 use Rattle.grid.specs.declared.part.Part.{Part}
 use Rattle.heat_flow.proofs.Blanks.{blank}
@@ -43,6 +43,14 @@ length-cell_rows site [] cold = omega arith
 length-cell_rows site (p ∷ hot) cold =
     let rest = length-cell_rows site hot cold in
     omega (arith, length-append (map (part_reaches site p) cold) (cell_rows site hot cold), length-map cold (part_reaches site p))
+
+-- a loop's step
+pub cell_rows-more : (site : Site) (hot cold : List Part) (i : ℕ) (p : Part) → i < length hot → p ≡ get_or hot i p → cell_rows site (take (i + 1) hot) cold ≡ cell_rows site (take i hot) cold ++ map (part_reaches site p) cold
+cell_rows-more site hot cold i p within is =
+    let row = λ (q : Part). map (part_reaches site q) cold in
+    ap (λ ps. cell_rows site ps cold) (take_more hot i p within ∙ ap (λ q. take i hot ++ q ∷ []) (sym is))
+    ∙ flat_map-append row (take i hot) (p ∷ [])
+    ∙ ap (λ cells. cell_rows site (take i hot) cold ++ cells) (append-nil (map (part_reaches site p) cold))
 
 cell_at : (site : Site) (hot cold : List Part) (a b : ℕ) (d : Part) → a < length hot → b < length cold → get_or (cell_rows site hot cold) (a * length cold + b) false ≡ part_reaches site (get_or hot a d) (get_or cold b d)
 cell_at site hot cold a b d h k =

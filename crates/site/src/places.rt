@@ -51,11 +51,7 @@ fn push_mains(places: &mut Vec<i32>, mains: &[Main], contribution: i32) -> Resul
 }
 
 /// The shifted ends of the streams of a site, and the two places of each of its mains.
-pub fn site_places(
-    alloc: Global,
-    site: &Site,
-    streams: &[Stream],
-) -> Result<Vec<i32>, AllocError>
+pub fn site_places(alloc: Global, site: &Site, streams: &[Stream]) -> Result<Vec<i32>, AllocError>
     requires valid { IsValidSite site.now }
     requires streams { streams.now ≡ streams_of site.now.plants }
     ensures { IfOk result (λ places. places.items ≡ site_places site.now) }

@@ -119,8 +119,20 @@ fn raised_by_mains(
 {
     let mut greatest = so_far;
     for main in mains {
-        greatest = raised(direction, t, streams, greatest, takes_at(main, contribution));
-        greatest = raised(direction, t, streams, greatest, gives_at(main, contribution));
+        greatest = raised(
+            direction,
+            t,
+            streams,
+            greatest,
+            takes_at(main, contribution),
+        );
+        greatest = raised(
+            direction,
+            t,
+            streams,
+            greatest,
+            gives_at(main, contribution),
+        );
     }
     greatest
 }

@@ -118,12 +118,13 @@ pub fn reach_of(alloc: Global, site: &Site, parts: &Parts) -> Result<Reach, Allo
     ensures colds { IfOk result (λ reach. reach.colds ≡ length parts.now.cold) }
     ensures cells { IfOk result (λ reach. (a b : ℕ) → reaches reach a b ≡ reach_between site.now parts.now.hot parts.now.cold a b) }
 {
-    let plants = stream_plants(alloc, site.plants.as_slice())?;
+    let indexes = stream_plants(alloc, site.plants.as_slice())?;
+    let plants = indexes.as_slice();
     let hot = parts.hot.as_slice();
     let cold = parts.cold.as_slice();
     let mut cells = Vec::with_capacity(alloc, hot.len() * cold.len())?;
     for part in hot {
-        push_row(&mut cells, site, plants.as_slice(), part, cold)?;
+        push_row(&mut cells, site, plants, part, cold)?;
     }
     Ok(Reach {
         hots: hot.len() as u32,

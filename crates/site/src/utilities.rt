@@ -1,5 +1,5 @@
 //! The boiler and the cooling of a site.
-ghost use Rattle.std.specs.Prelude.{◌≡◌, ◌<◌, length, map};
+ghost use Rattle.std.specs.Prelude.{◌≡◌, ◌<◌, ◌-ℤ◌, length, map};
 ghost use Rattle.stream_case.specs.Case.{greatest, least};
 ghost use Rattle.site.specs.Site.{IsValidSite};
 ghost use Rattle.site.specs.Table.{boiler, cooling, site_places};
@@ -47,6 +47,15 @@ pub fn boiler(site: &Site) -> Utility
     }
 }
 
+/// The level of the cooling, which is shifted to the lowest place.
+fn cooling_level(site: &Site, places: &[i32]) -> i32
+    requires valid { IsValidSite site.now }
+    requires places { places.now ≡ site_places site.now }
+    ensures { result ≡ least (site_places site.now) -ℤ site.now.contribution }
+{
+    lowest(places) - site.contribution
+}
+
 /// The cooling: it takes heat at the lowest place of the site, for nothing.
 pub fn cooling(site: &Site, places: &[i32]) -> Utility
     requires valid { IsValidSite site.now }
@@ -56,7 +65,7 @@ pub fn cooling(site: &Site, places: &[i32]) -> Utility
     Utility {
         name: Name::new(b"COOLING").unwrap(),
         side: Side::Cold,
-        level: lowest(places) - site.contribution,
+        level: cooling_level(site, places),
         least: 0,
         most: MOST_HEAT,
         price: 0,

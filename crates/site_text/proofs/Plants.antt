@@ -1,10 +1,14 @@
 -- The plants so far, with one plant or one stream more, and with a contribution.
-use Rattle.std.proofs.Common.{◌≡◌, ◌∙◌, ℕ, ◌+◌, ◌<◌, ◌≤◌, ℤ, pos, true, cond, List, [], ◌∷◌, ◌++◌, length, map, refl, sym, ap, arith, append_assoc}
+use Rattle.std.proofs.Common.{◌≡◌, ◌∙◌, ℕ, ◌+◌, ◌<◌, ◌≤◌, ℤ, true, not, ◌==◌, ◌||◌, cond, List, [], ◌∷◌, ◌++◌, length, map, get_or, take, drop, refl, sym, ap, arith, append_assoc, length-append}
 use Rattle.std.specs.Prelude.{All}
-use Rattle.std.proofs.lemmas.List.{append-nil, length-map, map-append}
+use Rattle.std.specs.List.{list_any}
+use Rattle.std.specs.Str.{bytes_eq}
+use Rattle.std.proofs.lemmas.Bool.Decides.{nat_tests}
+use Rattle.std.proofs.lemmas.List.Folds.{list_any-append}
+use Rattle.std.proofs.lemmas.List.{append-nil, length-map, map-append, take-append-drop}
 use Rattle.std.proofs.lemmas.List.Concat.{flat_map-append}
 use Rattle.std.proofs.lemmas.List.Elements.{All-cons, All-head, All-nil, All-tail}
-use Rattle.std.proofs.lemmas.List.Sums.{sum_by_push}
+use Rattle.std.proofs.lemmas.List.Sums.{sum_by-append, sum_by_push}
 use Rattle.std.proofs.lemmas.Simd.{map-map}
 use Rattle.stream_case.specs.Name.{IsName}
 use Rattle.stream_case.specs.Source.{same_side}
@@ -17,7 +21,9 @@ use Rattle.sums.proofs.CountLemmas.{count_by-map}
 use Rattle.site.specs.Site.{streams_of}
 use Rattle.site.specs.declared.limits.TheConstants.{MOST_SIDE_STREAMS}
 use Rattle.site.specs.declared.plants.Plant.{Plant}
+use Rattle.site.proofs.SiteLemmas.{streams_of-more}
 use Rattle.site_text.specs.Answers.{HaveFewStreams}
+use Rattle.site_text.specs.Checks.{is_among}
 use Rattle.site_text.specs.Given.{plant_with, with_contribution, with_stream}
 
 -- ---- one stream more
@@ -69,7 +75,39 @@ stream_names-with c streams = map-map (λ (s : Stream). s.name) (with_contributi
 pub count_on-with : (of : Side) (c : ℤ) (streams : List Stream) → count_on of (map (with_contribution c) streams) ≡ count_on of streams
 count_on-with of c streams = count_by-map (λ (s : Stream). same_side s.side of) (with_contribution c) streams
 
+-- ---- names and streams of all plants
+
+-- a name among those of the streams of some plant
+pub is_among-plants : (name : List ℕ) (plants : List Plant) → list_any (λ p. is_among (map (λ s. s.name) p.streams) name) plants ≡ is_among (map (λ s. s.name) (streams_of plants)) name
+unfolding is_among
+is_among-plants name [] = refl
+is_among-plants name (plant ∷ plants) =
+    ap (λ b. list_any (bytes_eq name) (map (λ (s : Stream). s.name) plant.streams) || b) (is_among-plants name plants)
+    ∙ sym (ap (list_any (bytes_eq name)) (map-append (λ (s : Stream). s.name) plant.streams (streams_of plants)) ∙ list_any-append (bytes_eq name) (map (λ (s : Stream). s.name) plant.streams) (map (λ (s : Stream). s.name) (streams_of plants)))
+
+-- some plant has a stream
+pub some_stream-plants : (plants : List Plant) → list_any (λ p. not (length p.streams == 0)) plants ≡ not (length (streams_of plants) == 0)
+some_stream-plants [] = refl
+some_stream-plants (plant ∷ plants) =
+    let rest = some_stream-plants plants in
+    let total = length-append plant.streams (streams_of plants) in
+    grind (arith, nat_tests, rest, total)
+
 -- ---- counts
+
+count_on-append : (of : Side) (xs ys : List Stream) → count_on of (xs ++ ys) ≡ count_on of xs + count_on of ys
+count_on-append of xs ys = sum_by-append (λ (s : Stream). cond (same_side s.side of) 1 0) xs ys
+
+-- a plant more
+pub count_on-more : (of : Side) (plants : List Plant) (i : ℕ) (plant : Plant) → i < length plants → plant ≡ get_or plants i plant → count_on of (streams_of (take (i + 1) plants)) ≡ count_on of (streams_of (take i plants)) + count_on of plant.streams
+count_on-more of plants i plant within is = ap (count_on of) (streams_of-more plants i plant within is) ∙ count_on-append of (streams_of (take i plants)) plant.streams
+
+-- the first plants have no more than all
+pub count_on-take : (of : Side) (plants : List Plant) (n : ℕ) → count_on of (streams_of (take n plants)) ≤ count_on of (streams_of plants)
+count_on-take of plants n =
+    let whole = ap (λ ps. count_on of (streams_of ps)) (take-append-drop n plants) in
+    let parts = ap (count_on of) (flat_map-append (λ (p : Plant). p.streams) (take n plants) (drop n plants)) ∙ count_on-append of (streams_of (take n plants)) (streams_of (drop n plants)) in
+    omega (arith, whole, parts)
 
 -- one stream more on a side that has room
 one_more_on : (of own : Side) (n most : ℕ) → n ≤ most → (same_side own of ≡ true → n < most) → n + cond (same_side own of) 1 0 ≤ most

@@ -2,3 +2,4 @@ pub mod Given
 pub mod Checks
 pub mod Outcome
 pub mod Answers
+pub mod Printed

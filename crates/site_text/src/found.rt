@@ -214,8 +214,9 @@ impl Found {
     pub fn site(&self, alloc: Global, contribution: i32) -> Result<Site, AllocError>
         ensures { IfOk result (λ site. site ≡ site_with contribution self.now) }
     {
+        let given = self.plants.as_slice();
         let mut plants = Vec::new(alloc);
-        for plant in self.plants.as_slice() {
+        for plant in given {
             plants.push(plant_with(alloc, contribution, plant)?)?;
         }
         Ok(Site {

@@ -1,9 +1,6 @@
-use Rattle.std.proofs.Common.{◌∙◌, ap, fold, of_z, rules, to_z, w32, w64}
+use Rattle.std.proofs.Common.{◌∙◌, of_z, rules, to_z, w32, w64}
 use Rattle.std.proofs.lemmas.Int.{to_z-of_z}
-use Rattle.stream_case.specs.Stream.{stream_ends}
 use Rattle.site.specs.Directions.{raised}
-use Rattle.site.specs.Site.{streams_of}
-use Rattle.site.specs.Table.{main_places}
 use Rattle.site.proofs.ProfileLemmas.{plant_profile-from}
 use Rattle.site.proofs.profiles.plant_profile.Goals as goal
 

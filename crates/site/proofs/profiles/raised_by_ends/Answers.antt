@@ -17,7 +17,7 @@ loop-stream-preserved c =
     let second = to_z-of_z w64 c.raised-greatest-in-loop-stream.result (search rules) in
     record {
       value = second ∙ c.raised-greatest-in-loop-stream.ensures.value ∙ ap₂ look first low
-      ∙ ap (λ g. look (look g (high_end s)) (low_end s)) c.loop-stream.invariant.value
-      ∙ sym (raised-ends c.args.direction t c.args.streams.now _ c.args.others.now c.loop-stream.stream-index s c.loop-stream-test.true c.stream-item.is);
+          ∙ ap (λ g. look (look g (high_end s)) (low_end s)) c.loop-stream.invariant.value
+          ∙ sym (raised-ends c.args.direction t c.args.streams.now _ c.args.others.now c.loop-stream.stream-index s c.loop-stream-test.true c.stream-item.is);
       range = subst IsPlantHeat (sym second) c.raised-greatest-in-loop-stream.ensures.range;
     }
