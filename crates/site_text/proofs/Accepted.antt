@@ -1,5 +1,5 @@
 -- The site of a file that is accepted is valid.
-use Rattle.std.proofs.Common.{◌≡◌, ◌≢◌, ◌∷◌, ◌++◌, ◌+◌, ◌<◌, ◌≤◌, ℕ, ℤ, pos, true, not, List, [], All, AllPairs, Option, Some, None, Result, Ok, Err, IfOk, IfSome, unwrap_or, length, map, nat_lt, ◌==◌, refl, arith, length-append}
+use Rattle.std.proofs.Common.{◌≡◌, ◌≢◌, ◌∷◌, ◌++◌, ◌<◌, ◌≤◌, ℕ, ℤ, pos, true, not, List, [], All, Option, Some, None, Result, Ok, Err, IfOk, IfSome, unwrap_or, length, map, nat_lt, ◌==◌, refl, arith, length-append}
 use Rattle.std.proofs.lemmas.Bool.Decides.{Decides-ltb, nat_tests}
 use Rattle.std.proofs.lemmas.List.{append-nil, length-map, map-append}
 use Rattle.std.proofs.lemmas.List.Elements.{All-map, All-nil, All-push, All-weaker}
@@ -66,9 +66,9 @@ room : (n most : ℕ) → nat_lt n most ≡ true → n < most
 room n most = (Decides-ltb n most).0
 
 -- a list of names that differ, with a new one
-distinct_push : {X : Type 0} (name : X → List ℕ) (xs : List X) (x : X) → AreDistinct (map name xs) → not (is_among (map name xs) (name x)) ≡ true → AreDistinct (map name (xs ++ x ∷ []))
+distinct_push : {X : Type 0} (name : X → List ℕ) (xs : List X) (x : X) → AreDistinct (map name xs) → not (is_among name xs (name x)) ≡ true → AreDistinct (map name (xs ++ x ∷ []))
 distinct_push name xs x distinct new =
-    rw (map-append name xs (x ∷ [])) (all_pairs_push (λ (a b : List ℕ). a ≢ b) (map name xs) (name x) distinct ((Decides-is_among (map name xs) (name x)).0 new))
+    rw (map-append name xs (x ∷ [])) (all_pairs_push (λ (a b : List ℕ). a ≢ b) (map name xs) (name x) distinct ((Decides-is_among name xs (name x)).0 new))
 
 contribution_kept : (given : Given) (row : Row) → Fits given → Passes (contribution_checks given row) → Fits (with_entry given (entry.Contribution (number row 2)))
 unfolding contribution_checks

@@ -1,11 +1,12 @@
 -- The plants so far, with one plant or one stream more, and with a contribution.
-use Rattle.std.proofs.Common.{◌≡◌, ◌∙◌, ℕ, ◌+◌, ◌<◌, ◌≤◌, ℤ, true, not, ◌==◌, ◌||◌, cond, List, [], ◌∷◌, ◌++◌, length, map, get_or, take, drop, refl, sym, ap, arith, append_assoc, length-append}
+use Rattle.std.proofs.Common.{◌≡◌, ◌∙◌, ℕ, zero, suc, ◌+◌, ◌<◌, ◌≤◌, ℤ, true, not, ◌==◌, ◌||◌, cond, List, [], ◌∷◌, ◌++◌, length, map, get_or, take, drop, refl, sym, ap, arith, append_assoc, length-append}
 use Rattle.std.specs.Prelude.{All}
 use Rattle.std.specs.List.{list_any}
 use Rattle.std.specs.Str.{bytes_eq}
 use Rattle.std.proofs.lemmas.Bool.Decides.{nat_tests}
 use Rattle.std.proofs.lemmas.List.Folds.{list_any-append}
 use Rattle.std.proofs.lemmas.List.{append-nil, length-map, map-append, take-append-drop}
+use Rattle.std.proofs.Math.ListN.{set}
 use Rattle.std.proofs.lemmas.List.Concat.{flat_map-append}
 use Rattle.std.proofs.lemmas.List.Elements.{All-cons, All-head, All-nil, All-tail}
 use Rattle.std.proofs.lemmas.List.Sums.{sum_by-append, sum_by_push}
@@ -77,13 +78,13 @@ count_on-with of c streams = count_by-map (λ (s : Stream). same_side s.side of)
 
 -- ---- names and streams of all plants
 
--- a name among those of the streams of some plant
-pub is_among-plants : (name : List ℕ) (plants : List Plant) → list_any (λ p. is_among (map (λ s. s.name) p.streams) name) plants ≡ is_among (map (λ s. s.name) (streams_of plants)) name
+-- a name of a stream of some plant
+pub is_among-plants : (name : List ℕ) (plants : List Plant) → list_any (λ p. is_among (λ s. s.name) p.streams name) plants ≡ is_among (λ s. s.name) (streams_of plants) name
 unfolding is_among
 is_among-plants name [] = refl
 is_among-plants name (plant ∷ plants) =
-    ap (λ b. list_any (bytes_eq name) (map (λ (s : Stream). s.name) plant.streams) || b) (is_among-plants name plants)
-    ∙ sym (ap (list_any (bytes_eq name)) (map-append (λ (s : Stream). s.name) plant.streams (streams_of plants)) ∙ list_any-append (bytes_eq name) (map (λ (s : Stream). s.name) plant.streams) (map (λ (s : Stream). s.name) (streams_of plants)))
+    let named = λ (s : Stream). bytes_eq name s.name in
+    ap (λ b. list_any named plant.streams || b) (is_among-plants name plants) ∙ sym (list_any-append named plant.streams (streams_of plants))
 
 -- some plant has a stream
 pub some_stream-plants : (plants : List Plant) → list_any (λ p. not (length p.streams == 0)) plants ≡ not (length (streams_of plants) == 0)
@@ -125,3 +126,28 @@ pub few_with : (plants : List Plant) (s : Stream) → HaveFewStreams plants → 
 few_with [] s few room of = few of
 few_with (plant ∷ plants) s few room of =
     rw (streams_of-with_stream s (plant ∷ plants) (omega arith)) (few_with_stream (streams_of (plant ∷ plants)) s few room of)
+
+-- a plant without streams more
+pub few_plant : (plants : List Plant) (plant : Plant) → plant.streams ≡ [] → HaveFewStreams plants → HaveFewStreams (plants ++ plant ∷ [])
+few_plant plants plant none few of = rw (streams_of-plant plants plant, none, append-nil) (few of)
+
+-- ---- the last plant in place
+
+-- with a stream more
+pub set_last : (s : Stream) (plants : List Plant) (n : ℕ) (plant : Plant) → suc n ≡ length plants → plant ≡ get_or plants n plant → set plants n (record { name = plant.name; streams = plant.streams ++ s ∷ [] }) ≡ with_stream s plants
+set_last s [] n plant last is = absurd (omega (arith, last))
+set_last s (p ∷ []) zero plant last is = λ i. record { name = (is i).name; streams = (is i).streams ++ s ∷ [] } ∷ []
+set_last s (p ∷ []) (suc n) plant last is = absurd (omega (arith, last))
+set_last s (p ∷ q ∷ ps) zero plant last is = absurd (omega (arith, last))
+set_last s (p ∷ q ∷ ps) (suc n) plant last is = ap (λ plants. p ∷ plants) (set_last s (q ∷ ps) n plant (omega (arith, last)) is)
+
+-- as it was
+pub set_same : (plants : List Plant) (n : ℕ) (plant : Plant) → plant ≡ get_or plants n plant → set plants n plant ≡ plants
+set_same [] n plant is = refl
+set_same (p ∷ ps) zero plant is = ap (λ q. q ∷ ps) is
+set_same (p ∷ ps) (suc n) plant is = ap (λ qs. p ∷ qs) (set_same ps n plant is)
+
+-- and there is none
+pub with_stream-none : (s : Stream) (plants : List Plant) → (0 < length plants → ⊥) → with_stream s plants ≡ plants
+with_stream-none s [] none = refl
+with_stream-none s (p ∷ ps) none = absurd (none (omega arith))

@@ -1,14 +1,12 @@
 -- The printed rows of a valid site give the site.
-use Rattle.std.proofs.Common.{◌≡◌, ◌≢◌, ◌∙◌, ◌∷◌, ◌++◌, ◌+◌, ◌<◌, ◌≤◌, ℕ, ℤ, pos, cond, List, [], All, AllPairs, Some, None, is_some, true, length, map, get_or, refl, sym, ap, subst, arith, append_assoc, length-append}
+use Rattle.std.proofs.Common.{◌≡◌, ◌≢◌, ◌∙◌, ◌∷◌, ◌++◌, ◌<◌, ℕ, ℤ, pos, Bool, cond, List, [], All, AllPairs, Some, None, is_some, true, length, map, get_or, refl, sym, ap, subst, arith, append_assoc, length-append}
 use Rattle.std.proofs.Math.Seq.{append_snoc, drop-append_seam}
 use Rattle.std.specs.List.{flat_map}
 use Rattle.std.proofs.lemmas.Bool.Decides.{nat_tests}
 use Rattle.std.proofs.lemmas.List.{append-nil, length-map, map-append}
 use Rattle.std.proofs.lemmas.List.Concat.{flat_map-append}
-use Rattle.std.proofs.lemmas.List.Elements.{All-drop, All-head, All-map, All-tail}
+use Rattle.std.proofs.lemmas.List.Elements.{All-drop, All-head, All-tail}
 use Rattle.std.proofs.lemmas.List.Sums.{sum_by-append, sum_by-cons}
-use Rattle.std.proofs.lemmas.Simd.{map-map}
-use Rattle.csv_rows.specs.Rows.{Row}
 use Rattle.first_fault.proofs.Steps.{Follows, Give, all_give, nothing_gives, one_more_gives}
 use Rattle.stream_case.specs.Limits.{IsTemperature}
 use Rattle.stream_case.specs.Name.{IsName}
@@ -92,8 +90,8 @@ module _ (site : Site) (valid : IsValidSite site) where
       let all : streams_of site.plants ≡ so_far ++ s ∷ (left ++ streams_of after) =
       ap streams_of is ∙ flat_map-append (λ (p : Plant). p.streams) before (plant ∷ after) ∙ ap (λ ss. streams_of before ++ (ss ++ streams_of after)) own
       ∙ ap (λ ss. streams_of before ++ ss) (append_assoc done (s ∷ left) (streams_of after)) ∙ sym (append_assoc (streams_of before) done (s ∷ (left ++ streams_of after))) in
-      let one = λ (t : Stream). cond (same_side t.side s.side) 1 0 in
-      let own_one = ap (λ b. cond b 1 0) (own_side s.side) in
+      let one : Stream → ℕ = λ t. cond (same_side t.side s.side) 1 0 in
+      let own_one : ◌≡◌ {A = ℕ} (cond (same_side s.side s.side) 1 0) 1 = ap (λ (b : Bool). cond b 1 0) (own_side s.side) in
       let few : count_on s.side so_far < MOST_SIDE_STREAMS =
       omega (arith, valid.streams.few s.side, ap (count_on s.side) all, sum_by-append one so_far (s ∷ (left ++ streams_of after)), sum_by-cons one s (left ++ streams_of after), own_one) in
       let new = new_name (λ (t : Stream). t.name) (streams_of site.plants) so_far s (left ++ streams_of after) all valid.streams.distinct in

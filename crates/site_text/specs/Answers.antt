@@ -1,9 +1,9 @@
 -- What the rows that were read keep, and what may be added to them.
-use Rattle.std.specs.Prelude.{◌≡◌, ◌<◌, ◌≤◌, List, length}
+use Rattle.std.specs.Prelude.{◌<◌, ◌≤◌, List}
 use Rattle.stream_case.specs.Stream.{count_on}
 use Rattle.stream_case.specs.declared.source.Side.{Side}
 use Rattle.site.specs.Site.{streams_of}
-use Rattle.site.specs.declared.limits.TheConstants.{MOST_PLANTS, MOST_SIDE_STREAMS}
+use Rattle.site.specs.declared.limits.TheConstants.{MOST_SIDE_STREAMS}
 use Rattle.site.specs.declared.plants.Plant.{Plant}
 use Rattle.site_text.specs.Given.{Given}
 use Rattle.site_text.specs.declared.entry.Entry.{Entry}

@@ -1,5 +1,5 @@
 -- The checks of a row, in their order. A check is a sentence on the row and on what the rows before it gave.
-use Rattle.std.specs.Prelude.{ℕ, Bool, not, ◌==◌, ◌||◌, List, [], ◌∷◌, length, map, Option, Some, None, is_some, is_none, nat_lt, codes}
+use Rattle.std.specs.Prelude.{ℕ, Bool, not, ◌==◌, ◌||◌, List, [], ◌∷◌, length, Option, Some, None, is_some, is_none, nat_lt, codes}
 use Rattle.std.specs.List.{list_any}
 use Rattle.std.specs.Str.{bytes_eq}
 use Rattle.csv_rows.specs.Rows.{Row}
@@ -25,18 +25,19 @@ use Rattle.site_text.specs.declared.kind.Kind.TheVariants as kind
 unfoldable pub is_reserved : List ℕ → Bool
 is_reserved name = bytes_eq name (codes "BOILER") || bytes_eq name (codes "COOLING")
 
+-- one of these has the name
+unfoldable pub is_among : {X : Type 0} → (X → List ℕ) → List X → List ℕ → Bool
+is_among name_of xs name = list_any (λ x. bytes_eq name (name_of x)) xs
+
 -- plants, mains and streams have names of their own
-abbrev pub plant_names : Given → List (List ℕ)
-plant_names earlier = map (λ plant. plant.name) earlier.plants
+abbrev pub is_plant : Given → List ℕ → Bool
+is_plant earlier name = is_among (λ plant. plant.name) earlier.plants name
 
-abbrev pub main_names : Given → List (List ℕ)
-main_names earlier = map (λ main. main.name) earlier.mains
+abbrev pub is_main : Given → List ℕ → Bool
+is_main earlier name = is_among (λ main. main.name) earlier.mains name
 
-abbrev pub stream_names : Given → List (List ℕ)
-stream_names earlier = map (λ s. s.name) (streams_of earlier.plants)
-
-unfoldable pub is_among : List (List ℕ) → List ℕ → Bool
-is_among names name = list_any (bytes_eq name) names
+abbrev pub is_stream : Given → List ℕ → Bool
+is_stream earlier name = is_among (λ s. s.name) (streams_of earlier.plants) name
 
 -- ---- the checks of each kind of row
 
@@ -53,7 +54,7 @@ plant_checks earlier row =
     (are_empty row (2 ∷ 3 ∷ 4 ∷ 5 ∷ 6 ∷ []), why.FieldCount)
     ∷ (nat_lt (length earlier.plants) MOST_PLANTS, why.TooMany)
     ∷ (is_name (field row 1), why.BadName)
-    ∷ (not (is_among (plant_names earlier) (field row 1)), why.SameName)
+    ∷ (not (is_plant earlier (field row 1)), why.SameName)
     ∷ []
 
 unfoldable pub main_checks : Given → Row → List (Check SiteWhy)
@@ -61,7 +62,7 @@ main_checks earlier row =
     (are_empty row (3 ∷ 4 ∷ 5 ∷ 6 ∷ []), why.FieldCount)
     ∷ (nat_lt (length earlier.mains) MOST_MAINS, why.TooMany)
     ∷ (is_name (field row 1), why.BadName)
-    ∷ (not (is_among (main_names earlier) (field row 1)), why.SameName)
+    ∷ (not (is_main earlier (field row 1)), why.SameName)
     ∷ (is_number row 2, why.BadNumber)
     ∷ (is_temperature (number row 2), why.OutOfRange)
     ∷ []
@@ -84,7 +85,7 @@ stream_checks of earlier row =
     ∷ (not (length earlier.plants == 0), why.NoPlant)
     ∷ (is_name (field row 1), why.BadName)
     ∷ (not (is_reserved (field row 1)), why.BadName)
-    ∷ (not (is_among (stream_names earlier) (field row 1)), why.SameName)
+    ∷ (not (is_stream earlier (field row 1)), why.SameName)
     ∷ stream_number_checks of row
 
 unfoldable pub kind_checks : Option Kind → Given → Row → List (Check SiteWhy)

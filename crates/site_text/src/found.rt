@@ -1,13 +1,13 @@
 //! What the rows that were read gave.
 
-ghost use Rattle.std.specs.Prelude.{◌≡◌, ◌+◌, ◌==◌, Some, length, map, not, is_some, IfOk, OnOk};
-ghost use Rattle.std.specs.Option.{option_map_or};
+ghost use Rattle.std.specs.Prelude.{◌≡◌, ◌==◌, Some, length, map, not, is_some, IfOk, OnOk};
+ghost use Rattle.std.specs.List.{list_any};
 ghost use Rattle.first_fault.specs.Checks.{Checked};
 ghost use Rattle.stream_case.specs.Stream.{count_on};
 ghost use Rattle.site.specs.Site.{streams_of};
 ghost use Rattle.site_text.specs.Answers.{HaveFewStreams, IsFresh};
-ghost use Rattle.site_text.specs.Checks.{end_checks, is_among, main_names, plant_names, stream_names};
-ghost use Rattle.site_text.specs.Given.{nothing, plant_with, site_with, with_entry, with_stream};
+ghost use Rattle.site_text.specs.Checks.{end_checks, is_among, is_main, is_plant, is_stream};
+ghost use Rattle.site_text.specs.Given.{nothing, plant_with, site_with, with_contribution, with_entry};
 
 use crate::entry::Entry;
 use crate::fault::SiteWhy;
@@ -56,25 +56,57 @@ fn count_streams(side: Side, plants: &[Plant]) -> usize
 
 /// Whether one of these streams has this name.
 #[tactic(auto, unfolding(crate::specs::Checks::is_among))]
-fn is_name_of(name: &Name, streams: &[Stream]) -> bool
-    ensures { result ≡ is_among (map (λ s. s.name) streams.now) name.now }
+fn is_name_of(streams: &[Stream], name: &Name) -> bool
+    ensures { result ≡ is_among (λ s. s.name) streams.now name.now }
 {
     streams.iter().any(|stream| *name == stream.name)
 }
 
-/// A plant with this contribution in each of its streams.
+/// Whether a plant has a stream with this name.
+fn is_name_within(plants: &[Plant], name: &Name) -> bool
+    ensures { result ≡ list_any (λ plant. is_among (λ s. s.name) plant.streams name.now) plants.now }
+{
+    plants
+        .iter()
+        .any(|plant| is_name_of(plant.streams.as_slice(), name))
+}
+
+/// Whether a plant has a stream.
+fn have_streams(plants: &[Plant]) -> bool
+    ensures { result ≡ list_any (λ plant. not (length plant.streams == 0)) plants.now }
+{
+    plants.iter().any(|plant| plant.streams.len() != 0)
+}
+
+/// The stream with this contribution.
+fn with_contribution(contribution: i32, stream: &Stream) -> Stream
+    ensures { result ≡ with_contribution contribution stream.now }
+{
+    Stream {
+        contribution,
+        ..*stream
+    }
+}
+
+/// The streams, with this contribution in each.
+fn streams_with(
+    alloc: Global,
+    contribution: i32,
+    streams: &[Stream],
+) -> Result<Vec<Stream>, AllocError>
+    ensures { IfOk result (λ made. made.items ≡ map (with_contribution contribution) streams.now) }
+{
+    streams
+        .iter()
+        .map(|stream| with_contribution(contribution, stream))
+        .collect(alloc)
+}
+
+/// The plant, with this contribution in each of its streams.
 fn plant_with(alloc: Global, contribution: i32, plant: &Plant) -> Result<Plant, AllocError>
     ensures { IfOk result (λ made. made ≡ plant_with contribution plant.now) }
 {
-    let streams = plant
-        .streams
-        .as_slice()
-        .iter()
-        .map(|stream| Stream {
-            contribution,
-            ..*stream
-        })
-        .collect(alloc)?;
+    let streams = streams_with(alloc, contribution, plant.streams.as_slice())?;
     Ok(Plant {
         name: plant.name,
         streams: Items::from_vec(streams),
@@ -130,7 +162,7 @@ impl Found {
     /// Whether an earlier plant has this name.
     #[tactic(auto, unfolding(crate::specs::Checks::is_among))]
     pub fn has_plant(&self, name: &Name) -> bool
-        ensures { result ≡ is_among (plant_names self.now) name.now }
+        ensures { result ≡ is_plant self.now name.now }
     {
         self.plants.iter().any(|plant| *name == plant.name)
     }
@@ -138,25 +170,23 @@ impl Found {
     /// Whether an earlier main has this name.
     #[tactic(auto, unfolding(crate::specs::Checks::is_among))]
     pub fn has_main(&self, name: &Name) -> bool
-        ensures { result ≡ is_among (main_names self.now) name.now }
+        ensures { result ≡ is_main self.now name.now }
     {
         self.mains.iter().any(|main| *name == main.name)
     }
 
     /// Whether an earlier stream has this name, of whichever plant.
     pub fn has_stream(&self, name: &Name) -> bool
-        ensures { result ≡ is_among (stream_names self.now) name.now }
+        ensures { result ≡ is_stream self.now name.now }
     {
-        self.plants
-            .iter()
-            .any(|plant| is_name_of(name, plant.streams.as_slice()))
+        is_name_within(self.plants.as_slice(), name)
     }
 
     /// Whether a plant has a stream.
     fn has_streams(&self) -> bool
         ensures { result ≡ not (length (streams_of self.now.plants) == 0) }
     {
-        self.plants.iter().any(|plant| !plant.streams.is_empty())
+        have_streams(self.plants.as_slice())
     }
 
     /// Takes what a row gave.

@@ -14,15 +14,15 @@ ghost use Rattle.site_text.specs.Outcome.{IsOutcome, grammar};
 use crate::contribution_row::contribution_entry;
 use crate::entry::Entry;
 use crate::fault::{SiteFault, SiteWhy};
-use crate::main_row::main_entry;
 use crate::found::Found;
 use crate::kind::{Kind, kind_of};
-use crate::stream_row::stream_entry;
+use crate::main_row::main_entry;
 use crate::plant_row::plant_entry;
+use crate::stream_row::stream_entry;
 use csv::ByteRecord;
 use csv_rows::Rows;
-use std::alloc::Global;
 use site::Site;
+use std::alloc::Global;
 
 /// What a row gives, or the first of its checks that fails.
 #[tactic(auto, unfolding(crate::specs::Checks::checks, crate::specs::Checks::kind_checks))]
