@@ -6,9 +6,20 @@
 //! what it needs and costs.
 #![tactic(auto)]
 
+mod auditor;
+mod balance;
+mod copies;
+mod exchangers;
 mod findings;
+mod joints;
+mod statements;
+mod streams;
+mod sum;
+mod utilities;
 mod verdict;
+mod walk;
 
+pub use auditor::Auditor;
 pub use findings::{Place, Reason};
 pub use network_values::BranchValue;
 pub use verdict::{Balance, Verdict};
