@@ -6,6 +6,10 @@
 //! heat above a temperature away.
 #![tactic(auto)]
 
+mod valuations;
 mod values;
 
+pub use valuations::{
+    valuations_agree, valuations_exist_where_splits_leave_room, valuations_go_line_by_line,
+};
 pub use values::BranchValue;
