@@ -1,6 +1,7 @@
 -- The balance of a network: the heats of its utilities, its excess and its cost.
-use Rattle.std.specs.Prelude.{ℕ, ◌+◌, ◌==◌, Bool, false, ◌||◌, List, Option, Some, None, if◌then◌else◌}
+use Rattle.std.specs.Prelude.{ℕ, ◌||◌, List, Option, Some, None, if◌then◌else◌}
 use Rattle.std.specs.List.{enumerate_from, filter_map}
+use Rattle.stream_case.specs.Source.{same_source}
 use Rattle.stream_case.specs.declared.case.Case.{Case}
 use Rattle.stream_case.specs.declared.source.Source.{Source}
 use Rattle.stream_case.specs.declared.source.Source.TheVariants as source
@@ -13,14 +14,9 @@ use Rattle.network_audit.specs.declared.verdict.Balance.{Balance}
 
 -- ---- the heat of a utility
 
--- a source is the utility with this index
-abbrev pub is_utility : ℕ → Source → Bool
-is_utility index (source.Stream other) = false
-is_utility index (source.Utility other) = other == index
-
 -- the duty of an exchanger that has the utility
 abbrev pub duty_with : ℕ → Exchanger → Option Rational
-duty_with index e = if is_utility index e.hot || is_utility index e.cold then Some e.duty else None
+duty_with index e = if same_source e.hot (source.Utility index) || same_source e.cold (source.Utility index) then Some e.duty else None
 
 -- the duties of a utility's exchangers in order, and its heat, their sum
 unfoldable pub duties_with : Network → ℕ → List Rational

@@ -117,10 +117,18 @@ fn audit_network(
     requires { IsReady case.now network.now joints.now values.old heats.old }
     ensures { MatchResult result (λ balance. Accepts case.now network.now values.new balance) (λ found. IsFinding case.now network.now found) }
 {
-    audit_statements(case, network, joints, values)?;
-    audit_streams(case, network)?;
-    audit_exchangers(case, joints, values)?;
-    audit_utilities(joints, case.utilities.as_slice(), heats)?;
+    if let Err(found) = audit_statements(case, network, joints, values) {
+        return Err(found);
+    }
+    if let Err(found) = audit_streams(case, network) {
+        return Err(found);
+    }
+    if let Err(found) = audit_exchangers(case, joints, values) {
+        return Err(found);
+    }
+    if let Err(found) = audit_utilities(joints, case.utilities.as_slice(), heats) {
+        return Err(found);
+    }
     match balance_of(case, heats) {
         Ok(balance) => Ok(balance),
         Err(step) => Err(Finding::TooFine {

@@ -121,7 +121,9 @@ pub(crate) fn audit_exchangers(case: &Case, joints: &[Joint], values: &[BranchVa
         let place = Place::Exchanger(number as u32);
         let given = ends_at(case, values, joint.hot, joint.given);
         let taken = ends_at(case, values, joint.cold, joint.taken);
-        audit_exchanger(case, place, joint, &given, &taken)?;
+        if let Err(found) = audit_exchanger(case, place, joint, &given, &taken) {
+            return Err(found);
+        }
     }
     Ok(())
 }

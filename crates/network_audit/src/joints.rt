@@ -100,8 +100,12 @@ fn noted(
 }
 
 /// The stream of the branch with a number; the first, of which no rule speaks, where there is none.
+#[tactic(auto, unfolding(network_text::specs::Lines::stream_at))]
 pub(crate) fn stream_at(branches: &[Branch], number: u32) -> u32
     ensures { result ≡ stream_at branches.now number }
 {
-    branches.get(number as usize).map_or(0, |branch| branch.stream)
+    match branches.get(number as usize) {
+        Some(branch) => branch.stream,
+        None => 0,
+    }
 }

@@ -78,7 +78,10 @@ pub(crate) fn audit_utilities(joints: &[Joint], utilities: &[Utility], heats: &m
     ensures { Judged (all_heat_items joints.now utilities.now) (λ _. heats.new ≡ heats_in joints.now utilities.now) result }
 {
     for (index, utility) in utilities.iter().enumerate() {
-        heats[index] = audit_utility(joints, index as u32, utility)?;
+        match audit_utility(joints, index as u32, utility) {
+            Ok(heat) => heats[index] = heat,
+            Err(found) => return Err(found),
+        }
     }
     Ok(())
 }

@@ -1,7 +1,7 @@
 //! The walk over the statements, from the streams' own branches to the last that is made.
 ghost use Rattle.std.specs.Prelude.{◌≡◌, ◌+◌, ◌<◌, ◌≤◌, ◌^◌, ◌++◌, length, take};
 ghost use Rattle.network_text.specs.Lines.{members};
-ghost use Rattle.stream_case.specs.Stream.{AreStreams};
+ghost use Rattle.stream_case.specs.Case.{IsComplete};
 ghost use Rattle.network_text.specs.Shape.{HasShape};
 ghost use Rattle.network_audit.specs.Walk.{WalkedAll};
 ghost use Rattle.network_audit.specs.Joints.{joints_of};
@@ -44,7 +44,7 @@ pub(crate) fn audit_statements(
     values: &mut [BranchValue],
 ) -> Result<(), Finding>
     requires shape { HasShape case.now network.now }
-    requires streams { AreStreams case.now.streams }
+    requires complete { IsComplete case.now }
     requires joints { joints.now ≡ joints_of network.now }
     requires room { length values.old ≡ length network.now.branches }
     ensures { WalkedAll case.now network.now values.new result }
@@ -53,8 +53,10 @@ pub(crate) fn audit_statements(
     let mut made = case.streams.len();
     for (index, line) in network.lines.as_slice().iter().enumerate() {
         let place = Place::Line(index as u32 + 1);
-        let next = made_by(case, network, joints, &values[..made], place, line)?;
-        made = keep(values, made, next);
+        match made_by(case, network, joints, &values[..made], place, line) {
+            Ok(next) => made = keep(values, made, next),
+            Err(found) => return Err(found),
+        }
     }
     Ok(())
 }

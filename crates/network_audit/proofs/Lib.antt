@@ -1,0 +1,10 @@
+pub mod FoundLemmas
+pub mod SumSteps
+pub mod JointLemmas
+pub mod StatementLemmas
+pub mod WalkLemmas
+pub mod TableLemmas
+pub mod HeatLemmas
+pub mod BalanceLemmas
+pub mod FindingLemmas
+pub mod ValidLemmas

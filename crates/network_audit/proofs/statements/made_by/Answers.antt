@@ -1,0 +1,68 @@
+use Rattle.std.proofs.Common.{◌≡◌, ◌∙◌, ◌<◌, ◌∷◌, ℕ, [], All, Some, slice_get, length, sym, ap, subst, refl, arith}
+use Rattle.std.proofs.lemmas.List.Elements.{All-head, All-tail}
+use Rattle.fractions.specs.Rationals.{IsBelow, rational_zero}
+use Rattle.network_text.specs.Lines.{exchangers_of, stream_at, uses}
+use Rattle.network_text.specs.Shape.{NamesKnown}
+use Rattle.network_text.specs.declared.network.Line.TheVariants as line
+use Rattle.network_values.specs.Made.{mixed_value, passed_value}
+use Rattle.network_values.specs.Values.{branch_side, duty_at, value_at}
+use Rattle.network_audit.specs.Items.{end_items, first_finding, line_items, mix_items, pass_items, split_items}
+use Rattle.network_audit.proofs.FoundLemmas.{found-nothing}
+use Rattle.network_audit.proofs.JointLemmas.{length-joints}
+use Rattle.network_audit.proofs.StatementLemmas.{duty-read, value-read}
+use Rattle.network_audit.proofs.statements.made_by.Goals as goal
+
+pub bounds-joints-exchanger : goal.bounds-joints-exchanger
+bounds-joints-exchanger c =
+    let n = c.args.network.now in
+    let known = subst (NamesKnown c.args.case.now n) c.in-Pass.is c.requires.known in
+    let long = ap length c.requires.joints ∙ length-joints n.branches n.lines (exchangers_of n.lines) in
+    omega (arith, long, known.1)
+
+pub bounds-joints-exchanger-in-Pass : goal.bounds-joints-exchanger-in-Pass
+bounds-joints-exchanger-in-Pass c =
+    let n = c.args.network.now in
+    let known = subst (NamesKnown c.args.case.now n) c.in-Pass.is c.requires.known in
+    let long = ap length c.requires.joints ∙ length-joints n.branches n.lines (exchangers_of n.lines) in
+    omega (arith, long, known.1)
+
+pub returns-in-Exchanger : goal.returns-in-Exchanger
+returns-in-Exchanger c = rw c.in-Exchanger.is (found-nothing, refl)
+
+pub returns-in_default : goal.returns-in_default
+returns-in_default c = ?
+
+pub returns-in-Ok-passed : goal.returns-in-Ok-passed
+returns-in-Ok-passed c =
+    let n = c.args.network.now in
+    let values = c.args.values.now in
+    let known = subst (NamesKnown c.args.case.now n) c.in-Pass.is c.requires.known in
+    let used = subst (λ l. All (λ b. b < length values) (uses l)) c.in-Pass.is c.requires.used in
+    let within : c.in-Pass.from < length values = All-head (λ b. b < length values) c.in-Pass.from [] used in
+    let on : c.branch_side-side.result ≡ branch_side c.args.case.now n c.in-Pass.from = c.branch_side-side.ensures n (sym c.as_slice.ensures) in
+    let value = value-read values c.in-Pass.from c.index-values-from-in-Pass.result within c.index-values-from-in-Pass.is in
+    let duty = duty-read n c.args.joints.now c.in-Pass.exchanger c.index-joints-exchanger.result c.requires.joints known.1 c.index-joints-exchanger.is in
+    rw c.in-Pass.is
+    (ap first_finding (λ i. pass_items c.args.place (sym on i) (sym value i) (sym duty i)) ∙ c.in-Ok-passed.ensures.0 c.args.place,
+    ap (λ v. v ∷ []) (c.in-Ok-passed.ensures.1 ∙ (λ i. passed_value (on i) (value i) (duty i))))
+
+pub returns-in-Err-passed : goal.returns-in-Err-passed
+returns-in-Err-passed c =
+    let n = c.args.network.now in
+    let values = c.args.values.now in
+    let known = subst (NamesKnown c.args.case.now n) c.in-Pass.is c.requires.known in
+    let used = subst (λ l. All (λ b. b < length values) (uses l)) c.in-Pass.is c.requires.used in
+    let within : c.in-Pass.from < length values = All-head (λ b. b < length values) c.in-Pass.from [] used in
+    let on : c.branch_side-side.result ≡ branch_side c.args.case.now n c.in-Pass.from = c.branch_side-side.ensures n (sym c.as_slice.ensures) in
+    let value = value-read values c.in-Pass.from c.index-values-from-in-Pass.result within c.index-values-from-in-Pass.is in
+    let duty = duty-read n c.args.joints.now c.in-Pass.exchanger c.index-joints-exchanger.result c.requires.joints known.1 c.index-joints-exchanger.is in
+    rw c.in-Pass.is (ap first_finding (λ i. pass_items c.args.place (sym on i) (sym value i) (sym duty i)) ∙ c.in-Err-passed.ensures c.args.place)
+
+pub returns-in-Err-mixed : goal.returns-in-Err-mixed
+returns-in-Err-mixed c = ?
+
+pub returns-in-Ok-ended : goal.returns-in-Ok-ended
+returns-in-Ok-ended c = ?
+
+pub returns-in-Err-ended : goal.returns-in-Err-ended
+returns-in-Err-ended c = ?
