@@ -1,8 +1,8 @@
 -- The first item that is not passed, of lists of items in a row and of the items of many members.
-use Rattle.std.proofs.Common.{◌≡◌, ◌∙◌, ◌<◌, ◌+◌, ◌∷◌, ◌++◌, ℕ, suc, Bool, true, false, not, List, [], Option, Some, None, option_map, length, get_or, take, drop, refl, sym, ap, subst, arith, add-one}
+use Rattle.std.proofs.Common.{◌≡◌, ◌∙◌, ◌<◌, ◌≤◌, ◌+◌, ◌∷◌, ◌++◌, ℕ, suc, Bool, true, false, not, List, [], Option, Some, None, option_map, length, get_or, take, drop, refl, sym, ap, subst, arith, add-one}
 use Rattle.std.specs.List.{enumerate_from, find, flat_map}
 use Rattle.std.specs.Option.{option_or}
-use Rattle.std.proofs.lemmas.List.{append-nil, length-take, take-append-drop, take_more}
+use Rattle.std.proofs.lemmas.List.{append-nil, length-take, take-append-drop, take_all, take_more}
 use Rattle.std.proofs.lemmas.List.Concat.{flat_map-append}
 use Rattle.std.proofs.lemmas.List.Folds.{find-append}
 use Rattle.sums.proofs.EnumerationLemmas.{enumerate_from-append}
@@ -107,3 +107,7 @@ module _ {X : Type 0} (f : ℕ × X → List Item) where
       let front : first_finding (items_of xs (n + 1)) ≡ Some found =
           ap first_finding (items-more xs n d within) ∙ found-behind (items_of xs n) (f (n, get_or xs n d)) before ∙ here in
       ap first_finding all ∙ found-front (items_of xs (n + 1)) (flat_map f later) found front
+
+  -- all members are passed
+  pub passed-all : (xs : List X) (n : ℕ) → length xs ≤ n → first_finding (items_of xs n) ≡ None → first_finding (flat_map f (enumerate_from 0 xs)) ≡ None
+  passed-all xs n end none = ap (λ ys. first_finding (flat_map f (enumerate_from 0 ys))) (sym (take_all n xs end)) ∙ none

@@ -1,5 +1,5 @@
 -- The table of the exchangers: as it is filled, and what it holds.
-use Rattle.std.proofs.Common.{◌≡◌, ◌≢◌, ◌∙◌, ◌<◌, ◌+◌, ◌∷◌, ◌++◌, ◌==◌, ◌&&◌, ℕ, zero, suc, Bool, true, false, cond, List, [], Option, Some, None, All, slice_get, length, get_or, map, set, refl, sym, ap, ap₂, absurd, arith}
+use Rattle.std.proofs.Common.{◌≡◌, ◌≢◌, ◌∙◌, ◌<◌, ◌+◌, ◌∷◌, ◌++◌, ◌==◌, ◌&&◌, ℕ, zero, suc, Bool, true, false, cond, List, [], Option, Some, None, All, slice_get, length, get_or, map, set, refl, sym, ap, ap₂, arith}
 use Rattle.std.specs.Prelude.{if◌then◌else◌}
 use Rattle.std.specs.List.{enumerate_from, filter_map, find}
 use Rattle.std.specs.Option.{option_or}

@@ -26,10 +26,10 @@ pub value-read : (values : Valuation) (branch : ℕ) (v : BranchValue) → branc
 value-read values branch v within read = read ∙ get_or_default values branch v no_value within
 
 -- the duty of an exchanger that is read by its number
-pub duty-read : (network : Network) (joints : List Joint) (number : ℕ) (j : Joint) → joints ≡ joints_of network → number < length (exchangers_of network.lines) → j ≡ get_or joints number j → j.duty ≡ duty_at network number
+pub duty-read : (network : Network) (joints : List Joint) (number : ℕ) (j : Joint) → joints ≡ joints_of network → number < length (exchangers_of network.lines) → (get_or joints number j).duty ≡ duty_at network number
 unfolding duty_at joints_among
-duty-read network joints number j is within read =
+duty-read network joints number j is within =
     let es = exchangers_of network.lines in
     let d : Exchanger = record { name = []; hot = j.hot; cold = j.cold; duty = j.duty } in
     let at = slice_get-get_or es number d within in
-    ap (λ k. k.duty) (read ∙ ap (λ js. get_or js number j) is ∙ get_or-made (joint_among network.branches network.lines) 0 es number (get_or es number d) j at) ∙ ap duty_of (sym at)
+    ap (λ k. k.duty) (ap (λ js. get_or js number j) is ∙ get_or-made (joint_among network.branches network.lines) 0 es number (get_or es number d) j at) ∙ ap duty_of (sym at)

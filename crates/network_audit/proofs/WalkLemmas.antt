@@ -1,5 +1,5 @@
 -- The walk over the statements.
-use Rattle.std.proofs.Common.{◌≡◌, ◌≢◌, ◌∙◌, ◌<◌, ◌≤◌, ◌+◌, ◌∷◌, ◌++◌, ◌==◌, ℕ, zero, suc, Bool, true, false, cond, List, [], Some, None, All, slice_get, length, get_or, map, take, refl, sym, ap, subst, absurd, arith, add-one, length-append}
+use Rattle.std.proofs.Common.{◌≡◌, ◌≢◌, ◌∙◌, ◌<◌, ◌≤◌, ◌+◌, ◌∷◌, ◌++◌, ◌==◌, ℕ, zero, suc, Bool, true, false, cond, List, [], Some, None, All, slice_get, length, get_or, map, take, refl, sym, ap, subst, arith, add-one, length-append}
 use Rattle.std.specs.Prelude.{if◌then◌else◌}
 use Rattle.std.specs.List.{enumerate_from, flat_map}
 use Rattle.std.proofs.lemmas.List.{append-nil, length-take, take-append-le, take-take, take_all, take_more}

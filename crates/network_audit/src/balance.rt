@@ -30,6 +30,13 @@ fn heat_on(side: Side, utilities: &[Utility], heats: &[Frac], before: u32) -> Re
     Ok(sum)
 }
 
+/// The price of one watt of a utility.
+fn price(utility: &Utility) -> Frac
+    ensures { result ≡ whole utility.now.price }
+{
+    Frac::whole(utility.price)
+}
+
 /// Each utility's price times its heat, added up, where so many steps were taken before; or the
 /// number of the step that is too fine.
 fn cost_of(utilities: &[Utility], heats: &[Frac], before: u32) -> Result<Frac, u32>
@@ -40,7 +47,7 @@ fn cost_of(utilities: &[Utility], heats: &[Frac], before: u32) -> Result<Frac, u
     let mut cost = Sum::after(before);
     for (index, utility) in utilities.iter().enumerate() {
         let steps = cost.steps + 1;
-        let Some(price) = Frac::whole(utility.price).times(&heats[index]) else {
+        let Some(price) = price(utility).times(&heats[index]) else {
             return Err(steps);
         };
         cost = Sum {

@@ -1,6 +1,6 @@
 //! The audit of the utilities: the heat of each lies in its range.
 ghost use Rattle.std.specs.Prelude.{◌≡◌, ◌<◌, ◌≤◌, ◌^◌, ◌++◌, length};
-ghost use Rattle.fractions.specs.Rationals.{rational_sum, rational_zero};
+ghost use Rattle.fractions.specs.Rationals.{rational_sum, rational_zero, whole};
 ghost use Rattle.network_audit.specs.AllItems.{range_items, sum_steps};
 ghost use Rattle.network_audit.specs.Answers.{Formed, Judged, Tested};
 ghost use Rattle.network_audit.specs.Table.{all_heat_items, duties_in, heat_items, heats_in, needs};
@@ -33,18 +33,31 @@ fn heat_with(joints: &[Joint], index: u32) -> Result<Frac, u32>
     Ok(sum.total)
 }
 
+/// The least heat of a utility in W, and the most.
+fn least(utility: &Utility) -> Frac
+    ensures { result ≡ whole utility.now.least }
+{
+    Frac::whole(utility.least)
+}
+
+fn most(utility: &Utility) -> Frac
+    ensures { result ≡ whole utility.now.most }
+{
+    Frac::whole(utility.most)
+}
+
 /// The heat of a utility lies in its range, or else why not.
 fn in_range(utility: &Utility, heat: &Frac) -> Result<(), Reason>
     ensures { Tested (λ at. range_items at utility.now heat.now) (λ _. Unit {0}) result }
 {
-    let least = Frac::whole(utility.least);
+    let least = least(utility);
     if heat.is_below(&least) {
         return Err(Reason::UtilityRange {
             found: *heat,
             wanted: least,
         });
     }
-    let most = Frac::whole(utility.most);
+    let most = most(utility);
     if most.is_below(heat) {
         return Err(Reason::UtilityRange {
             found: *heat,
