@@ -1,9 +1,9 @@
 //! What streams carry at their ends, and whether each of them ends.
 ghost use Rattle.std.specs.Prelude.{◌≡◌, ◌<◌, ◌≤◌, ◌^◌, ◌++◌, length, map, take};
-ghost use Rattle.network_text.specs.Lines.{stream_at};
+ghost use Rattle.std.specs.List.{list_any};
 ghost use Rattle.network_values.specs.Values.{first_value, full_size, last_state};
 ghost use Rattle.network_audit.specs.Answers.{Judged};
-ghost use Rattle.network_audit.specs.Items.{ends_stream, is_ended, stream_items};
+ghost use Rattle.network_audit.specs.Items.{ends_stream, stream_items};
 
 use crate::findings::{Finding, Place, Reason};
 use crate::joints::stream_at;
@@ -57,15 +57,10 @@ fn ends_stream(branches: &[Branch], stream: u32, line: &Line) -> bool
 }
 
 /// Whether some statement does.
-fn is_ended(network: &Network, stream: u32) -> bool
-    ensures { result ≡ is_ended network.now stream }
+fn is_ended(branches: &[Branch], lines: &[Line], stream: u32) -> bool
+    ensures { result ≡ list_any (ends_stream branches.now stream) lines.now }
 {
-    let branches = network.branches.as_slice();
-    network
-        .lines
-        .as_slice()
-        .iter()
-        .any(|line| ends_stream(branches, stream, line))
+    lines.iter().any(|line| ends_stream(branches, stream, line))
 }
 
 /// Each stream has to end.
@@ -73,8 +68,10 @@ pub(crate) fn audit_streams(case: &Case, network: &Network) -> Result<(), Findin
     requires { length case.now.streams < 2 ^ 32 }
     ensures { Judged (stream_items case.now network.now) (λ _. Unit {0}) result }
 {
+    let branches = network.branches.as_slice();
+    let lines = network.lines.as_slice();
     for (index, stream) in case.streams.as_slice().iter().enumerate() {
-        if !is_ended(network, index as u32) {
+        if !is_ended(branches, lines, index as u32) {
             return Err(Finding::Failed {
                 place: Place::Stream(index as u32),
                 reason: Reason::Unfinished {
