@@ -16,9 +16,10 @@ use Rattle.network_text.specs.declared.network.Line.{Line}
 use Rattle.network_text.specs.declared.network.Line.TheVariants as line
 use Rattle.network_text.specs.declared.network.Network.{Network}
 use Rattle.network_text.proofs.Lists.{slice_get-take}
-use Rattle.network_text.proofs.OfShape.{HasNumbers, IsLineOf, all_made, line_of, made_fewer, made_no_more}
+use Rattle.network_text.proofs.OfShape.{HasNumbers, IsLineOf, all_made, line_of, line_read, made_fewer, made_no_more}
 use Rattle.network_values.specs.Made.{LeavesRoom, front, made_values}
 use Rattle.network_values.specs.Values.{IsValuation, IsWholeValuation, Valuation, branch_side, duty_at, first_value, value_at}
+use Rattle.network_values.specs.declared.values.BranchValue.{BranchValue}
 use Rattle.network_values.proofs.ValuationLemmas.{AgreeBelow, agree-append, agree-take, length-made_values, valuation_more, valuation_start}
 use Rattle.network_audit.specs.AllItems.{items, items_behind}
 use Rattle.network_audit.specs.Findings.{IsFinding}
@@ -151,3 +152,17 @@ walked-all case network made values shape walked =
     let many : made_before case network (length network.lines) ≡ length network.branches = ap (λ ls. length case.streams + length (made_by ls)) lines ∙ all_made shape.made_once in
     let all : take made values ≡ values = take_all made values (omega (arith, walked.made_is, walked.room, many)) in
     (subst (IsValuation case network (length network.lines)) all walked.valuation, ap (λ vs. first_finding (items_before case network vs (length network.lines))) (sym all) ∙ walked.passed)
+
+-- ---- what the walk reads
+
+pub line_here : (case : Case) (network : Network) (lines : List Line) (index : ℕ) (l : Line) → HasShape case network → lines ≡ network.lines → index < length lines → l ≡ get_or lines index l → IsLineOf case network index l
+line_here case network lines index l shape same within read = line_read shape index l (omega (arith, within, ap length same)) (read ∙ ap (λ ls. get_or ls index l) same)
+
+pub walked-wide : (case : Case) (network : Network) (n made : ℕ) (values : Valuation) → HasShape case network → IsWalked case network n made values → length (take made values) ≡ made_before case network n
+walked-wide case network n made values shape walked = omega (arith, length-take made values, walked.room, walked.made_is, made_no_more shape.made_once n)
+
+-- there is room for what the next line makes
+pub walked-room : (case : Case) (network : Network) (n made : ℕ) (values : Valuation) (l : Line) (next : List BranchValue) → IsLineOf case network n l → IsWalked case network n made values → next ≡ made_values case network (take made values) l
+    → made + length next ≤ length values
+walked-room case network n made values l next is walked made_are =
+    omega (arith, ap length made_are, length-made_values case network (take made values) l, is.numbers.next, is.numbers.within, walked.made_is, walked.room)
