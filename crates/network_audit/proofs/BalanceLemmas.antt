@@ -2,6 +2,8 @@
 use Rattle.std.proofs.Common.{◌≡◌, ◌∙◌, ◌<◌, ◌+◌, ◌∷◌, ◌++◌, ℕ, zero, suc, Bool, true, false, cond, List, [], Option, Some, None, All, slice_get, get_or, length, map, refl, sym, ap, ap₂, subst, arith}
 use Rattle.std.specs.Prelude.{if◌then◌else◌}
 use Rattle.std.specs.List.{cons_option, enumerate_from, filter_map}
+use Rattle.std.proofs.lemmas.List.{get_or_default}
+use Rattle.std.proofs.lemmas.List.FromFn.{get_or-enumerate_from}
 use Rattle.std.proofs.lemmas.List.Elements.{All-head, All-tail}
 use Rattle.sums.proofs.EnumerationLemmas.{All-enumerated}
 use Rattle.stream_case.specs.Source.{same_side}
@@ -90,3 +92,19 @@ balance_items-are case network heats shape are =
     let prices = prices-are case network heats are in
     let excess = ap (λ h. minus h (whole (hot_target case.streams))) (ap rational_sum hot ∙ hot_heat-is case network shape) in
     λ i. steps_from case (hot i) (cold i) (prices i) (excess i)
+
+-- ---- what the loops read
+
+member-here : (us : List Utility) (n : ℕ) (u : Utility) → n < length us → u ≡ get_or us n u → get_or (enumerate_from 0 us) n (n, u) ≡ (n, u)
+member-here us n u within read = get_or-enumerate_from 0 us n (n, u) within ∙ (let at : 0 + n ≡ n = omega arith in λ i. (at i, sym read i))
+
+pub heat-here : (on : Side) (heats : List Rational) (us : List Utility) (n : ℕ) (u : Utility) (h : Rational) → n < length us → length heats ≡ length us → u ≡ get_or us n u → h ≡ get_or heats n h → same_side u.side on ≡ true
+    → heat_on_in on heats (get_or (enumerate_from 0 us) n (n, u)) ≡ Some h
+heat-here on heats us n u h within long read value is =
+    ap (heat_on_in on heats) (member-here us n u within read) ∙ ap (λ b. if b then Some (heat_at heats n) else None) is ∙ ap Some (get_or_default heats n rational_zero h (omega (arith, within, long)) ∙ sym value)
+
+pub heat-other : (on : Side) (heats : List Rational) (us : List Utility) (n : ℕ) (u : Utility) → n < length us → u ≡ get_or us n u → same_side u.side on ≡ false → heat_on_in on heats (get_or (enumerate_from 0 us) n (n, u)) ≡ None
+heat-other on heats us n u within read is = ap (heat_on_in on heats) (member-here us n u within read) ∙ ap (λ b. if b then Some (heat_at heats n) else None) is
+
+pub price-here : (heats : List Rational) (us : List Utility) (n : ℕ) (u : Utility) (h : Rational) → n < length us → length heats ≡ length us → u ≡ get_or us n u → h ≡ get_or heats n h → price_in heats (get_or (enumerate_from 0 us) n (n, u)) ≡ times (whole u.price) h
+price-here heats us n u h within long read value = ap (price_in heats) (member-here us n u within read) ∙ ap (times (whole u.price)) (get_or_default heats n rational_zero h (omega (arith, within, long)) ∙ sym value)

@@ -1,9 +1,10 @@
 -- The first item that is not passed, of lists of items in a row and of the items of many members.
-use Rattle.std.proofs.Common.{◌≡◌, ◌∙◌, ◌<◌, ◌≤◌, ◌+◌, ◌∷◌, ◌++◌, ℕ, suc, Bool, true, false, not, List, [], Option, Some, None, option_map, length, get_or, take, drop, refl, sym, ap, subst, arith, add-one}
+use Rattle.std.proofs.Common.{◌≡◌, ◌∙◌, ◌<◌, ◌≤◌, ◌+◌, ◌∷◌, ◌++◌, ℕ, suc, Bool, true, false, not, List, [], Option, Some, None, All, option_map, length, get_or, take, drop, refl, sym, ap, subst, arith, add-one}
 use Rattle.std.specs.List.{enumerate_from, find, flat_map}
 use Rattle.std.specs.Option.{option_or}
 use Rattle.std.proofs.lemmas.List.{append-nil, length-take, take-append-drop, take_all, take_more}
 use Rattle.std.proofs.lemmas.List.Concat.{flat_map-append}
+use Rattle.std.proofs.lemmas.List.Elements.{All-head, All-tail}
 use Rattle.std.proofs.lemmas.List.Folds.{find-append}
 use Rattle.sums.proofs.EnumerationLemmas.{enumerate_from-append}
 use Rattle.fractions.specs.Rationals.{Gives, Rational, is_within_limits}
@@ -75,6 +76,11 @@ pub passed-rest : (item : Item) (items : List Item) → first_finding (item ∷ 
 passed-rest item items none = sym (found-passed item items (passed-item item items none)) ∙ none
 
 -- ---- the items of many members, each with its index
+
+pub flat_map-same : {X Y : Type 0} (f g : X → List Y) (xs : List X) → All (λ x. f x ≡ g x) xs → flat_map f xs ≡ flat_map g xs
+flat_map-same f g [] same = refl
+flat_map-same f g (x ∷ xs) same =
+    ap (λ ys. ys ++ flat_map f xs) (All-head (λ y. f y ≡ g y) x xs same) ∙ ap (λ ys. g x ++ ys) (flat_map-same f g xs (All-tail (λ y. f y ≡ g y) x xs same))
 
 module _ {X : Type 0} (f : ℕ × X → List Item) where
   -- those of the first n

@@ -1,10 +1,11 @@
 -- The table of the exchangers: as it is filled, and what it holds.
-use Rattle.std.proofs.Common.{◌≡◌, ◌≢◌, ◌∙◌, ◌<◌, ◌+◌, ◌∷◌, ◌++◌, ◌==◌, ◌&&◌, ℕ, zero, suc, Bool, true, false, cond, List, [], Option, Some, None, All, slice_get, length, get_or, map, set, refl, sym, ap, ap₂, arith}
+use Rattle.std.proofs.Common.{◌≡◌, ◌≢◌, ◌∙◌, ◌<◌, ◌+◌, ◌∷◌, ◌++◌, ◌==◌, ◌&&◌, ℕ, zero, suc, Bool, true, false, cond, List, [], Option, Some, None, All, slice_get, length, get_or, map, set, take, refl, sym, ap, ap₂, arith}
 use Rattle.std.specs.Prelude.{if◌then◌else◌}
-use Rattle.std.specs.List.{enumerate_from, filter_map, find}
+use Rattle.std.specs.List.{cons_option, enumerate_from, filter_map, find}
 use Rattle.std.specs.Option.{option_or}
 use Rattle.std.proofs.lemmas.Bool.{eq-eqb, ne_eqb}
-use Rattle.std.proofs.lemmas.List.{length-map, map-append}
+use Rattle.std.proofs.lemmas.List.{append-nil, length-map, map-append, take_more}
+use Rattle.std.proofs.lemmas.List.Elements.{filter_map-append}
 use Rattle.std.proofs.lemmas.List.Folds.{find-append}
 use Rattle.std.proofs.lemmas.List.FromFn.{length-enumerate_from}
 use Rattle.std.proofs.lemmas.Option.{none-some, same_Some, slice_get-get_or}
@@ -12,7 +13,8 @@ use Rattle.sums.proofs.EnumerationLemmas.{enumerate_from-append}
 use Rattle.stream_case.specs.declared.case.Case.{Case}
 use Rattle.stream_case.specs.declared.source.Source.{Source}
 use Rattle.stream_case.specs.declared.source.Source.TheVariants as source
-use Rattle.network_text.specs.Lines.{Exchanger, exchangers_of, is_pass_of, stream_at}
+use Rattle.fractions.specs.Rationals.{Rational}
+use Rattle.network_text.specs.Lines.{Exchanger, exchanger_of, exchangers_of, is_pass_of, stream_at}
 use Rattle.network_text.specs.Shape.{HasShape, NamesKnown}
 use Rattle.network_text.specs.declared.network.Branch.{Branch}
 use Rattle.network_text.specs.declared.network.Line.{Line}
@@ -155,6 +157,41 @@ unfolding joints_among
 joints-same branches lines es l none =
     let same : (p : ℕ × Exchanger) → joint_among branches (lines ++ l ∷ []) p ≡ joint_among branches lines p = λ p. joint-other branches lines l p.0 p.1 (none branches p.0) in
     λ i. map (λ p. same p i) (enumerate_from 0 es)
+
+-- ---- line by line
+
+no_exchanger : (l : Line) → ((name : List ℕ) (hot cold : Source) (duty : Rational) → l ≡ line.Exchanger name hot cold duty → ⊥) → exchanger_of l ≡ None
+no_exchanger (line.Exchanger name hot cold duty) other = absurd (other name hot cold duty refl)
+no_exchanger (line.Split from first cp second) other = refl
+no_exchanger (line.Pass from exchanger to) other = refl
+no_exchanger (line.Mix first second to) other = refl
+no_exchanger (line.End branch) other = refl
+
+pub no_pass : (l : Line) → ((from exchanger to : ℕ) → l ≡ line.Pass from exchanger to → ⊥) → PassesNone l
+no_pass (line.Exchanger name hot cold duty) other branches n stream = refl
+no_pass (line.Split from first cp second) other branches n stream = refl
+no_pass (line.Pass from exchanger to) other branches n stream = absurd (other from exchanger to refl)
+no_pass (line.Mix first second to) other branches n stream = refl
+no_pass (line.End branch) other branches n stream = refl
+
+-- what the first lines declare, and the next one
+declared-next : (lines : List Line) (n : ℕ) (l : Line) → n < length lines → l ≡ get_or lines n l → exchangers_of (take (n + 1) lines) ≡ exchangers_of (take n lines) ++ exchangers_of (l ∷ [])
+unfolding exchangers_of
+declared-next lines n l within read =
+    ap (filter_map exchanger_of) (take_more lines n l within) ∙ filter_map-append exchanger_of (take n lines) (get_or lines n l ∷ []) ∙ ap (λ m. filter_map exchanger_of (take n lines) ++ filter_map exchanger_of (m ∷ [])) (sym read)
+
+pub declared-some : (branches : List Branch) (lines : List Line) (n : ℕ) (l : Line) (name : List ℕ) (hot cold : Source) (duty : Rational) → n < length lines → l ≡ get_or lines n l → l ≡ line.Exchanger name hot cold duty
+    → joints_among branches [] (exchangers_of (take (n + 1) lines)) ≡ joints_among branches [] (exchangers_of (take n lines)) ++ record { hot = hot; cold = cold; duty = duty; given = None; taken = None } ∷ []
+unfolding exchangers_of
+declared-some branches lines n l name hot cold duty within read is =
+    ap (joints_among branches []) (declared-next lines n l within read ∙ ap (λ m. exchangers_of (take n lines) ++ exchangers_of (m ∷ [])) is)
+    ∙ joints-push branches (exchangers_of (take n lines)) (record { name = name; hot = hot; cold = cold; duty = duty })
+
+pub declared-other : (branches : List Branch) (lines : List Line) (n : ℕ) (l : Line) → n < length lines → l ≡ get_or lines n l → ((name : List ℕ) (hot cold : Source) (duty : Rational) → l ≡ line.Exchanger name hot cold duty → ⊥)
+    → joints_among branches [] (exchangers_of (take (n + 1) lines)) ≡ joints_among branches [] (exchangers_of (take n lines))
+unfolding exchangers_of
+declared-other branches lines n l within read other =
+    ap (joints_among branches []) (declared-next lines n l within read ∙ ap (λ o. exchangers_of (take n lines) ++ cons_option o []) (no_exchanger l other) ∙ append-nil (exchangers_of (take n lines)))
 
 -- ---- passes of exchangers that are there
 

@@ -1,10 +1,10 @@
 -- What the audit reads of the table of exchangers is what the items say: the ends of the sides, and the duties of the utilities.
-use Rattle.std.proofs.Common.{◌≡◌, ◌∙◌, ◌<◌, ◌+◌, ◌∷◌, ◌++◌, ◌||◌, ℕ, Bool, true, false, cond, List, [], Option, Some, None, All, inl, inr, slice_get, length, map, refl, sym, ap, ap₂, subst, arith}
+use Rattle.std.proofs.Common.{◌≡◌, ◌∙◌, ◌<◌, ◌+◌, ◌∷◌, ◌++◌, ◌||◌, ℕ, Bool, true, false, cond, List, [], Option, Some, None, All, inl, inr, slice_get, get_or, length, map, take, refl, sym, ap, ap₂, subst, arith}
 use Rattle.std.specs.Prelude.{if◌then◌else◌, option_map, unwrap_or}
 use Rattle.std.specs.List.{cons_option, enumerate_from, filter_map, flat_map}
 use Rattle.std.specs.Option.{option_map_or}
-use Rattle.std.proofs.lemmas.List.Elements.{All-head, All-tail}
-use Rattle.sums.proofs.EnumerationLemmas.{All-enumerated}
+use Rattle.std.proofs.lemmas.List.{length-take, map-append, take_more}
+use Rattle.sums.proofs.EnumerationLemmas.{All-enumerated, enumerate_from-append}
 use Rattle.stream_case.specs.Case.{side_of}
 use Rattle.stream_case.specs.Source.{same_source}
 use Rattle.stream_case.specs.declared.case.Case.{Case}
@@ -26,10 +26,11 @@ use Rattle.network_audit.specs.AllItems.{range_items, sum_steps, utility_items, 
 use Rattle.network_audit.specs.Balance.{duties_with, duty_with}
 use Rattle.network_audit.specs.Items.{Item, ends_of, exchanger_items, exchanger_items_at, side_items}
 use Rattle.network_audit.specs.Joints.{crossing_among, crossing_by, joint_among, joints_among, joints_of}
-use Rattle.network_audit.specs.Table.{all_heat_items, duties_in, ends_at, heat_items, joint_duty, joint_items, joint_items_at}
+use Rattle.network_audit.specs.Table.{all_heat_items, duties_in, ends_at, heat_items, heats_in, joint_duty, joint_items, joint_items_at}
 use Rattle.network_audit.specs.declared.exchangers.Ends.{Ends}
 use Rattle.network_audit.specs.declared.joints.Joint.{Joint}
 use Rattle.network_audit.specs.declared.findings.Place.TheVariants as place
+use Rattle.network_audit.proofs.FoundLemmas.{flat_map-same}
 
 -- ---- the ends of the sides
 
@@ -83,11 +84,6 @@ module _ {X Y Z : Type 0} where
   flat_map-made g f m [] = refl
   flat_map-made g f m (x ∷ xs) = ap (λ ys. g (m, f (m, x)) ++ ys) (flat_map-made g f (m + 1) xs)
 
-  pub flat_map-same : (f g : X → List Y) (xs : List X) → All (λ x. f x ≡ g x) xs → flat_map f xs ≡ flat_map g xs
-  flat_map-same f g [] same = refl
-  flat_map-same f g (x ∷ xs) same =
-      ap (λ ys. ys ++ flat_map f xs) (All-head (λ y. f y ≡ g y) x xs same) ∙ ap (λ ys. g x ++ ys) (flat_map-same f g xs (All-tail (λ y. f y ≡ g y) x xs same))
-
 -- the items of the exchangers, read from the table
 pub joint_items-are : (case : Case) (network : Network) (values : Valuation) → HasShape case network → joint_items case values (joints_of network) ≡ exchanger_items case network values
 unfolding joint_items exchanger_items joints_among
@@ -122,3 +118,13 @@ heat_items-are case network =
     let same : (p : ℕ × Utility) → heat_items (joints_of network) p ≡ utility_items_at network p =
         λ p. ap (λ duties. sum_steps (place.Utility p.0) 0 rational_zero duties ++ range_items (place.Utility p.0) p.1 (rational_sum duties)) (duties-are network p.0) in
     λ i. flat_map (λ p. same p i) (enumerate_from 0 case.utilities)
+
+-- the heat of one utility more
+pub heats-more : (joints : List Joint) (utilities : List Utility) (n : ℕ) (d : Utility) → n < length utilities → heats_in joints (take (n + 1) utilities) ≡ heats_in joints (take n utilities) ++ rational_sum (duties_in joints n) ∷ []
+unfolding heats_in
+heats-more joints utilities n d within =
+    let heat : ℕ × Utility → Rational = λ p. rational_sum (duties_in joints p.0) in
+    ap (λ us. map heat (enumerate_from 0 us)) (take_more utilities n d within)
+    ∙ ap (map heat) (enumerate_from-append 0 (take n utilities) (get_or utilities n d ∷ []))
+    ∙ map-append heat (enumerate_from 0 (take n utilities)) (enumerate_from (0 + length (take n utilities)) (get_or utilities n d ∷ []))
+    ∙ ap (λ k. map heat (enumerate_from 0 (take n utilities)) ++ rational_sum (duties_in joints k) ∷ []) (omega (arith, within, length-take n utilities))

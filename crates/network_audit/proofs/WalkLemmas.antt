@@ -27,7 +27,7 @@ use Rattle.network_audit.specs.Items.{Item, end_items, first_finding, items_befo
 use Rattle.network_audit.specs.declared.findings.Finding.{Finding}
 use Rattle.network_audit.specs.declared.findings.Place.{Place}
 use Rattle.network_audit.specs.declared.findings.Place.TheVariants as place
-use Rattle.network_audit.proofs.FoundLemmas.{found-behind, found-front, found-nothing, items-more, passed-item}
+use Rattle.network_audit.proofs.FoundLemmas.{flat_map-same, found-behind, found-front, found-nothing, items-more, passed-item}
 
 -- ---- items depend on the branches that lines use
 
@@ -40,11 +40,6 @@ line_items-same case network values other m at (line.Mix first second to) agree 
     ∙ ap (λ v. mix_items at (value_at other first) v) (agree.same second (All-head (λ b. b < m) second [] (All-tail (λ b. b < m) first (second ∷ []) used)))
 line_items-same case network values other m at (line.End branch) agree used =
     ap (λ v. end_items at v (slice_get case.streams (stream_at network.branches branch))) (agree.same branch (All-head (λ b. b < m) branch [] used))
-
-flat_map-same : {X Y : Type 0} (f g : X → List Y) (xs : List X) → All (λ x. f x ≡ g x) xs → flat_map f xs ≡ flat_map g xs
-flat_map-same f g [] same = refl
-flat_map-same f g (x ∷ xs) same =
-    ap (λ ys. ys ++ flat_map f xs) (All-head (λ y. f y ≡ g y) x xs same) ∙ ap (λ ys. g x ++ ys) (flat_map-same f g xs (All-tail (λ y. f y ≡ g y) x xs same))
 
 -- the first n lines use branches that were made before the n-th is over
 pub items_before-same : (case : Case) (network : Network) (values other : Valuation) (n m : ℕ) → HasShape case network

@@ -3,6 +3,7 @@ ghost use Rattle.std.specs.Prelude.{◌≡◌, ◌+◌, ◌*◌, ◌<◌, ◌≤
 ghost use Rattle.std.specs.List.{enumerate_from};
 ghost use Rattle.fractions.specs.Rationals.{minus, rational_sum, rational_zero, whole};
 ghost use Rattle.problem_table.specs.Deficit.{hot_target};
+ghost use Rattle.stream_case.specs.Source.{same_side};
 ghost use Rattle.stream_case.specs.Stream.{AreStreams};
 ghost use Rattle.network_audit.specs.AllItems.{cost_steps, sum_steps};
 ghost use Rattle.network_audit.specs.Answers.{Formed};
@@ -14,6 +15,13 @@ use fractions::Frac;
 use problem_table::targets;
 use stream_case::{Case, Side, Utility};
 
+/// Whether a utility is on this side.
+fn is_on(utility: &Utility, side: Side) -> bool
+    ensures { result ≡ same_side utility.now.side side }
+{
+    utility.side == side
+}
+
 /// The heats in W of the utilities on a side, added up, where so many steps were taken before; or
 /// the number of the step that is too fine.
 fn heat_on(side: Side, utilities: &[Utility], heats: &[Frac], before: u32) -> Result<Sum, u32>
@@ -23,7 +31,7 @@ fn heat_on(side: Side, utilities: &[Utility], heats: &[Frac], before: u32) -> Re
 {
     let mut sum = Sum::after(before);
     for (index, utility) in utilities.iter().enumerate() {
-        if utility.side == side {
+        if is_on(utility, side) {
             sum = sum.plus(&heats[index])?;
         }
     }
