@@ -69,7 +69,7 @@ prices-are case network heats are =
 
 -- ---- the balance
 
-pub balance-is : (case : Case) (network : Network) (heats : List Rational) → HasShape case network → AreHeats case network heats → balance_in case heats ≡ balance_of case network
+pub balance-is : (case : Case) (network : Network) (heats : List Rational) → HasShape case network → AreHeats case network heats → balance_in (whole (hot_target case.streams)) case.utilities heats ≡ balance_of case network
 unfolding cost_of
 balance-is case network heats shape are =
     let hot = ap rational_sum (heats_on-are side.Hot case network heats are) ∙ hot_heat-is case network shape in
@@ -84,7 +84,7 @@ steps_from case hot cold prices excess =
     ++ Step place.Balance (length hot + length cold + 1) excess
     ∷ cost_steps place.Balance (length hot + length cold + 1) rational_zero prices)
 
-pub balance_items-are : (case : Case) (network : Network) (heats : List Rational) → HasShape case network → AreHeats case network heats → balance_steps_in place.Balance case heats ≡ balance_items case network
+pub balance_items-are : (case : Case) (network : Network) (heats : List Rational) → HasShape case network → AreHeats case network heats → balance_steps_in place.Balance (whole (hot_target case.streams)) case.utilities heats ≡ balance_items case network
 unfolding balance_items
 balance_items-are case network heats shape are =
     let hot = heats_on-are side.Hot case network heats are in

@@ -1,5 +1,6 @@
 pub mod FoundLemmas
 pub mod SumSteps
+pub mod CostSteps
 pub mod JointLemmas
 pub mod StatementLemmas
 pub mod WalkLemmas

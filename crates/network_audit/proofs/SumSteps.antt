@@ -106,10 +106,11 @@ module _ {X : Type 0} (f : X → Option Rational) where
 pub total-is : (before : ℕ) (numbers : List Rational) (total : Rational) (steps : ℕ) → IsSummed before numbers total steps → total ≡ rational_sum numbers
 total-is before numbers total steps summed = summed.total_is ∙ added-zero numbers
 
-pub length-numbers : {X : Type 0} (f : X → Option Rational) (xs : List X) → length (filter_map f xs) ≤ length xs
-length-numbers f [] = omega arith
-length-numbers f (x ∷ xs) = by (f x) (length-numbers f xs)
-  where
-    by : (o : Option Rational) → length (filter_map f xs) ≤ length xs → length (cons_option o (filter_map f xs)) ≤ suc (length xs)
-    by None few = omega (arith, few)
-    by (Some a) few = omega (arith, few)
+module _ {X Y : Type 0} where
+  pub length-numbers : (f : X → Option Y) (xs : List X) → length (filter_map f xs) ≤ length xs
+  length-numbers f [] = omega arith
+  length-numbers f (x ∷ xs) = by (f x) (length-numbers f xs)
+    where
+      by : (o : Option Y) → length (filter_map f xs) ≤ length xs → length (cons_option o (filter_map f xs)) ≤ suc (length xs)
+      by None few = omega (arith, few)
+      by (Some a) few = omega (arith, few)

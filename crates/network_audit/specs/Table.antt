@@ -9,7 +9,6 @@ use Rattle.stream_case.specs.declared.source.Side.TheVariants as side
 use Rattle.stream_case.specs.declared.source.Source.{Source}
 use Rattle.stream_case.specs.declared.source.Source.TheVariants as source
 use Rattle.stream_case.specs.declared.utility.Utility.{Utility}
-use Rattle.problem_table.specs.Deficit.{hot_target}
 use Rattle.fractions.specs.Rationals.{Rational, minus, rational_sum, rational_zero, times, whole}
 use Rattle.network_values.specs.Values.{Valuation, value_at}
 use Rattle.network_audit.specs.AllItems.{cost_steps, range_items, sum_steps}
@@ -78,19 +77,20 @@ price_in heats (index, u) = times (whole u.price) (heat_at heats index)
 unfoldable pub prices_in : List Utility → List Rational → List Rational
 prices_in utilities heats = map (price_in heats) (enumerate_from 0 utilities)
 
-abbrev pub balance_in : Case → List Rational → Balance
-balance_in case heats = record {
-  hot = rational_sum (heats_on_in side.Hot case.utilities heats);
-  cold = rational_sum (heats_on_in side.Cold case.utilities heats);
-  excess = minus (rational_sum (heats_on_in side.Hot case.utilities heats)) (whole (hot_target case.streams));
-  cost = rational_sum (prices_in case.utilities heats);
+-- the balance for a hot target, and its steps
+abbrev pub balance_in : Rational → List Utility → List Rational → Balance
+balance_in target utilities heats = record {
+  hot = rational_sum (heats_on_in side.Hot utilities heats);
+  cold = rational_sum (heats_on_in side.Cold utilities heats);
+  excess = minus (rational_sum (heats_on_in side.Hot utilities heats)) target;
+  cost = rational_sum (prices_in utilities heats);
 }
 
-abbrev pub balance_steps_in : Place → Case → List Rational → List Item
-balance_steps_in at case heats =
-    let hot = heats_on_in side.Hot case.utilities heats in
-    let cold = heats_on_in side.Cold case.utilities heats in
+abbrev pub balance_steps_in : Place → Rational → List Utility → List Rational → List Item
+balance_steps_in at target utilities heats =
+    let hot = heats_on_in side.Hot utilities heats in
+    let cold = heats_on_in side.Cold utilities heats in
     sum_steps at 0 rational_zero hot
     ++ (sum_steps at (length hot) rational_zero cold
-    ++ Step at (length hot + length cold + 1) (minus (rational_sum hot) (whole (hot_target case.streams)))
-    ∷ cost_steps at (length hot + length cold + 1) rational_zero (prices_in case.utilities heats))
+    ++ Step at (length hot + length cold + 1) (minus (rational_sum hot) target)
+    ∷ cost_steps at (length hot + length cold + 1) rational_zero (prices_in utilities heats))

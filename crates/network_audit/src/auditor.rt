@@ -8,7 +8,7 @@ ghost use Rattle.network_audit.specs.Findings.{IsFinding, IsVerdict};
 ghost use Rattle.network_audit.specs.Valid.{IsValidNetwork};
 ghost use Rattle.network_audit.specs.declared.verdict.Verdict.{Verdict};
 
-use crate::balance::balance_of;
+use crate::balance::{balance_of, hot_target};
 use crate::copies::{copied_case, copied_network};
 use crate::exchangers::audit_exchangers;
 use crate::findings::{Finding, Place};
@@ -117,6 +117,7 @@ fn audit_network(
     requires { IsReady case.now network.now joints.now values.old heats.old }
     ensures { MatchResult result (λ balance. Accepts case.now network.now values.new balance) (λ found. IsFinding case.now network.now found) }
 {
+    let utilities = case.utilities.as_slice();
     if let Err(found) = audit_statements(case, network, joints, values) {
         return Err(found);
     }
@@ -126,10 +127,11 @@ fn audit_network(
     if let Err(found) = audit_exchangers(case, joints, values) {
         return Err(found);
     }
-    if let Err(found) = audit_utilities(joints, case.utilities.as_slice(), heats) {
+    if let Err(found) = audit_utilities(joints, utilities, heats) {
         return Err(found);
     }
-    match balance_of(case, heats) {
+    let target = hot_target(case);
+    match balance_of(&target, utilities, heats) {
         Ok(balance) => Ok(balance),
         Err(step) => Err(Finding::TooFine {
             place: Place::Balance,

@@ -67,20 +67,25 @@ fn cost_of(utilities: &[Utility], heats: &[Frac], before: u32) -> Result<Frac, u
     Ok(cost.total)
 }
 
-/// The balance of a network whose utilities have these heats in W, or the number of the step that
-/// is too fine.
-pub(crate) fn balance_of(case: &Case, heats: &[Frac]) -> Result<Balance, u32>
-    requires streams { AreStreams case.now.streams }
-    requires room { length heats.now ≡ length case.now.utilities }
-    requires few { length case.now.utilities ≤ 1000 }
-    ensures { Formed (λ at. balance_steps_in at case.now heats.now) (λ balance. balance ≡ balance_in case.now heats.now) result }
+/// The hot target of the streams of a case, in W.
+pub(crate) fn hot_target(case: &Case) -> Frac
+    requires { AreStreams case.now.streams }
+    ensures { result ≡ whole (hot_target case.now.streams) }
 {
-    let utilities = case.utilities.as_slice();
+    Frac::whole(targets(case).hot)
+}
+
+/// The balance of a network whose utilities have these heats, where the hot target is this, all
+/// in W; or the number of the step that is too fine.
+pub(crate) fn balance_of(target: &Frac, utilities: &[Utility], heats: &[Frac]) -> Result<Balance, u32>
+    requires room { length heats.now ≡ length utilities.now }
+    requires few { length utilities.now ≤ 1000 }
+    ensures { Formed (λ at. balance_steps_in at target.now utilities.now heats.now) (λ balance. balance ≡ balance_in target.now utilities.now heats.now) result }
+{
     let hot = heat_on(Side::Hot, utilities, heats, 0)?;
     let cold = heat_on(Side::Cold, utilities, heats, hot.steps)?;
-    let target = Frac::whole(targets(case).hot);
     let steps = cold.steps + 1;
-    let Some(excess) = hot.total.minus(&target) else {
+    let Some(excess) = hot.total.minus(target) else {
         return Err(steps);
     };
     let cost = cost_of(utilities, heats, steps)?;
