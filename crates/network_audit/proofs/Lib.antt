@@ -9,3 +9,4 @@ pub mod HeatLemmas
 pub mod BalanceLemmas
 pub mod FindingLemmas
 pub mod ValidLemmas
+pub mod AuditLemmas

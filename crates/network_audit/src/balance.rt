@@ -12,7 +12,7 @@ ghost use Rattle.network_audit.specs.Table.{balance_in, balance_steps_in, heats_
 use crate::sum::Sum;
 use crate::verdict::Balance;
 use fractions::Frac;
-use problem_table::targets;
+use problem_table::{Target, targets};
 use stream_case::{Case, Side, Utility};
 
 /// Whether a utility is on this side.
@@ -72,7 +72,14 @@ pub(crate) fn hot_target(case: &Case) -> Frac
     requires { AreStreams case.now.streams }
     ensures { result ≡ whole (hot_target case.now.streams) }
 {
-    Frac::whole(targets(case).hot)
+    hot_of(&targets(case))
+}
+
+/// The hot target of two, in W.
+fn hot_of(target: &Target) -> Frac
+    ensures { result ≡ whole target.now.hot }
+{
+    Frac::whole(target.hot)
 }
 
 /// The balance of a network whose utilities have these heats, where the hot target is this, all
