@@ -20,7 +20,8 @@ use Rattle.network_text.specs.Lines.{Exchanger, exchangers_of}
 use Rattle.network_text.specs.Shape.{HasShape, IsExchanger}
 use Rattle.network_text.specs.declared.network.Network.{Network}
 use Rattle.network_audit.specs.AllItems.{heat_on, heats_on}
-use Rattle.network_audit.specs.Balance.{cold_heat, duties_with, duty_with, heat_with, hot_heat, utility_part}
+use Rattle.network_values.specs.Penalties.{hot_heat, utility_part}
+use Rattle.network_audit.specs.Balance.{cold_heat, duties_with, duty_with, heat_with}
 
 -- ---- sums of what is there
 

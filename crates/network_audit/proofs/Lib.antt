@@ -10,3 +10,5 @@ pub mod BalanceLemmas
 pub mod FindingLemmas
 pub mod ValidLemmas
 pub mod AuditLemmas
+pub mod InvalidLemmas
+pub mod VerdictLemmas

@@ -1,8 +1,8 @@
 -- A network without a finding is valid, and no test of a valid one fails.
-use Rattle.std.proofs.Common.{◌≡◌, ◌∙◌, ◌<◌, ◌≤◌, ◌+◌, ◌∷◌, ◌++◌, ◌==◌, ◌&&◌, ◌||◌, ℕ, zero, suc, Bool, true, false, not, cond, List, [], Some, None, All, slice_get, length, get_or, map, take, drop, refl, sym, ap, subst, arith}
+use Rattle.std.proofs.Common.{◌≡◌, ◌∙◌, ◌<◌, ◌≤◌, ◌+◌, ◌∷◌, ◌++◌, ◌==◌, ◌&&◌, ◌||◌, ℕ, zero, suc, Bool, true, false, not, cond, List, [], Option, Some, None, All, slice_get, length, get_or, map, take, drop, refl, sym, ap, subst, arith}
 use Rattle.std.specs.Prelude.{Contains, if◌then◌else◌}
 use Rattle.std.specs.List.{enumerate_from, flat_map, list_any}
-use Rattle.std.proofs.lemmas.Bool.{eq-eqb, or_false}
+use Rattle.std.proofs.lemmas.Bool.{eq-eqb}
 use Rattle.std.proofs.lemmas.Bool.Decides.{nat_tests}
 use Rattle.std.proofs.lemmas.List.{append-nil, take_all}
 use Rattle.std.proofs.lemmas.List.Elements.{All-cons, All-head, All-nil, All-tail}
@@ -65,7 +65,7 @@ ended-contains branches stream (line.End branch ∷ lines) some = by (stream_at 
         subst (λ s. Contains (stream_at branches branch ∷ map (stream_at branches) (flat_map ends lines)) s) same (contains-here (stream_at branches branch) (map (stream_at branches) (flat_map ends lines)))
     by false is later any = contains-later (stream_at branches branch) stream (map (stream_at branches) (flat_map ends lines)) (later any)
 
-contains-ended : (branches : List Branch) (stream : ℕ) (lines : List Line) → Contains (map (stream_at branches) (flat_map ends lines)) stream → list_any (ends_stream branches stream) lines ≡ true
+pub contains-ended : (branches : List Branch) (stream : ℕ) (lines : List Line) → Contains (map (stream_at branches) (flat_map ends lines)) stream → list_any (ends_stream branches stream) lines ≡ true
 contains-ended branches stream [] (k, within, is) = absurd (omega (arith, within))
 contains-ended branches stream (line.Exchanger name hot cold duty ∷ lines) some = contains-ended branches stream lines some
 contains-ended branches stream (line.Split from first cp second ∷ lines) some = contains-ended branches stream lines some
@@ -80,7 +80,7 @@ contains-ended branches stream (line.End branch ∷ lines) (suc k, within, is) =
     by false = refl
 
 -- what holds of each ended branch holds of those of each line
-each-ends : (P : ℕ → Type 0) (lines : List Line) (k : ℕ) (l : Line) → All P (flat_map ends lines) → slice_get lines k ≡ Some l → All P (ends l)
+pub each-ends : (P : ℕ → Type 0) (lines : List Line) (k : ℕ) (l : Line) → All P (flat_map ends lines) → slice_get lines k ≡ Some l → All P (ends l)
 each-ends P [] k l all at = absurd (none-some l at)
 each-ends P (m ∷ lines) zero l all at = subst (λ n. All P (ends n)) (same_Some m l at) (All-front P (ends m) (flat_map ends lines) all)
 each-ends P (m ∷ lines) (suc k) l all at = each-ends P lines k l (All-back P (ends m) (flat_map ends lines) all) at
@@ -112,7 +112,7 @@ all_lines : (case : Case) (network : Network) (values : Valuation) → items_bef
 unfolding items_before
 all_lines case network values = ap (λ ls. flat_map (statement_items case network values) (enumerate_from 0 ls)) (take_all (length network.lines + 1) network.lines (omega arith))
 
-items-whole : (case : Case) (network : Network) (values : Valuation) → items case network values (length network.lines) ≡ flat_map (statement_items case network values) (enumerate_from 0 network.lines) ++ items_behind case network values
+pub items-whole : (case : Case) (network : Network) (values : Valuation) → items case network values (length network.lines) ≡ flat_map (statement_items case network values) (enumerate_from 0 network.lines) ++ items_behind case network values
 unfolding items
 items-whole case network values =
     ap (λ b. items_before case network values (length network.lines + 1) ++ (if b then items_behind case network values else [])) (eq-eqb (length network.lines) (length network.lines) refl)
@@ -134,6 +134,11 @@ passed-each case network values none =
     }
 
 -- ---- no finding, and so valid
+
+some_within : {X : Type 0} (xs : List X) (i : ℕ) → i < length xs → slice_get xs i ≡ None → ⊥
+some_within [] i inside none = omega (arith, inside)
+some_within (x ∷ xs) zero inside none = cc none
+some_within (x ∷ xs) (suc i) inside none = some_within xs i (omega (arith, inside)) none
 
 full_end : (case : Case) (network : Network) (values : Valuation) (at : Place) (l : Line) → first_finding (line_items case network values at l) ≡ None → All (IsFullEnd case network values) (ends l)
 full_end case network values at (line.Exchanger name hot cold duty) none = All-nil (IsFullEnd case network values)
@@ -181,10 +186,10 @@ in_range network index u none =
 
 pub valid_from_none : (case : Case) (network : Network) (values : Valuation) → IsWholeValuation case network values → first_finding (items case network values (length network.lines)) ≡ None → IsValidNetwork case network
 unfolding ended_by ended_streams is_ended
-valid_from_none case network values whole none =
+valid_from_none case network values valuation none =
     let all = passed-each case network values none in record {
       values = values;
-      valuation = whole;
+      valuation = valuation;
       ended = record {
         full = All-flat_map (IsFullEnd case network values) ends network.lines (λ k d inside. full_end case network values (place.Line (k + 1)) (get_or network.lines k d) (all.lines k (get_or network.lines k d) (slice_get-get_or network.lines k d inside)));
         each = λ stream inside. ended-contains network.branches stream network.lines (stream_passed stream inside all);
@@ -197,8 +202,8 @@ valid_from_none case network values whole none =
     stream_passed : (stream : ℕ) → stream < length case.streams → AllPassed case network values → is_ended network stream ≡ true
     stream_passed stream inside all = at_some (slice_get case.streams stream) refl
       where
-        at_some : (o : Rattle.std.specs.Prelude.Option Stream) → slice_get case.streams stream ≡ o → is_ended network stream ≡ true
-        at_some None is = absurd (omega (arith, Rattle.std.proofs.lemmas.Option.slice_get_past case.streams stream))
+        at_some : (o : Option Stream) → slice_get case.streams stream ≡ o → is_ended network stream ≡ true
+        at_some None is = absurd (some_within case.streams stream inside is)
         at_some (Some s) is = passed-item _ _ (all.streams stream s is)
 
 pub valid_network : (case : Case) (network : Network) → HasNoFinding case network → IsValidNetwork case network

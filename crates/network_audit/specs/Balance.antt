@@ -3,13 +3,13 @@ use Rattle.std.specs.Prelude.{ℕ, ◌||◌, List, Option, Some, None, if◌then
 use Rattle.std.specs.List.{enumerate_from, filter_map}
 use Rattle.stream_case.specs.Source.{same_source}
 use Rattle.stream_case.specs.declared.case.Case.{Case}
-use Rattle.stream_case.specs.declared.source.Source.{Source}
 use Rattle.stream_case.specs.declared.source.Source.TheVariants as source
 use Rattle.stream_case.specs.declared.utility.Utility.{Utility}
 use Rattle.problem_table.specs.Deficit.{hot_target}
-use Rattle.fractions.specs.Rationals.{Rational, minus, rational_sum, rational_sum_by, rational_zero, times, whole}
+use Rattle.fractions.specs.Rationals.{Rational, minus, rational_sum, rational_sum_by, times, whole}
 use Rattle.network_text.specs.Lines.{Exchanger, exchangers_of}
 use Rattle.network_text.specs.declared.network.Network.{Network}
+use Rattle.network_values.specs.Penalties.{hot_heat, utility_part}
 use Rattle.network_audit.specs.declared.verdict.Balance.{Balance}
 
 -- ---- the heat of a utility
@@ -27,15 +27,7 @@ heat_with network index = rational_sum (duties_with network index)
 
 -- ---- the balance
 
--- a duty with a utility; nothing with a stream
-abbrev pub utility_part : Rational → Source → Rational
-utility_part duty (source.Stream index) = rational_zero
-utility_part duty (source.Utility index) = duty
-
--- the duties of the exchangers with a hot utility, and of those with a cold one
-abbrev pub hot_heat : Network → Rational
-hot_heat network = rational_sum_by (λ e. utility_part e.duty e.hot) (exchangers_of network.lines)
-
+-- the sum of the duties of the exchangers with a cold utility, as hot_heat is that of those with a hot one
 abbrev pub cold_heat : Network → Rational
 cold_heat network = rational_sum_by (λ e. utility_part e.duty e.cold) (exchangers_of network.lines)
 

@@ -1,6 +1,7 @@
 //! The auditor of a network.
-ghost use Rattle.std.specs.Prelude.{◌≡◌, None, IfOk, MatchResult, slice_get, option_and_then, length};
+ghost use Rattle.std.specs.Prelude.{◌≡◌, None, Some, IfOk, MatchResult, slice_get, option_and_then, length};
 ghost use Rattle.stream_case.specs.Case.{IsComplete};
+ghost use Rattle.fractions.specs.Rationals.{IsAtMost, rational_zero};
 ghost use Rattle.network_text.specs.Shape.{HasShape};
 ghost use Rattle.network_values.specs.Values.{IsWholeValuation, Valuation};
 ghost use Rattle.network_audit.specs.Audit.{Accepts, IfAccepted, IsReady};
@@ -69,13 +70,26 @@ impl Auditor {
         })
     }
 
-    /// The verdict on the network. It takes no memory.
+    /// The verdict on the network, which takes no memory: the first finding, in the order of the
+    /// statements, the streams, the exchangers, the utilities and the balance, or the balance.
     pub fn audit(&mut self) -> Verdict
         ensures verdict { IsVerdict self.old.case self.old.network result }
         ensures after { Leaves self.old result self.new }
+
+        // The valuation that is kept is the only one.
         ensures only { IfAccepted result (λ _. (values : Valuation) → IsWholeValuation self.old.case self.old.network values → self.new.values ≡ Some values) }
         ensures valid { Says result (IsValidNetwork self.old.case self.old.network) }
+        ensures excess { IfAccepted result (λ balance. IsAtMost rational_zero balance.excess) }
         ensures again { (other : Verdict) → IsVerdict self.old.case self.old.network other → other ≡ result }
+    {
+        self.audited()
+    }
+
+    /// Audits the network, and keeps whether it was accepted.
+    fn audited(&mut self) -> Verdict
+        ensures verdict { IsVerdict self.old.case self.old.network result }
+        ensures after { Leaves self.old result self.new }
+        ensures shape { HasShape self.old.case self.old.network }
     {
         let audited = audit_network(
             &self.case,
