@@ -31,12 +31,13 @@ unfolding items_before
 items_before-front case network values n k =
     let f = statement_items case network values in
     let some = take (n + k) network.lines in
-    let rest = enumerate_from (0 + length (take n some)) (drop n some) in
-    (flat_map f rest,
-    ap (λ ls. flat_map f (enumerate_from 0 ls)) (sym (take-append-drop n some))
-    ∙ ap (flat_map f) (enumerate_from-append 0 (take n some) (drop n some))
-    ∙ flat_map-append f (enumerate_from 0 (take n some)) rest
-    ∙ ap (λ ls. flat_map f (enumerate_from 0 ls) ++ flat_map f rest) (take-take n (n + k) network.lines (omega arith)))
+    let rest = enumerate_from (0 + length (take n some)) (drop n some) in (
+      flat_map f rest,
+      ap (λ ls. flat_map f (enumerate_from 0 ls)) (sym (take-append-drop n some))
+          ∙ ap (flat_map f) (enumerate_from-append 0 (take n some) (drop n some))
+          ∙ flat_map-append f (enumerate_from 0 (take n some)) rest
+          ∙ ap (λ ls. flat_map f (enumerate_from 0 ls) ++ flat_map f rest) (take-take n (n + k) network.lines (omega arith)),
+    )
 
 -- before the last line only statements have items
 items-inside : (case : Case) (network : Network) (values : Valuation) (n : ℕ) → n < length network.lines → items case network values n ≡ items_before case network values (n + 1)
@@ -58,14 +59,14 @@ found-later case network n (suc j) values other found shape one two some =
     let early = used_early case network n shape in
     let first : values ≡ front case network n other = one_valuation case network n values (front case network n other) shape one (valuation_front case network n (suc j) other shape two) in
     let same : items_before case network other (n + 1) ≡ items_before case network values (n + 1) =
-        items_before-same case network other (front case network n other) (n + 1) (made_before case network n) shape early (agree-take other (made_before case network n))
-        ∙ ap (λ vs. items_before case network vs (n + 1)) (sym first) in
+    items_before-same case network other (front case network n other) (n + 1) (made_before case network n) shape early (agree-take other (made_before case network n))
+    ∙ ap (λ vs. items_before case network vs (n + 1)) (sym first) in
     let (more, parts) = items_before-front case network other (n + 1) (suc j) in
     let next : n + suc j + 1 ≡ n + 1 + suc j = omega arith in
     let here : first_finding (items_before case network other (n + 1)) ≡ Some found =
-        ap first_finding (same ∙ sym (items-inside case network values n (omega (arith, within)))) ∙ some in
+    ap first_finding (same ∙ sym (items-inside case network values n (omega (arith, within)))) ∙ some in
     let longer : first_finding (items_before case network other (n + suc j + 1)) ≡ Some found =
-        ap (λ m. first_finding (items_before case network other m)) next ∙ ap first_finding parts ∙ found-front (items_before case network other (n + 1)) more found here in
+    ap (λ m. first_finding (items_before case network other m)) next ∙ ap first_finding parts ∙ found-front (items_before case network other (n + 1)) more found here in
     found-front (items_before case network other (n + suc j + 1)) (if n + suc j == length network.lines then items_behind case network other else []) found longer
 
 -- the same, by the numbers of lines

@@ -107,11 +107,11 @@ module _ {X : Type 0} (f : ℕ × X → List Item) where
   finds-here xs n d found within before here =
       let later = enumerate_from (0 + length (take (n + 1) xs)) (drop (n + 1) xs) in
       let all : flat_map f (enumerate_from 0 xs) ≡ items_of xs (n + 1) ++ flat_map f later =
-          ap (λ ys. flat_map f (enumerate_from 0 ys)) (sym (take-append-drop (n + 1) xs))
-          ∙ ap (flat_map f) (enumerate_from-append 0 (take (n + 1) xs) (drop (n + 1) xs))
-          ∙ flat_map-append f (enumerate_from 0 (take (n + 1) xs)) later in
+      ap (λ ys. flat_map f (enumerate_from 0 ys)) (sym (take-append-drop (n + 1) xs))
+      ∙ ap (flat_map f) (enumerate_from-append 0 (take (n + 1) xs) (drop (n + 1) xs))
+      ∙ flat_map-append f (enumerate_from 0 (take (n + 1) xs)) later in
       let front : first_finding (items_of xs (n + 1)) ≡ Some found =
-          ap first_finding (items-more xs n d within) ∙ found-behind (items_of xs n) (f (n, get_or xs n d)) before ∙ here in
+      ap first_finding (items-more xs n d within) ∙ found-behind (items_of xs n) (f (n, get_or xs n d)) before ∙ here in
       ap first_finding all ∙ found-front (items_of xs (n + 1)) (flat_map f later) found front
 
   -- all members are passed

@@ -116,7 +116,7 @@ pub heat_items-are : (case : Case) (network : Network) → all_heat_items (joint
 unfolding all_heat_items utility_items
 heat_items-are case network =
     let same : (p : ℕ × Utility) → heat_items (joints_of network) p ≡ utility_items_at network p =
-        λ p. ap (λ duties. sum_steps (place.Utility p.0) 0 rational_zero duties ++ range_items (place.Utility p.0) p.1 (rational_sum duties)) (duties-are network p.0) in
+    λ p. ap (λ duties. sum_steps (place.Utility p.0) 0 rational_zero duties ++ range_items (place.Utility p.0) p.1 (rational_sum duties)) (duties-are network p.0) in
     λ i. flat_map (λ p. same p i) (enumerate_from 0 case.utilities)
 
 -- the heat of one utility more

@@ -113,7 +113,7 @@ walked-more case network n made values next after l shape at walked none long af
     let wide : length old ≡ made = omega (arith, length-take made values, walked.room, walked.made_is, made_no_more shape.made_once n) in
     let agree : AgreeBelow old new made = subst (AgreeBelow old new) wide (agree-append old (made_values case network old l)) in
     let early : (k : ℕ) (m : Line) → k < n + 1 → slice_get network.lines k ≡ Some m → All (λ b. b < made) (uses m) =
-        subst (λ b. (k : ℕ) (m : Line) → k < n + 1 → slice_get network.lines k ≡ Some m → All (λ c. c < b) (uses m)) (sym walked.made_is) (used_early case network n shape) in
+    subst (λ b. (k : ℕ) (m : Line) → k < n + 1 → slice_get network.lines k ≡ Some m → All (λ c. c < b) (uses m)) (sym walked.made_is) (used_early case network n shape) in
     let same : items_before case network new (n + 1) ≡ items_before case network old (n + 1) = sym (items_before-same case network old new (n + 1) made shape early agree) in
     let valuation : IsValuation case network (suc n) new = valuation_more case network n old l shape at walked.valuation (room-passed case network old (place.Line (n + 1)) l none) in
     let front_is : take after next ≡ new = kept in

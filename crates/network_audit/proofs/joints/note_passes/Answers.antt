@@ -15,7 +15,7 @@ loop-line-preserved c =
     let before = take n c.args.lines.now in
     let more : take (n + 1) c.args.lines.now ≡ before ++ l ∷ [] = take_more c.args.lines.now n l c.loop-line-test.true ∙ ap (λ m. before ++ m ∷ []) (sym c.line-item.is) in
     elim c.match-line.branch [
-      in-Pass w ↦ λ es start.
+      | in-Pass w ↦ λ es start.
           let p = w.in-Pass in
           let d = w.index-joints-exchanger.result in
           let known : p.exchanger < length c.args.joints.now = subst (PassesBelow (length c.args.joints.now)) (sym c.line-item.is ∙ p.is) (c.requires n l c.loop-line-test.true) in
@@ -27,6 +27,6 @@ loop-line-preserved c =
           ∙ sym (joints-passed branches before es p.from p.exchanger p.to d within)
           ∙ ap (λ m. joints_among branches (before ++ m ∷ []) es) (sym p.is)
           ∙ ap (λ ls. joints_among branches ls es) (sym more)
-    | in_default w ↦ λ es start.
+      | in_default w ↦ λ es start.
           w.joints-is ∙ c.loop-line.invariant es start ∙ sym (joints-same branches before es l (no_pass l w.in_default.not-Pass)) ∙ ap (λ ls. joints_among branches ls es) (sym more)
     ]

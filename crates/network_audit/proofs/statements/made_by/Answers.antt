@@ -47,9 +47,10 @@ returns-in-Ok-passed c =
     let on : c.branch_side-side.result ≡ branch_side c.args.case.now n c.in-Pass.from = c.branch_side-side.ensures n (sym c.as_slice.ensures) in
     let value = value-read values c.in-Pass.from c.index-values-from-in-Pass.result within c.index-values-from-in-Pass.is in
     let duty = duty-read n c.args.joints.now c.in-Pass.exchanger c.index-joints-exchanger.result c.requires.joints known.1 in
-    rw c.in-Pass.is
-    (ap first_finding (λ i. pass_items c.args.place (sym on i) (sym value i) (sym duty i)) ∙ c.in-Ok-passed.ensures.0 c.args.place,
-    ap (λ v. v ∷ []) (c.in-Ok-passed.ensures.1 ∙ (λ i. passed_value (on i) (value i) (duty i))))
+    rw c.in-Pass.is (
+      ap first_finding (λ i. pass_items c.args.place (sym on i) (sym value i) (sym duty i)) ∙ c.in-Ok-passed.ensures.0 c.args.place,
+      ap (λ v. v ∷ []) (c.in-Ok-passed.ensures.1 ∙ (λ i. passed_value (on i) (value i) (duty i))),
+    )
 
 pub returns-in-Err-passed : goal.returns-in-Err-passed
 returns-in-Err-passed c =
