@@ -1,5 +1,5 @@
 -- A network has one finding at most, and none beside a whole valuation whose items are passed.
-use Rattle.std.proofs.Common.{◌≡◌, ◌∙◌, ◌<◌, ◌≤◌, ◌+◌, ◌-◌, ◌∷◌, ◌++◌, ◌==◌, ◌⊎◌, inl, inr, ℕ, zero, suc, Bool, true, false, cond, List, [], Some, None, All, length, take, drop, refl, sym, ap, subst, arith}
+use Rattle.std.proofs.Common.{◌≡◌, ◌∙◌, ◌<◌, ◌≤◌, ◌+◌, ◌-◌, ◌++◌, ◌==◌, ◌⊎◌, inl, inr, ℕ, zero, suc, List, [], Some, length, take, drop, sym, ap, subst, arith}
 use Rattle.std.specs.Prelude.{if◌then◌else◌}
 use Rattle.std.specs.List.{enumerate_from, flat_map}
 use Rattle.std.proofs.lemmas.Bool.{cases_lt, ne_eqb}
@@ -7,15 +7,12 @@ use Rattle.std.proofs.lemmas.List.{append-nil, take-append-drop, take-take}
 use Rattle.std.proofs.lemmas.List.Concat.{flat_map-append}
 use Rattle.sums.proofs.EnumerationLemmas.{enumerate_from-append}
 use Rattle.stream_case.specs.declared.case.Case.{Case}
-use Rattle.network_text.specs.Lines.{uses}
 use Rattle.network_text.specs.Shape.{HasShape, made_before}
-use Rattle.network_text.specs.declared.network.Line.{Line}
 use Rattle.network_text.specs.declared.network.Network.{Network}
 use Rattle.network_values.specs.Made.{front}
 use Rattle.network_values.specs.Values.{IsValuation, IsWholeValuation, Valuation}
 use Rattle.network_values.proofs.ValuationLemmas.{agree-take, one_valuation, valuation_front}
 use Rattle.network_audit.specs.AllItems.{items, items_behind}
-use Rattle.network_audit.specs.Balance.{balance_of}
 use Rattle.network_audit.specs.Findings.{HasNoFinding, IsFinding, IsVerdict}
 use Rattle.network_audit.specs.Items.{Item, first_finding, items_before, statement_items}
 use Rattle.network_audit.specs.declared.findings.Finding.{Finding}

@@ -1,5 +1,5 @@
 -- The first item that is not passed, of lists of items in a row and of the items of many members.
-use Rattle.std.proofs.Common.{◌≡◌, ◌∙◌, ◌<◌, ◌≤◌, ◌+◌, ◌∷◌, ◌++◌, ℕ, suc, Bool, true, false, not, List, [], Option, Some, None, All, option_map, length, get_or, take, drop, refl, sym, ap, subst, arith, add-one}
+use Rattle.std.proofs.Common.{◌≡◌, ◌∙◌, ◌<◌, ◌≤◌, ◌+◌, ◌∷◌, ◌++◌, ℕ, Bool, true, false, not, List, [], Option, Some, None, All, option_map, length, get_or, take, drop, refl, sym, ap, arith}
 use Rattle.std.specs.List.{enumerate_from, find, flat_map}
 use Rattle.std.specs.Option.{option_or}
 use Rattle.std.proofs.lemmas.List.{append-nil, length-take, take-append-drop, take_all, take_more}
@@ -7,13 +7,12 @@ use Rattle.std.proofs.lemmas.List.Concat.{flat_map-append}
 use Rattle.std.proofs.lemmas.List.Elements.{All-head, All-tail}
 use Rattle.std.proofs.lemmas.List.Folds.{find-append}
 use Rattle.sums.proofs.EnumerationLemmas.{enumerate_from-append}
-use Rattle.fractions.specs.Rationals.{Gives, Rational, is_within_limits}
+use Rattle.fractions.specs.Rationals.{Gives, Rational}
 use Rattle.fractions.proofs.Limits.{within_formed, within_not_formed}
-use Rattle.network_audit.specs.Items.{Item, Step, Test, finding_of, first_finding, is_passed}
+use Rattle.network_audit.specs.Items.{Item, Step, finding_of, first_finding, is_passed}
 use Rattle.network_audit.specs.declared.findings.Finding.{Finding}
 use Rattle.network_audit.specs.declared.findings.Finding.TheVariants as finding
 use Rattle.network_audit.specs.declared.findings.Place.{Place}
-use Rattle.network_audit.specs.declared.findings.Reason.{Reason}
 
 -- ---- one item
 

@@ -1,14 +1,13 @@
 -- The walk over the statements.
-use Rattle.std.proofs.Common.{◌≡◌, ◌≢◌, ◌∙◌, ◌<◌, ◌≤◌, ◌+◌, ◌∷◌, ◌++◌, ◌==◌, ℕ, zero, suc, Bool, true, false, cond, List, [], Some, None, All, slice_get, length, get_or, map, take, refl, sym, ap, subst, arith, add-one, length-append}
+use Rattle.std.proofs.Common.{◌≡◌, ◌∙◌, ◌<◌, ◌≤◌, ◌+◌, ◌∷◌, ◌++◌, ◌==◌, ℕ, suc, List, [], Some, None, All, slice_get, length, get_or, map, take, refl, sym, ap, subst, arith, add-one}
 use Rattle.std.specs.Prelude.{if◌then◌else◌}
-use Rattle.std.specs.List.{enumerate_from, flat_map}
-use Rattle.std.proofs.lemmas.List.{append-nil, length-take, take-append-le, take-take, take_all, take_more}
+use Rattle.std.specs.List.{enumerate_from}
+use Rattle.std.proofs.lemmas.List.{length-take, take_all}
 use Rattle.std.proofs.lemmas.List.Elements.{All-head, All-tail}
-use Rattle.std.proofs.lemmas.Option.{get_or_from_slice_get, slice_get-get_or, slice_get_within}
+use Rattle.std.proofs.lemmas.Option.{get_or_from_slice_get, slice_get_within}
 use Rattle.sums.proofs.EnumerationLemmas.{All-enumerated}
 use Rattle.stream_case.specs.Case.{IsComplete}
 use Rattle.stream_case.specs.declared.case.Case.{Case}
-use Rattle.fractions.specs.Rationals.{IsBelow}
 use Rattle.fractions.proofs.Comparisons.{Decides-is_below}
 use Rattle.network_text.specs.Lines.{made_by, stream_at, uses}
 use Rattle.network_text.specs.Shape.{HasShape, made_before}
@@ -16,14 +15,14 @@ use Rattle.network_text.specs.declared.network.Line.{Line}
 use Rattle.network_text.specs.declared.network.Line.TheVariants as line
 use Rattle.network_text.specs.declared.network.Network.{Network}
 use Rattle.network_text.proofs.Lists.{slice_get-take}
-use Rattle.network_text.proofs.OfShape.{HasNumbers, IsLineOf, all_made, line_of, line_read, made_fewer, made_no_more}
-use Rattle.network_values.specs.Made.{LeavesRoom, front, made_values}
+use Rattle.network_text.proofs.OfShape.{IsLineOf, all_made, line_of, line_read, made_fewer, made_no_more}
+use Rattle.network_values.specs.Made.{LeavesRoom, made_values}
 use Rattle.network_values.specs.Values.{IsValuation, IsWholeValuation, Valuation, branch_side, duty_at, first_value, value_at}
 use Rattle.network_values.specs.declared.values.BranchValue.{BranchValue}
-use Rattle.network_values.proofs.ValuationLemmas.{AgreeBelow, agree-append, agree-take, length-made_values, valuation_more, valuation_start}
+use Rattle.network_values.proofs.ValuationLemmas.{AgreeBelow, agree-append, length-made_values, valuation_more, valuation_start}
 use Rattle.network_audit.specs.AllItems.{items, items_behind}
 use Rattle.network_audit.specs.Findings.{IsFinding}
-use Rattle.network_audit.specs.Items.{Item, end_items, first_finding, items_before, line_items, mix_items, pass_items, split_items, statement_items}
+use Rattle.network_audit.specs.Items.{end_items, first_finding, items_before, line_items, mix_items, pass_items, split_items, statement_items}
 use Rattle.network_audit.specs.declared.findings.Finding.{Finding}
 use Rattle.network_audit.specs.declared.findings.Place.{Place}
 use Rattle.network_audit.specs.declared.findings.Place.TheVariants as place

@@ -1,13 +1,13 @@
-use Rattle.std.proofs.Common.{◌≡◌, ◌∙◌, ◌<◌, ◌≤◌, length, sym, ap, subst, arith}
+use Rattle.std.proofs.Common.{◌≡◌, ◌∙◌, length, sym, ap, arith}
 use Rattle.stream_case.proofs.CaseLemmas.{length-AreStreams}
-use Rattle.stream_case.proofs.CompleteLemmas.{AreStreams-IsComplete, length-utilities}
+use Rattle.stream_case.proofs.CompleteLemmas.{AreStreams-IsComplete}
 use Rattle.network_text.specs.Lines.{exchanger_of, exchangers_of}
 use Rattle.network_audit.specs.AllItems.{balance_items, utility_items}
 use Rattle.network_audit.specs.Items.{exchanger_items, first_finding}
 use Rattle.network_audit.specs.Table.{all_heat_items, balance_in, balance_steps_in, heats_in, joint_items}
 use Rattle.network_audit.specs.declared.findings.Finding.TheVariants as finding
 use Rattle.network_audit.specs.declared.findings.Place.TheVariants as place
-use Rattle.network_audit.proofs.AuditLemmas.{IsWalkedAll, accepts_all, finding_of_balance, finding_of_exchangers, finding_of_streams, finding_of_utilities}
+use Rattle.network_audit.proofs.AuditLemmas.{accepts_all, finding_of_balance, finding_of_exchangers, finding_of_streams, finding_of_utilities}
 use Rattle.network_audit.proofs.BalanceLemmas.{balance-is, balance_items-are, heats-are}
 use Rattle.network_audit.proofs.JointLemmas.{length-joints}
 use Rattle.network_audit.proofs.SumSteps.{length-numbers}

@@ -1,4 +1,4 @@
-use Rattle.std.proofs.Common.{◌≡◌, ◌∙◌, ◌<◌, ◌≤◌, ◌+◌, ◌∷◌, [], None, Some, length, sym, ap, subst, arith, zero-add}
+use Rattle.std.proofs.Common.{◌≡◌, ◌∙◌, ◌+◌, Some, length, sym, ap, subst, arith, zero-add}
 use Rattle.std.specs.List.{enumerate_from}
 use Rattle.std.proofs.lemmas.List.FromFn.{length-enumerate_from}
 use Rattle.std.proofs.lemmas.Result.{err_from_is_err_and}
@@ -6,7 +6,7 @@ use Rattle.stream_case.specs.declared.source.Side.TheVariants as side
 use Rattle.fractions.specs.Rationals.{Gives, minus, rational_sum, rational_zero}
 use Rattle.fractions.proofs.Limits.{value_formed}
 use Rattle.network_audit.specs.AllItems.{cost_steps, sum_steps}
-use Rattle.network_audit.specs.Items.{Step, first_finding}
+use Rattle.network_audit.specs.Items.{first_finding}
 use Rattle.network_audit.specs.Table.{heat_on_in, heats_on_in, prices_in}
 use Rattle.network_audit.specs.declared.findings.Finding.TheVariants as finding
 use Rattle.network_audit.specs.declared.sum.Sum.{Sum}

@@ -1,5 +1,5 @@
 use Rattle.std.proofs.Common.{◌≡◌, ◌∙◌, Some, true, false, ap, not, subst, sym}
-use Rattle.fractions.specs.Rationals.{Gives, Rational, is_below, plus, whole}
+use Rattle.fractions.specs.Rationals.{Gives, Rational, is_below, plus}
 use Rattle.fractions.proofs.Limits.{value_formed}
 use Rattle.network_audit.specs.Items.{wanted_above}
 use Rattle.network_audit.specs.declared.findings.Finding.TheVariants as finding

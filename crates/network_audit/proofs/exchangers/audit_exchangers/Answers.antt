@@ -1,4 +1,4 @@
-use Rattle.std.proofs.Common.{◌≡◌, ◌∙◌, None, Some, get_or, sym, ap, subst, arith}
+use Rattle.std.proofs.Common.{◌≡◌, ◌∙◌, None, Some, sym, ap, subst, arith}
 use Rattle.network_audit.specs.Items.{first_finding, side_items}
 use Rattle.network_audit.specs.Table.{joint_items, joint_items_at}
 use Rattle.network_audit.specs.declared.findings.Place.TheVariants as place

@@ -2,10 +2,9 @@ use Rattle.std.proofs.Common.{◌≡◌, ◌∙◌, Some, true, false, not, sym,
 use Rattle.std.proofs.Math.Bool.{not-not}
 use Rattle.fractions.specs.Rationals.{Rational, rational_eq}
 use Rattle.network_values.specs.Values.{full_size, last_state}
-use Rattle.network_audit.specs.Items.{Test, first_finding}
 use Rattle.network_audit.specs.declared.findings.Finding.TheVariants as finding
 use Rattle.network_audit.specs.declared.findings.Reason.TheVariants as reason
-use Rattle.network_audit.proofs.FoundLemmas.{found-failed, found-formed, found-not_formed, found-nothing, found-passed}
+use Rattle.network_audit.proofs.FoundLemmas.{found-failed, found-nothing, found-passed}
 use Rattle.network_audit.proofs.statements.ended.Goals as goal
 
 pub returns-then-ne : goal.returns-then-ne

@@ -1,9 +1,9 @@
-use Rattle.std.proofs.Common.{◌≡◌, ◌∙◌, ap, ap₂, subst}
-use Rattle.fractions.specs.Rationals.{Gives, over, plus, times}
+use Rattle.std.proofs.Common.{◌∙◌, ap₂, subst}
+use Rattle.fractions.specs.Rationals.{Gives, over, plus}
 use Rattle.fractions.proofs.Comparisons.{positive-nonzero}
 use Rattle.fractions.proofs.Limits.{value_formed}
 use Rattle.network_values.specs.Made.{heat_of_both}
-use Rattle.network_audit.proofs.FoundLemmas.{found-failed, found-formed, found-not_formed, found-nothing, found-passed}
+use Rattle.network_audit.proofs.FoundLemmas.{found-formed, found-not_formed, found-nothing}
 use Rattle.network_audit.proofs.statements.mean.Goals as goal
 
 pub returns-in_default : goal.returns-in_default

@@ -7,7 +7,7 @@ use Rattle.fractions.proofs.Limits.{value_formed}
 use Rattle.network_values.specs.Made.{heat_of_both}
 use Rattle.network_values.proofs.LineLemmas.{mixed_positive}
 use Rattle.network_audit.specs.Items.{first_finding, mean_items}
-use Rattle.network_audit.proofs.FoundLemmas.{found-failed, found-formed, found-not_formed, found-nothing, found-passed}
+use Rattle.network_audit.proofs.FoundLemmas.{found-formed, found-not_formed, found-nothing}
 use Rattle.network_audit.proofs.StatementLemmas.{even_mix}
 use Rattle.network_audit.proofs.statements.mixed.Goals as goal
 

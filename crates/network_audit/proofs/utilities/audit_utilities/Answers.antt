@@ -1,4 +1,4 @@
-use Rattle.std.proofs.Common.{◌≡◌, ◌∙◌, ◌≤◌, ◌+◌, ◌∷◌, ◌++◌, [], None, Some, get_or, length, take, ap, refl, subst, sym, arith}
+use Rattle.std.proofs.Common.{◌≡◌, ◌∙◌, ◌≤◌, ◌∷◌, ◌++◌, [], None, Some, length, take, ap, refl, subst, sym, arith}
 use Rattle.std.proofs.lemmas.List.{take_all, take_more_set}
 use Rattle.network_audit.specs.Items.{first_finding}
 use Rattle.network_audit.specs.Table.{all_heat_items, heat_items, heats_in}

@@ -1,10 +1,9 @@
-use Rattle.std.proofs.Common.{◌≡◌, ◌∙◌, ◌+◌, ◌≤◌, ◌∷◌, [], None, Some, get_or, take, sym, ap, subst, arith}
+use Rattle.std.proofs.Common.{◌≡◌, ◌∙◌, ◌+◌, [], None, Some, get_or, take, sym, ap, subst, arith}
 use Rattle.std.specs.Prelude.{if◌then◌else◌}
 use Rattle.std.specs.List.{filter_map}
 use Rattle.std.proofs.lemmas.Result.{err_from_is_err_and}
-use Rattle.fractions.specs.Rationals.{Rational, plus}
-use Rattle.network_audit.specs.Table.{duties_in, joint_duty, needs}
-use Rattle.network_audit.specs.declared.joints.Joint.{Joint}
+use Rattle.fractions.specs.Rationals.{plus}
+use Rattle.network_audit.specs.Table.{duties_in, joint_duty}
 use Rattle.network_audit.specs.declared.sum.Sum.{Sum}
 use Rattle.network_audit.proofs.SumSteps.{IsSummed, sum-all, sum-more, sum-not, sum-same, summed-none, total-is}
 use Rattle.network_audit.proofs.utilities.heat_with.Goals as goal
