@@ -1,7 +1,7 @@
 -- The cut of parts that a cut of the net of their pairs gives.
-use Rattle.std.proofs.Common.{◌≡◌, ◌∙◌, refl, sym, ap, subst, ℕ, ◌+◌, ◌<◌, ◌≤◌, Bool, true, false, not, List, length, FitsSigned, w64, to_z, of_z, arith}
+use Rattle.std.proofs.Common.{◌≡◌, ◌∙◌, refl, ap, ℕ, ◌+◌, Bool, true, false, not, List, length, FitsSigned, w64, to_z, of_z, arith}
 use Rattle.std.specs.Int.{w128}
-use Rattle.std.specs.Prelude.{ℤ, pos, ◌≤ℤ◌, ◌<ℤ◌, ◌*ℤ◌, Some, slice_get, All}
+use Rattle.std.specs.Prelude.{ℤ, pos, ◌*ℤ◌, Some, slice_get}
 use Rattle.std.proofs.lemmas.Int.{ints}
 use Rattle.std.proofs.lemmas.Option.{slice_get-get_or}
 use Rattle.stream_case.specs.declared.limits.TheConstants.{MOST_HEAT, MOST_PARTS}
