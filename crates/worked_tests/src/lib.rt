@@ -42,3 +42,5 @@ mod stream_case_tests;
 mod sums_tests;
 #[cfg(test)]
 mod tables;
+#[cfg(test)]
+mod transport_tests;
