@@ -4,7 +4,7 @@
 //! where it takes heat and the place where it gives it. The parts are those of a case, with a
 //! boiler at the highest main and cooling at the lowest place; but heat passes from one plant to
 //! another only through a main. The profiles say what the plants can take and give at each
-//! temperature.
+//! temperature, and the target is the least boiler heat, certified as that of a case.
 #![tactic(auto)]
 
 mod limits;
@@ -13,9 +13,11 @@ mod plants;
 mod profiles;
 mod reach;
 mod table;
+mod target;
 mod utilities;
 
 pub use limits::{MOST_PLANTS, MOST_SIDE_STREAMS};
 pub use plants::{Main, Plant, Site};
 pub use profiles::{sink_profile, source_profile};
 pub use table::{SiteTable, site_parts};
+pub use target::site_target;

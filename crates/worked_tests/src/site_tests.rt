@@ -4,7 +4,7 @@ ghost use Rattle.site.specs.Site.{IsValidSite};
 use crate::compare::{assert_lists, assert_same};
 use crate::grid_tests::{PartRow, rows_of};
 use crate::tables::MOST_HEAT;
-use site::{Site, site_parts, sink_profile, source_profile};
+use site::{Site, sink_profile, site_parts, source_profile};
 use site_text::read_site;
 use std::alloc::{AllocError, Global};
 use std::process::Abort;
@@ -67,12 +67,7 @@ const PROFILES: [(&[u8], &[Profile]); 3] = [
     ),
     (
         LOW_MAIN,
-        &[
-            (1400, 0, 0),
-            (1350, 0, 0),
-            (1300, 500, 0),
-            (550, 8000, 0),
-        ],
+        &[(1400, 0, 0), (1350, 0, 0), (1300, 500, 0), (550, 8000, 0)],
     ),
 ];
 

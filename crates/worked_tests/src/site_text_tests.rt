@@ -10,7 +10,8 @@ use stream_case::MOST_MAINS;
 const LONGEST: usize = 10_000;
 
 /// Rows before the one at fault.
-const FIRST_ROWS: &str = "contribution,,50,,,,\nmain,MP,1500,,,,\nplant,A,,,,,\nhot,H,1000,500,10,,\n";
+const FIRST_ROWS: &str =
+    "contribution,,50,,,,\nmain,MP,1500,,,,\nplant,A,,,,,\nhot,H,1000,500,10,,\n";
 
 /// Rows behind these four, and why they are refused.
 const FAULTY_ROWS: [(&str, SiteWhy); 22] = [
@@ -54,7 +55,11 @@ const FAULTY_FILES: [(&str, u32, SiteWhy); 10] = [
     ("", 1, SiteWhy::NoContribution),
     ("main,MP,1500,,,,", 2, SiteWhy::NoContribution),
     ("contribution,,50,,,,", 2, SiteWhy::NoMain),
-    ("contribution,,50,,,,\nmain,MP,1500,,,,", 3, SiteWhy::NoStream),
+    (
+        "contribution,,50,,,,\nmain,MP,1500,,,,",
+        3,
+        SiteWhy::NoStream,
+    ),
     (
         "contribution,,50,,,,\nmain,MP,1500,,,,\nplant,A,,,,,",
         4,
@@ -65,9 +70,21 @@ const FAULTY_FILES: [(&str, u32, SiteWhy); 10] = [
         4,
         SiteWhy::NoMain,
     ),
-    ("plant,B,,,,,\ncold,C,500,1300,10,,", 3, SiteWhy::NoContribution),
-    ("contribution,,50,,,,\ncold,C,500,1300,10,,", 2, SiteWhy::NoPlant),
-    ("contribution,,50,,,,\ncold,.C,500,x,10,,", 2, SiteWhy::NoPlant),
+    (
+        "plant,B,,,,,\ncold,C,500,1300,10,,",
+        3,
+        SiteWhy::NoContribution,
+    ),
+    (
+        "contribution,,50,,,,\ncold,C,500,1300,10,,",
+        2,
+        SiteWhy::NoPlant,
+    ),
+    (
+        "contribution,,50,,,,\ncold,.C,500,x,10,,",
+        2,
+        SiteWhy::NoPlant,
+    ),
     ("# a comment", 1, SiteWhy::FieldCount),
 ];
 

@@ -1,0 +1,68 @@
+-- The parts of a site are fixed, and make few pairs.
+use mathlib.Core.Path.{fun_ext}
+use Rattle.std.proofs.Common.{◌≡◌, ◌∙◌, ap, sym, subst, subst₂, Bool, ℕ, ◌+◌, ◌*◌, ◌≤◌, List, length, arith, Result, Ok, Err, IfOk}
+use Rattle.std.specs.Prelude.{ℤ, Contains}
+use Rattle.std.proofs.Math.Nat.{mul-le-mul}
+use Rattle.stream_case.specs.declared.source.Side.{Side}
+use Rattle.stream_case.specs.declared.source.Side.TheVariants.{Cold, Hot}
+use Rattle.stream_case.specs.Stream.{count_on}
+use Rattle.stream_case.proofs.CaseLemmas.{count_on-add}
+use Rattle.sums.proofs.CountLemmas.{length-le_falling}
+use Rattle.sums.proofs.OrderLemmas.{ListsFalling-unique}
+use Rattle.grid.specs.declared.part.Part.{Part}
+use Rattle.grid.specs.Making.{made_parts}
+use Rattle.grid.specs.Part.{AreParts}
+use Rattle.grid.proofs.MakingLemmas.{AreParts-made}
+use Rattle.grid.proofs.SizeLemmas.{length-made}
+use Rattle.transport.specs.declared.least_cost.TheConstants.{MOST_PAIRS}
+use Rattle.site.specs.Reach.{reach_between}
+use Rattle.site.specs.Site.{IsValidSite, streams_of}
+use Rattle.site.specs.Table.{IsSiteGrid, site_places, site_utilities}
+use Rattle.site.specs.Target.{AreSiteParts}
+use Rattle.site.specs.declared.plants.Site.{Site}
+use Rattle.site.proofs.PlaceLemmas.{HoldsPlaces-grid, length-site_places}
+
+module _ (site : Site) (valid : IsValidSite site) where
+  -- there are at most 24 streams and 4 mains
+  few_places : (places : List ℤ) → IsSiteGrid site places → length places ≤ 56
+  few_places places grid =
+      let falling = length-le_falling places (site_places site) grid.ordered grid.each in
+      omega (arith, falling, length-site_places site, count_on-add (streams_of site.plants), valid.streams.few Hot, valid.streams.few Cold, valid.mains.few)
+
+  -- each stream of the side has at most one part at each place, and each utility one
+  few_of_side : (places : List ℤ) (side : Side) (parts : List Part) → IsSiteGrid site places → AreParts (streams_of site.plants) (site_utilities site) places side parts → length parts ≤ 700
+  few_of_side places side parts grid are =
+      let holds = HoldsPlaces-grid site places valid grid in
+      let made = ap length (AreParts-made (streams_of site.plants) (site_utilities site) side places parts holds are) in
+      let most = length-made (streams_of site.plants) (site_utilities site) side places holds in
+      let product = mul-le-mul (few_places places grid) (valid.streams.few side) in
+      omega (arith, made, most, product)
+
+  pub few_pairs : (hot cold : List Part) → AreSiteParts site hot cold → length hot * length cold ≤ MOST_PAIRS
+  few_pairs hot cold parts =
+      let product = mul-le-mul (few_of_side parts.grid Hot hot parts.is_grid parts.hot_parts) (few_of_side parts.grid Cold cold parts.is_grid parts.cold_parts) in
+      omega (arith, product)
+
+  same_side_parts : (places others : List ℤ) (side : Side) (parts more : List Part) → IsSiteGrid site places → IsSiteGrid site others → AreParts (streams_of site.plants) (site_utilities site) places side parts → AreParts (streams_of site.plants) (site_utilities site) others side more → parts ≡ more
+  same_side_parts places others side parts more grid other are are_more =
+      let same = ListsFalling-unique (Contains (site_places site)) places others grid other in
+      AreParts-made (streams_of site.plants) (site_utilities site) side places parts (HoldsPlaces-grid site places valid grid) are
+      ∙ ap (made_parts (streams_of site.plants) (site_utilities site) side) same
+      ∙ sym (AreParts-made (streams_of site.plants) (site_utilities site) side others more (HoldsPlaces-grid site others valid other) are_more)
+
+  same_parts : (hot cold others more : List Part) → AreSiteParts site hot cold → AreSiteParts site others more → (hot ≡ others) × (cold ≡ more)
+  same_parts hot cold others more parts other = (same_side_parts parts.grid other.grid Hot hot others parts.is_grid other.is_grid parts.hot_parts other.hot_parts, same_side_parts parts.grid other.grid Cold cold more parts.is_grid other.is_grid parts.cold_parts other.cold_parts)
+
+IfOk-weaker : {A E : Type 0} (P Q : A → Type 0) (r : Result A E) → ((a : A) → P a → Q a) → IfOk r P → IfOk r Q
+IfOk-weaker P Q (Ok a) weaker h = weaker a h
+IfOk-weaker P Q (Err e) weaker h = tt
+
+-- what is answered of the parts in a table of a site is answered of the site's parts
+pub of_site_parts : {A E : Type 0} (site : Site) → IsValidSite site → (P : (ℕ → ℕ → Bool) → List Part → List Part → A → Type 0) (reach : ℕ → ℕ → Bool) (hot cold : List Part) (r : Result A E) → AreSiteParts site hot cold → ((a b : ℕ) → reach a b ≡ reach_between site hot cold a b)
+    → IfOk r (P reach hot cold) → IfOk r (λ x. (others more : List Part) → AreSiteParts site others more → P (reach_between site others more) others more x)
+of_site_parts {A = A} site valid P reach hot cold r parts same =
+    IfOk-weaker (P reach hot cold) (λ x. (others more : List Part) → AreSiteParts site others more → P (reach_between site others more) others more x) r
+    (λ x answered others more other.
+    let (hots, colds) = same_parts site valid hot cold others more parts other in
+    let table : reach ≡ reach_between site hot cold = fun_ext (λ a. fun_ext (λ b. same a b)) in
+    subst₂ (λ h k. P (reach_between site h k) h k x) hots colds (subst (λ t. P t hot cold x) table answered))

@@ -1,0 +1,15 @@
+-- The parts of a site, which its target speaks of.
+use Rattle.std.specs.Prelude.{ℤ, List}
+use Rattle.stream_case.specs.declared.source.Side.TheVariants.{Cold, Hot}
+use Rattle.grid.specs.Part.{AreParts}
+use Rattle.grid.specs.declared.part.Part.{Part}
+use Rattle.site.specs.Site.{streams_of}
+use Rattle.site.specs.Table.{IsSiteGrid, site_utilities}
+use Rattle.site.specs.declared.plants.Site.{Site}
+
+-- the hot and the cold parts of a site on its grid
+pub record AreSiteParts (site : Site) (hot cold : List Part) : Type 0 where
+  pub grid : List ℤ
+  pub is_grid : IsSiteGrid site grid
+  pub hot_parts : AreParts (streams_of site.plants) (site_utilities site) grid Hot hot
+  pub cold_parts : AreParts (streams_of site.plants) (site_utilities site) grid Cold cold

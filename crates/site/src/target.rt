@@ -1,0 +1,28 @@
+//! The least boiler heat of a site.
+ghost use Rattle.std.specs.Prelude.{List, IfOk};
+ghost use Rattle.grid.specs.declared.part.Part.{Part};
+ghost use Rattle.heat_flow.specs.Cuts.{HasNoFlow};
+ghost use Rattle.heat_flow.specs.Flow.{IsLeastCost};
+ghost use Rattle.site.specs.Reach.{reach_between};
+ghost use Rattle.site.specs.Site.{IsValidSite};
+ghost use Rattle.site.specs.Target.{AreSiteParts};
+ghost use Rattle.transport.specs.Answer.{IfLeast, IfStuck, IsCertified, IsCutOf};
+
+use crate::plants::Site;
+use crate::table::site_parts;
+use std::alloc::{AllocError, Global};
+use transport::{Answer, least};
+
+/// The heat flow of least cost between the parts of a site, which is that of the least boiler
+/// heat, with prices that prove it; or a cut, where no main is high enough for what a plant has
+/// to take.
+pub fn site_target(alloc: Global, site: &Site) -> Result<Answer, AllocError>
+    requires { IsValidSite site.now }
+    ensures certified { IfOk result (λ a. (hot cold : List Part) → AreSiteParts site.now hot cold → IfLeast a (λ flow prices cost. IsCertified (reach_between site.now hot cold) hot cold flow.transfers prices.hot prices.cold cost)) }
+    ensures least { IfOk result (λ a. (hot cold : List Part) → AreSiteParts site.now hot cold → IfLeast a (λ flow prices cost. IsLeastCost (reach_between site.now hot cold) hot cold cost)) }
+    ensures cut { IfOk result (λ a. (hot cold : List Part) → AreSiteParts site.now hot cold → IfStuck a (λ cut. IsCutOf (reach_between site.now hot cold) hot cold cut)) }
+    ensures stuck_only { IfOk result (λ a. (hot cold : List Part) → AreSiteParts site.now hot cold → IfStuck a (λ cut. HasNoFlow (reach_between site.now hot cold) hot cold)) }
+{
+    let table = site_parts(alloc, site)?;
+    least(alloc, &table.parts, &table.reach)
+}
