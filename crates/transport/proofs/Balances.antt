@@ -1,10 +1,10 @@
 -- What the parts exchange where the most of all is routed: the links of the mosts are full, and each part exchanges its most less
 -- what passes it by.
-use Rattle.std.proofs.Common.{◌≡◌, ◌∙◌, ◌≢◌, ⊎_elim, refl, sym, ap, ap₂, subst, ℕ, suc, ◌+◌, ◌-◌, ◌<◌, ◌≤◌, Bool, true, false, List, length, get_or, zero-add, arith}
-use Rattle.std.specs.Prelude.{◌==◌, if◌then◌else◌, ℤ, pos, neg_ℤ, ◌+ℤ◌, ◌-ℤ◌, ◌*ℤ◌, ◌≤ℤ◌, ◌<ℤ◌, Some, slice_get, All}
+use Rattle.std.proofs.Common.{◌≡◌, ◌∙◌, ◌≢◌, ⊎_elim, refl, sym, ap, subst, ℕ, ◌+◌, Bool, true, false, List, length, zero-add, arith}
+use Rattle.std.specs.Prelude.{◌==◌, if◌then◌else◌, ℤ, pos, neg_ℤ, ◌+ℤ◌, ◌-ℤ◌, ◌*ℤ◌, ◌≤ℤ◌, ◌<ℤ◌, Some, slice_get}
 use Rattle.std.proofs.lemmas.Bool.{eq-eqb, ne_eqb}
 use Rattle.std.proofs.lemmas.Int.{ints}
-use Rattle.std.proofs.lemmas.Option.{get_or_from_slice_get, slice_get_within}
+use Rattle.std.proofs.lemmas.Option.{slice_get_within}
 use Rattle.stream_case.specs.declared.source.Side.{Side}
 use Rattle.stream_case.specs.declared.source.Side.TheVariants.{Hot, Cold}
 use Rattle.stream_case.specs.Limits.{IsBetween}
@@ -15,7 +15,7 @@ use Rattle.grid.specs.declared.part.Part.{Part}
 use Rattle.heat_flow.proofs.Blanks.{blank}
 use Rattle.flow_net.specs.declared.net.Link.{Link}
 use Rattle.flow_net.specs.declared.net.Net.{Net}
-use Rattle.flow_net.specs.Net.{link_at, flow_on, potential_at, inflow, outflow, reduced_cost, IsRouting, IsWithinRooms, IsWithinLimits, AreEnds, AreProofOfLeast}
+use Rattle.flow_net.specs.Net.{flow_on, inflow, outflow, reduced_cost, IsRouting, IsWithinRooms, IsWithinLimits, AreEnds, AreProofOfLeast}
 use Rattle.heat_flow.specs.Cuts.{parts_of}
 use Rattle.transport.specs.Around.{IsInner, IsInnerLink, most_of, net_around}
 use Rattle.transport.proofs.LinkSums.{ends, whole_at, spare_at, between_at, sum_over_links}

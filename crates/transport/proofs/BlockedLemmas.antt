@@ -1,26 +1,24 @@
 -- What a cut of the net says of the parts: those on one side of it need more than is on offer.
-use Rattle.std.proofs.Common.{◌≡◌, ◌∙◌, ⊎_elim, inl, inr, refl, sym, ap, ap₂, subst, ℕ, ◌+◌, ◌<◌, ◌≤◌, Bool, true, false, not, ◌&&◌, List, length, get_or, zero-add, arith}
-use Rattle.std.specs.Prelude.{if◌then◌else◌, ℤ, pos, ◌+ℤ◌, ◌-ℤ◌, ◌≤ℤ◌, ◌<ℤ◌, IsTrue, Some, slice_get, All}
+use Rattle.std.proofs.Common.{◌≡◌, ◌∙◌, ⊎_elim, refl, sym, ap, ap₂, subst, ℕ, ◌+◌, Bool, true, false, not, ◌&&◌, List, length, zero-add, arith}
+use Rattle.std.specs.Prelude.{if◌then◌else◌, ℤ, pos, ◌+ℤ◌, ◌-ℤ◌, ◌≤ℤ◌, ◌<ℤ◌, Some, slice_get}
 use Rattle.std.proofs.lemmas.Bool.{cases_Bool, false≢true}
-use Rattle.std.proofs.lemmas.Int.{ints, by_lt_z}
+use Rattle.std.proofs.lemmas.Int.{ints}
 use Rattle.std.proofs.lemmas.Option.{slice_get_within, slice_get-get_or, get_or_from_slice_get}
-use Rattle.stream_case.specs.declared.source.Side.{Side}
 use Rattle.stream_case.specs.declared.source.Side.TheVariants.{Hot, Cold}
 use Rattle.sums.specs.Sum.{int_sum_from}
 use Rattle.sums.proofs.ListLemmas.{All-slice_get, slice_get-append}
-use Rattle.sums.proofs.SumLemmas.{int_sum_from-same_each, int_sum_from-add, int_sum_from-sub, int_sum_from-by, int_sum_from-le_each}
+use Rattle.sums.proofs.SumLemmas.{int_sum_from-same_each, int_sum_from-sub, int_sum_from-by}
 use Rattle.grid.specs.declared.part.Part.{Part}
 use Rattle.grid.specs.Bounds.{IsBounded}
-use Rattle.heat_flow.specs.Cuts.{parts_of, joins}
 use Rattle.flow_net.specs.declared.limits.TheConstants.{MOST_ROOM}
 use Rattle.flow_net.specs.declared.net.Link.{Link}
 use Rattle.flow_net.specs.declared.net.Net.{Net}
-use Rattle.flow_net.specs.Net.{link_at, is_in, leaves, IsCutBelow}
-use Rattle.transport.specs.Around.{BlocksMost, IsInnerLink, whole_link, spare_link, links_of_parts, links_between, most_of, net_around}
+use Rattle.flow_net.specs.Net.{link_at, is_in, leaves}
+use Rattle.transport.specs.Around.{BlocksMost, IsInnerLink, whole_link, spare_link, links_between, most_of, net_around}
 use Rattle.transport.proofs.CutLemmas.{IsShort}
 use Rattle.transport.proofs.Limits.{IsAround, limits_around, room_around}
-use Rattle.transport.proofs.LinkPlaces.{between_is, inner_at}
-use Rattle.transport.proofs.LinkSums.{ends, first_node, parts_sum, between_sum, sum_around, sum_over_links, between_at}
+use Rattle.transport.proofs.LinkPlaces.{between_is}
+use Rattle.transport.proofs.LinkSums.{ends, parts_sum, between_sum, sum_around, sum_over_links, between_at}
 use Rattle.transport.proofs.SumsFrom.{int_sum_from-not_negative, int_sum_from-term}
 
 -- the room of a link that leaves a set

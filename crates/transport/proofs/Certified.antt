@@ -1,23 +1,21 @@
 -- The flow and the potentials of a net of pairs are a heat flow with prices that certify it.
-use Rattle.std.proofs.Common.{◌≡◌, ◌∙◌, ⊎_elim, inl, inr, refl, sym, ap, ap₂, subst, ℕ, zero, suc, ◌+◌, ◌-◌, ◌<◌, ◌≤◌, Bool, true, false, List, [], ◌∷◌, length, get_or, map, add-zero, zero-add, arith}
-use Rattle.std.specs.Prelude.{◌==◌, if◌then◌else◌, IsTrue, ℤ, pos, ◌+ℤ◌, ◌-ℤ◌, ◌*ℤ◌, ◌≤ℤ◌, ◌<ℤ◌, Some, slice_get, All, Contains}
+use Rattle.std.proofs.Common.{◌≡◌, ◌∙◌, ⊎_elim, refl, sym, ap, ap₂, subst, ℕ, zero, suc, ◌+◌, ◌-◌, ◌<◌, Bool, true, false, List, length, get_or, map, add-zero, zero-add, arith}
+use Rattle.std.specs.Prelude.{◌==◌, if◌then◌else◌, IsTrue, ℤ, pos, ◌-ℤ◌, ◌*ℤ◌, ◌≤ℤ◌, ◌<ℤ◌, Some, slice_get, All}
 use Rattle.std.specs.List.{range_with_len}
 use Rattle.std.proofs.lemmas.Bool.{cases_lt, eq-eqb}
 use Rattle.std.proofs.lemmas.Int.{ints}
 use Rattle.std.proofs.lemmas.List.{get_or_past, get_or_default}
-use Rattle.std.proofs.lemmas.Option.{slice_get-get_or, slice_get_within, get_or_from_slice_get}
+use Rattle.std.proofs.lemmas.Option.{slice_get-get_or, slice_get_within}
 use Rattle.stream_case.specs.declared.source.Side.TheVariants.{Hot, Cold}
 use Rattle.stream_case.specs.Limits.{IsBetween, IsPartPrice}
-use Rattle.sums.specs.Sum.{int_sum_from}
 use Rattle.sums.proofs.ListLemmas.{All-slice_get}
 use Rattle.sums.proofs.SumLemmas.{int_sum_from-same_each}
 use Rattle.grid.specs.declared.part.Part.{Part}
 use Rattle.grid.specs.Bounds.{IsBounded}
 use Rattle.heat_flow.specs.declared.flow.Transfer.{Transfer}
 use Rattle.heat_flow.specs.declared.reach.Reach.{Reach}
-use Rattle.heat_flow.specs.Cuts.{joins}
 use Rattle.heat_flow.specs.Flow.{heat_at, KeepsRanges, IsHeatFlow, IsLeastCost, cost_of}
-use Rattle.heat_flow.specs.Prices.{price_at, IsSupporting, excess_price, value_of}
+use Rattle.heat_flow.specs.Prices.{price_at, IsSupporting, excess_price}
 use Rattle.heat_flow.specs.Table.{HasSizes, reaches}
 use Rattle.heat_flow.specs.Checks.{HasCost}
 use Rattle.heat_flow.proofs.Blanks.{blank}
@@ -27,9 +25,9 @@ use Rattle.flow_net.specs.declared.net.Link.{Link}
 use Rattle.flow_net.specs.declared.net.Net.{Net}
 use Rattle.flow_net.specs.Net.{link_at, flow_on, potential_at, inflow, outflow}
 use Rattle.transport.specs.Answer.{ArePartPrices, IsCertified}
-use Rattle.transport.specs.Around.{IsInnerLink, RoutesMost, IsNodePotential, most_of, net_around, prices_of}
+use Rattle.transport.specs.Around.{IsInnerLink, RoutesMost, IsNodePotential, prices_of}
 use Rattle.transport.specs.Pairs.{pair_link, IsPairLink, IsPairNet}
-use Rattle.transport.specs.Transfers.{transfers_of, transfer_on}
+use Rattle.transport.specs.Transfers.{transfers_of}
 use Rattle.transport.proofs.Balances.{spare, spare_within, hot_given, cold_taken}
 use Rattle.transport.proofs.Limits.{IsAround, limits_around, ends_around, small_cold, potentials_within}
 use Rattle.transport.proofs.LinkPlaces.{inner_at}

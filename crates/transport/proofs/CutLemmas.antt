@@ -1,21 +1,16 @@
 -- A cut of a net around an inner net, which the most of all parts cannot pass, leaves a cut of parts.
-use Rattle.std.proofs.Common.{◌≡◌, ◌∙◌, ◌≢◌, ⊎_elim, inl, inr, refl, sym, ap, ap₂, subst, ℕ, zero, suc, ◌+◌, ◌<◌, ◌≤◌, Bool, true, false, not, ◌&&◌, List, [], ◌∷◌, length, get_or, zero-add, add-zero, arith}
-use Rattle.std.specs.Prelude.{if◌then◌else◌, ℤ, pos, ◌+ℤ◌, ◌-ℤ◌, ◌≤ℤ◌, ◌<ℤ◌, int_lt, Some, slice_get, All, AllPairs}
-use Rattle.std.specs.List.{list_any}
-use Rattle.std.proofs.lemmas.Bool.{cases_Bool, true≢false}
+use Rattle.std.proofs.Common.{◌≡◌, ◌∙◌, refl, sym, ap, ap₂, subst, ℕ, suc, ◌+◌, ◌<◌, ◌≤◌, Bool, true, false, ◌&&◌, List, [], ◌∷◌, zero-add, add-zero, arith}
+use Rattle.std.specs.Prelude.{if◌then◌else◌, ℤ, pos, ◌+ℤ◌, ◌≤ℤ◌, ◌<ℤ◌, int_lt, Some, slice_get, All, AllPairs}
 use Rattle.std.proofs.lemmas.Int.{ints, by_lt_z}
 use Rattle.std.proofs.lemmas.List.Elements.{All-nil, All-head, All-tail, All-weaker}
 use Rattle.std.proofs.lemmas.List.Folds.{Any-from_list_any}
-use Rattle.std.proofs.lemmas.Option.{slice_get_within, slice_get-get_or, get_or_from_slice_get}
 use Rattle.stream_case.specs.declared.source.Side.{Side}
-use Rattle.stream_case.specs.declared.source.Side.TheVariants.{Hot, Cold}
-use Rattle.sums.specs.Pairing.{cons_if}
 use Rattle.sums.specs.Sum.{int_sum_by, int_sum_from}
 use Rattle.sums.proofs.ConsLemmas.{All-cons_if, AllPairs-cons_if}
 use Rattle.sums.proofs.IntegerLemmas.{int_lt-true, int_lt-from}
 use Rattle.sums.proofs.ListLemmas.{All-slice_get}
 use Rattle.sums.proofs.OrderLemmas.{AllPairs-nil}
-use Rattle.sums.proofs.SumLemmas.{int_sum_by-cons_if, int_sum_from-le_each, int_sum_from-same_each, int_sum_from-sub, int_sum_from-by}
+use Rattle.sums.proofs.SumLemmas.{int_sum_by-cons_if, int_sum_from-le_each, int_sum_from-by}
 use Rattle.grid.specs.declared.part.Part.{Part}
 use Rattle.grid.specs.Bounds.{IsBounded}
 use Rattle.heat_flow.specs.Cuts.{opposite, parts_of, joins, meets, least_at, need_of, offer_of, IsCut}

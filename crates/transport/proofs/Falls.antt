@@ -1,7 +1,7 @@
 -- What any number given to the nodes of a net around an inner net falls along its links, times their flows: the one law from
 -- which all sums over a routing follow.
-use Rattle.std.proofs.Common.{◌≡◌, ◌∙◌, ◌≢◌, refl, sym, ap, ap₂, ℕ, suc, ◌+◌, ◌<◌, ◌≤◌, List, [], ◌∷◌, length, get_or, arith}
-use Rattle.std.specs.Prelude.{◌==◌, if◌then◌else◌, ℤ, pos, ◌+ℤ◌, ◌-ℤ◌, ◌*ℤ◌, Some, slice_get, All}
+use Rattle.std.proofs.Common.{◌≡◌, ◌∙◌, refl, sym, ap, ap₂, ℕ, suc, ◌+◌, ◌<◌, List, length, arith}
+use Rattle.std.specs.Prelude.{◌==◌, if◌then◌else◌, ℤ, pos, ◌+ℤ◌, ◌-ℤ◌, ◌*ℤ◌}
 use Rattle.std.proofs.lemmas.Bool.{eq-eqb, ne_eqb}
 use Rattle.std.proofs.lemmas.Int.{ints}
 use Rattle.std.proofs.lemmas.Option.{slice_get_within}
@@ -12,11 +12,10 @@ use Rattle.sums.proofs.SumLemmas.{int_sum_from-same_each}
 use Rattle.grid.specs.declared.part.Part.{Part}
 use Rattle.flow_net.specs.declared.net.Link.{Link}
 use Rattle.flow_net.specs.declared.net.Net.{Net}
-use Rattle.flow_net.specs.Net.{link_at, flow_on, IsRouting, IsWithinLimits, AreEnds}
-use Rattle.flow_net.specs.Sum.{sum_below}
-use Rattle.flow_net.proofs.Duality.{fall, falls_of_routing}
-use Rattle.transport.specs.Around.{IsInner, IsInnerLink, whole_link, spare_link, links_between, most_of, net_around}
-use Rattle.transport.proofs.LinkSums.{ends, first_node, whole_at, spare_at, between_at, parts_sum, between_sum, sum_around, sum_over_links}
+use Rattle.flow_net.specs.Net.{flow_on, IsRouting, IsWithinLimits, AreEnds}
+use Rattle.flow_net.proofs.Duality.{falls_of_routing}
+use Rattle.transport.specs.Around.{IsInner, IsInnerLink, net_around}
+use Rattle.transport.proofs.LinkSums.{ends, first_node, whole_at, spare_at, between_at, parts_sum, sum_around, sum_over_links}
 
 -- a number for each node: one for each of the four further nodes, and those of an inner net
 abbrev pub given_to : ℕ → (ℕ → ℤ) → ℤ → ℤ → ℤ → ℤ → ℕ → ℤ

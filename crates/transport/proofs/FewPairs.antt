@@ -1,5 +1,5 @@
 -- The parts of a case make few pairs, so that a net with a link for each pair is within the limits.
-use Rattle.std.proofs.Common.{◌≡◌, ap, ℕ, ◌+◌, ◌*◌, ◌≤◌, List, length, arith}
+use Rattle.std.proofs.Common.{ap, ◌+◌, ◌*◌, ◌≤◌, List, length, arith}
 use Rattle.std.specs.Prelude.{ℤ}
 use Rattle.std.proofs.Math.Nat.{mul-le-mul}
 use Rattle.stream_case.specs.declared.limits.TheConstants.{MOST_STREAMS, MOST_PLACES, ALL_UTILITIES}
@@ -7,7 +7,6 @@ use Rattle.stream_case.specs.declared.source.Side.{Side}
 use Rattle.stream_case.specs.declared.source.Side.TheVariants.{Hot, Cold}
 use Rattle.stream_case.specs.declared.case.Case.{Case}
 use Rattle.stream_case.specs.Case.{IsComplete}
-use Rattle.stream_case.specs.Stream.{count_on}
 use Rattle.stream_case.proofs.CompleteLemmas.{AreStreams-IsComplete, length-utilities}
 use Rattle.grid.specs.declared.part.Part.{Part}
 use Rattle.grid.specs.Grid.{IsGrid}

@@ -1,6 +1,6 @@
 -- A net around an inner net is within the limits of nets, and so are what is routed and the initial potentials.
-use Rattle.std.proofs.Common.{◌≡◌, ◌∙◌, refl, sym, ap, subst, ℕ, zero, suc, ◌+◌, ◌-◌, ◌*◌, ◌<◌, ◌≤◌, inl, inr, ⊎_elim, List, [], ◌∷◌, ◌++◌, length, length-append, get_or, replicate, arith}
-use Rattle.std.specs.Prelude.{ℤ, pos, neg_ℤ, ◌+ℤ◌, ◌-ℤ◌, ◌*ℤ◌, ◌≤ℤ◌, ◌<ℤ◌, Some, slice_get, All}
+use Rattle.std.proofs.Common.{◌≡◌, ◌∙◌, refl, sym, ap, subst, ℕ, zero, suc, ◌+◌, ◌-◌, ◌*◌, ◌<◌, ◌≤◌, ⊎_elim, List, [], ◌∷◌, length, length-append, get_or, replicate, arith}
+use Rattle.std.specs.Prelude.{ℤ, pos, neg_ℤ, ◌+ℤ◌, ◌*ℤ◌, ◌≤ℤ◌, ◌<ℤ◌, Some, slice_get, All}
 use Rattle.std.specs.Int.RustNames.{unsigned_abs}
 use Rattle.std.proofs.lemmas.Bool.{cases_lt}
 use Rattle.std.proofs.lemmas.Int.{ints}
@@ -17,10 +17,10 @@ use Rattle.sums.proofs.SumLemmas.{int_sum_by-at_most, int_sum_by-not_negative}
 use Rattle.grid.specs.declared.part.Part.{Part}
 use Rattle.grid.specs.Bounds.{IsBounded}
 use Rattle.heat_flow.specs.Cuts.{parts_of}
-use Rattle.flow_net.specs.declared.limits.TheConstants.{MOST_ROOM, MOST_COST}
+use Rattle.flow_net.specs.declared.limits.TheConstants.{MOST_ROOM}
 use Rattle.flow_net.specs.declared.net.Link.{Link}
 use Rattle.flow_net.specs.declared.net.Net.{Net}
-use Rattle.flow_net.specs.Net.{link_at, potential_at, reduced_cost, largest_cost, potential_bound, IsRoom, IsCost, IsLinkWithin, IsWithinLimits, AreEnds, AreInitialPotentials, AreBounded}
+use Rattle.flow_net.specs.Net.{potential_at, reduced_cost, largest_cost, IsRoom, IsLinkWithin, IsWithinLimits, AreEnds, AreInitialPotentials, AreBounded}
 use Rattle.flow_net.proofs.Sizes.{sizes, greatest-le}
 use Rattle.transport.specs.declared.net.TheConstants.{MOST_INNER_NODES}
 use Rattle.transport.specs.declared.least_cost.TheConstants.{MOST_PAIRS}

@@ -1,6 +1,6 @@
 -- Where the links of a net around an inner net stand.
-use Rattle.std.proofs.Common.{◌≡◌, ◌∙◌, refl, sym, ap, subst, ℕ, zero, suc, ◌+◌, ◌*◌, ◌<◌, List, [], ◌∷◌, ◌++◌, length, length-append, get_or, zero-add, arith}
-use Rattle.std.specs.Prelude.{ℤ, pos, Some, slice_get, All}
+use Rattle.std.proofs.Common.{◌≡◌, ◌∙◌, refl, sym, ap, subst, ℕ, zero, suc, ◌+◌, ◌*◌, ◌<◌, List, [], ◌∷◌, ◌++◌, length, length-append, get_or, arith}
+use Rattle.std.specs.Prelude.{pos, Some, slice_get, All}
 use Rattle.std.proofs.lemmas.List.{get_or_append_left, get_or-append-add}
 use Rattle.std.proofs.lemmas.List.Elements.{All-nil, All-cons, All-append}
 use Rattle.std.proofs.lemmas.Option.{slice_get_within}
@@ -8,13 +8,12 @@ use Rattle.stream_case.specs.declared.source.Side.{Side}
 use Rattle.stream_case.specs.declared.source.Side.TheVariants.{Hot, Cold}
 use Rattle.grid.specs.declared.part.Part.{Part}
 use Rattle.heat_flow.specs.Cuts.{parts_of}
-use Rattle.flow_net.specs.declared.limits.TheConstants.{MOST_ROOM}
 use Rattle.flow_net.specs.declared.net.Link.{Link}
 use Rattle.flow_net.specs.declared.net.Net.{Net}
 use Rattle.flow_net.specs.Net.{link_at}
 use Rattle.transport.specs.declared.net.Ends.{Ends}
 use Rattle.transport.specs.Around.{whole_link, spare_link, links_of_parts, links_between, most_of, net_around}
-use Rattle.transport.proofs.LinkSums.{first_link, first_node, whole_at, spare_at, between_at, ends, length-links_of_parts}
+use Rattle.transport.proofs.LinkSums.{first_node, whole_at, spare_at, between_at, ends, length-links_of_parts}
 
 abbrev no_link : Link
 no_link = record { from = 0; to = 0; room = pos 0; cost = pos 0 }

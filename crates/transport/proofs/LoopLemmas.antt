@@ -1,5 +1,5 @@
 -- One element more of the lists that loops make.
-use Rattle.std.proofs.Common.{◌≡◌, ◌∙◌, refl, sym, ap, ap₂, ℕ, zero, suc, ◌+◌, ◌<◌, Bool, true, false, ◌&&◌, List, [], ◌∷◌, ◌++◌, length, length-take, get_or, take, map, add-zero, append_assoc, arith}
+use Rattle.std.proofs.Common.{◌≡◌, ◌∙◌, sym, ap, ap₂, ℕ, suc, ◌+◌, ◌<◌, Bool, true, false, ◌&&◌, List, [], ◌∷◌, ◌++◌, length, length-take, get_or, take, map, add-zero, append_assoc, arith}
 use Rattle.std.specs.Prelude.{ℤ, pos, ◌-ℤ◌, ◌≤ℤ◌, ◌<ℤ◌, int_lt}
 use Rattle.std.specs.List.{range_with_len}
 use Rattle.std.proofs.lemmas.Int.{ints}
@@ -13,7 +13,7 @@ use Rattle.grid.specs.declared.part.Part.{Part}
 use Rattle.heat_flow.specs.declared.flow.Transfer.{Transfer}
 use Rattle.heat_flow.proofs.Blanks.{blank}
 use Rattle.flow_net.specs.declared.net.Link.{Link}
-use Rattle.flow_net.specs.Net.{link_at, flow_on, potential_at}
+use Rattle.flow_net.specs.Net.{flow_on, potential_at}
 use Rattle.transport.specs.declared.net.Ends.{Ends}
 use Rattle.transport.specs.Around.{whole_link, spare_link, links_of_parts, prices_of}
 use Rattle.transport.specs.Members.{needing_from}

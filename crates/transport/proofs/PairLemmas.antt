@@ -1,7 +1,7 @@
 -- The net of the pairs that reach, row by row, and that it is an inner net.
-use Rattle.std.proofs.Common.{◌≡◌, ◌∙◌, ◌⊎◌, ⊎_elim, inl, inr, refl, sym, ap, ap₂, subst, subst₂, ℕ, zero, suc, ◌+◌, ◌*◌, ◌<◌, ◌≤◌, Bool, true, false, ◌&&◌, List, [], ◌∷◌, ◌++◌, length, length-append, nat_lt, arith}
-use Rattle.std.specs.Prelude.{IsTrue, pos, All, AllPairs, Contains, slice_index_or}
-use Rattle.std.proofs.lemmas.Bool.{cases_eq, cases_lt, false≢true, ltb-true}
+use Rattle.std.proofs.Common.{◌≡◌, ◌∙◌, ◌⊎◌, ⊎_elim, inl, inr, refl, sym, ap, subst, subst₂, ℕ, ◌+◌, ◌*◌, ◌<◌, ◌≤◌, Bool, true, false, ◌&&◌, List, [], ◌∷◌, ◌++◌, length, length-append, nat_lt, arith}
+use Rattle.std.specs.Prelude.{IsTrue, All, Contains, slice_index_or}
+use Rattle.std.proofs.lemmas.Bool.{cases_eq, false≢true, ltb-true}
 use Rattle.std.proofs.lemmas.List.Elements.{All-nil, All-cons, All-append, All-weaker, Contains-append_left, Contains-push}
 use Rattle.sums.proofs.OrderLemmas.{AllPairs-nil, AllPairs-append}
 use Rattle.std.proofs.lemmas.List.Kept.{AllPairs-cons}

@@ -1,13 +1,11 @@
 -- The transfers that a net of pairs carries.
-use Rattle.std.proofs.Common.{◌≡◌, ◌∙◌, ⊎_elim, inl, inr, refl, sym, ap, ap₂, subst, ℕ, zero, suc, ◌+◌, ◌-◌, ◌<◌, ◌≤◌, Bool, true, false, List, [], ◌∷◌, length, add-zero, zero-add, arith}
+use Rattle.std.proofs.Common.{◌≡◌, ◌∙◌, ⊎_elim, inl, inr, refl, sym, ap, ap₂, subst, ℕ, suc, ◌+◌, ◌-◌, ◌≤◌, Bool, List, [], ◌∷◌, add-zero, zero-add, arith}
 use Rattle.std.specs.Prelude.{◌==◌, if◌then◌else◌, ℤ, pos, ◌+ℤ◌, ◌≤ℤ◌, ◌<ℤ◌, int_lt, Some, slice_get, All, AllPairs}
 use Rattle.std.proofs.lemmas.Bool.{cases_eq, eq-eqb, ne_eqb}
 use Rattle.std.proofs.lemmas.Int.{ints, by_lt_z}
 use Rattle.std.proofs.lemmas.List.Elements.{All-nil}
-use Rattle.std.proofs.lemmas.Option.{slice_get-get_or}
 use Rattle.stream_case.specs.declared.source.Side.TheVariants.{Hot, Cold}
-use Rattle.sums.specs.Pairing.{cons_if}
-use Rattle.sums.specs.Sum.{int_sum_by, int_sum_from}
+use Rattle.sums.specs.Sum.{int_sum_from}
 use Rattle.sums.proofs.ConsLemmas.{All-cons_if, AllPairs-cons_if}
 use Rattle.sums.proofs.IntegerLemmas.{int_lt-true, int_lt-from, if_zero}
 use Rattle.sums.proofs.ListLemmas.{All-slice_get}

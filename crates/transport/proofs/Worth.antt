@@ -1,24 +1,21 @@
 -- The potentials as prices: no part could exchange its heat for less, and what the hot parts give is worth what the cold parts take.
 use Rattle.std.proofs.Common.{◌≡◌, ◌∙◌, refl, sym, ap, subst, ℕ, ◌+◌, ◌<◌, List, length, zero-add, arith}
-use Rattle.std.specs.Prelude.{ℤ, pos, neg_ℤ, ◌+ℤ◌, ◌-ℤ◌, ◌*ℤ◌, ◌≤ℤ◌, ◌<ℤ◌, Some, slice_get, All}
+use Rattle.std.specs.Prelude.{ℤ, pos, ◌+ℤ◌, ◌-ℤ◌, ◌*ℤ◌, ◌≤ℤ◌, ◌<ℤ◌, Some, slice_get}
 use Rattle.std.proofs.Math.IntN.{*ℤ-zero}
 use Rattle.std.proofs.lemmas.Int.{ints, by_lt_z}
 use Rattle.std.proofs.lemmas.Option.{get_or_from_slice_get, slice_get_within}
 use Rattle.stream_case.specs.declared.source.Side.TheVariants.{Hot, Cold}
-use Rattle.stream_case.specs.Limits.{IsBetween}
 use Rattle.sums.specs.Sum.{int_sum_from}
-use Rattle.sums.proofs.ListLemmas.{All-slice_get}
-use Rattle.sums.proofs.ProductLemmas.{+ℤ-*ℤ, -ℤ-*ℤ, *ℤ--ℤ, *ℤ-+ℤ, zero_times}
+use Rattle.sums.proofs.ProductLemmas.{*ℤ--ℤ, *ℤ-+ℤ, zero_times, -ℤ-*ℤ}
 use Rattle.sums.proofs.SumLemmas.{int_sum_from-same_each, int_sum_from-add, int_sum_from-sub, int_sum_from-zero}
 use Rattle.grid.specs.declared.part.Part.{Part}
 use Rattle.heat_flow.specs.Prices.{excess_price}
 use Rattle.flow_net.specs.declared.limits.TheConstants.{MOST_ROOM}
-use Rattle.flow_net.specs.declared.net.Link.{Link}
 use Rattle.flow_net.specs.declared.net.Net.{Net}
-use Rattle.flow_net.specs.Net.{link_at, flow_on, potential_at, inflow, outflow, reduced_cost, IsRouting, IsWithinLimits, AreEnds, AreProofOfLeast}
+use Rattle.flow_net.specs.Net.{link_at, flow_on, potential_at, inflow, outflow, IsRouting, IsWithinLimits, AreEnds, AreProofOfLeast}
 use Rattle.transport.specs.Around.{IsInner, IsInnerLink, most_of, net_around}
-use Rattle.transport.proofs.LinkSums.{ends, whole_at, spare_at, between_at}
-use Rattle.transport.proofs.LinkPlaces.{IsLinkAt, inner_at, between_is, spare_is}
+use Rattle.transport.proofs.LinkSums.{ends, between_at}
+use Rattle.transport.proofs.LinkPlaces.{inner_at, between_is, spare_is}
 use Rattle.transport.proofs.Falls.{term, falls_around}
 use Rattle.transport.proofs.Balances.{reduced_left, reduced_flowing, whole, spare, between, mosts, hot_full, cold_full, passed, drained, exchanged_within, hot_given, cold_taken}
 use Rattle.transport.proofs.SlackLemmas.{IsSlack, slack_from_link}

@@ -2,12 +2,13 @@
 ghost use Rattle.stream_case.specs.Case.{IsComplete};
 ghost use Rattle.grid.specs.Part.{AreCaseParts};
 
-use crate::compare::assert_same;
+use crate::compare::{assert_lists, assert_same};
 use crate::flows::parts_of_case;
 use crate::tables::{FOUR_STREAMS, MOST_HEAT, StreamRow, TWO_STREAMS, Table, completed_case};
 use grid::{Part, Parts};
 use heat_flow::{Cut, CutKind, Flow};
 use std::alloc::{AllocError, Global};
+use std::process::Abort;
 use std::test::Fail;
 use stream_case::Side::{Cold, Hot};
 use stream_case::{Case, Forbid, Side, Source};
@@ -17,7 +18,7 @@ use transport::{Answer, least_case};
 /// utilities, or a cut.
 #[derive(Clone, Copy)]
 enum Wanted {
-    Cost(i128, &'static [i64]),
+    Cost(i128, &'static [i128]),
     /// The kind, the need, the offer, and the sources of the parts.
     Stuck(CutKind, i64, i64, &'static [Source]),
 }
@@ -98,10 +99,7 @@ const CASES: [(&str, Table, Wanted); 12] = [
         "a heater that is paid for",
         Table {
             streams: &ONE_COLD,
-            utilities: &[
-                ("A", Hot, 900, 0, 5_000, -2),
-                ("W", Cold, 100, 0, 1_000, 1),
-            ],
+            utilities: &[("A", Hot, 900, 0, 5_000, -2), ("W", Cold, 100, 0, 1_000, 1)],
             ..TWO_STREAMS
         },
         Wanted::Cost(-7_000, &[4_000, 1_000]),
@@ -110,10 +108,7 @@ const CASES: [(&str, Table, Wanted); 12] = [
         "two heaters at one level",
         Table {
             streams: &ONE_COLD,
-            utilities: &[
-                ("A", Hot, 900, 0, 2_000, 2),
-                ("B", Hot, 900, 0, 5_000, 3),
-            ],
+            utilities: &[("A", Hot, 900, 0, 2_000, 2), ("B", Hot, 900, 0, 5_000, 3)],
             ..TWO_STREAMS
         },
         Wanted::Cost(7_000, &[2_000, 1_000, 0]),
@@ -188,8 +183,8 @@ const CASES: [(&str, Table, Wanted); 12] = [
     ),
 ];
 
-/// What the transfers of a utility add up to.
-fn utility_heat(flow: &Flow, parts: &[Part], side: Side, source: Source) -> i128 {
+/// What the transfers of a source add up to.
+fn source_heat(flow: &Flow, parts: &[Part], side: Side, source: Source) -> i128 {
     let mut heat = 0i128;
     for transfer in flow.transfers.as_slice() {
         if let Some(part) = parts.get(transfer.part_index(side) as usize) {
@@ -199,6 +194,26 @@ fn utility_heat(flow: &Flow, parts: &[Part], side: Side, source: Source) -> i128
         }
     }
     heat
+}
+
+/// What each utility gives or takes, in their order.
+fn uses_of(
+    alloc: Global,
+    case: &Case,
+    parts: &Parts,
+    flow: &Flow,
+) -> Result<Vec<i128>, AllocError> {
+    let mut uses = Vec::new(alloc);
+    let mut number = 0u32;
+    for utility in case.utilities.as_slice() {
+        let own = match utility.side {
+            Hot => parts.hot.as_slice(),
+            Cold => parts.cold.as_slice(),
+        };
+        uses.push(source_heat(flow, own, utility.side, Source::Utility(number)))?;
+        number = number.saturating_add(1);
+    }
+    Ok(uses)
 }
 
 /// The sources of the parts of a cut.
@@ -223,30 +238,61 @@ fn answer_of(alloc: Global, case: &Case, parts: &Parts) -> Result<Answer, AllocE
     least_case(alloc, case, parts)
 }
 
+/// Compares a least cost and the uses of the utilities.
+fn compare_least(rt: &impl Abort, at: &str, cost: i128, uses: &[i128], wanted: &Wanted) {
+    match wanted {
+        Wanted::Cost(least, wanted_uses) => {
+            assert_same(rt, at, &cost, least);
+            assert_lists(rt, at, uses, wanted_uses);
+        }
+        Wanted::Stuck(_, _, _, _) => assert_same(rt, at, &"a heat flow", &"a cut"),
+    }
+}
+
+fn compare_cut(rt: &impl Abort, at: &str, cut: &Cut, sources: &[Source], wanted: &Wanted) {
+    match wanted {
+        Wanted::Cost(_, _) => assert_same(rt, at, &"a cut", &"a heat flow"),
+        Wanted::Stuck(kind, need, offer, wanted_sources) => {
+            assert_same(rt, at, &cut.kind, kind);
+            assert_same(rt, at, &cut.need, need);
+            assert_same(rt, at, &cut.offer, offer);
+            assert_lists(rt, at, sources, wanted_sources);
+        }
+    }
+}
+
+/// Compares what a table answers.
+fn compare_table(
+    rt: &impl Abort,
+    alloc: Global,
+    at: &str,
+    table: &Table,
+    wanted: &Wanted,
+) -> Result<(), Fail> {
+    let case = completed_case(alloc, table)?;
+    let parts = parts_of_case(alloc, &case)?;
+    let answer = answer_of(alloc, &case, &parts)?;
+    match &answer {
+        Answer::Least {
+            flow,
+            prices: _,
+            cost,
+        } => {
+            let uses = uses_of(alloc, &case, &parts, flow)?;
+            compare_least(rt, at, *cost, &uses, wanted);
+        }
+        Answer::Stuck(cut) => {
+            let sources = sources_of(alloc, &parts, cut)?;
+            compare_cut(rt, at, cut, &sources, wanted);
+        }
+    }
+    Ok(())
+}
+
 #[test]
 fn cases_have_these_least_costs_and_cuts(rt: HostRuntime) -> Result<(), Fail> {
     for (at, table, wanted) in &CASES {
-        let case = completed_case(rt.alloc(), table)?;
-        let parts = parts_of_case(rt.alloc(), &case)?;
-        match (answer_of(rt.alloc(), &case, &parts)?, *wanted) {
-            (Answer::Least { flow, prices: _, cost }, Wanted::Cost(least, uses)) => {
-                assert_same(&rt, at, &cost, &least);
-                for (index, utility) in case.utilities.as_slice().iter().enumerate() {
-                    let own = match utility.side {
-                        Hot => parts.hot.as_slice(),
-                        Cold => parts.cold.as_slice(),
-                    };
-                    let heat = utility_heat(&flow, own, utility.side, Source::Utility(index as u32));
-                    assert_same(&rt, at, &heat, &i128::from(uses[index]));
-                }
-            }
-            (Answer::Stuck(cut), Wanted::Stuck(kind, need, offer, sources)) => {
-                assert_same(&rt, at, &(cut.kind, cut.need, cut.offer), &(kind, need, offer));
-                let found = sources_of(rt.alloc(), &parts, &cut)?;
-                assert_same(&rt, at, &(found.as_slice() == sources), &true);
-            }
-            _ => assert_same(&rt, at, &false, &true),
-        }
+        compare_table(&rt, rt.alloc(), at, table, wanted)?;
     }
     Ok(())
 }

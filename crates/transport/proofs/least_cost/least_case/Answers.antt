@@ -1,5 +1,5 @@
 use mathlib.Core.Path.{fun_ext}
-use Rattle.std.proofs.Common.{◌≡◌, ℕ, Bool, subst}
+use Rattle.std.proofs.Common.{◌≡◌, subst}
 use Rattle.std.specs.Prelude.{IfOk}
 use Rattle.heat_flow.specs.Cuts.{HasNoFlow}
 use Rattle.heat_flow.specs.Reach.{reach_between}

@@ -1,11 +1,7 @@
-use Rattle.std.proofs.Common.{◌≡◌, ◌∙◌, sym, ap, get_or, take, ◌+◌, arith}
-use Rattle.std.specs.Prelude.{◌+ℤ◌, pos, ◌*ℤ◌}
+use Rattle.std.proofs.Common.{get_or, arith}
 use Rattle.std.proofs.lemmas.Int.{ints}
-use Rattle.stream_case.specs.declared.limits.TheConstants.{MOST_HEAT}
-use Rattle.sums.proofs.ProductLemmas.{+ℤ-*ℤ}
 use Rattle.sums.proofs.SumLemmas.{int_sum_by-more}
 use Rattle.heat_flow.proofs.Blanks.{blank}
-use Rattle.transport.specs.Around.{most_of}
 use Rattle.transport.proofs.net.most_of.Goals as goal
 
 pub loop-part-preserved : goal.loop-part-preserved
