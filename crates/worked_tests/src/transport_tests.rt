@@ -98,7 +98,10 @@ const CASES: [(&str, Table, Wanted); 12] = [
         "a heater that is paid for",
         Table {
             streams: &ONE_COLD,
-            utilities: &[("A", Hot, 900, 0, 5_000, -2), ("W", Cold, 100, 0, 1_000, 1)],
+            utilities: &[
+                ("A", Hot, 900, 0, 5_000, -2),
+                ("W", Cold, 100, 0, 1_000, 1),
+            ],
             ..TWO_STREAMS
         },
         Wanted::Cost(-7_000, &[4_000, 1_000]),
@@ -107,7 +110,10 @@ const CASES: [(&str, Table, Wanted); 12] = [
         "two heaters at one level",
         Table {
             streams: &ONE_COLD,
-            utilities: &[("A", Hot, 900, 0, 2_000, 2), ("B", Hot, 900, 0, 5_000, 3)],
+            utilities: &[
+                ("A", Hot, 900, 0, 2_000, 2),
+                ("B", Hot, 900, 0, 5_000, 3),
+            ],
             ..TWO_STREAMS
         },
         Wanted::Cost(7_000, &[2_000, 1_000, 0]),
@@ -223,36 +229,19 @@ fn cases_have_these_least_costs_and_cuts(rt: HostRuntime) -> Result<(), Fail> {
         let case = completed_case(rt.alloc(), table)?;
         let parts = parts_of_case(rt.alloc(), &case)?;
         match (answer_of(rt.alloc(), &case, &parts)?, *wanted) {
-            (
-                Answer::Least {
-                    flow,
-                    prices: _,
-                    cost,
-                },
-                Wanted::Cost(least, uses),
-            ) => {
+            (Answer::Least { flow, prices: _, cost }, Wanted::Cost(least, uses)) => {
                 assert_same(&rt, at, &cost, &least);
                 for (index, utility) in case.utilities.as_slice().iter().enumerate() {
                     let own = match utility.side {
                         Hot => parts.hot.as_slice(),
                         Cold => parts.cold.as_slice(),
                     };
-                    let heat = utility_heat(
-                        &flow,
-                        own,
-                        utility.side,
-                        Source::Utility(index as u32),
-                    );
+                    let heat = utility_heat(&flow, own, utility.side, Source::Utility(index as u32));
                     assert_same(&rt, at, &heat, &i128::from(uses[index]));
                 }
             }
             (Answer::Stuck(cut), Wanted::Stuck(kind, need, offer, sources)) => {
-                assert_same(
-                    &rt,
-                    at,
-                    &(cut.kind, cut.need, cut.offer),
-                    &(kind, need, offer),
-                );
+                assert_same(&rt, at, &(cut.kind, cut.need, cut.offer), &(kind, need, offer));
                 let found = sources_of(rt.alloc(), &parts, &cut)?;
                 assert_same(&rt, at, &(found.as_slice() == sources), &true);
             }
