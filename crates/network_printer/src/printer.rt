@@ -34,11 +34,13 @@ fn declared_name(line: &Line) -> Option<Name>
     }
 }
 
-/// The names of the exchangers that lines declare, in their order.
-fn declared_names(alloc: Global, lines: &[Line]) -> Result<Vec<Name>, AllocError>
-    ensures { IfOk result (λ names. names.items ≡ filter_map (λ l. option_map (λ e. e.name) (exchanger_of l)) lines.now) }
+/// The names of the exchangers of a network, in the order in which they are declared.
+pub fn exchanger_names(alloc: Global, network: &Network) -> Result<Vec<Name>, AllocError>
+    ensures { IfOk result (λ names. names.items ≡ exchanger_names network.now) }
 {
-    lines
+    network
+        .lines
+        .as_slice()
         .iter()
         .filter_map(|line| declared_name(line))
         .collect(alloc)
@@ -177,7 +179,7 @@ pub fn print_network(alloc: Global, case: &Case, network: &Network) -> Result<Ve
     ensures read_back { KeepsCounts network.now → IfOk result (λ text. IsNetwork case.now (statements_of text.items) network.now) }
 {
     let lines = network.lines.as_slice();
-    let exchangers = declared_names(alloc, lines)?;
+    let exchangers = exchanger_names(alloc, network)?;
     let mut text = Vec::new(alloc);
     for line in lines {
         let printed = statement_line(alloc, case, network, exchangers.as_slice(), line)?;

@@ -6,10 +6,10 @@ use Rattle.pinch_outside.specs.Shelf.{ShelfState}
 use Rattle.reports.specs.declared.shown.Shown.{Shown}
 use Rattle.pinch.specs.Answers.{FromCase}
 use Rattle.pinch.specs.Case.{case_file}
-use Rattle.pinch.specs.FromText.{NoText, no_text}
+use Rattle.pinch.specs.Files.{NoText, no_text}
 use Rattle.pinch.specs.Stop.{IfEarly, IfShown}
-use Rattle.pinch.specs.declared.answer.Stop.{Stop}
-use Rattle.pinch.specs.declared.answer.Stop.TheVariants.{Early, OutOfMemory}
+use Rattle.pinch.specs.declared.stop.Stop.{Stop}
+use Rattle.pinch.specs.declared.stop.Stop.TheVariants.{Early, OutOfMemory}
 
 IfEarly-weaker : (stop : Stop) (P Q : Shown → Type 0) → ((shown : Shown) → P shown → Q shown) → IfEarly stop P → IfEarly stop Q
 IfEarly-weaker (Early shown) P Q weaker early = weaker shown early

@@ -2,5 +2,5 @@ mod Causes
 mod Complete
 mod Early
 mod Ends
-mod Grammars
+mod Formats
 mod Plain

@@ -1,9 +1,13 @@
 -- What is shown that blames neither the words nor the shelf.
-use Rattle.std.proofs.Common.{◌≡◌, Bool, true, false, ap}
+use Rattle.std.proofs.Common.{◌≡◌, ◌∙◌, ℤ, Bool, true, false, refl, ap}
 use Rattle.stream_case.specs.declared.case.Case.{Case}
+use Rattle.network_text.specs.declared.network.Network.{Network}
+use Rattle.network_audit.specs.declared.verdict.Verdict.{Verdict}
+use Rattle.network_audit.specs.declared.verdict.Verdict.TheVariants as verdict
 use Rattle.reports.specs.declared.shown.Shown.{Shown}
 use Rattle.reports.specs.declared.shown.Shown.TheVariants.{BadWords, ReadFault, TooLong}
 use Rattle.pinch.specs.Flow.{AnswersFlow, corner_answer, not_standard}
+use Rattle.pinch.specs.Network.{IsAuditOf, shown_verdict}
 
 -- what is shown is a result, or blames what a file says
 abbrev pub is_plain : Shown → Bool
@@ -16,3 +20,12 @@ is_plain _ = true
 pub plain_flow : (c : Case) (shown : Shown) → AnswersFlow c shown → is_plain shown ≡ true
 plain_flow c shown (corner_answer standard answer) = ap is_plain answer.is
 plain_flow c shown (not_standard other is) = ap is_plain is
+
+-- and so is the verdict on a network
+plain_verdict : (c : Case) (network : Network) (place : ℤ) (v : Verdict) → is_plain (shown_verdict c network place v) ≡ true
+plain_verdict c network place (verdict.Accepted balance) = refl
+plain_verdict c network place (verdict.Rejected where_is reason) = refl
+plain_verdict c network place (verdict.TooFine where_is step) = refl
+
+pub plain_audit : (c : Case) (network : Network) (shown : Shown) → IsAuditOf c network shown → is_plain shown ≡ true
+plain_audit c network shown audit = ap is_plain audit.is ∙ plain_verdict c network audit.place audit.verdict

@@ -1,3 +1,4 @@
+pub mod Audit
 pub mod Curves
 pub mod Flow
 pub mod Lines

@@ -8,6 +8,7 @@ ghost use Rattle.reports.specs.Lines.{line, texts_from};
 ghost use Rattle.reports.specs.Flow.{part_text, part_at, is_of_utility, heat_of_utility, utility_heat, side_parts, side_prices, use_line, move_line, price_word, price_line, price_lines, flow_text};
 
 use crate::line::line;
+use crate::source::source_name;
 use grid::{Part, Parts};
 use heat_flow::{Prices, Transfer};
 use std::alloc::{AllocError, Global};
@@ -216,19 +217,4 @@ fn part_text(alloc: Global, case: &Case, part: &Part) -> Result<String, AllocErr
         part.high,
         part.low
     )
-}
-
-fn source_name(case: &Case, source: Source) -> &str
-    ensures { result.now ≡ source_name case.now source }
-{
-    match source {
-        Source::Stream(index) => match case.streams.get(index as usize) {
-            Some(stream) => stream.name.as_str(),
-            None => "",
-        },
-        Source::Utility(index) => match case.utilities.get(index as usize) {
-            Some(utility) => utility.name.as_str(),
-            None => "",
-        },
-    }
 }

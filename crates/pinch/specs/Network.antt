@@ -1,0 +1,34 @@
+-- What a network file says for a case, and what is shown of its audit.
+use Rattle.std.specs.Prelude.{◌≡◌, ℤ}
+use Rattle.first_fault.specs.Outcome.{IsOutcome}
+use Rattle.stream_case.specs.declared.case.Case.{Case}
+use Rattle.problem_table.specs.Deficit.{IsReferencePlace}
+use Rattle.network_text.specs.Outcome.{grammar}
+use Rattle.network_text.specs.Statements.{statements_of}
+use Rattle.network_text.specs.declared.fault.NetWhy.{NetWhy}
+use Rattle.network_text.specs.declared.network.Network.{Network}
+use Rattle.network_audit.specs.Findings.{IsVerdict}
+use Rattle.network_audit.specs.declared.verdict.Verdict.{Verdict}
+use Rattle.network_audit.specs.declared.verdict.Verdict.TheVariants as verdict
+use Rattle.reports.specs.declared.shown.FileRole.TheVariants.{Network as NetworkFile}
+use Rattle.reports.specs.declared.shown.Shown.{Shown}
+use Rattle.reports.specs.declared.shown.Shown.TheVariants.{Accepted, Rejected, TooFine, BadNetwork}
+use Rattle.pinch.specs.Format.{Format}
+
+-- network files, by the grammar of networks of a completed case
+abbrev pub network_file : Case → Format Network NetWhy
+network_file case = record { role = NetworkFile; Gives = λ bytes. IsOutcome (grammar case) (statements_of bytes); bad = BadNetwork }
+
+-- how a verdict on a network is shown; one that is accepted beside the reference place of its case
+abbrev pub shown_verdict : Case → Network → ℤ → Verdict → Shown
+shown_verdict case network place (verdict.Accepted balance) = Accepted case network balance place
+shown_verdict case network place (verdict.Rejected where_is reason) = Rejected case network where_is reason
+shown_verdict case network place (verdict.TooFine where_is step) = TooFine case network where_is step
+
+-- the verdict on a network of a completed case: its finding, or its balance where it has none
+pub record IsAuditOf (case : Case) (network : Network) (shown : Shown) : Type 0 where
+  pub verdict : Verdict
+  pub is_verdict : IsVerdict case network verdict
+  pub place : ℤ
+  pub reference : IsReferencePlace case.streams place
+  pub is : shown ≡ shown_verdict case network place verdict
