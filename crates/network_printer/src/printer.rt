@@ -34,16 +34,21 @@ fn declared_name(line: &Line) -> Option<Name>
     }
 }
 
+/// The names of the exchangers that lines declare, in their order.
+fn declared_names(alloc: Global, lines: &[Line]) -> Result<Vec<Name>, AllocError>
+    ensures { IfOk result (λ names. names.items ≡ filter_map (λ l. option_map (λ e. e.name) (exchanger_of l)) lines.now) }
+{
+    lines
+        .iter()
+        .filter_map(|line| declared_name(line))
+        .collect(alloc)
+}
+
 /// The names of the exchangers of a network, in the order in which they are declared.
 pub fn exchanger_names(alloc: Global, network: &Network) -> Result<Vec<Name>, AllocError>
     ensures { IfOk result (λ names. names.items ≡ exchanger_names network.now) }
 {
-    network
-        .lines
-        .as_slice()
-        .iter()
-        .filter_map(|line| declared_name(line))
-        .collect(alloc)
+    declared_names(alloc, network.lines.as_slice())
 }
 
 /// The line that declares an exchanger.
