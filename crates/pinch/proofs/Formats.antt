@@ -1,5 +1,5 @@
 -- Bytes of a format have one outcome: they say one thing, or are refused in one way.
-use Rattle.std.proofs.Common.{◌≡◌, ◌∙◌, true, List, ℕ, Result, Ok, Err, refl, sym, ap₂}
+use Rattle.std.proofs.Common.{◌≡◌, ◌∙◌, true, List, ℕ, Result, Ok, Err, refl, sym, ap}
 use Rattle.csv_rows.specs.Rows.{rows_of}
 use Rattle.first_fault.proofs.OneOutcome.{one_outcome}
 use Rattle.case_text.specs.Outcome.{grammar}
@@ -30,9 +30,8 @@ module _ {Value Cause : Type 0} (format : Format Value Cause) (lawful : IsLawful
   pub one_refusal : (a b : Shown) → IsRefused format bytes a → IsRefused format bytes b → a ≡ b
   one_refusal a b one other =
       let same = lawful.one_outcome bytes (Err (one.at, one.why)) (Err (other.at, other.why)) one.fault other.fault in
-      let at : one.at ≡ other.at = cc in
-      let why : one.why ≡ other.why = cc in
-      one.is ∙ ap₂ format.bad at why ∙ sym other.is
+      let fault : (one.at, one.why) ≡ (other.at, other.why) = cc in
+      one.is ∙ ap (λ (f : ℕ × Cause). format.bad f.0 f.1) fault ∙ sym other.is
 
   pub not_both : (value : Value) (shown : Shown) → format.Gives bytes (Ok value) → IsRefused format bytes shown → ⊥
   not_both value shown says one = let same = lawful.one_outcome bytes (Ok value) (Err (one.at, one.why)) says one.fault in cc
