@@ -66,7 +66,8 @@ fn use_line(
     line(alloc, &word, heat)
 }
 
-fn side_parts(side: Side, parts: &Parts) -> &[Part]
+/// The parts of a side.
+pub fn side_parts(side: Side, parts: &Parts) -> &[Part]
     ensures { result.now ≡ side_parts side parts.now }
 {
     match side {
@@ -198,7 +199,8 @@ fn price_at(prices: &[i64], index: usize) -> i64
     }
 }
 
-fn part_at(alloc: Global, case: &Case, parts: &[Part], index: u32) -> Result<String, AllocError>
+/// The text of the part at an index; nothing past the end.
+pub fn part_at(alloc: Global, case: &Case, parts: &[Part], index: u32) -> Result<String, AllocError>
     ensures { IfOk result (λ text. string_bytes text ≡ part_at case.now parts.now index) }
 {
     match parts.get(index as usize) {

@@ -2,6 +2,7 @@
 #![tactic(auto)]
 
 mod audit;
+mod cut;
 mod flow;
 mod line;
 mod points;

@@ -3,7 +3,7 @@
 use case_text::CaseWhy;
 use curves::Point;
 use grid::Parts;
-use heat_flow::{Flow, Prices};
+use heat_flow::{Cut, Flow, Prices};
 use network_audit::{Balance, Place, Reason};
 use network_text::{NetWhy, Network};
 use problem_table::Target;
@@ -34,6 +34,13 @@ pub enum Shown {
         flow: Flow,
         prices: Prices,
         cost: i128,
+    },
+    /// There is no heat flow between the parts of the completed case: parts of one side that need
+    /// more heat, in W, than the other side has on offer for them.
+    Stuck {
+        case: Case,
+        parts: Parts,
+        cut: Cut,
     },
     /// The hot and the cold composite curve, rising by actual temperature, and the grand
     /// composite curve, falling by shifted temperature.
@@ -77,9 +84,6 @@ pub enum Shown {
         line: u32,
         why: NetWhy,
     },
-    /// The command answers standard cases only: no forbidden match, and no utilities but the
-    /// standard ones.
-    NotStandard,
     /// The file is longer than the limit.
     TooLong {
         file: FileRole,

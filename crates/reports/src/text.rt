@@ -3,6 +3,7 @@ ghost use Rattle.std.specs.Prelude.{◌≡◌, IfOk};
 ghost use Rattle.reports.specs.Text.{text};
 
 use crate::audit::{accepted_text, rejected_text, too_fine_text};
+use crate::cut::stuck_text;
 use crate::flow::flow_text;
 use crate::points::curves_text;
 use crate::refusal::{WORDS, bad_case_text, bad_network_text, file_text};
@@ -24,6 +25,7 @@ pub fn text_of(alloc: Global, shown: &Shown) -> Result<Vec<u8>, AllocError>
             prices,
             cost,
         } => flow_text(alloc, case, parts, flow.transfers.as_slice(), prices, *cost)?,
+        Shown::Stuck { case, parts, cut } => stuck_text(alloc, case, parts, cut)?,
         Shown::Curves { hot, cold, net } => {
             curves_text(alloc, hot.as_slice(), cold.as_slice(), net.as_slice())?
         }
@@ -42,7 +44,6 @@ pub fn text_of(alloc: Global, shown: &Shown) -> Result<Vec<u8>, AllocError>
         } => too_fine_text(alloc, case, network, *place, *step)?,
         Shown::BadWords => String::from_str(alloc, WORDS)?,
         Shown::BadCase { row, why } => bad_case_text(alloc, *row, *why)?,
-        Shown::NotStandard => String::from_str(alloc, "case not standard\n")?,
         Shown::BadNetwork { line, why } => bad_network_text(alloc, *line, *why)?,
         Shown::TooLong { file } => file_text(alloc, "too long", *file)?,
         Shown::ReadFault { file } => file_text(alloc, "read fault", *file)?,
