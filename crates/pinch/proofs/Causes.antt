@@ -116,6 +116,6 @@ pub causes : (command : Option Command) (old new : ShelfState) (shown : Shown) �
 unfolding ShowsCommand HasCause
 causes None old new shown shows = shows
 causes (Some (Targets case)) old new shown shows = of_case (file_of (Targets case)) case old new shown AreTargetsOf refl (λ c is. ap is_plain is.is) shows
-causes (Some (Flow case)) old new shown shows = of_case (file_of (Flow case)) case old new shown ShowsFlow refl (λ c. plain_flow (completed c) shown) shows
+causes (Some (Flow case)) old new shown shows = of_case (file_of (Flow case)) case old new shown ShowsFlow refl (λ c is. plain_flow (completed c) shown is.answer) shows
 causes (Some (Curves case)) old new shown shows = of_case (file_of (Curves case)) case old new shown AreCurvesOf refl (λ c is. ap is_plain is.is) shows
 causes (Some (Audit case network)) old new shown shows = of_network (file_of (Audit case network)) case network old new shown refl (λ c. refl) shows

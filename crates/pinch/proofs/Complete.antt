@@ -5,7 +5,7 @@ use Rattle.pinch_outside.specs.Faults.{Rose}
 use Rattle.pinch_outside.specs.Shelf.{ShelfState, NamedFile, IsFile, IsFileAbove, KeepsFiles}
 use Rattle.pinch_outside.specs.declared.limits.TheConstants.{MAX_FILE}
 use Rattle.stream_case.specs.declared.case.Case.{Case}
-use Rattle.stream_case.specs.Case.{completed, IsStandard}
+use Rattle.stream_case.specs.Case.{completed}
 use Rattle.network_text.specs.declared.network.Network.{Network}
 use Rattle.network_audit.specs.declared.verdict.Verdict.{Verdict}
 use Rattle.network_audit.specs.declared.verdict.Verdict.TheVariants as verdict
@@ -17,7 +17,7 @@ use Rattle.pinch.specs.Answers.{FromCase, FromNetwork, ShowsCommand}
 use Rattle.pinch.specs.Case.{case_file, AreTargetsOf, AreCurvesOf}
 use Rattle.pinch.specs.Complete.{Holds, HoldsText, HoldsFault, CanAnswer, HasBadFile}
 use Rattle.pinch.specs.Files.{NoFile, failed, too_long, NoText, no_file, refused, FromText, no_text, by_text, IsRefused}
-use Rattle.pinch.specs.Flow.{AnswersFlow, corner_answer, not_standard, ShowsFlow}
+use Rattle.pinch.specs.Flow.{IsFlowAnswer, IsCutAnswer, ShowsFlow}
 use Rattle.pinch.specs.Format.{Format}
 use Rattle.pinch.specs.Network.{network_file, shown_verdict}
 use Rattle.pinch.specs.Status.{status_of, IsAnswered}
@@ -74,10 +74,10 @@ no_later_fault old mid new keeps no_fault rose = no_fault (omega (arith, rose, k
 answers : (shown result : Shown) → IsAnswered (status_of result) → shown ≡ result → IsAnswered (status_of shown)
 answers shown result answered is = rw is answered
 
--- a standard case is answered by a heat flow
-flow_answers : (c : Case) (shown : Shown) → IsStandard c → AnswersFlow c shown → IsAnswered (status_of shown)
-flow_answers c shown standard (corner_answer h answer) = answers shown _ tt answer.is
-flow_answers c shown standard (not_standard other is) = absurd (other standard)
+-- a heat flow is an answer, and so is a cut
+flow_answers : (c : Case) (shown : Shown) → IsFlowAnswer c shown ⊎ IsCutAnswer c shown → IsAnswered (status_of shown)
+flow_answers c shown (inl flow) = answers shown _ tt flow.is
+flow_answers c shown (inr cut) = answers shown _ tt cut.is
 
 of_case : (name : List ℕ) (old new : ShelfState) (shown : Shown) (P : Case → Type 0) (Shows : Case → Shown → Type 0)
     → (Rose old.faults new.faults → ⊥) → HoldsText case_file old.files name P
@@ -122,7 +122,7 @@ pub complete : (command : Option Command) (old new : ShelfState) (shown : Shown)
 unfolding ShowsCommand CanAnswer
 complete None old new shown shows can no_fault = absurd can
 complete (Some (Targets case)) old new shown shows can no_fault = of_case case old new shown _ AreTargetsOf no_fault can (λ c t is. answers shown _ tt is.is) shows
-complete (Some (Flow case)) old new shown shows can no_fault = of_case case old new shown _ ShowsFlow no_fault can (λ c. flow_answers (completed c) shown) shows
+complete (Some (Flow case)) old new shown shows can no_fault = of_case case old new shown _ ShowsFlow no_fault can (λ c t is. flow_answers (completed c) shown is.answer) shows
 complete (Some (Curves case)) old new shown shows can no_fault = of_case case old new shown _ AreCurvesOf no_fault can (λ c t is. answers shown _ tt is.is) shows
 complete (Some (Audit case network)) old new shown shows can no_fault = audit_answers case network old new shown no_fault shows can
 

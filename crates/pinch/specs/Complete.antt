@@ -2,7 +2,7 @@
 use Rattle.std.specs.Prelude.{◌≡◌, ◌⊎◌, ◌≤◌, ℕ, List, length, ⊤, Option, Some, None, Ok}
 use Rattle.pinch_outside.specs.Shelf.{NamedFile, find_file}
 use Rattle.pinch_outside.specs.declared.limits.TheConstants.{MAX_FILE}
-use Rattle.stream_case.specs.Case.{completed, IsStandard}
+use Rattle.stream_case.specs.Case.{completed}
 use Rattle.reports.specs.declared.shown.Shown.{Shown}
 use Rattle.pinch.specs.Case.{case_file}
 use Rattle.pinch.specs.Files.{IsRefused}
@@ -32,11 +32,11 @@ pub record HoldsFault {Value Cause : Type 0} (format : Format Value Cause) (file
   pub file : Holds files name bytes
   pub refused : IsRefused format bytes shown
 
--- the files of a command are there, and are what it wants: `flow` answers standard cases
+-- the files of a command are there, and are what it wants
 unfoldable pub CanAnswer : Option Command → Option (List NamedFile) → Type 0
 CanAnswer None files = ⊥
 CanAnswer (Some (Targets case)) files = HoldsText case_file files case (λ c. ⊤)
-CanAnswer (Some (Flow case)) files = HoldsText case_file files case (λ c. IsStandard (completed c))
+CanAnswer (Some (Flow case)) files = HoldsText case_file files case (λ c. ⊤)
 CanAnswer (Some (Curves case)) files = HoldsText case_file files case (λ c. ⊤)
 CanAnswer (Some (Audit case network)) files = HoldsText case_file files case (λ c. HoldsText (network_file (completed c)) files network (λ n. ⊤))
 

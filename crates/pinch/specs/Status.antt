@@ -22,13 +22,13 @@ number_of TooFine = 9
 abbrev pub status_of : Shown → Status
 status_of (shows.Targets targets pinches) = Answered
 status_of (shows.Flow case parts flow prices cost) = Answered
+status_of (shows.Stuck case parts cut) = AnsweredNo
 status_of (shows.Curves hot cold net) = Answered
 status_of (shows.Accepted case network balance place) = Answered
 status_of (shows.Rejected case network place reason) = AnsweredNo
 status_of (shows.TooFine case network place step) = TooFine
 status_of shows.BadWords = NoCommand
 status_of (shows.BadCase row why) = CaseRefused
-status_of shows.NotStandard = CaseRefused
 status_of (shows.BadNetwork line why) = NetworkRefused
 status_of (shows.TooLong file) = TooLong
 status_of (shows.ReadFault file) = ReadFault

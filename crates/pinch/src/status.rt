@@ -13,7 +13,7 @@ pub enum Status {
     AnsweredNo,
     /// The words are no command.
     NoCommand,
-    /// The case file is refused, or the command does not answer its case.
+    /// The case file is refused.
     CaseRefused,
     /// The network file is refused.
     NetworkRefused,
@@ -58,10 +58,10 @@ pub fn status_of(shown: &Shown) -> Status
         | Shown::Flow { .. }
         | Shown::Curves { .. }
         | Shown::Accepted { .. } => Status::Answered,
-        Shown::Rejected { .. } => Status::AnsweredNo,
+        Shown::Stuck { .. } | Shown::Rejected { .. } => Status::AnsweredNo,
         Shown::TooFine { .. } => Status::TooFine,
         Shown::BadWords => Status::NoCommand,
-        Shown::BadCase { .. } | Shown::NotStandard => Status::CaseRefused,
+        Shown::BadCase { .. } => Status::CaseRefused,
         Shown::BadNetwork { .. } => Status::NetworkRefused,
         Shown::TooLong { .. } => Status::TooLong,
         Shown::ReadFault { .. } => Status::ReadFault,

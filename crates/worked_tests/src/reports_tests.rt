@@ -40,7 +40,6 @@ fn each_answer_has_its_text(rt: HostRuntime) -> Result<(), Fail> {
     let words = "words: targets flow curves design vertical audit \
                  site sweep sample certify prices\n";
     assert_printed(&rt, Shown::BadWords, words);
-    assert_printed(&rt, Shown::NotStandard, "case not standard\n");
     let file = FileRole::Case;
     assert_printed(&rt, Shown::TooLong { file }, "too long case\n");
     assert_printed(&rt, Shown::ReadFault { file }, "read fault case\n");
