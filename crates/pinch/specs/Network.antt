@@ -2,12 +2,15 @@
 use Rattle.std.specs.Prelude.{◌≡◌, ℤ}
 use Rattle.first_fault.specs.Outcome.{IsOutcome}
 use Rattle.stream_case.specs.declared.case.Case.{Case}
+use Rattle.fractions.specs.Rationals.{IsAtMost, rational_zero}
 use Rattle.problem_table.specs.Deficit.{IsReferencePlace}
 use Rattle.network_text.specs.Outcome.{grammar}
 use Rattle.network_text.specs.Statements.{statements_of}
 use Rattle.network_text.specs.declared.fault.NetWhy.{NetWhy}
 use Rattle.network_text.specs.declared.network.Network.{Network}
+use Rattle.network_audit.specs.Audit.{IfAccepted, Says}
 use Rattle.network_audit.specs.Findings.{IsVerdict}
+use Rattle.network_audit.specs.Valid.{IsValidNetwork}
 use Rattle.network_audit.specs.declared.verdict.Verdict.{Verdict}
 use Rattle.network_audit.specs.declared.verdict.Verdict.TheVariants as verdict
 use Rattle.reports.specs.declared.shown.FileRole.TheVariants.{Network as NetworkFile}
@@ -25,10 +28,13 @@ shown_verdict case network place (verdict.Accepted balance) = Accepted case netw
 shown_verdict case network place (verdict.Rejected where_is reason) = Rejected case network where_is reason
 shown_verdict case network place (verdict.TooFine where_is step) = TooFine case network where_is step
 
--- the verdict on a network of a completed case: its finding, or its balance where it has none
+-- the verdict on a network of a completed case: its finding, or its balance where it has none. One that is accepted is valid, and needs no less
+-- hot utility than the hot target; one that is rejected is not valid
 pub record IsAuditOf (case : Case) (network : Network) (shown : Shown) : Type 0 where
   pub verdict : Verdict
   pub is_verdict : IsVerdict case network verdict
+  pub valid : Says verdict (IsValidNetwork case network)
+  pub excess : IfAccepted verdict (λ balance. IsAtMost rational_zero balance.excess)
   pub place : ℤ
   pub reference : IsReferencePlace case.streams place
   pub is : shown ≡ shown_verdict case network place verdict
