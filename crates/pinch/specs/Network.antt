@@ -24,9 +24,9 @@ network_file case = record { role = NetworkFile; Gives = λ bytes. IsOutcome (gr
 
 -- how a verdict on a network is shown; one that is accepted beside the reference place of its case
 abbrev pub shown_verdict : Case → Network → ℤ → Verdict → Shown
-shown_verdict case network place (verdict.Accepted balance) = Accepted case network balance place
-shown_verdict case network place (verdict.Rejected where_is reason) = Rejected case network where_is reason
-shown_verdict case network place (verdict.TooFine where_is step) = TooFine case network where_is step
+shown_verdict case network reference (verdict.Accepted balance) = Accepted case network balance reference
+shown_verdict case network reference (verdict.Rejected place reason) = Rejected case network place reason
+shown_verdict case network reference (verdict.TooFine place step) = TooFine case network place step
 
 -- the verdict on a network of a completed case: its finding, or its balance where it has none. One that is accepted is valid, and needs no less
 -- hot utility than the hot target; one that is rejected is not valid
@@ -35,6 +35,6 @@ pub record IsAuditOf (case : Case) (network : Network) (shown : Shown) : Type 0 
   pub is_verdict : IsVerdict case network verdict
   pub valid : Says verdict (IsValidNetwork case network)
   pub excess : IfAccepted verdict (λ balance. IsAtMost rational_zero balance.excess)
-  pub place : ℤ
-  pub reference : IsReferencePlace case.streams place
-  pub is : shown ≡ shown_verdict case network place verdict
+  pub reference : ℤ
+  pub is_reference : IsReferencePlace case.streams reference
+  pub is : shown ≡ shown_verdict case network reference verdict
