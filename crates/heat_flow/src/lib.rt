@@ -16,7 +16,7 @@ mod reach;
 mod support;
 mod table;
 
-pub use cells::reach_of;
+pub use cells::{passes_heat, reach_of};
 pub use check::is_flow;
 pub use cost::{cost_of, least_cost_is_one};
 pub use cut::{Cut, CutKind};

@@ -86,10 +86,10 @@ of_case name old new shown P Shows no_fault held next shows =
     of_held case_file lawful_case name old new shown no_fault P _ _ held (λ mid case keeps holds is. next case holds is.1) shows
 
 -- a verdict is an answer
-verdict_answers : (c : Case) (network : Network) (place : ℤ) (v : Verdict) → IsAnswered (status_of (shown_verdict c network place v))
-verdict_answers c network place (verdict.Accepted balance) = tt
-verdict_answers c network place (verdict.Rejected where_is reason) = tt
-verdict_answers c network place (verdict.TooFine where_is step) = tt
+verdict_answers : (c : Case) (network : Network) (reference : ℤ) (v : Verdict) → IsAnswered (status_of (shown_verdict c network reference v))
+verdict_answers c network reference (verdict.Accepted balance) = tt
+verdict_answers c network reference (verdict.Rejected place reason) = tt
+verdict_answers c network reference (verdict.TooFine place step) = tt
 
 -- the network of a second file
 module _ (case_name name : List ℕ) (old new : ShelfState) (shown : Shown) (no_fault : Rose old.faults new.faults → ⊥) (shows : FromNetwork case_name name old new shown) where
@@ -100,7 +100,7 @@ module _ (case_name name : List ℕ) (old new : ShelfState) (shown : Shown) (no_
       let c = completed case in
       of_held (network_file c) (lawful_network c) name mid new shown (no_later_fault old mid new keeps no_fault) _ _ _
       (subst (λ files. HoldsText (network_file c) files name (λ n. ⊤)) (sym keeps.files) network)
-      (λ last n later t is. answers shown _ (verdict_answers c n is.1.place is.1.verdict) is.1.is) then)
+      (λ last n later t is. answers shown _ (verdict_answers c n is.1.reference is.1.verdict) is.1.is) then)
       shows
 
   bad_network : (refusal : Shown) → HoldsText case_file old.files case_name (λ c. HoldsFault (network_file (completed c)) old.files name refusal) → shown ≡ refusal

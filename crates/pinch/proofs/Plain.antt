@@ -22,10 +22,10 @@ plain_flow c shown (inl flow) = ap is_plain flow.is
 plain_flow c shown (inr cut) = ap is_plain cut.is
 
 -- and so is the verdict on a network
-plain_verdict : (c : Case) (network : Network) (place : ℤ) (v : Verdict) → is_plain (shown_verdict c network place v) ≡ true
-plain_verdict c network place (verdict.Accepted balance) = refl
-plain_verdict c network place (verdict.Rejected where_is reason) = refl
-plain_verdict c network place (verdict.TooFine where_is step) = refl
+plain_verdict : (c : Case) (network : Network) (reference : ℤ) (v : Verdict) → is_plain (shown_verdict c network reference v) ≡ true
+plain_verdict c network reference (verdict.Accepted balance) = refl
+plain_verdict c network reference (verdict.Rejected place reason) = refl
+plain_verdict c network reference (verdict.TooFine place step) = refl
 
 pub plain_audit : (c : Case) (network : Network) (shown : Shown) → IsAuditOf c network shown → is_plain shown ≡ true
-plain_audit c network shown audit = ap is_plain audit.is ∙ plain_verdict c network audit.place audit.verdict
+plain_audit c network shown audit = ap is_plain audit.is ∙ plain_verdict c network audit.reference audit.verdict

@@ -17,10 +17,10 @@ pub fn show_audit(alloc: Global, case: Case, network: Network) -> Result<Shown, 
     requires shape { HasShape case network }
     ensures { IfOk result (IsAuditOf case network) }
 {
-    let place = reference_place(&case);
+    let reference = reference_place(&case);
     let mut auditor = Auditor::new(alloc, &case, &network)?;
     let verdict = auditor.audit();
-    Ok(shown_verdict(case, network, place, verdict))
+    Ok(shown_verdict(case, network, reference, verdict))
 }
 
 fn shown_verdict(case: Case, network: Network, reference: i32, verdict: Verdict) -> Shown

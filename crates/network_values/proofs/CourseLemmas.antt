@@ -1,0 +1,74 @@
+-- Heights and shares on the course of a stream.
+use Rattle.std.proofs.Common.{◌≡◌, ◌∙◌, Bool, true, false, refl, sym, ap}
+use Rattle.std.specs.Prelude.{if◌then◌else◌}
+use mathlib.Core.Path.{subst₂}
+use Rattle.fractions.specs.Rationals.{IsAtMost, IsBelow, Rational, minus, plus, rational_zero, times}
+use Rattle.fractions.proofs.Comparisons.{at_most-minus_minus, at_most_from_below, at_most_from_same, at_most_refl}
+use Rattle.fractions.proofs.Products.{plus-times, times-minus}
+use Rattle.fractions.proofs.Sums.{minus-minus_same, minus-self, plus-zero}
+use Rattle.network_values.specs.Courses.{Course, IsBetweenValues, Latent, PassesTakeShares, Sensible, SharesRise, height_on, side_on}
+use Rattle.network_values.specs.Heights.{HasDuty, is_above, height, positive_part, share}
+use Rattle.network_values.specs.Sides.{Between, Level, SideRun, high_of, low_of, seen_from}
+use Rattle.network_values.specs.Values.{IsMix}
+use Rattle.network_values.specs.declared.values.BranchValue.{BranchValue}
+use Rattle.network_values.proofs.MixLemmas.{mixes_lose}
+use Rattle.network_values.proofs.ShareLemmas.{HasDuty-seen, is_above-itself, high_of-seen, hot_share_at_least, low_of-seen}
+
+has_duty-on : (course : Course) (duty : Rational) (low high : BranchValue) → IsBetweenValues duty low high → HasDuty duty (side_on course low high)
+has_duty-on (Sensible base) duty low high between = (between.some, ap (times high.cp) (minus-minus_same high.t low.t base) ∙ between.gives)
+has_duty-on (Latent distance) duty low high between = tt
+
+takes-on : (from_itself : Bool) (course : Course) (duty : Rational) (low high : BranchValue) → IsBetweenValues duty low high
+    → minus (height_on from_itself course high) (height_on from_itself course low) ≡ share from_itself duty (side_on course low high)
+takes-on from_itself (Sensible base) duty low high between = ap (λ f. minus (height high.cp (minus high.t base)) (height f (minus low.t base))) between.size
+takes-on from_itself (Latent distance) duty low high between = by (is_above from_itself distance)
+  where
+    by : (b : Bool) → minus (if b then times high.cp high.t else rational_zero) (if b then times low.cp low.t else rational_zero) ≡ (if b then duty else rational_zero)
+    by true = ap (λ f. minus (times high.cp high.t) (times f low.t)) between.size ∙ sym (times-minus high.cp high.t low.t) ∙ between.gives
+    by false = minus-self rational_zero
+
+pub height_on-mixed : (from_itself : Bool) (course : Course) (first second to : BranchValue) → IsBelow rational_zero first.cp → IsBelow rational_zero second.cp → IsMix first second to
+    → IsAtMost (height_on from_itself course to) (plus (height_on from_itself course first) (height_on from_itself course second))
+height_on-mixed from_itself (Sensible base) first second to some other mix = mixes_lose.mixes base first second to some other mix
+height_on-mixed from_itself (Latent distance) first second to some other mix = by (is_above from_itself distance)
+  where
+    by : (b : Bool) → IsAtMost (if b then times to.cp to.t else rational_zero) (plus (if b then times first.cp first.t else rational_zero) (if b then times second.cp second.t else rational_zero))
+    by true = at_most_from_same (times to.cp to.t) (plus (times first.cp first.t) (times second.cp second.t)) mix.heat
+    by false = at_most_from_same rational_zero (plus rational_zero rational_zero) (sym (plus-zero rational_zero))
+
+pub height_on-additive : (from_itself : Bool) (course : Course) (f g t : Rational)
+    → height_on from_itself course (record { cp = plus f g; t = t }) ≡ plus (height_on from_itself course (record { cp = f; t = t })) (height_on from_itself course (record { cp = g; t = t }))
+height_on-additive from_itself (Sensible base) f g t = plus-times f g (positive_part (minus t base))
+height_on-additive from_itself (Latent distance) f g t = by (is_above from_itself distance)
+  where
+    by : (b : Bool) → (if b then times (plus f g) t else rational_zero) ≡ plus (if b then times f t else rational_zero) (if b then times g t else rational_zero)
+    by true = plus-times f g t
+    by false = sym (plus-zero rational_zero)
+
+pub passes_take : PassesTakeShares
+passes_take = record { has_duty = has_duty-on; takes = takes-on; mixes = height_on-mixed; additive = height_on-additive }
+
+-- ---- from lower places
+
+share-lower : (from_itself : Bool) (place other duty : Rational) (side : SideRun) → IsBelow rational_zero duty → HasDuty duty side → IsAtMost other place
+    → IsAtMost (share from_itself duty (seen_from place side)) (share from_itself duty (seen_from other side))
+share-lower from_itself place other duty side positive has lower =
+    hot_share_at_least from_itself duty positive (seen_from other side) (seen_from place side) (HasDuty-seen other duty side has) (HasDuty-seen place duty side has) (record {
+      high = subst₂ IsAtMost (sym (high_of-seen place side)) (sym (high_of-seen other side)) (at_most-minus_minus (high_of side) (high_of side) other place (at_most_refl (high_of side)) lower);
+      low = subst₂ IsAtMost (sym (low_of-seen place side)) (sym (low_of-seen other side)) (at_most-minus_minus (low_of side) (low_of side) other place (at_most_refl (low_of side)) lower);
+    })
+
+share-itself : (duty : Rational) (side : SideRun) → IsBelow rational_zero duty → IsAtMost (share false duty side) (share true duty side)
+share-itself duty (Between size low high) positive = at_most_refl (share false duty (Between size low high))
+share-itself duty (Level at) positive = by (is_above false at) refl
+  where
+    by : (b : Bool) → is_above false at ≡ b → IsAtMost (if b then duty else rational_zero) (share true duty (Level at))
+    by true above = at_most_from_same duty (share true duty (Level at)) (ap (λ b. if b then duty else rational_zero) (sym (is_above-itself at above)))
+    by false other = either (is_above true at)
+      where
+        either : (c : Bool) → IsAtMost rational_zero (if c then duty else rational_zero)
+        either true = at_most_from_below rational_zero duty positive
+        either false = at_most_refl rational_zero
+
+pub shares_rise : SharesRise
+shares_rise = record { lower = share-lower; itself = share-itself }

@@ -1,0 +1,56 @@
+-- The positive part of a number.
+use Rattle.std.proofs.Common.{◌≡◌, ◌∙◌, ◌⊎◌, ⊎_elim, inl, inr, Bool, true, false, refl, sym, ap, subst}
+use Rattle.std.specs.Prelude.{if◌then◌else◌}
+use Rattle.std.specs.Bool.{MatchBool}
+use Rattle.fractions.specs.Rationals.{IsAtMost, IsBelow, Rational, is_below, rational_zero, times}
+use Rattle.fractions.proofs.Comparisons.{at_most-times_left, at_most_antisymm, at_most_from_below, at_most_refl, at_most_trans, below_or_at_most, is_below-ranks, not_negative-times}
+use Rattle.fractions.proofs.Products.{times-zero}
+use Rattle.network_values.specs.Heights.{positive_part}
+
+-- of what is above 0 it is all, and of what is below 0 nothing
+pub positive_part-above : (x : Rational) → IsAtMost rational_zero x → positive_part x ≡ x
+unfolding positive_part
+positive_part-above x above = by (is_below rational_zero x) (is_below-ranks rational_zero x)
+  where
+    by : (b : Bool) → MatchBool b (IsBelow rational_zero x) (IsAtMost x rational_zero) → (if b then x else rational_zero) ≡ x
+    by true ranks = refl
+    by false ranks = at_most_antisymm rational_zero x above ranks
+
+pub positive_part-below : (x : Rational) → IsAtMost x rational_zero → positive_part x ≡ rational_zero
+unfolding positive_part
+positive_part-below x below = by (is_below rational_zero x) (is_below-ranks rational_zero x)
+  where
+    by : (b : Bool) → MatchBool b (IsBelow rational_zero x) (IsAtMost x rational_zero) → (if b then x else rational_zero) ≡ rational_zero
+    by true ranks = at_most_antisymm x rational_zero below (at_most_from_below rational_zero x ranks)
+    by false ranks = refl
+
+-- what holds of a number above 0, and of 0 for one that is not, holds of its positive part
+pub positive_part-cases : (P : Rational → Type 0) (x : Rational) → (IsBelow rational_zero x → P x) → (IsAtMost x rational_zero → P rational_zero) → P (positive_part x)
+positive_part-cases P x above below =
+    ⊎_elim (λ more. subst P (sym (positive_part-above x (at_most_from_below rational_zero x more))) (above more)) (λ less. subst P (sym (positive_part-below x less)) (below less))
+    (below_or_at_most rational_zero x)
+
+pub not_negative-positive_part : (x : Rational) → IsAtMost rational_zero (positive_part x)
+not_negative-positive_part x = positive_part-cases (IsAtMost rational_zero) x (at_most_from_below rational_zero x) (λ less. at_most_refl rational_zero)
+
+-- it is the least number that is at least 0 and x
+pub positive_part-least : (x y : Rational) → IsAtMost rational_zero y → IsAtMost x y → IsAtMost (positive_part x) y
+positive_part-least x y some more = positive_part-cases (λ z. IsAtMost z y) x (λ above. more) (λ less. some)
+
+pub at_most-positive_part : (x : Rational) → IsAtMost x (positive_part x)
+at_most-positive_part x = positive_part-cases (IsAtMost x) x (λ above. at_most_refl x) (λ less. less)
+
+pub positive_part-at_most : (x y : Rational) → IsAtMost x y → IsAtMost (positive_part x) (positive_part y)
+positive_part-at_most x y more = positive_part-least x (positive_part y) (not_negative-positive_part y) (at_most_trans x y (positive_part y) more (at_most-positive_part y))
+
+-- a factor that is not negative goes into it
+pub times-positive_part : (f x : Rational) → IsAtMost rational_zero f → times f (positive_part x) ≡ positive_part (times f x)
+times-positive_part f x some = by (below_or_at_most rational_zero x)
+  where
+    by : IsBelow rational_zero x ⊎ IsAtMost x rational_zero → times f (positive_part x) ≡ positive_part (times f x)
+    by (inl above) =
+        let at_least = at_most_from_below rational_zero x above in
+        ap (times f) (positive_part-above x at_least) ∙ sym (positive_part-above (times f x) (not_negative-times f x some at_least))
+    by (inr less) =
+        ap (times f) (positive_part-below x less) ∙ times-zero f
+        ∙ sym (positive_part-below (times f x) (subst (IsAtMost (times f x)) (times-zero f) (at_most-times_left f x rational_zero some less)))

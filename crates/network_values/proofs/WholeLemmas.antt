@@ -1,0 +1,51 @@
+-- A valuation of all lines, at a line, at a stream and at a branch; numbers of a range.
+use Rattle.std.proofs.Common.{◌≡◌, ◌∙◌, ◌<◌, ℕ, zero, suc, List, [], ◌∷◌, Some, get_or, slice_get, length, sym, refl, ap, subst, arith}
+use Rattle.std.specs.Prelude.{All, Contains}
+use Rattle.std.specs.List.{range_with_len}
+use Rattle.std.proofs.Math.Seq.{take-length}
+use Rattle.std.proofs.lemmas.List.{get_or-map, get_or-take}
+use Rattle.std.proofs.lemmas.List.FromFn.{get_or-range_with_len, length-range_with_len}
+use Rattle.std.proofs.lemmas.Option.{get_or_from_slice_get, slice_get_within}
+use Rattle.stream_case.specs.declared.case.Case.{Case}
+use Rattle.stream_case.specs.declared.stream.Stream.{Stream}
+use Rattle.fractions.specs.Rationals.{IsBelow, rational_zero}
+use Rattle.network_text.specs.Lines.{made_by}
+use Rattle.network_text.specs.Shape.{HasShape}
+use Rattle.network_text.specs.declared.network.Network.{Network}
+use Rattle.network_text.proofs.OfShape.{all_made}
+use Rattle.network_values.specs.Values.{IsWholeValuation, Solves, Valuation, first_value, no_value, value_at}
+use Rattle.network_values.proofs.ValuationLemmas.{branch_positive}
+
+-- ---- ranges
+
+pub item_at : {X : Type 0} (xs : List X) (i : ℕ) → i < length xs → (x : X) × (slice_get xs i ≡ Some x)
+item_at [] i within = absurd (omega (arith, within))
+item_at (x ∷ xs) zero within = (x, refl)
+item_at (x ∷ xs) (suc i) within = item_at xs i (omega (arith, within))
+
+pub All-range : (P : ℕ → Type 0) (n : ℕ) → ((k : ℕ) → k < n → P k) → All P (range_with_len 0 n)
+All-range P n each k d inside =
+    let within : k < n = omega (arith, inside, length-range_with_len 0 n) in
+    let here : get_or (range_with_len 0 n) k d ≡ k = get_or-range_with_len 0 n k d within ∙ omega arith in
+    subst P (sym here) (each k within)
+
+pub Contains-range : (n k : ℕ) → k < n → Contains (range_with_len 0 n) k
+Contains-range n k within = (k, omega (arith, within, length-range_with_len 0 n), get_or-range_with_len 0 n k k within ∙ omega arith)
+
+-- ---- a valuation of all lines
+
+module _ {case : Case} {network : Network} {values : Valuation} (whole : IsWholeValuation case network values) where
+  pub all_solved : All (Solves case network values) network.lines
+  all_solved = subst (All (Solves case network values)) (take-length network.lines) whole.solved
+
+  -- a stream's own branch carries the stream
+  pub own_value : (i : ℕ) (s : Stream) → slice_get case.streams i ≡ Some s → value_at values i ≡ first_value s
+  own_value i s at =
+      let within = slice_get_within case.streams i s at in
+      sym (get_or-take (length case.streams) values i no_value within) ∙ ap (λ vs. get_or vs i no_value) whole.own
+      ∙ get_or-map first_value case.streams i s no_value within ∙ ap first_value (get_or_from_slice_get case.streams i s s at)
+
+  pub branch_above : HasShape case network → (branch : ℕ) → branch < length network.branches → IsBelow rational_zero (value_at values branch).cp
+  branch_above shape branch within =
+      let lines = ap (λ ls. length (made_by ls)) (take-length network.lines) in
+      branch_positive case network (length network.lines) values whole branch (omega (arith, within, all_made shape.made_once, lines))

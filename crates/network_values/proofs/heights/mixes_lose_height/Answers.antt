@@ -1,0 +1,5 @@
+use Rattle.network_values.proofs.MixLemmas.{mixes_lose}
+use Rattle.network_values.proofs.heights.mixes_lose_height.Goals as goal
+
+pub returns : goal.returns
+returns c = mixes_lose
