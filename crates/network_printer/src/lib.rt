@@ -9,4 +9,4 @@ mod laws;
 mod printer;
 
 pub use laws::{networks_are_printed_and_read_again, networks_are_what_their_texts_give};
-pub use printer::print_network;
+pub use printer::{exchanger_names, print_network};

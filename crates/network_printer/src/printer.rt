@@ -44,6 +44,13 @@ fn declared_names(alloc: Global, lines: &[Line]) -> Result<Vec<Name>, AllocError
         .collect(alloc)
 }
 
+/// The names of the exchangers of a network, in the order in which they are declared.
+pub fn exchanger_names(alloc: Global, network: &Network) -> Result<Vec<Name>, AllocError>
+    ensures { IfOk result (λ names. names.items ≡ exchanger_names network.now) }
+{
+    declared_names(alloc, network.lines.as_slice())
+}
+
 /// The line that declares an exchanger.
 #[tactic(auto, unfolding(crate::specs::Printed::fields_text))]
 fn exchanger_line(
@@ -177,7 +184,7 @@ pub fn print_network(alloc: Global, case: &Case, network: &Network) -> Result<Ve
     ensures read_back { KeepsCounts network.now → IfOk result (λ text. IsNetwork case.now (statements_of text.items) network.now) }
 {
     let lines = network.lines.as_slice();
-    let exchangers = declared_names(alloc, lines)?;
+    let exchangers = exchanger_names(alloc, network)?;
     let mut text = Vec::new(alloc);
     for line in lines {
         let printed = statement_line(alloc, case, network, exchangers.as_slice(), line)?;

@@ -1,21 +1,23 @@
 -- Every command blames words, length and shelf only with cause.
-use Rattle.std.proofs.Common.{◌≡◌, ◌≤◌, ℕ, List, Bool, true, false, Option, Some, None, IsSomeAnd, refl, sym, ap, subst, arith}
+use Rattle.std.proofs.Common.{◌≡◌, ◌∙◌, ◌≤◌, ℕ, List, Bool, true, false, Option, Some, None, IsSomeAnd, refl, sym, ap, subst, arith}
 use Rattle.pinch_outside.specs.Shelf.{ShelfState, KeepsFiles, IsWhole, IsTooLong, HasFailed}
 use Rattle.pinch_outside.specs.declared.limits.TheConstants.{MAX_FILE}
 use Rattle.stream_case.specs.declared.case.Case.{Case}
 use Rattle.stream_case.specs.Case.{completed}
 use Rattle.pinch.specs.declared.command.Command.{Command}
-use Rattle.pinch.specs.declared.command.Command.TheVariants.{Targets, Flow, Curves}
+use Rattle.pinch.specs.declared.command.Command.TheVariants.{Targets, Flow, Curves, Audit}
 use Rattle.reports.specs.declared.shown.FileRole.{FileRole}
 use Rattle.reports.specs.declared.shown.Shown.{Shown}
-use Rattle.pinch.specs.FromText.{Grammar, NoFile, failed, too_long, NoText, no_file, refused, FromText, no_text, by_text}
+use Rattle.pinch.specs.Files.{NoFile, failed, too_long, NoText, no_file, refused, FromText, no_text, by_text}
+use Rattle.pinch.specs.Format.{Format}
 use Rattle.pinch.specs.Case.{case_file, AreTargetsOf, AreCurvesOf}
-use Rattle.pinch.specs.Answers.{FromCase, ShowsCommand}
+use Rattle.pinch.specs.Answers.{FromCase, FromNetwork, ShowsCommand}
 use Rattle.pinch.specs.Causes.{Causes, HasCause}
 use Rattle.pinch.specs.Command.{file_of}
 use Rattle.pinch.specs.Flow.{ShowsFlow}
-use Rattle.pinch.proofs.Grammars.{IsLawful, lawful_case}
-use Rattle.pinch.proofs.Plain.{is_plain, plain_flow}
+use Rattle.pinch.specs.Network.{network_file}
+use Rattle.pinch.proofs.Formats.{IsLawful, lawful_case, lawful_network}
+use Rattle.pinch.proofs.Plain.{is_plain, plain_flow, plain_audit}
 
 -- the last file was read to its end
 pub record Ended (new : ShelfState) : Type 0 where
@@ -77,14 +79,15 @@ module _ (files : FileRole → Option (List ℕ)) where
         ended = λ answered. absurd answered;
       })
 
-  module _ {T : Type 0} (g : Grammar T) (lawful : IsLawful g) (name : List ℕ) (here : files g.role ≡ Some name) where
-    of_no_text : (old new : ShelfState) (shown : Shown) → NoText g name old new shown → Causes files old new shown
-    of_no_text old new shown (no_file none) = of_no_file g.role name old new shown here none
-    of_no_text old new shown (refused bytes whole refuses) = of_plain old new shown (lawful.plain bytes shown refuses) (of_whole name bytes old new whole)
+  module _ {Value Cause : Type 0} (format : Format Value Cause) (lawful : IsLawful format) (name : List ℕ) (here : files format.role ≡ Some name) where
+    of_no_text : (old new : ShelfState) (shown : Shown) → NoText format name old new shown → Causes files old new shown
+    of_no_text old new shown (no_file none) = of_no_file format.role name old new shown here none
+    of_no_text old new shown (refused bytes whole refusal) =
+        of_plain old new shown (ap is_plain refusal.is ∙ lawful.plain refusal.at refusal.why) (of_whole name bytes old new whole)
 
-    pub of_text : (old new : ShelfState) (shown : Shown) (work : ShelfState → T → Type 0)
-        → ((mid : ShelfState) (value : T) → Ended mid → work mid value → Causes files mid new shown)
-        → FromText g name old new shown work → Causes files old new shown
+    pub of_text : (old new : ShelfState) (shown : Shown) (work : ShelfState → Value → Type 0)
+        → ((mid : ShelfState) (value : Value) → Ended mid → work mid value → Causes files mid new shown)
+        → FromText format name old new shown work → Causes files old new shown
     of_text old new shown work next (no_text none) = of_no_text old new shown none
     of_text old new shown work next (by_text mid value reads then) =
         of_later old mid new shown reads.keeps (next mid value (of_whole name reads.bytes old mid reads.whole) then)
@@ -97,9 +100,22 @@ of_case files name old new shown Shows here plain shows =
     of_text files case_file lawful_case name here old new shown _
     (λ last case ended is. of_plain files last new shown (plain case is.1) (subst Ended (sym is.0) ended)) shows
 
+-- the same of the network of a second file
+of_network : (files : FileRole → Option (List ℕ)) (case_name name : List ℕ) (old new : ShelfState) (shown : Shown)
+    → files case_file.role ≡ Some case_name → ((case : Case) → files (network_file case).role ≡ Some name)
+    → FromNetwork case_name name old new shown → Causes files old new shown
+of_network files case_name name old new shown case_here here shows =
+    of_text files case_file lawful_case case_name case_here old new shown _
+    (λ mid case ended then.
+    let c = completed case in
+    of_text files (network_file c) (lawful_network c) name (here c) mid new shown _
+    (λ last network whole is. of_plain files last new shown (plain_audit c network shown is.1) (subst Ended (sym is.0) whole)) then)
+    shows
+
 pub causes : (command : Option Command) (old new : ShelfState) (shown : Shown) → ShowsCommand command old new shown → HasCause command old new shown
 unfolding ShowsCommand HasCause
 causes None old new shown shows = shows
 causes (Some (Targets case)) old new shown shows = of_case (file_of (Targets case)) case old new shown AreTargetsOf refl (λ c is. ap is_plain is.is) shows
-causes (Some (Flow case)) old new shown shows = of_case (file_of (Flow case)) case old new shown ShowsFlow refl (λ c. plain_flow (completed c) shown) shows
+causes (Some (Flow case)) old new shown shows = of_case (file_of (Flow case)) case old new shown ShowsFlow refl (λ c is. plain_flow (completed c) shown is.answer) shows
 causes (Some (Curves case)) old new shown shows = of_case (file_of (Curves case)) case old new shown AreCurvesOf refl (λ c is. ap is_plain is.is) shows
+causes (Some (Audit case network)) old new shown shows = of_network (file_of (Audit case network)) case network old new shown refl (λ c. refl) shows

@@ -1,21 +1,27 @@
 -- Files that answer a command are answered, and a file that is refused is told so, unless a call of the shelf is refused.
-use Rattle.std.proofs.Common.{◌≡◌, ◌≤◌, ℕ, List, Option, Some, None, length, ap, subst, arith}
+use Rattle.std.proofs.Common.{◌≡◌, ◌⊎◌, inl, inr, ◌≤◌, ℕ, ℤ, List, sym, Option, Some, None, length, Ok, ap, subst, arith}
+use Rattle.std.specs.Prelude.{⊤}
 use Rattle.pinch_outside.specs.Faults.{Rose}
 use Rattle.pinch_outside.specs.Shelf.{ShelfState, NamedFile, IsFile, IsFileAbove, KeepsFiles}
 use Rattle.pinch_outside.specs.declared.limits.TheConstants.{MAX_FILE}
 use Rattle.stream_case.specs.declared.case.Case.{Case}
-use Rattle.stream_case.specs.Case.{completed, IsStandard}
+use Rattle.stream_case.specs.Case.{completed}
+use Rattle.network_text.specs.declared.network.Network.{Network}
+use Rattle.network_audit.specs.declared.verdict.Verdict.{Verdict}
+use Rattle.network_audit.specs.declared.verdict.Verdict.TheVariants as verdict
 use Rattle.reports.specs.declared.shown.FileRole.{FileRole}
 use Rattle.reports.specs.declared.shown.Shown.{Shown}
 use Rattle.pinch.specs.declared.command.Command.{Command}
-use Rattle.pinch.specs.declared.command.Command.TheVariants.{Targets, Flow, Curves}
-use Rattle.pinch.specs.Answers.{FromCase, ShowsCommand}
+use Rattle.pinch.specs.declared.command.Command.TheVariants.{Targets, Flow, Curves, Audit}
+use Rattle.pinch.specs.Answers.{FromCase, FromNetwork, ShowsCommand}
 use Rattle.pinch.specs.Case.{case_file, AreTargetsOf, AreCurvesOf}
-use Rattle.pinch.specs.Complete.{Holds, HoldsText, HoldsNoText, CanAnswer, HasBadFile}
-use Rattle.pinch.specs.Flow.{AnswersFlow, corner_answer, not_standard, ShowsFlow}
-use Rattle.pinch.specs.FromText.{Grammar, NoFile, failed, too_long, NoText, no_file, refused, FromText, no_text, by_text}
+use Rattle.pinch.specs.Complete.{Holds, HoldsText, HoldsFault, CanAnswer, HasBadFile}
+use Rattle.pinch.specs.Files.{NoFile, failed, too_long, NoText, no_file, refused, FromText, no_text, by_text, IsRefused}
+use Rattle.pinch.specs.Flow.{IsFlowAnswer, IsCutAnswer, ShowsFlow}
+use Rattle.pinch.specs.Format.{Format}
+use Rattle.pinch.specs.Network.{network_file, shown_verdict}
 use Rattle.pinch.specs.Status.{status_of, IsAnswered}
-use Rattle.pinch.proofs.Grammars.{IsLawful, lawful_case}
+use Rattle.pinch.proofs.Formats.{IsLawful, lawful_case, lawful_network, one_value, one_refusal, not_both}
 
 -- a file within the limit is not above it
 not_above : (files : Option (List NamedFile)) (name bytes : List ℕ) → Holds files name bytes → IsFileAbove files name MAX_FILE → ⊥
@@ -34,40 +40,44 @@ taken : (role : FileRole) (name bytes : List ℕ) (old new : ShelfState) (shown 
 taken role name bytes old new shown holds no_fault (failed fault is) = no_fault fault.rose
 taken role name bytes old new shown holds no_fault (too_long long is) = not_above old.files name bytes holds long.file
 
-module _ {T : Type 0} (g : Grammar T) (lawful : IsLawful g) (name : List ℕ) (old new : ShelfState) (shown : Shown) (no_fault : Rose old.faults new.faults → ⊥) where
-  not_refused : (P : T → Type 0) → HoldsText g old.files name P → NoText g name old new shown → ⊥
-  not_refused P held (no_file none) = taken g.role name held.bytes old new shown held.file no_fault none
-  not_refused P held (refused bytes whole refuses) =
+module _ {Value Cause : Type 0} (format : Format Value Cause) (lawful : IsLawful format) (name : List ℕ) (old new : ShelfState) (shown : Shown) (no_fault : Rose old.faults new.faults → ⊥) where
+  not_refused : (P : Value → Type 0) → HoldsText format old.files name P → NoText format name old new shown → ⊥
+  not_refused P held (no_file none) = taken format.role name held.bytes old new shown held.file no_fault none
+  not_refused P held (refused bytes whole refusal) =
       let same = same_bytes old.files name held.bytes bytes held.file whole.file in
-      lawful.not_both held.bytes held.value shown held.says (subst (λ b. g.Refuses b shown) same refuses)
+      not_both format lawful held.bytes held.value shown held.says (subst (λ b. IsRefused format b shown) same refusal)
 
   -- what is shown is shown of what the file says
-  pub of_held : (P : T → Type 0) (work : ShelfState → T → Type 0) (Q : Type 0) → HoldsText g old.files name P
-      → ((mid : ShelfState) (value : T) → KeepsFiles old mid → P value → work mid value → Q) → FromText g name old new shown work → Q
+  pub of_held : (P : Value → Type 0) (work : ShelfState → Value → Type 0) (Q : Type 0) → HoldsText format old.files name P
+      → ((mid : ShelfState) (value : Value) → KeepsFiles old mid → P value → work mid value → Q) → FromText format name old new shown work → Q
   of_held P work Q held next (no_text none) = absurd (not_refused P held none)
   of_held P work Q held next (by_text mid value reads then) =
       let bytes = same_bytes old.files name held.bytes reads.bytes held.file reads.whole.file in
-      let same = lawful.one_value held.bytes value held.value (subst (λ b. g.Says b value) bytes reads.says) held.says in
+      let same = one_value format lawful held.bytes value held.value (subst (λ b. format.Gives b (Ok value)) bytes reads.says) held.says in
       next mid held.value reads.keeps held.then (subst (work mid) same then)
 
   -- a file that its grammar refuses is told to be so
-  pub of_refused : (refusal : Shown) (work : ShelfState → T → Type 0) → HoldsNoText g old.files name refusal → FromText g name old new shown work → shown ≡ refusal
-  of_refused refusal work held (no_text (no_file none)) = absurd (taken g.role name held.bytes old new shown held.file no_fault none)
-  of_refused refusal work held (no_text (refused bytes whole refuses)) =
+  pub of_refused : (refusal : Shown) (work : ShelfState → Value → Type 0) → HoldsFault format old.files name refusal → FromText format name old new shown work → shown ≡ refusal
+  of_refused refusal work held (no_text (no_file none)) = absurd (taken format.role name held.bytes old new shown held.file no_fault none)
+  of_refused refusal work held (no_text (refused bytes whole other)) =
       let same = same_bytes old.files name held.bytes bytes held.file whole.file in
-      lawful.one_refusal held.bytes shown refusal (subst (λ b. g.Refuses b shown) same refuses) held.refuses
+      one_refusal format lawful held.bytes shown refusal (subst (λ b. IsRefused format b shown) same other) held.refused
   of_refused refusal work held (by_text mid value reads then) =
       let same = same_bytes old.files name held.bytes reads.bytes held.file reads.whole.file in
-      absurd (lawful.not_both held.bytes value refusal (subst (λ b. g.Says b value) same reads.says) held.refuses)
+      absurd (not_both format lawful held.bytes value refusal (subst (λ b. format.Gives b (Ok value)) same reads.says) held.refused)
+
+-- no fault comes after a file was read, where none comes at all
+no_later_fault : (old mid new : ShelfState) → KeepsFiles old mid → (Rose old.faults new.faults → ⊥) → Rose mid.faults new.faults → ⊥
+no_later_fault old mid new keeps no_fault rose = no_fault (omega (arith, rose, keeps.later))
 
 -- a result that answers
 answers : (shown result : Shown) → IsAnswered (status_of result) → shown ≡ result → IsAnswered (status_of shown)
 answers shown result answered is = rw is answered
 
--- a standard case is answered by a heat flow
-flow_answers : (c : Case) (shown : Shown) → IsStandard c → AnswersFlow c shown → IsAnswered (status_of shown)
-flow_answers c shown standard (corner_answer h answer) = answers shown _ tt answer.is
-flow_answers c shown standard (not_standard other is) = absurd (other standard)
+-- a heat flow is an answer, and so is a cut
+flow_answers : (c : Case) (shown : Shown) → IsFlowAnswer c shown ⊎ IsCutAnswer c shown → IsAnswered (status_of shown)
+flow_answers c shown (inl flow) = answers shown _ tt flow.is
+flow_answers c shown (inr cut) = answers shown _ tt cut.is
 
 of_case : (name : List ℕ) (old new : ShelfState) (shown : Shown) (P : Case → Type 0) (Shows : Case → Shown → Type 0)
     → (Rose old.faults new.faults → ⊥) → HoldsText case_file old.files name P
@@ -75,13 +85,46 @@ of_case : (name : List ℕ) (old new : ShelfState) (shown : Shown) (P : Case →
 of_case name old new shown P Shows no_fault held next shows =
     of_held case_file lawful_case name old new shown no_fault P _ _ held (λ mid case keeps holds is. next case holds is.1) shows
 
+-- a verdict is an answer
+verdict_answers : (c : Case) (network : Network) (reference : ℤ) (v : Verdict) → IsAnswered (status_of (shown_verdict c network reference v))
+verdict_answers c network reference (verdict.Accepted balance) = tt
+verdict_answers c network reference (verdict.Rejected place reason) = tt
+verdict_answers c network reference (verdict.TooFine place step) = tt
+
+-- the network of a second file
+module _ (case_name name : List ℕ) (old new : ShelfState) (shown : Shown) (no_fault : Rose old.faults new.faults → ⊥) (shows : FromNetwork case_name name old new shown) where
+  audit_answers : HoldsText case_file old.files case_name (λ c. HoldsText (network_file (completed c)) old.files name (λ n. ⊤)) → IsAnswered (status_of shown)
+  audit_answers held =
+      of_held case_file lawful_case case_name old new shown no_fault _ _ _ held
+      (λ mid case keeps network then.
+      let c = completed case in
+      of_held (network_file c) (lawful_network c) name mid new shown (no_later_fault old mid new keeps no_fault) _ _ _
+      (subst (λ files. HoldsText (network_file c) files name (λ n. ⊤)) (sym keeps.files) network)
+      (λ last n later t is. answers shown _ (verdict_answers c n is.1.reference is.1.verdict) is.1.is) then)
+      shows
+
+  bad_network : (refusal : Shown) → HoldsText case_file old.files case_name (λ c. HoldsFault (network_file (completed c)) old.files name refusal) → shown ≡ refusal
+  bad_network refusal held =
+      of_held case_file lawful_case case_name old new shown no_fault _ _ _ held
+      (λ mid case keeps bad then.
+      let c = completed case in
+      of_refused (network_file c) (lawful_network c) name mid new shown (no_later_fault old mid new keeps no_fault) refusal _
+      (subst (λ files. HoldsFault (network_file c) files name refusal) (sym keeps.files) bad) then)
+      shows
+
+  bad_case_or_network : (refusal : Shown)
+      → HoldsFault case_file old.files case_name refusal ⊎ HoldsText case_file old.files case_name (λ c. HoldsFault (network_file (completed c)) old.files name refusal) → shown ≡ refusal
+  bad_case_or_network refusal (inl bad) = of_refused case_file lawful_case case_name old new shown no_fault refusal _ bad shows
+  bad_case_or_network refusal (inr held) = bad_network refusal held
+
 pub complete : (command : Option Command) (old new : ShelfState) (shown : Shown) → ShowsCommand command old new shown
     → CanAnswer command old.files → (Rose old.faults new.faults → ⊥) → IsAnswered (status_of shown)
 unfolding ShowsCommand CanAnswer
 complete None old new shown shows can no_fault = absurd can
 complete (Some (Targets case)) old new shown shows can no_fault = of_case case old new shown _ AreTargetsOf no_fault can (λ c t is. answers shown _ tt is.is) shows
-complete (Some (Flow case)) old new shown shows can no_fault = of_case case old new shown _ ShowsFlow no_fault can (λ c. flow_answers (completed c) shown) shows
+complete (Some (Flow case)) old new shown shows can no_fault = of_case case old new shown _ ShowsFlow no_fault can (λ c t is. flow_answers (completed c) shown is.answer) shows
 complete (Some (Curves case)) old new shown shows can no_fault = of_case case old new shown _ AreCurvesOf no_fault can (λ c t is. answers shown _ tt is.is) shows
+complete (Some (Audit case network)) old new shown shows can no_fault = audit_answers case network old new shown no_fault shows can
 
 pub bad_file : (command : Option Command) (old new : ShelfState) (shown : Shown) → ShowsCommand command old new shown
     → (refusal : Shown) → HasBadFile command old.files refusal → (Rose old.faults new.faults → ⊥) → shown ≡ refusal
@@ -90,3 +133,4 @@ bad_file None old new shown shows refusal bad no_fault = absurd bad
 bad_file (Some (Targets case)) old new shown shows refusal bad no_fault = of_refused case_file lawful_case case old new shown no_fault refusal _ bad shows
 bad_file (Some (Flow case)) old new shown shows refusal bad no_fault = of_refused case_file lawful_case case old new shown no_fault refusal _ bad shows
 bad_file (Some (Curves case)) old new shown shows refusal bad no_fault = of_refused case_file lawful_case case old new shown no_fault refusal _ bad shows
+bad_file (Some (Audit case network)) old new shown shows refusal bad no_fault = bad_case_or_network case network old new shown no_fault shows refusal bad

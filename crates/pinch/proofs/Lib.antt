@@ -2,5 +2,6 @@ mod Causes
 mod Complete
 mod Early
 mod Ends
-mod Grammars
+mod Flows
+mod Formats
 mod Plain

@@ -1,18 +1,26 @@
 -- What is shown for the words and the files.
 use Rattle.std.specs.Prelude.{◌≡◌, ℕ, List, Option, Some, None}
 use Rattle.stream_case.specs.declared.case.Case.{Case}
+use Rattle.stream_case.specs.Case.{completed}
 use Rattle.pinch_outside.specs.Shelf.{ShelfState}
 use Rattle.reports.specs.declared.shown.Shown.{Shown}
 use Rattle.reports.specs.declared.shown.Shown.TheVariants.{BadWords}
 use Rattle.pinch.specs.Case.{case_file, AreTargetsOf, AreCurvesOf}
+use Rattle.pinch.specs.Files.{FromText}
 use Rattle.pinch.specs.Flow.{ShowsFlow}
-use Rattle.pinch.specs.FromText.{FromText}
+use Rattle.pinch.specs.Network.{network_file, IsAuditOf}
 use Rattle.pinch.specs.declared.command.Command.{Command}
-use Rattle.pinch.specs.declared.command.Command.TheVariants.{Targets, Flow, Curves}
+use Rattle.pinch.specs.declared.command.Command.TheVariants.{Targets, Flow, Curves, Audit}
 
 -- what is shown by a command of one file, of the case that it says
 abbrev pub FromCase : List ℕ → ShelfState → ShelfState → Shown → (Case → Shown → Type 0) → Type 0
 FromCase name old new shown Shows = FromText case_file name old new shown (λ last case. (new ≡ last) × Shows case shown)
+
+-- what is shown of the network that a second file says, for the completed case of the first
+abbrev pub FromNetwork : List ℕ → List ℕ → ShelfState → ShelfState → Shown → Type 0
+FromNetwork case_name name old new shown =
+    FromText case_file case_name old new shown (λ mid case.
+    FromText (network_file (completed case)) name mid new shown (λ last network. (new ≡ last) × IsAuditOf (completed case) network shown))
 
 -- what is shown for a command, or for words that form none
 unfoldable pub ShowsCommand : Option Command → ShelfState → ShelfState → Shown → Type 0
@@ -20,3 +28,4 @@ ShowsCommand None old new shown = (shown ≡ BadWords) × (new ≡ old)
 ShowsCommand (Some (Targets case)) old new shown = FromCase case old new shown AreTargetsOf
 ShowsCommand (Some (Flow case)) old new shown = FromCase case old new shown ShowsFlow
 ShowsCommand (Some (Curves case)) old new shown = FromCase case old new shown AreCurvesOf
+ShowsCommand (Some (Audit case network)) old new shown = FromNetwork case network old new shown

@@ -1,10 +1,11 @@
 -- What a case file says, and what is shown of a case.
 use Rattle.std.specs.Prelude.{◌≡◌, ℕ, List, ℤ}
 use Rattle.csv_rows.specs.Rows.{rows_of}
+use Rattle.first_fault.specs.Outcome.{IsOutcome}
 use Rattle.stream_case.specs.declared.case.Case.{Case}
 use Rattle.stream_case.specs.declared.source.Side.TheVariants.{Hot, Cold}
 use Rattle.sums.specs.Order.{ListsFalling}
-use Rattle.case_text.specs.Outcome.{IsCase, IsFault}
+use Rattle.case_text.specs.Outcome.{grammar}
 use Rattle.case_text.specs.declared.fault.CaseWhy.{CaseWhy}
 use Rattle.problem_table.specs.Deficit.{hot_target, cold_target, IsPinch}
 use Rattle.curves.specs.declared.point.Point.{Point}
@@ -12,22 +13,11 @@ use Rattle.curves.specs.Curve.{IsSideCurve, IsGrandCurve}
 use Rattle.reports.specs.declared.shown.FileRole.TheVariants.{Case as CaseFile}
 use Rattle.reports.specs.declared.shown.Shown.{Shown}
 use Rattle.reports.specs.declared.shown.Shown.TheVariants.{Targets, Curves, BadCase}
-use Rattle.pinch.specs.FromText.{Grammar}
+use Rattle.pinch.specs.Format.{Format}
 
--- the case grammar gives this case for the bytes
-abbrev pub IsCaseText : List ℕ → Case → Type 0
-IsCaseText bytes case = IsCase (rows_of bytes) case
-
--- it refuses the bytes, and the row and its cause are shown
-pub record IsBadCase (bytes : List ℕ) (shown : Shown) : Type 0 where
-  pub row : ℕ
-  pub why : CaseWhy
-  pub fault : IsFault (rows_of bytes) row why
-  pub is : shown ≡ BadCase row why
-
--- the case file of a command
-abbrev pub case_file : Grammar Case
-case_file = record { role = CaseFile; Says = IsCaseText; Refuses = IsBadCase }
+-- case files, by the case grammar
+abbrev pub case_file : Format Case CaseWhy
+case_file = record { role = CaseFile; Gives = λ bytes. IsOutcome grammar (rows_of bytes); bad = BadCase }
 
 -- the targets of a case, and its pinches from the highest down
 pub record AreTargetsOf (case : Case) (shown : Shown) : Type 0 where

@@ -2,14 +2,19 @@
 use Rattle.std.specs.Prelude.{ℕ, List, [], ◌∷◌, Option, Some, None, option_map, codes, if◌then◌else◌}
 use Rattle.std.specs.Str.{bytes_eq}
 use Rattle.reports.specs.declared.shown.FileRole.{FileRole}
-use Rattle.reports.specs.declared.shown.FileRole.TheVariants.{Case}
+use Rattle.reports.specs.declared.shown.FileRole.TheVariants.{Case, Network}
 use Rattle.pinch.specs.declared.command.Command.{Command}
-use Rattle.pinch.specs.declared.command.Command.TheVariants.{Targets, Flow, Curves}
+use Rattle.pinch.specs.declared.command.Command.TheVariants.{Targets, Flow, Curves, Audit}
 
 -- the name of a file, where the words are just that; it is not empty
 abbrev pub one_file : List (List ℕ) → Option (List ℕ)
 one_file ((byte ∷ name) ∷ []) = Some (byte ∷ name)
 one_file words = None
+
+-- the audit of the case and the network of two files, where the words are just their names; none is empty
+abbrev pub audit_of : List (List ℕ) → Option Command
+audit_of ((byte ∷ case) ∷ (other ∷ network) ∷ []) = Some (Audit (byte ∷ case) (other ∷ network))
+audit_of words = None
 
 -- the command that a word and those behind it form
 abbrev pub command_of_word : List ℕ → List (List ℕ) → Option Command
@@ -17,6 +22,7 @@ command_of_word word rest =
     if bytes_eq word (codes "targets") then option_map Targets (one_file rest)
     else if bytes_eq word (codes "flow") then option_map Flow (one_file rest)
     else if bytes_eq word (codes "curves") then option_map Curves (one_file rest)
+    else if bytes_eq word (codes "audit") then audit_of rest
     else None
 
 -- the command that the words form, if they form one
@@ -26,6 +32,9 @@ command_of (word ∷ rest) = command_of_word word rest
 
 -- the file that a command reads in this role, by its name
 abbrev pub file_of : Command → FileRole → Option (List ℕ)
+file_of (Audit case network) Case = Some case
+file_of (Audit case network) Network = Some network
 file_of (Targets case) Case = Some case
 file_of (Flow case) Case = Some case
 file_of (Curves case) Case = Some case
+file_of command Network = None

@@ -1,13 +1,15 @@
 -- Which files answer a command, and which are refused.
-use Rattle.std.specs.Prelude.{◌≡◌, ◌≤◌, ℕ, List, length, ⊤, Option, Some, None}
+use Rattle.std.specs.Prelude.{◌≡◌, ◌⊎◌, ◌≤◌, ℕ, List, length, ⊤, Option, Some, None, Ok}
 use Rattle.pinch_outside.specs.Shelf.{NamedFile, find_file}
 use Rattle.pinch_outside.specs.declared.limits.TheConstants.{MAX_FILE}
-use Rattle.stream_case.specs.Case.{completed, IsStandard}
+use Rattle.stream_case.specs.Case.{completed}
 use Rattle.reports.specs.declared.shown.Shown.{Shown}
 use Rattle.pinch.specs.Case.{case_file}
-use Rattle.pinch.specs.FromText.{Grammar}
+use Rattle.pinch.specs.Files.{IsRefused}
+use Rattle.pinch.specs.Format.{Format}
+use Rattle.pinch.specs.Network.{network_file}
 use Rattle.pinch.specs.declared.command.Command.{Command}
-use Rattle.pinch.specs.declared.command.Command.TheVariants.{Targets, Flow, Curves}
+use Rattle.pinch.specs.declared.command.Command.TheVariants.{Targets, Flow, Curves, Audit}
 
 -- the files are told, and the first of that name is within the limit, with these bytes
 pub record Holds (files : Option (List NamedFile)) (name bytes : List ℕ) : Type 0 where
@@ -17,29 +19,32 @@ pub record Holds (files : Option (List NamedFile)) (name bytes : List ℕ) : Typ
   pub within : length bytes ≤ MAX_FILE
 
 -- it says something, of which this holds
-pub record HoldsText {T : Type 0} (g : Grammar T) (files : Option (List NamedFile)) (name : List ℕ) (P : T → Type 0) : Type 0 where
+pub record HoldsText {Value Cause : Type 0} (format : Format Value Cause) (files : Option (List NamedFile)) (name : List ℕ) (P : Value → Type 0) : Type 0 where
   pub bytes : List ℕ
   pub file : Holds files name bytes
-  pub value : T
-  pub says : g.Says bytes value
+  pub value : Value
+  pub says : format.Gives bytes (Ok value)
   pub then : P value
 
--- it says nothing, and this is shown
-pub record HoldsNoText {T : Type 0} (g : Grammar T) (files : Option (List NamedFile)) (name : List ℕ) (shown : Shown) : Type 0 where
+-- it is at fault, and this is shown
+pub record HoldsFault {Value Cause : Type 0} (format : Format Value Cause) (files : Option (List NamedFile)) (name : List ℕ) (shown : Shown) : Type 0 where
   pub bytes : List ℕ
   pub file : Holds files name bytes
-  pub refuses : g.Refuses bytes shown
+  pub refused : IsRefused format bytes shown
 
--- the files of a command are there, and are what it wants: `flow` answers standard cases
+-- the files of a command are there, and are what it wants
 unfoldable pub CanAnswer : Option Command → Option (List NamedFile) → Type 0
 CanAnswer None files = ⊥
 CanAnswer (Some (Targets case)) files = HoldsText case_file files case (λ c. ⊤)
-CanAnswer (Some (Flow case)) files = HoldsText case_file files case (λ c. IsStandard (completed c))
+CanAnswer (Some (Flow case)) files = HoldsText case_file files case (λ c. ⊤)
 CanAnswer (Some (Curves case)) files = HoldsText case_file files case (λ c. ⊤)
+CanAnswer (Some (Audit case network)) files = HoldsText case_file files case (λ c. HoldsText (network_file (completed c)) files network (λ n. ⊤))
 
--- a file of a command is there, and its grammar refuses it, which is to be shown
+-- a file of a command is there, those before it are what they should be, and its grammar refuses it, which is to be shown
 unfoldable pub HasBadFile : Option Command → Option (List NamedFile) → Shown → Type 0
 HasBadFile None files shown = ⊥
-HasBadFile (Some (Targets case)) files shown = HoldsNoText case_file files case shown
-HasBadFile (Some (Flow case)) files shown = HoldsNoText case_file files case shown
-HasBadFile (Some (Curves case)) files shown = HoldsNoText case_file files case shown
+HasBadFile (Some (Targets case)) files shown = HoldsFault case_file files case shown
+HasBadFile (Some (Flow case)) files shown = HoldsFault case_file files case shown
+HasBadFile (Some (Curves case)) files shown = HoldsFault case_file files case shown
+HasBadFile (Some (Audit case network)) files shown =
+    HoldsFault case_file files case shown ⊎ HoldsText case_file files case (λ c. HoldsFault (network_file (completed c)) files network shown)

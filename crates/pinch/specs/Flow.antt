@@ -1,34 +1,54 @@
 -- What `flow` shows of a completed case.
-use Rattle.std.specs.Prelude.{◌≡◌, ℤ, ◌≤ℤ◌, List, map, All}
+use Rattle.std.specs.Prelude.{◌≡◌, ◌⊎◌, ℤ, List, map}
 use Rattle.stream_case.specs.declared.case.Case.{Case}
 use Rattle.stream_case.specs.Case.{IsStandard, completed}
-use Rattle.stream_case.specs.Limits.{IsPartPrice}
 use Rattle.stream_case.specs.declared.source.Side.TheVariants.{Hot, Cold}
 use Rattle.problem_table.specs.Deficit.{hot_target, cold_target, IsReferencePlace}
 use Rattle.grid.specs.declared.part.Part.{Part}
 use Rattle.grid.specs.declared.parts.Parts.{Parts}
 use Rattle.grid.specs.Part.{AreCaseParts}
+use Rattle.heat_flow.specs.declared.cut.Cut.{Cut}
 use Rattle.heat_flow.specs.declared.flow.Flow.{Flow}
-use Rattle.heat_flow.specs.declared.flow.Transfer.{Transfer}
 use Rattle.heat_flow.specs.declared.prices.Prices.{Prices}
-use Rattle.heat_flow.specs.Flow.{cost_of}
-use Rattle.heat_flow.specs.Prices.{IsSupporting, value_of}
+use Rattle.heat_flow.specs.Cuts.{HasNoFlow}
+use Rattle.heat_flow.specs.Flow.{IsLeastCost}
 use Rattle.heat_flow.specs.Reach.{reach_between}
-use Rattle.corner_flow.specs.Corner.{IsCornerFlow, IsFlowOf, UtilityHeat, NeedsHeat, corner_price}
+use Rattle.transport.specs.Answer.{IsCertified, IsCutOf}
+use Rattle.transport.specs.declared.answer.Answer.{Answer}
+use Rattle.transport.specs.declared.answer.Answer.TheVariants as answer
+use Rattle.corner_flow.specs.Corner.{IsCornerFlow, UtilityHeat, NeedsHeat, corner_price}
 use Rattle.reports.specs.declared.shown.Shown.{Shown}
 use Rattle.reports.specs.declared.shown.Shown.TheVariants as show
 
--- a heat flow between the parts of the case, and prices that prove that none costs less: they support each heat flow, and their value is
--- the cost
-pub record IsCertified (c : Case) (parts : Parts) (transfers : List Transfer) (prices : Prices) (cost : ℤ) : Type 0 where
+-- a heat flow between the parts of the case that costs this, and prices that prove that none costs less: they support each heat flow, and
+-- their value is the cost
+pub record IsLeastFlow (c : Case) (parts : Parts) (flow : Flow) (prices : Prices) (cost : ℤ) : Type 0 where
   pub parts_are : AreCaseParts c parts.hot parts.cold
-  pub flow : IsFlowOf c parts.hot parts.cold transfers
-  pub supporting : IsSupporting (reach_between c parts.hot parts.cold) prices.hot prices.cold
-  pub hot_prices : All IsPartPrice prices.hot
-  pub cold_prices : All IsPartPrice prices.cold
-  pub cost_is : cost ≡ cost_of parts.hot parts.cold transfers
-  pub value_is : cost ≡ value_of parts.hot parts.cold prices.hot prices.cold
-  pub least : (others : List Transfer) → IsFlowOf c parts.hot parts.cold others → cost ≤ℤ cost_of parts.hot parts.cold others
+  pub certified : IsCertified (reach_between c parts.hot parts.cold) parts.hot parts.cold flow.transfers prices.hot prices.cold cost
+  pub least : IsLeastCost (reach_between c parts.hot parts.cold) parts.hot parts.cold cost
+
+-- which is shown
+pub record IsFlowAnswer (c : Case) (shown : Shown) : Type 0 where
+  pub parts : Parts
+  pub flow : Flow
+  pub prices : Prices
+  pub cost : ℤ
+  pub least : IsLeastFlow c parts flow prices cost
+  pub is : shown ≡ show.Flow c parts flow prices cost
+
+-- a cut of the parts of the case, which proves that there is no heat flow between them
+pub record IsCutAnswer (c : Case) (shown : Shown) : Type 0 where
+  pub parts : Parts
+  pub cut : Cut
+  pub parts_are : AreCaseParts c parts.hot parts.cold
+  pub is_cut : IsCutOf (reach_between c parts.hot parts.cold) parts.hot parts.cold cut
+  pub no_flow : HasNoFlow (reach_between c parts.hot parts.cold) parts.hot parts.cold
+  pub is : shown ≡ show.Stuck c parts cut
+
+-- how the answer of the search for a heat flow is shown
+abbrev pub shown_answer : Case → Parts → Answer → Shown
+shown_answer c parts (answer.Least flow prices cost) = show.Flow c parts flow prices cost
+shown_answer c parts (answer.Stuck cut) = show.Stuck c parts cut
 
 -- the prices that the corner flow comes with
 pub record AreCornerPrices (c : Case) (hot cold : List Part) (prices : Prices) : Type 0 where
@@ -43,7 +63,7 @@ pub record IsCornerAnswer (c : Case) (shown : Shown) : Type 0 where
   pub parts : Parts
   pub flow : Flow
   pub prices : Prices
-  pub certified : IsCertified c parts flow.transfers prices (hot_target c.streams)
+  pub least : IsLeastFlow c parts flow prices (hot_target c.streams)
   pub corner : IsCornerFlow c parts.hot parts.cold flow.transfers
   pub hot_heat : UtilityHeat Hot parts.hot flow.transfers (hot_target c.streams)
   pub cold_heat : UtilityHeat Cold parts.cold flow.transfers (cold_target c.streams)
@@ -52,10 +72,10 @@ pub record IsCornerAnswer (c : Case) (shown : Shown) : Type 0 where
   pub corner_prices : AreCornerPrices c parts.hot parts.cold prices
   pub is : shown ≡ show.Flow c parts flow prices (hot_target c.streams)
 
--- the corner flow, exactly where the case is standard
-pub data AnswersFlow (c : Case) (shown : Shown) : Type 0 where
-  corner_answer : IsStandard c → IsCornerAnswer c shown → AnswersFlow c shown
-  not_standard : (IsStandard c → ⊥) → shown ≡ show.NotStandard → AnswersFlow c shown
+-- a heat flow of least cost, or a cut where there is no heat flow; for a standard case the corner flow
+pub record AnswersFlow (c : Case) (shown : Shown) : Type 0 where
+  pub answer : IsFlowAnswer c shown ⊎ IsCutAnswer c shown
+  pub standard : IsStandard c → IsCornerAnswer c shown
 
 -- what `flow` shows of a case
 abbrev pub ShowsFlow : Case → Shown → Type 0

@@ -4,7 +4,9 @@ pub mod Case
 pub mod Causes
 pub mod Command
 pub mod Complete
+pub mod Files
 pub mod Flow
-pub mod FromText
+pub mod Format
+pub mod Network
 pub mod Status
 pub mod Stop

@@ -3,34 +3,44 @@ use Rattle.std.specs.Prelude.{ℕ, ⊤}
 use Rattle.reports.specs.declared.shown.Shown.{Shown}
 use Rattle.reports.specs.declared.shown.Shown.TheVariants as shows
 use Rattle.pinch.specs.declared.status.Status.{Status}
-use Rattle.pinch.specs.declared.status.Status.TheVariants.{Answered, NoCommand, CaseRefused, TooLong, ReadFault, WriteFault, OutOfMemory}
+use Rattle.pinch.specs.declared.status.Status.TheVariants.{Answered, AnsweredNo, NoCommand, CaseRefused, NetworkRefused, TooLong, ReadFault, WriteFault, OutOfMemory, TooFine}
 
 -- the number of a status
 abbrev pub number_of : Status → ℕ
 number_of Answered = 0
+number_of AnsweredNo = 1
 number_of NoCommand = 2
 number_of CaseRefused = 3
+number_of NetworkRefused = 4
 number_of TooLong = 5
 number_of ReadFault = 6
 number_of WriteFault = 7
 number_of OutOfMemory = 8
+number_of TooFine = 9
 
 -- the status of what is shown, where all of its text was written
 abbrev pub status_of : Shown → Status
 status_of (shows.Targets targets pinches) = Answered
 status_of (shows.Flow case parts flow prices cost) = Answered
+status_of (shows.Stuck case parts cut) = AnsweredNo
 status_of (shows.Curves hot cold net) = Answered
+status_of (shows.Accepted case network balance place) = Answered
+status_of (shows.Rejected case network place reason) = AnsweredNo
+status_of (shows.TooFine case network place step) = TooFine
 status_of shows.BadWords = NoCommand
 status_of (shows.BadCase row why) = CaseRefused
-status_of shows.NotStandard = CaseRefused
+status_of (shows.BadNetwork line why) = NetworkRefused
 status_of (shows.TooLong file) = TooLong
 status_of (shows.ReadFault file) = ReadFault
 
--- the command is answered
+-- the command is answered: yes, no, or that the numbers become too fine
 abbrev pub IsAnswered : Status → Type 0
 IsAnswered Answered = ⊤
+IsAnswered AnsweredNo = ⊤
+IsAnswered TooFine = ⊤
 IsAnswered NoCommand = ⊥
 IsAnswered CaseRefused = ⊥
+IsAnswered NetworkRefused = ⊥
 IsAnswered TooLong = ⊥
 IsAnswered ReadFault = ⊥
 IsAnswered WriteFault = ⊥

@@ -1,8 +1,8 @@
 -- What is shown in the end or early.
 use Rattle.std.specs.Prelude.{⊤, Result, Ok, Err}
 use Rattle.reports.specs.declared.shown.Shown.{Shown}
-use Rattle.pinch.specs.declared.answer.Stop.{Stop}
-use Rattle.pinch.specs.declared.answer.Stop.TheVariants.{Early, OutOfMemory}
+use Rattle.pinch.specs.declared.stop.Stop.{Stop}
+use Rattle.pinch.specs.declared.stop.Stop.TheVariants.{Early, OutOfMemory}
 
 -- what is shown early, if memory was found
 abbrev pub IfEarly : Stop → (Shown → Type 0) → Type 0

@@ -22,7 +22,7 @@ pub fn show_targets(alloc: Global, case: &Case) -> Result<Shown, AllocError>
     })
 }
 
-/// A heat flow of the completed case.
+/// A heat flow of least cost of the completed case, or a cut where it has no heat flow.
 pub fn show_flow(alloc: Global, case: &Case) -> Result<Shown, AllocError>
     requires { IsValid case.now }
     ensures { IfOk result (AnswersFlow (completed case.now)) }

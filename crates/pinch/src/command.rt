@@ -1,6 +1,6 @@
 //! The forms of a command.
 ghost use Rattle.std.specs.Prelude.{◌≡◌, IfOk};
-ghost use Rattle.pinch.specs.Command.{command_of, command_of_word, one_file};
+ghost use Rattle.pinch.specs.Command.{audit_of, command_of, command_of_word, one_file};
 
 use crate::word::Word;
 use std::alloc::{AllocError, Global};
@@ -15,6 +15,8 @@ pub enum Command {
     Flow { case: Word },
     /// `curves CASE`: the composite curves and the grand composite curve.
     Curves { case: Word },
+    /// `audit CASE NETWORK`: whether the network is valid for the completed case.
+    Audit { case: Word, network: Word },
 }
 
 /// The command that the words form, if they form one.
@@ -34,6 +36,7 @@ fn command_of_word(alloc: Global, word: &str, rest: &[Word]) -> Result<Option<Co
         "targets" => Ok(one_file(alloc, rest)?.map(|case| Command::Targets { case })),
         "flow" => Ok(one_file(alloc, rest)?.map(|case| Command::Flow { case })),
         "curves" => Ok(one_file(alloc, rest)?.map(|case| Command::Curves { case })),
+        "audit" => audit_of(alloc, rest),
         _ => Ok(None),
     }
 }
@@ -44,6 +47,21 @@ fn one_file(alloc: Global, words: &[Word]) -> Result<Option<Word>, AllocError>
 {
     match words {
         [name] if !name.as_str().is_empty() => Ok(Some(name.copied(alloc)?)),
+        _ => Ok(None),
+    }
+}
+
+/// The audit of two files, where the words are just their names; none is empty.
+fn audit_of(alloc: Global, words: &[Word]) -> Result<Option<Command>, AllocError>
+    ensures { IfOk result (λ command. command ≡ audit_of words.now) }
+{
+    match words {
+        [case, network] if !case.as_str().is_empty() && !network.as_str().is_empty() => {
+            Ok(Some(Command::Audit {
+                case: case.copied(alloc)?,
+                network: network.copied(alloc)?,
+            }))
+        }
         _ => Ok(None),
     }
 }

@@ -3,11 +3,14 @@
 
 mod answer;
 mod arguments;
+mod audit;
 mod case_answer;
 mod command;
+mod files;
 mod flow;
 mod program;
 mod status;
+mod stop;
 #[cfg(test)]
 mod tests;
 mod word;

@@ -12,8 +12,9 @@ ghost use Rattle.pinch.specs.Complete.{CanAnswer, HasBadFile};
 ghost use Rattle.pinch.specs.Status.{number_of, status_of, IsAnswered};
 ghost use Rattle.pinch.specs.declared.status.Status.TheVariants.{WriteFault, OutOfMemory};
 
-use crate::answer::{Stop, answer};
+use crate::answer::answer;
 use crate::status::{Status, status_of};
+use crate::stop::Stop;
 use crate::word::Word;
 use pinch_outside::{Shelf, Sink, write_all_of};
 use reports::{Shown, text_of};

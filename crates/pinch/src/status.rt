@@ -9,10 +9,14 @@ use reports::Shown;
 pub enum Status {
     /// The command is answered.
     Answered,
+    /// The command is answered, and the answer is no.
+    AnsweredNo,
     /// The words are no command.
     NoCommand,
-    /// The case file is refused, or the command does not answer its case.
+    /// The case file is refused.
     CaseRefused,
+    /// The network file is refused.
+    NetworkRefused,
     /// A file is longer than the limit.
     TooLong,
     /// A file could not be read.
@@ -21,6 +25,8 @@ pub enum Status {
     WriteFault,
     /// There was not memory enough, and nothing was written.
     OutOfMemory,
+    /// The numbers of the network become too fine for its audit.
+    TooFine,
 }
 
 impl Status {
@@ -30,12 +36,15 @@ impl Status {
     {
         match self {
             Status::Answered => 0,
+            Status::AnsweredNo => 1,
             Status::NoCommand => 2,
             Status::CaseRefused => 3,
+            Status::NetworkRefused => 4,
             Status::TooLong => 5,
             Status::ReadFault => 6,
             Status::WriteFault => 7,
             Status::OutOfMemory => 8,
+            Status::TooFine => 9,
         }
     }
 }
@@ -45,9 +54,15 @@ pub fn status_of(shown: &Shown) -> Status
     ensures { result ≡ status_of shown.now }
 {
     match shown {
-        Shown::Targets { .. } | Shown::Flow { .. } | Shown::Curves { .. } => Status::Answered,
+        Shown::Targets { .. }
+        | Shown::Flow { .. }
+        | Shown::Curves { .. }
+        | Shown::Accepted { .. } => Status::Answered,
+        Shown::Stuck { .. } | Shown::Rejected { .. } => Status::AnsweredNo,
+        Shown::TooFine { .. } => Status::TooFine,
         Shown::BadWords => Status::NoCommand,
-        Shown::BadCase { .. } | Shown::NotStandard => Status::CaseRefused,
+        Shown::BadCase { .. } => Status::CaseRefused,
+        Shown::BadNetwork { .. } => Status::NetworkRefused,
         Shown::TooLong { .. } => Status::TooLong,
         Shown::ReadFault { .. } => Status::ReadFault,
     }

@@ -1,11 +1,16 @@
 //! Tests of the commands, over files and an output in memory.
 
 mod arguments;
+mod audit;
+mod audit_steps;
 mod case_rows;
 mod composite_curves;
+mod cuts;
 mod faults;
 mod flow;
+mod least_cost;
 mod limits;
+mod network_lines;
 mod support;
 mod targets;
 mod words;

@@ -1,4 +1,6 @@
+pub mod Audit
 pub mod Curves
+pub mod Cut
 pub mod Flow
 pub mod Lines
 pub mod Refusals

@@ -3,8 +3,10 @@ use Rattle.std.specs.Prelude.{ℕ, List, [], ◌∷◌, ◌++◌, codes}
 use Rattle.std.specs.Fmt.{decimal}
 use Rattle.case_text.specs.declared.fault.CaseWhy.{CaseWhy}
 use Rattle.case_text.specs.declared.fault.CaseWhy.TheVariants as why
+use Rattle.network_text.specs.declared.fault.NetWhy.{NetWhy}
+use Rattle.network_text.specs.declared.fault.NetWhy.TheVariants as net
 use Rattle.reports.specs.declared.shown.FileRole.{FileRole}
-use Rattle.reports.specs.declared.shown.FileRole.TheVariants.{Case}
+use Rattle.reports.specs.declared.shown.FileRole.TheVariants.{Case, Network}
 
 -- the name of a cause for which a case file is refused
 abbrev pub case_why_name : CaseWhy → List ℕ
@@ -26,8 +28,30 @@ case_why_name why.BadRange = codes "BadRange"
 abbrev pub bad_case_text : ℕ → CaseWhy → List ℕ
 bad_case_text row why = codes "case row " ++ (decimal row ++ 32 ∷ (case_why_name why ++ 10 ∷ []))
 
+-- the name of a cause for which a network file is refused
+abbrev pub net_why_name : NetWhy → List ℕ
+net_why_name net.UnknownWord = codes "UnknownWord"
+net_why_name net.FieldCount = codes "FieldCount"
+net_why_name net.BadNumber = codes "BadNumber"
+net_why_name net.UnknownName = codes "UnknownName"
+net_why_name net.WrongSide = codes "WrongSide"
+net_why_name net.SameName = codes "SameName"
+net_why_name net.UnknownBranch = codes "UnknownBranch"
+net_why_name net.SpentBranch = codes "SpentBranch"
+net_why_name net.WrongPass = codes "WrongPass"
+net_why_name net.MissingPass = codes "MissingPass"
+net_why_name net.TooMany = codes "TooMany"
+net_why_name net.NotPositive = codes "NotPositive"
+net_why_name net.OtherStream = codes "OtherStream"
+net_why_name net.BadName = codes "BadName"
+
+-- network line LINE WHY
+abbrev pub bad_network_text : ℕ → NetWhy → List ℕ
+bad_network_text line why = codes "network line " ++ (decimal line ++ 32 ∷ (net_why_name why ++ 10 ∷ []))
+
 abbrev pub role_name : FileRole → List ℕ
 role_name Case = codes "case"
+role_name Network = codes "network"
 
 -- FAULT FILE
 abbrev pub file_text : List ℕ → FileRole → List ℕ

@@ -8,6 +8,7 @@ ghost use Rattle.reports.specs.Lines.{line, texts_from};
 ghost use Rattle.reports.specs.Flow.{part_text, part_at, is_of_utility, heat_of_utility, utility_heat, side_parts, side_prices, use_line, move_line, price_word, price_line, price_lines, flow_text};
 
 use crate::line::line;
+use crate::source::source_name;
 use grid::{Part, Parts};
 use heat_flow::{Prices, Transfer};
 use std::alloc::{AllocError, Global};
@@ -65,7 +66,8 @@ fn use_line(
     line(alloc, &word, heat)
 }
 
-fn side_parts(side: Side, parts: &Parts) -> &[Part]
+/// The parts of a side.
+pub fn side_parts(side: Side, parts: &Parts) -> &[Part]
     ensures { result.now ≡ side_parts side parts.now }
 {
     match side {
@@ -197,7 +199,8 @@ fn price_at(prices: &[i64], index: usize) -> i64
     }
 }
 
-fn part_at(alloc: Global, case: &Case, parts: &[Part], index: u32) -> Result<String, AllocError>
+/// The text of the part at an index; nothing past the end.
+pub fn part_at(alloc: Global, case: &Case, parts: &[Part], index: u32) -> Result<String, AllocError>
     ensures { IfOk result (λ text. string_bytes text ≡ part_at case.now parts.now index) }
 {
     match parts.get(index as usize) {
@@ -216,19 +219,4 @@ fn part_text(alloc: Global, case: &Case, part: &Part) -> Result<String, AllocErr
         part.high,
         part.low
     )
-}
-
-fn source_name(case: &Case, source: Source) -> &str
-    ensures { result.now ≡ source_name case.now source }
-{
-    match source {
-        Source::Stream(index) => match case.streams.get(index as usize) {
-            Some(stream) => stream.name.as_str(),
-            None => "",
-        },
-        Source::Utility(index) => match case.utilities.get(index as usize) {
-            Some(utility) => utility.name.as_str(),
-            None => "",
-        },
-    }
 }

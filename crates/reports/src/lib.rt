@@ -1,11 +1,14 @@
 //! What the program shows, and the exact text of it.
 #![tactic(auto)]
 
+mod audit;
+mod cut;
 mod flow;
 mod line;
 mod points;
 mod refusal;
 mod shown;
+mod source;
 mod targets;
 mod text;
 

@@ -1,9 +1,10 @@
 //! The texts of what is no result of a command: words, files and rows that are refused.
 ghost use Rattle.std.specs.Prelude.{◌≡◌, IfOk, string_bytes};
-ghost use Rattle.reports.specs.Refusals.{bad_case_text, file_text, role_name, case_why_name};
+ghost use Rattle.reports.specs.Refusals.{bad_case_text, bad_network_text, case_why_name, file_text, net_why_name, role_name};
 
 use crate::shown::FileRole;
 use case_text::CaseWhy;
+use network_text::NetWhy;
 use std::alloc::{AllocError, Global};
 
 /// What is printed where the words are no command.
@@ -15,6 +16,13 @@ pub fn bad_case_text(alloc: Global, row: u32, why: CaseWhy) -> Result<String, Al
     ensures { IfOk result (λ text. string_bytes text ≡ bad_case_text row why) }
 {
     format!(in alloc; "case row {row} {}\n", case_why_name(why))
+}
+
+/// A line that names the statement of a network file, counted from 1, and its cause.
+pub fn bad_network_text(alloc: Global, line: u32, why: NetWhy) -> Result<String, AllocError>
+    ensures { IfOk result (λ text. string_bytes text ≡ bad_network_text line why) }
+{
+    format!(in alloc; "network line {line} {}\n", net_why_name(why))
 }
 
 /// A line of what is wrong and of the file where it is.
@@ -29,6 +37,7 @@ fn role_name(file: FileRole) -> &'static str
 {
     match file {
         FileRole::Case => "case",
+        FileRole::Network => "network",
     }
 }
 
@@ -49,5 +58,26 @@ fn case_why_name(why: CaseWhy) -> &'static str
         CaseWhy::NoContribution => "NoContribution",
         CaseWhy::NoStream => "NoStream",
         CaseWhy::BadRange => "BadRange",
+    }
+}
+
+fn net_why_name(why: NetWhy) -> &'static str
+    ensures { result.now ≡ net_why_name why }
+{
+    match why {
+        NetWhy::UnknownWord => "UnknownWord",
+        NetWhy::FieldCount => "FieldCount",
+        NetWhy::BadNumber => "BadNumber",
+        NetWhy::UnknownName => "UnknownName",
+        NetWhy::WrongSide => "WrongSide",
+        NetWhy::SameName => "SameName",
+        NetWhy::UnknownBranch => "UnknownBranch",
+        NetWhy::SpentBranch => "SpentBranch",
+        NetWhy::WrongPass => "WrongPass",
+        NetWhy::MissingPass => "MissingPass",
+        NetWhy::TooMany => "TooMany",
+        NetWhy::NotPositive => "NotPositive",
+        NetWhy::OtherStream => "OtherStream",
+        NetWhy::BadName => "BadName",
     }
 }

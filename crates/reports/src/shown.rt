@@ -3,7 +3,9 @@
 use case_text::CaseWhy;
 use curves::Point;
 use grid::Parts;
-use heat_flow::{Flow, Prices};
+use heat_flow::{Cut, Flow, Prices};
+use network_audit::{Balance, Place, Reason};
+use network_text::{NetWhy, Network};
 use problem_table::Target;
 use stream_case::{Case, Items};
 
@@ -11,6 +13,7 @@ use stream_case::{Case, Items};
 #[derive(Clone, Copy, Debug, PartialEq, Eq)]
 pub enum FileRole {
     Case,
+    Network,
 }
 
 /// What is printed. Everything that a text says of a case is carried here, so that a contract
@@ -32,12 +35,42 @@ pub enum Shown {
         prices: Prices,
         cost: i128,
     },
+    /// There is no heat flow between the parts of the completed case: parts of one side that need
+    /// more heat, in W, than the other side has on offer for them.
+    Stuck {
+        case: Case,
+        parts: Parts,
+        cut: Cut,
+    },
     /// The hot and the cold composite curve, rising by actual temperature, and the grand
     /// composite curve, falling by shifted temperature.
     Curves {
         hot: Items<Point>,
         cold: Items<Point>,
         net: Items<Point>,
+    },
+    /// The network is valid for the completed case: what it needs and costs, and the reference
+    /// place of the case as a shifted temperature in tenths of °C.
+    Accepted {
+        case: Case,
+        network: Network,
+        balance: Balance,
+        place: i32,
+    },
+    /// The network is not valid for the completed case: where it fails first, and why.
+    Rejected {
+        case: Case,
+        network: Network,
+        place: Place,
+        reason: Reason,
+    },
+    /// The audit of the network for the completed case would form a number that is not within
+    /// the limits of a fraction: where, and at which step, counted from 1.
+    TooFine {
+        case: Case,
+        network: Network,
+        place: Place,
+        step: u32,
     },
     /// The words are no command.
     BadWords,
@@ -46,9 +79,11 @@ pub enum Shown {
         row: u32,
         why: CaseWhy,
     },
-    /// The command answers standard cases only: no forbidden match, and no utilities but the
-    /// standard ones.
-    NotStandard,
+    /// The network file is refused: the statement, counted from 1, and what is to be mended there.
+    BadNetwork {
+        line: u32,
+        why: NetWhy,
+    },
     /// The file is longer than the limit.
     TooLong {
         file: FileRole,

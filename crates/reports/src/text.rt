@@ -2,9 +2,11 @@
 ghost use Rattle.std.specs.Prelude.{◌≡◌, IfOk};
 ghost use Rattle.reports.specs.Text.{text};
 
+use crate::audit::{accepted_text, rejected_text, too_fine_text};
+use crate::cut::stuck_text;
 use crate::flow::flow_text;
 use crate::points::curves_text;
-use crate::refusal::{WORDS, bad_case_text, file_text};
+use crate::refusal::{WORDS, bad_case_text, bad_network_text, file_text};
 use crate::shown::Shown;
 use crate::targets::targets_text;
 use std::alloc::{AllocError, Global};
@@ -23,12 +25,26 @@ pub fn text_of(alloc: Global, shown: &Shown) -> Result<Vec<u8>, AllocError>
             prices,
             cost,
         } => flow_text(alloc, case, parts, flow.transfers.as_slice(), prices, *cost)?,
+        Shown::Stuck { case, parts, cut } => stuck_text(alloc, case, parts, cut)?,
         Shown::Curves { hot, cold, net } => {
             curves_text(alloc, hot.as_slice(), cold.as_slice(), net.as_slice())?
         }
+        Shown::Accepted { balance, place, .. } => accepted_text(alloc, balance, *place)?,
+        Shown::Rejected {
+            case,
+            network,
+            place,
+            reason,
+        } => rejected_text(alloc, case, network, *place, *reason)?,
+        Shown::TooFine {
+            case,
+            network,
+            place,
+            step,
+        } => too_fine_text(alloc, case, network, *place, *step)?,
         Shown::BadWords => String::from_str(alloc, WORDS)?,
         Shown::BadCase { row, why } => bad_case_text(alloc, *row, *why)?,
-        Shown::NotStandard => String::from_str(alloc, "case not standard\n")?,
+        Shown::BadNetwork { line, why } => bad_network_text(alloc, *line, *why)?,
         Shown::TooLong { file } => file_text(alloc, "too long", *file)?,
         Shown::ReadFault { file } => file_text(alloc, "read fault", *file)?,
     };

@@ -1,7 +1,7 @@
 use crate::compare::assert_lists;
 use crate::network_text_tests::SIX_EXCHANGERS;
-use crate::tables::{FOUR_STREAMS, completed_case};
-use network_printer::print_network;
+use crate::tables::{FOUR_STREAMS, completed_case, name};
+use network_printer::{exchanger_names, print_network};
 use network_text::read_network;
 use std::test::Fail;
 
@@ -36,5 +36,18 @@ fn networks_are_printed_with_duties_in_lowest_terms(rt: HostRuntime) -> Result<(
         let printed = print_network(rt.alloc(), &case, &network)?;
         assert_lists(&rt, "a printed network", &printed, wanted);
     }
+    Ok(())
+}
+
+#[test]
+fn exchangers_are_named_in_the_order_of_their_lines(rt: HostRuntime) -> Result<(), Fail> {
+    let case = completed_case(rt.alloc(), &FOUR_STREAMS)?;
+    let network = read_network(rt.alloc(), &case, SIX_EXCHANGERS)?;
+    let mut wanted = Vec::new(rt.alloc());
+    for text in ["E1", "E2", "E3", "E4", "Q1", "Q2"] {
+        wanted.push(name(text)?)?;
+    }
+    let names = exchanger_names(rt.alloc(), &network)?;
+    assert_lists(&rt, "names of exchangers", &names, &wanted);
     Ok(())
 }

@@ -1,5 +1,6 @@
 use crate::compare::assert_same;
 use case_text::CaseWhy;
+use network_text::NetWhy;
 use problem_table::Target;
 use reports::{FileRole, Shown, text_of};
 use std::process::Abort;
@@ -32,12 +33,18 @@ fn each_answer_has_its_text(rt: HostRuntime) -> Result<(), Fail> {
     let row = 14;
     let why = CaseWhy::TooMany;
     assert_printed(&rt, Shown::BadCase { row, why }, "case row 14 TooMany\n");
+    let line = 20_001;
+    let why = NetWhy::TooMany;
+    let text = "network line 20001 TooMany\n";
+    assert_printed(&rt, Shown::BadNetwork { line, why }, text);
     let words = "words: targets flow curves design vertical audit \
                  site sweep sample certify prices\n";
     assert_printed(&rt, Shown::BadWords, words);
-    assert_printed(&rt, Shown::NotStandard, "case not standard\n");
     let file = FileRole::Case;
     assert_printed(&rt, Shown::TooLong { file }, "too long case\n");
     assert_printed(&rt, Shown::ReadFault { file }, "read fault case\n");
+    let file = FileRole::Network;
+    assert_printed(&rt, Shown::TooLong { file }, "too long network\n");
+    assert_printed(&rt, Shown::ReadFault { file }, "read fault network\n");
     Ok(())
 }

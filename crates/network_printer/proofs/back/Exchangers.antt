@@ -1,5 +1,5 @@
 -- The exchangers that printed lines declare and pass.
-use Rattle.std.proofs.Common.{◌≡◌, ◌≢◌, ◌∙◌, ◌<◌, ◌∷◌, ◌==◌, ◌||◌, ℕ, suc, Bool, true, false, not, cond, List, [], All, AllPairs, Some, is_some, slice_get, position, length, map, take, drop, unwrap_or, refl, sym, ap, subst, arith, inl, inr, length-append}
+use Rattle.std.proofs.Common.{◌≡◌, ◌≢◌, ◌∙◌, ◌<◌, ◌∷◌, ◌==◌, ℕ, suc, true, false, not, cond, List, [], All, AllPairs, Some, is_some, slice_get, position, length, map, take, drop, unwrap_or, refl, sym, ap, subst, arith, inl, inr, length-append}
 use Rattle.std.specs.Prelude.{count_by}
 use Rattle.std.specs.List.{list_any}
 use Rattle.std.specs.Str.{bytes_eq}

@@ -1,4 +1,4 @@
-use super::support::{FOUR_STREAM, FOUR_STREAM_TARGETS, shelf_of, words_of};
+use super::support::{FOUR_STREAM, FOUR_STREAM_TARGETS, shelf_of, shelf_of_two, words_of};
 use crate::run;
 use pinch_outside::MemorySink;
 use std::test::Fail;
@@ -54,6 +54,52 @@ fn a_file_above_the_limit_is_too_long(rt: HostRuntime) -> Result<(), Fail> {
         let done = run(&rt, alloc, &words, &mut shelf, &mut sink);
         assert_eq!(rt; done.status, status);
         assert_eq!(rt; sink.written.as_slice(), text.as_bytes());
+    }
+    Ok(())
+}
+
+/// Files are read in the order of the words, and the second only if the first is sound.
+#[test]
+fn the_first_file_that_fails_is_told(rt: HostRuntime) -> Result<(), Fail> {
+    let alloc = rt.alloc();
+    let words = words_of(alloc, &["audit", "plant.csv", "network.txt"])?;
+    // The case, how many bytes of `#` the network has, the calls of the shelf that fail, and how
+    // many there are. Each file is started, taken, and taken to its end.
+    let rows: [(&str, usize, &[u64], u64, u8, &str); 7] = [
+        ("", 1, &[], 2, 3, "case row 1 NoContribution\n"),
+        (FOUR_STREAM, 1, &[1], 1, 6, "read fault case\n"),
+        (FOUR_STREAM, 1, &[3], 3, 6, "read fault case\n"),
+        (FOUR_STREAM, 1, &[4], 4, 6, "read fault network\n"),
+        (FOUR_STREAM, 1, &[6], 6, 6, "read fault network\n"),
+        (
+            FOUR_STREAM,
+            LONGEST_FILE + 1,
+            &[],
+            2053,
+            5,
+            "too long network\n",
+        ),
+        (
+            FOUR_STREAM,
+            LONGEST_FILE,
+            &[],
+            2053,
+            1,
+            "rejected stream C1 Unfinished found 0 wanted 200\n",
+        ),
+    ];
+    for (case, count, fails, calls, status, text) in rows {
+        let network = vec![in alloc; b'#'; count]?;
+        let mut shelf = shelf_of_two(alloc, case, network, fails)?;
+        let mut sink = MemorySink::new(alloc, 1000, 1000, Vec::new(alloc))?;
+        let done = run(&rt, alloc, &words, &mut shelf, &mut sink);
+        assert_eq!(rt; done.status, status, "{count}, {fails:?}");
+        assert_eq!(rt;
+            sink.written.as_slice(),
+            text.as_bytes(),
+            "{count}, {fails:?}"
+        );
+        assert_eq!(rt; shelf.calls, calls, "{count}, {fails:?}");
     }
     Ok(())
 }

@@ -69,19 +69,3 @@ fn flows_of_worked_tables(rt: HostRuntime) -> Result<(), Fail> {
     }
     Ok(())
 }
-
-#[test]
-fn a_case_that_is_not_standard_is_told_so(rt: HostRuntime) -> Result<(), Fail> {
-    let alloc = rt.alloc();
-    let rows = [
-        // Two heaters.
-        "heater,HP,1700,0,1000000000000,3,\nheater,LP,910,0,1000000000000,1,\n",
-        // A forbidden match.
-        "forbid,H2,C1,,,,\n",
-    ];
-    for more in rows {
-        let case = format!(in alloc; "{FOUR_STREAM}{more}")?;
-        check_answer(&rt, "flow", case.as_str(), 3, "case not standard\n")?;
-    }
-    Ok(())
-}

@@ -38,11 +38,28 @@ pub fn shelf_of(
     fails: &[u64],
 ) -> Result<MemoryShelf, AllocError> {
     let mut files = Vec::new(alloc);
-    files.push(MemoryFile {
+    files.push(file_of(alloc, name, bytes)?)?;
+    Ok(MemoryShelf::new(files, fails.to_vec(alloc)?))
+}
+
+/// A shelf with a case file and a network file, of which the calls with these numbers fail.
+pub fn shelf_of_two(
+    alloc: Global,
+    case: &str,
+    network: Vec<u8>,
+    fails: &[u64],
+) -> Result<MemoryShelf, AllocError> {
+    let mut files = Vec::new(alloc);
+    files.push(file_of(alloc, "plant.csv", case.as_bytes().to_vec(alloc)?)?)?;
+    files.push(file_of(alloc, "network.txt", network)?)?;
+    Ok(MemoryShelf::new(files, fails.to_vec(alloc)?))
+}
+
+fn file_of(alloc: Global, name: &str, bytes: Vec<u8>) -> Result<MemoryFile, AllocError> {
+    Ok(MemoryFile {
         name: String::from_str(alloc, name)?,
         bytes,
-    })?;
-    Ok(MemoryShelf::new(files, fails.to_vec(alloc)?))
+    })
 }
 
 /// The status and the text with which a command of one case file ends.
@@ -70,5 +87,27 @@ pub fn check_answer<R: Abort + Threads + Sync + AllocGlobal>(
     let answer = answer_of(rt, command, case)?;
     assert_eq!(rt; answer.0, status, "{command} of {case}");
     assert_eq!(rt; answer.1.as_slice(), text.as_bytes(), "{command} of {case}");
+    Ok(())
+}
+
+/// The audit of a network for a case ends with this status and this text.
+pub fn check_audit<R: Abort + Threads + Sync + AllocGlobal>(
+    rt: &R,
+    case: &str,
+    network: &str,
+    status: u8,
+    text: &str,
+) -> Result<(), Fail> {
+    let alloc = rt.alloc();
+    let words = words_of(alloc, &["audit", "plant.csv", "network.txt"])?;
+    let mut shelf = shelf_of_two(alloc, case, network.as_bytes().to_vec(alloc)?, &[])?;
+    let mut sink = MemorySink::new(alloc, 1000, 400, Vec::new(alloc))?;
+    let done = run(rt, alloc, &words, &mut shelf, &mut sink);
+    assert_eq!(rt; done.status, status, "audit of {network} for {case}");
+    assert_eq!(rt;
+        sink.written.as_slice(),
+        text.as_bytes(),
+        "audit of {network} for {case}"
+    );
     Ok(())
 }

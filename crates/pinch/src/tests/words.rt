@@ -6,7 +6,7 @@ use std::test::Fail;
 #[test]
 fn words_that_form_no_command_are_told(rt: HostRuntime) -> Result<(), Fail> {
     let alloc = rt.alloc();
-    let rows: [&[&str]; 8] = [
+    let rows: [&[&str]; 12] = [
         &[],
         &["targets"],
         &["targets", ""],
@@ -15,6 +15,10 @@ fn words_that_form_no_command_are_told(rt: HostRuntime) -> Result<(), Fail> {
         &["targets ", "plant.csv"],
         &["flow", "plant.csv", "plant.csv"],
         &["plant.csv", "curves"],
+        &["audit", "plant.csv"],
+        &["audit", "plant.csv", ""],
+        &["audit", "", "plant.csv"],
+        &["audit", "plant.csv", "plant.csv", "plant.csv"],
     ];
     for row in rows {
         let words = words_of(alloc, row)?;

@@ -4,11 +4,10 @@ use Rattle.network_text.specs.Outcome.{IsNetwork}
 use Rattle.network_text.proofs.OfShape.{line_read}
 use Rattle.network_printer.proofs.back.Law.{shape-is_network}
 use Rattle.network_printer.proofs.print.Lines.{text_all}
-use Rattle.network_printer.proofs.print.Names.{exchanger_names-declared}
 use Rattle.network_printer.proofs.printer.print_network.Goals as goal
 
 pub statement_line-requires-clause-exchangers : goal.statement_line-requires-clause-exchangers
-statement_line-requires-clause-exchangers c = c.as_slice.ensures.value ∙ rw c.as_slice-lines.ensures at c.in_ok-exchangers.ensures ∙ exchanger_names-declared c.args.network.now
+statement_line-requires-clause-exchangers c = c.as_slice.ensures.value ∙ c.in_ok-exchangers.ensures
 
 pub statement_line-requires-clause-known : goal.statement_line-requires-clause-known
 statement_line-requires-clause-known c =

@@ -1,6 +1,6 @@
 use Rattle.std.proofs.Common.{refl}
 use Rattle.pinch.specs.Answers.{ShowsCommand}
-use Rattle.pinch.specs.FromText.{by_text}
+use Rattle.pinch.specs.Files.{by_text}
 use Rattle.pinch.proofs.Early.{without_case}
 use Rattle.pinch.proofs.answer.answer_command.Goals as goal
 

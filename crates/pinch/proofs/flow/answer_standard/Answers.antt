@@ -1,5 +1,6 @@
-use Rattle.std.proofs.Common.{◌≡◌, ◌∙◌, map, sym, ap, ap₂, subst, arith, rules, FitsSigned, w32}
+use Rattle.std.proofs.Common.{◌≡◌, ◌∙◌, length, map, sym, ap, ap₂, subst, arith, rules, FitsSigned, w32}
 use Rattle.std.proofs.lemmas.Int.{ints, to_z-of_z}
+use Rattle.std.proofs.lemmas.List.{length-map}
 use Rattle.stream_case.specs.declared.source.Side.TheVariants.{Hot, Cold}
 use Rattle.heat_flow.specs.Reach.{reach_between}
 use Rattle.heat_flow.proofs.Duality.{weak_duality}
@@ -11,7 +12,7 @@ use Rattle.pinch.proofs.flow.answer_standard.Goals as goal
 pub returns : goal.returns
 returns c =
     let case = c.args.case in
-    let parts = c.in_ok-parts.parts in
+    let parts = c.args.parts in
     let flow = c.in_ok-flow in
     let prices = c.in_ok-prices in
     let hot = c.targets-targets.ensures.hot in
@@ -22,17 +23,24 @@ returns c =
       parts = parts;
       flow = flow.flow;
       prices = prices.prices;
-      certified = record {
-        parts_are = c.in_ok-parts.ensures;
-        flow = flow.ensures.flow;
-        supporting = prices.ensures.supporting;
-        hot_prices = prices.ensures.hot_range;
-        cold_prices = prices.ensures.cold_range;
-        cost_is = sym (flow.ensures.cost ∙ hot);
-        value_is = sym (prices.ensures.value ∙ hot);
-        least = λ others is.
-            let value = weak_duality (reach_between case parts.hot parts.cold) parts.hot parts.cold prices.prices.hot prices.prices.cold prices.ensures.supporting others is in
-            omega (arith, ints, value, prices.ensures.value, hot);
+      least = record {
+        parts_are = c.requires.parts;
+        certified = record {
+          flow = flow.ensures.flow;
+          supporting = prices.ensures.supporting;
+          hot_prices = record { one_each = ap length prices.ensures.hot ∙ length-map parts.hot _; within = prices.ensures.hot_range };
+          cold_prices = record { one_each = ap length prices.ensures.cold ∙ length-map parts.cold _; within = prices.ensures.cold_range };
+          costs = flow.ensures.cost ∙ hot;
+          value = prices.ensures.value ∙ hot;
+        };
+        least = record {
+          transfers = flow.flow.transfers;
+          flow = flow.ensures.flow;
+          costs = flow.ensures.cost ∙ hot;
+          least = λ others is.
+              let value = weak_duality (reach_between case parts.hot parts.cold) parts.hot parts.cold prices.prices.hot prices.prices.cold prices.ensures.supporting others is in
+              omega (arith, ints, value, prices.ensures.value, hot);
+        };
       };
       corner = flow.ensures.spans;
       hot_heat = subst (UtilityHeat Hot parts.hot flow.flow.transfers) hot flow.ensures.hot_heat;

@@ -1,0 +1,37 @@
+-- Bytes of a format have one outcome: they say one thing, or are refused in one way.
+use Rattle.std.proofs.Common.{◌≡◌, ◌∙◌, true, List, ℕ, Result, Ok, Err, refl, sym, ap}
+use Rattle.csv_rows.specs.Rows.{rows_of}
+use Rattle.first_fault.proofs.OneOutcome.{one_outcome}
+use Rattle.case_text.specs.Outcome.{grammar}
+use Rattle.network_text.specs.Outcome as network
+use Rattle.network_text.specs.Statements.{statements_of}
+use Rattle.stream_case.specs.declared.case.Case.{Case}
+use Rattle.reports.specs.declared.shown.Shown.{Shown}
+use Rattle.pinch.specs.Case.{case_file}
+use Rattle.pinch.specs.Files.{IsRefused}
+use Rattle.pinch.specs.Format.{Format}
+use Rattle.pinch.specs.Network.{network_file}
+use Rattle.pinch.proofs.Plain.{is_plain}
+
+pub record IsLawful {Value Cause : Type 0} (format : Format Value Cause) : Type 0 where
+  pub one_outcome : (bytes : List ℕ) (a b : Result Value (ℕ × Cause)) → format.Gives bytes a → format.Gives bytes b → a ≡ b
+  pub plain : (at : ℕ) (why : Cause) → is_plain (format.bad at why) ≡ true
+
+pub lawful_case : IsLawful case_file
+lawful_case = record { one_outcome = λ bytes. one_outcome grammar (rows_of bytes); plain = λ at why. refl }
+
+pub lawful_network : (case : Case) → IsLawful (network_file case)
+lawful_network case = record { one_outcome = λ bytes. one_outcome (network.grammar case) (statements_of bytes); plain = λ at why. refl }
+
+module _ {Value Cause : Type 0} (format : Format Value Cause) (lawful : IsLawful format) (bytes : List ℕ) where
+  pub one_value : (a b : Value) → format.Gives bytes (Ok a) → format.Gives bytes (Ok b) → a ≡ b
+  one_value a b says other = let same = lawful.one_outcome bytes (Ok a) (Ok b) says other in cc
+
+  pub one_refusal : (a b : Shown) → IsRefused format bytes a → IsRefused format bytes b → a ≡ b
+  one_refusal a b one other =
+      let same = lawful.one_outcome bytes (Err (one.at, one.why)) (Err (other.at, other.why)) one.fault other.fault in
+      let fault : (one.at, one.why) ≡ (other.at, other.why) = cc in
+      one.is ∙ ap (λ (f : ℕ × Cause). format.bad f.0 f.1) fault ∙ sym other.is
+
+  pub not_both : (value : Value) (shown : Shown) → format.Gives bytes (Ok value) → IsRefused format bytes shown → ⊥
+  not_both value shown says one = let same = lawful.one_outcome bytes (Ok value) (Err (one.at, one.why)) says one.fault in cc

@@ -1,6 +1,0 @@
-use Rattle.std.proofs.Common.{rules, refl}
-use Rattle.pinch.specs.FromText.{refused}
-use Rattle.pinch.proofs.answer.take_case.Goals as goal
-
-pub returns-in-Err-Row-clause-stop : goal.returns-in-Err-Row-clause-stop
-returns-in-Err-Row-clause-stop g c = refused _ c.in_ok-bytes.ensures.whole (record { row = _; why = _; fault = search rules; is = refl })

@@ -1,0 +1,71 @@
+//! Files: each is taken whole from the shelf, and read by the grammar of its role.
+ghost use Rattle.std.specs.Prelude.{IfOk, IfErr};
+ghost use Rattle.stream_case.specs.Case.{IsComplete, IsValid};
+ghost use Rattle.network_text.specs.Shape.{HasShape};
+ghost use Rattle.pinch_outside.specs.Shelf.{KeepsFiles, IsWhole};
+ghost use Rattle.pinch.specs.Case.{case_file};
+ghost use Rattle.pinch.specs.Files.{NoFile, NoText, ReadsText};
+ghost use Rattle.pinch.specs.Network.{network_file};
+ghost use Rattle.pinch.specs.Stop.{IfEarly};
+
+use crate::stop::Stop;
+use crate::word::Word;
+use case_text::{CaseFault, read_case};
+use network_text::{NetFault, Network, read_network};
+use pinch_outside::{Shelf, TakeFault, take_all};
+use reports::{FileRole, Shown};
+use std::alloc::Global;
+use stream_case::Case;
+
+/// The bytes of a file of this role.
+fn take_file<S: Shelf>(
+    alloc: Global,
+    shelf: &mut S,
+    role: FileRole,
+    name: &Word,
+) -> Result<Vec<u8>, Stop>
+    ensures whole { IfOk result (λ bytes. IsWhole name.now (S.state shelf.old) (S.state shelf.new) bytes.items) }
+    ensures stop { IfErr result (λ stop. IfEarly stop (NoFile role name.now (S.state shelf.old) (S.state shelf.new))) }
+    ensures keeps { KeepsFiles (S.state shelf.old) (S.state shelf.new) }
+{
+    match take_all(alloc, shelf, name.as_str()) {
+        Ok(bytes) => Ok(bytes),
+        Err(TakeFault::Fault) => Err(Stop::Early(Shown::ReadFault { file: role })),
+        Err(TakeFault::Long) => Err(Stop::Early(Shown::TooLong { file: role })),
+        Err(TakeFault::OutOfMemory) => Err(Stop::OutOfMemory),
+    }
+}
+
+/// The case of a case file.
+pub fn take_case<S: Shelf>(alloc: Global, shelf: &mut S, name: &Word) -> Result<Case, Stop>
+    ensures case { IfOk result (ReadsText case_file name.now (S.state shelf.old) (S.state shelf.new)) }
+    ensures valid { IfOk result IsValid }
+    ensures stop { IfErr result (λ stop. IfEarly stop (NoText case_file name.now (S.state shelf.old) (S.state shelf.new))) }
+{
+    let bytes = take_file(alloc, shelf, FileRole::Case, name)?;
+    match read_case(alloc, &bytes) {
+        Ok(case) => Ok(case),
+        Err(CaseFault::Row { row, why }) => Err(Stop::Early(Shown::BadCase { row, why })),
+        Err(CaseFault::OutOfMemory) => Err(Stop::OutOfMemory),
+    }
+}
+
+/// The network of a network file, for a completed case.
+pub fn take_network<S: Shelf>(
+    alloc: Global,
+    shelf: &mut S,
+    case: &Case,
+    name: &Word,
+) -> Result<Network, Stop>
+    requires { IsComplete case.now }
+    ensures network { IfOk result (ReadsText (network_file case.now) name.now (S.state shelf.old) (S.state shelf.new)) }
+    ensures shape { IfOk result (HasShape case.now) }
+    ensures stop { IfErr result (λ stop. IfEarly stop (NoText (network_file case.now) name.now (S.state shelf.old) (S.state shelf.new))) }
+{
+    let bytes = take_file(alloc, shelf, FileRole::Network, name)?;
+    match read_network(alloc, case, &bytes) {
+        Ok(network) => Ok(network),
+        Err(NetFault::At { line, why }) => Err(Stop::Early(Shown::BadNetwork { line, why })),
+        Err(NetFault::OutOfMemory) => Err(Stop::OutOfMemory),
+    }
+}

@@ -1,0 +1,22 @@
+//! Why a command ends early.
+
+use reports::Shown;
+use std::alloc::AllocError;
+
+/// Why a command ends early: with something to show, or for want of memory.
+#[derive(Drop)]
+pub enum Stop {
+    Early(Shown),
+    OutOfMemory,
+}
+
+impl From<AllocError> for Stop {
+    ghost use Rattle.std.specs.Prelude.{◌≡◌};
+    ghost use Rattle.pinch.specs.declared.stop.Stop.TheVariants.{OutOfMemory};
+
+    ghost from_gives = { λ _ stop. stop ≡ OutOfMemory };
+
+    fn from(_: AllocError) -> Self {
+        Stop::OutOfMemory
+    }
+}

@@ -1,0 +1,128 @@
+use super::support::{FOUR_STREAM, check_audit};
+use std::test::Fail;
+
+/// A hot and a cold stream.
+const TWO_STREAMS: &str = "contribution,,50,,,,\nhot,H,1000,500,10,,\ncold,C,300,700,10,,\n";
+
+/// A network of both, whose exchanger is too cold at its hot end.
+const COLD_AT_HOT_END: &str = "exchanger E1 H C 1500
+exchanger Q1 H COLD 3500
+exchanger Q2 HOT C 2500
+pass H Q1 a
+pass a E1 b
+end b
+pass C Q2 d
+pass d E1 e
+end e
+";
+
+#[test]
+fn valid_networks_are_accepted(rt: HostRuntime) -> Result<(), Fail> {
+    let rows = [
+        // Four exchangers and two utilities, at the target; three ends have just the approach.
+        (
+            FOUR_STREAM,
+            "exchanger E1 H2 C3 240000\nexchanger E2 H4 C1 90000\nexchanger E3 H2 C1 90000\n\
+             exchanger E4 H4 C1 30000\nexchanger Q1 HOT C1 20000\nexchanger Q2 H4 COLD 60000\n\
+             pass H2 E1 h2a\npass h2a E3 h2b\nend h2b\n\
+             pass H4 E2 h4a\npass h4a E4 h4b\npass h4b Q2 h4c\nend h4c\n\
+             pass C1 E4 c1a\npass c1a E3 c1b\npass c1b E2 c1c\npass c1c Q1 c1d\nend c1d\n\
+             pass C3 E1 c3a\nend c3a\n",
+            "accepted\nhot 20000\ncold 60000\nexcess 0\ncost 20000\nplace 850\n",
+        ),
+        // A stream that is split, and mixed at two temperatures.
+        (
+            "contribution,,50,,,,\nhot,H,600,400,20,,\ncold,C,300,700,10,,\n\
+             heater,ST,1000,0,1000000000000,1,\n",
+            "exchanger E1 H C 500\nexchanger Q1 ST C 2500\nexchanger Q2 ST C 1000\n\
+             exchanger Q3 H COLD 3500\npass H E1 ha\npass ha Q3 hb\nend hb\n\
+             split C ca 5 cb\npass ca E1 cc\npass cb Q1 cd\nmix cc cd ce\npass ce Q2 cf\nend cf\n",
+            "accepted\nhot 3500\ncold 3500\nexcess 1500\ncost 3500\nplace 550\n",
+        ),
+        // No match of the two streams, which is forbidden.
+        (
+            "contribution,,50,,,,\nhot,H,1000,500,10,,\ncold,C,300,700,10,,\nforbid,H,C,,,,\n",
+            "# A comment.\nexchanger E1 HOT C 3000\nexchanger E2 HOT C 1000\n\
+             exchanger E3 H COLD 2000\nexchanger E4 H COLD 3000\n\
+             pass H E3 .1\npass .1 E4 .2\nend .2\npass C E2 .3\npass .3 E1 .4\nend .4\n",
+            "accepted\nhot 4000\ncold 5000\nexcess 4000\ncost 4000\nplace 950\n",
+        ),
+    ];
+    for (case, network, text) in rows {
+        check_audit(&rt, case, network, 0, text)?;
+    }
+    Ok(())
+}
+
+#[test]
+fn an_approach_is_missed_by_a_third_of_a_tenth(rt: HostRuntime) -> Result<(), Fail> {
+    let network = "exchanger E1 H2 C3 240000\nexchanger E2 H4 C1 90050\nexchanger E3 H2 C1 90000\n\
+                   exchanger E4 H4 C1 30000\nexchanger Q1 HOT C1 19950\nexchanger Q2 H4 COLD 59950\n\
+                   pass H2 E1 h2a\npass h2a E3 h2b\nend h2b\n\
+                   pass H4 E2 h4a\npass h4a E4 h4b\npass h4b Q2 h4c\nend h4c\n\
+                   pass C1 E4 c1a\npass c1a E3 c1b\npass c1b E2 c1c\npass c1c Q1 c1d\nend c1d\n\
+                   pass C3 E1 c3a\nend c3a\n";
+    let text = "rejected exchanger E2 ColdEndApproach found 2699/3 wanted 900\n";
+    check_audit(&rt, FOUR_STREAM, network, 1, text)
+}
+
+#[test]
+fn a_network_is_rejected_for_its_first_reason(rt: HostRuntime) -> Result<(), Fail> {
+    let alloc = rt.alloc();
+    // Rows behind those of the two streams, and the network.
+    let rows = [
+        (
+            "",
+            "split H a 10 b\n",
+            "line 1 Overdrawn found 10 wanted 10",
+        ),
+        ("", "end H\n", "line 1 MissedTarget found 1000 wanted 500"),
+        (
+            "",
+            "split H a 4 b\nend a\n",
+            "line 2 Unfinished found 4 wanted 10",
+        ),
+        ("", "", "stream H Unfinished found 0 wanted 10"),
+        (
+            "",
+            "exchanger E1 H COLD 5000\npass H E1 a\nend a\n",
+            "stream C Unfinished found 0 wanted 10",
+        ),
+        (
+            "",
+            COLD_AT_HOT_END,
+            "exchanger E1 HotEndApproach found 650 wanted 800",
+        ),
+        // The forbidden match stands before both approaches.
+        (
+            "forbid,H,C,,,,\n",
+            COLD_AT_HOT_END,
+            "exchanger E1 Forbidden",
+        ),
+        // Below the least of a utility, and above its most.
+        (
+            "heater,S,1500,3000,4000,2,\n",
+            "exchanger E1 H C 1500\nexchanger Q1 S C 2500\nexchanger Q2 H COLD 3500\n\
+             pass H E1 a\npass a Q2 b\nend b\npass C E1 d\npass d Q1 e\nend e\n",
+            "utility S UtilityRange found 2500 wanted 3000",
+        ),
+        (
+            "cooler,CW,200,0,1000,0,\n",
+            "exchanger E1 H C 4000\nexchanger Q1 H CW 1001\n\
+             pass H E1 a\npass a Q1 b\nend b\npass C E1 d\nend d\n",
+            "line 5 MissedTarget found 4999/10 wanted 500",
+        ),
+        (
+            "cooler,CW,200,0,999,0,\n",
+            "exchanger E1 H C 4000\nexchanger Q1 H CW 1000\n\
+             pass H E1 a\npass a Q1 b\nend b\npass C E1 d\nend d\n",
+            "utility CW UtilityRange found 1000 wanted 999",
+        ),
+    ];
+    for (more, network, rest) in rows {
+        let case = format!(in alloc; "{TWO_STREAMS}{more}")?;
+        let text = format!(in alloc; "rejected {rest}\n")?;
+        check_audit(&rt, case.as_str(), network, 1, text.as_str())?;
+    }
+    Ok(())
+}

@@ -1,0 +1,113 @@
+//! Numbers whose denominators are 2^48 or 2^48 - 1: each is within the limits of a fraction, and
+//! their sum is not.
+
+use super::support::check_audit;
+use std::test::Fail;
+
+#[test]
+fn the_first_finding_is_told(rt: HostRuntime) -> Result<(), Fail> {
+    let case = "contribution,,50,,,,\nhot,H,1000,500,2,,\ncold,C,300,700,10,,\n";
+    let rows = [
+        (
+            "exchanger E1 H COLD 1/281474976710655\npass H E1 a\nend a\n",
+            9,
+            "too fine line 2 step 1\n",
+        ),
+        // A rejection before a step that is too fine, and behind one.
+        (
+            "exchanger E1 H COLD 1/281474976710655\nsplit C b 10 c\npass H E1 d\n",
+            1,
+            "rejected line 2 Overdrawn found 10 wanted 10\n",
+        ),
+        (
+            "exchanger E1 H COLD 1/281474976710655\npass H E1 d\nsplit C b 10 c\n",
+            9,
+            "too fine line 2 step 1\n",
+        ),
+    ];
+    for (network, status, text) in rows {
+        check_audit(&rt, case, network, status, text)?;
+    }
+    Ok(())
+}
+
+#[test]
+fn the_second_step_of_a_pass_is_too_fine(rt: HostRuntime) -> Result<(), Fail> {
+    let case = "contribution,,50,,,,\nhot,H,1000,500,1,,\n";
+    let network = "exchanger E1 H COLD 1/281474976710655\nexchanger E2 H COLD 1/281474976710656\n\
+                   pass H E1 c\npass c E2 d\nend d\n";
+    check_audit(&rt, case, network, 9, "too fine line 4 step 2\n")
+}
+
+/// Steps are counted from 1 at each utility.
+#[test]
+fn the_second_step_of_a_second_utility_is_too_fine(rt: HostRuntime) -> Result<(), Fail> {
+    let alloc = rt.alloc();
+    let network = "exchanger E1 G W1 100
+exchanger E2 G W2 1/281474976710655
+exchanger E3 G W3 112589990684261999/281474976710655
+exchanger E4 H W1 100
+exchanger E5 H W2 1/281474976710656
+exchanger E6 H W3 112589990684262399/281474976710656
+pass G E1 a
+pass a E2 b
+pass b E3 c
+end c
+pass H E4 d
+pass d E5 e
+pass e E6 f
+end f
+";
+    // The most of the first utility, which takes 200 W.
+    let rows = [
+        (200, 9, "too fine utility W2 step 2\n"),
+        (
+            199,
+            1,
+            "rejected utility W1 UtilityRange found 200 wanted 199\n",
+        ),
+    ];
+    for (most, status, text) in rows {
+        let case = format!(in alloc;
+            "contribution,,50,,,,\nhot,G,1000,500,1,,\nhot,H,1000,500,1,,\n\
+             cooler,W1,300,0,{most},0,\ncooler,W2,300,0,1000,0,\ncooler,W3,300,0,1000,0,\n"
+        )?;
+        check_audit(&rt, case.as_str(), network, status, text)?;
+    }
+    Ok(())
+}
+
+#[test]
+fn a_step_of_the_balance_is_too_fine(rt: HostRuntime) -> Result<(), Fail> {
+    let rows = [
+        // The heat of the second hot utility is added to that of the first.
+        (
+            "contribution,,50,,,,\nhot,G,1000,500,1,,\nhot,H,1000,500,1,,\n\
+             cold,C,300,800,1,,\ncold,D,300,800,1,,\n\
+             heater,S1,2000,0,1000,1,\nheater,S2,2000,0,1000,1,\n\
+             cooler,W1,100,0,1000,0,\ncooler,W2,100,0,1000,0,\n",
+            "exchanger E1 G C 140737488355327499/281474976710655\n\
+             exchanger E2 G W1 1/281474976710655\nexchanger E3 S1 C 1/281474976710655\n\
+             exchanger E4 H D 140737488355327999/281474976710656\n\
+             exchanger E5 H W2 1/281474976710656\nexchanger E6 S2 D 1/281474976710656\n\
+             pass G E1 a\npass a E2 b\nend b\npass C E1 c\npass c E3 d\nend d\n\
+             pass H E4 e\npass e E5 f\nend f\npass D E4 g\npass g E6 h\nend h\n",
+            "too fine balance step 2\n",
+        ),
+        // The price of the second utility times its heat: behind the hot heat, the cold heat, the
+        // excess, and two steps of the first utility.
+        (
+            "contribution,,50,,,,\nhot,G,1000,500,1,,\ncold,C,300,800,1,,\n\
+             cooler,W,100,0,1000,0,\nheater,S,2000,0,1000,999983,\n",
+            "exchanger E1 G C 1/281474976710655\n\
+             exchanger E2 G W 140737488355327499/281474976710655\n\
+             exchanger E3 S C 140737488355327499/281474976710655\n\
+             pass G E1 a\npass a E2 b\nend b\npass C E1 c\npass c E3 d\nend d\n",
+            "too fine balance step 6\n",
+        ),
+    ];
+    for (case, network, text) in rows {
+        check_audit(&rt, case, network, 9, text)?;
+    }
+    Ok(())
+}

@@ -1,0 +1,59 @@
+-- The texts of what an audit says of a network.
+use Rattle.std.specs.Prelude.{ℕ, ℤ, List, [], ◌∷◌, ◌++◌, codes}
+use Rattle.std.specs.Fmt.{decimal}
+use Rattle.stream_case.specs.declared.case.Case.{Case}
+use Rattle.stream_case.specs.declared.source.Source.TheVariants.{Stream as of_stream, Utility as of_utility}
+use Rattle.stream_case.specs.Case.{source_name}
+use Rattle.fractions.specs.Rationals.{Rational, fraction_text}
+use Rattle.network_text.specs.declared.network.Network.{Network}
+use Rattle.network_printer.specs.Printed.{exchanger_name}
+use Rattle.network_audit.specs.declared.findings.Place.{Place}
+use Rattle.network_audit.specs.declared.findings.Place.TheVariants as place
+use Rattle.network_audit.specs.declared.findings.Reason.{Reason}
+use Rattle.network_audit.specs.declared.findings.Reason.TheVariants as reason
+use Rattle.network_audit.specs.declared.verdict.Balance.{Balance}
+use Rattle.reports.specs.Lines.{line}
+
+-- line LINE, stream NAME, exchanger NAME, utility NAME or balance
+abbrev pub place_text : Case → Network → Place → List ℕ
+place_text c network (place.Line number) = codes "line " ++ decimal number
+place_text c network (place.Stream index) = codes "stream " ++ source_name c (of_stream index)
+place_text c network (place.Exchanger index) = codes "exchanger " ++ exchanger_name network index
+place_text c network (place.Utility index) = codes "utility " ++ source_name c (of_utility index)
+place_text c network place.Balance = codes "balance"
+
+-- REASON found FOUND wanted WANTED
+abbrev pub measured_text : List ℕ → Rational → Rational → List ℕ
+measured_text name found wanted = name ++ (codes " found " ++ (fraction_text found ++ (codes " wanted " ++ fraction_text wanted)))
+
+-- the same, or the name alone where nothing is measured
+abbrev pub reason_text : Reason → List ℕ
+reason_text (reason.Overdrawn found wanted) = measured_text (codes "Overdrawn") found wanted
+reason_text (reason.MissedTarget found wanted) = measured_text (codes "MissedTarget") found wanted
+reason_text (reason.Unfinished found wanted) = measured_text (codes "Unfinished") found wanted
+reason_text (reason.HotEndApproach found wanted) = measured_text (codes "HotEndApproach") found wanted
+reason_text (reason.ColdEndApproach found wanted) = measured_text (codes "ColdEndApproach") found wanted
+reason_text (reason.UtilityRange found wanted) = measured_text (codes "UtilityRange") found wanted
+reason_text reason.Forbidden = codes "Forbidden"
+
+-- a line of a word and a fraction
+abbrev pub fraction_line : List ℕ → Rational → List ℕ
+fraction_line word number = word ++ 32 ∷ (fraction_text number ++ 10 ∷ [])
+
+-- the heat of the utilities, the excess and the cost
+abbrev pub balance_lines : Balance → List ℕ
+balance_lines balance =
+    fraction_line (codes "hot") balance.hot ++ fraction_line (codes "cold") balance.cold
+    ++ fraction_line (codes "excess") balance.excess ++ fraction_line (codes "cost") balance.cost
+
+-- a network that is accepted, and the reference place of its case
+abbrev pub accepted_text : Balance → ℤ → List ℕ
+accepted_text balance reference = codes "accepted\n" ++ balance_lines balance ++ line (codes "place") reference
+
+-- rejected PLACE REASON
+abbrev pub rejected_text : Case → Network → Place → Reason → List ℕ
+rejected_text c network place reason = codes "rejected " ++ (place_text c network place ++ 32 ∷ (reason_text reason ++ 10 ∷ []))
+
+-- too fine PLACE step STEP
+abbrev pub too_fine_text : Case → Network → Place → ℕ → List ℕ
+too_fine_text c network place step = codes "too fine " ++ (place_text c network place ++ (codes " step " ++ (decimal step ++ 10 ∷ [])))

@@ -1,0 +1,30 @@
+-- The text of a cut.
+use Rattle.std.specs.Prelude.{ℕ, List, [], ◌∷◌, ◌++◌, codes}
+use Rattle.std.specs.List.{flat_map}
+use Rattle.std.specs.Fmt.{signed_decimal}
+use Rattle.stream_case.specs.declared.case.Case.{Case}
+use Rattle.grid.specs.declared.part.Part.{Part}
+use Rattle.grid.specs.declared.parts.Parts.{Parts}
+use Rattle.heat_flow.specs.declared.cut.Cut.{Cut}
+use Rattle.heat_flow.specs.declared.cut.CutKind.{CutKind}
+use Rattle.heat_flow.specs.declared.cut.CutKind.TheVariants.{Demand, Supply}
+use Rattle.heat_flow.specs.Cuts.{cut_side}
+use Rattle.reports.specs.Flow.{part_at, side_parts}
+use Rattle.reports.specs.Lines.{line}
+
+-- whether the parts have to take heat or to give it
+abbrev pub cut_word : CutKind → List ℕ
+cut_word Demand = codes "demand"
+cut_word Supply = codes "supply"
+
+-- cut KIND NEED OFFER
+abbrev pub cut_line : Cut → List ℕ
+cut_line cut = line (codes "cut " ++ (cut_word cut.kind ++ 32 ∷ signed_decimal cut.need)) cut.offer
+
+-- part NAME HIGH LOW, of the part at an index of a list
+abbrev pub member_line : Case → List Part → ℕ → List ℕ
+member_line c parts index = codes "part " ++ (part_at c parts index ++ 10 ∷ [])
+
+-- that there is no heat flow, the cut and its parts
+abbrev pub stuck_text : Case → Parts → Cut → List ℕ
+stuck_text c parts cut = codes "infeasible\n" ++ cut_line cut ++ flat_map (member_line c (side_parts (cut_side cut.kind) parts)) cut.parts
