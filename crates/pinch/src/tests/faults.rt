@@ -1,7 +1,9 @@
 use super::support::{FOUR_STREAM, FOUR_STREAM_TARGETS, shelf_of, shelf_of_two, words_of};
 use crate::run;
 use pinch_outside::MemorySink;
+use std::process::Abort;
 use std::test::Fail;
+use std::thread::Threads;
 
 const LONGEST_FILE: usize = 8_388_608;
 
@@ -58,50 +60,44 @@ fn a_file_above_the_limit_is_too_long(rt: HostRuntime) -> Result<(), Fail> {
     Ok(())
 }
 
-/// Files are read in the order of the words, and the second only if the first is sound.
-#[test]
-fn the_first_file_that_fails_is_told(rt: HostRuntime) -> Result<(), Fail> {
+/// A command of two files, of which the second has so many bytes of `#`, ends so, over calls of the
+/// shelf with these numbers that fail; each file is started, taken, and taken to its end.
+fn check_two_files<R: Abort + Threads + Sync + AllocGlobal>(
+    rt: &R,
+    (case, count, fails): (&str, usize, &[u64]),
+    (calls, status, text): (u64, u8, &str),
+) -> Result<(), Fail> {
     let alloc = rt.alloc();
     let words = words_of(alloc, &["audit", "plant.csv", "network.txt"])?;
-    // The case, how many bytes of `#` the network has, the calls of the shelf that fail, and how
-    // many there are. Each file is started, taken, and taken to its end.
-    let rows: [(&str, usize, &[u64], u64, u8, &str); 7] = [
-        ("", 1, &[], 2, 3, "case row 1 NoContribution\n"),
-        (FOUR_STREAM, 1, &[1], 1, 6, "read fault case\n"),
-        (FOUR_STREAM, 1, &[3], 3, 6, "read fault case\n"),
-        (FOUR_STREAM, 1, &[4], 4, 6, "read fault network\n"),
-        (FOUR_STREAM, 1, &[6], 6, 6, "read fault network\n"),
-        (
-            FOUR_STREAM,
-            LONGEST_FILE + 1,
-            &[],
-            2053,
-            5,
-            "too long network\n",
-        ),
-        (
-            FOUR_STREAM,
-            LONGEST_FILE,
-            &[],
-            2053,
-            1,
-            "rejected stream C1 Unfinished found 0 wanted 200\n",
-        ),
-    ];
-    for (case, count, fails, calls, status, text) in rows {
-        let network = vec![in alloc; b'#'; count]?;
-        let mut shelf = shelf_of_two(alloc, case, network, fails)?;
-        let mut sink = MemorySink::new(alloc, 1000, 1000, Vec::new(alloc))?;
-        let done = run(&rt, alloc, &words, &mut shelf, &mut sink);
-        assert_eq!(rt; done.status, status, "{count}, {fails:?}");
-        assert_eq!(rt;
-            sink.written.as_slice(),
-            text.as_bytes(),
-            "{count}, {fails:?}"
-        );
-        assert_eq!(rt; shelf.calls, calls, "{count}, {fails:?}");
-    }
+    let network = vec![in alloc; b'#'; count]?;
+    let mut shelf = shelf_of_two(alloc, case, network, fails)?;
+    let mut sink = MemorySink::new(alloc, 1000, 1000, Vec::new(alloc))?;
+    let done = run(rt, alloc, &words, &mut shelf, &mut sink);
+    assert_eq!(rt; done.status, status, "{count}, {fails:?}");
+    assert_eq!(rt;
+        sink.written.as_slice(),
+        text.as_bytes(),
+        "{count}, {fails:?}"
+    );
+    assert_eq!(rt; shelf.calls, calls, "{count}, {fails:?}");
     Ok(())
+}
+
+#[test]
+fn a_file_is_read_only_behind_a_sound_one(rt: HostRuntime) -> Result<(), Fail> {
+    check_two_files(&rt, ("", 1, &[]), (2, 3, "case row 1 NoContribution\n"))?;
+    check_two_files(&rt, (FOUR_STREAM, 1, &[1]), (1, 6, "read fault case\n"))?;
+    check_two_files(&rt, (FOUR_STREAM, 1, &[3]), (3, 6, "read fault case\n"))?;
+    check_two_files(&rt, (FOUR_STREAM, 1, &[4]), (4, 6, "read fault network\n"))?;
+    check_two_files(&rt, (FOUR_STREAM, 1, &[6]), (6, 6, "read fault network\n"))
+}
+
+#[test]
+fn a_second_file_above_the_limit_is_too_long(rt: HostRuntime) -> Result<(), Fail> {
+    let long = (FOUR_STREAM, LONGEST_FILE + 1, [].as_slice());
+    check_two_files(&rt, long, (2053, 5, "too long network\n"))?;
+    let text = "rejected stream C1 Unfinished found 0 wanted 200\n";
+    check_two_files(&rt, (FOUR_STREAM, LONGEST_FILE, &[]), (2053, 1, text))
 }
 
 // For refused memory, one allocation at a time: the answer, or status 8 and nothing written.
