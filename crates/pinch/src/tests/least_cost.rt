@@ -60,8 +60,7 @@ fn utilities_of_a_hot_stream(rt: HostRuntime) -> Result<(), Fail> {
         ),
     ];
     for (utilities, lines) in rows {
-        let case =
-            format!(in alloc; "contribution,,50,,,,\nhot,H,1000,500,10,,\n{utilities}")?;
+        let case = format!(in alloc; "contribution,,50,,,,\nhot,H,1000,500,10,,\n{utilities}")?;
         check_first_lines(&rt, case.as_str(), lines)?;
     }
     Ok(())

@@ -1,4 +1,3 @@
-use Rattle.std.proofs.Common.{refl}
 use Rattle.stream_case.specs.declared.source.Side.TheVariants.{Hot, Cold}
 use Rattle.heat_flow.proofs.ReachLemmas.{sources_of_parts}
 use Rattle.transport.proofs.FewPairs.{few_pairs}
