@@ -1,8 +1,8 @@
 -- The first step that is too fine, of steps in a row and of the steps of many members.
-use Rattle.std.proofs.Common.{◌≡◌, ◌∙◌, ◌<◌, ◌+◌, ◌∷◌, ◌++◌, ℕ, Bool, true, false, not, List, [], Option, Some, None, option_map, length, get_or, take, drop, refl, sym, ap, arith}
+use Rattle.std.proofs.Common.{◌≡◌, ◌∙◌, ◌<◌, ◌≤◌, ◌+◌, ◌∷◌, ◌++◌, ℕ, Bool, true, false, not, List, [], Option, Some, None, option_map, length, get_or, take, drop, refl, sym, ap, arith}
 use Rattle.std.specs.List.{enumerate_from, find, flat_map}
 use Rattle.std.specs.Option.{option_or}
-use Rattle.std.proofs.lemmas.List.{append-nil, length-take, take-append-drop, take_more}
+use Rattle.std.proofs.lemmas.List.{append-nil, length-take, take-append-drop, take_all, take_more}
 use Rattle.std.proofs.lemmas.List.Concat.{flat_map-append}
 use Rattle.std.proofs.lemmas.List.Folds.{find-append}
 use Rattle.sums.proofs.EnumerationLemmas.{enumerate_from-append}
@@ -84,5 +84,5 @@ module _ {X : Type 0} (f : ℕ × X → List Step) where
       ap first_too_fine all ∙ first_front (steps_of xs (n + 1)) (flat_map f later) found front
 
   -- all members are fine where the first n are, and there are no more
-  pub fine_all : (xs : List X) (n : ℕ) → n ≡ length xs → first_too_fine (steps_of xs n) ≡ None → first_too_fine (flat_map f (enumerate_from 0 xs)) ≡ None
-  fine_all xs n is none = ap (λ ys. first_too_fine (flat_map f (enumerate_from 0 ys))) (sym (take-length xs) ∙ ap (λ k. take k xs) (sym is)) ∙ none
+  pub fine_all : (xs : List X) (n : ℕ) → length xs ≤ n → first_too_fine (steps_of xs n) ≡ None → first_too_fine (flat_map f (enumerate_from 0 xs)) ≡ None
+  fine_all xs n end none = ap (λ ys. first_too_fine (flat_map f (enumerate_from 0 ys))) (sym (take_all n xs end)) ∙ none

@@ -1,6 +1,6 @@
 use Rattle.std.proofs.Common.{◌≡◌, ◌∙◌, ◌<◌, ◌++◌, ◌∷◌, [], None, Some, length, get_or, map, sym, ap, subst, arith}
 use Rattle.std.specs.List.{enumerate_from}
-use Rattle.std.proofs.lemmas.List.{append-nil, take-length}
+use Rattle.std.proofs.lemmas.List.{append-nil, take_all}
 use Rattle.network_audit.specs.declared.findings.Place.TheVariants as place
 use Rattle.penalties.specs.Steps.{first_too_fine}
 use Rattle.penalties.specs.Survey.{seen_height, seen_steps}
@@ -38,8 +38,6 @@ loop-number-preserved c =
 pub returns : goal.returns
 unfolding all_joint_steps joint_rows
 returns c =
-    let n = c.loop-number.number in
     let height = seen_height c.args.self.now in
-    let end : n ≡ length c.args.joints.now = omega (arith, c.loop-number-test.false, c.loop-number.auto.number-end) in
-    (fine_all (joint_steps height (seen_steps c.args.self.now)) c.args.joints.now n end c.loop-number.invariant.0,
-    ?)
+    (fine_all (joint_steps height (seen_steps c.args.self.now)) c.args.joints.now c.loop-number.number c.loop-number-test.false c.loop-number.invariant.0,
+    c.loop-number.invariant.1 ∙ ap (λ js. c.args.list.now.items ++ map (joint_row height) (enumerate_from 0 js)) (take_all c.loop-number.number c.args.joints.now c.loop-number-test.false))
