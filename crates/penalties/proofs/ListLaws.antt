@@ -1,5 +1,5 @@
 -- Listed penalties are not negative, and add up to the excess.
-use Rattle.std.proofs.Common.{◌≡◌, ◌∙◌, ◌<◌, ◌+◌, ◌∷◌, ◌++◌, ℕ, ℤ, List, [], All, Some, length, get_or, map, refl, sym, ap, ap₂, subst}
+use Rattle.std.proofs.Common.{◌≡◌, ◌∙◌, ◌+◌, ◌∷◌, ℕ, ℤ, List, [], All, length, get_or, refl, sym, ap, ap₂, subst}
 use Rattle.std.specs.List.{enumerate_from, filter_map}
 use Rattle.std.proofs.lemmas.List.Elements.{All-append, All-cons, All-head, All-map, All-nil, All-same, All-tail}
 use Rattle.sums.proofs.EnumerationLemmas.{All-enumerated}
@@ -15,7 +15,7 @@ use Rattle.network_text.specs.declared.network.Line.{Line}
 use Rattle.network_text.specs.declared.network.Line.TheVariants as line
 use Rattle.network_text.specs.declared.network.Network.{Network}
 use Rattle.problem_table.specs.Deficit.{IsReferencePlace, hot_target}
-use Rattle.network_values.specs.Penalties.{HasNoNegativePenalty, height_at, hot_heat, penalty}
+use Rattle.network_values.specs.Penalties.{HasNoNegativePenalty, height_at, hot_heat}
 use Rattle.network_values.specs.Sides.{KeepApproaches}
 use Rattle.network_values.specs.Values.{AreEnded, IsWholeValuation, Valuation}
 use Rattle.network_values.specs.Weights.{mix_loss}
@@ -79,10 +79,10 @@ module _ (case : Case) (network : Network) (shape : HasShape case network) (vali
   rows_not_negative reference values whole_values =
       let height = height_at case reference network values in
       let signs : HasNoNegativePenalty case reference network values =
-          penalties_sign case network values reference shape whole_values (subst (KeepApproaches case network) (same_values values whole_values) valid.approaches) in
+      penalties_sign case network values reference shape whole_values (subst (KeepApproaches case network) (same_values values whole_values) valid.approaches) in
       All-append IsNotNegative (exchanger_rows height network) (mix_rows height network.lines)
       (All-map IsNotNegative (exchanger_row height network) (enumerate_from 0 (exchangers_of network.lines))
-          (All-enumerated (λ p. IsNotNegative (exchanger_row height network p)) (exchangers_of network.lines) (λ number e at. signs.exchangers number e at)))
+      (All-enumerated (λ p. IsNotNegative (exchanger_row height network p)) (exchangers_of network.lines) (λ number e at. signs.exchangers number e at)))
       (mixes_not_negative height 0 network.lines signs.mixes)
 
   sum-rows : (reference : ℤ) (values : Valuation) → IsReferencePlace case.streams reference → IsWholeValuation case network values → sum_of (penalties_of case reference network values) ≡ excess_of case network

@@ -1,7 +1,8 @@
 -- What the two loops answer is what is answered for the network.
-use Rattle.std.proofs.Common.{◌≡◌, ◌∙◌, ◌++◌, ℕ, ℤ, List, [], Option, Some, None, refl, unwrap_or, sym, ap, ap₂, subst}
+use Rattle.std.proofs.Common.{◌≡◌, ◌∙◌, ◌++◌, ℕ, ℤ, List, [], Option, Some, None, refl, sym, ap, ap₂, subst}
 use Rattle.stream_case.specs.declared.case.Case.{Case}
 use Rattle.fractions.specs.Rationals.{Rational}
+use Rattle.network_text.specs.declared.network.Line.{Line}
 use Rattle.network_text.specs.declared.network.Network.{Network}
 use Rattle.problem_table.specs.Deficit.{IsReferencePlace}
 use Rattle.network_values.specs.Penalties.{height_at}
@@ -10,10 +11,11 @@ use Rattle.network_audit.specs.Audit.{Audit}
 use Rattle.network_audit.specs.Joints.{joints_of}
 use Rattle.network_audit.specs.declared.findings.Place.{Place}
 use Rattle.network_audit.specs.declared.joints.Joint.{Joint}
+use Rattle.penalties.specs.Accepted.{HasAccepted}
 use Rattle.penalties.specs.Answers.{Finds, ListsPenalties}
 use Rattle.penalties.specs.Rows.{mix_rows}
 use Rattle.penalties.specs.Steps.{Step, all_exchanger_steps, all_mix_steps, branch_steps, first_too_fine}
-use Rattle.penalties.specs.Survey.{HasAccepted, values_of}
+use Rattle.penalties.specs.Survey.{values_of}
 use Rattle.penalties.specs.Tables.{all_joint_steps, joint_rows}
 use Rattle.penalties.specs.declared.list.Penalty.{Penalty}
 use Rattle.penalties.specs.declared.list.PenaltyList.TheVariants as list
@@ -37,7 +39,7 @@ module _ (case : Case) (network : Network) (audit : Audit) (reference : ℤ) (jo
   steps = branch_steps case reference network (values_of audit)
 
   valuation_kept : IsWholeValuation case network (values_of audit)
-  valuation_kept = subst (IsWholeValuation case network) (sym (ap (λ o. unwrap_or o []) accepted.kept)) accepted.valuation
+  valuation_kept = subst (IsWholeValuation case network) (sym (ap values_of accepted.kept)) accepted.valuation
 
   exchangers_first : first_too_fine (all_exchanger_steps height steps network) ≡ first_too_fine (all_joint_steps height steps joints)
   exchangers_first = ap first_too_fine (sym (ap (all_joint_steps height steps) table ∙ steps-joints height network steps))
@@ -51,22 +53,29 @@ module _ (case : Case) (network : Network) (audit : Audit) (reference : ℤ) (jo
     lists = first_front (all_exchanger_steps height steps network) (all_mix_steps height steps network.lines) (place, step) (exchangers_first ∙ found);
   }
 
-  pub too_fine_later : (place : Place) (step : ℕ) → first_too_fine (all_joint_steps height steps joints) ≡ None → first_too_fine (all_mix_steps height steps network.lines) ≡ Some (place, step) → ListsPenalties case network (list.TooFine place step)
-  too_fine_later place step none found = record {
-    reference = reference;
-    values = values_of audit;
-    is_reference = is_reference;
-    valuation = valuation_kept;
-    lists = first_behind (all_exchanger_steps height steps network) (all_mix_steps height steps network.lines) (exchangers_first ∙ none) ∙ found;
-  }
+  module _ (lines : List Line) (own : lines ≡ network.lines) where
+    mixes_later : first_too_fine (all_mix_steps height steps network.lines) ≡ first_too_fine (all_mix_steps height steps lines)
+    mixes_later = ap (λ ls. first_too_fine (all_mix_steps height steps ls)) (sym own)
 
-  pub all_listed : (listed : List Penalty) → first_too_fine (all_joint_steps height steps joints) ≡ None → first_too_fine (all_mix_steps height steps network.lines) ≡ None
-      → listed ≡ joint_rows height joints ++ mix_rows height network.lines → ListsPenalties case network (list.Listed listed)
-  all_listed listed none later rows = record {
-    reference = reference;
-    values = values_of audit;
-    is_reference = is_reference;
-    valuation = valuation_kept;
-    lists = (first_behind (all_exchanger_steps height steps network) (all_mix_steps height steps network.lines) (exchangers_first ∙ none) ∙ later,
-      rows ∙ ap (λ front. front ++ mix_rows height network.lines) (ap (joint_rows height) table ∙ rows-joints height network));
-  }
+    pub too_fine_later : (place : Place) (step : ℕ) → first_too_fine (all_joint_steps height steps joints) ≡ None → first_too_fine (all_mix_steps height steps lines) ≡ Some (place, step) → ListsPenalties case network (list.TooFine place step)
+    too_fine_later place step none found = record {
+      reference = reference;
+      values = values_of audit;
+      is_reference = is_reference;
+      valuation = valuation_kept;
+      lists = first_behind (all_exchanger_steps height steps network) (all_mix_steps height steps network.lines) (exchangers_first ∙ none) ∙ mixes_later ∙ found;
+    }
+
+    -- the list begins empty, gets the rows of the exchangers, and then those of the mixes
+    pub all_listed : (start first listed : List Penalty) → first_too_fine (all_joint_steps height steps joints) ≡ None → first_too_fine (all_mix_steps height steps lines) ≡ None
+        → start ≡ [] → first ≡ start ++ joint_rows height joints → listed ≡ first ++ mix_rows height lines → ListsPenalties case network (list.Listed listed)
+    all_listed start first listed none later empty rows more = record {
+      reference = reference;
+      values = values_of audit;
+      is_reference = is_reference;
+      valuation = valuation_kept;
+      lists = (
+        first_behind (all_exchanger_steps height steps network) (all_mix_steps height steps network.lines) (exchangers_first ∙ none) ∙ mixes_later ∙ later,
+        more ∙ ap₂ (λ front ls. front ++ mix_rows height ls) (rows ∙ ap (λ xs. xs ++ joint_rows height joints) empty ∙ ap (joint_rows height) table ∙ rows-joints height network) own,
+      );
+    }

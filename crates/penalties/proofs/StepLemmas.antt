@@ -1,5 +1,5 @@
 -- The first step that is too fine, of steps in a row and of the steps of many members.
-use Rattle.std.proofs.Common.{◌≡◌, ◌∙◌, ◌<◌, ◌≤◌, ◌+◌, ◌∷◌, ◌++◌, ℕ, Bool, true, false, not, List, [], Option, Some, None, option_map, length, get_or, take, drop, refl, sym, ap, arith}
+use Rattle.std.proofs.Common.{◌≡◌, ◌∙◌, ◌<◌, ◌≤◌, ◌+◌, ◌∷◌, ◌++◌, ℕ, true, false, List, [], Option, Some, None, option_map, length, get_or, take, drop, refl, sym, ap, arith}
 use Rattle.std.specs.List.{enumerate_from, find, flat_map}
 use Rattle.std.specs.Option.{option_or}
 use Rattle.std.proofs.lemmas.List.{append-nil, length-take, take-append-drop, take_all, take_more}
@@ -76,11 +76,11 @@ module _ {X : Type 0} (f : ℕ × X → List Step) where
   first_here xs n d found within before here =
       let later = enumerate_from (0 + length (take (n + 1) xs)) (drop (n + 1) xs) in
       let all : flat_map f (enumerate_from 0 xs) ≡ steps_of xs (n + 1) ++ flat_map f later =
-          ap (λ ys. flat_map f (enumerate_from 0 ys)) (sym (take-append-drop (n + 1) xs))
-          ∙ ap (flat_map f) (enumerate_from-append 0 (take (n + 1) xs) (drop (n + 1) xs))
-          ∙ flat_map-append f (enumerate_from 0 (take (n + 1) xs)) later in
+      ap (λ ys. flat_map f (enumerate_from 0 ys)) (sym (take-append-drop (n + 1) xs))
+      ∙ ap (flat_map f) (enumerate_from-append 0 (take (n + 1) xs) (drop (n + 1) xs))
+      ∙ flat_map-append f (enumerate_from 0 (take (n + 1) xs)) later in
       let front : first_too_fine (steps_of xs (n + 1)) ≡ Some found =
-          ap first_too_fine (steps-more xs n d within) ∙ first_behind (steps_of xs n) (f (n, get_or xs n d)) before ∙ here in
+      ap first_too_fine (steps-more xs n d within) ∙ first_behind (steps_of xs n) (f (n, get_or xs n d)) before ∙ here in
       ap first_too_fine all ∙ first_front (steps_of xs (n + 1)) (flat_map f later) found front
 
   -- all members are fine where the first n are, and there are no more

@@ -1,20 +1,18 @@
 -- What a survey reads is what its steps and heights speak of.
-use Rattle.std.proofs.Common.{◌≡◌, ◌∙◌, ◌+◌, ◌∷◌, ℕ, Bool, true, false, List, [], Option, Some, None, slice_get, unwrap_or, zero, suc, refl, sym, ap}
+use Rattle.std.proofs.Common.{◌≡◌, ◌∙◌, ◌+◌, ◌∷◌, ℕ, true, false, [], Option, Some, None, slice_get, unwrap_or, zero, suc, refl, ap}
 use Rattle.std.specs.Prelude.{if◌then◌else◌, option_and_then}
 use Rattle.stream_case.specs.declared.stream.Stream.{Stream}
-use Rattle.fractions.specs.Rationals.{Gives, Rational, is_below, rational_zero, times}
+use Rattle.fractions.specs.Rationals.{Rational, is_below, rational_zero, times}
 use Rattle.fractions.proofs.Products.{times-zero}
 use Rattle.network_text.specs.Lines.{stream_at}
 use Rattle.network_values.specs.Heights.{height, positive_part}
 use Rattle.network_values.specs.Penalties.{heights, stream_height}
 use Rattle.network_values.specs.Values.{Valuation, no_value, value_at}
-use Rattle.network_values.specs.declared.values.BranchValue.{BranchValue}
 use Rattle.network_audit.specs.Audit.{Audit}
 use Rattle.network_audit.specs.declared.findings.Place.{Place}
-use Rattle.penalties.specs.Steps.{Step, first_too_fine, height_steps, step, stream_steps}
+use Rattle.penalties.specs.Steps.{height_steps, step, stream_steps}
 use Rattle.penalties.specs.Survey.{seen_height, seen_steps, values_of}
 use Rattle.penalties.specs.declared.heights.Survey.{Survey}
-use Rattle.penalties.proofs.StepLemmas.{after_formed, at_not_formed, none_of_nothing}
 
 -- ---- heights
 

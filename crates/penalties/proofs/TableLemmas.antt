@@ -1,5 +1,5 @@
 -- The table of the exchangers has their penalties and the steps that form them.
-use Rattle.std.proofs.Common.{◌≡◌, ◌∙◌, ◌+◌, ◌∷◌, ◌++◌, ℕ, List, [], Option, Some, None, map, refl, sym, ap, ap₂}
+use Rattle.std.proofs.Common.{◌≡◌, ◌+◌, ◌∷◌, ◌++◌, ℕ, List, [], Option, Some, None, map, refl, sym, ap, ap₂}
 use Rattle.std.specs.List.{enumerate_from, flat_map}
 use Rattle.stream_case.specs.declared.source.Source.{Source}
 use Rattle.stream_case.specs.declared.source.Source.TheVariants as source
@@ -17,7 +17,6 @@ use Rattle.network_audit.specs.declared.joints.Joint.{Joint}
 use Rattle.penalties.specs.Rows.{exchanger_row, exchanger_rows}
 use Rattle.penalties.specs.Steps.{Step, absorbed_steps, all_exchanger_steps, exchanger_steps, released_steps, side_pass, step}
 use Rattle.penalties.specs.Tables.{absorbed_by, all_joint_steps, joint_penalty, joint_row, joint_rows, joint_steps, released_by}
-use Rattle.penalties.specs.declared.list.Penalty.{Penalty}
 
 -- ---- lists made of members with their indices, and made again
 
@@ -80,5 +79,5 @@ module _ (height : ℕ → Rational) where
     steps-joints steps =
         flat_map-made joint_of (joint_steps height steps) (exchanger_steps height steps network)
         (λ number e. ap (λ value. released_steps height steps (place.Exchanger number) e.hot (side_pass network number e.hot)
-            ++ (absorbed_steps height steps (place.Exchanger number) e.cold (side_pass network number e.cold) ++ step (place.Exchanger number) 11 value ∷ [])) (penalty-joint number e))
+        ++ (absorbed_steps height steps (place.Exchanger number) e.cold (side_pass network number e.cold) ++ step (place.Exchanger number) 11 value ∷ [])) (penalty-joint number e))
         0 (exchangers_of network.lines)

@@ -12,7 +12,6 @@ use Rattle.network_text.specs.declared.network.Line.TheVariants as line
 use Rattle.network_text.specs.declared.network.Network.{Network}
 use Rattle.network_values.specs.Penalties.{base_of, height_at, penalty}
 use Rattle.network_values.specs.Values.{Valuation, value_at}
-use Rattle.network_values.specs.Weights.{mix_loss}
 use Rattle.network_values.specs.declared.values.BranchValue.{BranchValue}
 use Rattle.network_audit.specs.Joints.{crossing_among}
 use Rattle.network_audit.specs.declared.findings.Place.{Place}

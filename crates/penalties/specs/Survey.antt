@@ -1,11 +1,8 @@
--- What a survey of an audited network sees.
-use Rattle.std.specs.Prelude.{◌≡◌, ℕ, ◌+◌, List, Some, unwrap_or, []}
+-- What a survey sees of an audited network.
+use Rattle.std.specs.Prelude.{ℕ, List, [], unwrap_or}
 use Rattle.fractions.specs.Rationals.{Rational}
-use Rattle.stream_case.specs.declared.case.Case.{Case}
-use Rattle.network_text.specs.declared.network.Network.{Network}
 use Rattle.network_values.specs.Penalties.{height_at}
-use Rattle.network_values.specs.Values.{IsWholeValuation, Valuation, value_at}
-use Rattle.network_values.specs.declared.values.BranchValue.{BranchValue}
+use Rattle.network_values.specs.Values.{Valuation}
 use Rattle.network_audit.specs.Audit.{Audit}
 use Rattle.network_audit.specs.declared.findings.Place.{Place}
 use Rattle.penalties.specs.Steps.{Step, branch_steps}
@@ -14,14 +11,6 @@ use Rattle.penalties.specs.declared.heights.Survey.{Survey}
 -- the valuation that an audit kept; none, of which no rule speaks, where it kept none
 abbrev pub values_of : Audit → Valuation
 values_of audit = unwrap_or audit.values []
-
--- the audit is of this case and network, and kept their valuation
-pub record HasAccepted (audit : Audit) (case : Case) (network : Network) : Type 0 where
-  pub case_of : audit.case ≡ case
-  pub network_of : audit.network ≡ network
-  pub values : Valuation
-  pub kept : audit.values ≡ Some values
-  pub valuation : IsWholeValuation case network values
 
 -- the height of the branch with a number, and the steps that form it
 abbrev pub seen_height : Survey → ℕ → Rational

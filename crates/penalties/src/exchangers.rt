@@ -71,7 +71,11 @@ impl<'a> Survey<'a> {
     }
 
     /// Lists the penalties of the exchangers in order, up to the first step that is too fine.
-    pub fn add_exchangers(&self, joints: &[Joint], list: &mut Vec<Penalty>) -> Result<Option<TooFine>, AllocError>
+    pub fn add_exchangers(
+        &self,
+        joints: &[Joint],
+        list: &mut Vec<Penalty>,
+    ) -> Result<Option<TooFine>, AllocError>
         requires { length joints.now < 2 ^ 32 }
         ensures { IfOk result (Finds (all_joint_steps (seen_height self.now) (seen_steps self.now) joints.now) (list.new.items ≡ list.old.items ++ joint_rows (seen_height self.now) joints.now)) }
     {

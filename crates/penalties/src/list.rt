@@ -19,10 +19,7 @@ pub enum PenaltyList {
     Listed(Items<Penalty>),
     /// The number that this step at a place would form is the first that is not within the limits
     /// of a fraction.
-    TooFine {
-        place: Place,
-        step: u32,
-    },
+    TooFine { place: Place, step: u32 },
 }
 
 /// A step whose number is not within the limits of a fraction.

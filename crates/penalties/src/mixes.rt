@@ -32,7 +32,11 @@ impl<'a> Survey<'a> {
     }
 
     /// Lists the penalties of the mixes in order, up to the first step that is too fine.
-    pub fn add_mixes(&self, lines: &[Line], list: &mut Vec<Penalty>) -> Result<Option<TooFine>, AllocError>
+    pub fn add_mixes(
+        &self,
+        lines: &[Line],
+        list: &mut Vec<Penalty>,
+    ) -> Result<Option<TooFine>, AllocError>
         requires { length lines.now + 1 < 2 ^ 32 }
         ensures { IfOk result (Finds (all_mix_steps (seen_height self.now) (seen_steps self.now) lines.now) (list.new.items ≡ list.old.items ++ mix_rows (seen_height self.now) lines.now)) }
     {

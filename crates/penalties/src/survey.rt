@@ -4,8 +4,8 @@ ghost use Rattle.stream_case.specs.Case.{IsComplete};
 ghost use Rattle.network_text.specs.Shape.{HasShape};
 ghost use Rattle.network_audit.specs.Balance.{excess_of};
 ghost use Rattle.network_audit.specs.Valid.{IsValidNetwork};
+ghost use Rattle.penalties.specs.Accepted.{HasAccepted};
 ghost use Rattle.penalties.specs.Answers.{IfListed, IsNotNegative, ListsPenalties, sum_of};
-ghost use Rattle.penalties.specs.Survey.{HasAccepted};
 
 use crate::heights::Survey;
 use crate::list::{PenaltyList, TooFine};
@@ -17,7 +17,12 @@ use stream_case::{Case, Items};
 
 /// The penalties in W of a network that the last audit accepted. They add up to its excess, and
 /// none is negative.
-pub fn penalties(alloc: Global, case: &Case, network: &Network, auditor: &Auditor) -> Result<PenaltyList, AllocError>
+pub fn penalties(
+    alloc: Global,
+    case: &Case,
+    network: &Network,
+    auditor: &Auditor,
+) -> Result<PenaltyList, AllocError>
     requires complete { IsComplete case.now }
     requires shape { HasShape case.now network.now }
     requires valid { IsValidNetwork case.now network.now }

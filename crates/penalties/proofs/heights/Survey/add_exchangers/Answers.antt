@@ -1,4 +1,4 @@
-use Rattle.std.proofs.Common.{◌≡◌, ◌∙◌, ◌<◌, ◌++◌, ◌∷◌, [], None, Some, length, get_or, map, sym, ap, subst, arith}
+use Rattle.std.proofs.Common.{◌≡◌, ◌∙◌, ◌++◌, ◌∷◌, [], None, Some, get_or, map, sym, ap, subst}
 use Rattle.std.specs.List.{enumerate_from}
 use Rattle.std.proofs.lemmas.List.{append-nil, take_all}
 use Rattle.network_audit.specs.declared.findings.Place.TheVariants as place
@@ -30,14 +30,16 @@ loop-number-preserved c =
     let steps = joint_steps height (seen_steps c.args.self.now) in
     let row : Penalty = record { place = place.Exchanger n; value = c.in-Ok.value } in
     let same : row ≡ joint_row height (n, get_or c.args.joints.now n d) =
-        (λ i. record { place = place.Exchanger n; value = c.in-Ok.ensures.1 i }) ∙ ap (λ j. joint_row height (n, j)) c.index-joints-number.is in
-    (fine_more steps c.args.joints.now n d c.loop-number-test.true c.loop-number.invariant.0 (subst (λ j. first_too_fine (steps (n, j)) ≡ None) c.index-joints-number.is c.in-Ok.ensures.0),
-    c.in_ok-push-in-Ok.ensures.items ∙ ap (λ p. c.loop-number.list.items ++ p ∷ []) same
-        ∙ made-more c.args.joints.now n d c.loop-number-test.true (joint_row height) c.loop-number.list.items c.args.list.now.items c.loop-number.invariant.1)
+    (λ i. record { place = place.Exchanger n; value = c.in-Ok.ensures.1 i }) ∙ ap (λ j. joint_row height (n, j)) c.index-joints-number.is in (
+      fine_more steps c.args.joints.now n d c.loop-number-test.true c.loop-number.invariant.0 (subst (λ j. first_too_fine (steps (n, j)) ≡ None) c.index-joints-number.is c.in-Ok.ensures.0),
+      c.in_ok-push-in-Ok.ensures.items ∙ ap (λ p. c.loop-number.list.items ++ p ∷ []) same
+          ∙ made-more c.args.joints.now n d c.loop-number-test.true (joint_row height) c.loop-number.list.items c.args.list.now.items c.loop-number.invariant.1,
+    )
 
 pub returns : goal.returns
 unfolding all_joint_steps joint_rows
 returns c =
-    let height = seen_height c.args.self.now in
-    (fine_all (joint_steps height (seen_steps c.args.self.now)) c.args.joints.now c.loop-number.number c.loop-number-test.false c.loop-number.invariant.0,
-    c.loop-number.invariant.1 ∙ ap (λ js. c.args.list.now.items ++ map (joint_row height) (enumerate_from 0 js)) (take_all c.loop-number.number c.args.joints.now c.loop-number-test.false))
+    let height = seen_height c.args.self.now in (
+      fine_all (joint_steps height (seen_steps c.args.self.now)) c.args.joints.now c.loop-number.number c.loop-number-test.false c.loop-number.invariant.0,
+      c.loop-number.invariant.1 ∙ ap (λ js. c.args.list.now.items ++ map (joint_row height) (enumerate_from 0 js)) (take_all c.loop-number.number c.args.joints.now c.loop-number-test.false),
+    )

@@ -1,4 +1,4 @@
-use Rattle.std.proofs.Common.{◌≡◌, ◌∙◌, subst, ap₂}
+use Rattle.std.proofs.Common.{◌∙◌, subst, ap₂}
 use Rattle.std.proofs.lemmas.Result.{err_from_is_err_and}
 use Rattle.fractions.specs.Rationals.{Gives, minus}
 use Rattle.fractions.proofs.Limits.{value_formed}
@@ -17,9 +17,10 @@ returns-in_err-absorbed c =
 
 pub returns-in-Some : goal.returns-in-Some
 returns-in-Some c =
-    let gives : Gives c.minus.result (joint_penalty (seen_height c.args.self.now) c.args.joint.now) = subst (Gives c.minus.result) (ap₂ minus c.in_ok-released.ensures.1 c.in_ok-absorbed.ensures.1) c.minus.ensures in
-    (first_behind _ _ c.in_ok-released.ensures.0 ∙ first_behind _ _ c.in_ok-absorbed.ensures.0 ∙ after_formed _ _ _ _ _ _ c.in-Some.is gives ∙ none_of_nothing,
-    value_formed _ _ _ c.in-Some.is gives)
+    let gives : Gives c.minus.result (joint_penalty (seen_height c.args.self.now) c.args.joint.now) = subst (Gives c.minus.result) (ap₂ minus c.in_ok-released.ensures.1 c.in_ok-absorbed.ensures.1) c.minus.ensures in (
+      first_behind _ _ c.in_ok-released.ensures.0 ∙ first_behind _ _ c.in_ok-absorbed.ensures.0 ∙ after_formed _ _ _ _ _ _ c.in-Some.is gives ∙ none_of_nothing,
+      value_formed _ _ _ c.in-Some.is gives,
+    )
 
 pub returns-in-None : goal.returns-in-None
 returns-in-None c =

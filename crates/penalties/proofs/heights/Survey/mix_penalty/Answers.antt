@@ -1,4 +1,4 @@
-use Rattle.std.proofs.Common.{◌≡◌, ◌∙◌, subst, ap₂}
+use Rattle.std.proofs.Common.{◌∙◌, subst, ap₂}
 use Rattle.std.proofs.lemmas.Result.{err_from_is_err_and}
 use Rattle.fractions.specs.Rationals.{Gives, minus, plus}
 use Rattle.fractions.proofs.Limits.{value_formed}
@@ -28,10 +28,11 @@ pub returns-in-Some-minus : goal.returns-in-Some-minus
 returns-in-Some-minus c =
     let h = seen_height c.args.self.now in
     let both : Gives c.plus.result (plus (h c.args.first) (h c.args.second)) = subst (Gives c.plus.result) (ap₂ plus c.in_ok-one.ensures.1 c.in_ok-other.ensures.1) c.plus.ensures in
-    let gives : Gives c.minus.result (minus (plus (h c.args.first) (h c.args.second)) (h c.args.to)) = subst (Gives c.minus.result) (ap₂ minus (value_formed _ _ _ c.in-Some.is both) c.in_ok-mixed.ensures.1) c.minus.ensures in
-    (first_behind _ _ c.in_ok-one.ensures.0 ∙ first_behind _ _ c.in_ok-other.ensures.0 ∙ first_behind _ _ c.in_ok-mixed.ensures.0
-        ∙ after_formed c.args.place 7 _ _ _ _ c.in-Some.is both ∙ after_formed c.args.place 8 _ _ _ _ c.in-Some-minus.is gives ∙ none_of_nothing,
-    value_formed _ _ _ c.in-Some-minus.is gives)
+    let gives : Gives c.minus.result (minus (plus (h c.args.first) (h c.args.second)) (h c.args.to)) = subst (Gives c.minus.result) (ap₂ minus (value_formed _ _ _ c.in-Some.is both) c.in_ok-mixed.ensures.1) c.minus.ensures in (
+      first_behind _ _ c.in_ok-one.ensures.0 ∙ first_behind _ _ c.in_ok-other.ensures.0 ∙ first_behind _ _ c.in_ok-mixed.ensures.0
+          ∙ after_formed c.args.place 7 _ _ _ _ c.in-Some.is both ∙ after_formed c.args.place 8 _ _ _ _ c.in-Some-minus.is gives ∙ none_of_nothing,
+      value_formed _ _ _ c.in-Some-minus.is gives,
+    )
 
 pub returns-in-None : goal.returns-in-None
 returns-in-None c =

@@ -1,4 +1,4 @@
-use Rattle.std.proofs.Common.{◌≡◌, ◌∙◌, ap, ap₂, unwrap_or}
+use Rattle.std.proofs.Common.{◌≡◌, ◌∙◌, ap₂, unwrap_or}
 use Rattle.network_values.specs.Values.{no_value}
 use Rattle.network_values.specs.declared.values.BranchValue.{BranchValue}
 use Rattle.penalties.proofs.SurveyLemmas.{value-read}
