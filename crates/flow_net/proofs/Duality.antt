@@ -38,7 +38,7 @@ abbrev pub surplus_of_routing : ℕ → ℕ → ℤ → ℕ → ℤ
 surplus_of_routing source sink amount v = when (source == v) amount -ℤ when (sink == v) amount
 
 -- what a potential falls along link k, times the flow on it
-abbrev fall : List Link → List ℤ → (ℕ → ℤ) → ℕ → ℤ
+abbrev pub fall : List Link → List ℤ → (ℕ → ℤ) → ℕ → ℤ
 fall links flow c k = (c (link_at links k).from -ℤ c (link_at links k).to) *ℤ flow_on flow k
 
 module _ (net : Net) (limits : IsWithinLimits net) where
@@ -155,23 +155,25 @@ module _ (net : Net) (limits : IsWithinLimits net) (source sink : ℕ) (ends : A
         let there = cost_and_fall net.links other potentials in
         omega (arith, ints, terms, falls, here, there)
 
+    -- what a potential falls along the links, times the flows on them, is in all its fall from the source to the sink, times the amount
+    pub falls_of_routing : (c : ℕ → ℤ) → sum_below (length net.links) (fall net.links flow c) ≡ c source *ℤ amount -ℤ c sink *ℤ amount
+    falls_of_routing c =
+        let n = net.nodes in
+        sym (surplus_by_links net limits flow c)
+        ∙ (sum_below-same n (λ v. c v *ℤ surplus net.links flow v) (λ v. when (source == v) (c v *ℤ amount) -ℤ when (sink == v) (c v *ℤ amount)) (λ v b. ap (λ s. c v *ℤ s) (surplus_is amount flow routing v b) ∙ inside (c v) (source == v) (sink == v))
+        ∙ (sum_below-sub n (λ v. when (source == v) (c v *ℤ amount)) (λ v. when (sink == v) (c v *ℤ amount))
+        ∙ ap₂ ◌-ℤ◌ (sum_below-single n (λ v. c v *ℤ amount) source ends.source_in) (sum_below-single n (λ v. c v *ℤ amount) sink ends.sink_in)))
+      where
+        inside : (c : ℤ) (p q : Bool) → c *ℤ (when p amount -ℤ when q amount) ≡ when p (c *ℤ amount) -ℤ when q (c *ℤ amount)
+        inside c true true = *ℤ--ℤ c amount amount
+        inside c true false = *ℤ--ℤ c amount (pos 0) ∙ ap (λ z. (c *ℤ amount) -ℤ z) (*ℤ-zero c)
+        inside c false true = *ℤ--ℤ c (pos 0) amount ∙ ap (λ z. z -ℤ (c *ℤ amount)) (*ℤ-zero c)
+        inside c false false = *ℤ--ℤ c (pos 0) (pos 0) ∙ ap₂ ◌-ℤ◌ (*ℤ-zero c) (*ℤ-zero c)
+
     module _ (set : List Bool) (has : is_in set source ≡ true) (lacks : is_in set sink ≡ false) where
       -- what leaves a set that holds the source and not the sink, less what enters it, is the amount
       crossing_is : sum_below (length net.links) (fall net.links flow (indicator set)) ≡ amount
-      crossing_is =
-          let c = indicator set in
-          let n = net.nodes in
-          sym (surplus_by_links net limits flow c)
-          ∙ (sum_below-same n (λ v. c v *ℤ surplus net.links flow v) (λ v. when (source == v) (c v *ℤ amount) -ℤ when (sink == v) (c v *ℤ amount)) (λ v b. ap (λ s. c v *ℤ s) (surplus_is amount flow routing v b) ∙ inside (c v) (source == v) (sink == v))
-          ∙ (sum_below-sub n (λ v. when (source == v) (c v *ℤ amount)) (λ v. when (sink == v) (c v *ℤ amount))
-          ∙ (ap₂ ◌-ℤ◌ (sum_below-single n (λ v. c v *ℤ amount) source ends.source_in) (sum_below-single n (λ v. c v *ℤ amount) sink ends.sink_in)
-          ∙ rw (has, lacks) (omega (arith, ints)))))
-        where
-          inside : (c : ℤ) (p q : Bool) → c *ℤ (when p amount -ℤ when q amount) ≡ when p (c *ℤ amount) -ℤ when q (c *ℤ amount)
-          inside c true true = *ℤ--ℤ c amount amount
-          inside c true false = *ℤ--ℤ c amount (pos 0) ∙ ap (λ z. (c *ℤ amount) -ℤ z) (*ℤ-zero c)
-          inside c false true = *ℤ--ℤ c (pos 0) amount ∙ ap (λ z. z -ℤ (c *ℤ amount)) (*ℤ-zero c)
-          inside c false false = *ℤ--ℤ c (pos 0) (pos 0) ∙ ap₂ ◌-ℤ◌ (*ℤ-zero c) (*ℤ-zero c)
+      crossing_is = falls_of_routing (indicator set) ∙ rw (has, lacks) (omega (arith, ints))
 
       -- so the rooms that leave the set are not less than the amount
       pub amount_within_rooms : amount ≤ℤ sum_below (length net.links) (leaving_room net.links set)

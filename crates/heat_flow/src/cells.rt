@@ -48,7 +48,7 @@ fn permissions(alloc: Global, case: &Case, hot: Source) -> Result<Vec<bool>, All
 }
 
 /// Whether heat passes from a hot part to a cold part: downward, or within their interval.
-fn passes_heat(hot: &Part, cold: &Part) -> bool
+pub fn passes_heat(hot: &Part, cold: &Part) -> bool
     ensures { result ≡ passes_heat hot.now cold.now }
 {
     cold.high <= hot.low || (hot.high == cold.high && hot.low == cold.low)

@@ -59,8 +59,8 @@ fn are_rising(members: &[u32]) -> bool
     true
 }
 
-/// What the members have to give or take.
-fn need_of(parts: &[Part], members: &[u32]) -> i128
+/// The need of a cut: what parts of a side have to give or take, in W.
+pub fn need_of(parts: &[Part], members: &[u32]) -> i128
     requires { All IsBounded parts.now }
     ensures { result ≡ need_of parts.now members.now }
 {
@@ -104,8 +104,9 @@ fn part_offer(side: Side, reach: &Reach, members: &[u32], index: u32, part: &Par
     }
 }
 
-/// The sum of these over all parts of the other side.
-fn offer_of(side: Side, reach: &Reach, others: &[Part], members: &[u32]) -> i128
+/// The offer of a cut whose parts are of this side: the most that all parts of the other side can
+/// take or give that reach one of them, or that one of them reaches, in W.
+pub fn offer_of(side: Side, reach: &Reach, others: &[Part], members: &[u32]) -> i128
     requires few { length others.now ≤ MOST_PARTS }
     requires bounded { All IsBounded others.now }
     ensures { result ≡ offer_of side (reaches reach.now) others.now members.now }

@@ -16,11 +16,11 @@ mod reach;
 mod support;
 mod table;
 
-pub use cells::reach_of;
+pub use cells::{passes_heat, reach_of};
 pub use check::is_flow;
 pub use cost::{cost_of, least_cost_is_one};
 pub use cut::{Cut, CutKind};
-pub use cut_check::is_cut;
+pub use cut_check::{is_cut, need_of, offer_of};
 pub use flow::{Flow, Transfer};
 pub use prices::{Prices, least_product_is_least, value_of};
 pub use reach::Reach;

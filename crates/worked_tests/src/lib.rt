@@ -38,3 +38,5 @@ mod stream_case_tests;
 mod sums_tests;
 #[cfg(test)]
 mod tables;
+#[cfg(test)]
+mod transport_tests;

@@ -1,0 +1,14 @@
+pub mod FoundLemmas
+pub mod SumSteps
+pub mod CostSteps
+pub mod JointLemmas
+pub mod StatementLemmas
+pub mod WalkLemmas
+pub mod TableLemmas
+pub mod HeatLemmas
+pub mod BalanceLemmas
+pub mod FindingLemmas
+pub mod ValidLemmas
+pub mod AuditLemmas
+pub mod InvalidLemmas
+pub mod VerdictLemmas

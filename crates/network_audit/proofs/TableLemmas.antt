@@ -1,0 +1,130 @@
+-- What the audit reads of the table of exchangers is what the items say: the ends of the sides, and the duties of the utilities.
+use Rattle.std.proofs.Common.{◌≡◌, ◌∙◌, ◌<◌, ◌+◌, ◌∷◌, ◌++◌, ◌||◌, ℕ, Bool, true, false, cond, List, [], Option, Some, None, All, inl, inr, slice_get, get_or, length, map, take, refl, sym, ap, ap₂, subst, arith}
+use Rattle.std.specs.Prelude.{if◌then◌else◌, option_map, unwrap_or}
+use Rattle.std.specs.List.{cons_option, enumerate_from, filter_map, flat_map}
+use Rattle.std.specs.Option.{option_map_or}
+use Rattle.std.proofs.lemmas.List.{length-take, map-append, take_more}
+use Rattle.sums.proofs.EnumerationLemmas.{All-enumerated, enumerate_from-append}
+use Rattle.stream_case.specs.Case.{side_of}
+use Rattle.stream_case.specs.Source.{same_source}
+use Rattle.stream_case.specs.declared.case.Case.{Case}
+use Rattle.stream_case.specs.declared.source.Side.{Side}
+use Rattle.stream_case.specs.declared.source.Side.TheVariants as side
+use Rattle.stream_case.specs.declared.source.Source.{Source}
+use Rattle.stream_case.specs.declared.source.Source.TheVariants as source
+use Rattle.stream_case.specs.declared.utility.Utility.{Utility}
+use Rattle.fractions.specs.Rationals.{Rational, rational_sum, rational_zero}
+use Rattle.network_text.specs.Lines.{Exchanger, exchangers_of, pass_of, stream_at}
+use Rattle.network_text.specs.Shape.{HasShape, IsExchanger}
+use Rattle.network_text.specs.declared.network.Network.{Network}
+use Rattle.network_text.specs.declared.network.Line.TheVariants as line
+use Rattle.network_text.proofs.Lists.{all_at}
+use Rattle.network_text.proofs.OfShape.{IsPassOf, the_pass_of}
+use Rattle.network_values.specs.Sides.{pass_run, run_between, side_run}
+use Rattle.network_values.specs.Values.{Valuation, branch_side, value_at}
+use Rattle.network_audit.specs.AllItems.{range_items, sum_steps, utility_items, utility_items_at}
+use Rattle.network_audit.specs.Balance.{duties_with, duty_with}
+use Rattle.network_audit.specs.Items.{Item, ends_of, exchanger_items, exchanger_items_at, side_items}
+use Rattle.network_audit.specs.Joints.{crossing_among, crossing_by, joint_among, joints_among, joints_of}
+use Rattle.network_audit.specs.Table.{all_heat_items, duties_in, ends_at, heat_items, heats_in, joint_duty, joint_items, joint_items_at}
+use Rattle.network_audit.specs.declared.exchangers.Ends.{Ends}
+use Rattle.network_audit.specs.declared.joints.Joint.{Joint}
+use Rattle.network_audit.specs.declared.findings.Place.TheVariants as place
+use Rattle.network_audit.proofs.FoundLemmas.{flat_map-same}
+
+-- ---- the ends of the sides
+
+-- the side that a stream's branches have
+branch_side-is : (case : Case) (network : Network) (from stream : ℕ) (on : Side) → stream_at network.branches from ≡ stream → side_of case (source.Stream stream) ≡ Some on → branch_side case network from ≡ on
+unfolding branch_side
+branch_side-is case network from stream on of_stream is = ap (λ s. unwrap_or (side_of case (source.Stream s)) side.Hot) of_stream ∙ ap (λ o. unwrap_or o side.Hot) is
+
+-- where a stream's pass is found, its ends are those of the branches
+hot_run : (case : Case) (network : Network) (values : Valuation) (number stream from to : ℕ) → pass_of network number stream ≡ Some (line.Pass from number to) → branch_side case network from ≡ side.Hot
+    → ends_of side.Hot (side_run case network values number (source.Stream stream)) ≡ ends_at case values (source.Stream stream) (Some (record { from = from; to = to }))
+unfolding side_run
+hot_run case network values number stream from to found on =
+    ap (λ o. ends_of side.Hot (pass_run case network values o)) found
+    ∙ ap (λ s. ends_of side.Hot (run_between s (value_at values from) (value_at values to))) on
+
+cold_run : (case : Case) (network : Network) (values : Valuation) (number stream from to : ℕ) → pass_of network number stream ≡ Some (line.Pass from number to) → branch_side case network from ≡ side.Cold
+    → ends_of side.Cold (side_run case network values number (source.Stream stream)) ≡ ends_at case values (source.Stream stream) (Some (record { from = from; to = to }))
+unfolding side_run
+cold_run case network values number stream from to found on =
+    ap (λ o. ends_of side.Cold (pass_run case network values o)) found
+    ∙ ap (λ s. ends_of side.Cold (run_between s (value_at values from) (value_at values to))) on
+
+-- the pass that the table has of a stream
+crossing-found : (network : Network) (number stream from to : ℕ) → pass_of network number stream ≡ Some (line.Pass from number to) → crossing_among network.branches network.lines number (source.Stream stream) ≡ Some (record { from = from; to = to })
+unfolding pass_of
+crossing-found network number stream from to found = ap crossing_by found
+
+pub hot_ends : (case : Case) (network : Network) (values : Valuation) (number : ℕ) (e : Exchanger) (of : Source) → HasShape case network → slice_get (exchangers_of network.lines) number ≡ Some e → e.hot ≡ of → side_of case of ≡ Some side.Hot
+    → ends_at case values of (crossing_among network.branches network.lines number of) ≡ ends_of side.Hot (side_run case network values number of)
+unfolding side_run
+hot_ends case network values number e (source.Utility index) shape at is on = refl
+hot_ends case network values number e (source.Stream stream) shape at is on =
+    let (from, to, index, pass) = the_pass_of shape number stream e at (inl is) in
+    ap (ends_at case values (source.Stream stream)) (crossing-found network number stream from to pass.found)
+    ∙ sym (hot_run case network values number stream from to pass.found (branch_side-is case network from stream side.Hot pass.of_stream on))
+
+pub cold_ends : (case : Case) (network : Network) (values : Valuation) (number : ℕ) (e : Exchanger) (of : Source) → HasShape case network → slice_get (exchangers_of network.lines) number ≡ Some e → e.cold ≡ of → side_of case of ≡ Some side.Cold
+    → ends_at case values of (crossing_among network.branches network.lines number of) ≡ ends_of side.Cold (side_run case network values number of)
+unfolding side_run
+cold_ends case network values number e (source.Utility index) shape at is on = refl
+cold_ends case network values number e (source.Stream stream) shape at is on =
+    let (from, to, index, pass) = the_pass_of shape number stream e at (inr is) in
+    ap (ends_at case values (source.Stream stream)) (crossing-found network number stream from to pass.found)
+    ∙ sym (cold_run case network values number stream from to pass.found (branch_side-is case network from stream side.Cold pass.of_stream on))
+
+-- ---- members of a table that was made from members
+
+module _ {X Y Z : Type 0} where
+  flat_map-made : (g : ℕ × Y → List Z) (f : ℕ × X → Y) (m : ℕ) (xs : List X) → flat_map g (enumerate_from m (map f (enumerate_from m xs))) ≡ flat_map (λ (p : ℕ × X). g (p.0, f p)) (enumerate_from m xs)
+  flat_map-made g f m [] = refl
+  flat_map-made g f m (x ∷ xs) = ap (λ ys. g (m, f (m, x)) ++ ys) (flat_map-made g f (m + 1) xs)
+
+-- the items of the exchangers, read from the table
+pub joint_items-are : (case : Case) (network : Network) (values : Valuation) → HasShape case network → joint_items case values (joints_of network) ≡ exchanger_items case network values
+unfolding joint_items exchanger_items joints_among
+joint_items-are case network values shape =
+    let es = exchangers_of network.lines in
+    let make = joint_among network.branches network.lines in
+    flat_map-made (joint_items_at case values) make 0 es
+    ∙ flat_map-same (λ (p : ℕ × Exchanger). joint_items_at case values (p.0, make p)) (exchanger_items_at case network values) (enumerate_from 0 es)
+    (All-enumerated (λ p. joint_items_at case values (p.0, make p) ≡ exchanger_items_at case network values p) es each)
+  where
+    each : (number : ℕ) (e : Exchanger) → slice_get (exchangers_of network.lines) number ≡ Some e
+        → joint_items_at case values (number, joint_among network.branches network.lines (number, e)) ≡ exchanger_items_at case network values (number, e)
+    each number e at =
+        let is = all_at (IsExchanger case) (exchangers_of network.lines) number e shape.exchangers.each at in
+        ap₂ (side_items case (place.Exchanger number) e.hot e.cold) (hot_ends case network values number e e.hot shape at refl is.hot) (cold_ends case network values number e e.cold shape at refl is.cold)
+
+-- ---- duties
+
+duties-made : (index : ℕ) (f : ℕ × Exchanger → Joint) (m : ℕ) (es : List Exchanger) → ((n : ℕ) (e : Exchanger) → joint_duty index (f (n, e)) ≡ duty_with index e)
+    → filter_map (joint_duty index) (map f (enumerate_from m es)) ≡ filter_map (duty_with index) es
+duties-made index f m [] same = refl
+duties-made index f m (e ∷ es) same = ap₂ cons_option (same m e) (duties-made index f (m + 1) es same)
+
+-- the duties of a utility, read from the table
+pub duties-are : (network : Network) (index : ℕ) → duties_in (joints_of network) index ≡ duties_with network index
+unfolding duties_in duties_with joints_among
+duties-are network index = duties-made index (joint_among network.branches network.lines) 0 (exchangers_of network.lines) (λ n e. refl)
+
+pub heat_items-are : (case : Case) (network : Network) → all_heat_items (joints_of network) case.utilities ≡ utility_items case network
+unfolding all_heat_items utility_items
+heat_items-are case network =
+    let same : (p : ℕ × Utility) → heat_items (joints_of network) p ≡ utility_items_at network p =
+        λ p. ap (λ duties. sum_steps (place.Utility p.0) 0 rational_zero duties ++ range_items (place.Utility p.0) p.1 (rational_sum duties)) (duties-are network p.0) in
+    λ i. flat_map (λ p. same p i) (enumerate_from 0 case.utilities)
+
+-- the heat of one utility more
+pub heats-more : (joints : List Joint) (utilities : List Utility) (n : ℕ) (d : Utility) → n < length utilities → heats_in joints (take (n + 1) utilities) ≡ heats_in joints (take n utilities) ++ rational_sum (duties_in joints n) ∷ []
+unfolding heats_in
+heats-more joints utilities n d within =
+    let heat : ℕ × Utility → Rational = λ p. rational_sum (duties_in joints p.0) in
+    ap (λ us. map heat (enumerate_from 0 us)) (take_more utilities n d within)
+    ∙ ap (map heat) (enumerate_from-append 0 (take n utilities) (get_or utilities n d ∷ []))
+    ∙ map-append heat (enumerate_from 0 (take n utilities)) (enumerate_from (0 + length (take n utilities)) (get_or utilities n d ∷ []))
+    ∙ ap (λ k. map heat (enumerate_from 0 (take n utilities)) ++ rational_sum (duties_in joints k) ∷ []) (omega (arith, within, length-take n utilities))

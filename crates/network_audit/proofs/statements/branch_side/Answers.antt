@@ -1,0 +1,14 @@
+use Rattle.std.proofs.Common.{◌≡◌, ◌∙◌, sym, ap}
+use Rattle.std.specs.Prelude.{unwrap_or}
+use Rattle.stream_case.specs.Case.{side_of}
+use Rattle.stream_case.specs.declared.source.Side.TheVariants as side
+use Rattle.stream_case.specs.declared.source.Source.TheVariants as source
+use Rattle.network_text.specs.Lines.{stream_at}
+use Rattle.network_values.specs.Values.{branch_side}
+use Rattle.network_audit.proofs.statements.branch_side.Goals as goal
+
+pub returns : goal.returns
+unfolding branch_side
+returns c network same =
+    let stream = c.stream_at.ensures ∙ ap (λ bs. stream_at bs c.args.number) (sym same) in
+    c.unwrap_or.ensures ∙ ap (λ o. unwrap_or o side.Hot) (c.side_of.ensures ∙ ap (λ s. side_of c.args.case.now (source.Stream s)) stream)

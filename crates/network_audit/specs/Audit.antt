@@ -1,0 +1,54 @@
+-- What an auditor knows, and what an audit leaves behind.
+use Rattle.std.specs.Prelude.{◌≡◌, List, length, Option, Some, None}
+use Rattle.stream_case.specs.Case.{IsComplete}
+use Rattle.stream_case.specs.declared.case.Case.{Case}
+use Rattle.fractions.specs.Rationals.{Rational}
+use Rattle.network_text.specs.Shape.{HasShape}
+use Rattle.network_text.specs.declared.network.Network.{Network}
+use Rattle.network_values.specs.Values.{IsWholeValuation, Valuation}
+use Rattle.network_audit.specs.AllItems.{items}
+use Rattle.network_audit.specs.Balance.{balance_of}
+use Rattle.network_audit.specs.Items.{first_finding}
+use Rattle.network_audit.specs.Joints.{joints_of}
+use Rattle.network_audit.specs.declared.joints.Joint.{Joint}
+use Rattle.network_audit.specs.declared.verdict.Balance.{Balance}
+use Rattle.network_audit.specs.declared.verdict.Verdict.{Verdict}
+use Rattle.network_audit.specs.declared.verdict.Verdict.TheVariants as verdict
+
+-- a case and a network, and after an audit that accepted the network what its branches carry
+pub record Audit : Type 0 where
+  pub case : Case
+  pub network : Network
+  pub values : Option Valuation
+
+-- the network is accepted, with a balance
+abbrev pub IfAccepted : Verdict → (Balance → Type 0) → Type 0
+IfAccepted (verdict.Accepted balance) P = P balance
+IfAccepted (verdict.Rejected place reason) P = Unit {0}
+IfAccepted (verdict.TooFine place step) P = Unit {0}
+
+-- after an audit the valuation is kept where it accepted the network, and else none
+abbrev pub Leaves : Audit → Verdict → Audit → Type 0
+Leaves old (verdict.Accepted balance) new = (values : Valuation) × IsWholeValuation old.case old.network values × (new ≡ record old { values = Some values })
+Leaves old (verdict.Rejected place reason) new = new ≡ record old { values = None }
+Leaves old (verdict.TooFine place step) new = new ≡ record old { values = None }
+
+-- an accepted network is so, and a rejected one is not
+abbrev pub Says : Verdict → Type 0 → Type 0
+Says (verdict.Accepted balance) P = P
+Says (verdict.Rejected place reason) P = P → ⊥
+Says (verdict.TooFine place step) P = Unit {0}
+
+-- the network has this valuation, no finding, and this balance
+pub record Accepts (case : Case) (network : Network) (values : Valuation) (balance : Balance) : Type 0 where
+  pub valuation : IsWholeValuation case network values
+  pub none : first_finding (items case network values (length network.lines)) ≡ None
+  pub sums : balance ≡ balance_of case network
+
+-- what an auditor knows of its case and network, and the room that it has: the exchangers with their passes, a value for each branch and a heat for each utility
+pub record IsReady (case : Case) (network : Network) (joints : List Joint) (values : Valuation) (heats : List Rational) : Type 0 where
+  pub complete : IsComplete case
+  pub shape : HasShape case network
+  pub table : joints ≡ joints_of network
+  pub value_each : length values ≡ length network.branches
+  pub heat_each : length heats ≡ length case.utilities

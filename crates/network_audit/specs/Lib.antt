@@ -1,0 +1,10 @@
+pub mod Items
+pub mod Balance
+pub mod AllItems
+pub mod Findings
+pub mod Valid
+pub mod Joints
+pub mod Table
+pub mod Audit
+pub mod Answers
+pub mod Walk

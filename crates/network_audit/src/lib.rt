@@ -1,0 +1,25 @@
+//! The audit of an exchanger network: whether it is valid for its case, told in exact fractions.
+//!
+//! The items of an audit are tests and numbers that are formed on the way, in one order. The
+//! finding is the first of them that fails: a test that is not passed, or a number that is not
+//! within the limits of a fraction. A network without a finding is valid, and its balance tells
+//! what it needs and costs.
+#![tactic(auto)]
+
+mod auditor;
+mod balance;
+mod copies;
+mod exchangers;
+mod findings;
+mod joints;
+mod statements;
+mod streams;
+mod sum;
+mod utilities;
+mod verdict;
+mod walk;
+
+pub use auditor::Auditor;
+pub use findings::{Place, Reason};
+pub use network_values::BranchValue;
+pub use verdict::{Balance, Verdict};

@@ -1,0 +1,85 @@
+//! What streams carry at their ends, and whether each of them ends.
+ghost use Rattle.std.specs.Prelude.{◌≡◌, ◌<◌, ◌≤◌, ◌^◌, ◌++◌, length, map, take};
+ghost use Rattle.std.specs.List.{list_any};
+ghost use Rattle.network_values.specs.Values.{first_value, full_size, last_state};
+ghost use Rattle.network_audit.specs.Answers.{Judged};
+ghost use Rattle.network_audit.specs.Items.{ends_stream, stream_items};
+
+use crate::findings::{Finding, Place, Reason};
+use crate::joints::stream_at;
+use fractions::Frac;
+use network_text::{Branch, Line, Network};
+use network_values::BranchValue;
+use stream_case::{Case, Stream};
+
+/// The size of a whole stream: its heat-capacity flow, in 10 W/K.
+pub(crate) fn full_size(stream: &Stream) -> Frac
+    ensures { result ≡ full_size stream.now }
+{
+    Frac::whole(stream.cp)
+}
+
+/// What a stream's own branch carries.
+pub(crate) fn first_value(stream: &Stream) -> BranchValue
+    ensures { result ≡ first_value stream.now }
+{
+    BranchValue {
+        cp: full_size(stream),
+        t: Frac::whole(i64::from(stream.supply)),
+    }
+}
+
+/// The state in which a stream ends: its target, in tenths of °C.
+pub(crate) fn last_state(stream: &Stream) -> Frac
+    ensures { result ≡ last_state stream.now }
+{
+    Frac::whole(i64::from(stream.target))
+}
+
+/// Gives the streams' own branches what they carry.
+pub(crate) fn start(streams: &[Stream], values: &mut [BranchValue])
+    requires { length streams.now ≤ length values.old }
+    ensures { take (length streams.now) values.new ≡ map first_value streams.now }
+{
+    for (index, stream) in streams.iter().enumerate() {
+        values[index] = first_value(stream);
+    }
+}
+
+/// Whether a statement ends a branch of a stream.
+fn ends_stream(branches: &[Branch], stream: u32, line: &Line) -> bool
+    ensures { result ≡ ends_stream branches.now stream line.now }
+{
+    match *line {
+        Line::End { branch } => stream_at(branches, branch) == stream,
+        _ => false,
+    }
+}
+
+/// Whether some statement does.
+fn is_ended(branches: &[Branch], lines: &[Line], stream: u32) -> bool
+    ensures { result ≡ list_any (ends_stream branches.now stream) lines.now }
+{
+    lines.iter().any(|line| ends_stream(branches, stream, line))
+}
+
+/// Each stream has to end.
+pub(crate) fn audit_streams(case: &Case, network: &Network) -> Result<(), Finding>
+    requires { length case.now.streams < 2 ^ 32 }
+    ensures { Judged (stream_items case.now network.now) (λ _. Unit {0}) result }
+{
+    let branches = network.branches.as_slice();
+    let lines = network.lines.as_slice();
+    for (index, stream) in case.streams.as_slice().iter().enumerate() {
+        if !is_ended(branches, lines, index as u32) {
+            return Err(Finding::Failed {
+                place: Place::Stream(index as u32),
+                reason: Reason::Unfinished {
+                    found: Frac::whole(0),
+                    wanted: full_size(stream),
+                },
+            });
+        }
+    }
+    Ok(())
+}

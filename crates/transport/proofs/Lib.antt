@@ -1,0 +1,16 @@
+pub mod Balances
+pub mod BlockedLemmas
+pub mod Certified
+pub mod CutLemmas
+pub mod Falls
+pub mod Limits
+pub mod FewPairs
+pub mod LinkPlaces
+pub mod LinkSums
+pub mod LoopLemmas
+pub mod PairLemmas
+pub mod SlackLemmas
+pub mod StuckLemmas
+pub mod SumsFrom
+pub mod TransferLemmas
+pub mod Worth

@@ -1,0 +1,258 @@
+-- A net around an inner net is within the limits of nets, and so are what is routed and the initial potentials.
+use Rattle.std.proofs.Common.{◌≡◌, ◌∙◌, refl, sym, ap, subst, ℕ, zero, suc, ◌+◌, ◌-◌, ◌*◌, ◌<◌, ◌≤◌, inl, inr, ⊎_elim, List, [], ◌∷◌, ◌++◌, length, length-append, get_or, replicate, arith}
+use Rattle.std.specs.Prelude.{ℤ, pos, neg_ℤ, ◌+ℤ◌, ◌-ℤ◌, ◌*ℤ◌, ◌≤ℤ◌, ◌<ℤ◌, Some, slice_get, All}
+use Rattle.std.specs.Int.RustNames.{unsigned_abs}
+use Rattle.std.proofs.lemmas.Bool.{cases_lt}
+use Rattle.std.proofs.lemmas.Int.{ints}
+use Rattle.std.proofs.lemmas.Nat.{mul-le}
+use Rattle.std.proofs.lemmas.List.{length-replicate, get_or-replicate, get_or_append_left, get_or-append-add, get_or_default}
+use Rattle.std.proofs.lemmas.List.Elements.{All-nil, All-cons, All-weaker}
+use Rattle.std.proofs.lemmas.Option.{slice_get_within}
+use Rattle.stream_case.specs.declared.limits.TheConstants.{MOST_HEAT, MOST_PARTS, MOST_PRICE}
+use Rattle.stream_case.specs.declared.source.Side.{Side}
+use Rattle.stream_case.specs.declared.source.Side.TheVariants.{Hot, Cold}
+use Rattle.stream_case.specs.Limits.{IsBetween}
+use Rattle.sums.proofs.ListLemmas.{All-slice_get}
+use Rattle.sums.proofs.SumLemmas.{int_sum_by-at_most, int_sum_by-not_negative}
+use Rattle.grid.specs.declared.part.Part.{Part}
+use Rattle.grid.specs.Bounds.{IsBounded}
+use Rattle.heat_flow.specs.Cuts.{parts_of}
+use Rattle.flow_net.specs.declared.limits.TheConstants.{MOST_ROOM, MOST_COST}
+use Rattle.flow_net.specs.declared.net.Link.{Link}
+use Rattle.flow_net.specs.declared.net.Net.{Net}
+use Rattle.flow_net.specs.Net.{link_at, potential_at, reduced_cost, largest_cost, potential_bound, IsRoom, IsCost, IsLinkWithin, IsWithinLimits, AreEnds, AreInitialPotentials, AreBounded}
+use Rattle.flow_net.proofs.Sizes.{sizes, greatest-le}
+use Rattle.transport.specs.declared.net.TheConstants.{MOST_INNER_NODES}
+use Rattle.transport.specs.declared.least_cost.TheConstants.{MOST_PAIRS}
+use Rattle.transport.specs.Around.{IsInner, IsInnerLink, whole_link, spare_link, links_between, most_of, net_around, start_of, IsNodePotential}
+use Rattle.transport.proofs.LinkSums.{ends, first_node}
+use Rattle.transport.proofs.LinkPlaces.{All-net_around, length-net_around}
+
+-- parts within the limits, and an inner net for them
+pub record IsAround (hot cold : List Part) (inner : Net) : Type 0 where
+  pub inner_net : IsInner (length hot) (length cold) inner
+  pub few_nodes : inner.nodes ≤ MOST_INNER_NODES
+  pub few_links : length inner.links ≤ MOST_PAIRS
+  pub few_hot : length hot ≤ MOST_PARTS
+  pub few_cold : length cold ≤ MOST_PARTS
+  pub hot_bounded : All IsBounded hot
+  pub cold_bounded : All IsBounded cold
+
+pub most_within : (parts : List Part) → length parts ≤ MOST_PARTS → All IsBounded parts → IsBetween (pos 0) (pos MOST_PARTS *ℤ MOST_HEAT) (most_of parts)
+most_within parts few bounded =
+    let upto = int_sum_by-at_most (λ (p : Part). p.most) 1000000000000 parts (λ k d within. (bounded k d within).most.upto) in
+    let from = int_sum_by-not_negative (λ (p : Part). p.most) parts (λ k d within. let b = bounded k d within in let least = b.least.from in let most = b.most.from in omega (arith, ints)) in
+    record { from = from; upto = omega (arith, ints) }
+
+-- a link between two of n nodes, within the limits of nets and with the cost of a price
+record IsNear (n : ℕ) (l : Link) : Type 0 where
+  limits : IsLinkWithin n l
+  price : IsBetween (neg_ℤ MOST_PRICE) MOST_PRICE l.cost
+
+module _ (hot cold : List Part) (inner : Net) (g : IsAround hot cold inner) where
+  bounded_of : (side : Side) → All IsBounded (parts_of side hot cold)
+  bounded_of Hot = g.hot_bounded
+  bounded_of Cold = g.cold_bounded
+
+  node_within : (side : Side) (i : ℕ) (p : Part) → slice_get (parts_of side hot cold) i ≡ Some p → (first_node hot cold inner side + i) < inner.nodes
+  node_within Hot i p at = let nodes = g.inner_net.nodes in omega (arith, nodes, slice_get_within hot i p at)
+  node_within Cold i p at = let nodes = g.inner_net.nodes in omega (arith, nodes, slice_get_within cold i p at)
+
+  near_inner : (l : Link) → IsInnerLink (length hot) (length cold) inner.nodes l → IsNear (inner.nodes + 4) l
+  near_inner l h =
+      let from_in = h.from_in in
+      let to_in = h.to_in in
+      let room = h.room in
+      let cost = h.cost in
+      record {
+        limits = record {
+          from_in = omega (arith, from_in);
+          to_in = omega (arith, to_in);
+          room = record { from = omega (arith, ints, room); upto = omega (arith, ints, room) };
+          cost = omega (arith, sizes, cost);
+        };
+        price = record { from = omega (arith, ints, cost); upto = omega (arith, ints, cost) };
+      }
+
+  near_whole : (side : Side) (node : ℕ) (p : Part) → node < inner.nodes → IsBounded p → IsNear (inner.nodes + 4) (whole_link side (ends hot cold inner) node p)
+  near_whole Hot node p within b =
+      let from = b.least.from in
+      let order = b.most.from in
+      let upto = b.most.upto in
+      record {
+        limits = record { from_in = omega arith; to_in = omega (arith, within); room = record { from = omega (arith, ints); upto = omega (arith, ints) }; cost = omega (arith, sizes) };
+        price = record { from = omega (arith, ints); upto = omega (arith, ints) };
+      }
+  near_whole Cold node p within b =
+      let from = b.least.from in
+      let order = b.most.from in
+      let upto = b.most.upto in
+      record {
+        limits = record { from_in = omega (arith, within); to_in = omega arith; room = record { from = omega (arith, ints); upto = omega (arith, ints) }; cost = omega (arith, sizes) };
+        price = record { from = omega (arith, ints); upto = omega (arith, ints) };
+      }
+
+  near_spare : (side : Side) (node : ℕ) (p : Part) → node < inner.nodes → IsBounded p → IsNear (inner.nodes + 4) (spare_link side (ends hot cold inner) node p)
+  near_spare Hot node p within b =
+      let from = b.least.from in
+      let order = b.most.from in
+      let upto = b.most.upto in
+      let low = b.price.from in
+      let high = b.price.upto in
+      record {
+        limits = record { from_in = omega (arith, within); to_in = omega arith; room = record { from = omega (arith, ints); upto = omega (arith, ints) }; cost = omega (arith, sizes) };
+        price = record { from = omega (arith, ints); upto = omega (arith, ints) };
+      }
+  near_spare Cold node p within b =
+      let from = b.least.from in
+      let order = b.most.from in
+      let upto = b.most.upto in
+      let low = b.price.from in
+      let high = b.price.upto in
+      record {
+        limits = record { from_in = omega arith; to_in = omega (arith, within); room = record { from = omega (arith, ints); upto = omega (arith, ints) }; cost = omega (arith, sizes) };
+        price = record { from = omega (arith, ints); upto = omega (arith, ints) };
+      }
+
+  near_between : All (IsNear (inner.nodes + 4)) (links_between (ends hot cold inner) (most_of hot) (most_of cold))
+  near_between =
+      let given = most_within hot g.few_hot g.hot_bounded in
+      let taken = most_within cold g.few_cold g.cold_bounded in
+      let near = λ (l : Link) (from : l.from < inner.nodes + 4) (to : l.to < inner.nodes + 4) (low : pos 0 ≤ℤ l.room) (high : l.room ≤ℤ MOST_ROOM) (free : l.cost ≡ pos 0). is_near l from to low high free in
+      let P = IsNear (inner.nodes + 4) in
+      let one : Link = record { from = inner.nodes; to = inner.nodes + 2; room = most_of cold; cost = pos 0 } in
+      let two : Link = record { from = inner.nodes + 3; to = inner.nodes + 1; room = most_of hot; cost = pos 0 } in
+      let three : Link = record { from = inner.nodes + 2; to = inner.nodes + 3; room = MOST_ROOM; cost = pos 0 } in
+      All-cons P one (two ∷ three ∷ []) (near one (omega arith) (omega arith) (omega (arith, ints, taken.from)) (omega (arith, ints, taken.upto)) refl)
+      (All-cons P two (three ∷ []) (near two (omega arith) (omega arith) (omega (arith, ints, given.from)) (omega (arith, ints, given.upto)) refl)
+      (All-cons P three [] (near three (omega arith) (omega arith) (omega (arith, ints)) (omega (arith, ints)) refl) (All-nil P)))
+    where
+      is_near : (l : Link) → l.from < inner.nodes + 4 → l.to < inner.nodes + 4 → pos 0 ≤ℤ l.room → l.room ≤ℤ MOST_ROOM → l.cost ≡ pos 0 → IsNear (inner.nodes + 4) l
+      is_near l from to low high free = record {
+        limits = record { from_in = from; to_in = to; room = record { from = low; upto = high }; cost = omega (arith, sizes, free) };
+        price = record { from = omega (arith, ints, free); upto = omega (arith, ints, free) };
+      }
+
+  near_all : All (IsNear (inner.nodes + 4)) (net_around hot cold inner).links
+  near_all =
+      All-net_around hot cold inner (IsNear (inner.nodes + 4)) (All-weaker (IsInnerLink (length hot) (length cold) inner.nodes) (IsNear (inner.nodes + 4)) near_inner inner.links g.inner_net.links)
+      (λ side i p at. near_whole side (first_node hot cold inner side + i) p (node_within side i p at) (All-slice_get IsBounded (parts_of side hot cold) i p (bounded_of side) at))
+      (λ side i p at. near_spare side (first_node hot cold inner side + i) p (node_within side i p at) (All-slice_get IsBounded (parts_of side hot cold) i p (bounded_of side) at))
+      near_between
+
+  pub limits_around : IsWithinLimits (net_around hot cold inner)
+  limits_around =
+      let nodes = g.few_nodes in
+      let links = g.few_links in
+      let hots = g.few_hot in
+      let colds = g.few_cold in
+      record {
+        few_nodes = omega (arith, nodes);
+        few_links = omega (arith, links, hots, colds, length-net_around hot cold inner);
+        links = λ k within. (near_all k (record { from = 0; to = 0; room = pos 0; cost = pos 0 }) within).limits;
+      }
+
+  pub ends_around : AreEnds (net_around hot cold inner) (ends hot cold inner).source (ends hot cold inner).sink
+  ends_around = record { source_in = omega arith; sink_in = omega arith; apart = λ e. omega (arith, e) }
+
+  pub room_around : IsRoom (most_of hot +ℤ most_of cold)
+  room_around =
+      let given = most_within hot g.few_hot g.hot_bounded in
+      let taken = most_within cold g.few_cold g.cold_bounded in
+      record { from = omega (arith, ints, given.from, taken.from); upto = omega (arith, ints, given.upto, taken.upto) }
+
+  pub small_cold : most_of cold <ℤ MOST_ROOM
+  small_cold = let taken = most_within cold g.few_cold g.cold_bounded in omega (arith, ints, taken.upto)
+
+  -- ---- the initial potentials
+
+  abbrev further : List ℤ
+  further = MOST_PRICE ∷ neg_ℤ MOST_PRICE ∷ MOST_PRICE ∷ neg_ℤ MOST_PRICE ∷ []
+
+  start_inner : (v : ℕ) → v < inner.nodes → potential_at (start_of inner.nodes) v ≡ pos 0
+  start_inner v within =
+      get_or_append_left (replicate inner.nodes (pos 0)) further (pos 0) v (omega (arith, within, length-replicate {A = ℤ} inner.nodes (pos 0)))
+      ∙ get_or-replicate inner.nodes v (pos 0) (pos 0) within
+
+  start_further : (j : ℕ) → potential_at (start_of inner.nodes) (inner.nodes + j) ≡ get_or further j (pos 0)
+  start_further j =
+      ap (λ n. potential_at (start_of inner.nodes) n) {x = inner.nodes + j} {y = length (replicate inner.nodes (pos 0)) + j} (omega (arith, length-replicate {A = ℤ} inner.nodes (pos 0)))
+      ∙ get_or-append-add (replicate inner.nodes (pos 0)) further j (pos 0)
+
+  at_source : potential_at (start_of inner.nodes) inner.nodes ≡ MOST_PRICE
+  at_source = ap (potential_at (start_of inner.nodes)) {x = inner.nodes} {y = inner.nodes + 0} (omega arith) ∙ start_further 0
+
+  -- the initial potential of each node is a price
+  start_within : (v : ℕ) → v < inner.nodes + 4 → IsBetween (neg_ℤ MOST_PRICE) MOST_PRICE (potential_at (start_of inner.nodes) v)
+  start_within v within =
+      ⊎_elim (λ early. subst (IsBetween (neg_ℤ MOST_PRICE) MOST_PRICE) (sym (start_inner v early)) (record { from = omega (arith, ints); upto = omega (arith, ints) }))
+      (λ late.
+      let is : inner.nodes + (v - inner.nodes) ≡ v = omega (arith, late) in
+      subst (λ u. IsBetween (neg_ℤ MOST_PRICE) MOST_PRICE (potential_at (start_of inner.nodes) u)) is (subst (IsBetween (neg_ℤ MOST_PRICE) MOST_PRICE) (sym (start_further (v - inner.nodes))) (four (v - inner.nodes) (omega (arith, within, late)))))
+      (cases_lt v inner.nodes)
+    where
+      four : (j : ℕ) → j < 4 → IsBetween (neg_ℤ MOST_PRICE) MOST_PRICE (get_or further j (pos 0))
+      four zero h = record { from = omega (arith, ints); upto = omega (arith, ints) }
+      four (suc zero) h = record { from = omega (arith, ints); upto = omega (arith, ints) }
+      four (suc (suc zero)) h = record { from = omega (arith, ints); upto = omega (arith, ints) }
+      four (suc (suc (suc zero))) h = record { from = omega (arith, ints); upto = omega (arith, ints) }
+      four (suc (suc (suc (suc j)))) h = absurd (omega (arith, h))
+
+  at_sink : potential_at (start_of inner.nodes) (inner.nodes + 1) ≡ neg_ℤ MOST_PRICE
+  at_sink = start_further 1
+
+  at_filler : potential_at (start_of inner.nodes) (inner.nodes + 2) ≡ MOST_PRICE
+  at_filler = start_further 2
+
+  at_spill : potential_at (start_of inner.nodes) (inner.nodes + 3) ≡ neg_ℤ MOST_PRICE
+  at_spill = start_further 3
+
+  -- no link has a reduced cost below 0
+  abbrev Fits : Link → Type 0
+  Fits l = pos 0 ≤ℤ reduced_cost l (start_of inner.nodes)
+
+  fits_whole : (side : Side) (node : ℕ) (p : Part) → node < inner.nodes → Fits (whole_link side (ends hot cold inner) node p)
+  fits_whole Hot node p within = rw (at_source, start_inner node within) (omega (arith, ints))
+  fits_whole Cold node p within = rw (at_sink, start_inner node within) (omega (arith, ints))
+
+  fits_spare : (side : Side) (node : ℕ) (p : Part) → node < inner.nodes → IsBounded p → Fits (spare_link side (ends hot cold inner) node p)
+  fits_spare Hot node p within b = let upto = b.price.upto in rw (at_spill, start_inner node within) (omega (arith, ints, upto))
+  fits_spare Cold node p within b = let upto = b.price.upto in rw (at_filler, start_inner node within) (omega (arith, ints, upto))
+
+  fits_between : All Fits (links_between (ends hot cold inner) (most_of hot) (most_of cold))
+  fits_between =
+      let one : Link = record { from = inner.nodes; to = inner.nodes + 2; room = most_of cold; cost = pos 0 } in
+      let two : Link = record { from = inner.nodes + 3; to = inner.nodes + 1; room = most_of hot; cost = pos 0 } in
+      let three : Link = record { from = inner.nodes + 2; to = inner.nodes + 3; room = MOST_ROOM; cost = pos 0 } in
+      All-cons Fits one (two ∷ three ∷ []) (rw (at_source, at_filler) (omega (arith, ints)))
+      (All-cons Fits two (three ∷ []) (rw (at_spill, at_sink) (omega (arith, ints)))
+      (All-cons Fits three [] (rw (at_filler, at_spill) (omega (arith, ints))) (All-nil Fits)))
+
+  fits_inner : (l : Link) → IsInnerLink (length hot) (length cold) inner.nodes l → Fits l
+  fits_inner l h = let cost = h.cost in rw (start_inner l.from h.from_in, start_inner l.to h.to_in) (omega (arith, ints, cost))
+
+  pub start_around : AreInitialPotentials (net_around hot cold inner) (start_of inner.nodes)
+  start_around = record {
+    one_each = length-append (replicate inner.nodes (pos 0)) further ∙ ap (λ n. n + 4) (length-replicate {A = ℤ} inner.nodes (pos 0));
+    within = λ v within. let bound = start_within v within in omega (arith, sizes, bound.from, bound.upto);
+    fits = λ k within some.
+        All-net_around hot cold inner Fits (All-weaker (IsInnerLink (length hot) (length cold) inner.nodes) Fits fits_inner inner.links g.inner_net.links)
+        (λ side i p at. fits_whole side (first_node hot cold inner side + i) p (node_within side i p at))
+        (λ side i p at. fits_spare side (first_node hot cold inner side + i) p (node_within side i p at) (All-slice_get IsBounded (parts_of side hot cold) i p (bounded_of side) at))
+        fits_between k (record { from = 0; to = 0; room = pos 0; cost = pos 0 }) within;
+  }
+
+  -- ---- the size of the potentials
+
+  pub potentials_within : (potentials : List ℤ) → AreBounded (net_around hot cold inner) (start_of inner.nodes) potentials → All IsNodePotential potentials
+  potentials_within potentials bounded k d within =
+      let net = net_around hot cold inner in
+      let node : k < net.nodes = (let e = bounded.one_each in omega (arith, e, within)) in
+      let bound = bounded.bounded k node in
+      let starts = greatest-le (λ (s : ℤ). s) (start_of inner.nodes) 1000000 (pos 0) (λ j early. let h = start_within j (let e = start_around.one_each in omega (arith, e, early)) in omega (arith, sizes, h.from, h.upto)) in
+      let costs = greatest-le (λ (l : Link). l.cost) net.links 1000000 (record { from = 0; to = 0; room = pos 0; cost = pos 0 }) (λ j early. let h = (near_all j (record { from = 0; to = 0; room = pos 0; cost = pos 0 }) early).price in omega (arith, sizes, h.from, h.upto)) in
+      let nodes = g.few_nodes in
+      let times : net.nodes * largest_cost net ≤ 25004 * 1000000 = mul-le net.nodes (largest_cost net) 25004 1000000 (omega (arith, nodes)) costs in
+      let same = get_or_default potentials k d (pos 0) within in
+      let small : unsigned_abs (get_or potentials k d) ≤ 3 * 1000000 + 25004 * 1000000 = rw same (omega (arith, bound, starts, times)) in
+      record { from = omega (arith, sizes, small); upto = omega (arith, sizes, small) }

@@ -1,0 +1,5 @@
+pub mod Answer
+pub mod Around
+pub mod Members
+pub mod Pairs
+pub mod Transfers

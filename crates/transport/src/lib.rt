@@ -1,0 +1,20 @@
+//! The heat flow of least cost between parts, with prices that prove it, or a cut that proves that
+//! there is no heat flow.
+//!
+//! Heat passes through a net with a node for each part (after the transshipment model of
+//! Papoulias and Grossmann 1983). Further nodes give each hot part its most and take its most
+//! from each cold part; what a part does not exchange passes them by. So one amount is routed,
+//! and the potentials of the nodes are the prices.
+#![tactic(auto)]
+
+mod answer;
+mod cut;
+mod flow;
+mod least_cost;
+mod net;
+mod pairs;
+mod prices;
+mod route;
+
+pub use answer::Answer;
+pub use least_cost::{MOST_PAIRS, least, least_case};

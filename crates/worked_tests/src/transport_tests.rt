@@ -1,0 +1,252 @@
+//! Heat flows of least cost and cuts, in cases that were worked by hand.
+ghost use Rattle.stream_case.specs.Case.{IsComplete};
+ghost use Rattle.grid.specs.Part.{AreCaseParts};
+
+use crate::compare::assert_same;
+use crate::flows::parts_of_case;
+use crate::tables::{FOUR_STREAMS, MOST_HEAT, StreamRow, TWO_STREAMS, Table, completed_case};
+use grid::{Part, Parts};
+use heat_flow::{Cut, CutKind, Flow};
+use std::alloc::{AllocError, Global};
+use std::test::Fail;
+use stream_case::Side::{Cold, Hot};
+use stream_case::{Case, Forbid, Side, Source};
+use transport::{Answer, least_case};
+
+/// What a case answers: the cost and what each utility gives or takes, in the order of the
+/// utilities, or a cut.
+#[derive(Clone, Copy)]
+enum Wanted {
+    Cost(i128, &'static [i64]),
+    /// The kind, the need, the offer, and the sources of the parts.
+    Stuck(CutKind, i64, i64, &'static [Source]),
+}
+
+const ONE_HOT: [StreamRow; 1] = [("H", Hot, 1000, 500, 10)];
+
+const ONE_COLD: [StreamRow; 1] = [("C", Cold, 200, 500, 10)];
+
+const PAIR: Forbid = Forbid {
+    hot: Source::Stream(0),
+    cold: Source::Stream(1),
+};
+
+const CASES: [(&str, Table, Wanted); 12] = [
+    (
+        "two steam levels",
+        Table {
+            utilities: &[
+                ("HP", Hot, 1700, 0, MOST_HEAT, 3),
+                ("LP", Hot, 910, 0, MOST_HEAT, 1),
+            ],
+            ..FOUR_STREAMS
+        },
+        Wanted::Cost(57_000, &[18_500, 1_500, 60_000]),
+    ),
+    (
+        "a heater that must run",
+        Table {
+            streams: &ONE_HOT,
+            utilities: &[
+                ("S", Hot, 450, 100, 1000, 2),
+                ("W", Cold, 350, 0, MOST_HEAT, 0),
+            ],
+            ..TWO_STREAMS
+        },
+        Wanted::Cost(200, &[100, 5_100]),
+    ),
+    (
+        "a forbidden match",
+        Table {
+            forbids: &[PAIR],
+            ..TWO_STREAMS
+        },
+        Wanted::Cost(4_000, &[4_000, 5_000]),
+    ),
+    (
+        "too little cooling",
+        Table {
+            streams: &[("H", Hot, 1000, 500, 10), ("C", Cold, 300, 400, 10)],
+            utilities: &[("CW", Cold, 200, 0, 1000, 0)],
+            ..TWO_STREAMS
+        },
+        Wanted::Stuck(CutKind::Supply, 5_000, 2_000, &[Source::Stream(0)]),
+    ),
+    (
+        "a heater that is too cold",
+        Table {
+            streams: &ONE_COLD,
+            utilities: &[("ST", Hot, 400, 0, MOST_HEAT, 1)],
+            ..TWO_STREAMS
+        },
+        Wanted::Stuck(CutKind::Demand, 2_000, 0, &[Source::Stream(0)]),
+    ),
+    (
+        "a heater whose least is its most",
+        Table {
+            streams: &ONE_COLD,
+            utilities: &[
+                ("A", Hot, 900, 700, 700, 9),
+                ("B", Hot, 800, 0, 0, -5),
+                ("D", Hot, 700, 0, MOST_HEAT, 4),
+            ],
+            ..TWO_STREAMS
+        },
+        Wanted::Cost(15_500, &[700, 0, 2_300, 0]),
+    ),
+    (
+        "a heater that is paid for",
+        Table {
+            streams: &ONE_COLD,
+            utilities: &[
+                ("A", Hot, 900, 0, 5_000, -2),
+                ("W", Cold, 100, 0, 1_000, 1),
+            ],
+            ..TWO_STREAMS
+        },
+        Wanted::Cost(-7_000, &[4_000, 1_000]),
+    ),
+    (
+        "two heaters at one level",
+        Table {
+            streams: &ONE_COLD,
+            utilities: &[
+                ("A", Hot, 900, 0, 2_000, 2),
+                ("B", Hot, 900, 0, 5_000, 3),
+            ],
+            ..TWO_STREAMS
+        },
+        Wanted::Cost(7_000, &[2_000, 1_000, 0]),
+    ),
+    (
+        "every pair forbidden",
+        Table {
+            streams: &[("H", Hot, 1000, 500, 10), ("C", Cold, 300, 700, 10)],
+            utilities: &[
+                ("S", Hot, 1700, 0, MOST_HEAT, 1),
+                ("W", Cold, 100, 0, MOST_HEAT, 0),
+            ],
+            forbids: &[
+                PAIR,
+                Forbid {
+                    hot: Source::Stream(0),
+                    cold: Source::Utility(1),
+                },
+                Forbid {
+                    hot: Source::Utility(0),
+                    cold: Source::Stream(1),
+                },
+                Forbid {
+                    hot: Source::Utility(0),
+                    cold: Source::Utility(1),
+                },
+            ],
+            ..TWO_STREAMS
+        },
+        Wanted::Stuck(
+            CutKind::Supply,
+            5_000,
+            0,
+            &[Source::Stream(0), Source::Stream(0)],
+        ),
+    ),
+    (
+        "two cold streams and one heater",
+        Table {
+            streams: &[("C", Cold, 200, 500, 10), ("D", Cold, 500, 700, 5)],
+            utilities: &[("S", Hot, 1000, 0, 3_500, 1)],
+            ..TWO_STREAMS
+        },
+        Wanted::Stuck(
+            CutKind::Demand,
+            4_000,
+            3_500,
+            &[Source::Stream(1), Source::Stream(0)],
+        ),
+    ),
+    (
+        "two hot streams and one cooler",
+        Table {
+            streams: &[("H", Hot, 700, 500, 10), ("K", Hot, 500, 400, 5)],
+            utilities: &[("W", Cold, 100, 0, 2_400, 1)],
+            ..TWO_STREAMS
+        },
+        Wanted::Stuck(
+            CutKind::Supply,
+            2_500,
+            2_400,
+            &[Source::Stream(0), Source::Stream(1)],
+        ),
+    ),
+    (
+        "no hot parts but the heater",
+        Table {
+            streams: &ONE_COLD,
+            ..TWO_STREAMS
+        },
+        Wanted::Cost(3_000, &[3_000, 0]),
+    ),
+];
+
+/// What the transfers of a utility add up to.
+fn utility_heat(flow: &Flow, parts: &[Part], side: Side, source: Source) -> i128 {
+    let mut heat = 0i128;
+    for transfer in flow.transfers.as_slice() {
+        if let Some(part) = parts.get(transfer.part_index(side) as usize) {
+            if part.source == source {
+                heat = heat.saturating_add(i128::from(transfer.heat));
+            }
+        }
+    }
+    heat
+}
+
+/// The sources of the parts of a cut.
+fn sources_of(alloc: Global, parts: &Parts, cut: &Cut) -> Result<Vec<Source>, AllocError> {
+    let own = match cut.kind {
+        CutKind::Demand => parts.cold.as_slice(),
+        CutKind::Supply => parts.hot.as_slice(),
+    };
+    let mut sources = Vec::new(alloc);
+    for member in cut.parts.as_slice() {
+        if let Some(part) = own.get(*member as usize) {
+            sources.push(part.source)?;
+        }
+    }
+    Ok(sources)
+}
+
+fn answer_of(alloc: Global, case: &Case, parts: &Parts) -> Result<Answer, AllocError>
+    requires complete { IsComplete case.now }
+    requires parts { AreCaseParts case.now parts.now.hot parts.now.cold }
+{
+    least_case(alloc, case, parts)
+}
+
+#[test]
+fn cases_have_these_least_costs_and_cuts(rt: HostRuntime) -> Result<(), Fail> {
+    for (at, table, wanted) in &CASES {
+        let case = completed_case(rt.alloc(), table)?;
+        let parts = parts_of_case(rt.alloc(), &case)?;
+        match (answer_of(rt.alloc(), &case, &parts)?, *wanted) {
+            (Answer::Least { flow, prices: _, cost }, Wanted::Cost(least, uses)) => {
+                assert_same(&rt, at, &cost, &least);
+                for (index, utility) in case.utilities.as_slice().iter().enumerate() {
+                    let own = match utility.side {
+                        Hot => parts.hot.as_slice(),
+                        Cold => parts.cold.as_slice(),
+                    };
+                    let heat = utility_heat(&flow, own, utility.side, Source::Utility(index as u32));
+                    assert_same(&rt, at, &heat, &i128::from(uses[index]));
+                }
+            }
+            (Answer::Stuck(cut), Wanted::Stuck(kind, need, offer, sources)) => {
+                assert_same(&rt, at, &(cut.kind, cut.need, cut.offer), &(kind, need, offer));
+                let found = sources_of(rt.alloc(), &parts, &cut)?;
+                assert_same(&rt, at, &(found.as_slice() == sources), &true);
+            }
+            _ => assert_same(&rt, at, &false, &true),
+        }
+    }
+    Ok(())
+}
