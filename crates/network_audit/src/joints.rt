@@ -10,14 +10,14 @@ use stream_case::Source;
 
 /// The branch before a pass, and the branch behind it.
 #[derive(Clone, Copy)]
-pub(crate) struct Crossing {
+pub struct Crossing {
     pub from: u32,
     pub to: u32,
 }
 
 /// An exchanger, and the branches that pass it on its two sides.
 #[derive(Clone, Copy)]
-pub(crate) struct Joint {
+pub struct Joint {
     pub hot: Source,
     pub cold: Source,
     /// In W.
@@ -27,8 +27,8 @@ pub(crate) struct Joint {
     pub taken: Option<Crossing>,
 }
 
-/// The exchangers of a network with all passes.
-pub(crate) fn joints_of(alloc: Global, network: &Network) -> Result<Vec<Joint>, AllocError>
+/// The exchangers of a network in order, with all passes.
+pub fn joints_of(alloc: Global, network: &Network) -> Result<Vec<Joint>, AllocError>
     requires { All (PassesBelow (length (exchangers_of network.now.lines))) network.now.lines }
     ensures { IfOk result (λ joints. joints.items ≡ joints_of network.now) }
 {
@@ -101,7 +101,7 @@ fn noted(
 
 /// The stream of the branch with a number; the first, of which no rule speaks, where there is none.
 #[tactic(auto, unfolding(network_text::specs::Lines::stream_at))]
-pub(crate) fn stream_at(branches: &[Branch], number: u32) -> u32
+pub fn stream_at(branches: &[Branch], number: u32) -> u32
     ensures { result ≡ stream_at branches.now number }
 {
     match branches.get(number as usize) {

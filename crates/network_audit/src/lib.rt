@@ -21,5 +21,6 @@ mod walk;
 
 pub use auditor::Auditor;
 pub use findings::{Place, Reason};
+pub use joints::{Crossing, Joint, joints_of, stream_at};
 pub use network_values::BranchValue;
 pub use verdict::{Balance, Verdict};
