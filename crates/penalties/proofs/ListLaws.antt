@@ -1,30 +1,27 @@
 -- Listed penalties are not negative, and add up to the excess.
-use Rattle.std.proofs.Common.{◌≡◌, ◌∙◌, ◌+◌, ◌∷◌, ℕ, ℤ, List, [], All, length, get_or, refl, sym, ap, ap₂, subst}
+use Rattle.std.proofs.Common.{◌≡◌, ◌∙◌, ◌+◌, ◌∷◌, ℕ, ℤ, List, [], All, length, refl, sym, ap, ap₂, subst}
 use Rattle.std.specs.List.{enumerate_from, filter_map}
 use Rattle.std.proofs.lemmas.List.Elements.{All-append, All-cons, All-head, All-map, All-nil, All-same, All-tail}
 use Rattle.sums.proofs.EnumerationLemmas.{All-enumerated}
 use Rattle.stream_case.specs.declared.case.Case.{Case}
-use Rattle.stream_case.specs.declared.source.Source.{Source}
-use Rattle.stream_case.specs.declared.source.Source.TheVariants as source
-use Rattle.fractions.specs.Rationals.{IsAtMost, Rational, minus, plus, rational_sum_by, rational_zero, whole}
-use Rattle.fractions.proofs.RationalSums.{rational_sum_by-append, rational_sum_by-map, rational_sum_by-same}
+use Rattle.fractions.specs.Rationals.{IsAtMost, Rational, plus, rational_sum_by, rational_zero}
+use Rattle.fractions.proofs.RationalSums.{rational_sum_by-append, rational_sum_by-map}
 use Rattle.fractions.proofs.Sums.{zero-plus}
-use Rattle.network_text.specs.Lines.{Exchanger, exchangers_of}
+use Rattle.network_text.specs.Lines.{exchangers_of}
 use Rattle.network_text.specs.Shape.{HasShape}
 use Rattle.network_text.specs.declared.network.Line.{Line}
 use Rattle.network_text.specs.declared.network.Line.TheVariants as line
 use Rattle.network_text.specs.declared.network.Network.{Network}
-use Rattle.problem_table.specs.Deficit.{IsReferencePlace, hot_target}
-use Rattle.network_values.specs.Penalties.{HasNoNegativePenalty, height_at, hot_heat}
+use Rattle.problem_table.specs.Deficit.{IsReferencePlace}
+use Rattle.network_values.specs.Penalties.{HasNoNegativePenalty, height_at}
 use Rattle.network_values.specs.Sides.{KeepApproaches}
 use Rattle.network_values.specs.Values.{AreEnded, IsWholeValuation, Valuation}
 use Rattle.network_values.specs.Weights.{mix_loss}
 use Rattle.network_values.proofs.PenaltyLemmas.{penalties_excess}
 use Rattle.network_values.proofs.SignLemmas.{penalties_sign}
 use Rattle.network_values.proofs.ValuationLemmas.{one_valuation}
-use Rattle.network_audit.specs.Balance.{excess_of, utility_part}
+use Rattle.network_audit.specs.Balance.{excess_of}
 use Rattle.network_audit.specs.Valid.{IsValidNetwork}
-use Rattle.network_values.specs.Penalties.{hot_duty}
 use Rattle.penalties.specs.Answers.{IsNotNegative, ListsPenalties, sum_of}
 use Rattle.penalties.specs.Rows.{exchanger_row, exchanger_rows, mix_row, mix_rows, penalties_of}
 use Rattle.penalties.specs.declared.list.Penalty.{Penalty}
@@ -63,17 +60,6 @@ module _ (case : Case) (network : Network) (shape : HasShape case network) (vali
   same_values : (values : Valuation) → IsWholeValuation case network values → valid.values ≡ values
   same_values values is = one_valuation case network (length network.lines) valid.values values shape valid.valuation is
 
-  -- the same heat of the hot utilities
-  same_heat : hot_heat network ≡ rational_sum_by (λ e. utility_part e.duty e.hot) (exchangers_of network.lines)
-  same_heat = rational_sum_by-same hot_duty (λ e. utility_part e.duty e.hot) (exchangers_of network.lines) (λ k d within. by (get_or (exchangers_of network.lines) k d))
-    where
-      side : (e : Exchanger) (of : Source) → hot_duty (record e { hot = of }) ≡ utility_part e.duty of
-      side e (source.Stream i) = refl
-      side e (source.Utility i) = refl
-
-      by : (e : Exchanger) → hot_duty e ≡ utility_part e.duty e.hot
-      by e = side e e.hot
-
   rows_not_negative : (reference : ℤ) (values : Valuation) → IsWholeValuation case network values → All IsNotNegative (penalties_of case reference network values)
   unfolding exchanger_rows mix_rows
   rows_not_negative reference values whole_values =
@@ -92,7 +78,6 @@ module _ (case : Case) (network : Network) (shape : HasShape case network) (vali
       rational_sum_by-append value_of (exchanger_rows height network) (mix_rows height network.lines)
       ∙ ap₂ plus (rational_sum_by-map value_of (exchanger_row height network) (enumerate_from 0 (exchangers_of network.lines))) (sum-mixes height 0 network.lines)
       ∙ penalties_excess case network values reference shape whole_values (subst (AreEnded case network) (same_values values whole_values) valid.ended) is_reference
-      ∙ ap (λ heat. minus heat (whole (hot_target case.streams))) same_heat
 
   pub listed_not_negative : (listed : List Penalty) → ListsPenalties case network (list.Listed listed) → All IsNotNegative listed
   listed_not_negative listed is = All-same IsNotNegative listed _ is.lists.1 (rows_not_negative is.reference is.values is.valuation)

@@ -1,7 +1,6 @@
 //! Heights of branches above the reference place.
 ghost use Rattle.std.specs.Prelude.{◌≡◌, ◌+◌, ◌<◌, ◌^◌};
 ghost use Rattle.fractions.specs.Rationals.{minus};
-ghost use Rattle.network_text.specs.Lines.{stream_at};
 ghost use Rattle.network_values.specs.Heights.{height};
 ghost use Rattle.network_values.specs.Penalties.{base_of};
 ghost use Rattle.penalties.specs.Answers.{Formed};
@@ -9,8 +8,8 @@ ghost use Rattle.penalties.specs.Steps.{height_steps};
 
 use crate::list::TooFine;
 use fractions::Frac;
-use network_audit::{Auditor, Place};
-use network_text::{Branch, Network};
+use network_audit::{Auditor, Place, stream_at};
+use network_text::Network;
 use network_values::BranchValue;
 use stream_case::{Case, Side, Stream};
 
@@ -52,17 +51,6 @@ fn height(place: Place, step: u32, base: &Frac, value: &BranchValue) -> Result<F
     match value.cp.times(&distance) {
         Some(height) => Ok(height),
         None => Err(TooFine { place, step }),
-    }
-}
-
-/// The stream of the branch with a number; the first, of which no rule speaks, where there is none.
-#[tactic(auto, unfolding(network_text::specs::Lines::stream_at))]
-fn stream_at(branches: &[Branch], number: u32) -> u32
-    ensures { result ≡ stream_at branches.now number }
-{
-    match branches.get(number as usize) {
-        Some(branch) => branch.stream,
-        None => 0,
     }
 }
 
