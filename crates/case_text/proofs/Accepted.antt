@@ -25,9 +25,12 @@ use Rattle.stream_case.specs.declared.stream.Stream.{Stream}
 use Rattle.stream_case.specs.declared.utility.Utility.{Utility}
 use Rattle.stream_case.proofs.NameTests.{passed-name}
 use Rattle.stream_case.proofs.SourceLemmas.{Decides-is_right_way}
-use Rattle.case_text.specs.Rows.{field, kind_of, number}
+use Rattle.row_fields.specs.Fields.{field, number}
+use Rattle.row_fields.specs.Numbers.{is_within}
+use Rattle.row_fields.proofs.Tests.{Decides-int_le, Decides-is_within}
+use Rattle.case_text.specs.Rows.{kind_of}
 use Rattle.case_text.specs.Given.{Given, case_of, entry_by, nothing, source_at, stream_data, stream_of, utility_data, utility_of, with_entry}
-use Rattle.case_text.specs.Checks.{checks, contribution_checks, end_checks, forbid_checks, is_reserved, is_reserved_from, is_taken, is_within, kind_checks, stream_checks, stream_number_checks, utility_checks, utility_number_checks}
+use Rattle.case_text.specs.Checks.{checks, contribution_checks, end_checks, forbid_checks, is_reserved, is_reserved_from, is_taken, kind_checks, stream_checks, stream_number_checks, utility_checks, utility_number_checks}
 use Rattle.case_text.specs.Answers.{HasFewSources}
 use Rattle.case_text.specs.Outcome.{IsCase, IsOutcome, end_fault, grammar}
 use Rattle.case_text.specs.declared.fault.CaseFault.{CaseFault}
@@ -39,7 +42,7 @@ use Rattle.case_text.specs.declared.kind.Kind.{Kind}
 use Rattle.case_text.specs.declared.kind.Kind.TheVariants as kind
 use Rattle.case_text.proofs.ListLemmas.{All-back, All-front, AllPairs-insert}
 use Rattle.case_text.proofs.Sources.{Streams, Utilities, count_on-case, few_with_stream, names_of-case, side_in, side_of-case}
-use Rattle.case_text.proofs.Tests.{Decides-int_le, Decides-is_forbidden, Decides-is_reserved, Decides-is_reserved_from, Decides-is_taken, Decides-is_within, IsRightNameOf, source_on}
+use Rattle.case_text.proofs.Tests.{Decides-is_forbidden, Decides-is_reserved, Decides-is_reserved_from, Decides-is_taken, IsRightNameOf, source_on}
 
 -- a stream, a utility and a forbidden match of a valid case, whatever its contribution
 record StreamFits (s : List ℕ × StreamData) : Type 0 where

@@ -1,13 +1,10 @@
 -- What the tests of the checks decide.
-use Rattle.std.proofs.Common.{◌≡◌, ◌≢◌, ◌∙◌, ◌≤ℤ◌, inl, inr, ℕ, ℤ, Bool, true, false, not, ◌&&◌, ◌||◌, List, All, Decides, Option, Some, None, refl, sym, ap, arith}
-use Rattle.std.specs.Prelude.{codes, int_le}
-use Rattle.std.specs.List.{list_any}
+use Rattle.std.proofs.Common.{◌≡◌, ◌≢◌, ◌∙◌, inl, inr, ℕ, true, not, ◌&&◌, List, All, Decides, Option, Some, None, refl, sym, ap}
+use Rattle.std.specs.Prelude.{codes}
 use Rattle.std.specs.Str.{bytes_eq}
 use Rattle.std.specs.Cmp.Lexicographic.{bytes_decides}
-use Rattle.std.proofs.lemmas.Bool.Decides.{Decides-and, Decides-by_and, Decides-like, Decides-not, Decides-or}
-use Rattle.std.proofs.lemmas.Int.{ints}
+use Rattle.std.proofs.lemmas.Bool.Decides.{Decides-and, Decides-like, Decides-not, Decides-or}
 use Rattle.stream_case.specs.Case.{IsUnreserved, is_forbidden, names_of, side_of, source_named}
-use Rattle.stream_case.specs.Limits.{IsBetween}
 use Rattle.stream_case.specs.Source.{same_source}
 use Rattle.stream_case.specs.declared.case.Case.{Case}
 use Rattle.stream_case.specs.declared.case.Forbid.{Forbid}
@@ -16,22 +13,8 @@ use Rattle.stream_case.specs.declared.source.Side.TheVariants as side
 use Rattle.stream_case.specs.declared.source.Source.{Source}
 use Rattle.stream_case.proofs.SourceLemmas.{own_side, same_side-true, same_source-same, same_source-true}
 use Rattle.case_text.specs.Given.{Given, case_of, source_at}
-use Rattle.case_text.specs.Checks.{is_on, is_reserved, is_reserved_from, is_source, is_taken, is_within}
-
--- ---- numbers
-
-pub Decides-int_le : (a b : ℤ) → Decides (int_le a b) (a ≤ℤ b)
-Decides-int_le a b = (λ e. grind (arith, ints, e), λ h. grind (arith, ints, h))
-
-pub Decides-is_within : (low high n : ℤ) → Decides (is_within low high n) (IsBetween low high n)
-unfolding is_within
-Decides-is_within low high n = Decides-like _ (λ (from, upto). record { from = from; upto = upto }) (λ h. (h.from, h.upto)) (Decides-and _ _ (Decides-int_le low n) (Decides-int_le n high))
-
--- ---- lists
-
--- no item passes
-Decides-none : {X : Type 0} (p : X → Bool) (P : X → Type 0) → ((x : X) → Decides (p x) (P x)) → (xs : List X) → Decides (not (list_any p xs)) (All (λ x. ¬ (P x)) xs)
-Decides-none p P each xs = Decides-by_and (λ x. not (p x)) (λ x. ¬ (P x)) (λ ys. not (list_any p ys)) (λ x. Decides-not (p x) (each x)) refl (λ x ys. elim (p x) as (λ b. not (b || list_any p ys) ≡ (not b && not (list_any p ys))) [ true ↦ refl | false ↦ refl ]) xs
+use Rattle.row_fields.proofs.Tests.{Decides-none}
+use Rattle.case_text.specs.Checks.{is_on, is_reserved, is_reserved_from, is_source, is_taken}
 
 -- ---- names
 

@@ -1,5 +1,5 @@
 -- The checks of a row, in their order. A check is a sentence on the row and on what the rows before it gave.
-use Rattle.std.specs.Prelude.{ℕ, ℤ, pos, neg_ℤ, Bool, false, not, ◌==◌, ◌&&◌, ◌||◌, List, [], ◌∷◌, length, Option, Some, None, is_some, is_none, nat_lt, int_le, option_and_then, codes}
+use Rattle.std.specs.Prelude.{ℕ, Bool, false, not, ◌==◌, ◌||◌, List, [], ◌∷◌, length, Option, Some, None, is_some, is_none, nat_lt, int_le, option_and_then, codes}
 use Rattle.std.specs.List.{list_any}
 use Rattle.std.specs.Str.{bytes_eq}
 use Rattle.csv_rows.specs.Rows.{Row}
@@ -9,40 +9,17 @@ use Rattle.stream_case.specs.Name.{is_name}
 use Rattle.stream_case.specs.Source.{is_right_way, same_side}
 use Rattle.stream_case.specs.Stream.{count_on}
 use Rattle.stream_case.specs.declared.case.Case.{Case}
-use Rattle.stream_case.specs.declared.limits.TheConstants.{HIGHEST_TEMPERATURE, LOWEST_TEMPERATURE, MOST_CONTRIBUTION, MOST_CP, MOST_FORBIDS, MOST_HEAT, MOST_PRICE, MOST_STREAMS, MOST_UTILITIES}
+use Rattle.stream_case.specs.declared.limits.TheConstants.{MOST_FORBIDS, MOST_STREAMS, MOST_UTILITIES}
 use Rattle.stream_case.specs.declared.source.Side.{Side}
 use Rattle.stream_case.specs.declared.source.Side.TheVariants as side
-use Rattle.case_text.specs.Rows.{are_empty, field, is_number, kind_of, number}
+use Rattle.row_fields.specs.Fields.{are_empty, field, is_number, number}
+use Rattle.row_fields.specs.Numbers.{is_contribution, is_flow_rate, is_heat, is_price, is_temperature}
+use Rattle.case_text.specs.Rows.{kind_of}
 use Rattle.case_text.specs.Given.{Given, case_of, source_at}
 use Rattle.case_text.specs.declared.fault.CaseWhy.{CaseWhy}
 use Rattle.case_text.specs.declared.fault.CaseWhy.TheVariants as why
 use Rattle.case_text.specs.declared.kind.Kind.{Kind}
 use Rattle.case_text.specs.declared.kind.Kind.TheVariants as kind
-
--- ---- numbers
-
-unfoldable pub is_within : ℤ → ℤ → ℤ → Bool
-is_within low high n = int_le low n && int_le n high
-
--- in tenths of °C
-abbrev pub is_temperature : ℤ → Bool
-is_temperature n = is_within LOWEST_TEMPERATURE HIGHEST_TEMPERATURE n
-
--- in tenths of °C
-abbrev pub is_contribution : ℤ → Bool
-is_contribution n = is_within (pos 0) MOST_CONTRIBUTION n
-
--- in 10 W/K
-abbrev pub is_flow_rate : ℤ → Bool
-is_flow_rate n = is_within (pos 1) MOST_CP n
-
--- in W
-abbrev pub is_heat : ℤ → Bool
-is_heat n = is_within (pos 0) MOST_HEAT n
-
--- of one W
-abbrev pub is_price : ℤ → Bool
-is_price n = is_within (neg_ℤ MOST_PRICE) MOST_PRICE n
 
 -- ---- names
 

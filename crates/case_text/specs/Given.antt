@@ -9,7 +9,8 @@ use Rattle.stream_case.specs.declared.source.Source.{Source}
 use Rattle.stream_case.specs.declared.source.Source.TheVariants as source
 use Rattle.stream_case.specs.declared.stream.Stream.{Stream}
 use Rattle.stream_case.specs.declared.utility.Utility.{Utility}
-use Rattle.case_text.specs.Rows.{field, kind_of, number}
+use Rattle.row_fields.specs.Fields.{field, number}
+use Rattle.case_text.specs.Rows.{kind_of}
 use Rattle.case_text.specs.declared.entry.Entry.{Entry}
 use Rattle.case_text.specs.declared.entry.Entry.TheVariants as entry
 use Rattle.case_text.specs.declared.entry.StreamData.{StreamData}

@@ -1,4 +1,3 @@
-pub mod Numbers
 pub mod Rows
 pub mod Given
 pub mod Checks

@@ -3,15 +3,14 @@
 ghost use Rattle.std.specs.Prelude.{◌≡◌};
 ghost use Rattle.csv.specs.Records.{fields_of};
 ghost use Rattle.first_fault.specs.Checks.{Checked};
-ghost use Rattle.case_text.specs.Rows.{number};
+ghost use Rattle.row_fields.specs.Fields.{number};
 ghost use Rattle.case_text.specs.Checks.{contribution_checks};
 
 use crate::entry::Entry;
 use crate::fault::CaseWhy;
-use crate::fields::{are_empty, number_in};
 use crate::found::Found;
-use crate::number::contribution;
 use csv::ByteRecord;
+use row_fields::{are_empty, contribution, number_in};
 
 /// What a row of that kind gives.
 #[tactic(auto, unfolding(crate::specs::Checks::contribution_checks))]
@@ -24,6 +23,7 @@ pub fn contribution_entry(found: &Found, row: &ByteRecord) -> Result<Entry, Case
     if found.has_contribution() {
         return Err(CaseWhy::Repeated);
     }
-    let number = number_in(row, 2)?;
-    Ok(Entry::Contribution(contribution(number)?))
+    let number = number_in(row, 2, CaseWhy::BadNumber)?;
+    let contribution = contribution(number, CaseWhy::OutOfRange)?;
+    Ok(Entry::Contribution(contribution))
 }

@@ -8,9 +8,9 @@ ghost use Rattle.case_text.specs.Checks.{forbid_checks};
 
 use crate::entry::Entry;
 use crate::fault::CaseWhy;
-use crate::fields::{are_empty, name_in};
 use crate::found::Found;
 use csv::ByteRecord;
+use row_fields::{are_empty, name_in};
 use stream_case::{Forbid, MOST_FORBIDS, Side};
 
 /// What a row of that kind gives.
@@ -24,8 +24,8 @@ pub fn forbid_entry(found: &Found, row: &ByteRecord) -> Result<Entry, CaseWhy>
     if found.count_forbids() >= MOST_FORBIDS {
         return Err(CaseWhy::TooMany);
     }
-    let hot = name_in(row, 1)?;
-    let cold = name_in(row, 2)?;
+    let hot = name_in(row, 1, CaseWhy::BadName)?;
+    let cold = name_in(row, 2, CaseWhy::BadName)?;
     let forbid = Forbid {
         hot: found.source(Side::Hot, &hot)?,
         cold: found.source(Side::Cold, &cold)?,

@@ -2,10 +2,10 @@
 
 ghost use Rattle.std.specs.Prelude.{◌≡◌};
 ghost use Rattle.csv.specs.Records.{fields_of};
-ghost use Rattle.case_text.specs.Rows.{is_passed_over, kind_in, kind_of};
+ghost use Rattle.case_text.specs.Rows.{kind_in, kind_of};
 
-use crate::fields::{are_empty, field};
 use csv::ByteRecord;
+use row_fields::{field, is_passed_over};
 use stream_case::Side;
 
 /// What a row describes.
@@ -17,18 +17,6 @@ pub enum Kind {
     Stream(Side),
     Utility(Side),
     Forbid,
-}
-
-/// Whether a row of seven fields is passed over: its fields are empty, or the first one begins
-/// with `#`.
-#[tactic(auto, unfolding(crate::specs::Rows::is_passed_over))]
-fn is_passed_over(row: &ByteRecord) -> bool
-    ensures { result ≡ is_passed_over (fields_of row.now) }
-{
-    if are_empty(row, &[0, 1, 2, 3, 4, 5, 6]) {
-        return true;
-    }
-    field(row, 0).starts_with(b"#")
 }
 
 /// The kind that a text names.

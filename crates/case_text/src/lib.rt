@@ -8,12 +8,10 @@
 mod contribution_row;
 mod entry;
 mod fault;
-mod fields;
 mod forbid_row;
 mod found;
 mod kind;
 mod laws;
-mod number;
 mod printer;
 mod reader;
 mod stream_row;
@@ -21,6 +19,6 @@ mod utility_row;
 
 pub use fault::{CaseFault, CaseWhy};
 pub use laws::{rows_have_one_outcome, valid_cases_are_those_of_the_grammar};
-pub use number::number_of;
 pub use printer::print_case;
 pub use reader::read_case;
+pub use row_fields::number_of;

@@ -3,17 +3,16 @@
 ghost use Rattle.std.specs.Prelude.{◌≡◌, IfOk};
 ghost use Rattle.csv.specs.Records.{fields_of};
 ghost use Rattle.first_fault.specs.Checks.{Checked};
-ghost use Rattle.case_text.specs.Rows.{field};
+ghost use Rattle.row_fields.specs.Fields.{field};
 ghost use Rattle.case_text.specs.Given.{stream_data};
 ghost use Rattle.case_text.specs.Checks.{is_reserved, stream_checks, stream_number_checks};
 ghost use Rattle.case_text.specs.Answers.{IsFresh};
 
 use crate::entry::{Entry, StreamData};
 use crate::fault::CaseWhy;
-use crate::fields::{are_empty, name_in, number_in};
 use crate::found::Found;
-use crate::number::{flow_rate, temperature};
 use csv::ByteRecord;
+use row_fields::{are_empty, flow_rate, name_in, number_in, temperature};
 use stream_case::{MOST_STREAMS, Side};
 
 /// Whether no stream may have this name.
@@ -29,12 +28,12 @@ fn is_reserved(name: &[u8]) -> bool
 fn stream_data(side: Side, row: &ByteRecord) -> Result<StreamData, CaseWhy>
     ensures { Checked (stream_number_checks side (fields_of row.now)) (λ s. s ≡ stream_data side (fields_of row.now)) result }
 {
-    let supply = number_in(row, 2)?;
-    let target = number_in(row, 3)?;
-    let cp = number_in(row, 4)?;
-    let supply = temperature(supply)?;
-    let target = temperature(target)?;
-    let cp = flow_rate(cp)?;
+    let supply = number_in(row, 2, CaseWhy::BadNumber)?;
+    let target = number_in(row, 3, CaseWhy::BadNumber)?;
+    let cp = number_in(row, 4, CaseWhy::BadNumber)?;
+    let supply = temperature(supply, CaseWhy::OutOfRange)?;
+    let target = temperature(target, CaseWhy::OutOfRange)?;
+    let cp = flow_rate(cp, CaseWhy::OutOfRange)?;
     if !side.is_right_way(supply, target) {
         return Err(CaseWhy::WrongWay);
     }
@@ -58,7 +57,7 @@ pub fn stream_entry(found: &Found, side: Side, row: &ByteRecord) -> Result<Entry
     if found.count_streams(side) >= MOST_STREAMS {
         return Err(CaseWhy::TooMany);
     }
-    let name = name_in(row, 1)?;
+    let name = name_in(row, 1, CaseWhy::BadName)?;
     if is_reserved(name.as_bytes()) {
         return Err(CaseWhy::BadName);
     }

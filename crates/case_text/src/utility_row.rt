@@ -3,17 +3,16 @@
 ghost use Rattle.std.specs.Prelude.{◌≡◌, IfOk};
 ghost use Rattle.csv.specs.Records.{fields_of};
 ghost use Rattle.first_fault.specs.Checks.{Checked};
-ghost use Rattle.case_text.specs.Rows.{field};
+ghost use Rattle.row_fields.specs.Fields.{field};
 ghost use Rattle.case_text.specs.Given.{utility_data};
 ghost use Rattle.case_text.specs.Checks.{is_reserved_from, utility_checks, utility_number_checks};
 ghost use Rattle.case_text.specs.Answers.{IsFresh};
 
 use crate::entry::{Entry, UtilityData};
 use crate::fault::CaseWhy;
-use crate::fields::{are_empty, name_in, number_in};
 use crate::found::Found;
-use crate::number::{heat, price, temperature};
 use csv::ByteRecord;
+use row_fields::{are_empty, heat, name_in, number_in, price, temperature};
 use stream_case::{MOST_UTILITIES, Side};
 
 /// Whether no utility of this side may have this name.
@@ -32,14 +31,14 @@ fn is_reserved_from(side: Side, name: &[u8]) -> bool
 fn utility_data(side: Side, row: &ByteRecord) -> Result<UtilityData, CaseWhy>
     ensures { Checked (utility_number_checks (fields_of row.now)) (λ u. u ≡ utility_data side (fields_of row.now)) result }
 {
-    let level = number_in(row, 2)?;
-    let least = number_in(row, 3)?;
-    let most = number_in(row, 4)?;
-    let each = number_in(row, 5)?;
-    let level = temperature(level)?;
-    let least = heat(least)?;
-    let most = heat(most)?;
-    let price = price(each)?;
+    let level = number_in(row, 2, CaseWhy::BadNumber)?;
+    let least = number_in(row, 3, CaseWhy::BadNumber)?;
+    let most = number_in(row, 4, CaseWhy::BadNumber)?;
+    let each = number_in(row, 5, CaseWhy::BadNumber)?;
+    let level = temperature(level, CaseWhy::OutOfRange)?;
+    let least = heat(least, CaseWhy::OutOfRange)?;
+    let most = heat(most, CaseWhy::OutOfRange)?;
+    let price = price(each, CaseWhy::OutOfRange)?;
     if least > most {
         return Err(CaseWhy::BadRange);
     }
@@ -64,7 +63,7 @@ pub fn utility_entry(found: &Found, side: Side, row: &ByteRecord) -> Result<Entr
     if found.count_utilities() >= MOST_UTILITIES {
         return Err(CaseWhy::TooMany);
     }
-    let name = name_in(row, 1)?;
+    let name = name_in(row, 1, CaseWhy::BadName)?;
     if is_reserved_from(side, name.as_bytes()) {
         return Err(CaseWhy::BadName);
     }

@@ -1,5 +1,5 @@
 -- The parts of an audit behind the statements, joined to its finding or to its balance.
-use Rattle.std.proofs.Common.{◌≡◌, ◌∙◌, ◌<◌, ◌≤◌, ◌+◌, ◌∷◌, ◌++◌, ◌==◌, ℕ, true, cond, List, [], Some, None, length, take, refl, sym, ap, subst, arith}
+use Rattle.std.proofs.Common.{◌≡◌, ◌∙◌, ◌+◌, ◌++◌, [], Some, None, length, refl, sym, ap, arith}
 use Rattle.std.specs.Prelude.{if◌then◌else◌}
 use Rattle.std.specs.List.{enumerate_from, flat_map}
 use Rattle.std.proofs.lemmas.Bool.{eq-eqb}

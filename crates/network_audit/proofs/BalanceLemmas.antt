@@ -1,5 +1,5 @@
 -- The balance from the heats of the utilities is that of the network, and so are its steps.
-use Rattle.std.proofs.Common.{◌≡◌, ◌∙◌, ◌<◌, ◌+◌, ◌∷◌, ◌++◌, ℕ, zero, suc, Bool, true, false, cond, List, [], Option, Some, None, All, slice_get, get_or, length, map, refl, sym, ap, ap₂, subst, arith}
+use Rattle.std.proofs.Common.{◌≡◌, ◌∙◌, ◌<◌, ◌+◌, ◌∷◌, ◌++◌, ℕ, true, false, List, [], Option, Some, None, All, slice_get, get_or, length, map, refl, sym, ap, ap₂, arith}
 use Rattle.std.specs.Prelude.{if◌then◌else◌}
 use Rattle.std.specs.List.{cons_option, enumerate_from, filter_map}
 use Rattle.std.proofs.lemmas.List.{get_or_default}
@@ -12,18 +12,16 @@ use Rattle.stream_case.specs.declared.source.Side.{Side}
 use Rattle.stream_case.specs.declared.source.Side.TheVariants as side
 use Rattle.stream_case.specs.declared.utility.Utility.{Utility}
 use Rattle.problem_table.specs.Deficit.{hot_target}
-use Rattle.fractions.specs.Rationals.{Rational, minus, rational_sum, rational_sum_by, rational_zero, times, whole}
+use Rattle.fractions.specs.Rationals.{Rational, minus, rational_sum, rational_zero, times, whole}
 use Rattle.fractions.proofs.RationalSums.{rational_sum_by-map}
 use Rattle.network_text.specs.Shape.{HasShape}
 use Rattle.network_text.specs.declared.network.Network.{Network}
 use Rattle.network_audit.specs.AllItems.{balance_items, cost_steps, heat_on, heats_on, sum_steps}
-use Rattle.network_audit.specs.Balance.{balance_of, cost_of, excess_of, heat_price, heat_with}
+use Rattle.network_audit.specs.Balance.{balance_of, cost_of, heat_price, heat_with}
 use Rattle.network_audit.specs.Items.{Item, Step}
 use Rattle.network_audit.specs.Joints.{joints_of}
 use Rattle.network_audit.specs.Table.{balance_in, balance_steps_in, duties_in, heat_at, heat_on_in, heats_in, heats_on_in, price_in, prices_in}
-use Rattle.network_audit.specs.declared.findings.Place.{Place}
 use Rattle.network_audit.specs.declared.findings.Place.TheVariants as place
-use Rattle.network_audit.specs.declared.verdict.Balance.{Balance}
 use Rattle.network_audit.proofs.JointLemmas.{get_or-made}
 use Rattle.network_audit.proofs.HeatLemmas.{cold_heat-is, hot_heat-is}
 use Rattle.network_audit.proofs.TableLemmas.{duties-are}

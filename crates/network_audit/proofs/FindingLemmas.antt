@@ -1,5 +1,5 @@
 -- A network has one finding at most, and none beside a whole valuation whose items are passed.
-use Rattle.std.proofs.Common.{◌≡◌, ◌∙◌, ◌<◌, ◌≤◌, ◌+◌, ◌-◌, ◌∷◌, ◌++◌, ◌==◌, ◌⊎◌, inl, inr, ℕ, zero, suc, Bool, true, false, cond, List, [], Some, None, All, length, take, drop, refl, sym, ap, subst, arith}
+use Rattle.std.proofs.Common.{◌≡◌, ◌∙◌, ◌<◌, ◌≤◌, ◌+◌, ◌-◌, ◌++◌, ◌==◌, ◌⊎◌, inl, inr, ℕ, zero, suc, List, [], Some, length, take, drop, sym, ap, subst, arith}
 use Rattle.std.specs.Prelude.{if◌then◌else◌}
 use Rattle.std.specs.List.{enumerate_from, flat_map}
 use Rattle.std.proofs.lemmas.Bool.{cases_lt, ne_eqb}
@@ -7,15 +7,12 @@ use Rattle.std.proofs.lemmas.List.{append-nil, take-append-drop, take-take}
 use Rattle.std.proofs.lemmas.List.Concat.{flat_map-append}
 use Rattle.sums.proofs.EnumerationLemmas.{enumerate_from-append}
 use Rattle.stream_case.specs.declared.case.Case.{Case}
-use Rattle.network_text.specs.Lines.{uses}
 use Rattle.network_text.specs.Shape.{HasShape, made_before}
-use Rattle.network_text.specs.declared.network.Line.{Line}
 use Rattle.network_text.specs.declared.network.Network.{Network}
 use Rattle.network_values.specs.Made.{front}
 use Rattle.network_values.specs.Values.{IsValuation, IsWholeValuation, Valuation}
 use Rattle.network_values.proofs.ValuationLemmas.{agree-take, one_valuation, valuation_front}
 use Rattle.network_audit.specs.AllItems.{items, items_behind}
-use Rattle.network_audit.specs.Balance.{balance_of}
 use Rattle.network_audit.specs.Findings.{HasNoFinding, IsFinding, IsVerdict}
 use Rattle.network_audit.specs.Items.{Item, first_finding, items_before, statement_items}
 use Rattle.network_audit.specs.declared.findings.Finding.{Finding}
@@ -31,12 +28,13 @@ unfolding items_before
 items_before-front case network values n k =
     let f = statement_items case network values in
     let some = take (n + k) network.lines in
-    let rest = enumerate_from (0 + length (take n some)) (drop n some) in
-    (flat_map f rest,
-    ap (λ ls. flat_map f (enumerate_from 0 ls)) (sym (take-append-drop n some))
-    ∙ ap (flat_map f) (enumerate_from-append 0 (take n some) (drop n some))
-    ∙ flat_map-append f (enumerate_from 0 (take n some)) rest
-    ∙ ap (λ ls. flat_map f (enumerate_from 0 ls) ++ flat_map f rest) (take-take n (n + k) network.lines (omega arith)))
+    let rest = enumerate_from (0 + length (take n some)) (drop n some) in (
+      flat_map f rest,
+      ap (λ ls. flat_map f (enumerate_from 0 ls)) (sym (take-append-drop n some))
+          ∙ ap (flat_map f) (enumerate_from-append 0 (take n some) (drop n some))
+          ∙ flat_map-append f (enumerate_from 0 (take n some)) rest
+          ∙ ap (λ ls. flat_map f (enumerate_from 0 ls) ++ flat_map f rest) (take-take n (n + k) network.lines (omega arith)),
+    )
 
 -- before the last line only statements have items
 items-inside : (case : Case) (network : Network) (values : Valuation) (n : ℕ) → n < length network.lines → items case network values n ≡ items_before case network values (n + 1)
@@ -58,14 +56,14 @@ found-later case network n (suc j) values other found shape one two some =
     let early = used_early case network n shape in
     let first : values ≡ front case network n other = one_valuation case network n values (front case network n other) shape one (valuation_front case network n (suc j) other shape two) in
     let same : items_before case network other (n + 1) ≡ items_before case network values (n + 1) =
-        items_before-same case network other (front case network n other) (n + 1) (made_before case network n) shape early (agree-take other (made_before case network n))
-        ∙ ap (λ vs. items_before case network vs (n + 1)) (sym first) in
+    items_before-same case network other (front case network n other) (n + 1) (made_before case network n) shape early (agree-take other (made_before case network n))
+    ∙ ap (λ vs. items_before case network vs (n + 1)) (sym first) in
     let (more, parts) = items_before-front case network other (n + 1) (suc j) in
     let next : n + suc j + 1 ≡ n + 1 + suc j = omega arith in
     let here : first_finding (items_before case network other (n + 1)) ≡ Some found =
-        ap first_finding (same ∙ sym (items-inside case network values n (omega (arith, within)))) ∙ some in
+    ap first_finding (same ∙ sym (items-inside case network values n (omega (arith, within)))) ∙ some in
     let longer : first_finding (items_before case network other (n + suc j + 1)) ≡ Some found =
-        ap (λ m. first_finding (items_before case network other m)) next ∙ ap first_finding parts ∙ found-front (items_before case network other (n + 1)) more found here in
+    ap (λ m. first_finding (items_before case network other m)) next ∙ ap first_finding parts ∙ found-front (items_before case network other (n + 1)) more found here in
     found-front (items_before case network other (n + suc j + 1)) (if n + suc j == length network.lines then items_behind case network other else []) found longer
 
 -- the same, by the numbers of lines

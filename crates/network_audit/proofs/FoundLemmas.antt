@@ -1,5 +1,5 @@
 -- The first item that is not passed, of lists of items in a row and of the items of many members.
-use Rattle.std.proofs.Common.{◌≡◌, ◌∙◌, ◌<◌, ◌≤◌, ◌+◌, ◌∷◌, ◌++◌, ℕ, suc, Bool, true, false, not, List, [], Option, Some, None, All, option_map, length, get_or, take, drop, refl, sym, ap, subst, arith, add-one}
+use Rattle.std.proofs.Common.{◌≡◌, ◌∙◌, ◌<◌, ◌≤◌, ◌+◌, ◌∷◌, ◌++◌, ℕ, Bool, true, false, not, List, [], Option, Some, None, All, option_map, length, get_or, take, drop, refl, sym, ap, arith}
 use Rattle.std.specs.List.{enumerate_from, find, flat_map}
 use Rattle.std.specs.Option.{option_or}
 use Rattle.std.proofs.lemmas.List.{append-nil, length-take, take-append-drop, take_all, take_more}
@@ -7,13 +7,12 @@ use Rattle.std.proofs.lemmas.List.Concat.{flat_map-append}
 use Rattle.std.proofs.lemmas.List.Elements.{All-head, All-tail}
 use Rattle.std.proofs.lemmas.List.Folds.{find-append}
 use Rattle.sums.proofs.EnumerationLemmas.{enumerate_from-append}
-use Rattle.fractions.specs.Rationals.{Gives, Rational, is_within_limits}
+use Rattle.fractions.specs.Rationals.{Gives, Rational}
 use Rattle.fractions.proofs.Limits.{within_formed, within_not_formed}
-use Rattle.network_audit.specs.Items.{Item, Step, Test, finding_of, first_finding, is_passed}
+use Rattle.network_audit.specs.Items.{Item, Step, finding_of, first_finding, is_passed}
 use Rattle.network_audit.specs.declared.findings.Finding.{Finding}
 use Rattle.network_audit.specs.declared.findings.Finding.TheVariants as finding
 use Rattle.network_audit.specs.declared.findings.Place.{Place}
-use Rattle.network_audit.specs.declared.findings.Reason.{Reason}
 
 -- ---- one item
 
@@ -107,11 +106,11 @@ module _ {X : Type 0} (f : ℕ × X → List Item) where
   finds-here xs n d found within before here =
       let later = enumerate_from (0 + length (take (n + 1) xs)) (drop (n + 1) xs) in
       let all : flat_map f (enumerate_from 0 xs) ≡ items_of xs (n + 1) ++ flat_map f later =
-          ap (λ ys. flat_map f (enumerate_from 0 ys)) (sym (take-append-drop (n + 1) xs))
-          ∙ ap (flat_map f) (enumerate_from-append 0 (take (n + 1) xs) (drop (n + 1) xs))
-          ∙ flat_map-append f (enumerate_from 0 (take (n + 1) xs)) later in
+      ap (λ ys. flat_map f (enumerate_from 0 ys)) (sym (take-append-drop (n + 1) xs))
+      ∙ ap (flat_map f) (enumerate_from-append 0 (take (n + 1) xs) (drop (n + 1) xs))
+      ∙ flat_map-append f (enumerate_from 0 (take (n + 1) xs)) later in
       let front : first_finding (items_of xs (n + 1)) ≡ Some found =
-          ap first_finding (items-more xs n d within) ∙ found-behind (items_of xs n) (f (n, get_or xs n d)) before ∙ here in
+      ap first_finding (items-more xs n d within) ∙ found-behind (items_of xs n) (f (n, get_or xs n d)) before ∙ here in
       ap first_finding all ∙ found-front (items_of xs (n + 1)) (flat_map f later) found front
 
   -- all members are passed

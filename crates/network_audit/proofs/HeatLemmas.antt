@@ -1,9 +1,8 @@
 -- The heats of the utilities make up the hot and the cold heat, and the balance.
-use Rattle.std.proofs.Common.{◌≡◌, ◌≢◌, ◌∙◌, ◌<◌, ◌+◌, ◌∷◌, ◌++◌, ◌==◌, ◌||◌, ℕ, Bool, true, false, cond, List, [], Option, Some, None, All, ◌⊎◌, inl, inr, slice_get, get_or, length, map, refl, sym, ap, ap₂, subst, arith}
+use Rattle.std.proofs.Common.{◌≡◌, ◌≢◌, ◌∙◌, ◌<◌, ◌∷◌, ◌==◌, ◌||◌, ℕ, Bool, true, false, List, [], Option, Some, None, ◌⊎◌, inl, inr, slice_get, get_or, length, refl, sym, ap, ap₂, subst, arith}
 use Rattle.std.specs.Prelude.{if◌then◌else◌, is_some, option_map, unwrap_or}
 use Rattle.std.specs.List.{cons_option, enumerate_from, filter_map, range_with_len}
 use Rattle.std.proofs.lemmas.Bool.{cases_eq, eq-eqb, ne_eqb}
-use Rattle.std.proofs.lemmas.List.Elements.{All-head, All-tail}
 use Rattle.stream_case.specs.Case.{IsSourceOf, side_of}
 use Rattle.stream_case.specs.Source.{same_side, same_source}
 use Rattle.stream_case.specs.declared.case.Case.{Case}

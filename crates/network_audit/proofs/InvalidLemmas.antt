@@ -1,5 +1,5 @@
 -- No test of a valid network fails, and so what is rejected is not valid.
-use Rattle.std.proofs.Common.{◌≡◌, ◌∙◌, ◌<◌, ◌+◌, ◌-◌, ◌∷◌, ◌++◌, ℕ, zero, suc, Bool, true, false, not, List, [], Option, Some, None, All, slice_get, length, map, refl, sym, ap, subst, arith}
+use Rattle.std.proofs.Common.{◌≡◌, ◌∙◌, ◌<◌, ◌+◌, ◌-◌, ◌∷◌, ◌++◌, ℕ, suc, Bool, true, false, not, List, [], Option, Some, None, slice_get, length, map, refl, sym, ap, subst, arith}
 use Rattle.std.specs.Prelude.{if◌then◌else◌}
 use Rattle.std.specs.List.{enumerate_from, flat_map}
 use Rattle.std.proofs.lemmas.List.Elements.{All-head}
@@ -19,9 +19,9 @@ use Rattle.network_text.specs.declared.network.Line.TheVariants as line
 use Rattle.network_text.specs.declared.network.Network.{Network}
 use Rattle.network_text.proofs.Lists.{all_at}
 use Rattle.network_text.proofs.OfShape.{line_of}
-use Rattle.network_values.specs.Made.{LeavesRoom, front}
+use Rattle.network_values.specs.Made.{front}
 use Rattle.network_values.specs.Sides.{KeepsApproach}
-use Rattle.network_values.specs.Values.{AreEnded, IsFullEnd, IsValuation, IsWholeValuation, Valuation, ended_by, ended_streams, ends, full_size, last_state, last_value, value_at}
+use Rattle.network_values.specs.Values.{AreEnded, IsFullEnd, IsValuation, IsWholeValuation, Valuation, ended_by, ended_streams, full_size, last_state, last_value, value_at}
 use Rattle.network_values.specs.declared.values.BranchValue.{BranchValue}
 use Rattle.network_values.proofs.ValuationLemmas.{agree-take, room_left, valuation_front}
 use Rattle.network_audit.specs.AllItems.{balance_items, cost_steps, heats_on, items, items_behind, range_items, sum_steps, utility_items, utility_items_at}

@@ -1,9 +1,8 @@
 -- What the code reads for a statement is what its items and equations speak of.
-use Rattle.std.proofs.Common.{◌≡◌, ◌∙◌, ◌<◌, ◌+◌, ◌∷◌, ℕ, List, [], Some, All, slice_get, length, get_or, map, sym, ap, ap₂, refl, subst, arith}
-use Rattle.std.specs.List.{enumerate_from}
+use Rattle.std.proofs.Common.{◌≡◌, ◌∙◌, ◌<◌, ℕ, List, [], length, get_or, sym, ap, ap₂}
 use Rattle.std.proofs.lemmas.List.{get_or_default}
 use Rattle.std.proofs.lemmas.Option.{slice_get-get_or}
-use Rattle.fractions.specs.Rationals.{IsBelow, Rational, over, plus, rational_zero, times}
+use Rattle.fractions.specs.Rationals.{IsBelow, over, plus, rational_zero, times}
 use Rattle.fractions.proofs.Comparisons.{positive-nonzero}
 use Rattle.fractions.proofs.Products.{over_from_times, times-plus, times_comm}
 use Rattle.network_text.specs.Lines.{Exchanger, exchangers_of}

@@ -96,7 +96,7 @@ module _ {X : Type 0} (f : X → Option Rational) where
   sum-not before xs n d a total steps step within is summed found at =
       let later = filter_map f (drop (n + 1) xs) in
       let all : filter_map f xs ≡ (filter_map f (take n xs) ++ a ∷ []) ++ later =
-          ap (filter_map f) (sym (take-append-drop (n + 1) xs)) ∙ filter_map-append f (take (n + 1) xs) (drop (n + 1) xs) ∙ ap (λ ns. ns ++ later) (numbers-more_some xs n d a within is) in
+      ap (filter_map f) (sym (take-append-drop (n + 1) xs)) ∙ filter_map-append f (take (n + 1) xs) (drop (n + 1) xs) ∙ ap (λ ns. ns ++ later) (numbers-more_some xs n d a within is) in
       ap (λ ns. first_finding (sum_steps at before rational_zero ns)) all ∙ summed-not before (filter_map f (take n xs)) later total steps a step summed found at
 
   -- all members

@@ -1,12 +1,10 @@
 -- What the audit reads of the table of exchangers is what the items say: the ends of the sides, and the duties of the utilities.
-use Rattle.std.proofs.Common.{◌≡◌, ◌∙◌, ◌<◌, ◌+◌, ◌∷◌, ◌++◌, ◌||◌, ℕ, Bool, true, false, cond, List, [], Option, Some, None, All, inl, inr, slice_get, get_or, length, map, take, refl, sym, ap, ap₂, subst, arith}
-use Rattle.std.specs.Prelude.{if◌then◌else◌, option_map, unwrap_or}
+use Rattle.std.proofs.Common.{◌≡◌, ◌∙◌, ◌<◌, ◌+◌, ◌∷◌, ◌++◌, ℕ, List, [], Some, inl, inr, slice_get, get_or, length, map, take, refl, sym, ap, ap₂, arith}
+use Rattle.std.specs.Prelude.{unwrap_or}
 use Rattle.std.specs.List.{cons_option, enumerate_from, filter_map, flat_map}
-use Rattle.std.specs.Option.{option_map_or}
 use Rattle.std.proofs.lemmas.List.{length-take, map-append, take_more}
 use Rattle.sums.proofs.EnumerationLemmas.{All-enumerated, enumerate_from-append}
 use Rattle.stream_case.specs.Case.{side_of}
-use Rattle.stream_case.specs.Source.{same_source}
 use Rattle.stream_case.specs.declared.case.Case.{Case}
 use Rattle.stream_case.specs.declared.source.Side.{Side}
 use Rattle.stream_case.specs.declared.source.Side.TheVariants as side
@@ -19,15 +17,14 @@ use Rattle.network_text.specs.Shape.{HasShape, IsExchanger}
 use Rattle.network_text.specs.declared.network.Network.{Network}
 use Rattle.network_text.specs.declared.network.Line.TheVariants as line
 use Rattle.network_text.proofs.Lists.{all_at}
-use Rattle.network_text.proofs.OfShape.{IsPassOf, the_pass_of}
+use Rattle.network_text.proofs.OfShape.{the_pass_of}
 use Rattle.network_values.specs.Sides.{pass_run, run_between, side_run}
 use Rattle.network_values.specs.Values.{Valuation, branch_side, value_at}
 use Rattle.network_audit.specs.AllItems.{range_items, sum_steps, utility_items, utility_items_at}
 use Rattle.network_audit.specs.Balance.{duties_with, duty_with}
-use Rattle.network_audit.specs.Items.{Item, ends_of, exchanger_items, exchanger_items_at, side_items}
+use Rattle.network_audit.specs.Items.{ends_of, exchanger_items, exchanger_items_at, side_items}
 use Rattle.network_audit.specs.Joints.{crossing_among, crossing_by, joint_among, joints_among, joints_of}
 use Rattle.network_audit.specs.Table.{all_heat_items, duties_in, ends_at, heat_items, heats_in, joint_duty, joint_items, joint_items_at}
-use Rattle.network_audit.specs.declared.exchangers.Ends.{Ends}
 use Rattle.network_audit.specs.declared.joints.Joint.{Joint}
 use Rattle.network_audit.specs.declared.findings.Place.TheVariants as place
 use Rattle.network_audit.proofs.FoundLemmas.{flat_map-same}
@@ -116,7 +113,7 @@ pub heat_items-are : (case : Case) (network : Network) → all_heat_items (joint
 unfolding all_heat_items utility_items
 heat_items-are case network =
     let same : (p : ℕ × Utility) → heat_items (joints_of network) p ≡ utility_items_at network p =
-        λ p. ap (λ duties. sum_steps (place.Utility p.0) 0 rational_zero duties ++ range_items (place.Utility p.0) p.1 (rational_sum duties)) (duties-are network p.0) in
+    λ p. ap (λ duties. sum_steps (place.Utility p.0) 0 rational_zero duties ++ range_items (place.Utility p.0) p.1 (rational_sum duties)) (duties-are network p.0) in
     λ i. flat_map (λ p. same p i) (enumerate_from 0 case.utilities)
 
 -- the heat of one utility more

@@ -1,45 +1,36 @@
 -- A network without a finding is valid, and no test of a valid one fails.
-use Rattle.std.proofs.Common.{◌≡◌, ◌∙◌, ◌<◌, ◌≤◌, ◌+◌, ◌∷◌, ◌++◌, ◌==◌, ◌&&◌, ◌||◌, ℕ, zero, suc, Bool, true, false, not, cond, List, [], Option, Some, None, All, slice_get, length, get_or, map, take, drop, refl, sym, ap, subst, arith}
+use Rattle.std.proofs.Common.{◌≡◌, ◌∙◌, ◌<◌, ◌+◌, ◌∷◌, ◌++◌, ◌==◌, ◌||◌, ℕ, zero, suc, Bool, true, false, not, List, [], Option, Some, None, All, slice_get, length, get_or, map, refl, sym, ap, subst, arith}
 use Rattle.std.specs.Prelude.{Contains, if◌then◌else◌}
 use Rattle.std.specs.List.{enumerate_from, flat_map, list_any}
 use Rattle.std.proofs.lemmas.Bool.{eq-eqb}
 use Rattle.std.proofs.lemmas.Bool.Decides.{nat_tests}
-use Rattle.std.proofs.lemmas.List.{append-nil, take_all}
-use Rattle.std.proofs.lemmas.List.Elements.{All-cons, All-head, All-nil, All-tail}
-use Rattle.std.proofs.lemmas.Option.{none-some, same_Some, slice_get-get_or, slice_get_within}
+use Rattle.std.proofs.lemmas.List.{take_all}
+use Rattle.std.proofs.lemmas.List.Elements.{All-cons, All-nil}
+use Rattle.std.proofs.lemmas.Option.{none-some, same_Some, slice_get-get_or}
 use Rattle.stream_case.specs.Case.{is_forbidden}
 use Rattle.stream_case.specs.declared.case.Case.{Case}
-use Rattle.stream_case.specs.declared.source.Side.TheVariants as side
 use Rattle.stream_case.specs.declared.stream.Stream.{Stream}
 use Rattle.stream_case.specs.declared.utility.Utility.{Utility}
 use Rattle.fractions.specs.Order.{Decides-rational_eq}
-use Rattle.fractions.specs.Rationals.{IsAtMost, Rational, is_below, is_within_limits, rational_eq, rational_zero, whole}
-use Rattle.fractions.proofs.Comparisons.{Decides-is_below, Decides-not_below}
+use Rattle.fractions.specs.Rationals.{rational_zero, whole}
+use Rattle.fractions.proofs.Comparisons.{Decides-not_below}
 use Rattle.network_text.specs.Lines.{Exchanger, exchangers_of, stream_at}
-use Rattle.network_text.specs.Shape.{HasShape}
 use Rattle.network_text.specs.declared.network.Branch.{Branch}
 use Rattle.network_text.specs.declared.network.Line.{Line}
 use Rattle.network_text.specs.declared.network.Line.TheVariants as line
 use Rattle.network_text.specs.declared.network.Network.{Network}
 use Rattle.network_text.proofs.Lists.{All-back, All-flat_map, All-front}
-use Rattle.network_text.proofs.OfShape.{line_of}
-use Rattle.network_values.specs.Made.{LeavesRoom, front}
-use Rattle.network_values.specs.Sides.{KeepsApproach, side_run}
-use Rattle.network_values.specs.Values.{AreEnded, IsFullEnd, IsWholeValuation, Valuation, ended_by, ended_streams, ends, full_size, last_state, last_value, value_at}
+use Rattle.network_values.specs.Sides.{KeepsApproach}
+use Rattle.network_values.specs.Values.{IsFullEnd, IsWholeValuation, Valuation, ended_by, ended_streams, ends, full_size, last_state, last_value, value_at}
 use Rattle.network_values.proofs.LineLemmas.{same_value}
-use Rattle.network_values.proofs.ValuationLemmas.{agree-take, room_left, valuation_front}
-use Rattle.network_audit.specs.AllItems.{balance_items, cost_steps, items, items_behind, range_items, sum_steps, utility_items, utility_items_at}
+use Rattle.network_audit.specs.AllItems.{balance_items, items, items_behind, range_items, sum_steps, utility_items, utility_items_at}
 use Rattle.network_audit.specs.Balance.{duties_with, heat_with}
-use Rattle.network_audit.specs.Findings.{HasNoFinding, IsFinding}
-use Rattle.network_audit.specs.Items.{Item, Step, Test, end_items, ends_of, ends_stream, exchanger_items, exchanger_items_at, first_finding, is_ended, items_before, line_items, side_items, statement_items, stream_items, stream_items_at, wanted_above}
-use Rattle.network_audit.specs.Valid.{IsInRange, IsPermitted, IsValidNetwork}
-use Rattle.network_audit.specs.declared.findings.Finding.{Finding}
-use Rattle.network_audit.specs.declared.findings.Finding.TheVariants as finding
+use Rattle.network_audit.specs.Findings.{HasNoFinding}
+use Rattle.network_audit.specs.Items.{Item, end_items, ends_stream, exchanger_items, exchanger_items_at, first_finding, is_ended, items_before, line_items, statement_items, stream_items, stream_items_at}
+use Rattle.network_audit.specs.Valid.{IsInRange, IsValidNetwork}
 use Rattle.network_audit.specs.declared.findings.Place.{Place}
 use Rattle.network_audit.specs.declared.findings.Place.TheVariants as place
-use Rattle.network_audit.specs.declared.findings.Reason.{Reason}
-use Rattle.network_audit.proofs.FindingLemmas.{found-whole}
-use Rattle.network_audit.proofs.FoundLemmas.{found-failed, found-nothing, found-passed, passed-back, passed-front, passed-item, passed-rest}
+use Rattle.network_audit.proofs.FoundLemmas.{passed-back, passed-front, passed-item, passed-rest}
 
 -- ---- ends and streams
 

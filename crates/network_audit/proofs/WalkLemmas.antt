@@ -1,14 +1,13 @@
 -- The walk over the statements.
-use Rattle.std.proofs.Common.{◌≡◌, ◌≢◌, ◌∙◌, ◌<◌, ◌≤◌, ◌+◌, ◌∷◌, ◌++◌, ◌==◌, ℕ, zero, suc, Bool, true, false, cond, List, [], Some, None, All, slice_get, length, get_or, map, take, refl, sym, ap, subst, arith, add-one, length-append}
+use Rattle.std.proofs.Common.{◌≡◌, ◌∙◌, ◌<◌, ◌≤◌, ◌+◌, ◌∷◌, ◌++◌, ◌==◌, ℕ, suc, List, [], Some, None, All, slice_get, length, get_or, map, take, refl, sym, ap, subst, arith, add-one}
 use Rattle.std.specs.Prelude.{if◌then◌else◌}
-use Rattle.std.specs.List.{enumerate_from, flat_map}
-use Rattle.std.proofs.lemmas.List.{append-nil, length-take, take-append-le, take-take, take_all, take_more}
+use Rattle.std.specs.List.{enumerate_from}
+use Rattle.std.proofs.lemmas.List.{length-take, take_all}
 use Rattle.std.proofs.lemmas.List.Elements.{All-head, All-tail}
-use Rattle.std.proofs.lemmas.Option.{get_or_from_slice_get, slice_get-get_or, slice_get_within}
+use Rattle.std.proofs.lemmas.Option.{get_or_from_slice_get, slice_get_within}
 use Rattle.sums.proofs.EnumerationLemmas.{All-enumerated}
 use Rattle.stream_case.specs.Case.{IsComplete}
 use Rattle.stream_case.specs.declared.case.Case.{Case}
-use Rattle.fractions.specs.Rationals.{IsBelow}
 use Rattle.fractions.proofs.Comparisons.{Decides-is_below}
 use Rattle.network_text.specs.Lines.{made_by, stream_at, uses}
 use Rattle.network_text.specs.Shape.{HasShape, made_before}
@@ -16,14 +15,14 @@ use Rattle.network_text.specs.declared.network.Line.{Line}
 use Rattle.network_text.specs.declared.network.Line.TheVariants as line
 use Rattle.network_text.specs.declared.network.Network.{Network}
 use Rattle.network_text.proofs.Lists.{slice_get-take}
-use Rattle.network_text.proofs.OfShape.{HasNumbers, IsLineOf, all_made, line_of, line_read, made_fewer, made_no_more}
-use Rattle.network_values.specs.Made.{LeavesRoom, front, made_values}
+use Rattle.network_text.proofs.OfShape.{IsLineOf, all_made, line_of, line_read, made_fewer, made_no_more}
+use Rattle.network_values.specs.Made.{LeavesRoom, made_values}
 use Rattle.network_values.specs.Values.{IsValuation, IsWholeValuation, Valuation, branch_side, duty_at, first_value, value_at}
 use Rattle.network_values.specs.declared.values.BranchValue.{BranchValue}
-use Rattle.network_values.proofs.ValuationLemmas.{AgreeBelow, agree-append, agree-take, length-made_values, valuation_more, valuation_start}
+use Rattle.network_values.proofs.ValuationLemmas.{AgreeBelow, agree-append, length-made_values, valuation_more, valuation_start}
 use Rattle.network_audit.specs.AllItems.{items, items_behind}
 use Rattle.network_audit.specs.Findings.{IsFinding}
-use Rattle.network_audit.specs.Items.{Item, end_items, first_finding, items_before, line_items, mix_items, pass_items, split_items, statement_items}
+use Rattle.network_audit.specs.Items.{end_items, first_finding, items_before, line_items, mix_items, pass_items, split_items, statement_items}
 use Rattle.network_audit.specs.declared.findings.Finding.{Finding}
 use Rattle.network_audit.specs.declared.findings.Place.{Place}
 use Rattle.network_audit.specs.declared.findings.Place.TheVariants as place
@@ -113,7 +112,7 @@ walked-more case network n made values next after l shape at walked none long af
     let wide : length old ≡ made = omega (arith, length-take made values, walked.room, walked.made_is, made_no_more shape.made_once n) in
     let agree : AgreeBelow old new made = subst (AgreeBelow old new) wide (agree-append old (made_values case network old l)) in
     let early : (k : ℕ) (m : Line) → k < n + 1 → slice_get network.lines k ≡ Some m → All (λ b. b < made) (uses m) =
-        subst (λ b. (k : ℕ) (m : Line) → k < n + 1 → slice_get network.lines k ≡ Some m → All (λ c. c < b) (uses m)) (sym walked.made_is) (used_early case network n shape) in
+    subst (λ b. (k : ℕ) (m : Line) → k < n + 1 → slice_get network.lines k ≡ Some m → All (λ c. c < b) (uses m)) (sym walked.made_is) (used_early case network n shape) in
     let same : items_before case network new (n + 1) ≡ items_before case network old (n + 1) = sym (items_before-same case network old new (n + 1) made shape early agree) in
     let valuation : IsValuation case network (suc n) new = valuation_more case network n old l shape at walked.valuation (room-passed case network old (place.Line (n + 1)) l none) in
     let front_is : take after next ≡ new = kept in

@@ -1,5 +1,5 @@
 -- What the parts of an audit answer for their items.
-use Rattle.std.specs.Prelude.{◌≡◌, ℕ, List, Option, Some, None, Result, Ok, Err}
+use Rattle.std.specs.Prelude.{◌≡◌, ℕ, List, Some, None, Result, Ok, Err}
 use Rattle.network_audit.specs.Items.{Item, first_finding}
 use Rattle.network_audit.specs.declared.findings.Finding.{Finding}
 use Rattle.network_audit.specs.declared.findings.Finding.TheVariants as finding

@@ -1,5 +1,5 @@
 -- The finding of an audit, and the verdict.
-use Rattle.std.specs.Prelude.{◌≡◌, ℕ, List, length, Option, Some, None}
+use Rattle.std.specs.Prelude.{◌≡◌, ℕ, length, Some, None}
 use Rattle.stream_case.specs.declared.case.Case.{Case}
 use Rattle.network_text.specs.declared.network.Network.{Network}
 use Rattle.network_values.specs.Values.{IsValuation, IsWholeValuation, Valuation}

@@ -84,7 +84,11 @@ fn hot_of(target: &Target) -> Frac
 
 /// The balance of a network whose utilities have these heats, where the hot target is this, all
 /// in W; or the number of the step that is too fine.
-pub(crate) fn balance_of(target: &Frac, utilities: &[Utility], heats: &[Frac]) -> Result<Balance, u32>
+pub(crate) fn balance_of(
+    target: &Frac,
+    utilities: &[Utility],
+    heats: &[Frac],
+) -> Result<Balance, u32>
     requires room { length heats.now ≡ length utilities.now }
     requires few { length utilities.now ≤ 1000 }
     ensures { Formed (λ at. balance_steps_in at target.now utilities.now heats.now) (λ balance. balance ≡ balance_in target.now utilities.now heats.now) result }

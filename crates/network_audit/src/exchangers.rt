@@ -26,8 +26,14 @@ fn contribution_of(case: &Case, source: Source) -> i32
     ensures { result ≡ contribution_of case.now source }
 {
     match source {
-        Source::Stream(index) => case.streams.get(index as usize).map_or(0, |s| s.contribution),
-        Source::Utility(index) => case.utilities.get(index as usize).map_or(0, |u| u.contribution),
+        Source::Stream(index) => case
+            .streams
+            .get(index as usize)
+            .map_or(0, |s| s.contribution),
+        Source::Utility(index) => case
+            .utilities
+            .get(index as usize)
+            .map_or(0, |u| u.contribution),
     }
 }
 
@@ -83,7 +89,13 @@ fn ends_at(case: &Case, values: &[BranchValue], source: Source, pass: Option<Cro
 
 /// An exchanger's pair is permitted, and at both ends its hot side is above its cold one by the
 /// approach.
-fn audit_exchanger(case: &Case, place: Place, joint: &Joint, given: &Ends, taken: &Ends) -> Result<(), Finding>
+fn audit_exchanger(
+    case: &Case,
+    place: Place,
+    joint: &Joint,
+    given: &Ends,
+    taken: &Ends,
+) -> Result<(), Finding>
     ensures { Judged (side_items case.now place joint.now.hot joint.now.cold given.now taken.now) (λ _. Unit {0}) result }
 {
     if case.is_forbidden(joint.hot, joint.cold) {
@@ -113,7 +125,11 @@ fn audit_exchanger(case: &Case, place: Place, joint: &Joint, given: &Ends, taken
 }
 
 /// The exchangers in order.
-pub(crate) fn audit_exchangers(case: &Case, joints: &[Joint], values: &[BranchValue]) -> Result<(), Finding>
+pub(crate) fn audit_exchangers(
+    case: &Case,
+    joints: &[Joint],
+    values: &[BranchValue],
+) -> Result<(), Finding>
     requires { length joints.now < 2 ^ 32 }
     ensures { Judged (joint_items case.now values.now joints.now) (λ _. Unit {0}) result }
 {

@@ -21,36 +21,18 @@ pub enum Place {
 #[derive(Clone, Copy, Debug, PartialEq, Eq)]
 pub enum Reason {
     /// A split takes from a branch all that it has, or more, in 10 W/K.
-    Overdrawn {
-        found: Frac,
-        wanted: Frac,
-    },
+    Overdrawn { found: Frac, wanted: Frac },
     /// A stream ends at another temperature than its target, in tenths of °C.
-    MissedTarget {
-        found: Frac,
-        wanted: Frac,
-    },
+    MissedTarget { found: Frac, wanted: Frac },
     /// A stream ends with another heat-capacity flow than its own, in 10 W/K, or does not end.
-    Unfinished {
-        found: Frac,
-        wanted: Frac,
-    },
+    Unfinished { found: Frac, wanted: Frac },
     /// Where the hot side enters, it is not hotter than the cold side by the least approach; in
     /// tenths of °C.
-    HotEndApproach {
-        found: Frac,
-        wanted: Frac,
-    },
+    HotEndApproach { found: Frac, wanted: Frac },
     /// The same where the hot side leaves.
-    ColdEndApproach {
-        found: Frac,
-        wanted: Frac,
-    },
+    ColdEndApproach { found: Frac, wanted: Frac },
     /// The exchangers of a utility need less than its least or more than its most, in W.
-    UtilityRange {
-        found: Frac,
-        wanted: Frac,
-    },
+    UtilityRange { found: Frac, wanted: Frac },
     /// The exchanger joins a forbidden pair.
     Forbidden,
 }
@@ -59,13 +41,7 @@ pub enum Reason {
 #[derive(Clone, Copy, Debug, PartialEq, Eq)]
 pub(crate) enum Finding {
     /// A test failed.
-    Failed {
-        place: Place,
-        reason: Reason,
-    },
+    Failed { place: Place, reason: Reason },
     /// The number that this step forms is not within the limits of a fraction.
-    TooFine {
-        place: Place,
-        step: u32,
-    },
+    TooFine { place: Place, step: u32 },
 }

@@ -3,8 +3,8 @@ ghost use Rattle.std.specs.Prelude.{◌≡◌, ℕ, ◌<◌, [], List, length, A
 ghost use Rattle.network_text.specs.Lines.{Exchanger, exchangers_of, stream_at};
 ghost use Rattle.network_audit.specs.Joints.{PassesBelow, joints_among, joints_of, noted, passed_joint};
 
-use network_text::{Branch, Line, Network};
 use fractions::Frac;
+use network_text::{Branch, Line, Network};
 use std::alloc::{AllocError, Global};
 use stream_case::Source;
 
@@ -33,7 +33,11 @@ pub fn joints_of(alloc: Global, network: &Network) -> Result<Vec<Joint>, AllocEr
     ensures { IfOk result (λ joints. joints.items ≡ joints_of network.now) }
 {
     let mut joints = declared(alloc, network.lines.as_slice())?;
-    note_passes(network.branches.as_slice(), network.lines.as_slice(), &mut joints);
+    note_passes(
+        network.branches.as_slice(),
+        network.lines.as_slice(),
+        &mut joints,
+    );
     Ok(joints)
 }
 
@@ -43,7 +47,13 @@ fn declared(alloc: Global, lines: &[Line]) -> Result<Vec<Joint>, AllocError>
 {
     let mut joints = Vec::new(alloc);
     for line in lines {
-        if let Line::Exchanger { hot, cold, duty, .. } = *line {
+        if let Line::Exchanger {
+            hot,
+            cold,
+            duty,
+            ..
+        } = *line
+        {
             joints.push(Joint {
                 hot,
                 cold,
@@ -62,9 +72,17 @@ fn note_passes(branches: &[Branch], lines: &[Line], joints: &mut [Joint])
     ensures { (exchangers : List Exchanger) → joints.old ≡ joints_among branches.now [] exchangers → joints.new ≡ joints_among branches.now lines.now exchangers }
 {
     for line in lines {
-        if let Line::Pass { from, exchanger, to } = *line {
+        if let Line::Pass {
+            from,
+            exchanger,
+            to,
+        } = *line
+        {
             let joint = joints[exchanger as usize];
-            joints[exchanger as usize] = joint.passed(stream_at(branches, from), Crossing { from, to });
+            joints[exchanger as usize] = joint.passed(
+                stream_at(branches, from),
+                Crossing { from, to },
+            );
         }
     }
 }

@@ -3,7 +3,7 @@
 //! The items of an audit are tests and numbers that are formed on the way, in one order. The
 //! finding is the first of them that fails: a test that is not passed, or a number that is not
 //! within the limits of a fraction. A network without a finding is valid, and its balance tells
-//! what it needs and costs.
+//! what it needs and costs: no network that is accepted needs less than the hot target.
 #![tactic(auto)]
 
 mod auditor;
@@ -12,6 +12,7 @@ mod copies;
 mod exchangers;
 mod findings;
 mod joints;
+mod laws;
 mod statements;
 mod streams;
 mod sum;
@@ -22,5 +23,8 @@ mod walk;
 pub use auditor::Auditor;
 pub use findings::{Place, Reason};
 pub use joints::{Crossing, Joint, joints_of, stream_at};
-pub use network_values::BranchValue;
+pub use laws::{findings_tell_what_is_valid, networks_have_one_verdict};
+pub use network_values::{
+    BranchValue, hot_shares_are_at_least_cold_shares, mixes_lose_height, targets_are_met,
+};
 pub use verdict::{Balance, Verdict};

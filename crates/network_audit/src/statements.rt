@@ -20,7 +20,11 @@ use stream_case::{Case, Side, Source, Stream};
 
 /// The second part of a branch that is split, where the first has this heat-capacity flow in
 /// 10 W/K: both keep the temperature.
-pub(crate) fn split_rest(place: Place, from: &BranchValue, cp: &Frac) -> Result<BranchValue, Finding>
+pub(crate) fn split_rest(
+    place: Place,
+    from: &BranchValue,
+    cp: &Frac,
+) -> Result<BranchValue, Finding>
     ensures { Judged (split_items place from.now cp.now) (λ rest. rest ≡ second_part from.now cp.now) result }
 {
     if !cp.is_below(&from.cp) {
@@ -156,7 +160,11 @@ pub(crate) fn made_by(
                 Err(found) => Err(found),
             }
         }
-        Line::Pass { from, exchanger, .. } => {
+        Line::Pass {
+            from,
+            exchanger,
+            ..
+        } => {
             let side = branch_side(case, network.branches.as_slice(), from);
             let duty = joints[exchanger as usize].duty;
             match passed(side, &values[from as usize], &duty) {

@@ -84,7 +84,11 @@ fn audit_utility(joints: &[Joint], index: u32, utility: &Utility) -> Result<Frac
 }
 
 /// The heats of the utilities in order, in W.
-pub(crate) fn audit_utilities(joints: &[Joint], utilities: &[Utility], heats: &mut [Frac]) -> Result<(), Finding>
+pub(crate) fn audit_utilities(
+    joints: &[Joint],
+    utilities: &[Utility],
+    heats: &mut [Frac],
+) -> Result<(), Finding>
     requires joints { length joints.now < 2 ^ 32 }
     requires utilities { length utilities.now < 2 ^ 32 }
     requires room { length heats.old ≡ length utilities.now }

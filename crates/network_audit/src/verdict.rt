@@ -22,13 +22,7 @@ pub enum Verdict {
     /// The network is valid.
     Accepted(Balance),
     /// The network is not valid, for this first reason.
-    Rejected {
-        place: Place,
-        reason: Reason,
-    },
+    Rejected { place: Place, reason: Reason },
     /// The number that this step of the audit would form is not within the limits of a fraction.
-    TooFine {
-        place: Place,
-        step: u32,
-    },
+    TooFine { place: Place, step: u32 },
 }

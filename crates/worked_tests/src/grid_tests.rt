@@ -12,7 +12,7 @@ use stream_case::Side::{self, Cold, Hot};
 use stream_case::Source::{self, Stream, Utility};
 
 /// The source, its side, the upper and the lower end, the least and the most heat, and the price.
-type PartRow = (Source, Side, i32, i32, i64, i64, i64);
+pub type PartRow = (Source, Side, i32, i32, i64, i64, i64);
 
 const FOUR_STREAMS_HOT: [PartRow; 9] = [
     (Utility(0), Hot, 1650, 1650, 0, MOST_HEAT, 1),
@@ -53,7 +53,7 @@ const RESTRICTED_COLD: [PartRow; 6] = [
     (Utility(5), Cold, 150, 150, 0, 9000, 4),
 ];
 
-fn rows_of(alloc: Global, parts: &[Part]) -> Result<Vec<PartRow>, AllocError> {
+pub fn rows_of(alloc: Global, parts: &[Part]) -> Result<Vec<PartRow>, AllocError> {
     let mut rows = Vec::new(alloc);
     for part in parts {
         rows.push((

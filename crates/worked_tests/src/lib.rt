@@ -33,6 +33,10 @@ mod problem_table_tests;
 #[cfg(test)]
 mod reports_tests;
 #[cfg(test)]
+mod site_tests;
+#[cfg(test)]
+mod site_text_tests;
+#[cfg(test)]
 mod stream_case_tests;
 #[cfg(test)]
 mod sums_tests;

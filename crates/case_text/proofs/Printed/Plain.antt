@@ -18,7 +18,7 @@ use Rattle.csv.proofs.RoundTrip.{read-write-many}
 use Rattle.csv_rows.specs.Rows.{Row, rows_of}
 use Rattle.stream_case.specs.Name.{IsName, is_name_byte}
 use Rattle.case_text.specs.Printed.{fields_text, row_text, rows_text}
-use Rattle.case_text.proofs.Printed.Numbers.{IsPrintable}
+use Rattle.row_fields.proofs.PrintedNumbers.{IsPrintable}
 
 -- ---- fields
 

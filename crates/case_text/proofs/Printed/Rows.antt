@@ -21,18 +21,21 @@ use Rattle.stream_case.specs.declared.stream.Stream.{Stream}
 use Rattle.stream_case.specs.declared.utility.Utility.{Utility}
 use Rattle.stream_case.proofs.NameTests.{name-passes}
 use Rattle.stream_case.proofs.SourceLemmas.{Decides-is_right_way}
-use Rattle.case_text.specs.Rows.{are_empty, is_number, is_passed_over, kind_of, number}
+use Rattle.row_fields.specs.Fields.{are_empty, is_number, is_passed_over, number}
+use Rattle.row_fields.specs.Numbers.{is_within}
+use Rattle.row_fields.proofs.Tests.{Decides-int_le, Decides-is_within}
+use Rattle.case_text.specs.Rows.{kind_of}
 use Rattle.case_text.specs.Given.{Given, case_of, nothing, with_entry}
-use Rattle.case_text.specs.Checks.{checks, contribution_checks, forbid_checks, is_within, kind_checks, stream_checks, stream_number_checks, utility_checks, utility_number_checks}
+use Rattle.case_text.specs.Checks.{checks, contribution_checks, forbid_checks, kind_checks, stream_checks, stream_number_checks, utility_checks, utility_number_checks}
 use Rattle.case_text.specs.Outcome.{grammar}
 use Rattle.case_text.specs.Printed.{contribution_row, forbid_row, stream_kind, stream_row, utility_kind, utility_row}
 use Rattle.case_text.specs.declared.entry.Entry.TheVariants as entry
 use Rattle.case_text.specs.declared.entry.StreamData.{StreamData}
 use Rattle.case_text.specs.declared.entry.UtilityData.{UtilityData}
 use Rattle.case_text.specs.declared.kind.Kind.TheVariants as kind
-use Rattle.case_text.proofs.Printed.Numbers.{contribution, flow_rate, heat, number_read, price, temperature}
+use Rattle.row_fields.proofs.PrintedNumbers.{contribution, flow_rate, heat, number_read, price, temperature}
 use Rattle.case_text.proofs.Sources.{count_of, count_on-case, names_of-case}
-use Rattle.case_text.proofs.Tests.{Decides-int_le, Decides-is_forbidden, Decides-is_reserved, Decides-is_reserved_from, Decides-is_taken, Decides-is_within, is_source-named}
+use Rattle.case_text.proofs.Tests.{Decides-is_forbidden, Decides-is_reserved, Decides-is_reserved_from, Decides-is_taken, is_source-named}
 
 within : (low high n : ℤ) → IsBetween low high n → is_within low high n ≡ true
 within low high n = (Decides-is_within low high n).1

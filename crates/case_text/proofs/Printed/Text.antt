@@ -23,7 +23,7 @@ use Rattle.stream_case.proofs.CaseLemmas.{length-AreStreams}
 use Rattle.stream_case.proofs.NameLemmas.{length-IsName}
 use Rattle.case_text.specs.Outcome.{IsCase}
 use Rattle.case_text.specs.Printed.{contribution_row, fields_text, forbid_row, printed_rows, row_text, rows_text, stream_kind, stream_row, utility_kind, utility_row}
-use Rattle.case_text.proofs.Printed.Numbers.{IsPrintable, contribution, flow_rate, heat, number_short, price, temperature}
+use Rattle.row_fields.proofs.PrintedNumbers.{IsPrintable, contribution, flow_rate, heat, number_short, price, temperature}
 use Rattle.case_text.proofs.Printed.Plain.{IsPlain, IsPlainRow, name_plain, number_plain, rows_same}
 use Rattle.case_text.proofs.Printed.Case.{name_of, rows_back}
 

@@ -1,13 +1,13 @@
-use Rattle.std.proofs.Common.{◌≡◌, ◌∙◌, ◌<◌, ◌≤◌, length, sym, ap, subst, arith}
+use Rattle.std.proofs.Common.{◌≡◌, ◌∙◌, length, sym, ap, arith}
 use Rattle.stream_case.proofs.CaseLemmas.{length-AreStreams}
-use Rattle.stream_case.proofs.CompleteLemmas.{AreStreams-IsComplete, length-utilities}
+use Rattle.stream_case.proofs.CompleteLemmas.{AreStreams-IsComplete}
 use Rattle.network_text.specs.Lines.{exchanger_of, exchangers_of}
 use Rattle.network_audit.specs.AllItems.{balance_items, utility_items}
 use Rattle.network_audit.specs.Items.{exchanger_items, first_finding}
 use Rattle.network_audit.specs.Table.{all_heat_items, balance_in, balance_steps_in, heats_in, joint_items}
 use Rattle.network_audit.specs.declared.findings.Finding.TheVariants as finding
 use Rattle.network_audit.specs.declared.findings.Place.TheVariants as place
-use Rattle.network_audit.proofs.AuditLemmas.{IsWalkedAll, accepts_all, finding_of_balance, finding_of_exchangers, finding_of_streams, finding_of_utilities}
+use Rattle.network_audit.proofs.AuditLemmas.{accepts_all, finding_of_balance, finding_of_exchangers, finding_of_streams, finding_of_utilities}
 use Rattle.network_audit.proofs.BalanceLemmas.{balance-is, balance_items-are, heats-are}
 use Rattle.network_audit.proofs.JointLemmas.{length-joints}
 use Rattle.network_audit.proofs.SumSteps.{length-numbers}
@@ -63,7 +63,7 @@ returns-in-Ok c =
     let heats = c.audit_utilities.new.heats in
     let are = heats-are case n heats (c.in_default-audit_utilities.ensures.1 ∙ (λ i. heats_in (c.requires.table i) (c.as_slice-utilities.ensures i))) in
     let steps : balance_steps_in place.Balance c.hot_target-target.result c.as_slice-utilities.result.now heats ≡ balance_items case n =
-        (λ i. balance_steps_in place.Balance (c.hot_target-target.ensures i) (c.as_slice-utilities.ensures i) heats) ∙ balance_items-are case n heats c.requires.shape are in
+    (λ i. balance_steps_in place.Balance (c.hot_target-target.ensures i) (c.as_slice-utilities.ensures i) heats) ∙ balance_items-are case n heats c.requires.shape are in
     accepts_all case n values c.in-Ok.balance (record { valuation = c.in_default.ensures.0; passed = c.in_default.ensures.1 }) c.in_default-audit_streams.ensures.0 exchangers utilities
     (ap first_finding (sym steps) ∙ c.in-Ok.ensures.0 place.Balance)
     (c.in-Ok.ensures.1 ∙ (λ i. balance_in (c.hot_target-target.ensures i) (c.as_slice-utilities.ensures i) heats) ∙ balance-is case n heats c.requires.shape are)
@@ -80,6 +80,6 @@ returns-in-Err-balance_of c =
     let heats = c.audit_utilities.new.heats in
     let are = heats-are case n heats (c.in_default-audit_utilities.ensures.1 ∙ (λ i. heats_in (c.requires.table i) (c.as_slice-utilities.ensures i))) in
     let steps : balance_steps_in place.Balance c.hot_target-target.result c.as_slice-utilities.result.now heats ≡ balance_items case n =
-        (λ i. balance_steps_in place.Balance (c.hot_target-target.ensures i) (c.as_slice-utilities.ensures i) heats) ∙ balance_items-are case n heats c.requires.shape are in
+    (λ i. balance_steps_in place.Balance (c.hot_target-target.ensures i) (c.as_slice-utilities.ensures i) heats) ∙ balance_items-are case n heats c.requires.shape are in
     finding_of_balance case n values (finding.TooFine place.Balance c.in-Err-balance_of.step) (record { valuation = c.in_default.ensures.0; passed = c.in_default.ensures.1 }) c.in_default-audit_streams.ensures.0 exchangers utilities
     (ap first_finding (sym steps) ∙ c.in-Err-balance_of.ensures place.Balance)

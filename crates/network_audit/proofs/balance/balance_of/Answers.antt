@@ -1,4 +1,4 @@
-use Rattle.std.proofs.Common.{◌≡◌, ◌∙◌, ◌<◌, ◌≤◌, ◌+◌, ◌∷◌, [], None, Some, length, sym, ap, subst, arith, zero-add}
+use Rattle.std.proofs.Common.{◌≡◌, ◌∙◌, ◌+◌, Some, length, sym, ap, subst, arith, zero-add}
 use Rattle.std.specs.List.{enumerate_from}
 use Rattle.std.proofs.lemmas.List.FromFn.{length-enumerate_from}
 use Rattle.std.proofs.lemmas.Result.{err_from_is_err_and}
@@ -6,7 +6,7 @@ use Rattle.stream_case.specs.declared.source.Side.TheVariants as side
 use Rattle.fractions.specs.Rationals.{Gives, minus, rational_sum, rational_zero}
 use Rattle.fractions.proofs.Limits.{value_formed}
 use Rattle.network_audit.specs.AllItems.{cost_steps, sum_steps}
-use Rattle.network_audit.specs.Items.{Step, first_finding}
+use Rattle.network_audit.specs.Items.{first_finding}
 use Rattle.network_audit.specs.Table.{heat_on_in, heats_on_in, prices_in}
 use Rattle.network_audit.specs.declared.findings.Finding.TheVariants as finding
 use Rattle.network_audit.specs.declared.sum.Sum.{Sum}
@@ -84,6 +84,7 @@ returns c =
     let cold = heats_on_in side.Cold us heats in
     let hot_steps : c.in_ok-hot.hot.steps ≡ length hot = ap (λ (s : Sum). s.steps) c.in_ok-hot.ensures.1 ∙ zero-add (length hot) in
     let cold_steps : c.in_ok-cold.cold.steps ≡ length hot + length cold = ap (λ (s : Sum). s.steps) c.in_ok-cold.ensures.1 ∙ ap (λ n. n + length cold) hot_steps in
-    let gives : Gives c.minus.result (minus (rational_sum hot) c.args.target.now) = subst (λ h. Gives c.minus.result (minus h c.args.target.now)) (ap (λ (s : Sum). s.total) c.in_ok-hot.ensures.1) c.minus.ensures in
-    ((λ at. found-behind _ _ (c.in_ok-hot.ensures.0 at) ∙ found-behind _ _ (ap (λ n. first_finding (sum_steps at n rational_zero cold)) (sym hot_steps) ∙ c.in_ok-cold.ensures.0 at) ∙ found-formed _ _ _ _ _ _ c.in-Some.is gives ∙ ap (λ n. first_finding (cost_steps at (n + 1) rational_zero (prices_in us heats))) (sym cold_steps) ∙ c.in_ok-cost.ensures.0 at),
-    λ i. record { hot = (ap (λ (s : Sum). s.total) c.in_ok-hot.ensures.1) i; cold = (ap (λ (s : Sum). s.total) c.in_ok-cold.ensures.1) i; excess = value_formed _ _ _ c.in-Some.is gives i; cost = c.in_ok-cost.ensures.1 i })
+    let gives : Gives c.minus.result (minus (rational_sum hot) c.args.target.now) = subst (λ h. Gives c.minus.result (minus h c.args.target.now)) (ap (λ (s : Sum). s.total) c.in_ok-hot.ensures.1) c.minus.ensures in (
+      (λ at. found-behind _ _ (c.in_ok-hot.ensures.0 at) ∙ found-behind _ _ (ap (λ n. first_finding (sum_steps at n rational_zero cold)) (sym hot_steps) ∙ c.in_ok-cold.ensures.0 at) ∙ found-formed _ _ _ _ _ _ c.in-Some.is gives ∙ ap (λ n. first_finding (cost_steps at (n + 1) rational_zero (prices_in us heats))) (sym cold_steps) ∙ c.in_ok-cost.ensures.0 at),
+      λ i. record { hot = (ap (λ (s : Sum). s.total) c.in_ok-hot.ensures.1) i; cold = (ap (λ (s : Sum). s.total) c.in_ok-cold.ensures.1) i; excess = value_formed _ _ _ c.in-Some.is gives i; cost = c.in_ok-cost.ensures.1 i },
+    )

@@ -1,4 +1,4 @@
-use Rattle.std.proofs.Common.{◌≡◌, ◌∙◌, ◌<◌, ◌≤◌, ◌+◌, [], None, Some, get_or, length, take, sym, ap, subst, arith}
+use Rattle.std.proofs.Common.{◌≡◌, ◌∙◌, ◌<◌, ◌≤◌, ◌+◌, [], length, take, sym, ap, subst, arith}
 use Rattle.std.specs.List.{enumerate_from, filter_map}
 use Rattle.std.proofs.lemmas.List.FromFn.{length-enumerate_from}
 use Rattle.std.proofs.lemmas.Result.{err_from_is_err_and}
@@ -36,7 +36,7 @@ loop-index-preserved c =
     let numbers = filter_map (heat_on_in c.args.side c.args.heats.now) (take (n + 1) (enumerate_from 0 us)) in
     let within : n < length (enumerate_from 0 us) = omega (arith, c.loop-index-test.true, length-enumerate_from 0 us) in
     elim c.if-is_on.branch [
-      then-is_on+in_ok-sum w ↦
+      | then-is_on+in_ok-sum w ↦
           let h = w.index-heats-index.result in
           let has = heat-here c.args.side c.args.heats.now us n u h c.loop-index-test.true c.requires.room c.index-utilities-index.is w.index-heats-index.is (sym c.is_on.ensures ∙ w.if-is_on.true) in
           let is : c.if-is_on.sum ≡ record { total = plus c.loop-index.sum.total h; steps = c.loop-index.sum.steps + 1 } = w.sum-is ∙ w.in_ok-sum.ensures.1 in
@@ -45,7 +45,7 @@ loop-index-preserved c =
             summed = subst (λ (s : Sum). IsSummed c.args.before numbers s.total s.steps) (sym is)
                 (sum-more (heat_on_in c.args.side c.args.heats.now) c.args.before (enumerate_from 0 us) n (n, u) h c.loop-index.sum.total c.loop-index.sum.steps within has c.loop-index.invariant.summed w.in_ok-sum.ensures.0);
           }
-    | else-is_on w ↦
+      | else-is_on w ↦
           let none = heat-other c.args.side c.args.heats.now us n u c.loop-index-test.true c.index-utilities-index.is (sym c.is_on.ensures ∙ w.if-is_on.false) in
           record {
             few = omega (arith, ap (λ (s : Sum). s.steps) w.sum-is, c.loop-index.invariant.few);

@@ -1,5 +1,5 @@
 use Rattle.std.proofs.Common.{◌≡◌, ◌∙◌, Some, true, false, ap, not, subst, sym}
-use Rattle.fractions.specs.Rationals.{Gives, Rational, is_below, plus, whole}
+use Rattle.fractions.specs.Rationals.{Gives, Rational, is_below, plus}
 use Rattle.fractions.proofs.Limits.{value_formed}
 use Rattle.network_audit.specs.Items.{wanted_above}
 use Rattle.network_audit.specs.declared.findings.Finding.TheVariants as finding
@@ -13,16 +13,16 @@ returns-then-is_forbidden c = found-failed _ _ (ap not (sym c.is_forbidden.ensur
 pub returns-in_default : goal.returns-in_default
 returns-in_default c =
     let hot : Gives c.plus.result (wanted_above c.args.case.now c.args.joint.now.hot c.args.joint.now.cold c.args.taken.now.leaves) =
-        subst (λ a. Gives c.plus.result (plus c.args.taken.now.leaves a)) c.approach_of-approach.ensures c.plus.ensures in
+    subst (λ a. Gives c.plus.result (plus c.args.taken.now.leaves a)) c.approach_of-approach.ensures c.plus.ensures in
     found-passed _ _ (ap not (sym c.is_forbidden.ensures ∙ c.if-is_forbidden.false)) ∙ found-not_formed _ 1 _ _ _ c.in_default.is hot
 
 pub returns-then-is_below : goal.returns-then-is_below
 returns-then-is_below c =
     let hot : Gives c.plus.result (wanted_above c.args.case.now c.args.joint.now.hot c.args.joint.now.cold c.args.taken.now.leaves) =
-        subst (λ a. Gives c.plus.result (plus c.args.taken.now.leaves a)) c.approach_of-approach.ensures c.plus.ensures in
+    subst (λ a. Gives c.plus.result (plus c.args.taken.now.leaves a)) c.approach_of-approach.ensures c.plus.ensures in
     let wanted = value_formed _ _ _ c.in-Some.is hot in
     let low : is_below c.args.given.now.enters (wanted_above c.args.case.now c.args.joint.now.hot c.args.joint.now.cold c.args.taken.now.leaves) ≡ true =
-        ap (is_below c.args.given.now.enters) (sym wanted) ∙ sym c.is_below.ensures.value ∙ c.if-is_below.true in
+    ap (is_below c.args.given.now.enters) (sym wanted) ∙ sym c.is_below.ensures.value ∙ c.if-is_below.true in
     found-passed _ _ (ap not (sym c.is_forbidden.ensures ∙ c.if-is_forbidden.false)) ∙ found-formed _ 1 _ _ _ _ c.in-Some.is hot ∙ found-failed _ _ (ap not low)
     ∙ ap (λ (w : Rational). Some (finding.Failed c.args.place (reason.HotEndApproach c.args.given.now.enters w))) (sym wanted)
 

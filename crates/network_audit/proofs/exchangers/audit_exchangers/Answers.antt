@@ -1,4 +1,4 @@
-use Rattle.std.proofs.Common.{◌≡◌, ◌∙◌, None, Some, get_or, sym, ap, subst, arith}
+use Rattle.std.proofs.Common.{◌≡◌, ◌∙◌, None, Some, sym, ap, subst, arith}
 use Rattle.network_audit.specs.Items.{first_finding, side_items}
 use Rattle.network_audit.specs.Table.{joint_items, joint_items_at}
 use Rattle.network_audit.specs.declared.findings.Place.TheVariants as place
@@ -14,7 +14,7 @@ returns-in-Err c =
     let d = c.index-joints-number.result in
     let n = c.loop-number.number in
     let here : first_finding (joint_items_at c.args.case.now c.args.values.now (n, d)) ≡ Some c.in-Err.found =
-        ap first_finding (λ i. side_items c.args.case.now (place.Exchanger n) d.hot d.cold (sym c.ends_at-given.ensures i) (sym c.ends_at-taken.ensures i)) ∙ c.in-Err.ensures in
+    ap first_finding (λ i. side_items c.args.case.now (place.Exchanger n) d.hot d.cold (sym c.ends_at-given.ensures i) (sym c.ends_at-taken.ensures i)) ∙ c.in-Err.ensures in
     finds-here (joint_items_at c.args.case.now c.args.values.now) c.args.joints.now n d c.in-Err.found (omega arith) c.loop-number.invariant
     (subst (λ j. first_finding (joint_items_at c.args.case.now c.args.values.now (n, j)) ≡ Some c.in-Err.found) c.index-joints-number.is here)
 
@@ -23,7 +23,7 @@ loop-number-preserved c =
     let d = c.index-joints-number.result in
     let n = c.loop-number.number in
     let here : first_finding (joint_items_at c.args.case.now c.args.values.now (n, d)) ≡ None =
-        ap first_finding (λ i. side_items c.args.case.now (place.Exchanger n) d.hot d.cold (sym c.ends_at-given.ensures i) (sym c.ends_at-taken.ensures i)) ∙ c.in_default.ensures.0 in
+    ap first_finding (λ i. side_items c.args.case.now (place.Exchanger n) d.hot d.cold (sym c.ends_at-given.ensures i) (sym c.ends_at-taken.ensures i)) ∙ c.in_default.ensures.0 in
     passes-more (joint_items_at c.args.case.now c.args.values.now) c.args.joints.now n d (omega arith) c.loop-number.invariant
     (subst (λ j. first_finding (joint_items_at c.args.case.now c.args.values.now (n, j)) ≡ None) c.index-joints-number.is here)
 

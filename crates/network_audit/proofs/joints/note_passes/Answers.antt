@@ -1,7 +1,6 @@
-use Rattle.std.proofs.Common.{◌≡◌, ◌∙◌, ◌<◌, ◌+◌, ◌∷◌, ◌++◌, [], List, get_or, length, set, take, sym, ap, subst, arith}
+use Rattle.std.proofs.Common.{◌≡◌, ◌∙◌, ◌<◌, ◌+◌, ◌∷◌, ◌++◌, [], get_or, length, set, take, sym, ap, subst, arith}
 use Rattle.std.proofs.lemmas.List.{take_more}
 use Rattle.network_text.specs.Lines.{stream_at}
-use Rattle.network_text.specs.declared.network.Line.TheVariants as line
 use Rattle.network_audit.specs.Joints.{PassesBelow, joints_among, passed_joint}
 use Rattle.network_audit.proofs.JointLemmas.{joints-passed, joints-same, length-joints, no_pass}
 use Rattle.network_audit.proofs.joints.note_passes.Goals as goal
@@ -15,7 +14,7 @@ loop-line-preserved c =
     let before = take n c.args.lines.now in
     let more : take (n + 1) c.args.lines.now ≡ before ++ l ∷ [] = take_more c.args.lines.now n l c.loop-line-test.true ∙ ap (λ m. before ++ m ∷ []) (sym c.line-item.is) in
     elim c.match-line.branch [
-      in-Pass w ↦ λ es start.
+      | in-Pass w ↦ λ es start.
           let p = w.in-Pass in
           let d = w.index-joints-exchanger.result in
           let known : p.exchanger < length c.args.joints.now = subst (PassesBelow (length c.args.joints.now)) (sym c.line-item.is ∙ p.is) (c.requires n l c.loop-line-test.true) in
@@ -27,6 +26,6 @@ loop-line-preserved c =
           ∙ sym (joints-passed branches before es p.from p.exchanger p.to d within)
           ∙ ap (λ m. joints_among branches (before ++ m ∷ []) es) (sym p.is)
           ∙ ap (λ ls. joints_among branches ls es) (sym more)
-    | in_default w ↦ λ es start.
+      | in_default w ↦ λ es start.
           w.joints-is ∙ c.loop-line.invariant es start ∙ sym (joints-same branches before es l (no_pass l w.in_default.not-Pass)) ∙ ap (λ ls. joints_among branches ls es) (sym more)
     ]

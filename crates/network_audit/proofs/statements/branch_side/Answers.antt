@@ -1,4 +1,4 @@
-use Rattle.std.proofs.Common.{◌≡◌, ◌∙◌, sym, ap}
+use Rattle.std.proofs.Common.{◌∙◌, sym, ap}
 use Rattle.std.specs.Prelude.{unwrap_or}
 use Rattle.stream_case.specs.Case.{side_of}
 use Rattle.stream_case.specs.declared.source.Side.TheVariants as side

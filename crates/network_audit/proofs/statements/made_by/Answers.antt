@@ -1,13 +1,11 @@
-use Rattle.std.proofs.Common.{◌≡◌, ◌∙◌, ◌<◌, ◌∷◌, ℕ, [], All, None, Some, slice_get, length, sym, ap, subst, refl, arith}
+use Rattle.std.proofs.Common.{◌≡◌, ◌∙◌, ◌<◌, ◌∷◌, [], All, None, Some, slice_get, length, sym, ap, subst, refl, arith}
 use Rattle.std.specs.Option.{option_copied}
 use Rattle.std.proofs.lemmas.List.Elements.{All-head, All-tail}
-use Rattle.fractions.specs.Rationals.{IsBelow, rational_zero}
 use Rattle.network_text.specs.Lines.{exchangers_of, stream_at, uses}
 use Rattle.network_text.specs.Shape.{NamesKnown}
-use Rattle.network_text.specs.declared.network.Line.TheVariants as line
-use Rattle.network_values.specs.Made.{mixed_value, passed_value}
-use Rattle.network_values.specs.Values.{branch_side, duty_at, value_at}
-use Rattle.network_audit.specs.Items.{end_items, first_finding, line_items, mix_items, pass_items, split_items}
+use Rattle.network_values.specs.Made.{passed_value}
+use Rattle.network_values.specs.Values.{branch_side, value_at}
+use Rattle.network_audit.specs.Items.{end_items, first_finding, mix_items, pass_items}
 use Rattle.network_audit.proofs.FoundLemmas.{found-nothing}
 use Rattle.network_audit.proofs.JointLemmas.{length-joints}
 use Rattle.network_audit.proofs.StatementLemmas.{duty-read, value-read}
@@ -47,9 +45,10 @@ returns-in-Ok-passed c =
     let on : c.branch_side-side.result ≡ branch_side c.args.case.now n c.in-Pass.from = c.branch_side-side.ensures n (sym c.as_slice.ensures) in
     let value = value-read values c.in-Pass.from c.index-values-from-in-Pass.result within c.index-values-from-in-Pass.is in
     let duty = duty-read n c.args.joints.now c.in-Pass.exchanger c.index-joints-exchanger.result c.requires.joints known.1 in
-    rw c.in-Pass.is
-    (ap first_finding (λ i. pass_items c.args.place (sym on i) (sym value i) (sym duty i)) ∙ c.in-Ok-passed.ensures.0 c.args.place,
-    ap (λ v. v ∷ []) (c.in-Ok-passed.ensures.1 ∙ (λ i. passed_value (on i) (value i) (duty i))))
+    rw c.in-Pass.is (
+      ap first_finding (λ i. pass_items c.args.place (sym on i) (sym value i) (sym duty i)) ∙ c.in-Ok-passed.ensures.0 c.args.place,
+      ap (λ v. v ∷ []) (c.in-Ok-passed.ensures.1 ∙ (λ i. passed_value (on i) (value i) (duty i))),
+    )
 
 pub returns-in-Err-passed : goal.returns-in-Err-passed
 returns-in-Err-passed c =

@@ -7,7 +7,7 @@ use Rattle.fractions.proofs.Limits.{value_formed}
 use Rattle.network_values.specs.Made.{heat_of_both}
 use Rattle.network_values.proofs.LineLemmas.{mixed_positive}
 use Rattle.network_audit.specs.Items.{first_finding, mean_items}
-use Rattle.network_audit.proofs.FoundLemmas.{found-failed, found-formed, found-not_formed, found-nothing, found-passed}
+use Rattle.network_audit.proofs.FoundLemmas.{found-formed, found-not_formed, found-nothing}
 use Rattle.network_audit.proofs.StatementLemmas.{even_mix}
 use Rattle.network_audit.proofs.statements.mixed.Goals as goal
 
@@ -19,9 +19,10 @@ returns-then-eq c =
     let f = c.args.first.now in
     let s = c.args.second.now in
     let even : rational_eq f.t s.t ≡ true = sym c.eq.ensures ∙ c.if-eq.true in
-    let state = even_mix f s (mixed_positive f s c.requires.first c.requires.second) ((Decides-rational_eq f.t s.t).0 even) in
-    (λ at. found-formed at 1 _ _ _ _ c.in-Some.is c.plus.ensures ∙ ap (λ b. first_finding (if b then [] else mean_items at f s (plus f.cp s.cp))) even ∙ found-nothing,
-    λ i. record { cp = value_formed _ _ _ c.in-Some.is c.plus.ensures i; t = state i })
+    let state = even_mix f s (mixed_positive f s c.requires.first c.requires.second) ((Decides-rational_eq f.t s.t).0 even) in (
+      λ at. found-formed at 1 _ _ _ _ c.in-Some.is c.plus.ensures ∙ ap (λ b. first_finding (if b then [] else mean_items at f s (plus f.cp s.cp))) even ∙ found-nothing,
+      λ i. record { cp = value_formed _ _ _ c.in-Some.is c.plus.ensures i; t = state i },
+    )
 
 pub mean-requires : goal.mean-requires
 mean-requires c =
@@ -43,7 +44,8 @@ returns c =
     let f = c.args.first.now in
     let s = c.args.second.now in
     let even : rational_eq f.t s.t ≡ false = sym c.eq.ensures ∙ c.if-eq.false in
-    let size = value_formed _ _ _ c.in-Some.is c.plus.ensures in
-    (λ at. found-formed at 1 _ _ _ _ c.in-Some.is c.plus.ensures ∙ ap (λ b. first_finding (if b then [] else mean_items at f s (plus f.cp s.cp))) even
-        ∙ ap (λ cp. first_finding (mean_items at f s cp)) (sym size) ∙ c.in_ok-t.ensures.0 at,
-    λ i. record { cp = size i; t = (c.in_ok-t.ensures.1 ∙ ap (over (heat_of_both f s)) size) i })
+    let size = value_formed _ _ _ c.in-Some.is c.plus.ensures in (
+      λ at. found-formed at 1 _ _ _ _ c.in-Some.is c.plus.ensures ∙ ap (λ b. first_finding (if b then [] else mean_items at f s (plus f.cp s.cp))) even
+          ∙ ap (λ cp. first_finding (mean_items at f s cp)) (sym size) ∙ c.in_ok-t.ensures.0 at,
+      λ i. record { cp = size i; t = (c.in_ok-t.ensures.1 ∙ ap (over (heat_of_both f s)) size) i },
+    )

@@ -1,9 +1,9 @@
-use Rattle.std.proofs.Common.{◌≡◌, ◌∙◌, ap, subst}
+use Rattle.std.proofs.Common.{◌≡◌, ◌∙◌, subst}
 use Rattle.fractions.specs.Rationals.{Gives, over}
 use Rattle.fractions.proofs.Comparisons.{positive-nonzero}
 use Rattle.fractions.proofs.Limits.{value_formed}
 use Rattle.network_values.specs.Made.{moved}
-use Rattle.network_audit.proofs.FoundLemmas.{found-failed, found-formed, found-not_formed, found-nothing, found-passed}
+use Rattle.network_audit.proofs.FoundLemmas.{found-formed, found-not_formed, found-nothing}
 use Rattle.network_audit.proofs.statements.passed.Goals as goal
 
 pub returns-in_default : goal.returns-in_default
@@ -20,6 +20,7 @@ pub returns : goal.returns
 returns c =
     let gives = c.over.ensures.value (positive-nonzero c.args.from.now.cp c.requires) in
     let change : c.in-Some.change ≡ over c.args.duty.now c.args.from.now.cp = value_formed _ _ _ c.in-Some.is gives in
-    let next : Gives c.moved.result (moved c.args.side c.args.from.now.t (over c.args.duty.now c.args.from.now.cp)) = subst (λ by. Gives c.moved.result (moved c.args.side c.args.from.now.t by)) change c.moved.ensures in
-    (λ at. found-formed at 1 _ _ _ _ c.in-Some.is gives ∙ found-formed at 2 _ _ _ _ c.in-Some-moved.is next ∙ found-nothing,
-    λ i. record { cp = c.args.from.now.cp; t = value_formed _ _ _ c.in-Some-moved.is next i })
+    let next : Gives c.moved.result (moved c.args.side c.args.from.now.t (over c.args.duty.now c.args.from.now.cp)) = subst (λ by. Gives c.moved.result (moved c.args.side c.args.from.now.t by)) change c.moved.ensures in (
+      λ at. found-formed at 1 _ _ _ _ c.in-Some.is gives ∙ found-formed at 2 _ _ _ _ c.in-Some-moved.is next ∙ found-nothing,
+      λ i. record { cp = c.args.from.now.cp; t = value_formed _ _ _ c.in-Some-moved.is next i },
+    )

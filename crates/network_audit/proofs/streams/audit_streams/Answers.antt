@@ -1,7 +1,5 @@
-use Rattle.std.proofs.Common.{◌≡◌, ◌∙◌, ◌<◌, ◌≤◌, None, Some, true, false, not, length, get_or, sym, ap, subst, arith}
+use Rattle.std.proofs.Common.{◌≡◌, ◌∙◌, ◌<◌, ◌≤◌, None, Some, true, false, length, get_or, sym, ap, subst, arith}
 use Rattle.std.specs.List.{list_any}
-use Rattle.std.proofs.Math.Bool.{not-not}
-use Rattle.fractions.specs.Rationals.{Rational}
 use Rattle.network_audit.specs.Items.{ends_stream, first_finding, is_ended, stream_items, stream_items_at}
 use Rattle.network_audit.specs.declared.findings.Finding.TheVariants as finding
 use Rattle.network_audit.specs.declared.findings.Place.TheVariants as place
@@ -19,12 +17,12 @@ returns-then-not-is_ended c =
     let n = c.loop-index.index in
     let d = c.stream-item.result in
     let ended : is_ended c.args.network.now n ≡ false =
-        (λ i. list_any (ends_stream (sym c.as_slice-branches.ensures i) n) (sym c.as_slice-lines.ensures i)) ∙ sym c.is_ended.ensures ∙ c.if-not-is_ended.true in
+    (λ i. list_any (ends_stream (sym c.as_slice-branches.ensures i) n) (sym c.as_slice-lines.ensures i)) ∙ sym c.is_ended.ensures ∙ c.if-not-is_ended.true in
     let within : n < length streams = omega (arith, ap length c.as_slice-stream-items.ensures, c.loop-index-test.true) in
     let read : d ≡ get_or streams n d = c.stream-item.is ∙ ap (λ ss. get_or ss n d) c.as_slice-stream-items.ensures in
     let found = finding.Failed (place.Stream n) (reason.Unfinished c.whole.result c.full_size.result) in
     let here : first_finding (stream_items_at c.args.network.now (n, d)) ≡ Some found =
-        found-failed _ _ ended ∙ (λ i. Some (finding.Failed (place.Stream n) (reason.Unfinished (sym c.whole.ensures i) (sym c.full_size.ensures i)))) in
+    found-failed _ _ ended ∙ (λ i. Some (finding.Failed (place.Stream n) (reason.Unfinished (sym c.whole.ensures i) (sym c.full_size.ensures i)))) in
     finds-here (stream_items_at c.args.network.now) streams n d found within c.loop-index.invariant (subst (λ s. first_finding (stream_items_at c.args.network.now (n, s)) ≡ Some found) read here)
 
 pub loop-index-preserved : goal.loop-index-preserved
@@ -34,7 +32,7 @@ loop-index-preserved c =
     let n = c.loop-index.index in
     let d = c.stream-item.result in
     let ended : is_ended c.args.network.now n ≡ true =
-        (λ i. list_any (ends_stream (sym c.as_slice-branches.ensures i) n) (sym c.as_slice-lines.ensures i)) ∙ sym c.is_ended.ensures ∙ c.if-not-is_ended.false in
+    (λ i. list_any (ends_stream (sym c.as_slice-branches.ensures i) n) (sym c.as_slice-lines.ensures i)) ∙ sym c.is_ended.ensures ∙ c.if-not-is_ended.false in
     let within : n < length streams = omega (arith, ap length c.as_slice-stream-items.ensures, c.loop-index-test.true) in
     let here : first_finding (stream_items_at c.args.network.now (n, get_or streams n d)) ≡ None = found-passed _ _ ended ∙ found-nothing in
     passes-more (stream_items_at c.args.network.now) streams n d within c.loop-index.invariant here

@@ -1,4 +1,4 @@
-use Rattle.std.proofs.Common.{◌≡◌, map, take, length}
+use Rattle.std.proofs.Common.{◌≡◌, map, take}
 use Rattle.network_values.specs.Values.{first_value}
 use Rattle.network_audit.proofs.streams.start.Given as goal
 

@@ -1,4 +1,4 @@
-use Rattle.std.proofs.Common.{◌≡◌, ◌∙◌, ◌≤◌, ◌+◌, ◌∷◌, ◌++◌, [], None, Some, get_or, length, take, ap, refl, subst, sym, arith}
+use Rattle.std.proofs.Common.{◌≡◌, ◌∙◌, ◌≤◌, ◌∷◌, ◌++◌, [], None, Some, length, take, ap, refl, subst, sym, arith}
 use Rattle.std.proofs.lemmas.List.{take_all, take_more_set}
 use Rattle.network_audit.specs.Items.{first_finding}
 use Rattle.network_audit.specs.Table.{all_heat_items, heat_items, heats_in}
@@ -33,6 +33,7 @@ pub returns : goal.returns
 unfolding all_heat_items
 returns c =
     let n = c.loop-index.index in
-    let end : length c.args.utilities.now ≤ n = c.loop-index-test.false in
-    (passed-all (heat_items c.args.joints.now) c.args.utilities.now n end c.loop-index.invariant.passed,
-    sym (take_all n c.loop-index.heats (omega (arith, end, c.loop-index.auto.heats, c.requires.room))) ∙ c.loop-index.invariant.kept ∙ ap (heats_in c.args.joints.now) (take_all n c.args.utilities.now end))
+    let end : length c.args.utilities.now ≤ n = c.loop-index-test.false in (
+      passed-all (heat_items c.args.joints.now) c.args.utilities.now n end c.loop-index.invariant.passed,
+      sym (take_all n c.loop-index.heats (omega (arith, end, c.loop-index.auto.heats, c.requires.room))) ∙ c.loop-index.invariant.kept ∙ ap (heats_in c.args.joints.now) (take_all n c.args.utilities.now end),
+    )

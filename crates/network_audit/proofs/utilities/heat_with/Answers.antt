@@ -1,10 +1,9 @@
-use Rattle.std.proofs.Common.{◌≡◌, ◌∙◌, ◌+◌, ◌≤◌, ◌∷◌, [], None, Some, get_or, take, sym, ap, subst, arith}
+use Rattle.std.proofs.Common.{◌≡◌, ◌∙◌, ◌+◌, [], None, Some, get_or, take, sym, ap, subst, arith}
 use Rattle.std.specs.Prelude.{if◌then◌else◌}
 use Rattle.std.specs.List.{filter_map}
 use Rattle.std.proofs.lemmas.Result.{err_from_is_err_and}
-use Rattle.fractions.specs.Rationals.{Rational, plus}
-use Rattle.network_audit.specs.Table.{duties_in, joint_duty, needs}
-use Rattle.network_audit.specs.declared.joints.Joint.{Joint}
+use Rattle.fractions.specs.Rationals.{plus}
+use Rattle.network_audit.specs.Table.{duties_in, joint_duty}
 use Rattle.network_audit.specs.declared.sum.Sum.{Sum}
 use Rattle.network_audit.proofs.SumSteps.{IsSummed, sum-all, sum-more, sum-not, sum-same, summed-none, total-is}
 use Rattle.network_audit.proofs.utilities.heat_with.Goals as goal
@@ -36,7 +35,7 @@ loop-joint-preserved c =
     let d = c.joint-item.result in
     let n = c.loop-joint.joint-index in
     elim c.if-needs.branch [
-      then-needs+in_ok-sum w ↦
+      | then-needs+in_ok-sum w ↦
           let has : joint_duty c.args.index (get_or c.args.joints.now n d) ≡ Some d.duty = ap (joint_duty c.args.index) (sym c.joint-item.is) ∙ ap (λ b. if b then Some d.duty else None) (sym c.needs.ensures ∙ w.if-needs.true) in
           let is : c.if-needs.sum ≡ record { total = plus c.loop-joint.sum.total d.duty; steps = c.loop-joint.sum.steps + 1 } = w.sum-is ∙ w.in_ok-sum.ensures.1 in
           record {
@@ -44,7 +43,7 @@ loop-joint-preserved c =
             summed = subst (λ (s : Sum). IsSummed 0 (duties_in (take (n + 1) c.args.joints.now) c.args.index) s.total s.steps) (sym is)
                 (sum-more (joint_duty c.args.index) 0 c.args.joints.now n d d.duty c.loop-joint.sum.total c.loop-joint.sum.steps c.loop-joint-test.true has c.loop-joint.invariant.summed w.in_ok-sum.ensures.0);
           }
-    | else-needs w ↦
+      | else-needs w ↦
           let none : joint_duty c.args.index (get_or c.args.joints.now n d) ≡ None = ap (joint_duty c.args.index) (sym c.joint-item.is) ∙ ap (λ b. if b then Some d.duty else None) (sym c.needs.ensures ∙ w.if-needs.false) in
           record {
             few = omega (arith, ap (λ (s : Sum). s.steps) w.sum-is, c.loop-joint.invariant.few);

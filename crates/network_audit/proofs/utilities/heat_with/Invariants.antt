@@ -1,4 +1,4 @@
-use Rattle.std.proofs.Common.{◌≡◌, ◌≤◌, take}
+use Rattle.std.proofs.Common.{◌≤◌, take}
 use Rattle.network_audit.specs.Table.{duties_in}
 use Rattle.network_audit.proofs.SumSteps.{IsSummed}
 use Rattle.network_audit.proofs.utilities.heat_with.Given as goal

@@ -2,7 +2,7 @@ use Rattle.std.proofs.Common.{◌≡◌, ◌∙◌, Some, true, false, ap, not, 
 use Rattle.fractions.specs.Rationals.{Rational, is_below, whole}
 use Rattle.network_audit.specs.declared.findings.Finding.TheVariants as finding
 use Rattle.network_audit.specs.declared.findings.Reason.TheVariants as reason
-use Rattle.network_audit.proofs.FoundLemmas.{found-failed, found-formed, found-not_formed, found-nothing, found-passed}
+use Rattle.network_audit.proofs.FoundLemmas.{found-failed, found-nothing, found-passed}
 use Rattle.network_audit.proofs.utilities.in_range.Goals as goal
 
 pub returns-then-is_below : goal.returns-then-is_below

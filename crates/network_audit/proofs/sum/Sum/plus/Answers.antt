@@ -1,12 +1,13 @@
 use Rattle.std.proofs.Common.{◌∙◌, ◌+◌}
 use Rattle.fractions.proofs.Limits.{value_formed}
-use Rattle.network_audit.proofs.FoundLemmas.{found-failed, found-formed, found-not_formed, found-nothing, found-passed}
+use Rattle.network_audit.proofs.FoundLemmas.{found-formed, found-not_formed, found-nothing}
 use Rattle.network_audit.proofs.sum.Sum.plus.Goals as goal
 
 pub returns-in_default : goal.returns-in_default
 returns-in_default c = λ at. found-not_formed at _ _ _ _ c.in_default.is c.plus.ensures
 
 pub returns : goal.returns
-returns c =
-    (λ at. found-formed at _ _ _ _ _ c.in-Some.is c.plus.ensures ∙ found-nothing,
-    λ i. record { total = value_formed _ _ _ c.in-Some.is c.plus.ensures i; steps = c.args.self.now.steps + 1 })
+returns c = (
+  λ at. found-formed at _ _ _ _ _ c.in-Some.is c.plus.ensures ∙ found-nothing,
+  λ i. record { total = value_formed _ _ _ c.in-Some.is c.plus.ensures i; steps = c.args.self.now.steps + 1 },
+)

@@ -1,0 +1,2 @@
+pub mod PrintedNumbers
+pub mod Tests

@@ -1,0 +1,5 @@
+pub mod Plants
+pub mod Tests
+pub mod Accepted
+pub mod PrintedRows
+pub mod PrintedSite

@@ -1,0 +1,5 @@
+pub mod Given
+pub mod Checks
+pub mod Outcome
+pub mod Answers
+pub mod Printed

@@ -1,0 +1,21 @@
+//! The site file: its grammar, and reading it.
+//!
+//! A site file is a CSV text with a contribution, steam mains, plants, and below each plant the
+//! hot and cold streams of it, one a row. The grammar says of the rows of a text either which site
+//! they give, or which row is at fault and why.
+#![tactic(auto)]
+
+mod contribution_row;
+mod entry;
+mod fault;
+mod found;
+mod kind;
+mod laws;
+mod main_row;
+mod plant_row;
+mod reader;
+mod stream_row;
+
+pub use fault::{SiteFault, SiteWhy};
+pub use laws::{rows_have_one_outcome, valid_sites_are_those_of_the_grammar};
+pub use reader::read_site;
