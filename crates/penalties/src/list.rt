@@ -13,7 +13,7 @@ pub struct Penalty {
 }
 
 /// The penalties of a network.
-#[derive(Drop)]
+#[derive(Debug, PartialEq, Eq, Drop)]
 pub enum PenaltyList {
     /// Those of the exchangers in order, then those of the mixes in order.
     Listed(Items<Penalty>),
