@@ -1,0 +1,12 @@
+use Rattle.std.proofs.Common.{◌≡◌, ◌++◌, None, take}
+use Rattle.std.specs.List.{enumerate_from, filter_map}
+use Rattle.penalties.specs.Rows.{mix_row}
+use Rattle.penalties.specs.Steps.{first_too_fine, line_steps}
+use Rattle.penalties.specs.Survey.{seen_height, seen_steps}
+use Rattle.penalties.proofs.StepLemmas.{steps_of}
+use Rattle.penalties.proofs.heights.Survey.add_mixes.Given as goal
+
+abbrev pub invariant-loop-index : goal.invariant-loop-index
+invariant-loop-index l =
+    (first_too_fine (steps_of (line_steps (seen_height l.self) (seen_steps l.self)) l.lines l.index) ≡ None)
+    × (l.list.items ≡ l.initial.list.items ++ filter_map (mix_row (seen_height l.self)) (enumerate_from 0 (take l.index l.lines)))

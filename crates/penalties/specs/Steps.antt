@@ -1,0 +1,112 @@
+-- The steps that form the penalties, with their numbers.
+use Rattle.std.specs.Prelude.{ℕ, ℤ, ◌+◌, Bool, not, List, [], ◌∷◌, ◌++◌, find, Option, Some, None, option_map, slice_get, if◌then◌else◌}
+use Rattle.std.specs.List.{enumerate_from, flat_map}
+use Rattle.stream_case.specs.declared.case.Case.{Case}
+use Rattle.stream_case.specs.declared.source.Source.{Source}
+use Rattle.stream_case.specs.declared.source.Source.TheVariants as source
+use Rattle.stream_case.specs.declared.stream.Stream.{Stream}
+use Rattle.fractions.specs.Rationals.{Rational, is_below, is_within_limits, minus, plus, rational_zero, times}
+use Rattle.network_text.specs.Lines.{Exchanger, exchangers_of, stream_at}
+use Rattle.network_text.specs.declared.network.Line.{Line}
+use Rattle.network_text.specs.declared.network.Line.TheVariants as line
+use Rattle.network_text.specs.declared.network.Network.{Network}
+use Rattle.network_values.specs.Penalties.{base_of, height_at, penalty}
+use Rattle.network_values.specs.Values.{Valuation, value_at}
+use Rattle.network_values.specs.declared.values.BranchValue.{BranchValue}
+use Rattle.network_audit.specs.Joints.{crossing_among}
+use Rattle.network_audit.specs.declared.findings.Place.{Place}
+use Rattle.network_audit.specs.declared.findings.Place.TheVariants as place
+use Rattle.network_audit.specs.declared.joints.Crossing.{Crossing}
+
+-- a step: the place of its penalty, its number there, and the number that it forms
+pub record Step : Type 0 where
+  pub place : Place
+  pub number : ℕ
+  pub value : Rational
+
+abbrev pub step : Place → ℕ → Rational → Step
+step at number value = record { place = at; number = number; value = value }
+
+-- the step forms a number that is not within the limits of a fraction
+abbrev pub is_too_fine : Step → Bool
+is_too_fine s = not (is_within_limits s.value)
+
+-- where a step stands: its place and its number
+abbrev pub spot_of : Step → Place × ℕ
+spot_of s = (s.place, s.number)
+
+-- where the first step stands that does
+unfoldable pub first_too_fine : List Step → Option (Place × ℕ)
+first_too_fine steps = option_map spot_of (find is_too_fine steps)
+
+-- ---- branches
+
+-- the distance of a branch from the place, and its height, which is formed only where the distance is above 0
+abbrev pub height_steps : Place → ℕ → Rational → Rational → List Step
+height_steps at k size distance = step at k distance ∷ (if is_below rational_zero distance then step at (k + 1) (times size distance) ∷ [] else [])
+
+abbrev pub stream_steps : ℤ → Place → ℕ → Option Stream → BranchValue → List Step
+stream_steps reference at k None value = []
+stream_steps reference at k (Some s) value = height_steps at k value.cp (minus value.t (base_of reference s))
+
+-- those of the branch with a number
+abbrev pub branch_steps : Case → ℤ → Network → Valuation → Place → ℕ → ℕ → List Step
+branch_steps case reference network values at k branch = stream_steps reference at k (slice_get case.streams (stream_at network.branches branch)) (value_at values branch)
+
+-- ---- penalties, by the heights of the branches and by the steps that form them
+
+-- the heights of two branches, and the first less the second
+abbrev pub loss_steps : (ℕ → Rational) → (Place → ℕ → ℕ → List Step) → Place → ℕ → ℕ → ℕ → List Step
+loss_steps height steps at k first second = steps at k first ++ (steps at (k + 2) second ++ step at (k + 4) (minus (height first) (height second)) ∷ [])
+
+-- a stream releases by the branches before and behind its pass, a utility forms no number
+abbrev pub released_steps : (ℕ → Rational) → (Place → ℕ → ℕ → List Step) → Place → Source → Option Crossing → List Step
+released_steps height steps at (source.Stream i) (Some crossing) = loss_steps height steps at 1 crossing.from crossing.to
+released_steps height steps at (source.Stream i) None = []
+released_steps height steps at (source.Utility i) pass = []
+
+-- and absorbs by those behind and before it
+abbrev pub absorbed_steps : (ℕ → Rational) → (Place → ℕ → ℕ → List Step) → Place → Source → Option Crossing → List Step
+absorbed_steps height steps at (source.Stream i) (Some crossing) = loss_steps height steps at 6 crossing.to crossing.from
+absorbed_steps height steps at (source.Stream i) None = []
+absorbed_steps height steps at (source.Utility i) pass = []
+
+-- the branches that pass an exchanger on the side of a source
+abbrev pub side_pass : Network → ℕ → Source → Option Crossing
+side_pass network number of = crossing_among network.branches network.lines number of
+
+abbrev pub exchanger_steps : (ℕ → Rational) → (Place → ℕ → ℕ → List Step) → Network → ℕ × Exchanger → List Step
+exchanger_steps height steps network (number, e) =
+    released_steps height steps (place.Exchanger number) e.hot (side_pass network number e.hot)
+    ++ (absorbed_steps height steps (place.Exchanger number) e.cold (side_pass network number e.cold)
+    ++ step (place.Exchanger number) 11 (penalty height network (number, e)) ∷ [])
+
+-- a mix takes the height of its result from those of its two branches
+abbrev pub taken_steps : (ℕ → Rational) → (Place → ℕ → ℕ → List Step) → Place → ℕ → ℕ → ℕ → List Step
+taken_steps height steps at first second to =
+    steps at 1 first
+    ++ (steps at 3 second
+    ++ (steps at 5 to
+    ++ step at 7 (plus (height first) (height second)) ∷ step at 8 (minus (plus (height first) (height second)) (height to)) ∷ []))
+
+-- statements are counted from 1, and only mixes have penalties
+abbrev pub line_steps : (ℕ → Rational) → (Place → ℕ → ℕ → List Step) → ℕ × Line → List Step
+line_steps height steps (index, line.Exchanger name hot cold duty) = []
+line_steps height steps (index, line.Split from first cp second) = []
+line_steps height steps (index, line.Pass from exchanger to) = []
+line_steps height steps (index, line.Mix first second to) = taken_steps height steps (place.Line (index + 1)) first second to
+line_steps height steps (index, line.End branch) = []
+
+-- ---- all steps
+
+unfoldable pub all_exchanger_steps : (ℕ → Rational) → (Place → ℕ → ℕ → List Step) → Network → List Step
+all_exchanger_steps height steps network = flat_map (exchanger_steps height steps network) (enumerate_from 0 (exchangers_of network.lines))
+
+unfoldable pub all_mix_steps : (ℕ → Rational) → (Place → ℕ → ℕ → List Step) → List Line → List Step
+all_mix_steps height steps lines = flat_map (line_steps height steps) (enumerate_from 0 lines)
+
+-- the exchangers in their order, then the mixes in theirs
+abbrev pub penalty_steps : Case → ℤ → Network → Valuation → List Step
+penalty_steps case reference network values =
+    all_exchanger_steps (height_at case reference network values) (branch_steps case reference network values) network
+    ++ all_mix_steps (height_at case reference network values) (branch_steps case reference network values) network.lines

@@ -1,0 +1,85 @@
+//! Heights of branches above the reference place.
+ghost use Rattle.std.specs.Prelude.{◌≡◌, ◌+◌, ◌<◌, ◌^◌};
+ghost use Rattle.fractions.specs.Rationals.{minus};
+ghost use Rattle.network_values.specs.Heights.{height};
+ghost use Rattle.network_values.specs.Penalties.{base_of};
+ghost use Rattle.penalties.specs.Answers.{Formed};
+ghost use Rattle.penalties.specs.Steps.{height_steps};
+
+use crate::list::TooFine;
+use fractions::Frac;
+use network_audit::{Auditor, Place, stream_at};
+use network_text::Network;
+use network_values::BranchValue;
+use stream_case::{Case, Side, Stream};
+
+/// A network with what an audit knows of it, seen from the reference place.
+#[derive(Clone, Copy)]
+pub(crate) struct Survey<'a> {
+    pub case: &'a Case,
+    pub network: &'a Network,
+    pub auditor: &'a Auditor,
+    /// A shifted temperature, in tenths of °C.
+    pub reference: i32,
+}
+
+/// The reference place as a temperature of a stream, in tenths of °C.
+fn base_of(stream: &Stream, reference: i32) -> Frac
+    ensures { result ≡ base_of reference stream.now }
+{
+    let contribution = i64::from(stream.contribution);
+    let reference = i64::from(reference);
+    match stream.side {
+        Side::Hot => Frac::whole(reference + contribution),
+        Side::Cold => Frac::whole(reference - contribution),
+    }
+}
+
+/// The height in W of what a branch carries above a base in tenths of °C: two steps, of which the
+/// second is only taken above the base.
+fn height(place: Place, step: u32, base: &Frac, value: &BranchValue) -> Result<Frac, TooFine>
+    requires { step + 1 < 2 ^ 32 }
+    ensures { Formed (height_steps place step value.now.cp (minus value.now.t base.now)) (λ h. h ≡ height value.now.cp (minus value.now.t base.now)) result }
+{
+    let Some(distance) = value.t.minus(base) else {
+        return Err(TooFine { place, step });
+    };
+    if !distance.is_positive() {
+        return Ok(Frac::whole(0));
+    }
+    let step = step + 1;
+    match value.cp.times(&distance) {
+        Some(height) => Ok(height),
+        None => Err(TooFine { place, step }),
+    }
+}
+
+impl<'a> Survey<'a> {
+    ghost use Rattle.network_values.specs.Values.{value_at};
+    ghost use Rattle.penalties.specs.Survey.{seen_height, seen_steps, values_of};
+
+    /// What a branch carries; nothing, of which no rule speaks, where there is none.
+    fn value(&self, branch: u32) -> BranchValue
+        ensures { result ≡ value_at (values_of self.now.auditor.now) branch }
+    {
+        let none = BranchValue {
+            cp: Frac::whole(0),
+            t: Frac::whole(0),
+        };
+        self.auditor.value(branch).unwrap_or(none)
+    }
+
+    /// The height in W of a branch, from this step on.
+    pub fn height(&self, place: Place, step: u32, branch: u32) -> Result<Frac, TooFine>
+        requires { step + 1 < 2 ^ 32 }
+        ensures { Formed (seen_steps self.now place step branch) (λ h. h ≡ seen_height self.now branch) result }
+    {
+        let stream = stream_at(self.network.branches.as_slice(), branch);
+        let Some(stream) = self.case.streams.get(stream as usize) else {
+            return Ok(Frac::whole(0));
+        };
+        let reference = self.reference;
+        let base = base_of(stream, reference);
+        height(place, step, &base, &self.value(branch))
+    }
+}

@@ -1,0 +1,49 @@
+//! All penalties of a network.
+ghost use Rattle.std.specs.Prelude.{IfOk, ◌≡◌, All};
+ghost use Rattle.stream_case.specs.Case.{IsComplete};
+ghost use Rattle.network_text.specs.Shape.{HasShape};
+ghost use Rattle.network_audit.specs.Balance.{excess_of};
+ghost use Rattle.network_audit.specs.Valid.{IsValidNetwork};
+ghost use Rattle.penalties.specs.Accepted.{HasAccepted};
+ghost use Rattle.penalties.specs.Answers.{IfListed, IsNotNegative, ListsPenalties, sum_of};
+
+use crate::heights::Survey;
+use crate::list::{PenaltyList, TooFine};
+use network_audit::{Auditor, joints_of};
+use network_text::Network;
+use problem_table::reference_place;
+use std::alloc::{AllocError, Global};
+use stream_case::{Case, Items};
+
+/// The penalties in W of a network that the last audit accepted. They add up to its excess, and
+/// none is negative.
+pub fn penalties(
+    alloc: Global,
+    case: &Case,
+    network: &Network,
+    auditor: &Auditor,
+) -> Result<PenaltyList, AllocError>
+    requires complete { IsComplete case.now }
+    requires shape { HasShape case.now network.now }
+    requires valid { IsValidNetwork case.now network.now }
+    requires accepted { HasAccepted auditor.now case.now network.now }
+    ensures lists { IfOk result (ListsPenalties case.now network.now) }
+    ensures not_negative { IfOk result (λ list. IfListed list (All IsNotNegative)) }
+    ensures sum { IfOk result (λ list. IfListed list (λ listed. sum_of listed ≡ excess_of case.now network.now)) }
+{
+    let joints = joints_of(alloc, network)?;
+    let survey = Survey {
+        case,
+        network,
+        auditor,
+        reference: reference_place(case),
+    };
+    let mut list = Vec::new(alloc);
+    if let Some(TooFine { place, step }) = survey.add_exchangers(joints.as_slice(), &mut list)? {
+        return Ok(PenaltyList::TooFine { place, step });
+    }
+    if let Some(TooFine { place, step }) = survey.add_mixes(network.lines.as_slice(), &mut list)? {
+        return Ok(PenaltyList::TooFine { place, step });
+    }
+    Ok(PenaltyList::Listed(Items::from_vec(list)))
+}
