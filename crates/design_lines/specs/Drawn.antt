@@ -1,0 +1,27 @@
+-- A network drawn from exchangers and from the stages that each stream is led through.
+use Rattle.std.specs.Prelude.{ℕ, ◌+◌, ◌-◌, ◌*◌, List, [], ◌∷◌, ◌++◌, length, sum_by}
+use Rattle.network_text.specs.declared.network.Line.{Line}
+use Rattle.network_text.specs.declared.network.Line.TheVariants as line
+use Rattle.design_lines.specs.declared.stage.Share.{Share}
+use Rattle.design_lines.specs.Stages.{stage_end, stage_lines}
+
+-- the stages that a stream is led through, from its supply to its target
+abbrev pub Course : Type 0
+Course = List (List Share)
+
+-- a stream whose branch is `from` is led through stages, and ended
+abbrev pub course_lines : ℕ → ℕ → Course → List Line
+course_lines next from [] = line.End from ∷ []
+course_lines next from (shares ∷ stages) = stage_lines next from shares ++ course_lines (stage_end next shares + 1) (stage_end next shares) stages
+
+-- how many branches a stage makes, and how many a course
+abbrev pub stage_branches : List Share → ℕ
+stage_branches shares = 4 * (length shares - 1) + 1
+
+abbrev pub course_branches : Course → ℕ
+course_branches stages = sum_by stage_branches stages
+
+-- the courses of the streams from number `stream` on, in their order
+abbrev pub courses_lines : ℕ → ℕ → List Course → List Line
+courses_lines next stream [] = []
+courses_lines next stream (course ∷ courses) = course_lines next stream course ++ courses_lines (next + course_branches course) (stream + 1) courses
