@@ -1,2 +1,3 @@
 pub mod NameLemmas
 pub mod StageSteps
+pub mod ListLemmas

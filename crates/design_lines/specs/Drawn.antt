@@ -1,9 +1,13 @@
 -- A network drawn from exchangers and from the stages that each stream is led through.
-use Rattle.std.specs.Prelude.{ℕ, ◌+◌, ◌-◌, ◌*◌, List, [], ◌∷◌, ◌++◌, length, sum_by}
+use Rattle.std.specs.Prelude.{ℕ, ◌+◌, ◌-◌, ◌*◌, List, [], ◌∷◌, ◌++◌, length, map, sum_by}
+use Rattle.std.specs.List.{range_with_len}
+use Rattle.network_text.specs.Lines.{Exchanger}
+use Rattle.network_text.specs.declared.network.Branch.{Branch}
 use Rattle.network_text.specs.declared.network.Line.{Line}
 use Rattle.network_text.specs.declared.network.Line.TheVariants as line
-use Rattle.design_lines.specs.declared.stage.Share.{Share}
+use Rattle.design_lines.specs.Names.{branch_name}
 use Rattle.design_lines.specs.Stages.{stage_end, stage_lines}
+use Rattle.design_lines.specs.declared.stage.Share.{Share}
 
 -- the stages that a stream is led through, from its supply to its target
 abbrev pub Course : Type 0
@@ -25,3 +29,16 @@ course_branches stages = sum_by stage_branches stages
 abbrev pub courses_lines : ℕ → ℕ → List Course → List Line
 courses_lines next stream [] = []
 courses_lines next stream (course ∷ courses) = course_lines next stream course ++ courses_lines (next + course_branches course) (stream + 1) courses
+
+-- the branches with these numbers, which a design makes in a stream
+abbrev pub numbered : ℕ → ℕ → ℕ → List Branch
+numbered first stream count = map (λ k. record { name = branch_name k; stream = stream }) (range_with_len first count)
+
+-- the branches that the courses make, those of the streams from number `stream` on
+abbrev pub made_branches : ℕ → ℕ → List Course → List Branch
+made_branches first stream [] = []
+made_branches first stream (course ∷ courses) = numbered first stream (course_branches course) ++ made_branches (first + course_branches course) (stream + 1) courses
+
+-- the line that declares an exchanger
+abbrev pub declared_line : Exchanger → Line
+declared_line e = line.Exchanger e.name e.hot e.cold e.duty

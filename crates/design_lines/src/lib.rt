@@ -2,8 +2,10 @@
 //! pass one exchanger each, and are joined again.
 #![tactic(auto)]
 
+mod branches;
 mod names;
 mod stage;
 
+pub use branches::{own_branches, push_branches};
 pub use names::{branch_name, exchanger_name};
 pub use stage::{Share, push_stage};
