@@ -1,5 +1,5 @@
 -- A network drawn from exchangers and from the stages that each stream is led through.
-use Rattle.std.specs.Prelude.{ℕ, ◌+◌, ◌-◌, ◌*◌, List, [], ◌∷◌, ◌++◌, length, map, sum_by}
+use Rattle.std.specs.Prelude.{ℕ, ◌+◌, ◌-◌, ◌*◌, List, [], ◌∷◌, ◌++◌, length, map}
 use Rattle.std.specs.List.{range_with_len}
 use Rattle.network_text.specs.Lines.{Exchanger}
 use Rattle.network_text.specs.declared.network.Branch.{Branch}
@@ -23,7 +23,13 @@ abbrev pub stage_branches : List Share → ℕ
 stage_branches shares = 4 * (length shares - 1) + 1
 
 abbrev pub course_branches : Course → ℕ
-course_branches stages = sum_by stage_branches stages
+course_branches [] = 0
+course_branches (shares ∷ stages) = stage_branches shares + course_branches stages
+
+-- and how many all courses
+abbrev pub all_branches : List Course → ℕ
+all_branches [] = 0
+all_branches (course ∷ courses) = course_branches course + all_branches courses
 
 -- the courses of the streams from number `stream` on, in their order
 abbrev pub courses_lines : ℕ → ℕ → List Course → List Line

@@ -1,0 +1,3 @@
+pub mod ItemLemmas
+pub mod CourseLemmas
+pub mod NetworkLemmas
