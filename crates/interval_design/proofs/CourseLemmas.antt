@@ -1,9 +1,9 @@
 -- The stages that are left of a course.
-use Rattle.std.proofs.Common.{◌≡◌, ◌∙◌, ◌<◌, ◌≤◌, ◌+◌, ◌-◌, ◌∷◌, ◌++◌, ℕ, suc, Bool, true, false, if◌then◌else◌, List, [], All, get_or, length, map, take, drop, refl, sym, ap, subst, arith, append_assoc}
-use Rattle.std.specs.Prelude.{◌*◌, reverse, slice_get, Some, None}
+use Rattle.std.proofs.Common.{◌≡◌, ◌∙◌, ◌<◌, ◌≤◌, ◌+◌, ◌-◌, ◌∷◌, ◌++◌, ℕ, suc, Bool, true, false, if◌then◌else◌, List, [], All, get_or, length, drop, sym, ap, subst, arith, append_assoc}
+use Rattle.std.specs.Prelude.{◌*◌, slice_get, Some, None}
 use Rattle.std.specs.List.{cons_option, enumerate_from, filter_map}
 use Rattle.std.proofs.Math.Seq.{drop-cons}
-use Rattle.std.proofs.lemmas.List.{append-nil, drop_all, get_or-reverse, length-reverse}
+use Rattle.std.proofs.lemmas.List.{drop_all, get_or-reverse, length-reverse}
 use Rattle.std.proofs.lemmas.List.Elements.{All-head, All-tail}
 use Rattle.std.proofs.lemmas.Option.{get_or_from_slice_get, slice_get_within}
 use Rattle.std.proofs.lemmas.List.FromFn.{get_or-enumerate_from, length-enumerate_from}

@@ -1,5 +1,5 @@
 -- The shares of a part and the exchangers, transfer by transfer.
-use Rattle.std.proofs.Common.{◌≡◌, ◌≢◌, ◌∙◌, ◌<◌, ◌+◌, ◌∷◌, ◌++◌, ℕ, Some, None, List, [], All, length, map, take, slice_get, sym, ap, arith}
+use Rattle.std.proofs.Common.{◌≡◌, ◌≢◌, ◌∙◌, ◌+◌, ◌∷◌, ◌++◌, ℕ, Some, None, List, [], map, take, slice_get, sym, ap, arith}
 use Rattle.std.specs.List.{enumerate_from, filter_map}
 use Rattle.std.specs.Option.{option_to_list}
 use Rattle.std.proofs.lemmas.Bool.Decides.{nat_tests}
@@ -8,7 +8,6 @@ use Rattle.std.proofs.lemmas.Option.{get_or_from_slice_get, slice_get_within}
 use Rattle.stream_case.specs.declared.source.Side.{Side}
 use Rattle.fractions.specs.Rationals.{ratio}
 use Rattle.design_lines.proofs.ListLemmas.{filter_map-enumerate_more, map-enumerate_more}
-use Rattle.design_lines.specs.declared.stage.Share.{Share}
 use Rattle.heat_flow.specs.Flow.{part_index}
 use Rattle.heat_flow.specs.declared.flow.Transfer.{Transfer}
 use Rattle.interval_design.specs.Courses.{share_of}

@@ -1,3 +1,4 @@
 pub mod ItemLemmas
 pub mod CourseLemmas
 pub mod NetworkLemmas
+pub mod FlowLemmas

@@ -1,5 +1,5 @@
 -- The courses of the streams, one after the other.
-use Rattle.std.proofs.Common.{◌≡◌, ◌∙◌, ◌<◌, ◌≤◌, ◌+◌, ◌-◌, ◌∷◌, ◌++◌, ℕ, suc, List, [], Some, get_or, slice_get, length, map, drop, refl, sym, ap, arith, append_assoc, length-append}
+use Rattle.std.proofs.Common.{◌≡◌, ◌∙◌, ◌≤◌, ◌+◌, ◌-◌, ◌∷◌, ◌++◌, ℕ, suc, List, Some, get_or, slice_get, length, map, drop, sym, ap, arith, append_assoc, length-append}
 use Rattle.std.specs.List.{enumerate_from, range_with_len}
 use Rattle.std.proofs.Math.Seq.{drop-cons}
 use Rattle.std.proofs.lemmas.List.{append-nil, drop_all, get_or-map, length-map}
@@ -26,7 +26,7 @@ course_next case hot cold transfers number s here =
     let long = length-enumerate_from 0 case.streams in
     let zero_first : 0 + number ≡ number = omega arith in
     let pair : get_or pairs number (number, s) ≡ (number, s) =
-      get_or-enumerate_from 0 case.streams number (number, s) within ∙ ap (λ (k : ℕ). (k, get_or case.streams number s)) zero_first ∙ ap (λ (t : Stream). (number, t)) (get_or_from_slice_get case.streams number s s here) in
+    get_or-enumerate_from 0 case.streams number (number, s) within ∙ ap (λ (k : ℕ). (k, get_or case.streams number s)) zero_first ∙ ap (λ (t : Stream). (number, t)) (get_or_from_slice_get case.streams number s s here) in
     let next : suc number ≡ number + 1 = omega arith in
     drop-cons (map f pairs) number (f (number, s)) (omega (arith, length-map pairs f, long, within))
     ∙ ap (λ (course : Course). course ∷ drop (suc number) (map f pairs)) (get_or-map f pairs number (number, s) (f (number, s)) (omega (arith, long, within)) ∙ ap f pair)
@@ -82,9 +82,10 @@ module _ (courses : List Course) (own : ℕ) (old_lines : List Line) (old_branch
   pub are_end : (number : ℕ) (lines : List Line) (branches : List Branch) → length courses ≤ number → AreLed courses own old_lines old_branches number lines branches
       → (lines ≡ old_lines ++ courses_lines own 0 courses) × (branches ≡ old_branches ++ made_branches 0 0 courses)
   are_end number lines branches upto are =
-      let none = drop_all number courses upto in
-      (sym (append-nil lines) ∙ ap (λ (cs : List Course). lines ++ courses_lines (length branches) number cs) (sym none) ∙ are.drawn,
-      sym (append-nil branches) ∙ ap (λ (cs : List Course). branches ++ made_branches (length branches - own) number cs) (sym none) ∙ are.made)
+      let none = drop_all number courses upto in (
+        sym (append-nil lines) ∙ ap (λ (cs : List Course). lines ++ courses_lines (length branches) number cs) (sym none) ∙ are.drawn,
+        sym (append-nil branches) ∙ ap (λ (cs : List Course). branches ++ made_branches (length branches - own) number cs) (sym none) ∙ are.made,
+      )
 
 pub length-courses_of : (case : Case) (hot cold : List Part) (transfers : List Transfer) → length (courses_of case hot cold transfers) ≡ length case.streams
 length-courses_of case hot cold transfers = length-map (enumerate_from 0 case.streams) (stream_course hot cold transfers) ∙ length-enumerate_from 0 case.streams

@@ -1,5 +1,5 @@
 -- The network of a heat flow: an exchanger for each transfer, and each stream led through its parts.
-use Rattle.std.specs.Prelude.{◌≡◌, ◌<◌, ℕ, true, All, ◌==◌, ◌-◌, ◌-ℤ◌, unsigned_abs, List, [], ◌∷◌, ◌++◌, length, map, reverse, Option, Some, None, slice_get, if◌then◌else◌}
+use Rattle.std.specs.Prelude.{◌≡◌, ◌<◌, ℕ, true, All, ◌==◌, ◌-◌, ◌-ℤ◌, unsigned_abs, List, ◌++◌, length, map, reverse, Option, Some, None, slice_get, if◌then◌else◌}
 use Rattle.std.specs.List.{enumerate_from, filter_map}
 use Rattle.std.specs.Option.{option_map_or}
 use Rattle.stream_case.specs.Source.{same_source}

@@ -70,8 +70,6 @@ pub(crate) fn push_course(
         at = push_stage(lines, free, at, shares.as_slice())?;
         free = at + 1;
     }
-    lines.push(Line::End {
-        branch: at,
-    })?;
+    lines.push(Line::End { branch: at })?;
     Ok(free)
 }

@@ -60,7 +60,15 @@ fn push_courses(
         let side = stream_at(case, number).side;
         let next = branches.len() as u32;
         let stream = number as u32;
-        let free = push_course(alloc, lines, next, stream, side, parts_of(parts, side), transfers)?;
+        let free = push_course(
+            alloc,
+            lines,
+            next,
+            stream,
+            side,
+            parts_of(parts, side),
+            transfers,
+        )?;
         push_branches(alloc, branches, next - own, stream, free - next)?;
     }
     Ok(())
@@ -70,19 +78,19 @@ fn push_courses(
 /// the sources of its two parts and with its heat as duty, in W, and each stream is led through its
 /// parts.
 #[tactic(auto, unfolding(crate::specs::Courses::network_of))]
-pub fn design(
-    alloc: Global,
-    case: &Case,
-    parts: &Parts,
-    flow: &Flow,
-) -> Result<Network, AllocError>
+pub fn design(alloc: Global, case: &Case, parts: &Parts, flow: &Flow) -> Result<Network, AllocError>
     requires complete { IsComplete case.now }
     requires parts { AreCaseParts case.now parts.now.hot parts.now.cold }
     requires flow { IsHeatFlow (reach_between case.now parts.now.hot parts.now.cold) parts.now.hot parts.now.cold flow.now.transfers }
     ensures { IfOk result (λ network. network ≡ network_of case.now parts.now.hot parts.now.cold flow.now.transfers) }
 {
     let transfers = flow.transfers.as_slice();
-    let mut lines = exchanger_lines(alloc, parts.hot.as_slice(), parts.cold.as_slice(), transfers)?;
+    let mut lines = exchanger_lines(
+        alloc,
+        parts.hot.as_slice(),
+        parts.cold.as_slice(),
+        transfers,
+    )?;
     let mut branches = own_branches(alloc, case)?;
     push_courses(alloc, &mut lines, &mut branches, case, parts, flow)?;
     Ok(Network {

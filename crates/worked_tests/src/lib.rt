@@ -11,8 +11,6 @@ mod corner_flow_tests;
 #[cfg(test)]
 mod csv_rows_tests;
 #[cfg(test)]
-mod design_tests;
-#[cfg(test)]
 mod curves_tests;
 #[cfg(test)]
 mod flows;

@@ -1,13 +1,12 @@
-use Rattle.std.proofs.Common.{◌≡◌, ◌∙◌, ◌<◌, ◌≤◌, ◌+◌, ◌*◌, ◌∷◌, ◌++◌, [], true, length, ap, refl, sym, arith}
+use Rattle.std.proofs.Common.{◌≡◌, ◌∙◌, ◌<◌, ◌∷◌, ◌++◌, [], true, ap, refl, sym, arith}
 use Rattle.stream_case.specs.Source.{same_source}
 use Rattle.stream_case.specs.declared.source.Source.TheVariants as source
 use Rattle.network_text.proofs.Lists.{all_at}
 use Rattle.network_text.specs.declared.network.Line.TheVariants as line
-use Rattle.design_lines.specs.Stages.{stage_end, stage_lines}
-use Rattle.design_lines.specs.declared.stage.Share.{Share}
+use Rattle.design_lines.specs.Stages.{stage_end}
 use Rattle.grid.specs.declared.part.Part.{Part}
 use Rattle.interval_design.specs.Courses.{shares_of, width_of}
-use Rattle.interval_design.proofs.CourseLemmas.{HasStage, IsTurn, led_end, led_next, led_skip, led_stage, led_start}
+use Rattle.interval_design.proofs.CourseLemmas.{IsTurn, led_end, led_next, led_skip, led_stage, led_start}
 use Rattle.interval_design.proofs.courses.push_course.Goals as goal
 
 pub loop-turn-init : goal.loop-turn-init
@@ -24,7 +23,7 @@ pub shares_of-requires-clause-wide : goal.shares_of-requires-clause-wide
 shares_of-requires-clause-wide c =
     let p = c.part_at-part.result in
     let wide : 0 < width_of p = all_at (λ (q : Part). same_source q.source (source.Stream c.args.stream) ≡ true → 0 < width_of q) c.args.parts.now c.index_at-index.result p c.requires.led.wide c.part_at-part.ensures
-      (sym c.is_part_of-is_own.ensures ∙ c.if-not-is_own.false) in
+    (sym c.is_part_of-is_own.ensures ∙ c.if-not-is_own.false) in
     omega (arith, wide, c.width_of.ensures)
 
 pub push_stage-requires-clause-some : goal.push_stage-requires-clause-some
@@ -33,9 +32,9 @@ push_stage-requires-clause-some c =
     let is : IsTurn c.args.side c.args.parts.now c.loop-turn.turn c.index_at-index.result p = record { within = c.loop-turn-test.true; index_is = c.index_at-index.ensures; here = c.part_at-part.ensures } in
     let own : same_source p.source (source.Stream c.args.stream) ≡ true = sym c.is_part_of-is_own.ensures ∙ c.if-not-is_own.false in
     let are : c.as_slice.result.now ≡ shares_of c.args.side c.index_at-index.result (width_of p) c.args.transfers.now =
-      c.as_slice.ensures.value ∙ c.in_ok-shares.ensures ∙ ap (λ n. shares_of c.args.side c.index_at-index.result n c.args.transfers.now) c.width_of.ensures in
+    c.as_slice.ensures.value ∙ c.in_ok-shares.ensures ∙ ap (λ n. shares_of c.args.side c.index_at-index.result n c.args.transfers.now) c.width_of.ensures in
     let stage = led_stage c.args.side c.args.parts.now c.args.transfers.now c.args.stream c.args.next c.args.lines.now.items c.loop-turn.turn c.loop-turn.lines.items c.loop-turn.free c.loop-turn.at
-      c.index_at-index.result p c.as_slice.result.now is own c.loop-turn.invariant are in
+    c.index_at-index.result p c.as_slice.result.now is own c.loop-turn.invariant are in
     stage.some
 
 pub push_stage-requires-clause-fits : goal.push_stage-requires-clause-fits
@@ -44,9 +43,9 @@ push_stage-requires-clause-fits c =
     let is : IsTurn c.args.side c.args.parts.now c.loop-turn.turn c.index_at-index.result p = record { within = c.loop-turn-test.true; index_is = c.index_at-index.ensures; here = c.part_at-part.ensures } in
     let own : same_source p.source (source.Stream c.args.stream) ≡ true = sym c.is_part_of-is_own.ensures ∙ c.if-not-is_own.false in
     let are : c.as_slice.result.now ≡ shares_of c.args.side c.index_at-index.result (width_of p) c.args.transfers.now =
-      c.as_slice.ensures.value ∙ c.in_ok-shares.ensures ∙ ap (λ n. shares_of c.args.side c.index_at-index.result n c.args.transfers.now) c.width_of.ensures in
+    c.as_slice.ensures.value ∙ c.in_ok-shares.ensures ∙ ap (λ n. shares_of c.args.side c.index_at-index.result n c.args.transfers.now) c.width_of.ensures in
     let stage = led_stage c.args.side c.args.parts.now c.args.transfers.now c.args.stream c.args.next c.args.lines.now.items c.loop-turn.turn c.loop-turn.lines.items c.loop-turn.free c.loop-turn.at
-      c.index_at-index.result p c.as_slice.result.now is own c.loop-turn.invariant are in
+    c.index_at-index.result p c.as_slice.result.now is own c.loop-turn.invariant are in
     omega (arith, stage.room, c.requires.fits)
 
 pub overflow_add-free : goal.overflow_add-free
@@ -55,9 +54,9 @@ overflow_add-free c =
     let is : IsTurn c.args.side c.args.parts.now c.loop-turn.turn c.index_at-index.result p = record { within = c.loop-turn-test.true; index_is = c.index_at-index.ensures; here = c.part_at-part.ensures } in
     let own : same_source p.source (source.Stream c.args.stream) ≡ true = sym c.is_part_of-is_own.ensures ∙ c.if-not-is_own.false in
     let are : c.as_slice.result.now ≡ shares_of c.args.side c.index_at-index.result (width_of p) c.args.transfers.now =
-      c.as_slice.ensures.value ∙ c.in_ok-shares.ensures ∙ ap (λ n. shares_of c.args.side c.index_at-index.result n c.args.transfers.now) c.width_of.ensures in
+    c.as_slice.ensures.value ∙ c.in_ok-shares.ensures ∙ ap (λ n. shares_of c.args.side c.index_at-index.result n c.args.transfers.now) c.width_of.ensures in
     let stage = led_stage c.args.side c.args.parts.now c.args.transfers.now c.args.stream c.args.next c.args.lines.now.items c.loop-turn.turn c.loop-turn.lines.items c.loop-turn.free c.loop-turn.at
-      c.index_at-index.result p c.as_slice.result.now is own c.loop-turn.invariant are in
+    c.index_at-index.result p c.as_slice.result.now is own c.loop-turn.invariant are in
     let ends : c.in_ok-at.at ≡ stage_end c.loop-turn.free c.as_slice.result.now = c.in_ok-at.ensures.end in
     omega (arith, stage.room, stage.some, ends, c.requires.fits)
 
@@ -67,7 +66,7 @@ loop-turn-preserved c =
     let is : IsTurn c.args.side c.args.parts.now c.loop-turn.turn c.index_at-index.result p = record { within = c.loop-turn-test.true; index_is = c.index_at-index.ensures; here = c.part_at-part.ensures } in
     let own : same_source p.source (source.Stream c.args.stream) ≡ true = sym c.is_part_of-is_own.ensures ∙ c.if-not-is_own.false in
     let are : c.as_slice.result.now ≡ shares_of c.args.side c.index_at-index.result (width_of p) c.args.transfers.now =
-      c.as_slice.ensures.value ∙ c.in_ok-shares.ensures ∙ ap (λ n. shares_of c.args.side c.index_at-index.result n c.args.transfers.now) c.width_of.ensures in
+    c.as_slice.ensures.value ∙ c.in_ok-shares.ensures ∙ ap (λ n. shares_of c.args.side c.index_at-index.result n c.args.transfers.now) c.width_of.ensures in
     led_next c.args.side c.args.parts.now c.args.transfers.now c.args.stream c.args.next c.args.lines.now.items c.loop-turn.turn c.loop-turn.lines.items c.loop-turn.free c.loop-turn.at
     c.index_at-index.result p c.as_slice.result.now c.push_stage.new.lines.items c.in_ok-at.at is own c.loop-turn.invariant are c.in_ok-at.ensures.lines c.in_ok-at.ensures.end
 

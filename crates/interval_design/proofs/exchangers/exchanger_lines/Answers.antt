@@ -22,6 +22,6 @@ loop-number-preserved c =
     let f = λ (e : ℕ × Transfer). declared_line (exchanger_of c.args.hot.now c.args.cold.now e) in
     let pushed : c.push.new.self.items ≡ c.loop-number.lines.items ++ line.Exchanger c.in_ok-name.name c.source_at-given.result c.source_at-taken.result c.duty_of-duty.result ∷ [] = cc c.in_ok-push.ensures.items in
     let same : line.Exchanger c.in_ok-name.name c.source_at-given.result c.source_at-taken.result c.duty_of-duty.result ≡ f (c.loop-number.number, t) =
-      λ i. line.Exchanger (c.in_ok-name.ensures i) (c.source_at-given.ensures i) (c.source_at-taken.ensures i) (c.duty_of-duty.ensures i) in
+    λ i. line.Exchanger (c.in_ok-name.ensures i) (c.source_at-given.ensures i) (c.source_at-taken.ensures i) (c.duty_of-duty.ensures i) in
     pushed ∙ ap (λ (l : Line). c.loop-number.lines.items ++ l ∷ []) same ∙ ap (λ ls. ls ++ f (c.loop-number.number, t) ∷ []) c.loop-number.invariant
     ∙ sym (map_more f c.args.transfers.now c.loop-number.number t c.transfer_at-transfer.ensures)

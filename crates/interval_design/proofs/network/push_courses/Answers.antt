@@ -1,6 +1,4 @@
-use Rattle.std.proofs.Common.{◌≡◌, ◌∙◌, ◌≤◌, ◌+◌, ◌-◌, ◌∷◌, ◌++◌, List, length, drop, ap, sym, arith}
-use Rattle.network_text.specs.declared.network.Branch.{Branch}
-use Rattle.network_text.specs.declared.network.Line.{Line}
+use Rattle.std.proofs.Common.{◌≡◌, ◌∙◌, ◌≤◌, ◌+◌, ◌-◌, ◌++◌, List, length, drop, ap, sym, arith}
 use Rattle.design_lines.specs.Drawn.{Course, all_branches, course_branches, course_lines, numbered}
 use Rattle.heat_flow.specs.Cuts.{parts_of}
 use Rattle.interval_design.specs.Courses.{course_of, courses_of}
@@ -18,7 +16,7 @@ push_course-requires-clause-fits c =
     let rest = drop (number + 1) (courses_of c.args.case.now hot cold ts) in
     let next = course_next c.args.case.now hot cold ts number s c.stream_at-side.ensures in
     let same : course_of s.side c.parts_of.result.now c.as_slice-transfers.result.now number ≡ course =
-      ap (λ ps. course_of s.side ps c.as_slice-transfers.result.now number) c.parts_of.ensures ∙ ap (λ us. course_of s.side (parts_of s.side hot cold) us number) c.as_slice-transfers.ensures in
+    ap (λ ps. course_of s.side ps c.as_slice-transfers.result.now number) c.parts_of.ensures ∙ ap (λ us. course_of s.side (parts_of s.side hot cold) us number) c.as_slice-transfers.ensures in
     let many = ap (λ (cs : List Course). length c.loop-number.branches.items + all_branches cs) (sym next) ∙ c.loop-number.invariant.many in
     let size = ap course_branches same in
     omega (arith, many, size, c.requires.fits)
@@ -36,7 +34,7 @@ loop-number-preserved c =
     let course = course_of s.side (parts_of s.side hot cold) ts number in
     let next = course_next c.args.case.now hot cold ts number s c.stream_at-side.ensures in
     let same : course_of s.side c.parts_of.result.now c.as_slice-transfers.result.now number ≡ course =
-      ap (λ ps. course_of s.side ps c.as_slice-transfers.result.now number) c.parts_of.ensures ∙ ap (λ us. course_of s.side (parts_of s.side hot cold) us number) c.as_slice-transfers.ensures in
+    ap (λ ps. course_of s.side ps c.as_slice-transfers.result.now number) c.parts_of.ensures ∙ ap (λ us. course_of s.side (parts_of s.side hot cold) us number) c.as_slice-transfers.ensures in
     let size = ap course_branches same in
     let first : c.len-next.result ≡ length branches = omega arith in
     let streams : c.len-own.result ≡ own = omega arith in
