@@ -2,3 +2,4 @@ pub mod ItemLemmas
 pub mod CourseLemmas
 pub mod NetworkLemmas
 pub mod FlowLemmas
+pub mod ExchangerLemmas

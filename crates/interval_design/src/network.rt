@@ -1,14 +1,16 @@
 //! The network of a heat flow.
 
-ghost use Rattle.std.specs.Prelude.{◌≡◌, ◌+◌, ◌<◌, ◌^◌, ◌++◌, length, slice_get, All, IfOk, OnOk};
+ghost use Rattle.std.specs.Prelude.{◌≡◌, ◌+◌, ◌<◌, ◌^◌, ◌++◌, length, map, slice_get, All, IfOk, OnOk};
+ghost use Rattle.std.specs.List.{enumerate_from};
 ghost use Rattle.stream_case.specs.Limits.{IsHeat};
 ghost use Rattle.heat_flow.specs.Cuts.{parts_of};
 ghost use Rattle.stream_case.specs.Case.{IsComplete};
 ghost use Rattle.grid.specs.Part.{AreCaseParts};
 ghost use Rattle.heat_flow.specs.Flow.{IsHeatFlow};
 ghost use Rattle.heat_flow.specs.Reach.{reach_between};
+ghost use Rattle.network_text.specs.Lines.{exchangers_of};
 ghost use Rattle.design_lines.specs.Drawn.{all_branches, courses_lines, made_branches};
-ghost use Rattle.interval_design.specs.Courses.{AllCanBeLed, courses_of, network_of};
+ghost use Rattle.interval_design.specs.Courses.{AllCanBeLed, courses_of, exchanger_of, network_of};
 
 use crate::courses::push_course;
 use crate::exchangers::exchanger_lines;
@@ -82,7 +84,8 @@ pub fn design(alloc: Global, case: &Case, parts: &Parts, flow: &Flow) -> Result<
     requires complete { IsComplete case.now }
     requires parts { AreCaseParts case.now parts.now.hot parts.now.cold }
     requires flow { IsHeatFlow (reach_between case.now parts.now.hot parts.now.cold) parts.now.hot parts.now.cold flow.now.transfers }
-    ensures { IfOk result (λ network. network ≡ network_of case.now parts.now.hot parts.now.cold flow.now.transfers) }
+    ensures drawn { IfOk result (λ network. network ≡ network_of case.now parts.now.hot parts.now.cold flow.now.transfers) }
+    ensures exchangers { IfOk result (λ network. exchangers_of network.lines ≡ map (exchanger_of parts.now.hot parts.now.cold) (enumerate_from 0 flow.now.transfers)) }
 {
     let transfers = flow.transfers.as_slice();
     let mut lines = exchanger_lines(
