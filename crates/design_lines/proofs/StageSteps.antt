@@ -1,0 +1,78 @@
+-- One split, one pass and one mix of a stage.
+use Rattle.std.proofs.Common.{◌≡◌, ◌∙◌, ◌<◌, ◌≤◌, ◌+◌, ◌-◌, ◌*◌, ◌∷◌, ◌++◌, ℕ, suc, List, [], get_or, length, drop, sym, ap, arith}
+use Rattle.std.proofs.Math.Seq.{drop-cons}
+use Rattle.std.proofs.lemmas.List.{append_assoc, drop_all}
+use Rattle.fractions.specs.Rationals.{rational_zero}
+use Rattle.network_text.specs.declared.network.Line.{Line}
+use Rattle.network_text.specs.declared.network.Line.TheVariants as line
+use Rattle.design_lines.specs.Stages.{behind_splits, mixes, passes, rest_branch, share_branches, splits, stage_lines}
+use Rattle.design_lines.specs.declared.stage.Share.{Share}
+
+-- nothing, of which no rule speaks
+no_share : Share
+no_share = record { exchanger = 0; cp = rational_zero }
+
+two_more : (shares : List Share) (i : ℕ) (d : Share) → suc i < length shares → drop i shares ≡ get_or shares i d ∷ get_or shares (suc i) d ∷ drop (suc (suc i)) shares
+two_more shares i d within = drop-cons shares i d (omega (arith, within)) ∙ ap (λ ss. get_or shares i d ∷ ss) (drop-cons shares (suc i) d within)
+
+one_left : (shares : List Share) (i : ℕ) (d : Share) → suc i ≡ length shares → drop i shares ≡ get_or shares i d ∷ []
+one_left shares i d last = drop-cons shares i d (omega (arith, last)) ∙ ap (λ ss. get_or shares i d ∷ ss) (drop_all (suc i) shares (omega (arith, last)))
+
+pub splits_more : (free rest : ℕ) (shares : List Share) (i : ℕ) (d : Share) → suc i < length shares
+    → splits free rest (drop i shares) ≡ line.Split rest free (get_or shares i d).cp (free + 1) ∷ splits (free + 2) (free + 1) (drop (suc i) shares)
+splits_more free rest shares i d within =
+    ap (splits free rest) (two_more shares i d within)
+    ∙ ap (λ ss. line.Split rest free (get_or shares i d).cp (free + 1) ∷ splits (free + 2) (free + 1) ss) (sym (drop-cons shares (suc i) d within))
+
+pub rest_more : (free rest : ℕ) (shares : List Share) (i : ℕ) (d : Share) → suc i < length shares → rest_branch free rest (drop i shares) ≡ rest_branch (free + 2) (free + 1) (drop (suc i) shares)
+rest_more free rest shares i d within = ap (rest_branch free rest) (two_more shares i d within) ∙ ap (rest_branch (free + 2) (free + 1)) (sym (drop-cons shares (suc i) d within))
+
+pub splits_all : (free rest : ℕ) (shares : List Share) (i : ℕ) → suc i ≡ length shares → splits free rest (drop i shares) ≡ []
+splits_all free rest shares i last = ap (splits free rest) (one_left shares i no_share last)
+
+pub rest_all : (free rest : ℕ) (shares : List Share) (i : ℕ) → suc i ≡ length shares → rest_branch free rest (drop i shares) ≡ rest
+rest_all free rest shares i last = ap (rest_branch free rest) (one_left shares i no_share last)
+
+-- the passes of the shares from an index on
+abbrev pub passes_from : ℕ → ℕ → ℕ → List Share → List Line
+passes_from to branch rest shares = passes to (share_branches branch rest shares) shares
+
+pub passes_more : (to branch rest : ℕ) (shares : List Share) (i : ℕ) (d : Share) → suc i < length shares
+    → passes_from to branch rest (drop i shares) ≡ line.Pass branch (get_or shares i d).exchanger to ∷ passes_from (to + 1) (branch + 2) rest (drop (suc i) shares)
+passes_more to branch rest shares i d within =
+    ap (passes_from to branch rest) (two_more shares i d within)
+    ∙ ap (λ ss. line.Pass branch (get_or shares i d).exchanger to ∷ passes_from (to + 1) (branch + 2) rest ss) (sym (drop-cons shares (suc i) d within))
+
+pub passes_last : (to branch rest : ℕ) (shares : List Share) (i : ℕ) (d : Share) → suc i ≡ length shares
+    → passes_from to branch rest (drop i shares) ≡ line.Pass rest (get_or shares i d).exchanger to ∷ passes_from (to + 1) (branch + 2) rest (drop (suc i) shares)
+passes_last to branch rest shares i d last =
+    ap (passes_from to branch rest) (one_left shares i d last)
+    ∙ ap (λ ss. line.Pass rest (get_or shares i d).exchanger to ∷ passes_from (to + 1) (branch + 2) rest ss) (sym (drop_all (suc i) shares (omega (arith, last))))
+
+pub passes_all : (to branch rest : ℕ) (shares : List Share) (i : ℕ) → length shares ≤ i → passes_from to branch rest (drop i shares) ≡ []
+passes_all to branch rest shares i upto = ap (passes_from to branch rest) (drop_all i shares upto)
+
+pub mixes_more : (n to first second m after beside : ℕ) → n ≡ suc m → after ≡ to + 1 → beside ≡ second + 1 → mixes n to first second ≡ line.Mix first second to ∷ mixes m after to beside
+mixes_more n to first second m after beside one two three =
+    ap (λ k. mixes k to first second) one ∙ ap (λ k. line.Mix first second to ∷ mixes m k to (second + 1)) (sym two) ∙ ap (λ k. line.Mix first second to ∷ mixes m after to k) (sym three)
+
+-- the three kinds of lines, one behind the other
+pub stage_joined : (next from rest more : ℕ) (shares : List Share) (old one two three : List Line) → 0 < length shares → more ≡ length shares - 1
+    → one ≡ old ++ splits next from shares → rest ≡ rest_branch next from shares
+    → two ≡ one ++ passes (behind_splits next shares) (share_branches next rest shares) shares
+    → three ≡ two ++ mixes more (next + 2 * more + more + 1) (next + 2 * more) (next + 2 * more + 1)
+    → three ≡ old ++ stage_lines next from shares
+unfolding stage_lines
+stage_joined next from rest more shares old one two three some all split left pass mix =
+    let behind = behind_splits next shares in
+    let ps = passes behind (share_branches next (rest_branch next from shares) shares) shares in
+    let ms = mixes (length shares - 1) (behind + length shares) behind (behind + 1) in
+    let same_from : next + 2 * more ≡ behind = ap (λ n. next + 2 * n) all in
+    let same_to : next + 2 * more + more + 1 ≡ behind + length shares = omega (arith, all, some) in
+    let mixed : mixes more (next + 2 * more + more + 1) (next + 2 * more) (next + 2 * more + 1) ≡ ms =
+    ap (λ n. mixes n (next + 2 * more + more + 1) (next + 2 * more) (next + 2 * more + 1)) all
+    ∙ ap (λ to. mixes (length shares - 1) to (next + 2 * more) (next + 2 * more + 1)) same_to
+    ∙ ap (λ f. mixes (length shares - 1) (behind + length shares) f (f + 1)) same_from in
+    let passed : two ≡ one ++ ps = pass ∙ ap (λ r. one ++ passes behind (share_branches next r shares) shares) left in
+    mix ∙ ap (λ ls. two ++ ls) mixed ∙ ap (λ ls. ls ++ ms) passed ∙ ap (λ ls. ls ++ ps ++ ms) split
+    ∙ append_assoc (old ++ splits next from shares) ps ms ∙ append_assoc old (splits next from shares) (ps ++ ms)

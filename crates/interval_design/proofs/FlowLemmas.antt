@@ -1,0 +1,262 @@
+-- A heat flow of a case can be led: each part of a stream has a width and a transfer, and there are few transfers.
+use Rattle.std.proofs.Common.{◌≡◌, ◌∙◌, ◌<◌, ◌≤◌, ◌+◌, ◌-◌, ◌*◌, ◌∷◌, ◌++◌, ◌==◌, inl, inr, ℕ, zero, suc, ℤ, pos, ◌+ℤ◌, ◌-ℤ◌, ◌*ℤ◌, ◌<ℤ◌, Bool, true, false, cond, if◌then◌else◌, List, [], All, AllPairs, Some, None, get_or, slice_get, length, refl, sym, ap, subst, arith}
+use Rattle.std.specs.Prelude.{Option, count_by, nat_lt, reverse}
+use Rattle.std.specs.List.{cons_option, enumerate_from, filter_map}
+use Rattle.std.proofs.Math.Nat.{mul-le-mul}
+use Rattle.std.proofs.lemmas.Bool.{false≢true}
+use Rattle.std.proofs.lemmas.Bool.Decides.{nat_tests}
+use Rattle.std.proofs.lemmas.Int.{ints}
+use Rattle.std.proofs.lemmas.List.{get_or-reverse, length-reverse, reverse-append}
+use Rattle.std.proofs.lemmas.List.Elements.{All-cons, All-head, All-map, All-nil, All-tail, filter_map-append}
+use Rattle.std.proofs.lemmas.List.FromFn.{get_or-enumerate_from, length-enumerate_from}
+use Rattle.std.proofs.lemmas.List.Sums.{count_by-le-length}
+use Rattle.std.proofs.lemmas.Option.{slice_get-get_or}
+use Rattle.sums.proofs.CountLemmas.{count_by-add-le, count_by-cons}
+use Rattle.sums.proofs.ProductLemmas.{product_positive}
+use Rattle.stream_case.specs.Case.{IsComplete}
+use Rattle.stream_case.specs.Source.{same_source}
+use Rattle.stream_case.specs.Stream.{IsValidStream}
+use Rattle.stream_case.specs.declared.case.Case.{Case}
+use Rattle.stream_case.specs.declared.source.Side.{Side}
+use Rattle.stream_case.specs.declared.source.Side.TheVariants as side
+use Rattle.stream_case.specs.declared.source.Source.TheVariants as source
+use Rattle.stream_case.specs.declared.stream.Stream.{Stream}
+use Rattle.stream_case.proofs.CompleteLemmas.{HasValidStreams-IsComplete}
+use Rattle.fractions.specs.Rationals.{ratio}
+use Rattle.network_text.proofs.Lists.{all_at}
+use Rattle.design_lines.specs.Drawn.{Course, all_branches, course_branches}
+use Rattle.design_lines.specs.declared.stage.Share.{Share}
+use Rattle.grid.specs.Grid.{IsGrid}
+use Rattle.grid.specs.Part.{AreCaseParts, AreParts, IsPartOf}
+use Rattle.grid.specs.declared.part.Part.{Part}
+use Rattle.grid.proofs.PlaceLemmas.{interval_falls}
+use Rattle.heat_flow.specs.Cuts.{parts_of}
+use Rattle.heat_flow.specs.Flow.{HaveParts, KeepsRanges, heat_at, part_index, precedes}
+use Rattle.heat_flow.specs.declared.flow.Transfer.{Transfer}
+use Rattle.interval_design.specs.Courses.{AllCanBeLed, CanBeLed, course_of, courses_of, on_the_way, share_of, shares_of, stage_of, stream_course, width_of}
+use Rattle.interval_design.proofs.NetworkLemmas.{length-courses_of}
+
+-- ---- few transfers
+
+-- the index of a pair in a table with so many columns
+key : ℕ → Transfer → ℕ
+key columns t = t.hot * columns + t.cold
+
+key-rises : (columns : ℕ) (s t : Transfer) → s.cold < columns → precedes s t → key columns s < key columns t
+unfolding key
+key-rises columns s t within (inl later) =
+    let row : t.hot ≡ s.hot + 1 + (t.hot - s.hot - 1) = omega (arith, later) in
+    let product = ap (λ n. n * columns) row in
+    omega (arith, product, within)
+key-rises columns s t within (inr (same, later)) = let product = ap (λ n. n * columns) same in omega (arith, product, later)
+
+index-le-key : (columns : ℕ) (ts : List Transfer) → AllPairs precedes ts → All (λ t. t.cold < columns) ts → (i : ℕ) (d : Transfer) → i < length ts → i ≤ key columns (get_or ts i d)
+index-le-key columns ts pairs cold zero d within = omega arith
+index-le-key columns ts pairs cold (suc i) d within =
+    let before = index-le-key columns ts pairs cold i d (omega (arith, within)) in
+    let rise = key-rises columns (get_or ts i d) (get_or ts (suc i) d) (cold i d (omega (arith, within))) (pairs i (suc i) d (omega arith) within) in
+    omega (arith, before, rise)
+
+key-below : (rows columns : ℕ) (t : Transfer) → t.hot < rows → t.cold < columns → key columns t < rows * columns
+unfolding key
+key-below rows columns t hot cold =
+    let row : rows ≡ t.hot + 1 + (rows - t.hot - 1) = omega (arith, hot) in
+    let product = ap (λ n. n * columns) row in
+    omega (arith, product, cold)
+
+-- transfers are pairs of a hot and a cold part, each once
+pub few_transfers : (hot cold : List Part) (ts : List Transfer) → AllPairs precedes ts → HaveParts side.Hot hot ts → HaveParts side.Cold cold ts → length ts ≤ length hot * length cold
+few_transfers hot cold [] pairs rows columns = omega arith
+few_transfers hot cold (t ∷ ts) pairs rows columns =
+    let n = length ts in
+    let within : n < length (t ∷ ts) = omega arith in
+    let least = index-le-key (length cold) (t ∷ ts) pairs columns n t within in
+    let below = key-below (length hot) (length cold) (get_or (t ∷ ts) n t) (rows n t within) (columns n t within) in
+    omega (arith, least, below)
+
+-- ---- the shares of a stream are at most the transfers
+
+one_length : (b : Bool) (s : Share) (rest : List Share) (n : ℕ) → length rest ≡ n → length (cons_option (if b then Some s else None) rest) ≡ cond b 1 0 + n
+one_length true s rest n e = omega (arith, e)
+one_length false s rest n e = omega (arith, e)
+
+length-shares : (of : Side) (index width n : ℕ) (ts : List Transfer) → length (filter_map (share_of of index width) (enumerate_from n ts)) ≡ count_by (λ t. part_index of t == index) ts
+length-shares of index width n [] = refl
+length-shares of index width n (t ∷ ts) =
+    one_length (part_index of t == index) (record { exchanger = n; cp = ratio t.heat width }) (filter_map (share_of of index width) (enumerate_from (n + 1) ts)) (count_by (λ u. part_index of u == index) ts) (length-shares of index width (n + 1) ts)
+    ∙ sym (count_by-cons (λ u. part_index of u == index) t ts)
+
+-- how many transfers have their part before an index
+before : Side → List Transfer → ℕ → ℕ
+before of ts n = count_by (λ t. nat_lt (part_index of t) n) ts
+
+before_more : (of : Side) (ts : List Transfer) (n : ℕ) → count_by (λ t. part_index of t == n) ts + before of ts n ≤ before of ts (n + 1)
+unfolding before
+before_more of ts n =
+    count_by-add-le (λ t. part_index of t == n) (λ t. nat_lt (part_index of t) n) (λ t. nat_lt (part_index of t) (n + 1)) ts
+    (λ t own. grind (arith, nat_tests)) (λ t own. grind (arith, nat_tests)) (λ t own. grind (arith, nat_tests))
+
+-- the shares of a course together
+abbrev total : Course → ℕ
+total [] = 0
+total (shares ∷ stages) = length shares + total stages
+
+stage_total : (b : Bool) (shares : List Share) (rest : Course) (m more all : ℕ) → length shares + m ≤ more → total rest + more ≤ all → total (cons_option (if b then Some shares else None) rest) + m ≤ all
+stage_total true shares rest m more all one two = omega (arith, one, two)
+stage_total false shares rest m more all one two = omega (arith, one, two)
+
+total-stages : (of : Side) (ts : List Transfer) (stream n : ℕ) (parts : List Part) → total (filter_map (stage_of of ts stream) (enumerate_from n parts)) + before of ts n ≤ length ts
+unfolding before shares_of
+total-stages of ts stream n [] = omega (arith, count_by-le-length (λ t. nat_lt (part_index of t) n) ts)
+total-stages of ts stream n (p ∷ parts) =
+    let size = length-shares of n (width_of p) 0 ts in
+    let more = before_more of ts n in
+    stage_total (same_source p.source (source.Stream stream)) (shares_of of n (width_of p) ts) (filter_map (stage_of of ts stream) (enumerate_from (n + 1) parts)) (before of ts n) (before of ts (n + 1)) (length ts)
+    (omega (arith, size, more)) (total-stages of ts stream (n + 1) parts)
+
+total-cons : (o : Option (List Share)) (rest : Course) → total (cons_option o rest) ≡ total (cons_option o []) + total rest
+total-cons None rest = omega arith
+total-cons (Some shares) rest = omega arith
+
+total-append : (xs ys : Course) → total (xs ++ ys) ≡ total xs + total ys
+total-append [] ys = omega arith
+total-append (x ∷ xs) ys = let rest = total-append xs ys in omega (arith, rest)
+
+total-reverse : (h : ℕ × Part → Option (List Share)) (xs : List (ℕ × Part)) → total (filter_map h (reverse xs)) ≡ total (filter_map h xs)
+total-reverse h [] = refl
+total-reverse h (x ∷ xs) =
+    let turned : reverse (x ∷ xs) ≡ reverse xs ++ x ∷ [] = reverse-append (x ∷ []) xs in
+    let parts = ap total (ap (filter_map h) turned ∙ filter_map-append h (reverse xs) (x ∷ [])) ∙ total-append (filter_map h (reverse xs)) (filter_map h (x ∷ [])) in
+    let rest = total-reverse h xs in
+    let one = total-cons (h x) (filter_map h xs) in
+    omega (arith, parts, rest, one)
+
+total-course : (of : Side) (parts : List Part) (ts : List Transfer) (stream : ℕ) → total (course_of of parts ts stream) ≤ length ts
+total-course side.Hot parts ts stream = let all = total-stages side.Hot ts stream 0 parts in omega (arith, all)
+total-course side.Cold parts ts stream =
+    let all = total-stages side.Cold ts stream 0 parts in
+    let turned = total-reverse (stage_of side.Cold ts stream) (enumerate_from 0 parts) in
+    omega (arith, all, turned)
+
+branches-total : (course : Course) → All (λ shares. 0 < length shares) course → course_branches course ≤ 4 * total course
+branches-total [] used = omega arith
+branches-total (shares ∷ stages) used =
+    let some = All-head (λ (ss : List Share). 0 < length ss) shares stages used in
+    let rest = branches-total stages (All-tail (λ (ss : List Share). 0 < length ss) shares stages used) in
+    omega (arith, some, rest)
+
+all-small : (courses : List Course) → All (λ course. course_branches course ≤ 100000000) courses → all_branches courses ≤ length courses * 100000000
+all-small [] small = omega arith
+all-small (course ∷ courses) small =
+    let one = All-head (λ (c : Course). course_branches c ≤ 100000000) course courses small in
+    let rest = all-small courses (All-tail (λ (c : Course). course_branches c ≤ 100000000) course courses small) in
+    omega (arith, one, rest)
+
+-- ---- each part of a stream has a transfer
+
+none_heat : (b : Bool) (heat rest : ℤ) (n : ℕ) → cond b 1 0 + n ≡ 0 → (n ≡ 0 → rest ≡ pos 0) → (if b then heat else pos 0) +ℤ rest ≡ pos 0
+none_heat true heat rest n none later = absurd (omega (arith, none))
+none_heat false heat rest n none later = let zero_rest = later (omega (arith, none)) in omega (arith, ints, zero_rest)
+
+heat-none : (of : Side) (ts : List Transfer) (a : ℕ) → count_by (λ t. part_index of t == a) ts ≡ 0 → heat_at of ts a ≡ pos 0
+heat-none of [] a none = refl
+heat-none of (t ∷ ts) a none =
+    none_heat (part_index of t == a) t.heat (heat_at of ts a) (count_by (λ u. part_index of u == a) ts) (sym (count_by-cons (λ u. part_index of u == a) t ts) ∙ none) (heat-none of ts a)
+
+-- a part that has heat has a share
+abbrev HasHeat : Side → List Transfer → ℕ → ℕ × Part → Type 0
+HasHeat of ts stream (index, p) = same_source p.source (source.Stream stream) ≡ true → pos 0 <ℤ heat_at of ts index
+
+some_share : (of : Side) (ts : List Transfer) (index width : ℕ) → pos 0 <ℤ heat_at of ts index → 0 < length (shares_of of index width ts)
+unfolding shares_of
+some_share of ts index width heat =
+    let size = length-shares of index width 0 ts in
+    by (count_by (λ t. part_index of t == index) ts) size (heat-none of ts index)
+  where
+    by : (n : ℕ) → length (filter_map (share_of of index width) (enumerate_from 0 ts)) ≡ n → (n ≡ 0 → heat_at of ts index ≡ pos 0) → 0 < length (filter_map (share_of of index width) (enumerate_from 0 ts))
+    by zero size none = let nothing = none refl in absurd (omega (arith, ints, nothing, heat))
+    by (suc n) size none = omega (arith, size)
+
+one_used : (b : Bool) (shares : List Share) (rest : Course) → (b ≡ true → 0 < length shares) → All (λ ss. 0 < length ss) rest → All (λ ss. 0 < length ss) (cons_option (if b then Some shares else None) rest)
+one_used true shares rest some all = All-cons (λ (ss : List Share). 0 < length ss) shares rest (some refl) all
+one_used false shares rest some all = all
+
+stages-used : (of : Side) (ts : List Transfer) (stream : ℕ) (xs : List (ℕ × Part)) → All (HasHeat of ts stream) xs → All (λ ss. 0 < length ss) (filter_map (stage_of of ts stream) xs)
+stages-used of ts stream [] heats = All-nil (λ (ss : List Share). 0 < length ss)
+stages-used of ts stream ((index, p) ∷ xs) heats =
+    one_used (same_source p.source (source.Stream stream)) (shares_of of index (width_of p) ts) (filter_map (stage_of of ts stream) xs)
+    (λ own. some_share of ts index (width_of p) (All-head (HasHeat of ts stream) (index, p) xs heats own)) (stages-used of ts stream xs (All-tail (HasHeat of ts stream) (index, p) xs heats))
+
+-- what holds of each part with its index holds on the way
+All-numbered : {X : Type 0} (P : ℕ × X → Type 0) (xs : List X) → ((i : ℕ) (x : X) → slice_get xs i ≡ Some x → P (i, x)) → All P (enumerate_from 0 xs)
+All-numbered {X} P xs each k d inside =
+    let within : k < length xs = omega (arith, inside, length-enumerate_from 0 xs) in
+    let number : 0 + k ≡ k = omega arith in
+    let pair : get_or (enumerate_from 0 xs) k d ≡ (k, get_or xs k d.1) = get_or-enumerate_from 0 xs k d within ∙ ap (λ (j : ℕ). (j, get_or xs k d.1)) number in
+    subst P (sym pair) (each k (get_or xs k d.1) (slice_get-get_or xs k d.1 within))
+
+All-reverse : {X : Type 0} (P : X → Type 0) (xs : List X) → All P xs → All P (reverse xs)
+All-reverse P xs all k d inside =
+    let within : k < length xs = omega (arith, inside, length-reverse xs) in
+    subst P (sym (get_or-reverse xs k d within)) (all (length xs - 1 - k) d (omega (arith, within)))
+
+All-way : (P : ℕ × Part → Type 0) (of : Side) (parts : List Part) → ((i : ℕ) (p : Part) → slice_get parts i ≡ Some p → P (i, p)) → All P (on_the_way of (enumerate_from 0 parts))
+All-way P side.Hot parts each = All-numbered P parts each
+All-way P side.Cold parts each = All-reverse P (enumerate_from 0 parts) (All-numbered P parts each)
+
+-- ---- the parts of a case
+
+record IsWide (p : Part) : Type 0 where
+  wide : 0 < width_of p
+  heat : pos 0 <ℤ p.least
+
+part_wide : (case : Case) (grid : List ℤ) (of : Side) (p : Part) (stream : ℕ) → IsComplete case → IsGrid case grid → IsPartOf case.streams case.utilities grid of p → same_source p.source (source.Stream stream) ≡ true → IsWide p
+part_wide case grid of p stream complete is_grid (inl (i, s, is)) own =
+    let falls = interval_falls grid p.high p.low is_grid.ordered is.interval in
+    let valid = all_at IsValidStream case.streams i s (HasValidStreams-IsComplete case complete).are_streams.each is.stream in
+    let flow = valid.cp in
+    let length_positive : pos 0 <ℤ (p.high -ℤ p.low) = omega (arith, ints, falls) in
+    let cp_positive : pos 0 <ℤ s.cp = omega (arith, ints, flow.from) in
+    let least : p.least ≡ s.cp *ℤ (p.high -ℤ p.low) = ap (λ (q : Part). q.least) is.is in
+    record { wide = omega (arith, ints, falls); heat = subst (λ h. pos 0 <ℤ h) (sym least) (product_positive s.cp (p.high -ℤ p.low) cp_positive length_positive) }
+part_wide case grid of p stream complete is_grid (inr (i, u, is)) own =
+    let other : same_source p.source (source.Stream stream) ≡ false = ap (λ (q : Part). same_source q.source (source.Stream stream)) is.is in
+    absurd (false≢true (sym other ∙ own))
+
+side_led : (case : Case) (grid : List ℤ) (of : Side) (parts : List Part) (ts : List Transfer) (stream : ℕ) → IsComplete case → IsGrid case grid → AreParts case.streams case.utilities grid of parts → KeepsRanges of parts ts → CanBeLed of parts ts stream
+side_led case grid of parts ts stream complete is_grid are ranges =
+    let wide : (i : ℕ) (p : Part) → slice_get parts i ≡ Some p → same_source p.source (source.Stream stream) ≡ true → IsWide p =
+    λ i p here own. part_wide case grid of p stream complete is_grid (all_at (IsPartOf case.streams case.utilities grid of) parts i p are.each here) own in
+    record {
+      wide = λ k d within own. (wide k (get_or parts k d) (slice_get-get_or parts k d within) own).wide;
+      used = stages-used of ts stream (on_the_way of (enumerate_from 0 parts)) (All-way (HasHeat of ts stream) of parts (λ i p here own.
+          let least = (wide i p here own).heat in
+          let range = ranges i p here in
+          omega (arith, ints, least, range.from)));
+    }
+
+pub all_led : (case : Case) (hot cold : List Part) (ts : List Transfer) → IsComplete case → AreCaseParts case hot cold → KeepsRanges side.Hot hot ts → KeepsRanges side.Cold cold ts → AllCanBeLed case hot cold ts
+all_led case hot cold ts complete parts hots colds number s here = by s.side
+  where
+    by : (of : Side) → CanBeLed of (parts_of of hot cold) ts number
+    by side.Hot = side_led case parts.grid side.Hot hot ts number complete parts.is_grid parts.hot_parts hots
+    by side.Cold = side_led case parts.grid side.Cold cold ts number complete parts.is_grid parts.cold_parts colds
+
+-- ---- the branches have numbers of 32 bits
+
+course-small : (of : Side) (parts : List Part) (ts : List Transfer) (stream : ℕ) → length ts ≤ 25000000 → CanBeLed of parts ts stream → course_branches (course_of of parts ts stream) ≤ 100000000
+course-small of parts ts stream few led =
+    let one = branches-total (course_of of parts ts stream) led.used in
+    let all = total-course of parts ts stream in
+    omega (arith, one, all, few)
+
+pub all-fit : (case : Case) (hot cold : List Part) (ts : List Transfer) → length case.streams ≤ 30 → length ts ≤ 25000000 → AllCanBeLed case hot cold ts → length case.streams + all_branches (courses_of case hot cold ts) + 3 < 4294967296
+all-fit case hot cold ts few_streams few led =
+    let small = All-map (λ (c : Course). course_branches c ≤ 100000000) (stream_course hot cold ts) (enumerate_from 0 case.streams)
+    (All-numbered (λ ((number, s) : ℕ × Stream). course_branches (stream_course hot cold ts (number, s)) ≤ 100000000) case.streams (λ i s here. course-small s.side (parts_of s.side hot cold) ts i few (led i s here))) in
+    let all = all-small (courses_of case hot cold ts) small in
+    let long = length-courses_of case hot cold ts in
+    omega (arith, all, long, few_streams)
+
+pub few_pairs : (rows columns : ℕ) → rows ≤ 5000 → columns ≤ 5000 → rows * columns ≤ 25000000
+few_pairs rows columns one two = let product = mul-le-mul one two in omega (arith, product)

@@ -1,0 +1,5 @@
+pub mod ItemLemmas
+pub mod CourseLemmas
+pub mod NetworkLemmas
+pub mod FlowLemmas
+pub mod ExchangerLemmas

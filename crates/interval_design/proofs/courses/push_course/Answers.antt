@@ -1,0 +1,80 @@
+use Rattle.std.proofs.Common.{◌≡◌, ◌∙◌, ◌<◌, ◌∷◌, ◌++◌, [], true, ap, refl, sym, arith}
+use Rattle.stream_case.specs.Source.{same_source}
+use Rattle.stream_case.specs.declared.source.Source.TheVariants as source
+use Rattle.network_text.proofs.Lists.{all_at}
+use Rattle.network_text.specs.declared.network.Line.TheVariants as line
+use Rattle.design_lines.specs.Stages.{stage_end}
+use Rattle.grid.specs.declared.part.Part.{Part}
+use Rattle.interval_design.specs.Courses.{shares_of, width_of}
+use Rattle.interval_design.proofs.CourseLemmas.{IsTurn, led_end, led_next, led_skip, led_stage, led_start}
+use Rattle.interval_design.proofs.courses.push_course.Goals as goal
+
+pub loop-turn-init : goal.loop-turn-init
+loop-turn-init c = led_start c.args.side c.args.parts.now c.args.transfers.now c.args.stream c.args.next c.args.lines.now.items 0 c.args.lines.now.items c.args.next c.args.stream refl refl refl refl c.requires.led.used
+
+pub loop-turn-preserved-then-not-is_own : goal.loop-turn-preserved-then-not-is_own
+loop-turn-preserved-then-not-is_own c =
+    let p = c.part_at-part.result in
+    let is : IsTurn c.args.side c.args.parts.now c.loop-turn.turn c.index_at-index.result p = record { within = c.loop-turn-test.true; index_is = c.index_at-index.ensures; here = c.part_at-part.ensures } in
+    led_skip c.args.side c.args.parts.now c.args.transfers.now c.args.stream c.args.next c.args.lines.now.items c.loop-turn.turn c.loop-turn.lines.items c.loop-turn.free c.loop-turn.at
+    c.index_at-index.result p is (sym c.is_part_of-is_own.ensures ∙ c.if-not-is_own.true) c.loop-turn.invariant
+
+pub shares_of-requires-clause-wide : goal.shares_of-requires-clause-wide
+shares_of-requires-clause-wide c =
+    let p = c.part_at-part.result in
+    let wide : 0 < width_of p = all_at (λ (q : Part). same_source q.source (source.Stream c.args.stream) ≡ true → 0 < width_of q) c.args.parts.now c.index_at-index.result p c.requires.led.wide c.part_at-part.ensures
+    (sym c.is_part_of-is_own.ensures ∙ c.if-not-is_own.false) in
+    omega (arith, wide, c.width_of.ensures)
+
+pub push_stage-requires-clause-some : goal.push_stage-requires-clause-some
+push_stage-requires-clause-some c =
+    let p = c.part_at-part.result in
+    let is : IsTurn c.args.side c.args.parts.now c.loop-turn.turn c.index_at-index.result p = record { within = c.loop-turn-test.true; index_is = c.index_at-index.ensures; here = c.part_at-part.ensures } in
+    let own : same_source p.source (source.Stream c.args.stream) ≡ true = sym c.is_part_of-is_own.ensures ∙ c.if-not-is_own.false in
+    let are : c.as_slice.result.now ≡ shares_of c.args.side c.index_at-index.result (width_of p) c.args.transfers.now =
+    c.as_slice.ensures.value ∙ c.in_ok-shares.ensures ∙ ap (λ n. shares_of c.args.side c.index_at-index.result n c.args.transfers.now) c.width_of.ensures in
+    let stage = led_stage c.args.side c.args.parts.now c.args.transfers.now c.args.stream c.args.next c.args.lines.now.items c.loop-turn.turn c.loop-turn.lines.items c.loop-turn.free c.loop-turn.at
+    c.index_at-index.result p c.as_slice.result.now is own c.loop-turn.invariant are in
+    stage.some
+
+pub push_stage-requires-clause-fits : goal.push_stage-requires-clause-fits
+push_stage-requires-clause-fits c =
+    let p = c.part_at-part.result in
+    let is : IsTurn c.args.side c.args.parts.now c.loop-turn.turn c.index_at-index.result p = record { within = c.loop-turn-test.true; index_is = c.index_at-index.ensures; here = c.part_at-part.ensures } in
+    let own : same_source p.source (source.Stream c.args.stream) ≡ true = sym c.is_part_of-is_own.ensures ∙ c.if-not-is_own.false in
+    let are : c.as_slice.result.now ≡ shares_of c.args.side c.index_at-index.result (width_of p) c.args.transfers.now =
+    c.as_slice.ensures.value ∙ c.in_ok-shares.ensures ∙ ap (λ n. shares_of c.args.side c.index_at-index.result n c.args.transfers.now) c.width_of.ensures in
+    let stage = led_stage c.args.side c.args.parts.now c.args.transfers.now c.args.stream c.args.next c.args.lines.now.items c.loop-turn.turn c.loop-turn.lines.items c.loop-turn.free c.loop-turn.at
+    c.index_at-index.result p c.as_slice.result.now is own c.loop-turn.invariant are in
+    omega (arith, stage.room, c.requires.fits)
+
+pub overflow_add-free : goal.overflow_add-free
+overflow_add-free c =
+    let p = c.part_at-part.result in
+    let is : IsTurn c.args.side c.args.parts.now c.loop-turn.turn c.index_at-index.result p = record { within = c.loop-turn-test.true; index_is = c.index_at-index.ensures; here = c.part_at-part.ensures } in
+    let own : same_source p.source (source.Stream c.args.stream) ≡ true = sym c.is_part_of-is_own.ensures ∙ c.if-not-is_own.false in
+    let are : c.as_slice.result.now ≡ shares_of c.args.side c.index_at-index.result (width_of p) c.args.transfers.now =
+    c.as_slice.ensures.value ∙ c.in_ok-shares.ensures ∙ ap (λ n. shares_of c.args.side c.index_at-index.result n c.args.transfers.now) c.width_of.ensures in
+    let stage = led_stage c.args.side c.args.parts.now c.args.transfers.now c.args.stream c.args.next c.args.lines.now.items c.loop-turn.turn c.loop-turn.lines.items c.loop-turn.free c.loop-turn.at
+    c.index_at-index.result p c.as_slice.result.now is own c.loop-turn.invariant are in
+    let ends : c.in_ok-at.at ≡ stage_end c.loop-turn.free c.as_slice.result.now = c.in_ok-at.ensures.end in
+    omega (arith, stage.room, stage.some, ends, c.requires.fits)
+
+pub loop-turn-preserved : goal.loop-turn-preserved
+loop-turn-preserved c =
+    let p = c.part_at-part.result in
+    let is : IsTurn c.args.side c.args.parts.now c.loop-turn.turn c.index_at-index.result p = record { within = c.loop-turn-test.true; index_is = c.index_at-index.ensures; here = c.part_at-part.ensures } in
+    let own : same_source p.source (source.Stream c.args.stream) ≡ true = sym c.is_part_of-is_own.ensures ∙ c.if-not-is_own.false in
+    let are : c.as_slice.result.now ≡ shares_of c.args.side c.index_at-index.result (width_of p) c.args.transfers.now =
+    c.as_slice.ensures.value ∙ c.in_ok-shares.ensures ∙ ap (λ n. shares_of c.args.side c.index_at-index.result n c.args.transfers.now) c.width_of.ensures in
+    led_next c.args.side c.args.parts.now c.args.transfers.now c.args.stream c.args.next c.args.lines.now.items c.loop-turn.turn c.loop-turn.lines.items c.loop-turn.free c.loop-turn.at
+    c.index_at-index.result p c.as_slice.result.now c.push_stage.new.lines.items c.in_ok-at.at is own c.loop-turn.invariant are c.in_ok-at.ensures.lines c.in_ok-at.ensures.end
+
+pub returns-clause-lines : goal.returns-clause-lines
+returns-clause-lines c =
+    let ended : c.push.new.self.items ≡ c.loop-turn.lines.items ++ line.End c.loop-turn.at ∷ [] = cc c.in_ok-push.ensures.items in
+    (led_end c.args.side c.args.parts.now c.args.transfers.now c.args.stream c.args.next c.args.lines.now.items c.loop-turn.turn c.loop-turn.lines.items c.loop-turn.free c.loop-turn.at c.push.new.self.items c.loop-turn-test.false c.loop-turn.invariant ended).0
+
+pub returns-clause-free : goal.returns-clause-free
+returns-clause-free c =
+    (led_end c.args.side c.args.parts.now c.args.transfers.now c.args.stream c.args.next c.args.lines.now.items c.loop-turn.turn c.loop-turn.lines.items c.loop-turn.free c.loop-turn.at (c.loop-turn.lines.items ++ line.End c.loop-turn.at ∷ []) c.loop-turn-test.false c.loop-turn.invariant refl).1
