@@ -1,3 +1,4 @@
 pub mod NameLemmas
 pub mod StageSteps
 pub mod ListLemmas
+pub mod ValueSteps
