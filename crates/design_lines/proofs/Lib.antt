@@ -2,3 +2,4 @@ pub mod NameLemmas
 pub mod StageSteps
 pub mod ListLemmas
 pub mod ValueSteps
+pub mod StageValues

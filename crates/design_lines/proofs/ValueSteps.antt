@@ -64,10 +64,10 @@ carry_from_more values more t branch (s ∷ shares) carry = (carries_more values
 abbrev pub ArePositive : List Share → Type 0
 ArePositive shares = All (λ s. IsBelow rational_zero s.cp) shares
 
-first_positive : (s : Share) (shares : List Share) → ArePositive (s ∷ shares) → IsBelow rational_zero s.cp
+pub first_positive : (s : Share) (shares : List Share) → ArePositive (s ∷ shares) → IsBelow rational_zero s.cp
 first_positive s shares positive = All-head (λ (a : Share). IsBelow rational_zero a.cp) s shares positive
 
-others_positive : (s : Share) (shares : List Share) → ArePositive (s ∷ shares) → ArePositive shares
+pub others_positive : (s : Share) (shares : List Share) → ArePositive (s ∷ shares) → ArePositive shares
 others_positive s shares positive = All-tail (λ (a : Share). IsBelow rational_zero a.cp) s shares positive
 
 size_not_negative : (shares : List Share) → ArePositive shares → IsAtMost rational_zero (size_of shares)
