@@ -3,3 +3,4 @@ pub mod StageSteps
 pub mod ListLemmas
 pub mod ValueSteps
 pub mod StageValues
+pub mod CourseValues
