@@ -4,3 +4,4 @@ pub mod ListLemmas
 pub mod ValueSteps
 pub mod StageValues
 pub mod CourseValues
+pub mod WholeValues
