@@ -167,7 +167,7 @@ heat-none of (t ∷ ts) a none =
 abbrev HasHeat : Side → List Transfer → ℕ → ℕ × Part → Type 0
 HasHeat of ts stream (index, p) = same_source p.source (source.Stream stream) ≡ true → pos 0 <ℤ heat_at of ts index
 
-some_share : (of : Side) (ts : List Transfer) (index width : ℕ) → pos 0 <ℤ heat_at of ts index → 0 < length (shares_of of index width ts)
+pub some_share : (of : Side) (ts : List Transfer) (index width : ℕ) → pos 0 <ℤ heat_at of ts index → 0 < length (shares_of of index width ts)
 unfolding shares_of
 some_share of ts index width heat =
     let size = length-shares of index width 0 ts in
@@ -188,19 +188,19 @@ stages-used of ts stream ((index, p) ∷ xs) heats =
     (λ own. some_share of ts index (width_of p) (All-head (HasHeat of ts stream) (index, p) xs heats own)) (stages-used of ts stream xs (All-tail (HasHeat of ts stream) (index, p) xs heats))
 
 -- what holds of each part with its index holds on the way
-All-numbered : {X : Type 0} (P : ℕ × X → Type 0) (xs : List X) → ((i : ℕ) (x : X) → slice_get xs i ≡ Some x → P (i, x)) → All P (enumerate_from 0 xs)
+pub All-numbered : {X : Type 0} (P : ℕ × X → Type 0) (xs : List X) → ((i : ℕ) (x : X) → slice_get xs i ≡ Some x → P (i, x)) → All P (enumerate_from 0 xs)
 All-numbered {X} P xs each k d inside =
     let within : k < length xs = omega (arith, inside, length-enumerate_from 0 xs) in
     let number : 0 + k ≡ k = omega arith in
     let pair : get_or (enumerate_from 0 xs) k d ≡ (k, get_or xs k d.1) = get_or-enumerate_from 0 xs k d within ∙ ap (λ (j : ℕ). (j, get_or xs k d.1)) number in
     subst P (sym pair) (each k (get_or xs k d.1) (slice_get-get_or xs k d.1 within))
 
-All-reverse : {X : Type 0} (P : X → Type 0) (xs : List X) → All P xs → All P (reverse xs)
+pub All-reverse : {X : Type 0} (P : X → Type 0) (xs : List X) → All P xs → All P (reverse xs)
 All-reverse P xs all k d inside =
     let within : k < length xs = omega (arith, inside, length-reverse xs) in
     subst P (sym (get_or-reverse xs k d within)) (all (length xs - 1 - k) d (omega (arith, within)))
 
-All-way : (P : ℕ × Part → Type 0) (of : Side) (parts : List Part) → ((i : ℕ) (p : Part) → slice_get parts i ≡ Some p → P (i, p)) → All P (on_the_way of (enumerate_from 0 parts))
+pub All-way : (P : ℕ × Part → Type 0) (of : Side) (parts : List Part) → ((i : ℕ) (p : Part) → slice_get parts i ≡ Some p → P (i, p)) → All P (on_the_way of (enumerate_from 0 parts))
 All-way P side.Hot parts each = All-numbered P parts each
 All-way P side.Cold parts each = All-reverse P (enumerate_from 0 parts) (All-numbered P parts each)
 
