@@ -4,3 +4,4 @@ pub mod NetworkLemmas
 pub mod FlowLemmas
 pub mod ExchangerLemmas
 pub mod PartValues
+pub mod WayLemmas
