@@ -5,3 +5,4 @@ pub mod FlowLemmas
 pub mod ExchangerLemmas
 pub mod PartValues
 pub mod WayLemmas
+pub mod StreamValues

@@ -1,0 +1,186 @@
+-- A heat flow leads each stream from its supply to its target, through the temperatures of the ends of its parts.
+use Rattle.std.proofs.Common.{◌≡◌, ◌∙◌, ◌<◌, ◌+◌, ◌∷◌, ◌==◌, inl, ℕ, ℤ, pos, ◌+ℤ◌, ◌-ℤ◌, ◌*ℤ◌, ◌≤ℤ◌, ◌<ℤ◌, Bool, true, false, if◌then◌else◌, List, [], All, AllPairs, Some, None, get_or, slice_get, map, refl, sym, ap, subst, arith}
+use Rattle.std.specs.Prelude.{Contains, Option, reverse}
+use Rattle.std.specs.List.{cons_option, enumerate_from, filter_map}
+use Rattle.std.proofs.lemmas.Int.{ints}
+use Rattle.std.proofs.lemmas.List.Elements.{All-cons, All-head, All-nil, All-tail}
+use Rattle.sums.proofs.ProductLemmas.{product_positive}
+use Rattle.stream_case.specs.Case.{IsComplete}
+use Rattle.stream_case.specs.Shift.{shifted}
+use Rattle.stream_case.specs.Source.{is_hot, same_source}
+use Rattle.stream_case.specs.Stream.{IsValidStream, high_end, low_end}
+use Rattle.stream_case.specs.declared.case.Case.{Case}
+use Rattle.stream_case.specs.declared.source.Side.{Side}
+use Rattle.stream_case.specs.declared.source.Side.TheVariants as side
+use Rattle.stream_case.specs.declared.source.Source.TheVariants as source
+use Rattle.stream_case.specs.declared.stream.Stream.{Stream}
+use Rattle.stream_case.proofs.CompleteLemmas.{HasValidStreams-IsComplete}
+use Rattle.stream_case.proofs.EndLemmas.{AreEnds-IsValidStream}
+use Rattle.fractions.specs.Rationals.{whole}
+use Rattle.network_text.proofs.Lists.{all_at}
+use Rattle.network_values.specs.Values.{first_state, full_size, last_state}
+use Rattle.design_lines.specs.Drawn.{Course}
+use Rattle.design_lines.specs.Values.{IsLedStage, IsLedStream, LedStage, Meet, shares_along, state_behind}
+use Rattle.design_lines.specs.declared.stage.Share.{Share}
+use Rattle.grid.specs.Grid.{IsGrid}
+use Rattle.grid.specs.Part.{AreCaseParts, AreParts, IsPartOf}
+use Rattle.grid.specs.declared.part.Part.{Part}
+use Rattle.grid.proofs.MakingLemmas.{HoldsPlaces-IsGrid, holds_ends}
+use Rattle.grid.proofs.PlaceLemmas.{interval_falls}
+use Rattle.heat_flow.specs.Cuts.{parts_of}
+use Rattle.heat_flow.specs.Flow.{IsHeatFlow, KeepsRanges, heat_at}
+use Rattle.heat_flow.specs.Reach.{reach_between}
+use Rattle.heat_flow.specs.declared.flow.Transfer.{Transfer}
+use Rattle.interval_design.specs.Courses.{course_of, network_of, on_the_way, shares_of, stage_of, width_of}
+use Rattle.interval_design.specs.Values.{actual, entered_at, led_course, led_part, led_stage, left_at}
+use Rattle.interval_design.proofs.FlowLemmas.{All-way}
+use Rattle.interval_design.proofs.PartValues.{IsOwnPart, part_led}
+use Rattle.interval_design.proofs.WayLemmas.{WayTo, filter_map-reverse, own_item, own_part, parts_fall, rise_reverse}
+
+-- ---- the stages of a course
+
+abbrev pub items_of : Side → List Part → List Part → ℕ → List (ℕ × Part)
+items_of of hot cold number = filter_map (own_item number) (on_the_way of (enumerate_from 0 (parts_of of hot cold)))
+
+-- the stages between temperatures, by side and contribution
+abbrev pub led_at : Side → ℤ → List Transfer → ℕ × Part → LedStage
+led_at of c ts e = record { before = whole (actual of (entered_at of e.1) c); after = whole (actual of (left_at of e.1) c); shares = shares_of of e.0 (width_of e.1) ts }
+
+led_items : (s : Stream) (ts : List Transfer) (number : ℕ) (xs : List (ℕ × Part)) → filter_map (led_stage s ts number) xs ≡ map (led_at s.side s.contribution ts) (filter_map (own_item number) xs)
+led_items s ts number [] = refl
+led_items s ts number ((index, p) ∷ xs) = one (same_source p.source (source.Stream number)) (filter_map (led_stage s ts number) xs) (filter_map (own_item number) xs) (led_items s ts number xs)
+  where
+    one : (b : Bool) (stages : List LedStage) (items : List (ℕ × Part)) → stages ≡ map (led_at s.side s.contribution ts) items
+        → cons_option (if b then Some (led_part s ts (index, p)) else None) stages ≡ map (led_at s.side s.contribution ts) (cons_option (if b then Some (index, p) else None) items)
+    one true stages items same = ap (λ (ss : List LedStage). led_part s ts (index, p) ∷ ss) same
+    one false stages items same = same
+
+led_shares : (s : Stream) (ts : List Transfer) (number : ℕ) (xs : List (ℕ × Part)) → shares_along (filter_map (led_stage s ts number) xs) ≡ filter_map (stage_of s.side ts number) xs
+led_shares s ts number [] = refl
+led_shares s ts number ((index, p) ∷ xs) = one (same_source p.source (source.Stream number)) (filter_map (led_stage s ts number) xs) (filter_map (stage_of s.side ts number) xs) (led_shares s ts number xs)
+  where
+    one : (b : Bool) (stages : List LedStage) (course : Course) → shares_along stages ≡ course
+        → shares_along (cons_option (if b then Some (led_part s ts (index, p)) else None) stages) ≡ cons_option (if b then Some (shares_of s.side index (width_of p) ts) else None) course
+    one true stages course same = ap (λ (c : Course). shares_of s.side index (width_of p) ts ∷ c) same
+    one false stages course same = same
+
+-- the course that is led is the one that is drawn
+pub shares_along-led_course : (hot cold : List Part) (ts : List Transfer) (number : ℕ) (s : Stream) → shares_along (led_course hot cold ts (number, s)) ≡ course_of s.side (parts_of s.side hot cold) ts number
+shares_along-led_course hot cold ts number s = led_shares s ts number (on_the_way s.side (enumerate_from 0 (parts_of s.side hot cold)))
+
+-- what holds of each own part holds of each stage
+led_each : (P : LedStage → Type 0) (s : Stream) (ts : List Transfer) (number : ℕ) (xs : List (ℕ × Part)) → All (λ e. same_source e.1.source (source.Stream number) ≡ true → P (led_part s ts e)) xs → All P (filter_map (led_stage s ts number) xs)
+led_each P s ts number [] all = All-nil P
+led_each P s ts number ((index, p) ∷ xs) all =
+    let Q : ℕ × Part → Type 0 = λ e. same_source e.1.source (source.Stream number) ≡ true → P (led_part s ts e) in
+    one (same_source p.source (source.Stream number)) (filter_map (led_stage s ts number) xs) (All-head Q (index, p) xs all) (led_each P s ts number xs (All-tail Q (index, p) xs all))
+  where
+    one : (b : Bool) (stages : List LedStage) → (b ≡ true → P (led_part s ts (index, p))) → All P stages → All P (cons_option (if b then Some (led_part s ts (index, p)) else None) stages)
+    one true stages here rest = All-cons P (led_part s ts (index, p)) stages (here refl) rest
+    one false stages here rest = rest
+
+-- ---- the temperatures
+
+-- on a way through the places, the temperatures meet
+way_meets : (of : Side) (c : ℤ) (ts : List Transfer) (items : List (ℕ × Part)) (from to : ℤ) → WayTo of from items to
+    → Meet (whole (actual of from c)) (map (led_at of c ts) items) × (state_behind (whole (actual of from c)) (map (led_at of c ts) items) ≡ whole (actual of to c))
+way_meets of c ts [] from to way = (tt, ap (λ x. whole (actual of x c)) way)
+way_meets of c ts (e ∷ items) from to way =
+    let rest = way_meets of c ts items (left_at of e.1) to way.1 in
+    ((ap (λ x. whole (actual of x c)) way.0, rest.0), rest.1)
+
+-- the stages begin at the supply, and end at the target
+pub AreJoined : Side → List Part → List Part → List Transfer → ℕ → Stream → Type 0
+AreJoined of hot cold ts number s =
+    Meet (first_state s) (map (led_at of s.contribution ts) (items_of of hot cold number))
+    × (state_behind (first_state s) (map (led_at of s.contribution ts) (items_of of hot cold number)) ≡ last_state s)
+
+module _ (case : Case) (hot cold : List Part) (ts : List Transfer) (complete : IsComplete case) (parts : AreCaseParts case hot cold) (number : ℕ) (s : Stream) (here : slice_get case.streams number ≡ Some s) where
+  valid : IsValidStream s
+  valid = all_at IsValidStream case.streams number s (HasValidStreams-IsComplete case complete).are_streams.each here
+
+  high_held : Contains parts.grid (high_end s)
+  high_held = (all_at (λ r. Contains parts.grid (high_end r) × Contains parts.grid (low_end r)) case.streams number s (holds_ends case.streams case.utilities parts.grid (HoldsPlaces-IsGrid case parts.grid parts.is_grid)) here).0
+
+  low_held : Contains parts.grid (low_end s)
+  low_held = (all_at (λ r. Contains parts.grid (high_end r) × Contains parts.grid (low_end r)) case.streams number s (holds_ends case.streams case.utilities parts.grid (HoldsPlaces-IsGrid case parts.grid parts.is_grid)) here).1
+
+  side_falls : (of : Side) (ps : List Part) → s.side ≡ of → AreParts case.streams case.utilities parts.grid of ps → WayTo side.Hot (high_end s) (filter_map (own_item number) (enumerate_from 0 ps)) (low_end s)
+  side_falls of ps same are =
+      let order = (AreEnds-IsValidStream s valid).order in
+      parts_fall case.streams case.utilities parts.grid of number s here same parts.is_grid.ordered low_held 0 (high_end s) ps (record {
+        ordered = are.ordered;
+        each = are.each;
+        below = λ k d within. λ own. own.upto;
+        every = λ p own upto. are.every p (inl (number, s, own));
+        place = high_held;
+        from = omega (arith, ints, order);
+        upto = omega (arith, ints);
+      })
+
+  joined_on : (of : Side) → s.side ≡ of → AreJoined of hot cold ts number s
+  unfolding AreJoined
+  joined_on side.Hot same =
+      let c = s.contribution in
+      let items = items_of side.Hot hot cold number in
+      let way = side_falls side.Hot hot same parts.hot_parts in
+      let meets = way_meets side.Hot c ts items (high_end s) (low_end s) way in
+      let start : high_end s +ℤ c ≡ s.supply = ap (λ a. shifted a (if is_hot a then s.supply else s.target) c +ℤ c) same ∙ back s.supply in
+      let end : low_end s +ℤ c ≡ s.target = ap (λ a. shifted a (if is_hot a then s.target else s.supply) c +ℤ c) same ∙ back s.target in
+      (subst (λ t. Meet (whole t) (map (led_at side.Hot c ts) items)) start meets.0, subst (λ t. state_behind (whole t) (map (led_at side.Hot c ts) items) ≡ last_state s) start (meets.1 ∙ ap whole end))
+    where
+      back : (t : ℤ) → (t -ℤ s.contribution) +ℤ s.contribution ≡ t
+      back t = omega (arith, ints)
+  joined_on side.Cold same =
+      let c = s.contribution in
+      let items = items_of side.Cold hot cold number in
+      let down = side_falls side.Cold cold same parts.cold_parts in
+      let way : WayTo side.Cold (low_end s) items (high_end s) =
+      subst (λ es. WayTo side.Cold (low_end s) es (high_end s)) (sym (filter_map-reverse (own_item number) (enumerate_from 0 cold))) (rise_reverse (high_end s) (filter_map (own_item number) (enumerate_from 0 cold)) (low_end s) down) in
+      let meets = way_meets side.Cold c ts items (low_end s) (high_end s) way in
+      let start : low_end s -ℤ c ≡ s.supply = ap (λ a. shifted a (if is_hot a then s.target else s.supply) c -ℤ c) same ∙ back s.supply in
+      let end : high_end s -ℤ c ≡ s.target = ap (λ a. shifted a (if is_hot a then s.supply else s.target) c -ℤ c) same ∙ back s.target in
+      (subst (λ t. Meet (whole t) (map (led_at side.Cold c ts) items)) start meets.0, subst (λ t. state_behind (whole t) (map (led_at side.Cold c ts) items) ≡ last_state s) start (meets.1 ∙ ap whole end))
+    where
+      back : (t : ℤ) → (t +ℤ s.contribution) -ℤ s.contribution ≡ t
+      back t = omega (arith, ints)
+
+  -- ---- the parts
+
+  own_heat : (index : ℕ) (p : Part) (of : Side) (ps : List Part) → s.side ≡ of → AreParts case.streams case.utilities parts.grid of ps → KeepsRanges of ps ts → slice_get ps index ≡ Some p → same_source p.source (source.Stream number) ≡ true → IsOwnPart s ts index p
+  own_heat index p of ps same are ranges at own =
+      let is = own_part case.streams case.utilities parts.grid of number s here same parts.is_grid.ordered p (all_at (IsPartOf case.streams case.utilities parts.grid of) ps index p are.each at) own in
+      let falls = interval_falls parts.grid p.high p.low parts.is_grid.ordered is.interval in
+      let flow = valid.cp in
+      let flow_positive : pos 0 <ℤ s.cp = omega (arith, ints, flow.from) in
+      let width_positive : pos 0 <ℤ (p.high -ℤ p.low) = omega (arith, ints, falls) in
+      let least : p.least ≡ s.cp *ℤ (p.high -ℤ p.low) = ap (λ (q : Part). q.least) is.is in
+      let most : p.most ≡ s.cp *ℤ (p.high -ℤ p.low) = ap (λ (q : Part). q.most) is.is in
+      let range = ranges index p at in
+      let from = range.from in
+      let upto = range.upto in
+      let heat : heat_at of ts index ≡ s.cp *ℤ (p.high -ℤ p.low) = between (heat_at of ts index) p.least p.most (s.cp *ℤ (p.high -ℤ p.low)) least most from upto in
+      let heat_here = ap (λ a. heat_at a ts index) same ∙ heat in
+      record { falls = falls; flow = flow_positive; heat = heat_here; some = subst (λ h. pos 0 <ℤ h) (sym heat_here) (product_positive s.cp (p.high -ℤ p.low) flow_positive width_positive) }
+    where
+      between : (h least most x : ℤ) → least ≡ x → most ≡ x → least ≤ℤ h → h ≤ℤ most → h ≡ x
+      between h least most x one two from upto = omega (arith, ints, one, two, from, upto)
+
+  -- the stream is led by the flow
+  pub stream_led : IsHeatFlow (reach_between case hot cold) hot cold ts → IsLedStream (network_of case hot cold ts) s (led_course hot cold ts (number, s))
+  unfolding AreJoined
+  stream_led flow =
+      let items = led_items s ts number (on_the_way s.side (enumerate_from 0 (parts_of s.side hot cold))) in
+      let joined = joined_on s.side refl in
+      let network = network_of case hot cold ts in
+      record {
+        led = led_each (IsLedStage network s.side (full_size s)) s ts number (on_the_way s.side (enumerate_from 0 (parts_of s.side hot cold)))
+            (All-way (λ e. same_source e.1.source (source.Stream number) ≡ true → IsLedStage network s.side (full_size s) (led_part s ts e)) s.side (parts_of s.side hot cold)
+            (λ index p at own. part_led case hot cold ts s index p flow.positive (by s.side refl index p at own)));
+        joined = subst (Meet (first_state s)) (sym items) joined.0;
+        ends = ap (state_behind (first_state s)) items ∙ joined.1;
+      }
+    where
+      by : (of : Side) → s.side ≡ of → (index : ℕ) (p : Part) → slice_get (parts_of of hot cold) index ≡ Some p → same_source p.source (source.Stream number) ≡ true → IsOwnPart s ts index p
+      by side.Hot same index p at own = own_heat index p side.Hot hot same parts.hot_parts flow.hot_ranges at own
+      by side.Cold same index p at own = own_heat index p side.Cold cold same parts.cold_parts flow.cold_ranges at own
