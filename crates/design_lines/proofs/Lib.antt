@@ -5,3 +5,4 @@ pub mod ValueSteps
 pub mod StageValues
 pub mod CourseValues
 pub mod WholeValues
+pub mod BranchStreams
