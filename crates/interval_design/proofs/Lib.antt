@@ -6,3 +6,4 @@ pub mod ExchangerLemmas
 pub mod PartValues
 pub mod WayLemmas
 pub mod StreamValues
+pub mod NetworkValues

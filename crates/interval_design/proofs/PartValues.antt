@@ -51,7 +51,7 @@ size-shares of index width n (t ∷ ts) = one_size (part_index of t == index) n 
 
 -- ---- the exchangers
 
-numbered_item : {X : Type 0} (xs : List X) (i : ℕ) (x : X) → slice_get xs i ≡ Some x → slice_get (enumerate_from 0 xs) i ≡ Some (i, x)
+pub numbered_item : {X : Type 0} (xs : List X) (i : ℕ) (x : X) → slice_get xs i ≡ Some x → slice_get (enumerate_from 0 xs) i ≡ Some (i, x)
 numbered_item {X} xs i x here =
     let within = slice_get_within xs i x here in
     let number : 0 + i ≡ i = omega arith in
