@@ -1,5 +1,5 @@
 -- The values that a course makes, and those that all courses make.
-use Rattle.std.proofs.Common.{◌≡◌, ◌∙◌, ◌<◌, ◌≤◌, ◌+◌, ◌-◌, ◌*◌, ◌∷◌, ◌++◌, ℕ, List, [], All, Some, slice_get, length, map, refl, sym, ap, subst, append-nil, append_assoc, arith, length-append}
+use Rattle.std.proofs.Common.{◌≡◌, ◌∙◌, ◌+◌, ◌∷◌, ◌++◌, ℕ, List, [], All, Some, slice_get, length, refl, sym, ap, subst, append-nil, append_assoc, arith}
 use Rattle.std.specs.Prelude.{option_map, unwrap_or}
 use Rattle.std.proofs.lemmas.List.Elements.{All-head, All-tail}
 use Rattle.std.proofs.lemmas.Option.{same_Some}
@@ -10,15 +10,12 @@ use Rattle.stream_case.specs.declared.source.Source.TheVariants as source
 use Rattle.stream_case.specs.declared.stream.Stream.{Stream}
 use Rattle.fractions.specs.Rationals.{Rational}
 use Rattle.network_text.specs.Lines.{stream_at}
-use Rattle.network_text.specs.declared.network.Line.{Line}
 use Rattle.network_text.specs.declared.network.Line.TheVariants as line
 use Rattle.network_text.specs.declared.network.Network.{Network}
-use Rattle.network_values.specs.Values.{IsFullEnd, Valuation, branch_side, first_state, first_value, full_size, last_state, last_value, value_at}
-use Rattle.network_values.specs.declared.values.BranchValue.{BranchValue}
+use Rattle.network_values.specs.Values.{IsFullEnd, Valuation, branch_side, first_state, first_value, full_size, last_state, last_value}
 use Rattle.design_lines.specs.Drawn.{course_branches, course_lines, courses_lines}
 use Rattle.design_lines.specs.Stages.{stage_end, stage_lines}
-use Rattle.design_lines.specs.Values.{AreLed, AreOfStream, IsLedStage, IsLedStream, LedStage, Make, Meet, course_values, courses_along, courses_values, shares_along, stage_values, state_behind}
-use Rattle.design_lines.specs.declared.stage.Share.{Share}
+use Rattle.design_lines.specs.Values.{AreLed, AreOfStream, IsLedStage, LedStage, Make, Meet, course_values, courses_along, courses_values, shares_along, stage_values, state_behind}
 use Rattle.design_lines.proofs.ValueSteps.{Carries, carries_more, make_append, make_line, make_none}
 use Rattle.design_lines.proofs.StageValues.{stage_made, value_of}
 

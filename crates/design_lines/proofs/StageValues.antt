@@ -1,7 +1,7 @@
 -- The values that a whole stage makes, and what its last branch carries.
-use Rattle.std.proofs.Common.{◌≡◌, ◌∙◌, ◌<◌, ◌≤◌, ◌+◌, ◌-◌, ◌*◌, ◌∷◌, ◌++◌, ℕ, zero, suc, List, [], All, length, map, refl, sym, ap, subst, append-nil, append_assoc, arith, length-append}
+use Rattle.std.proofs.Common.{◌≡◌, ◌∙◌, ◌<◌, ◌≤◌, ◌+◌, ◌-◌, ◌*◌, ◌∷◌, ◌++◌, ℕ, List, [], All, length, refl, sym, ap, subst, append_assoc, arith, length-append}
 use Rattle.std.proofs.lemmas.List.{length-map}
-use Rattle.std.proofs.lemmas.List.Elements.{All-cons, All-head, All-nil, All-tail}
+use Rattle.std.proofs.lemmas.List.Elements.{All-cons, All-nil}
 use Rattle.stream_case.specs.declared.case.Case.{Case}
 use Rattle.stream_case.specs.declared.source.Side.{Side}
 use Rattle.fractions.specs.Rationals.{Rational, plus, rational_zero}
@@ -10,9 +10,9 @@ use Rattle.network_text.specs.declared.network.Network.{Network}
 use Rattle.network_values.specs.Values.{Valuation, branch_side}
 use Rattle.network_values.specs.declared.values.BranchValue.{BranchValue}
 use Rattle.design_lines.specs.Stages.{behind_splits, mixes, passes, rest_branch, share_branches, splits, stage_end, stage_lines}
-use Rattle.design_lines.specs.Values.{IsLedStage, LedStage, Make, joined_values, mix_values, pass_values, size_of, split_values, stage_values}
+use Rattle.design_lines.specs.Values.{IsLedStage, LedStage, Make, mix_values, pass_values, size_of, split_values, stage_values}
 use Rattle.design_lines.specs.declared.stage.Share.{Share}
-use Rattle.design_lines.proofs.ValueSteps.{ArePositive, Carries, CarryFrom, CarryShares, carries_more, carries_new, carry_from_more, first_positive, make_append, mixes_make, others_positive, passes_make, share_value, splits_make}
+use Rattle.design_lines.proofs.ValueSteps.{Carries, CarryFrom, CarryShares, carries_more, carries_new, first_positive, make_append, mixes_make, others_positive, passes_make, share_value, splits_make}
 
 -- a branch of some size and temperature
 abbrev pub value_of : Rational → Rational → BranchValue

@@ -1,13 +1,13 @@
 -- The values that the splits, the passes and the mixes of a stage make.
-use Rattle.std.proofs.Common.{◌≡◌, ◌∙◌, ◌<◌, ◌≤◌, ◌+◌, ◌-◌, ◌*◌, ◌∷◌, ◌++◌, ℕ, zero, suc, List, [], All, get_or, length, map, refl, sym, ap, subst, append-nil, append_assoc, arith, length-append}
+use Rattle.std.proofs.Common.{◌≡◌, ◌∙◌, ◌<◌, ◌+◌, ◌∷◌, ◌++◌, ℕ, zero, suc, List, [], All, get_or, length, refl, sym, ap, subst, append-nil, append_assoc, arith, length-append}
 use Rattle.std.proofs.lemmas.List.{get_or-append-add, get_or_append_left}
-use Rattle.std.proofs.lemmas.List.Elements.{All-cons, All-head, All-nil, All-tail}
+use Rattle.std.proofs.lemmas.List.Elements.{All-head, All-tail}
 use Rattle.stream_case.specs.declared.case.Case.{Case}
 use Rattle.stream_case.specs.declared.source.Side.{Side}
 use Rattle.fractions.specs.Rationals.{IsAtMost, IsBelow, Rational, minus, plus, rational_zero, times}
 use Rattle.fractions.proofs.Comparisons.{at_most_from_below, at_most_refl, below-plus, not_negative-plus, positive-plus}
 use Rattle.fractions.proofs.Products.{plus-times}
-use Rattle.fractions.proofs.Sums.{minus-plus, plus-zero, plus_assoc, plus_comm, zero-plus}
+use Rattle.fractions.proofs.Sums.{minus-plus, plus_comm, zero-plus}
 use Rattle.network_text.specs.declared.network.Line.{Line}
 use Rattle.network_text.specs.declared.network.Line.TheVariants as line
 use Rattle.network_text.specs.declared.network.Network.{Network}
@@ -15,7 +15,7 @@ use Rattle.network_values.specs.Made.{first_part, made_values, mixed_value, pass
 use Rattle.network_values.specs.Values.{IsMix, IsPass, Valuation, branch_side, change, duty_at, no_value, value_at}
 use Rattle.network_values.specs.declared.values.BranchValue.{BranchValue}
 use Rattle.network_values.proofs.LineLemmas.{mix_determined, mixed_positive, pass_determined}
-use Rattle.design_lines.specs.Stages.{mixes, passes, rest_branch, share_branches, splits}
+use Rattle.design_lines.specs.Stages.{mixes, passes, splits}
 use Rattle.design_lines.specs.Values.{AllCanFollow, CanFollow, Make, mix_values, pass_values, size_of, split_values, values_after}
 use Rattle.design_lines.specs.declared.stage.Share.{Share}
 

@@ -1,5 +1,5 @@
 -- The values that all lines make are a valuation, in which each end is a full one.
-use Rattle.std.proofs.Common.{◌≡◌, ◌∙◌, ◌<◌, ◌≤◌, ◌+◌, ◌∷◌, ◌++◌, ℕ, suc, List, [], All, Some, get_or, slice_get, length, map, refl, sym, ap, subst, append-nil, append_assoc, arith, length-append}
+use Rattle.std.proofs.Common.{◌≡◌, ◌∙◌, ◌<◌, ◌+◌, ◌∷◌, ◌++◌, ℕ, suc, List, [], All, Some, get_or, length, map, refl, sym, ap, subst, append-nil, append_assoc, arith, length-append}
 use Rattle.std.specs.Prelude.{option_map}
 use Rattle.std.specs.List.{flat_map}
 use Rattle.std.proofs.lemmas.List.{get_or-append-add, get_or_append_left, length-map}
@@ -8,7 +8,7 @@ use Rattle.std.proofs.lemmas.Option.{get_or_from_slice_get, slice_get-get_or, sl
 use Rattle.stream_case.specs.Case.{IsComplete}
 use Rattle.stream_case.specs.declared.case.Case.{Case}
 use Rattle.network_text.specs.Lines.{Exchanger, uses}
-use Rattle.network_text.specs.Shape.{HasShape, made_before}
+use Rattle.network_text.specs.Shape.{HasShape}
 use Rattle.network_text.specs.declared.network.Line.{Line}
 use Rattle.network_text.specs.declared.network.Line.TheVariants as line
 use Rattle.network_text.specs.declared.network.Network.{Network}
@@ -19,7 +19,7 @@ use Rattle.network_values.specs.declared.values.BranchValue.{BranchValue}
 use Rattle.network_values.proofs.ValuationLemmas.{valuation_more, valuation_start}
 use Rattle.design_lines.specs.Drawn.{declared_line}
 use Rattle.design_lines.specs.Values.{AllCanFollow, CanFollow, Make, values_after}
-use Rattle.design_lines.proofs.ValueSteps.{Carries, make_line, make_none}
+use Rattle.design_lines.proofs.ValueSteps.{make_line, make_none}
 use Rattle.design_lines.proofs.CourseValues.{HaveOwn}
 
 -- the streams' own branches carry their first values
