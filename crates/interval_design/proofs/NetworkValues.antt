@@ -3,19 +3,17 @@ use Rattle.std.proofs.Common.{◌≡◌, ◌∙◌, ◌<◌, ◌+◌, ◌∷◌,
 use Rattle.std.specs.Prelude.{option_map}
 use Rattle.std.specs.List.{enumerate_from}
 use Rattle.std.proofs.lemmas.List.{length-map}
-use Rattle.std.proofs.lemmas.List.FromFn.{get_or-enumerate_from, length-enumerate_from}
-use Rattle.std.proofs.lemmas.Option.{same_Some, slice_get-get_or, slice_get-map, slice_get_cases, slice_get_within}
+use Rattle.std.proofs.lemmas.List.FromFn.{length-enumerate_from}
+use Rattle.std.proofs.lemmas.Option.{same_Some, slice_get-map, slice_get_cases, slice_get_within}
 use Rattle.stream_case.specs.Case.{IsComplete}
 use Rattle.stream_case.specs.declared.case.Case.{Case}
 use Rattle.stream_case.specs.declared.stream.Stream.{Stream}
 use Rattle.network_text.specs.Lines.{own_branches}
 use Rattle.network_text.specs.Shape.{HasShape}
-use Rattle.network_text.specs.declared.network.Branch.{Branch}
-use Rattle.network_text.specs.declared.network.Line.{Line}
 use Rattle.network_text.specs.declared.network.Network.{Network}
 use Rattle.network_values.specs.Values.{Valuation, first_value}
 use Rattle.design_lines.specs.Drawn.{Course, courses_lines, declared_line, made_branches}
-use Rattle.design_lines.specs.Values.{AreLed, IsLedStream, LedStage, Make, courses_along, courses_values}
+use Rattle.design_lines.specs.Values.{AreLed, IsLedStream, Make, courses_along, courses_values}
 use Rattle.design_lines.proofs.BranchStreams.{IsEachLed, are_led, length-own_branches, stream_at-own}
 use Rattle.design_lines.proofs.CourseValues.{courses_made}
 use Rattle.design_lines.proofs.ValueSteps.{make_append, make_line, make_none}

@@ -1,5 +1,5 @@
 -- In each part of a stream the shares are the whole stream, and the exchangers bring them from the one end of the part to the other.
-use Rattle.std.proofs.Common.{◌≡◌, ◌∙◌, ◌<◌, ◌+◌, ◌∷◌, ◌==◌, ℕ, ℤ, pos, ◌+ℤ◌, ◌-ℤ◌, ◌*ℤ◌, ◌<ℤ◌, Bool, true, false, if◌then◌else◌, List, [], All, Some, None, get_or, slice_get, length, map, refl, sym, ap, subst, arith}
+use Rattle.std.proofs.Common.{◌≡◌, ◌∙◌, ◌<◌, ◌+◌, ◌∷◌, ◌==◌, ℕ, ℤ, pos, ◌+ℤ◌, ◌-ℤ◌, ◌*ℤ◌, ◌<ℤ◌, Bool, true, false, if◌then◌else◌, List, [], All, Some, None, get_or, slice_get, sym, ap, arith}
 use Rattle.std.specs.Prelude.{option_map}
 use Rattle.std.specs.List.{cons_option, enumerate_from, filter_map}
 use Rattle.std.proofs.lemmas.Int.{ints}
@@ -10,7 +10,7 @@ use Rattle.stream_case.specs.declared.case.Case.{Case}
 use Rattle.stream_case.specs.declared.source.Side.{Side}
 use Rattle.stream_case.specs.declared.source.Side.TheVariants as side
 use Rattle.stream_case.specs.declared.stream.Stream.{Stream}
-use Rattle.fractions.specs.Rationals.{IsBelow, Rational, plus, ratio, rational_zero, times, whole}
+use Rattle.fractions.specs.Rationals.{IsBelow, plus, ratio, rational_zero, times, whole}
 use Rattle.fractions.proofs.Comparisons.{positive-ratio}
 use Rattle.fractions.proofs.Ratios.{plus-ratio_same_den, ratio-zero}
 use Rattle.fractions.proofs.Wholes.{ratio-multiple, ratio-times_den, whole-minus}

@@ -1,6 +1,6 @@
 -- A heat flow leads each stream from its supply to its target, through the temperatures of the ends of its parts.
-use Rattle.std.proofs.Common.{◌≡◌, ◌∙◌, ◌<◌, ◌+◌, ◌∷◌, ◌==◌, inl, ℕ, ℤ, pos, ◌+ℤ◌, ◌-ℤ◌, ◌*ℤ◌, ◌≤ℤ◌, ◌<ℤ◌, Bool, true, false, if◌then◌else◌, List, [], All, AllPairs, Some, None, get_or, slice_get, map, refl, sym, ap, subst, arith}
-use Rattle.std.specs.Prelude.{Contains, Option, reverse}
+use Rattle.std.proofs.Common.{◌≡◌, ◌∙◌, ◌∷◌, inl, ℕ, ℤ, pos, ◌+ℤ◌, ◌-ℤ◌, ◌*ℤ◌, ◌≤ℤ◌, ◌<ℤ◌, Bool, true, false, if◌then◌else◌, List, [], All, Some, None, slice_get, map, refl, sym, ap, subst, arith}
+use Rattle.std.specs.Prelude.{Contains}
 use Rattle.std.specs.List.{cons_option, enumerate_from, filter_map}
 use Rattle.std.proofs.lemmas.Int.{ints}
 use Rattle.std.proofs.lemmas.List.Elements.{All-cons, All-head, All-nil, All-tail}
@@ -21,8 +21,6 @@ use Rattle.network_text.proofs.Lists.{all_at}
 use Rattle.network_values.specs.Values.{first_state, full_size, last_state}
 use Rattle.design_lines.specs.Drawn.{Course}
 use Rattle.design_lines.specs.Values.{IsLedStage, IsLedStream, LedStage, Meet, shares_along, state_behind}
-use Rattle.design_lines.specs.declared.stage.Share.{Share}
-use Rattle.grid.specs.Grid.{IsGrid}
 use Rattle.grid.specs.Part.{AreCaseParts, AreParts, IsPartOf}
 use Rattle.grid.specs.declared.part.Part.{Part}
 use Rattle.grid.proofs.MakingLemmas.{HoldsPlaces-IsGrid, holds_ends}
