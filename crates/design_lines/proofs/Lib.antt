@@ -1,3 +1,6 @@
 pub mod NameLemmas
 pub mod StageSteps
 pub mod ListLemmas
+pub mod Made
+pub mod UsedOnce
+pub mod Named

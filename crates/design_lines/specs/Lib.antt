@@ -1,3 +1,4 @@
 pub mod Names
 pub mod Stages
 pub mod Drawn
+pub mod Led
