@@ -4,3 +4,5 @@ pub mod ListLemmas
 pub mod Made
 pub mod UsedOnce
 pub mod Named
+pub mod EachLine
+pub mod MadeFirst

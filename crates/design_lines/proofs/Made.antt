@@ -19,7 +19,7 @@ use Rattle.design_lines.specs.declared.stage.Share.{Share}
 
 -- ---- a stage
 
-made-splits : (next from : ℕ) (shares : List Share) → flat_map makes (splits next from shares) ≡ range_with_len next (2 * (length shares - 1))
+pub made-splits : (next from : ℕ) (shares : List Share) → flat_map makes (splits next from shares) ≡ range_with_len next (2 * (length shares - 1))
 made-splits next from [] = refl
 made-splits next from (s ∷ []) = refl
 made-splits next from (s ∷ t ∷ shares) =
@@ -39,7 +39,7 @@ made-passes to [] (s ∷ shares) many = absurd (omega (arith, many))
 made-passes to (b ∷ branches) [] many = absurd (omega (arith, many))
 made-passes to (b ∷ branches) (s ∷ shares) many = ap (λ ns. to ∷ ns) (made-passes (to + 1) branches shares (omega (arith, many)))
 
-made-mixes : (n to first second : ℕ) → flat_map makes (mixes n to first second) ≡ range_with_len to n
+pub made-mixes : (n to first second : ℕ) → flat_map makes (mixes n to first second) ≡ range_with_len to n
 made-mixes zero to first second = refl
 made-mixes (suc n) to first second = ap (λ ns. to ∷ ns) (made-mixes n (to + 1) to (second + 1))
 
