@@ -6,3 +6,7 @@ pub mod UsedOnce
 pub mod Named
 pub mod EachLine
 pub mod MadeFirst
+pub mod OneStream
+pub mod PassedOnce
+pub mod Declared
+pub mod Shaped
