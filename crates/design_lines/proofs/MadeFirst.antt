@@ -1,13 +1,12 @@
 -- A line of a drawn network uses branches that were made before it.
-use Rattle.std.proofs.Common.{◌≡◌, ◌∙◌, ◌<◌, ◌≤◌, ◌+◌, ◌-◌, ◌*◌, ◌∷◌, ◌++◌, ℕ, zero, suc, List, [], All, Some, slice_get, length, map, take, refl, sym, ap, subst, arith, length-append}
-use Rattle.std.specs.List.{flat_map, range_with_len}
+use Rattle.std.proofs.Common.{◌≡◌, ◌<◌, ◌≤◌, ◌+◌, ◌-◌, ◌*◌, ◌∷◌, ◌++◌, ℕ, zero, suc, List, [], All, Some, slice_get, length, map, take, ap, subst, arith, length-append}
+use Rattle.std.specs.List.{flat_map}
 use Rattle.std.proofs.lemmas.List.Elements.{All-cons, All-head, All-nil, All-tail}
 use Rattle.std.proofs.lemmas.List.FromFn.{length-range_with_len}
 use Rattle.stream_case.specs.declared.case.Case.{Case}
 use Rattle.network_text.specs.Lines.{Exchanger, made_by, makes, uses}
 use Rattle.network_text.specs.Shape.{AreMadeBeforeUse}
 use Rattle.network_text.specs.declared.network.Line.{Line}
-use Rattle.network_text.specs.declared.network.Line.TheVariants as line
 use Rattle.design_lines.specs.Drawn.{Course, course_branches, course_lines, courses_lines, declared_line, drawn, stage_branches}
 use Rattle.design_lines.specs.Led.{AreStages}
 use Rattle.design_lines.specs.Stages.{behind_splits, mixes, passes, rest_branch, share_branches, splits, stage_end, stage_lines}

@@ -1,6 +1,5 @@
 -- The branches of a course are branches of its stream, so each line is one of that stream.
-use Rattle.std.proofs.Common.{◌≡◌, ◌∙◌, ◌<◌, ◌≤◌, ◌+◌, ◌-◌, ◌∷◌, ◌++◌, ℕ, zero, suc, List, [], All, Some, get_or, slice_get, length, map, refl, sym, ap, subst, arith, append_assoc, length-append}
-use Rattle.std.specs.List.{range_with_len}
+use Rattle.std.proofs.Common.{◌≡◌, ◌∙◌, ◌<◌, ◌≤◌, ◌+◌, ◌-◌, ◌∷◌, ◌++◌, ℕ, suc, List, [], All, Some, get_or, slice_get, length, refl, sym, ap, subst, arith, append_assoc, length-append}
 use Rattle.std.proofs.lemmas.List.{get_or-append-add, get_or_append_left}
 use Rattle.std.proofs.lemmas.List.Elements.{All-append, All-nil}
 use Rattle.std.proofs.lemmas.List.FromFn.{get_or-map-range_with_len, length-map-range_with_len}
@@ -9,12 +8,10 @@ use Rattle.network_text.specs.Lines.{Exchanger, own_branches, stream_at}
 use Rattle.network_text.specs.Shape.{HasPositiveFlow, IsOfOneStream, Joins, PassesDeclared}
 use Rattle.network_text.specs.declared.network.Branch.{Branch}
 use Rattle.network_text.specs.declared.network.Line.{Line}
-use Rattle.network_text.specs.declared.network.Line.TheVariants as line
 use Rattle.network_text.proofs.OfShape.{many_own, own_stream, stream_at-get_or}
-use Rattle.design_lines.specs.Drawn.{Course, course_branches, course_lines, courses_lines, declared_line, drawn, made_branches, numbered}
+use Rattle.design_lines.specs.Drawn.{Course, course_branches, course_lines, courses_lines, drawn, made_branches, numbered}
 use Rattle.design_lines.specs.Led.{AreStages, IsCourseOf, IsShareOf}
 use Rattle.design_lines.specs.Names.{branch_name}
-use Rattle.design_lines.specs.declared.stage.Share.{Share}
 use Rattle.design_lines.proofs.EachLine.{Gives, each-course}
 use Rattle.design_lines.proofs.Made.{AreMadeInOrder-drawn}
 

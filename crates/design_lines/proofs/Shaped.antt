@@ -1,5 +1,5 @@
 -- The network that led courses draw has the shape of a network.
-use Rattle.std.proofs.Common.{◌≡◌, ◌≢◌, ◌∙◌, ◌<◌, ◌≤◌, ◌+◌, ◌*◌, ◌^◌, ◌∷◌, ◌++◌, inl, inr, ℕ, List, [], All, AllPairs, Some, get_or, slice_get, is_some, length, map, refl, sym, ap, subst, arith, length-append}
+use Rattle.std.proofs.Common.{◌≡◌, ◌≢◌, ◌∙◌, ◌<◌, ◌≤◌, ◌+◌, ◌*◌, ◌^◌, ◌∷◌, inl, inr, ℕ, List, [], All, AllPairs, Some, get_or, slice_get, is_some, length, map, sym, ap, subst, arith, length-append}
 use Rattle.std.specs.List.{enumerate_from, flat_map, range_with_len}
 use Rattle.std.proofs.lemmas.List.Elements.{All-append, All-map, All-nil}
 use Rattle.std.proofs.lemmas.List.FromFn.{length-range_with_len}
@@ -7,12 +7,10 @@ use Rattle.std.proofs.lemmas.Option.{slice_get-get_or, slice_get_within}
 use Rattle.sums.proofs.EnumerationLemmas.{All-enumerated}
 use Rattle.stream_case.specs.Case.{IsComplete, IsSourceOf}
 use Rattle.stream_case.specs.declared.case.Case.{Case}
-use Rattle.stream_case.specs.declared.source.Source.TheVariants as source
 use Rattle.stream_case.specs.declared.stream.Stream.{Stream}
 use Rattle.stream_case.proofs.CaseLemmas.{IsSourceOf-side}
-use Rattle.network_text.specs.Lines.{Exchanger, exchangers_of, made_by, makes, own_branch, own_branches}
-use Rattle.network_text.specs.Shape.{ArePassedOnce, HasPositiveFlow, HasShape, IsExchanger, IsOfOneStream, Joins, PassesDeclared}
-use Rattle.network_text.specs.declared.limits.TheConstants.{MOST_LINES}
+use Rattle.network_text.specs.Lines.{Exchanger, made_by, makes, own_branch, own_branches}
+use Rattle.network_text.specs.Shape.{ArePassedOnce, HasPositiveFlow, HasShape, IsExchanger, IsOfOneStream, Joins}
 use Rattle.network_text.specs.declared.network.Branch.{Branch}
 use Rattle.network_text.specs.declared.network.Line.{Line}
 use Rattle.network_text.specs.declared.network.Line.TheVariants as line
