@@ -3,3 +3,4 @@ pub mod CourseLemmas
 pub mod NetworkLemmas
 pub mod FlowLemmas
 pub mod ExchangerLemmas
+pub mod TransferExchangers
