@@ -200,7 +200,7 @@ All-reverse P xs all k d inside =
     let within : k < length xs = omega (arith, inside, length-reverse xs) in
     subst P (sym (get_or-reverse xs k d within)) (all (length xs - 1 - k) d (omega (arith, within)))
 
-All-way : (P : ℕ × Part → Type 0) (of : Side) (parts : List Part) → ((i : ℕ) (p : Part) → slice_get parts i ≡ Some p → P (i, p)) → All P (on_the_way of (enumerate_from 0 parts))
+pub All-way : (P : ℕ × Part → Type 0) (of : Side) (parts : List Part) → ((i : ℕ) (p : Part) → slice_get parts i ≡ Some p → P (i, p)) → All P (on_the_way of (enumerate_from 0 parts))
 All-way P side.Hot parts each = All-numbered P parts each
 All-way P side.Cold parts each = All-reverse P (enumerate_from 0 parts) (All-numbered P parts each)
 

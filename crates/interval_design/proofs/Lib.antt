@@ -4,3 +4,5 @@ pub mod NetworkLemmas
 pub mod FlowLemmas
 pub mod ExchangerLemmas
 pub mod TransferExchangers
+pub mod ShareLemmas
+pub mod CourseShape
