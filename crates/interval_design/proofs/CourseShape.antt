@@ -83,7 +83,7 @@ course-shares case grid of hot cold ts stream complete is_grid are positive heat
     }
 
 -- the item of a list that is made of numbered items
-numbered-item : {X Y : Type 0} (f : ℕ × X → Y) (n : ℕ) (xs : List X) (i : ℕ) (y : Y) → slice_get (map f (enumerate_from n xs)) i ≡ Some y → (x : X) × (slice_get xs i ≡ Some x) × (f (n + i, x) ≡ y)
+pub numbered-item : {X Y : Type 0} (f : ℕ × X → Y) (n : ℕ) (xs : List X) (i : ℕ) (y : Y) → slice_get (map f (enumerate_from n xs)) i ≡ Some y → (x : X) × (slice_get xs i ≡ Some x) × (f (n + i, x) ≡ y)
 numbered-item f n [] i y at = cc at
 numbered-item {X} f n (x ∷ xs) zero y at =
     let here : f (n, x) ≡ y = cc at in

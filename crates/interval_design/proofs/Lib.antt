@@ -6,3 +6,5 @@ pub mod ExchangerLemmas
 pub mod TransferExchangers
 pub mod ShareLemmas
 pub mod CourseShape
+pub mod TurnLemmas
+pub mod DesignShape
