@@ -10,3 +10,4 @@ pub mod OneStream
 pub mod PassedOnce
 pub mod Declared
 pub mod Shaped
+pub mod FewLines
