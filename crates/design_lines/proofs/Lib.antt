@@ -6,3 +6,13 @@ pub mod StageValues
 pub mod CourseValues
 pub mod WholeValues
 pub mod BranchStreams
+pub mod Made
+pub mod UsedOnce
+pub mod Named
+pub mod EachLine
+pub mod MadeFirst
+pub mod OneStream
+pub mod PassedOnce
+pub mod Declared
+pub mod Shaped
+pub mod FewLines

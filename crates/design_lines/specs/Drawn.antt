@@ -1,10 +1,12 @@
 -- A network drawn from exchangers and from the stages that each stream is led through.
 use Rattle.std.specs.Prelude.{ℕ, ◌+◌, ◌-◌, ◌*◌, List, [], ◌∷◌, ◌++◌, length, map}
 use Rattle.std.specs.List.{range_with_len}
-use Rattle.network_text.specs.Lines.{Exchanger}
+use Rattle.stream_case.specs.declared.case.Case.{Case}
+use Rattle.network_text.specs.Lines.{Exchanger, own_branches}
 use Rattle.network_text.specs.declared.network.Branch.{Branch}
 use Rattle.network_text.specs.declared.network.Line.{Line}
 use Rattle.network_text.specs.declared.network.Line.TheVariants as line
+use Rattle.network_text.specs.declared.network.Network.{Network}
 use Rattle.design_lines.specs.Names.{branch_name}
 use Rattle.design_lines.specs.Stages.{stage_end, stage_lines}
 use Rattle.design_lines.specs.declared.stage.Share.{Share}
@@ -48,3 +50,10 @@ made_branches first stream (course ∷ courses) = numbered first stream (course_
 -- the line that declares an exchanger
 abbrev pub declared_line : Exchanger → Line
 declared_line e = line.Exchanger e.name e.hot e.cold e.duty
+
+-- the network: the exchangers are declared, and then each stream is led through its course
+abbrev pub drawn : Case → List Exchanger → List Course → Network
+drawn case exchangers courses = record {
+  branches = own_branches case ++ made_branches 0 0 courses;
+  lines = map declared_line exchangers ++ courses_lines (length case.streams) 0 courses;
+}

@@ -2,3 +2,4 @@ pub mod Names
 pub mod Stages
 pub mod Drawn
 pub mod Values
+pub mod Led

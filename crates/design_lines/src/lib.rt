@@ -3,9 +3,11 @@
 #![tactic(auto)]
 
 mod branches;
+mod laws;
 mod names;
 mod stage;
 
 pub use branches::{own_branches, push_branches};
+pub use laws::drawn_networks_have_the_shape;
 pub use names::{branch_name, exchanger_name};
 pub use stage::{Share, push_stage};

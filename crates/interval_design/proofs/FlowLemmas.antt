@@ -1,6 +1,6 @@
 -- A heat flow of a case can be led: each part of a stream has a width and a transfer, and there are few transfers.
-use Rattle.std.proofs.Common.{◌≡◌, ◌∙◌, ◌<◌, ◌≤◌, ◌+◌, ◌-◌, ◌*◌, ◌∷◌, ◌++◌, ◌==◌, inl, inr, ℕ, zero, suc, ℤ, pos, ◌+ℤ◌, ◌-ℤ◌, ◌*ℤ◌, ◌<ℤ◌, Bool, true, false, cond, if◌then◌else◌, List, [], All, AllPairs, Some, None, get_or, slice_get, length, refl, sym, ap, subst, arith}
-use Rattle.std.specs.Prelude.{Option, count_by, nat_lt, reverse}
+use Rattle.std.proofs.Common.{◌≡◌, ◌∙◌, ◌<◌, ◌≤◌, ◌+◌, ◌-◌, ◌*◌, ◌∷◌, ◌++◌, ◌==◌, inl, inr, ℕ, zero, suc, ℤ, pos, ◌+ℤ◌, ◌-ℤ◌, ◌*ℤ◌, ◌<ℤ◌, Bool, true, false, cond, if◌then◌else◌, List, [], All, AllPairs, Some, None, get_or, slice_get, length, map, refl, sym, ap, subst, arith}
+use Rattle.std.specs.Prelude.{Option, count_by, nat_lt, reverse, sum_by}
 use Rattle.std.specs.List.{cons_option, enumerate_from, filter_map}
 use Rattle.std.proofs.Math.Nat.{mul-le-mul}
 use Rattle.std.proofs.lemmas.Bool.{false≢true}
@@ -9,7 +9,7 @@ use Rattle.std.proofs.lemmas.Int.{ints}
 use Rattle.std.proofs.lemmas.List.{get_or-reverse, length-reverse, reverse-append}
 use Rattle.std.proofs.lemmas.List.Elements.{All-cons, All-head, All-map, All-nil, All-tail, filter_map-append}
 use Rattle.std.proofs.lemmas.List.FromFn.{get_or-enumerate_from, length-enumerate_from}
-use Rattle.std.proofs.lemmas.List.Sums.{count_by-le-length}
+use Rattle.std.proofs.lemmas.List.Sums.{count_by-le-length, sum_by-cons}
 use Rattle.std.proofs.lemmas.Option.{slice_get-get_or}
 use Rattle.sums.proofs.CountLemmas.{count_by-add-le, count_by-cons}
 use Rattle.sums.proofs.ProductLemmas.{product_positive}
@@ -22,6 +22,7 @@ use Rattle.stream_case.specs.declared.source.Side.TheVariants as side
 use Rattle.stream_case.specs.declared.source.Source.TheVariants as source
 use Rattle.stream_case.specs.declared.stream.Stream.{Stream}
 use Rattle.stream_case.proofs.CompleteLemmas.{HasValidStreams-IsComplete}
+use Rattle.stream_case.proofs.SourceLemmas.{same_source-true}
 use Rattle.fractions.specs.Rationals.{ratio}
 use Rattle.network_text.proofs.Lists.{all_at}
 use Rattle.design_lines.specs.Drawn.{Course, all_branches, course_branches}
@@ -260,3 +261,82 @@ all-fit case hot cold ts few_streams few led =
 
 pub few_pairs : (rows columns : ℕ) → rows ≤ 5000 → columns ≤ 5000 → rows * columns ≤ 25000000
 few_pairs rows columns one two = let product = mul-le-mul one two in omega (arith, product)
+
+-- ---- the shares of all courses together
+
+-- the sum of a number for each of m streams from number k on
+abbrev over : (ℕ → ℕ) → ℕ → ℕ → ℕ
+over f k zero = 0
+over f k (suc m) = f k + over f (k + 1) m
+
+over-same : (f g : ℕ → ℕ) (k m : ℕ) → ((j : ℕ) → f j ≡ g j) → over f k m ≡ over g k m
+over-same f g k zero same = refl
+over-same f g k (suc m) same = omega (arith, same k, over-same f g (k + 1) m same)
+
+over-add : (f g : ℕ → ℕ) (k m : ℕ) → over (λ j. f j + g j) k m ≡ over f k m + over g k m
+over-add f g k zero = omega arith
+over-add f g k (suc m) = omega (arith, over-add f g (k + 1) m)
+
+over-none : (f : ℕ → ℕ) (k m : ℕ) → ((j : ℕ) → k ≤ j → f j ≡ 0) → over f k m ≡ 0
+over-none f k zero none = refl
+over-none f k (suc m) none = omega (arith, none k (omega arith), over-none f (k + 1) m (λ j low. none j (omega (arith, low))))
+
+-- a part is one stream's at most
+own-once : (p : Part) (size k m : ℕ) → over (λ j. cond (same_source p.source (source.Stream j)) size 0) k m ≤ size
+own-once p size k zero = omega arith
+own-once p size k (suc m) = by (same_source p.source (source.Stream k)) refl (own-once p size (k + 1) m)
+  where
+    by : (b : Bool) → same_source p.source (source.Stream k) ≡ b → over (λ j. cond (same_source p.source (source.Stream j)) size 0) (k + 1) m ≤ size → over (λ j. cond (same_source p.source (source.Stream j)) size 0) k (suc m) ≤ size
+    by true is rest =
+        let one = ap {B = ℕ} (λ b. cond b size 0) is in
+        let none = over-none (λ j. cond (same_source p.source (source.Stream j)) size 0) (k + 1) m (λ j low.
+        let differs : (k == j) ≡ false = grind (arith, nat_tests, low) in
+        ap {B = ℕ} (λ b. cond b size 0) (ap (λ src. same_source src (source.Stream j)) (same_source-true p.source (source.Stream k) is) ∙ differs)) in
+        omega (arith, one, none)
+    by false is rest = let none = ap {B = ℕ} (λ b. cond b size 0) is in omega (arith, none, rest)
+
+total-stage : (b : Bool) (shares : List Share) (rest : Course) → total (cons_option (if b then Some shares else None) rest) ≡ cond b (length shares) 0 + total rest
+total-stage true shares rest = refl
+total-stage false shares rest = omega arith
+
+total-streams : (of : Side) (ts : List Transfer) (k m n : ℕ) (parts : List Part) → over (λ j. total (filter_map (stage_of of ts j) (enumerate_from n parts))) k m + before of ts n ≤ length ts
+unfolding before shares_of
+total-streams of ts k m n [] = omega (arith, over-none (λ j. 0) k m (λ j low. refl), count_by-le-length (λ t. nat_lt (part_index of t) n) ts)
+total-streams of ts k m n (p ∷ parts) =
+    let shares = shares_of of n (width_of p) ts in
+    let own : ℕ → ℕ = λ j. cond (same_source p.source (source.Stream j)) (length shares) 0 in
+    let rest : ℕ → ℕ = λ j. total (filter_map (stage_of of ts j) (enumerate_from (n + 1) parts)) in
+    let split = over-same (λ j. total (filter_map (stage_of of ts j) (enumerate_from n (p ∷ parts)))) (λ j. own j + rest j) k m
+    (λ j. total-stage (same_source p.source (source.Stream j)) shares (filter_map (stage_of of ts j) (enumerate_from (n + 1) parts))) in
+    omega (arith, split, over-add own rest k m, own-once p (length shares) k m, length-shares of n (width_of p) 0 ts, before_more of ts n, total-streams of ts k m (n + 1) parts)
+
+total-side : (of : Side) (ts : List Transfer) (k m : ℕ) (parts : List Part) → over (λ j. total (course_of of parts ts j)) k m ≤ length ts
+total-side side.Hot ts k m parts = omega (arith, total-streams side.Hot ts k m 0 parts)
+total-side side.Cold ts k m parts =
+    let turned = over-same (λ j. total (course_of side.Cold parts ts j)) (λ j. total (filter_map (stage_of side.Cold ts j) (enumerate_from 0 parts))) k m (λ j. total-reverse (stage_of side.Cold ts j) (enumerate_from 0 parts)) in
+    omega (arith, turned, total-streams side.Cold ts k m 0 parts)
+
+abbrev all-total : List Course → ℕ
+all-total [] = 0
+all-total (course ∷ courses) = total course + all-total courses
+
+either-side : (of : Side) (hot cold : List Part) (ts : List Transfer) (k : ℕ) → total (course_of of (parts_of of hot cold) ts k) ≤ total (course_of side.Hot hot ts k) + total (course_of side.Cold cold ts k)
+either-side side.Hot hot cold ts k = omega arith
+either-side side.Cold hot cold ts k = omega arith
+
+total-courses : (hot cold : List Part) (ts : List Transfer) (k : ℕ) (streams : List Stream) → all-total (map (stream_course hot cold ts) (enumerate_from k streams)) ≤ over (λ j. total (course_of side.Hot hot ts j)) k (length streams) + over (λ j. total (course_of side.Cold cold ts j)) k (length streams)
+total-courses hot cold ts k [] = omega arith
+total-courses hot cold ts k (s ∷ streams) = omega (arith, either-side s.side hot cold ts k, total-courses hot cold ts (k + 1) streams)
+
+total-is : (course : Course) → total course ≡ sum_by (λ ss. length ss) course
+total-is [] = refl
+total-is (shares ∷ stages) = omega (arith, sum_by-cons (λ (ss : List Share). length ss) shares stages, total-is stages)
+
+all-total-is : (courses : List Course) → all-total courses ≡ sum_by (λ course. sum_by (λ ss. length ss) course) courses
+all-total-is [] = refl
+all-total-is (course ∷ courses) = omega (arith, sum_by-cons (λ (c : Course). sum_by (λ ss. length ss) c) course courses, total-is course, all-total-is courses)
+
+-- each transfer has a share on each side at most
+pub few-shares : (case : Case) (hot cold : List Part) (ts : List Transfer) → sum_by (λ course. sum_by (λ ss. length ss) course) (courses_of case hot cold ts) ≤ 2 * length ts
+few-shares case hot cold ts =
+    omega (arith, all-total-is (courses_of case hot cold ts), total-courses hot cold ts 0 case.streams, total-side side.Hot ts 0 (length case.streams) hot, total-side side.Cold ts 0 (length case.streams) cold)

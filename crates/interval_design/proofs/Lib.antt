@@ -7,3 +7,8 @@ pub mod PartValues
 pub mod WayLemmas
 pub mod StreamValues
 pub mod NetworkValues
+pub mod TransferExchangers
+pub mod ShareLemmas
+pub mod CourseShape
+pub mod TurnLemmas
+pub mod DesignShape

@@ -9,6 +9,7 @@ ghost use Rattle.grid.specs.Part.{AreCaseParts};
 ghost use Rattle.heat_flow.specs.Flow.{IsHeatFlow};
 ghost use Rattle.heat_flow.specs.Reach.{reach_between};
 ghost use Rattle.network_text.specs.Lines.{exchangers_of};
+ghost use Rattle.network_text.specs.Shape.{HasShape};
 ghost use Rattle.design_lines.specs.Drawn.{all_branches, courses_lines, made_branches};
 ghost use Rattle.interval_design.specs.Courses.{AllCanBeLed, courses_of, exchanger_of, network_of};
 
@@ -78,7 +79,7 @@ fn push_courses(
 
 /// The network of a heat flow of a completed case. Each transfer becomes one exchanger, between
 /// the sources of its two parts and with its heat as duty, in W, and each stream is led through its
-/// parts.
+/// parts. The network has the shape that the grammar of networks asks for.
 #[tactic(auto, unfolding(crate::specs::Courses::network_of))]
 pub fn design(alloc: Global, case: &Case, parts: &Parts, flow: &Flow) -> Result<Network, AllocError>
     requires complete { IsComplete case.now }
@@ -86,6 +87,7 @@ pub fn design(alloc: Global, case: &Case, parts: &Parts, flow: &Flow) -> Result<
     requires flow { IsHeatFlow (reach_between case.now parts.now.hot parts.now.cold) parts.now.hot parts.now.cold flow.now.transfers }
     ensures drawn { IfOk result (λ network. network ≡ network_of case.now parts.now.hot parts.now.cold flow.now.transfers) }
     ensures exchangers { IfOk result (λ network. exchangers_of network.lines ≡ map (exchanger_of parts.now.hot parts.now.cold) (enumerate_from 0 flow.now.transfers)) }
+    ensures shape { IfOk result (λ network. HasShape case.now network) }
 {
     let transfers = flow.transfers.as_slice();
     let mut lines = exchanger_lines(

@@ -1,8 +1,11 @@
-use Rattle.std.proofs.Common.{◌∙◌, length, ap, arith, ◌≡◌, ◌++◌, map}
+use Rattle.std.proofs.Common.{◌∙◌, length, ap, arith, ◌≡◌, ◌++◌, map, subst, sym}
 use Rattle.std.specs.List.{enumerate_from}
 use Rattle.network_text.specs.Lines.{exchangers_of}
-use Rattle.design_lines.specs.Drawn.{courses_lines, declared_line}
+use Rattle.network_text.specs.Shape.{HasShape}
+use Rattle.network_text.specs.declared.network.Network.{Network}
+use Rattle.design_lines.specs.Drawn.{courses_lines, declared_line, made_branches}
 use Rattle.interval_design.specs.Courses.{courses_of, exchanger_of, network_of}
+use Rattle.interval_design.proofs.DesignShape.{CanBeDrawn, HasShape-network_of}
 use Rattle.interval_design.proofs.ExchangerLemmas.{exchangers_of-network_of}
 use Rattle.stream_case.proofs.CaseLemmas.{length-AreStreams}
 use Rattle.stream_case.proofs.CompleteLemmas.{AreStreams-IsComplete}
@@ -65,3 +68,33 @@ returns-clause-exchangers c =
     c.in_ok-lines.ensures ∙ (λ i. map (λ e. declared_line (exchanger_of (c.as_slice.ensures i) (c.as_slice-2.ensures i) e)) (enumerate_from 0 (c.as_slice-transfers.ensures i))) in
     let drawn : c.from_vec-2.result ≡ (network_of case hot cold ts).lines = c.from_vec-2.ensures ∙ c.in_ok-push_courses.ensures.lines ∙ ap (λ ls. ls ++ led) declared in
     ap exchangers_of drawn ∙ exchangers_of-network_of case hot cold ts
+
+pub returns-clause-shape : goal.returns-clause-shape
+unfolding network_of
+returns-clause-shape c =
+    let case = c.args.case.now in
+    let hot = c.args.parts.now.hot in
+    let cold = c.args.parts.now.cold in
+    let ts = c.args.flow.now.transfers in
+    let courses = courses_of case hot cold ts in
+    let led = courses_lines (length case.streams) 0 courses in
+    let declared : c.in_ok-lines.lines.items ≡ map (λ e. declared_line (exchanger_of hot cold e)) (enumerate_from 0 ts) =
+    c.in_ok-lines.ensures ∙ (λ i. map (λ e. declared_line (exchanger_of (c.as_slice.ensures i) (c.as_slice-2.ensures i) e)) (enumerate_from 0 (c.as_slice-transfers.ensures i))) in
+    let lines_are : c.from_vec-2.result ≡ (network_of case hot cold ts).lines = c.from_vec-2.ensures ∙ c.in_ok-push_courses.ensures.lines ∙ ap (λ ls. ls ++ led) declared in
+    let branches_are : c.from_vec.result ≡ (network_of case hot cold ts).branches = c.from_vec.ensures ∙ c.in_ok-push_courses.ensures.branches ∙ ap (λ bs. bs ++ made_branches 0 0 courses) c.in_ok-branches.ensures in
+    let network : Network = record { branches = c.from_vec.result; lines = c.from_vec-2.result } in
+    let drawn : network ≡ network_of case hot cold ts = λ i. record { branches = branches_are i; lines = lines_are i } in
+    let pairs = few_transfers hot cold ts c.requires.flow.ordered c.requires.flow.hot_indexes c.requires.flow.cold_indexes in
+    let few = few_pairs (length hot) (length cold) c.args.parts.now.few_hot c.args.parts.now.few_cold in
+    let streams = length-AreStreams case.streams (AreStreams-IsComplete case c.requires.complete) in
+    let can : CanBeDrawn case hot cold ts = record {
+      parts = c.requires.parts;
+      hot_indexes = c.requires.flow.hot_indexes;
+      cold_indexes = c.requires.flow.cold_indexes;
+      positive = c.requires.flow.positive;
+      heats = heats_within hot cold ts c.args.parts.now.hot_bounded (HasCost-flow (reach_between case hot cold) hot cold ts c.requires.flow);
+      few = omega (arith, pairs, few);
+      led = all_led case hot cold ts c.requires.complete c.requires.parts c.requires.flow.hot_ranges c.requires.flow.cold_ranges;
+      few_streams = omega (arith, streams);
+    } in
+    subst (HasShape case) (sym drawn) (HasShape-network_of case hot cold ts c.requires.complete can)

@@ -1,0 +1,49 @@
+-- A drawn network has few lines: three for each share at most, one for each stream, and the declarations.
+use Rattle.std.proofs.Common.{◌≡◌, ◌≤◌, ◌<◌, ◌+◌, ◌-◌, ◌*◌, ◌∷◌, ◌++◌, ℕ, zero, suc, List, [], length, arith, length-append}
+use Rattle.std.specs.Prelude.{sum_by}
+use Rattle.std.proofs.lemmas.List.Sums.{sum_by-cons}
+use Rattle.design_lines.specs.Drawn.{Course, course_branches, course_lines, courses_lines}
+use Rattle.design_lines.specs.Stages.{behind_splits, mixes, passes, rest_branch, share_branches, splits, stage_end, stage_lines}
+use Rattle.design_lines.specs.declared.stage.Share.{Share}
+
+few-splits : (next from : ℕ) (shares : List Share) → length (splits next from shares) ≤ length shares
+few-splits next from [] = omega arith
+few-splits next from (s ∷ []) = omega arith
+few-splits next from (s ∷ t ∷ shares) = omega (arith, few-splits (next + 2) (next + 1) (t ∷ shares))
+
+few-passes : (to : ℕ) (branches : List ℕ) (shares : List Share) → length (passes to branches shares) ≤ length shares
+few-passes to [] shares = omega arith
+few-passes to (b ∷ branches) [] = omega arith
+few-passes to (b ∷ branches) (s ∷ shares) = omega (arith, few-passes (to + 1) branches shares)
+
+few-mixes : (n to first second : ℕ) → length (mixes n to first second) ≤ n
+few-mixes zero to first second = omega arith
+few-mixes (suc n) to first second = omega (arith, few-mixes n (to + 1) to (second + 1))
+
+few-stage : (next from : ℕ) (shares : List Share) → length (stage_lines next from shares) ≤ 3 * length shares
+unfolding stage_lines
+few-stage next from shares =
+    let n = length shares in
+    let behind = behind_splits next shares in
+    let divided = share_branches next (rest_branch next from shares) shares in
+    let ss = splits next from shares in
+    let ps = passes behind divided shares in
+    let ms = mixes (n - 1) (behind + n) behind (behind + 1) in
+    omega (arith, length-append ss (ps ++ ms), length-append ps ms, few-splits next from shares, few-passes behind divided shares, few-mixes (n - 1) (behind + n) behind (behind + 1))
+
+few-course : (next from : ℕ) (course : Course) → length (course_lines next from course) ≤ 3 * sum_by (λ ss. length ss) course + 1
+few-course next from [] = omega arith
+few-course next from (shares ∷ stages) =
+    let last = stage_end next shares in
+    let here = stage_lines next from shares in
+    let later = course_lines (last + 1) last stages in
+    omega (arith, length-append here later, few-stage next from shares, few-course (last + 1) last stages, sum_by-cons (λ (ss : List Share). length ss) shares stages)
+
+-- the lines of courses, by their shares together
+pub few-courses : (next stream : ℕ) (courses : List Course) → length (courses_lines next stream courses) ≤ 3 * sum_by (λ course. sum_by (λ ss. length ss) course) courses + length courses
+few-courses next stream [] = omega arith
+few-courses next stream (course ∷ courses) =
+    let k = course_branches course in
+    let here = course_lines next stream course in
+    let later = courses_lines (next + k) (stream + 1) courses in
+    omega (arith, length-append here later, few-course next stream course, few-courses (next + k) (stream + 1) courses, sum_by-cons (λ (c : Course). sum_by (λ ss. length ss) c) course courses)
