@@ -1,11 +1,10 @@
 -- The courses of a heat flow are courses of their streams, of shares that have a flow and pass exchangers of the stream.
-use Rattle.std.proofs.Common.{◌≡◌, ◌∙◌, ◌<◌, ◌+◌, ◌^◌, ◌∷◌, inl, inr, ℕ, ℤ, zero, suc, pos, ◌-ℤ◌, ◌≤ℤ◌, ◌<ℤ◌, Bool, true, false, if◌then◌else◌, List, [], All, Some, None, get_or, slice_get, length, map, refl, sym, ap, subst, arith}
+use Rattle.std.proofs.Common.{◌≡◌, ◌∙◌, ◌<◌, ◌+◌, ◌^◌, ◌∷◌, inl, inr, ℕ, ℤ, zero, suc, ◌-ℤ◌, ◌≤ℤ◌, ◌<ℤ◌, Bool, true, false, if◌then◌else◌, List, [], All, Some, None, slice_get, map, refl, sym, ap, subst, arith}
 use Rattle.std.specs.Prelude.{unsigned_abs}
 use Rattle.std.specs.List.{cons_option, enumerate_from, filter_map}
 use Rattle.std.proofs.lemmas.Bool.{false≢true}
 use Rattle.std.proofs.lemmas.Int.{ints}
 use Rattle.std.proofs.lemmas.List.Elements.{All-cons, All-head, All-nil, All-tail}
-use Rattle.std.proofs.lemmas.Option.{slice_get-get_or}
 use Rattle.stream_case.specs.Case.{IsComplete}
 use Rattle.stream_case.specs.Limits.{IsHeat, IsTemperature}
 use Rattle.stream_case.specs.Shift.{shifted}
@@ -15,9 +14,7 @@ use Rattle.stream_case.specs.declared.case.Case.{Case}
 use Rattle.stream_case.specs.declared.source.Side.{Side}
 use Rattle.stream_case.specs.declared.source.Side.TheVariants as side
 use Rattle.stream_case.specs.declared.source.Source.TheVariants as source
-use Rattle.stream_case.specs.declared.stream.Stream.{Stream}
 use Rattle.stream_case.proofs.CompleteLemmas.{HasValidStreams-IsComplete}
-use Rattle.network_text.specs.Lines.{Exchanger}
 use Rattle.network_text.proofs.Lists.{all_at}
 use Rattle.design_lines.specs.Led.{IsCourseOf, IsShareOf}
 use Rattle.design_lines.specs.Drawn.{Course}

@@ -1,5 +1,5 @@
 -- The network of a heat flow has the shape of a network.
-use Rattle.std.proofs.Common.{◌≡◌, ◌<◌, ◌≤◌, ◌^◌, ℕ, List, All, length, map, sym, subst, arith, length-append}
+use Rattle.std.proofs.Common.{◌≤◌, List, All, length, map, sym, subst, arith, length-append}
 use Rattle.std.specs.List.{enumerate_from}
 use Rattle.std.proofs.lemmas.List.{length-map}
 use Rattle.std.proofs.lemmas.List.FromFn.{length-enumerate_from}

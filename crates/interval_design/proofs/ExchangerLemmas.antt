@@ -1,9 +1,9 @@
 -- The network is the one that the courses draw, and its exchangers are those of the transfers.
-use Rattle.std.proofs.Common.{◌≡◌, ◌∙◌, ◌+◌, ◌++◌, ℕ, List, length, map, sym, ap}
+use Rattle.std.proofs.Common.{◌≡◌, ◌∙◌, ◌++◌, List, length, map, sym, ap}
 use Rattle.std.specs.List.{enumerate_from}
 use Rattle.std.proofs.lemmas.Simd.{map-map}
 use Rattle.stream_case.specs.declared.case.Case.{Case}
-use Rattle.network_text.specs.Lines.{Exchanger, exchangers_of, own_branches}
+use Rattle.network_text.specs.Lines.{exchangers_of, own_branches}
 use Rattle.network_text.specs.declared.network.Line.{Line}
 use Rattle.network_text.specs.declared.network.Network.{Network}
 use Rattle.design_lines.specs.Drawn.{courses_lines, declared_line, drawn, made_branches}

@@ -1,5 +1,5 @@
 -- The shares of a stream's part have a flow above 0, and pass exchangers that have a side of the stream.
-use Rattle.std.proofs.Common.{◌≡◌, ◌∙◌, ◌<◌, ◌≤◌, ◌+◌, ◌^◌, ◌==◌, ◌∷◌, inl, inr, ℕ, ℤ, zero, suc, pos, ◌<ℤ◌, Bool, true, false, if◌then◌else◌, List, [], All, Some, None, slice_get, length, map, refl, sym, ap, subst, arith}
+use Rattle.std.proofs.Common.{◌≡◌, ◌∙◌, ◌<◌, ◌+◌, ◌^◌, ◌==◌, ◌∷◌, inl, inr, ℕ, ℤ, zero, suc, pos, ◌<ℤ◌, Bool, true, false, if◌then◌else◌, List, [], All, Some, None, slice_get, map, refl, sym, ap, subst, arith}
 use Rattle.std.specs.List.{cons_option, enumerate_from, filter_map}
 use Rattle.std.specs.Option.{option_map_or}
 use Rattle.std.proofs.lemmas.Bool.Decides.{nat_tests}
@@ -14,7 +14,6 @@ use Rattle.stream_case.proofs.SourceLemmas.{same_source-true}
 use Rattle.fractions.specs.Rationals.{ratio}
 use Rattle.fractions.proofs.Comparisons.{positive-ratio, positive_num}
 use Rattle.fractions.proofs.Limits.{within-ratio}
-use Rattle.network_text.specs.Lines.{Exchanger}
 use Rattle.network_text.specs.Shape.{IsPositive, Joins}
 use Rattle.network_text.proofs.Lists.{all_at}
 use Rattle.design_lines.specs.Led.{IsShareOf}

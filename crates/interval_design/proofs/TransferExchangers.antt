@@ -1,5 +1,5 @@
 -- The exchangers of transfers are exchangers of the case: their names differ, and their sources are a hot and a cold one.
-use Rattle.std.proofs.Common.{◌≡◌, ◌≢◌, ◌∙◌, ◌<◌, ◌≤◌, ◌+◌, ◌^◌, ◌∷◌, inl, inr, ℕ, ℤ, pos, ◌<ℤ◌, List, [], All, AllPairs, Some, get_or, slice_get, length, map, option_map, sym, ap, arith}
+use Rattle.std.proofs.Common.{◌≡◌, ◌≢◌, ◌∙◌, ◌<◌, ◌+◌, ◌^◌, ◌∷◌, inl, inr, ℕ, ℤ, pos, ◌<ℤ◌, List, [], All, AllPairs, Some, get_or, length, map, option_map, sym, ap, arith}
 use Rattle.std.specs.Fmt.{decimal}
 use Rattle.std.specs.List.{enumerate_from}
 use Rattle.std.specs.Option.{option_map_or}

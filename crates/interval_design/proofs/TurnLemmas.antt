@@ -1,13 +1,13 @@
 -- The exchanger of a transfer stands in one share of the course of each of its streams.
-use Rattle.std.proofs.Common.{◌≡◌, ◌∙◌, ◌<◌, ◌+◌, ◌==◌, ◌∷◌, ◌++◌, inl, inr, ℕ, ℤ, zero, suc, Bool, true, false, cond, if◌then◌else◌, List, [], Some, None, get_or, slice_get, length, map, option_map, refl, sym, ap, subst, arith}
-use Rattle.std.specs.Prelude.{Option, count_by, reverse, sum_by}
+use Rattle.std.proofs.Common.{◌≡◌, ◌∙◌, ◌<◌, ◌+◌, ◌==◌, ◌∷◌, ◌++◌, inl, inr, ℕ, ℤ, zero, suc, Bool, true, false, cond, if◌then◌else◌, List, [], Some, None, get_or, slice_get, length, map, option_map, refl, sym, ap, arith}
+use Rattle.std.specs.Prelude.{Option, count_by, reverse}
 use Rattle.std.specs.List.{cons_option, enumerate_from, filter_map}
 use Rattle.std.specs.Option.{option_map_or}
 use Rattle.std.proofs.lemmas.Bool.Decides.{nat_tests}
 use Rattle.std.proofs.lemmas.List.{reverse-append}
 use Rattle.std.proofs.lemmas.List.Elements.{filter_map-append}
 use Rattle.std.proofs.lemmas.List.Sums.{sum_by-append, sum_by-cons}
-use Rattle.std.proofs.lemmas.Option.{slice_get-get_or, slice_get_within}
+use Rattle.std.proofs.lemmas.Option.{slice_get-get_or}
 use Rattle.sums.proofs.CountLemmas.{count_by-cons}
 use Rattle.stream_case.specs.Case.{side_of}
 use Rattle.stream_case.specs.Source.{same_source}
@@ -30,7 +30,7 @@ use Rattle.grid.specs.declared.part.Part.{Part}
 use Rattle.heat_flow.specs.Cuts.{parts_of}
 use Rattle.heat_flow.specs.Flow.{HaveParts, part_index}
 use Rattle.heat_flow.specs.declared.flow.Transfer.{Transfer}
-use Rattle.interval_design.specs.Courses.{course_of, courses_of, exchanger_of, on_the_way, share_of, shares_of, source_at, stage_of, stream_course, width_of}
+use Rattle.interval_design.specs.Courses.{course_of, courses_of, exchanger_of, share_of, shares_of, source_at, stage_of, stream_course, width_of}
 use Rattle.interval_design.proofs.CourseShape.{numbered-item}
 use Rattle.interval_design.proofs.TransferExchangers.{source-side}
 
