@@ -12,3 +12,5 @@ pub mod ShareLemmas
 pub mod CourseShape
 pub mod TurnLemmas
 pub mod DesignShape
+pub mod StepSizes
+pub mod NoFinding

@@ -67,7 +67,7 @@ pub shares_along-led_course : (hot cold : List Part) (ts : List Transfer) (numbe
 shares_along-led_course hot cold ts number s = led_shares s ts number (on_the_way s.side (enumerate_from 0 (parts_of s.side hot cold)))
 
 -- what holds of each own part holds of each stage
-led_each : (P : LedStage → Type 0) (s : Stream) (ts : List Transfer) (number : ℕ) (xs : List (ℕ × Part)) → All (λ e. same_source e.1.source (source.Stream number) ≡ true → P (led_part s ts e)) xs → All P (filter_map (led_stage s ts number) xs)
+pub led_each : (P : LedStage → Type 0) (s : Stream) (ts : List Transfer) (number : ℕ) (xs : List (ℕ × Part)) → All (λ e. same_source e.1.source (source.Stream number) ≡ true → P (led_part s ts e)) xs → All P (filter_map (led_stage s ts number) xs)
 led_each P s ts number [] all = All-nil P
 led_each P s ts number ((index, p) ∷ xs) all =
     let Q : ℕ × Part → Type 0 = λ e. same_source e.1.source (source.Stream number) ≡ true → P (led_part s ts e) in
@@ -145,7 +145,7 @@ module _ (case : Case) (hot cold : List Part) (ts : List Transfer) (complete : I
 
   -- ---- the parts
 
-  own_heat : (index : ℕ) (p : Part) (of : Side) (ps : List Part) → s.side ≡ of → AreParts case.streams case.utilities parts.grid of ps → KeepsRanges of ps ts → slice_get ps index ≡ Some p → same_source p.source (source.Stream number) ≡ true → IsOwnPart s ts index p
+  pub own_heat : (index : ℕ) (p : Part) (of : Side) (ps : List Part) → s.side ≡ of → AreParts case.streams case.utilities parts.grid of ps → KeepsRanges of ps ts → slice_get ps index ≡ Some p → same_source p.source (source.Stream number) ≡ true → IsOwnPart s ts index p
   own_heat index p of ps same are ranges at own =
       let is = own_part case.streams case.utilities parts.grid of number s here same parts.is_grid.ordered p (all_at (IsPartOf case.streams case.utilities parts.grid of) ps index p are.each at) own in
       let falls = interval_falls parts.grid p.high p.low parts.is_grid.ordered is.interval in
