@@ -49,6 +49,7 @@ module _ {X Y : Type 0} (P : Y → Type 0) (f : X → Option Y) where
   All-kept (x ∷ xs) each =
       one_kept (f x) (filter_map f xs) (All-head (λ z. (y : Y) → f z ≡ Some y → P y) x xs each) (All-kept xs (All-tail (λ z. (y : Y) → f z ≡ Some y → P y) x xs each))
 
+module _ {X Y : Type 0} (f : X → Option Y) where
   one_more : (o : Option Y) (rest : List Y) (n : ℕ) → length rest ≤ n → length (cons_option o rest) ≤ suc n
   one_more None rest n few = omega (arith, few)
   one_more (Some y) rest n few = omega (arith, few)
