@@ -69,7 +69,7 @@ module _ (d : ℕ) (full before after : Rational) where
       let left : BranchValue = record { cp = size_of rest; t = before } in
       All-cons (IsStageBranch d full before after) (share_value before s) (left ∷ split_values before rest) (record { over = is.first_over; least = is.first_least; most = is.first_most; state = inl refl })
       (All-cons (IsStageBranch d full before after) left (split_values before rest) (record { over = over-size d rest is.rest_over; least = is.rest_least; most = is.rest_most; state = inl refl })
-      (splits_sized rest is.rest_over is.rest_positive is.rest_most))
+      (splits_sized (t ∷ shares) is.rest_over is.rest_positive is.rest_most))
 
   passes_sized : (shares : List Share) → AreOver d shares → ArePositive shares → IsAtMost (size_of shares) full → AreBranches (pass_values after shares)
   passes_sized [] over positive most = All-nil (IsStageBranch d full before after)
