@@ -2,9 +2,7 @@
 use Rattle.std.proofs.Common.{◌≡◌, ◌∙◌, ◌+◌, ◌∷◌, ◌++◌, ℕ, Bool, true, false, List, [], Option, Some, None, All, slice_get, length, refl, sym, subst}
 use Rattle.std.specs.List.{enumerate_from, flat_map}
 use Rattle.std.proofs.lemmas.Bool.{false≢true}
-use Rattle.std.proofs.lemmas.List.Elements.{All-append, All-cons, All-head, All-nil, All-tail}
-use Rattle.sums.proofs.EnumerationLemmas.{All-enumerated}
-use Rattle.sums.proofs.ListLemmas.{All-flat_map}
+use Rattle.std.proofs.lemmas.List.Elements.{All-append, All-cons, All-nil}
 use Rattle.stream_case.specs.declared.case.Case.{Case}
 use Rattle.stream_case.specs.declared.stream.Stream.{Stream}
 use Rattle.stream_case.specs.declared.utility.Utility.{Utility}
@@ -25,7 +23,7 @@ use Rattle.network_audit.specs.declared.findings.Place.{Place}
 use Rattle.network_audit.specs.declared.findings.Place.TheVariants as place
 use Rattle.network_audit.specs.declared.findings.Reason.{Reason}
 use Rattle.network_audit.specs.declared.findings.Reason.TheVariants as reason
-use Rattle.network_audit.proofs.FoundLemmas.{found-failed, found-nothing, found-passed}
+use Rattle.network_audit.proofs.FoundLemmas.{each-items, found-item}
 use Rattle.network_audit.proofs.InvalidLemmas.{invalid_network}
 use Rattle.network_audit.proofs.ValidLemmas.{items-whole}
 
@@ -43,21 +41,13 @@ formed-test at passed because items formed = All-cons IsFormed (Test at passed b
 pub formed-step : (at : Place) (number : ℕ) (value : Rational) (items : List Item) → IsWithinLimits value → AreFormed items → AreFormed (Step at number value ∷ items)
 formed-step at number value items within formed = All-cons IsFormed (Step at number value) items within formed
 
-formed-each : {X : Type 0} (f : ℕ × X → List Item) (xs : List X) → ((i : ℕ) (x : X) → slice_get xs i ≡ Some x → AreFormed (f (i, x))) → AreFormed (flat_map f (enumerate_from 0 xs))
-formed-each {X} f xs each = All-flat_map IsFormed f (enumerate_from 0 xs) (All-enumerated (λ (e : ℕ × X). AreFormed (f e)) xs each)
-
 -- a step that failed is not found among them
-not_too_fine : (item : Item) (at : Place) (number : ℕ) → IsFormed item → is_passed item ≡ false → Some (finding_of item) ≡ Some (finding.TooFine at number) → ⊥
-not_too_fine (Test here passed because) at number formed failed same = cc same
-not_too_fine (Step here step value) at number formed failed same = false≢true (sym failed ∙ (Decides-is_within_limits value).1 formed)
-
 formed-no_step : (items : List Item) (at : Place) (number : ℕ) → AreFormed items → first_finding items ≡ Some (finding.TooFine at number) → ⊥
-formed-no_step [] at number formed found = cc (found-nothing, found)
-formed-no_step (item ∷ items) at number formed found = by (is_passed item) refl (formed-no_step items at number (All-tail IsFormed item items formed))
+formed-no_step items at number formed found = let (item, is, failed, same) = found-item IsFormed items (finding.TooFine at number) formed found in by item is failed same
   where
-    by : (b : Bool) → is_passed item ≡ b → (first_finding items ≡ Some (finding.TooFine at number) → ⊥) → ⊥
-    by true is later = later (sym (found-passed item items is) ∙ found)
-    by false is later = not_too_fine item at number (All-head IsFormed item items formed) is (sym (found-failed item items is) ∙ found)
+    by : (item : Item) → IsFormed item → is_passed item ≡ false → finding_of item ≡ finding.TooFine at number → ⊥
+    by (Test here passed because) is failed same = cc same
+    by (Step here step value) is failed same = false≢true (sym failed ∙ (Decides-is_within_limits value).1 is)
 
 -- ---- a network
 
@@ -85,7 +75,7 @@ all-formed case network values formed =
     let utilities = flat_map (utility_items_at network) (enumerate_from 0 case.utilities) in
     let balance = balance_items case network in
     subst AreFormed (sym (items-whole case network values))
-    (All-append IsFormed statements (streams ++ (exchangers ++ (utilities ++ balance))) (formed-each (statement_items case network values) network.lines formed.lines)
-    (All-append IsFormed streams (exchangers ++ (utilities ++ balance)) (formed-each (stream_items_at network) case.streams (λ index s at. formed-test (place.Stream index) (is_ended network index) (reason.Unfinished rational_zero (full_size s)) [] formed-none))
-    (All-append IsFormed exchangers (utilities ++ balance) (formed-each (exchanger_items_at case network values) (exchangers_of network.lines) formed.exchangers)
-    (All-append IsFormed utilities balance (formed-each (utility_items_at network) case.utilities formed.utilities) formed.balance))))
+    (All-append IsFormed statements (streams ++ (exchangers ++ (utilities ++ balance))) (each-items IsFormed (statement_items case network values) network.lines formed.lines)
+    (All-append IsFormed streams (exchangers ++ (utilities ++ balance)) (each-items IsFormed (stream_items_at network) case.streams (λ index s at. formed-test (place.Stream index) (is_ended network index) (reason.Unfinished rational_zero (full_size s)) [] formed-none))
+    (All-append IsFormed exchangers (utilities ++ balance) (each-items IsFormed (exchanger_items_at case network values) (exchangers_of network.lines) formed.exchangers)
+    (All-append IsFormed utilities balance (each-items IsFormed (utility_items_at network) case.utilities formed.utilities) formed.balance))))
