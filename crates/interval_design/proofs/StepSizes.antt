@@ -17,7 +17,7 @@ use Rattle.stream_case.specs.declared.stream.Stream.{Stream}
 use Rattle.stream_case.proofs.CompleteLemmas.{HasValidStreams-IsComplete}
 use Rattle.stream_case.proofs.EndLemmas.{AreEnds-IsValidStream}
 use Rattle.stream_case.proofs.HeatLemmas.{HasLength-IsValidStream}
-use Rattle.fractions.specs.Rationals.{IsWithinLimits, Rational, plus, ratio, times, whole}
+use Rattle.fractions.specs.Rationals.{IsWithinLimits, minus, plus, ratio, times, whole}
 use Rattle.fractions.proofs.Comparisons.{at_most-whole, at_most_trans}
 use Rattle.fractions.proofs.Limits.{within-whole}
 use Rattle.fractions.proofs.Wholes.{whole-minus}
@@ -93,11 +93,14 @@ plain_roomy v plain =
     }
 
 -- and so does the change from one to another
-whole_change : (of : Side) (a b : ℤ) → IsLevel a → IsLevel b → IsWithinLimits (change of (whole a) (whole b))
-whole_change side.Hot a b one two =
+level_difference : (a b : ℤ) → IsLevel a → IsLevel b → IsWithinLimits (minus (whole a) (whole b))
+level_difference a b one two =
     let low = one.from in let high = one.upto in let low_two = two.from in let high_two = two.upto in
     subst IsWithinLimits (sym (whole-minus a b)) (within-whole (a -ℤ b) (omega (arith, ints, low, high, low_two, high_two)))
-whole_change side.Cold a b one two = whole_change side.Hot b a two one
+
+whole_change : (of : Side) (a b : ℤ) → IsLevel a → IsLevel b → IsWithinLimits (change of (whole a) (whole b))
+whole_change side.Hot a b one two = level_difference a b one two
+whole_change side.Cold a b one two = level_difference b a two one
 
 pub plain_change : (of : Side) (from to : BranchValue) → IsPlain from → IsPlain to → IsWithinLimits (change of from.t to.t)
 plain_change of from to one two =
