@@ -2,7 +2,7 @@
 use Rattle.std.specs.Prelude.{◌≡◌, ◌⊎◌, ℤ, map}
 use Rattle.std.specs.List.{enumerate_from}
 use Rattle.stream_case.specs.declared.case.Case.{Case}
-use Rattle.stream_case.specs.Case.{IsStandard, completed}
+use Rattle.stream_case.specs.Case.{IsComplete, IsStandard, completed}
 use Rattle.fractions.specs.Rationals.{rational_zero, whole}
 use Rattle.problem_table.specs.Deficit.{hot_target}
 use Rattle.grid.specs.declared.parts.Parts.{Parts}
@@ -29,6 +29,7 @@ use Rattle.pinch.specs.Flow.{IsCornerAnswer, IsCutAnswer, IsLeastFlow}
 pub record IsDesignOf (c : Case) (parts : Parts) (flow : Flow) (shown : Shown) : Type 0 where
   pub network : Network
   pub balance : Balance
+  pub complete : IsComplete c
   pub exchangers : exchangers_of network.lines ≡ map (exchanger_of parts.hot parts.cold) (enumerate_from 0 flow.transfers)
   pub shape : HasShape c network
   pub valid : IsValidNetwork c network
