@@ -1,11 +1,13 @@
 //! The design of a case.
-ghost use Rattle.std.specs.Prelude.{◌≡◌, IfOk};
-ghost use Rattle.stream_case.specs.Case.{IsComplete, IsValid};
+ghost use Rattle.std.specs.Prelude.{◌≡◌, ◌≤◌, ◌+◌, ◌-◌, ℤ, IfOk, length};
+ghost use Rattle.stream_case.specs.Case.{IsComplete, IsStandard, IsValid};
+ghost use Rattle.heat_flow.specs.Flow.{cost_of};
 ghost use Rattle.heat_flow.specs.declared.prices.Prices.{Prices};
+ghost use Rattle.problem_table.specs.Deficit.{hot_target};
 ghost use Rattle.network_text.specs.Shape.{HasShape};
 ghost use Rattle.network_audit.specs.Balance.{balance_of};
 ghost use Rattle.network_audit.specs.Findings.{HasNoFinding};
-ghost use Rattle.pinch.specs.Design.{Realises, ShowsDesign};
+ghost use Rattle.pinch.specs.Design.{IsDesignOf, IsTightDesign, ShowsDesign};
 ghost use Rattle.pinch.specs.Flow.{IsLeastFlow};
 
 use crate::case_answer::show_flow;
@@ -36,7 +38,8 @@ pub fn show_design(alloc: Global, case: &Case) -> Result<Shown, AllocError>
 fn design_flow(alloc: Global, case: Case, parts: &Parts, flow: &Flow) -> Result<Shown, AllocError>
     requires complete { IsComplete case }
     requires least { (prices : Prices) × (cost : ℤ) × IsLeastFlow case parts.now flow.now prices cost }
-    ensures { IfOk result (Realises case parts.now flow.now) }
+    ensures design { IfOk result (IsDesignOf case parts.now flow.now) }
+    ensures tight { IfOk result (λ shown. IsStandard case → cost_of parts.now.hot parts.now.cold flow.now.transfers ≡ hot_target case.streams → length flow.now.transfers ≤ length parts.now.hot + length parts.now.cold - 1 → IsTightDesign shown) }
 {
     let network = design(alloc, &case, parts, flow)?;
     let balance = audited(alloc, &case, &network)?;
