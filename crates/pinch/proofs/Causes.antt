@@ -5,7 +5,7 @@ use Rattle.pinch_outside.specs.declared.limits.TheConstants.{MAX_FILE}
 use Rattle.stream_case.specs.declared.case.Case.{Case}
 use Rattle.stream_case.specs.Case.{completed}
 use Rattle.pinch.specs.declared.command.Command.{Command}
-use Rattle.pinch.specs.declared.command.Command.TheVariants.{Targets, Flow, Curves, Audit}
+use Rattle.pinch.specs.declared.command.Command.TheVariants.{Targets, Flow, Design, Curves, Audit}
 use Rattle.reports.specs.declared.shown.FileRole.{FileRole}
 use Rattle.reports.specs.declared.shown.Shown.{Shown}
 use Rattle.pinch.specs.Files.{NoFile, failed, too_long, NoText, no_file, refused, FromText, no_text, by_text}
@@ -14,10 +14,11 @@ use Rattle.pinch.specs.Case.{case_file, AreTargetsOf, AreCurvesOf}
 use Rattle.pinch.specs.Answers.{FromCase, FromNetwork, ShowsCommand}
 use Rattle.pinch.specs.Causes.{Causes, HasCause}
 use Rattle.pinch.specs.Command.{file_of}
+use Rattle.pinch.specs.Design.{ShowsDesign}
 use Rattle.pinch.specs.Flow.{ShowsFlow}
 use Rattle.pinch.specs.Network.{network_file}
 use Rattle.pinch.proofs.Formats.{IsLawful, lawful_case, lawful_network}
-use Rattle.pinch.proofs.Plain.{is_plain, plain_flow, plain_audit}
+use Rattle.pinch.proofs.Plain.{is_plain, plain_design, plain_flow, plain_audit}
 
 -- the last file was read to its end
 pub record Ended (new : ShelfState) : Type 0 where
@@ -117,5 +118,6 @@ unfolding ShowsCommand HasCause
 causes None old new shown shows = shows
 causes (Some (Targets case)) old new shown shows = of_case (file_of (Targets case)) case old new shown AreTargetsOf refl (λ c is. ap is_plain is.is) shows
 causes (Some (Flow case)) old new shown shows = of_case (file_of (Flow case)) case old new shown ShowsFlow refl (λ c is. plain_flow (completed c) shown is.answer) shows
+causes (Some (Design case)) old new shown shows = of_case (file_of (Design case)) case old new shown ShowsDesign refl (λ c is. plain_design (completed c) shown is.answer) shows
 causes (Some (Curves case)) old new shown shows = of_case (file_of (Curves case)) case old new shown AreCurvesOf refl (λ c is. ap is_plain is.is) shows
 causes (Some (Audit case network)) old new shown shows = of_network (file_of (Audit case network)) case network old new shown refl (λ c. refl) shows

@@ -12,10 +12,11 @@ use Rattle.network_audit.specs.declared.verdict.Verdict.TheVariants as verdict
 use Rattle.reports.specs.declared.shown.FileRole.{FileRole}
 use Rattle.reports.specs.declared.shown.Shown.{Shown}
 use Rattle.pinch.specs.declared.command.Command.{Command}
-use Rattle.pinch.specs.declared.command.Command.TheVariants.{Targets, Flow, Curves, Audit}
+use Rattle.pinch.specs.declared.command.Command.TheVariants.{Targets, Flow, Design, Curves, Audit}
 use Rattle.pinch.specs.Answers.{FromCase, FromNetwork, ShowsCommand}
 use Rattle.pinch.specs.Case.{case_file, AreTargetsOf, AreCurvesOf}
 use Rattle.pinch.specs.Complete.{Holds, HoldsText, HoldsFault, CanAnswer, HasBadFile}
+use Rattle.pinch.specs.Design.{IsDesignAnswer, ShowsDesign}
 use Rattle.pinch.specs.Files.{NoFile, failed, too_long, NoText, no_file, refused, FromText, no_text, by_text, IsRefused}
 use Rattle.pinch.specs.Flow.{IsFlowAnswer, IsCutAnswer, ShowsFlow}
 use Rattle.pinch.specs.Format.{Format}
@@ -79,6 +80,11 @@ flow_answers : (c : Case) (shown : Shown) → IsFlowAnswer c shown ⊎ IsCutAnsw
 flow_answers c shown (inl flow) = answers shown _ tt flow.is
 flow_answers c shown (inr cut) = answers shown _ tt cut.is
 
+-- and so is a design
+design_answers : (c : Case) (shown : Shown) → IsDesignAnswer c shown ⊎ IsCutAnswer c shown → IsAnswered (status_of shown)
+design_answers c shown (inl design) = answers shown _ tt design.design.is
+design_answers c shown (inr cut) = answers shown _ tt cut.is
+
 of_case : (name : List ℕ) (old new : ShelfState) (shown : Shown) (P : Case → Type 0) (Shows : Case → Shown → Type 0)
     → (Rose old.faults new.faults → ⊥) → HoldsText case_file old.files name P
     → ((case : Case) → P case → Shows case shown → IsAnswered (status_of shown)) → FromCase name old new shown Shows → IsAnswered (status_of shown)
@@ -123,6 +129,7 @@ unfolding ShowsCommand CanAnswer
 complete None old new shown shows can no_fault = absurd can
 complete (Some (Targets case)) old new shown shows can no_fault = of_case case old new shown _ AreTargetsOf no_fault can (λ c t is. answers shown _ tt is.is) shows
 complete (Some (Flow case)) old new shown shows can no_fault = of_case case old new shown _ ShowsFlow no_fault can (λ c t is. flow_answers (completed c) shown is.answer) shows
+complete (Some (Design case)) old new shown shows can no_fault = of_case case old new shown _ ShowsDesign no_fault can (λ c t is. design_answers (completed c) shown is.answer) shows
 complete (Some (Curves case)) old new shown shows can no_fault = of_case case old new shown _ AreCurvesOf no_fault can (λ c t is. answers shown _ tt is.is) shows
 complete (Some (Audit case network)) old new shown shows can no_fault = audit_answers case network old new shown no_fault shows can
 
@@ -132,5 +139,6 @@ unfolding ShowsCommand HasBadFile
 bad_file None old new shown shows refusal bad no_fault = absurd bad
 bad_file (Some (Targets case)) old new shown shows refusal bad no_fault = of_refused case_file lawful_case case old new shown no_fault refusal _ bad shows
 bad_file (Some (Flow case)) old new shown shows refusal bad no_fault = of_refused case_file lawful_case case old new shown no_fault refusal _ bad shows
+bad_file (Some (Design case)) old new shown shows refusal bad no_fault = of_refused case_file lawful_case case old new shown no_fault refusal _ bad shows
 bad_file (Some (Curves case)) old new shown shows refusal bad no_fault = of_refused case_file lawful_case case old new shown no_fault refusal _ bad shows
 bad_file (Some (Audit case network)) old new shown shows refusal bad no_fault = bad_case_or_network case network old new shown no_fault shows refusal bad

@@ -6,6 +6,7 @@ use Rattle.network_audit.specs.declared.verdict.Verdict.{Verdict}
 use Rattle.network_audit.specs.declared.verdict.Verdict.TheVariants as verdict
 use Rattle.reports.specs.declared.shown.Shown.{Shown}
 use Rattle.reports.specs.declared.shown.Shown.TheVariants.{BadWords, ReadFault, TooLong}
+use Rattle.pinch.specs.Design.{IsDesignAnswer}
 use Rattle.pinch.specs.Flow.{IsFlowAnswer, IsCutAnswer}
 use Rattle.pinch.specs.Network.{IsAuditOf, shown_verdict}
 
@@ -20,6 +21,11 @@ is_plain _ = true
 pub plain_flow : (c : Case) (shown : Shown) → IsFlowAnswer c shown ⊎ IsCutAnswer c shown → is_plain shown ≡ true
 plain_flow c shown (inl flow) = ap is_plain flow.is
 plain_flow c shown (inr cut) = ap is_plain cut.is
+
+-- and so is what `design` shows
+pub plain_design : (c : Case) (shown : Shown) → IsDesignAnswer c shown ⊎ IsCutAnswer c shown → is_plain shown ≡ true
+plain_design c shown (inl design) = ap is_plain design.design.is
+plain_design c shown (inr cut) = ap is_plain cut.is
 
 -- and so is the verdict on a network
 plain_verdict : (c : Case) (network : Network) (reference : ℤ) (v : Verdict) → is_plain (shown_verdict c network reference v) ≡ true

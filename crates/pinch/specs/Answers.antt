@@ -6,11 +6,12 @@ use Rattle.pinch_outside.specs.Shelf.{ShelfState}
 use Rattle.reports.specs.declared.shown.Shown.{Shown}
 use Rattle.reports.specs.declared.shown.Shown.TheVariants.{BadWords}
 use Rattle.pinch.specs.Case.{case_file, AreTargetsOf, AreCurvesOf}
+use Rattle.pinch.specs.Design.{ShowsDesign}
 use Rattle.pinch.specs.Files.{FromText}
 use Rattle.pinch.specs.Flow.{ShowsFlow}
 use Rattle.pinch.specs.Network.{network_file, IsAuditOf}
 use Rattle.pinch.specs.declared.command.Command.{Command}
-use Rattle.pinch.specs.declared.command.Command.TheVariants.{Targets, Flow, Curves, Audit}
+use Rattle.pinch.specs.declared.command.Command.TheVariants.{Targets, Flow, Design, Curves, Audit}
 
 -- what is shown by a command of one file, of the case that it says
 abbrev pub FromCase : List ℕ → ShelfState → ShelfState → Shown → (Case → Shown → Type 0) → Type 0
@@ -27,5 +28,6 @@ unfoldable pub ShowsCommand : Option Command → ShelfState → ShelfState → S
 ShowsCommand None old new shown = (shown ≡ BadWords) × (new ≡ old)
 ShowsCommand (Some (Targets case)) old new shown = FromCase case old new shown AreTargetsOf
 ShowsCommand (Some (Flow case)) old new shown = FromCase case old new shown ShowsFlow
+ShowsCommand (Some (Design case)) old new shown = FromCase case old new shown ShowsDesign
 ShowsCommand (Some (Curves case)) old new shown = FromCase case old new shown AreCurvesOf
 ShowsCommand (Some (Audit case network)) old new shown = FromNetwork case network old new shown

@@ -4,7 +4,7 @@ use Rattle.std.specs.Str.{bytes_eq}
 use Rattle.reports.specs.declared.shown.FileRole.{FileRole}
 use Rattle.reports.specs.declared.shown.FileRole.TheVariants.{Case, Network}
 use Rattle.pinch.specs.declared.command.Command.{Command}
-use Rattle.pinch.specs.declared.command.Command.TheVariants.{Targets, Flow, Curves, Audit}
+use Rattle.pinch.specs.declared.command.Command.TheVariants.{Targets, Flow, Design, Curves, Audit}
 
 -- the name of a file, where the words are just that; it is not empty
 abbrev pub one_file : List (List ℕ) → Option (List ℕ)
@@ -21,6 +21,7 @@ abbrev pub command_of_word : List ℕ → List (List ℕ) → Option Command
 command_of_word word rest =
     if bytes_eq word (codes "targets") then option_map Targets (one_file rest)
     else if bytes_eq word (codes "flow") then option_map Flow (one_file rest)
+    else if bytes_eq word (codes "design") then option_map Design (one_file rest)
     else if bytes_eq word (codes "curves") then option_map Curves (one_file rest)
     else if bytes_eq word (codes "audit") then audit_of rest
     else None
@@ -36,5 +37,6 @@ file_of (Audit case network) Case = Some case
 file_of (Audit case network) Network = Some network
 file_of (Targets case) Case = Some case
 file_of (Flow case) Case = Some case
+file_of (Design case) Case = Some case
 file_of (Curves case) Case = Some case
 file_of command Network = None

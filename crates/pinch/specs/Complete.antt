@@ -9,7 +9,7 @@ use Rattle.pinch.specs.Files.{IsRefused}
 use Rattle.pinch.specs.Format.{Format}
 use Rattle.pinch.specs.Network.{network_file}
 use Rattle.pinch.specs.declared.command.Command.{Command}
-use Rattle.pinch.specs.declared.command.Command.TheVariants.{Targets, Flow, Curves, Audit}
+use Rattle.pinch.specs.declared.command.Command.TheVariants.{Targets, Flow, Design, Curves, Audit}
 
 -- the files are told, and the first of that name is within the limit, with these bytes
 pub record Holds (files : Option (List NamedFile)) (name bytes : List ℕ) : Type 0 where
@@ -37,6 +37,7 @@ unfoldable pub CanAnswer : Option Command → Option (List NamedFile) → Type 0
 CanAnswer None files = ⊥
 CanAnswer (Some (Targets case)) files = HoldsText case_file files case (λ c. ⊤)
 CanAnswer (Some (Flow case)) files = HoldsText case_file files case (λ c. ⊤)
+CanAnswer (Some (Design case)) files = HoldsText case_file files case (λ c. ⊤)
 CanAnswer (Some (Curves case)) files = HoldsText case_file files case (λ c. ⊤)
 CanAnswer (Some (Audit case network)) files = HoldsText case_file files case (λ c. HoldsText (network_file (completed c)) files network (λ n. ⊤))
 
@@ -45,6 +46,7 @@ unfoldable pub HasBadFile : Option Command → Option (List NamedFile) → Shown
 HasBadFile None files shown = ⊥
 HasBadFile (Some (Targets case)) files shown = HoldsFault case_file files case shown
 HasBadFile (Some (Flow case)) files shown = HoldsFault case_file files case shown
+HasBadFile (Some (Design case)) files shown = HoldsFault case_file files case shown
 HasBadFile (Some (Curves case)) files shown = HoldsFault case_file files case shown
 HasBadFile (Some (Audit case network)) files shown =
     HoldsFault case_file files case shown ⊎ HoldsText case_file files case (λ c. HoldsFault (network_file (completed c)) files network shown)

@@ -4,6 +4,7 @@ pub mod Case
 pub mod Causes
 pub mod Command
 pub mod Complete
+pub mod Design
 pub mod Files
 pub mod Flow
 pub mod Format

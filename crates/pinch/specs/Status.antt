@@ -24,6 +24,7 @@ status_of (shows.Targets targets pinches) = Answered
 status_of (shows.Flow case parts flow prices cost) = Answered
 status_of (shows.Stuck case parts cut) = AnsweredNo
 status_of (shows.Curves hot cold net) = Answered
+status_of (shows.Design case network balance) = Answered
 status_of (shows.Accepted case network balance place) = Answered
 status_of (shows.Rejected case network place reason) = AnsweredNo
 status_of (shows.TooFine case network place step) = TooFine

@@ -7,6 +7,7 @@ ghost use Rattle.pinch.specs.Stop.{IfShown};
 use crate::audit::show_audit;
 use crate::case_answer::{show_curves, show_flow, show_targets};
 use crate::command::{Command, read_command};
+use crate::design::show_design;
 use crate::files::{take_case, take_network};
 use crate::stop::Stop;
 use crate::word::Word;
@@ -38,6 +39,10 @@ fn answer_command<S: Shelf>(alloc: Global, shelf: &mut S, command: &Command) -> 
         Command::Flow { case } => {
             let case = take_case(alloc, shelf, case)?;
             Ok(show_flow(alloc, &case)?)
+        }
+        Command::Design { case } => {
+            let case = take_case(alloc, shelf, case)?;
+            Ok(show_design(alloc, &case)?)
         }
         Command::Curves { case } => {
             let case = take_case(alloc, shelf, case)?;

@@ -13,6 +13,8 @@ pub enum Command {
     Targets { case: Word },
     /// `flow CASE`: a heat flow of least cost, with prices that prove it.
     Flow { case: Word },
+    /// `design CASE`: a network that realises a heat flow of least cost.
+    Design { case: Word },
     /// `curves CASE`: the composite curves and the grand composite curve.
     Curves { case: Word },
     /// `audit CASE NETWORK`: whether the network is valid for the completed case.
@@ -35,6 +37,7 @@ fn command_of_word(alloc: Global, word: &str, rest: &[Word]) -> Result<Option<Co
     match word {
         "targets" => Ok(one_file(alloc, rest)?.map(|case| Command::Targets { case })),
         "flow" => Ok(one_file(alloc, rest)?.map(|case| Command::Flow { case })),
+        "design" => Ok(one_file(alloc, rest)?.map(|case| Command::Design { case })),
         "curves" => Ok(one_file(alloc, rest)?.map(|case| Command::Curves { case })),
         "audit" => audit_of(alloc, rest),
         _ => Ok(None),

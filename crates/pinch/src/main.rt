@@ -6,6 +6,7 @@ mod arguments;
 mod audit;
 mod case_answer;
 mod command;
+mod design;
 mod files;
 mod flow;
 mod program;

@@ -33,7 +33,7 @@ pub struct Done {
 
 /// Does what the words say over the files of the shelf, and writes the text of what is shown to
 /// the sink. All room is taken before the first write.
-#[tactic(auto, using(crate::proofs::Causes::causes, crate::proofs::Complete::complete, crate::proofs::Complete::bad_file))]
+#[tactic(auto, using(crate::proofs::Causes::causes, crate::proofs::Complete::complete, crate::proofs::Complete::bad_file, crate::proofs::Printable::printable))]
 pub fn run<R: Threads + Sync, S: Shelf, K: Sink>(
     _rt: &R,
     alloc: Global,

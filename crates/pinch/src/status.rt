@@ -57,6 +57,7 @@ pub fn status_of(shown: &Shown) -> Status
         Shown::Targets { .. }
         | Shown::Flow { .. }
         | Shown::Curves { .. }
+        | Shown::Design { .. }
         | Shown::Accepted { .. } => Status::Answered,
         Shown::Stuck { .. } | Shown::Rejected { .. } => Status::AnsweredNo,
         Shown::TooFine { .. } => Status::TooFine,

@@ -6,6 +6,7 @@ mod audit_steps;
 mod case_rows;
 mod composite_curves;
 mod cuts;
+mod design;
 mod faults;
 mod flow;
 mod least_cost;

@@ -1,6 +1,7 @@
 pub mod Audit
 pub mod Curves
 pub mod Cut
+pub mod Design
 pub mod Flow
 pub mod Lines
 pub mod Refusals

@@ -1,13 +1,21 @@
 -- The text of what is shown.
-use Rattle.std.specs.Prelude.{ℕ, List, codes}
+use Rattle.std.specs.Prelude.{ℕ, List, ⊤, codes}
+use Rattle.stream_case.specs.Case.{IsComplete}
+use Rattle.network_text.specs.Shape.{HasShape}
 use Rattle.reports.specs.Audit.{accepted_text, rejected_text, too_fine_text}
 use Rattle.reports.specs.Curves.{curves_text}
 use Rattle.reports.specs.Cut.{stuck_text}
+use Rattle.reports.specs.Design.{design_text}
 use Rattle.reports.specs.Flow.{flow_text}
 use Rattle.reports.specs.Refusals.{bad_case_text, bad_network_text, file_text}
 use Rattle.reports.specs.Targets.{targets_text}
 use Rattle.reports.specs.declared.shown.Shown.{Shown}
-use Rattle.reports.specs.declared.shown.Shown.TheVariants.{Targets, Flow, Stuck, Curves, Accepted, Rejected, TooFine, BadWords, BadCase, BadNetwork, ReadFault, TooLong}
+use Rattle.reports.specs.declared.shown.Shown.TheVariants.{Targets, Flow, Stuck, Curves, Design, Accepted, Rejected, TooFine, BadWords, BadCase, BadNetwork, ReadFault, TooLong}
+
+-- a design has the shape of a network of its completed case
+unfoldable pub IsPrintable : Shown → Type 0
+IsPrintable (Design case network balance) = IsComplete case × HasShape case network
+IsPrintable other = ⊤
 
 -- what the program prints of what is shown
 unfoldable pub text : Shown → List ℕ
@@ -15,6 +23,7 @@ text (Targets targets pinches) = targets_text targets pinches
 text (Flow case parts flow prices cost) = flow_text case parts flow.transfers prices cost
 text (Stuck case parts cut) = stuck_text case parts cut
 text (Curves hot cold net) = curves_text hot cold net
+text (Design case network balance) = design_text case network balance
 text (Accepted case network balance place) = accepted_text balance place
 text (Rejected case network place reason) = rejected_text case network place reason
 text (TooFine case network place step) = too_fine_text case network place step

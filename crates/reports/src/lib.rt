@@ -3,6 +3,7 @@
 
 mod audit;
 mod cut;
+mod design;
 mod flow;
 mod line;
 mod points;

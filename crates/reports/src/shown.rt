@@ -49,6 +49,12 @@ pub enum Shown {
         cold: Items<Point>,
         net: Items<Point>,
     },
+    /// A network of the completed case, with what it needs and costs.
+    Design {
+        case: Case,
+        network: Network,
+        balance: Balance,
+    },
     /// The network is valid for the completed case: what it needs and costs, and the reference
     /// place of the case as a shifted temperature in tenths of °C.
     Accepted {

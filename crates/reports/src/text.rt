@@ -1,9 +1,10 @@
 //! The texts of what is shown: lines that end with `\n`, with single spaces between fields.
 ghost use Rattle.std.specs.Prelude.{◌≡◌, IfOk};
-ghost use Rattle.reports.specs.Text.{text};
+ghost use Rattle.reports.specs.Text.{IsPrintable, text};
 
 use crate::audit::{accepted_text, rejected_text, too_fine_text};
 use crate::cut::stuck_text;
+use crate::design::design_text;
 use crate::flow::flow_text;
 use crate::points::curves_text;
 use crate::refusal::{WORDS, bad_case_text, bad_network_text, file_text};
@@ -11,9 +12,11 @@ use crate::shown::Shown;
 use crate::targets::targets_text;
 use std::alloc::{AllocError, Global};
 
-/// The exact text of what is shown.
-#[tactic(auto, unfolding(crate::specs::Text::text))]
+/// The exact text of what is shown. A network that is shown as a design has the shape that the
+/// grammar of networks asks for.
+#[tactic(auto, unfolding(crate::specs::Text::IsPrintable, crate::specs::Text::text))]
 pub fn text_of(alloc: Global, shown: &Shown) -> Result<Vec<u8>, AllocError>
+    requires { IsPrintable shown.now }
     ensures { IfOk result (λ printed. printed.items ≡ text shown.now) }
 {
     let text = match shown {
@@ -29,6 +32,11 @@ pub fn text_of(alloc: Global, shown: &Shown) -> Result<Vec<u8>, AllocError>
         Shown::Curves { hot, cold, net } => {
             curves_text(alloc, hot.as_slice(), cold.as_slice(), net.as_slice())?
         }
+        Shown::Design {
+            case,
+            network,
+            balance,
+        } => return design_text(alloc, case, network, balance),
         Shown::Accepted { balance, place, .. } => accepted_text(alloc, balance, *place)?,
         Shown::Rejected {
             case,

@@ -112,15 +112,21 @@ counts_statement : (f : List ℕ) (fs : Statement) → IsPlainStatement (f ∷ f
 unfolding is_statement
 counts_statement f fs plain = let counts = plain.counts in grind (arith, nat_tests)
 
+-- a line comes before those of the rest
+one_line : (f : List ℕ) (fs : Statement) (rest : List ℕ) → All IsPlainField (f ∷ fs) → map fields_of (lines (statement_text (f ∷ fs) ++ rest)) ≡ (f ∷ fs) ∷ map fields_of (lines rest)
+one_line f fs rest plain =
+    let text : statement_text (f ∷ fs) ++ rest ≡ (f ++ blanks_text fs) ++ 10 ∷ rest = append_assoc f (fields_text fs) rest ∙ ap (λ t. f ++ t) (fields_end fs rest) ∙ sym (append_assoc f (blanks_text fs) (10 ∷ rest)) in
+    let line = All-append IsOfLine f (blanks_text fs) (of_line f (All-head IsPlainField f fs plain)) (blanks_line fs (All-tail IsPlainField f fs plain)) in
+    ap (map fields_of) (ap lines text ∙ first_line (f ++ blanks_text fs) rest line) ∙ ap (λ s. s ∷ map fields_of (lines rest)) (fields_back f fs plain)
+
 one_more : (f : List ℕ) (fs : Statement) (rest : List ℕ) → IsPlainStatement (f ∷ fs) → statements_of (statement_text (f ∷ fs) ++ rest) ≡ (f ∷ fs) ∷ statements_of rest
 unfolding statements_of
-one_more f fs rest plain =
-    let text : statement_text (f ∷ fs) ++ rest ≡ (f ++ blanks_text fs) ++ 10 ∷ rest = append_assoc f (fields_text fs) rest ∙ ap (λ t. f ++ t) (fields_end fs rest) ∙ sym (append_assoc f (blanks_text fs) (10 ∷ rest)) in
-    let line = All-append IsOfLine f (blanks_text fs) (of_line f (All-head IsPlainField f fs plain.each)) (blanks_line fs (All-tail IsPlainField f fs plain.each)) in
-    let all = ap lines text ∙ first_line (f ++ blanks_text fs) rest line in
-    ap (λ ls. filter is_statement (map fields_of ls)) all
-    ∙ ap (λ s. filter is_statement (s ∷ map fields_of (lines rest))) (fields_back f fs plain.each)
-    ∙ rw (counts_statement f fs plain) refl
+one_more f fs rest plain = ap (filter is_statement) (one_line f fs rest plain.each) ∙ rw (counts_statement f fs plain) refl
+
+-- a line whose first field begins with `#` is passed over
+pub comment-back : (f : List ℕ) (fs : Statement) (rest : List ℕ) → All IsPlainField (f ∷ fs) → is_statement (f ∷ fs) ≡ false → statements_of (statement_text (f ∷ fs) ++ rest) ≡ statements_of rest
+unfolding statements_of
+comment-back f fs rest plain comment = ap (filter is_statement) (one_line f fs rest plain) ∙ rw comment refl
 
 -- the text of plain statements is read as those statements
 pub statements-back : (ss : List Statement) → All IsPlainStatement ss → statements_of (flat_map statement_text ss) ≡ ss

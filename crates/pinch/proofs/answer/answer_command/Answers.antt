@@ -20,6 +20,14 @@ pub returns-in_ok-show_flow-in-Flow : goal.returns-in_ok-show_flow-in-Flow
 unfolding ShowsCommand
 returns-in_ok-show_flow-in-Flow g c = rw c.in-Flow.is (by_text _ _ c.in_ok-case-in-Flow.ensures.case (refl, c.in_ok-show_flow-in-Flow.ensures))
 
+pub returns-in_err-case-in-Design : goal.returns-in_err-case-in-Design
+unfolding ShowsCommand
+returns-in_err-case-in-Design g c = rw c.in-Design.is (without_case _ _ _ _ _ _ c.from_residual-in_err-case-in-Design.ensures.1 c.in_err-case-in-Design.ensures.stop)
+
+pub returns-in_ok-show_design-in-Design : goal.returns-in_ok-show_design-in-Design
+unfolding ShowsCommand
+returns-in_ok-show_design-in-Design g c = rw c.in-Design.is (by_text _ _ c.in_ok-case-in-Design.ensures.case (refl, c.in_ok-show_design-in-Design.ensures))
+
 pub returns-in_err-case-in-Curves : goal.returns-in_err-case-in-Curves
 unfolding ShowsCommand
 returns-in_err-case-in-Curves g c = rw c.in-Curves.is (without_case _ _ _ _ _ _ c.from_residual-in_err-case-in-Curves.ensures.1 c.in_err-case-in-Curves.ensures.stop)

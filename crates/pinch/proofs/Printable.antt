@@ -1,0 +1,70 @@
+-- All that a command shows can be printed.
+use Rattle.std.proofs.Common.{◌≡◌, ◌⊎◌, inl, inr, ℕ, ℤ, List, Option, Some, None, sym, subst}
+use Rattle.stream_case.specs.declared.case.Case.{Case}
+use Rattle.stream_case.specs.Case.{completed}
+use Rattle.network_text.specs.declared.network.Network.{Network}
+use Rattle.network_audit.specs.declared.verdict.Verdict.{Verdict}
+use Rattle.network_audit.specs.declared.verdict.Verdict.TheVariants as verdict
+use Rattle.pinch_outside.specs.Shelf.{ShelfState}
+use Rattle.reports.specs.Text.{IsPrintable}
+use Rattle.reports.specs.declared.shown.FileRole.{FileRole}
+use Rattle.reports.specs.declared.shown.Shown.{Shown}
+use Rattle.reports.specs.declared.shown.Shown.TheVariants.{BadWords}
+use Rattle.pinch.specs.declared.command.Command.{Command}
+use Rattle.pinch.specs.declared.command.Command.TheVariants.{Targets, Flow, Design, Curves, Audit}
+use Rattle.pinch.specs.Answers.{FromCase, ShowsCommand}
+use Rattle.pinch.specs.Case.{case_file}
+use Rattle.pinch.specs.Design.{IsDesignAnswer}
+use Rattle.pinch.specs.Files.{NoFile, failed, too_long, NoText, no_file, refused, FromText, no_text, by_text}
+use Rattle.pinch.specs.Flow.{IsFlowAnswer, IsCutAnswer}
+use Rattle.pinch.specs.Format.{Format}
+use Rattle.pinch.specs.Network.{network_file, shown_verdict}
+
+of_is : (shown result : Shown) → shown ≡ result → IsPrintable result → IsPrintable shown
+of_is shown result is printable = subst IsPrintable (sym is) printable
+
+of_no_file : (role : FileRole) (name : List ℕ) (old new : ShelfState) (shown : Shown) → NoFile role name old new shown → IsPrintable shown
+unfolding IsPrintable
+of_no_file role name old new shown (failed fault is) = of_is shown _ is tt
+of_no_file role name old new shown (too_long long is) = of_is shown _ is tt
+
+-- what is shown of a text, where faults of its format can be printed
+of_text : {Value Cause : Type 0} (format : Format Value Cause) (name : List ℕ) (old new : ShelfState) (shown : Shown) (work : ShelfState → Value → Type 0)
+    → ((at : ℕ) (why : Cause) → IsPrintable (format.bad at why)) → ((mid : ShelfState) (value : Value) → work mid value → IsPrintable shown)
+    → FromText format name old new shown work → IsPrintable shown
+of_text format name old new shown work bad next (no_text (no_file none)) = of_no_file format.role name old new shown none
+of_text format name old new shown work bad next (no_text (refused bytes whole refusal)) = of_is shown _ refusal.is (bad refusal.at refusal.why)
+of_text format name old new shown work bad next (by_text mid value reads then) = next mid value then
+
+of_case : (name : List ℕ) (old new : ShelfState) (shown : Shown) (Shows : Case → Shown → Type 0)
+    → ((case : Case) → Shows case shown → IsPrintable shown) → FromCase name old new shown Shows → IsPrintable shown
+unfolding IsPrintable
+of_case name old new shown Shows next = of_text case_file name old new shown _ (λ at why. tt) (λ last case is. next case is.1)
+
+of_flow : (c : Case) (shown : Shown) → IsFlowAnswer c shown ⊎ IsCutAnswer c shown → IsPrintable shown
+unfolding IsPrintable
+of_flow c shown (inl flow) = of_is shown _ flow.is tt
+of_flow c shown (inr cut) = of_is shown _ cut.is tt
+
+of_design : (c : Case) (shown : Shown) → IsDesignAnswer c shown ⊎ IsCutAnswer c shown → IsPrintable shown
+unfolding IsPrintable
+of_design c shown (inl answer) = of_is shown _ answer.design.is (answer.design.complete, answer.design.shape)
+of_design c shown (inr cut) = of_is shown _ cut.is tt
+
+of_verdict : (c : Case) (network : Network) (reference : ℤ) (v : Verdict) → IsPrintable (shown_verdict c network reference v)
+unfolding IsPrintable
+of_verdict c network reference (verdict.Accepted balance) = tt
+of_verdict c network reference (verdict.Rejected place reason) = tt
+of_verdict c network reference (verdict.TooFine place step) = tt
+
+pub printable : (command : Option Command) (old new : ShelfState) (shown : Shown) → ShowsCommand command old new shown → IsPrintable shown
+unfolding ShowsCommand IsPrintable
+printable None old new shown shows = of_is shown BadWords shows.0 tt
+printable (Some (Targets case)) old new shown shows = of_case case old new shown _ (λ c is. of_is shown _ is.is tt) shows
+printable (Some (Flow case)) old new shown shows = of_case case old new shown _ (λ c is. of_flow (completed c) shown is.answer) shows
+printable (Some (Design case)) old new shown shows = of_case case old new shown _ (λ c is. of_design (completed c) shown is.answer) shows
+printable (Some (Curves case)) old new shown shows = of_case case old new shown _ (λ c is. of_is shown _ is.is tt) shows
+printable (Some (Audit case network)) old new shown shows =
+    of_text case_file case old new shown _ (λ at why. tt)
+    (λ mid c then. of_text (network_file (completed c)) network mid new shown _ (λ at why. tt)
+    (λ last n is. of_is shown _ is.1.is (of_verdict (completed c) n is.1.reference is.1.verdict)) then) shows

@@ -1,0 +1,113 @@
+use super::support::{FOUR_STREAM, check_answer, check_audit};
+use std::test::Fail;
+
+/// The design of the four-stream table.
+const FOUR_STREAM_DESIGN: &str = "# hot 20000 cold 60000 excess 0 cost 20000
+exchanger E1 HOT C3 20000
+exchanger E2 H2 C1 60000
+exchanger E3 H2 C1 15000
+exchanger E4 H4 C1 7500
+exchanger E5 H2 C1 27500
+exchanger E6 H2 C3 137500
+exchanger E7 H4 C3 82500
+exchanger E8 H2 C1 60000
+exchanger E9 H2 C1 30000
+exchanger E10 H4 C1 30000
+exchanger E11 H4 COLD 15000
+exchanger E12 H4 COLD 45000
+split C1 .1 100 .2
+pass .1 E9 .3
+pass .2 E10 .4
+mix .3 .4 .5
+pass .5 E8 .6
+split .6 .7 1200/11 .8
+split .8 .9 300/11 .10
+split .10 .11 150/11 .12
+pass .7 E2 .13
+pass .9 E3 .14
+pass .11 E4 .15
+pass .12 E5 .16
+mix .13 .14 .17
+mix .17 .15 .18
+mix .18 .16 .19
+end .19
+pass H2 E2 .20
+pass .20 E3 .21
+split .21 .22 50 .23
+pass .22 E5 .24
+pass .23 E6 .25
+mix .24 .25 .26
+split .26 .27 200 .28
+pass .27 E8 .29
+pass .28 E9 .30
+mix .29 .30 .31
+end .31
+split C3 .32 250 .33
+pass .32 E6 .34
+pass .33 E7 .35
+mix .34 .35 .36
+pass .36 E1 .37
+end .37
+pass H4 E4 .38
+pass .38 E7 .39
+split .39 .40 100 .41
+pass .40 E10 .42
+pass .41 E11 .43
+mix .42 .43 .44
+pass .44 E12 .45
+end .45
+";
+
+/// A hot and a cold stream that may not meet.
+const APART: &str =
+    "contribution,,50,,,,\nhot,H,1000,500,10,,\ncold,C,300,700,10,,\nforbid,H,C,,,,\n";
+
+/// Each stream has its own utility, which it meets in two parts.
+const APART_DESIGN: &str = "# hot 4000 cold 5000 excess 4000 cost 4000
+exchanger E1 HOT C 3000
+exchanger E2 HOT C 1000
+exchanger E3 H COLD 2000
+exchanger E4 H COLD 3000
+pass H E3 .1
+pass .1 E4 .2
+end .2
+pass C E2 .3
+pass .3 E1 .4
+end .4
+";
+
+#[test]
+fn designs_of_worked_tables(rt: HostRuntime) -> Result<(), Fail> {
+    let rows = [
+        (FOUR_STREAM, FOUR_STREAM_DESIGN),
+        (APART, APART_DESIGN),
+        // Hot streams only.
+        (
+            "contribution,,50,,,,\nhot,H,1000,500,10,,\n",
+            "# hot 0 cold 5000 excess 0 cost 0\nexchanger E1 H COLD 5000\npass H E1 .1\nend .1\n",
+        ),
+        // Cold streams only.
+        (
+            "contribution,,50,,,,\ncold,C,300,700,10,,\n",
+            "# hot 4000 cold 0 excess 0 cost 4000\nexchanger E1 HOT C 4000\npass C E1 .1\nend .1\n",
+        ),
+        // Two streams that never overlap.
+        (
+            "contribution,,50,,,,\nhot,H,400,300,10,,\ncold,C,600,700,10,,\n",
+            "# hot 1000 cold 1000 excess 0 cost 1000\nexchanger E1 HOT C 1000\n\
+             exchanger E2 H COLD 1000\npass H E2 .1\nend .1\npass C E1 .2\nend .2\n",
+        ),
+    ];
+    for (case, text) in rows {
+        check_answer(&rt, "design", case, 0, text)?;
+    }
+    Ok(())
+}
+
+#[test]
+fn what_has_no_heat_flow_has_no_design(rt: HostRuntime) -> Result<(), Fail> {
+    let case = "contribution,,50,,,,\nhot,H,1000,500,10,,\ncold,C,300,400,10,,\n\
+                cooler,CW,200,0,1000,0,\n";
+    let cut = "infeasible\ncut supply 5000 2000\npart H 950 450\n";
+    check_answer(&rt, "design", case, 1, cut)
+}
