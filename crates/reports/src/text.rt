@@ -29,7 +29,13 @@ pub fn text_of(alloc: Global, shown: &Shown) -> Result<Vec<u8>, AllocError>
         Shown::Curves { hot, cold, net } => {
             curves_text(alloc, hot.as_slice(), cold.as_slice(), net.as_slice())?
         }
-        Shown::Accepted { balance, place, .. } => accepted_text(alloc, balance, *place)?,
+        Shown::Accepted {
+            case,
+            network,
+            balance,
+            place,
+            penalties,
+        } => accepted_text(alloc, case, network, balance, *place, penalties)?,
         Shown::Rejected {
             case,
             network,
