@@ -1,5 +1,5 @@
 -- Files that answer a command are answered, and a file that is refused is told so, unless a call of the shelf is refused.
-use Rattle.std.proofs.Common.{◌≡◌, ◌⊎◌, inl, inr, ◌≤◌, ℕ, ℤ, List, sym, Option, Some, None, length, Ok, ap, subst, arith}
+use Rattle.std.proofs.Common.{◌≡◌, ◌⊎◌, inl, inr, ◌≤◌, ℕ, List, sym, Option, Some, None, length, Ok, ap, subst, arith}
 use Rattle.std.specs.Prelude.{⊤}
 use Rattle.pinch_outside.specs.Faults.{Rose}
 use Rattle.pinch_outside.specs.Shelf.{ShelfState, NamedFile, IsFile, IsFileAbove, KeepsFiles}
@@ -20,7 +20,7 @@ use Rattle.pinch.specs.Design.{IsDesignAnswer, ShowsDesign}
 use Rattle.pinch.specs.Files.{NoFile, failed, too_long, NoText, no_file, refused, FromText, no_text, by_text, IsRefused}
 use Rattle.pinch.specs.Flow.{IsFlowAnswer, IsCutAnswer, ShowsFlow}
 use Rattle.pinch.specs.Format.{Format}
-use Rattle.pinch.specs.Network.{network_file, shown_verdict}
+use Rattle.pinch.specs.Network.{network_file, ShowsVerdict}
 use Rattle.pinch.specs.Status.{status_of, IsAnswered}
 use Rattle.pinch.proofs.Formats.{IsLawful, lawful_case, lawful_network, one_value, one_refusal, not_both}
 
@@ -92,10 +92,10 @@ of_case name old new shown P Shows no_fault held next shows =
     of_held case_file lawful_case name old new shown no_fault P _ _ held (λ mid case keeps holds is. next case holds is.1) shows
 
 -- a verdict is an answer
-verdict_answers : (c : Case) (network : Network) (reference : ℤ) (v : Verdict) → IsAnswered (status_of (shown_verdict c network reference v))
-verdict_answers c network reference (verdict.Accepted balance) = tt
-verdict_answers c network reference (verdict.Rejected place reason) = tt
-verdict_answers c network reference (verdict.TooFine place step) = tt
+verdict_answers : (c : Case) (network : Network) (v : Verdict) (shown : Shown) → ShowsVerdict c network v shown → IsAnswered (status_of shown)
+verdict_answers c network (verdict.Accepted balance) shown accepted = answers shown _ tt accepted.is
+verdict_answers c network (verdict.Rejected place reason) shown is = answers shown _ tt is
+verdict_answers c network (verdict.TooFine place step) shown is = answers shown _ tt is
 
 -- the network of a second file
 module _ (case_name name : List ℕ) (old new : ShelfState) (shown : Shown) (no_fault : Rose old.faults new.faults → ⊥) (shows : FromNetwork case_name name old new shown) where
@@ -106,7 +106,7 @@ module _ (case_name name : List ℕ) (old new : ShelfState) (shown : Shown) (no_
       let c = completed case in
       of_held (network_file c) (lawful_network c) name mid new shown (no_later_fault old mid new keeps no_fault) _ _ _
       (subst (λ files. HoldsText (network_file c) files name (λ n. ⊤)) (sym keeps.files) network)
-      (λ last n later t is. answers shown _ (verdict_answers c n is.1.reference is.1.verdict) is.1.is) then)
+      (λ last n later t is. verdict_answers c n is.1.verdict shown is.1.shows) then)
       shows
 
   bad_network : (refusal : Shown) → HoldsText case_file old.files case_name (λ c. HoldsFault (network_file (completed c)) old.files name refusal) → shown ≡ refusal

@@ -1,5 +1,5 @@
 -- What is shown that blames neither the words nor the shelf.
-use Rattle.std.proofs.Common.{◌≡◌, ◌⊎◌, inl, inr, ◌∙◌, ℤ, Bool, true, false, refl, ap}
+use Rattle.std.proofs.Common.{◌≡◌, ◌⊎◌, inl, inr, ◌∙◌, Bool, true, false, refl, ap}
 use Rattle.stream_case.specs.declared.case.Case.{Case}
 use Rattle.network_text.specs.declared.network.Network.{Network}
 use Rattle.network_audit.specs.declared.verdict.Verdict.{Verdict}
@@ -8,7 +8,7 @@ use Rattle.reports.specs.declared.shown.Shown.{Shown}
 use Rattle.reports.specs.declared.shown.Shown.TheVariants.{BadWords, ReadFault, TooLong}
 use Rattle.pinch.specs.Design.{IsDesignAnswer}
 use Rattle.pinch.specs.Flow.{IsFlowAnswer, IsCutAnswer}
-use Rattle.pinch.specs.Network.{IsAuditOf, shown_verdict}
+use Rattle.pinch.specs.Network.{IsAuditOf, ShowsVerdict}
 
 -- what is shown is a result, or blames what a file says
 abbrev pub is_plain : Shown → Bool
@@ -28,10 +28,10 @@ plain_design c shown (inl design) = ap is_plain design.design.is
 plain_design c shown (inr cut) = ap is_plain cut.is
 
 -- and so is the verdict on a network
-plain_verdict : (c : Case) (network : Network) (reference : ℤ) (v : Verdict) → is_plain (shown_verdict c network reference v) ≡ true
-plain_verdict c network reference (verdict.Accepted balance) = refl
-plain_verdict c network reference (verdict.Rejected place reason) = refl
-plain_verdict c network reference (verdict.TooFine place step) = refl
+plain_verdict : (c : Case) (network : Network) (v : Verdict) (shown : Shown) → ShowsVerdict c network v shown → is_plain shown ≡ true
+plain_verdict c network (verdict.Accepted balance) shown accepted = ap is_plain accepted.is
+plain_verdict c network (verdict.Rejected place reason) shown is = ap is_plain is
+plain_verdict c network (verdict.TooFine place step) shown is = ap is_plain is
 
 pub plain_audit : (c : Case) (network : Network) (shown : Shown) → IsAuditOf c network shown → is_plain shown ≡ true
-plain_audit c network shown audit = ap is_plain audit.is ∙ plain_verdict c network audit.reference audit.verdict
+plain_audit c network shown audit = plain_verdict c network audit.verdict shown audit.shows

@@ -1,5 +1,5 @@
 -- What a network file says for a case, and what is shown of its audit.
-use Rattle.std.specs.Prelude.{◌≡◌, ℤ}
+use Rattle.std.specs.Prelude.{◌≡◌, ℤ, All}
 use Rattle.first_fault.specs.Outcome.{IsOutcome}
 use Rattle.stream_case.specs.declared.case.Case.{Case}
 use Rattle.fractions.specs.Rationals.{IsAtMost, rational_zero}
@@ -11,8 +11,11 @@ use Rattle.network_text.specs.declared.network.Network.{Network}
 use Rattle.network_audit.specs.Audit.{IfAccepted, Says}
 use Rattle.network_audit.specs.Findings.{IsVerdict}
 use Rattle.network_audit.specs.Valid.{IsValidNetwork}
+use Rattle.network_audit.specs.declared.verdict.Balance.{Balance}
 use Rattle.network_audit.specs.declared.verdict.Verdict.{Verdict}
 use Rattle.network_audit.specs.declared.verdict.Verdict.TheVariants as verdict
+use Rattle.penalties.specs.Answers.{IfListed, IsNotNegative, ListsPenalties, sum_of}
+use Rattle.penalties.specs.declared.list.PenaltyList.{PenaltyList}
 use Rattle.reports.specs.declared.shown.FileRole.TheVariants.{Network as NetworkFile}
 use Rattle.reports.specs.declared.shown.Shown.{Shown}
 use Rattle.reports.specs.declared.shown.Shown.TheVariants.{Accepted, Rejected, TooFine, BadNetwork}
@@ -22,11 +25,22 @@ use Rattle.pinch.specs.Format.{Format}
 abbrev pub network_file : Case → Format Network NetWhy
 network_file case = record { role = NetworkFile; Gives = λ bytes. IsOutcome (grammar case) (statements_of bytes); bad = BadNetwork }
 
--- how a verdict on a network is shown; one that is accepted beside the reference place of its case
-abbrev pub shown_verdict : Case → Network → ℤ → Verdict → Shown
-shown_verdict case network reference (verdict.Accepted balance) = Accepted case network balance reference
-shown_verdict case network reference (verdict.Rejected place reason) = Rejected case network place reason
-shown_verdict case network reference (verdict.TooFine place step) = TooFine case network place step
+-- a network that is accepted is shown with its balance, the reference place of its case, and its penalties, unless they are too fine: none is
+-- negative, and together they are the excess of the balance
+pub record IsAccepted (case : Case) (network : Network) (balance : Balance) (shown : Shown) : Type 0 where
+  pub reference : ℤ
+  pub is_reference : IsReferencePlace case.streams reference
+  pub penalties : PenaltyList
+  pub lists : ListsPenalties case network penalties
+  pub not_negative : IfListed penalties (All IsNotNegative)
+  pub sum : IfListed penalties (λ listed. sum_of listed ≡ balance.excess)
+  pub is : shown ≡ Accepted case network balance reference penalties
+
+-- how a verdict on a network is shown
+abbrev pub ShowsVerdict : Case → Network → Verdict → Shown → Type 0
+ShowsVerdict case network (verdict.Accepted balance) shown = IsAccepted case network balance shown
+ShowsVerdict case network (verdict.Rejected place reason) shown = shown ≡ Rejected case network place reason
+ShowsVerdict case network (verdict.TooFine place step) shown = shown ≡ TooFine case network place step
 
 -- the verdict on a network of a completed case: its finding, or its balance where it has none. One that is accepted is valid, and needs no less
 -- hot utility than the hot target; one that is rejected is not valid
@@ -35,6 +49,4 @@ pub record IsAuditOf (case : Case) (network : Network) (shown : Shown) : Type 0 
   pub is_verdict : IsVerdict case network verdict
   pub valid : Says verdict (IsValidNetwork case network)
   pub excess : IfAccepted verdict (λ balance. IsAtMost rational_zero balance.excess)
-  pub reference : ℤ
-  pub is_reference : IsReferencePlace case.streams reference
-  pub is : shown ≡ shown_verdict case network reference verdict
+  pub shows : ShowsVerdict case network verdict shown

@@ -12,6 +12,7 @@ mod flow;
 mod least_cost;
 mod limits;
 mod network_lines;
+mod penalty_lines;
 mod support;
 mod targets;
 mod words;

@@ -1,17 +1,21 @@
 -- The texts of what an audit says of a network.
-use Rattle.std.specs.Prelude.{ℕ, ℤ, List, [], ◌∷◌, ◌++◌, codes}
+use Rattle.std.specs.Prelude.{ℕ, ℤ, List, [], ◌∷◌, ◌++◌, slice_index_or, codes}
+use Rattle.std.specs.List.{flat_map}
 use Rattle.std.specs.Fmt.{decimal}
 use Rattle.stream_case.specs.declared.case.Case.{Case}
 use Rattle.stream_case.specs.declared.source.Source.TheVariants.{Stream as of_stream, Utility as of_utility}
 use Rattle.stream_case.specs.Case.{source_name}
 use Rattle.fractions.specs.Rationals.{Rational, fraction_text}
 use Rattle.network_text.specs.declared.network.Network.{Network}
-use Rattle.network_printer.specs.Printed.{exchanger_name}
+use Rattle.network_printer.specs.Printed.{exchanger_name, exchanger_names}
 use Rattle.network_audit.specs.declared.findings.Place.{Place}
 use Rattle.network_audit.specs.declared.findings.Place.TheVariants as place
 use Rattle.network_audit.specs.declared.findings.Reason.{Reason}
 use Rattle.network_audit.specs.declared.findings.Reason.TheVariants as reason
 use Rattle.network_audit.specs.declared.verdict.Balance.{Balance}
+use Rattle.penalties.specs.declared.list.Penalty.{Penalty}
+use Rattle.penalties.specs.declared.list.PenaltyList.{PenaltyList}
+use Rattle.penalties.specs.declared.list.PenaltyList.TheVariants as list
 use Rattle.reports.specs.Lines.{line}
 
 -- line LINE, stream NAME, exchanger NAME, utility NAME or balance
@@ -46,10 +50,6 @@ balance_lines balance =
     fraction_line (codes "hot") balance.hot ++ fraction_line (codes "cold") balance.cold
     ++ fraction_line (codes "excess") balance.excess ++ fraction_line (codes "cost") balance.cost
 
--- a network that is accepted, and the reference place of its case
-abbrev pub accepted_text : Balance → ℤ → List ℕ
-accepted_text balance reference = codes "accepted\n" ++ balance_lines balance ++ line (codes "place") reference
-
 -- rejected PLACE REASON
 abbrev pub rejected_text : Case → Network → Place → Reason → List ℕ
 rejected_text c network place reason = codes "rejected " ++ (place_text c network place ++ 32 ∷ (reason_text reason ++ 10 ∷ []))
@@ -57,3 +57,25 @@ rejected_text c network place reason = codes "rejected " ++ (place_text c networ
 -- too fine PLACE step STEP
 abbrev pub too_fine_text : Case → Network → Place → ℕ → List ℕ
 too_fine_text c network place step = codes "too fine " ++ (place_text c network place ++ (codes " step " ++ (decimal step ++ 10 ∷ [])))
+
+-- exchanger NAME, by the names of the exchangers, or mix LINE; nothing else has a penalty
+abbrev pub loss_text : List (List ℕ) → Place → List ℕ
+loss_text names (place.Exchanger index) = codes "exchanger " ++ slice_index_or names index []
+loss_text names (place.Line number) = codes "mix " ++ decimal number
+loss_text names (place.Stream index) = []
+loss_text names (place.Utility index) = []
+loss_text names place.Balance = []
+
+-- penalty exchanger NAME VALUE, or penalty mix LINE VALUE
+abbrev pub penalty_line : List (List ℕ) → Penalty → List ℕ
+penalty_line names penalty = fraction_line (codes "penalty " ++ loss_text names penalty.place) penalty.value
+
+-- each penalty in order, or one line that they are too fine: penalties too fine PLACE step STEP
+abbrev pub penalty_lines : Case → Network → PenaltyList → List ℕ
+penalty_lines c network (list.Listed penalties) = flat_map (penalty_line (exchanger_names network)) penalties
+penalty_lines c network (list.TooFine place step) = codes "penalties " ++ too_fine_text c network place step
+
+-- a network that is accepted, the reference place of its case, and the penalties
+abbrev pub accepted_text : Case → Network → Balance → ℤ → PenaltyList → List ℕ
+accepted_text c network balance reference penalties =
+    codes "accepted\n" ++ balance_lines balance ++ line (codes "place") reference ++ penalty_lines c network penalties

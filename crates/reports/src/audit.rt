@@ -1,7 +1,8 @@
 //! The texts of what an audit says of a network.
-ghost use Rattle.std.specs.Prelude.{◌≡◌, IfOk, string_bytes};
+ghost use Rattle.std.specs.Prelude.{◌≡◌, [], IfOk, slice_index_or, string_bytes};
+ghost use Rattle.std.specs.List.{flat_map};
 ghost use Rattle.network_printer.specs.Printed.{exchanger_name};
-ghost use Rattle.reports.specs.Audit.{accepted_text, balance_lines, fraction_line, measured_text, place_text, reason_text, rejected_text, too_fine_text};
+ghost use Rattle.reports.specs.Audit.{accepted_text, balance_lines, fraction_line, loss_text, measured_text, penalty_line, penalty_lines, place_text, reason_text, rejected_text, too_fine_text};
 
 use crate::line::line;
 use crate::source::source_name;
@@ -9,16 +10,25 @@ use fractions::Frac;
 use network_audit::{Balance, Place, Reason};
 use network_printer::exchanger_names;
 use network_text::Network;
+use penalties::{Penalty, PenaltyList};
 use std::alloc::{AllocError, Global};
-use stream_case::{Case, Source};
+use stream_case::{Case, Name, Source};
 
-/// A network that is accepted: its balance, and the reference place of its case.
-pub fn accepted_text(alloc: Global, balance: &Balance, reference: i32) -> Result<String, AllocError>
-    ensures { IfOk result (λ text. string_bytes text ≡ accepted_text balance.now reference) }
+/// A network that is accepted: its balance, the reference place of its case, and its penalties.
+pub fn accepted_text(
+    alloc: Global,
+    case: &Case,
+    network: &Network,
+    balance: &Balance,
+    reference: i32,
+    penalties: &PenaltyList,
+) -> Result<String, AllocError>
+    ensures { IfOk result (λ text. string_bytes text ≡ accepted_text case.now network.now balance.now reference penalties.now) }
 {
     let mut text = String::from_str(alloc, "accepted\n")?;
     text.push_str(&balance_lines(alloc, balance)?)?;
     text.push_str(&line(alloc, "place", i128::from(reference))?)?;
+    text.push_str(&penalty_lines(alloc, case, network, penalties)?)?;
     Ok(text)
 }
 
@@ -62,6 +72,56 @@ fn balance_lines(alloc: Global, balance: &Balance) -> Result<String, AllocError>
     Ok(text)
 }
 
+/// A line for each penalty, or one that they are too fine.
+fn penalty_lines(
+    alloc: Global,
+    case: &Case,
+    network: &Network,
+    penalties: &PenaltyList,
+) -> Result<String, AllocError>
+    ensures { IfOk result (λ text. string_bytes text ≡ penalty_lines case.now network.now penalties.now) }
+{
+    match penalties {
+        PenaltyList::Listed(listed) => {
+            // All names at once, so that the time is linear in the network.
+            let names = exchanger_names(alloc, network)?;
+            listed_lines(alloc, names.as_slice(), listed.as_slice())
+        }
+        PenaltyList::TooFine { place, step } => {
+            let text = too_fine_text(alloc, case, network, *place, *step)?;
+            format!(in alloc; "penalties {text}")
+        }
+    }
+}
+
+fn listed_lines(alloc: Global, names: &[Name], penalties: &[Penalty]) -> Result<String, AllocError>
+    ensures { IfOk result (λ text. string_bytes text ≡ flat_map (penalty_line names.now) penalties.now) }
+{
+    let mut text = String::new(alloc);
+    for penalty in penalties {
+        text.push_str(&penalty_line(alloc, names, penalty)?)?;
+    }
+    Ok(text)
+}
+
+fn penalty_line(alloc: Global, names: &[Name], penalty: &Penalty) -> Result<String, AllocError>
+    ensures { IfOk result (λ text. string_bytes text ≡ penalty_line names.now penalty.now) }
+{
+    let word = format!(in alloc; "penalty {}", loss_text(alloc, names, penalty.place)?)?;
+    fraction_line(alloc, &word, penalty.value)
+}
+
+/// What has a penalty: an exchanger by its name, or a mix by its line.
+fn loss_text(alloc: Global, names: &[Name], place: Place) -> Result<String, AllocError>
+    ensures { IfOk result (λ text. string_bytes text ≡ loss_text names.now place) }
+{
+    match place {
+        Place::Exchanger(index) => { format!(in alloc; "exchanger {}", name_at(names, index)) }
+        Place::Line(number) => format!(in alloc; "mix {number}"),
+        Place::Stream(_) | Place::Utility(_) | Place::Balance => Ok(String::new(alloc)),
+    }
+}
+
 /// A line of a word and a fraction.
 fn fraction_line(alloc: Global, word: &str, number: Frac) -> Result<String, AllocError>
     ensures { IfOk result (λ text. string_bytes text ≡ fraction_line word.now number) }
@@ -98,9 +158,16 @@ fn exchanger_name(alloc: Global, network: &Network, index: u32) -> Result<String
     ensures { IfOk result (λ text. string_bytes text ≡ exchanger_name network.now index) }
 {
     let names = exchanger_names(alloc, network)?;
-    match names.as_slice().get(index as usize) {
-        Some(name) => String::from_str(alloc, name.as_str()),
-        None => Ok(String::new(alloc)),
+    String::from_str(alloc, name_at(names.as_slice(), index))
+}
+
+/// The name at an index; nothing past the end.
+fn name_at(names: &[Name], index: u32) -> &str
+    ensures { result.now ≡ slice_index_or names.now index [] }
+{
+    match names.get(index as usize) {
+        Some(name) => name.as_str(),
+        None => "",
     }
 }
 

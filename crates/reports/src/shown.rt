@@ -6,6 +6,7 @@ use grid::Parts;
 use heat_flow::{Cut, Flow, Prices};
 use network_audit::{Balance, Place, Reason};
 use network_text::{NetWhy, Network};
+use penalties::PenaltyList;
 use problem_table::Target;
 use stream_case::{Case, Items};
 
@@ -55,13 +56,14 @@ pub enum Shown {
         network: Network,
         balance: Balance,
     },
-    /// The network is valid for the completed case: what it needs and costs, and the reference
-    /// place of the case as a shifted temperature in tenths of °C.
+    /// The network is valid for the completed case: what it needs and costs, the reference place
+    /// of the case as a shifted temperature in tenths of °C, and where it loses its heat.
     Accepted {
         case: Case,
         network: Network,
         balance: Balance,
         place: i32,
+        penalties: PenaltyList,
     },
     /// The network is not valid for the completed case: where it fails first, and why.
     Rejected {

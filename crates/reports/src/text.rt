@@ -37,7 +37,13 @@ pub fn text_of(alloc: Global, shown: &Shown) -> Result<Vec<u8>, AllocError>
             network,
             balance,
         } => return design_text(alloc, case, network, balance),
-        Shown::Accepted { balance, place, .. } => accepted_text(alloc, balance, *place)?,
+        Shown::Accepted {
+            case,
+            network,
+            balance,
+            place,
+            penalties,
+        } => accepted_text(alloc, case, network, balance, *place, penalties)?,
         Shown::Rejected {
             case,
             network,
