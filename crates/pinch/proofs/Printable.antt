@@ -1,5 +1,5 @@
 -- All that a command shows can be printed.
-use Rattle.std.proofs.Common.{◌≡◌, ◌⊎◌, inl, inr, ℕ, ℤ, List, Option, Some, None, sym, subst}
+use Rattle.std.proofs.Common.{◌≡◌, ◌⊎◌, inl, inr, ℕ, List, Option, Some, None, sym, subst}
 use Rattle.stream_case.specs.declared.case.Case.{Case}
 use Rattle.stream_case.specs.Case.{completed}
 use Rattle.network_text.specs.declared.network.Network.{Network}
@@ -18,7 +18,7 @@ use Rattle.pinch.specs.Design.{IsDesignAnswer}
 use Rattle.pinch.specs.Files.{NoFile, failed, too_long, NoText, no_file, refused, FromText, no_text, by_text}
 use Rattle.pinch.specs.Flow.{IsFlowAnswer, IsCutAnswer}
 use Rattle.pinch.specs.Format.{Format}
-use Rattle.pinch.specs.Network.{network_file, shown_verdict}
+use Rattle.pinch.specs.Network.{network_file, ShowsVerdict}
 
 of_is : (shown result : Shown) → shown ≡ result → IsPrintable result → IsPrintable shown
 of_is shown result is printable = subst IsPrintable (sym is) printable
@@ -51,11 +51,11 @@ unfolding IsPrintable
 of_design c shown (inl answer) = of_is shown _ answer.design.is (answer.design.complete, answer.design.shape)
 of_design c shown (inr cut) = of_is shown _ cut.is tt
 
-of_verdict : (c : Case) (network : Network) (reference : ℤ) (v : Verdict) → IsPrintable (shown_verdict c network reference v)
+of_verdict : (c : Case) (network : Network) (v : Verdict) (shown : Shown) → ShowsVerdict c network v shown → IsPrintable shown
 unfolding IsPrintable
-of_verdict c network reference (verdict.Accepted balance) = tt
-of_verdict c network reference (verdict.Rejected place reason) = tt
-of_verdict c network reference (verdict.TooFine place step) = tt
+of_verdict c network (verdict.Accepted balance) shown shows = of_is shown _ shows.is tt
+of_verdict c network (verdict.Rejected place reason) shown is = of_is shown _ is tt
+of_verdict c network (verdict.TooFine place step) shown is = of_is shown _ is tt
 
 pub printable : (command : Option Command) (old new : ShelfState) (shown : Shown) → ShowsCommand command old new shown → IsPrintable shown
 unfolding ShowsCommand IsPrintable
@@ -67,4 +67,4 @@ printable (Some (Curves case)) old new shown shows = of_case case old new shown 
 printable (Some (Audit case network)) old new shown shows =
     of_text case_file case old new shown _ (λ at why. tt)
     (λ mid c then. of_text (network_file (completed c)) network mid new shown _ (λ at why. tt)
-    (λ last n is. of_is shown _ is.1.is (of_verdict (completed c) n is.1.reference is.1.verdict)) then) shows
+    (λ last n is. of_verdict (completed c) n is.1.verdict shown is.1.shows) then) shows

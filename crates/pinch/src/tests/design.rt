@@ -58,6 +58,35 @@ pass .44 E12 .45
 end .45
 ";
 
+/// Its audit: nothing is lost anywhere.
+const FOUR_STREAM_AUDIT: &str = "accepted
+hot 20000
+cold 60000
+excess 0
+cost 20000
+place 850
+penalty exchanger E1 0
+penalty exchanger E2 0
+penalty exchanger E3 0
+penalty exchanger E4 0
+penalty exchanger E5 0
+penalty exchanger E6 0
+penalty exchanger E7 0
+penalty exchanger E8 0
+penalty exchanger E9 0
+penalty exchanger E10 0
+penalty exchanger E11 0
+penalty exchanger E12 0
+penalty mix 16 0
+penalty mix 25 0
+penalty mix 26 0
+penalty mix 27 0
+penalty mix 34 0
+penalty mix 38 0
+penalty mix 43 0
+penalty mix 51 0
+";
+
 /// A hot and a cold stream that may not meet.
 const APART: &str =
     "contribution,,50,,,,\nhot,H,1000,500,10,,\ncold,C,300,700,10,,\nforbid,H,C,,,,\n";
@@ -110,4 +139,23 @@ fn what_has_no_heat_flow_has_no_design(rt: HostRuntime) -> Result<(), Fail> {
                 cooler,CW,200,0,1000,0,\n";
     let cut = "infeasible\ncut supply 5000 2000\npart H 950 450\n";
     check_answer(&rt, "design", case, 1, cut)
+}
+
+#[test]
+fn designs_are_accepted(rt: HostRuntime) -> Result<(), Fail> {
+    let rows = [
+        (FOUR_STREAM, FOUR_STREAM_DESIGN, FOUR_STREAM_AUDIT),
+        // The hot utility does what the hot stream may not.
+        (
+            APART,
+            APART_DESIGN,
+            "accepted\nhot 4000\ncold 5000\nexcess 4000\ncost 4000\nplace 950\n\
+             penalty exchanger E1 3000\npenalty exchanger E2 1000\npenalty exchanger E3 0\n\
+             penalty exchanger E4 0\n",
+        ),
+    ];
+    for (case, network, text) in rows {
+        check_audit(&rt, case, network, 0, text)?;
+    }
+    Ok(())
 }
