@@ -9,6 +9,7 @@ mod command;
 mod files;
 mod flow;
 mod program;
+mod site_answer;
 mod status;
 mod stop;
 #[cfg(test)]

@@ -3,6 +3,8 @@ pub mod Curves
 pub mod Cut
 pub mod Flow
 pub mod Lines
+pub mod Names
 pub mod Refusals
+pub mod Site
 pub mod Targets
 pub mod Text

@@ -4,22 +4,26 @@ use Rattle.reports.specs.Audit.{accepted_text, rejected_text, too_fine_text}
 use Rattle.reports.specs.Curves.{curves_text}
 use Rattle.reports.specs.Cut.{stuck_text}
 use Rattle.reports.specs.Flow.{flow_text}
-use Rattle.reports.specs.Refusals.{bad_case_text, bad_network_text, file_text}
+use Rattle.reports.specs.Names.{case_names}
+use Rattle.reports.specs.Refusals.{bad_case_text, bad_network_text, bad_site_text, file_text}
+use Rattle.reports.specs.Site.{total_site_text}
 use Rattle.reports.specs.Targets.{targets_text}
 use Rattle.reports.specs.declared.shown.Shown.{Shown}
-use Rattle.reports.specs.declared.shown.Shown.TheVariants.{Targets, Flow, Stuck, Curves, Accepted, Rejected, TooFine, BadWords, BadCase, BadNetwork, ReadFault, TooLong}
+use Rattle.reports.specs.declared.shown.Shown.TheVariants.{Targets, Flow, Stuck, Curves, Accepted, Rejected, TooFine, SiteShown, BadWords, BadCase, BadSite, BadNetwork, ReadFault, TooLong}
 
 -- what the program prints of what is shown
 unfoldable pub text : Shown → List ℕ
 text (Targets targets pinches) = targets_text targets pinches
 text (Flow case parts flow prices cost) = flow_text case parts flow.transfers prices cost
-text (Stuck case parts cut) = stuck_text case parts cut
+text (Stuck case parts cut) = stuck_text (case_names case) parts cut
 text (Curves hot cold net) = curves_text hot cold net
 text (Accepted case network balance place) = accepted_text balance place
 text (Rejected case network place reason) = rejected_text case network place reason
 text (TooFine case network place step) = too_fine_text case network place step
+text (SiteShown site parts sinks sources answer) = total_site_text site parts sinks sources answer
 text BadWords = codes "words: targets flow curves design vertical audit site sweep sample certify prices\n"
 text (BadCase row why) = bad_case_text row why
+text (BadSite row why) = bad_site_text row why
 text (BadNetwork line why) = bad_network_text line why
 text (TooLong file) = file_text (codes "too long") file
 text (ReadFault file) = file_text (codes "read fault") file
