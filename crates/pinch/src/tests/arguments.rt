@@ -1,9 +1,13 @@
-use super::support::{FOUR_STREAM, FOUR_STREAM_TARGETS, WORDS, shelf_of};
+use super::support::{FOUR_STREAM, FOUR_STREAM_TARGETS, WORDS, shelf_of, sink_of};
 use crate::arguments::{collect_words, run_arguments};
-use pinch_outside::MemorySink;
-use std::env::{self, FillError};
+use pinch_outside::{MemoryShelf, MemorySink};
+use std::alloc::{AllocError, Global};
+use std::env::{self, Args, FillError};
+use std::io;
+use std::process::ExitCode;
 use std::rt::Env;
 use std::test::Fail;
+use std::thread::Threads;
 
 /// The arguments of a program, from its name on, with a bar between each two.
 #[derive(Drop)]
@@ -32,9 +36,18 @@ impl Env for Arguments<'_> {
     }
 }
 
+/// The words of these arguments, with a bar behind each.
+fn words_text(alloc: Global, line: &[u8]) -> Result<String, AllocError> {
+    let mut text = String::new(alloc);
+    for word in collect_words(alloc, env::args(&(Arguments { line }, alloc)))?.as_slice() {
+        text.push_str(word.as_str())?;
+        text.push_str("|")?;
+    }
+    Ok(text)
+}
+
 #[test]
 fn words_are_the_arguments_behind_the_name(rt: HostRuntime) -> Result<(), Fail> {
-    let alloc = rt.alloc();
     // The arguments, and the words with a bar behind each.
     let rows = [
         (b"pinch".as_slice(), ""),
@@ -44,21 +57,39 @@ fn words_are_the_arguments_behind_the_name(rt: HostRuntime) -> Result<(), Fail> 
         (b"pinch|targets|\xff".as_slice(), ""),
         (b"pinch|\xff|targets".as_slice(), ""),
     ];
-    for (line, wanted) in &rows {
-        let words = collect_words(alloc, env::args(&(Arguments { line }, alloc)))?;
-        let mut text = String::new(alloc);
-        for word in words.as_slice() {
-            text.push_str(word.as_str())?;
-            text.push_str("|")?;
-        }
-        assert_eq!(rt; text.as_str(), *wanted);
+    for (line, wanted) in rows {
+        assert_eq!(rt; words_text(rt.alloc(), line)?.as_str(), wanted);
     }
     Ok(())
 }
 
+/// The exit code of the program. This one call says nothing of what it answers, so that no test is
+/// proved over the clauses of `run_arguments`.
+fn code_of<R: Threads + Sync>(
+    rt: &R,
+    alloc: Global,
+    texts: io::Result<Args>,
+    shelf: &mut MemoryShelf,
+    sink: &mut MemorySink,
+) -> ExitCode {
+    run_arguments(rt, alloc, texts, shelf, sink)
+}
+
+/// The exit code as it is printed, and what was written, for these arguments.
+fn end_of<R: Threads + Sync + AllocGlobal>(
+    rt: &R,
+    line: &[u8],
+) -> Result<(String, Vec<u8>), AllocError> {
+    let alloc = rt.alloc();
+    let texts = env::args(&(Arguments { line }, alloc));
+    let mut shelf = shelf_of(alloc, &[("plant.csv", FOUR_STREAM.as_bytes())], &[])?;
+    let mut sink = sink_of(alloc, &[])?;
+    let code = code_of(rt, alloc, texts, &mut shelf, &mut sink);
+    Ok((format!(in alloc; "{code:?}")?, sink.written))
+}
+
 #[test]
 fn the_exit_code_is_the_status(rt: HostRuntime) -> Result<(), Fail> {
-    let alloc = rt.alloc();
     let rows = [
         (
             b"pinch|targets|plant.csv".as_slice(),
@@ -73,15 +104,11 @@ fn the_exit_code_is_the_status(rt: HostRuntime) -> Result<(), Fail> {
         (b"pinch".as_slice(), 2, WORDS),
         (b"pinch|targets|\xff".as_slice(), 2, WORDS),
     ];
-    for (line, status, text) in &rows {
-        let texts = env::args(&(Arguments { line }, alloc));
-        let bytes = FOUR_STREAM.as_bytes().to_vec(alloc)?;
-        let mut shelf = shelf_of(alloc, "plant.csv", bytes, &[])?;
-        let mut sink = MemorySink::new(alloc, 1000, 1000, Vec::new(alloc))?;
-        let code = run_arguments(&rt, alloc, texts, &mut shelf, &mut sink);
-        let wanted = format!(in alloc; "ExitCode(unix_exit_status({status}))")?;
-        assert_eq!(rt; format!(in alloc; "{code:?}")?.as_str(), wanted.as_str());
-        assert_eq!(rt; sink.written.as_slice(), text.as_bytes());
+    for (line, status, text) in rows {
+        let (code, written) = end_of(&rt, line)?;
+        let wanted = format!(in rt.alloc(); "ExitCode(unix_exit_status({status}))")?;
+        assert_eq!(rt; code.as_str(), wanted.as_str());
+        assert_eq!(rt; written.as_slice(), text.as_bytes());
     }
     Ok(())
 }

@@ -43,12 +43,12 @@ fn the_second_step_of_a_pass_is_too_fine(rt: HostRuntime) -> Result<(), Fail> {
 #[test]
 fn the_second_step_of_a_second_utility_is_too_fine(rt: HostRuntime) -> Result<(), Fail> {
     let alloc = rt.alloc();
-    let network = "exchanger E1 G W1 100
-exchanger E2 G W2 1/281474976710655
-exchanger E3 G W3 112589990684261999/281474976710655
-exchanger E4 H W1 100
-exchanger E5 H W2 1/281474976710656
-exchanger E6 H W3 112589990684262399/281474976710656
+    let network = "exchanger E1 G River 100
+exchanger E2 G Tower 1/281474976710655
+exchanger E3 G Brine 112589990684261999/281474976710655
+exchanger E4 H River 100
+exchanger E5 H Tower 1/281474976710656
+exchanger E6 H Brine 112589990684262399/281474976710656
 pass G E1 a
 pass a E2 b
 pass b E3 c
@@ -60,17 +60,17 @@ end f
 ";
     // The most of the first utility, which takes 200 W.
     let rows = [
-        (200, 9, "too fine utility W2 step 2\n"),
+        (200, 9, "too fine utility Tower step 2\n"),
         (
             199,
             1,
-            "rejected utility W1 UtilityRange found 200 wanted 199\n",
+            "rejected utility River UtilityRange found 200 wanted 199\n",
         ),
     ];
     for (most, status, text) in rows {
         let case = format!(in alloc;
             "contribution,,50,,,,\nhot,G,1000,500,1,,\nhot,H,1000,500,1,,\n\
-             cooler,W1,300,0,{most},0,\ncooler,W2,300,0,1000,0,\ncooler,W3,300,0,1000,0,\n"
+             cooler,River,300,0,{most},0,\ncooler,Tower,300,0,1000,0,\ncooler,Brine,300,0,1000,0,\n"
         )?;
         check_audit(&rt, case.as_str(), network, status, text)?;
     }
@@ -84,12 +84,12 @@ fn a_step_of_the_balance_is_too_fine(rt: HostRuntime) -> Result<(), Fail> {
         (
             "contribution,,50,,,,\nhot,G,1000,500,1,,\nhot,H,1000,500,1,,\n\
              cold,C,300,800,1,,\ncold,D,300,800,1,,\n\
-             heater,S1,2000,0,1000,1,\nheater,S2,2000,0,1000,1,\n\
-             cooler,W1,100,0,1000,0,\ncooler,W2,100,0,1000,0,\n",
+             heater,Steam,2000,0,1000,1,\nheater,Furnace,2000,0,1000,1,\n\
+             cooler,River,100,0,1000,0,\ncooler,Tower,100,0,1000,0,\n",
             "exchanger E1 G C 140737488355327499/281474976710655\n\
-             exchanger E2 G W1 1/281474976710655\nexchanger E3 S1 C 1/281474976710655\n\
+             exchanger E2 G River 1/281474976710655\nexchanger E3 Steam C 1/281474976710655\n\
              exchanger E4 H D 140737488355327999/281474976710656\n\
-             exchanger E5 H W2 1/281474976710656\nexchanger E6 S2 D 1/281474976710656\n\
+             exchanger E5 H Tower 1/281474976710656\nexchanger E6 Furnace D 1/281474976710656\n\
              pass G E1 a\npass a E2 b\nend b\npass C E1 c\npass c E3 d\nend d\n\
              pass H E4 e\npass e E5 f\nend f\npass D E4 g\npass g E6 h\nend h\n",
             "too fine balance step 2\n",

@@ -1,6 +1,4 @@
-use super::support::{FOUR_STREAM, FOUR_STREAM_TARGETS, shelf_of, shelf_of_two, words_of};
-use crate::run;
-use pinch_outside::MemorySink;
+use super::support::{FOUR_STREAM, FOUR_STREAM_TARGETS, Fails, outcome_of, outcome_under};
 use std::process::Abort;
 use std::test::Fail;
 use std::thread::Threads;
@@ -9,7 +7,6 @@ const LONGEST_FILE: usize = 8_388_608;
 
 #[test]
 fn faults_of_shelf_and_sink_are_told(rt: HostRuntime) -> Result<(), Fail> {
-    let alloc = rt.alloc();
     // The name that is asked for, and the calls of the shelf and of the sink that fail.
     let rows: [(&str, &[u64], &[u64], u8, &str); 6] = [
         ("plant.csv", &[], &[], 0, FOUR_STREAM_TARGETS),
@@ -22,21 +19,14 @@ fn faults_of_shelf_and_sink_are_told(rt: HostRuntime) -> Result<(), Fail> {
         // A take and the first write.
         ("plant.csv", &[2], &[1], 7, ""),
     ];
-    for (name, shelf_fails, sink_fails, status, written) in rows {
-        let words = words_of(alloc, &["targets", name])?;
-        let bytes = FOUR_STREAM.as_bytes().to_vec(alloc)?;
-        let mut shelf = shelf_of(alloc, "plant.csv", bytes, shelf_fails)?;
-        let mut sink = MemorySink::new(alloc, 1000, 5, sink_fails.to_vec(alloc)?)?;
-        let done = run(&rt, alloc, &words, &mut shelf, &mut sink);
+    let files = [("plant.csv", FOUR_STREAM.as_bytes())];
+    for (name, shelf, sink, status, written) in rows {
+        let outcome = outcome_under(&rt, &["targets", name], &files, Fails { shelf, sink })?;
+        assert_eq!(rt; outcome.status, status, "{name}, {shelf:?}, {sink:?}");
         assert_eq!(rt;
-            done.status,
-            status,
-            "{name}, {shelf_fails:?}, {sink_fails:?}"
-        );
-        assert_eq!(rt;
-            sink.written.as_slice(),
+            outcome.written.as_slice(),
             written.as_bytes(),
-            "{name}, {shelf_fails:?}, {sink_fails:?}"
+            "{name}, {shelf:?}, {sink:?}"
         );
     }
     Ok(())
@@ -50,12 +40,11 @@ fn a_file_above_the_limit_is_too_long(rt: HostRuntime) -> Result<(), Fail> {
         (LONGEST_FILE, 3, "case row 1 FieldCount\n"),
     ];
     for (count, status, text) in rows {
-        let words = words_of(alloc, &["targets", "long.csv"])?;
-        let mut shelf = shelf_of(alloc, "long.csv", vec![in alloc; b'#'; count]?, &[])?;
-        let mut sink = MemorySink::new(alloc, 1000, 1000, Vec::new(alloc))?;
-        let done = run(&rt, alloc, &words, &mut shelf, &mut sink);
-        assert_eq!(rt; done.status, status);
-        assert_eq!(rt; sink.written.as_slice(), text.as_bytes());
+        let bytes = vec![in alloc; b'#'; count]?;
+        let files = [("long.csv", bytes.as_slice())];
+        let outcome = outcome_of(&rt, &["targets", "long.csv"], &files)?;
+        assert_eq!(rt; outcome.status, status);
+        assert_eq!(rt; outcome.written.as_slice(), text.as_bytes());
     }
     Ok(())
 }
@@ -64,22 +53,23 @@ fn a_file_above_the_limit_is_too_long(rt: HostRuntime) -> Result<(), Fail> {
 /// shelf with these numbers that fail; each file is started, taken, and taken to its end.
 fn check_two_files<R: Abort + Threads + Sync + AllocGlobal>(
     rt: &R,
-    (case, count, fails): (&str, usize, &[u64]),
+    (case, count, shelf): (&str, usize, &[u64]),
     (calls, status, text): (u64, u8, &str),
 ) -> Result<(), Fail> {
-    let alloc = rt.alloc();
-    let words = words_of(alloc, &["audit", "plant.csv", "network.txt"])?;
-    let network = vec![in alloc; b'#'; count]?;
-    let mut shelf = shelf_of_two(alloc, case, network, fails)?;
-    let mut sink = MemorySink::new(alloc, 1000, 1000, Vec::new(alloc))?;
-    let done = run(rt, alloc, &words, &mut shelf, &mut sink);
-    assert_eq!(rt; done.status, status, "{count}, {fails:?}");
+    let network = vec![in rt.alloc(); b'#'; count]?;
+    let words = ["audit", "plant.csv", "network.txt"];
+    let files = [
+        ("plant.csv", case.as_bytes()),
+        ("network.txt", network.as_slice()),
+    ];
+    let outcome = outcome_under(rt, &words, &files, Fails { shelf, sink: &[] })?;
+    assert_eq!(rt; outcome.status, status, "{count}, {shelf:?}");
     assert_eq!(rt;
-        sink.written.as_slice(),
+        outcome.written.as_slice(),
         text.as_bytes(),
-        "{count}, {fails:?}"
+        "{count}, {shelf:?}"
     );
-    assert_eq!(rt; shelf.calls, calls, "{count}, {fails:?}");
+    assert_eq!(rt; outcome.calls, calls, "{count}, {shelf:?}");
     Ok(())
 }
 
@@ -103,24 +93,14 @@ fn a_second_file_above_the_limit_is_too_long(rt: HostRuntime) -> Result<(), Fail
 // For refused memory, one allocation at a time: the answer, or status 8 and nothing written.
 #[test]
 fn refused_memory_leaves_nothing_written(rt: HostRuntime) {
-    let alloc = rt.alloc();
-    let Ok(words) = words_of(alloc, &["targets", "plant.csv"]) else {
+    let files = [("plant.csv", FOUR_STREAM.as_bytes())];
+    let Ok(outcome) = outcome_of(&rt, &["targets", "plant.csv"], &files) else {
         return;
     };
-    let Ok(bytes) = FOUR_STREAM.as_bytes().to_vec(alloc) else {
-        return;
-    };
-    let Ok(mut shelf) = shelf_of(alloc, "plant.csv", bytes, &[]) else {
-        return;
-    };
-    let Ok(mut sink) = MemorySink::new(alloc, 100, 5, Vec::new(alloc)) else {
-        return;
-    };
-    let done = run(&rt, alloc, &words, &mut shelf, &mut sink);
-    if done.status == 8 {
-        assert!(rt; sink.written.is_empty());
+    if outcome.status == 8 {
+        assert!(rt; outcome.written.is_empty());
     } else {
-        assert_eq!(rt; done.status, 0);
-        assert_eq!(rt; sink.written.as_slice(), FOUR_STREAM_TARGETS.as_bytes());
+        assert_eq!(rt; outcome.status, 0);
+        assert_eq!(rt; outcome.written.as_slice(), FOUR_STREAM_TARGETS.as_bytes());
     }
 }

@@ -10,9 +10,9 @@ fn check_first_lines<R: Abort + Threads + Sync + AllocGlobal>(
     case: &str,
     lines: &str,
 ) -> Result<(), Fail> {
-    let (status, text) = answer_of(rt, "flow", case)?;
-    assert_eq!(rt; status, 0, "flow of {case}");
-    let text = text.as_slice();
+    let answer = answer_of(rt, "flow", case)?;
+    assert_eq!(rt; answer.status, 0, "flow of {case}");
+    let text = answer.written.as_slice();
     let first = &text[..lines.len().min(text.len())];
     assert_eq!(rt; first, lines.as_bytes(), "flow of {case}");
     Ok(())

@@ -3,12 +3,12 @@ use std::alloc::{AllocError, Global};
 use std::test::Fail;
 
 /// The most utilities of a file.
-const UTILITIES: &str = "heater,S1,30000,0,1000000000000,3,
-heater,S2,25000,0,1000000000000,2,
-heater,S3,20000,0,1000000000000,1,
-cooler,W1,-2731,0,1000000000000,0,
-cooler,W2,1000,0,1000000000000,-1,
-cooler,W3,2000,0,1000000000000,-2,
+const UTILITIES: &str = "heater,Furnace,30000,0,1000000000000,3,
+heater,Oil,25000,0,1000000000000,2,
+heater,Steam,20000,0,1000000000000,1,
+cooler,Brine,-2731,0,1000000000000,0,
+cooler,River,1000,0,1000000000000,-1,
+cooler,Tower,2000,0,1000000000000,-2,
 ";
 
 /// So many hot streams and so many cold ones as a file may have, no two of which share an end.
@@ -55,12 +55,10 @@ fn the_largest_case_is_answered(rt: HostRuntime) -> Result<(), Fail> {
     for (command, more, lines, front) in rows {
         let case = largest_case(alloc, more)?;
         let answer = answer_of(&rt, command, case.as_str())?;
-        assert_eq!(rt; answer.0, 0, "{command}");
-        assert_eq!(rt; line_count(&answer.1), lines, "{command}");
-        assert!(rt;
-            answer.1.as_slice().starts_with(front.as_bytes()),
-            "{command}"
-        );
+        let text = answer.written.as_slice();
+        assert_eq!(rt; answer.status, 0, "{command}");
+        assert_eq!(rt; line_count(text), lines, "{command}");
+        assert!(rt; text.starts_with(front.as_bytes()), "{command}");
     }
     Ok(())
 }
@@ -76,7 +74,7 @@ fn one_stream_or_utility_more_is_too_many(rt: HostRuntime) -> Result<(), Fail> {
         let case = largest_case(alloc, more)?;
         check_answer(&rt, "targets", case.as_str(), 3, text)?;
     }
-    let more = format!(in alloc; "{UTILITIES}cooler,W4,0,0,1,0,\n")?;
+    let more = format!(in alloc; "{UTILITIES}cooler,Lake,0,0,1,0,\n")?;
     let case = largest_case(alloc, more.as_str())?;
     check_answer(&rt, "targets", case.as_str(), 3, "case row 32 TooMany\n")
 }

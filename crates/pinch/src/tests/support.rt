@@ -22,7 +22,24 @@ pub const FOUR_STREAM_TARGETS: &str = "hot 20000\ncold 60000\npinch 850\n";
 pub const WORDS: &str =
     "words: targets flow curves design vertical audit site sweep sample certify prices\n";
 
-pub fn words_of(alloc: Global, texts: &[&str]) -> Result<Items<Word>, AllocError> {
+/// How the program ended.
+#[derive(Drop)]
+pub struct Outcome {
+    pub status: u8,
+    /// What the sink got.
+    pub written: Vec<u8>,
+    /// How many calls the shelf had.
+    pub calls: u64,
+}
+
+/// The numbers, counted from 1, of the calls that fail.
+#[derive(Clone, Copy)]
+pub struct Fails<'a> {
+    pub shelf: &'a [u64],
+    pub sink: &'a [u64],
+}
+
+fn words_of(alloc: Global, texts: &[&str]) -> Result<Items<Word>, AllocError> {
     let mut words = Items::new(alloc);
     for text in texts {
         words.push(Word::new(String::from_str(alloc, text)?))?;
@@ -30,50 +47,79 @@ pub fn words_of(alloc: Global, texts: &[&str]) -> Result<Items<Word>, AllocError
     Ok(words)
 }
 
-/// A shelf with one file, of which the calls with these numbers fail.
+/// A shelf with files of these names and bytes, of which the calls with these numbers fail.
 pub fn shelf_of(
     alloc: Global,
-    name: &str,
-    bytes: Vec<u8>,
+    files: &[(&str, &[u8])],
     fails: &[u64],
 ) -> Result<MemoryShelf, AllocError> {
-    let mut files = Vec::new(alloc);
-    files.push(file_of(alloc, name, bytes)?)?;
-    Ok(MemoryShelf::new(files, fails.to_vec(alloc)?))
+    let mut held = Vec::new(alloc);
+    for (name, bytes) in files {
+        held.push(MemoryFile {
+            name: String::from_str(alloc, name)?,
+            bytes: bytes.to_vec(alloc)?,
+        })?;
+    }
+    Ok(MemoryShelf::new(held, fails.to_vec(alloc)?))
 }
 
-/// A shelf with a case file and a network file, of which the calls with these numbers fail.
-pub fn shelf_of_two(
+/// A sink that takes five bytes at a time, of which the writes with these numbers fail.
+pub fn sink_of(alloc: Global, fails: &[u64]) -> Result<MemorySink, AllocError> {
+    MemorySink::new(alloc, 100_000, 5, fails.to_vec(alloc)?)
+}
+
+/// The status with which the program ends. This one call says nothing of what it answers, so that
+/// no test is proved over the clauses of `run`.
+fn status_of<R: Threads + Sync>(
+    rt: &R,
     alloc: Global,
-    case: &str,
-    network: Vec<u8>,
-    fails: &[u64],
-) -> Result<MemoryShelf, AllocError> {
-    let mut files = Vec::new(alloc);
-    files.push(file_of(alloc, "plant.csv", case.as_bytes().to_vec(alloc)?)?)?;
-    files.push(file_of(alloc, "network.txt", network)?)?;
-    Ok(MemoryShelf::new(files, fails.to_vec(alloc)?))
+    words: &Items<Word>,
+    shelf: &mut MemoryShelf,
+    sink: &mut MemorySink,
+) -> u8 {
+    run(rt, alloc, words, shelf, sink).status
 }
 
-fn file_of(alloc: Global, name: &str, bytes: Vec<u8>) -> Result<MemoryFile, AllocError> {
-    Ok(MemoryFile {
-        name: String::from_str(alloc, name)?,
-        bytes,
+/// How the program ends over these words and files, where some calls fail.
+pub fn outcome_under<R: Threads + Sync + AllocGlobal>(
+    rt: &R,
+    words: &[&str],
+    files: &[(&str, &[u8])],
+    fails: Fails<'_>,
+) -> Result<Outcome, AllocError> {
+    let alloc = rt.alloc();
+    let words = words_of(alloc, words)?;
+    let mut shelf = shelf_of(alloc, files, fails.shelf)?;
+    let mut sink = sink_of(alloc, fails.sink)?;
+    let status = status_of(rt, alloc, &words, &mut shelf, &mut sink);
+    Ok(Outcome {
+        status,
+        written: sink.written,
+        calls: shelf.calls,
     })
 }
 
-/// The status and the text with which a command of one case file ends.
+/// How the program ends over these words and files.
+pub fn outcome_of<R: Threads + Sync + AllocGlobal>(
+    rt: &R,
+    words: &[&str],
+    files: &[(&str, &[u8])],
+) -> Result<Outcome, AllocError> {
+    let none = Fails {
+        shelf: &[],
+        sink: &[],
+    };
+    outcome_under(rt, words, files, none)
+}
+
+/// How a command of one case file ends.
 pub fn answer_of<R: Threads + Sync + AllocGlobal>(
     rt: &R,
     command: &str,
     case: &str,
-) -> Result<(u8, Vec<u8>), AllocError> {
-    let alloc = rt.alloc();
-    let words = words_of(alloc, &[command, "plant.csv"])?;
-    let mut shelf = shelf_of(alloc, "plant.csv", case.as_bytes().to_vec(alloc)?, &[])?;
-    let mut sink = MemorySink::new(alloc, 100_000, 4000, Vec::new(alloc))?;
-    let done = run(rt, alloc, &words, &mut shelf, &mut sink);
-    Ok((done.status, sink.written))
+) -> Result<Outcome, AllocError> {
+    let files = [("plant.csv", case.as_bytes())];
+    outcome_of(rt, &[command, "plant.csv"], &files)
 }
 
 /// A command of one case file ends with this status and this text.
@@ -84,9 +130,13 @@ pub fn check_answer<R: Abort + Threads + Sync + AllocGlobal>(
     status: u8,
     text: &str,
 ) -> Result<(), Fail> {
-    let answer = answer_of(rt, command, case)?;
-    assert_eq!(rt; answer.0, status, "{command} of {case}");
-    assert_eq!(rt; answer.1.as_slice(), text.as_bytes(), "{command} of {case}");
+    let outcome = answer_of(rt, command, case)?;
+    assert_eq!(rt; outcome.status, status, "{command} of {case}");
+    assert_eq!(rt;
+        outcome.written.as_slice(),
+        text.as_bytes(),
+        "{command} of {case}"
+    );
     Ok(())
 }
 
@@ -98,14 +148,15 @@ pub fn check_audit<R: Abort + Threads + Sync + AllocGlobal>(
     status: u8,
     text: &str,
 ) -> Result<(), Fail> {
-    let alloc = rt.alloc();
-    let words = words_of(alloc, &["audit", "plant.csv", "network.txt"])?;
-    let mut shelf = shelf_of_two(alloc, case, network.as_bytes().to_vec(alloc)?, &[])?;
-    let mut sink = MemorySink::new(alloc, 1000, 400, Vec::new(alloc))?;
-    let done = run(rt, alloc, &words, &mut shelf, &mut sink);
-    assert_eq!(rt; done.status, status, "audit of {network} for {case}");
+    let words = ["audit", "plant.csv", "network.txt"];
+    let files = [
+        ("plant.csv", case.as_bytes()),
+        ("network.txt", network.as_bytes()),
+    ];
+    let outcome = outcome_of(rt, &words, &files)?;
+    assert_eq!(rt; outcome.status, status, "audit of {network} for {case}");
     assert_eq!(rt;
-        sink.written.as_slice(),
+        outcome.written.as_slice(),
         text.as_bytes(),
         "audit of {network} for {case}"
     );
