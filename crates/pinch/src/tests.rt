@@ -13,4 +13,5 @@ mod limits;
 mod network_lines;
 mod support;
 mod targets;
+mod total_site;
 mod words;
