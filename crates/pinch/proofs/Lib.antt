@@ -5,3 +5,4 @@ mod Ends
 mod Flows
 mod Formats
 mod Plain
+mod SiteCosts

@@ -1,12 +1,13 @@
 -- What a site file says, and what is shown of a site.
-use Rattle.std.specs.Prelude.{◌≡◌, ℕ, List, length, map}
+use Rattle.std.specs.Prelude.{◌≡◌, ℕ, ℤ, ◌≤ℤ◌, List, length, map}
 use Rattle.csv_rows.specs.Rows.{rows_of}
 use Rattle.first_fault.specs.Outcome.{IsOutcome}
 use Rattle.stream_case.specs.declared.source.Side.TheVariants.{Hot, Cold}
 use Rattle.grid.specs.declared.parts.Parts.{Parts}
 use Rattle.grid.specs.Part.{AreParts}
+use Rattle.heat_flow.specs.declared.flow.Transfer.{Transfer}
 use Rattle.heat_flow.specs.Cuts.{HasNoFlow}
-use Rattle.heat_flow.specs.Flow.{IsLeastCost}
+use Rattle.heat_flow.specs.Flow.{IsHeatFlow, IsLeastCost}
 use Rattle.heat_flow.specs.Table.{HasSizes, reaches}
 use Rattle.transport.specs.Answer.{IfLeast, IfStuck, IsCertified, IsCutOf}
 use Rattle.transport.specs.declared.answer.Answer.{Answer}
@@ -18,6 +19,7 @@ use Rattle.site.specs.declared.plants.Site.{Site}
 use Rattle.site.specs.declared.table.SiteTable.{SiteTable}
 use Rattle.site_text.specs.Outcome.{grammar}
 use Rattle.site_text.specs.declared.fault.SiteWhy.{SiteWhy}
+use Rattle.reports.specs.Site.{boiler_heat}
 use Rattle.reports.specs.declared.shown.FileRole.TheVariants.{Site as SiteFile}
 use Rattle.reports.specs.declared.shown.Shown.{Shown}
 use Rattle.reports.specs.declared.shown.Shown.TheVariants.{SiteShown, BadSite}
@@ -35,10 +37,17 @@ pub record IsSiteTable (site : Site) (table : SiteTable) : Type 0 where
   pub sizes : HasSizes table.reach (length table.parts.hot) (length table.parts.cold)
   pub reach : (a b : ℕ) → reaches table.reach a b ≡ reach_between site table.parts.hot table.parts.cold a b
 
--- a heat flow between these parts of the site with prices that prove that none costs less, or a cut that proves that there is none
+-- in a heat flow of these parts the boiler gives just this heat, and in none does it give less
+pub record IsLeastBoiler (site : Site) (parts : Parts) (transfers : List Transfer) (heat : ℤ) : Type 0 where
+  pub gives : boiler_heat parts transfers ≡ heat
+  pub least : (others : List Transfer) → IsHeatFlow (reach_between site parts.hot parts.cold) parts.hot parts.cold others → heat ≤ℤ boiler_heat parts others
+
+-- a heat flow between these parts of the site with prices that prove that none costs less, which is what the boiler gives; or a cut that proves
+-- that there is none
 pub record IsSiteAnswer (site : Site) (parts : Parts) (answer : Answer) : Type 0 where
   pub certified : IfLeast answer (λ flow prices cost. IsCertified (reach_between site parts.hot parts.cold) parts.hot parts.cold flow.transfers prices.hot prices.cold cost)
   pub least : IfLeast answer (λ flow prices cost. IsLeastCost (reach_between site parts.hot parts.cold) parts.hot parts.cold cost)
+  pub boiler : IfLeast answer (λ flow prices cost. IsLeastBoiler site parts flow.transfers cost)
   pub is_cut : IfStuck answer (λ cut. IsCutOf (reach_between site parts.hot parts.cold) parts.hot parts.cold cut)
   pub no_flow : IfStuck answer (λ cut. HasNoFlow (reach_between site parts.hot parts.cold) parts.hot parts.cold)
 

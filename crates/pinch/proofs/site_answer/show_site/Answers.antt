@@ -1,5 +1,6 @@
 use Rattle.std.proofs.Common.{◌∙◌, ap, ap₂, map, refl}
 use Rattle.site.specs.Target.{AreSiteParts}
+use Rattle.pinch.proofs.SiteCosts.{least_boiler}
 use Rattle.pinch.proofs.site_answer.show_site.Goals as goal
 
 pub returns : goal.returns
@@ -16,6 +17,7 @@ returns c =
       is_answer = record {
         certified = target.certified table.parts.hot table.parts.cold parts;
         least = target.least table.parts.hot table.parts.cold parts;
+        boiler = least_boiler site table.parts c.in_ok-answer.answer parts (target.certified table.parts.hot table.parts.cold parts) (target.least table.parts.hot table.parts.cold parts);
         is_cut = target.cut table.parts.hot table.parts.cold parts;
         no_flow = target.stuck_only table.parts.hot table.parts.cold parts;
       };
