@@ -11,7 +11,7 @@ use grid::Parts;
 use heat_flow::{Prices, Transfer};
 use site::{Site, SiteTable};
 use std::alloc::{AllocError, Global};
-use stream_case::Side;
+use stream_case::{Items, Side};
 use transport::Answer;
 
 /// The profiles at each place, then the boiler and the cooling with the transfers and the prices,
@@ -20,15 +20,16 @@ pub fn total_site_text(
     alloc: Global,
     site: &Site,
     table: &SiteTable,
-    sinks: &[i64],
-    sources: &[i64],
+    sinks: &Items<i64>,
+    sources: &Items<i64>,
     answer: &Answer,
 ) -> Result<String, AllocError>
     ensures { IfOk result (λ text. string_bytes text
         ≡ total_site_text site.now table.now sinks.now sources.now answer.now) }
 {
     let names = site_names(alloc, site)?;
-    let mut text = profile_lines(alloc, table.places.as_slice(), sinks, sources)?;
+    let places = table.places.as_slice();
+    let mut text = profile_lines(alloc, places, sinks.as_slice(), sources.as_slice())?;
     text.push_str(&answer_lines(alloc, &names, &table.parts, answer)?)?;
     Ok(text)
 }

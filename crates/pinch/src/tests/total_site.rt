@@ -1,6 +1,7 @@
 //! Sites that were worked by hand, and site files that are refused.
 
 use super::support::{Fails, WORDS, check_answer, outcome_of, outcome_under};
+use std::alloc::{AllocError, Global};
 use std::process::Abort;
 use std::test::Fail;
 use std::thread::Threads;
@@ -126,6 +127,36 @@ fn one_plant_has_its_own_targets(rt: HostRuntime) -> Result<(), Fail> {
         check_target(&rt, site.as_str(), "\nboiler 20000\ncooling 60000\n")?;
     }
     Ok(())
+}
+
+/// As many plants, streams and mains as a site may have; each stream crosses all others, so that
+/// there are 361 parts on each side.
+fn largest_site(alloc: Global) -> Result<String, AllocError> {
+    let mut site = String::from_str(alloc, "contribution,,50,,,,\n")?;
+    for level in [30_000, 14_222, 15_333, 16_444] {
+        site.push_str(&format!(in alloc; "main,M{level},{level},,,,\n")?)?;
+    }
+    for k in 0..12u32 {
+        if k % 2 == 0 {
+            site.push_str(&format!(in alloc; "plant,P{k},,,,,\n")?)?;
+        }
+        let (low, cp) = (3 + 400 * k, 100_000 - 74 * k);
+        let high = low + 19_997;
+        site.push_str(&format!(in alloc; "hot,H{k},{high},{low},{cp},,\n")?)?;
+        let (low, high, cp) = (low + 200, high + 200, cp - 37);
+        site.push_str(&format!(in alloc; "cold,C{k},{low},{high},{cp},,\n")?)?;
+    }
+    Ok(site)
+}
+
+#[test]
+fn the_largest_site_is_answered(rt: HostRuntime) -> Result<(), Fail> {
+    let site = largest_site(rt.alloc())?;
+    check_target(
+        &rt,
+        site.as_str(),
+        "\nboiler 358312800\ncooling 367191468\n",
+    )
 }
 
 #[test]
