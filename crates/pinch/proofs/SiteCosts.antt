@@ -39,15 +39,21 @@ times_price false heat = omega (arith, ints)
 module _ (site : Site) (hot cold : List Part) (parts : AreSiteParts site hot cold) where
   hot_price : (p : Part) → IsPartOf (streams_of site.plants) (site_utilities site) parts.grid Hot p → p.price ≡ boiler_price p.source
   hot_price p (inl (i, s, h)) = ap (λ q. q.price) h.is ∙ sym (ap (λ q. boiler_price q.source) h.is)
-  hot_price p (inr (zero, u, h)) = let is = h.utility in ap (λ q. q.price) h.is ∙ (cc : u.price ≡ pos 1) ∙ sym (ap (λ q. boiler_price q.source) h.is)
-  hot_price p (inr (suc zero, u, h)) = let is = h.utility in let side = h.side_is in absurd (cc)
-  hot_price p (inr (suc (suc i), u, h)) = let is = h.utility in absurd (cc)
+  hot_price p (inr (zero, u, h)) =
+      let is = h.utility in
+      let one : u.price ≡ pos 1 = cc in
+      ap (λ q. q.price) h.is ∙ one ∙ sym (ap (λ q. boiler_price q.source) h.is)
+  hot_price p (inr (suc zero, u, h)) = let is = h.utility in let side = h.side_is in cc
+  hot_price p (inr (suc (suc i), u, h)) = let is = h.utility in cc
 
   cold_price : (p : Part) → IsPartOf (streams_of site.plants) (site_utilities site) parts.grid Cold p → p.price ≡ pos 0
   cold_price p (inl (i, s, h)) = ap (λ q. q.price) h.is
-  cold_price p (inr (zero, u, h)) = let is = h.utility in let side = h.side_is in absurd (cc)
-  cold_price p (inr (suc zero, u, h)) = let is = h.utility in ap (λ q. q.price) h.is ∙ cc
-  cold_price p (inr (suc (suc i), u, h)) = let is = h.utility in absurd (cc)
+  cold_price p (inr (zero, u, h)) = let is = h.utility in let side = h.side_is in cc
+  cold_price p (inr (suc zero, u, h)) =
+      let is = h.utility in
+      let none : u.price ≡ pos 0 = cc in
+      ap (λ q. q.price) h.is ∙ none
+  cold_price p (inr (suc (suc i), u, h)) = let is = h.utility in cc
 
   -- what a transfer costs at its hot part
   hot_cost : (t : Transfer) → t.hot < length hot → part_price hot t.hot *ℤ t.heat ≡ heat_of_utility 0 Hot hot t
