@@ -2,22 +2,22 @@
 use Rattle.std.proofs.Common.{◌≡◌, ◌∙◌, ◌≤◌, ℕ, List, Bool, true, false, Option, Some, None, IsSomeAnd, refl, sym, ap, subst, arith}
 use Rattle.pinch_outside.specs.Shelf.{ShelfState, KeepsFiles, IsWhole, IsTooLong, HasFailed}
 use Rattle.pinch_outside.specs.declared.limits.TheConstants.{MAX_FILE}
-use Rattle.stream_case.specs.declared.case.Case.{Case}
 use Rattle.stream_case.specs.Case.{completed}
 use Rattle.pinch.specs.declared.command.Command.{Command}
-use Rattle.pinch.specs.declared.command.Command.TheVariants.{Targets, Flow, Design, Curves, Audit}
+use Rattle.pinch.specs.declared.command.Command.TheVariants.{Targets, Flow, Design, Curves, Audit, Site}
 use Rattle.reports.specs.declared.shown.FileRole.{FileRole}
 use Rattle.reports.specs.declared.shown.Shown.{Shown}
 use Rattle.pinch.specs.Files.{NoFile, failed, too_long, NoText, no_file, refused, FromText, no_text, by_text}
 use Rattle.pinch.specs.Format.{Format}
 use Rattle.pinch.specs.Case.{case_file, AreTargetsOf, AreCurvesOf}
-use Rattle.pinch.specs.Answers.{FromCase, FromNetwork, ShowsCommand}
+use Rattle.pinch.specs.Answers.{FromFile, FromNetwork, ShowsCommand}
 use Rattle.pinch.specs.Causes.{Causes, HasCause}
 use Rattle.pinch.specs.Command.{file_of}
 use Rattle.pinch.specs.Design.{ShowsDesign}
 use Rattle.pinch.specs.Flow.{ShowsFlow}
 use Rattle.pinch.specs.Network.{network_file}
-use Rattle.pinch.proofs.Formats.{IsLawful, lawful_case, lawful_network}
+use Rattle.pinch.specs.Site.{site_file, ShowsSite}
+use Rattle.pinch.proofs.Formats.{IsLawful, lawful_case, lawful_network, lawful_site}
 use Rattle.pinch.proofs.Plain.{is_plain, plain_design, plain_flow, plain_audit}
 
 -- the last file was read to its end
@@ -93,13 +93,13 @@ module _ (files : FileRole → Option (List ℕ)) where
     of_text old new shown work next (by_text mid value reads then) =
         of_later old mid new shown reads.keeps (next mid value (of_whole name reads.bytes old mid reads.whole) then)
 
--- what a command shows of a case, where that is plain
-of_case : (files : FileRole → Option (List ℕ)) (name : List ℕ) (old new : ShelfState) (shown : Shown) (Shows : Case → Shown → Type 0)
-    → files case_file.role ≡ Some name → ((case : Case) → Shows case shown → is_plain shown ≡ true)
-    → FromCase name old new shown Shows → Causes files old new shown
-of_case files name old new shown Shows here plain shows =
-    of_text files case_file lawful_case name here old new shown _
-    (λ last case ended is. of_plain files last new shown (plain case is.1) (subst Ended (sym is.0) ended)) shows
+-- what a command shows of one file, where that is plain
+of_file : {Value Cause : Type 0} (format : Format Value Cause) → IsLawful format → (files : FileRole → Option (List ℕ)) (name : List ℕ) (old new : ShelfState) (shown : Shown) (Shows : Value → Shown → Type 0)
+    → files format.role ≡ Some name → ((value : Value) → Shows value shown → is_plain shown ≡ true)
+    → FromFile format name old new shown Shows → Causes files old new shown
+of_file format lawful files name old new shown Shows here plain shows =
+    of_text files format lawful name here old new shown _
+    (λ last value ended is. of_plain files last new shown (plain value is.1) (subst Ended (sym is.0) ended)) shows
 
 -- the same of the network of a second file
 of_network : (files : FileRole → Option (List ℕ)) (case_name name : List ℕ) (old new : ShelfState) (shown : Shown)
@@ -116,8 +116,9 @@ of_network files case_name name old new shown case_here here shows =
 pub causes : (command : Option Command) (old new : ShelfState) (shown : Shown) → ShowsCommand command old new shown → HasCause command old new shown
 unfolding ShowsCommand HasCause
 causes None old new shown shows = shows
-causes (Some (Targets case)) old new shown shows = of_case (file_of (Targets case)) case old new shown AreTargetsOf refl (λ c is. ap is_plain is.is) shows
-causes (Some (Flow case)) old new shown shows = of_case (file_of (Flow case)) case old new shown ShowsFlow refl (λ c is. plain_flow (completed c) shown is.answer) shows
-causes (Some (Design case)) old new shown shows = of_case (file_of (Design case)) case old new shown ShowsDesign refl (λ c is. plain_design (completed c) shown is.answer) shows
-causes (Some (Curves case)) old new shown shows = of_case (file_of (Curves case)) case old new shown AreCurvesOf refl (λ c is. ap is_plain is.is) shows
+causes (Some (Targets case)) old new shown shows = of_file case_file lawful_case (file_of (Targets case)) case old new shown AreTargetsOf refl (λ c is. ap is_plain is.is) shows
+causes (Some (Flow case)) old new shown shows = of_file case_file lawful_case (file_of (Flow case)) case old new shown ShowsFlow refl (λ c is. plain_flow (completed c) shown is.answer) shows
+causes (Some (Design case)) old new shown shows = of_file case_file lawful_case (file_of (Design case)) case old new shown ShowsDesign refl (λ c is. plain_design (completed c) shown is.answer) shows
+causes (Some (Curves case)) old new shown shows = of_file case_file lawful_case (file_of (Curves case)) case old new shown AreCurvesOf refl (λ c is. ap is_plain is.is) shows
 causes (Some (Audit case network)) old new shown shows = of_network (file_of (Audit case network)) case network old new shown refl (λ c. refl) shows
+causes (Some (Site site)) old new shown shows = of_file site_file lawful_site (file_of (Site site)) site old new shown ShowsSite refl (λ s is. ap is_plain is.is) shows

@@ -6,14 +6,17 @@ use Rattle.pinch_outside.specs.Shelf.{ShelfState, NamedFile, IsFile, IsFileAbove
 use Rattle.pinch_outside.specs.declared.limits.TheConstants.{MAX_FILE}
 use Rattle.stream_case.specs.declared.case.Case.{Case}
 use Rattle.stream_case.specs.Case.{completed}
+use Rattle.site.specs.declared.plants.Site.{Site}
+use Rattle.transport.specs.declared.answer.Answer.{Answer}
+use Rattle.transport.specs.declared.answer.Answer.TheVariants as answer
 use Rattle.network_text.specs.declared.network.Network.{Network}
 use Rattle.network_audit.specs.declared.verdict.Verdict.{Verdict}
 use Rattle.network_audit.specs.declared.verdict.Verdict.TheVariants as verdict
 use Rattle.reports.specs.declared.shown.FileRole.{FileRole}
 use Rattle.reports.specs.declared.shown.Shown.{Shown}
 use Rattle.pinch.specs.declared.command.Command.{Command}
-use Rattle.pinch.specs.declared.command.Command.TheVariants.{Targets, Flow, Design, Curves, Audit}
-use Rattle.pinch.specs.Answers.{FromCase, FromNetwork, ShowsCommand}
+use Rattle.pinch.specs.declared.command.Command.TheVariants.{Targets, Flow, Design, Curves, Audit, Site as OfSite}
+use Rattle.pinch.specs.Answers.{FromFile, FromNetwork, ShowsCommand}
 use Rattle.pinch.specs.Case.{case_file, AreTargetsOf, AreCurvesOf}
 use Rattle.pinch.specs.Complete.{Holds, HoldsText, HoldsFault, CanAnswer, HasBadFile}
 use Rattle.pinch.specs.Design.{IsDesignAnswer, ShowsDesign}
@@ -21,8 +24,9 @@ use Rattle.pinch.specs.Files.{NoFile, failed, too_long, NoText, no_file, refused
 use Rattle.pinch.specs.Flow.{IsFlowAnswer, IsCutAnswer, ShowsFlow}
 use Rattle.pinch.specs.Format.{Format}
 use Rattle.pinch.specs.Network.{network_file, ShowsVerdict}
-use Rattle.pinch.specs.Status.{status_of, IsAnswered}
-use Rattle.pinch.proofs.Formats.{IsLawful, lawful_case, lawful_network, one_value, one_refusal, not_both}
+use Rattle.pinch.specs.Site.{site_file, ShowsSite}
+use Rattle.pinch.specs.Status.{status_of, status_of_site, IsAnswered}
+use Rattle.pinch.proofs.Formats.{IsLawful, lawful_case, lawful_network, lawful_site, one_value, one_refusal, not_both}
 
 -- a file within the limit is not above it
 not_above : (files : Option (List NamedFile)) (name bytes : List ℕ) → Holds files name bytes → IsFileAbove files name MAX_FILE → ⊥
@@ -85,11 +89,19 @@ design_answers : (c : Case) (shown : Shown) → IsDesignAnswer c shown ⊎ IsCut
 design_answers c shown (inl design) = answers shown _ tt design.design.is
 design_answers c shown (inr cut) = answers shown _ tt cut.is
 
-of_case : (name : List ℕ) (old new : ShelfState) (shown : Shown) (P : Case → Type 0) (Shows : Case → Shown → Type 0)
-    → (Rose old.faults new.faults → ⊥) → HoldsText case_file old.files name P
-    → ((case : Case) → P case → Shows case shown → IsAnswered (status_of shown)) → FromCase name old new shown Shows → IsAnswered (status_of shown)
-of_case name old new shown P Shows no_fault held next shows =
-    of_held case_file lawful_case name old new shown no_fault P _ _ held (λ mid case keeps holds is. next case holds is.1) shows
+-- and so is what is shown of a site
+site_is_answered : (a : Answer) → IsAnswered (status_of_site a)
+site_is_answered (answer.Least flow prices cost) = tt
+site_is_answered (answer.Stuck cut) = tt
+
+site_answers : (site : Site) (shown : Shown) → ShowsSite site shown → IsAnswered (status_of shown)
+site_answers site shown is = answers shown _ (site_is_answered is.answer) is.is
+
+of_file : {Value Cause : Type 0} (format : Format Value Cause) → IsLawful format → (name : List ℕ) (old new : ShelfState) (shown : Shown) (P : Value → Type 0) (Shows : Value → Shown → Type 0)
+    → (Rose old.faults new.faults → ⊥) → HoldsText format old.files name P
+    → ((value : Value) → P value → Shows value shown → IsAnswered (status_of shown)) → FromFile format name old new shown Shows → IsAnswered (status_of shown)
+of_file format lawful name old new shown P Shows no_fault held next shows =
+    of_held format lawful name old new shown no_fault P _ _ held (λ mid value keeps holds is. next value holds is.1) shows
 
 -- a verdict is an answer
 verdict_answers : (c : Case) (network : Network) (v : Verdict) (shown : Shown) → ShowsVerdict c network v shown → IsAnswered (status_of shown)
@@ -127,11 +139,12 @@ pub complete : (command : Option Command) (old new : ShelfState) (shown : Shown)
     → CanAnswer command old.files → (Rose old.faults new.faults → ⊥) → IsAnswered (status_of shown)
 unfolding ShowsCommand CanAnswer
 complete None old new shown shows can no_fault = absurd can
-complete (Some (Targets case)) old new shown shows can no_fault = of_case case old new shown _ AreTargetsOf no_fault can (λ c t is. answers shown _ tt is.is) shows
-complete (Some (Flow case)) old new shown shows can no_fault = of_case case old new shown _ ShowsFlow no_fault can (λ c t is. flow_answers (completed c) shown is.answer) shows
-complete (Some (Design case)) old new shown shows can no_fault = of_case case old new shown _ ShowsDesign no_fault can (λ c t is. design_answers (completed c) shown is.answer) shows
-complete (Some (Curves case)) old new shown shows can no_fault = of_case case old new shown _ AreCurvesOf no_fault can (λ c t is. answers shown _ tt is.is) shows
+complete (Some (Targets case)) old new shown shows can no_fault = of_file case_file lawful_case case old new shown _ AreTargetsOf no_fault can (λ c t is. answers shown _ tt is.is) shows
+complete (Some (Flow case)) old new shown shows can no_fault = of_file case_file lawful_case case old new shown _ ShowsFlow no_fault can (λ c t is. flow_answers (completed c) shown is.answer) shows
+complete (Some (Design case)) old new shown shows can no_fault = of_file case_file lawful_case case old new shown _ ShowsDesign no_fault can (λ c t is. design_answers (completed c) shown is.answer) shows
+complete (Some (Curves case)) old new shown shows can no_fault = of_file case_file lawful_case case old new shown _ AreCurvesOf no_fault can (λ c t is. answers shown _ tt is.is) shows
 complete (Some (Audit case network)) old new shown shows can no_fault = audit_answers case network old new shown no_fault shows can
+complete (Some (OfSite site)) old new shown shows can no_fault = of_file site_file lawful_site site old new shown _ ShowsSite no_fault can (λ s t is. site_answers s shown is) shows
 
 pub bad_file : (command : Option Command) (old new : ShelfState) (shown : Shown) → ShowsCommand command old new shown
     → (refusal : Shown) → HasBadFile command old.files refusal → (Rose old.faults new.faults → ⊥) → shown ≡ refusal
@@ -142,3 +155,4 @@ bad_file (Some (Flow case)) old new shown shows refusal bad no_fault = of_refuse
 bad_file (Some (Design case)) old new shown shows refusal bad no_fault = of_refused case_file lawful_case case old new shown no_fault refusal _ bad shows
 bad_file (Some (Curves case)) old new shown shows refusal bad no_fault = of_refused case_file lawful_case case old new shown no_fault refusal _ bad shows
 bad_file (Some (Audit case network)) old new shown shows refusal bad no_fault = bad_case_or_network case network old new shown no_fault shows refusal bad
+bad_file (Some (OfSite site)) old new shown shows refusal bad no_fault = of_refused site_file lawful_site site old new shown no_fault refusal _ bad shows

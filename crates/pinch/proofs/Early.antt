@@ -5,9 +5,10 @@ use Rattle.stream_case.specs.declared.case.Case.{Case}
 use Rattle.stream_case.specs.Case.{completed}
 use Rattle.pinch_outside.specs.Shelf.{ShelfState}
 use Rattle.reports.specs.declared.shown.Shown.{Shown}
-use Rattle.pinch.specs.Answers.{FromCase, FromNetwork}
+use Rattle.pinch.specs.Answers.{FromFile, FromNetwork}
 use Rattle.pinch.specs.Case.{case_file}
 use Rattle.pinch.specs.Files.{NoText, ReadsText, no_text, by_text}
+use Rattle.pinch.specs.Format.{Format}
 use Rattle.pinch.specs.Network.{network_file}
 use Rattle.pinch.specs.Stop.{IfEarly, IfShown}
 use Rattle.pinch.specs.declared.stop.Stop.{Stop}
@@ -23,10 +24,10 @@ stopped : (result : Result Shown Stop) (stop : Stop) (P Q : Shown → Type 0) �
 stopped (Ok shown) stop P Q same weaker early = absurd same
 stopped (Err e) stop P Q same weaker early = IfEarly-weaker e P Q weaker (subst (λ s. IfEarly s P) (sym same) early)
 
--- a command of a case, where none was had
-pub without_case : (result : Result Shown Stop) (stop : Stop) (name : List ℕ) (old new : ShelfState) (Shows : Case → Shown → Type 0) → IsErrAnd result (λ e. e ≡ stop)
-    → IfEarly stop (NoText case_file name old new) → IfShown result (λ shown. FromCase name old new shown Shows)
-without_case result stop name old new Shows same early = stopped result stop _ _ same (λ shown none. no_text none) early
+-- a command of one file, where its text was not had
+pub without_text : {Value Cause : Type 0} (format : Format Value Cause) (result : Result Shown Stop) (stop : Stop) (name : List ℕ) (old new : ShelfState) (Shows : Value → Shown → Type 0)
+    → IsErrAnd result (λ e. e ≡ stop) → IfEarly stop (NoText format name old new) → IfShown result (λ shown. FromFile format name old new shown Shows)
+without_text format result stop name old new Shows same early = stopped result stop _ _ same (λ shown none. no_text none) early
 
 -- a command of a case and a network, where no case was had
 pub without_first : (result : Result Shown Stop) (stop : Stop) (case_name name : List ℕ) (old new : ShelfState) → IsErrAnd result (λ e. e ≡ stop)

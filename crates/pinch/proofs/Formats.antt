@@ -5,12 +5,14 @@ use Rattle.first_fault.proofs.OneOutcome.{one_outcome}
 use Rattle.case_text.specs.Outcome.{grammar}
 use Rattle.network_text.specs.Outcome as network
 use Rattle.network_text.specs.Statements.{statements_of}
+use Rattle.site_text.specs.Outcome as site
 use Rattle.stream_case.specs.declared.case.Case.{Case}
 use Rattle.reports.specs.declared.shown.Shown.{Shown}
 use Rattle.pinch.specs.Case.{case_file}
 use Rattle.pinch.specs.Files.{IsRefused}
 use Rattle.pinch.specs.Format.{Format}
 use Rattle.pinch.specs.Network.{network_file}
+use Rattle.pinch.specs.Site.{site_file}
 use Rattle.pinch.proofs.Plain.{is_plain}
 
 pub record IsLawful {Value Cause : Type 0} (format : Format Value Cause) : Type 0 where
@@ -22,6 +24,9 @@ lawful_case = record { one_outcome = λ bytes. one_outcome grammar (rows_of byte
 
 pub lawful_network : (case : Case) → IsLawful (network_file case)
 lawful_network case = record { one_outcome = λ bytes. one_outcome (network.grammar case) (statements_of bytes); plain = λ at why. refl }
+
+pub lawful_site : IsLawful site_file
+lawful_site = record { one_outcome = λ bytes. one_outcome site.grammar (rows_of bytes); plain = λ at why. refl }
 
 module _ {Value Cause : Type 0} (format : Format Value Cause) (lawful : IsLawful format) (bytes : List ℕ) where
   pub one_value : (a b : Value) → format.Gives bytes (Ok a) → format.Gives bytes (Ok b) → a ≡ b

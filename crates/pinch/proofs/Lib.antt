@@ -6,3 +6,4 @@ mod Flows
 mod Formats
 mod Plain
 mod Printable
+mod SiteCosts

@@ -11,14 +11,15 @@ use Rattle.reports.specs.declared.shown.FileRole.{FileRole}
 use Rattle.reports.specs.declared.shown.Shown.{Shown}
 use Rattle.reports.specs.declared.shown.Shown.TheVariants.{BadWords}
 use Rattle.pinch.specs.declared.command.Command.{Command}
-use Rattle.pinch.specs.declared.command.Command.TheVariants.{Targets, Flow, Design, Curves, Audit}
-use Rattle.pinch.specs.Answers.{FromCase, ShowsCommand}
+use Rattle.pinch.specs.declared.command.Command.TheVariants.{Targets, Flow, Design, Curves, Audit, Site as OfSite}
+use Rattle.pinch.specs.Answers.{FromFile, ShowsCommand}
 use Rattle.pinch.specs.Case.{case_file}
 use Rattle.pinch.specs.Design.{IsDesignAnswer}
 use Rattle.pinch.specs.Files.{NoFile, failed, too_long, NoText, no_file, refused, FromText, no_text, by_text}
 use Rattle.pinch.specs.Flow.{IsFlowAnswer, IsCutAnswer}
 use Rattle.pinch.specs.Format.{Format}
 use Rattle.pinch.specs.Network.{network_file, ShowsVerdict}
+use Rattle.pinch.specs.Site.{site_file}
 
 of_is : (shown result : Shown) → shown ≡ result → IsPrintable result → IsPrintable shown
 of_is shown result is printable = subst IsPrintable (sym is) printable
@@ -36,10 +37,9 @@ of_text format name old new shown work bad next (no_text (no_file none)) = of_no
 of_text format name old new shown work bad next (no_text (refused bytes whole refusal)) = of_is shown _ refusal.is (bad refusal.at refusal.why)
 of_text format name old new shown work bad next (by_text mid value reads then) = next mid value then
 
-of_case : (name : List ℕ) (old new : ShelfState) (shown : Shown) (Shows : Case → Shown → Type 0)
-    → ((case : Case) → Shows case shown → IsPrintable shown) → FromCase name old new shown Shows → IsPrintable shown
-unfolding IsPrintable
-of_case name old new shown Shows next = of_text case_file name old new shown _ (λ at why. tt) (λ last case is. next case is.1)
+of_file : {Value Cause : Type 0} (format : Format Value Cause) (name : List ℕ) (old new : ShelfState) (shown : Shown) (Shows : Value → Shown → Type 0)
+    → ((at : ℕ) (why : Cause) → IsPrintable (format.bad at why)) → ((value : Value) → Shows value shown → IsPrintable shown) → FromFile format name old new shown Shows → IsPrintable shown
+of_file format name old new shown Shows bad next = of_text format name old new shown _ bad (λ last value is. next value is.1)
 
 of_flow : (c : Case) (shown : Shown) → IsFlowAnswer c shown ⊎ IsCutAnswer c shown → IsPrintable shown
 unfolding IsPrintable
@@ -60,10 +60,11 @@ of_verdict c network (verdict.TooFine place step) shown is = of_is shown _ is tt
 pub printable : (command : Option Command) (old new : ShelfState) (shown : Shown) → ShowsCommand command old new shown → IsPrintable shown
 unfolding ShowsCommand IsPrintable
 printable None old new shown shows = of_is shown BadWords shows.0 tt
-printable (Some (Targets case)) old new shown shows = of_case case old new shown _ (λ c is. of_is shown _ is.is tt) shows
-printable (Some (Flow case)) old new shown shows = of_case case old new shown _ (λ c is. of_flow (completed c) shown is.answer) shows
-printable (Some (Design case)) old new shown shows = of_case case old new shown _ (λ c is. of_design (completed c) shown is.answer) shows
-printable (Some (Curves case)) old new shown shows = of_case case old new shown _ (λ c is. of_is shown _ is.is tt) shows
+printable (Some (Targets case)) old new shown shows = of_file case_file case old new shown _ (λ at why. tt) (λ c is. of_is shown _ is.is tt) shows
+printable (Some (Flow case)) old new shown shows = of_file case_file case old new shown _ (λ at why. tt) (λ c is. of_flow (completed c) shown is.answer) shows
+printable (Some (Design case)) old new shown shows = of_file case_file case old new shown _ (λ at why. tt) (λ c is. of_design (completed c) shown is.answer) shows
+printable (Some (Curves case)) old new shown shows = of_file case_file case old new shown _ (λ at why. tt) (λ c is. of_is shown _ is.is tt) shows
+printable (Some (OfSite site)) old new shown shows = of_file site_file site old new shown _ (λ at why. tt) (λ s is. of_is shown _ is.is tt) shows
 printable (Some (Audit case network)) old new shown shows =
     of_text case_file case old new shown _ (λ at why. tt)
     (λ mid c then. of_text (network_file (completed c)) network mid new shown _ (λ at why. tt)

@@ -1,6 +1,5 @@
 -- What is shown for the words and the files.
 use Rattle.std.specs.Prelude.{◌≡◌, ℕ, List, Option, Some, None}
-use Rattle.stream_case.specs.declared.case.Case.{Case}
 use Rattle.stream_case.specs.Case.{completed}
 use Rattle.pinch_outside.specs.Shelf.{ShelfState}
 use Rattle.reports.specs.declared.shown.Shown.{Shown}
@@ -9,13 +8,15 @@ use Rattle.pinch.specs.Case.{case_file, AreTargetsOf, AreCurvesOf}
 use Rattle.pinch.specs.Design.{ShowsDesign}
 use Rattle.pinch.specs.Files.{FromText}
 use Rattle.pinch.specs.Flow.{ShowsFlow}
+use Rattle.pinch.specs.Format.{Format}
 use Rattle.pinch.specs.Network.{network_file, IsAuditOf}
+use Rattle.pinch.specs.Site.{site_file, ShowsSite}
 use Rattle.pinch.specs.declared.command.Command.{Command}
-use Rattle.pinch.specs.declared.command.Command.TheVariants.{Targets, Flow, Design, Curves, Audit}
+use Rattle.pinch.specs.declared.command.Command.TheVariants.{Targets, Flow, Design, Curves, Audit, Site}
 
--- what is shown by a command of one file, of the case that it says
-abbrev pub FromCase : List ℕ → ShelfState → ShelfState → Shown → (Case → Shown → Type 0) → Type 0
-FromCase name old new shown Shows = FromText case_file name old new shown (λ last case. (new ≡ last) × Shows case shown)
+-- what is shown by a command of one file, of what the file says
+abbrev pub FromFile : {Value Cause : Type 0} → Format Value Cause → List ℕ → ShelfState → ShelfState → Shown → (Value → Shown → Type 0) → Type 0
+FromFile format name old new shown Shows = FromText format name old new shown (λ last value. (new ≡ last) × Shows value shown)
 
 -- what is shown of the network that a second file says, for the completed case of the first
 abbrev pub FromNetwork : List ℕ → List ℕ → ShelfState → ShelfState → Shown → Type 0
@@ -26,8 +27,9 @@ FromNetwork case_name name old new shown =
 -- what is shown for a command, or for words that form none
 unfoldable pub ShowsCommand : Option Command → ShelfState → ShelfState → Shown → Type 0
 ShowsCommand None old new shown = (shown ≡ BadWords) × (new ≡ old)
-ShowsCommand (Some (Targets case)) old new shown = FromCase case old new shown AreTargetsOf
-ShowsCommand (Some (Flow case)) old new shown = FromCase case old new shown ShowsFlow
-ShowsCommand (Some (Design case)) old new shown = FromCase case old new shown ShowsDesign
-ShowsCommand (Some (Curves case)) old new shown = FromCase case old new shown AreCurvesOf
+ShowsCommand (Some (Targets case)) old new shown = FromFile case_file case old new shown AreTargetsOf
+ShowsCommand (Some (Flow case)) old new shown = FromFile case_file case old new shown ShowsFlow
+ShowsCommand (Some (Design case)) old new shown = FromFile case_file case old new shown ShowsDesign
+ShowsCommand (Some (Curves case)) old new shown = FromFile case_file case old new shown AreCurvesOf
 ShowsCommand (Some (Audit case network)) old new shown = FromNetwork case network old new shown
+ShowsCommand (Some (Site site)) old new shown = FromFile site_file site old new shown ShowsSite

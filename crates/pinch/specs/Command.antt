@@ -2,9 +2,9 @@
 use Rattle.std.specs.Prelude.{ℕ, List, [], ◌∷◌, Option, Some, None, option_map, codes, if◌then◌else◌}
 use Rattle.std.specs.Str.{bytes_eq}
 use Rattle.reports.specs.declared.shown.FileRole.{FileRole}
-use Rattle.reports.specs.declared.shown.FileRole.TheVariants.{Case, Network}
+use Rattle.reports.specs.declared.shown.FileRole.TheVariants.{Case, Network, Site as SiteFile}
 use Rattle.pinch.specs.declared.command.Command.{Command}
-use Rattle.pinch.specs.declared.command.Command.TheVariants.{Targets, Flow, Design, Curves, Audit}
+use Rattle.pinch.specs.declared.command.Command.TheVariants.{Targets, Flow, Design, Curves, Audit, Site}
 
 -- the name of a file, where the words are just that; it is not empty
 abbrev pub one_file : List (List ℕ) → Option (List ℕ)
@@ -24,6 +24,7 @@ command_of_word word rest =
     else if bytes_eq word (codes "design") then option_map Design (one_file rest)
     else if bytes_eq word (codes "curves") then option_map Curves (one_file rest)
     else if bytes_eq word (codes "audit") then audit_of rest
+    else if bytes_eq word (codes "site") then option_map Site (one_file rest)
     else None
 
 -- the command that the words form, if they form one
@@ -39,4 +40,5 @@ file_of (Targets case) Case = Some case
 file_of (Flow case) Case = Some case
 file_of (Design case) Case = Some case
 file_of (Curves case) Case = Some case
-file_of command Network = None
+file_of (Site site) SiteFile = Some site
+file_of command role = None

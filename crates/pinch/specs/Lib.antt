@@ -9,5 +9,6 @@ pub mod Files
 pub mod Flow
 pub mod Format
 pub mod Network
+pub mod Site
 pub mod Status
 pub mod Stop

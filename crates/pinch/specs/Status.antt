@@ -1,5 +1,7 @@
 -- The exit status of the program.
 use Rattle.std.specs.Prelude.{ℕ, ⊤}
+use Rattle.transport.specs.declared.answer.Answer.{Answer}
+use Rattle.transport.specs.declared.answer.Answer.TheVariants as answer
 use Rattle.reports.specs.declared.shown.Shown.{Shown}
 use Rattle.reports.specs.declared.shown.Shown.TheVariants as shows
 use Rattle.pinch.specs.declared.status.Status.{Status}
@@ -18,6 +20,11 @@ number_of WriteFault = 7
 number_of OutOfMemory = 8
 number_of TooFine = 9
 
+-- the status of a site with this answer
+abbrev pub status_of_site : Answer → Status
+status_of_site (answer.Least flow prices cost) = Answered
+status_of_site (answer.Stuck cut) = AnsweredNo
+
 -- the status of what is shown, where all of its text was written
 abbrev pub status_of : Shown → Status
 status_of (shows.Targets targets pinches) = Answered
@@ -28,8 +35,10 @@ status_of (shows.Design case network balance) = Answered
 status_of (shows.Accepted case network balance place penalties) = Answered
 status_of (shows.Rejected case network place reason) = AnsweredNo
 status_of (shows.TooFine case network place step) = TooFine
+status_of (shows.SiteShown site parts sinks sources answer) = status_of_site answer
 status_of shows.BadWords = NoCommand
 status_of (shows.BadCase row why) = CaseRefused
+status_of (shows.BadSite row why) = CaseRefused
 status_of (shows.BadNetwork line why) = NetworkRefused
 status_of (shows.TooLong file) = TooLong
 status_of (shows.ReadFault file) = ReadFault

@@ -8,7 +8,8 @@ use crate::audit::show_audit;
 use crate::case_answer::{show_curves, show_flow, show_targets};
 use crate::command::{Command, read_command};
 use crate::design::show_design;
-use crate::files::{take_case, take_network};
+use crate::files::{take_case, take_network, take_site};
+use crate::site_answer::show_site;
 use crate::stop::Stop;
 use crate::word::Word;
 use pinch_outside::Shelf;
@@ -49,6 +50,10 @@ fn answer_command<S: Shelf>(alloc: Global, shelf: &mut S, command: &Command) -> 
             Ok(show_curves(alloc, &case)?)
         }
         Command::Audit { case, network } => answer_audit(alloc, shelf, case, network),
+        Command::Site { site } => {
+            let site = take_site(alloc, shelf, site)?;
+            Ok(show_site(alloc, site)?)
+        }
     }
 }
 

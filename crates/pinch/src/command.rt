@@ -19,6 +19,8 @@ pub enum Command {
     Curves { case: Word },
     /// `audit CASE NETWORK`: whether the network is valid for the completed case.
     Audit { case: Word, network: Word },
+    /// `site SITE`: the profiles of a site, and its least boiler heat with a certificate.
+    Site { site: Word },
 }
 
 /// The command that the words form, if they form one.
@@ -40,6 +42,7 @@ fn command_of_word(alloc: Global, word: &str, rest: &[Word]) -> Result<Option<Co
         "design" => Ok(one_file(alloc, rest)?.map(|case| Command::Design { case })),
         "curves" => Ok(one_file(alloc, rest)?.map(|case| Command::Curves { case })),
         "audit" => audit_of(alloc, rest),
+        "site" => Ok(one_file(alloc, rest)?.map(|site| Command::Site { site })),
         _ => Ok(None),
     }
 }

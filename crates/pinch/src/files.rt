@@ -6,7 +6,9 @@ ghost use Rattle.pinch_outside.specs.Shelf.{KeepsFiles, IsWhole};
 ghost use Rattle.pinch.specs.Case.{case_file};
 ghost use Rattle.pinch.specs.Files.{NoFile, NoText, ReadsText};
 ghost use Rattle.pinch.specs.Network.{network_file};
+ghost use Rattle.pinch.specs.Site.{site_file};
 ghost use Rattle.pinch.specs.Stop.{IfEarly};
+ghost use Rattle.site.specs.Site.{IsValidSite};
 
 use crate::stop::Stop;
 use crate::word::Word;
@@ -14,6 +16,8 @@ use case_text::{CaseFault, read_case};
 use network_text::{NetFault, Network, read_network};
 use pinch_outside::{Shelf, TakeFault, take_all};
 use reports::{FileRole, Shown};
+use site::Site;
+use site_text::{SiteFault, read_site};
 use std::alloc::Global;
 use stream_case::Case;
 
@@ -47,6 +51,20 @@ pub fn take_case<S: Shelf>(alloc: Global, shelf: &mut S, name: &Word) -> Result<
         Ok(case) => Ok(case),
         Err(CaseFault::Row { row, why }) => Err(Stop::Early(Shown::BadCase { row, why })),
         Err(CaseFault::OutOfMemory) => Err(Stop::OutOfMemory),
+    }
+}
+
+/// The site of a site file.
+pub fn take_site<S: Shelf>(alloc: Global, shelf: &mut S, name: &Word) -> Result<Site, Stop>
+    ensures site { IfOk result (ReadsText site_file name.now (S.state shelf.old) (S.state shelf.new)) }
+    ensures valid { IfOk result IsValidSite }
+    ensures stop { IfErr result (λ stop. IfEarly stop (NoText site_file name.now (S.state shelf.old) (S.state shelf.new))) }
+{
+    let bytes = take_file(alloc, shelf, FileRole::Site, name)?;
+    match read_site(alloc, &bytes) {
+        Ok(site) => Ok(site),
+        Err(SiteFault::Row { row, why }) => Err(Stop::Early(Shown::BadSite { row, why })),
+        Err(SiteFault::OutOfMemory) => Err(Stop::OutOfMemory),
     }
 }
 

@@ -10,6 +10,7 @@ mod design;
 mod files;
 mod flow;
 mod program;
+mod site_answer;
 mod status;
 mod stop;
 #[cfg(test)]

@@ -1,8 +1,9 @@
 //! The exit statuses of the program.
 ghost use Rattle.std.specs.Prelude.{◌≡◌};
-ghost use Rattle.pinch.specs.Status.{number_of, status_of};
+ghost use Rattle.pinch.specs.Status.{number_of, status_of, status_of_site};
 
 use reports::Shown;
+use transport::Answer;
 
 /// How the program ends.
 #[derive(Clone, Copy, Debug, PartialEq, Eq)]
@@ -13,7 +14,7 @@ pub enum Status {
     AnsweredNo,
     /// The words are no command.
     NoCommand,
-    /// The case file is refused.
+    /// The case file or the site file is refused.
     CaseRefused,
     /// The network file is refused.
     NetworkRefused,
@@ -60,11 +61,22 @@ pub fn status_of(shown: &Shown) -> Status
         | Shown::Design { .. }
         | Shown::Accepted { .. } => Status::Answered,
         Shown::Stuck { .. } | Shown::Rejected { .. } => Status::AnsweredNo,
+        Shown::SiteShown { answer, .. } => status_of_site(answer),
         Shown::TooFine { .. } => Status::TooFine,
         Shown::BadWords => Status::NoCommand,
-        Shown::BadCase { .. } => Status::CaseRefused,
+        Shown::BadCase { .. } | Shown::BadSite { .. } => Status::CaseRefused,
         Shown::BadNetwork { .. } => Status::NetworkRefused,
         Shown::TooLong { .. } => Status::TooLong,
         Shown::ReadFault { .. } => Status::ReadFault,
+    }
+}
+
+/// The status of a site with this answer.
+fn status_of_site(answer: &Answer) -> Status
+    ensures { result ≡ status_of_site answer.now }
+{
+    match answer {
+        Answer::Least { .. } => Status::Answered,
+        Answer::Stuck(_) => Status::AnsweredNo,
     }
 }

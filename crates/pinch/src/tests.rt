@@ -15,4 +15,5 @@ mod network_lines;
 mod penalty_lines;
 mod support;
 mod targets;
+mod total_site;
 mod words;

@@ -2,7 +2,6 @@
 use Rattle.std.specs.Prelude.{ℕ, List, [], ◌∷◌, ◌++◌, codes}
 use Rattle.std.specs.List.{flat_map}
 use Rattle.std.specs.Fmt.{signed_decimal}
-use Rattle.stream_case.specs.declared.case.Case.{Case}
 use Rattle.grid.specs.declared.part.Part.{Part}
 use Rattle.grid.specs.declared.parts.Parts.{Parts}
 use Rattle.heat_flow.specs.declared.cut.Cut.{Cut}
@@ -11,6 +10,7 @@ use Rattle.heat_flow.specs.declared.cut.CutKind.TheVariants.{Demand, Supply}
 use Rattle.heat_flow.specs.Cuts.{cut_side}
 use Rattle.reports.specs.Flow.{part_at, side_parts}
 use Rattle.reports.specs.Lines.{line}
+use Rattle.reports.specs.declared.names.SourceNames.{SourceNames}
 
 -- whether the parts have to take heat or to give it
 abbrev pub cut_word : CutKind → List ℕ
@@ -22,9 +22,9 @@ abbrev pub cut_line : Cut → List ℕ
 cut_line cut = line (codes "cut " ++ (cut_word cut.kind ++ 32 ∷ signed_decimal cut.need)) cut.offer
 
 -- part NAME HIGH LOW, of the part at an index of a list
-abbrev pub member_line : Case → List Part → ℕ → List ℕ
-member_line c parts index = codes "part " ++ (part_at c parts index ++ 10 ∷ [])
+abbrev pub member_line : SourceNames → List Part → ℕ → List ℕ
+member_line names parts index = codes "part " ++ (part_at names parts index ++ 10 ∷ [])
 
 -- that there is no heat flow, the cut and its parts
-abbrev pub stuck_text : Case → Parts → Cut → List ℕ
-stuck_text c parts cut = codes "infeasible\n" ++ cut_line cut ++ flat_map (member_line c (side_parts (cut_side cut.kind) parts)) cut.parts
+abbrev pub stuck_text : SourceNames → Parts → Cut → List ℕ
+stuck_text names parts cut = codes "infeasible\n" ++ cut_line cut ++ flat_map (member_line names (side_parts (cut_side cut.kind) parts)) cut.parts

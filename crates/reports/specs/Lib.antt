@@ -4,6 +4,8 @@ pub mod Cut
 pub mod Design
 pub mod Flow
 pub mod Lines
+pub mod Names
 pub mod Refusals
+pub mod Site
 pub mod Targets
 pub mod Text

@@ -5,8 +5,10 @@ use Rattle.case_text.specs.declared.fault.CaseWhy.{CaseWhy}
 use Rattle.case_text.specs.declared.fault.CaseWhy.TheVariants as why
 use Rattle.network_text.specs.declared.fault.NetWhy.{NetWhy}
 use Rattle.network_text.specs.declared.fault.NetWhy.TheVariants as net
+use Rattle.site_text.specs.declared.fault.SiteWhy.{SiteWhy}
+use Rattle.site_text.specs.declared.fault.SiteWhy.TheVariants as site
 use Rattle.reports.specs.declared.shown.FileRole.{FileRole}
-use Rattle.reports.specs.declared.shown.FileRole.TheVariants.{Case, Network}
+use Rattle.reports.specs.declared.shown.FileRole.TheVariants.{Case, Network, Site}
 
 -- the name of a cause for which a case file is refused
 abbrev pub case_why_name : CaseWhy → List ℕ
@@ -27,6 +29,26 @@ case_why_name why.BadRange = codes "BadRange"
 -- case row ROW WHY
 abbrev pub bad_case_text : ℕ → CaseWhy → List ℕ
 bad_case_text row why = codes "case row " ++ (decimal row ++ 32 ∷ (case_why_name why ++ 10 ∷ []))
+
+-- the name of a cause for which a site file is refused
+abbrev pub site_why_name : SiteWhy → List ℕ
+site_why_name site.UnknownKind = codes "UnknownKind"
+site_why_name site.FieldCount = codes "FieldCount"
+site_why_name site.BadNumber = codes "BadNumber"
+site_why_name site.OutOfRange = codes "OutOfRange"
+site_why_name site.BadName = codes "BadName"
+site_why_name site.SameName = codes "SameName"
+site_why_name site.WrongWay = codes "WrongWay"
+site_why_name site.Repeated = codes "Repeated"
+site_why_name site.TooMany = codes "TooMany"
+site_why_name site.NoPlant = codes "NoPlant"
+site_why_name site.NoContribution = codes "NoContribution"
+site_why_name site.NoMain = codes "NoMain"
+site_why_name site.NoStream = codes "NoStream"
+
+-- site row ROW WHY
+abbrev pub bad_site_text : ℕ → SiteWhy → List ℕ
+bad_site_text row why = codes "site row " ++ (decimal row ++ 32 ∷ (site_why_name why ++ 10 ∷ []))
 
 -- the name of a cause for which a network file is refused
 abbrev pub net_why_name : NetWhy → List ℕ
@@ -52,6 +74,7 @@ bad_network_text line why = codes "network line " ++ (decimal line ++ 32 ∷ (ne
 abbrev pub role_name : FileRole → List ℕ
 role_name Case = codes "case"
 role_name Network = codes "network"
+role_name Site = codes "site"
 
 -- FAULT FILE
 abbrev pub file_text : List ℕ → FileRole → List ℕ

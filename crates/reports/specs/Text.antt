@@ -7,10 +7,12 @@ use Rattle.reports.specs.Curves.{curves_text}
 use Rattle.reports.specs.Cut.{stuck_text}
 use Rattle.reports.specs.Design.{design_text}
 use Rattle.reports.specs.Flow.{flow_text}
-use Rattle.reports.specs.Refusals.{bad_case_text, bad_network_text, file_text}
+use Rattle.reports.specs.Names.{case_names}
+use Rattle.reports.specs.Refusals.{bad_case_text, bad_network_text, bad_site_text, file_text}
+use Rattle.reports.specs.Site.{total_site_text}
 use Rattle.reports.specs.Targets.{targets_text}
 use Rattle.reports.specs.declared.shown.Shown.{Shown}
-use Rattle.reports.specs.declared.shown.Shown.TheVariants.{Targets, Flow, Stuck, Curves, Design, Accepted, Rejected, TooFine, BadWords, BadCase, BadNetwork, ReadFault, TooLong}
+use Rattle.reports.specs.declared.shown.Shown.TheVariants.{Targets, Flow, Stuck, Curves, Design, Accepted, Rejected, TooFine, SiteShown, BadWords, BadCase, BadSite, BadNetwork, ReadFault, TooLong}
 
 -- a design has the shape of a network of its completed case
 unfoldable pub IsPrintable : Shown → Type 0
@@ -21,14 +23,16 @@ IsPrintable other = ⊤
 unfoldable pub text : Shown → List ℕ
 text (Targets targets pinches) = targets_text targets pinches
 text (Flow case parts flow prices cost) = flow_text case parts flow.transfers prices cost
-text (Stuck case parts cut) = stuck_text case parts cut
+text (Stuck case parts cut) = stuck_text (case_names case) parts cut
 text (Curves hot cold net) = curves_text hot cold net
 text (Design case network balance) = design_text case network balance
 text (Accepted case network balance place penalties) = accepted_text case network balance place penalties
 text (Rejected case network place reason) = rejected_text case network place reason
 text (TooFine case network place step) = too_fine_text case network place step
+text (SiteShown site parts sinks sources answer) = total_site_text site parts sinks sources answer
 text BadWords = codes "words: targets flow curves design vertical audit site sweep sample certify prices\n"
 text (BadCase row why) = bad_case_text row why
+text (BadSite row why) = bad_site_text row why
 text (BadNetwork line why) = bad_network_text line why
 text (TooLong file) = file_text (codes "too long") file
 text (ReadFault file) = file_text (codes "read fault") file

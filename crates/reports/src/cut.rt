@@ -5,24 +5,24 @@ ghost use Rattle.reports.specs.Cut.{cut_line, cut_word, member_line, stuck_text}
 
 use crate::flow::{part_at, side_parts};
 use crate::line::line;
+use crate::names::SourceNames;
 use grid::{Part, Parts};
 use heat_flow::{Cut, CutKind};
 use std::alloc::{AllocError, Global};
-use stream_case::Case;
 
 /// That there is no heat flow, the cut with its need and its offer in W, and its parts.
 pub fn stuck_text(
     alloc: Global,
-    case: &Case,
+    names: &SourceNames,
     parts: &Parts,
     cut: &Cut,
 ) -> Result<String, AllocError>
-    ensures { IfOk result (λ text. string_bytes text ≡ stuck_text case.now parts.now cut.now) }
+    ensures { IfOk result (λ text. string_bytes text ≡ stuck_text names.now parts.now cut.now) }
 {
     let parts = side_parts(cut.kind.side(), parts);
     let mut text = String::from_str(alloc, "infeasible\n")?;
     text.push_str(&cut_line(alloc, cut)?)?;
-    text.push_str(&member_lines(alloc, case, parts, cut.parts.as_slice())?)?;
+    text.push_str(&member_lines(alloc, names, parts, cut.parts.as_slice())?)?;
     Ok(text)
 }
 
@@ -45,23 +45,28 @@ fn cut_word(kind: CutKind) -> &'static str
 
 fn member_lines(
     alloc: Global,
-    case: &Case,
+    names: &SourceNames,
     parts: &[Part],
     members: &[u32],
 ) -> Result<String, AllocError>
     ensures { IfOk result (λ text. string_bytes text
-        ≡ flat_map (member_line case.now parts.now) members.now) }
+        ≡ flat_map (member_line names.now parts.now) members.now) }
 {
     let mut text = String::new(alloc);
     for index in members {
-        text.push_str(&member_line(alloc, case, parts, *index)?)?;
+        text.push_str(&member_line(alloc, names, parts, *index)?)?;
     }
     Ok(text)
 }
 
-fn member_line(alloc: Global, case: &Case, parts: &[Part], index: u32) -> Result<String, AllocError>
-    ensures { IfOk result (λ text. string_bytes text ≡ member_line case.now parts.now index) }
+fn member_line(
+    alloc: Global,
+    names: &SourceNames,
+    parts: &[Part],
+    index: u32,
+) -> Result<String, AllocError>
+    ensures { IfOk result (λ text. string_bytes text ≡ member_line names.now parts.now index) }
 {
-    let part = part_at(alloc, case, parts, index)?;
+    let part = part_at(alloc, names, parts, index)?;
     format!(in alloc; "part {part}\n")
 }

@@ -1,14 +1,12 @@
 //! The text of a heat flow with its prices.
 ghost use Rattle.std.specs.Prelude.{◌≡◌, ◌++◌, IfOk, codes, string_bytes};
 ghost use Rattle.std.specs.List.{flat_map};
-ghost use Rattle.stream_case.specs.Case.{source_name};
-ghost use Rattle.heat_flow.specs.Prices.{price_at};
 ghost use Rattle.stream_case.specs.Source.{same_source};
 ghost use Rattle.reports.specs.Lines.{line, texts_from};
-ghost use Rattle.reports.specs.Flow.{part_text, part_at, is_of_utility, heat_of_utility, utility_heat, side_parts, side_prices, use_line, move_line, price_word, price_line, price_lines, flow_text};
+ghost use Rattle.reports.specs.Flow.{part_text, part_at, is_of_utility, heat_of_utility, utility_heat, side_parts, side_prices, use_line, move_line, price_word, price_line, price_lines, certificate_lines, flow_text};
 
-use crate::line::line;
-use crate::source::source_name;
+use crate::line::{line, number_at};
+use crate::names::{SourceNames, case_names};
 use grid::{Part, Parts};
 use heat_flow::{Prices, Transfer};
 use std::alloc::{AllocError, Global};
@@ -26,11 +24,10 @@ pub fn flow_text(
     ensures { IfOk result (λ text. string_bytes text
         ≡ flow_text case.now parts.now transfers.now prices.now cost) }
 {
+    let names = case_names(alloc, case)?;
     let mut text = line(alloc, "cost", cost)?;
     text.push_str(&use_lines(alloc, case, parts, transfers)?)?;
-    text.push_str(&move_lines(alloc, case, parts, transfers)?)?;
-    text.push_str(&price_lines(alloc, case, Side::Hot, parts, prices)?)?;
-    text.push_str(&price_lines(alloc, case, Side::Cold, parts, prices)?)?;
+    text.push_str(&certificate_lines(alloc, &names, parts, transfers, prices)?)?;
     Ok(text)
 }
 
@@ -77,7 +74,7 @@ pub fn side_parts(side: Side, parts: &Parts) -> &[Part]
 }
 
 /// What a utility gives or takes in all.
-fn utility_heat(index: usize, side: Side, parts: &[Part], transfers: &[Transfer]) -> i128
+pub fn utility_heat(index: usize, side: Side, parts: &[Part], transfers: &[Transfer]) -> i128
     ensures { result ≡ utility_heat index side parts.now transfers.now }
 {
     let mut total: i128 = 0;
@@ -110,49 +107,66 @@ fn is_of_utility(index: usize, parts: &[Part], part: u32) -> bool
     }
 }
 
+/// The transfers and the prices of the parts, a line each.
+pub fn certificate_lines(
+    alloc: Global,
+    names: &SourceNames,
+    parts: &Parts,
+    transfers: &[Transfer],
+    prices: &Prices,
+) -> Result<String, AllocError>
+    ensures { IfOk result (λ text. string_bytes text
+        ≡ certificate_lines names.now parts.now transfers.now prices.now) }
+{
+    let mut text = move_lines(alloc, names, parts, transfers)?;
+    text.push_str(&price_lines(alloc, names, Side::Hot, parts, prices)?)?;
+    text.push_str(&price_lines(alloc, names, Side::Cold, parts, prices)?)?;
+    Ok(text)
+}
+
 fn move_lines(
     alloc: Global,
-    case: &Case,
+    names: &SourceNames,
     parts: &Parts,
     transfers: &[Transfer],
 ) -> Result<String, AllocError>
     ensures { IfOk result (λ text. string_bytes text
-        ≡ flat_map (move_line case.now parts.now) transfers.now) }
+        ≡ flat_map (move_line names.now parts.now) transfers.now) }
 {
     let mut text = String::new(alloc);
     for transfer in transfers {
-        text.push_str(&move_line(alloc, case, parts, transfer)?)?;
+        text.push_str(&move_line(alloc, names, parts, transfer)?)?;
     }
     Ok(text)
 }
 
 fn move_line(
     alloc: Global,
-    case: &Case,
+    names: &SourceNames,
     parts: &Parts,
     transfer: &Transfer,
 ) -> Result<String, AllocError>
-    ensures { IfOk result (λ text. string_bytes text ≡ move_line case.now parts.now transfer.now) }
+    ensures { IfOk result (λ text. string_bytes text ≡ move_line names.now parts.now transfer.now) }
 {
-    let hot = part_at(alloc, case, parts.hot.as_slice(), transfer.hot)?;
-    let cold = part_at(alloc, case, parts.cold.as_slice(), transfer.cold)?;
+    let hot = part_at(alloc, names, parts.hot.as_slice(), transfer.hot)?;
+    let cold = part_at(alloc, names, parts.cold.as_slice(), transfer.cold)?;
     let word = format!(in alloc; "move {hot} {cold}")?;
     line(alloc, &word, i128::from(transfer.heat))
 }
 
 fn price_lines(
     alloc: Global,
-    case: &Case,
+    names: &SourceNames,
     side: Side,
     parts: &Parts,
     prices: &Prices,
 ) -> Result<String, AllocError>
-    ensures { IfOk result (λ text. string_bytes text ≡ price_lines case.now side parts.now prices.now) }
+    ensures { IfOk result (λ text. string_bytes text ≡ price_lines names.now side parts.now prices.now) }
 {
     let prices = side_prices(side, prices);
     let mut text = String::new(alloc);
     for (index, part) in side_parts(side, parts).iter().enumerate() {
-        text.push_str(&price_line(alloc, case, side, price_at(prices, index), part)?)?;
+        text.push_str(&price_line(alloc, names, side, number_at(prices, index), part)?)?;
     }
     Ok(text)
 }
@@ -168,14 +182,14 @@ fn side_prices(side: Side, prices: &Prices) -> &[i64]
 
 fn price_line(
     alloc: Global,
-    case: &Case,
+    names: &SourceNames,
     side: Side,
     price: i64,
     part: &Part,
 ) -> Result<String, AllocError>
-    ensures { IfOk result (λ text. string_bytes text ≡ price_line case.now side price part.now) }
+    ensures { IfOk result (λ text. string_bytes text ≡ price_line names.now side price part.now) }
 {
-    let word = format!(in alloc; "{} {}", price_word(side), part_text(alloc, case, part)?)?;
+    let word = format!(in alloc; "{} {}", price_word(side), part_text(alloc, names, part)?)?;
     line(alloc, &word, i128::from(price))
 }
 
@@ -189,33 +203,28 @@ fn price_word(side: Side) -> &'static str
     }
 }
 
-/// The price at an index, and 0 past the end.
-fn price_at(prices: &[i64], index: usize) -> i64
-    ensures { result ≡ price_at prices.now index }
-{
-    match prices.get(index) {
-        Some(price) => *price,
-        None => 0,
-    }
-}
-
 /// The text of the part at an index; nothing past the end.
-pub fn part_at(alloc: Global, case: &Case, parts: &[Part], index: u32) -> Result<String, AllocError>
-    ensures { IfOk result (λ text. string_bytes text ≡ part_at case.now parts.now index) }
+pub fn part_at(
+    alloc: Global,
+    names: &SourceNames,
+    parts: &[Part],
+    index: u32,
+) -> Result<String, AllocError>
+    ensures { IfOk result (λ text. string_bytes text ≡ part_at names.now parts.now index) }
 {
     match parts.get(index as usize) {
-        Some(part) => part_text(alloc, case, part),
+        Some(part) => part_text(alloc, names, part),
         None => Ok(String::new(alloc)),
     }
 }
 
 /// The name of the part's source, its high and its low.
-fn part_text(alloc: Global, case: &Case, part: &Part) -> Result<String, AllocError>
-    ensures { IfOk result (λ text. string_bytes text ≡ part_text case.now part.now) }
+fn part_text(alloc: Global, names: &SourceNames, part: &Part) -> Result<String, AllocError>
+    ensures { IfOk result (λ text. string_bytes text ≡ part_text names.now part.now) }
 {
     format!(in alloc;
         "{} {} {}",
-        source_name(case, part.source),
+        names.source_name(part.source),
         part.high,
         part.low
     )

@@ -6,12 +6,14 @@ mod cut;
 mod design;
 mod flow;
 mod line;
+mod names;
 mod points;
 mod refusal;
 mod shown;
 mod source;
 mod targets;
 mod text;
+mod total_site;
 
 pub use shown::{FileRole, Shown};
 pub use text::text_of;

@@ -1,10 +1,11 @@
 //! The texts of what is no result of a command: words, files and rows that are refused.
 ghost use Rattle.std.specs.Prelude.{◌≡◌, IfOk, string_bytes};
-ghost use Rattle.reports.specs.Refusals.{bad_case_text, bad_network_text, case_why_name, file_text, net_why_name, role_name};
+ghost use Rattle.reports.specs.Refusals.{bad_case_text, bad_network_text, bad_site_text, case_why_name, file_text, net_why_name, role_name, site_why_name};
 
 use crate::shown::FileRole;
 use case_text::CaseWhy;
 use network_text::NetWhy;
+use site_text::SiteWhy;
 use std::alloc::{AllocError, Global};
 
 /// What is printed where the words are no command.
@@ -16,6 +17,13 @@ pub fn bad_case_text(alloc: Global, row: u32, why: CaseWhy) -> Result<String, Al
     ensures { IfOk result (λ text. string_bytes text ≡ bad_case_text row why) }
 {
     format!(in alloc; "case row {row} {}\n", case_why_name(why))
+}
+
+/// A line that names the row of a site file, counted from 1, and its cause.
+pub fn bad_site_text(alloc: Global, row: u32, why: SiteWhy) -> Result<String, AllocError>
+    ensures { IfOk result (λ text. string_bytes text ≡ bad_site_text row why) }
+{
+    format!(in alloc; "site row {row} {}\n", site_why_name(why))
 }
 
 /// A line that names the statement of a network file, counted from 1, and its cause.
@@ -38,6 +46,7 @@ fn role_name(file: FileRole) -> &'static str
     match file {
         FileRole::Case => "case",
         FileRole::Network => "network",
+        FileRole::Site => "site",
     }
 }
 
@@ -58,6 +67,26 @@ fn case_why_name(why: CaseWhy) -> &'static str
         CaseWhy::NoContribution => "NoContribution",
         CaseWhy::NoStream => "NoStream",
         CaseWhy::BadRange => "BadRange",
+    }
+}
+
+fn site_why_name(why: SiteWhy) -> &'static str
+    ensures { result.now ≡ site_why_name why }
+{
+    match why {
+        SiteWhy::UnknownKind => "UnknownKind",
+        SiteWhy::FieldCount => "FieldCount",
+        SiteWhy::BadNumber => "BadNumber",
+        SiteWhy::OutOfRange => "OutOfRange",
+        SiteWhy::BadName => "BadName",
+        SiteWhy::SameName => "SameName",
+        SiteWhy::WrongWay => "WrongWay",
+        SiteWhy::Repeated => "Repeated",
+        SiteWhy::TooMany => "TooMany",
+        SiteWhy::NoPlant => "NoPlant",
+        SiteWhy::NoContribution => "NoContribution",
+        SiteWhy::NoMain => "NoMain",
+        SiteWhy::NoStream => "NoStream",
     }
 }
 

@@ -8,13 +8,17 @@ use network_audit::{Balance, Place, Reason};
 use network_text::{NetWhy, Network};
 use penalties::PenaltyList;
 use problem_table::Target;
+use site::{Site, SiteTable};
+use site_text::SiteWhy;
 use stream_case::{Case, Items};
+use transport::Answer;
 
 /// What a file is to a command.
 #[derive(Clone, Copy, Debug, PartialEq, Eq)]
 pub enum FileRole {
     Case,
     Network,
+    Site,
 }
 
 /// What is printed. Everything that a text says of a case is carried here, so that a contract
@@ -80,12 +84,27 @@ pub enum Shown {
         place: Place,
         step: u32,
     },
+    /// The places, parts and reach of the site; what its plants can take above each place and give
+    /// below it, in W; and the heat flow of the least boiler heat between its parts with prices that
+    /// prove it, or a cut where there is none.
+    SiteShown {
+        site: Site,
+        parts: SiteTable,
+        sinks: Items<i64>,
+        sources: Items<i64>,
+        answer: Answer,
+    },
     /// The words are no command.
     BadWords,
     /// The case file is refused: the row, counted from 1, and what is to be mended there.
     BadCase {
         row: u32,
         why: CaseWhy,
+    },
+    /// The site file is refused: the row, counted from 1, and what is to be mended there.
+    BadSite {
+        row: u32,
+        why: SiteWhy,
     },
     /// The network file is refused: the statement, counted from 1, and what is to be mended there.
     BadNetwork {

@@ -6,10 +6,12 @@ use crate::audit::{accepted_text, rejected_text, too_fine_text};
 use crate::cut::stuck_text;
 use crate::design::design_text;
 use crate::flow::flow_text;
+use crate::names::case_names;
 use crate::points::curves_text;
-use crate::refusal::{WORDS, bad_case_text, bad_network_text, file_text};
+use crate::refusal::{WORDS, bad_case_text, bad_network_text, bad_site_text, file_text};
 use crate::shown::Shown;
 use crate::targets::targets_text;
+use crate::total_site::total_site_text;
 use std::alloc::{AllocError, Global};
 
 /// The exact text of what is shown. A network that is shown as a design has the shape that the
@@ -28,7 +30,9 @@ pub fn text_of(alloc: Global, shown: &Shown) -> Result<Vec<u8>, AllocError>
             prices,
             cost,
         } => flow_text(alloc, case, parts, flow.transfers.as_slice(), prices, *cost)?,
-        Shown::Stuck { case, parts, cut } => stuck_text(alloc, case, parts, cut)?,
+        Shown::Stuck { case, parts, cut } => {
+            stuck_text(alloc, &case_names(alloc, case)?, parts, cut)?
+        }
         Shown::Curves { hot, cold, net } => {
             curves_text(alloc, hot.as_slice(), cold.as_slice(), net.as_slice())?
         }
@@ -56,8 +60,16 @@ pub fn text_of(alloc: Global, shown: &Shown) -> Result<Vec<u8>, AllocError>
             place,
             step,
         } => too_fine_text(alloc, case, network, *place, *step)?,
+        Shown::SiteShown {
+            site,
+            parts,
+            sinks,
+            sources,
+            answer,
+        } => total_site_text(alloc, site, parts, sinks, sources, answer)?,
         Shown::BadWords => String::from_str(alloc, WORDS)?,
         Shown::BadCase { row, why } => bad_case_text(alloc, *row, *why)?,
+        Shown::BadSite { row, why } => bad_site_text(alloc, *row, *why)?,
         Shown::BadNetwork { line, why } => bad_network_text(alloc, *line, *why)?,
         Shown::TooLong { file } => file_text(alloc, "too long", *file)?,
         Shown::ReadFault { file } => file_text(alloc, "read fault", *file)?,

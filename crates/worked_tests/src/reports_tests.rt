@@ -3,6 +3,7 @@ use case_text::CaseWhy;
 use network_text::NetWhy;
 use problem_table::Target;
 use reports::{FileRole, Shown, text_of};
+use site_text::SiteWhy;
 use std::process::Abort;
 use std::test::Fail;
 use stream_case::Items;
@@ -37,6 +38,9 @@ fn each_answer_has_its_text(rt: HostRuntime) -> Result<(), Fail> {
     let why = NetWhy::TooMany;
     let text = "network line 20001 TooMany\n";
     assert_printed(&rt, Shown::BadNetwork { line, why }, text);
+    let row = 4;
+    let why = SiteWhy::NoMain;
+    assert_printed(&rt, Shown::BadSite { row, why }, "site row 4 NoMain\n");
     let words = "words: targets flow curves design vertical audit \
                  site sweep sample certify prices\n";
     assert_printed(&rt, Shown::BadWords, words);
@@ -46,5 +50,8 @@ fn each_answer_has_its_text(rt: HostRuntime) -> Result<(), Fail> {
     let file = FileRole::Network;
     assert_printed(&rt, Shown::TooLong { file }, "too long network\n");
     assert_printed(&rt, Shown::ReadFault { file }, "read fault network\n");
+    let file = FileRole::Site;
+    assert_printed(&rt, Shown::TooLong { file }, "too long site\n");
+    assert_printed(&rt, Shown::ReadFault { file }, "read fault site\n");
     Ok(())
 }

@@ -4,13 +4,16 @@ ghost use Rattle.site.specs.Site.{IsValidSite};
 use crate::compare::{assert_lists, assert_same};
 use crate::grid_tests::{PartRow, rows_of};
 use crate::tables::MOST_HEAT;
-use site::{Site, sink_profile, site_parts, source_profile};
+use heat_flow::{Cut, CutKind};
+use site::{Site, sink_profile, site_parts, site_target, source_profile};
 use site_text::read_site;
 use std::alloc::{AllocError, Global};
 use std::process::Abort;
 use std::test::Fail;
+use stream_case::Items;
 use stream_case::Side::{Cold, Hot};
 use stream_case::Source::{Stream, Utility};
+use transport::Answer;
 
 /// A plant with heat to give, one that wants heat, and a main between them.
 const TWO_PLANTS: &[u8] =
@@ -129,4 +132,40 @@ fn sites_have_these_profiles(rt: HostRuntime) {
             assert_same(&rt, "a source", &source_profile(&site, *t), source);
         }
     }
+}
+
+/// The target of a site.
+fn target(rt: &(impl Abort + AllocGlobal), text: &[u8]) -> Answer {
+    site_target(rt.alloc(), &read(rt, text)).expect(rt, "memory for a target")
+}
+
+/// The least boiler heat: of the 8000 W that are wanted 4000 come through the main, and all where
+/// the streams are in one plant.
+const BOILERS: [(&[u8], i128); 2] = [(TWO_PLANTS, 4000), (ONE_PLANT, 0)];
+
+#[test]
+fn the_boiler_gives_what_the_mains_do_not(rt: HostRuntime) {
+    for (text, wanted) in &BOILERS {
+        let cost = match target(&rt, text) {
+            Answer::Least { cost, .. } => Some(cost),
+            Answer::Stuck(_) => None,
+        };
+        assert_same(&rt, "the boiler", &cost, &Some(*wanted));
+    }
+}
+
+#[test]
+fn a_main_that_is_too_low_leaves_a_cut(rt: HostRuntime) -> Result<(), Fail> {
+    let wanted = Cut {
+        kind: CutKind::Demand,
+        parts: Items::from_vec([0].to_vec(rt.alloc())?),
+        need: 500,
+        offer: 0,
+    };
+    let cut = match target(&rt, LOW_MAIN) {
+        Answer::Least { .. } => None,
+        Answer::Stuck(cut) => Some(cut),
+    };
+    assert_same(&rt, "the cut", &cut, &Some(wanted));
+    Ok(())
 }

@@ -1,0 +1,47 @@
+//! What `site` shows of the site that it reads.
+ghost use Rattle.std.specs.Prelude.{◌≡◌, map, IfOk};
+ghost use Rattle.site.specs.Profiles.{sink_profile, source_profile};
+ghost use Rattle.site.specs.Site.{IsValidSite};
+ghost use Rattle.pinch.specs.Site.{ShowsSite};
+
+use reports::Shown;
+use site::{Site, sink_profile, site_parts, site_target, source_profile};
+use std::alloc::{AllocError, Global};
+use stream_case::Items;
+
+/// The profiles of a site at each place of its grid, and the heat flow of the least boiler heat with
+/// its certificate, or a cut where there is no heat flow.
+pub fn show_site(alloc: Global, site: Site) -> Result<Shown, AllocError>
+    requires { IsValidSite site }
+    ensures { IfOk result (ShowsSite site) }
+{
+    let parts = site_parts(alloc, &site)?;
+    let (sinks, sources) = profiles_at(alloc, &site, parts.places.as_slice())?;
+    let answer = site_target(alloc, &site)?;
+    Ok(Shown::SiteShown {
+        site,
+        parts,
+        sinks,
+        sources,
+        answer,
+    })
+}
+
+/// What the plants can take above each of these places, and what they can give below it.
+fn profiles_at(
+    alloc: Global,
+    site: &Site,
+    places: &[i32],
+) -> Result<(Items<i64>, Items<i64>), AllocError>
+    requires { IsValidSite site.now }
+    ensures sinks { IfOk result (λ heats. heats.0 ≡ map (sink_profile site.now) places.now) }
+    ensures sources { IfOk result (λ heats. heats.1 ≡ map (source_profile site.now) places.now) }
+{
+    let mut sinks = Items::new(alloc);
+    let mut sources = Items::new(alloc);
+    for place in places {
+        sinks.push(sink_profile(site, *place))?;
+        sources.push(source_profile(site, *place))?;
+    }
+    Ok((sinks, sources))
+}

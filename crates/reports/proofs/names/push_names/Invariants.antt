@@ -1,0 +1,6 @@
+use Rattle.std.proofs.Common.{◌≡◌, ◌++◌, take}
+use Rattle.reports.specs.Names.{stream_names}
+use Rattle.reports.proofs.names.push_names.Given as goal
+
+abbrev pub invariant-loop-stream : goal.invariant-loop-stream
+invariant-loop-stream l = l.names ≡ l.initial.names ++ stream_names (take l.stream-index l.streams)
