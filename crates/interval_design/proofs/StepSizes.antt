@@ -1,5 +1,5 @@
 -- What the branches of the design carry: sizes over the widths of parts, at most that of a stream, and whole temperatures.
-use Rattle.std.proofs.Common.{◌≡◌, ◌∙◌, ◌<◌, ◌≤◌, ◌+◌, ◌*◌, ◌^◌, ◌∷◌, ◌++◌, ◌⊎◌, inl, inr, ⊎_elim, ℕ, ℤ, pos, ◌+ℤ◌, ◌-ℤ◌, ◌≤ℤ◌, ◌<ℤ◌, unsigned_abs, true, List, [], All, Some, get_or, slice_get, length, map, refl, sym, ap, subst, arith}
+use Rattle.std.proofs.Common.{◌≡◌, ◌<◌, ◌≤◌, ◌*◌, ◌∷◌, ◌++◌, ⊎_elim, ℕ, ℤ, pos, ◌-ℤ◌, ◌≤ℤ◌, unsigned_abs, true, List, [], All, Some, get_or, slice_get, map, refl, sym, subst, arith}
 use Rattle.std.specs.List.{enumerate_from, filter_map}
 use Rattle.std.proofs.lemmas.Int.{ints}
 use Rattle.std.proofs.lemmas.List.Elements.{All-append, All-head, All-map, All-nil, All-tail, All-weaker}
@@ -17,7 +17,7 @@ use Rattle.stream_case.specs.declared.stream.Stream.{Stream}
 use Rattle.stream_case.proofs.CompleteLemmas.{HasValidStreams-IsComplete}
 use Rattle.stream_case.proofs.EndLemmas.{AreEnds-IsValidStream}
 use Rattle.stream_case.proofs.HeatLemmas.{HasLength-IsValidStream}
-use Rattle.fractions.specs.Rationals.{IsWithinLimits, minus, plus, ratio, times, whole}
+use Rattle.fractions.specs.Rationals.{IsWithinLimits, minus, plus, times, whole}
 use Rattle.fractions.proofs.Comparisons.{at_most-whole, at_most_trans}
 use Rattle.fractions.proofs.Limits.{within-whole}
 use Rattle.fractions.proofs.Wholes.{whole-minus}
@@ -29,7 +29,7 @@ use Rattle.network_audit.proofs.Sized.{IsSized, sized-between, sized-times, size
 use Rattle.design_lines.specs.Values.{LedStage, course_values, courses_values, stage_values}
 use Rattle.design_lines.specs.declared.stage.Share.{Share}
 use Rattle.design_lines.proofs.StageSizes.{AreOver, IsOver, IsStageBranch, stage_sized}
-use Rattle.grid.specs.Part.{AreCaseParts, AreParts, IsPartOf, IsStreamPart}
+use Rattle.grid.specs.Part.{AreCaseParts, AreParts, IsPartOf}
 use Rattle.grid.specs.declared.part.Part.{Part}
 use Rattle.heat_flow.specs.Cuts.{parts_of}
 use Rattle.heat_flow.specs.Flow.{ArePositive, IsHeatFlow, KeepsRanges}

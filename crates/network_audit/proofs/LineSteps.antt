@@ -1,5 +1,5 @@
 -- The numbers that statements and exchangers form are within the limits where what the branches carry leaves room.
-use Rattle.std.proofs.Common.{◌≡◌, ◌∙◌, ◌<◌, ◌≤◌, ◌+◌, ◌+ℤ◌, ◌⊎◌, ⊎_elim, ℕ, ℤ, pos, Bool, true, false, List, [], Option, Some, None, All, slice_get, length, refl, sym, ap, subst, arith}
+use Rattle.std.proofs.Common.{◌≡◌, ◌∙◌, ◌+◌, ◌+ℤ◌, ⊎_elim, ℕ, ℤ, pos, Bool, true, false, List, [], Option, Some, None, All, slice_get, length, refl, sym, ap, subst, arith}
 use Rattle.std.specs.Prelude.{if◌then◌else◌}
 use Rattle.std.specs.Option.{option_map_or}
 use Rattle.std.proofs.lemmas.Bool.{cases_lt}

@@ -1,6 +1,6 @@
 -- Numbers over a denominator, of a size up to some bound: what is made of them, and when they are within the limits of a fraction.
-use Rattle.std.proofs.Common.{◌≡◌, ◌∙◌, ◌+◌, ◌*◌, ◌^◌, ◌<◌, ◌≤◌, ◌+ℤ◌, ◌-ℤ◌, ◌*ℤ◌, ◌≤ℤ◌, ℕ, ℤ, pos, neg_ℤ, unsigned_abs, sym, ap, ap₂, subst, arith}
-use Rattle.std.proofs.Math.Nat.{mul-le-mul, mul-pos}
+use Rattle.std.proofs.Common.{◌≡◌, ◌∙◌, ◌+◌, ◌*◌, ◌^◌, ◌<◌, ◌≤◌, ◌+ℤ◌, ◌-ℤ◌, ◌*ℤ◌, ℕ, ℤ, pos, unsigned_abs, sym, ap₂, subst, arith}
+use Rattle.std.proofs.Math.Nat.{mul-le-mul}
 use Rattle.std.proofs.lemmas.Int.{ints, unsigned_abs-mul}
 use Rattle.fractions.specs.Rationals.{IsAtMost, IsWithinLimits, Rational, minus, plus, ratio, rational_zero, times, whole}
 use Rattle.fractions.proofs.Comparisons.{at_most_from_ratio_whole, not_negative_from_ratio}

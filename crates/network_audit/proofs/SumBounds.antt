@@ -1,5 +1,5 @@
 -- The sums of utilities and of the balance are within the limits where their numbers are few and small.
-use Rattle.std.proofs.Common.{◌≡◌, ◌<◌, ◌≤◌, ◌+◌, ◌*◌, ◌^◌, ◌∷◌, ◌++◌, ◌||◌, ℕ, suc, ℤ, pos, unsigned_abs, Bool, true, false, List, [], Option, Some, None, All, get_or, slice_get, length, map, refl, sym, ap, subst, arith}
+use Rattle.std.proofs.Common.{◌≡◌, ◌<◌, ◌≤◌, ◌+◌, ◌*◌, ◌^◌, ◌∷◌, ◌++◌, ◌||◌, ℕ, suc, ℤ, pos, unsigned_abs, Bool, true, false, List, [], Option, Some, None, All, get_or, slice_get, length, map, refl, subst, arith}
 use Rattle.std.specs.Prelude.{if◌then◌else◌}
 use Rattle.std.specs.List.{cons_option, enumerate_from, filter_map}
 use Rattle.std.proofs.Math.Nat.{mul-le-mul}
@@ -18,9 +18,9 @@ use Rattle.stream_case.specs.declared.source.Side.TheVariants as side
 use Rattle.stream_case.specs.declared.source.Source.TheVariants as source
 use Rattle.stream_case.specs.declared.utility.Utility.{Utility}
 use Rattle.stream_case.proofs.CompleteLemmas.{AreStreams-IsComplete, IsPlaced-IsComplete, length-utilities}
-use Rattle.fractions.specs.Rationals.{Rational, minus, plus, ratio, rational_sum, rational_zero, times, whole}
+use Rattle.fractions.specs.Rationals.{Rational, plus, ratio, rational_sum, rational_zero, whole}
 use Rattle.fractions.proofs.Comparisons.{at_most-whole, at_most_trans}
-use Rattle.network_text.specs.Lines.{Exchanger, exchangers_of}
+use Rattle.network_text.specs.Lines.{exchangers_of}
 use Rattle.network_text.specs.Shape.{HasShape}
 use Rattle.network_text.specs.declared.network.Network.{Network}
 use Rattle.network_text.proofs.Lists.{all_at}
