@@ -3,7 +3,7 @@ use Rattle.std.proofs.Common.{◌≡◌, ◌∙◌, ◌<◌, ◌≤◌, ◌+◌,
 use Rattle.std.specs.List.{flat_map}
 use Rattle.std.proofs.Math.Nat.{le_of_mul-le-mul_right, mul-le-mul}
 use Rattle.std.proofs.lemmas.Int.{unsigned_abs-mul}
-use Rattle.std.proofs.lemmas.List.Elements.{All-append, All-from_recursion, All-head, All-tail}
+use Rattle.std.proofs.lemmas.List.Elements.{All-append, All-head, All-tail}
 use Rattle.sums.proofs.ProductLemmas.{*ℤ_cancel_right}
 use Rattle.stream_case.specs.declared.utility.Utility.{Utility}
 use Rattle.fractions.specs.Integers.{pos_above}
@@ -11,14 +11,14 @@ use Rattle.fractions.specs.Rationals.{Rational, plus, rational_sum, rational_zer
 use Rattle.fractions.proofs.Ratios.{ratio-one, same_from_ratio}
 use Rattle.fractions.proofs.Wholes.{ratio-multiple}
 use Rattle.network_text.specs.declared.network.Network.{Network}
-use Rattle.network_audit.specs.AllItems.{range_items, sum_steps, utility_items_at}
-use Rattle.network_audit.specs.Balance.{duties_with, heat_with}
+use Rattle.network_audit.specs.AllItems.{sum_steps, utility_items_at}
+use Rattle.network_audit.specs.Balance.{duties_with}
 use Rattle.network_audit.specs.Items.{IsFormed}
 use Rattle.network_audit.specs.declared.findings.Place.{Place}
 use Rattle.network_audit.specs.declared.findings.Place.TheVariants as place
 use Rattle.network_audit.proofs.FormedLemmas.{AreFormed, formed-none}
 use Rattle.network_audit.proofs.Sized.{IsSized, sized-plus, sized-whole}
-use Rattle.network_audit.proofs.SumBounds.{sized-sum, sums_formed}
+use Rattle.network_audit.proofs.SumBounds.{sized-sum, sums_formed, with_range}
 use Rattle.network_audit.proofs.SumSteps.{added, added-sum, steps-append}
 
 -- ---- whole numbers over another denominator
@@ -81,5 +81,4 @@ module _ (den m : ℕ) (small : den ≤ 2 ^ 48) where
   grouped_utility_formed network index u groups duties most each =
       let at = place.Utility index in
       let sums = groups_formed at 0 0 rational_zero groups (omega (arith, most)) (sized-whole 1 0 (pos 0) (omega arith) (omega arith)) each in
-      All-append IsFormed (sum_steps at 0 rational_zero (duties_with network index)) (range_items at u (heat_with network index)) (subst (λ numbers. AreFormed (sum_steps at 0 rational_zero numbers)) (sym duties) sums)
-      (All-from_recursion IsFormed (range_items at u (heat_with network index)) (tt, (tt, tt)))
+      with_range network index u (subst (λ numbers. AreFormed (sum_steps at 0 rational_zero numbers)) (sym duties) sums)

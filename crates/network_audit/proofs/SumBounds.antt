@@ -62,6 +62,12 @@ some_if : {Y : Type 0} (P : Y → Type 0) (b : Bool) (x y : Y) → P x → (if b
 some_if P true x y holds same = let is : x ≡ y = cc same in subst P is holds
 some_if P false x y holds same = cc same
 
+-- a utility forms the sum of its duties
+pub with_range : (network : Network) (index : ℕ) (u : Utility) → AreFormed (sum_steps (place.Utility index) 0 rational_zero (duties_with network index)) → AreFormed (utility_items_at network (index, u))
+with_range network index u sums =
+    All-append IsFormed (sum_steps (place.Utility index) 0 rational_zero (duties_with network index)) (range_items (place.Utility index) u (heat_with network index)) sums
+    (All-from_recursion IsFormed (range_items (place.Utility index) u (heat_with network index)) (tt, (tt, tt)))
+
 -- ---- sums over one denominator
 
 module _ (d m : ℕ) (some : 0 < d) (den : d ≤ 2 ^ 48) where
@@ -115,9 +121,7 @@ module _ (d m : ℕ) (some : 0 < d) (den : d ≤ 2 ^ 48) where
   utility_formed network index u most each =
       let duties = duties_with network index in
       let fewer : (length duties * m) * d ≤ (length (exchangers_of network.lines) * m) * d = mul-le-mul (mul-le-mul (few-duties network index) (omega arith)) (omega arith) in
-      All-append IsFormed (sum_steps (place.Utility index) 0 rational_zero duties) (range_items (place.Utility index) u (heat_with network index))
-      (sums_formed (place.Utility index) 0 0 rational_zero duties (omega (arith, fewer, most)) (sized-whole d 0 (pos 0) some (omega arith)) (duties-sized network index each))
-      (All-from_recursion IsFormed (range_items (place.Utility index) u (heat_with network index)) (tt, (tt, tt)))
+      with_range network index u (sums_formed (place.Utility index) 0 0 rational_zero duties (omega (arith, fewer, most)) (sized-whole d 0 (pos 0) some (omega arith)) (duties-sized network index each))
 
 -- ---- the heats of utilities
 
