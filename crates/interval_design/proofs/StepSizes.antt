@@ -1,5 +1,5 @@
 -- What the branches of the design carry: sizes over the widths of parts, at most that of a stream, and whole temperatures.
-use Rattle.std.proofs.Common.{◌≡◌, ◌<◌, ◌≤◌, ◌*◌, ◌∷◌, ◌++◌, ⊎_elim, ℕ, ℤ, pos, ◌+ℤ◌, ◌-ℤ◌, ◌≤ℤ◌, unsigned_abs, true, List, [], All, Some, get_or, slice_get, map, refl, sym, subst, arith}
+use Rattle.std.proofs.Common.{◌≡◌, ◌<◌, ◌≤◌, ◌∷◌, ◌++◌, ⊎_elim, ℕ, ℤ, pos, ◌+ℤ◌, ◌-ℤ◌, ◌≤ℤ◌, unsigned_abs, true, List, [], All, Some, get_or, slice_get, map, refl, sym, subst, arith}
 use Rattle.std.specs.List.{enumerate_from, filter_map}
 use Rattle.std.proofs.lemmas.Int.{ints}
 use Rattle.std.proofs.lemmas.List.Elements.{All-append, All-head, All-map, All-nil, All-tail, All-weaker}
@@ -17,10 +17,8 @@ use Rattle.stream_case.specs.declared.stream.Stream.{Stream}
 use Rattle.stream_case.proofs.CompleteLemmas.{HasValidStreams-IsComplete}
 use Rattle.stream_case.proofs.EndLemmas.{AreEnds-IsValidStream}
 use Rattle.stream_case.proofs.HeatLemmas.{HasLength-IsValidStream}
-use Rattle.fractions.specs.Rationals.{IsWithinLimits, minus, plus, times, whole}
+use Rattle.fractions.specs.Rationals.{IsWithinLimits, whole}
 use Rattle.fractions.proofs.Comparisons.{at_most-whole, at_most_trans}
-use Rattle.fractions.proofs.Limits.{within-whole}
-use Rattle.fractions.proofs.Wholes.{whole-minus}
 use Rattle.network_text.proofs.Lists.{all_at}
 use Rattle.network_values.specs.Values.{change, first_value, full_size, no_value}
 use Rattle.network_values.specs.declared.values.BranchValue.{BranchValue}

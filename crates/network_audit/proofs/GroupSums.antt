@@ -1,5 +1,5 @@
 -- The sum of a utility whose duties come in groups, each over its own denominator and with a whole sum.
-use Rattle.std.proofs.Common.{◌≡◌, ◌∙◌, ◌<◌, ◌≤◌, ◌+◌, ◌*◌, ◌^◌, ◌*ℤ◌, ◌∷◌, ◌++◌, ℕ, ℤ, pos, unsigned_abs, List, [], All, length, refl, sym, ap, subst, arith}
+use Rattle.std.proofs.Common.{◌≡◌, ◌∙◌, ◌<◌, ◌≤◌, ◌+◌, ◌*◌, ◌^◌, ◌*ℤ◌, ◌∷◌, ℕ, ℤ, pos, unsigned_abs, List, [], All, length, sym, ap, subst, arith}
 use Rattle.std.specs.List.{flat_map}
 use Rattle.std.proofs.Math.Nat.{le_of_mul-le-mul_right, mul-le-mul}
 use Rattle.std.proofs.lemmas.Int.{unsigned_abs-mul}
@@ -7,7 +7,7 @@ use Rattle.std.proofs.lemmas.List.Elements.{All-append, All-head, All-tail}
 use Rattle.sums.proofs.ProductLemmas.{*ℤ_cancel_right}
 use Rattle.stream_case.specs.declared.utility.Utility.{Utility}
 use Rattle.fractions.specs.Integers.{pos_above}
-use Rattle.fractions.specs.Rationals.{Rational, plus, rational_sum, rational_zero, whole}
+use Rattle.fractions.specs.Rationals.{Rational, rational_sum, rational_zero, whole}
 use Rattle.fractions.proofs.Ratios.{ratio-one, same_from_ratio}
 use Rattle.fractions.proofs.Wholes.{ratio-multiple}
 use Rattle.network_text.specs.declared.network.Network.{Network}
