@@ -1,5 +1,5 @@
 -- The sum of a utility whose duties come in groups, each over its own denominator and with a whole sum.
-use Rattle.std.proofs.Common.{◌≡◌, ◌∙◌, ◌<◌, ◌≤◌, ◌+◌, ◌*◌, ◌^◌, ◌*ℤ◌, ◌∷◌, ℕ, ℤ, pos, unsigned_abs, List, [], All, length, sym, ap, subst, arith}
+use Rattle.std.proofs.Common.{◌≡◌, ◌∙◌, ◌<◌, ◌≤◌, ◌+◌, ◌*◌, ◌*ℤ◌, ◌∷◌, ℕ, ℤ, pos, unsigned_abs, List, [], All, length, sym, ap, subst, arith}
 use Rattle.std.specs.List.{flat_map}
 use Rattle.std.proofs.Math.Nat.{le_of_mul-le-mul_right, mul-le-mul}
 use Rattle.std.proofs.lemmas.Int.{unsigned_abs-mul}
@@ -17,7 +17,7 @@ use Rattle.network_audit.specs.Items.{IsFormed}
 use Rattle.network_audit.specs.declared.findings.Place.{Place}
 use Rattle.network_audit.specs.declared.findings.Place.TheVariants as place
 use Rattle.network_audit.proofs.FormedLemmas.{AreFormed, formed-none}
-use Rattle.network_audit.proofs.Sized.{IsSized, sized-plus, sized-whole}
+use Rattle.network_audit.proofs.Sized.{IsSized, most_den, most_num, sized-plus, sized-whole}
 use Rattle.network_audit.proofs.SumBounds.{sized-sum, sums_formed, with_range}
 use Rattle.network_audit.proofs.SumSteps.{added, added-sum, steps-append}
 
@@ -55,20 +55,20 @@ count_of (group ∷ groups) = length group + count_of groups
 abbrev pub numbers_of : List (List Rational) → List Rational
 numbers_of groups = flat_map (λ group. group) groups
 
-module _ (den m : ℕ) (small : den ≤ 2 ^ 48) where
+module _ (den m : ℕ) (small : den ≤ most_den) where
   group-sized : (group : List Rational) → IsWholeGroup den m group → IsSized 1 (length group * m) (rational_sum group)
   group-sized group is =
       let upto = is.upto in
       let sum = sized-sum is.over m is.some (omega (arith, upto, small)) group is.each in
       subst (IsSized 1 (length group * m)) (sym is.is) (over_one is.over (length group * m) is.sum is.some (subst (IsSized is.over (length group * m)) is.is sum))
 
-  pub groups_formed : (at : Place) (before k : ℕ) (total : Rational) (groups : List (List Rational)) → (k + count_of groups * m) * den ≤ 2 ^ 76 → IsSized 1 k total → All (IsWholeGroup den m) groups → AreFormed (sum_steps at before total (numbers_of groups))
+  pub groups_formed : (at : Place) (before k : ℕ) (total : Rational) (groups : List (List Rational)) → (k + count_of groups * m) * den ≤ most_num → IsSized 1 k total → All (IsWholeGroup den m) groups → AreFormed (sum_steps at before total (numbers_of groups))
   groups_formed at before k total [] most sized each = formed-none
   groups_formed at before k total (group ∷ groups) most sized each =
       let is = All-head (IsWholeGroup den m) group groups each in
       let upto = is.upto in
       let here : (k + length group * m) * is.over ≤ (k + (length group + count_of groups) * m) * den = mul-le-mul (omega arith) upto in
-      let later : (k + length group * m + count_of groups * m) * den ≤ 2 ^ 76 = omega (arith, most) in
+      let later : (k + length group * m + count_of groups * m) * den ≤ most_num = omega (arith, most) in
       let next = subst (IsSized 1 (k + length group * m)) (sym (added-sum total group)) (sized-plus 1 k (length group * m) total (rational_sum group) sized (group-sized group is)) in
       let first = sum_steps at before total group in
       let rest = sum_steps at (before + length group) (added total group) (numbers_of groups) in
@@ -77,7 +77,7 @@ module _ (den m : ℕ) (small : den ≤ 2 ^ 48) where
       (groups_formed at (before + length group) (k + length group * m) (added total group) groups later next (All-tail (IsWholeGroup den m) group groups each)))
 
   -- the sum of the duties of a utility
-  pub grouped_utility_formed : (network : Network) (index : ℕ) (u : Utility) (groups : List (List Rational)) → duties_with network index ≡ numbers_of groups → (count_of groups * m) * den ≤ 2 ^ 76 → All (IsWholeGroup den m) groups → AreFormed (utility_items_at network (index, u))
+  pub grouped_utility_formed : (network : Network) (index : ℕ) (u : Utility) (groups : List (List Rational)) → duties_with network index ≡ numbers_of groups → (count_of groups * m) * den ≤ most_num → All (IsWholeGroup den m) groups → AreFormed (utility_items_at network (index, u))
   grouped_utility_formed network index u groups duties most each =
       let at = place.Utility index in
       let sums = groups_formed at 0 0 rational_zero groups (omega (arith, most)) (sized-whole 1 0 (pos 0) (omega arith) (omega arith)) each in

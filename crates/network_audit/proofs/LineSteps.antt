@@ -1,5 +1,5 @@
 -- The numbers that statements and exchangers form are within the limits where what the branches carry leaves room.
-use Rattle.std.proofs.Common.{◌≡◌, ◌∙◌, ◌+◌, ◌*◌, ◌^◌, ◌<◌, ◌≤◌, ◌+ℤ◌, ⊎_elim, ℕ, ℤ, pos, Bool, true, false, List, [], Option, Some, None, All, slice_get, length, unsigned_abs, refl, sym, ap, subst, arith}
+use Rattle.std.proofs.Common.{◌≡◌, ◌∙◌, ◌+◌, ◌*◌, ◌<◌, ◌≤◌, ◌+ℤ◌, ⊎_elim, ℕ, ℤ, pos, Bool, true, false, List, [], Option, Some, None, All, slice_get, length, unsigned_abs, refl, sym, ap, subst, arith}
 use Rattle.std.specs.Prelude.{if◌then◌else◌}
 use Rattle.std.specs.Option.{option_map_or}
 use Rattle.std.proofs.Math.Nat.{mul-le-mul, mul-pos}
@@ -42,7 +42,7 @@ use Rattle.network_audit.specs.Table.{level_of}
 use Rattle.network_audit.specs.declared.findings.Place.{Place}
 use Rattle.network_audit.specs.declared.findings.Place.TheVariants as place
 use Rattle.network_audit.proofs.FormedLemmas.{AreFormed, formed-none, formed-step}
-use Rattle.network_audit.proofs.Sized.{IsSized, sized-minus, sized-plus, sized-times, sized-whole, sized-within}
+use Rattle.network_audit.proofs.Sized.{IsSized, most_den, most_num, sized-minus, sized-plus, sized-times, sized-whole, sized-within}
 
 -- ---- what a branch carries
 
@@ -76,10 +76,10 @@ most_approach = unsigned_abs (MOST_CONTRIBUTION +ℤ MOST_CONTRIBUTION)
 pub record AreSmall (d m e n : ℕ) : Type 0 where
   pub size_den : 0 < d
   pub state_den : 0 < e
-  pub dens : d * e ≤ 2 ^ 48
-  pub size : m * d ≤ 2 ^ 76
-  pub state : (n + n + most_approach) * e ≤ 2 ^ 76
-  pub heat : m * n * (d * e) ≤ 2 ^ 76
+  pub dens : d * e ≤ most_den
+  pub size : m * d ≤ most_num
+  pub state : (n + n + most_approach) * e ≤ most_num
+  pub heat : m * n * (d * e) ≤ most_num
 
 factors : (d e most : ℕ) → 0 < d → 0 < e → d * e ≤ most → (d ≤ most) × (e ≤ most)
 factors d e most some_d some_e both =
@@ -90,7 +90,7 @@ factors d e most some_d some_e both =
 -- they leave room
 pub sized_roomy : (d m e n : ℕ) (v : BranchValue) → AreSmall d m e n → IsSized d m v.cp → IsSized e n v.t → IsRoomy v
 sized_roomy d m e n v small size state =
-    let dens = factors d e (2 ^ 48) small.size_den small.state_den small.dens in
+    let dens = factors d e (most_den) small.size_den small.state_den small.dens in
     let most = small.state in
     record {
       size = sized-within d m v.cp small.size_den dens.0 small.size size;
@@ -106,7 +106,7 @@ sized_roomy d m e n v small size state =
 -- and so does the change from one state to another
 pub sized_change : (d m e n : ℕ) (of : Side) (before after : Rational) → AreSmall d m e n → IsSized e n before → IsSized e n after → IsWithinLimits (change of before after)
 sized_change d m e n of before after small one two =
-    let dens = factors d e (2 ^ 48) small.size_den small.state_den small.dens in
+    let dens = factors d e (most_den) small.size_den small.state_den small.dens in
     let most = small.state in
     by of (sized-within e (n + n) (minus before after) small.state_den dens.1 (omega (arith, most)) (sized-minus e n n before after one two))
     (sized-within e (n + n) (minus after before) small.state_den dens.1 (omega (arith, most)) (sized-minus e n n after before two one))
