@@ -1,8 +1,8 @@
 -- What the branches of the design carry: sizes over the widths of parts, at most that of a stream, and whole temperatures.
-use Rattle.std.proofs.Common.{◌≡◌, ◌<◌, ◌≤◌, ◌∷◌, ◌++◌, ⊎_elim, ℕ, ℤ, pos, ◌+ℤ◌, ◌-ℤ◌, ◌≤ℤ◌, unsigned_abs, true, List, [], All, Some, get_or, slice_get, map, refl, sym, subst, arith}
+use Rattle.std.proofs.Common.{◌≡◌, ◌<◌, ◌≤◌, ◌++◌, ⊎_elim, ℕ, ℤ, pos, ◌+ℤ◌, ◌-ℤ◌, ◌≤ℤ◌, unsigned_abs, true, List, All, Some, get_or, slice_get, map, refl, sym, subst, arith}
 use Rattle.std.specs.List.{enumerate_from, filter_map}
 use Rattle.std.proofs.lemmas.Int.{ints}
-use Rattle.std.proofs.lemmas.List.Elements.{All-append, All-head, All-map, All-nil, All-tail, All-weaker}
+use Rattle.std.proofs.lemmas.List.Elements.{All-append, All-map, All-weaker}
 use Rattle.sums.proofs.EnumerationLemmas.{All-enumerated}
 use Rattle.stream_case.specs.Case.{IsComplete}
 use Rattle.stream_case.specs.Limits.{IsContribution, IsShifted}
@@ -24,9 +24,9 @@ use Rattle.network_values.specs.Values.{change, first_value, full_size, no_value
 use Rattle.network_values.specs.declared.values.BranchValue.{BranchValue}
 use Rattle.network_audit.proofs.LineSteps.{AreSmall, IsRoomy, sized_change, sized_roomy}
 use Rattle.network_audit.proofs.Sized.{IsSized, sized-between, sized-whole}
-use Rattle.design_lines.specs.Values.{LedStage, course_values, courses_values, stage_values}
+use Rattle.design_lines.specs.Values.{courses_values, stage_values}
 use Rattle.design_lines.specs.declared.stage.Share.{Share}
-use Rattle.design_lines.proofs.StageSizes.{AreOver, IsOver, IsStageBranch, stage_sized}
+use Rattle.design_lines.proofs.StageSizes.{AreOver, CourseHolds, IsOver, IsStageBranch, StageHolds, course_holds, courses_hold, stage_sized}
 use Rattle.grid.specs.Part.{AreCaseParts, AreParts, IsPartOf}
 use Rattle.grid.specs.declared.part.Part.{Part}
 use Rattle.heat_flow.specs.Cuts.{parts_of}
@@ -103,12 +103,6 @@ first_plain s valid_stream =
 
 -- ---- a part
 
-abbrev ArePlain : List BranchValue → Type 0
-ArePlain values = All IsPlain values
-
-abbrev StageIsPlain : LedStage → Type 0
-StageIsPlain stage = ArePlain (stage_values stage.before stage.after stage.shares)
-
 -- an end of a part of a stream, on the stream's own scale
 end_sized : (of : Side) (place contribution : ℤ) → IsShifted place → IsContribution contribution → IsSized 1 highest (whole (actual of place contribution))
 end_sized side.Hot place contribution is given =
@@ -122,7 +116,7 @@ end_shifted : (of : Side) (p : Part) → IsShifted p.high → IsShifted p.low �
 end_shifted side.Hot p high low = (high, low)
 end_shifted side.Cold p high low = (low, high)
 
-part_plain : (case : Case) (hot cold : List Part) (ts : List Transfer) (s : Stream) (index : ℕ) (p : Part) → IsValidStream s → ArePositive ts → IsOwnPart s ts index p → low_end s ≤ℤ p.low → p.high ≤ℤ high_end s → StageIsPlain (led_part s ts (index, p))
+part_plain : (case : Case) (hot cold : List Part) (ts : List Transfer) (s : Stream) (index : ℕ) (p : Part) → IsValidStream s → ArePositive ts → IsOwnPart s ts index p → low_end s ≤ℤ p.low → p.high ≤ℤ high_end s → StageHolds IsPlain (led_part s ts (index, p))
 unfolding shares_of
 part_plain case hot cold ts s index p valid positive own from upto =
     let led = part_led case hot cold ts s index p positive own in
@@ -155,33 +149,21 @@ part_plain case hot cold ts s index p valid positive own from upto =
 
 -- ---- all branches
 
-course_plain : (stages : List LedStage) → All StageIsPlain stages → ArePlain (course_values stages)
-course_plain [] each = All-nil IsPlain
-course_plain (stage ∷ stages) each =
-    All-append IsPlain (stage_values stage.before stage.after stage.shares) (course_values stages) (All-head StageIsPlain stage stages each) (course_plain stages (All-tail StageIsPlain stage stages each))
-
-abbrev CourseIsPlain : List LedStage → Type 0
-CourseIsPlain course = ArePlain (course_values course)
-
-courses_plain : (courses : List (List LedStage)) → All CourseIsPlain courses → ArePlain (courses_values courses)
-courses_plain [] each = All-nil IsPlain
-courses_plain (course ∷ courses) each = All-append IsPlain (course_values course) (courses_values courses) (All-head CourseIsPlain course courses each) (courses_plain courses (All-tail CourseIsPlain course courses each))
-
 module _ (case : Case) (hot cold : List Part) (ts : List Transfer) (complete : IsComplete case) (parts : AreCaseParts case hot cold) (flow : IsHeatFlow (reach_between case hot cold) hot cold ts) where
   own_plain : (number : ℕ) (s : Stream) → slice_get case.streams number ≡ Some s → (of : Side) (ps : List Part) → s.side ≡ of → AreParts case.streams case.utilities parts.grid of ps → KeepsRanges of ps ts
-      → (index : ℕ) (p : Part) → slice_get ps index ≡ Some p → same_source p.source (source.Stream number) ≡ true → StageIsPlain (led_part s ts (index, p))
+      → (index : ℕ) (p : Part) → slice_get ps index ≡ Some p → same_source p.source (source.Stream number) ≡ true → StageHolds IsPlain (led_part s ts (index, p))
   own_plain number s here of ps same are ranges index p at own =
       let valid = all_at IsValidStream case.streams number s (HasValidStreams-IsComplete case complete).are_streams.each here in
       let is = own_part case.streams case.utilities parts.grid of number s here same parts.is_grid.ordered p (all_at (IsPartOf case.streams case.utilities parts.grid of) ps index p are.each at) own in
       part_plain case hot cold ts s index p valid flow.positive (own_heat case hot cold ts complete parts number s here index p of ps same are ranges at own) is.from is.upto
 
-  stream_plain : (number : ℕ) (s : Stream) → slice_get case.streams number ≡ Some s → CourseIsPlain (led_course hot cold ts (number, s))
+  stream_plain : (number : ℕ) (s : Stream) → slice_get case.streams number ≡ Some s → CourseHolds IsPlain (led_course hot cold ts (number, s))
   stream_plain number s here =
-      course_plain (led_course hot cold ts (number, s))
-      (led_each StageIsPlain s ts number (on_the_way s.side (enumerate_from 0 (parts_of s.side hot cold)))
-      (All-way (λ e. same_source e.1.source (source.Stream number) ≡ true → StageIsPlain (led_part s ts e)) s.side (parts_of s.side hot cold) (λ index p at own. by s.side refl index p at own)))
+      course_holds IsPlain (led_course hot cold ts (number, s))
+      (led_each (StageHolds IsPlain) s ts number (on_the_way s.side (enumerate_from 0 (parts_of s.side hot cold)))
+      (All-way (λ e. same_source e.1.source (source.Stream number) ≡ true → StageHolds IsPlain (led_part s ts e)) s.side (parts_of s.side hot cold) (λ index p at own. by s.side refl index p at own)))
     where
-      by : (of : Side) → s.side ≡ of → (index : ℕ) (p : Part) → slice_get (parts_of of hot cold) index ≡ Some p → same_source p.source (source.Stream number) ≡ true → StageIsPlain (led_part s ts (index, p))
+      by : (of : Side) → s.side ≡ of → (index : ℕ) (p : Part) → slice_get (parts_of of hot cold) index ≡ Some p → same_source p.source (source.Stream number) ≡ true → StageHolds IsPlain (led_part s ts (index, p))
       by side.Hot same index p at own = own_plain number s here side.Hot hot same parts.hot_parts flow.hot_ranges index p at own
       by side.Cold same index p at own = own_plain number s here side.Cold cold same parts.cold_parts flow.cold_ranges index p at own
 
@@ -190,5 +172,5 @@ module _ (case : Case) (hot cold : List Part) (ts : List Transfer) (complete : I
       let valid = (HasValidStreams-IsComplete case complete).are_streams.each in
       All-append IsPlain (map first_value case.streams) (courses_values (led_courses case hot cold ts))
       (All-map IsPlain first_value case.streams (λ k s inside. first_plain (get_or case.streams k s) (valid k s inside)))
-      (courses_plain (led_courses case hot cold ts)
-      (All-map CourseIsPlain (led_course hot cold ts) (enumerate_from 0 case.streams) (All-enumerated (λ (e : ℕ × Stream). CourseIsPlain (led_course hot cold ts e)) case.streams (λ number s here. stream_plain number s here))))
+      (courses_hold IsPlain (led_courses case hot cold ts)
+      (All-map (CourseHolds IsPlain) (led_course hot cold ts) (enumerate_from 0 case.streams) (All-enumerated (λ (e : ℕ × Stream). CourseHolds IsPlain (led_course hot cold ts e)) case.streams (λ number s here. stream_plain number s here))))
