@@ -16,3 +16,5 @@ pub mod PassedOnce
 pub mod Declared
 pub mod Shaped
 pub mod FewLines
+pub mod PassRuns
+pub mod CourseEnds
