@@ -67,7 +67,7 @@ pub shares_along-led_course : (hot cold : List Part) (ts : List Transfer) (numbe
 shares_along-led_course hot cold ts number s = led_shares s ts number (on_the_way s.side (enumerate_from 0 (parts_of s.side hot cold)))
 
 -- what holds of each own part holds of each stage
-led_each : (P : LedStage → Type 0) (s : Stream) (ts : List Transfer) (number : ℕ) (xs : List (ℕ × Part)) → All (λ e. same_source e.1.source (source.Stream number) ≡ true → P (led_part s ts e)) xs → All P (filter_map (led_stage s ts number) xs)
+pub led_each : (P : LedStage → Type 0) (s : Stream) (ts : List Transfer) (number : ℕ) (xs : List (ℕ × Part)) → All (λ e. same_source e.1.source (source.Stream number) ≡ true → P (led_part s ts e)) xs → All P (filter_map (led_stage s ts number) xs)
 led_each P s ts number [] all = All-nil P
 led_each P s ts number ((index, p) ∷ xs) all =
     let Q : ℕ × Part → Type 0 = λ e. same_source e.1.source (source.Stream number) ≡ true → P (led_part s ts e) in
