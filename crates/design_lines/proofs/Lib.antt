@@ -3,6 +3,7 @@ pub mod StageSteps
 pub mod ListLemmas
 pub mod ValueSteps
 pub mod StageValues
+pub mod StageSizes
 pub mod CourseValues
 pub mod WholeValues
 pub mod BranchStreams

@@ -70,7 +70,7 @@ first_positive s shares positive = All-head (λ (a : Share). IsBelow rational_ze
 pub others_positive : (s : Share) (shares : List Share) → ArePositive (s ∷ shares) → ArePositive shares
 others_positive s shares positive = All-tail (λ (a : Share). IsBelow rational_zero a.cp) s shares positive
 
-size_not_negative : (shares : List Share) → ArePositive shares → IsAtMost rational_zero (size_of shares)
+pub size_not_negative : (shares : List Share) → ArePositive shares → IsAtMost rational_zero (size_of shares)
 size_not_negative [] positive = at_most_refl rational_zero
 size_not_negative (s ∷ shares) positive =
     not_negative-plus s.cp (size_of shares) (at_most_from_below rational_zero s.cp (first_positive s shares positive)) (size_not_negative shares (others_positive s shares positive))

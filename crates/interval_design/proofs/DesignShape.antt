@@ -1,5 +1,5 @@
 -- The network of a heat flow has the shape of a network.
-use Rattle.std.proofs.Common.{◌≤◌, List, All, length, map, sym, subst, arith, length-append}
+use Rattle.std.proofs.Common.{◌≤◌, ◌+◌, ◌*◌, List, All, length, map, sym, ap, subst, arith, length-append}
 use Rattle.std.specs.List.{enumerate_from}
 use Rattle.std.proofs.lemmas.List.{length-map}
 use Rattle.std.proofs.lemmas.List.FromFn.{length-enumerate_from}
@@ -7,7 +7,9 @@ use Rattle.stream_case.specs.Case.{IsComplete}
 use Rattle.stream_case.specs.Limits.{IsHeat}
 use Rattle.stream_case.specs.declared.case.Case.{Case}
 use Rattle.stream_case.specs.declared.source.Side.TheVariants as side
-use Rattle.network_text.specs.Shape.{HasShape}
+use Rattle.network_text.specs.Shape.{HasShape, KeepsCounts}
+use Rattle.network_text.specs.declared.limits.TheConstants.{MOST_EXCHANGERS, MOST_STATEMENTS}
+use Rattle.network_text.specs.declared.network.Network.{Network}
 use Rattle.design_lines.specs.Drawn.{courses_lines, declared_line, drawn}
 use Rattle.design_lines.specs.Led.{AreLed}
 use Rattle.design_lines.proofs.FewLines.{few-courses}
@@ -18,7 +20,7 @@ use Rattle.heat_flow.specs.Flow.{ArePositive, HaveParts}
 use Rattle.heat_flow.specs.declared.flow.Transfer.{Transfer}
 use Rattle.interval_design.specs.Courses.{AllCanBeLed, courses_of, exchanger_of, network_of}
 use Rattle.interval_design.proofs.CourseShape.{courses-are}
-use Rattle.interval_design.proofs.ExchangerLemmas.{network_of-drawn}
+use Rattle.interval_design.proofs.ExchangerLemmas.{exchangers_of-network_of, network_of-drawn}
 use Rattle.interval_design.proofs.FlowLemmas.{few-shares}
 use Rattle.interval_design.proofs.NetworkLemmas.{length-courses_of}
 use Rattle.interval_design.proofs.TransferExchangers.{all-exchangers, names-differ}
@@ -35,9 +37,9 @@ pub record CanBeDrawn (case : Case) (hot cold : List Part) (transfers : List Tra
   pub led : AllCanBeLed case hot cold transfers
   pub few_streams : length case.streams ≤ 30
 
-few-lines : (case : Case) (hot cold : List Part) (transfers : List Transfer) → length transfers ≤ 25000000 → length case.streams ≤ 30
-    → length (drawn case (map (exchanger_of hot cold) (enumerate_from 0 transfers)) (courses_of case hot cold transfers)).lines ≤ 2000000000
-few-lines case hot cold transfers few few_streams =
+-- a transfer has a line that declares its exchanger, and three more for each of its two shares; each stream has an end
+lines-upto : (case : Case) (hot cold : List Part) (transfers : List Transfer) → length (drawn case (map (exchanger_of hot cold) (enumerate_from 0 transfers)) (courses_of case hot cold transfers)).lines ≤ 7 * length transfers + length case.streams
+lines-upto case hot cold transfers =
     let exchangers = map (exchanger_of hot cold) (enumerate_from 0 transfers) in
     let courses = courses_of case hot cold transfers in
     omega (
@@ -49,9 +51,14 @@ few-lines case hot cold transfers few few_streams =
       few-courses (length case.streams) 0 courses,
       few-shares case hot cold transfers,
       length-courses_of case hot cold transfers,
-      few,
-      few_streams,
     )
+
+-- a design of few transfers keeps the two counts of a text
+pub KeepsCounts-network_of : (case : Case) (hot cold : List Part) (transfers : List Transfer) → 7 * length transfers + length case.streams ≤ MOST_STATEMENTS → length transfers ≤ MOST_EXCHANGERS → KeepsCounts (network_of case hot cold transfers)
+KeepsCounts-network_of case hot cold transfers few_lines few = record {
+  lines = omega (arith, ap (λ (n : Network). length n.lines) (network_of-drawn case hot cold transfers), lines-upto case hot cold transfers, few_lines);
+  exchangers = omega (arith, ap length (exchangers_of-network_of case hot cold transfers), length-map (enumerate_from 0 transfers) (exchanger_of hot cold), length-enumerate_from 0 transfers, few);
+}
 
 pub AreLed-transfers : (case : Case) (hot cold : List Part) (transfers : List Transfer) → IsComplete case → CanBeDrawn case hot cold transfers
     → AreLed case (map (exchanger_of hot cold) (enumerate_from 0 transfers)) (courses_of case hot cold transfers)
@@ -61,7 +68,7 @@ AreLed-transfers case hot cold transfers complete can = record {
   all = length-courses_of case hot cold transfers;
   each = courses-are case hot cold transfers complete can.parts can.positive can.heats can.led;
   once = once-passed case hot cold transfers can.parts can.hot_indexes can.cold_indexes;
-  few = few-lines case hot cold transfers can.few can.few_streams;
+  few = omega (arith, lines-upto case hot cold transfers, can.few, can.few_streams);
 }
 
 pub HasShape-network_of : (case : Case) (hot cold : List Part) (transfers : List Transfer) → IsComplete case → CanBeDrawn case hot cold transfers → HasShape case (network_of case hot cold transfers)

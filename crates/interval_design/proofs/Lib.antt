@@ -20,3 +20,5 @@ pub mod NetworkValid
 pub mod UtilityHeats
 pub mod Cost
 pub mod Balances
+pub mod StepSizes
+pub mod NoFinding

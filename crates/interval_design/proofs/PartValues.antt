@@ -33,7 +33,7 @@ one_share P true s rest one all = All-cons P s rest one all
 one_share P false s rest one all = all
 
 -- what holds of the share of each transfer
-shares_each : (P : Share → Type 0) (of : Side) (index width : ℕ) (xs : List (ℕ × Transfer)) → All (λ e. P (record { exchanger = e.0; cp = ratio e.1.heat width })) xs → All P (filter_map (share_of of index width) xs)
+pub shares_each : (P : Share → Type 0) (of : Side) (index width : ℕ) (xs : List (ℕ × Transfer)) → All (λ e. P (record { exchanger = e.0; cp = ratio e.1.heat width })) xs → All P (filter_map (share_of of index width) xs)
 shares_each P of index width [] all = All-nil P
 shares_each P of index width ((k, t) ∷ xs) all =
     let Q : ℕ × Transfer → Type 0 = λ e. P (record { exchanger = e.0; cp = ratio e.1.heat width }) in

@@ -145,7 +145,7 @@ module _ (case : Case) (hot cold : List Part) (ts : List Transfer) (complete : I
 
   -- ---- the parts
 
-  own_heat : (index : ℕ) (p : Part) (of : Side) (ps : List Part) → s.side ≡ of → AreParts case.streams case.utilities parts.grid of ps → KeepsRanges of ps ts → slice_get ps index ≡ Some p → same_source p.source (source.Stream number) ≡ true → IsOwnPart s ts index p
+  pub own_heat : (index : ℕ) (p : Part) (of : Side) (ps : List Part) → s.side ≡ of → AreParts case.streams case.utilities parts.grid of ps → KeepsRanges of ps ts → slice_get ps index ≡ Some p → same_source p.source (source.Stream number) ≡ true → IsOwnPart s ts index p
   own_heat index p of ps same are ranges at own =
       let is = own_part case.streams case.utilities parts.grid of number s here same parts.is_grid.ordered p (all_at (IsPartOf case.streams case.utilities parts.grid of) ps index p are.each at) own in
       let falls = interval_falls parts.grid p.high p.low parts.is_grid.ordered is.interval in

@@ -1,12 +1,14 @@
 -- The first item that is not passed, of lists of items in a row and of the items of many members.
-use Rattle.std.proofs.Common.{◌≡◌, ◌∙◌, ◌<◌, ◌≤◌, ◌+◌, ◌∷◌, ◌++◌, ℕ, Bool, true, false, not, List, [], Option, Some, None, All, option_map, length, get_or, take, drop, refl, sym, ap, arith}
+use Rattle.std.proofs.Common.{◌≡◌, ◌∙◌, ◌<◌, ◌≤◌, ◌+◌, ◌∷◌, ◌++◌, ℕ, Bool, true, false, not, List, [], Option, Some, None, All, option_map, length, get_or, slice_get, take, drop, refl, sym, ap, arith}
 use Rattle.std.specs.List.{enumerate_from, find, flat_map}
 use Rattle.std.specs.Option.{option_or}
 use Rattle.std.proofs.lemmas.List.{append-nil, length-take, take-append-drop, take_all, take_more}
 use Rattle.std.proofs.lemmas.List.Concat.{flat_map-append}
 use Rattle.std.proofs.lemmas.List.Elements.{All-head, All-tail}
 use Rattle.std.proofs.lemmas.List.Folds.{find-append}
-use Rattle.sums.proofs.EnumerationLemmas.{enumerate_from-append}
+use Rattle.std.proofs.lemmas.Option.{same_Some}
+use Rattle.sums.proofs.EnumerationLemmas.{All-enumerated, enumerate_from-append}
+use Rattle.sums.proofs.ListLemmas.{All-flat_map}
 use Rattle.fractions.specs.Rationals.{Gives, Rational}
 use Rattle.fractions.proofs.Limits.{within_formed, within_not_formed}
 use Rattle.network_audit.specs.Items.{Item, Step, finding_of, first_finding, is_passed}
@@ -74,7 +76,20 @@ passed-item item items none = by (is_passed item) refl
 pub passed-rest : (item : Item) (items : List Item) → first_finding (item ∷ items) ≡ None → first_finding items ≡ None
 passed-rest item items none = sym (found-passed item items (passed-item item items none)) ∙ none
 
+-- a finding is that of an item that is not passed, of which holds what holds of all
+pub found-item : (P : Item → Type 0) (items : List Item) (found : Finding) → All P items → first_finding items ≡ Some found → (item : Item) × P item × (is_passed item ≡ false) × (finding_of item ≡ found)
+found-item P [] found all some = absurd (cc (found-nothing, some))
+found-item P (item ∷ items) found all some = by (is_passed item) refl (found-item P items found (All-tail P item items all))
+  where
+    by : (b : Bool) → is_passed item ≡ b → (first_finding items ≡ Some found → (other : Item) × P other × (is_passed other ≡ false) × (finding_of other ≡ found)) → (other : Item) × P other × (is_passed other ≡ false) × (finding_of other ≡ found)
+    by true is later = later (sym (found-passed item items is) ∙ some)
+    by false is later = (item, All-head P item items all, is, same_Some (finding_of item) found (sym (found-failed item items is) ∙ some))
+
 -- ---- the items of many members, each with its index
+
+-- what holds of the items of each member holds of those of all
+pub each-items : {X : Type 0} (P : Item → Type 0) (f : ℕ × X → List Item) (xs : List X) → ((i : ℕ) (x : X) → slice_get xs i ≡ Some x → All P (f (i, x))) → All P (flat_map f (enumerate_from 0 xs))
+each-items {X} P f xs each = All-flat_map P f (enumerate_from 0 xs) (All-enumerated (λ (e : ℕ × X). All P (f e)) xs each)
 
 pub flat_map-same : {X Y : Type 0} (f g : X → List Y) (xs : List X) → All (λ x. f x ≡ g x) xs → flat_map f xs ≡ flat_map g xs
 flat_map-same f g [] same = refl

@@ -1,8 +1,9 @@
 -- No test of a valid network fails, and so what is rejected is not valid.
-use Rattle.std.proofs.Common.{◌≡◌, ◌∙◌, ◌<◌, ◌+◌, ◌-◌, ◌∷◌, ◌++◌, ℕ, suc, Bool, true, false, not, List, [], Option, Some, None, slice_get, length, map, refl, sym, ap, subst, arith}
+use Rattle.std.proofs.Common.{◌≡◌, ◌∙◌, ◌<◌, ◌+◌, ◌-◌, ◌∷◌, ◌++◌, ℕ, Bool, true, false, not, List, [], Option, Some, None, All, slice_get, length, map, refl, sym, ap, subst, arith}
 use Rattle.std.specs.Prelude.{if◌then◌else◌}
 use Rattle.std.specs.List.{enumerate_from, flat_map}
-use Rattle.std.proofs.lemmas.List.Elements.{All-head}
+use Rattle.std.proofs.lemmas.Bool.{false≢true}
+use Rattle.std.proofs.lemmas.List.Elements.{All-append, All-cons, All-from_recursion, All-head, All-nil}
 use Rattle.std.proofs.lemmas.Option.{slice_get_within}
 use Rattle.stream_case.specs.Case.{is_forbidden}
 use Rattle.stream_case.specs.declared.case.Case.{Case}
@@ -10,7 +11,7 @@ use Rattle.stream_case.specs.declared.source.Side.TheVariants as side
 use Rattle.stream_case.specs.declared.stream.Stream.{Stream}
 use Rattle.stream_case.specs.declared.utility.Utility.{Utility}
 use Rattle.fractions.specs.Order.{Decides-rational_eq}
-use Rattle.fractions.specs.Rationals.{Rational, is_below, is_within_limits, plus, rational_eq, rational_zero, whole}
+use Rattle.fractions.specs.Rationals.{Rational, is_below, plus, rational_eq, rational_zero, whole}
 use Rattle.fractions.proofs.Comparisons.{Decides-is_below, Decides-not_below}
 use Rattle.network_text.specs.Lines.{Exchanger, exchangers_of, stream_at}
 use Rattle.network_text.specs.Shape.{HasShape, made_before}
@@ -21,62 +22,54 @@ use Rattle.network_text.proofs.Lists.{all_at}
 use Rattle.network_text.proofs.OfShape.{line_of}
 use Rattle.network_values.specs.Made.{front}
 use Rattle.network_values.specs.Sides.{KeepsApproach}
-use Rattle.network_values.specs.Values.{AreEnded, IsFullEnd, IsValuation, IsWholeValuation, Valuation, ended_by, ended_streams, full_size, last_state, last_value, value_at}
+use Rattle.network_values.specs.Values.{AreEnded, IsFullEnd, IsValuation, IsWholeValuation, Valuation, branch_side, duty_at, ended_by, ended_streams, full_size, last_state, last_value, value_at}
 use Rattle.network_values.specs.declared.values.BranchValue.{BranchValue}
 use Rattle.network_values.proofs.ValuationLemmas.{agree-take, room_left, valuation_front}
 use Rattle.network_audit.specs.AllItems.{balance_items, cost_steps, heats_on, items, items_behind, range_items, sum_steps, utility_items, utility_items_at}
 use Rattle.network_audit.specs.Balance.{duties_with, excess_of, heat_price, heat_with}
 use Rattle.network_audit.specs.Findings.{IsFinding}
-use Rattle.network_audit.specs.Items.{Item, Step, Test, end_items, exchanger_items, exchanger_items_at, first_finding, is_ended, line_items, mean_items, statement_items, stream_items, stream_items_at}
+use Rattle.network_audit.specs.Items.{Item, Step, Test, end_items, exchanger_items, exchanger_items_at, finding_of, first_finding, is_ended, is_passed, line_items, mean_items, pass_items, split_items, statement_items, stream_items, stream_items_at}
 use Rattle.network_audit.specs.Valid.{IsInRange, IsPermitted, IsValidNetwork}
 use Rattle.network_audit.specs.declared.findings.Finding.TheVariants as finding
 use Rattle.network_audit.specs.declared.findings.Place.{Place}
 use Rattle.network_audit.specs.declared.findings.Place.TheVariants as place
 use Rattle.network_audit.specs.declared.findings.Reason.{Reason}
 use Rattle.network_audit.proofs.FindingLemmas.{found-whole}
-use Rattle.network_audit.proofs.FoundLemmas.{found-failed, found-nothing, found-passed}
+use Rattle.network_audit.proofs.FoundLemmas.{each-items, found-item}
 use Rattle.network_audit.proofs.ValidLemmas.{contains-ended, each-ends, items-whole}
 
 -- ---- items without a test that fails
 
-abbrev pub AllSound : List Item → Type 0
-AllSound [] = Unit {0}
-AllSound (Test at passed because ∷ items) = (passed ≡ true) × AllSound items
-AllSound (Step at number value ∷ items) = AllSound items
+abbrev IsSound : Item → Type 0
+IsSound (Test at passed because) = passed ≡ true
+IsSound (Step at number value) = Unit {0}
 
-sound-append : (xs ys : List Item) → AllSound xs → AllSound ys → AllSound (xs ++ ys)
-sound-append [] ys one two = two
-sound-append (Test at passed because ∷ xs) ys one two = (one.0, sound-append xs ys one.1 two)
-sound-append (Step at number value ∷ xs) ys one two = sound-append xs ys one two
+abbrev AreSound : List Item → Type 0
+AreSound items = All IsSound items
 
-module _ {X : Type 0} (f : ℕ × X → List Item) where
-  sound-from : (m : ℕ) (xs : List X) → ((i : ℕ) (x : X) → slice_get xs i ≡ Some x → AllSound (f (m + i, x))) → AllSound (flat_map f (enumerate_from m xs))
-  sound-from m [] each = tt
-  sound-from m (x ∷ xs) each =
-      let first : m + 0 ≡ m = omega arith in
-      sound-append (f (m, x)) (flat_map f (enumerate_from (m + 1) xs)) (subst (λ n. AllSound (f (n, x))) first (each 0 x refl))
-      (sound-from (m + 1) xs (λ i y at. let n : m + suc i ≡ m + 1 + i = omega arith in subst (λ k. AllSound (f (k, y))) n (each (suc i) y at)))
+sound-none : AreSound []
+sound-none = All-nil IsSound
 
-  sound-each : (xs : List X) → ((i : ℕ) (x : X) → slice_get xs i ≡ Some x → AllSound (f (i, x))) → AllSound (flat_map f (enumerate_from 0 xs))
-  sound-each xs each = sound-from 0 xs (λ i x at. let n : i ≡ 0 + i = omega arith in subst (λ k. AllSound (f (k, x))) n (each i x at))
+sound-step : (at : Place) (number : ℕ) (value : Rational) (items : List Item) → AreSound items → AreSound (Step at number value ∷ items)
+sound-step at number value items sound = All-cons IsSound (Step at number value) items tt sound
 
 -- a failed test is not found among them
-sound-no_test : (items : List Item) (at : Place) (because : Reason) → AllSound items → first_finding items ≡ Some (finding.Failed at because) → ⊥
-sound-no_test [] at because sound found = cc (found-nothing, found)
-sound-no_test (Test p passed r ∷ items) at because sound found = sound-no_test items at because sound.1 (sym (found-passed (Test p passed r) items sound.0) ∙ found)
-sound-no_test (Step p number value ∷ items) at because sound found = by (is_within_limits value) refl (sound-no_test items at because sound)
+sound-no_test : (items : List Item) (at : Place) (because : Reason) → AreSound items → first_finding items ≡ Some (finding.Failed at because) → ⊥
+sound-no_test items at because sound found = let (item, is, failed, same) = found-item IsSound items (finding.Failed at because) sound found in by item is failed same
   where
-    by : (b : Bool) → is_within_limits value ≡ b → (first_finding items ≡ Some (finding.Failed at because) → ⊥) → ⊥
-    by true is later = later (sym (found-passed (Step p number value) items is) ∙ found)
-    by false is later = cc (found-failed (Step p number value) items is, found)
+    by : (item : Item) → IsSound item → is_passed item ≡ false → finding_of item ≡ finding.Failed at because → ⊥
+    by (Test here passed why) is failed same = false≢true (sym failed ∙ is)
+    by (Step here number value) is failed same = cc same
 
-sound-sums : (at : Place) (before : ℕ) (total : Rational) (numbers : List Rational) → AllSound (sum_steps at before total numbers)
-sound-sums at before total [] = tt
-sound-sums at before total (a ∷ numbers) = sound-sums at (before + 1) (plus total a) numbers
+sound-sums : (at : Place) (before : ℕ) (total : Rational) (numbers : List Rational) → AreSound (sum_steps at before total numbers)
+sound-sums at before total [] = sound-none
+sound-sums at before total (a ∷ numbers) = sound-step at (before + 1) (plus total a) (sum_steps at (before + 1) (plus total a) numbers) (sound-sums at (before + 1) (plus total a) numbers)
 
-sound-costs : (at : Place) (before : ℕ) (cost : Rational) (prices : List Rational) → AllSound (cost_steps at before cost prices)
-sound-costs at before cost [] = tt
-sound-costs at before cost (a ∷ prices) = sound-costs at (before + 2) (plus cost a) prices
+sound-costs : (at : Place) (before : ℕ) (cost : Rational) (prices : List Rational) → AreSound (cost_steps at before cost prices)
+sound-costs at before cost [] = sound-none
+sound-costs at before cost (a ∷ prices) =
+    let next = cost_steps at (before + 2) (plus cost a) prices in
+    sound-step at (before + 1) a (Step at (before + 2) (plus cost a) ∷ next) (sound-step at (before + 2) (plus cost a) next (sound-costs at (before + 2) (plus cost a) prices))
 
 -- ---- the items of a valid network
 
@@ -93,66 +86,72 @@ room-whole case network values k from first second cp shape valuation at =
     let same = (agree-take values (made_before case network k)).same from (All-head (λ b. b < made_before case network k) from [] used) in
     ap (λ v. is_below cp v.cp) same ∙ (Decides-is_below cp (value_at (front case network k values) from).cp).1 room
 
-sound-if : (b : Bool) (xs : List Item) → AllSound xs → AllSound (if b then [] else xs)
-sound-if true xs sound = tt
+sound-if : (b : Bool) (xs : List Item) → AreSound xs → AreSound (if b then [] else xs)
+sound-if true xs sound = sound-none
 sound-if false xs sound = sound
 
-sound-end : (at : Place) (value : BranchValue) (o : Option Stream) → ((s : Stream) → o ≡ Some s → value ≡ last_value s) → AllSound (end_items at value o)
-sound-end at value None full = tt
+sound-end : (at : Place) (value : BranchValue) (o : Option Stream) → ((s : Stream) → o ≡ Some s → value ≡ last_value s) → AreSound (end_items at value o)
+sound-end at value None full = sound-none
 sound-end at value (Some s) full =
     let is = full s refl in
-    ((Decides-rational_eq value.cp (full_size s)).1 (ap (λ v. v.cp) is), ((Decides-rational_eq value.t (last_state s)).1 (ap (λ v. v.t) is), tt))
+    All-from_recursion IsSound (end_items at value (Some s)) ((Decides-rational_eq value.cp (full_size s)).1 (ap (λ v. v.cp) is), ((Decides-rational_eq value.t (last_state s)).1 (ap (λ v. v.t) is), tt))
 
-line_sound : (case : Case) (network : Network) (values : Valuation) (k : ℕ) (l : Line) → HasShape case network → IsWholeValuation case network values → AreEnded case network values → slice_get network.lines k ≡ Some l → AllSound (line_items case network values (place.Line (k + 1)) l)
+line_sound : (case : Case) (network : Network) (values : Valuation) (k : ℕ) (l : Line) → HasShape case network → IsWholeValuation case network values → AreEnded case network values → slice_get network.lines k ≡ Some l → AreSound (line_items case network values (place.Line (k + 1)) l)
 unfolding ended_by
-line_sound case network values k (line.Exchanger name hot cold duty) shape valuation ended at = tt
-line_sound case network values k (line.Split from first cp second) shape valuation ended at = (room-whole case network values k from first second cp shape valuation at, tt)
-line_sound case network values k (line.Pass from exchanger to) shape valuation ended at = tt
+line_sound case network values k (line.Exchanger name hot cold duty) shape valuation ended at = sound-none
+line_sound case network values k (line.Split from first cp second) shape valuation ended at =
+    All-from_recursion IsSound (split_items (place.Line (k + 1)) (value_at values from) cp) (room-whole case network values k from first second cp shape valuation at, (tt, tt))
+line_sound case network values k (line.Pass from exchanger to) shape valuation ended at =
+    All-from_recursion IsSound (pass_items (place.Line (k + 1)) (branch_side case network from) (value_at values from) (duty_at network exchanger)) (tt, (tt, tt))
 line_sound case network values k (line.Mix first second to) shape valuation ended at =
     let one = value_at values first in
     let two = value_at values second in
-    sound-if (rational_eq one.t two.t) (mean_items (place.Line (k + 1)) one two (plus one.cp two.cp)) tt
+    let means = mean_items (place.Line (k + 1)) one two (plus one.cp two.cp) in
+    sound-step (place.Line (k + 1)) 1 (plus one.cp two.cp) (if rational_eq one.t two.t then [] else means) (sound-if (rational_eq one.t two.t) means (All-from_recursion IsSound means (tt, (tt, (tt, (tt, tt))))))
 line_sound case network values k (line.End branch) shape valuation ended at =
     sound-end (place.Line (k + 1)) (value_at values branch) (slice_get case.streams (stream_at network.branches branch))
     (All-head (IsFullEnd case network values) branch [] (each-ends (IsFullEnd case network values) network.lines k (line.End branch) ended.full at))
 
-stream_sound : (case : Case) (network : Network) (values : Valuation) (index : ℕ) (s : Stream) → AreEnded case network values → slice_get case.streams index ≡ Some s → AllSound (stream_items_at network (index, s))
+stream_sound : (case : Case) (network : Network) (values : Valuation) (index : ℕ) (s : Stream) → AreEnded case network values → slice_get case.streams index ≡ Some s → AreSound (stream_items_at network (index, s))
 unfolding is_ended ended_streams ended_by
-stream_sound case network values index s ended at = (contains-ended network.branches index network.lines (ended.each index (slice_get_within case.streams index s at)), tt)
+stream_sound case network values index s ended at =
+    All-from_recursion IsSound (stream_items_at network (index, s)) (contains-ended network.branches index network.lines (ended.each index (slice_get_within case.streams index s at)), tt)
 
-exchanger_sound : (case : Case) (network : Network) (values : Valuation) (number : ℕ) (e : Exchanger) → KeepsApproach case network values number e → is_forbidden case.forbids e.hot e.cold ≡ false → AllSound (exchanger_items_at case network values (number, e))
-exchanger_sound case network values number e keeps permitted = (ap not permitted, ((Decides-not_below _ _).1 keeps.hot_end, ((Decides-not_below _ _).1 keeps.cold_end, tt)))
+exchanger_sound : (case : Case) (network : Network) (values : Valuation) (number : ℕ) (e : Exchanger) → KeepsApproach case network values number e → is_forbidden case.forbids e.hot e.cold ≡ false → AreSound (exchanger_items_at case network values (number, e))
+exchanger_sound case network values number e keeps permitted =
+    All-from_recursion IsSound (exchanger_items_at case network values (number, e)) (ap not permitted, (tt, ((Decides-not_below _ _).1 keeps.hot_end, (tt, ((Decides-not_below _ _).1 keeps.cold_end, tt)))))
 
-utility_sound : (network : Network) (index : ℕ) (u : Utility) → IsInRange u (heat_with network index) → AllSound (utility_items_at network (index, u))
+utility_sound : (network : Network) (index : ℕ) (u : Utility) → IsInRange u (heat_with network index) → AreSound (utility_items_at network (index, u))
 utility_sound network index u range =
-    sound-append (sum_steps (place.Utility index) 0 rational_zero (duties_with network index)) (range_items (place.Utility index) u (heat_with network index)) (sound-sums (place.Utility index) 0 rational_zero (duties_with network index))
-    ((Decides-not_below (heat_with network index) (whole u.least)).1 range.least, ((Decides-not_below (whole u.most) (heat_with network index)).1 range.most, tt))
+    All-append IsSound (sum_steps (place.Utility index) 0 rational_zero (duties_with network index)) (range_items (place.Utility index) u (heat_with network index)) (sound-sums (place.Utility index) 0 rational_zero (duties_with network index))
+    (All-from_recursion IsSound (range_items (place.Utility index) u (heat_with network index)) ((Decides-not_below (heat_with network index) (whole u.least)).1 range.least, ((Decides-not_below (whole u.most) (heat_with network index)).1 range.most, tt)))
 
-balance_sound : (case : Case) (network : Network) → AllSound (balance_items case network)
+balance_sound : (case : Case) (network : Network) → AreSound (balance_items case network)
 unfolding balance_items
 balance_sound case network =
     let hot = heats_on side.Hot case network in
     let cold = heats_on side.Cold case network in
     let prices = map (heat_price network) (enumerate_from 0 case.utilities) in
-    sound-append (sum_steps place.Balance 0 rational_zero hot) (sum_steps place.Balance (length hot) rational_zero cold ++ Step place.Balance (length hot + length cold + 1) (excess_of case network) ∷ cost_steps place.Balance (length hot + length cold + 1) rational_zero prices)
+    All-append IsSound (sum_steps place.Balance 0 rational_zero hot) (sum_steps place.Balance (length hot) rational_zero cold ++ Step place.Balance (length hot + length cold + 1) (excess_of case network) ∷ cost_steps place.Balance (length hot + length cold + 1) rational_zero prices)
     (sound-sums place.Balance 0 rational_zero hot)
-    (sound-append (sum_steps place.Balance (length hot) rational_zero cold) (Step place.Balance (length hot + length cold + 1) (excess_of case network) ∷ cost_steps place.Balance (length hot + length cold + 1) rational_zero prices)
-    (sound-sums place.Balance (length hot) rational_zero cold) (sound-costs place.Balance (length hot + length cold + 1) rational_zero prices))
+    (All-append IsSound (sum_steps place.Balance (length hot) rational_zero cold) (Step place.Balance (length hot + length cold + 1) (excess_of case network) ∷ cost_steps place.Balance (length hot + length cold + 1) rational_zero prices)
+    (sound-sums place.Balance (length hot) rational_zero cold)
+    (sound-step place.Balance (length hot + length cold + 1) (excess_of case network) (cost_steps place.Balance (length hot + length cold + 1) rational_zero prices) (sound-costs place.Balance (length hot + length cold + 1) rational_zero prices)))
 
-all_sound : (case : Case) (network : Network) → HasShape case network → (valid : IsValidNetwork case network) → AllSound (items case network valid.values (length network.lines))
+all_sound : (case : Case) (network : Network) → HasShape case network → (valid : IsValidNetwork case network) → AreSound (items case network valid.values (length network.lines))
 unfolding items_behind stream_items exchanger_items utility_items
 all_sound case network shape valid =
     let values = valid.values in
     let es = exchangers_of network.lines in
-    subst AllSound (sym (items-whole case network values))
-    (sound-append (flat_map (statement_items case network values) (enumerate_from 0 network.lines)) (items_behind case network values)
-    (sound-each (statement_items case network values) network.lines (λ k l at. line_sound case network values k l shape valid.valuation valid.ended at))
-    (sound-append (stream_items case network) (exchanger_items case network values ++ (utility_items case network ++ balance_items case network))
-    (sound-each (stream_items_at network) case.streams (λ index s at. stream_sound case network values index s valid.ended at))
-    (sound-append (exchanger_items case network values) (utility_items case network ++ balance_items case network)
-    (sound-each (exchanger_items_at case network values) es (λ number e at. exchanger_sound case network values number e (valid.approaches number e at) (all_at (IsPermitted case) es number e valid.permitted at)))
-    (sound-append (utility_items case network) (balance_items case network)
-    (sound-each (utility_items_at network) case.utilities (λ index u at. utility_sound network index u (valid.ranges index u at)))
+    subst AreSound (sym (items-whole case network values))
+    (All-append IsSound (flat_map (statement_items case network values) (enumerate_from 0 network.lines)) (items_behind case network values)
+    (each-items IsSound (statement_items case network values) network.lines (λ k l at. line_sound case network values k l shape valid.valuation valid.ended at))
+    (All-append IsSound (stream_items case network) (exchanger_items case network values ++ (utility_items case network ++ balance_items case network))
+    (each-items IsSound (stream_items_at network) case.streams (λ index s at. stream_sound case network values index s valid.ended at))
+    (All-append IsSound (exchanger_items case network values) (utility_items case network ++ balance_items case network)
+    (each-items IsSound (exchanger_items_at case network values) es (λ number e at. exchanger_sound case network values number e (valid.approaches number e at) (all_at (IsPermitted case) es number e valid.permitted at)))
+    (All-append IsSound (utility_items case network) (balance_items case network)
+    (each-items IsSound (utility_items_at network) case.utilities (λ index u at. utility_sound network index u (valid.ranges index u at)))
     (balance_sound case network)))))
 
 pub invalid_network : (case : Case) (network : Network) (at : Place) (because : Reason) → HasShape case network → IsFinding case network (finding.Failed at because) → IsValidNetwork case network → ⊥

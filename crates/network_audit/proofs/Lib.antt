@@ -12,3 +12,8 @@ pub mod ValidLemmas
 pub mod AuditLemmas
 pub mod InvalidLemmas
 pub mod VerdictLemmas
+pub mod FormedLemmas
+pub mod Sized
+pub mod LineSteps
+pub mod SumBounds
+pub mod NoFinding

@@ -7,7 +7,7 @@ use Rattle.stream_case.specs.declared.source.Side.{Side}
 use Rattle.stream_case.specs.declared.source.Side.TheVariants as side
 use Rattle.stream_case.specs.declared.source.Source.{Source}
 use Rattle.stream_case.specs.declared.stream.Stream.{Stream}
-use Rattle.fractions.specs.Rationals.{Rational, is_below, is_within_limits, minus, over, plus, rational_eq, rational_zero, times, whole}
+use Rattle.fractions.specs.Rationals.{IsWithinLimits, Rational, is_below, is_within_limits, minus, over, plus, rational_eq, rational_zero, times, whole}
 use Rattle.network_text.specs.Lines.{Exchanger, exchangers_of, stream_at}
 use Rattle.network_text.specs.declared.network.Branch.{Branch}
 use Rattle.network_text.specs.declared.network.Line.{Line}
@@ -34,6 +34,11 @@ pub data Item : Type 0 where
 abbrev pub is_passed : Item → Bool
 is_passed (Test at passed because) = passed
 is_passed (Step at number value) = is_within_limits value
+
+-- a number that a step forms is within the limits of a fraction; a test forms none
+abbrev pub IsFormed : Item → Type 0
+IsFormed (Test at passed because) = Unit {0}
+IsFormed (Step at number value) = IsWithinLimits value
 
 abbrev pub finding_of : Item → Finding
 finding_of (Test at passed because) = finding.Failed at because

@@ -1,9 +1,12 @@
 //! Laws of findings and verdicts.
 
-ghost use Rattle.std.specs.Prelude.{◌≡◌};
+ghost use Rattle.std.specs.Prelude.{◌≡◌, length, All};
 ghost use Rattle.stream_case.specs.declared.case.Case.{Case};
 ghost use Rattle.network_text.specs.Shape.{HasShape};
 ghost use Rattle.network_text.specs.declared.network.Network.{Network};
+ghost use Rattle.network_values.specs.Values.{IsWholeValuation, Valuation};
+ghost use Rattle.network_audit.specs.AllItems.{items};
+ghost use Rattle.network_audit.specs.Items.{IsFormed};
 ghost use Rattle.network_audit.specs.Findings.{HasNoFinding, IsFinding, IsVerdict};
 ghost use Rattle.network_audit.specs.Valid.{IsValidNetwork};
 ghost use Rattle.network_audit.specs.declared.findings.Finding.{Finding};
@@ -20,9 +23,10 @@ pub fn networks_have_one_verdict()
     ensures verdict { (case : Case) (network : Network) (given other : Verdict) → HasShape case network → IsVerdict case network given → IsVerdict case network other → given ≡ other }
 {}
 
-/// A network without a finding is valid, and one that fails a test is not. So the networks without a
-/// finding are just the valid ones of which every number is within the limits of a fraction.
+/// A network without a finding is valid, and one that fails a test is not. A valid one has no finding
+/// where each number that is formed on the way is within the limits of a fraction.
 pub fn findings_tell_what_is_valid()
     ensures valid { (case : Case) (network : Network) → HasNoFinding case network → IsValidNetwork case network }
     ensures invalid { (case : Case) (network : Network) (place : Place) (reason : Reason) → HasShape case network → IsFinding case network (finding.Failed place reason) → IsValidNetwork case network → ⊥ }
+    ensures formed { (case : Case) (network : Network) (values : Valuation) → HasShape case network → IsWholeValuation case network values → IsValidNetwork case network → All IsFormed (items case network values (length network.lines)) → HasNoFinding case network }
 {}

@@ -1,3 +1,4 @@
+use Rattle.network_audit.proofs.FormedLemmas.{no_finding}
 use Rattle.network_audit.proofs.InvalidLemmas.{invalid_network}
 use Rattle.network_audit.proofs.ValidLemmas.{valid_network}
 use Rattle.network_audit.proofs.laws.findings_tell_what_is_valid.Goals as goal
@@ -7,3 +8,6 @@ returns-clause-valid c = valid_network
 
 pub returns-clause-invalid : goal.returns-clause-invalid
 returns-clause-invalid c = invalid_network
+
+pub returns-clause-formed : goal.returns-clause-formed
+returns-clause-formed c = no_finding

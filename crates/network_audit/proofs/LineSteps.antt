@@ -1,0 +1,199 @@
+-- The numbers that statements and exchangers form are within the limits where what the branches carry leaves room.
+use Rattle.std.proofs.Common.{◌≡◌, ◌∙◌, ◌+◌, ◌+ℤ◌, ⊎_elim, ℕ, ℤ, pos, Bool, true, false, List, [], Option, Some, None, All, slice_get, length, refl, sym, ap, subst, arith}
+use Rattle.std.specs.Prelude.{if◌then◌else◌}
+use Rattle.std.specs.Option.{option_map_or}
+use Rattle.std.proofs.lemmas.Bool.{cases_lt}
+use Rattle.std.proofs.lemmas.Int.{ints}
+use Rattle.std.proofs.lemmas.List.{get_or_past}
+use Rattle.std.proofs.lemmas.List.Elements.{All-from_recursion}
+use Rattle.stream_case.specs.Case.{IsComplete}
+use Rattle.stream_case.specs.Limits.{IsBetween, IsContribution, IsLevel}
+use Rattle.stream_case.specs.Stream.{IsValidStream}
+use Rattle.stream_case.specs.declared.case.Case.{Case}
+use Rattle.stream_case.specs.declared.limits.TheConstants.{MOST_CONTRIBUTION}
+use Rattle.stream_case.specs.declared.source.Side.{Side}
+use Rattle.stream_case.specs.declared.source.Side.TheVariants as side
+use Rattle.stream_case.specs.declared.source.Source.{Source}
+use Rattle.stream_case.specs.declared.source.Source.TheVariants as source
+use Rattle.stream_case.specs.declared.stream.Stream.{Stream}
+use Rattle.stream_case.specs.declared.utility.Utility.{Utility}
+use Rattle.stream_case.proofs.CompleteLemmas.{HasValidStreams-IsComplete, IsUtility, StaysValid-IsComplete}
+use Rattle.fractions.specs.Rationals.{IsBelow, IsWithinLimits, Rational, plus, rational_eq, rational_zero, times, whole}
+use Rattle.fractions.proofs.Comparisons.{positive-nonzero}
+use Rattle.fractions.proofs.Limits.{within-whole}
+use Rattle.fractions.proofs.Products.{over_from_times, times-zero, times_comm}
+use Rattle.fractions.proofs.Sums.{zero-plus}
+use Rattle.fractions.proofs.Wholes.{whole-plus}
+use Rattle.network_text.specs.Lines.{Exchanger, pass_of, stream_at}
+use Rattle.network_text.specs.Shape.{HasShape}
+use Rattle.network_text.specs.declared.network.Line.{Line}
+use Rattle.network_text.specs.declared.network.Line.TheVariants as line
+use Rattle.network_text.specs.declared.network.Network.{Network}
+use Rattle.network_text.proofs.Lists.{all_at}
+use Rattle.network_text.proofs.OfShape.{names-known}
+use Rattle.network_values.specs.Sides.{approach_of, contribution_of, high_of, low_of, pass_run, run_between, side_run}
+use Rattle.network_values.specs.Values.{IsMix, IsPass, IsSplit, IsWholeValuation, Solves, Valuation, branch_side, change, duty_at, no_value, value_at}
+use Rattle.network_values.specs.declared.values.BranchValue.{BranchValue}
+use Rattle.network_values.proofs.LineLemmas.{mix_determined, mixed_positive, pass_determined, split_determined}
+use Rattle.network_values.proofs.WholeLemmas.{all_solved, branch_above}
+use Rattle.network_audit.specs.Items.{IsFormed, Item, end_items, ends_of, exchanger_items_at, line_items, mean_items, mix_items, pass_items, side_items, split_items}
+use Rattle.network_audit.specs.Table.{level_of}
+use Rattle.network_audit.specs.declared.findings.Place.{Place}
+use Rattle.network_audit.specs.declared.findings.Place.TheVariants as place
+use Rattle.network_audit.proofs.FormedLemmas.{AreFormed, formed-none, formed-step}
+
+-- ---- what a branch carries
+
+-- an approach of two sources
+abbrev pub IsApproach : ℤ → Type 0
+IsApproach approach = IsBetween (pos 0) (MOST_CONTRIBUTION +ℤ MOST_CONTRIBUTION) approach
+
+-- a size, a state, their product, and the state with an approach added are within the limits
+pub record IsRoomy (v : BranchValue) : Type 0 where
+  pub size : IsWithinLimits v.cp
+  pub state : IsWithinLimits v.t
+  pub heat : IsWithinLimits (times v.cp v.t)
+  pub wanted : (approach : ℤ) → IsApproach approach → IsWithinLimits (plus v.t (whole approach))
+
+within-zero : IsWithinLimits rational_zero
+within-zero = within-whole (pos 0) (omega arith)
+
+roomy_none : IsRoomy no_value
+roomy_none = record {
+  size = within-zero;
+  state = within-zero;
+  heat = subst IsWithinLimits (sym (times-zero rational_zero)) within-zero;
+  wanted = λ approach is. subst IsWithinLimits (sym (zero-plus (whole approach))) (within-whole approach (let from = is.from in let upto = is.upto in omega (arith, ints, from, upto)));
+}
+
+-- what holds of nothing and of each value holds of a branch with any number
+pub each_value : (P : BranchValue → Type 0) → P no_value → (values : Valuation) → All P values → (branch : ℕ) → P (value_at values branch)
+each_value P none values each branch = ⊎_elim (λ inside. each branch no_value inside) (λ past. subst P (sym (get_or_past values branch no_value past)) none) (cases_lt branch (length values))
+
+roomy_at : (values : Valuation) → All IsRoomy values → (branch : ℕ) → IsRoomy (value_at values branch)
+roomy_at values roomy branch = each_value IsRoomy roomy_none values roomy branch
+
+-- what the branches of a network carry leaves room, and so does the change of the state in each pass
+pub record HasRoom (case : Case) (network : Network) (values : Valuation) : Type 0 where
+  pub branches : All IsRoomy values
+  pub changes : (k from exchanger to : ℕ) → slice_get network.lines k ≡ Some (line.Pass from exchanger to) → IsWithinLimits (change (branch_side case network from) (value_at values from).t (value_at values to).t)
+
+-- ---- statements
+
+-- the rest of a split is the size of its second branch
+pub split_formed : (at : Place) (from first second : BranchValue) (cp : Rational) → IsSplit from first second cp → IsRoomy second → AreFormed (split_items at from cp)
+split_formed at from first second cp split roomy =
+    let rest = ap (λ (v : BranchValue). v.cp) (split_determined from first second cp split).second_is in
+    All-from_recursion IsFormed (split_items at from cp) (tt, (subst IsWithinLimits rest roomy.size, tt))
+
+-- a pass forms the change of the state, and the state behind it
+pub pass_formed : (at : Place) (of : Side) (duty : Rational) (from to : BranchValue) → IsBelow rational_zero from.cp → IsPass of duty from to → IsRoomy to → IsWithinLimits (change of from.t to.t) → AreFormed (pass_items at of from duty)
+pass_formed at of duty from to positive pass roomy change_within =
+    let by = change of from.t to.t in
+    let over_size = over_from_times by duty from.cp (positive-nonzero from.cp positive) (times_comm by from.cp ∙ pass.heat) in
+    let state = ap (λ (v : BranchValue). v.t) (pass_determined of from to duty positive pass) in
+    All-from_recursion IsFormed (pass_items at of from duty) (subst IsWithinLimits over_size change_within, (subst IsWithinLimits state roomy.state, tt))
+
+formed-if : (b : Bool) (items : List Item) → AreFormed items → AreFormed (if b then [] else items)
+formed-if true items formed = formed-none
+formed-if false items formed = formed
+
+-- a mix forms the size, the two products, that of the mixed branch, and its state
+pub mix_formed : (at : Place) (first second to : BranchValue) → IsBelow rational_zero (plus first.cp second.cp) → IsMix first second to → IsRoomy first → IsRoomy second → IsRoomy to → AreFormed (mix_items at first second)
+mix_formed at first second to positive mix one two both =
+    let size = subst IsWithinLimits mix.size both.size in
+    let heat = subst IsWithinLimits mix.heat both.heat in
+    let state = subst IsWithinLimits (ap (λ (v : BranchValue). v.t) (mix_determined first second to positive mix)) both.state in
+    let means = mean_items at first second (plus first.cp second.cp) in
+    let rest : AreFormed means = All-from_recursion IsFormed means (one.heat, (two.heat, (heat, (state, tt)))) in
+    formed-step at 1 (plus first.cp second.cp) (if rational_eq first.t second.t then [] else means) size (formed-if (rational_eq first.t second.t) means rest)
+
+end_formed : (at : Place) (value : BranchValue) (o : Option Stream) → AreFormed (end_items at value o)
+end_formed at value None = formed-none
+end_formed at value (Some s) = All-from_recursion IsFormed (end_items at value (Some s)) (tt, (tt, tt))
+
+pub lines_formed : (case : Case) (network : Network) (values : Valuation) → HasShape case network → IsWholeValuation case network values → HasRoom case network values
+    → (k : ℕ) (l : Line) → slice_get network.lines k ≡ Some l → AreFormed (line_items case network values (place.Line (k + 1)) l)
+lines_formed case network values shape valuation room k (line.Exchanger name hot cold duty) here = formed-none
+lines_formed case network values shape valuation room k (line.Split from first cp second) here =
+    split_formed (place.Line (k + 1)) (value_at values from) (value_at values first) (value_at values second) cp (all_at (Solves case network values) network.lines k (line.Split from first cp second) (all_solved valuation) here) (roomy_at values room.branches second)
+lines_formed case network values shape valuation room k (line.Pass from exchanger to) here =
+    let known = names-known case network shape k (line.Pass from exchanger to) here in
+    pass_formed (place.Line (k + 1)) (branch_side case network from) (duty_at network exchanger) (value_at values from) (value_at values to) (branch_above valuation shape from known.0)
+    (all_at (Solves case network values) network.lines k (line.Pass from exchanger to) (all_solved valuation) here) (roomy_at values room.branches to) (room.changes k from exchanger to here)
+lines_formed case network values shape valuation room k (line.Mix first second to) here =
+    let known = names-known case network shape k (line.Mix first second to) here in
+    let positive = mixed_positive (value_at values first) (value_at values second) (branch_above valuation shape first known.0) (branch_above valuation shape second known.1) in
+    mix_formed (place.Line (k + 1)) (value_at values first) (value_at values second) (value_at values to) positive (all_at (Solves case network values) network.lines k (line.Mix first second to) (all_solved valuation) here)
+    (roomy_at values room.branches first) (roomy_at values room.branches second) (roomy_at values room.branches to)
+lines_formed case network values shape valuation room k (line.End branch) here = end_formed (place.Line (k + 1)) (value_at values branch) (slice_get case.streams (stream_at network.branches branch))
+
+-- ---- exchangers
+
+contribution-within : (case : Case) → IsComplete case → (of : Source) → IsContribution (contribution_of case of)
+contribution-within case complete (source.Stream number) = by (slice_get case.streams number) refl
+  where
+    by : (o : Option Stream) → slice_get case.streams number ≡ o → IsContribution (option_map_or (λ s. s.contribution) o (pos 0))
+    by None at = record { from = omega (arith, ints); upto = omega (arith, ints) }
+    by (Some s) at = (all_at IsValidStream case.streams number s (HasValidStreams-IsComplete case complete).are_streams.each at).contribution
+contribution-within case complete (source.Utility number) = by (slice_get case.utilities number) refl
+  where
+    by : (o : Option Utility) → slice_get case.utilities number ≡ o → IsContribution (option_map_or (λ u. u.contribution) o (pos 0))
+    by None at = record { from = omega (arith, ints); upto = omega (arith, ints) }
+    by (Some u) at = (all_at IsUtility case.utilities number u (StaysValid-IsComplete case complete).utilities at).contribution
+
+pub approach-within : (case : Case) → IsComplete case → (hot cold : Source) → IsApproach (approach_of case hot cold)
+approach-within case complete hot cold =
+    let one = contribution-within case complete hot in
+    let two = contribution-within case complete cold in
+    let one_from = one.from in
+    let one_upto = one.upto in
+    let two_from = two.from in
+    let two_upto = two.upto in
+    record { from = omega (arith, ints, one_from, two_from); upto = omega (arith, ints, one_upto, two_upto) }
+
+level-within : (case : Case) → IsComplete case → (number : ℕ) → IsLevel (level_of case number)
+level-within case complete number = by (slice_get case.utilities number) refl
+  where
+    by : (o : Option Utility) → slice_get case.utilities number ≡ o → IsLevel (option_map_or (λ u. u.level) o (pos 0))
+    by None at = record { from = omega (arith, ints); upto = omega (arith, ints) }
+    by (Some u) at = (all_at IsUtility case.utilities number u (StaysValid-IsComplete case complete).utilities at).level
+
+-- a level with an approach added
+pub wanted-level : (level approach : ℤ) → IsLevel level → IsApproach approach → IsWithinLimits (plus (whole level) (whole approach))
+wanted-level level approach is asked =
+    let low = is.from in
+    let high = is.upto in
+    let from = asked.from in
+    let upto = asked.upto in
+    subst IsWithinLimits (sym (whole-plus level approach)) (within-whole (level +ℤ approach) (omega (arith, ints, low, high, from, upto)))
+
+-- what holds of the states of all branches and of all levels holds of both ends of a side
+module _ (P : Rational → Type 0) (case : Case) (network : Network) (values : Valuation) (each : (branch : ℕ) → P (value_at values branch).t) (levels : (number : ℕ) → P (whole (level_of case number))) (none : P rational_zero) where
+  between_keeps : (of : Side) (from to : ℕ) → P (low_of (run_between of (value_at values from) (value_at values to))) × P (high_of (run_between of (value_at values from) (value_at values to)))
+  between_keeps side.Hot from to = (each to, each from)
+  between_keeps side.Cold from to = (each from, each to)
+
+  pass_keeps : (o : Option Line) → P (low_of (pass_run case network values o)) × P (high_of (pass_run case network values o))
+  pass_keeps None = (none, none)
+  pass_keeps (Some (line.Exchanger name hot cold duty)) = (none, none)
+  pass_keeps (Some (line.Split from first cp second)) = (none, none)
+  pass_keeps (Some (line.Pass from exchanger to)) = between_keeps (branch_side case network from) from to
+  pass_keeps (Some (line.Mix first second to)) = (none, none)
+  pass_keeps (Some (line.End branch)) = (none, none)
+
+  side_keeps : (number : ℕ) (of : Source) → P (low_of (side_run case network values number of)) × P (high_of (side_run case network values number of))
+  unfolding side_run
+  side_keeps number (source.Stream stream) = pass_keeps (pass_of network number stream)
+  side_keeps number (source.Utility index) = (levels index, levels index)
+
+-- an exchanger forms the temperatures that its cold side asks for
+pub exchanger_formed : (case : Case) (network : Network) (values : Valuation) → IsComplete case → All IsRoomy values → (number : ℕ) (e : Exchanger) → AreFormed (exchanger_items_at case network values (number, e))
+exchanger_formed case network values complete roomy number e =
+    let approach = approach_of case e.hot e.cold in
+    let asked = approach-within case complete e.hot e.cold in
+    let given = ends_of side.Hot (side_run case network values number e.hot) in
+    let taken = ends_of side.Cold (side_run case network values number e.cold) in
+    let both = side_keeps (λ t. IsWithinLimits (plus t (whole approach))) case network values (λ branch. (roomy_at values roomy branch).wanted approach asked)
+    (λ index. wanted-level (level_of case index) approach (level-within case complete index) asked) (roomy_none.wanted approach asked) number e.cold in
+    All-from_recursion IsFormed (side_items case (place.Exchanger number) e.hot e.cold given taken) (tt, (both.1, (tt, (both.0, (tt, tt)))))
