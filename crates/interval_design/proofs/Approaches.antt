@@ -88,11 +88,7 @@ joined_parts case hot cold ts flow number t at =
     let (q, cold_part) = part_there cold t.cold (all_at (λ (u : Transfer). u.cold < length cold) ts number t flow.cold_indexes at) in
     let reach = all_at (λ (u : Transfer). IsTrue (reach_between case hot cold u.hot u.cold)) ts number t flow.joined at in
     let reached : reach_between case hot cold t.hot t.cold ≡ part_reaches case p q = λ i. both_reach case (hot_part i) (cold_part i) in
-    (p, q, record { hot_part = hot_part; cold_part = cold_part; reach = both (part_reaches case p q) (subst IsTrue reached reach) })
-  where
-    both : (b : Bool) → IsTrue b → b ≡ true
-    both true holds = refl
-    both false holds = absurd holds
+    (p, q, record { hot_part = hot_part; cold_part = cold_part; reach = subst IsTrue reached reach })
 
 part_order : (case : Case) (grid : List ℤ) (of : Side) (p : Part) → AllPairs (λ a b. b <ℤ a) grid → IsPartOf case.streams case.utilities grid of p → p.low ≤ℤ p.high
 part_order case grid of p falls (inl (i, s, is)) = let less = interval_falls grid p.high p.low falls is.interval in omega (arith, ints, less)
