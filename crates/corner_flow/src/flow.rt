@@ -1,5 +1,5 @@
 //! The corner flow.
-ghost use Rattle.std.specs.Prelude.{◌≡◌, map, IfOk};
+ghost use Rattle.std.specs.Prelude.{◌≡◌, ◌+◌, ◌-◌, ◌≤◌, length, map, IfOk};
 ghost use Rattle.stream_case.specs.declared.source.Side.TheVariants.{Hot, Cold};
 ghost use Rattle.stream_case.specs.Case.{IsComplete, IsStandard};
 ghost use Rattle.sums.specs.Spans.{NotNegative, ListsOverlaps};
@@ -60,7 +60,8 @@ fn overlaps_of(alloc: Global, parts: &Parts, targets: Target) -> Result<Vec<Pair
 
 /// The corner flow of a standard case. The heats of each side, in W, are laid end to end in the
 /// order of the parts, the hot target for `HOT` and the cold target for `COLD`; the transfers are
-/// the pairs of a hot and a cold part whose spans overlap, each with the length that they share.
+/// the pairs of a hot and a cold part whose spans overlap, each with the length that they share;
+/// there are fewer of them than parts.
 /// No heat flow of these parts takes less from `HOT` or gives less to `COLD`, and in one that takes
 /// just the hot target no transfer crosses a pinch, from a hot part above it to a cold part below
 /// it (Kemp 2007).
@@ -77,6 +78,7 @@ pub fn corner(
     requires cold_target { targets.cold ≡ cold_target case.now.streams }
     ensures spans { IfOk result (λ flow. IsCornerFlow case.now parts.now.hot parts.now.cold flow.transfers) }
     ensures flow { IfOk result (λ flow. IsFlowOf case.now parts.now.hot parts.now.cold flow.transfers) }
+    ensures few { IfOk result (λ flow. length flow.transfers ≤ length parts.now.hot + length parts.now.cold - 1) }
     ensures hot_heat { IfOk result (λ flow. UtilityHeat Hot parts.now.hot flow.transfers targets.hot) }
     ensures cold_heat { IfOk result (λ flow. UtilityHeat Cold parts.now.cold flow.transfers targets.cold) }
     ensures cost { IfOk result (λ flow. cost_of parts.now.hot parts.now.cold flow.transfers ≡ targets.hot) }

@@ -25,7 +25,7 @@ pub record IsCourseMade (case : Case) (network : Network) (values : Valuation) (
   pub next_is : next + course_branches (shares_along stages) ≡ length (values ++ course_values stages)
 
 module _ (case : Case) (network : Network) (stream : ℕ) (s : Stream) (here : slice_get case.streams stream ≡ Some s) where
-  side_is : (branch : ℕ) → stream_at network.branches branch ≡ stream → branch_side case network branch ≡ s.side
+  pub side_is : (branch : ℕ) → stream_at network.branches branch ≡ stream → branch_side case network branch ≡ s.side
   unfolding branch_side
   side_is branch of_stream =
       ap (λ k. unwrap_or (side_of case (source.Stream k)) side.Hot) of_stream ∙ ap (λ o. unwrap_or (option_map (λ (a : Stream). a.side) o) side.Hot) here
@@ -63,7 +63,7 @@ module _ (case : Case) (network : Network) (stream : ℕ) (s : Stream) (here : s
 pub record HaveOwn (case : Case) (values : Valuation) : Type 0 where
   pub each : (stream : ℕ) (s : Stream) → slice_get case.streams stream ≡ Some s → Carries values stream (first_value s)
 
-own_more : (case : Case) (values more : Valuation) → HaveOwn case values → HaveOwn case (values ++ more)
+pub own_more : (case : Case) (values more : Valuation) → HaveOwn case values → HaveOwn case (values ++ more)
 own_more case values more own = record { each = λ stream s here. carries_more values more stream (first_value s) (own.each stream s here) }
 
 pub courses_made : (case : Case) (network : Network) (courses : List (List LedStage)) (values : Valuation) (next stream : ℕ) → next ≡ length values → HaveOwn case values → AreLed case network next stream courses

@@ -17,3 +17,5 @@ pub mod PassedOnce
 pub mod Declared
 pub mod Shaped
 pub mod FewLines
+pub mod PassRuns
+pub mod CourseEnds

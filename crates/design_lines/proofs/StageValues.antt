@@ -25,7 +25,7 @@ length-split_values before [] = omega arith
 length-split_values before (s ∷ []) = omega arith
 length-split_values before (s ∷ t ∷ shares) = let rest = length-split_values before (t ∷ shares) in omega (arith, rest)
 
-splits_carry : (before : Rational) (shares : List Share) (values : Valuation) (next from : ℕ) → next ≡ length values → Carries values from (value_of (size_of shares) before)
+pub splits_carry : (before : Rational) (shares : List Share) (values : Valuation) (next from : ℕ) → next ≡ length values → Carries values from (value_of (size_of shares) before)
     → CarryShares (values ++ split_values before shares) before (share_branches next (rest_branch next from shares) shares) shares
 splits_carry before [] values next from start carries = tt
 splits_carry before (s ∷ []) values next from start carries =
@@ -52,12 +52,12 @@ module _ (P : ℕ → Type 0) where
   shares_hold next rest (s ∷ t ∷ shares) own each =
       All-cons P next (share_branches (next + 2) rest (t ∷ shares)) (each next (omega arith) (omega arith)) (shares_hold (next + 2) rest (t ∷ shares) own (λ b from upto. each b (omega (arith, from)) (omega (arith, upto))))
 
-  branches_hold : (next from : ℕ) (shares : List Share) → P from → ((b : ℕ) → next ≤ b → b < next + 2 * (length shares - 1) → P b) → All P (share_branches next (rest_branch next from shares) shares)
+  pub branches_hold : (next from : ℕ) (shares : List Share) → P from → ((b : ℕ) → next ≤ b → b < next + 2 * (length shares - 1) → P b) → All P (share_branches next (rest_branch next from shares) shares)
   branches_hold next from shares own each = shares_hold next (rest_branch next from shares) shares (rest_holds next from shares own each) each
 
 -- ---- behind the passes and the mixes
 
-passes_carry : (after : Rational) (shares : List Share) (values : Valuation) (branch : ℕ) → branch ≡ length values → CarryFrom (values ++ pass_values after shares) after branch shares
+pub passes_carry : (after : Rational) (shares : List Share) (values : Valuation) (branch : ℕ) → branch ≡ length values → CarryFrom (values ++ pass_values after shares) after branch shares
 passes_carry after [] values branch start = tt
 passes_carry after (s ∷ shares) values branch start =
     let one : List BranchValue = share_value after s ∷ [] in (

@@ -6,6 +6,7 @@ use Rattle.std.proofs.lemmas.List.FromFn.{length-enumerate_from}
 use Rattle.stream_case.specs.Case.{IsComplete}
 use Rattle.stream_case.specs.Limits.{IsHeat}
 use Rattle.stream_case.specs.declared.case.Case.{Case}
+use Rattle.stream_case.specs.declared.limits.TheConstants.{ALL_STREAMS}
 use Rattle.stream_case.specs.declared.source.Side.TheVariants as side
 use Rattle.network_text.specs.Shape.{HasShape, KeepsCounts}
 use Rattle.network_text.specs.declared.limits.TheConstants.{MOST_EXCHANGERS, MOST_STATEMENTS}
@@ -21,7 +22,7 @@ use Rattle.heat_flow.specs.declared.flow.Transfer.{Transfer}
 use Rattle.interval_design.specs.Courses.{AllCanBeLed, courses_of, exchanger_of, network_of}
 use Rattle.interval_design.proofs.CourseShape.{courses-are}
 use Rattle.interval_design.proofs.ExchangerLemmas.{exchangers_of-network_of, network_of-drawn}
-use Rattle.interval_design.proofs.FlowLemmas.{few-shares}
+use Rattle.interval_design.proofs.FlowLemmas.{few-shares, most_transfers}
 use Rattle.interval_design.proofs.NetworkLemmas.{length-courses_of}
 use Rattle.interval_design.proofs.TransferExchangers.{all-exchangers, names-differ}
 use Rattle.interval_design.proofs.TurnLemmas.{once-passed}
@@ -33,9 +34,9 @@ pub record CanBeDrawn (case : Case) (hot cold : List Part) (transfers : List Tra
   pub cold_indexes : HaveParts side.Cold cold transfers
   pub positive : ArePositive transfers
   pub heats : All (λ t. IsHeat t.heat) transfers
-  pub few : length transfers ≤ 25000000
+  pub few : length transfers ≤ most_transfers
   pub led : AllCanBeLed case hot cold transfers
-  pub few_streams : length case.streams ≤ 30
+  pub few_streams : length case.streams ≤ ALL_STREAMS
 
 -- a transfer has a line that declares its exchanger, and three more for each of its two shares; each stream has an end
 lines-upto : (case : Case) (hot cold : List Part) (transfers : List Transfer) → length (drawn case (map (exchanger_of hot cold) (enumerate_from 0 transfers)) (courses_of case hot cold transfers)).lines ≤ 7 * length transfers + length case.streams

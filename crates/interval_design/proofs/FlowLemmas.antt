@@ -1,5 +1,5 @@
 -- A heat flow of a case can be led: each part of a stream has a width and a transfer, and there are few transfers.
-use Rattle.std.proofs.Common.{◌≡◌, ◌∙◌, ◌<◌, ◌≤◌, ◌+◌, ◌-◌, ◌*◌, ◌∷◌, ◌++◌, ◌==◌, inl, inr, ℕ, zero, suc, ℤ, pos, ◌+ℤ◌, ◌-ℤ◌, ◌*ℤ◌, ◌<ℤ◌, Bool, true, false, cond, if◌then◌else◌, List, [], All, AllPairs, Some, None, get_or, slice_get, length, map, refl, sym, ap, subst, arith}
+use Rattle.std.proofs.Common.{◌≡◌, ◌∙◌, ◌<◌, ◌≤◌, ◌+◌, ◌-◌, ◌*◌, ◌^◌, ◌∷◌, ◌++◌, ◌==◌, inl, inr, ℕ, zero, suc, ℤ, pos, ◌+ℤ◌, ◌-ℤ◌, ◌*ℤ◌, ◌<ℤ◌, Bool, true, false, cond, if◌then◌else◌, List, [], All, AllPairs, Some, None, get_or, slice_get, length, map, refl, sym, ap, subst, arith}
 use Rattle.std.specs.Prelude.{Option, count_by, nat_lt, reverse, sum_by}
 use Rattle.std.specs.List.{cons_option, enumerate_from, filter_map}
 use Rattle.std.proofs.Math.Nat.{mul-le-mul}
@@ -17,6 +17,7 @@ use Rattle.stream_case.specs.Case.{IsComplete}
 use Rattle.stream_case.specs.Source.{same_source}
 use Rattle.stream_case.specs.Stream.{IsValidStream}
 use Rattle.stream_case.specs.declared.case.Case.{Case}
+use Rattle.stream_case.specs.declared.limits.TheConstants.{ALL_STREAMS, MOST_PARTS}
 use Rattle.stream_case.specs.declared.source.Side.{Side}
 use Rattle.stream_case.specs.declared.source.Side.TheVariants as side
 use Rattle.stream_case.specs.declared.source.Source.TheVariants as source
@@ -146,11 +147,11 @@ branches-total (shares ∷ stages) used =
     let rest = branches-total stages (All-tail (λ (ss : List Share). 0 < length ss) shares stages used) in
     omega (arith, some, rest)
 
-all-small : (courses : List Course) → All (λ course. course_branches course ≤ 100000000) courses → all_branches courses ≤ length courses * 100000000
-all-small [] small = omega arith
-all-small (course ∷ courses) small =
-    let one = All-head (λ (c : Course). course_branches c ≤ 100000000) course courses small in
-    let rest = all-small courses (All-tail (λ (c : Course). course_branches c ≤ 100000000) course courses small) in
+all-small : (most : ℕ) (courses : List Course) → All (λ course. course_branches course ≤ most) courses → all_branches courses ≤ length courses * most
+all-small most [] small = omega arith
+all-small most (course ∷ courses) small =
+    let one = All-head (λ (c : Course). course_branches c ≤ most) course courses small in
+    let rest = all-small most courses (All-tail (λ (c : Course). course_branches c ≤ most) course courses small) in
     omega (arith, one, rest)
 
 -- ---- each part of a stream has a transfer
@@ -245,22 +246,28 @@ all_led case hot cold ts complete parts hots colds number s here = by s.side
 
 -- ---- the branches have numbers of 32 bits
 
-course-small : (of : Side) (parts : List Part) (ts : List Transfer) (stream : ℕ) → length ts ≤ 25000000 → CanBeLed of parts ts stream → course_branches (course_of of parts ts stream) ≤ 100000000
-course-small of parts ts stream few led =
+-- a transfer for each pair of parts, which is the most that a flow can have
+abbrev pub most_transfers : ℕ
+most_transfers = MOST_PARTS * MOST_PARTS
+
+pub few_pairs : (rows columns : ℕ) → rows ≤ MOST_PARTS → columns ≤ MOST_PARTS → rows * columns ≤ most_transfers
+few_pairs rows columns one two = mul-le-mul one two
+
+course-small : (most : ℕ) (of : Side) (parts : List Part) (ts : List Transfer) (stream : ℕ) → length ts ≤ most → CanBeLed of parts ts stream → course_branches (course_of of parts ts stream) ≤ 4 * most
+course-small most of parts ts stream few led =
     let one = branches-total (course_of of parts ts stream) led.used in
     let all = total-course of parts ts stream in
     omega (arith, one, all, few)
 
-pub all-fit : (case : Case) (hot cold : List Part) (ts : List Transfer) → length case.streams ≤ 30 → length ts ≤ 25000000 → AllCanBeLed case hot cold ts → length case.streams + all_branches (courses_of case hot cold ts) + 3 < 4294967296
+pub all-fit : (case : Case) (hot cold : List Part) (ts : List Transfer) → length case.streams ≤ ALL_STREAMS → length ts ≤ most_transfers → AllCanBeLed case hot cold ts → length case.streams + all_branches (courses_of case hot cold ts) + 3 < 2 ^ 32
 all-fit case hot cold ts few_streams few led =
-    let small = All-map (λ (c : Course). course_branches c ≤ 100000000) (stream_course hot cold ts) (enumerate_from 0 case.streams)
-    (All-numbered (λ ((number, s) : ℕ × Stream). course_branches (stream_course hot cold ts (number, s)) ≤ 100000000) case.streams (λ i s here. course-small s.side (parts_of s.side hot cold) ts i few (led i s here))) in
-    let all = all-small (courses_of case hot cold ts) small in
+    let most = 4 * most_transfers in
+    let small = All-map (λ (c : Course). course_branches c ≤ most) (stream_course hot cold ts) (enumerate_from 0 case.streams)
+    (All-numbered (λ ((number, s) : ℕ × Stream). course_branches (stream_course hot cold ts (number, s)) ≤ most) case.streams
+    (λ i s here. course-small most_transfers s.side (parts_of s.side hot cold) ts i few (led i s here))) in
+    let all = all-small most (courses_of case hot cold ts) small in
     let long = length-courses_of case hot cold ts in
     omega (arith, all, long, few_streams)
-
-pub few_pairs : (rows columns : ℕ) → rows ≤ 5000 → columns ≤ 5000 → rows * columns ≤ 25000000
-few_pairs rows columns one two = let product = mul-le-mul one two in omega (arith, product)
 
 -- ---- the shares of all courses together
 

@@ -12,5 +12,13 @@ pub mod ShareLemmas
 pub mod CourseShape
 pub mod TurnLemmas
 pub mod DesignShape
+pub mod PassTemperatures
+pub mod Approaches
+pub mod Permitted
+pub mod Ranges
+pub mod NetworkValid
+pub mod UtilityHeats
+pub mod Cost
+pub mod Balances
 pub mod StepSizes
 pub mod NoFinding

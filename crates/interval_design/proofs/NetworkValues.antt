@@ -29,7 +29,7 @@ use Rattle.interval_design.proofs.PartValues.{numbered_item}
 use Rattle.interval_design.proofs.StreamValues.{shares_along-led_course, stream_led}
 
 -- the courses that are led are those that are drawn
-courses_along-led : (hot cold : List Part) (ts : List Transfer) (xs : List (ℕ × Stream)) → courses_along (map (led_course hot cold ts) xs) ≡ map (stream_course hot cold ts) xs
+pub courses_along-led : (hot cold : List Part) (ts : List Transfer) (xs : List (ℕ × Stream)) → courses_along (map (led_course hot cold ts) xs) ≡ map (stream_course hot cold ts) xs
 courses_along-led hot cold ts [] = refl
 courses_along-led hot cold ts ((number, s) ∷ xs) =
     ap (λ (c : Course). c ∷ courses_along (map (led_course hot cold ts) xs)) (shares_along-led_course hot cold ts number s) ∙ ap (λ (cs : List Course). stream_course hot cold ts (number, s) ∷ cs) (courses_along-led hot cold ts xs)
@@ -57,7 +57,7 @@ module _ (case : Case) (hot cold : List Part) (ts : List Transfer) (complete : I
           let many = length-enumerate_from 0 case.streams in
           absurd (omega (arith, past, inside, long, many))
 
-  all_led_network : AreLed case (network_of case hot cold ts) (length case.streams) 0 (led_courses case hot cold ts)
+  pub all_led_network : AreLed case (network_of case hot cold ts) (length case.streams) 0 (led_courses case hot cold ts)
   unfolding network_of
   all_led_network =
       let courses = courses_along-led hot cold ts (enumerate_from 0 case.streams) in

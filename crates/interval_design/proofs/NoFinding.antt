@@ -1,5 +1,5 @@
 -- The network of a heat flow has no finding where it is valid: its branches leave room, and its duties are whole.
-use Rattle.std.proofs.Common.{◌≡◌, ◌++◌, ℕ, ℤ, pos, unsigned_abs, List, All, Some, get_or, slice_get, map, sym, subst, arith}
+use Rattle.std.proofs.Common.{◌++◌, ℕ, List, All, map, sym, subst, arith}
 use Rattle.std.specs.List.{enumerate_from}
 use Rattle.std.proofs.lemmas.Int.{ints}
 use Rattle.std.proofs.lemmas.List.Elements.{All-map, All-weaker}
@@ -7,7 +7,6 @@ use Rattle.sums.proofs.EnumerationLemmas.{All-enumerated}
 use Rattle.stream_case.specs.Case.{IsComplete}
 use Rattle.stream_case.specs.Limits.{IsHeat}
 use Rattle.stream_case.specs.declared.case.Case.{Case}
-use Rattle.fractions.specs.Rationals.{whole}
 use Rattle.network_text.specs.Lines.{Exchanger, exchangers_of}
 use Rattle.network_text.specs.Shape.{HasShape}
 use Rattle.network_text.proofs.Lists.{all_at}

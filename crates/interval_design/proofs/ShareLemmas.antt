@@ -40,7 +40,7 @@ one_share : (P : Share → Type 0) (b : Bool) (s : Share) (rest : List Share) �
 one_share P true s rest own all = All-cons P s rest (own refl) all
 one_share P false s rest own all = all
 
-each-share : (P : Share → Type 0) (of : Side) (index width n : ℕ) (ts : List Transfer) → ((i : ℕ) (t : Transfer) → slice_get ts i ≡ Some t → part_index of t ≡ index → P (record { exchanger = n + i; cp = ratio t.heat width }))
+pub each-share : (P : Share → Type 0) (of : Side) (index width n : ℕ) (ts : List Transfer) → ((i : ℕ) (t : Transfer) → slice_get ts i ≡ Some t → part_index of t ≡ index → P (record { exchanger = n + i; cp = ratio t.heat width }))
     → All P (filter_map (share_of of index width) (enumerate_from n ts))
 each-share P of index width n [] each = All-nil P
 each-share P of index width n (t ∷ ts) each =

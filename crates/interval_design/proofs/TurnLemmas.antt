@@ -143,7 +143,7 @@ turns-course side.Cold ts number t stream parts p at here own =
 
 -- ---- the streams of a transfer
 
-part_there : (parts : List Part) (index : ℕ) → index < length parts → (p : Part) × (slice_get parts index ≡ Some p)
+pub part_there : (parts : List Part) (index : ℕ) → index < length parts → (p : Part) × (slice_get parts index ≡ Some p)
 part_there [] index within = absurd (omega (arith, within))
 part_there (q ∷ parts) index within = (get_or (q ∷ parts) index q, slice_get-get_or (q ∷ parts) index q within)
 

@@ -4,6 +4,7 @@ use Rattle.sums.specs.Spans.{NotNegative}
 use Rattle.corner_flow.specs.Corner.{heats_of, as_pair, as_transfer, IsCornerFlow, UtilityHeat, NeedsHeat}
 use Rattle.corner_flow.proofs.SideLemmas.{AreStandardParts, AreStandardParts-parts}
 use Rattle.corner_flow.proofs.HeatLemmas.{needs_heat}
+use Rattle.corner_flow.proofs.FewTransfers.{fewer_than_parts}
 use Rattle.corner_flow.proofs.FlowLemmas.{heats-not_negative, corner-heat, corner-is_flow, corner-cost, as_pair-as_transfer}
 use Rattle.corner_flow.proofs.PinchLaw.{no_heat_crosses_pinch}
 use Rattle.corner_flow.proofs.flow.corner.Goals as goal
@@ -31,6 +32,10 @@ returns-clause-spans c = spans c
 
 pub returns-clause-flow : goal.returns-clause-flow
 returns-clause-flow c = corner-is_flow (standard c) c.from_vec.result (spans c)
+
+pub returns-clause-few : goal.returns-clause-few
+returns-clause-few c =
+    fewer_than_parts c.args.case.now c.args.parts.now.hot c.args.parts.now.cold c.from_vec.result (heats-not_negative (standard c) Hot) (heats-not_negative (standard c) Cold) (spans c)
 
 pub returns-clause-hot_heat : goal.returns-clause-hot_heat
 returns-clause-hot_heat c = subst (UtilityHeat Hot c.args.parts.now.hot c.from_vec.result) (sym c.requires.hot_target) (corner-heat (standard c) c.from_vec.result (spans c) Hot)

@@ -1,12 +1,22 @@
-use Rattle.std.proofs.Common.{◌∙◌, length, ap, arith, ◌≡◌, ◌++◌, map, subst, sym}
+use Rattle.std.proofs.Common.{◌∙◌, length, ap, arith, ◌≡◌, ◌≤◌, ◌++◌, All, map, subst, sym}
 use Rattle.std.specs.List.{enumerate_from}
+use Rattle.stream_case.specs.Limits.{IsHeat}
+use Rattle.stream_case.specs.declared.limits.TheConstants.{ALL_STREAMS}
+use Rattle.network_audit.specs.Balance.{balance_of}
+use Rattle.network_audit.specs.Findings.{HasNoFinding}
+use Rattle.network_audit.specs.Valid.{IsValidNetwork}
+use Rattle.network_audit.specs.declared.verdict.Balance.{Balance}
 use Rattle.network_text.specs.Lines.{exchangers_of}
-use Rattle.network_text.specs.Shape.{HasShape}
+use Rattle.network_text.specs.Shape.{HasShape, KeepsCounts}
 use Rattle.network_text.specs.declared.network.Network.{Network}
 use Rattle.design_lines.specs.Drawn.{courses_lines, declared_line, made_branches}
+use Rattle.interval_design.specs.Balance.{flow_balance}
 use Rattle.interval_design.specs.Courses.{courses_of, exchanger_of, network_of}
-use Rattle.interval_design.proofs.DesignShape.{CanBeDrawn, HasShape-network_of}
+use Rattle.interval_design.proofs.Balances.{balance-network, no_excess}
+use Rattle.interval_design.proofs.DesignShape.{HasShape-network_of, KeepsCounts-network_of}
 use Rattle.interval_design.proofs.ExchangerLemmas.{exchangers_of-network_of}
+use Rattle.interval_design.proofs.NetworkValid.{valid_network}
+use Rattle.interval_design.proofs.NoFinding.{network_has_no_finding}
 use Rattle.stream_case.proofs.CaseLemmas.{length-AreStreams}
 use Rattle.stream_case.proofs.CompleteLemmas.{AreStreams-IsComplete}
 use Rattle.heat_flow.proofs.CostLemmas.{HasCost-flow, heats_within}
@@ -53,25 +63,15 @@ push_courses-requires-clause-fits c =
     let pairs = few_transfers hot cold c.args.flow.now.transfers c.requires.flow.ordered c.requires.flow.hot_indexes c.requires.flow.cold_indexes in
     let few = few_pairs (length hot) (length cold) c.args.parts.now.few_hot c.args.parts.now.few_cold in
     let streams = length-AreStreams c.args.case.now.streams (AreStreams-IsComplete c.args.case.now c.requires.complete) in
-    all-fit c.args.case.now hot cold c.args.flow.now.transfers (omega (arith, streams)) (omega (arith, pairs, few))
+    all-fit c.args.case.now hot cold c.args.flow.now.transfers streams (omega (arith, pairs, few))
     (all_led c.args.case.now hot cold c.args.flow.now.transfers c.requires.complete c.requires.parts c.requires.flow.hot_ranges c.requires.flow.cold_ranges)
 
-pub returns-clause-exchangers : goal.returns-clause-exchangers
-unfolding network_of
-returns-clause-exchangers c =
-    let case = c.args.case.now in
-    let hot = c.args.parts.now.hot in
-    let cold = c.args.parts.now.cold in
-    let ts = c.args.flow.now.transfers in
-    let led = courses_lines (length case.streams) 0 (courses_of case hot cold ts) in
-    let declared : c.in_ok-lines.lines.items ≡ map (λ e. declared_line (exchanger_of hot cold e)) (enumerate_from 0 ts) =
-    c.in_ok-lines.ensures ∙ (λ i. map (λ e. declared_line (exchanger_of (c.as_slice.ensures i) (c.as_slice-2.ensures i) e)) (enumerate_from 0 (c.as_slice-transfers.ensures i))) in
-    let drawn : c.from_vec-2.result ≡ (network_of case hot cold ts).lines = c.from_vec-2.ensures ∙ c.in_ok-push_courses.ensures.lines ∙ ap (λ ls. ls ++ led) declared in
-    ap exchangers_of drawn ∙ exchangers_of-network_of case hot cold ts
+-- ---- the network
 
-pub returns-clause-shape : goal.returns-clause-shape
+-- the branches and the lines are those of the network of the flow
+network_is : (c : goal.After-from_vec-2) → ◌≡◌ {A = Network} (record { branches = c.from_vec.result; lines = c.from_vec-2.result }) (network_of c.args.case.now c.args.parts.now.hot c.args.parts.now.cold c.args.flow.now.transfers)
 unfolding network_of
-returns-clause-shape c =
+network_is c =
     let case = c.args.case.now in
     let hot = c.args.parts.now.hot in
     let cold = c.args.parts.now.cold in
@@ -82,19 +82,75 @@ returns-clause-shape c =
     c.in_ok-lines.ensures ∙ (λ i. map (λ e. declared_line (exchanger_of (c.as_slice.ensures i) (c.as_slice-2.ensures i) e)) (enumerate_from 0 (c.as_slice-transfers.ensures i))) in
     let lines_are : c.from_vec-2.result ≡ (network_of case hot cold ts).lines = c.from_vec-2.ensures ∙ c.in_ok-push_courses.ensures.lines ∙ ap (λ ls. ls ++ led) declared in
     let branches_are : c.from_vec.result ≡ (network_of case hot cold ts).branches = c.from_vec.ensures ∙ c.in_ok-push_courses.ensures.branches ∙ ap (λ bs. bs ++ made_branches 0 0 courses) c.in_ok-branches.ensures in
-    let network : Network = record { branches = c.from_vec.result; lines = c.from_vec-2.result } in
-    let drawn : network ≡ network_of case hot cold ts = λ i. record { branches = branches_are i; lines = lines_are i } in
+    λ i. record { branches = branches_are i; lines = lines_are i }
+
+heats : (c : goal.After-from_vec-2) → All (λ t. IsHeat t.heat) c.args.flow.now.transfers
+heats c =
+    let hot = c.args.parts.now.hot in
+    let cold = c.args.parts.now.cold in
+    heats_within hot cold c.args.flow.now.transfers c.args.parts.now.hot_bounded (HasCost-flow (reach_between c.args.case.now hot cold) hot cold c.args.flow.now.transfers c.requires.flow)
+
+few_streams : (c : goal.After-from_vec-2) → length c.args.case.now.streams ≤ ALL_STREAMS
+few_streams c = length-AreStreams c.args.case.now.streams (AreStreams-IsComplete c.args.case.now c.requires.complete)
+
+has_shape : (c : goal.After-from_vec-2) → HasShape c.args.case.now (network_of c.args.case.now c.args.parts.now.hot c.args.parts.now.cold c.args.flow.now.transfers)
+has_shape c =
+    let case = c.args.case.now in
+    let hot = c.args.parts.now.hot in
+    let cold = c.args.parts.now.cold in
+    let ts = c.args.flow.now.transfers in
     let pairs = few_transfers hot cold ts c.requires.flow.ordered c.requires.flow.hot_indexes c.requires.flow.cold_indexes in
     let few = few_pairs (length hot) (length cold) c.args.parts.now.few_hot c.args.parts.now.few_cold in
-    let streams = length-AreStreams case.streams (AreStreams-IsComplete case c.requires.complete) in
-    let can : CanBeDrawn case hot cold ts = record {
+    HasShape-network_of case hot cold ts c.requires.complete (record {
       parts = c.requires.parts;
       hot_indexes = c.requires.flow.hot_indexes;
       cold_indexes = c.requires.flow.cold_indexes;
       positive = c.requires.flow.positive;
-      heats = heats_within hot cold ts c.args.parts.now.hot_bounded (HasCost-flow (reach_between case hot cold) hot cold ts c.requires.flow);
+      heats = heats c;
       few = omega (arith, pairs, few);
       led = all_led case hot cold ts c.requires.complete c.requires.parts c.requires.flow.hot_ranges c.requires.flow.cold_ranges;
-      few_streams = omega (arith, streams);
-    } in
-    subst (HasShape case) (sym drawn) (HasShape-network_of case hot cold ts c.requires.complete can)
+      few_streams = few_streams c;
+    })
+
+is_valid : (c : goal.After-from_vec-2) → IsValidNetwork c.args.case.now (network_of c.args.case.now c.args.parts.now.hot c.args.parts.now.cold c.args.flow.now.transfers)
+is_valid c = valid_network c.args.case.now c.args.parts.now.hot c.args.parts.now.cold c.args.flow.now.transfers c.requires.complete c.requires.parts c.requires.flow (has_shape c)
+
+balance_is : (c : goal.After-from_vec-2) → balance_of c.args.case.now (record { branches = c.from_vec.result; lines = c.from_vec-2.result }) ≡ flow_balance c.args.case.now c.args.parts.now.hot c.args.parts.now.cold c.args.flow.now.transfers
+balance_is c =
+    ap (balance_of c.args.case.now) (network_is c)
+    ∙ balance-network c.args.case.now c.args.parts.now.hot c.args.parts.now.cold c.args.flow.now.transfers c.requires.parts c.requires.flow.hot_indexes c.requires.flow.cold_indexes
+
+-- ---- the clauses
+
+pub returns-clause-drawn : goal.returns-clause-drawn
+returns-clause-drawn c = network_is c
+
+pub returns-clause-exchangers : goal.returns-clause-exchangers
+returns-clause-exchangers c =
+    ap (λ (n : Network). exchangers_of n.lines) (network_is c) ∙ exchangers_of-network_of c.args.case.now c.args.parts.now.hot c.args.parts.now.cold c.args.flow.now.transfers
+
+pub returns-clause-shape : goal.returns-clause-shape
+returns-clause-shape c = subst (HasShape c.args.case.now) (sym (network_is c)) (has_shape c)
+
+pub returns-clause-counts : goal.returns-clause-counts
+returns-clause-counts c few =
+    let hot = c.args.parts.now.hot in
+    let cold = c.args.parts.now.cold in
+    let ts = c.args.flow.now.transfers in
+    subst KeepsCounts (sym (network_is c))
+    (KeepsCounts-network_of c.args.case.now hot cold ts (omega (arith, few, few_streams c, c.args.parts.now.few_hot, c.args.parts.now.few_cold)) (omega (arith, few, c.args.parts.now.few_hot, c.args.parts.now.few_cold)))
+
+pub returns-clause-valid : goal.returns-clause-valid
+returns-clause-valid c = subst (IsValidNetwork c.args.case.now) (sym (network_is c)) (is_valid c)
+
+pub returns-clause-accepted : goal.returns-clause-accepted
+returns-clause-accepted c =
+    subst (HasNoFinding c.args.case.now) (sym (network_is c))
+    (network_has_no_finding c.args.case.now c.args.parts.now.hot c.args.parts.now.cold c.args.flow.now.transfers c.requires.complete c.requires.parts c.requires.flow (heats c) (has_shape c) (is_valid c))
+
+pub returns-clause-balance : goal.returns-clause-balance
+returns-clause-balance c = balance_is c
+
+pub returns-clause-excess : goal.returns-clause-excess
+returns-clause-excess c standard costs =
+    ap (λ (b : Balance). b.excess) (balance_is c) ∙ no_excess c.args.case.now c.args.parts.now.hot c.args.parts.now.cold c.args.flow.now.transfers standard c.requires.parts costs
