@@ -1,22 +1,36 @@
-use Rattle.std.proofs.Common.{◌∙◌, ap, subst, rules, FitsSigned, w32}
+use Rattle.std.proofs.Common.{◌≡◌, ap, subst, sym, rules, FitsSigned, w32}
 use Rattle.std.proofs.lemmas.Int.{to_z-of_z}
-use Rattle.network_audit.specs.Audit.{Says}
+use Rattle.fractions.specs.Rationals.{Rational}
 use Rattle.network_audit.specs.Findings.{IsVerdict}
 use Rattle.network_audit.specs.Valid.{IsValidNetwork}
-use Rattle.pinch.specs.Network.{shown_verdict}
+use Rattle.network_audit.specs.declared.verdict.Balance.{Balance}
+use Rattle.network_audit.specs.declared.verdict.Verdict.TheVariants as verdict
+use Rattle.penalties.specs.Answers.{IfListed, sum_of}
+use Rattle.reports.specs.declared.shown.Shown.TheVariants.{Accepted}
 use Rattle.pinch.proofs.audit.show_audit.Goals as goal
 
-pub returns : goal.returns
-returns c =
-    let verdict = c.audit-verdict.result in
-    let reference = c.reference_place-reference.result in
+pub returns-in-Accepted : goal.returns-in-Accepted
+returns-in-Accepted c =
+    let case = c.args.case in
+    let network = c.args.network in
+    let balance = c.in-Accepted.balance in
+    let penalties = c.in_ok-penalties-in-Accepted.field-0 in
+    let reference = c.reference_place.result in
     let fits : FitsSigned w32 reference = search rules in
+    let is_verdict : IsVerdict case network (verdict.Accepted balance) =
+    subst (λ a. IsVerdict a.case a.network (verdict.Accepted balance)) c.in_ok-auditor.ensures c.in-Accepted.ensures.verdict in
     record {
-      verdict = verdict;
-      is_verdict = subst (λ a. IsVerdict a.case a.network verdict) c.in_ok-auditor.ensures c.audit-verdict.ensures.verdict;
-      valid = subst (λ a. Says verdict (IsValidNetwork a.case a.network)) c.in_ok-auditor.ensures c.audit-verdict.ensures.valid;
-      excess = c.audit-verdict.ensures.excess;
-      reference = reference;
-      is_reference = c.reference_place-reference.ensures;
-      is = c.shown_verdict.ensures ∙ ap (λ r. shown_verdict c.args.case c.args.network r verdict) (to_z-of_z w32 reference fits);
+      verdict = verdict.Accepted balance;
+      is_verdict = is_verdict;
+      valid = subst (λ a. IsValidNetwork a.case a.network) c.in_ok-auditor.ensures c.in-Accepted.ensures.valid;
+      excess = c.in-Accepted.ensures.excess;
+      shows = record {
+        reference = reference;
+        is_reference = c.reference_place.ensures;
+        penalties = penalties;
+        lists = c.in_ok-penalties-in-Accepted.ensures.lists;
+        not_negative = c.in_ok-penalties-in-Accepted.ensures.not_negative;
+        sum = subst (λ (e : Rational). IfListed penalties (λ listed. sum_of listed ≡ e)) (sym (ap (λ (b : Balance). b.excess) is_verdict.1)) c.in_ok-penalties-in-Accepted.ensures.sum;
+        is = ap (λ r. Accepted case network balance r penalties) (to_z-of_z w32 reference fits);
+      };
     }
