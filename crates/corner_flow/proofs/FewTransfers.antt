@@ -1,6 +1,6 @@
 -- There are fewer overlaps of two rows of spans than spans: from each one to the next at least one of the indices rises, and none falls.
-use Rattle.std.proofs.Common.{◌≡◌, ⊎_elim, inl, inr, ap, ℕ, zero, suc, ◌+◌, ◌-◌, ◌<◌, ◌≤◌, List, [], ◌∷◌, All, AllPairs, length, get_or, take, drop, map, arith}
-use Rattle.std.specs.Prelude.{ℤ, pos, ◌≤ℤ◌, ◌<ℤ◌}
+use Rattle.std.proofs.Common.{⊎_elim, inl, inr, ap, ℕ, zero, suc, ◌+◌, ◌-◌, ◌<◌, ◌≤◌, List, [], ◌∷◌, All, AllPairs, length, get_or, take, drop, map, arith}
+use Rattle.std.specs.Prelude.{ℤ, pos, ◌≤ℤ◌}
 use Rattle.std.proofs.lemmas.Bool.{cases_lt}
 use Rattle.std.proofs.lemmas.Int.{ints, clamps}
 use Rattle.std.proofs.lemmas.List.{length-map, take-take}

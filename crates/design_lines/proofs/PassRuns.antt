@@ -9,7 +9,7 @@ use Rattle.network_text.specs.Lines.{stream_at}
 use Rattle.network_text.specs.declared.network.Line.{Line}
 use Rattle.network_text.specs.declared.network.Line.TheVariants as line
 use Rattle.network_text.specs.declared.network.Network.{Network}
-use Rattle.network_values.specs.Values.{Valuation, branch_side, first_state, full_size, value_at}
+use Rattle.network_values.specs.Values.{Valuation, first_state, full_size, value_at}
 use Rattle.network_values.specs.declared.values.BranchValue.{BranchValue}
 use Rattle.design_lines.specs.Drawn.{course_branches, course_lines, courses_lines}
 use Rattle.design_lines.specs.Stages.{behind_splits, mixes, passes, rest_branch, share_branches, splits, stage_end, stage_lines}

@@ -1,5 +1,5 @@
 -- At both ends of each exchanger of a heat flow the hot side is above the cold one by the approach: its hot part reaches its cold part.
-use Rattle.std.proofs.Common.{◌≡◌, ◌∙◌, ◌<◌, ◌++◌, inl, inr, ⊎_elim, ℕ, ℤ, pos, ◌+ℤ◌, ◌-ℤ◌, ◌≤ℤ◌, ◌<ℤ◌, Bool, true, false, List, All, AllPairs, Some, slice_get, length, map, refl, sym, ap, subst, arith}
+use Rattle.std.proofs.Common.{◌≡◌, ◌∙◌, ◌<◌, ◌++◌, inl, inr, ⊎_elim, ℕ, ℤ, pos, ◌+ℤ◌, ◌-ℤ◌, ◌≤ℤ◌, ◌<ℤ◌, true, List, AllPairs, Some, slice_get, length, map, refl, sym, ap, subst, arith}
 use Rattle.std.specs.Prelude.{◌&&◌, IsTrue, int_le, not, option_map, unwrap_or}
 use Rattle.std.specs.Option.{option_map_or}
 use Rattle.std.specs.Ordering.{int_eq}
@@ -27,6 +27,7 @@ use Rattle.network_text.proofs.OfShape.{the_pass_of}
 use Rattle.network_values.specs.Sides.{KeepApproaches, Level, SideRun, contribution_of, enters, leaves, pass_run, run_between, side_run}
 use Rattle.network_values.specs.Values.{Valuation, branch_side, first_value, value_at}
 use Rattle.network_values.specs.declared.values.BranchValue.{BranchValue}
+use Rattle.network_audit.proofs.HeatLemmas.{source_on}
 use Rattle.design_lines.specs.Values.{courses_values}
 use Rattle.design_lines.proofs.PassRuns.{RunsAs}
 use Rattle.grid.specs.Part.{AreCaseParts, IsPartOf}
@@ -119,11 +120,6 @@ apart taken given low high hot_contribution cold_contribution taken_is given_is 
     (at_most-whole ((low -ℤ cold_contribution) +ℤ (hot_contribution +ℤ cold_contribution)) (high +ℤ hot_contribution) (omega (arith, ints, order))))
 
 -- ---- the side of an exchanger
-
--- the source of an exchanger on a side
-abbrev pub source_on : Side → Exchanger → Source
-source_on side.Hot e = e.hot
-source_on side.Cold e = e.cold
 
 joins-on : (of : Side) (e : Exchanger) (stream : ℕ) → source_on of e ≡ source.Stream stream → Joins e stream
 joins-on side.Hot e stream is = inl is

@@ -1,5 +1,6 @@
 -- The balance of the network of a heat flow is that of the flow; in a standard case a flow that costs the hot target has no excess.
 use Rattle.std.proofs.Common.{◌≡◌, ◌∙◌, inl, inr, ℤ, pos, ◌+ℤ◌, ◌-ℤ◌, ◌*ℤ◌, Bool, true, false, if◌then◌else◌, List, refl, sym, ap, ap₂, arith}
+use Rattle.std.proofs.Math.IntN.{+ℤ_idr}
 use Rattle.std.proofs.lemmas.Int.{ints}
 use Rattle.sums.specs.Sum.{int_sum_from}
 use Rattle.sums.proofs.ProductLemmas.{one_times, zero_times}
@@ -67,11 +68,8 @@ standard-cost case hot cold ts standard parts =
     let takes = side-cost case parts.grid side.Cold cold ts standard parts.cold_parts
     ∙ int_sum_from-same_each (λ a p. if is_stream p.source then pos 0 else pos 0 *ℤ heat_at side.Cold ts a) (λ a p. pos 0) cold (λ a p at. nothing (is_stream p.source) (heat_at side.Cold ts a))
     ∙ int_sum_from-zero (λ a p. pos 0) 0 cold (λ a p from. refl) in
-    ap₂ ◌+ℤ◌ gives takes ∙ plain (utilities_heat side.Hot hot ts)
+    ap₂ ◌+ℤ◌ gives takes ∙ +ℤ_idr (utilities_heat side.Hot hot ts)
   where
-    plain : (x : ℤ) → x +ℤ pos 0 ≡ x
-    plain x = omega (arith, ints)
-
     nothing : (b : Bool) (heat : ℤ) → (if b then pos 0 else pos 0 *ℤ heat) ≡ pos 0
     nothing true heat = refl
     nothing false heat = zero_times (pos 0) heat refl

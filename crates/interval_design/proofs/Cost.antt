@@ -1,7 +1,8 @@
 -- The cost of the network of a heat flow is that of the flow: the price of each part times its transfers, added up.
-use Rattle.std.proofs.Common.{◌≡◌, ◌∙◌, ◌<◌, ◌+◌, ◌∷◌, ◌==◌, inl, inr, ℕ, zero, suc, ℤ, pos, ◌+ℤ◌, ◌*ℤ◌, Bool, true, false, if◌then◌else◌, List, [], Some, get_or, slice_get, length, refl, sym, ap, ap₂, arith}
+use Rattle.std.proofs.Common.{◌≡◌, ◌∙◌, ◌<◌, ◌+◌, ◌∷◌, inl, inr, ℕ, zero, suc, ℤ, pos, ◌+ℤ◌, ◌*ℤ◌, Bool, true, false, if◌then◌else◌, List, [], Some, get_or, slice_get, length, refl, sym, ap, ap₂, arith}
 use Rattle.std.specs.Prelude.{◌||◌}
 use Rattle.std.specs.List.{enumerate_from}
+use Rattle.std.proofs.Math.IntN.{*ℤ-zero, +ℤ_idl, +ℤ_idr}
 use Rattle.std.proofs.lemmas.Bool.{eq-eqb, ne_eqb}
 use Rattle.std.proofs.lemmas.Int.{ints}
 use Rattle.std.proofs.lemmas.Option.{slice_get-get_or}
@@ -20,16 +21,16 @@ use Rattle.stream_case.proofs.SourceLemmas.{same_source-true}
 use Rattle.fractions.specs.Rationals.{times, whole}
 use Rattle.fractions.proofs.RationalSums.{rational_sum_by-same, rational_sum_by-whole}
 use Rattle.fractions.proofs.Wholes.{whole-times}
-use Rattle.network_audit.specs.Balance.{cost_of as network_cost, heat_price, heat_with}
+use Rattle.network_audit.specs.Balance.{cost_of as network_cost, heat_price}
 use Rattle.network_text.proofs.Lists.{all_at}
 use Rattle.grid.specs.Part.{AreCaseParts, AreParts, IsPartOf}
 use Rattle.grid.specs.declared.part.Part.{Part}
-use Rattle.heat_flow.specs.Flow.{HaveParts, cost_of, part_index}
+use Rattle.heat_flow.specs.Flow.{HaveParts, cost_of}
 use Rattle.heat_flow.specs.declared.flow.Transfer.{Transfer}
 use Rattle.heat_flow.proofs.Blanks.{blank}
 use Rattle.heat_flow.proofs.CostLemmas.{part_price, side_cost-transfers}
 use Rattle.interval_design.specs.Courses.{network_of, source_at}
-use Rattle.interval_design.proofs.Ranges.{has_utility, heat-transfers}
+use Rattle.interval_design.proofs.Ranges.{joins_utility, heat-transfers}
 use Rattle.interval_design.proofs.TransferExchangers.{source-side}
 
 -- ---- one source
@@ -41,12 +42,8 @@ worth a heat (index, u) = u.price *ℤ (if same_source a (source.Utility index) 
 worth-behind : (heat : ℤ) (k n : ℕ) (us : List Utility) → k < n → int_sum_by (worth (source.Utility k) heat) (enumerate_from n us) ≡ pos 0
 worth-behind heat k n [] less = refl
 worth-behind heat k n (u ∷ us) less =
-    let none : worth (source.Utility k) heat (n, u) ≡ pos 0 = ap (λ b. u.price *ℤ (if b then heat else pos 0)) (ne_eqb k n (λ same. absurd (omega (arith, less, same)))) ∙ nothing u.price in
-    let rest = worth-behind heat k (n + 1) us (omega (arith, less)) in
-    ap₂ ◌+ℤ◌ none rest
-  where
-    nothing : (x : ℤ) → x *ℤ pos 0 ≡ pos 0
-    nothing x = omega (arith, ints)
+    let none : worth (source.Utility k) heat (n, u) ≡ pos 0 = ap (λ b. u.price *ℤ (if b then heat else pos 0)) (ne_eqb k n (λ same. absurd (omega (arith, less, same)))) ∙ *ℤ-zero u.price in
+    ap₂ ◌+ℤ◌ none (worth-behind heat k (n + 1) us (omega (arith, less)))
 
 worth-at : (heat : ℤ) (k n i : ℕ) (us : List Utility) (u : Utility) → n + i ≡ k → slice_get us i ≡ Some u → int_sum_by (worth (source.Utility k) heat) (enumerate_from n us) ≡ u.price *ℤ heat
 worth-at heat k n i [] u is at = cc at
@@ -54,20 +51,10 @@ worth-at heat k n zero (v ∷ us) u is at =
     let same : v ≡ u = cc at in
     let here : worth (source.Utility k) heat (n, v) ≡ v.price *ℤ heat = ap (λ b. v.price *ℤ (if b then heat else pos 0)) (eq-eqb k n (omega (arith, is))) in
     let none = worth-behind heat k (n + 1) us (omega (arith, is)) in
-    let sum : int_sum_by (worth (source.Utility k) heat) (enumerate_from n (v ∷ us)) ≡ v.price *ℤ heat = ap₂ ◌+ℤ◌ here none ∙ plain (v.price *ℤ heat) in
-    sum ∙ ap (λ (w : Utility). w.price *ℤ heat) same
-  where
-    plain : (x : ℤ) → x +ℤ pos 0 ≡ x
-    plain x = omega (arith, ints)
+    ap₂ ◌+ℤ◌ here none ∙ +ℤ_idr (v.price *ℤ heat) ∙ ap (λ (w : Utility). w.price *ℤ heat) same
 worth-at heat k n (suc i) (v ∷ us) u is at =
-    let none : worth (source.Utility k) heat (n, v) ≡ pos 0 = ap (λ b. v.price *ℤ (if b then heat else pos 0)) (ne_eqb k n (λ same. absurd (omega (arith, is, same)))) ∙ nothing v.price in
-    ap₂ ◌+ℤ◌ none (worth-at heat k (n + 1) i us u (omega (arith, is)) at) ∙ plain (u.price *ℤ heat)
-  where
-    nothing : (x : ℤ) → x *ℤ pos 0 ≡ pos 0
-    nothing x = omega (arith, ints)
-
-    plain : (x : ℤ) → pos 0 +ℤ x ≡ x
-    plain x = omega (arith, ints)
+    let none : worth (source.Utility k) heat (n, v) ≡ pos 0 = ap (λ b. v.price *ℤ (if b then heat else pos 0)) (ne_eqb k n (λ same. absurd (omega (arith, is, same)))) ∙ *ℤ-zero v.price in
+    ap₂ ◌+ℤ◌ none (worth-at heat k (n + 1) i us u (omega (arith, is)) at) ∙ +ℤ_idl (u.price *ℤ heat)
 
 -- the price of a part is that of its source
 part-worth : (case : Case) (grid : List ℤ) (of : Side) (p : Part) (heat : ℤ) → IsPartOf case.streams case.utilities grid of p → int_sum_by (worth p.source heat) (enumerate_from 0 case.utilities) ≡ p.price *ℤ heat
@@ -75,10 +62,7 @@ part-worth case grid of p heat (inl (i, s, is)) =
     let own = ap (λ (q : Part). q.source) is.is in
     let free = ap (λ (q : Part). q.price) is.is in
     ap (λ a. int_sum_by (worth a heat) (enumerate_from 0 case.utilities)) own
-    ∙ int_sum_by-zero (worth (source.Stream i) heat) (enumerate_from 0 case.utilities) (λ k d within. nothing (get_or (enumerate_from 0 case.utilities) k d).1.price) ∙ sym (zero_times p.price heat free)
-  where
-    nothing : (x : ℤ) → x *ℤ pos 0 ≡ pos 0
-    nothing x = omega (arith, ints)
+    ∙ int_sum_by-zero (worth (source.Stream i) heat) (enumerate_from 0 case.utilities) (λ k d within. *ℤ-zero (get_or (enumerate_from 0 case.utilities) k d).1.price) ∙ sym (zero_times p.price heat free)
 part-worth case grid of p heat (inr (i, u, is)) =
     let own = ap (λ (q : Part). q.source) is.is in
     let price = ap (λ (q : Part). q.price) is.is in
@@ -112,7 +96,7 @@ differ case a b index hot cold one other =
 module _ (case : Case) (hot cold : List Part) (ts : List Transfer) (parts : AreCaseParts case hot cold) (hots : HaveParts side.Hot hot ts) (colds : HaveParts side.Cold cold ts) where
   -- what a transfer costs with a utility, and with all of them
   abbrev utility_worth : ℕ × Utility → Transfer → ℤ
-  utility_worth e t = e.1.price *ℤ (if has_utility hot cold e.0 t then t.heat else pos 0)
+  utility_worth e t = e.1.price *ℤ (if joins_utility hot cold e.0 t then t.heat else pos 0)
 
   transfer-worth : (number : ℕ) (t : Transfer) → slice_get ts number ≡ Some t → int_sum_by (λ e. utility_worth e t) (enumerate_from 0 case.utilities) ≡ part_price hot t.hot *ℤ t.heat +ℤ part_price cold t.cold *ℤ t.heat
   transfer-worth number t at =
@@ -128,9 +112,9 @@ module _ (case : Case) (hot cold : List Part) (ts : List Transfer) (parts : AreC
       ∙ int_sum_by-add (worth a t.heat) (worth b t.heat) us
       ∙ ap₂ ◌+ℤ◌ (index-worth case parts.grid side.Hot hot t.hot t.heat parts.hot_parts hot_within) (index-worth case parts.grid side.Cold cold t.cold t.heat parts.cold_parts cold_within)
 
-  utility-worth : (e : ℕ × Utility) (us : List Transfer) → e.1.price *ℤ int_sum_by (λ t. if has_utility hot cold e.0 t then t.heat else pos 0) us ≡ int_sum_by (utility_worth e) us
+  utility-worth : (e : ℕ × Utility) (us : List Transfer) → e.1.price *ℤ int_sum_by (λ t. if joins_utility hot cold e.0 t then t.heat else pos 0) us ≡ int_sum_by (utility_worth e) us
   utility-worth e [] = omega (arith, ints)
-  utility-worth e (t ∷ us) = *ℤ-+ℤ e.1.price (if has_utility hot cold e.0 t then t.heat else pos 0) (int_sum_by (λ u. if has_utility hot cold e.0 u then u.heat else pos 0) us) ∙ ap (λ x. utility_worth e t +ℤ x) (utility-worth e us)
+  utility-worth e (t ∷ us) = *ℤ-+ℤ e.1.price (if joins_utility hot cold e.0 t then t.heat else pos 0) (int_sum_by (λ u. if joins_utility hot cold e.0 u then u.heat else pos 0) us) ∙ ap (λ x. utility_worth e t +ℤ x) (utility-worth e us)
 
   pub cost-network : network_cost case (network_of case hot cold ts) ≡ whole (cost_of hot cold ts)
   unfolding network_cost
@@ -139,7 +123,7 @@ module _ (case : Case) (hot cold : List Part) (ts : List Transfer) (parts : AreC
       let priced : ℕ × Utility → ℤ = λ e. int_sum_by (utility_worth e) ts in
       rational_sum_by-same (heat_price (network_of case hot cold ts)) (λ e. whole (priced e)) us (λ k d within.
       let e = get_or us k d in
-      let heat = int_sum_by (λ t. if has_utility hot cold e.0 t then t.heat else pos 0) ts in
+      let heat = int_sum_by (λ t. if joins_utility hot cold e.0 t then t.heat else pos 0) ts in
       ap (times (whole e.1.price)) (heat-transfers case hot cold ts e.0) ∙ whole-times e.1.price heat ∙ ap whole (utility-worth e ts))
       ∙ rational_sum_by-whole priced (int_sum_by priced) refl (λ e es. refl) us
       ∙ ap whole

@@ -1,5 +1,5 @@
 -- The network of a heat flow is valid: over the values of its courses each stream ends once in full, and each exchanger keeps its approach.
-use Rattle.std.proofs.Common.{◌≡◌, ◌∙◌, ◌<◌, ◌++◌, ℕ, List, length, map, sym, ap, subst, arith}
+use Rattle.std.proofs.Common.{◌<◌, ◌++◌, ℕ, List, length, map, sym, arith}
 use Rattle.std.specs.List.{enumerate_from}
 use Rattle.std.specs.Prelude.{Contains}
 use Rattle.std.proofs.lemmas.List.{length-map}
@@ -8,10 +8,9 @@ use Rattle.std.proofs.lemmas.Simd.{map-map}
 use Rattle.stream_case.specs.Case.{IsComplete}
 use Rattle.stream_case.specs.declared.case.Case.{Case}
 use Rattle.network_text.specs.Shape.{HasShape}
-use Rattle.network_text.specs.declared.network.Line.{Line}
-use Rattle.network_values.specs.Values.{AreEnded, Valuation, ended_streams, ends, first_value}
+use Rattle.network_values.specs.Values.{ended_streams, first_value}
 use Rattle.network_audit.specs.Valid.{IsValidNetwork}
-use Rattle.design_lines.specs.Drawn.{Course, courses_lines, declared_line}
+use Rattle.design_lines.specs.Drawn.{courses_lines, declared_line}
 use Rattle.design_lines.specs.Values.{courses_values}
 use Rattle.design_lines.proofs.CourseEnds.{each_ended, no_end-declared}
 use Rattle.grid.specs.Part.{AreCaseParts}

@@ -10,7 +10,6 @@ use Rattle.stream_case.specs.declared.case.Case.{Case}
 use Rattle.stream_case.specs.declared.source.Source.TheVariants as source
 use Rattle.stream_case.specs.declared.stream.Stream.{Stream}
 use Rattle.fractions.specs.Rationals.{Rational, whole}
-use Rattle.network_text.specs.declared.network.Line.{Line}
 use Rattle.network_values.specs.Values.{Valuation, first_value}
 use Rattle.design_lines.specs.Drawn.{Course, courses_lines, declared_line}
 use Rattle.design_lines.specs.Values.{LedStage, courses_values}

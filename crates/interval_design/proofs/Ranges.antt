@@ -1,5 +1,5 @@
 -- What the exchangers of a utility have together is what the flow gives or takes in the utility's part, and so within its range.
-use Rattle.std.proofs.Common.{◌≡◌, ◌≢◌, ◌∙◌, ◌<◌, ◌+◌, ◌∷◌, ◌==◌, inl, inr, ⊎_elim, ℕ, ℤ, pos, ◌+ℤ◌, Bool, true, false, if◌then◌else◌, List, [], All, Some, None, get_or, slice_get, length, map, refl, sym, ap, subst, subst₂, arith}
+use Rattle.std.proofs.Common.{◌≡◌, ◌≢◌, ◌∙◌, ◌<◌, ◌+◌, ◌∷◌, ◌==◌, inl, inr, ⊎_elim, ℕ, ℤ, pos, ◌+ℤ◌, Bool, true, false, if◌then◌else◌, List, [], Some, None, get_or, slice_get, length, map, refl, sym, ap, subst, subst₂, arith}
 use Rattle.std.specs.Prelude.{◌||◌, option_map}
 use Rattle.std.specs.List.{cons_option, enumerate_from, filter_map}
 use Rattle.std.specs.Option.{option_map_or}
@@ -19,7 +19,6 @@ use Rattle.stream_case.specs.declared.utility.Utility.{Utility}
 use Rattle.stream_case.proofs.SourceLemmas.{same_source-same, same_source-true}
 use Rattle.fractions.specs.Rationals.{Rational, plus, rational_sum, whole}
 use Rattle.fractions.proofs.Comparisons.{at_most-whole}
-use Rattle.fractions.proofs.Sums.{zero-plus}
 use Rattle.fractions.proofs.Wholes.{whole-plus}
 use Rattle.network_audit.specs.Balance.{duties_with, duty_with, heat_with}
 use Rattle.network_audit.specs.Valid.{IsInRange}
@@ -27,7 +26,7 @@ use Rattle.network_text.proofs.Lists.{all_at}
 use Rattle.grid.specs.Part.{AreCaseParts, AreParts, IsPartOf, comes_before, comes_before_source, utility_part}
 use Rattle.grid.specs.declared.part.Part.{Part}
 use Rattle.heat_flow.specs.Cuts.{parts_of}
-use Rattle.heat_flow.specs.Flow.{HaveParts, IsHeatFlow, KeepsRanges, heat_at, part_index}
+use Rattle.heat_flow.specs.Flow.{IsHeatFlow, KeepsRanges, heat_at, part_index}
 use Rattle.heat_flow.specs.Reach.{reach_between}
 use Rattle.heat_flow.specs.declared.flow.Transfer.{Transfer}
 use Rattle.interval_design.specs.Courses.{exchanger_of, network_of, source_at}
@@ -38,10 +37,10 @@ use Rattle.interval_design.proofs.TurnLemmas.{part_there}
 -- ---- the heat of a utility, transfer by transfer
 
 -- the exchanger of a transfer has the utility
-abbrev pub has_utility : List Part → List Part → ℕ → Transfer → Bool
-has_utility hot cold index t = same_source (source_at hot t.hot) (source.Utility index) || same_source (source_at cold t.cold) (source.Utility index)
+abbrev pub joins_utility : List Part → List Part → ℕ → Transfer → Bool
+joins_utility hot cold index t = same_source (source_at hot t.hot) (source.Utility index) || same_source (source_at cold t.cold) (source.Utility index)
 
-pub heat-transfers : (case : Case) (hot cold : List Part) (ts : List Transfer) (index : ℕ) → heat_with (network_of case hot cold ts) index ≡ whole (int_sum_by (λ t. if has_utility hot cold index t then t.heat else pos 0) ts)
+pub heat-transfers : (case : Case) (hot cold : List Part) (ts : List Transfer) (index : ℕ) → heat_with (network_of case hot cold ts) index ≡ whole (int_sum_by (λ t. if joins_utility hot cold index t then t.heat else pos 0) ts)
 unfolding duties_with
 heat-transfers case hot cold ts index = ap (λ es. rational_sum (filter_map (duty_with index) es)) (exchangers_of-network_of case hot cold ts) ∙ sum 0 ts
   where
@@ -49,10 +48,10 @@ heat-transfers case hot cold ts index = ap (λ es. rational_sum (filter_map (dut
     one true heat rest duties is = ap (plus (whole heat)) is ∙ whole-plus heat rest
     one false heat rest duties is = let same : rest ≡ pos 0 +ℤ rest = omega (arith, ints) in is ∙ ap whole same
 
-    sum : (n : ℕ) (us : List Transfer) → rational_sum (filter_map (duty_with index) (map (exchanger_of hot cold) (enumerate_from n us))) ≡ whole (int_sum_by (λ t. if has_utility hot cold index t then t.heat else pos 0) us)
+    sum : (n : ℕ) (us : List Transfer) → rational_sum (filter_map (duty_with index) (map (exchanger_of hot cold) (enumerate_from n us))) ≡ whole (int_sum_by (λ t. if joins_utility hot cold index t then t.heat else pos 0) us)
     sum n [] = refl
     sum n (t ∷ us) =
-        one (has_utility hot cold index t) t.heat (int_sum_by (λ u. if has_utility hot cold index u then u.heat else pos 0) us) (filter_map (duty_with index) (map (exchanger_of hot cold) (enumerate_from (n + 1) us))) (sum (n + 1) us)
+        one (joins_utility hot cold index t) t.heat (int_sum_by (λ u. if joins_utility hot cold index u then u.heat else pos 0) us) (filter_map (duty_with index) (map (exchanger_of hot cold) (enumerate_from (n + 1) us))) (sum (n + 1) us)
 
 -- ---- the one part of a utility
 
@@ -121,7 +120,7 @@ module _ (case : Case) (hot cold : List Part) (ts : List Transfer) (parts : AreC
   or_none true = refl
   or_none false = refl
 
-  its_transfer : (of : Side) (a number : ℕ) (t : Transfer) → u.side ≡ of → slice_get (parts_of of hot cold) a ≡ Some (utility_part index u) → slice_get ts number ≡ Some t → has_utility hot cold index t ≡ (part_index of t == a)
+  its_transfer : (of : Side) (a number : ℕ) (t : Transfer) → u.side ≡ of → slice_get (parts_of of hot cold) a ≡ Some (utility_part index u) → slice_get ts number ≡ Some t → joins_utility hot cold index t ≡ (part_index of t == a)
   its_transfer side.Hot a number t side_is there at =
       let own = own_place case parts.grid side.Hot hot index u a t.hot parts.hot_parts here there (all_at (λ (v : Transfer). v.hot < length hot) ts number t flow.hot_indexes at) in
       let other = other_source case (source_at cold t.cold) side.Cold index u (cold_side number t at) here (λ is. let clash : side.Hot ≡ side.Cold = sym side_is ∙ is in cc clash) in
@@ -134,7 +133,7 @@ module _ (case : Case) (hot cold : List Part) (ts : List Transfer) (parts : AreC
   its_heat : (of : Side) (a : ℕ) → u.side ≡ of → slice_get (parts_of of hot cold) a ≡ Some (utility_part index u) → heat_with (network_of case hot cold ts) index ≡ whole (heat_at of ts a)
   its_heat of a side_is there =
       heat-transfers case hot cold ts index
-      ∙ ap whole (int_sum_by-same (λ t. if has_utility hot cold index t then t.heat else pos 0) (λ t. if part_index of t == a then t.heat else pos 0) ts
+      ∙ ap whole (int_sum_by-same (λ t. if joins_utility hot cold index t then t.heat else pos 0) (λ t. if part_index of t == a then t.heat else pos 0) ts
       (λ k d within. ap (λ b. if b then (get_or ts k d).heat else pos 0) (its_transfer of a k (get_or ts k d) side_is there (slice_get-get_or ts k d within))))
 
   in_range : (of : Side) → u.side ≡ of → AreParts case.streams case.utilities parts.grid of (parts_of of hot cold) → KeepsRanges of (parts_of of hot cold) ts → IsInRange u (heat_with (network_of case hot cold ts) index)

@@ -1,9 +1,9 @@
 -- The heat of the utilities of a side of the network is that of their parts in the flow.
-use Rattle.std.proofs.Common.{◌≡◌, ◌∙◌, ◌+◌, ◌∷◌, ℕ, ℤ, pos, ◌*ℤ◌, Bool, true, false, if◌then◌else◌, List, [], get_or, slice_get, map, refl, sym, ap, arith}
+use Rattle.std.proofs.Common.{◌≡◌, ◌∙◌, ◌+◌, ◌∷◌, ℕ, ℤ, pos, ◌*ℤ◌, Bool, true, false, if◌then◌else◌, List, [], get_or, map, refl, sym, ap, arith}
 use Rattle.std.specs.List.{enumerate_from}
 use Rattle.std.specs.Option.{option_map_or}
 use Rattle.std.proofs.lemmas.Int.{ints}
-use Rattle.sums.specs.Sum.{int_sum_by, int_sum_from}
+use Rattle.sums.specs.Sum.{int_sum_by}
 use Rattle.sums.proofs.SumLemmas.{int_sum_by-same, int_sum_from-grouped, int_sum_from-same_each}
 use Rattle.stream_case.specs.Source.{is_stream}
 use Rattle.stream_case.specs.declared.case.Case.{Case}
@@ -15,13 +15,13 @@ use Rattle.fractions.specs.Rationals.{plus, rational_sum_by, whole}
 use Rattle.fractions.proofs.Wholes.{whole-plus}
 use Rattle.network_text.specs.Lines.{exchangers_of}
 use Rattle.network_values.specs.Penalties.{utility_part}
+use Rattle.network_audit.proofs.HeatLemmas.{source_on}
 use Rattle.grid.specs.declared.part.Part.{Part}
 use Rattle.heat_flow.specs.Cuts.{parts_of}
 use Rattle.heat_flow.specs.Flow.{HaveParts, heat_at, part_index}
 use Rattle.heat_flow.specs.declared.flow.Transfer.{Transfer}
 use Rattle.interval_design.specs.Balance.{utilities_heat}
 use Rattle.interval_design.specs.Courses.{exchanger_of, network_of, source_at}
-use Rattle.interval_design.proofs.Approaches.{source_on}
 use Rattle.interval_design.proofs.ExchangerLemmas.{exchangers_of-network_of}
 
 -- 1 for a part of a utility, and 0 for one of a stream
