@@ -6,7 +6,7 @@ use Rattle.fractions.proofs.Comparisons.{at_most-plus_left, at_most-plus_right, 
 use Rattle.fractions.proofs.Ratios.{plus-ratio_same_den, ratio-zero}
 use Rattle.fractions.proofs.Sums.{plus_assoc}
 use Rattle.network_values.specs.declared.values.BranchValue.{BranchValue}
-use Rattle.design_lines.specs.Values.{joined_values, mix_values, pass_values, size_of, split_values, stage_values}
+use Rattle.design_lines.specs.Values.{LedStage, course_values, courses_values, joined_values, mix_values, pass_values, size_of, split_values, stage_values}
 use Rattle.design_lines.specs.declared.stage.Share.{Share}
 use Rattle.design_lines.proofs.ValueSteps.{ArePositive, first_positive, others_positive, share_value, size_not_negative}
 
@@ -101,3 +101,23 @@ module _ (d : ℕ) (full before after : Rational) where
       let most = at_most_from_same (size_of shares) full sizes in
       All-append (IsStageBranch d full before after) (split_values before shares) (pass_values after shares ++ joined_values after shares) (splits_sized shares over positive most)
       (All-append (IsStageBranch d full before after) (pass_values after shares) (joined_values after shares) (passes_sized shares over positive most) (joins_sized shares over positive most))
+
+-- ---- all stages
+
+-- what holds of the branches of each stage holds of those of a course, and so of all courses
+module _ (P : BranchValue → Type 0) where
+  abbrev pub StageHolds : LedStage → Type 0
+  StageHolds stage = All P (stage_values stage.before stage.after stage.shares)
+
+  abbrev pub CourseHolds : List LedStage → Type 0
+  CourseHolds stages = All P (course_values stages)
+
+  pub course_holds : (stages : List LedStage) → All StageHolds stages → CourseHolds stages
+  course_holds [] each = All-nil P
+  course_holds (stage ∷ stages) each =
+      All-append P (stage_values stage.before stage.after stage.shares) (course_values stages) (All-head StageHolds stage stages each) (course_holds stages (All-tail StageHolds stage stages each))
+
+  pub courses_hold : (courses : List (List LedStage)) → All CourseHolds courses → All P (courses_values courses)
+  courses_hold [] each = All-nil P
+  courses_hold (course ∷ courses) each =
+      All-append P (course_values course) (courses_values courses) (All-head CourseHolds course courses each) (courses_hold courses (All-tail CourseHolds course courses each))

@@ -16,4 +16,5 @@ pub mod FormedLemmas
 pub mod Sized
 pub mod LineSteps
 pub mod SumBounds
+pub mod GroupSums
 pub mod NoFinding

@@ -1,7 +1,8 @@
 -- The numbers that statements and exchangers form are within the limits where what the branches carry leaves room.
-use Rattle.std.proofs.Common.{◌≡◌, ◌∙◌, ◌+◌, ◌+ℤ◌, ⊎_elim, ℕ, ℤ, pos, Bool, true, false, List, [], Option, Some, None, All, slice_get, length, refl, sym, ap, subst, arith}
+use Rattle.std.proofs.Common.{◌≡◌, ◌∙◌, ◌+◌, ◌*◌, ◌<◌, ◌≤◌, ◌+ℤ◌, ⊎_elim, ℕ, ℤ, pos, Bool, true, false, List, [], Option, Some, None, All, slice_get, length, unsigned_abs, refl, sym, ap, subst, arith}
 use Rattle.std.specs.Prelude.{if◌then◌else◌}
 use Rattle.std.specs.Option.{option_map_or}
+use Rattle.std.proofs.Math.Nat.{mul-le-mul, mul-pos}
 use Rattle.std.proofs.lemmas.Bool.{cases_lt}
 use Rattle.std.proofs.lemmas.Int.{ints}
 use Rattle.std.proofs.lemmas.List.{get_or_past}
@@ -18,7 +19,7 @@ use Rattle.stream_case.specs.declared.source.Source.TheVariants as source
 use Rattle.stream_case.specs.declared.stream.Stream.{Stream}
 use Rattle.stream_case.specs.declared.utility.Utility.{Utility}
 use Rattle.stream_case.proofs.CompleteLemmas.{HasValidStreams-IsComplete, IsUtility, StaysValid-IsComplete}
-use Rattle.fractions.specs.Rationals.{IsBelow, IsWithinLimits, Rational, plus, rational_eq, rational_zero, times, whole}
+use Rattle.fractions.specs.Rationals.{IsBelow, IsWithinLimits, Rational, minus, plus, rational_eq, rational_zero, times, whole}
 use Rattle.fractions.proofs.Comparisons.{positive-nonzero}
 use Rattle.fractions.proofs.Limits.{within-whole}
 use Rattle.fractions.proofs.Products.{over_from_times, times-zero, times_comm}
@@ -41,6 +42,7 @@ use Rattle.network_audit.specs.Table.{level_of}
 use Rattle.network_audit.specs.declared.findings.Place.{Place}
 use Rattle.network_audit.specs.declared.findings.Place.TheVariants as place
 use Rattle.network_audit.proofs.FormedLemmas.{AreFormed, formed-none, formed-step}
+use Rattle.network_audit.proofs.Sized.{IsSized, most_den, most_num, sized-minus, sized-plus, sized-times, sized-whole, sized-within}
 
 -- ---- what a branch carries
 
@@ -65,6 +67,53 @@ roomy_none = record {
   heat = subst IsWithinLimits (sym (times-zero rational_zero)) within-zero;
   wanted = λ approach is. subst IsWithinLimits (sym (zero-plus (whole approach))) (within-whole approach (let from = is.from in let upto = is.upto in omega (arith, ints, from, upto)));
 }
+
+-- the greatest approach
+abbrev pub most_approach : ℕ
+most_approach = unsigned_abs (MOST_CONTRIBUTION +ℤ MOST_CONTRIBUTION)
+
+-- a size up to m over d and a state up to n over e are small enough together
+pub record AreSmall (d m e n : ℕ) : Type 0 where
+  pub size_den : 0 < d
+  pub state_den : 0 < e
+  pub dens : d * e ≤ most_den
+  pub size : m * d ≤ most_num
+  pub state : (n + n + most_approach) * e ≤ most_num
+  pub heat : m * n * (d * e) ≤ most_num
+
+factors : (d e most : ℕ) → 0 < d → 0 < e → d * e ≤ most → (d ≤ most) × (e ≤ most)
+factors d e most some_d some_e both =
+    let one : d * 1 ≤ d * e = mul-le-mul (omega arith) some_e in
+    let other : 1 * e ≤ d * e = mul-le-mul some_d (omega arith) in
+    (omega (arith, one, both), omega (arith, other, both))
+
+-- they leave room
+pub sized_roomy : (d m e n : ℕ) (v : BranchValue) → AreSmall d m e n → IsSized d m v.cp → IsSized e n v.t → IsRoomy v
+sized_roomy d m e n v small size state =
+    let dens = factors d e (most_den) small.size_den small.state_den small.dens in
+    let most = small.state in
+    record {
+      size = sized-within d m v.cp small.size_den dens.0 small.size size;
+      state = sized-within e n v.t small.state_den dens.1 (omega (arith, most)) state;
+      heat = sized-within (d * e) (m * n) (times v.cp v.t) (mul-pos small.size_den small.state_den) small.dens small.heat (sized-times d e m n v.cp v.t small.size_den small.state_den size state);
+      wanted = λ approach asked.
+          let from = asked.from in
+          let upto = asked.upto in
+          let added = sized-plus e n most_approach v.t (whole approach) state (sized-whole e most_approach approach small.state_den (omega (arith, ints, from, upto))) in
+          sized-within e (n + most_approach) (plus v.t (whole approach)) small.state_den dens.1 (omega (arith, most)) added;
+    }
+
+-- and so does the change from one state to another
+pub sized_change : (d m e n : ℕ) (of : Side) (before after : Rational) → AreSmall d m e n → IsSized e n before → IsSized e n after → IsWithinLimits (change of before after)
+sized_change d m e n of before after small one two =
+    let dens = factors d e (most_den) small.size_den small.state_den small.dens in
+    let most = small.state in
+    by of (sized-within e (n + n) (minus before after) small.state_den dens.1 (omega (arith, most)) (sized-minus e n n before after one two))
+    (sized-within e (n + n) (minus after before) small.state_den dens.1 (omega (arith, most)) (sized-minus e n n after before two one))
+  where
+    by : (of : Side) → IsWithinLimits (minus before after) → IsWithinLimits (minus after before) → IsWithinLimits (change of before after)
+    by side.Hot falls rises = falls
+    by side.Cold falls rises = rises
 
 -- what holds of nothing and of each value holds of a branch with any number
 pub each_value : (P : BranchValue → Type 0) → P no_value → (values : Valuation) → All P values → (branch : ℕ) → P (value_at values branch)
@@ -160,7 +209,7 @@ level-within case complete number = by (slice_get case.utilities number) refl
     by (Some u) at = (all_at IsUtility case.utilities number u (StaysValid-IsComplete case complete).utilities at).level
 
 -- a level with an approach added
-pub wanted-level : (level approach : ℤ) → IsLevel level → IsApproach approach → IsWithinLimits (plus (whole level) (whole approach))
+wanted-level : (level approach : ℤ) → IsLevel level → IsApproach approach → IsWithinLimits (plus (whole level) (whole approach))
 wanted-level level approach is asked =
     let low = is.from in
     let high = is.upto in

@@ -8,13 +8,20 @@ use Rattle.fractions.proofs.Limits.{within-ratio}
 use Rattle.fractions.proofs.Ratios.{minus-ratio_same_den, plus-ratio_same_den, times-ratio}
 use Rattle.fractions.proofs.Wholes.{ratio-multiple}
 
+-- the limits of a fraction
+abbrev pub most_den : ℕ
+most_den = 2 ^ 48
+
+abbrev pub most_num : ℕ
+most_num = 2 ^ 76
+
 -- a is a whole number over d, from -m to m
 pub record IsSized (d m : ℕ) (a : Rational) : Type 0 where
   pub num : ℤ
   pub is : a ≡ ratio num d
   pub small : unsigned_abs num ≤ m * d
 
-pub sized-within : (d m : ℕ) (a : Rational) → 0 < d → d ≤ 2 ^ 48 → m * d ≤ 2 ^ 76 → IsSized d m a → IsWithinLimits a
+pub sized-within : (d m : ℕ) (a : Rational) → 0 < d → d ≤ most_den → m * d ≤ most_num → IsSized d m a → IsWithinLimits a
 sized-within d m a some den most sized =
     let small = sized.small in subst IsWithinLimits (sym sized.is) (within-ratio sized.num d some (omega (arith, small, most)) den)
 

@@ -1,5 +1,5 @@
 -- The sums of utilities and of the balance are within the limits where their numbers are few and small.
-use Rattle.std.proofs.Common.{◌≡◌, ◌<◌, ◌≤◌, ◌+◌, ◌*◌, ◌^◌, ◌∷◌, ◌++◌, ◌||◌, ℕ, suc, ℤ, pos, unsigned_abs, Bool, true, false, List, [], Option, Some, None, All, get_or, slice_get, length, map, refl, subst, arith}
+use Rattle.std.proofs.Common.{◌≡◌, ◌<◌, ◌≤◌, ◌+◌, ◌*◌, ◌∷◌, ◌++◌, ◌||◌, ℕ, suc, ℤ, pos, unsigned_abs, Bool, true, false, List, [], Option, Some, None, All, get_or, slice_get, length, map, refl, subst, arith}
 use Rattle.std.specs.Prelude.{if◌then◌else◌}
 use Rattle.std.specs.List.{cons_option, enumerate_from, filter_map}
 use Rattle.std.proofs.Math.Nat.{mul-le-mul}
@@ -12,7 +12,7 @@ use Rattle.stream_case.specs.Case.{IsComplete}
 use Rattle.stream_case.specs.Source.{same_side, same_source}
 use Rattle.stream_case.specs.Utility.{IsPlaced}
 use Rattle.stream_case.specs.declared.case.Case.{Case}
-use Rattle.stream_case.specs.declared.limits.TheConstants.{ALL_STREAMS_HEAT, MOST_HEAT, MOST_PRICE}
+use Rattle.stream_case.specs.declared.limits.TheConstants.{ALL_STREAMS_HEAT, ALL_UTILITIES, MOST_HEAT, MOST_PRICE}
 use Rattle.stream_case.specs.declared.source.Side.{Side}
 use Rattle.stream_case.specs.declared.source.Side.TheVariants as side
 use Rattle.stream_case.specs.declared.source.Source.TheVariants as source
@@ -35,7 +35,7 @@ use Rattle.network_audit.specs.declared.findings.Place.{Place}
 use Rattle.network_audit.specs.declared.findings.Place.TheVariants as place
 use Rattle.network_audit.proofs.FormedLemmas.{AreFormed, formed-none, formed-step}
 use Rattle.network_audit.proofs.HeatLemmas.{hot_heat-is}
-use Rattle.network_audit.proofs.Sized.{IsSized, sized-between, sized-minus, sized-more, sized-plus, sized-times, sized-whole, sized-within}
+use Rattle.network_audit.proofs.Sized.{IsSized, most_den, most_num, sized-between, sized-minus, sized-more, sized-plus, sized-times, sized-whole, sized-within}
 
 -- ---- numbers that some members have
 
@@ -62,9 +62,15 @@ some_if : {Y : Type 0} (P : Y → Type 0) (b : Bool) (x y : Y) → P x → (if b
 some_if P true x y holds same = let is : x ≡ y = cc same in subst P is holds
 some_if P false x y holds same = cc same
 
+-- a utility forms the sum of its duties
+pub with_range : (network : Network) (index : ℕ) (u : Utility) → AreFormed (sum_steps (place.Utility index) 0 rational_zero (duties_with network index)) → AreFormed (utility_items_at network (index, u))
+with_range network index u sums =
+    All-append IsFormed (sum_steps (place.Utility index) 0 rational_zero (duties_with network index)) (range_items (place.Utility index) u (heat_with network index)) sums
+    (All-from_recursion IsFormed (range_items (place.Utility index) u (heat_with network index)) (tt, (tt, tt)))
+
 -- ---- sums over one denominator
 
-module _ (d m : ℕ) (some : 0 < d) (den : d ≤ 2 ^ 48) where
+module _ (d m : ℕ) (some : 0 < d) (den : d ≤ most_den) where
   -- a sum of so many numbers
   pub sized-sum : (numbers : List Rational) → All (IsSized d m) numbers → IsSized d (length numbers * m) (rational_sum numbers)
   sized-sum [] each = sized-whole d (0 * m) (pos 0) some (omega arith)
@@ -73,23 +79,23 @@ module _ (d m : ℕ) (some : 0 < d) (den : d ≤ 2 ^ 48) where
       (sized-plus d m (length numbers * m) a (rational_sum numbers) (All-head (IsSized d m) a numbers each) (sized-sum numbers (All-tail (IsSized d m) a numbers each)))
 
   -- the steps of a sum, from a total up to k on
-  pub sums_formed : (at : Place) (before k : ℕ) (total : Rational) (numbers : List Rational) → (k + length numbers * m) * d ≤ 2 ^ 76 → IsSized d k total → All (IsSized d m) numbers → AreFormed (sum_steps at before total numbers)
+  pub sums_formed : (at : Place) (before k : ℕ) (total : Rational) (numbers : List Rational) → (k + length numbers * m) * d ≤ most_num → IsSized d k total → All (IsSized d m) numbers → AreFormed (sum_steps at before total numbers)
   sums_formed at before k total [] most sized each = formed-none
   sums_formed at before k total (a ∷ numbers) most sized each =
       let next = sized-plus d k m total a sized (All-head (IsSized d m) a numbers each) in
-      let later : (k + m + length numbers * m) * d ≤ 2 ^ 76 = omega (arith, most) in
-      let now : (k + m) * d ≤ 2 ^ 76 = omega (arith, later) in
+      let later : (k + m + length numbers * m) * d ≤ most_num = omega (arith, most) in
+      let now : (k + m) * d ≤ most_num = omega (arith, later) in
       formed-step at (before + 1) (plus total a) (sum_steps at (before + 1) (plus total a) numbers) (sized-within d (k + m) (plus total a) some den now next)
       (sums_formed at (before + 1) (k + m) (plus total a) numbers later next (All-tail (IsSized d m) a numbers each))
 
   -- and of a cost
-  costs_formed : (at : Place) (before k : ℕ) (cost : Rational) (prices : List Rational) → m * d ≤ 2 ^ 76 → (k + length prices * m) * d ≤ 2 ^ 76 → IsSized d k cost → All (IsSized d m) prices → AreFormed (cost_steps at before cost prices)
+  costs_formed : (at : Place) (before k : ℕ) (cost : Rational) (prices : List Rational) → m * d ≤ most_num → (k + length prices * m) * d ≤ most_num → IsSized d k cost → All (IsSized d m) prices → AreFormed (cost_steps at before cost prices)
   costs_formed at before k cost [] one most sized each = formed-none
   costs_formed at before k cost (a ∷ prices) one most sized each =
       let price = All-head (IsSized d m) a prices each in
       let next = sized-plus d k m cost a sized price in
-      let later : (k + m + length prices * m) * d ≤ 2 ^ 76 = omega (arith, most) in
-      let now : (k + m) * d ≤ 2 ^ 76 = omega (arith, later) in
+      let later : (k + m + length prices * m) * d ≤ most_num = omega (arith, most) in
+      let now : (k + m) * d ≤ most_num = omega (arith, later) in
       formed-step at (before + 1) a (Step at (before + 2) (plus cost a) ∷ cost_steps at (before + 2) (plus cost a) prices) (sized-within d m a some den one price)
       (formed-step at (before + 2) (plus cost a) (cost_steps at (before + 2) (plus cost a) prices) (sized-within d (k + m) (plus cost a) some den now next)
       (costs_formed at (before + 2) (k + m) (plus cost a) prices one later next (All-tail (IsSized d m) a prices each)))
@@ -111,13 +117,11 @@ module _ (d m : ℕ) (some : 0 < d) (den : d ≤ 2 ^ 48) where
   heat-over network index each = sized-sum (duties_with network index) (duties-sized network index each)
 
   -- the sum of the duties of a utility, where all exchangers together are few
-  pub utility_formed : (network : Network) (index : ℕ) (u : Utility) → (length (exchangers_of network.lines) * m) * d ≤ 2 ^ 76 → All (λ e. IsSized d m e.duty) (exchangers_of network.lines) → AreFormed (utility_items_at network (index, u))
+  pub utility_formed : (network : Network) (index : ℕ) (u : Utility) → (length (exchangers_of network.lines) * m) * d ≤ most_num → All (λ e. IsSized d m e.duty) (exchangers_of network.lines) → AreFormed (utility_items_at network (index, u))
   utility_formed network index u most each =
       let duties = duties_with network index in
       let fewer : (length duties * m) * d ≤ (length (exchangers_of network.lines) * m) * d = mul-le-mul (mul-le-mul (few-duties network index) (omega arith)) (omega arith) in
-      All-append IsFormed (sum_steps (place.Utility index) 0 rational_zero duties) (range_items (place.Utility index) u (heat_with network index))
-      (sums_formed (place.Utility index) 0 0 rational_zero duties (omega (arith, fewer, most)) (sized-whole d 0 (pos 0) some (omega arith)) (duties-sized network index each))
-      (All-from_recursion IsFormed (range_items (place.Utility index) u (heat_with network index)) (tt, (tt, tt)))
+      with_range network index u (sums_formed (place.Utility index) 0 0 rational_zero duties (omega (arith, fewer, most)) (sized-whole d 0 (pos 0) some (omega arith)) (duties-sized network index each))
 
 -- ---- the heats of utilities
 
@@ -182,7 +186,7 @@ balance_formed case network complete shape heats =
     let few = length-utilities case complete in
     let few_hot = few-heats side.Hot case network in
     let few_cold = few-heats side.Cold case network in
-    let few_prices : length prices ≤ 7 = omega (arith, few, length-map (enumerate_from 0 case.utilities) (heat_price network), length-enumerate_from 0 case.utilities) in
+    let few_prices : length prices ≤ ALL_UTILITIES = omega (arith, few, length-map (enumerate_from 0 case.utilities) (heat_price network), length-enumerate_from 0 case.utilities) in
     let none = sized-whole 1 0 (pos 0) (omega arith) (omega arith) in
     let excess = sized-within 1 (length hot * most_heat + unsigned_abs ALL_STREAMS_HEAT) (excess_of case network) (omega arith) (omega arith) (omega (arith, few, few_hot)) (excess-sized case network complete shape heats) in
     let costs = costs_formed 1 most_price (omega arith) (omega arith) place.Balance before 0 rational_zero prices (omega arith) (omega (arith, few_prices)) none (prices-sized case network complete heats) in

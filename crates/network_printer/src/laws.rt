@@ -11,9 +11,10 @@ ghost use Rattle.network_printer.specs.Printed.{text_of};
 use network_text::{NetFault, Network};
 
 /// A network that has the shape of one for a completed case, and keeps the two counts, is what the
-/// grammar gives for its text.
+/// grammar gives for its text: the one outcome of the text, but for want of memory.
 pub fn networks_are_what_their_texts_give()
-    ensures { (case : Case) (network : Network) → IsComplete case → HasShape case network → KeepsCounts network → IsNetwork case (statements_of (text_of case network)) network }
+    ensures given { (case : Case) (network : Network) → IsComplete case → HasShape case network → KeepsCounts network → IsNetwork case (statements_of (text_of case network)) network }
+    ensures once { (case : Case) (network : Network) (outcome : Result Network NetFault) → IsComplete case → HasShape case network → KeepsCounts network → IsOutcome case (statements_of (text_of case network)) outcome → (outcome ≡ Ok network) ⊎ (outcome ≡ Err NetFault.OutOfMemory) }
 {}
 
 /// What is printed of a network that the grammar gives for a completed case is read again: its text

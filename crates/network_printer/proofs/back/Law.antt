@@ -99,10 +99,13 @@ one_network case statements network (Ok other) is outcome = inl (ap Ok (one_valu
 one_network case statements network (Err (fault.At number cause)) is outcome = absurd (no_value (grammar case) statements number cause network outcome is)
 one_network case statements network (Err fault.OutOfMemory) is outcome = inr refl
 
+pub shape-once : (case : Case) (network : Network) (outcome : Result Network NetFault) → IsComplete case → HasShape case network → KeepsCounts network → IsOutcome case (statements_of (text_of case network)) outcome → (outcome ≡ Ok network) ⊎ (outcome ≡ Err fault.OutOfMemory)
+shape-once case network outcome complete shape counts = one_network case (statements_of (text_of case network)) network outcome (shape-is_network case network complete shape counts)
+
 pub printed-again : (case : Case) (statements : List Statement) (network : Network) → IsComplete case → IsNetwork case statements network → IsNetwork case (statements_of (text_of case network)) network
 printed-again case statements network complete is =
     shape-is_network case network complete (network-has_shape case statements network complete is) (network-keeps_counts case statements network is)
 
 pub printed-once : (case : Case) (statements : List Statement) (network : Network) (outcome : Result Network NetFault) → IsComplete case → IsNetwork case statements network → IsOutcome case (statements_of (text_of case network)) outcome
     → (outcome ≡ Ok network) ⊎ (outcome ≡ Err fault.OutOfMemory)
-printed-once case statements network outcome complete is = one_network case (statements_of (text_of case network)) network outcome (printed-again case statements network complete is)
+printed-once case statements network outcome complete is = shape-once case network outcome complete (network-has_shape case statements network complete is) (network-keeps_counts case statements network is)
