@@ -1,5 +1,6 @@
 mod Causes
 mod Complete
+mod Designs
 mod Early
 mod Ends
 mod Flows

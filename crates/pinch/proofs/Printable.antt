@@ -13,13 +13,13 @@ use Rattle.reports.specs.declared.shown.Shown.TheVariants.{BadWords}
 use Rattle.pinch.specs.declared.command.Command.{Command}
 use Rattle.pinch.specs.declared.command.Command.TheVariants.{Targets, Flow, Design, Curves, Audit, Site as OfSite}
 use Rattle.pinch.specs.Answers.{FromFile, ShowsCommand}
-use Rattle.pinch.specs.Case.{case_file}
-use Rattle.pinch.specs.Design.{IsDesignAnswer}
+use Rattle.pinch.specs.Case.{case_file, AreTargetsOf, AreCurvesOf}
+use Rattle.pinch.specs.Design.{IsDesignAnswer, ShowsDesign}
 use Rattle.pinch.specs.Files.{NoFile, failed, too_long, NoText, no_file, refused, FromText, no_text, by_text}
-use Rattle.pinch.specs.Flow.{IsFlowAnswer, IsCutAnswer}
+use Rattle.pinch.specs.Flow.{IsFlowAnswer, IsCutAnswer, ShowsFlow}
 use Rattle.pinch.specs.Format.{Format}
 use Rattle.pinch.specs.Network.{network_file, ShowsVerdict}
-use Rattle.pinch.specs.Site.{site_file}
+use Rattle.pinch.specs.Site.{site_file, ShowsSite}
 
 of_is : (shown result : Shown) → shown ≡ result → IsPrintable result → IsPrintable shown
 of_is shown result is printable = subst IsPrintable (sym is) printable
@@ -60,11 +60,11 @@ of_verdict c network (verdict.TooFine place step) shown is = of_is shown _ is tt
 pub printable : (command : Option Command) (old new : ShelfState) (shown : Shown) → ShowsCommand command old new shown → IsPrintable shown
 unfolding ShowsCommand IsPrintable
 printable None old new shown shows = of_is shown BadWords shows.0 tt
-printable (Some (Targets case)) old new shown shows = of_file case_file case old new shown _ (λ at why. tt) (λ c is. of_is shown _ is.is tt) shows
-printable (Some (Flow case)) old new shown shows = of_file case_file case old new shown _ (λ at why. tt) (λ c is. of_flow (completed c) shown is.answer) shows
-printable (Some (Design case)) old new shown shows = of_file case_file case old new shown _ (λ at why. tt) (λ c is. of_design (completed c) shown is.answer) shows
-printable (Some (Curves case)) old new shown shows = of_file case_file case old new shown _ (λ at why. tt) (λ c is. of_is shown _ is.is tt) shows
-printable (Some (OfSite site)) old new shown shows = of_file site_file site old new shown _ (λ at why. tt) (λ s is. of_is shown _ is.is tt) shows
+printable (Some (Targets case)) old new shown shows = of_file case_file case old new shown AreTargetsOf (λ at why. tt) (λ c is. of_is shown _ is.is tt) shows
+printable (Some (Flow case)) old new shown shows = of_file case_file case old new shown ShowsFlow (λ at why. tt) (λ c is. of_flow (completed c) shown is.answer) shows
+printable (Some (Design case)) old new shown shows = of_file case_file case old new shown ShowsDesign (λ at why. tt) (λ c is. of_design (completed c) shown is.answer) shows
+printable (Some (Curves case)) old new shown shows = of_file case_file case old new shown AreCurvesOf (λ at why. tt) (λ c is. of_is shown _ is.is tt) shows
+printable (Some (OfSite site)) old new shown shows = of_file site_file site old new shown ShowsSite (λ at why. tt) (λ s is. of_is shown _ is.is tt) shows
 printable (Some (Audit case network)) old new shown shows =
     of_text case_file case old new shown _ (λ at why. tt)
     (λ mid c then. of_text (network_file (completed c)) network mid new shown _ (λ at why. tt)

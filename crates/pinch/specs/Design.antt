@@ -18,15 +18,15 @@ use Rattle.network_audit.specs.Balance.{balance_of}
 use Rattle.network_audit.specs.Findings.{HasNoFinding}
 use Rattle.network_audit.specs.Valid.{IsValidNetwork}
 use Rattle.network_audit.specs.declared.verdict.Balance.{Balance}
+use Rattle.network_printer.specs.Printed.{text_of}
 use Rattle.interval_design.specs.Courses.{exchanger_of}
-use Rattle.reports.specs.Text.{text}
 use Rattle.reports.specs.declared.shown.Shown.{Shown}
 use Rattle.reports.specs.declared.shown.Shown.TheVariants as show
 use Rattle.pinch.specs.Flow.{IsCornerAnswer, IsCutAnswer, IsLeastFlow}
 
 -- a network that realises a heat flow is shown, with its balance: its exchangers are the transfers, between the sources of their parts and with their
--- heat. It is valid, an audit finds nothing in it, and it costs what the heat flow costs. Where it keeps the counts of a text, what is printed is
--- read as this network
+-- heat. It is valid, an audit finds nothing in it, and it costs what the heat flow costs. Where it keeps the counts of a text, its text is read
+-- as this network
 pub record IsDesignOf (c : Case) (parts : Parts) (flow : Flow) (shown : Shown) : Type 0 where
   pub network : Network
   pub balance : Balance
@@ -37,7 +37,7 @@ pub record IsDesignOf (c : Case) (parts : Parts) (flow : Flow) (shown : Shown) :
   pub accepted : HasNoFinding c network
   pub sums : balance ≡ balance_of c network
   pub costs : balance.cost ≡ whole (cost_of parts.hot parts.cold flow.transfers)
-  pub read_back : KeepsCounts network → IsNetwork c (statements_of (text shown)) network
+  pub read_back : KeepsCounts network → IsNetwork c (statements_of (text_of c network)) network
   pub is : shown ≡ show.Design c network balance
 
 -- the network of a heat flow of least cost

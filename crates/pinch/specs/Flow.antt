@@ -1,5 +1,5 @@
 -- What `flow` shows of a completed case.
-use Rattle.std.specs.Prelude.{◌≡◌, ◌⊎◌, ℤ, List, map}
+use Rattle.std.specs.Prelude.{◌≡◌, ◌⊎◌, ◌≤◌, ◌+◌, ◌-◌, ℤ, List, length, map}
 use Rattle.stream_case.specs.declared.case.Case.{Case}
 use Rattle.stream_case.specs.Case.{IsStandard, completed}
 use Rattle.stream_case.specs.declared.source.Side.TheVariants.{Hot, Cold}
@@ -57,7 +57,7 @@ pub record AreCornerPrices (c : Case) (hot cold : List Part) (prices : Prices) :
   pub hot_prices : prices.hot ≡ map (corner_price (hot_target c.streams) place) hot
   pub cold_prices : prices.cold ≡ map (corner_price (hot_target c.streams) place) cold
 
--- the corner flow of a standard case, with its certificate: its cost is the hot target. `HOT` gives the hot target and `COLD` takes the cold
+-- the corner flow of a standard case, with its certificate: it has fewer transfers than parts, and its cost is the hot target. `HOT` gives the hot target and `COLD` takes the cold
 -- target, and no heat flow does with less of either
 pub record IsCornerAnswer (c : Case) (shown : Shown) : Type 0 where
   pub parts : Parts
@@ -65,6 +65,7 @@ pub record IsCornerAnswer (c : Case) (shown : Shown) : Type 0 where
   pub prices : Prices
   pub least : IsLeastFlow c parts flow prices (hot_target c.streams)
   pub corner : IsCornerFlow c parts.hot parts.cold flow.transfers
+  pub few : length flow.transfers ≤ length parts.hot + length parts.cold - 1
   pub hot_heat : UtilityHeat Hot parts.hot flow.transfers (hot_target c.streams)
   pub cold_heat : UtilityHeat Cold parts.cold flow.transfers (cold_target c.streams)
   pub least_hot : NeedsHeat c parts.hot parts.cold Hot (hot_target c.streams)

@@ -24,7 +24,7 @@ returns-in_ok-show_flow-in-Flow g c = rw c.in-Flow.is (by_text _ _ c.in_ok-case-
 
 pub returns-in_err-case-in-Design : goal.returns-in_err-case-in-Design
 unfolding ShowsCommand
-returns-in_err-case-in-Design g c = rw c.in-Design.is (without_case _ _ _ _ _ _ c.from_residual-in_err-case-in-Design.ensures.1 c.in_err-case-in-Design.ensures.stop)
+returns-in_err-case-in-Design g c = rw c.in-Design.is (without_text case_file _ _ _ _ _ _ c.from_residual-in_err-case-in-Design.ensures.1 c.in_err-case-in-Design.ensures.stop)
 
 pub returns-in_ok-show_design-in-Design : goal.returns-in_ok-show_design-in-Design
 unfolding ShowsCommand

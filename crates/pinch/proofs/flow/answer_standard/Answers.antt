@@ -43,6 +43,7 @@ returns c =
         };
       };
       corner = flow.ensures.spans;
+      few = flow.ensures.few;
       hot_heat = subst (UtilityHeat Hot parts.hot flow.flow.transfers) hot flow.ensures.hot_heat;
       cold_heat = subst (UtilityHeat Cold parts.cold flow.flow.transfers) cold flow.ensures.cold_heat;
       least_hot = subst (NeedsHeat case parts.hot parts.cold Hot) hot flow.ensures.least_hot;

@@ -1,5 +1,6 @@
-use Rattle.std.proofs.Common.{◌∙◌, ap, ap₂, map, refl}
+use Rattle.std.proofs.Common.{ap₂}
 use Rattle.site.specs.Target.{AreSiteParts}
+use Rattle.reports.specs.declared.shown.Shown.TheVariants.{SiteShown}
 use Rattle.pinch.proofs.SiteCosts.{least_boiler}
 use Rattle.pinch.proofs.site_answer.show_site.Goals as goal
 
@@ -21,5 +22,5 @@ returns c =
         is_cut = target.cut table.parts.hot table.parts.cold parts;
         no_flow = target.stuck_only table.parts.hot table.parts.cold parts;
       };
-      is = ?;
+      is = ap₂ (λ sinks sources. SiteShown site table sinks sources c.in_ok-answer.answer) c.in_ok-sinks.ensures.sinks c.in_ok-sinks.ensures.sources;
     }
