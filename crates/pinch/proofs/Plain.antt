@@ -1,5 +1,5 @@
 -- What is shown that blames neither the words nor the shelf.
-use Rattle.std.proofs.Common.{◌≡◌, ◌⊎◌, inl, inr, ◌∙◌, Bool, true, false, refl, ap}
+use Rattle.std.proofs.Common.{◌≡◌, ◌⊎◌, inl, inr, Bool, true, false, ap}
 use Rattle.stream_case.specs.declared.case.Case.{Case}
 use Rattle.network_text.specs.declared.network.Network.{Network}
 use Rattle.network_audit.specs.declared.verdict.Verdict.{Verdict}
