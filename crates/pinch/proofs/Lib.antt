@@ -7,4 +7,5 @@ mod Flows
 mod Formats
 mod Plain
 mod Printable
+mod Profiles
 mod SiteCosts

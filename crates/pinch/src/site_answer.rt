@@ -16,7 +16,8 @@ pub fn show_site(alloc: Global, site: Site) -> Result<Shown, AllocError>
     ensures { IfOk result (ShowsSite site) }
 {
     let parts = site_parts(alloc, &site)?;
-    let (sinks, sources) = profiles_at(alloc, &site, parts.places.as_slice())?;
+    let sinks = sinks_at(alloc, &site, parts.places.as_slice())?;
+    let sources = sources_at(alloc, &site, parts.places.as_slice())?;
     let answer = site_target(alloc, &site)?;
     Ok(Shown::SiteShown {
         site,
@@ -27,21 +28,26 @@ pub fn show_site(alloc: Global, site: Site) -> Result<Shown, AllocError>
     })
 }
 
-/// What the plants can take above each of these places, and what they can give below it.
-fn profiles_at(
-    alloc: Global,
-    site: &Site,
-    places: &[i32],
-) -> Result<(Items<i64>, Items<i64>), AllocError>
+/// What the plants can take above each of these places, in W.
+fn sinks_at(alloc: Global, site: &Site, places: &[i32]) -> Result<Items<i64>, AllocError>
     requires { IsValidSite site.now }
-    ensures sinks { IfOk result (λ heats. heats.0 ≡ map (sink_profile site.now) places.now) }
-    ensures sources { IfOk result (λ heats. heats.1 ≡ map (source_profile site.now) places.now) }
+    ensures { IfOk result (λ heats. heats ≡ map (sink_profile site.now) places.now) }
 {
-    let mut sinks = Items::new(alloc);
-    let mut sources = Items::new(alloc);
+    let mut heats = Items::new(alloc);
     for place in places {
-        sinks.push(sink_profile(site, *place))?;
-        sources.push(source_profile(site, *place))?;
+        heats.push(sink_profile(site, *place))?;
     }
-    Ok((sinks, sources))
+    Ok(heats)
+}
+
+/// What the plants can give below each of these places, in W.
+fn sources_at(alloc: Global, site: &Site, places: &[i32]) -> Result<Items<i64>, AllocError>
+    requires { IsValidSite site.now }
+    ensures { IfOk result (λ heats. heats ≡ map (source_profile site.now) places.now) }
+{
+    let mut heats = Items::new(alloc);
+    for place in places {
+        heats.push(source_profile(site, *place))?;
+    }
+    Ok(heats)
 }

@@ -1,4 +1,6 @@
-use Rattle.std.proofs.Common.{ap₂}
+use Rattle.std.proofs.Common.{◌∙◌, ap, ap₂, map}
+use Rattle.site.specs.Profiles.{sink_profile, source_profile}
+use Rattle.site.specs.declared.table.SiteTable.{SiteTable}
 use Rattle.site.specs.Target.{AreSiteParts}
 use Rattle.reports.specs.declared.shown.Shown.TheVariants.{SiteShown}
 use Rattle.pinch.proofs.SiteCosts.{least_boiler}
@@ -11,8 +13,10 @@ returns c =
     let is = c.in_ok-parts.ensures in
     let target = c.in_ok-answer.ensures in
     let parts : AreSiteParts site table.parts.hot table.parts.cold = record { grid = table.places; is_grid = is.places; hot_parts = is.hot; cold_parts = is.cold } in
+    -- as it is shown
+    let shown : SiteTable = record { places = table.places; parts = table.parts; reach = table.reach } in
     record {
-      table = table;
+      table = shown;
       answer = c.in_ok-answer.answer;
       is_table = record { grid = is.places; hot_parts = is.hot; cold_parts = is.cold; sizes = is.sizes; reach = is.reach };
       is_answer = record {
@@ -22,5 +26,5 @@ returns c =
         is_cut = target.cut table.parts.hot table.parts.cold parts;
         no_flow = target.stuck_only table.parts.hot table.parts.cold parts;
       };
-      is = ap₂ (λ sinks sources. SiteShown site table sinks sources c.in_ok-answer.answer) c.in_ok-sinks.ensures.sinks c.in_ok-sinks.ensures.sources;
+      is = ap₂ (λ sinks sources. SiteShown site shown sinks sources c.in_ok-answer.answer) (c.in_ok-sinks.ensures ∙ ap (map (sink_profile site)) c.as_slice.ensures) (c.in_ok-sources.ensures ∙ ap (map (source_profile site)) c.as_slice-2.ensures);
     }

@@ -1,7 +1,0 @@
-use Rattle.std.proofs.Common.{◌≡◌, map, take}
-use Rattle.site.specs.Profiles.{sink_profile, source_profile}
-use Rattle.pinch.proofs.site_answer.profiles_at.Given as goal
-
-abbrev pub invariant-loop-place : goal.invariant-loop-place
-invariant-loop-place l =
-    (l.sinks ≡ map (sink_profile l.site) (take l.place-index l.places)) × (l.sources ≡ map (source_profile l.site) (take l.place-index l.places))
