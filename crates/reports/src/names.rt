@@ -1,5 +1,5 @@
 //! The names of the sources of a case or of a site.
-ghost use Rattle.std.specs.Prelude.{◌≡◌, ◌++◌, map, IfOk, OnOk};
+ghost use Rattle.std.specs.Prelude.{◌≡◌, ◌++◌, [], slice_index_or, IfOk, OnOk};
 ghost use Rattle.reports.specs.Names.{case_names, site_names, source_name, stream_names};
 
 use site::Site;
@@ -18,14 +18,20 @@ impl SourceNames {
     pub fn source_name(&self, source: Source) -> &str
         ensures { result.now ≡ source_name self.now source }
     {
-        let name = match source {
-            Source::Stream(index) => self.streams.get(index as usize),
-            Source::Utility(index) => self.utilities.get(index as usize),
-        };
-        match name {
-            Some(name) => name.as_str(),
-            None => "",
+        match source {
+            Source::Stream(index) => name_at(self.streams.as_slice(), index),
+            Source::Utility(index) => name_at(self.utilities.as_slice(), index),
         }
+    }
+}
+
+/// The name at an index of a list; nothing past its end.
+fn name_at(names: &[Name], index: u32) -> &str
+    ensures { result.now ≡ slice_index_or names.now index [] }
+{
+    match names.get(index as usize) {
+        Some(name) => name.as_str(),
+        None => "",
     }
 }
 
