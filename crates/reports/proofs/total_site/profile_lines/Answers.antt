@@ -18,7 +18,8 @@ loop-index-preserved c =
     let source_fits : FitsSigned w64 c.number_at-source.result = search rules in
     let sink = to_z-of_z w64 c.number_at-sink.result sink_fits ∙ c.number_at-sink.ensures in
     let source = to_z-of_z w64 c.number_at-source.result source_fits ∙ c.number_at-source.ensures in
-    let line_is = c.in_ok-profile_line.ensures ∙ ap (λ p. profile_line p _ _) (to_z-of_z w32 place place_fits) ∙ ap₂ (profile_line place) sink source in
+    let at_place = ap (λ p. profile_line p (slice_index_or sinks i (pos 0)) (slice_index_or sources i (pos 0))) (to_z-of_z w32 place place_fits) in
+    let line_is = c.in_ok-profile_line.ensures ∙ ap₂ (profile_line _) sink source ∙ at_place in
     c.in_ok-push_str.ensures.bytes
     ∙ ap₂ ◌++◌ c.loop-index.invariant (c.deref.ensures ∙ line_is)
     ∙ sym (texts_step f places i (pos 0) c.loop-index-test.true)
