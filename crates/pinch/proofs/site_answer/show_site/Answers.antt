@@ -1,5 +1,8 @@
-use Rattle.std.proofs.Common.{◌∙◌, ap, ap₂, map, refl}
+use Rattle.std.proofs.Common.{◌∙◌, List, ap, ap₂, map}
+use Rattle.std.specs.Prelude.{ℤ}
+use Rattle.site.specs.Profiles.{sink_profile, source_profile}
 use Rattle.site.specs.Target.{AreSiteParts}
+use Rattle.reports.specs.declared.shown.Shown.TheVariants.{SiteShown}
 use Rattle.pinch.proofs.SiteCosts.{least_boiler}
 use Rattle.pinch.proofs.site_answer.show_site.Goals as goal
 
@@ -21,5 +24,7 @@ returns c =
         is_cut = target.cut table.parts.hot table.parts.cold parts;
         no_flow = target.stuck_only table.parts.hot table.parts.cold parts;
       };
-      is = ?;
+      is = ap₂ (λ (sinks sources : List ℤ). SiteShown site table sinks sources c.in_ok-answer.answer)
+          (c.in_ok-profiles_at.ensures.sinks ∙ ap (map (sink_profile site)) c.as_slice.ensures)
+          (c.in_ok-profiles_at.ensures.sources ∙ ap (map (source_profile site)) c.as_slice.ensures);
     }
