@@ -2,12 +2,13 @@
 use Rattle.std.proofs.Common.{◌≡◌, inl, inr, ◌∙◌, refl, sym, ap, ap₂, subst, ℕ, zero, suc, ◌<◌, Bool, true, false, List, length, get_or, arith}
 use Rattle.std.specs.Prelude.{if◌then◌else◌, ℤ, pos, ◌+ℤ◌, ◌*ℤ◌, ◌≤ℤ◌, Some, slice_get}
 use Rattle.std.proofs.lemmas.Int.{ints}
-use Rattle.std.proofs.lemmas.Option.{slice_get-get_or}
+use Rattle.std.proofs.lemmas.Option.{none-some, same_Some, slice_get-get_or}
 use Rattle.std.specs.Option.{option_map_or}
 use Rattle.stream_case.specs.declared.source.Side.TheVariants.{Hot, Cold}
 use Rattle.stream_case.specs.declared.source.Source.{Source}
 use Rattle.stream_case.specs.declared.source.Source.TheVariants.{Utility as of_utility}
 use Rattle.stream_case.specs.Source.{same_source}
+use Rattle.stream_case.specs.declared.utility.Utility.{Utility}
 use Rattle.sums.proofs.SumLemmas.{int_sum_by-same, int_sum_by-zero}
 use Rattle.grid.specs.declared.part.Part.{Part}
 use Rattle.grid.specs.declared.parts.Parts.{Parts}
@@ -21,7 +22,7 @@ use Rattle.transport.specs.declared.answer.Answer.{Answer}
 use Rattle.transport.specs.declared.answer.Answer.TheVariants.{Least, Stuck}
 use Rattle.site.specs.Reach.{reach_between}
 use Rattle.site.specs.Site.{streams_of}
-use Rattle.site.specs.Table.{site_utilities}
+use Rattle.site.specs.Table.{boiler, cooling, site_utilities}
 use Rattle.site.specs.Target.{AreSiteParts}
 use Rattle.site.specs.declared.plants.Site.{Site}
 use Rattle.reports.specs.Flow.{heat_of_utility, utility_heat}
@@ -40,20 +41,19 @@ module _ (site : Site) (hot cold : List Part) (parts : AreSiteParts site hot col
   hot_price : (p : Part) → IsPartOf (streams_of site.plants) (site_utilities site) parts.grid Hot p → p.price ≡ boiler_price p.source
   hot_price p (inl (i, s, h)) = ap (λ q. q.price) h.is ∙ sym (ap (λ q. boiler_price q.source) h.is)
   hot_price p (inr (zero, u, h)) =
-      let is = h.utility in
-      let one : u.price ≡ pos 1 = cc in
-      ap (λ q. q.price) h.is ∙ one ∙ sym (ap (λ q. boiler_price q.source) h.is)
-  hot_price p (inr (suc zero, u, h)) = let is = h.utility in let side = h.side_is in cc
-  hot_price p (inr (suc (suc i), u, h)) = let is = h.utility in cc
+      ap (λ q. q.price) h.is ∙ sym (ap (λ (v : Utility). v.price) (same_Some (boiler site) u h.utility)) ∙ sym (ap (λ q. boiler_price q.source) h.is)
+  hot_price p (inr (suc zero, u, h)) =
+      let clash : Cold ≡ Hot = ap (λ (v : Utility). v.side) (same_Some (cooling site) u h.utility) ∙ h.side_is in
+      cc
+  hot_price p (inr (suc (suc i), u, h)) = absurd (none-some u h.utility)
 
   cold_price : (p : Part) → IsPartOf (streams_of site.plants) (site_utilities site) parts.grid Cold p → p.price ≡ pos 0
   cold_price p (inl (i, s, h)) = ap (λ q. q.price) h.is
-  cold_price p (inr (zero, u, h)) = let is = h.utility in let side = h.side_is in cc
-  cold_price p (inr (suc zero, u, h)) =
-      let is = h.utility in
-      let none : u.price ≡ pos 0 = cc in
-      ap (λ q. q.price) h.is ∙ none
-  cold_price p (inr (suc (suc i), u, h)) = let is = h.utility in cc
+  cold_price p (inr (zero, u, h)) =
+      let clash : Hot ≡ Cold = ap (λ (v : Utility). v.side) (same_Some (boiler site) u h.utility) ∙ h.side_is in
+      cc
+  cold_price p (inr (suc zero, u, h)) = ap (λ q. q.price) h.is ∙ sym (ap (λ (v : Utility). v.price) (same_Some (cooling site) u h.utility))
+  cold_price p (inr (suc (suc i), u, h)) = absurd (none-some u h.utility)
 
   -- what a transfer costs at its hot part
   hot_cost : (t : Transfer) → t.hot < length hot → part_price hot t.hot *ℤ t.heat ≡ heat_of_utility 0 Hot hot t
