@@ -1,0 +1,4 @@
+pub mod DrawLemmas
+pub mod NumberLemmas
+pub mod NameLemmas
+pub mod SampleLemmas
