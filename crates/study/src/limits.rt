@@ -1,4 +1,4 @@
-//! The numbers of samples (this project's rule).
+//! The numbers of samples, and the limits of sweeps (this project's rule).
 
 /// The multiplier of the generator, 7^5.
 pub const MULTIPLIER: u64 = 16_807;
@@ -26,3 +26,12 @@ pub const FLOW_RATES: u32 = 500;
 
 /// A pair of a sample is forbidden at one draw out of so many.
 pub const FORBID_CHANCE: u32 = 4;
+
+/// The greatest step of a sweep, in tenths of °C.
+pub const LONGEST_STEP: i32 = 1000;
+
+/// The most rows of a sweep.
+pub const MOST_ROWS: u32 = 1000;
+
+/// The most workers.
+pub const MOST_WORKERS: u32 = 16;
