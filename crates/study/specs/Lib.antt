@@ -1,0 +1,6 @@
+pub mod Cost
+pub mod Draws
+pub mod Plan
+pub mod Row
+pub mod Sample
+pub mod Sweep

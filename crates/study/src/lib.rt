@@ -1,0 +1,25 @@
+//! Studies of a case: sweeps over the contribution to the least approach, by several workers, and
+//! samples, which are cases out of the draws of a generator.
+#![tactic(auto)]
+
+mod contribution;
+mod cost;
+mod gate;
+mod generator;
+mod limits;
+mod plan;
+mod row;
+mod sample;
+mod workers;
+
+pub use cost::least_cost;
+pub use gate::{Gate, OpenGate};
+pub use limits::{
+    FLOW_RATES, FORBID_CHANCE, LEAST_HOT_TEMPERATURE, LONGEST_STEP, MODULUS, MOST_ROWS,
+    MOST_SAMPLE_NUMBER, MOST_SAMPLE_STREAMS, MOST_WORKERS, MULTIPLIER, SAMPLE_CONTRIBUTION,
+    TEMPERATURES,
+};
+pub use plan::SweepPlan;
+pub use row::SweepRow;
+pub use sample::sample_case;
+pub use workers::{rows_are_one, sweep};

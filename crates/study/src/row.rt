@@ -1,0 +1,44 @@
+//! A row of a sweep.
+ghost use Rattle.std.specs.Prelude.{IfOk};
+ghost use Rattle.stream_case.specs.Case.{IsValid};
+ghost use Rattle.stream_case.specs.Limits.{IsContribution};
+ghost use Rattle.study.specs.Row.{IsRow};
+
+use crate::contribution::with_contribution;
+use crate::cost::least_cost;
+use problem_table::targets;
+use std::alloc::{AllocError, Global};
+use stream_case::{Case, complete};
+
+/// What a contribution of all sources makes of a case: the targets in W, and the least cost of a
+/// heat flow, or none where there is no heat flow.
+#[derive(Clone, Copy, Debug, PartialEq, Eq)]
+pub struct SweepRow {
+    /// The contribution of each source to the least approach, in tenths of °C.
+    pub contribution: i32,
+    pub hot: i64,
+    pub cold: i64,
+    pub cost: Option<i128>,
+}
+
+/// The row of this contribution.
+pub(crate) fn sweep_row(
+    alloc: Global,
+    case: &Case,
+    contribution: i32,
+) -> Result<SweepRow, AllocError>
+    requires valid { IsValid case.now }
+    requires contribution { IsContribution contribution }
+    ensures { IfOk result (λ row. IsRow case.now contribution row) }
+{
+    let given = with_contribution(alloc, case, contribution)?;
+    let case = complete(alloc, &given)?;
+    let targets = targets(&case);
+    let cost = least_cost(alloc, &case, targets)?;
+    Ok(SweepRow {
+        contribution,
+        hot: targets.hot,
+        cold: targets.cold,
+        cost,
+    })
+}
