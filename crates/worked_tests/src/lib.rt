@@ -39,6 +39,8 @@ mod site_text_tests;
 #[cfg(test)]
 mod stream_case_tests;
 #[cfg(test)]
+mod study_tests;
+#[cfg(test)]
 mod sums_tests;
 #[cfg(test)]
 mod tables;

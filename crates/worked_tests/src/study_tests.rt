@@ -1,0 +1,224 @@
+//! Sweeps by several workers and samples, in cases that were worked by hand.
+ghost use Rattle.std.specs.Prelude.{◌≤◌};
+ghost use Rattle.stream_case.specs.Case.{IsComplete};
+ghost use Rattle.study.specs.Plan.{IsSweepPlan};
+
+use crate::compare::{assert_lists, assert_same};
+use crate::tables::{FOUR_STREAMS, TWO_STREAMS, Table, case_of, completed};
+use problem_table::{Target, targets};
+use std::alloc::{AllocError, Global};
+use std::process::Abort;
+use std::sync::atomic::{AtomicU64, Ordering};
+use std::test::Fail;
+use std::thread;
+use stream_case::Side::{Cold, Hot};
+use stream_case::{Case, Forbid, Side, Source, Stream};
+use study::{Gate, OpenGate, SweepPlan, SweepRow, least_cost, sample_case, sweep};
+
+/// A row: contribution, hot and cold target, and least cost.
+type Row = (i32, i64, i64, Option<i128>);
+
+/// The four streams at contributions from 0 to 100.
+const FOUR_STREAM_ROWS: [Row; 11] = [
+    (0, 0, 40_000, Some(0)),
+    (10, 0, 40_000, Some(0)),
+    (20, 0, 40_000, Some(0)),
+    (30, 2_000, 42_000, Some(2_000)),
+    (40, 11_000, 51_000, Some(11_000)),
+    (50, 20_000, 60_000, Some(20_000)),
+    (60, 29_000, 69_000, Some(29_000)),
+    (70, 38_000, 78_000, Some(38_000)),
+    (80, 47_000, 87_000, Some(47_000)),
+    (90, 56_000, 96_000, Some(56_000)),
+    (100, 65_000, 105_000, Some(65_000)),
+];
+
+/// A cooler that takes less heat than the hot stream has to give.
+const TOO_LITTLE_COOLING: Table = Table {
+    streams: &[("H", Hot, 1000, 500, 10), ("C", Cold, 300, 400, 10)],
+    utilities: &[("CW", Cold, 200, 0, 1000, 0)],
+    ..TWO_STREAMS
+};
+
+fn rows_of(alloc: Global, rows: &[SweepRow]) -> Result<Vec<Row>, AllocError> {
+    let mut found = Vec::new(alloc);
+    for row in rows {
+        found.push((row.contribution, row.hot, row.cold, row.cost))?;
+    }
+    Ok(found)
+}
+
+/// Compares the rows of a table.
+fn check_rows<R: Abort + thread::Threads + Sync + AllocGlobal>(
+    rt: &R,
+    table: &Table,
+    plan: SweepPlan,
+    workers: u32,
+    wanted: &[Row],
+) -> Result<(), Fail>
+    requires plan { IsSweepPlan plan }
+    requires some_workers { 1 ≤ workers }
+    requires few_workers { workers ≤ 16 }
+{
+    let case = case_of(rt.alloc(), table)?;
+    let rows = sweep(rt, rt.alloc(), &OpenGate, &case, plan, workers)?;
+    let found = rows_of(rt.alloc(), rows.as_slice())?;
+    assert_lists(rt, "the rows", &found, wanted);
+    Ok(())
+}
+
+const ALL_ROWS: SweepPlan = SweepPlan {
+    from: 0,
+    to: 100,
+    step: 10,
+};
+
+#[test]
+fn any_workers_make_the_same_rows(rt: HostRuntime) -> Result<(), Fail> {
+    check_rows(&rt, &FOUR_STREAMS, ALL_ROWS, 1, &FOUR_STREAM_ROWS)?;
+    check_rows(&rt, &FOUR_STREAMS, ALL_ROWS, 4, &FOUR_STREAM_ROWS)?;
+    check_rows(&rt, &FOUR_STREAMS, ALL_ROWS, 16, &FOUR_STREAM_ROWS)
+}
+
+#[test]
+fn a_sweep_ends_at_or_before_its_end(rt: HostRuntime) -> Result<(), Fail> {
+    let plan = SweepPlan {
+        from: 40,
+        to: 69,
+        step: 10,
+    };
+    check_rows(&rt, &FOUR_STREAMS, plan, 4, &FOUR_STREAM_ROWS[4..7])?;
+    let plan = SweepPlan {
+        from: 50,
+        to: 50,
+        step: 1,
+    };
+    check_rows(&rt, &FOUR_STREAMS, plan, 3, &FOUR_STREAM_ROWS[5..6])?;
+    check_rows(&rt, &TOO_LITTLE_COOLING, plan, 1, &[(50, 0, 4_000, None)])
+}
+
+/// The most turns that a row waits for another one.
+const MOST_TURNS: u32 = 10_000_000;
+
+/// A gate at which each of two rows waits for the other one. It counts how often each row is
+/// entered and left, and how often a row goes on alone.
+#[derive(Drop)]
+struct MeetingGate {
+    first_entered: AtomicU64,
+    second_entered: AtomicU64,
+    first_left: AtomicU64,
+    second_left: AtomicU64,
+    gave_up: AtomicU64,
+}
+
+impl Gate for MeetingGate {
+    fn enter(&self, row: u32) {
+        let (own, other) = match row {
+            0 => (&self.first_entered, &self.second_entered),
+            _ => (&self.second_entered, &self.first_entered),
+        };
+        own.fetch_add(1, Ordering::SeqCst);
+        for _ in 0..MOST_TURNS {
+            if other.load(Ordering::SeqCst) > 0 {
+                return;
+            }
+            thread::yield_now();
+        }
+        self.gave_up.fetch_add(1, Ordering::SeqCst);
+    }
+
+    fn leave(&self, row: u32) {
+        let left = match row {
+            0 => &self.first_left,
+            _ => &self.second_left,
+        };
+        left.fetch_add(1, Ordering::SeqCst);
+    }
+}
+
+impl MeetingGate {
+    fn new() -> MeetingGate {
+        MeetingGate {
+            first_entered: AtomicU64::new(0),
+            second_entered: AtomicU64::new(0),
+            first_left: AtomicU64::new(0),
+            second_left: AtomicU64::new(0),
+            gave_up: AtomicU64::new(0),
+        }
+    }
+
+    /// How often the first and the second row were entered, and left, and a row gave up.
+    fn counts(&self) -> [u64; 5] {
+        [
+            self.first_entered.load(Ordering::SeqCst),
+            self.second_entered.load(Ordering::SeqCst),
+            self.first_left.load(Ordering::SeqCst),
+            self.second_left.load(Ordering::SeqCst),
+            self.gave_up.load(Ordering::SeqCst),
+        ]
+    }
+}
+
+#[test]
+fn two_rows_meet(rt: HostRuntime) -> Result<(), Fail> {
+    let case = case_of(rt.alloc(), &FOUR_STREAMS)?;
+    let plan = SweepPlan {
+        from: 0,
+        to: 10,
+        step: 10,
+    };
+    let gate = MeetingGate::new();
+    let rows = sweep(&rt, rt.alloc(), &gate, &case, plan, 2)?;
+    let found = rows_of(rt.alloc(), rows.as_slice())?;
+    assert_lists(&rt, "the rows", &found, &FOUR_STREAM_ROWS[..2]);
+    assert_same(&rt, "the counts", &gate.counts(), &[1, 1, 1, 1, 0]);
+    Ok(())
+}
+
+/// A stream: its side, its supply and its target, and its heat-capacity flow.
+type Drawn = (Side, i32, i32, i64);
+
+fn drawn_of(alloc: Global, streams: &[Stream]) -> Result<Vec<Drawn>, AllocError> {
+    let mut found = Vec::new(alloc);
+    for stream in streams {
+        found.push((stream.side, stream.supply, stream.target, stream.cp))?;
+    }
+    Ok(found)
+}
+
+fn cost_of(alloc: Global, case: &Case) -> Result<(Target, Option<i128>), AllocError>
+    requires { IsComplete case.now }
+{
+    let targets = targets(case);
+    Ok((targets, least_cost(alloc, case, targets)?))
+}
+
+#[test]
+fn samples_are_drawn(rt: HostRuntime) -> Result<(), Fail> {
+    let case = sample_case(rt.alloc(), 1, 1)?;
+    let found = drawn_of(rt.alloc(), case.streams.as_slice())?;
+    let wanted = [(Hot, 1857, 607, 74), (Cold, 158, 589, 273)];
+    assert_lists(&rt, "the streams", &found, &wanted);
+    let pair = Forbid {
+        hot: Source::Stream(0),
+        cold: Source::Stream(1),
+    };
+    assert_lists(&rt, "the pairs", case.forbids.as_slice(), &[pair]);
+    let case = completed(rt.alloc(), &case)?;
+    let answer = cost_of(rt.alloc(), &case)?;
+    let targets = Target {
+        hot: 25_163,
+        cold: 0,
+    };
+    assert_same(&rt, "the answer", &answer, &(targets, Some(117_663)));
+    let case = sample_case(rt.alloc(), 1, 2)?;
+    let found = drawn_of(rt.alloc(), case.streams.as_slice())?;
+    let wanted = [
+        (Hot, 1857, 607, 74),
+        (Hot, 889, 458, 273),
+        (Cold, 1044, 1923, 424),
+        (Cold, 709, 2150, 166),
+    ];
+    assert_lists(&rt, "the streams", &found, &wanted);
+    Ok(())
+}
