@@ -16,3 +16,4 @@ pub mod PassedOnce
 pub mod Declared
 pub mod Shaped
 pub mod FewLines
+pub mod DrawSteps
