@@ -17,3 +17,4 @@ pub mod Declared
 pub mod Shaped
 pub mod FewLines
 pub mod DrawSteps
+pub mod NumberedItems

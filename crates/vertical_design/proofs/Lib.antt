@@ -1,0 +1,11 @@
+pub mod CurveLemmas
+pub mod OverlapLists
+pub mod SpanLemmas
+pub mod FlowLemmas
+pub mod IntervalLemmas
+pub mod CourseLemmas
+pub mod SpanLimits
+pub mod MatchShape
+pub mod TurnLemmas
+pub mod DesignShape
+pub mod NetworkLemmas

@@ -1,0 +1,4 @@
+pub mod Axis
+pub mod Limits
+pub mod Matches
+pub mod Courses
