@@ -20,13 +20,14 @@ use Rattle.stream_case.specs.declared.source.Source.TheVariants as source
 use Rattle.stream_case.specs.declared.stream.Stream.{Stream}
 use Rattle.stream_case.proofs.SourceLemmas.{same_source-same, same_source-true}
 use Rattle.network_text.specs.Lines.{Exchanger}
-use Rattle.network_text.specs.Shape.{HasShape, IsExchanger, IsPositive, Joins}
-use Rattle.network_text.specs.declared.limits.TheConstants.{MOST_LINES}
+use Rattle.network_text.specs.Shape.{HasShape, IsExchanger, IsPositive, Joins, KeepsCounts}
+use Rattle.network_text.specs.declared.limits.TheConstants.{MOST_STATEMENTS}
 use Rattle.network_text.proofs.Lists.{all_at}
 use Rattle.design_lines.specs.Drawn.{Course, courses_lines, declared_line, drawn}
 use Rattle.design_lines.specs.Led.{AreLed, IsCourseOf, IsShareOf, turns}
 use Rattle.design_lines.specs.Ways.{on_the_way}
 use Rattle.design_lines.specs.declared.stage.Share.{Share}
+use Rattle.design_lines.proofs.Declared.{exchangers_of-drawn}
 use Rattle.design_lines.proofs.FewLines.{few-courses}
 use Rattle.design_lines.proofs.NameLemmas.{IsName-exchanger_name}
 use Rattle.design_lines.proofs.NumberedItems.{numbered-item, numbered_names-differ, slice_get-numbered}
@@ -146,8 +147,8 @@ module _ (case : Case) (intervals : List Interval) (can : CanBeDrawn case interv
       by m s at here is (inl from) = once-on side.Hot number stream m s at here (match_at number m at).hot (ap (λ (x : Exchanger). x.hot) is ∙ from)
       by m s at here is (inr from) = once-on side.Cold number stream m s at here (match_at number m at).cold (ap (λ (x : Exchanger). x.cold) is ∙ from)
 
-  few-lines : length (drawn case (exchangers_for intervals) (courses_of case intervals)).lines ≤ MOST_LINES
-  few-lines =
+  few-statements : length (drawn case (exchangers_for intervals) (courses_of case intervals)).lines ≤ MOST_STATEMENTS
+  few-statements =
       let courses = courses_of case intervals in
       let all = sizes-all intervals (enumerate_from 0 case.streams) in
       let long = length-enumerate_from 0 case.streams in
@@ -176,8 +177,14 @@ module _ (case : Case) (intervals : List Interval) (can : CanBeDrawn case interv
     all = length-courses_of case intervals;
     each = courses-are;
     once = once-passed;
-    few = few-lines;
+    few = omega (arith, few-statements);
   }
 
   pub HasShape-matches : IsComplete case → HasShape case (drawn case (exchangers_for intervals) (courses_of case intervals))
   HasShape-matches complete = HasShape-drawn case (exchangers_for intervals) (courses_of case intervals) complete AreLed-matches
+
+  -- and it keeps the two counts of a text
+  pub KeepsCounts-matches : KeepsCounts (drawn case (exchangers_for intervals) (courses_of case intervals))
+  KeepsCounts-matches =
+      let declared = ap length (exchangers_of-drawn case (exchangers_for intervals) (courses_of case intervals)) in
+      record { lines = few-statements; exchangers = omega (arith, declared, length-map (enumerate_from 0 ms) exchanger_of, length-enumerate_from 0 ms, can.few) }

@@ -1,6 +1,6 @@
 use Rattle.std.proofs.Common.{◌≡◌, ◌∙◌, ◌<◌, ◌+◌, ◌^◌, ◌++◌, List, All, length, map, ap, sym, subst}
 use Rattle.network_text.specs.Lines.{own_branches}
-use Rattle.network_text.specs.Shape.{HasShape}
+use Rattle.network_text.specs.Shape.{HasShape, KeepsCounts}
 use Rattle.design_lines.specs.Drawn.{Course, all_branches, courses_lines, declared_line, made_branches}
 use Rattle.design_lines.specs.Led.{AreStages}
 use Rattle.vertical_design.specs.Courses.{courses_of, exchangers_for, network_of}
@@ -65,3 +65,16 @@ returns-clause-shape c =
     let lines = c.in_ok-network.ensures.lines ∙ (λ i. declared i ++ courses_lines (length case.streams) 0 (courses i)) in
     let same : c.in_ok-network.network ≡ network_of case intervals = λ i. record { branches = branches i; lines = lines i } in
     subst (HasShape case) (sym same) built.shape
+
+pub returns-clause-counts : goal.returns-clause-counts
+unfolding network_of
+returns-clause-counts c =
+    let case = c.args.case.now in
+    let intervals = c.in_ok-intervals.intervals.items in
+    let built = is_built case intervals c.requires.complete c.requires.standard c.in_ok-intervals.ensures in
+    let courses = c.as_slice-3.ensures.value ∙ c.in_ok-courses.ensures ∙ ap (courses_of case) c.as_slice-2.ensures.value in
+    let declared = c.in_ok-declarations.ensures ∙ ap (λ (is : List Interval). map declared_line (exchangers_for is)) c.as_slice.ensures.value in
+    let branches = c.in_ok-network.ensures.branches ∙ ap (λ (cs : List Course). own_branches case ++ made_branches 0 0 cs) courses in
+    let lines = c.in_ok-network.ensures.lines ∙ (λ i. declared i ++ courses_lines (length case.streams) 0 (courses i)) in
+    let same : c.in_ok-network.network ≡ network_of case intervals = λ i. record { branches = branches i; lines = lines i } in
+    subst KeepsCounts (sym same) built.counts
