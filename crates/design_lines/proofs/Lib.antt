@@ -19,3 +19,5 @@ pub mod Shaped
 pub mod FewLines
 pub mod PassRuns
 pub mod CourseEnds
+pub mod DrawSteps
+pub mod NumberedItems

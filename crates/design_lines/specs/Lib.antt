@@ -3,3 +3,4 @@ pub mod Stages
 pub mod Drawn
 pub mod Values
 pub mod Led
+pub mod Ways

@@ -3,11 +3,13 @@
 #![tactic(auto)]
 
 mod branches;
+mod drawing;
 mod laws;
 mod names;
 mod stage;
 
 pub use branches::{own_branches, push_branches};
+pub use drawing::{Course, draw};
 pub use laws::drawn_networks_have_the_shape;
 pub use names::{branch_name, exchanger_name};
 pub use stage::{Share, push_stage};

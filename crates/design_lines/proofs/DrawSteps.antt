@@ -1,0 +1,70 @@
+-- A network is drawn course by course, and a course stage by stage.
+use Rattle.std.proofs.Common.{◌≡◌, ◌∙◌, ◌<◌, ◌≤◌, ◌+◌, ◌-◌, ◌*◌, ◌∷◌, ◌++◌, ℕ, suc, List, [], get_or, length, drop, sym, ap, arith, append_assoc, length-append}
+use Rattle.std.proofs.Math.Seq.{drop-cons}
+use Rattle.std.proofs.lemmas.List.{append-nil, drop_all}
+use Rattle.network_text.specs.declared.network.Branch.{Branch}
+use Rattle.network_text.specs.declared.network.Line.{Line}
+use Rattle.network_text.specs.declared.network.Line.TheVariants as line
+use Rattle.design_lines.specs.Drawn.{Course, all_branches, course_branches, course_lines, courses_lines, made_branches, numbered}
+use Rattle.design_lines.specs.Stages.{stage_end, stage_lines}
+use Rattle.design_lines.specs.declared.stage.Share.{Share}
+use Rattle.design_lines.proofs.BranchStreams.{length-numbered}
+
+-- the item of a loop is the next one of those that are left
+pub next_item : {X : Type 0} (xs : List X) (i : ℕ) (x : X) → i < length xs → x ≡ get_or xs i x → drop i xs ≡ x ∷ drop (i + 1) xs
+next_item xs i x within is =
+    let next : suc i ≡ i + 1 = omega arith in
+    drop-cons xs i x within ∙ ap (λ y. y ∷ drop (suc i) xs) (sym is) ∙ ap (λ k. x ∷ drop k xs) next
+
+-- ---- a course
+
+-- the lines so far and those that are left are the lines of the course; the branch that is led is `at`, and the next one is `free`
+pub record IsCourseLed (course : Course) (stream next : ℕ) (old : List Line) (number : ℕ) (lines : List Line) (free at : ℕ) : Type 0 where
+  pub drawn : lines ++ course_lines free at (drop number course) ≡ old ++ course_lines next stream course
+  pub many : free + course_branches (drop number course) ≡ next + course_branches course
+
+-- ---- all courses
+
+-- the lines and branches so far and those that are left are those of all courses
+pub record AreCoursesLed (courses : List Course) (own : ℕ) (old_lines : List Line) (old_branches : List Branch) (number : ℕ) (lines : List Line) (branches : List Branch) : Type 0 where
+  pub drawn : lines ++ courses_lines (length branches) number (drop number courses) ≡ old_lines ++ courses_lines own 0 courses
+  pub made : branches ++ made_branches (length branches - own) number (drop number courses) ≡ old_branches ++ made_branches 0 0 courses
+  pub many : length branches + all_branches (drop number courses) ≡ own + all_branches courses
+  pub least : own ≤ length branches
+
+module _ (courses : List Course) (own : ℕ) (old_lines : List Line) (old_branches : List Branch) where
+  pub courses_start : length old_branches ≡ own → AreCoursesLed courses own old_lines old_branches 0 old_lines old_branches
+  courses_start count =
+      let none : length old_branches - own ≡ 0 = omega (arith, count) in
+      record {
+        drawn = ap (λ (k : ℕ). old_lines ++ courses_lines k 0 courses) count;
+        made = ap (λ (k : ℕ). old_branches ++ made_branches k 0 courses) none;
+        many = ap (λ (k : ℕ). k + all_branches courses) count;
+        least = omega (arith, count);
+      }
+
+  module _ (number : ℕ) (lines : List Line) (branches : List Branch) (led : AreCoursesLed courses own old_lines old_branches number lines branches) where
+    pub courses_next : (after_lines : List Line) (after_branches : List Branch) (course : Course) (free : ℕ) → drop number courses ≡ course ∷ drop (number + 1) courses
+        → after_lines ≡ lines ++ course_lines (length branches) number course → free ≡ length branches + course_branches course
+        → after_branches ≡ branches ++ numbered (length branches - own) number (free - length branches) → AreCoursesLed courses own old_lines old_branches (number + 1) after_lines after_branches
+    courses_next after_lines after_branches course free left drawn frees made =
+        let rest = drop (number + 1) courses in
+        let n = length branches in
+        let k = course_branches course in
+        let count : free - n ≡ k = omega (arith, frees) in
+        let parts : after_branches ≡ branches ++ numbered (n - own) number k = made ∙ ap (λ (j : ℕ). branches ++ numbered (n - own) number j) count in
+        let long : length after_branches ≡ n + k = ap length parts ∙ length-append branches (numbered (n - own) number k) ∙ ap (λ (j : ℕ). n + j) (length-numbered (n - own) number k) in
+        let later : length after_branches - own ≡ n - own + k = omega (arith, long, led.least) in
+        let many : n + (k + all_branches rest) ≡ own + all_branches courses = ap (λ (cs : List Course). n + all_branches cs) (sym left) ∙ led.many in
+        record {
+          drawn = ap (λ (ls : List Line). ls ++ courses_lines (length after_branches) (number + 1) rest) drawn
+              ∙ ap (λ (j : ℕ). (lines ++ course_lines n number course) ++ courses_lines j (number + 1) rest) long
+              ∙ append_assoc lines (course_lines n number course) (courses_lines (n + k) (number + 1) rest)
+              ∙ ap (λ (cs : List Course). lines ++ courses_lines n number cs) (sym left) ∙ led.drawn;
+          made = ap (λ (bs : List Branch). bs ++ made_branches (length after_branches - own) (number + 1) rest) parts
+              ∙ ap (λ (j : ℕ). (branches ++ numbered (n - own) number k) ++ made_branches j (number + 1) rest) later
+              ∙ append_assoc branches (numbered (n - own) number k) (made_branches (n - own + k) (number + 1) rest)
+              ∙ ap (λ (cs : List Course). branches ++ made_branches (n - own) number cs) (sym left) ∙ led.made;
+          many = omega (arith, long, many);
+          least = omega (arith, long, led.least);
+        }

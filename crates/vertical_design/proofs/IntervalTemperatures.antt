@@ -1,0 +1,102 @@
+-- The temperatures of a side between two neighbouring cuts of the heat axis, and how they join from interval to interval.
+use Rattle.std.proofs.Common.{◌≡◌, ◌∙◌, ◌<◌, ◌-◌, ◌-ℤ◌, ◌*ℤ◌, ℕ, ℤ, pos, negsuc, ◌≤ℤ◌, ◌<ℤ◌, true, List, get_or, length, true≢false, refl, sym, ap, subst, arith}
+use Rattle.std.specs.Prelude.{unsigned_abs}
+use Rattle.std.proofs.lemmas.Int.{ints}
+use Rattle.std.proofs.lemmas.List.Elements.{All-contains}
+use Rattle.stream_case.specs.Source.{same_side}
+use Rattle.stream_case.specs.Stream.{AreStreams, IsValidStream, high_end, low_end}
+use Rattle.stream_case.specs.declared.case.Case.{Case}
+use Rattle.stream_case.specs.declared.source.Side.{Side}
+use Rattle.stream_case.specs.declared.source.Side.TheVariants as side
+use Rattle.stream_case.specs.declared.stream.Stream.{Stream}
+use Rattle.stream_case.proofs.EndLemmas.{AreEnds-IsValidStream}
+use Rattle.fractions.specs.Rationals.{IsAtMost, IsBelow, Rational, minus, ratio, whole}
+use Rattle.fractions.proofs.Comparisons.{at_most-whole}
+use Rattle.fractions.proofs.Wholes.{ratio-multiple}
+use Rattle.vertical_design.specs.Axis.{AreCuts, heat_at, spans_of}
+use Rattle.vertical_design.specs.Matches.{side_flow}
+use Rattle.vertical_design.specs.Vertical.{curve_heat}
+use Rattle.vertical_design.proofs.CurveApproach.{one_place}
+use Rattle.vertical_design.proofs.CurveSegments.{IsSegment, Runs, segment}
+use Rattle.vertical_design.proofs.ScaledCurve.{curve_heat-ratio, curve_parts-whole}
+use Rattle.vertical_design.proofs.SegmentTemperatures.{flow_positive, flow_running, temperature, temperature_change, temperature_heat, temperature_rises, within_range}
+use Rattle.vertical_design.proofs.SpanRuns.{cut_below, high_cut, low_cut, no_end_between, side_flow-running}
+
+-- at whole temperatures the curve is the one of the axis
+pub curve_heat-whole : (of : Side) (streams : List Stream) (t : ℤ) → curve_heat of streams (whole t) ≡ whole (heat_at of streams t)
+curve_heat-whole of streams t =
+    ap (curve_heat of streams) (sym (ratio-multiple t 1 (omega arith))) ∙ curve_heat-ratio 1 (omega arith) of streams (t *ℤ pos 1) ∙ ap (λ z. ratio z 1) (curve_parts-whole 1 of streams t (omega arith))
+    ∙ ratio-multiple (heat_at of streams t) 1 (omega arith)
+
+size_is : (x : ℤ) → pos 0 <ℤ x → x ≡ pos (unsigned_abs x)
+size_is (pos n) above = refl
+size_is (negsuc n) above = absurd (omega (arith, ints, above))
+
+side_is : (a b : Side) → same_side a b ≡ true → a ≡ b
+side_is side.Hot side.Hot same = refl
+side_is side.Hot side.Cold same = absurd (true≢false (sym same))
+side_is side.Cold side.Hot same = absurd (true≢false (sym same))
+side_is side.Cold side.Cold same = refl
+
+-- the temperature of a side at each heat from the lower cut to the higher one: the curve has that heat there, each stream that runs has it in its range, and it changes by the heat over the flow
+pub record IsScale (of : Side) (streams : List Stream) (are : AreStreams streams) (low high flow : ℤ) (scale : ℤ → Rational) : Type 0 where
+  pub heat : (q : ℤ) → low ≤ℤ q → q ≤ℤ high → curve_heat of streams (scale q) ≡ whole q
+  pub range : (q : ℤ) → low ≤ℤ q → q ≤ℤ high → (r : Stream) → Runs of streams are low high r → IsAtMost (whole (low_end r)) (scale q) × IsAtMost (scale q) (whole (high_end r))
+  pub change : (q p : ℤ) → minus (scale p) (scale q) ≡ ratio (p -ℤ q) (unsigned_abs flow)
+  pub rises : (q p : ℤ) → q <ℤ p → IsBelow (scale q) (scale p)
+
+-- an interval in which a stream of the side runs has one
+pub interval_scale : (case : Case) (cuts : List ℤ) (are_cuts : AreCuts (spans_of side.Hot case) (spans_of side.Cold case) cuts) (at : ℕ) (later : 0 < at) (within : at < length cuts) (are : AreStreams case.streams) (of : Side) (r : Stream)
+    → Runs of case.streams are (get_or cuts at (pos 0)) (get_or cuts (at - 1) (pos 0)) r
+    → (scale : ℤ → Rational) × IsScale of case.streams are (get_or cuts at (pos 0)) (get_or cuts (at - 1) (pos 0)) (side_flow (get_or cuts at (pos 0)) (get_or cuts (at - 1) (pos 0)) (spans_of of case)) scale
+interval_scale case cuts are_cuts at later within are of r runs =
+    let streams = case.streams in
+    let low = get_or cuts at (pos 0) in
+    let high = get_or cuts (at - 1) (pos 0) in
+    let gap = cut_below case cuts are_cuts at later within are in
+    let none = no_end_between case cuts are_cuts at later within are of in
+    let flow = flow_running of streams are low high gap in
+    let (begin, end, is) = segment of streams are low high gap r runs in
+    let above = flow_positive of streams are low high gap begin end is none in
+    let size = size_is flow above in
+    let some : 0 < unsigned_abs flow = omega (arith, ints, above, size) in
+    let same = side_flow-running case cuts are_cuts at later within are of r runs in
+    let d = unsigned_abs flow in (
+      temperature of streams are low high gap begin end is none d size some,
+      record {
+        heat = λ q from upto. temperature_heat of streams are low high gap begin end is none d size some q from upto;
+        range = λ q from upto s s_runs. within_range of streams are low high gap begin end is none d size some q from upto s s_runs;
+        change = λ q p. temperature_change of streams are low high gap begin end is none d size some q p ∙ ap (λ f. ratio (p -ℤ q) (unsigned_abs f)) (sym same);
+        rises = λ q p less. temperature_rises of streams are low high gap begin end is none d size some q p less;
+      },
+    )
+
+-- ---- joints
+
+module _ (of : Side) (streams : List Stream) (are : AreStreams streams) (r : Stream) where
+  -- two temperatures of a stream's range with one heat
+  same_place : (low high : ℤ) → Runs of streams are low high r → (t u : Rational) → IsAtMost (whole (low_end r)) t × IsAtMost t (whole (high_end r)) → IsAtMost (whole (low_end r)) u × IsAtMost u (whole (high_end r)) → curve_heat of streams t ≡ curve_heat of streams u → t ≡ u
+  same_place low high runs t u t_in u_in same =
+      let own = side_is r.side of runs.side_is in
+      one_place streams are r runs.member t u t_in.0 t_in.1 u_in.0 u_in.1 (subst (λ d. curve_heat d streams t ≡ curve_heat d streams u) (sym own) same)
+
+  -- a stream that runs on both sides of a cut has one temperature there
+  pub scales_join : (low mid high flow other : ℤ) (below above : ℤ → Rational) → low ≤ℤ mid → mid ≤ℤ high → Runs of streams are low mid r → Runs of streams are mid high r → IsScale of streams are low mid flow below → IsScale of streams are mid high other above → below mid ≡ above mid
+  scales_join low mid high flow other below above under over runs_below runs_above lower upper =
+      same_place low mid runs_below (below mid) (above mid) (lower.range mid under (omega (arith, ints)) r runs_below) (upper.range mid (omega (arith, ints)) over r runs_above)
+      (lower.heat mid under (omega (arith, ints)) ∙ sym (upper.heat mid (omega (arith, ints)) over))
+
+  -- it is at its own end where its curve has the heat of that end
+  pub scale_begins : (low high flow : ℤ) (scale : ℤ → Rational) → low ≤ℤ high → Runs of streams are low high r → IsScale of streams are low high flow scale → heat_at of streams (low_end r) ≡ low → scale low ≡ whole (low_end r)
+  scale_begins low high flow scale order runs is own =
+      let ends = AreEnds-IsValidStream r (All-contains IsValidStream streams r are.each runs.member) in
+      same_place low high runs (scale low) (whole (low_end r)) (is.range low (omega (arith, ints)) order r runs)
+      (at_most-whole (low_end r) (low_end r) (omega (arith, ints)), at_most-whole (low_end r) (high_end r) (let less = ends.order in omega (arith, ints, less)))
+      (is.heat low (omega (arith, ints)) order ∙ sym (curve_heat-whole of streams (low_end r) ∙ ap whole own))
+
+  pub scale_ends : (low high flow : ℤ) (scale : ℤ → Rational) → low ≤ℤ high → Runs of streams are low high r → IsScale of streams are low high flow scale → heat_at of streams (high_end r) ≡ high → scale high ≡ whole (high_end r)
+  scale_ends low high flow scale order runs is own =
+      let ends = AreEnds-IsValidStream r (All-contains IsValidStream streams r are.each runs.member) in
+      same_place low high runs (scale high) (whole (high_end r)) (is.range high order (omega (arith, ints)) r runs)
+      (at_most-whole (low_end r) (high_end r) (let less = ends.order in omega (arith, ints, less)), at_most-whole (high_end r) (high_end r) (omega (arith, ints)))
+      (is.heat high order (omega (arith, ints)) ∙ sym (curve_heat-whole of streams (high_end r) ∙ ap whole own))

@@ -1,0 +1,18 @@
+-- The part of the range below `t` ends where `t` is held within the range.
+use Rattle.std.proofs.Common.{ap, ◌∙◌, w64, rules, arith}
+use Rattle.std.specs.Prelude.{◌*ℤ◌}
+use Rattle.std.proofs.lemmas.Int.{ints, clamps, to_z-of_z}
+use Rattle.stream_case.proofs.EndLemmas.{AreEnds-IsValidStream}
+use Rattle.stream_case.proofs.HeatLemmas.{HasLength-IsValidStream}
+use Rattle.vertical_design.proofs.curve.heat_below.Goals as goal
+
+pub heat_between-requires-clause-within : goal.heat_between-requires-clause-within
+heat_between-requires-clause-within c =
+    let range = HasLength-IsValidStream c.args.stream.now c.requires in
+    let ends = AreEnds-IsValidStream c.args.stream.now c.requires in
+    record { from = omega (arith, ints); upto = omega (arith, ints) }
+
+pub returns-clause-value : goal.returns-clause-value
+returns-clause-value c =
+    let ends = AreEnds-IsValidStream c.args.stream.now c.requires in
+    to_z-of_z w64 c.heat_between.result (search rules) ∙ c.heat_between.ensures.value ∙ ap (λ l. c.args.stream.now.cp *ℤ l) (omega (arith, ints, clamps))

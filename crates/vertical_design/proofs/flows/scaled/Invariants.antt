@@ -1,0 +1,6 @@
+use Rattle.std.proofs.Common.{◌≡◌, map, take}
+use Rattle.std.specs.Prelude.{◌*ℤ◌}
+use Rattle.vertical_design.proofs.flows.scaled.Given as goal
+
+abbrev pub invariant-loop-flow : goal.invariant-loop-flow
+invariant-loop-flow l = l.amounts.items ≡ map (λ f. f *ℤ l.by) (take l.flow-index l.flows)

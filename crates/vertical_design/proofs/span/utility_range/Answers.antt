@@ -1,0 +1,14 @@
+-- The hot target is a heat of streams.
+use Rattle.std.proofs.Common.{arith}
+use Rattle.std.proofs.lemmas.Int.{ints}
+use Rattle.problem_table.proofs.DeficitLemmas.{hot_target-between}
+use Rattle.vertical_design.proofs.span.utility_range.Goals as goal
+
+pub overflow_add-result : goal.overflow_add-result
+overflow_add-result c = let target = hot_target-between c.args.streams.now c.requires.streams in omega (arith, ints)
+
+pub returns-in-Hot-clause-to : goal.returns-in-Hot-clause-to
+returns-in-Hot-clause-to c =
+    let target = hot_target-between c.args.streams.now c.requires.streams in
+    let side = c.in-Hot.is in
+    rw side (omega (arith, ints))

@@ -1,0 +1,5 @@
+pub mod Axis
+pub mod Limits
+pub mod Matches
+pub mod Courses
+pub mod Vertical

@@ -1,0 +1,20 @@
+//! The network of a standard case by the composite curves.
+//!
+//! The shifted curves of both sides are laid along one axis of heat, the hot target above the hot
+//! curve and the cold target below the cold one. Between two neighbouring places where a source
+//! begins or ends, the sources of both sides are matched with each other, straight across (Kemp
+//! 2007): what one side gives there the other side takes there.
+#![tactic(auto)]
+
+mod courses;
+mod curve;
+mod cuts;
+mod exchangers;
+mod flows;
+mod interval;
+mod limits;
+mod matches;
+mod network;
+mod span;
+
+pub use network::vertical;

@@ -1,0 +1,9 @@
+//! The limits of what runs between two cuts.
+
+use stream_case::{MOST_CP, MOST_STREAMS};
+
+/// The most spans of a side: those of its streams, and that of its utility.
+pub const MOST_SPANS: usize = MOST_STREAMS + 1;
+
+/// The most flow of a side, in 10 W/K.
+pub const MOST_FLOW: i64 = MOST_SPANS as i64 * MOST_CP;

@@ -1,0 +1,48 @@
+//! The network of a standard case.
+
+ghost use Rattle.std.specs.Prelude.{IfOk};
+ghost use Rattle.stream_case.specs.Case.{IsComplete, IsStandard};
+ghost use Rattle.network_text.specs.Shape.{HasShape, KeepsCounts};
+ghost use Rattle.vertical_design.specs.Courses.{AreIntervals, IsVerticalDesign};
+
+use crate::courses::courses_of;
+use crate::cuts::cuts_of;
+use crate::exchangers::exchanger_lines;
+use crate::interval::{Interval, intervals_of};
+use crate::span::spans_of;
+use design_lines::draw;
+use network_text::Network;
+use std::alloc::{AllocError, Global};
+use stream_case::{Case, Side};
+
+/// The intervals of a standard case with their matches, from the greatest heat down.
+fn intervals_for(alloc: Global, case: &Case) -> Result<Vec<Interval>, AllocError>
+    requires complete { IsComplete case.now }
+    requires standard { IsStandard case.now }
+    ensures { IfOk result (λ intervals. AreIntervals case.now intervals.items) }
+{
+    let hot = spans_of(alloc, case, Side::Hot)?;
+    let cold = spans_of(alloc, case, Side::Cold)?;
+    let cuts = cuts_of(alloc, hot.as_slice(), cold.as_slice())?;
+    let intervals = intervals_of(alloc, hot.as_slice(), cold.as_slice(), cuts.as_slice())?;
+    Ok(intervals)
+}
+
+/// The network of a standard case from its shifted composite curves (Kemp 2007; the shares are
+/// this project's rule). The heat axis is cut wherever a source begins or ends. Between two cuts
+/// each source of a side meets those of the other side in their order, until it has given or taken
+/// its part of the heat between the cuts. The network has the shape that the grammar of networks
+/// asks for and keeps the counts of a text, so that it is printed and read again.
+pub fn vertical(alloc: Global, case: &Case) -> Result<Network, AllocError>
+    requires complete { IsComplete case.now }
+    requires standard { IsStandard case.now }
+    ensures drawn { IfOk result (λ network. IsVerticalDesign case.now network) }
+    ensures shape { IfOk result (λ network. HasShape case.now network) }
+    ensures counts { IfOk result (λ network. KeepsCounts network) }
+{
+    let intervals = intervals_for(alloc, case)?;
+    let declarations = exchanger_lines(alloc, intervals.as_slice())?;
+    let courses = courses_of(alloc, case, intervals.as_slice())?;
+    let network = draw(alloc, case, declarations, courses.as_slice())?;
+    Ok(network)
+}

@@ -1,0 +1,118 @@
+//! What each source covers of the heat axis.
+
+ghost use Rattle.std.specs.Prelude.{◌≡◌, ◌<◌, ◌^◌, ◌++◌, length, IfOk, OnOk};
+ghost use Rattle.std.specs.List.{enumerate_from, filter_map};
+ghost use Rattle.stream_case.specs.Source.{same_side};
+ghost use Rattle.stream_case.specs.Stream.{AreStreams};
+ghost use Rattle.problem_table.specs.Deficit.{cold_target, hot_target};
+ghost use Rattle.vertical_design.specs.Axis.{spans_of, stream_span, utility_from, utility_span, utility_to};
+
+use crate::curve::{heat_at, side_heat};
+use problem_table::{Target, targets};
+use std::alloc::{AllocError, Global};
+use stream_case::{Case, Side, Source, Stream, Utility};
+
+/// What a source covers of the heat axis.
+#[derive(Clone, Copy, Debug, PartialEq, Eq)]
+pub struct Span {
+    pub source: Source,
+    /// The heat where it begins, in W.
+    pub from: i64,
+    /// The heat where it ends, in W.
+    pub to: i64,
+    /// The heat-capacity flow, in 10 W/K; 1 for a utility.
+    pub cp: i64,
+}
+
+/// Appends the spans of the streams of a side.
+fn push_streams(
+    spans: &mut Vec<Span>,
+    streams: &[Stream],
+    side: Side,
+    targets: Target,
+) -> Result<(), AllocError>
+    requires streams { AreStreams streams.now }
+    requires cold_target { targets.cold ≡ cold_target streams.now }
+    ensures { OnOk result (spans.new.items ≡ spans.old.items ++ filter_map (stream_span side streams.now) (enumerate_from 0 streams.now)) }
+{
+    for (number, stream) in streams.iter().enumerate() {
+        if !stream.is_on(side) {
+            continue;
+        }
+        let from = heat_at(streams, side, targets, stream.low_end());
+        let to = heat_at(streams, side, targets, stream.high_end());
+        spans.push(Span {
+            source: Source::Stream(number as u32),
+            from,
+            to,
+            cp: stream.cp,
+        })?;
+    }
+    Ok(())
+}
+
+/// Where the utility of a side begins on the heat axis, in W, and where it ends.
+fn utility_range(streams: &[Stream], side: Side, targets: Target) -> (i64, i64)
+    requires streams { AreStreams streams.now }
+    requires hot_target { targets.hot ≡ hot_target streams.now }
+    requires cold_target { targets.cold ≡ cold_target streams.now }
+    ensures from { result.0 ≡ utility_from side streams.now }
+    ensures to { result.1 ≡ utility_to side streams.now }
+{
+    match side {
+        Side::Hot => {
+            let from = side_heat(streams, Side::Hot);
+            (from, from + targets.hot)
+        }
+        Side::Cold => (0, targets.cold),
+    }
+}
+
+/// Whether a utility is on a side.
+fn is_on(utility: &Utility, side: Side) -> bool
+    ensures { result ≡ same_side utility.now.side side }
+{
+    utility.side == side
+}
+
+/// Appends the span of the utility of a side.
+fn push_utilities(
+    spans: &mut Vec<Span>,
+    case: &Case,
+    side: Side,
+    targets: Target,
+) -> Result<(), AllocError>
+    requires streams { AreStreams case.now.streams }
+    requires few { length case.now.utilities < 2 ^ 32 }
+    requires hot_target { targets.hot ≡ hot_target case.now.streams }
+    requires cold_target { targets.cold ≡ cold_target case.now.streams }
+    ensures { OnOk result (spans.new.items ≡ spans.old.items ++ filter_map (utility_span side case.now.streams) (enumerate_from 0 case.now.utilities)) }
+{
+    let (from, to) = utility_range(case.streams.as_slice(), side, targets);
+    for (number, utility) in case.utilities.as_slice().iter().enumerate() {
+        if !is_on(utility, side) {
+            continue;
+        }
+        spans.push(Span {
+            source: Source::Utility(number as u32),
+            from,
+            to,
+            cp: 1,
+        })?;
+    }
+    Ok(())
+}
+
+/// The spans of a side: those of its streams in their order, then that of its utility.
+#[tactic(auto, unfolding(crate::specs::Axis::spans_of))]
+pub(crate) fn spans_of(alloc: Global, case: &Case, side: Side) -> Result<Vec<Span>, AllocError>
+    requires streams { AreStreams case.now.streams }
+    requires few { length case.now.utilities < 2 ^ 32 }
+    ensures { IfOk result (λ spans. spans.items ≡ spans_of side case.now) }
+{
+    let targets = targets(case);
+    let mut spans = Vec::new(alloc);
+    push_streams(&mut spans, case.streams.as_slice(), side, targets)?;
+    push_utilities(&mut spans, case, side, targets)?;
+    Ok(spans)
+}
