@@ -1,12 +1,11 @@
 -- Where the two shifted curves have one heat, the hot temperature is at least the cold one, if a stream runs there on the right side.
-use Rattle.std.proofs.Common.{◌≡◌, ◌∙◌, ⊎_elim, ◌<◌, ◌*ℤ◌, ℕ, ℤ, pos, ◌≤ℤ◌, ◌<ℤ◌, List, refl, sym, ap, ap₂, subst, arith}
+use Rattle.std.proofs.Common.{◌≡◌, ◌∙◌, ⊎_elim, ◌<◌, ◌*ℤ◌, ℕ, ℤ, pos, ◌≤ℤ◌, ◌<ℤ◌, List, refl, sym, ap, subst, arith}
 use Rattle.std.specs.Prelude.{Contains}
 use Rattle.std.specs.Int.{int_max, int_min}
 use Rattle.std.proofs.lemmas.Int.{clamps, ints}
-use Rattle.std.proofs.lemmas.List.Elements.{All-contains}
 use Rattle.sums.proofs.IntegerLemmas.{int_lt_cases}
 use Rattle.sums.proofs.ProductLemmas.{*ℤ_cancel_right}
-use Rattle.stream_case.specs.Stream.{AreStreams, IsValidStream, high_end, low_end}
+use Rattle.stream_case.specs.Stream.{AreStreams, high_end, low_end}
 use Rattle.stream_case.specs.declared.source.Side.{Side}
 use Rattle.stream_case.specs.declared.source.Side.TheVariants as side
 use Rattle.stream_case.specs.declared.stream.Stream.{Stream}

@@ -1,11 +1,10 @@
 -- The hot shifted curve lies nowhere to the right of the cold one: at every temperature it has at most its heat.
-use Rattle.std.proofs.Common.{◌≡◌, ◌∙◌, ◌⊎◌, inl, inr, ⊎_elim, ◌<◌, ◌∷◌, ◌+ℤ◌, ◌-ℤ◌, ◌*ℤ◌, ℕ, ℤ, pos, neg_ℤ, ◌≤ℤ◌, ◌<ℤ◌, Bool, true, false, if◌then◌else◌, List, [], All, get_or, length, true≢false, refl, sym, ap, ap₂, subst, arith}
+use Rattle.std.proofs.Common.{◌≡◌, ◌∙◌, ◌⊎◌, inl, inr, ⊎_elim, ◌<◌, ◌∷◌, ◌+ℤ◌, ◌-ℤ◌, ◌*ℤ◌, ℕ, ℤ, pos, neg_ℤ, ◌≤ℤ◌, ◌<ℤ◌, Bool, true, false, if◌then◌else◌, List, [], All, get_or, refl, sym, ap, ap₂, subst, arith}
 use Rattle.std.specs.Prelude.{◌&&◌, Contains, int_le}
-use Rattle.std.specs.Int.{int_max, int_min}
 use Rattle.std.proofs.Math.IntN.{*ℤ-zero}
 use Rattle.std.proofs.lemmas.Int.{by_lt_z, clamps, ints}
-use Rattle.std.proofs.lemmas.List.Elements.{All-cons, All-head, All-nil, All-tail, All-weaker}
-use Rattle.sums.proofs.IntegerLemmas.{int_le-from, int_le-true, int_le_cases, int_lt_cases}
+use Rattle.std.proofs.lemmas.List.Elements.{All-head, All-tail, All-weaker}
+use Rattle.sums.proofs.IntegerLemmas.{int_le_cases, int_lt_cases}
 use Rattle.sums.proofs.ProductLemmas.{*ℤ-+ℤ, *ℤ-≤ℤ_right, *ℤ-≤ℤ_turned, *ℤ_assoc, +ℤ-*ℤ, -ℤ-*ℤ, product_not_negative, zero_times}
 use Rattle.sums.proofs.SumLemmas.{int_sum_by-add, int_sum_by-same}
 use Rattle.stream_case.specs.Source.{same_side}
@@ -15,7 +14,7 @@ use Rattle.stream_case.specs.declared.source.Side.TheVariants as side
 use Rattle.stream_case.specs.declared.stream.Stream.{Stream}
 use Rattle.stream_case.proofs.EndLemmas.{AreEnds-IsValidStream, each_end}
 use Rattle.curves.specs.Below.{length_below}
-use Rattle.problem_table.specs.Deficit.{cold_target, hot_target}
+use Rattle.problem_table.specs.Deficit.{cold_target}
 use Rattle.problem_table.specs.Sides.{sum_side}
 use Rattle.problem_table.proofs.DeficitLemmas.{cold_target-within, hot_target-bound, hot_target-within}
 use Rattle.problem_table.proofs.SideLemmas.{sum_side-same, sum_side-zero}

@@ -1,15 +1,14 @@
 -- What the temperatures of an interval give for its matches: both sides face each other at its two cuts, and each branch gives or takes the duty of its match.
-use Rattle.std.proofs.Common.{◌≡◌, ◌∙◌, ◌<◌, ◌*◌, ◌+ℤ◌, ◌-ℤ◌, ◌*ℤ◌, ℕ, ℤ, pos, ◌≤ℤ◌, ◌<ℤ◌, List, refl, sym, ap, ap₂, subst, arith}
+use Rattle.std.proofs.Common.{◌≡◌, ◌∙◌, ◌<◌, ◌*◌, ◌+ℤ◌, ◌-ℤ◌, ◌*ℤ◌, ℕ, ℤ, pos, ◌≤ℤ◌, ◌<ℤ◌, List, sym, ap, ap₂, subst, arith}
 use Rattle.std.specs.Prelude.{unsigned_abs}
 use Rattle.std.proofs.Math.IntN.{*ℤ_comm}
 use Rattle.std.proofs.lemmas.Int.{ints, unsigned_abs-mul}
 use Rattle.sums.specs.declared.pairs.Pair.{Pair}
-use Rattle.stream_case.specs.Limits.{IsBetween}
 use Rattle.stream_case.specs.Stream.{AreStreams, high_end, low_end}
 use Rattle.stream_case.specs.declared.source.Side.{Side}
 use Rattle.stream_case.specs.declared.source.Side.TheVariants as side
 use Rattle.stream_case.specs.declared.stream.Stream.{Stream}
-use Rattle.fractions.specs.Rationals.{IsAtMost, Rational, minus, plus, ratio, times, whole}
+use Rattle.fractions.specs.Rationals.{Rational, minus, plus, ratio, times, whole}
 use Rattle.fractions.proofs.Comparisons.{at_most-whole}
 use Rattle.fractions.proofs.Ratios.{times-ratio}
 use Rattle.fractions.proofs.Sums.{minus-plus, plus-minus}
@@ -18,7 +17,6 @@ use Rattle.network_values.specs.Values.{first_state, last_state}
 use Rattle.vertical_design.specs.Axis.{utility_from, utility_to}
 use Rattle.vertical_design.specs.Matches.{match_of, side_flow}
 use Rattle.vertical_design.specs.Vertical.{IsAtUtility, curve_heat, on_scale}
-use Rattle.vertical_design.specs.declared.limits.TheConstants.{MOST_FLOW}
 use Rattle.vertical_design.specs.declared.span.Span.{Span}
 use Rattle.vertical_design.proofs.CurveSegments.{Runs}
 use Rattle.vertical_design.proofs.FlowLemmas.{IsShare}

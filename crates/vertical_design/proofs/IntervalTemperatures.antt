@@ -17,10 +17,10 @@ use Rattle.vertical_design.specs.Axis.{AreCuts, heat_at, spans_of}
 use Rattle.vertical_design.specs.Matches.{side_flow}
 use Rattle.vertical_design.specs.Vertical.{curve_heat}
 use Rattle.vertical_design.proofs.CurveApproach.{one_place}
-use Rattle.vertical_design.proofs.CurveSegments.{IsSegment, Runs, segment}
+use Rattle.vertical_design.proofs.CurveSegments.{Runs, segment}
 use Rattle.vertical_design.proofs.ScaledCurve.{curve_heat-ratio, curve_parts-whole}
 use Rattle.vertical_design.proofs.SegmentTemperatures.{flow_positive, flow_running, temperature, temperature_change, temperature_heat, temperature_rises, within_range}
-use Rattle.vertical_design.proofs.SpanRuns.{cut_below, high_cut, low_cut, no_end_between, side_flow-running}
+use Rattle.vertical_design.proofs.SpanRuns.{cut_below, no_end_between, side_flow-running}
 
 -- at whole temperatures the curve is the one of the axis
 pub curve_heat-whole : (of : Side) (streams : List Stream) (t : ℤ) → curve_heat of streams (whole t) ≡ whole (heat_at of streams t)

@@ -1,8 +1,9 @@
 -- The pairs of an amount share it out whole, where the other list has as much.
-use Rattle.std.proofs.Common.{◌≡◌, ◌∙◌, ⊎_elim, ◌<◌, ◌≤◌, ◌+◌, ◌∷◌, ◌++◌, ℕ, zero, suc, ℤ, pos, ◌+ℤ◌, ◌-ℤ◌, ◌≤ℤ◌, ◌<ℤ◌, Bool, true, false, if◌then◌else◌, List, [], All, Some, None, get_or, length, take, drop, true≢false, refl, sym, ap, ap₂, subst, arith}
+use Rattle.std.proofs.Common.{◌≡◌, ◌∙◌, ⊎_elim, ◌<◌, ◌≤◌, ◌+◌, ◌∷◌, ◌++◌, ℕ, zero, suc, ℤ, pos, ◌+ℤ◌, ◌-ℤ◌, ◌*ℤ◌, ◌≤ℤ◌, ◌<ℤ◌, Bool, true, false, if◌then◌else◌, List, [], Some, None, get_or, length, map, take, drop, true≢false, refl, sym, ap, ap₂, arith}
 use Rattle.std.specs.Prelude.{int_lt}
 use Rattle.std.specs.Int.{int_max, int_min}
 use Rattle.std.specs.List.{cons_option, filter_map, range_with_len}
+use Rattle.std.proofs.Math.IntN.{*ℤ_comm}
 use Rattle.std.proofs.Math.Seq.{take-length}
 use Rattle.std.proofs.lemmas.Int.{clamps, ints}
 use Rattle.std.proofs.lemmas.List.Elements.{All-drop, All-take}
@@ -11,8 +12,10 @@ use Rattle.sums.specs.Sum.{int_sum_by}
 use Rattle.sums.specs.declared.pairs.Pair.{Pair}
 use Rattle.sums.proofs.EnumerationLemmas.{range_with_len-append}
 use Rattle.sums.proofs.IntegerLemmas.{int_lt-from, int_lt-true, int_lt_cases}
+use Rattle.sums.proofs.ProductLemmas.{+ℤ-*ℤ, zero_times}
 use Rattle.sums.proofs.SumLemmas.{int_sum_by-append, int_sum_by-more, int_sum_by-not_negative, int_sum_by-split}
-use Rattle.vertical_design.specs.Matches.{pair_of}
+use Rattle.vertical_design.specs.Matches.{amounts_in, flows_in, pair_of, side_flow}
+use Rattle.vertical_design.specs.declared.span.Span.{Span}
 
 -- a span begins where those before it end
 begin-next : (xs : List ℤ) (n : ℕ) → n < length xs → begin_of xs (suc n) ≡ begin_of xs n +ℤ get_or xs n (pos 0)
@@ -82,3 +85,16 @@ amount-shared us vs i some_us some_vs within totals =
     let own = begin-next us i within in
     let own_some = some_us i (pos 0) within in
     omega (arith, ints, clamps, shared, all, parts, behind, before, own, own_some, totals)
+
+-- an overlap is the same from the other list
+pub overlap-turned : (us vs : List ℤ) (i j : ℕ) → overlap us vs i j ≡ overlap vs us j i
+overlap-turned us vs i j = omega (arith, ints, clamps)
+
+-- both sides of an interval offer and ask for as much
+sum-scaled : (c : ℤ) (xs : List ℤ) → int_sum_by (λ x. x) (map (λ x. x *ℤ c) xs) ≡ int_sum_by (λ x. x) xs *ℤ c
+sum-scaled c [] = sym (zero_times (pos 0) c refl)
+sum-scaled c (x ∷ xs) = ap (λ z. x *ℤ c +ℤ z) (sum-scaled c xs) ∙ sym (+ℤ-*ℤ x (int_sum_by (λ y. y) xs) c)
+
+pub amounts-balanced : (low high : ℤ) (hot cold : List Span) → int_sum_by (λ x. x) (amounts_in low high hot cold) ≡ int_sum_by (λ x. x) (amounts_in low high cold hot)
+amounts-balanced low high hot cold =
+    sum-scaled (side_flow low high cold) (flows_in low high hot) ∙ *ℤ_comm (side_flow low high hot) (side_flow low high cold) ∙ sym (sum-scaled (side_flow low high hot) (flows_in low high cold))

@@ -1,13 +1,12 @@
 -- The shifted curves at temperatures with one denominator d: whole numbers of parts, d to a tenth of a degree.
-use Rattle.std.proofs.Common.{◌≡◌, ◌∙◌, ◌⊎◌, inl, inr, ⊎_elim, ◌<◌, ◌*◌, ◌∷◌, ◌+ℤ◌, ◌-ℤ◌, ◌*ℤ◌, ℕ, ℤ, pos, ◌≤ℤ◌, ◌<ℤ◌, Bool, true, false, if◌then◌else◌, List, [], All, get_or, true≢false, refl, sym, ap, ap₂, subst, arith}
+use Rattle.std.proofs.Common.{◌≡◌, ◌∙◌, ◌<◌, ◌*◌, ◌∷◌, ◌+ℤ◌, ◌-ℤ◌, ◌*ℤ◌, ℕ, ℤ, pos, ◌≤ℤ◌, ◌<ℤ◌, Bool, true, false, if◌then◌else◌, List, [], All, get_or, true≢false, refl, sym, ap, ap₂, subst, arith}
 use Rattle.std.specs.Prelude.{Contains}
 use Rattle.std.specs.Int.{int_max}
-use Rattle.std.proofs.Math.IntN.{*ℤ-zero}
 use Rattle.std.proofs.lemmas.Int.{by_lt_z, clamps, ints}
-use Rattle.std.proofs.lemmas.List.Elements.{All-contains, All-head, All-tail, All-weaker}
+use Rattle.std.proofs.lemmas.List.Elements.{All-contains, All-weaker}
 use Rattle.sums.proofs.IntegerLemmas.{strictly}
 use Rattle.sums.proofs.ProductLemmas.{*ℤ--ℤ, *ℤ-≤ℤ_left, *ℤ-≤ℤ_right, *ℤ_assoc, +ℤ-*ℤ, -ℤ-*ℤ, product_positive, zero_times}
-use Rattle.sums.proofs.SumLemmas.{int_sum_by-equal, int_sum_by-sub}
+use Rattle.sums.proofs.SumLemmas.{int_sum_by-equal}
 use Rattle.stream_case.specs.Source.{same_side}
 use Rattle.stream_case.specs.Stream.{IsValidStream, distance_above, high_end, low_end}
 use Rattle.stream_case.specs.declared.source.Side.{Side}
@@ -15,7 +14,7 @@ use Rattle.stream_case.specs.declared.source.Side.TheVariants as side
 use Rattle.stream_case.specs.declared.stream.Stream.{Stream}
 use Rattle.stream_case.proofs.EndLemmas.{AreEnds-IsValidStream}
 use Rattle.fractions.specs.Integers.{pos_above}
-use Rattle.fractions.specs.Rationals.{IsAtMost, Rational, minus, plus, ratio, rational_sum_by, rational_zero, times, whole}
+use Rattle.fractions.specs.Rationals.{IsAtMost, minus, plus, ratio, rational_zero, times, whole}
 use Rattle.fractions.proofs.Comparisons.{at_most-ratio, not_negative-ratio}
 use Rattle.fractions.proofs.RationalSums.{rational_sum_by-ratio, rational_sum_by-same}
 use Rattle.fractions.proofs.Ratios.{minus-ratio_same_den, plus-ratio_same_den, ratio-one, ratio-zero, times-ratio}

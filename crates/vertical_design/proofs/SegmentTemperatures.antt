@@ -1,9 +1,9 @@
 -- The temperature of a side at a heat between two neighbouring cuts: what runs there has it, and its curve has that heat at it.
-use Rattle.std.proofs.Common.{◌≡◌, ◌∙◌, ◌⊎◌, inl, inr, ⊎_elim, ◌<◌, ◌+ℤ◌, ◌-ℤ◌, ◌*ℤ◌, ℕ, ℤ, pos, ◌≤ℤ◌, ◌<ℤ◌, Bool, true, false, if◌then◌else◌, List, All, get_or, length, refl, sym, ap, ap₂, subst, arith}
+use Rattle.std.proofs.Common.{◌≡◌, ◌∙◌, inl, inr, ⊎_elim, ◌<◌, ◌+ℤ◌, ◌-ℤ◌, ◌*ℤ◌, ℕ, ℤ, pos, ◌≤ℤ◌, ◌<ℤ◌, Bool, true, false, if◌then◌else◌, List, All, get_or, refl, sym, ap, ap₂, arith}
 use Rattle.std.specs.Prelude.{◌&&◌, int_le}
 use Rattle.std.proofs.Math.IntN.{*ℤ_comm}
 use Rattle.std.proofs.lemmas.Int.{by_lt_z, ints}
-use Rattle.std.proofs.lemmas.List.Elements.{All-contains, All-weaker}
+use Rattle.std.proofs.lemmas.List.Elements.{All-contains}
 use Rattle.sums.proofs.IntegerLemmas.{int_le-false, int_le-from}
 use Rattle.sums.proofs.ProductLemmas.{*ℤ-<ℤ_right, *ℤ-≤ℤ_right, *ℤ_cancel_right, -ℤ-*ℤ, zero_times}
 use Rattle.sums.proofs.SumLemmas.{int_sum_by-same}

@@ -1,5 +1,5 @@
 -- The spans of a side against its streams: between neighbouring cuts no stream begins or ends, and the flow of the side is that of the streams that run.
-use Rattle.std.proofs.Common.{◌≡◌, ◌∙◌, ◌⊎◌, inl, inr, ⊎_elim, ◌<◌, ◌+◌, ◌-◌, ◌≤◌, ◌∷◌, ◌++◌, ◌+ℤ◌, ◌*ℤ◌, ℕ, ℤ, pos, ◌≤ℤ◌, ◌<ℤ◌, Bool, true, false, if◌then◌else◌, List, [], All, Some, None, get_or, length, true≢false, refl, sym, ap, ap₂, subst, arith}
+use Rattle.std.proofs.Common.{◌≡◌, ◌∙◌, inl, inr, ⊎_elim, ◌<◌, ◌+◌, ◌-◌, ◌≤◌, ◌∷◌, ◌++◌, ◌+ℤ◌, ℕ, ℤ, pos, ◌≤ℤ◌, ◌<ℤ◌, Bool, true, false, if◌then◌else◌, List, [], All, Some, None, get_or, length, true≢false, refl, sym, ap, ap₂, arith}
 use Rattle.std.specs.Prelude.{◌&&◌, AllPairs, Contains, int_le}
 use Rattle.std.specs.List.{cons_option, enumerate_from, filter_map}
 use Rattle.std.proofs.lemmas.Bool.{cases_lt}

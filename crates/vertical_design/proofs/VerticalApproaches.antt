@@ -1,9 +1,8 @@
 -- A vertical network keeps its approaches, where each stream passes its exchangers within its range.
-use Rattle.std.proofs.Common.{◌≡◌, ◌∙◌, ◌⊎◌, inl, inr, ⊎_elim, ◌<◌, ◌∷◌, ◌+ℤ◌, ◌-ℤ◌, ℕ, zero, suc, ℤ, pos, ◌≤ℤ◌, List, [], All, Option, Some, None, slice_get, length, refl, sym, ap, ap₂, subst, arith}
-use Rattle.std.specs.Prelude.{Contains, option_map}
+use Rattle.std.proofs.Common.{◌≡◌, ◌∙◌, ⊎_elim, ◌∷◌, ◌+ℤ◌, ℕ, zero, suc, ℤ, pos, ◌≤ℤ◌, [], All, Option, Some, None, slice_get, refl, sym, ap, ap₂, subst, arith}
+use Rattle.std.specs.Prelude.{option_map}
 use Rattle.std.specs.Option.{option_map_or}
 use mathlib.Core.Path.{subst₂}
-use Rattle.std.proofs.lemmas.Int.{ints}
 use Rattle.std.proofs.lemmas.List.Elements.{All-contains}
 use Rattle.std.proofs.lemmas.Option.{none-some, same_Some}
 use Rattle.sums.proofs.ListLemmas.{Contains-slice_get}

@@ -46,3 +46,5 @@ mod sums_tests;
 mod tables;
 #[cfg(test)]
 mod transport_tests;
+#[cfg(test)]
+mod vertical_design_tests;

@@ -1,0 +1,62 @@
+//! The vertical designs of small tables, worked by hand.
+
+use crate::compare::assert_lists;
+use crate::tables::{Table, completed_case};
+use network_printer::print_network;
+use std::alloc::Global;
+use std::test::Fail;
+use stream_case::Case;
+use stream_case::Side::{Cold, Hot};
+use vertical_design::vertical;
+
+/// One hot stream and two cold ones, which need no hot utility.
+const ONE_AND_TWO: Table = Table {
+    contribution: 50,
+    streams: &[
+        ("H", Hot, 1000, 500, 10),
+        ("C", Cold, 300, 500, 5),
+        ("D", Cold, 300, 500, 10),
+    ],
+    utilities: &[],
+    forbids: &[],
+};
+
+const ONE_AND_TWO_TEXT: &[u8] = b"exchanger E1 H C 1000
+exchanger E2 H D 2000
+exchanger E3 H COLD 2000
+split H .1 10/3 .2
+pass .1 E1 .3
+pass .2 E2 .4
+mix .3 .4 .5
+pass .5 E3 .6
+end .6
+pass C E1 .7
+end .7
+pass D E2 .8
+end .8
+";
+
+/// One cold stream alone.
+const ONE_COLD: Table = Table {
+    contribution: 50,
+    streams: &[("C", Cold, 300, 700, 10)],
+    utilities: &[],
+    forbids: &[],
+};
+
+const ONE_COLD_TEXT: &[u8] = b"exchanger E1 HOT C 4000
+pass C E1 .1
+end .1
+";
+
+#[test]
+fn tables_have_these_vertical_designs(rt: HostRuntime) -> Result<(), Fail> {
+    let wanted = [(ONE_AND_TWO, ONE_AND_TWO_TEXT), (ONE_COLD, ONE_COLD_TEXT)];
+    for (table, text) in &wanted {
+        let case = completed_case(rt.alloc(), table)?;
+        let network = vertical(rt.alloc(), &case)?;
+        let printed = print_network(rt.alloc(), &case, &network)?;
+        assert_lists(&rt, "a vertical design", &printed, text);
+    }
+    Ok(())
+}
