@@ -1,5 +1,5 @@
 -- Every command blames words, length and shelf only with cause.
-use Rattle.std.proofs.Common.{◌≡◌, ◌∙◌, ◌≤◌, ℕ, List, Bool, true, false, Option, Some, None, IsSomeAnd, refl, sym, ap, subst, arith}
+use Rattle.std.proofs.Common.{◌≡◌, ◌∙◌, ◌≤◌, ℕ, List, true, false, Option, Some, None, IsSomeAnd, refl, sym, ap, subst, arith}
 use Rattle.pinch_outside.specs.Shelf.{ShelfState, KeepsFiles, IsWhole, IsTooLong, HasFailed}
 use Rattle.pinch_outside.specs.declared.limits.TheConstants.{MAX_FILE}
 use Rattle.stream_case.specs.declared.case.Case.{Case}

@@ -1,5 +1,5 @@
 -- Files that answer a command are answered, and a file that is refused is told so, unless a call of the shelf is refused.
-use Rattle.std.proofs.Common.{◌≡◌, ◌⊎◌, inl, inr, ◌≤◌, ℕ, List, sym, Option, Some, None, length, Ok, ap, subst, arith}
+use Rattle.std.proofs.Common.{◌≡◌, ◌⊎◌, inl, inr, ℕ, List, sym, Option, Some, None, length, Ok, ap, subst, arith}
 use Rattle.std.specs.Prelude.{⊤}
 use Rattle.pinch_outside.specs.Faults.{Rose}
 use Rattle.pinch_outside.specs.Shelf.{ShelfState, NamedFile, IsFile, IsFileAbove, KeepsFiles}

@@ -15,7 +15,7 @@ use Rattle.pinch.specs.declared.command.Command.TheVariants.{Targets, Flow, Desi
 use Rattle.pinch.specs.Answers.{FromFile, ShowsCommand}
 use Rattle.pinch.specs.Case.{case_file, AreTargetsOf, AreCurvesOf}
 use Rattle.pinch.specs.Design.{IsDesignAnswer, ShowsDesign}
-use Rattle.pinch.specs.Files.{NoFile, failed, too_long, NoText, no_file, refused, FromText, no_text, by_text}
+use Rattle.pinch.specs.Files.{NoFile, failed, too_long, no_file, refused, FromText, no_text, by_text}
 use Rattle.pinch.specs.Flow.{IsFlowAnswer, IsCutAnswer, ShowsFlow}
 use Rattle.pinch.specs.Format.{Format}
 use Rattle.pinch.specs.Network.{network_file, ShowsVerdict}

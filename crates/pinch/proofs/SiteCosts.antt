@@ -1,6 +1,6 @@
 -- A heat flow of a site costs what its boiler gives.
-use Rattle.std.proofs.Common.{◌≡◌, inl, inr, ◌∙◌, refl, sym, ap, ap₂, subst, ℕ, zero, suc, ◌<◌, Bool, true, false, List, length, get_or, arith}
-use Rattle.std.specs.Prelude.{if◌then◌else◌, ℤ, pos, ◌+ℤ◌, ◌*ℤ◌, ◌≤ℤ◌, Some, slice_get}
+use Rattle.std.proofs.Common.{◌≡◌, inl, inr, ◌∙◌, sym, ap, ap₂, zero, suc, ◌<◌, Bool, true, false, List, length, get_or, arith}
+use Rattle.std.specs.Prelude.{if◌then◌else◌, ℤ, pos, ◌+ℤ◌, ◌*ℤ◌}
 use Rattle.std.proofs.lemmas.Int.{ints}
 use Rattle.std.proofs.lemmas.Option.{none-some, same_Some, slice_get-get_or}
 use Rattle.std.specs.Option.{option_map_or}
@@ -14,7 +14,7 @@ use Rattle.grid.specs.declared.part.Part.{Part}
 use Rattle.grid.specs.declared.parts.Parts.{Parts}
 use Rattle.grid.specs.Part.{IsPartOf}
 use Rattle.heat_flow.specs.declared.flow.Transfer.{Transfer}
-use Rattle.heat_flow.specs.Flow.{part_index, HaveParts, IsHeatFlow, IsLeastCost, cost_of}
+use Rattle.heat_flow.specs.Flow.{HaveParts, IsHeatFlow, IsLeastCost, cost_of}
 use Rattle.heat_flow.proofs.Blanks.{blank}
 use Rattle.heat_flow.proofs.CostLemmas.{part_price, side_cost-transfers}
 use Rattle.transport.specs.Answer.{IfLeast, IsCertified}

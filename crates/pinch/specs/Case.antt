@@ -1,5 +1,5 @@
 -- What a case file says, and what is shown of a case.
-use Rattle.std.specs.Prelude.{◌≡◌, ℕ, List, ℤ}
+use Rattle.std.specs.Prelude.{◌≡◌, List, ℤ}
 use Rattle.csv_rows.specs.Rows.{rows_of}
 use Rattle.first_fault.specs.Outcome.{IsOutcome}
 use Rattle.stream_case.specs.declared.case.Case.{Case}

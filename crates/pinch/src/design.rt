@@ -28,7 +28,10 @@ pub fn show_design(alloc: Global, case: &Case) -> Result<Shown, AllocError>
 {
     match show_flow(alloc, case)? {
         Shown::Flow {
-            case, parts, flow, ..
+            case,
+            parts,
+            flow,
+            ..
         } => design_flow(alloc, case, &parts, &flow),
         cut => Ok(cut),
     }

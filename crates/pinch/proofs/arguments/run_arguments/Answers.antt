@@ -1,6 +1,4 @@
-use Rattle.std.proofs.Common.{ap, subst}
-use Rattle.pinch.specs.Arguments.{Ends}
-use Rattle.pinch.specs.Command.{command_of}
+use Rattle.std.proofs.Common.{ap}
 use Rattle.pinch.proofs.Ends.{ends}
 use Rattle.pinch.proofs.arguments.run_arguments.Goals as goal
 

@@ -1,4 +1,4 @@
-use Rattle.std.proofs.Common.{◌≡◌, ◌∙◌, refl, ap}
+use Rattle.std.proofs.Common.{◌∙◌, refl, ap}
 use Rattle.network_audit.specs.declared.verdict.Balance.{Balance}
 use Rattle.network_printer.proofs.back.Law.{shape-is_network}
 use Rattle.pinch.proofs.design.design_flow.Goals as goal

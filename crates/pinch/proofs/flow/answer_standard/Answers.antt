@@ -1,10 +1,9 @@
-use Rattle.std.proofs.Common.{◌≡◌, ◌∙◌, length, map, ap, ap₂, subst, arith, rules, FitsSigned, w32}
+use Rattle.std.proofs.Common.{◌∙◌, length, map, ap, ap₂, subst, arith, rules, FitsSigned, w32}
 use Rattle.std.proofs.lemmas.Int.{ints, to_z-of_z}
 use Rattle.std.proofs.lemmas.List.{length-map}
 use Rattle.stream_case.specs.declared.source.Side.TheVariants.{Hot, Cold}
 use Rattle.heat_flow.specs.Reach.{reach_between}
 use Rattle.heat_flow.proofs.Duality.{weak_duality}
-use Rattle.problem_table.specs.Deficit.{hot_target}
 use Rattle.corner_flow.specs.Corner.{UtilityHeat, NeedsHeat, corner_price}
 use Rattle.reports.specs.declared.shown.Shown.TheVariants as show
 use Rattle.pinch.proofs.flow.answer_standard.Goals as goal
