@@ -1,3 +1,5 @@
+ghost use Rattle.reports.specs.Text.{IsPrintable};
+
 use crate::compare::assert_same;
 use case_text::CaseWhy;
 use network_text::NetWhy;
@@ -9,7 +11,10 @@ use std::test::Fail;
 use stream_case::Items;
 
 /// What is shown of the targets and these pinches.
-fn targets_with(pinches: Vec<i32>) -> Shown {
+#[tactic(auto, unfolding(reports::specs::Text::IsPrintable))]
+fn targets_with(pinches: Vec<i32>) -> Shown
+    ensures { IsPrintable result }
+{
     Shown::Targets {
         targets: Target {
             hot: 20_000,
@@ -19,12 +24,15 @@ fn targets_with(pinches: Vec<i32>) -> Shown {
     }
 }
 
-fn assert_printed(rt: &(impl Abort + AllocGlobal), shown: Shown, wanted: &str) {
+fn assert_printed(rt: &(impl Abort + AllocGlobal), shown: Shown, wanted: &str)
+    requires { IsPrintable shown }
+{
     let text = text_of(rt.alloc(), &shown).expect(rt, "memory for a text");
     assert_same(rt, "a text", &str::from_utf8(&text), &Ok(wanted));
 }
 
 #[test]
+#[tactic(auto, unfolding(reports::specs::Text::IsPrintable))]
 fn each_answer_has_its_text(rt: HostRuntime) -> Result<(), Fail> {
     let pinches = [850, -50].to_vec(rt.alloc())?;
     let text = "hot 20000\ncold 60000\npinch 850\npinch -50\n";

@@ -1,4 +1,5 @@
-use super::support::{FOUR_STREAM, FOUR_STREAM_TARGETS, Fails, outcome_of, outcome_under};
+use super::support::{FOUR_STREAM, FOUR_STREAM_TARGETS, Fails, Outcome, outcome_of, outcome_under};
+use std::alloc::AllocError;
 use std::process::Abort;
 use std::test::Fail;
 use std::thread::Threads;
@@ -49,6 +50,22 @@ fn a_file_above_the_limit_is_too_long(rt: HostRuntime) -> Result<(), Fail> {
     Ok(())
 }
 
+/// How an audit of these files ends, where calls of the shelf with these numbers fail.
+fn outcome_of_two<R: Threads + Sync + AllocGlobal>(
+    rt: &R,
+    case: &str,
+    network: &[u8],
+    shelf: &[u64],
+) -> Result<Outcome, AllocError> {
+    let words = ["audit", "plant.csv", "network.txt"];
+    let files = [("plant.csv", case.as_bytes()), ("network.txt", network)];
+    let fails = Fails {
+        shelf,
+        sink: &shelf[..0],
+    };
+    outcome_under(rt, &words, &files, fails)
+}
+
 /// A command of two files, of which the second has so many bytes of `#`, ends so, over calls of the
 /// shelf with these numbers that fail; each file is started, taken, and taken to its end.
 fn check_two_files<R: Abort + Threads + Sync + AllocGlobal>(
@@ -57,12 +74,7 @@ fn check_two_files<R: Abort + Threads + Sync + AllocGlobal>(
     (calls, status, text): (u64, u8, &str),
 ) -> Result<(), Fail> {
     let network = vec![in rt.alloc(); b'#'; count]?;
-    let words = ["audit", "plant.csv", "network.txt"];
-    let files = [
-        ("plant.csv", case.as_bytes()),
-        ("network.txt", network.as_slice()),
-    ];
-    let outcome = outcome_under(rt, &words, &files, Fails { shelf, sink: &[] })?;
+    let outcome = outcome_of_two(rt, case, &network, shelf)?;
     assert_eq!(rt; outcome.status, status, "{count}, {shelf:?}");
     assert_eq!(rt;
         outcome.written.as_slice(),
