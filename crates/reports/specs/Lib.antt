@@ -7,5 +7,6 @@ pub mod Lines
 pub mod Names
 pub mod Refusals
 pub mod Site
+pub mod Sweep
 pub mod Targets
 pub mod Text

@@ -1,5 +1,5 @@
 -- The text of what is shown.
-use Rattle.std.specs.Prelude.{ℕ, List, ⊤, codes}
+use Rattle.std.specs.Prelude.{ℕ, Bool, true, false, List, ⊤, codes}
 use Rattle.stream_case.specs.Case.{IsComplete}
 use Rattle.network_text.specs.Shape.{HasShape}
 use Rattle.reports.specs.Audit.{accepted_text, rejected_text, too_fine_text}
@@ -10,14 +10,33 @@ use Rattle.reports.specs.Flow.{flow_text}
 use Rattle.reports.specs.Names.{case_names}
 use Rattle.reports.specs.Refusals.{bad_case_text, bad_network_text, bad_site_text, file_text}
 use Rattle.reports.specs.Site.{total_site_text}
+use Rattle.reports.specs.Sweep.{sweep_text}
 use Rattle.reports.specs.Targets.{targets_text}
 use Rattle.reports.specs.declared.shown.Shown.{Shown}
-use Rattle.reports.specs.declared.shown.Shown.TheVariants.{Targets, Flow, Stuck, Curves, Design, Accepted, Rejected, TooFine, SiteShown, BadWords, BadCase, BadSite, BadNetwork, ReadFault, TooLong}
+use Rattle.reports.specs.declared.shown.Shown.TheVariants.{Targets, Flow, Stuck, Curves, Design, Accepted, Rejected, TooFine, SiteShown, Sweep, BadWords, BadCase, BadSite, BadNetwork, ReadFault, TooLong}
 
 -- a design has the shape of a network of its completed case
 unfoldable pub IsPrintable : Shown → Type 0
 IsPrintable (Design case network balance) = IsComplete case × HasShape case network
 IsPrintable other = ⊤
+
+-- a network is shown
+abbrev pub is_of_network : Shown → Bool
+is_of_network (Design case network balance) = true
+is_of_network (Accepted case network balance place penalties) = true
+is_of_network (Rejected case network place reason) = true
+is_of_network (TooFine case network place step) = true
+is_of_network other = false
+
+-- words, a file or a row are blamed
+abbrev pub is_refusal : Shown → Bool
+is_refusal BadWords = true
+is_refusal (BadCase row why) = true
+is_refusal (BadSite row why) = true
+is_refusal (BadNetwork line why) = true
+is_refusal (TooLong file) = true
+is_refusal (ReadFault file) = true
+is_refusal other = false
 
 -- what the program prints of what is shown
 unfoldable pub text : Shown → List ℕ
@@ -30,6 +49,7 @@ text (Accepted case network balance place penalties) = accepted_text case networ
 text (Rejected case network place reason) = rejected_text case network place reason
 text (TooFine case network place step) = too_fine_text case network place step
 text (SiteShown site parts sinks sources answer) = total_site_text site parts sinks sources answer
+text (Sweep rows) = sweep_text rows
 text BadWords = codes "words: targets flow curves design vertical audit site sweep sample certify prices\n"
 text (BadCase row why) = bad_case_text row why
 text (BadSite row why) = bad_site_text row why

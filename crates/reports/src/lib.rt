@@ -11,6 +11,7 @@ mod points;
 mod refusal;
 mod shown;
 mod source;
+mod sweep;
 mod targets;
 mod text;
 mod total_site;

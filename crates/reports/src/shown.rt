@@ -11,6 +11,7 @@ use problem_table::Target;
 use site::{Site, SiteTable};
 use site_text::SiteWhy;
 use stream_case::{Case, Items};
+use study::SweepRow;
 use transport::Answer;
 
 /// What a file is to a command.
@@ -93,6 +94,10 @@ pub enum Shown {
         sinks: Items<i64>,
         sources: Items<i64>,
         answer: Answer,
+    },
+    /// The rows of a sweep, in rising contribution.
+    Sweep {
+        rows: Items<SweepRow>,
     },
     /// The words are no command.
     BadWords,

@@ -1,6 +1,6 @@
 //! The texts of what is shown: lines that end with `\n`, with single spaces between fields.
-ghost use Rattle.std.specs.Prelude.{◌≡◌, IfOk};
-ghost use Rattle.reports.specs.Text.{IsPrintable, text};
+ghost use Rattle.std.specs.Prelude.{◌≡◌, string_bytes, IfOk, IsTrue};
+ghost use Rattle.reports.specs.Text.{is_of_network, is_refusal, text, IsPrintable};
 
 use crate::audit::{accepted_text, rejected_text, too_fine_text};
 use crate::cut::stuck_text;
@@ -10,6 +10,7 @@ use crate::names::case_names;
 use crate::points::curves_text;
 use crate::refusal::{WORDS, bad_case_text, bad_network_text, bad_site_text, file_text};
 use crate::shown::Shown;
+use crate::sweep::sweep_text;
 use crate::targets::targets_text;
 use crate::total_site::total_site_text;
 use std::alloc::{AllocError, Global};
@@ -21,58 +22,94 @@ pub fn text_of(alloc: Global, shown: &Shown) -> Result<Vec<u8>, AllocError>
     requires { IsPrintable shown.now }
     ensures { IfOk result (λ printed. printed.items ≡ text shown.now) }
 {
-    let text = match shown {
-        Shown::Targets { targets, pinches } => targets_text(alloc, targets, pinches.as_slice())?,
+    match shown {
+        Shown::Targets { targets, pinches } => {
+            Ok(targets_text(alloc, targets, pinches.as_slice())?.into_bytes())
+        }
         Shown::Flow {
             case,
             parts,
             flow,
             prices,
             cost,
-        } => flow_text(alloc, case, parts, flow.transfers.as_slice(), prices, *cost)?,
+        } => {
+            let transfers = flow.transfers.as_slice();
+            Ok(flow_text(alloc, case, parts, transfers, prices, *cost)?.into_bytes())
+        }
         Shown::Stuck { case, parts, cut } => {
-            stuck_text(alloc, &case_names(alloc, case)?, parts, cut)?
+            Ok(stuck_text(alloc, &case_names(alloc, case)?, parts, cut)?.into_bytes())
         }
         Shown::Curves { hot, cold, net } => {
-            curves_text(alloc, hot.as_slice(), cold.as_slice(), net.as_slice())?
+            Ok(curves_text(alloc, hot.as_slice(), cold.as_slice(), net.as_slice())?.into_bytes())
         }
-        Shown::Design {
-            case,
-            network,
-            balance,
-        } => return design_text(alloc, case, network, balance),
-        Shown::Accepted {
-            case,
-            network,
-            balance,
-            place,
-            penalties,
-        } => accepted_text(alloc, case, network, balance, *place, penalties)?,
-        Shown::Rejected {
-            case,
-            network,
-            place,
-            reason,
-        } => rejected_text(alloc, case, network, *place, *reason)?,
-        Shown::TooFine {
-            case,
-            network,
-            place,
-            step,
-        } => too_fine_text(alloc, case, network, *place, *step)?,
         Shown::SiteShown {
             site,
             parts,
             sinks,
             sources,
             answer,
-        } => total_site_text(alloc, site, parts, sinks, sources, answer)?,
-        Shown::BadWords => String::from_str(alloc, WORDS)?,
-        Shown::BadCase { row, why } => bad_case_text(alloc, *row, *why)?,
-        Shown::BadSite { row, why } => bad_site_text(alloc, *row, *why)?,
-        Shown::BadNetwork { line, why } => bad_network_text(alloc, *line, *why)?,
-        Shown::TooLong { file } => file_text(alloc, "too long", *file)?,
-        Shown::ReadFault { file } => file_text(alloc, "read fault", *file)?,
-    };
-    Ok(text.into_bytes())
+        } => Ok(total_site_text(alloc, site, parts, sinks, sources, answer)?.into_bytes()),
+        Shown::Sweep { rows } => Ok(sweep_text(alloc, rows.as_slice())?.into_bytes()),
+        Shown::Design { .. }
+        | Shown::Accepted { .. }
+        | Shown::Rejected { .. }
+        | Shown::TooFine { .. } => network_text(alloc, shown),
+        _ => Ok(refusal_text(alloc, shown)?.into_bytes()),
+    }
+}
+
+/// The text of a network that is shown.
+#[tactic(auto, unfolding(crate::specs::Text::IsPrintable, crate::specs::Text::text))]
+fn network_text(alloc: Global, shown: &Shown) -> Result<Vec<u8>, AllocError>
+    requires printable { IsPrintable shown.now }
+    requires network { IsTrue (is_of_network shown.now) }
+    ensures { IfOk result (λ printed. printed.items ≡ text shown.now) }
+{
+    match shown {
+        Shown::Design {
+            case,
+            network,
+            balance,
+        } => design_text(alloc, case, network, balance),
+        Shown::Accepted {
+            case,
+            network,
+            balance,
+            place,
+            penalties,
+        } => {
+            let text = accepted_text(alloc, case, network, balance, *place, penalties)?;
+            Ok(text.into_bytes())
+        }
+        Shown::Rejected {
+            case,
+            network,
+            place,
+            reason,
+        } => Ok(rejected_text(alloc, case, network, *place, *reason)?.into_bytes()),
+        Shown::TooFine {
+            case,
+            network,
+            place,
+            step,
+        } => Ok(too_fine_text(alloc, case, network, *place, *step)?.into_bytes()),
+        _ => unreachable!(),
+    }
+}
+
+/// The text of what blames words, a file or a row.
+#[tactic(auto, unfolding(crate::specs::Text::text))]
+fn refusal_text(alloc: Global, shown: &Shown) -> Result<String, AllocError>
+    requires { IsTrue (is_refusal shown.now) }
+    ensures { IfOk result (λ printed. string_bytes printed ≡ text shown.now) }
+{
+    match shown {
+        Shown::BadWords => String::from_str(alloc, WORDS),
+        Shown::BadCase { row, why } => bad_case_text(alloc, *row, *why),
+        Shown::BadSite { row, why } => bad_site_text(alloc, *row, *why),
+        Shown::BadNetwork { line, why } => bad_network_text(alloc, *line, *why),
+        Shown::TooLong { file } => file_text(alloc, "too long", *file),
+        Shown::ReadFault { file } => file_text(alloc, "read fault", *file),
+        _ => unreachable!(),
+    }
 }

@@ -1,0 +1,86 @@
+-- The kinds of what is shown: what the one function prints, the other one does not.
+use Rattle.std.proofs.Common.{◌≡◌, ℕ, ℤ, List, refl}
+use Rattle.std.specs.Prelude.{IsTrue}
+use Rattle.stream_case.specs.declared.case.Case.{Case}
+use Rattle.problem_table.specs.declared.target.Target.{Target}
+use Rattle.case_text.specs.declared.fault.CaseWhy.{CaseWhy}
+use Rattle.curves.specs.declared.point.Point.{Point}
+use Rattle.grid.specs.declared.parts.Parts.{Parts}
+use Rattle.heat_flow.specs.declared.cut.Cut.{Cut}
+use Rattle.heat_flow.specs.declared.flow.Flow.{Flow as HeatFlow}
+use Rattle.heat_flow.specs.declared.prices.Prices.{Prices}
+use Rattle.transport.specs.declared.answer.Answer.{Answer}
+use Rattle.site.specs.declared.plants.Site.{Site}
+use Rattle.site.specs.declared.table.SiteTable.{SiteTable}
+use Rattle.site_text.specs.declared.fault.SiteWhy.{SiteWhy}
+use Rattle.study.specs.declared.row.SweepRow.{SweepRow}
+use Rattle.network_text.specs.declared.fault.NetWhy.{NetWhy}
+use Rattle.network_text.specs.declared.network.Network.{Network}
+use Rattle.network_audit.specs.declared.findings.Place.{Place}
+use Rattle.network_audit.specs.declared.findings.Reason.{Reason}
+use Rattle.network_audit.specs.declared.verdict.Balance.{Balance}
+use Rattle.penalties.specs.declared.list.PenaltyList.{PenaltyList}
+use Rattle.reports.specs.Text.{is_of_network, is_refusal}
+use Rattle.reports.specs.declared.shown.FileRole.{FileRole}
+use Rattle.reports.specs.declared.shown.Shown.{Shown}
+use Rattle.reports.specs.declared.shown.Shown.TheVariants.{Targets, Flow, Stuck, Curves, Design, Accepted, Rejected, TooFine, SiteShown, Sweep, BadWords, BadCase, BadSite, BadNetwork, TooLong, ReadFault}
+
+-- what is no answer and no network is a refusal
+pub is_refusal-other : (shown : Shown)
+    → ((targets : Target) (pinches : List ℤ) → shown ≡ Targets targets pinches → ⊥)
+    → ((c : Case) (parts : Parts) (flow : HeatFlow) (prices : Prices) (cost : ℤ) → shown ≡ Flow c parts flow prices cost → ⊥)
+    → ((c : Case) (parts : Parts) (cut : Cut) → shown ≡ Stuck c parts cut → ⊥)
+    → ((hot cold net : List Point) → shown ≡ Curves hot cold net → ⊥)
+    → ((site : Site) (parts : SiteTable) (sinks sources : List ℤ) (answer : Answer) → shown ≡ SiteShown site parts sinks sources answer → ⊥)
+    → ((rows : List SweepRow) → shown ≡ Sweep rows → ⊥)
+    → ((c : Case) (network : Network) (balance : Balance) → shown ≡ Design c network balance → ⊥)
+    → ((c : Case) (network : Network) (balance : Balance) (place : ℤ) (penalties : PenaltyList) → shown ≡ Accepted c network balance place penalties → ⊥)
+    → ((c : Case) (network : Network) (place : Place) (reason : Reason) → shown ≡ Rejected c network place reason → ⊥)
+    → ((c : Case) (network : Network) (place : Place) (step : ℕ) → shown ≡ TooFine c network place step → ⊥)
+    → IsTrue (is_refusal shown)
+is_refusal-other (Targets targets pinches) t f s c e w d a r o = absurd (t targets pinches refl)
+is_refusal-other (Flow k parts flow prices cost) t f s c e w d a r o = absurd (f k parts flow prices cost refl)
+is_refusal-other (Stuck k parts cut) t f s c e w d a r o = absurd (s k parts cut refl)
+is_refusal-other (Curves hot cold net) t f s c e w d a r o = absurd (c hot cold net refl)
+is_refusal-other (SiteShown site parts sinks sources answer) t f s c e w d a r o = absurd (e site parts sinks sources answer refl)
+is_refusal-other (Sweep rows) t f s c e w d a r o = absurd (w rows refl)
+is_refusal-other (Design k network balance) t f s c e w d a r o = absurd (d k network balance refl)
+is_refusal-other (Accepted k network balance place penalties) t f s c e w d a r o = absurd (a k network balance place penalties refl)
+is_refusal-other (Rejected k network place reason) t f s c e w d a r o = absurd (r k network place reason refl)
+is_refusal-other (TooFine k network place step) t f s c e w d a r o = absurd (o k network place step refl)
+is_refusal-other BadWords t f s c e w d a r o = refl
+is_refusal-other (BadCase row why) t f s c e w d a r o = refl
+is_refusal-other (BadSite row why) t f s c e w d a r o = refl
+is_refusal-other (BadNetwork line why) t f s c e w d a r o = refl
+is_refusal-other (TooLong file) t f s c e w d a r o = refl
+is_refusal-other (ReadFault file) t f s c e w d a r o = refl
+
+-- a network is shown in one of four ways
+pub no_network : (shown : Shown) → IsTrue (is_of_network shown)
+    → ((c : Case) (network : Network) (balance : Balance) → shown ≡ Design c network balance → ⊥)
+    → ((c : Case) (network : Network) (balance : Balance) (place : ℤ) (penalties : PenaltyList) → shown ≡ Accepted c network balance place penalties → ⊥)
+    → ((c : Case) (network : Network) (place : Place) (reason : Reason) → shown ≡ Rejected c network place reason → ⊥)
+    → ((c : Case) (network : Network) (place : Place) (step : ℕ) → shown ≡ TooFine c network place step → ⊥)
+    → ⊥
+no_network (Design k network balance) is d a r o = d k network balance refl
+no_network (Accepted k network balance place penalties) is d a r o = a k network balance place penalties refl
+no_network (Rejected k network place reason) is d a r o = r k network place reason refl
+no_network (TooFine k network place step) is d a r o = o k network place step refl
+no_network other is d a r o = cc
+
+-- a refusal in one of six
+pub no_refusal : (shown : Shown) → IsTrue (is_refusal shown)
+    → (shown ≡ BadWords → ⊥)
+    → ((row : ℕ) (why : CaseWhy) → shown ≡ BadCase row why → ⊥)
+    → ((row : ℕ) (why : SiteWhy) → shown ≡ BadSite row why → ⊥)
+    → ((line : ℕ) (why : NetWhy) → shown ≡ BadNetwork line why → ⊥)
+    → ((file : FileRole) → shown ≡ TooLong file → ⊥)
+    → ((file : FileRole) → shown ≡ ReadFault file → ⊥)
+    → ⊥
+no_refusal BadWords is w c s n l f = w refl
+no_refusal (BadCase row why) is w c s n l f = c row why refl
+no_refusal (BadSite row why) is w c s n l f = s row why refl
+no_refusal (BadNetwork line why) is w c s n l f = n line why refl
+no_refusal (TooLong file) is w c s n l f = l file refl
+no_refusal (ReadFault file) is w c s n l f = f file refl
+no_refusal other is w c s n l f = cc

@@ -1,0 +1,35 @@
+//! The text of a sweep.
+ghost use Rattle.std.specs.Prelude.{◌≡◌, IfOk, string_bytes};
+ghost use Rattle.reports.specs.Sweep.{cost_line, row_line, sweep_text};
+
+use crate::line::line;
+use std::alloc::{AllocError, Global};
+use study::SweepRow;
+
+/// A line for each row of a sweep.
+pub fn sweep_text(alloc: Global, rows: &[SweepRow]) -> Result<String, AllocError>
+    ensures { IfOk result (λ text. string_bytes text ≡ sweep_text rows.now) }
+{
+    let mut text = String::new(alloc);
+    for row in rows {
+        text.push_str(&row_line(alloc, row)?)?;
+    }
+    Ok(text)
+}
+
+/// The contribution, the targets and the least cost.
+fn row_line(alloc: Global, row: &SweepRow) -> Result<String, AllocError>
+    ensures { IfOk result (λ text. string_bytes text ≡ row_line row.now) }
+{
+    let word = format!(in alloc; "row {} {} {}", row.contribution, row.hot, row.cold)?;
+    cost_line(alloc, &word, row.cost)
+}
+
+fn cost_line(alloc: Global, word: &str, cost: Option<i128>) -> Result<String, AllocError>
+    ensures { IfOk result (λ text. string_bytes text ≡ cost_line word.now cost) }
+{
+    match cost {
+        Some(cost) => line(alloc, word, cost),
+        None => format!(in alloc; "{word} infeasible\n"),
+    }
+}
