@@ -5,7 +5,7 @@ use Rattle.pinch_outside.specs.declared.limits.TheConstants.{MAX_FILE}
 use Rattle.stream_case.specs.declared.case.Case.{Case}
 use Rattle.stream_case.specs.Case.{completed}
 use Rattle.pinch.specs.declared.command.Command.{Command}
-use Rattle.pinch.specs.declared.command.Command.TheVariants.{Targets, Flow, Design, Curves, Audit, Site}
+use Rattle.pinch.specs.declared.command.Command.TheVariants.{Targets, Flow, Design, Curves, Audit, Site, Sweep}
 use Rattle.reports.specs.declared.shown.FileRole.{FileRole}
 use Rattle.reports.specs.declared.shown.Shown.{Shown}
 use Rattle.pinch.specs.Files.{NoFile, failed, too_long, NoText, no_file, refused, FromText, no_text, by_text}
@@ -18,6 +18,7 @@ use Rattle.pinch.specs.Design.{ShowsDesign}
 use Rattle.pinch.specs.Flow.{ShowsFlow}
 use Rattle.pinch.specs.Network.{network_file}
 use Rattle.pinch.specs.Site.{site_file, ShowsSite}
+use Rattle.pinch.specs.Sweep.{ShowsSweep}
 use Rattle.pinch.proofs.Formats.{IsLawful, lawful_case, lawful_network, lawful_site}
 use Rattle.pinch.proofs.Plain.{is_plain, plain_design, plain_flow, plain_audit}
 
@@ -123,3 +124,5 @@ causes (Some (Design case)) old new shown shows = of_file case_file lawful_case 
 causes (Some (Curves case)) old new shown shows = of_file case_file lawful_case (file_of (Curves case)) case old new shown AreCurvesOf refl (λ c is. ap is_plain is.is) shows
 causes (Some (Audit case network)) old new shown shows = of_network (file_of (Audit case network)) case network old new shown refl (λ c. refl) shows
 causes (Some (Site site)) old new shown shows = of_file site_file lawful_site (file_of (Site site)) site old new shown ShowsSite refl (λ s is. ap is_plain is.is) shows
+causes (Some (Sweep case plan workers)) old new shown shows =
+    of_file case_file lawful_case (file_of (Sweep case plan workers)) case old new shown (ShowsSweep plan) refl (λ c is. ap is_plain is.is) shows

@@ -15,7 +15,7 @@ use Rattle.network_audit.specs.declared.verdict.Verdict.TheVariants as verdict
 use Rattle.reports.specs.declared.shown.FileRole.{FileRole}
 use Rattle.reports.specs.declared.shown.Shown.{Shown}
 use Rattle.pinch.specs.declared.command.Command.{Command}
-use Rattle.pinch.specs.declared.command.Command.TheVariants.{Targets, Flow, Design, Curves, Audit, Site as OfSite}
+use Rattle.pinch.specs.declared.command.Command.TheVariants.{Targets, Flow, Design, Curves, Audit, Site as OfSite, Sweep}
 use Rattle.pinch.specs.Answers.{FromFile, FromNetwork, ShowsCommand}
 use Rattle.pinch.specs.Case.{case_file, AreTargetsOf, AreCurvesOf}
 use Rattle.pinch.specs.Complete.{Holds, HoldsText, HoldsFault, CanAnswer, HasBadFile}
@@ -26,6 +26,7 @@ use Rattle.pinch.specs.Format.{Format}
 use Rattle.pinch.specs.Network.{network_file, ShowsVerdict}
 use Rattle.pinch.specs.Site.{site_file, ShowsSite}
 use Rattle.pinch.specs.Status.{status_of, status_of_site, IsAnswered}
+use Rattle.pinch.specs.Sweep.{ShowsSweep}
 use Rattle.pinch.proofs.Formats.{IsLawful, lawful_case, lawful_network, lawful_site, one_value, one_refusal, not_both}
 
 -- a file within the limit is not above it
@@ -145,6 +146,7 @@ complete (Some (Design case)) old new shown shows can no_fault = of_file case_fi
 complete (Some (Curves case)) old new shown shows can no_fault = of_file case_file lawful_case case old new shown _ AreCurvesOf no_fault can (λ c t is. answers shown _ tt is.is) shows
 complete (Some (Audit case network)) old new shown shows can no_fault = audit_answers case network old new shown no_fault shows can
 complete (Some (OfSite site)) old new shown shows can no_fault = of_file site_file lawful_site site old new shown _ ShowsSite no_fault can (λ s t is. site_answers s shown is) shows
+complete (Some (Sweep case plan workers)) old new shown shows can no_fault = of_file case_file lawful_case case old new shown _ (ShowsSweep plan) no_fault can (λ c t is. answers shown _ tt is.is) shows
 
 pub bad_file : (command : Option Command) (old new : ShelfState) (shown : Shown) → ShowsCommand command old new shown
     → (refusal : Shown) → HasBadFile command old.files refusal → (Rose old.faults new.faults → ⊥) → shown ≡ refusal
@@ -156,3 +158,4 @@ bad_file (Some (Design case)) old new shown shows refusal bad no_fault = of_refu
 bad_file (Some (Curves case)) old new shown shows refusal bad no_fault = of_refused case_file lawful_case case old new shown no_fault refusal _ bad shows
 bad_file (Some (Audit case network)) old new shown shows refusal bad no_fault = bad_case_or_network case network old new shown no_fault shows refusal bad
 bad_file (Some (OfSite site)) old new shown shows refusal bad no_fault = of_refused site_file lawful_site site old new shown no_fault refusal _ bad shows
+bad_file (Some (Sweep case plan workers)) old new shown shows refusal bad no_fault = of_refused case_file lawful_case case old new shown no_fault refusal _ bad shows

@@ -8,4 +8,5 @@ mod Formats
 mod Plain
 mod Printable
 mod Profiles
+mod Runnable
 mod SiteCosts

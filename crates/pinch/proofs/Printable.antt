@@ -11,7 +11,7 @@ use Rattle.reports.specs.declared.shown.FileRole.{FileRole}
 use Rattle.reports.specs.declared.shown.Shown.{Shown}
 use Rattle.reports.specs.declared.shown.Shown.TheVariants.{BadWords}
 use Rattle.pinch.specs.declared.command.Command.{Command}
-use Rattle.pinch.specs.declared.command.Command.TheVariants.{Targets, Flow, Design, Curves, Audit, Site as OfSite}
+use Rattle.pinch.specs.declared.command.Command.TheVariants.{Targets, Flow, Design, Curves, Audit, Site as OfSite, Sweep}
 use Rattle.pinch.specs.Answers.{FromFile, ShowsCommand}
 use Rattle.pinch.specs.Case.{case_file, AreTargetsOf, AreCurvesOf}
 use Rattle.pinch.specs.Design.{IsDesignAnswer, ShowsDesign}
@@ -20,6 +20,7 @@ use Rattle.pinch.specs.Flow.{IsFlowAnswer, IsCutAnswer, ShowsFlow}
 use Rattle.pinch.specs.Format.{Format}
 use Rattle.pinch.specs.Network.{network_file, ShowsVerdict}
 use Rattle.pinch.specs.Site.{site_file, ShowsSite}
+use Rattle.pinch.specs.Sweep.{ShowsSweep}
 
 of_is : (shown result : Shown) → shown ≡ result → IsPrintable result → IsPrintable shown
 of_is shown result is printable = subst IsPrintable (sym is) printable
@@ -65,6 +66,7 @@ printable (Some (Flow case)) old new shown shows = of_file case_file case old ne
 printable (Some (Design case)) old new shown shows = of_file case_file case old new shown ShowsDesign (λ at why. tt) (λ c is. of_design (completed c) shown is.answer) shows
 printable (Some (Curves case)) old new shown shows = of_file case_file case old new shown AreCurvesOf (λ at why. tt) (λ c is. of_is shown _ is.is tt) shows
 printable (Some (OfSite site)) old new shown shows = of_file site_file site old new shown ShowsSite (λ at why. tt) (λ s is. of_is shown _ is.is tt) shows
+printable (Some (Sweep case plan workers)) old new shown shows = of_file case_file case old new shown (ShowsSweep plan) (λ at why. tt) (λ c is. of_is shown _ is.is tt) shows
 printable (Some (Audit case network)) old new shown shows =
     of_text case_file case old new shown _ (λ at why. tt)
     (λ mid c then. of_text (network_file (completed c)) network mid new shown _ (λ at why. tt)

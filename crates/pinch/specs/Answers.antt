@@ -11,8 +11,9 @@ use Rattle.pinch.specs.Flow.{ShowsFlow}
 use Rattle.pinch.specs.Format.{Format}
 use Rattle.pinch.specs.Network.{network_file, IsAuditOf}
 use Rattle.pinch.specs.Site.{site_file, ShowsSite}
+use Rattle.pinch.specs.Sweep.{ShowsSweep}
 use Rattle.pinch.specs.declared.command.Command.{Command}
-use Rattle.pinch.specs.declared.command.Command.TheVariants.{Targets, Flow, Design, Curves, Audit, Site}
+use Rattle.pinch.specs.declared.command.Command.TheVariants.{Targets, Flow, Design, Curves, Audit, Site, Sweep}
 
 -- what is shown by a command of one file, of what the file says
 abbrev pub FromFile : {Value Cause : Type 0} → Format Value Cause → List ℕ → ShelfState → ShelfState → Shown → (Value → Shown → Type 0) → Type 0
@@ -33,3 +34,4 @@ ShowsCommand (Some (Design case)) old new shown = FromFile case_file case old ne
 ShowsCommand (Some (Curves case)) old new shown = FromFile case_file case old new shown AreCurvesOf
 ShowsCommand (Some (Audit case network)) old new shown = FromNetwork case network old new shown
 ShowsCommand (Some (Site site)) old new shown = FromFile site_file site old new shown ShowsSite
+ShowsCommand (Some (Sweep case plan workers)) old new shown = FromFile case_file case old new shown (ShowsSweep plan)

@@ -1,10 +1,14 @@
 -- The forms of a command.
-use Rattle.std.specs.Prelude.{ℕ, List, [], ◌∷◌, Option, Some, None, option_map, codes, if◌then◌else◌}
+use Rattle.std.specs.Prelude.{ℕ, ◌≤◌, List, [], ◌∷◌, Option, Some, None, option_map, codes, if◌then◌else◌, ⊤}
 use Rattle.std.specs.Str.{bytes_eq}
 use Rattle.reports.specs.declared.shown.FileRole.{FileRole}
 use Rattle.reports.specs.declared.shown.FileRole.TheVariants.{Case, Network, Site as SiteFile}
+use Rattle.study.specs.Plan.{IsSweepPlan}
+use Rattle.study.specs.declared.limits.TheConstants.{MOST_WORKERS}
+use Rattle.study.specs.declared.plan.SweepPlan.{SweepPlan}
+use Rattle.pinch.specs.Numbers.{plan_of, workers_of}
 use Rattle.pinch.specs.declared.command.Command.{Command}
-use Rattle.pinch.specs.declared.command.Command.TheVariants.{Targets, Flow, Design, Curves, Audit, Site}
+use Rattle.pinch.specs.declared.command.Command.TheVariants.{Targets, Flow, Design, Curves, Audit, Site, Sweep}
 
 -- the name of a file, where the words are just that; it is not empty
 abbrev pub one_file : List (List ℕ) → Option (List ℕ)
@@ -16,6 +20,16 @@ abbrev pub audit_of : List (List ℕ) → Option Command
 audit_of ((byte ∷ case) ∷ (other ∷ network) ∷ []) = Some (Audit (byte ∷ case) (other ∷ network))
 audit_of words = None
 
+-- the sweep of the case of a file by this plan and so many workers, where they are there
+abbrev pub sweep_with : List ℕ → Option SweepPlan → Option ℕ → Option Command
+sweep_with case (Some plan) (Some workers) = Some (Sweep case plan workers)
+sweep_with case plan workers = None
+
+-- the same, where the words are just the name of the file, which is not empty, and four numbers that a sweep can have
+abbrev pub sweep_of : List (List ℕ) → Option Command
+sweep_of ((byte ∷ case) ∷ from ∷ to ∷ step ∷ workers ∷ []) = sweep_with (byte ∷ case) (plan_of from to step) (workers_of workers)
+sweep_of words = None
+
 -- the command that a word and those behind it form
 abbrev pub command_of_word : List ℕ → List (List ℕ) → Option Command
 command_of_word word rest =
@@ -25,12 +39,18 @@ command_of_word word rest =
     else if bytes_eq word (codes "curves") then option_map Curves (one_file rest)
     else if bytes_eq word (codes "audit") then audit_of rest
     else if bytes_eq word (codes "site") then option_map Site (one_file rest)
+    else if bytes_eq word (codes "sweep") then sweep_of rest
     else None
 
 -- the command that the words form, if they form one
 abbrev pub command_of : List (List ℕ) → Option Command
 command_of [] = None
 command_of (word ∷ rest) = command_of_word word rest
+
+-- a sweep has a plan and workers that it can have
+abbrev pub IsRunnable : Command → Type 0
+IsRunnable (Sweep case plan workers) = IsSweepPlan plan × (1 ≤ workers) × (workers ≤ MOST_WORKERS)
+IsRunnable other = ⊤
 
 -- the file that a command reads in this role, by its name
 abbrev pub file_of : Command → FileRole → Option (List ℕ)
@@ -41,4 +61,5 @@ file_of (Flow case) Case = Some case
 file_of (Design case) Case = Some case
 file_of (Curves case) Case = Some case
 file_of (Site site) SiteFile = Some site
+file_of (Sweep case plan workers) Case = Some case
 file_of command role = None

@@ -10,7 +10,7 @@ use Rattle.pinch.specs.Format.{Format}
 use Rattle.pinch.specs.Network.{network_file}
 use Rattle.pinch.specs.Site.{site_file}
 use Rattle.pinch.specs.declared.command.Command.{Command}
-use Rattle.pinch.specs.declared.command.Command.TheVariants.{Targets, Flow, Design, Curves, Audit, Site}
+use Rattle.pinch.specs.declared.command.Command.TheVariants.{Targets, Flow, Design, Curves, Audit, Site, Sweep}
 
 -- the files are told, and the first of that name is within the limit, with these bytes
 pub record Holds (files : Option (List NamedFile)) (name bytes : List ℕ) : Type 0 where
@@ -42,6 +42,7 @@ CanAnswer (Some (Design case)) files = HoldsText case_file files case (λ c. ⊤
 CanAnswer (Some (Curves case)) files = HoldsText case_file files case (λ c. ⊤)
 CanAnswer (Some (Audit case network)) files = HoldsText case_file files case (λ c. HoldsText (network_file (completed c)) files network (λ n. ⊤))
 CanAnswer (Some (Site site)) files = HoldsText site_file files site (λ s. ⊤)
+CanAnswer (Some (Sweep case plan workers)) files = HoldsText case_file files case (λ c. ⊤)
 
 -- a file of a command is there, those before it are what they should be, and its grammar refuses it, which is to be shown
 unfoldable pub HasBadFile : Option Command → Option (List NamedFile) → Shown → Type 0
@@ -53,3 +54,4 @@ HasBadFile (Some (Curves case)) files shown = HoldsFault case_file files case sh
 HasBadFile (Some (Audit case network)) files shown =
     HoldsFault case_file files case shown ⊎ HoldsText case_file files case (λ c. HoldsFault (network_file (completed c)) files network shown)
 HasBadFile (Some (Site site)) files shown = HoldsFault site_file files site shown
+HasBadFile (Some (Sweep case plan workers)) files shown = HoldsFault case_file files case shown

@@ -9,6 +9,8 @@ pub mod Files
 pub mod Flow
 pub mod Format
 pub mod Network
+pub mod Numbers
 pub mod Site
 pub mod Status
 pub mod Stop
+pub mod Sweep

@@ -1,7 +1,7 @@
 //! What is shown for the words and the files, before anything is written.
 ghost use Rattle.std.specs.Prelude.{Some};
 ghost use Rattle.pinch.specs.Answers.{FromNetwork, ShowsCommand};
-ghost use Rattle.pinch.specs.Command.{command_of};
+ghost use Rattle.pinch.specs.Command.{command_of, IsRunnable};
 ghost use Rattle.pinch.specs.Stop.{IfShown};
 
 use crate::audit::show_audit;
@@ -11,25 +11,41 @@ use crate::design::show_design;
 use crate::files::{take_case, take_network, take_site};
 use crate::site_answer::show_site;
 use crate::stop::Stop;
+use crate::sweep_answer::show_sweep;
 use crate::word::Word;
 use pinch_outside::Shelf;
 use reports::Shown;
 use std::alloc::Global;
+use std::thread::Threads;
 use stream_case::{Items, complete};
+use study::Gate;
 
-/// What is shown for the words and the files.
+/// What is shown for the words and the files. Workers pass the gate, which has no influence on it.
 #[tactic(auto, unfolding(crate::specs::Answers::ShowsCommand))]
-pub fn answer<S: Shelf>(alloc: Global, words: &Items<Word>, shelf: &mut S) -> Result<Shown, Stop>
+pub fn answer<R: Threads + Sync, G: Gate + Sync, S: Shelf>(
+    rt: &R,
+    alloc: Global,
+    gate: &G,
+    words: &Items<Word>,
+    shelf: &mut S,
+) -> Result<Shown, Stop>
     ensures { IfShown result (ShowsCommand (command_of words.now) (S.state shelf.old) (S.state shelf.new)) }
 {
     match read_command(alloc, words)? {
         None => Ok(Shown::BadWords),
-        Some(command) => answer_command(alloc, shelf, &command),
+        Some(command) => answer_command(rt, alloc, gate, shelf, &command),
     }
 }
 
 #[tactic(auto, unfolding(crate::specs::Answers::ShowsCommand))]
-fn answer_command<S: Shelf>(alloc: Global, shelf: &mut S, command: &Command) -> Result<Shown, Stop>
+fn answer_command<R: Threads + Sync, G: Gate + Sync, S: Shelf>(
+    rt: &R,
+    alloc: Global,
+    gate: &G,
+    shelf: &mut S,
+    command: &Command,
+) -> Result<Shown, Stop>
+    requires { IsRunnable command.now }
     ensures { IfShown result (ShowsCommand (Some command.now) (S.state shelf.old) (S.state shelf.new)) }
 {
     match command {
@@ -53,6 +69,14 @@ fn answer_command<S: Shelf>(alloc: Global, shelf: &mut S, command: &Command) -> 
         Command::Site { site } => {
             let site = take_site(alloc, shelf, site)?;
             Ok(show_site(alloc, site)?)
+        }
+        Command::Sweep {
+            case,
+            plan,
+            workers,
+        } => {
+            let case = take_case(alloc, shelf, case)?;
+            Ok(show_sweep(rt, alloc, gate, &case, *plan, *workers)?)
         }
     }
 }

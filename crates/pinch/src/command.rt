@@ -1,12 +1,14 @@
 //! The forms of a command.
 ghost use Rattle.std.specs.Prelude.{◌≡◌, IfOk};
-ghost use Rattle.pinch.specs.Command.{audit_of, command_of, command_of_word, one_file};
+ghost use Rattle.pinch.specs.Command.{audit_of, command_of, command_of_word, one_file, sweep_of, sweep_with};
 
+use crate::numbers::{plan_of, workers_of};
 use crate::word::Word;
 use std::alloc::{AllocError, Global};
 use stream_case::Items;
+use study::SweepPlan;
 
-/// A command with what it needs, the names of its files.
+/// A command with what it needs: the names of its files, and the numbers of a sweep.
 #[derive(Debug, Drop)]
 pub enum Command {
     /// `targets CASE`: the targets and the pinches.
@@ -21,6 +23,13 @@ pub enum Command {
     Audit { case: Word, network: Word },
     /// `site SITE`: the profiles of a site, and its least boiler heat with a certificate.
     Site { site: Word },
+    /// `sweep CASE FROM TO STEP WORKERS`: the targets and the least cost for each contribution of
+    /// the plan, by so many workers.
+    Sweep {
+        case: Word,
+        plan: SweepPlan,
+        workers: u32,
+    },
 }
 
 /// The command that the words form, if they form one.
@@ -43,6 +52,7 @@ fn command_of_word(alloc: Global, word: &str, rest: &[Word]) -> Result<Option<Co
         "curves" => Ok(one_file(alloc, rest)?.map(|case| Command::Curves { case })),
         "audit" => audit_of(alloc, rest),
         "site" => Ok(one_file(alloc, rest)?.map(|site| Command::Site { site })),
+        "sweep" => sweep_of(alloc, rest),
         _ => Ok(None),
     }
 }
@@ -68,6 +78,37 @@ fn audit_of(alloc: Global, words: &[Word]) -> Result<Option<Command>, AllocError
                 network: network.copied(alloc)?,
             }))
         }
+        _ => Ok(None),
+    }
+}
+
+/// The sweep of the case of a file, where the words are just the name of the file, which is not
+/// empty, and four numbers that a sweep can have.
+fn sweep_of(alloc: Global, words: &[Word]) -> Result<Option<Command>, AllocError>
+    ensures { IfOk result (λ command. command ≡ sweep_of words.now) }
+{
+    match words {
+        [case, from, to, step, workers] if !case.as_str().is_empty() => {
+            sweep_with(alloc, case, plan_of(from, to, step), workers_of(workers))
+        }
+        _ => Ok(None),
+    }
+}
+
+fn sweep_with(
+    alloc: Global,
+    case: &Word,
+    plan: Option<SweepPlan>,
+    workers: Option<u32>,
+) -> Result<Option<Command>, AllocError>
+    ensures { IfOk result (λ command. command ≡ sweep_with case.now plan workers) }
+{
+    match (plan, workers) {
+        (Some(plan), Some(workers)) => Ok(Some(Command::Sweep {
+            case: case.copied(alloc)?,
+            plan,
+            workers,
+        })),
         _ => Ok(None),
     }
 }

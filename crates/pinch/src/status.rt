@@ -59,7 +59,8 @@ pub fn status_of(shown: &Shown) -> Status
         | Shown::Flow { .. }
         | Shown::Curves { .. }
         | Shown::Design { .. }
-        | Shown::Accepted { .. } => Status::Answered,
+        | Shown::Accepted { .. }
+        | Shown::Sweep { .. } => Status::Answered,
         Shown::Stuck { .. } | Shown::Rejected { .. } => Status::AnsweredNo,
         Shown::SiteShown { answer, .. } => status_of_site(answer),
         Shown::TooFine { .. } => Status::TooFine,

@@ -1,12 +1,13 @@
 //! What the tests of the commands share.
 
-use crate::{Word, run};
+use crate::{Word, run, run_gated};
 use pinch_outside::{MemoryFile, MemoryShelf, MemorySink};
 use std::alloc::{AllocError, Global};
 use std::process::Abort;
 use std::test::Fail;
 use std::thread::Threads;
 use stream_case::Items;
+use study::Gate;
 
 /// The four-stream table of Linnhoff and Flower (1978).
 pub const FOUR_STREAM: &str = "contribution,,50,,,,
@@ -78,6 +79,37 @@ fn status_of<R: Threads + Sync>(
     sink: &mut MemorySink,
 ) -> u8 {
     run(rt, alloc, words, shelf, sink).status
+}
+
+/// The same, where workers pass this gate.
+fn status_by<R: Threads + Sync, G: Gate + Sync>(
+    rt: &R,
+    alloc: Global,
+    gate: &G,
+    words: &Items<Word>,
+    shelf: &mut MemoryShelf,
+    sink: &mut MemorySink,
+) -> u8 {
+    run_gated(rt, alloc, gate, words, shelf, sink).status
+}
+
+/// How the program ends over these words and files, where workers pass this gate.
+pub fn outcome_by<R: Threads + Sync + AllocGlobal, G: Gate + Sync>(
+    rt: &R,
+    gate: &G,
+    words: &[&str],
+    files: &[(&str, &[u8])],
+) -> Result<Outcome, AllocError> {
+    let alloc = rt.alloc();
+    let words = words_of(alloc, words)?;
+    let mut shelf = shelf_of(alloc, files, &[])?;
+    let mut sink = sink_of(alloc, &[])?;
+    let status = status_by(rt, alloc, gate, &words, &mut shelf, &mut sink);
+    Ok(Outcome {
+        status,
+        written: sink.written,
+        calls: shelf.calls,
+    })
 }
 
 /// How the program ends over these words and files, where some calls fail.

@@ -1,6 +1,7 @@
-use Rattle.std.proofs.Common.{refl}
+use Rattle.std.proofs.Common.{refl, subst}
 use Rattle.pinch.specs.Answers.{ShowsCommand}
 use Rattle.pinch.specs.Case.{case_file}
+use Rattle.pinch.specs.Command.{IsRunnable}
 use Rattle.pinch.specs.Files.{by_text}
 use Rattle.pinch.specs.Site.{site_file}
 use Rattle.pinch.proofs.Early.{without_text}
@@ -45,3 +46,16 @@ returns-in_err-site-in-Site g c = rw c.in-Site.is (without_text site_file _ _ _ 
 pub returns-in_ok-show_site-in-Site : goal.returns-in_ok-show_site-in-Site
 unfolding ShowsCommand
 returns-in_ok-show_site-in-Site g c = rw c.in-Site.is (by_text _ _ c.in_ok-site-in-Site.ensures.site (refl, c.in_ok-show_site-in-Site.ensures))
+
+pub show_sweep-requires-in-Sweep : goal.show_sweep-requires-in-Sweep
+show_sweep-requires-in-Sweep g c =
+    let run = subst IsRunnable c.in-Sweep.is c.requires in
+    record { valid = c.in_ok-case-in-Sweep.ensures.valid; plan = run.0; some_workers = run.1; few_workers = run.2 }
+
+pub returns-in_err-case-in-Sweep : goal.returns-in_err-case-in-Sweep
+unfolding ShowsCommand
+returns-in_err-case-in-Sweep g c = rw c.in-Sweep.is (without_text case_file _ _ _ _ _ _ c.from_residual-in_err-case-in-Sweep.ensures.1 c.in_err-case-in-Sweep.ensures.stop)
+
+pub returns-in_ok-show_sweep-in-Sweep : goal.returns-in_ok-show_sweep-in-Sweep
+unfolding ShowsCommand
+returns-in_ok-show_sweep-in-Sweep g c = rw c.in-Sweep.is (by_text _ _ c.in_ok-case-in-Sweep.ensures.case (refl, c.in_ok-show_sweep-in-Sweep.ensures))

@@ -1,0 +1,91 @@
+-- Words form only commands that can run.
+use Rattle.std.proofs.Common.{◌≡◌, ◌<◌, ◌≤◌, ◌+◌, ◌*◌, ℕ, Bool, true, false, cond, List, [], ◌∷◌, Option, Some, None, option_map, IfSome, refl, sym, subst, arith}
+use Rattle.std.specs.Prelude.{pos, ◌&&◌, nat_le, nat_lt, codes, if◌then◌else◌}
+use Rattle.std.specs.Str.{bytes_eq}
+use Rattle.std.proofs.lemmas.Bool.Decides.{nat_tests}
+use Rattle.std.proofs.lemmas.Int.{ints}
+use Rattle.stream_case.specs.Digits.{natural_in}
+use Rattle.study.specs.Plan.{IsSweepPlan}
+use Rattle.study.specs.declared.limits.TheConstants.{MOST_ROWS, MOST_WORKERS}
+use Rattle.study.specs.declared.plan.SweepPlan.{SweepPlan}
+use Rattle.pinch.specs.declared.numbers.TheConstants.{MOST_DIGITS, MOST_END, MOST_STEP}
+use Rattle.pinch.specs.Command.{audit_of, command_of, command_of_word, one_file, sweep_of, sweep_with, IsRunnable}
+use Rattle.pinch.specs.Numbers.{limited, number_within, plan_of, plan_with, workers_of}
+use Rattle.pinch.specs.declared.command.Command.{Command}
+use Rattle.pinch.specs.declared.command.Command.TheVariants.{Targets, Flow, Design, Curves, Audit, Site, Sweep}
+
+-- what is there only where a test holds
+where_true : {X : Type 0} (b : Bool) (x : X) (P : X → Type 0) → (b ≡ true → P x) → IfSome (if b then Some x else None) P
+where_true true x P holds = holds refl
+where_true false x P holds = tt
+
+both : (a b c d : ℕ) → (nat_le a b && nat_le c d) ≡ true → (a ≤ b) × (c ≤ d)
+both a b c d e = (grind (arith, nat_tests), grind (arith, nat_tests))
+
+-- a number between two limits lies between them
+limited-within : (least most : ℕ) (o : Option ℕ) → IfSome (limited least most o) (λ n. (least ≤ n) × (n ≤ most))
+limited-within least most (Some n) = where_true (nat_le least n && nat_le n most) n (λ k. (least ≤ k) × (k ≤ most)) (both least n n most)
+limited-within least most None = tt
+
+-- numbers that rise and give few rows are a plan
+is_plan : (from to step : ℕ) → to ≤ MOST_END → 1 ≤ step → step ≤ MOST_STEP → (nat_le from to && nat_lt to (from + MOST_ROWS * step)) ≡ true
+    → IsSweepPlan (record { from = pos from; to = pos to; step = pos step })
+is_plan from to step last some most e =
+    let order : from ≤ to = grind (arith, nat_tests) in
+    let few : to < from + MOST_ROWS * step = grind (arith, nat_tests) in
+    record {
+      from = omega (arith, ints);
+      order = omega (arith, ints, order);
+      upto = omega (arith, ints, last);
+      step = record { from = omega (arith, ints, some); upto = omega (arith, ints, most) };
+      few = omega (arith, ints, few);
+    }
+
+plan_runs : (from to step : Option ℕ) → IfSome to (λ n. (0 ≤ n) × (n ≤ MOST_END)) → IfSome step (λ n. (1 ≤ n) × (n ≤ MOST_STEP)) → IfSome (plan_with from to step) IsSweepPlan
+plan_runs (Some from) (Some to) (Some step) last some =
+    where_true (nat_le from to && nat_lt to (from + MOST_ROWS * step)) (record { from = pos from; to = pos to; step = pos step }) IsSweepPlan
+    (is_plan from to step last.1 some.0 some.1)
+plan_runs (Some from) (Some to) None last some = tt
+plan_runs (Some from) None step last some = tt
+plan_runs None to step last some = tt
+
+of_numbers : (case : List ℕ) (plan : Option SweepPlan) (workers : Option ℕ) → IfSome plan IsSweepPlan → IfSome workers (λ n. (1 ≤ n) × (n ≤ MOST_WORKERS)) → IfSome (sweep_with case plan workers) IsRunnable
+of_numbers case (Some plan) (Some workers) can work = (can, work.0, work.1)
+of_numbers case (Some plan) None can work = tt
+of_numbers case None workers can work = tt
+
+of_sweep : (words : List (List ℕ)) → IfSome (sweep_of words) IsRunnable
+of_sweep ((byte ∷ case) ∷ from ∷ to ∷ step ∷ workers ∷ []) =
+    of_numbers (byte ∷ case) (plan_of from to step) (workers_of workers)
+    (plan_runs (number_within 0 MOST_END from) (number_within 0 MOST_END to) (number_within 1 MOST_STEP step) (limited-within 0 MOST_END (natural_in MOST_DIGITS to)) (limited-within 1 MOST_STEP (natural_in MOST_DIGITS step)))
+    (limited-within 1 MOST_WORKERS (natural_in MOST_DIGITS workers))
+of_sweep words = tt
+
+of_audit : (words : List (List ℕ)) → IfSome (audit_of words) IsRunnable
+of_audit ((byte ∷ case) ∷ (other ∷ network) ∷ []) = tt
+of_audit words = tt
+
+of_file : (command : List ℕ → Command) → ((name : List ℕ) → IsRunnable (command name)) → (name : Option (List ℕ)) → IfSome (option_map command name) IsRunnable
+of_file command runs (Some name) = runs name
+of_file command runs None = tt
+
+either : (b : Bool) (x y : Option Command) → IfSome x IsRunnable → IfSome y IsRunnable → IfSome (if b then x else y) IsRunnable
+either true x y one other = one
+either false x y one other = other
+
+of_word : (word : List ℕ) (rest : List (List ℕ)) → IfSome (command_of_word word rest) IsRunnable
+of_word word rest =
+    either (bytes_eq word (codes "targets")) _ _ (of_file Targets (λ n. tt) (one_file rest))
+    (either (bytes_eq word (codes "flow")) _ _ (of_file Flow (λ n. tt) (one_file rest))
+    (either (bytes_eq word (codes "design")) _ _ (of_file Design (λ n. tt) (one_file rest))
+    (either (bytes_eq word (codes "curves")) _ _ (of_file Curves (λ n. tt) (one_file rest))
+    (either (bytes_eq word (codes "audit")) _ _ (of_audit rest)
+    (either (bytes_eq word (codes "site")) _ _ (of_file Site (λ n. tt) (one_file rest))
+    (either (bytes_eq word (codes "sweep")) _ _ (of_sweep rest) tt))))))
+
+of_words : (words : List (List ℕ)) → IfSome (command_of words) IsRunnable
+of_words [] = tt
+of_words (word ∷ rest) = of_word word rest
+
+pub runnable : (words : List (List ℕ)) (command : Command) → command_of words ≡ Some command → IsRunnable command
+runnable words command is = subst (λ o. IfSome o IsRunnable) is (of_words words)

@@ -1,0 +1,54 @@
+//! The numbers of a sweep, as words spell them.
+ghost use Rattle.std.specs.Prelude.{◌≡◌, ◌≤◌, IfSome};
+ghost use Rattle.pinch.specs.Numbers.{number_within, plan_of, workers_of};
+
+use crate::word::Word;
+use stream_case::{MOST_CONTRIBUTION, natural_of};
+use study::{LONGEST_STEP, MOST_ROWS, MOST_WORKERS, SweepPlan};
+
+/// The most digits of a number.
+const MOST_DIGITS: usize = 10;
+
+/// The greatest contribution of a sweep, in tenths of °C.
+const MOST_END: u32 = MOST_CONTRIBUTION as u32;
+
+/// The greatest step of a sweep, in tenths of °C.
+const MOST_STEP: u32 = LONGEST_STEP as u32;
+
+/// The number that a word of 1 to 10 digits spells, if it lies from `least` to `most`.
+fn number_within(least: u32, most: u32, word: &Word) -> Option<u32>
+    ensures number { result ≡ number_within least most word.now }
+    ensures within { IfSome result (λ number. (least ≤ number) × (number ≤ most)) }
+{
+    match natural_of(word.as_str().as_bytes(), MOST_DIGITS) {
+        Some(number) if u128::from(least) <= number && number <= u128::from(most) => {
+            Some(number as u32)
+        }
+        _ => None,
+    }
+}
+
+/// The plan that these words spell, if a sweep can have it.
+pub fn plan_of(from: &Word, to: &Word, step: &Word) -> Option<SweepPlan>
+    ensures { result ≡ plan_of from.now to.now step.now }
+{
+    let from = number_within(0, MOST_END, from)?;
+    let to = number_within(0, MOST_END, to)?;
+    let step = number_within(1, MOST_STEP, step)?;
+    if from <= to && to < from + MOST_ROWS * step {
+        Some(SweepPlan {
+            from: from as i32,
+            to: to as i32,
+            step: step as i32,
+        })
+    } else {
+        None
+    }
+}
+
+/// How many workers a word asks for, if a sweep can have so many.
+pub fn workers_of(word: &Word) -> Option<u32>
+    ensures { result ≡ workers_of word.now }
+{
+    number_within(1, MOST_WORKERS, word)
+}

@@ -1,0 +1,155 @@
+//! Sweeps of cases that were worked by hand, by one worker and by several.
+
+use super::meeting_gate::MeetingGate;
+use super::support::{FOUR_STREAM, WORDS, outcome_by, outcome_of};
+use std::process::Abort;
+use std::test::Fail;
+use std::thread::Threads;
+use study::OpenGate;
+
+const FOUR_STREAM_ROWS: &str = "row 0 0 40000 0
+row 10 0 40000 0
+row 20 0 40000 0
+row 30 2000 42000 2000
+row 40 11000 51000 11000
+row 50 20000 60000 20000
+row 60 29000 69000 29000
+row 70 38000 78000 38000
+row 80 47000 87000 47000
+row 90 56000 96000 56000
+row 100 65000 105000 65000
+";
+
+/// A sweep with these numbers ends with this status and this text.
+fn check_sweep<R: Abort + Threads + Sync + AllocGlobal>(
+    rt: &R,
+    case: &str,
+    [from, to, step, workers]: [&str; 4],
+    status: u8,
+    text: &str,
+) -> Result<(), Fail> {
+    let words = ["sweep", "plant.csv", from, to, step, workers];
+    let files = [("plant.csv", case.as_bytes())];
+    let outcome = outcome_of(rt, &words, &files)?;
+    assert_eq!(rt; outcome.status, status, "{words:?} of {case}");
+    assert_eq!(rt;
+        outcome.written.as_slice(),
+        text.as_bytes(),
+        "{words:?} of {case}"
+    );
+    Ok(())
+}
+
+#[test]
+fn any_workers_print_the_same_rows(rt: HostRuntime) -> Result<(), Fail> {
+    // Eleven rows: the last workers have none. Zeros may lead.
+    for workers in ["1", "4", "16", "0000000003"] {
+        let numbers = ["0", "100", "10", workers];
+        check_sweep(&rt, FOUR_STREAM, numbers, 0, FOUR_STREAM_ROWS)?;
+    }
+    Ok(())
+}
+
+#[test]
+fn a_sweep_has_the_rows_of_its_plan(rt: HostRuntime) -> Result<(), Fail> {
+    let rows = [
+        // The step does not divide: the last row is below the end.
+        (
+            ["40", "69", "10", "4"],
+            "row 40 11000 51000 11000\nrow 50 20000 60000 20000\nrow 60 29000 69000 29000\n",
+        ),
+        // One row, and more workers than rows.
+        (["50", "50", "1", "16"], "row 50 20000 60000 20000\n"),
+        (["0", "1000", "1000", "2"], "row 0 0 40000 0\nrow 1000 395000 435000 395000\n"),
+    ];
+    for (numbers, text) in rows {
+        check_sweep(&rt, FOUR_STREAM, numbers, 0, text)?;
+    }
+    Ok(())
+}
+
+#[test]
+fn a_row_without_a_heat_flow_is_infeasible(rt: HostRuntime) -> Result<(), Fail> {
+    let case = "contribution,,50,,,,\nhot,H,1000,500,10,,\ncold,C,300,400,10,,\n\
+                cooler,CW,200,0,1000,0,\n";
+    let text = "row 50 0 4000 infeasible\n";
+    check_sweep(&rt, case, ["50", "50", "1", "1"], 0, text)
+}
+
+#[test]
+fn the_most_rows_are_printed(rt: HostRuntime) -> Result<(), Fail> {
+    let words = ["sweep", "plant.csv", "0", "999", "1", "16"];
+    let files = [("plant.csv", FOUR_STREAM.as_bytes())];
+    let outcome = outcome_of(&rt, &words, &files)?;
+    let lines = outcome.written.iter().filter(|byte| **byte == b'\n').count();
+    assert_eq!(rt; outcome.status, 0);
+    assert_eq!(rt; lines, 1000);
+    Ok(())
+}
+
+#[test]
+fn numbers_that_a_sweep_cannot_have_are_no_command(rt: HostRuntime) -> Result<(), Fail> {
+    let rows = [
+        // 1001 rows, and too many workers or none.
+        ["0", "1000", "1", "4"],
+        ["0", "100", "10", "17"],
+        ["0", "100", "10", "0"],
+        // The end is below the start, or above the greatest contribution.
+        ["51", "50", "1", "1"],
+        ["0", "1001", "10", "1"],
+        ["1001", "1001", "1", "1"],
+        // The step is 0 or too long.
+        ["0", "100", "0", "1"],
+        ["0", "1000", "1001", "1"],
+        // A sign, a blank, no digit, eleven digits, and a number beyond 32 bits.
+        ["-1", "100", "10", "1"],
+        ["0", "+100", "10", "1"],
+        ["0", "100", " 10", "1"],
+        ["0", "100", "10", ""],
+        ["00000000000", "100", "10", "1"],
+        ["0", "100", "10", "4294967297"],
+    ];
+    for numbers in rows {
+        check_sweep(&rt, FOUR_STREAM, numbers, 2, WORDS)?;
+    }
+    Ok(())
+}
+
+#[test]
+fn other_words_are_no_sweep(rt: HostRuntime) -> Result<(), Fail> {
+    let rows: [&[&str]; 4] = [
+        &["sweep", "plant.csv", "0", "100", "10"],
+        &["sweep", "plant.csv", "0", "100", "10", "1", "1"],
+        &["sweep", "", "0", "100", "10", "1"],
+        &["sweep", "plant.csv"],
+    ];
+    let files = [("plant.csv", FOUR_STREAM.as_bytes())];
+    for row in rows {
+        let outcome = outcome_of(&rt, row, &files)?;
+        assert_eq!(rt; outcome.status, 2, "{row:?}");
+        assert_eq!(rt; outcome.written.as_slice(), WORDS.as_bytes(), "{row:?}");
+        assert_eq!(rt; outcome.calls, 0, "{row:?}");
+    }
+    Ok(())
+}
+
+#[test]
+fn a_case_that_is_refused_has_no_rows(rt: HostRuntime) -> Result<(), Fail> {
+    let text = "case row 1 NoContribution\n";
+    check_sweep(&rt, "", ["0", "100", "10", "4"], 3, text)
+}
+
+#[test]
+fn two_rows_meet(rt: HostRuntime) -> Result<(), Fail> {
+    let words = ["sweep", "plant.csv", "0", "10", "10", "2"];
+    let files = [("plant.csv", FOUR_STREAM.as_bytes())];
+    let text = "row 0 0 40000 0\nrow 10 0 40000 0\n";
+    let gate = MeetingGate::new();
+    let outcome = outcome_by(&rt, &gate, &words, &files)?;
+    assert_eq!(rt; outcome.status, 0);
+    assert_eq!(rt; outcome.written.as_slice(), text.as_bytes());
+    assert_eq!(rt; gate.counts(), [1, 1, 1, 1, 0]);
+    let outcome = outcome_by(&rt, &OpenGate, &words, &files)?;
+    assert_eq!(rt; outcome.written.as_slice(), text.as_bytes());
+    Ok(())
+}
