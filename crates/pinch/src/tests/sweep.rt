@@ -60,7 +60,7 @@ fn a_sweep_has_the_rows_of_its_plan(rt: HostRuntime) -> Result<(), Fail> {
         ),
         // One row, and more workers than rows.
         (["50", "50", "1", "16"], "row 50 20000 60000 20000\n"),
-        (["0", "1000", "1000", "2"], "row 0 0 40000 0\nrow 1000 395000 435000 395000\n"),
+        (["0", "1000", "1000", "2"], "row 0 0 40000 0\nrow 1000 470000 510000 470000\n"),
     ];
     for (numbers, text) in rows {
         check_sweep(&rt, FOUR_STREAM, numbers, 0, text)?;
