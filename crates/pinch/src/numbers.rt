@@ -20,11 +20,11 @@ fn number_within(least: u32, most: u32, word: &Word) -> Option<u32>
     ensures number { result ≡ number_within least most word.now }
     ensures within { IfSome result (λ number. (least ≤ number) × (number ≤ most)) }
 {
-    match natural_of(word.as_str().as_bytes(), MOST_DIGITS) {
-        Some(number) if u128::from(least) <= number && number <= u128::from(most) => {
-            Some(number as u32)
-        }
-        _ => None,
+    let number = natural_of(word.as_str().as_bytes(), MOST_DIGITS)?;
+    if u128::from(least) <= number && number <= u128::from(most) {
+        Some(number as u32)
+    } else {
+        None
     }
 }
 

@@ -24,7 +24,7 @@ row 100 65000 105000 65000
 fn check_sweep<R: Abort + Threads + Sync + AllocGlobal>(
     rt: &R,
     case: &str,
-    [from, to, step, workers]: [&str; 4],
+    (from, to, step, workers): (&str, &str, &str, &str),
     status: u8,
     text: &str,
 ) -> Result<(), Fail> {
@@ -44,7 +44,7 @@ fn check_sweep<R: Abort + Threads + Sync + AllocGlobal>(
 fn any_workers_print_the_same_rows(rt: HostRuntime) -> Result<(), Fail> {
     // Eleven rows: the last workers have none. Zeros may lead.
     for workers in ["1", "4", "16", "0000000003"] {
-        let numbers = ["0", "100", "10", workers];
+        let numbers = ("0", "100", "10", workers);
         check_sweep(&rt, FOUR_STREAM, numbers, 0, FOUR_STREAM_ROWS)?;
     }
     Ok(())
@@ -55,12 +55,12 @@ fn a_sweep_has_the_rows_of_its_plan(rt: HostRuntime) -> Result<(), Fail> {
     let rows = [
         // The step does not divide: the last row is below the end.
         (
-            ["40", "69", "10", "4"],
+            ("40", "69", "10", "4"),
             "row 40 11000 51000 11000\nrow 50 20000 60000 20000\nrow 60 29000 69000 29000\n",
         ),
         // One row, and more workers than rows.
-        (["50", "50", "1", "16"], "row 50 20000 60000 20000\n"),
-        (["0", "1000", "1000", "2"], "row 0 0 40000 0\nrow 1000 470000 510000 470000\n"),
+        (("50", "50", "1", "16"), "row 50 20000 60000 20000\n"),
+        (("0", "1000", "1000", "2"), "row 0 0 40000 0\nrow 1000 470000 510000 470000\n"),
     ];
     for (numbers, text) in rows {
         check_sweep(&rt, FOUR_STREAM, numbers, 0, text)?;
@@ -73,7 +73,7 @@ fn a_row_without_a_heat_flow_is_infeasible(rt: HostRuntime) -> Result<(), Fail> 
     let case = "contribution,,50,,,,\nhot,H,1000,500,10,,\ncold,C,300,400,10,,\n\
                 cooler,CW,200,0,1000,0,\n";
     let text = "row 50 0 4000 infeasible\n";
-    check_sweep(&rt, case, ["50", "50", "1", "1"], 0, text)
+    check_sweep(&rt, case, ("50", "50", "1", "1"), 0, text)
 }
 
 #[test]
@@ -91,23 +91,23 @@ fn the_most_rows_are_printed(rt: HostRuntime) -> Result<(), Fail> {
 fn numbers_that_a_sweep_cannot_have_are_no_command(rt: HostRuntime) -> Result<(), Fail> {
     let rows = [
         // 1001 rows, and too many workers or none.
-        ["0", "1000", "1", "4"],
-        ["0", "100", "10", "17"],
-        ["0", "100", "10", "0"],
+        ("0", "1000", "1", "4"),
+        ("0", "100", "10", "17"),
+        ("0", "100", "10", "0"),
         // The end is below the start, or above the greatest contribution.
-        ["51", "50", "1", "1"],
-        ["0", "1001", "10", "1"],
-        ["1001", "1001", "1", "1"],
+        ("51", "50", "1", "1"),
+        ("0", "1001", "10", "1"),
+        ("1001", "1001", "1", "1"),
         // The step is 0 or too long.
-        ["0", "100", "0", "1"],
-        ["0", "1000", "1001", "1"],
+        ("0", "100", "0", "1"),
+        ("0", "1000", "1001", "1"),
         // A sign, a blank, no digit, eleven digits, and a number beyond 32 bits.
-        ["-1", "100", "10", "1"],
-        ["0", "+100", "10", "1"],
-        ["0", "100", " 10", "1"],
-        ["0", "100", "10", ""],
-        ["00000000000", "100", "10", "1"],
-        ["0", "100", "10", "4294967297"],
+        ("-1", "100", "10", "1"),
+        ("0", "+100", "10", "1"),
+        ("0", "100", " 10", "1"),
+        ("0", "100", "10", ""),
+        ("00000000000", "100", "10", "1"),
+        ("0", "100", "10", "4294967297"),
     ];
     for numbers in rows {
         check_sweep(&rt, FOUR_STREAM, numbers, 2, WORDS)?;
@@ -136,7 +136,7 @@ fn other_words_are_no_sweep(rt: HostRuntime) -> Result<(), Fail> {
 #[test]
 fn a_case_that_is_refused_has_no_rows(rt: HostRuntime) -> Result<(), Fail> {
     let text = "case row 1 NoContribution\n";
-    check_sweep(&rt, "", ["0", "100", "10", "4"], 3, text)
+    check_sweep(&rt, "", ("0", "100", "10", "4"), 3, text)
 }
 
 #[test]
