@@ -9,6 +9,7 @@ use site_text::SiteWhy;
 use std::process::Abort;
 use std::test::Fail;
 use stream_case::Items;
+use study::SweepRow;
 
 /// What is shown of the targets and these pinches.
 #[tactic(auto, unfolding(reports::specs::Text::IsPrintable))]
@@ -61,5 +62,28 @@ fn each_answer_has_its_text(rt: HostRuntime) -> Result<(), Fail> {
     let file = FileRole::Site;
     assert_printed(&rt, Shown::TooLong { file }, "too long site\n");
     assert_printed(&rt, Shown::ReadFault { file }, "read fault site\n");
+    Ok(())
+}
+
+#[test]
+#[tactic(auto, unfolding(reports::specs::Text::IsPrintable))]
+fn rows_of_a_sweep_have_their_text(rt: HostRuntime) -> Result<(), Fail> {
+    let rows = [
+        SweepRow {
+            contribution: 0,
+            hot: 20_000,
+            cold: 60_000,
+            cost: Some(-5),
+        },
+        SweepRow {
+            contribution: 1000,
+            hot: 0,
+            cold: 4_000,
+            cost: None,
+        },
+    ];
+    let rows = Items::from_vec(rows.to_vec(rt.alloc())?);
+    let text = "row 0 20000 60000 -5\nrow 1000 0 4000 infeasible\n";
+    assert_printed(&rt, Shown::Sweep { rows }, text);
     Ok(())
 }
