@@ -5,7 +5,7 @@ use Rattle.pinch_outside.specs.declared.limits.TheConstants.{MAX_FILE}
 use Rattle.stream_case.specs.declared.case.Case.{Case}
 use Rattle.stream_case.specs.Case.{completed}
 use Rattle.pinch.specs.declared.command.Command.{Command}
-use Rattle.pinch.specs.declared.command.Command.TheVariants.{Targets, Flow, Design, Curves, Audit, Site, Sweep}
+use Rattle.pinch.specs.declared.command.Command.TheVariants.{Targets, Flow, Design, Vertical, Curves, Audit, Site, Sweep}
 use Rattle.reports.specs.declared.shown.FileRole.{FileRole}
 use Rattle.reports.specs.declared.shown.Shown.{Shown}
 use Rattle.pinch.specs.Files.{NoFile, failed, too_long, NoText, no_file, refused, FromText, no_text, by_text}
@@ -19,8 +19,9 @@ use Rattle.pinch.specs.Flow.{ShowsFlow}
 use Rattle.pinch.specs.Network.{network_file}
 use Rattle.pinch.specs.Site.{site_file, ShowsSite}
 use Rattle.pinch.specs.Sweep.{ShowsSweep}
+use Rattle.pinch.specs.Vertical.{ShowsVertical}
 use Rattle.pinch.proofs.Formats.{IsLawful, lawful_case, lawful_network, lawful_site}
-use Rattle.pinch.proofs.Plain.{is_plain, plain_design, plain_flow, plain_audit}
+use Rattle.pinch.proofs.Plain.{is_plain, plain_design, plain_flow, plain_audit, plain_vertical}
 
 -- the last file was read to its end
 pub record Ended (new : ShelfState) : Type 0 where
@@ -121,6 +122,7 @@ causes None old new shown shows = shows
 causes (Some (Targets case)) old new shown shows = of_file case_file lawful_case (file_of (Targets case)) case old new shown AreTargetsOf refl (λ c is. ap is_plain is.is) shows
 causes (Some (Flow case)) old new shown shows = of_file case_file lawful_case (file_of (Flow case)) case old new shown ShowsFlow refl (λ c is. plain_flow (completed c) shown is.answer) shows
 causes (Some (Design case)) old new shown shows = of_file case_file lawful_case (file_of (Design case)) case old new shown ShowsDesign refl (λ c is. plain_design (completed c) shown is.answer) shows
+causes (Some (Vertical case)) old new shown shows = of_file case_file lawful_case (file_of (Vertical case)) case old new shown ShowsVertical refl (λ c is. plain_vertical (completed c) shown is) shows
 causes (Some (Curves case)) old new shown shows = of_file case_file lawful_case (file_of (Curves case)) case old new shown AreCurvesOf refl (λ c is. ap is_plain is.is) shows
 causes (Some (Audit case network)) old new shown shows = of_network (file_of (Audit case network)) case network old new shown refl (λ c. refl) shows
 causes (Some (Site site)) old new shown shows = of_file site_file lawful_site (file_of (Site site)) site old new shown ShowsSite refl (λ s is. ap is_plain is.is) shows

@@ -5,7 +5,7 @@ use Rattle.pinch_outside.specs.Faults.{Rose}
 use Rattle.pinch_outside.specs.Shelf.{ShelfState, NamedFile, IsFile, IsFileAbove, KeepsFiles}
 use Rattle.pinch_outside.specs.declared.limits.TheConstants.{MAX_FILE}
 use Rattle.stream_case.specs.declared.case.Case.{Case}
-use Rattle.stream_case.specs.Case.{completed}
+use Rattle.stream_case.specs.Case.{completed, IsStandard}
 use Rattle.site.specs.declared.plants.Site.{Site}
 use Rattle.transport.specs.declared.answer.Answer.{Answer}
 use Rattle.transport.specs.declared.answer.Answer.TheVariants as answer
@@ -15,7 +15,7 @@ use Rattle.network_audit.specs.declared.verdict.Verdict.TheVariants as verdict
 use Rattle.reports.specs.declared.shown.FileRole.{FileRole}
 use Rattle.reports.specs.declared.shown.Shown.{Shown}
 use Rattle.pinch.specs.declared.command.Command.{Command}
-use Rattle.pinch.specs.declared.command.Command.TheVariants.{Targets, Flow, Design, Curves, Audit, Site as OfSite, Sweep}
+use Rattle.pinch.specs.declared.command.Command.TheVariants.{Targets, Flow, Design, Vertical, Curves, Audit, Site as OfSite, Sweep}
 use Rattle.pinch.specs.Answers.{FromFile, FromNetwork, ShowsCommand}
 use Rattle.pinch.specs.Case.{case_file, AreTargetsOf, AreCurvesOf}
 use Rattle.pinch.specs.Complete.{Holds, HoldsText, HoldsFault, CanAnswer, HasBadFile}
@@ -27,6 +27,7 @@ use Rattle.pinch.specs.Network.{network_file, ShowsVerdict}
 use Rattle.pinch.specs.Site.{site_file, ShowsSite}
 use Rattle.pinch.specs.Status.{status_of, status_of_site, IsAnswered}
 use Rattle.pinch.specs.Sweep.{ShowsSweep}
+use Rattle.pinch.specs.Vertical.{AnswersVertical, ShowsVertical}
 use Rattle.pinch.proofs.Formats.{IsLawful, lawful_case, lawful_network, lawful_site, one_value, one_refusal, not_both}
 
 -- a file within the limit is not above it
@@ -90,6 +91,11 @@ design_answers : (c : Case) (shown : Shown) → IsDesignAnswer c shown ⊎ IsCut
 design_answers c shown (inl design) = answers shown _ tt design.design.is
 design_answers c shown (inr cut) = answers shown _ tt cut.is
 
+-- and so is the network of a standard case by its composite curves
+vertical_answers : (c : Case) (shown : Shown) → IsStandard c → AnswersVertical c shown → IsAnswered (status_of shown)
+vertical_answers c shown standard (inl design) = answers shown _ tt design.1.is
+vertical_answers c shown standard (inr refused) = absurd (refused.other standard)
+
 -- and so is what is shown of a site
 site_is_answered : (a : Answer) → IsAnswered (status_of_site a)
 site_is_answered (answer.Least flow prices cost) = tt
@@ -143,6 +149,7 @@ complete None old new shown shows can no_fault = absurd can
 complete (Some (Targets case)) old new shown shows can no_fault = of_file case_file lawful_case case old new shown _ AreTargetsOf no_fault can (λ c t is. answers shown _ tt is.is) shows
 complete (Some (Flow case)) old new shown shows can no_fault = of_file case_file lawful_case case old new shown _ ShowsFlow no_fault can (λ c t is. flow_answers (completed c) shown is.answer) shows
 complete (Some (Design case)) old new shown shows can no_fault = of_file case_file lawful_case case old new shown _ ShowsDesign no_fault can (λ c t is. design_answers (completed c) shown is.answer) shows
+complete (Some (Vertical case)) old new shown shows can no_fault = of_file case_file lawful_case case old new shown _ ShowsVertical no_fault can (λ c standard is. vertical_answers (completed c) shown standard is) shows
 complete (Some (Curves case)) old new shown shows can no_fault = of_file case_file lawful_case case old new shown _ AreCurvesOf no_fault can (λ c t is. answers shown _ tt is.is) shows
 complete (Some (Audit case network)) old new shown shows can no_fault = audit_answers case network old new shown no_fault shows can
 complete (Some (OfSite site)) old new shown shows can no_fault = of_file site_file lawful_site site old new shown _ ShowsSite no_fault can (λ s t is. site_answers s shown is) shows
@@ -155,6 +162,7 @@ bad_file None old new shown shows refusal bad no_fault = absurd bad
 bad_file (Some (Targets case)) old new shown shows refusal bad no_fault = of_refused case_file lawful_case case old new shown no_fault refusal _ bad shows
 bad_file (Some (Flow case)) old new shown shows refusal bad no_fault = of_refused case_file lawful_case case old new shown no_fault refusal _ bad shows
 bad_file (Some (Design case)) old new shown shows refusal bad no_fault = of_refused case_file lawful_case case old new shown no_fault refusal _ bad shows
+bad_file (Some (Vertical case)) old new shown shows refusal bad no_fault = of_refused case_file lawful_case case old new shown no_fault refusal _ bad shows
 bad_file (Some (Curves case)) old new shown shows refusal bad no_fault = of_refused case_file lawful_case case old new shown no_fault refusal _ bad shows
 bad_file (Some (Audit case network)) old new shown shows refusal bad no_fault = bad_case_or_network case network old new shown no_fault shows refusal bad
 bad_file (Some (OfSite site)) old new shown shows refusal bad no_fault = of_refused site_file lawful_site site old new shown no_fault refusal _ bad shows

@@ -9,6 +9,7 @@ use Rattle.reports.specs.declared.shown.Shown.TheVariants.{BadWords, ReadFault, 
 use Rattle.pinch.specs.Design.{IsDesignAnswer}
 use Rattle.pinch.specs.Flow.{IsFlowAnswer, IsCutAnswer}
 use Rattle.pinch.specs.Network.{IsAuditOf, ShowsVerdict}
+use Rattle.pinch.specs.Vertical.{AnswersVertical}
 
 -- what is shown is a result, or blames what a file says
 abbrev pub is_plain : Shown → Bool
@@ -26,6 +27,11 @@ plain_flow c shown (inr cut) = ap is_plain cut.is
 pub plain_design : (c : Case) (shown : Shown) → IsDesignAnswer c shown ⊎ IsCutAnswer c shown → is_plain shown ≡ true
 plain_design c shown (inl design) = ap is_plain design.design.is
 plain_design c shown (inr cut) = ap is_plain cut.is
+
+-- and what `vertical` shows is a result, or blames the case
+pub plain_vertical : (c : Case) (shown : Shown) → AnswersVertical c shown → is_plain shown ≡ true
+plain_vertical c shown (inl design) = ap is_plain design.1.is
+plain_vertical c shown (inr refused) = ap is_plain refused.is
 
 -- and so is the verdict on a network
 plain_verdict : (c : Case) (network : Network) (v : Verdict) (shown : Shown) → ShowsVerdict c network v shown → is_plain shown ≡ true

@@ -11,7 +11,7 @@ use Rattle.reports.specs.declared.shown.FileRole.{FileRole}
 use Rattle.reports.specs.declared.shown.Shown.{Shown}
 use Rattle.reports.specs.declared.shown.Shown.TheVariants.{BadWords}
 use Rattle.pinch.specs.declared.command.Command.{Command}
-use Rattle.pinch.specs.declared.command.Command.TheVariants.{Targets, Flow, Design, Curves, Audit, Site as OfSite, Sweep}
+use Rattle.pinch.specs.declared.command.Command.TheVariants.{Targets, Flow, Design, Vertical, Curves, Audit, Site as OfSite, Sweep}
 use Rattle.pinch.specs.Answers.{FromFile, ShowsCommand}
 use Rattle.pinch.specs.Case.{case_file, AreTargetsOf, AreCurvesOf}
 use Rattle.pinch.specs.Design.{IsDesignAnswer, ShowsDesign}
@@ -21,6 +21,7 @@ use Rattle.pinch.specs.Format.{Format}
 use Rattle.pinch.specs.Network.{network_file, ShowsVerdict}
 use Rattle.pinch.specs.Site.{site_file, ShowsSite}
 use Rattle.pinch.specs.Sweep.{ShowsSweep}
+use Rattle.pinch.specs.Vertical.{AnswersVertical, ShowsVertical}
 
 of_is : (shown result : Shown) → shown ≡ result → IsPrintable result → IsPrintable shown
 of_is shown result is printable = subst IsPrintable (sym is) printable
@@ -52,6 +53,11 @@ unfolding IsPrintable
 of_design c shown (inl answer) = of_is shown _ answer.design.is (answer.design.complete, answer.design.shape)
 of_design c shown (inr cut) = of_is shown _ cut.is tt
 
+of_vertical : (c : Case) (shown : Shown) → AnswersVertical c shown → IsPrintable shown
+unfolding IsPrintable
+of_vertical c shown (inl design) = of_is shown _ design.1.is (design.1.complete, design.1.shape)
+of_vertical c shown (inr refused) = of_is shown _ refused.is tt
+
 of_verdict : (c : Case) (network : Network) (v : Verdict) (shown : Shown) → ShowsVerdict c network v shown → IsPrintable shown
 unfolding IsPrintable
 of_verdict c network (verdict.Accepted balance) shown shows = of_is shown _ shows.is tt
@@ -64,6 +70,7 @@ printable None old new shown shows = of_is shown BadWords shows.0 tt
 printable (Some (Targets case)) old new shown shows = of_file case_file case old new shown AreTargetsOf (λ at why. tt) (λ c is. of_is shown _ is.is tt) shows
 printable (Some (Flow case)) old new shown shows = of_file case_file case old new shown ShowsFlow (λ at why. tt) (λ c is. of_flow (completed c) shown is.answer) shows
 printable (Some (Design case)) old new shown shows = of_file case_file case old new shown ShowsDesign (λ at why. tt) (λ c is. of_design (completed c) shown is.answer) shows
+printable (Some (Vertical case)) old new shown shows = of_file case_file case old new shown ShowsVertical (λ at why. tt) (λ c is. of_vertical (completed c) shown is) shows
 printable (Some (Curves case)) old new shown shows = of_file case_file case old new shown AreCurvesOf (λ at why. tt) (λ c is. of_is shown _ is.is tt) shows
 printable (Some (OfSite site)) old new shown shows = of_file site_file site old new shown ShowsSite (λ at why. tt) (λ s is. of_is shown _ is.is tt) shows
 printable (Some (Sweep case plan workers)) old new shown shows = of_file case_file case old new shown (ShowsSweep plan) (λ at why. tt) (λ c is. of_is shown _ is.is tt) shows

@@ -12,7 +12,7 @@ use Rattle.pinch.specs.declared.numbers.TheConstants.{MOST_DIGITS, MOST_END, MOS
 use Rattle.pinch.specs.Command.{audit_of, command_of, command_of_word, one_file, sweep_of, sweep_with, IsRunnable}
 use Rattle.pinch.specs.Numbers.{limited, number_within, plan_of, plan_with, workers_of}
 use Rattle.pinch.specs.declared.command.Command.{Command}
-use Rattle.pinch.specs.declared.command.Command.TheVariants.{Targets, Flow, Design, Curves, Audit, Site, Sweep}
+use Rattle.pinch.specs.declared.command.Command.TheVariants.{Targets, Flow, Design, Vertical, Curves, Audit, Site, Sweep}
 
 -- what is there only where a test holds
 where_true : {X : Type 0} (b : Bool) (x : X) (P : X → Type 0) → (b ≡ true → P x) → IfSome (if b then Some x else None) P
@@ -78,10 +78,11 @@ of_word word rest =
     either (bytes_eq word (codes "targets")) _ _ (of_file Targets (λ n. tt) (one_file rest))
     (either (bytes_eq word (codes "flow")) _ _ (of_file Flow (λ n. tt) (one_file rest))
     (either (bytes_eq word (codes "design")) _ _ (of_file Design (λ n. tt) (one_file rest))
+    (either (bytes_eq word (codes "vertical")) _ _ (of_file Vertical (λ n. tt) (one_file rest))
     (either (bytes_eq word (codes "curves")) _ _ (of_file Curves (λ n. tt) (one_file rest))
     (either (bytes_eq word (codes "audit")) _ _ (of_audit rest)
     (either (bytes_eq word (codes "site")) _ _ (of_file Site (λ n. tt) (one_file rest))
-    (either (bytes_eq word (codes "sweep")) _ _ (of_sweep rest) tt))))))
+    (either (bytes_eq word (codes "sweep")) _ _ (of_sweep rest) tt)))))))
 
 of_words : (words : List (List ℕ)) → IfSome (command_of words) IsRunnable
 of_words [] = tt

@@ -12,8 +12,9 @@ use Rattle.pinch.specs.Format.{Format}
 use Rattle.pinch.specs.Network.{network_file, IsAuditOf}
 use Rattle.pinch.specs.Site.{site_file, ShowsSite}
 use Rattle.pinch.specs.Sweep.{ShowsSweep}
+use Rattle.pinch.specs.Vertical.{ShowsVertical}
 use Rattle.pinch.specs.declared.command.Command.{Command}
-use Rattle.pinch.specs.declared.command.Command.TheVariants.{Targets, Flow, Design, Curves, Audit, Site, Sweep}
+use Rattle.pinch.specs.declared.command.Command.TheVariants.{Targets, Flow, Design, Vertical, Curves, Audit, Site, Sweep}
 
 -- what is shown by a command of one file, of what the file says
 abbrev pub FromFile : {Value Cause : Type 0} → Format Value Cause → List ℕ → ShelfState → ShelfState → Shown → (Value → Shown → Type 0) → Type 0
@@ -31,6 +32,7 @@ ShowsCommand None old new shown = (shown ≡ BadWords) × (new ≡ old)
 ShowsCommand (Some (Targets case)) old new shown = FromFile case_file case old new shown AreTargetsOf
 ShowsCommand (Some (Flow case)) old new shown = FromFile case_file case old new shown ShowsFlow
 ShowsCommand (Some (Design case)) old new shown = FromFile case_file case old new shown ShowsDesign
+ShowsCommand (Some (Vertical case)) old new shown = FromFile case_file case old new shown ShowsVertical
 ShowsCommand (Some (Curves case)) old new shown = FromFile case_file case old new shown AreCurvesOf
 ShowsCommand (Some (Audit case network)) old new shown = FromNetwork case network old new shown
 ShowsCommand (Some (Site site)) old new shown = FromFile site_file site old new shown ShowsSite

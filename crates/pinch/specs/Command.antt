@@ -8,7 +8,7 @@ use Rattle.study.specs.declared.limits.TheConstants.{MOST_WORKERS}
 use Rattle.study.specs.declared.plan.SweepPlan.{SweepPlan}
 use Rattle.pinch.specs.Numbers.{plan_of, workers_of}
 use Rattle.pinch.specs.declared.command.Command.{Command}
-use Rattle.pinch.specs.declared.command.Command.TheVariants.{Targets, Flow, Design, Curves, Audit, Site, Sweep}
+use Rattle.pinch.specs.declared.command.Command.TheVariants.{Targets, Flow, Design, Vertical, Curves, Audit, Site, Sweep}
 
 -- the name of a file, where the words are just that; it is not empty
 abbrev pub one_file : List (List ℕ) → Option (List ℕ)
@@ -36,6 +36,7 @@ command_of_word word rest =
     if bytes_eq word (codes "targets") then option_map Targets (one_file rest)
     else if bytes_eq word (codes "flow") then option_map Flow (one_file rest)
     else if bytes_eq word (codes "design") then option_map Design (one_file rest)
+    else if bytes_eq word (codes "vertical") then option_map Vertical (one_file rest)
     else if bytes_eq word (codes "curves") then option_map Curves (one_file rest)
     else if bytes_eq word (codes "audit") then audit_of rest
     else if bytes_eq word (codes "site") then option_map Site (one_file rest)
@@ -59,6 +60,7 @@ file_of (Audit case network) Network = Some network
 file_of (Targets case) Case = Some case
 file_of (Flow case) Case = Some case
 file_of (Design case) Case = Some case
+file_of (Vertical case) Case = Some case
 file_of (Curves case) Case = Some case
 file_of (Site site) SiteFile = Some site
 file_of (Sweep case plan workers) Case = Some case

@@ -14,3 +14,4 @@ pub mod Site
 pub mod Status
 pub mod Stop
 pub mod Sweep
+pub mod Vertical

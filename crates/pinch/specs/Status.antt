@@ -39,6 +39,7 @@ status_of (shows.SiteShown site parts sinks sources answer) = status_of_site ans
 status_of (shows.Sweep rows) = Answered
 status_of shows.BadWords = NoCommand
 status_of (shows.BadCase row why) = CaseRefused
+status_of shows.NotStandard = CaseRefused
 status_of (shows.BadSite row why) = CaseRefused
 status_of (shows.BadNetwork line why) = NetworkRefused
 status_of (shows.TooLong file) = TooLong

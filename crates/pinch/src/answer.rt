@@ -12,6 +12,7 @@ use crate::files::{take_case, take_network, take_site};
 use crate::site_answer::show_site;
 use crate::stop::Stop;
 use crate::sweep_answer::show_sweep;
+use crate::vertical_answer::show_vertical;
 use crate::word::Word;
 use pinch_outside::Shelf;
 use reports::Shown;
@@ -60,6 +61,10 @@ fn answer_command<R: Threads + Sync, G: Gate + Sync, S: Shelf>(
         Command::Design { case } => {
             let case = take_case(alloc, shelf, case)?;
             Ok(show_design(alloc, &case)?)
+        }
+        Command::Vertical { case } => {
+            let case = take_case(alloc, shelf, case)?;
+            Ok(show_vertical(alloc, &case)?)
         }
         Command::Curves { case } => {
             let case = take_case(alloc, shelf, case)?;

@@ -17,6 +17,8 @@ pub enum Command {
     Flow { case: Word },
     /// `design CASE`: a network that realises a heat flow of least cost.
     Design { case: Word },
+    /// `vertical CASE`: a network of a standard case by its composite curves.
+    Vertical { case: Word },
     /// `curves CASE`: the composite curves and the grand composite curve.
     Curves { case: Word },
     /// `audit CASE NETWORK`: whether the network is valid for the completed case.
@@ -49,6 +51,7 @@ fn command_of_word(alloc: Global, word: &str, rest: &[Word]) -> Result<Option<Co
         "targets" => Ok(one_file(alloc, rest)?.map(|case| Command::Targets { case })),
         "flow" => Ok(one_file(alloc, rest)?.map(|case| Command::Flow { case })),
         "design" => Ok(one_file(alloc, rest)?.map(|case| Command::Design { case })),
+        "vertical" => Ok(one_file(alloc, rest)?.map(|case| Command::Vertical { case })),
         "curves" => Ok(one_file(alloc, rest)?.map(|case| Command::Curves { case })),
         "audit" => audit_of(alloc, rest),
         "site" => Ok(one_file(alloc, rest)?.map(|site| Command::Site { site })),

@@ -54,7 +54,7 @@ fn design_flow(alloc: Global, case: Case, parts: &Parts, flow: &Flow) -> Result<
 }
 
 /// The balance of a network in which an audit finds nothing.
-fn audited(alloc: Global, case: &Case, network: &Network) -> Result<Balance, AllocError>
+pub fn audited(alloc: Global, case: &Case, network: &Network) -> Result<Balance, AllocError>
     requires complete { IsComplete case.now }
     requires shape { HasShape case.now network.now }
     requires accepted { HasNoFinding case.now network.now }

@@ -17,6 +17,7 @@ mod stop;
 mod sweep_answer;
 #[cfg(test)]
 mod tests;
+mod vertical_answer;
 mod word;
 
 use arguments::run_arguments;

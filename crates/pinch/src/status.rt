@@ -14,7 +14,7 @@ pub enum Status {
     AnsweredNo,
     /// The words are no command.
     NoCommand,
-    /// The case file or the site file is refused.
+    /// The case file or the site file is refused, or the case is not standard where it has to be.
     CaseRefused,
     /// The network file is refused.
     NetworkRefused,
@@ -65,7 +65,9 @@ pub fn status_of(shown: &Shown) -> Status
         Shown::SiteShown { answer, .. } => status_of_site(answer),
         Shown::TooFine { .. } => Status::TooFine,
         Shown::BadWords => Status::NoCommand,
-        Shown::BadCase { .. } | Shown::BadSite { .. } => Status::CaseRefused,
+        Shown::BadCase { .. } | Shown::BadSite { .. } | Shown::NotStandard => {
+            Status::CaseRefused
+        },
         Shown::BadNetwork { .. } => Status::NetworkRefused,
         Shown::TooLong { .. } => Status::TooLong,
         Shown::ReadFault { .. } => Status::ReadFault,

@@ -13,7 +13,7 @@ use Rattle.reports.specs.Site.{total_site_text}
 use Rattle.reports.specs.Sweep.{sweep_text}
 use Rattle.reports.specs.Targets.{targets_text}
 use Rattle.reports.specs.declared.shown.Shown.{Shown}
-use Rattle.reports.specs.declared.shown.Shown.TheVariants.{Targets, Flow, Stuck, Curves, Design, Accepted, Rejected, TooFine, SiteShown, Sweep, BadWords, BadCase, BadSite, BadNetwork, ReadFault, TooLong}
+use Rattle.reports.specs.declared.shown.Shown.TheVariants.{Targets, Flow, Stuck, Curves, Design, Accepted, Rejected, TooFine, SiteShown, Sweep, BadWords, BadCase, NotStandard, BadSite, BadNetwork, ReadFault, TooLong}
 
 -- a design has the shape of a network of its completed case
 unfoldable pub IsPrintable : Shown → Type 0
@@ -28,10 +28,11 @@ is_of_network (Rejected case network place reason) = true
 is_of_network (TooFine case network place step) = true
 is_of_network other = false
 
--- words, a file or a row are blamed
+-- words, a file, a row or a case are blamed
 abbrev pub is_refusal : Shown → Bool
 is_refusal BadWords = true
 is_refusal (BadCase row why) = true
+is_refusal NotStandard = true
 is_refusal (BadSite row why) = true
 is_refusal (BadNetwork line why) = true
 is_refusal (TooLong file) = true
@@ -52,6 +53,7 @@ text (SiteShown site parts sinks sources answer) = total_site_text site parts si
 text (Sweep rows) = sweep_text rows
 text BadWords = codes "words: targets flow curves design vertical audit site sweep sample certify prices\n"
 text (BadCase row why) = bad_case_text row why
+text NotStandard = codes "case not standard\n"
 text (BadSite row why) = bad_site_text row why
 text (BadNetwork line why) = bad_network_text line why
 text (TooLong file) = file_text (codes "too long") file

@@ -12,6 +12,9 @@ use std::alloc::{AllocError, Global};
 pub const WORDS: &str =
     "words: targets flow curves design vertical audit site sweep sample certify prices\n";
 
+/// What is printed where a command that is for standard cases alone is asked for another one.
+pub const NOT_STANDARD: &str = "case not standard\n";
+
 /// A line that names the row of a case file, counted from 1, and its cause.
 pub fn bad_case_text(alloc: Global, row: u32, why: CaseWhy) -> Result<String, AllocError>
     ensures { IfOk result (λ text. string_bytes text ≡ bad_case_text row why) }

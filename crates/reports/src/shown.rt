@@ -106,6 +106,8 @@ pub enum Shown {
         row: u32,
         why: CaseWhy,
     },
+    /// The completed case is not standard, and the command is for standard cases alone.
+    NotStandard,
     /// The site file is refused: the row, counted from 1, and what is to be mended there.
     BadSite {
         row: u32,

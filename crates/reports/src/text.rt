@@ -8,7 +8,7 @@ use crate::design::design_text;
 use crate::flow::flow_text;
 use crate::names::case_names;
 use crate::points::curves_text;
-use crate::refusal::{WORDS, bad_case_text, bad_network_text, bad_site_text, file_text};
+use crate::refusal::{NOT_STANDARD, WORDS, bad_case_text, bad_network_text, bad_site_text, file_text};
 use crate::shown::Shown;
 use crate::sweep::sweep_text;
 use crate::targets::targets_text;
@@ -97,7 +97,7 @@ fn network_text(alloc: Global, shown: &Shown) -> Result<Vec<u8>, AllocError>
     }
 }
 
-/// The text of what blames words, a file or a row.
+/// The text of what blames words, a file, a row or a case.
 #[tactic(auto, unfolding(crate::specs::Text::text))]
 fn refusal_text(alloc: Global, shown: &Shown) -> Result<String, AllocError>
     requires { IsTrue (is_refusal shown.now) }
@@ -106,6 +106,7 @@ fn refusal_text(alloc: Global, shown: &Shown) -> Result<String, AllocError>
     match shown {
         Shown::BadWords => String::from_str(alloc, WORDS),
         Shown::BadCase { row, why } => bad_case_text(alloc, *row, *why),
+        Shown::NotStandard => String::from_str(alloc, NOT_STANDARD),
         Shown::BadSite { row, why } => bad_site_text(alloc, *row, *why),
         Shown::BadNetwork { line, why } => bad_network_text(alloc, *line, *why),
         Shown::TooLong { file } => file_text(alloc, "too long", *file),

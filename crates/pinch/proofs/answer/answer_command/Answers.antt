@@ -31,6 +31,14 @@ pub returns-in_ok-show_design-in-Design : goal.returns-in_ok-show_design-in-Desi
 unfolding ShowsCommand
 returns-in_ok-show_design-in-Design g c = rw c.in-Design.is (by_text _ _ c.in_ok-case-in-Design.ensures.case (refl, c.in_ok-show_design-in-Design.ensures))
 
+pub returns-in_err-case-in-Vertical : goal.returns-in_err-case-in-Vertical
+unfolding ShowsCommand
+returns-in_err-case-in-Vertical g c = rw c.in-Vertical.is (without_text case_file _ _ _ _ _ _ c.from_residual-in_err-case-in-Vertical.ensures.1 c.in_err-case-in-Vertical.ensures.stop)
+
+pub returns-in_ok-show_vertical-in-Vertical : goal.returns-in_ok-show_vertical-in-Vertical
+unfolding ShowsCommand
+returns-in_ok-show_vertical-in-Vertical g c = rw c.in-Vertical.is (by_text _ _ c.in_ok-case-in-Vertical.ensures.case (refl, c.in_ok-show_vertical-in-Vertical.ensures))
+
 pub returns-in_err-case-in-Curves : goal.returns-in_err-case-in-Curves
 unfolding ShowsCommand
 returns-in_err-case-in-Curves g c = rw c.in-Curves.is (without_text case_file _ _ _ _ _ _ c.from_residual-in_err-case-in-Curves.ensures.1 c.in_err-case-in-Curves.ensures.stop)
