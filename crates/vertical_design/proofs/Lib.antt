@@ -20,3 +20,11 @@ pub mod SpanRuns
 pub mod IntervalTemperatures
 pub mod IntervalFacing
 pub mod OverlapSums
+pub mod SpanSources
+pub mod IntervalPlaces
+pub mod IntervalShares
+pub mod IntervalStages
+pub mod StreamCourses
+pub mod NetworkCourses
+pub mod MatchPasses
+pub mod NetworkValid
