@@ -45,6 +45,7 @@ use Rattle.vertical_design.proofs.IntervalLemmas.{amounts-positive, length-amoun
 use Rattle.vertical_design.proofs.IntervalTemperatures.{size_is}
 use Rattle.vertical_design.proofs.OverlapLists.{ListsOverlaps-pairs_of, overlap-within}
 use Rattle.vertical_design.proofs.OverlapSums.{amounts-balanced}
+use Rattle.vertical_design.proofs.OwnPairs.{own_amount}
 use Rattle.vertical_design.proofs.SpanRuns.{span_of}
 use Rattle.vertical_design.proofs.SpanSources.{IsSourceSpan, IsStreamSpan, IsUtilitySpan, own_place, sources_differ, span_sources, stream_place, utility_span_of}
 use Rattle.vertical_design.proofs.TurnLemmas.{each-share}
@@ -60,24 +61,13 @@ nothing_there : (shares : List Share) → All (λ s. ⊥) shares → shares ≡ 
 nothing_there [] none = refl
 nothing_there (s ∷ shares) none = absurd (All-head (λ (a : Share). ⊥) s shares none)
 
--- ---- what a span offers
-
-module _ (low high : ℤ) where
-  amounts-at : (spans others : List Span) (i : ℕ) (a : Span) → slice_get spans i ≡ Some a → get_or (amounts_in low high spans others) i (pos 0) ≡ flow_in low high a *ℤ side_flow low high others
-  amounts-at spans others i a at =
-      let flows = flows_in low high spans in
-      let within = slice_get_within spans i a at in
-      let inside : i < length flows = omega (arith, within, length-map spans (flow_in low high)) in
-      get_or-map (λ f. f *ℤ side_flow low high others) flows i (pos 0) (pos 0) inside
-      ∙ ap (λ f. f *ℤ side_flow low high others) (get_or-map (flow_in low high) spans i a (pos 0) within ∙ ap (flow_in low high) (get_or_from_slice_get spans i a a at))
-
-  -- one that offers something runs
-  running : (a : Span) (other : ℤ) → pos 0 <ℤ (flow_in low high a *ℤ other) → (a.from ≤ℤ low) × (high ≤ℤ a.to)
-  running a other above = by (int_le a.from low && int_le high a.to) refl above
-    where
-      by : (b : Bool) → (int_le a.from low && int_le high a.to) ≡ b → pos 0 <ℤ ((if b then a.cp else pos 0) *ℤ other) → (a.from ≤ℤ low) × (high ≤ℤ a.to)
-      by true is some = let both = and_parts (int_le a.from low) (int_le high a.to) is in (int_le-true a.from low both.0, int_le-true high a.to both.1)
-      by false is some = let none = zero_times (pos 0) other refl in absurd (omega (arith, ints, some, none))
+-- what offers something runs
+running : (low high : ℤ) (a : Span) (other : ℤ) → pos 0 <ℤ (flow_in low high a *ℤ other) → (a.from ≤ℤ low) × (high ≤ℤ a.to)
+running low high a other above = by (int_le a.from low && int_le high a.to) refl above
+  where
+    by : (b : Bool) → (int_le a.from low && int_le high a.to) ≡ b → pos 0 <ℤ ((if b then a.cp else pos 0) *ℤ other) → (a.from ≤ℤ low) × (high ≤ℤ a.to)
+    by true is some = let both = and_parts (int_le a.from low) (int_le high a.to) is in (int_le-true a.from low both.0, int_le-true high a.to both.1)
+    by false is some = let none = zero_times (pos 0) other refl in absurd (omega (arith, ints, some, none))
 
 -- ---- sizes
 
@@ -131,7 +121,7 @@ module _ (case : Case) (low high : ℤ) where
       let within : i < length all = omega (arith, inside, length-amounts low high all others) in
       let a = get_or all i b in
       let there : slice_get all i ≡ Some a = slice_get-get_or all i b within in
-      let offered = amounts-at low high all others i a there in
+      let offered = own_amount low high all others i a there in
       let runs = running low high a (side_flow low high others) (omega (arith, ints, above, upto, offered)) in
       record {
         span = a;
@@ -226,7 +216,7 @@ module _ (case : Case) (low high : ℤ) (are_hot : AreSpans (spans_of side.Hot c
       let first = (lists.each i o within).first_within in
       ap (λ b. if b then p.amount else pos 0) (own_place hot_spans (sources_differ case side.Hot) k a there p.first (omega (arith, first, long))))
       ∙ overlaps_first us vs ps (amounts-positive low high hot_spans cold_spans are_hot are_cold) (amounts-positive low high cold_spans hot_spans are_cold are_hot) (amounts-balanced low high hot_spans cold_spans) lists k (omega (arith, inside, long))
-      ∙ amounts-at low high hot_spans cold_spans k a there
+      ∙ own_amount low high hot_spans cold_spans k a there
 
   sum-cold : (number : ℕ) (s : Stream) → slice_get case.streams number ≡ Some s → s.side ≡ side.Cold
       → int_sum_by (λ p. if same_source (source_at cold_spans p.second) (source.Stream number) then p.amount else pos 0) (pairs_of hot_amounts cold_amounts) ≡ flow_in low high (span_of side.Cold case.streams number s) *ℤ side_flow low high hot_spans
@@ -245,7 +235,7 @@ module _ (case : Case) (low high : ℤ) (are_hot : AreSpans (spans_of side.Hot c
       let second = (lists.each i o within).second_within in
       ap (λ b. if b then p.amount else pos 0) (own_place cold_spans (sources_differ case side.Cold) k a there p.second (omega (arith, second, long))))
       ∙ overlaps_second us vs ps (amounts-positive low high hot_spans cold_spans are_hot are_cold) (amounts-positive low high cold_spans hot_spans are_cold are_hot) (amounts-balanced low high hot_spans cold_spans) lists k (omega (arith, inside, long))
-      ∙ amounts-at low high cold_spans hot_spans k a there
+      ∙ own_amount low high cold_spans hot_spans k a there
 
   -- its shares are the flow that it has there
   pub shares_size : (of : Side) (number first : ℕ) (s : Stream) → slice_get case.streams number ≡ Some s → s.side ≡ of → pos 0 <ℤ side_flow low high hot_spans → pos 0 <ℤ side_flow low high cold_spans

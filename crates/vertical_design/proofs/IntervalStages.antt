@@ -37,6 +37,7 @@ use Rattle.vertical_design.proofs.IntervalFacing.{actual_at, match_gives, match_
 use Rattle.vertical_design.proofs.IntervalPlaces.{first_at, interval_at, match_place}
 use Rattle.vertical_design.proofs.IntervalShares.{match_pair, shares_size}
 use Rattle.vertical_design.proofs.IntervalTemperatures.{IsScale}
+use Rattle.vertical_design.proofs.OwnPairs.{list_on}
 use Rattle.vertical_design.proofs.SideFlows.{flow_above}
 use Rattle.vertical_design.proofs.SpanLimits.{AreSpans-spans_of}
 use Rattle.vertical_design.proofs.SpanRuns.{span_of}
@@ -86,11 +87,6 @@ duty-match case intervals number m at =
 
 -- ---- the branches of matches
 
--- the spans of a side
-abbrev spans_on_side : List Span → List Span → Side → List Span
-spans_on_side hot cold side.Hot = hot
-spans_on_side hot cold side.Cold = cold
-
 module _ (low high : ℤ) (hot cold : List Span) (are_hot : AreSpans hot) (are_cold : AreSpans cold) where
   share_of_match : (i : ℕ) (m : Match) → slice_get (matches_in low high hot cold) i ≡ Some m → (p : Pair) × IsShare low high hot cold p × (match_of low high hot cold p ≡ m)
   share_of_match i m at = let (p, is, made) = match_pair low high hot cold i m at in (p, share-within low high hot cold p are_hot are_cold is, made)
@@ -102,11 +98,11 @@ module _ (low high : ℤ) (hot cold : List Span) (are_hot : AreSpans hot) (are_c
   positive_branch side.Hot p share = positive-ratio p.amount (unsigned_abs (side_flow low high cold)) (size_above (side_flow low high cold) share.cold_flow.from) share.above
   positive_branch side.Cold p share = positive-ratio p.amount (unsigned_abs (side_flow low high hot)) (size_above (side_flow low high hot) share.hot_flow.from) share.above
 
-  branch_duty : (of : Side) (p : Pair) (x : Rational) → IsShare low high hot cold p → x ≡ ratio (high -ℤ low) (unsigned_abs (side_flow low high (spans_on_side hot cold of))) → times (cp_on of (match_of low high hot cold p)) x ≡ (match_of low high hot cold p).duty
+  branch_duty : (of : Side) (p : Pair) (x : Rational) → IsShare low high hot cold p → x ≡ ratio (high -ℤ low) (unsigned_abs (side_flow low high (list_on of hot cold))) → times (cp_on of (match_of low high hot cold p)) x ≡ (match_of low high hot cold p).duty
   branch_duty side.Hot p x share is = ap (times (match_of low high hot cold p).hot_cp) is ∙ match_gives low high hot cold p share
   branch_duty side.Cold p x share is = ap (times (match_of low high hot cold p).cold_cp) is ∙ match_takes low high hot cold p share
 
-spans_side : (case : Case) (of : Side) → spans_on_side (spans_of side.Hot case) (spans_of side.Cold case) of ≡ spans_of of case
+spans_side : (case : Case) (of : Side) → list_on of (spans_of side.Hot case) (spans_of side.Cold case) ≡ spans_of of case
 spans_side case side.Hot = refl
 spans_side case side.Cold = refl
 
