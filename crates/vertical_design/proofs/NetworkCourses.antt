@@ -3,7 +3,6 @@ use Rattle.std.proofs.Common.{◌≡◌, ◌∙◌, ◌<◌, ◌+◌, ◌∷◌,
 use Rattle.std.specs.List.{enumerate_from}
 use Rattle.std.specs.Prelude.{Contains}
 use Rattle.std.proofs.lemmas.List.{length-map}
-use Rattle.std.proofs.lemmas.List.FromFn.{length-enumerate_from}
 use Rattle.std.proofs.lemmas.Option.{same_Some}
 use Rattle.stream_case.specs.Case.{IsComplete, IsStandard}
 use Rattle.stream_case.specs.Stream.{AreStreams}
@@ -26,6 +25,7 @@ use Rattle.vertical_design.specs.Axis.{AreCuts, spans_of}
 use Rattle.vertical_design.specs.Courses.{course_of, courses_of, exchangers_for, network_of}
 use Rattle.vertical_design.specs.Matches.{intervals_of}
 use Rattle.vertical_design.specs.declared.interval.Interval.{Interval}
+use Rattle.vertical_design.proofs.CourseLemmas.{length-courses_of}
 use Rattle.vertical_design.proofs.StreamCourses.{IsLedCourse, led_course, led_stream}
 
 -- the intervals between cuts
@@ -127,9 +127,7 @@ module _ (case : Case) (cuts : List ℤ) (complete : IsComplete case) (standard 
     network_valued shape = values_made case network shape (courses_values all.courses) complete network_makes
 
     length-courses : length all.courses ≡ length case.streams
-    length-courses =
-        let led = ap length all.along in
-        omega (arith, led, length-map all.courses shares_along, length-map (enumerate_from 0 case.streams) (course_of (intervals_between case cuts)), length-enumerate_from 0 case.streams)
+    length-courses = sym (length-map all.courses shares_along) ∙ ap length all.along ∙ length-courses_of case (intervals_between case cuts)
 
     -- and each stream is ended
     pub streams_ended : (stream : ℕ) → stream < length case.streams → Contains (ended_streams network) stream

@@ -107,11 +107,14 @@ shares-way : (of : Side) (stages : List LedStage) → shares_along (on_the_way o
 shares-way side.Hot stages = refl
 shares-way side.Cold stages = map-reverse (λ (stage : LedStage). stage.shares) stages
 
-All-way : {X : Type 0} (P : X → Type 0) (of : Side) (xs : List X) → All P xs → All P (on_the_way of xs)
-All-way P side.Hot xs all = all
-All-way P side.Cold xs all k d inside =
+All-reverse : {X : Type 0} (P : X → Type 0) (xs : List X) → All P xs → All P (reverse xs)
+All-reverse P xs all k d inside =
     let within : k < length xs = omega (arith, inside, length-reverse xs) in
     subst P (sym (get_or-reverse xs k d within)) (all (length xs - 1 - k) d (omega (arith, within)))
+
+All-way : {X : Type 0} (P : X → Type 0) (of : Side) (xs : List X) → All P xs → All P (on_the_way of xs)
+All-way P side.Hot xs all = all
+All-way P side.Cold xs all = All-reverse P xs all
 
 -- an interval with no share of the stream is no stage, and one with a share is
 stage_skip : (x : List Share) (rest : Course) → x ≡ [] → (if nat_lt 0 (length x) then x ∷ rest else rest) ≡ rest
