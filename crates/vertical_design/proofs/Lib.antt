@@ -20,3 +20,10 @@ pub mod SpanRuns
 pub mod IntervalTemperatures
 pub mod IntervalFacing
 pub mod OverlapSums
+pub mod CutSums
+pub mod OwnPairs
+pub mod SideFlows
+pub mod UtilityHeats
+pub mod Balances
+pub mod StageLimits
+pub mod NoFinding

@@ -33,7 +33,7 @@ use Rattle.vertical_design.proofs.SegmentTemperatures.{flow_running, running_flo
 -- ---- cuts next to each other
 
 -- no cut lies between two neighbouring ones
-none_between : (cuts : List ℤ) → AllPairs (λ a b. b <ℤ a) cuts → (at : ℕ) → 0 < at → at < length cuts → (x : ℤ) → Contains cuts x → IsOutside (get_or cuts at (pos 0)) (get_or cuts (at - 1) (pos 0)) x
+pub none_between : (cuts : List ℤ) → AllPairs (λ a b. b <ℤ a) cuts → (at : ℕ) → 0 < at → at < length cuts → (x : ℤ) → Contains cuts x → IsOutside (get_or cuts at (pos 0)) (get_or cuts (at - 1) (pos 0)) x
 none_between cuts falls at later within x (k, inside, is) =
     let here : get_or cuts k (pos 0) ≡ x = get_or_default cuts k (pos 0) x inside ∙ is in
     ⊎_elim
