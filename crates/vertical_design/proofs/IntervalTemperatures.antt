@@ -28,7 +28,7 @@ curve_heat-whole of streams t =
     ap (curve_heat of streams) (sym (ratio-multiple t 1 (omega arith))) ∙ curve_heat-ratio 1 (omega arith) of streams (t *ℤ pos 1) ∙ ap (λ z. ratio z 1) (curve_parts-whole 1 of streams t (omega arith))
     ∙ ratio-multiple (heat_at of streams t) 1 (omega arith)
 
-size_is : (x : ℤ) → pos 0 <ℤ x → x ≡ pos (unsigned_abs x)
+pub size_is : (x : ℤ) → pos 0 <ℤ x → x ≡ pos (unsigned_abs x)
 size_is (pos n) above = refl
 size_is (negsuc n) above = absurd (omega (arith, ints, above))
 

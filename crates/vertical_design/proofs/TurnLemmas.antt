@@ -122,7 +122,7 @@ one_share : (P : Share → Type 0) (b : Bool) (s : Share) (rest : List Share) �
 one_share P true s rest is all = All-cons P s rest (is refl) all
 one_share P false s rest is all = all
 
-each-share : (P : Share → Type 0) (of : Side) (stream n : ℕ) (ms : List Match) → ((i : ℕ) (m : Match) → slice_get ms i ≡ Some m → same_source (source_on of m) (source.Stream stream) ≡ true → P (record { exchanger = n + i; cp = cp_on of m }))
+pub each-share : (P : Share → Type 0) (of : Side) (stream n : ℕ) (ms : List Match) → ((i : ℕ) (m : Match) → slice_get ms i ≡ Some m → same_source (source_on of m) (source.Stream stream) ≡ true → P (record { exchanger = n + i; cp = cp_on of m }))
     → All P (filter_map (share_of of stream) (enumerate_from n ms))
 each-share P of stream n [] each = All-nil P
 each-share P of stream n (m ∷ ms) each =
