@@ -189,7 +189,7 @@ pub utility_order : (of : Side) (streams : List Stream) → IsAxis streams → u
 utility_order side.Hot streams axis = axis.hot_order
 utility_order side.Cold streams axis = axis.cold_order
 
-abbrev IsOnAxis : List Stream → ℤ → Type 0
+abbrev pub IsOnAxis : List Stream → ℤ → Type 0
 IsOnAxis streams x = IsBetween (pos 0) (utility_to side.Hot streams) x
 
 curve_on_axis : (of : Side) (streams : List Stream) (t : ℤ) → AreStreams streams → IsOnAxis streams (heat_at of streams t)

@@ -26,26 +26,20 @@ use Rattle.design_lines.specs.Values.{IsLedStage, LedStage, stage_values}
 use Rattle.design_lines.specs.declared.stage.Share.{Share}
 use Rattle.design_lines.proofs.StageSizes.{AreOver, IsOver, IsStageBranch, StageHolds, stage_sized}
 use Rattle.network_text.specs.declared.network.Network.{Network}
-use Rattle.vertical_design.specs.Axis.{AreCuts, heat_at, spans_of}
+use Rattle.vertical_design.specs.Axis.{AreCuts, spans_of}
 use Rattle.vertical_design.specs.Courses.{cp_on}
-use Rattle.vertical_design.specs.Limits.{AreSpans}
 use Rattle.vertical_design.specs.Matches.{amounts_in, match_of, matches_in, side_flow}
-use Rattle.vertical_design.specs.Vertical.{curve_heat}
 use Rattle.vertical_design.specs.declared.matches.Match.{Match}
 use Rattle.vertical_design.specs.declared.span.Span.{Span}
-use Rattle.vertical_design.proofs.CurveApproach.{one_place}
-use Rattle.vertical_design.proofs.CurveSegments.{Runs, segment}
 use Rattle.vertical_design.proofs.FlowLemmas.{side-within}
 use Rattle.vertical_design.proofs.IntervalFacing.{actual_at}
 use Rattle.vertical_design.proofs.IntervalPlaces.{first_at}
 use Rattle.vertical_design.proofs.IntervalShares.{match_pair}
 use Rattle.vertical_design.proofs.IntervalStages.{IsIntervalStage, entered_at, left_at, lower_cut, upper_cut}
-use Rattle.vertical_design.proofs.IntervalTemperatures.{IsScale, interval_scale}
 use Rattle.vertical_design.proofs.OwnPairs.{list_across}
-use Rattle.vertical_design.proofs.SegmentTemperatures.{flow_running}
 use Rattle.vertical_design.proofs.SideFlows.{flow_above}
 use Rattle.vertical_design.proofs.SpanLimits.{AreSpans-spans_of}
-use Rattle.vertical_design.proofs.SpanRuns.{cut_below, side_flow-running}
+use Rattle.vertical_design.proofs.SpanRuns.{cut_below}
 use Rattle.vertical_design.proofs.TurnLemmas.{each-share}
 use Rattle.vertical_design.proofs.UtilityHeats.{most_flow}
 
@@ -123,34 +117,6 @@ sized-around d m a n some is least most =
     let upto = at_most_from_ratio_whole n (pos m) d some (subst (λ x. IsAtMost x (whole (pos m))) is most) in
     let turned = neg_ℤ-*ℤ (pos m) (pos d) in
     record { num = n; is = is; small = omega (arith, ints, from, upto, turned) }
-
-module _ (case : Case) (cuts : List ℤ) (are_cuts : AreCuts (spans_of side.Hot case) (spans_of side.Cold case) cuts) (at : ℕ) (later : 0 < at) (within : at < length cuts) (are : AreStreams case.streams) (of : Side) (r : Stream) (runs : Runs of case.streams are (lower_cut cuts at) (upper_cut cuts at) r) where
-  -- the temperatures of the interval are whole numbers over the flow of the side
-  interval_over : (q : ℤ) → IsOver (unsigned_abs (side_flow (lower_cut cuts at) (upper_cut cuts at) (spans_of of case))) ((interval_scale case cuts are_cuts at later within are of r runs).0 q)
-  unfolding interval_scale
-  interval_over q =
-      let streams = case.streams in
-      let low = lower_cut cuts at in
-      let high = upper_cut cuts at in
-      let gap = cut_below case cuts are_cuts at later within are in
-      let flow = flow_running of streams are low high gap in
-      let begin = (segment of streams are low high gap r runs).0 in
-      let same = side_flow-running case cuts are_cuts at later within are of r runs in
-      let num = begin *ℤ pos (unsigned_abs flow) +ℤ (q -ℤ heat_at of streams begin) in
-      record { num = num; is = ap (λ f. ratio num (unsigned_abs f)) (sym same) }
-
-  -- and so are those of each scale of it
-  pub scale_over : (scale : ℤ → Rational) → IsScale of case.streams are (lower_cut cuts at) (upper_cut cuts at) (side_flow (lower_cut cuts at) (upper_cut cuts at) (spans_of of case)) scale → r.side ≡ of → (q : ℤ) → lower_cut cuts at ≤ℤ q → q ≤ℤ upper_cut cuts at
-      → IsOver (unsigned_abs (side_flow (lower_cut cuts at) (upper_cut cuts at) (spans_of of case))) (scale q)
-  scale_over scale is own q from upto =
-      let streams = case.streams in
-      let (other, other_is) = interval_scale case cuts are_cuts at later within are of r runs in
-      let here = is.range q from upto r runs in
-      let there = other_is.range q from upto r runs in
-      let heats = is.heat q from upto ∙ sym (other_is.heat q from upto) in
-      let same = one_place streams are r runs.member (scale q) (other q) here.0 here.1 there.0 there.1 (subst (λ d. curve_heat d streams (scale q) ≡ curve_heat d streams (other q)) (sym own) heats) in
-      let over = interval_over q in
-      record { num = over.num; is = same ∙ over.is }
 
 -- a temperature in the range of a stream, on its own scale
 stream_sized : (of : Side) (d : ℕ) (t : Rational) (contribution : ℤ) (n : ℤ) (low high : ℤ) → 0 < d → t ≡ ratio n d → AreEnds low high → IsAtMost (whole low) t → IsAtMost t (whole high) → IsContribution contribution → IsSized d highest (actual_at of t contribution)
@@ -248,7 +214,7 @@ module _ (case : Case) (cuts : List ℤ) (complete : IsComplete case) (standard 
       let gap = cut_below case cuts are_cuts at is.later is.within are in
       let sized : (q : ℤ) → low ≤ℤ q → q ≤ℤ high → IsSized (unsigned_abs flow) highest (actual_at s.side (is.scale q) s.contribution) =
       λ q from upto.
-      let over = scale_over case cuts are_cuts at is.later is.within are s.side s is.runs is.scale is.is refl q from upto in
+      let over = is.is.over q in
       let range = is.is.range q from upto s is.runs in
       stream_sized s.side (unsigned_abs flow) (is.scale q) s.contribution over.num (low_end s) (high_end s) (some s.side) over.is ends range.0 range.1 valid.contribution in
       record {

@@ -310,7 +310,7 @@ module _ (case : Case) (complete : IsComplete case) (standard : IsStandard case)
           let other = flow_across of in
           let above = across_positive of in
           let product = product_is of one in
-          let sum = duties_sum true test ∙ whole_width (high -ℤ low) other (unsigned_abs (side_flow low high hot_spans *ℤ side_flow low high cold_spans)) above product in
+          let total = duties_sum true test ∙ whole_width (high -ℤ low) other (unsigned_abs (side_flow low high hot_spans *ℤ side_flow low high cold_spans)) above product in
           let amount = amount_is true test in
           let own_flow = one_times (pos 1) other refl in
           record {
@@ -325,13 +325,13 @@ module _ (case : Case) (complete : IsComplete case) (standard : IsStandard case)
                   let most : q.amount ≤ℤ other = omega (arith, ints, upto, amount, own_flow) in
                   part_sized (high -ℤ low) q.amount other (unsigned_abs (side_flow low high hot_spans *ℤ side_flow low high cold_spans)) width_from width_upto is.positive most product);
               sum = high -ℤ low;
-              is = sum;
+              is = total;
             };
-            sum = sum ∙ sym (ap (λ c. whole (if c then high -ℤ low else pos 0)) test);
+            sum = total ∙ sym (ap (λ c. whole (if c then high -ℤ low else pos 0)) test);
           }
       group_by false test =
           let other = flow_across of in
-          let sum = duties_sum false test ∙ no_width (high -ℤ low) other (unsigned_abs (side_flow low high hot_spans *ℤ side_flow low high cold_spans)) in
+          let total = duties_sum false test ∙ no_width (high -ℤ low) other (unsigned_abs (side_flow low high hot_spans *ℤ side_flow low high cold_spans)) in
           let amount = amount_is false test in
           let nothing = zero_times (pos 0) other refl in
           record {
@@ -346,9 +346,9 @@ module _ (case : Case) (complete : IsComplete case) (standard : IsStandard case)
                   let above = is.positive in
                   absurd (omega (arith, ints, upto, amount, nothing, above)));
               sum = pos 0;
-              is = sum;
+              is = total;
             };
-            sum = sum ∙ sym (ap (λ c. whole (if c then high -ℤ low else pos 0)) test);
+            sum = total ∙ sym (ap (λ c. whole (if c then high -ℤ low else pos 0)) test);
           }
 
     own_span : (of : Side) → u.side ≡ of → (k : ℕ) × (slice_get (list_on of hot_spans cold_spans) k ≡ Some (utility_span_of of case.streams index))
@@ -384,7 +384,7 @@ module _ (case : Case) (complete : IsComplete case) (standard : IsStandard case)
     pub duties : duties_with network index ≡ numbers_of groups
     pub few : count_of groups ≤ 4 * MOST_SPANS * (2 * MOST_SPANS)
     pub each : All (IsWholeGroup most_flow most_width) groups
-    pub heat : heat_with network index ≡ whole (to_of u.side -ℤ from_of u.side)
+    pub heat : heat_with network index ≡ whole (utility_to u.side case.streams -ℤ utility_from u.side case.streams)
 
   grouped_by : (cuts : List ℤ) → AreCuts hot_spans cold_spans cuts → HasGroups (network_of case (intervals_of hot_spans cold_spans cuts))
   grouped_by [] are_cuts = let nothing = (utility_cuts case [] are_cuts (AreStreams-IsComplete case complete) standard u.side).0.1 in absurd (omega (arith, nothing))
