@@ -21,6 +21,11 @@ pub mod IntervalTemperatures
 pub mod IntervalFacing
 pub mod OverlapSums
 pub mod SpanSources
+pub mod CutSums
+pub mod OwnPairs
+pub mod SideFlows
+pub mod UtilityHeats
+pub mod Balances
 pub mod IntervalPlaces
 pub mod IntervalShares
 pub mod IntervalStages
@@ -28,3 +33,5 @@ pub mod StreamCourses
 pub mod NetworkCourses
 pub mod MatchPasses
 pub mod NetworkValid
+pub mod StageLimits
+pub mod NoFinding

@@ -1,6 +1,8 @@
 use Rattle.std.proofs.Common.{◌≡◌, ◌∙◌, ◌<◌, ◌+◌, ◌^◌, ◌++◌, List, All, length, map, ap, sym, subst}
 use Rattle.network_text.specs.Lines.{own_branches}
 use Rattle.network_text.specs.Shape.{HasShape, KeepsCounts}
+use Rattle.network_audit.specs.Balance.{balance_of}
+use Rattle.network_audit.specs.Findings.{HasNoFinding}
 use Rattle.network_audit.specs.Valid.{IsValidNetwork}
 use Rattle.design_lines.specs.Drawn.{Course, all_branches, courses_lines, declared_line, made_branches}
 use Rattle.design_lines.specs.Led.{AreStages}
@@ -10,6 +12,8 @@ use Rattle.vertical_design.specs.Vertical.{IsVertical}
 use Rattle.vertical_design.specs.declared.interval.Interval.{Interval}
 use Rattle.vertical_design.proofs.CourseLemmas.{courses-stages, length-courses_of}
 use Rattle.vertical_design.proofs.NetworkLemmas.{is_built}
+use Rattle.vertical_design.proofs.Balances.{balance-network}
+use Rattle.vertical_design.proofs.NoFinding.{network_has_no_finding}
 use Rattle.vertical_design.proofs.NetworkValid.{valid_network, vertical_network}
 use Rattle.vertical_design.proofs.network.vertical.Goals as goal
 
@@ -83,3 +87,18 @@ returns-clause-vertical c =
     let (intervals, are, same) = returns-clause-drawn c in
     let shape = (is_built case intervals c.requires.complete c.requires.standard are).shape in
     subst (IsVertical case) (sym same) (vertical_network case c.requires.complete c.requires.standard intervals are shape)
+
+pub returns-clause-accepted : goal.returns-clause-accepted
+returns-clause-accepted c =
+    let case = c.args.case.now in
+    let (intervals, are, same) = returns-clause-drawn c in
+    let shape = (is_built case intervals c.requires.complete c.requires.standard are).shape in
+    let valid = valid_network case c.requires.complete c.requires.standard intervals are shape in
+    subst (HasNoFinding case) (sym same) (network_has_no_finding case intervals c.requires.complete c.requires.standard are shape valid)
+
+pub returns-clause-balance : goal.returns-clause-balance
+returns-clause-balance c =
+    let case = c.args.case.now in
+    let (intervals, are, same) = returns-clause-drawn c in
+    let shape = (is_built case intervals c.requires.complete c.requires.standard are).shape in
+    ap (balance_of case) same ∙ balance-network case intervals c.requires.complete c.requires.standard are shape
