@@ -18,7 +18,7 @@ behind (x ∷ xs) ys i = let next : suc (length xs) + i ≡ suc (length xs + i) 
 
 module _ (hot cold : List Span) (cuts : List ℤ) where
   -- how many matches the first n intervals have
-  count_upto : ℕ → ℕ
+  pub count_upto : ℕ → ℕ
   count_upto zero = 0
   count_upto (suc n) = count_upto n + length (matches_in (get_or cuts (suc n) (pos 0)) (get_or cuts n (pos 0)) hot cold)
 
