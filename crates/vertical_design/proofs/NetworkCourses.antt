@@ -46,7 +46,23 @@ record AreCoursesFrom (case : Case) (cuts : List ℤ) (are : AreStreams case.str
   along : courses_along courses ≡ map (course_of (intervals_between case cuts)) (enumerate_from n ss)
   each : (k : ℕ) (course : List LedStage) → slice_get courses k ≡ Some course → (s : Stream) × (slice_get ss k ≡ Some s) × IsLedCourse case cuts are (n + k) s course
 
+-- these are the streams of the case from number n on
+abbrev AreStreamsFrom : Case → ℕ → List Stream → Type 0
+AreStreamsFrom case n ss = (i : ℕ) (s : Stream) → slice_get ss i ≡ Some s → slice_get case.streams (n + i) ≡ Some s
+
+first_there : (case : Case) (n : ℕ) (s : Stream) (ss : List Stream) → AreStreamsFrom case n (s ∷ ss) → slice_get case.streams n ≡ Some s
+first_there case n s ss there = let none : n ≡ n + 0 = omega arith in ap (slice_get case.streams) none ∙ there 0 s refl
+
+later_there : (case : Case) (n : ℕ) (s : Stream) (ss : List Stream) → AreStreamsFrom case n (s ∷ ss) → AreStreamsFrom case (n + 1) ss
+later_there case n s ss there i t at = let same : n + 1 + i ≡ n + suc i = omega arith in ap (slice_get case.streams) same ∙ there (suc i) t at
+
+all_there : (case : Case) → AreStreamsFrom case 0 case.streams
+all_there case i s at = let same : 0 + i ≡ i = omega arith in ap (slice_get case.streams) same ∙ at
+
 module _ (case : Case) (cuts : List ℤ) (are : AreStreams case.streams) where
+  no_courses : (n : ℕ) → AreCoursesFrom case cuts are n []
+  no_courses n = record { courses = []; along = refl; each = λ k course at. cc at }
+
   one_more : (n : ℕ) (s : Stream) (ss : List Stream) (course : List LedStage) → IsLedCourse case cuts are n s course → AreCoursesFrom case cuts are (n + 1) ss → AreCoursesFrom case cuts are n (s ∷ ss)
   one_more n s ss course is rest = record {
     courses = course ∷ rest.courses;
@@ -68,17 +84,16 @@ module _ (case : Case) (cuts : List ℤ) (complete : IsComplete case) (standard 
   abbrev are : AreStreams case.streams
   are = AreStreams-IsComplete case complete
 
-  courses_from : (n : ℕ) (ss : List Stream) → ((i : ℕ) (s : Stream) → slice_get ss i ≡ Some s → slice_get case.streams (n + i) ≡ Some s) → AreCoursesFrom case cuts are n ss
-  courses_from n [] there = record { courses = []; along = refl; each = λ k course at. cc at }
-  courses_from n (s ∷ ss) there =
-      let none : n + 0 ≡ n = omega arith in
-      let here : slice_get case.streams n ≡ Some s = ap (slice_get case.streams) (sym none) ∙ there 0 s refl in
-      let (course, is) = led_course case cuts complete standard are_cuts n s here in
-      one_more case cuts are n s ss course is (courses_from (n + 1) ss (λ i t at. let same : n + 1 + i ≡ n + suc i = omega arith in ap (slice_get case.streams) same ∙ there (suc i) t at))
+  next_courses : (n : ℕ) (s : Stream) (ss : List Stream) → slice_get case.streams n ≡ Some s → AreCoursesFrom case cuts are (n + 1) ss → AreCoursesFrom case cuts are n (s ∷ ss)
+  next_courses n s ss here rest = let (course, is) = led_course case cuts complete standard are_cuts n s here in one_more case cuts are n s ss course is rest
+
+  courses_from : (n : ℕ) (ss : List Stream) → AreStreamsFrom case n ss → AreCoursesFrom case cuts are n ss
+  courses_from n [] there = no_courses case cuts are n
+  courses_from n (s ∷ ss) there = next_courses n s ss (first_there case n s ss there) (courses_from (n + 1) ss (later_there case n s ss there))
 
   pub network_courses : AreCourses case cuts are
   network_courses =
-      let all = courses_from 0 case.streams (λ i s at. let same : 0 + i ≡ i = omega arith in ap (slice_get case.streams) same ∙ at) in
+      let all = courses_from 0 case.streams (all_there case) in
       record {
         courses = all.courses;
         along = all.along;
