@@ -1,5 +1,5 @@
 -- The balance of the vertical design of a standard case: its utilities give and take the targets, so that it has no excess and costs the hot target.
-use Rattle.std.proofs.Common.{◌≡◌, ◌∙◌, ⊎_elim, ◌∷◌, ◌+ℤ◌, ◌-ℤ◌, ◌*ℤ◌, ℕ, ℤ, pos, List, [], Some, slice_get, refl, sym, ap, ap₂, arith}
+use Rattle.std.proofs.Common.{◌≡◌, ◌∙◌, ⊎_elim, ◌∷◌, ◌+ℤ◌, ◌*ℤ◌, ℕ, ℤ, pos, List, [], slice_get, sym, ap, ap₂, arith}
 use Rattle.std.specs.List.{enumerate_from, filter_map}
 use Rattle.std.proofs.lemmas.Int.{ints}
 use Rattle.stream_case.specs.Case.{IsComplete, IsStandard, standard_utility}

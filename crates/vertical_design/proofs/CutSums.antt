@@ -1,5 +1,5 @@
 -- What lies from one place of the heat axis to another, cut by cut: where both are cuts, each gap between neighbouring cuts lies whole in it or whole outside, and those in it make it up.
-use Rattle.std.proofs.Common.{◌≡◌, ◌∙◌, ◌⊎◌, inl, inr, ⊎_elim, ◌<◌, ◌-◌, ◌∷◌, ◌+ℤ◌, ◌-ℤ◌, ℕ, zero, suc, ℤ, pos, ◌≤ℤ◌, ◌<ℤ◌, true, false, if◌then◌else◌, List, [], get_or, length, sym, ap, ap₂, subst, arith}
+use Rattle.std.proofs.Common.{◌≡◌, ◌∙◌, ◌⊎◌, inl, inr, ⊎_elim, ◌<◌, ◌-◌, ◌∷◌, ◌+ℤ◌, ◌-ℤ◌, ℕ, zero, suc, ℤ, pos, ◌≤ℤ◌, ◌<ℤ◌, true, false, if◌then◌else◌, List, [], get_or, length, ap, ap₂, subst, arith}
 use Rattle.std.specs.Prelude.{◌&&◌, Contains, int_le}
 use Rattle.std.specs.Int.{int_max, int_min}
 use Rattle.std.proofs.lemmas.Int.{clamps, ints}

@@ -1,9 +1,8 @@
 -- The intervals one by one: from each cut but the first one up to the cut above it. Where their matches stand among all matches.
-use Rattle.std.proofs.Common.{◌≡◌, ◌∙◌, inl, inr, ⊎_elim, ◌<◌, ◌≤◌, ◌+◌, ◌-◌, ◌∷◌, ◌++◌, ℕ, zero, suc, ℤ, pos, List, [], Some, get_or, slice_get, length, drop, refl, sym, ap, ap₂, subst, arith, append_assoc, length-append}
+use Rattle.std.proofs.Common.{◌≡◌, ◌∙◌, ⊎_elim, ◌<◌, ◌≤◌, ◌+◌, ◌-◌, ◌∷◌, ◌++◌, ℕ, zero, suc, ℤ, pos, List, [], Some, get_or, slice_get, length, drop, refl, sym, ap, ap₂, subst, arith, append_assoc, length-append}
 use Rattle.std.specs.Prelude.{Option}
 use Rattle.std.proofs.lemmas.Bool.{cases_order}
 use Rattle.std.proofs.lemmas.List.{drop_all, drop_more}
-use Rattle.std.proofs.lemmas.Option.{slice_get_within}
 use Rattle.sums.proofs.ListLemmas.{slice_get-append}
 use Rattle.vertical_design.specs.Matches.{intervals_below, intervals_of, matches_in, matches_of}
 use Rattle.vertical_design.specs.declared.interval.Interval.{Interval}

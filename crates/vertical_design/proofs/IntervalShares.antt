@@ -1,13 +1,12 @@
 -- What runs in an interval has its whole flow in its matches there, and what does not run has none.
-use Rattle.std.proofs.Common.{◌≡◌, ◌∙◌, inl, inr, ⊎_elim, ◌<◌, ◌+◌, ◌-◌, ◌==◌, ◌∷◌, ℕ, zero, suc, ℤ, pos, ◌+ℤ◌, ◌-ℤ◌, ◌*ℤ◌, ◌≤ℤ◌, ◌<ℤ◌, Bool, true, false, if◌then◌else◌, List, [], All, Some, None, get_or, slice_get, length, map, refl, sym, ap, subst, arith}
-use Rattle.std.specs.Prelude.{◌&&◌, Option, int_le, unsigned_abs}
+use Rattle.std.proofs.Common.{◌≡◌, ◌∙◌, inl, inr, ◌<◌, ◌+◌, ◌==◌, ◌∷◌, ℕ, zero, suc, ℤ, pos, ◌+ℤ◌, ◌*ℤ◌, ◌≤ℤ◌, ◌<ℤ◌, Bool, true, false, if◌then◌else◌, List, [], All, Some, None, get_or, slice_get, length, map, refl, sym, ap, subst, arith}
+use Rattle.std.specs.Prelude.{◌&&◌, int_le, unsigned_abs}
 use Rattle.std.specs.List.{cons_option, enumerate_from, filter_map}
 use Rattle.std.specs.Option.{option_map_or}
 use Rattle.std.proofs.lemmas.Bool.{and_parts}
 use Rattle.std.proofs.lemmas.Int.{ints}
-use Rattle.std.proofs.lemmas.List.{get_or-map, length-map}
 use Rattle.std.proofs.lemmas.List.Elements.{All-head}
-use Rattle.std.proofs.lemmas.Option.{get_or_from_slice_get, same_Some, slice_get-get_or, slice_get_within}
+use Rattle.std.proofs.lemmas.Option.{same_Some, slice_get-get_or, slice_get_within}
 use Rattle.sums.specs.Spans.{IsOverlap}
 use Rattle.sums.specs.Sum.{int_sum_by}
 use Rattle.sums.specs.declared.pairs.Pair.{Pair}
@@ -16,7 +15,6 @@ use Rattle.sums.proofs.ListLemmas.{Contains-slice_get}
 use Rattle.sums.proofs.ProductLemmas.{zero_times}
 use Rattle.sums.proofs.SumLemmas.{int_sum_by-same}
 use Rattle.sums.proofs.WalkLemmas.{overlaps_first, overlaps_second}
-use Rattle.stream_case.specs.Case.{IsComplete, IsStandard}
 use Rattle.stream_case.specs.Source.{same_side, same_source}
 use Rattle.stream_case.specs.Stream.{AreStreams}
 use Rattle.stream_case.specs.declared.case.Case.{Case}
@@ -25,7 +23,6 @@ use Rattle.stream_case.specs.declared.source.Side.TheVariants as side
 use Rattle.stream_case.specs.declared.source.Source.{Source}
 use Rattle.stream_case.specs.declared.source.Source.TheVariants as source
 use Rattle.stream_case.specs.declared.stream.Stream.{Stream}
-use Rattle.stream_case.specs.declared.utility.Utility.{Utility}
 use Rattle.stream_case.proofs.SourceLemmas.{own_side, same_source-true}
 use Rattle.fractions.specs.Rationals.{plus, ratio, whole}
 use Rattle.fractions.proofs.Ratios.{plus-ratio_same_den, ratio-zero}
@@ -36,8 +33,7 @@ use Rattle.design_lines.specs.declared.stage.Share.{Share}
 use Rattle.vertical_design.specs.Axis.{spans_of, utility_from, utility_to}
 use Rattle.vertical_design.specs.Courses.{share_of, shares_in, source_on}
 use Rattle.vertical_design.specs.Limits.{AreSpans}
-use Rattle.vertical_design.specs.Matches.{amounts_in, flow_in, flows_in, match_of, matches_in, pairs_of, side_flow, source_at}
-use Rattle.vertical_design.specs.declared.interval.Interval.{Interval}
+use Rattle.vertical_design.specs.Matches.{amounts_in, flow_in, match_of, matches_in, pairs_of, side_flow, source_at}
 use Rattle.vertical_design.specs.declared.matches.Match.{Match}
 use Rattle.vertical_design.specs.declared.span.Span.{Span}
 use Rattle.vertical_design.proofs.CurveSegments.{Runs}
@@ -47,7 +43,7 @@ use Rattle.vertical_design.proofs.OverlapLists.{ListsOverlaps-pairs_of, overlap-
 use Rattle.vertical_design.proofs.OverlapSums.{amounts-balanced}
 use Rattle.vertical_design.proofs.OwnPairs.{own_amount}
 use Rattle.vertical_design.proofs.SpanRuns.{span_of}
-use Rattle.vertical_design.proofs.SpanSources.{IsSourceSpan, IsStreamSpan, IsUtilitySpan, own_place, sources_differ, span_sources, stream_place, utility_span_of}
+use Rattle.vertical_design.proofs.SpanSources.{IsSourceSpan, own_place, sources_differ, span_sources, stream_place}
 use Rattle.vertical_design.proofs.TurnLemmas.{each-share}
 
 -- ---- lists

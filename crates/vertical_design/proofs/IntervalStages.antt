@@ -1,13 +1,11 @@
 -- A stream in an interval in which it runs: its shares are the whole stream, and their exchangers bring it from the temperature of the one cut to that of the other.
-use Rattle.std.proofs.Common.{◌≡◌, ◌∙◌, ◌<◌, ◌+◌, ◌-◌, ◌∷◌, ℕ, ℤ, pos, ◌-ℤ◌, ◌*ℤ◌, ◌≤ℤ◌, ◌<ℤ◌, true, if◌then◌else◌, List, [], All, Some, get_or, slice_get, length, refl, sym, ap, ap₂, subst, arith}
-use Rattle.std.specs.Prelude.{◌&&◌, int_le, unsigned_abs}
-use Rattle.std.specs.List.{enumerate_from}
+use Rattle.std.proofs.Common.{◌≡◌, ◌∙◌, ◌<◌, ◌+◌, ◌-◌, ◌∷◌, ℕ, ℤ, pos, ◌-ℤ◌, ◌≤ℤ◌, ◌<ℤ◌, if◌then◌else◌, List, [], All, Some, get_or, slice_get, length, refl, sym, ap, ap₂, subst, arith}
+use Rattle.std.specs.Prelude.{◌&&◌, unsigned_abs}
 use Rattle.std.proofs.lemmas.Int.{ints}
 use Rattle.std.proofs.lemmas.List.Elements.{All-contains}
 use Rattle.sums.specs.declared.pairs.Pair.{Pair}
 use Rattle.sums.proofs.IntegerLemmas.{int_le-from}
 use Rattle.stream_case.specs.Case.{IsComplete, IsStandard}
-use Rattle.stream_case.specs.Source.{same_source}
 use Rattle.stream_case.specs.Stream.{AreStreams, IsValidStream, high_end, low_end}
 use Rattle.stream_case.specs.declared.case.Case.{Case}
 use Rattle.stream_case.specs.declared.source.Side.{Side}
@@ -18,14 +16,13 @@ use Rattle.fractions.specs.Rationals.{IsBelow, Rational, minus, ratio, rational_
 use Rattle.fractions.proofs.Comparisons.{positive-ratio}
 use Rattle.fractions.proofs.Sums.{minus-minus_same, minus-plus_plus}
 use Rattle.fractions.proofs.Wholes.{whole-nonzero}
-use Rattle.network_text.specs.declared.network.Network.{Network}
 use Rattle.network_values.specs.Values.{change, duty_at, duty_of, full_size}
 use Rattle.design_lines.specs.Values.{IsLedStage, LedStage, size_of}
 use Rattle.design_lines.specs.declared.stage.Share.{Share}
 use Rattle.design_lines.proofs.Declared.{exchangers_of-drawn}
 use Rattle.design_lines.proofs.NumberedItems.{slice_get-numbered}
 use Rattle.vertical_design.specs.Axis.{AreCuts, heat_at, spans_of}
-use Rattle.vertical_design.specs.Courses.{courses_of, cp_on, exchanger_of, exchangers_for, network_of, shares_in, source_on}
+use Rattle.vertical_design.specs.Courses.{courses_of, cp_on, exchanger_of, exchangers_for, network_of, shares_in}
 use Rattle.vertical_design.specs.Limits.{AreSpans}
 use Rattle.vertical_design.specs.Matches.{flow_in, intervals_of, match_of, matches_in, matches_of, side_flow}
 use Rattle.vertical_design.specs.declared.interval.Interval.{Interval}

@@ -1,5 +1,5 @@
 -- Each pass of the network of the matches leads its stream through the interval of the match whose exchanger it passes: so both sources of an exchanger face each other at both of its ends, and its streams stay in their ranges.
-use Rattle.std.proofs.Common.{◌≡◌, ◌∙◌, inl, inr, ◌<◌, ◌+◌, ◌++◌, ℕ, ℤ, pos, ◌≤ℤ◌, ◌<ℤ◌, List, [], All, Some, slice_get, length, map, option_map, refl, sym, ap, subst, append-nil, arith}
+use Rattle.std.proofs.Common.{◌≡◌, ◌∙◌, inl, inr, ◌+◌, ◌++◌, ℕ, ℤ, pos, ◌≤ℤ◌, ◌<ℤ◌, List, [], All, Some, slice_get, length, map, option_map, refl, sym, ap, subst, append-nil, arith}
 use Rattle.std.specs.Prelude.{unwrap_or}
 use Rattle.std.specs.Option.{option_map_or}
 use Rattle.std.proofs.lemmas.Int.{ints}
@@ -35,9 +35,8 @@ use Rattle.design_lines.proofs.WholeValues.{own_start}
 use Rattle.vertical_design.specs.Axis.{AreCuts, spans_of, utility_from, utility_to}
 use Rattle.vertical_design.specs.Courses.{courses_of, exchanger_of, exchangers_for, network_of, source_on}
 use Rattle.vertical_design.specs.Matches.{matches_in, matches_of, side_flow}
-use Rattle.vertical_design.specs.Vertical.{AreFacing, AreVertical, IsAtUtility, IsVerticalAt, curve_heat, entry, exit, on_scale}
+use Rattle.vertical_design.specs.Vertical.{AreFacing, AreVertical, IsAtUtility, curve_heat, entry, exit, on_scale}
 use Rattle.vertical_design.specs.declared.matches.Match.{Match}
-use Rattle.vertical_design.specs.declared.span.Span.{Span}
 use Rattle.vertical_design.proofs.CurveSegments.{Runs}
 use Rattle.vertical_design.proofs.IntervalFacing.{actual_at, on_scale-actual, scale_at_utility, scale_within, scales_face}
 use Rattle.vertical_design.proofs.IntervalPlaces.{IsNumberIn, first_at, match_at, one_interval}
@@ -47,7 +46,7 @@ use Rattle.vertical_design.proofs.IntervalTemperatures.{IsScale}
 use Rattle.vertical_design.proofs.NetworkCourses.{AreCourses, all_led_network, intervals_between, network_values}
 use Rattle.vertical_design.proofs.SpanRuns.{cut_below}
 use Rattle.vertical_design.proofs.TurnLemmas.{each-share}
-use Rattle.vertical_design.proofs.VerticalApproaches.{AllStayInRange, IsWithinRange, StaysInRange, found}
+use Rattle.vertical_design.proofs.VerticalApproaches.{AllStayInRange, IsWithinRange, found}
 
 -- ---- passes
 

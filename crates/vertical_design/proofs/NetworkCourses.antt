@@ -1,5 +1,5 @@
 -- The network of the matches carries the values of the courses of its streams, each from its supply to its target.
-use Rattle.std.proofs.Common.{◌≡◌, ◌∙◌, ◌<◌, ◌+◌, ◌∷◌, ◌++◌, ℕ, zero, suc, ℤ, List, [], All, Some, slice_get, length, map, refl, sym, ap, ap₂, subst, append-nil, arith}
+use Rattle.std.proofs.Common.{◌≡◌, ◌∙◌, ◌<◌, ◌+◌, ◌∷◌, ◌++◌, ℕ, zero, suc, ℤ, List, [], Some, slice_get, length, map, refl, sym, ap, ap₂, subst, append-nil, arith}
 use Rattle.std.specs.List.{enumerate_from}
 use Rattle.std.specs.Prelude.{Contains}
 use Rattle.std.proofs.lemmas.List.{length-map}

@@ -1,5 +1,5 @@
 -- The vertical design has no finding: its branches leave room, and the sums of its utilities are whole behind each interval.
-use Rattle.std.proofs.Common.{◌∙◌, ◌*◌, ◌≤◌, ◌+◌, ◌++◌, ℕ, ℤ, List, [], All, Some, get_or, slice_get, length, map, refl, sym, ap, subst, append-nil, arith, ◌≡◌}
+use Rattle.std.proofs.Common.{◌++◌, ℕ, ℤ, List, [], All, Some, get_or, slice_get, length, map, refl, sym, ap, subst, append-nil, arith, ◌≡◌}
 use Rattle.std.proofs.lemmas.List.{length-map}
 use Rattle.std.proofs.lemmas.List.Elements.{All-append, All-map, All-weaker}
 use Rattle.std.proofs.lemmas.Option.{slice_get-get_or}
@@ -8,7 +8,6 @@ use Rattle.stream_case.specs.Stream.{AreStreams, IsValidStream}
 use Rattle.stream_case.specs.declared.case.Case.{Case}
 use Rattle.stream_case.specs.declared.source.Side.{Side}
 use Rattle.stream_case.specs.declared.source.Side.TheVariants as side
-use Rattle.stream_case.specs.declared.stream.Stream.{Stream}
 use Rattle.stream_case.specs.declared.utility.Utility.{Utility}
 use Rattle.stream_case.proofs.CompleteLemmas.{AreStreams-IsComplete}
 use Rattle.fractions.specs.Rationals.{IsWithinLimits, Rational}
@@ -17,7 +16,7 @@ use Rattle.network_text.specs.declared.network.Line.{Line}
 use Rattle.network_text.specs.declared.network.Line.TheVariants as line
 use Rattle.network_text.specs.declared.network.Network.{Network}
 use Rattle.network_text.proofs.Lists.{all_at}
-use Rattle.network_values.specs.Values.{Valuation, branch_side, change, first_value}
+use Rattle.network_values.specs.Values.{branch_side, change, first_value}
 use Rattle.network_audit.specs.AllItems.{utility_items_at}
 use Rattle.network_audit.specs.Findings.{HasNoFinding}
 use Rattle.network_audit.specs.Valid.{IsValidNetwork}
@@ -28,14 +27,14 @@ use Rattle.network_audit.proofs.NoFinding.{no_finding_from_room}
 use Rattle.design_lines.specs.Drawn.{Course, courses_lines, declared_line}
 use Rattle.design_lines.specs.Values.{LedStage, courses_values}
 use Rattle.design_lines.proofs.PassRuns.{EachRuns, RunsAs, courses_run}
-use Rattle.design_lines.proofs.StageSizes.{CourseHolds, StageHolds, course_holds, courses_hold}
+use Rattle.design_lines.proofs.StageSizes.{CourseHolds, course_holds, courses_hold}
 use Rattle.design_lines.proofs.WholeValues.{own_start}
 use Rattle.vertical_design.specs.Axis.{AreCuts, spans_of}
 use Rattle.vertical_design.specs.Courses.{AreIntervals, courses_of, exchangers_for, network_of}
 use Rattle.vertical_design.specs.declared.interval.Interval.{Interval}
 use Rattle.vertical_design.proofs.IntervalStages.{stage_led}
 use Rattle.vertical_design.proofs.NetworkCourses.{AreCourses, all_led_network, intervals_between, network_courses, network_valued, network_values}
-use Rattle.vertical_design.proofs.StageLimits.{IsFine, IsFineStage, fine_roomy, first_fine, interval_fine, stage_change, stage_fine}
+use Rattle.vertical_design.proofs.StageLimits.{IsFine, fine_roomy, first_fine, interval_fine, stage_change, stage_fine}
 use Rattle.vertical_design.proofs.UtilityHeats.{has_groups, heats_whole, most_flow, most_width}
 
 -- ---- the sums of a utility

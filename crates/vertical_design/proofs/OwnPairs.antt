@@ -1,5 +1,5 @@
 -- The pairs of one source of an interval share out its flow times that of the other side.
-use Rattle.std.proofs.Common.{◌≡◌, ◌∙◌, ◌<◌, ◌==◌, ◌∷◌, ◌+ℤ◌, ◌*ℤ◌, ℕ, ℤ, pos, ◌≤ℤ◌, Bool, true, false, cond, if◌then◌else◌, List, [], Some, get_or, slice_get, length, refl, sym, ap, arith}
+use Rattle.std.proofs.Common.{◌≡◌, ◌∙◌, ◌<◌, ◌==◌, ◌∷◌, ◌+ℤ◌, ◌*ℤ◌, ℕ, ℤ, pos, ◌≤ℤ◌, Bool, true, false, cond, if◌then◌else◌, List, [], Some, get_or, slice_get, length, refl, ap, arith}
 use Rattle.std.specs.Prelude.{filter}
 use Rattle.std.proofs.lemmas.Int.{ints}
 use Rattle.std.proofs.lemmas.List.{get_or-map, length-map}

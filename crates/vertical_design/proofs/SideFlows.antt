@@ -1,5 +1,5 @@
 -- Between two neighbouring cuts of the heat axis both sides have a flow: streams run there, or the utility of the side does, and then it runs alone.
-use Rattle.std.proofs.Common.{◌≡◌, ◌∙◌, ◌⊎◌, inl, inr, ⊎_elim, ◌<◌, ◌+◌, ◌-◌, ◌≤◌, ◌∷◌, ◌++◌, ◌+ℤ◌, ◌-ℤ◌, ◌*ℤ◌, ℕ, zero, suc, ℤ, pos, neg_ℤ, ◌≤ℤ◌, ◌<ℤ◌, Bool, true, false, if◌then◌else◌, List, [], All, Some, None, get_or, slice_get, length, refl, sym, ap, ap₂, subst, arith}
+use Rattle.std.proofs.Common.{◌≡◌, ◌∙◌, ◌⊎◌, inl, inr, ⊎_elim, ◌<◌, ◌+◌, ◌-◌, ◌≤◌, ◌∷◌, ◌++◌, ◌+ℤ◌, ◌*ℤ◌, ℕ, suc, ℤ, pos, neg_ℤ, ◌≤ℤ◌, ◌<ℤ◌, Bool, true, false, if◌then◌else◌, List, [], All, Some, None, get_or, slice_get, length, refl, sym, ap, ap₂, subst, arith}
 use Rattle.std.specs.Prelude.{◌&&◌, Contains, int_le}
 use Rattle.std.specs.List.{cons_option, enumerate_from, filter_map}
 use Rattle.std.proofs.Math.IntN.{*ℤ-zero}
@@ -24,7 +24,6 @@ use Rattle.stream_case.proofs.CaseLemmas.{length-AreStreams}
 use Rattle.stream_case.proofs.EndLemmas.{AreEnds-IsValidStream, each_end}
 use Rattle.stream_case.proofs.HeatLemmas.{heat_above-between}
 use Rattle.curves.specs.Below.{length_below}
-use Rattle.problem_table.specs.Deficit.{cold_target, hot_target}
 use Rattle.problem_table.specs.Sides.{sum_side}
 use Rattle.problem_table.proofs.DeficitLemmas.{cold_target-within, hot_target-within}
 use Rattle.problem_table.proofs.SideLemmas.{sum_side-heat, sum_side-le, sum_side-same, sum_side-zero}
@@ -36,7 +35,7 @@ use Rattle.vertical_design.proofs.CurveOrder.{IsOutside, below_and_above}
 use Rattle.vertical_design.proofs.CurveSegments.{EndsPlaced, HasNoEnd, IsPlaced, IsSegment, Runs}
 use Rattle.vertical_design.proofs.Foremost.{IsForemost, foremost}
 use Rattle.vertical_design.proofs.ScaledCurve.{curve_parts-whole, curve_rises}
-use Rattle.vertical_design.proofs.SegmentTemperatures.{flow_positive, flow_running, running_flow}
+use Rattle.vertical_design.proofs.SegmentTemperatures.{flow_positive, running_flow}
 use Rattle.vertical_design.proofs.SpanRuns.{cut_below, no_end_between, none_between, side_flow-running, span_of}
 use Rattle.vertical_design.proofs.SpanSources.{utility_place, utility_span_of}
 

@@ -1,5 +1,5 @@
 -- What the branches of an interval carry: sizes over the flow of the other side, and temperatures over the flow of their own side, both at most so great that all steps of an audit are within the limits.
-use Rattle.std.proofs.Common.{◌≡◌, ◌∙◌, ⊎_elim, ◌<◌, ◌≤◌, ◌+◌, ◌-◌, ◌*◌, ◌+ℤ◌, ◌-ℤ◌, ◌*ℤ◌, ℕ, ℤ, pos, neg_ℤ, ◌≤ℤ◌, ◌<ℤ◌, List, All, Some, length, slice_get, refl, sym, ap, subst, arith}
+use Rattle.std.proofs.Common.{◌≡◌, ⊎_elim, ◌<◌, ◌≤◌, ◌+◌, ◌*◌, ℕ, ℤ, pos, neg_ℤ, ◌≤ℤ◌, List, Some, length, slice_get, sym, ap, subst, arith}
 use Rattle.std.specs.Prelude.{unsigned_abs}
 use Rattle.std.proofs.Math.Nat.{mul-le-mul}
 use Rattle.std.proofs.lemmas.Int.{ints}
@@ -11,12 +11,12 @@ use Rattle.stream_case.specs.Case.{IsComplete, IsStandard}
 use Rattle.stream_case.specs.Limits.{IsContribution}
 use Rattle.stream_case.specs.Stream.{AreStreams, IsValidStream, high_end, low_end}
 use Rattle.stream_case.specs.declared.case.Case.{Case}
-use Rattle.stream_case.specs.declared.limits.TheConstants.{HIGHEST_LEVEL, HIGHEST_SHIFTED, MOST_CONTRIBUTION, MOST_CP}
+use Rattle.stream_case.specs.declared.limits.TheConstants.{HIGHEST_SHIFTED, MOST_CONTRIBUTION, MOST_CP}
 use Rattle.stream_case.specs.declared.source.Side.{Side}
 use Rattle.stream_case.specs.declared.source.Side.TheVariants as side
 use Rattle.stream_case.specs.declared.stream.Stream.{Stream}
 use Rattle.stream_case.proofs.EndLemmas.{AreEnds, AreEnds-IsValidStream}
-use Rattle.fractions.specs.Rationals.{IsAtMost, IsWithinLimits, Rational, minus, plus, ratio, whole}
+use Rattle.fractions.specs.Rationals.{IsAtMost, IsWithinLimits, Rational, ratio, whole}
 use Rattle.fractions.proofs.Comparisons.{at_most-whole, at_most_from_ratio_whole, at_most_from_whole_ratio, at_most_trans}
 use Rattle.network_values.specs.Values.{change, first_value, full_size, no_value}
 use Rattle.network_values.specs.declared.values.BranchValue.{BranchValue}

@@ -1,5 +1,5 @@
 -- Each stream is led from its supply to its target, through the intervals in which it runs.
-use Rattle.std.proofs.Common.{◌≡◌, ◌∙◌, inl, inr, ⊎_elim, ◌⊎◌, ◌<◌, ◌≤◌, ◌+◌, ◌-◌, ◌∷◌, ◌++◌, ℕ, zero, suc, ℤ, pos, ◌≤ℤ◌, ◌<ℤ◌, Bool, true, false, if◌then◌else◌, List, [], All, AllPairs, Some, get_or, slice_get, length, map, refl, sym, ap, subst, arith}
+use Rattle.std.proofs.Common.{◌≡◌, ◌∙◌, inl, inr, ⊎_elim, ◌⊎◌, ◌<◌, ◌+◌, ◌-◌, ◌∷◌, ◌++◌, ℕ, zero, suc, ℤ, pos, ◌≤ℤ◌, ◌<ℤ◌, true, if◌then◌else◌, List, [], All, AllPairs, Some, get_or, slice_get, length, map, refl, sym, ap, subst, arith}
 use Rattle.std.specs.Prelude.{Contains, nat_lt, reverse}
 use Rattle.std.proofs.lemmas.Bool.{cases_lt}
 use Rattle.std.proofs.lemmas.Bool.Decides.{nat_tests}
@@ -27,18 +27,16 @@ use Rattle.design_lines.specs.Ways.{on_the_way}
 use Rattle.design_lines.specs.declared.stage.Share.{Share}
 use Rattle.vertical_design.specs.Axis.{AreCuts, heat_at, spans_of}
 use Rattle.vertical_design.specs.Courses.{course_of, network_of, shares_in, stages_of}
-use Rattle.vertical_design.specs.Matches.{intervals_of, side_flow}
+use Rattle.vertical_design.specs.Matches.{intervals_of}
 use Rattle.vertical_design.specs.Vertical.{curve_heat}
-use Rattle.vertical_design.specs.declared.interval.Interval.{Interval}
 use Rattle.vertical_design.specs.declared.span.Span.{Span}
 use Rattle.vertical_design.proofs.CurveApproach.{one_place}
-use Rattle.vertical_design.proofs.CurveOrder.{IsOutside}
 use Rattle.vertical_design.proofs.CurveSegments.{HasNoEnd, Runs, heat_rises}
 use Rattle.vertical_design.proofs.IntervalFacing.{actual-first, actual-last, actual_at, first_end, last_end}
 use Rattle.vertical_design.proofs.IntervalPlaces.{first_at, interval_at, rest_all, rest_at, rest_next, rest_none}
 use Rattle.vertical_design.proofs.IntervalShares.{no_shares}
 use Rattle.vertical_design.proofs.IntervalStages.{IsIntervalStage, entered_at, left_at, lower_cut, stage_led, stage_some, upper_cut}
-use Rattle.vertical_design.proofs.IntervalTemperatures.{IsScale, curve_heat-whole, interval_scale}
+use Rattle.vertical_design.proofs.IntervalTemperatures.{curve_heat-whole, interval_scale}
 use Rattle.vertical_design.proofs.SpanRuns.{cut_below, ends_are_cuts, no_end_between}
 
 -- ---- stages from the hottest down
