@@ -1,5 +1,5 @@
 -- The shares of all streams are two for each match at most: one on each of its sides.
-use Rattle.std.proofs.Common.{◌≡◌, ◌<◌, ◌≤◌, ◌+◌, ◌*◌, ◌==◌, ◌∷◌, ⊎_elim, ℕ, suc, Bool, true, false, cond, if◌then◌else◌, List, [], Some, None, length, ap, arith}
+use Rattle.std.proofs.Common.{◌<◌, ◌≤◌, ◌+◌, ◌*◌, ◌∷◌, ⊎_elim, ℕ, Bool, true, false, cond, if◌then◌else◌, List, [], Some, None, length, ap, arith}
 use Rattle.std.specs.Prelude.{count_by, sum_by}
 use Rattle.std.specs.List.{cons_option, enumerate_from, filter_map}
 use Rattle.std.proofs.lemmas.Bool.{cases_eq, eq-eqb, ne_eqb}
