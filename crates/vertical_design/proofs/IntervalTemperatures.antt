@@ -1,15 +1,15 @@
 -- The temperatures of a side between two neighbouring cuts of the heat axis, and how they join from interval to interval.
-use Rattle.std.proofs.Common.{◌≡◌, ◌∙◌, ◌<◌, ◌-◌, ◌+ℤ◌, ◌-ℤ◌, ◌*ℤ◌, ℕ, ℤ, pos, negsuc, ◌≤ℤ◌, ◌<ℤ◌, true, List, get_or, length, true≢false, refl, sym, ap, subst, arith}
+use Rattle.std.proofs.Common.{◌≡◌, ◌∙◌, ◌<◌, ◌-◌, ◌+ℤ◌, ◌-ℤ◌, ◌*ℤ◌, ℕ, ℤ, pos, negsuc, ◌≤ℤ◌, ◌<ℤ◌, List, get_or, length, refl, sym, ap, subst, arith}
 use Rattle.std.specs.Prelude.{unsigned_abs}
 use Rattle.std.proofs.lemmas.Int.{ints}
 use Rattle.std.proofs.lemmas.List.Elements.{All-contains}
-use Rattle.stream_case.specs.Source.{same_side}
 use Rattle.stream_case.specs.Stream.{AreStreams, IsValidStream, high_end, low_end}
 use Rattle.stream_case.specs.declared.case.Case.{Case}
 use Rattle.stream_case.specs.declared.source.Side.{Side}
 use Rattle.stream_case.specs.declared.source.Side.TheVariants as side
 use Rattle.stream_case.specs.declared.stream.Stream.{Stream}
 use Rattle.stream_case.proofs.EndLemmas.{AreEnds-IsValidStream}
+use Rattle.stream_case.proofs.SourceLemmas.{same_side-true}
 use Rattle.fractions.specs.Rationals.{IsAtMost, IsBelow, Rational, minus, ratio, whole}
 use Rattle.fractions.proofs.Comparisons.{at_most-whole}
 use Rattle.fractions.proofs.Wholes.{ratio-multiple}
@@ -32,12 +32,6 @@ curve_heat-whole of streams t =
 pub size_is : (x : ℤ) → pos 0 <ℤ x → x ≡ pos (unsigned_abs x)
 size_is (pos n) above = refl
 size_is (negsuc n) above = absurd (omega (arith, ints, above))
-
-side_is : (a b : Side) → same_side a b ≡ true → a ≡ b
-side_is side.Hot side.Hot same = refl
-side_is side.Hot side.Cold same = absurd (true≢false (sym same))
-side_is side.Cold side.Hot same = absurd (true≢false (sym same))
-side_is side.Cold side.Cold same = refl
 
 -- the temperature of a side at each heat from the lower cut to the higher one: the curve has that heat there, each stream that runs has it in its range, it changes by the heat over the flow, and it is a whole number over the flow
 pub record IsScale (of : Side) (streams : List Stream) (are : AreStreams streams) (low high flow : ℤ) (scale : ℤ → Rational) : Type 0 where
@@ -80,7 +74,7 @@ module _ (of : Side) (streams : List Stream) (are : AreStreams streams) (r : Str
   -- two temperatures of a stream's range with one heat
   same_place : (low high : ℤ) → Runs of streams are low high r → (t u : Rational) → IsAtMost (whole (low_end r)) t × IsAtMost t (whole (high_end r)) → IsAtMost (whole (low_end r)) u × IsAtMost u (whole (high_end r)) → curve_heat of streams t ≡ curve_heat of streams u → t ≡ u
   same_place low high runs t u t_in u_in same =
-      let own = side_is r.side of runs.side_is in
+      let own = same_side-true r.side of runs.side_is in
       one_place streams are r runs.member t u t_in.0 t_in.1 u_in.0 u_in.1 (subst (λ d. curve_heat d streams t ≡ curve_heat d streams u) (sym own) same)
 
   -- a stream that runs on both sides of a cut has one temperature there

@@ -1,7 +1,7 @@
 -- Between two neighbouring cuts of the heat axis both sides have a flow: streams run there, or the utility of the side does, and then it runs alone.
-use Rattle.std.proofs.Common.{◌≡◌, ◌∙◌, ◌⊎◌, inl, inr, ⊎_elim, ◌<◌, ◌+◌, ◌-◌, ◌≤◌, ◌∷◌, ◌++◌, ◌+ℤ◌, ◌*ℤ◌, ℕ, suc, ℤ, pos, neg_ℤ, ◌≤ℤ◌, ◌<ℤ◌, Bool, true, false, if◌then◌else◌, List, [], All, Some, None, get_or, slice_get, length, refl, sym, ap, ap₂, subst, arith}
+use Rattle.std.proofs.Common.{◌≡◌, ◌∙◌, ◌⊎◌, inl, inr, ⊎_elim, ◌<◌, ◌+◌, ◌-◌, ◌≤◌, ◌∷◌, ◌++◌, ◌+ℤ◌, ◌*ℤ◌, ℕ, suc, ℤ, pos, neg_ℤ, ◌≤ℤ◌, ◌<ℤ◌, Bool, true, false, if◌then◌else◌, List, [], All, Some, get_or, slice_get, length, refl, sym, ap, ap₂, subst, arith}
 use Rattle.std.specs.Prelude.{◌&&◌, Contains, int_le}
-use Rattle.std.specs.List.{cons_option, enumerate_from, filter_map}
+use Rattle.std.specs.List.{enumerate_from, filter_map}
 use Rattle.std.proofs.Math.IntN.{*ℤ-zero}
 use Rattle.std.proofs.lemmas.Bool.{and_left, and_parts, and_right}
 use Rattle.std.proofs.lemmas.Int.{clamps, ints}
@@ -34,6 +34,7 @@ use Rattle.vertical_design.proofs.CurveLemmas.{heat_below-all, heat_below-betwee
 use Rattle.vertical_design.proofs.CurveOrder.{IsOutside, below_and_above}
 use Rattle.vertical_design.proofs.CurveSegments.{EndsPlaced, HasNoEnd, IsPlaced, IsSegment, Runs}
 use Rattle.vertical_design.proofs.Foremost.{IsForemost, foremost}
+use Rattle.vertical_design.proofs.OverlapLists.{All-kept}
 use Rattle.vertical_design.proofs.ScaledCurve.{curve_parts-whole, curve_rises}
 use Rattle.vertical_design.proofs.SegmentTemperatures.{flow_positive, running_flow}
 use Rattle.vertical_design.proofs.SpanRuns.{cut_below, no_end_between, none_between, side_flow-running, span_of}
@@ -222,19 +223,15 @@ utility_on_axis side.Cold streams axis =
 -- ---- the spans of a side, those of streams and those of utilities
 
 module _ (of : Side) (streams : List Stream) (P : Span → Type 0) where
-  span_kept : (b : Bool) (a : Span) (rest : List Span) → P a → All P rest → All P (cons_option (if b then Some a else None) rest)
-  span_kept true a rest is all = All-cons P a rest is all
-  span_kept false a rest is all = all
-
   stream_spans_hold : ((n : ℕ) (s : Stream) → P (span_of of streams n s)) → (n : ℕ) (ss : List Stream) → All P (filter_map (stream_span of streams) (enumerate_from n ss))
   stream_spans_hold each n [] = All-nil P
   stream_spans_hold each n (s ∷ ss) =
-      span_kept (same_side s.side of) (span_of of streams n s) (filter_map (stream_span of streams) (enumerate_from (n + 1) ss)) (each n s) (stream_spans_hold each (n + 1) ss)
+      All-kept P (same_side s.side of) (span_of of streams n s) (filter_map (stream_span of streams) (enumerate_from (n + 1) ss)) (λ own. each n s) (stream_spans_hold each (n + 1) ss)
 
   utility_spans_hold : ((n : ℕ) → P (utility_span_of of streams n)) → (n : ℕ) (us : List Utility) → All P (filter_map (utility_span of streams) (enumerate_from n us))
   utility_spans_hold each n [] = All-nil P
   utility_spans_hold each n (u ∷ us) =
-      span_kept (same_side u.side of) (utility_span_of of streams n) (filter_map (utility_span of streams) (enumerate_from (n + 1) us)) (each n) (utility_spans_hold each (n + 1) us)
+      All-kept P (same_side u.side of) (utility_span_of of streams n) (filter_map (utility_span of streams) (enumerate_from (n + 1) us)) (λ own. each n) (utility_spans_hold each (n + 1) us)
 
 ends_hold : (P : ℤ → Type 0) (spans : List Span) → All (λ a. P a.from × P a.to) spans → All P (ends_of spans)
 ends_hold P [] each = All-nil P

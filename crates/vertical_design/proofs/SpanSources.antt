@@ -4,7 +4,7 @@ use Rattle.std.specs.List.{cons_option, enumerate_from, filter_map}
 use Rattle.std.specs.Option.{option_map_or}
 use Rattle.std.specs.Prelude.{pos}
 use Rattle.std.proofs.lemmas.Bool.{cases_eq, cases_order, eq-eqb, false_from_ne_true, ne_eqb}
-use Rattle.std.proofs.lemmas.List.Elements.{All-append, All-cons, All-nil, All-weaker}
+use Rattle.std.proofs.lemmas.List.Elements.{All-append, All-nil, All-weaker}
 use Rattle.std.proofs.lemmas.List.Kept.{AllPairs-cons}
 use Rattle.std.proofs.lemmas.Option.{get_or_from_slice_get, same_Some, slice_get-get_or, slice_get_within}
 use Rattle.sums.proofs.OrderLemmas.{AllPairs-append, AllPairs-nil}
@@ -18,6 +18,7 @@ use Rattle.stream_case.proofs.SourceLemmas.{own_side, same_side-true, same_sourc
 use Rattle.vertical_design.specs.Axis.{spans_of, stream_span, utility_from, utility_span, utility_to}
 use Rattle.vertical_design.specs.Matches.{source_at}
 use Rattle.vertical_design.specs.declared.span.Span.{Span}
+use Rattle.vertical_design.proofs.OverlapLists.{All-kept}
 use Rattle.vertical_design.proofs.SpanRuns.{span_of}
 
 abbrev pub utility_span_of : Side → List Stream → ℕ → Span
@@ -37,10 +38,6 @@ pub record IsUtilitySpan (case : Case) (of : Side) (number : ℕ) (u : Utility) 
 abbrev pub IsSourceSpan : Case → Side → Span → Type 0
 IsSourceSpan case of a = ((number : ℕ) × (s : Stream) × IsStreamSpan case of number s a) ⊎ ((number : ℕ) × (u : Utility) × IsUtilitySpan case of number u a)
 
-one_span : (P : Span → Type 0) (b : Bool) (a : Span) (rest : List Span) → (b ≡ true → P a) → All P rest → All P (cons_option (if b then Some a else None) rest)
-one_span P true a rest is all = All-cons P a rest (is refl) all
-one_span P false a rest is all = all
-
 -- ---- each span has a source
 
 module _ (case : Case) (of : Side) where
@@ -50,7 +47,7 @@ module _ (case : Case) (of : Side) where
       let none : n + 0 ≡ n = omega arith in
       let here : slice_get case.streams n ≡ Some s = ap (slice_get case.streams) (sym none) ∙ there 0 s refl in
       let rest = stream_sources (n + 1) ss (λ i t at. let same : n + 1 + i ≡ n + suc i = omega arith in ap (slice_get case.streams) same ∙ there (suc i) t at) in
-      one_span (IsSourceSpan case of) (same_side s.side of) (span_of of case.streams n s) (filter_map (stream_span of case.streams) (enumerate_from (n + 1) ss))
+      All-kept (IsSourceSpan case of) (same_side s.side of) (span_of of case.streams n s) (filter_map (stream_span of case.streams) (enumerate_from (n + 1) ss))
       (λ own. inl (n, s, record { here = here; side_is = same_side-true s.side of own; is = refl })) rest
 
   utility_sources : (n : ℕ) (us : List Utility) → ((i : ℕ) (u : Utility) → slice_get us i ≡ Some u → slice_get case.utilities (n + i) ≡ Some u) → All (IsSourceSpan case of) (filter_map (utility_span of case.streams) (enumerate_from n us))
@@ -59,7 +56,7 @@ module _ (case : Case) (of : Side) where
       let none : n + 0 ≡ n = omega arith in
       let here : slice_get case.utilities n ≡ Some u = ap (slice_get case.utilities) (sym none) ∙ there 0 u refl in
       let rest = utility_sources (n + 1) us (λ i t at. let same : n + 1 + i ≡ n + suc i = omega arith in ap (slice_get case.utilities) same ∙ there (suc i) t at) in
-      one_span (IsSourceSpan case of) (same_side u.side of) (utility_span_of of case.streams n) (filter_map (utility_span of case.streams) (enumerate_from (n + 1) us))
+      All-kept (IsSourceSpan case of) (same_side u.side of) (utility_span_of of case.streams n) (filter_map (utility_span of case.streams) (enumerate_from (n + 1) us))
       (λ own. inr (n, u, record { here = here; side_is = same_side-true u.side of own; is = refl })) rest
 
   pub span_sources : All (IsSourceSpan case of) (spans_of of case)
@@ -107,14 +104,14 @@ module _ (streams : List Stream) (of : Side) where
   streams_from n [] = All-nil (StreamFrom n)
   streams_from n (s ∷ ss) =
       let rest = filter_map (stream_span of streams) (enumerate_from (n + 1) ss) in
-      one_span (StreamFrom n) (same_side s.side of) (span_of of streams n s) rest (λ own. (n, refl, omega arith))
+      All-kept (StreamFrom n) (same_side s.side of) (span_of of streams n s) rest (λ own. (n, refl, omega arith))
       (All-weaker (StreamFrom (n + 1)) (StreamFrom n) (λ a later. let from = later.2 in (later.0, later.1, omega (arith, from))) rest (streams_from (n + 1) ss))
 
   utilities_from : (n : ℕ) (us : List Utility) → All (UtilityFrom n) (filter_map (utility_span of streams) (enumerate_from n us))
   utilities_from n [] = All-nil (UtilityFrom n)
   utilities_from n (u ∷ us) =
       let rest = filter_map (utility_span of streams) (enumerate_from (n + 1) us) in
-      one_span (UtilityFrom n) (same_side u.side of) (utility_span_of of streams n) rest (λ own. (n, refl, omega arith))
+      All-kept (UtilityFrom n) (same_side u.side of) (utility_span_of of streams n) rest (λ own. (n, refl, omega arith))
       (All-weaker (UtilityFrom (n + 1)) (UtilityFrom n) (λ a later. let from = later.2 in (later.0, later.1, omega (arith, from))) rest (utilities_from (n + 1) us))
 
   streams_differ : (n : ℕ) (ss : List Stream) → AllPairs Differ (filter_map (stream_span of streams) (enumerate_from n ss))

@@ -4,7 +4,7 @@ use Rattle.std.specs.Prelude.{Contains, nat_lt, reverse}
 use Rattle.std.proofs.lemmas.Bool.{cases_lt}
 use Rattle.std.proofs.lemmas.Bool.Decides.{nat_tests}
 use Rattle.std.proofs.lemmas.Int.{ints}
-use Rattle.std.proofs.lemmas.List.{get_or-reverse, get_or_default, length-reverse, map-append, reverse-append}
+use Rattle.std.proofs.lemmas.List.{get_or_default, map-append, reverse-append}
 use Rattle.std.proofs.lemmas.List.Elements.{All-cons, All-contains, All-nil, All-weaker}
 use Rattle.sums.proofs.IntegerLemmas.{int_lt_cases}
 use Rattle.sums.proofs.ListLemmas.{Contains-slice_get}
@@ -30,6 +30,7 @@ use Rattle.vertical_design.specs.Courses.{course_of, network_of, shares_in, stag
 use Rattle.vertical_design.specs.Matches.{intervals_of}
 use Rattle.vertical_design.specs.Vertical.{curve_heat}
 use Rattle.vertical_design.specs.declared.span.Span.{Span}
+use Rattle.vertical_design.proofs.CourseLemmas.{All-way}
 use Rattle.vertical_design.proofs.CurveApproach.{one_place}
 use Rattle.vertical_design.proofs.CurveSegments.{HasNoEnd, Runs, heat_rises}
 use Rattle.vertical_design.proofs.IntervalFacing.{actual-first, actual-last, actual_at, first_end, last_end}
@@ -104,15 +105,6 @@ map-reverse {X} {Y} f (x ∷ xs) =
 shares-way : (of : Side) (stages : List LedStage) → shares_along (on_the_way of stages) ≡ on_the_way of (shares_along stages)
 shares-way side.Hot stages = refl
 shares-way side.Cold stages = map-reverse (λ (stage : LedStage). stage.shares) stages
-
-All-reverse : {X : Type 0} (P : X → Type 0) (xs : List X) → All P xs → All P (reverse xs)
-All-reverse P xs all k d inside =
-    let within : k < length xs = omega (arith, inside, length-reverse xs) in
-    subst P (sym (get_or-reverse xs k d within)) (all (length xs - 1 - k) d (omega (arith, within)))
-
-All-way : {X : Type 0} (P : X → Type 0) (of : Side) (xs : List X) → All P xs → All P (on_the_way of xs)
-All-way P side.Hot xs all = all
-All-way P side.Cold xs all = All-reverse P xs all
 
 -- an interval with no share of the stream is no stage, and one with a share is
 stage_skip : (x : List Share) (rest : Course) → x ≡ [] → (if nat_lt 0 (length x) then x ∷ rest else rest) ≡ rest
