@@ -7,6 +7,7 @@ pub mod CourseLemmas
 pub mod SpanLimits
 pub mod MatchShape
 pub mod TurnLemmas
+pub mod ShareCounts
 pub mod DesignShape
 pub mod NetworkLemmas
 pub mod ScaledCurve
@@ -20,3 +21,18 @@ pub mod SpanRuns
 pub mod IntervalTemperatures
 pub mod IntervalFacing
 pub mod OverlapSums
+pub mod SpanSources
+pub mod CutSums
+pub mod OwnPairs
+pub mod SideFlows
+pub mod UtilityHeats
+pub mod Balances
+pub mod IntervalPlaces
+pub mod IntervalShares
+pub mod IntervalStages
+pub mod StreamCourses
+pub mod NetworkCourses
+pub mod MatchPasses
+pub mod NetworkValid
+pub mod StageLimits
+pub mod NoFinding
