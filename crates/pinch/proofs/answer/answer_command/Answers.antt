@@ -47,8 +47,8 @@ pub returns-in_ok-show_site-in-Site : goal.returns-in_ok-show_site-in-Site
 unfolding ShowsCommand
 returns-in_ok-show_site-in-Site g c = rw c.in-Site.is (by_text _ _ c.in_ok-site-in-Site.ensures.site (refl, c.in_ok-show_site-in-Site.ensures))
 
-pub show_sweep-requires-in-Sweep : goal.show_sweep-requires-in-Sweep
-show_sweep-requires-in-Sweep g c =
+pub show_sweep-requires : goal.show_sweep-requires
+show_sweep-requires g c =
     let run = subst IsRunnable c.in-Sweep.is c.requires in
     record { valid = c.in_ok-case-in-Sweep.ensures.valid; plan = run.0; some_workers = run.1; few_workers = run.2 }
 
