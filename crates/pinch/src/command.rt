@@ -12,19 +12,36 @@ use study::SweepPlan;
 #[derive(Debug, Drop)]
 pub enum Command {
     /// `targets CASE`: the targets and the pinches.
-    Targets { case: Word },
+    Targets {
+        case: Word,
+    },
     /// `flow CASE`: a heat flow of least cost, with prices that prove it.
-    Flow { case: Word },
+    Flow {
+        case: Word,
+    },
     /// `design CASE`: a network that realises a heat flow of least cost.
+<<<<<<< HEAD
     Design { case: Word },
     /// `vertical CASE`: a network of a standard case by its composite curves.
     Vertical { case: Word },
+=======
+    Design {
+        case: Word,
+    },
+>>>>>>> 069e3837e3ec48692e2601e67a95189690a7a415
     /// `curves CASE`: the composite curves and the grand composite curve.
-    Curves { case: Word },
+    Curves {
+        case: Word,
+    },
     /// `audit CASE NETWORK`: whether the network is valid for the completed case.
-    Audit { case: Word, network: Word },
+    Audit {
+        case: Word,
+        network: Word,
+    },
     /// `site SITE`: the profiles of a site, and its least boiler heat with a certificate.
-    Site { site: Word },
+    Site {
+        site: Word,
+    },
     /// `sweep CASE FROM TO STEP WORKERS`: the targets and the least cost for each contribution of
     /// the plan, by so many workers.
     Sweep {

@@ -60,7 +60,10 @@ fn a_sweep_has_the_rows_of_its_plan(rt: HostRuntime) -> Result<(), Fail> {
         ),
         // One row, and more workers than rows.
         (("50", "50", "1", "16"), "row 50 20000 60000 20000\n"),
-        (("0", "1000", "1000", "2"), "row 0 0 40000 0\nrow 1000 470000 510000 470000\n"),
+        (
+            ("0", "1000", "1000", "2"),
+            "row 0 0 40000 0\nrow 1000 470000 510000 470000\n",
+        ),
     ];
     for (numbers, text) in rows {
         check_sweep(&rt, FOUR_STREAM, numbers, 0, text)?;
@@ -81,7 +84,11 @@ fn the_most_rows_are_printed(rt: HostRuntime) -> Result<(), Fail> {
     let words = ["sweep", "plant.csv", "0", "999", "1", "16"];
     let files = [("plant.csv", FOUR_STREAM.as_bytes())];
     let outcome = outcome_of(&rt, &words, &files)?;
-    let lines = outcome.written.iter().filter(|byte| **byte == b'\n').count();
+    let lines = outcome
+        .written
+        .iter()
+        .filter(|byte| **byte == b'\n')
+        .count();
     assert_eq!(rt; outcome.status, 0);
     assert_eq!(rt; lines, 1000);
     Ok(())
