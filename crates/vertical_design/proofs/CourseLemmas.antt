@@ -1,12 +1,12 @@
 -- Exchangers and courses, item by item, and how many branches they make.
-use Rattle.std.proofs.Common.{◌≡◌, ◌∙◌, ◌<◌, ◌≤◌, ◌+◌, ◌*◌, ◌∷◌, ◌++◌, ℕ, ℤ, suc, Bool, true, false, if◌then◌else◌, List, [], All, Some, None, get_or, length, map, take, drop, refl, sym, ap, subst, arith}
+use Rattle.std.proofs.Common.{◌≡◌, ◌∙◌, ◌<◌, ◌≤◌, ◌+◌, ◌-◌, ◌*◌, ◌∷◌, ◌++◌, ℕ, ℤ, suc, Bool, true, false, if◌then◌else◌, List, [], All, Some, None, get_or, length, map, take, drop, refl, sym, ap, subst, arith}
 use Rattle.std.specs.Prelude.{Option, filter, nat_lt, reverse}
 use Rattle.std.specs.List.{cons_option, enumerate_from, filter_map}
 use Rattle.std.specs.Option.{option_to_list}
 use Rattle.std.proofs.lemmas.Bool.{ltb-true}
 use Rattle.std.proofs.lemmas.Grind.{flat_map-append}
-use Rattle.std.proofs.lemmas.List.{append-nil, length-append, length-map, length-take, map-append, reverse-append, take-append-drop, take_more}
-use Rattle.std.proofs.lemmas.List.Elements.{All-append, All-cons, All-head, All-nil, All-tail, filter-append}
+use Rattle.std.proofs.lemmas.List.{append-nil, get_or-reverse, length-append, length-map, length-reverse, length-take, map-append, reverse-append, take-append-drop, take_more}
+use Rattle.std.proofs.lemmas.List.Elements.{All-cons, All-nil, filter-append}
 use Rattle.std.proofs.lemmas.List.FromFn.{length-enumerate_from}
 use Rattle.sums.proofs.EnumerationLemmas.{enumerate_from-append}
 use Rattle.sums.proofs.ListLemmas.{filter_map-push}
@@ -105,18 +105,18 @@ kept-stages (x ∷ xs) = by (nat_lt 0 (length x)) refl (kept-stages xs)
     by true is rest = All-cons (λ (ss : List Share). 0 < length ss) x (filter (λ shares. nat_lt 0 (length shares)) xs) (ltb-true 0 (length x) is) rest
     by false is rest = rest
 
-stages-reverse : (xs : Course) → AreStages xs → AreStages (reverse xs)
-stages-reverse [] each = each
-stages-reverse (x ∷ xs) each =
-    let P : List Share → Type 0 = λ ss. 0 < length ss in
-    subst AreStages (sym (reverse-append (x ∷ []) xs)) (All-append P (reverse xs) (x ∷ []) (stages-reverse xs (All-tail P x xs each)) (All-cons P x [] (All-head P x xs each) (All-nil P)))
+-- what holds of all places holds of them along the way
+All-reverse : {X : Type 0} (P : X → Type 0) (xs : List X) → All P xs → All P (reverse xs)
+All-reverse P xs all k d inside =
+    let within : k < length xs = omega (arith, inside, length-reverse xs) in
+    subst P (sym (get_or-reverse xs k d within)) (all (length xs - 1 - k) d (omega (arith, within)))
+
+pub All-way : {X : Type 0} (P : X → Type 0) (of : Side) (xs : List X) → All P xs → All P (on_the_way of xs)
+All-way P side.Hot xs all = all
+All-way P side.Cold xs all = All-reverse P xs all
 
 pub course-stages : (intervals : List Interval) (e : ℕ × Stream) → AreStages (course_of intervals e)
-course-stages intervals (number, s) = by s.side (stages_of s.side number intervals) (kept-stages (map (shares_in s.side number) intervals))
-  where
-    by : (d : Side) (xs : Course) → AreStages xs → AreStages (on_the_way d xs)
-    by side.Hot xs each = each
-    by side.Cold xs each = stages-reverse xs each
+course-stages intervals (number, s) = All-way (λ (ss : List Share). 0 < length ss) s.side (stages_of s.side number intervals) (kept-stages (map (shares_in s.side number) intervals))
 
 pub courses-stages : (case : Case) (intervals : List Interval) → All AreStages (courses_of case intervals)
 courses-stages case intervals = each (enumerate_from 0 case.streams)

@@ -25,7 +25,7 @@ kept {X} p P (x ∷ xs) all = by (p x) refl all (kept p P xs)
 
 -- ---- a whole curve rises
 
-heat_rises : (of : Side) (streams : List Stream) (t u : ℤ) → All IsValidStream streams → t ≤ℤ u → heat_at of streams t ≤ℤ heat_at of streams u
+pub heat_rises : (of : Side) (streams : List Stream) (t u : ℤ) → All IsValidStream streams → t ≤ℤ u → heat_at of streams t ≤ℤ heat_at of streams u
 heat_rises of streams t u valid upto =
     let rise = curve_rises 1 of streams (t *ℤ pos 1) (u *ℤ pos 1) valid (omega (arith, ints, upto)) in
     let here = curve_parts-whole 1 of streams t (omega arith) in

@@ -47,11 +47,11 @@ module _ (hot cold : List Span) (cuts : List ℤ) (are_hot : AreSpans hot) (are_
 
 -- ---- few matches
 
-amounts-positive : (low high : ℤ) (spans others : List Span) → AreSpans spans → AreSpans others → NotNegative (amounts_in low high spans others)
+pub amounts-positive : (low high : ℤ) (spans others : List Span) → AreSpans spans → AreSpans others → NotNegative (amounts_in low high spans others)
 amounts-positive low high spans others are are_others =
     scaled-positive (flows_in low high spans) (side_flow low high others) (flows-within low high spans are.each) (side-within low high others are_others)
 
-length-amounts : (low high : ℤ) (spans others : List Span) → length (amounts_in low high spans others) ≡ length spans
+pub length-amounts : (low high : ℤ) (spans others : List Span) → length (amounts_in low high spans others) ≡ length spans
 length-amounts low high spans others = length-map (flows_in low high spans) (λ f. f *ℤ side_flow low high others) ∙ length-map spans (flow_in low high)
 
 pub few_matches : (low high : ℤ) (hot cold : List Span) → AreSpans hot → AreSpans cold → length (matches_in low high hot cold) ≤ 2 * MOST_SPANS

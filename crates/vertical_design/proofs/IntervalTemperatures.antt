@@ -1,18 +1,19 @@
 -- The temperatures of a side between two neighbouring cuts of the heat axis, and how they join from interval to interval.
-use Rattle.std.proofs.Common.{◌≡◌, ◌∙◌, ◌<◌, ◌-◌, ◌-ℤ◌, ◌*ℤ◌, ℕ, ℤ, pos, negsuc, ◌≤ℤ◌, ◌<ℤ◌, true, List, get_or, length, true≢false, refl, sym, ap, subst, arith}
+use Rattle.std.proofs.Common.{◌≡◌, ◌∙◌, ◌<◌, ◌-◌, ◌+ℤ◌, ◌-ℤ◌, ◌*ℤ◌, ℕ, ℤ, pos, negsuc, ◌≤ℤ◌, ◌<ℤ◌, List, get_or, length, refl, sym, ap, subst, arith}
 use Rattle.std.specs.Prelude.{unsigned_abs}
 use Rattle.std.proofs.lemmas.Int.{ints}
 use Rattle.std.proofs.lemmas.List.Elements.{All-contains}
-use Rattle.stream_case.specs.Source.{same_side}
 use Rattle.stream_case.specs.Stream.{AreStreams, IsValidStream, high_end, low_end}
 use Rattle.stream_case.specs.declared.case.Case.{Case}
 use Rattle.stream_case.specs.declared.source.Side.{Side}
 use Rattle.stream_case.specs.declared.source.Side.TheVariants as side
 use Rattle.stream_case.specs.declared.stream.Stream.{Stream}
 use Rattle.stream_case.proofs.EndLemmas.{AreEnds-IsValidStream}
+use Rattle.stream_case.proofs.SourceLemmas.{same_side-true}
 use Rattle.fractions.specs.Rationals.{IsAtMost, IsBelow, Rational, minus, ratio, whole}
 use Rattle.fractions.proofs.Comparisons.{at_most-whole}
 use Rattle.fractions.proofs.Wholes.{ratio-multiple}
+use Rattle.design_lines.proofs.StageSizes.{IsOver}
 use Rattle.vertical_design.specs.Axis.{AreCuts, heat_at, spans_of}
 use Rattle.vertical_design.specs.Matches.{side_flow}
 use Rattle.vertical_design.specs.Vertical.{curve_heat}
@@ -28,22 +29,17 @@ curve_heat-whole of streams t =
     ap (curve_heat of streams) (sym (ratio-multiple t 1 (omega arith))) ∙ curve_heat-ratio 1 (omega arith) of streams (t *ℤ pos 1) ∙ ap (λ z. ratio z 1) (curve_parts-whole 1 of streams t (omega arith))
     ∙ ratio-multiple (heat_at of streams t) 1 (omega arith)
 
-size_is : (x : ℤ) → pos 0 <ℤ x → x ≡ pos (unsigned_abs x)
+pub size_is : (x : ℤ) → pos 0 <ℤ x → x ≡ pos (unsigned_abs x)
 size_is (pos n) above = refl
 size_is (negsuc n) above = absurd (omega (arith, ints, above))
 
-side_is : (a b : Side) → same_side a b ≡ true → a ≡ b
-side_is side.Hot side.Hot same = refl
-side_is side.Hot side.Cold same = absurd (true≢false (sym same))
-side_is side.Cold side.Hot same = absurd (true≢false (sym same))
-side_is side.Cold side.Cold same = refl
-
--- the temperature of a side at each heat from the lower cut to the higher one: the curve has that heat there, each stream that runs has it in its range, and it changes by the heat over the flow
+-- the temperature of a side at each heat from the lower cut to the higher one: the curve has that heat there, each stream that runs has it in its range, it changes by the heat over the flow, and it is a whole number over the flow
 pub record IsScale (of : Side) (streams : List Stream) (are : AreStreams streams) (low high flow : ℤ) (scale : ℤ → Rational) : Type 0 where
   pub heat : (q : ℤ) → low ≤ℤ q → q ≤ℤ high → curve_heat of streams (scale q) ≡ whole q
   pub range : (q : ℤ) → low ≤ℤ q → q ≤ℤ high → (r : Stream) → Runs of streams are low high r → IsAtMost (whole (low_end r)) (scale q) × IsAtMost (scale q) (whole (high_end r))
   pub change : (q p : ℤ) → minus (scale p) (scale q) ≡ ratio (p -ℤ q) (unsigned_abs flow)
   pub rises : (q p : ℤ) → q <ℤ p → IsBelow (scale q) (scale p)
+  pub over : (q : ℤ) → IsOver (unsigned_abs flow) (scale q)
 
 -- an interval in which a stream of the side runs has one
 pub interval_scale : (case : Case) (cuts : List ℤ) (are_cuts : AreCuts (spans_of side.Hot case) (spans_of side.Cold case) cuts) (at : ℕ) (later : 0 < at) (within : at < length cuts) (are : AreStreams case.streams) (of : Side) (r : Stream)
@@ -68,6 +64,7 @@ interval_scale case cuts are_cuts at later within are of r runs =
         range = λ q from upto s s_runs. within_range of streams are low high gap begin end is none d size some q from upto s s_runs;
         change = λ q p. temperature_change of streams are low high gap begin end is none d size some q p ∙ ap (λ f. ratio (p -ℤ q) (unsigned_abs f)) (sym same);
         rises = λ q p less. temperature_rises of streams are low high gap begin end is none d size some q p less;
+        over = λ q. let num = begin *ℤ pos d +ℤ (q -ℤ heat_at of streams begin) in record { num = num; is = ap (λ f. ratio num (unsigned_abs f)) (sym same) };
       },
     )
 
@@ -77,7 +74,7 @@ module _ (of : Side) (streams : List Stream) (are : AreStreams streams) (r : Str
   -- two temperatures of a stream's range with one heat
   same_place : (low high : ℤ) → Runs of streams are low high r → (t u : Rational) → IsAtMost (whole (low_end r)) t × IsAtMost t (whole (high_end r)) → IsAtMost (whole (low_end r)) u × IsAtMost u (whole (high_end r)) → curve_heat of streams t ≡ curve_heat of streams u → t ≡ u
   same_place low high runs t u t_in u_in same =
-      let own = side_is r.side of runs.side_is in
+      let own = same_side-true r.side of runs.side_is in
       one_place streams are r runs.member t u t_in.0 t_in.1 u_in.0 u_in.1 (subst (λ d. curve_heat d streams t ≡ curve_heat d streams u) (sym own) same)
 
   -- a stream that runs on both sides of a cut has one temperature there

@@ -1,5 +1,5 @@
 -- The spans of a standard case are within the limits.
-use Rattle.std.proofs.Common.{◌≡◌, ⊎_elim, ◌≤◌, ◌+◌, ◌*◌, ◌∷◌, ℕ, ℤ, pos, ◌≤ℤ◌, Bool, true, false, if◌then◌else◌, cond, List, [], All, Some, None, length, refl, sym, subst, arith}
+use Rattle.std.proofs.Common.{◌≡◌, ⊎_elim, ◌≤◌, ◌+◌, ◌*◌, ◌∷◌, ℕ, ℤ, pos, ◌≤ℤ◌, Bool, true, false, if◌then◌else◌, cond, List, [], All, Some, None, length, sym, subst, arith}
 use Rattle.std.specs.Prelude.{◌+ℤ◌, ◌-ℤ◌}
 use Rattle.std.specs.List.{cons_option, enumerate_from, filter_map}
 use Rattle.std.proofs.lemmas.Int.{clamps, ints}
@@ -33,6 +33,7 @@ use Rattle.vertical_design.specs.Axis.{heat_at, heat_below, spans_of, stream_spa
 use Rattle.vertical_design.specs.Limits.{AreSpans, IsPlace, IsSpan}
 use Rattle.vertical_design.specs.declared.span.Span.{Span}
 use Rattle.vertical_design.proofs.CurveLemmas.{heat_below-between}
+use Rattle.vertical_design.proofs.OverlapLists.{All-kept}
 
 -- ---- all heat
 
@@ -102,10 +103,6 @@ utility_places side.Cold streams heats =
 
 -- ---- the spans
 
-one_more : (b : Bool) (s : Span) (rest : List Span) → (b ≡ true → IsSpan s) → All IsSpan rest → All IsSpan (cons_option (if b then Some s else None) rest)
-one_more true s rest is all = All-cons IsSpan s rest (is refl) all
-one_more false s rest is all = all
-
 length-one_more : (b : Bool) (s : Span) (rest : List Span) → length (cons_option (if b then Some s else None) rest) ≡ cond b 1 0 + length rest
 length-one_more true s rest = omega arith
 length-one_more false s rest = omega arith
@@ -127,7 +124,7 @@ stream_spans of streams are n (s ∷ ss) valid =
     let b = same_side s.side of in
     let cp = h.cp in
     record {
-      each = one_more b (span_at of streams n s) spans (λ own. record { flow = record { from = omega (arith, ints, cp.from); upto = cp.upto }; from = curve_place of streams (low_end s) are; to = curve_place of streams (high_end s) are }) rest.each;
+      each = All-kept IsSpan b (span_at of streams n s) spans (λ own. record { flow = record { from = omega (arith, ints, cp.from); upto = cp.upto }; from = curve_place of streams (low_end s) are; to = curve_place of streams (high_end s) are }) rest.each;
       few = omega (arith, length-one_more b (span_at of streams n s) spans, count_by-cons (λ (r : Stream). same_side r.side of) s ss, rest.few);
     }
 

@@ -33,7 +33,7 @@ use Rattle.vertical_design.proofs.SegmentTemperatures.{flow_running, running_flo
 -- ---- cuts next to each other
 
 -- no cut lies between two neighbouring ones
-none_between : (cuts : List ℤ) → AllPairs (λ a b. b <ℤ a) cuts → (at : ℕ) → 0 < at → at < length cuts → (x : ℤ) → Contains cuts x → IsOutside (get_or cuts at (pos 0)) (get_or cuts (at - 1) (pos 0)) x
+pub none_between : (cuts : List ℤ) → AllPairs (λ a b. b <ℤ a) cuts → (at : ℕ) → 0 < at → at < length cuts → (x : ℤ) → Contains cuts x → IsOutside (get_or cuts at (pos 0)) (get_or cuts (at - 1) (pos 0)) x
 none_between cuts falls at later within x (k, inside, is) =
     let here : get_or cuts k (pos 0) ≡ x = get_or_default cuts k (pos 0) x inside ∙ is in
     ⊎_elim
@@ -52,7 +52,7 @@ none_between cuts falls at later within x (k, inside, is) =
 -- ---- spans of streams
 
 module _ (of : Side) (streams : List Stream) where
-  abbrev span_of : ℕ → Stream → Span
+  abbrev pub span_of : ℕ → Stream → Span
   span_of n s = record { source = source.Stream n; from = heat_at of streams (low_end s); to = heat_at of streams (high_end s); cp = s.cp }
 
   -- what holds of all places where a span begins or ends holds of the ends of the streams
@@ -111,6 +111,21 @@ module _ (of : Side) (streams : List Stream) where
         by true rest = ap₂ (λ t z. (if t then pos 1 else pos 0) +ℤ z) rests rest
         by false rest = rest
 
+-- ---- the cuts of a case
+
+module _ (case : Case) (cuts : List ℤ) (are_cuts : AreCuts (spans_of side.Hot case) (spans_of side.Cold case) cuts) where
+  pub is_cut : (of : Side) (x : ℤ) → Contains (ends_of (spans_of of case)) x → Contains cuts x
+  is_cut side.Hot x member = are_cuts.every x (Contains-append_left (ends_of (spans_of side.Hot case)) (ends_of (spans_of side.Cold case)) x member)
+  is_cut side.Cold x member = are_cuts.every x (Contains-append_right (ends_of (spans_of side.Hot case)) (ends_of (spans_of side.Cold case)) x member)
+
+  -- the ends of each stream are cuts
+  pub ends_are_cuts : (of : Side) → All (λ s. same_side s.side of ≡ true → Contains cuts (heat_at of case.streams (low_end s)) × Contains cuts (heat_at of case.streams (high_end s))) case.streams
+  unfolding spans_of
+  ends_are_cuts of =
+      let all : All (Contains cuts) (ends_of (spans_of of case)) =
+      λ k o inside. is_cut of (get_or (ends_of (spans_of of case)) k o) (Contains-get_or (ends_of (spans_of of case)) k o inside) in
+      ends_hold of case.streams (Contains cuts) 0 case.streams (filter_map (utility_span of case.streams) (enumerate_from 0 case.utilities)) all
+
 -- ---- between neighbouring cuts of a case
 
 module _ (case : Case) (cuts : List ℤ) (are_cuts : AreCuts (spans_of side.Hot case) (spans_of side.Cold case) cuts) (at : ℕ) (later : 0 < at) (within : at < length cuts) (are : AreStreams case.streams) where
@@ -123,17 +138,13 @@ module _ (case : Case) (cuts : List ℤ) (are_cuts : AreCuts (spans_of side.Hot 
   pub cut_below : low_cut <ℤ high_cut
   cut_below = are_cuts.ordered (at - 1) at (pos 0) (omega (arith, later)) within
 
-  is_cut : (of : Side) (x : ℤ) → Contains (ends_of (spans_of of case)) x → Contains cuts x
-  is_cut side.Hot x member = are_cuts.every x (Contains-append_left (ends_of (spans_of side.Hot case)) (ends_of (spans_of side.Cold case)) x member)
-  is_cut side.Cold x member = are_cuts.every x (Contains-append_right (ends_of (spans_of side.Hot case)) (ends_of (spans_of side.Cold case)) x member)
-
   -- no stream begins or ends between them
   pub no_end_between : (of : Side) → All (λ s. same_side s.side of ≡ true → HasNoEnd of case.streams are low_cut high_cut s) case.streams
   unfolding spans_of
   no_end_between of =
       let streams = case.streams in
       let all : All (IsOutside low_cut high_cut) (ends_of (spans_of of case)) =
-      λ k o inside. none_between cuts are_cuts.ordered at later within (get_or (ends_of (spans_of of case)) k o) (is_cut of (get_or (ends_of (spans_of of case)) k o) (Contains-get_or (ends_of (spans_of of case)) k o inside)) in
+      λ k o inside. none_between cuts are_cuts.ordered at later within (get_or (ends_of (spans_of of case)) k o) (is_cut case cuts are_cuts of (get_or (ends_of (spans_of of case)) k o) (Contains-get_or (ends_of (spans_of of case)) k o inside)) in
       let ends = ends_hold of streams (IsOutside low_cut high_cut) 0 streams (filter_map (utility_span of streams) (enumerate_from 0 case.utilities)) all in
       λ k o inside own. let both = ends k o inside own in record { low_outside = both.0; high_outside = both.1 }
 

@@ -4,7 +4,7 @@ use Rattle.std.specs.Prelude.{count_by, nat_lt, reverse}
 use Rattle.std.specs.List.{cons_option, enumerate_from, filter_map, flat_map}
 use Rattle.std.proofs.lemmas.Bool.Decides.{nat_tests}
 use Rattle.std.proofs.lemmas.List.{reverse-append}
-use Rattle.std.proofs.lemmas.List.Elements.{All-cons, All-head, All-nil, All-tail, filter_map-append}
+use Rattle.std.proofs.lemmas.List.Elements.{All-cons, All-nil, filter_map-append}
 use Rattle.std.proofs.lemmas.List.Sums.{sum_by-append, sum_by-cons}
 use Rattle.sums.proofs.CountLemmas.{count_by-cons}
 use Rattle.sums.proofs.EnumerationLemmas.{enumerate_from-append}
@@ -23,6 +23,8 @@ use Rattle.vertical_design.specs.Matches.{intervals_below, intervals_of, matches
 use Rattle.vertical_design.specs.declared.interval.Interval.{Interval}
 use Rattle.vertical_design.specs.declared.matches.Match.{Match}
 use Rattle.vertical_design.specs.declared.span.Span.{Span}
+use Rattle.vertical_design.proofs.CourseLemmas.{All-way}
+use Rattle.vertical_design.proofs.OverlapLists.{All-kept}
 
 -- ---- intervals that are numbered on
 
@@ -118,11 +120,7 @@ module _ (of : Side) (stream number : ℕ) where
 
 -- ---- what holds of each share
 
-one_share : (P : Share → Type 0) (b : Bool) (s : Share) (rest : List Share) → (b ≡ true → P s) → All P rest → All P (cons_option (if b then Some s else None) rest)
-one_share P true s rest is all = All-cons P s rest (is refl) all
-one_share P false s rest is all = all
-
-each-share : (P : Share → Type 0) (of : Side) (stream n : ℕ) (ms : List Match) → ((i : ℕ) (m : Match) → slice_get ms i ≡ Some m → same_source (source_on of m) (source.Stream stream) ≡ true → P (record { exchanger = n + i; cp = cp_on of m }))
+pub each-share : (P : Share → Type 0) (of : Side) (stream n : ℕ) (ms : List Match) → ((i : ℕ) (m : Match) → slice_get ms i ≡ Some m → same_source (source_on of m) (source.Stream stream) ≡ true → P (record { exchanger = n + i; cp = cp_on of m }))
     → All P (filter_map (share_of of stream) (enumerate_from n ms))
 each-share P of stream n [] each = All-nil P
 each-share P of stream n (m ∷ ms) each =
@@ -130,7 +128,7 @@ each-share P of stream n (m ∷ ms) each =
     let rest = each-share P of stream (n + 1) ms (λ i u at is_own.
     let further : n + suc i ≡ n + 1 + i = omega arith in
     subst (λ (k : ℕ). P (record { exchanger = k; cp = cp_on of u })) further (each (suc i) u at is_own)) in
-    one_share P (same_source (source_on of m) (source.Stream stream)) (record { exchanger = n; cp = cp_on of m }) (filter_map (share_of of stream) (enumerate_from (n + 1) ms))
+    All-kept P (same_source (source_on of m) (source.Stream stream)) (record { exchanger = n; cp = cp_on of m }) (filter_map (share_of of stream) (enumerate_from (n + 1) ms))
     (λ is_own. subst (λ (k : ℕ). P (record { exchanger = k; cp = cp_on of m })) none (each 0 m refl is_own)) rest
 
 kept-all : (Q : List Share → Type 0) (x : List Share) (rest : Course) (b : Bool) → Q x → All Q rest → All Q (if b then x ∷ rest else rest)
@@ -144,21 +142,8 @@ stages-all P of stream (i ∷ intervals) each =
     let later = all_shares of stream intervals in
     kept-all (λ ss. All P ss) x (stages_of of stream intervals) (nat_lt 0 (length x)) (All-front P x later each) (stages-all P of stream intervals (All-back P x later each))
 
-reverse-all : (Q : List Share → Type 0) (xs : Course) → All Q xs → All Q (reverse xs)
-reverse-all Q [] each = each
-reverse-all Q (x ∷ xs) each =
-    subst (All Q) (sym (reverse-append (x ∷ []) xs)) (push (reverse xs) x (reverse-all Q xs (All-tail Q x xs each)) (All-head Q x xs each))
-  where
-    push : (ys : Course) (y : List Share) → All Q ys → Q y → All Q (ys ++ y ∷ [])
-    push [] y all is = All-cons Q y [] is (All-nil Q)
-    push (z ∷ ys) y all is = All-cons Q z (ys ++ y ∷ []) (All-head Q z ys all) (push ys y (All-tail Q z ys all) is)
-
 pub course-all : (P : Share → Type 0) (intervals : List Interval) (number : ℕ) (s : Stream) → AreNumbered 0 intervals
     → ((i : ℕ) (m : Match) → slice_get (matches_of intervals) i ≡ Some m → same_source (source_on s.side m) (source.Stream number) ≡ true → P (record { exchanger = 0 + i; cp = cp_on s.side m }))
     → All (λ ss. All P ss) (course_of intervals (number, s))
 course-all P intervals number s numbered each =
-    by s.side (stages_of s.side number intervals) (stages-all P s.side number intervals (subst (All P) (sym (shares-all s.side number 0 intervals numbered)) (each-share P s.side number 0 (matches_of intervals) each)))
-  where
-    by : (d : Side) (xs : Course) → All (λ ss. All P ss) xs → All (λ ss. All P ss) (on_the_way d xs)
-    by side.Hot xs all = all
-    by side.Cold xs all = reverse-all (λ ss. All P ss) xs all
+    All-way (λ (ss : List Share). All P ss) s.side (stages_of s.side number intervals) (stages-all P s.side number intervals (subst (All P) (sym (shares-all s.side number 0 intervals numbered)) (each-share P s.side number 0 (matches_of intervals) each)))

@@ -50,7 +50,7 @@ AllStayInRange case network values = (number : ℕ) (e : Exchanger) → slice_ge
 
 -- ---- sources and utilities
 
-found : {X : Type 0} (f : X → Side) (on : Side) (o : Option X) → option_map f o ≡ Some on → (x : X) × (o ≡ Some x) × (f x ≡ on)
+pub found : {X : Type 0} (f : X → Side) (on : Side) (o : Option X) → option_map f o ≡ Some on → (x : X) × (o ≡ Some x) × (f x ≡ on)
 found f on None is = absurd (none-some on is)
 found f on (Some x) is = (x, refl, same_Some (f x) on is)
 

@@ -3,3 +3,4 @@ pub mod Limits
 pub mod Matches
 pub mod Courses
 pub mod Vertical
+pub mod Balance
