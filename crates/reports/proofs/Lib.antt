@@ -1,2 +1,2 @@
-mod Kinds
+mod ShownKinds
 mod TextLemmas

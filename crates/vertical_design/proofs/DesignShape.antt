@@ -1,8 +1,7 @@
 -- The network of the matches has the shape of a network.
-use Rattle.std.proofs.Common.{◌≡◌, ◌∙◌, inl, inr, ◌≤◌, ◌+◌, ◌*◌, ◌∷◌, ℕ, Bool, true, false, if◌then◌else◌, List, [], All, Some, slice_get, length, map, option_map, refl, sym, ap, subst, arith, length-append}
+use Rattle.std.proofs.Common.{◌≡◌, ◌∙◌, inl, inr, ◌≤◌, ◌+◌, ◌*◌, ◌∷◌, ℕ, Bool, true, false, cond, if◌then◌else◌, List, [], All, Some, slice_get, length, map, option_map, refl, sym, ap, subst, arith, length-append}
 use Rattle.std.specs.Prelude.{nat_lt, reverse, sum_by}
 use Rattle.std.specs.List.{enumerate_from}
-use Rattle.std.proofs.Math.Nat.{mul-le-mul}
 use Rattle.std.proofs.lemmas.List.{length-map, reverse-append}
 use Rattle.std.proofs.lemmas.List.Elements.{All-map}
 use Rattle.std.proofs.lemmas.List.FromFn.{length-enumerate_from}
@@ -37,8 +36,9 @@ use Rattle.vertical_design.specs.Matches.{matches_of}
 use Rattle.vertical_design.specs.declared.interval.Interval.{Interval}
 use Rattle.vertical_design.specs.declared.limits.TheConstants.{MOST_SPANS}
 use Rattle.vertical_design.specs.declared.matches.Match.{Match}
-use Rattle.vertical_design.proofs.CourseLemmas.{course-stages, length-courses_of, length-shares}
+use Rattle.vertical_design.proofs.CourseLemmas.{course-stages, length-courses_of}
 use Rattle.vertical_design.proofs.MatchShape.{IsMatch}
+use Rattle.vertical_design.proofs.ShareCounts.{few-shares, own_count, two_for_each}
 use Rattle.vertical_design.proofs.TurnLemmas.{AreNumbered, course-all, turns-course}
 
 -- ---- few shares
@@ -51,13 +51,14 @@ unfolding sizes
 sizes-kept x rest most true few = omega (arith, few, sum_by-cons (λ (ss : List Share). length ss) x rest)
 sizes-kept x rest most false few = omega (arith, few)
 
-sizes-stages : (of : Side) (stream : ℕ) (intervals : List Interval) → sizes (stages_of of stream intervals) ≤ length (matches_of intervals)
+sizes-stages : (of : Side) (stream : ℕ) (intervals : List Interval) → sizes (stages_of of stream intervals) ≤ own_count of stream (matches_of intervals)
 unfolding sizes
 sizes-stages of stream [] = omega arith
 sizes-stages of stream (i ∷ intervals) =
     let x = shares_in of stream i in
-    let here = sizes-kept x (stages_of of stream intervals) (length (matches_of intervals)) (nat_lt 0 (length x)) (sizes-stages of stream intervals) in
-    omega (arith, here, length-shares of stream i.first i.matches, length-append i.matches (matches_of intervals))
+    let own : Match → ℕ = λ (m : Match). cond (same_source (source_on of m) (source.Stream stream)) 1 0 in
+    let here = sizes-kept x (stages_of of stream intervals) (own_count of stream (matches_of intervals)) (nat_lt 0 (length x)) (sizes-stages of stream intervals) in
+    omega (arith, here, few-shares of stream i.first i.matches, sum_by-append own i.matches (matches_of intervals))
 
 sizes-reverse : (xs : Course) → sizes (reverse xs) ≡ sizes xs
 unfolding sizes
@@ -67,16 +68,17 @@ sizes-reverse (x ∷ xs) =
     let turned = ap (sum_by f) (reverse-append (x ∷ []) xs) ∙ sum_by-append f (reverse xs) (x ∷ []) in
     omega (arith, turned, sizes-reverse xs, sum_by-cons f x xs, sum_by-cons f x [])
 
-sizes-course : (intervals : List Interval) (e : ℕ × Stream) → sizes (course_of intervals e) ≤ length (matches_of intervals)
+sizes-course : (intervals : List Interval) (e : ℕ × Stream) → sizes (course_of intervals e) ≤ own_count e.1.side e.0 (matches_of intervals)
 sizes-course intervals (number, s) = by s.side (stages_of s.side number intervals) (sizes-stages s.side number intervals)
   where
-    by : (d : Side) (xs : Course) → sizes xs ≤ length (matches_of intervals) → sizes (on_the_way d xs) ≤ length (matches_of intervals)
+    by : (d : Side) (xs : Course) {most : ℕ} → sizes xs ≤ most → sizes (on_the_way d xs) ≤ most
     by side.Hot xs few = few
     by side.Cold xs few = omega (arith, few, sizes-reverse xs)
 
-sizes-all : (intervals : List Interval) (es : List (ℕ × Stream)) → sum_by sizes (map (course_of intervals) es) ≤ length es * length (matches_of intervals)
+sizes-all : (intervals : List Interval) (es : List (ℕ × Stream)) → sum_by sizes (map (course_of intervals) es) ≤ sum_by (λ e. own_count e.1.side e.0 (matches_of intervals)) es
 sizes-all intervals [] = omega arith
-sizes-all intervals (e ∷ es) = omega (arith, sizes-course intervals e, sizes-all intervals es, sum_by-cons sizes (course_of intervals e) (map (course_of intervals) es))
+sizes-all intervals (e ∷ es) =
+    omega (arith, sizes-course intervals e, sizes-all intervals es, sum_by-cons sizes (course_of intervals e) (map (course_of intervals) es), sum_by-cons (λ (d : ℕ × Stream). own_count d.1.side d.0 (matches_of intervals)) e es)
 
 few-sizes : (next : ℕ) (courses : List Course) → length (courses_lines next 0 courses) ≤ 3 * sum_by sizes courses + length courses
 unfolding sizes
@@ -151,9 +153,7 @@ module _ (case : Case) (intervals : List Interval) (can : CanBeDrawn case interv
   few-statements =
       let courses = courses_of case intervals in
       let all = sizes-all intervals (enumerate_from 0 case.streams) in
-      let long = length-enumerate_from 0 case.streams in
-      let shares : sum_by sizes courses ≤ length case.streams * length ms = subst (λ n. sum_by sizes courses ≤ n * length ms) long all in
-      let bound : sum_by sizes courses ≤ ALL_STREAMS * (4 * MOST_SPANS * (2 * MOST_SPANS)) = few-product (length case.streams) (length ms) shares can.few_streams can.few in
+      let shares : sum_by sizes courses ≤ 2 * length ms = omega (arith, all, two_for_each case.streams ms) in
       omega (
         arith,
         length-append (map declared_line (exchangers_for intervals)) (courses_lines (length case.streams) 0 courses),
@@ -162,13 +162,10 @@ module _ (case : Case) (intervals : List Interval) (can : CanBeDrawn case interv
         length-enumerate_from 0 ms,
         few-sizes (length case.streams) courses,
         length-courses_of case intervals,
-        bound,
+        shares,
         can.few,
         can.few_streams,
       )
-    where
-      few-product : (n m : ℕ) {a p q : ℕ} → a ≤ n * m → n ≤ p → m ≤ q → a ≤ p * q
-      few-product n m upto le_n le_m = omega (arith, upto, mul-le-mul le_n le_m)
 
   pub AreLed-matches : AreLed case (exchangers_for intervals) (courses_of case intervals)
   AreLed-matches = record {

@@ -7,6 +7,7 @@ pub mod CourseLemmas
 pub mod SpanLimits
 pub mod MatchShape
 pub mod TurnLemmas
+pub mod ShareCounts
 pub mod DesignShape
 pub mod NetworkLemmas
 pub mod ScaledCurve

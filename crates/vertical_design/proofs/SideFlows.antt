@@ -5,7 +5,7 @@ use Rattle.std.specs.List.{enumerate_from, filter_map}
 use Rattle.std.proofs.Math.IntN.{*ℤ-zero}
 use Rattle.std.proofs.lemmas.Bool.{and_left, and_parts, and_right}
 use Rattle.std.proofs.lemmas.Int.{clamps, ints}
-use Rattle.std.proofs.lemmas.List.Elements.{All-append, All-cons, All-contains, All-head, All-nil, All-tail, All-weaker, Contains-append_left, Contains-append_right}
+use Rattle.std.proofs.lemmas.List.Elements.{All-append, All-cons, All-contains, All-head, All-nil, All-tail, All-weaker}
 use Rattle.sums.specs.Sum.{int_sum_by}
 use Rattle.sums.proofs.IntegerLemmas.{int_le-false, int_le-from, int_le-true, int_lt_cases}
 use Rattle.sums.proofs.ListLemmas.{Contains-flat_map, Contains-slice_get}
@@ -32,12 +32,11 @@ use Rattle.vertical_design.specs.Matches.{flow_in, side_flow}
 use Rattle.vertical_design.specs.declared.span.Span.{Span}
 use Rattle.vertical_design.proofs.CurveLemmas.{heat_below-all, heat_below-between}
 use Rattle.vertical_design.proofs.CurveOrder.{IsOutside, below_and_above}
-use Rattle.vertical_design.proofs.CurveSegments.{EndsPlaced, HasNoEnd, IsPlaced, IsSegment, Runs}
+use Rattle.vertical_design.proofs.CurveSegments.{EndsPlaced, HasNoEnd, IsPlaced, IsSegment, Runs, heat_rises}
 use Rattle.vertical_design.proofs.Foremost.{IsForemost, foremost}
 use Rattle.vertical_design.proofs.OverlapLists.{All-kept}
-use Rattle.vertical_design.proofs.ScaledCurve.{curve_parts-whole, curve_rises}
 use Rattle.vertical_design.proofs.SegmentTemperatures.{flow_positive, running_flow}
-use Rattle.vertical_design.proofs.SpanRuns.{cut_below, no_end_between, none_between, side_flow-running, span_of}
+use Rattle.vertical_design.proofs.SpanRuns.{cut_below, is_cut, no_end_between, none_between, side_flow-running, span_of}
 use Rattle.vertical_design.proofs.SpanSources.{utility_place, utility_span_of}
 
 -- ---- a whole curve
@@ -123,10 +122,8 @@ module _ (of : Side) (streams : List Stream) (are : AreStreams streams) where
             end_heat = end_heat;
             rises = ⊎_elim (λ less. less)
                 (λ most.
-                let fall = curve_rises 1 of streams (end *ℤ pos 1) (begin *ℤ pos 1) are.each (omega (arith, ints, most)) in
-                let here = curve_parts-whole 1 of streams begin (omega arith) in
-                let there = curve_parts-whole 1 of streams end (omega arith) in
-                absurd (omega (arith, ints, fall, here, there, begin_heat, end_heat, gap)))
+                let fall = heat_rises of streams end begin are.each most in
+                absurd (omega (arith, ints, fall, begin_heat, end_heat, gap)))
                 (int_lt_cases begin end);
             placed = All-weaker (λ s. IsPlaced of streams are low high begin end (high_end s) × IsPlaced of streams are low high begin end (low_end s)) (λ s. same_side s.side of ≡ true → EndsPlaced of streams are low high begin end s)
                 (λ s both own. record { low_placed = both.1; high_placed = both.0 }) streams (each_end (IsPlaced of streams are low high begin end) streams placed);
@@ -268,10 +265,6 @@ module _ (case : Case) (cuts : List ℤ) (are_cuts : AreCuts (spans_of side.Hot 
       let cold = ends_of (spans_of side.Cold case) in
       λ k o within. All-contains (IsOnAxis case.streams) (hot ++ cold) (get_or cuts k o) (All-append (IsOnAxis case.streams) hot cold (span_ends side.Hot) (span_ends side.Cold)) (are_cuts.each k o within)
 
-  end_is_cut : (of : Side) (x : ℤ) → Contains (ends_of (spans_of of case)) x → Contains cuts x
-  end_is_cut side.Hot x member = are_cuts.every x (Contains-append_left (ends_of (spans_of side.Hot case)) (ends_of (spans_of side.Cold case)) x member)
-  end_is_cut side.Cold x member = are_cuts.every x (Contains-append_right (ends_of (spans_of side.Hot case)) (ends_of (spans_of side.Cold case)) x member)
-
   -- a utility begins and ends at a cut
   pub utility_cuts : IsStandard case → (of : Side) → Contains cuts (utility_from of case.streams) × Contains cuts (utility_to of case.streams)
   utility_cuts standard of =
@@ -280,7 +273,7 @@ module _ (case : Case) (cuts : List ℤ) (are_cuts : AreCuts (spans_of side.Hot 
       let a = utility_span_of of case.streams number in
       let member = Contains-slice_get (spans_of of case) k a there in
       let ends : Span → List ℤ = λ b. b.from ∷ b.to ∷ [] in
-      (end_is_cut of a.from (Contains-flat_map ends (spans_of of case) a a.from member (0, omega arith, refl)), end_is_cut of a.to (Contains-flat_map ends (spans_of of case) a a.to member (1, omega arith, refl)))
+      (is_cut case cuts are_cuts of a.from (Contains-flat_map ends (spans_of of case) a a.from member (0, omega arith, refl)), is_cut case cuts are_cuts of a.to (Contains-flat_map ends (spans_of of case) a a.to member (1, omega arith, refl)))
 
   -- ---- flows
 

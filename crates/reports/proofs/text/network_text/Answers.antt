@@ -1,4 +1,4 @@
-use Rattle.reports.proofs.Kinds.{no_network}
+use Rattle.reports.proofs.ShownKinds.{no_network}
 use Rattle.reports.proofs.text.network_text.Goals as goal
 
 pub unreachable-requires : goal.unreachable-requires

@@ -1,4 +1,4 @@
-use Rattle.reports.proofs.Kinds.{no_refusal}
+use Rattle.reports.proofs.ShownKinds.{no_refusal}
 use Rattle.reports.proofs.text.refusal_text.Goals as goal
 
 pub unreachable-requires : goal.unreachable-requires

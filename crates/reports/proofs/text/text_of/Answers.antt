@@ -1,4 +1,4 @@
-use Rattle.reports.proofs.Kinds.{is_refusal-other}
+use Rattle.reports.proofs.ShownKinds.{is_refusal-other}
 use Rattle.reports.proofs.text.text_of.Goals as goal
 
 pub refusal_text-requires : goal.refusal_text-requires
