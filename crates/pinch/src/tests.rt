@@ -18,4 +18,5 @@ mod support;
 mod sweep;
 mod targets;
 mod total_site;
+mod vertical;
 mod words;

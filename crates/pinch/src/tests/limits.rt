@@ -51,6 +51,13 @@ fn the_largest_case_is_answered(rt: HostRuntime) -> Result<(), Fail> {
             "cost 270000\nuse HOT 270000\nuse COLD 3565044990\n\
              move HOT 29953 29953 C0 29953 29950 270000\n",
         ),
+        // 542 exchangers.
+        (
+            "vertical",
+            "",
+            2430,
+            "# hot 270000 cold 3565044990 excess 0 cost 270000\nexchanger E1 HOT C0 270000\n",
+        ),
     ];
     for (command, more, lines, front) in rows {
         let case = largest_case(alloc, more)?;

@@ -3,9 +3,10 @@ use std::test::Fail;
 
 #[test]
 fn words_that_form_no_command_are_told(rt: HostRuntime) -> Result<(), Fail> {
-    let rows: [&[&str]; 12] = [
+    let rows: [&[&str]; 13] = [
         &[],
         &["targets"],
+        &["vertical"],
         &["targets", ""],
         &["", "plant.csv"],
         &["Targets", "plant.csv"],
