@@ -20,15 +20,13 @@ pub enum Command {
         case: Word,
     },
     /// `design CASE`: a network that realises a heat flow of least cost.
-<<<<<<< HEAD
-    Design { case: Word },
-    /// `vertical CASE`: a network of a standard case by its composite curves.
-    Vertical { case: Word },
-=======
     Design {
         case: Word,
     },
->>>>>>> 069e3837e3ec48692e2601e67a95189690a7a415
+    /// `vertical CASE`: a network of a standard case by its composite curves.
+    Vertical {
+        case: Word,
+    },
     /// `curves CASE`: the composite curves and the grand composite curve.
     Curves {
         case: Word,
