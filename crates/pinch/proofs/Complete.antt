@@ -94,7 +94,7 @@ design_answers c shown (inr cut) = answers shown _ tt cut.is
 -- and so is the network of a standard case by its composite curves
 vertical_answers : (c : Case) (shown : Shown) → IsStandard c → AnswersVertical c shown → IsAnswered (status_of shown)
 vertical_answers c shown standard (inl design) = answers shown _ tt design.1.is
-vertical_answers c shown standard (inr refused) = absurd (refused.other standard)
+vertical_answers c shown standard (inr turned_down) = absurd (turned_down.other standard)
 
 -- and so is what is shown of a site
 site_is_answered : (a : Answer) → IsAnswered (status_of_site a)

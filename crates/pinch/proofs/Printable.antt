@@ -56,7 +56,7 @@ of_design c shown (inr cut) = of_is shown _ cut.is tt
 of_vertical : (c : Case) (shown : Shown) → AnswersVertical c shown → IsPrintable shown
 unfolding IsPrintable
 of_vertical c shown (inl design) = of_is shown _ design.1.is (design.1.complete, design.1.shape)
-of_vertical c shown (inr refused) = of_is shown _ refused.is tt
+of_vertical c shown (inr turned_down) = of_is shown _ turned_down.is tt
 
 of_verdict : (c : Case) (network : Network) (v : Verdict) (shown : Shown) → ShowsVerdict c network v shown → IsPrintable shown
 unfolding IsPrintable
