@@ -2,5 +2,5 @@ use Rattle.std.proofs.Common.{◌∙◌, sym}
 use Rattle.pinch.proofs.Runnable.{runnable}
 use Rattle.pinch.proofs.answer.answer.Goals as goal
 
-pub answer_command-requires : goal.answer_command-requires
-answer_command-requires g c = runnable c.args.words.now c.in-Some.command (sym c.in_ok-read_command.ensures ∙ c.in-Some.is)
+pub answer_command-requires-after_bounds : goal.answer_command-requires-after_bounds
+answer_command-requires-after_bounds g c lives bounds = runnable c.args.words.now c.in-Some.command (sym c.in_ok-read_command.ensures ∙ c.in-Some.is)

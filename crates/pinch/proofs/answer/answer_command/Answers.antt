@@ -47,10 +47,14 @@ pub returns-in_ok-show_site-in-Site : goal.returns-in_ok-show_site-in-Site
 unfolding ShowsCommand
 returns-in_ok-show_site-in-Site g c = rw c.in-Site.is (by_text _ _ c.in_ok-site-in-Site.ensures.site (refl, c.in_ok-show_site-in-Site.ensures))
 
-pub show_sweep-requires : goal.show_sweep-requires
-show_sweep-requires g c =
-    let run = subst IsRunnable c.in-Sweep.is c.requires in
-    record { valid = c.in_ok-case-in-Sweep.ensures.valid; plan = run.0; some_workers = run.1; few_workers = run.2 }
+pub show_sweep-requires-clause-plan : goal.show_sweep-requires-clause-plan
+show_sweep-requires-clause-plan g c lives bounds = let run = subst IsRunnable c.in-Sweep.is c.requires in run.0
+
+pub show_sweep-requires-clause-some_workers : goal.show_sweep-requires-clause-some_workers
+show_sweep-requires-clause-some_workers g c lives bounds = let run = subst IsRunnable c.in-Sweep.is c.requires in run.1
+
+pub show_sweep-requires-clause-few_workers : goal.show_sweep-requires-clause-few_workers
+show_sweep-requires-clause-few_workers g c lives bounds = let run = subst IsRunnable c.in-Sweep.is c.requires in run.2
 
 pub returns-in_err-case-in-Sweep : goal.returns-in_err-case-in-Sweep
 unfolding ShowsCommand
