@@ -1,5 +1,5 @@
 -- The numbers of a sweep, as words spell them.
-use Rattle.std.specs.Prelude.{ℕ, pos, ◌+◌, ◌*◌, ◌≤◌, ◌&&◌, nat_le, nat_lt, List, Option, Some, None, if◌then◌else◌}
+use Rattle.std.specs.Prelude.{ℕ, pos, ◌+◌, ◌*◌, ◌&&◌, nat_le, nat_lt, List, Option, Some, None, if◌then◌else◌}
 use Rattle.stream_case.specs.Digits.{natural_in}
 use Rattle.study.specs.declared.limits.TheConstants.{MOST_ROWS, MOST_WORKERS}
 use Rattle.study.specs.declared.plan.SweepPlan.{SweepPlan}

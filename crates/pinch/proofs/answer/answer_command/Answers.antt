@@ -1,7 +1,6 @@
-use Rattle.std.proofs.Common.{refl, subst}
+use Rattle.std.proofs.Common.{refl}
 use Rattle.pinch.specs.Answers.{ShowsCommand}
 use Rattle.pinch.specs.Case.{case_file}
-use Rattle.pinch.specs.Command.{IsRunnable}
 use Rattle.pinch.specs.Files.{by_text}
 use Rattle.pinch.specs.Site.{site_file}
 use Rattle.pinch.proofs.Early.{without_text}
