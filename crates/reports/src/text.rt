@@ -8,7 +8,9 @@ use crate::design::design_text;
 use crate::flow::flow_text;
 use crate::names::case_names;
 use crate::points::curves_text;
-use crate::refusal::{NOT_STANDARD, WORDS, bad_case_text, bad_network_text, bad_site_text, file_text};
+use crate::refusal::{
+    NOT_STANDARD, WORDS, bad_case_text, bad_network_text, bad_site_text, file_text,
+};
 use crate::shown::Shown;
 use crate::sweep::sweep_text;
 use crate::targets::targets_text;
