@@ -1,0 +1,16 @@
+mod Appending
+mod GatherLemmas
+mod GroupLemmas
+pub mod LeadsToLemmas
+mod LinkLemmas
+mod ListSums
+mod NetLemmas
+mod OnceLemmas
+pub mod OnGridLemmas
+mod PassLemmas
+pub mod PathLemmas
+pub mod RankLemmas
+mod SetOutLemmas
+mod SourceLists
+mod SpreadLemmas
+mod WayLemmas

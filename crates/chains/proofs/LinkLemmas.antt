@@ -1,0 +1,241 @@
+-- The links of a net of chains, part by part and group by group.
+use Rattle.std.proofs.Common.{◌≡◌, ◌∙◌, ◌⊎◌, ⊎_elim, inl, inr, refl, sym, ap, ap₂, subst, subst₂, ℕ, ◌+◌, ◌-◌, ◌*◌, ◌<◌, ◌≤◌, false, List, [], ◌∷◌, ◌++◌, length, get_or, take, Some, arith}
+use Rattle.std.specs.Prelude.{ℤ, All, Any, Contains, slice_get}
+use Rattle.std.proofs.lemmas.Bool.{cases_lt}
+use Rattle.std.proofs.lemmas.List.{length-take-le, take_more}
+use Rattle.std.proofs.lemmas.List.Elements.{All-contains, Contains-append_left, Contains-append_right, Contains-get_or, Contains-push, Contains-push_cases}
+use Rattle.std.proofs.lemmas.Option.{same_Some, slice_get_read}
+use Rattle.stream_case.specs.declared.source.Source.{Source}
+use Rattle.stream_case.specs.declared.case.Case.{Case}
+use Rattle.stream_case.specs.Case.{is_forbidden}
+use Rattle.sums.proofs.ListLemmas.{slice_get-append, slice_get_push}
+use Rattle.grid.specs.declared.part.Part.{Part}
+use Rattle.flow_net.specs.declared.net.Link.{Link}
+use Rattle.chains.specs.declared.net.Group.{Group}
+use Rattle.chains.specs.ChainNet.{open_link, IsEntering, IsOnward, IsLeaving, IsChainLink, HoldsChains}
+use Rattle.chains.specs.Groups.{AreGroups}
+use Rattle.chains.specs.Making.{Appends, IsStep}
+use Rattle.chains.specs.Ranks.{rank_of, rank_count}
+use Rattle.chains.proofs.Appending.{appends-none, appends-push, appends-same, appends-then}
+
+slice_get-end : {X : Type 0} (xs : List X) (x : X) → slice_get (xs ++ x ∷ []) (length xs) ≡ Some x
+slice_get-end [] x = refl
+slice_get-end (a ∷ xs) x = slice_get-end xs x
+
+none_in_nil : {X : Type 0} (x : X) → Contains [] x → ⊥
+none_in_nil x (k, within, is) = omega (arith, within)
+
+-- ---- entering links
+
+pub entering-none : (c : Case) (places : List ℤ) (cold : List Part) (groups : List Group) (links : List Link) → Appends (IsEntering c places [] cold groups) 0 links links
+entering-none c places cold groups links = appends-none (IsEntering c places [] cold groups) links (λ l e. cc e.part_is)
+
+module _ (c : Case) (places : List ℤ) (hot cold : List Part) (groups : List Group) (p : Part) where
+  entering_stays : (l : Link) → IsEntering c places hot cold groups l → IsEntering c places (hot ++ p ∷ []) cold groups l
+  entering_stays l e = record { index = e.index; part = e.part; group = e.group; part_is = slice_get-append hot (p ∷ []) e.index e.part e.part_is; group_is = e.group_is; stands = e.stands; is = e.is }
+
+  -- a part more, whose source stands in a group with this first node
+  pub entering-push : (k : Case) → AreGroups k groups → (node m : ℕ) (before after now : List Link) → Appends (IsEntering c places hot cold groups) m before after → Any (λ g. (g.first_node ≡ node) × Contains g.sources p.source) groups
+      → now ≡ after ++ open_link (length hot) (node + rank_of places p) ∷ [] → Appends (IsEntering c places (hot ++ p ∷ []) cold groups) (m + 1) before now
+  entering-push of are node m before after now h (k, g, within, g_is, (starts, stands)) is =
+      appends-push (IsEntering c places hot cold groups) (IsEntering c places (hot ++ p ∷ []) cold groups) m before after now (open_link (length hot) (node + rank_of places p)) h is
+      (record { index = length hot; part = p; group = g; part_is = slice_get-end hot p; group_is = (k, within, g_is); stands = stands; is = ap (λ n. open_link (length hot) (n + rank_of places p)) (sym starts) })
+      entering_stays back
+    where
+      -- the group of a source is one
+      one_group : (f : Group) → Contains groups f → Contains f.sources p.source → f.first_node ≡ node
+      one_group f (i, in_i, f_is) found =
+          let at_i : slice_get groups i ≡ Some f = slice_get_read groups (length groups) i f refl in_i (sym f_is) in
+          let at_k : slice_get groups k ≡ Some g = slice_get_read groups (length groups) k g refl within (sym g_is) in
+          let same : i ≡ k = (are.alike i k p.source p.source (f, at_i, found) (g, at_k, stands)).1 (λ s side. refl) in
+          ap (λ x. x.first_node) (same_Some f g (sym at_i ∙ ap (slice_get groups) same ∙ at_k)) ∙ starts
+
+      back : (l : Link) → IsEntering c places (hot ++ p ∷ []) cold groups l → IsEntering c places hot cold groups l ⊎ (l ≡ open_link (length hot) (node + rank_of places p))
+      back l e =
+          ⊎_elim
+          (λ early. inl (record { index = e.index; part = e.part; group = e.group; part_is = early; group_is = e.group_is; stands = e.stands; is = e.is }))
+          (λ last.
+          let found : Contains e.group.sources p.source = subst (λ q. Contains e.group.sources q.source) last.1 e.stands in
+          inr (e.is ∙ ap₂ open_link last.0 (ap₂ (λ n q. n + rank_of places q) (one_group e.group e.group_is found) last.1)))
+          (slice_get_push hot p e.index e.part e.part_is)
+
+  -- a part more, whose source stands in no group
+  pub entering-pass : (m : ℕ) (before after : List Link) → Appends (IsEntering c places hot cold groups) m before after → All (λ g. Contains g.sources p.source → ⊥) groups → Appends (IsEntering c places (hot ++ p ∷ []) cold groups) (m + 1) before after
+  entering-pass m before after h nowhere = appends-same (IsEntering c places hot cold groups) (IsEntering c places (hot ++ p ∷ []) cold groups) m (m + 1) before after entering_stays back (omega arith) h
+    where
+      back : (l : Link) → IsEntering c places (hot ++ p ∷ []) cold groups l → IsEntering c places hot cold groups l
+      back l e =
+          ⊎_elim
+          (λ early. record { index = e.index; part = e.part; group = e.group; part_is = early; group_is = e.group_is; stands = e.stands; is = e.is })
+          (λ last. absurd (All-contains (λ g. Contains g.sources p.source → ⊥) groups e.group nowhere e.group_is (subst (λ q. Contains e.group.sources q.source) last.1 e.stands)))
+          (slice_get_push hot p e.index e.part e.part_is)
+
+-- the first node of a group is at most that of all groups
+pub node_at_most : (P : Group → Type 0) (groups : List Group) (node n : ℕ) → All (λ g. g.first_node ≤ n) groups → Any (λ g. (g.first_node ≡ node) × P g) groups → node ≤ n
+node_at_most P groups node n most (k, g, within, is, (starts, stands)) = subst (λ m. m ≤ n) starts (All-contains (λ f. f.first_node ≤ n) groups g most (k, within, is))
+
+-- ---- onward links
+
+pub steps-none : (first : ℕ) (links : List Link) → Appends (IsStep first 1) 0 links links
+steps-none first links = appends-none (IsStep first 1) links (λ l s. let within = s.within in omega (arith, within))
+
+pub steps-few : (first ranks : ℕ) (links : List Link) → ranks ≤ 1 → Appends (IsStep first ranks) (ranks - 1) links links
+steps-few first ranks links few =
+    appends-same (IsStep first 1) (IsStep first ranks) 0 (ranks - 1) links links (λ l s. let within = s.within in absurd (omega (arith, within))) (λ l s. let within = s.within in absurd (omega (arith, within, few))) (omega arith) (steps-none first links)
+
+-- one node more
+pub steps-push : (first rank : ℕ) (before after now : List Link) (l : Link) → 1 ≤ rank → Appends (IsStep first rank) (rank - 1) before after → now ≡ after ++ l ∷ [] → l ≡ open_link (first + (rank - 1)) (first + rank) → Appends (IsStep first (rank + 1)) (rank + 1 - 1) before now
+steps-push first rank before after now l some h is link_is =
+    let count : rank - 1 + 1 ≡ rank + 1 - 1 = omega (arith, some) in
+    let last : rank - 1 + 1 ≡ rank = omega (arith, some) in
+    subst (λ m. Appends (IsStep first (rank + 1)) m before now) count
+    (appends-push (IsStep first rank) (IsStep first (rank + 1)) (rank - 1) before after now l h is
+    (record { rank = rank - 1; within = omega (arith, some); is = link_is ∙ ap (λ r. open_link (first + (rank - 1)) (first + r)) (sym last) })
+    (λ k s. let within = s.within in record { rank = s.rank; within = omega (arith, within); is = s.is })
+    (λ k s. ⊎_elim (λ early. inl (record { rank = s.rank; within = early; is = s.is })) (λ late. inr (s.is ∙ here s.rank s.within late ∙ sym link_is)) (cases_lt (s.rank + 1) rank)))
+  where
+    here : (r : ℕ) → (r + 1) < (rank + 1) → rank ≤ r + 1 → open_link (first + r) (first + (r + 1)) ≡ open_link (first + (rank - 1)) (first + rank)
+    here r within late =
+        let from : r ≡ rank - 1 = omega (arith, within, late) in
+        let to : r + 1 ≡ rank = omega (arith, within, late) in
+        ap₂ (λ a b. open_link (first + a) (first + b)) from to
+
+-- ---- leaving links
+
+abbrev pub IsFree : Case → Group → Source → Type 0
+IsFree c g cold = All (λ hot. is_forbidden c.forbids hot cold ≡ false) g.sources
+
+pub leaving-none : (c : Case) (places : List ℤ) (hot : List Part) (groups : List Group) (links : List Link) → Appends (IsLeaving c places hot [] groups) 0 links links
+leaving-none c places hot groups links = appends-none (IsLeaving c places hot [] groups) links (λ l e. cc e.part_is)
+
+module _ (c : Case) (places : List ℤ) (hot cold : List Part) (g : Group) (p : Part) (m : ℕ) (before after : List Link) (h : Appends (IsLeaving c places hot cold (g ∷ [])) m before after) where
+  leaving_stays : (l : Link) → IsLeaving c places hot cold (g ∷ []) l → IsLeaving c places hot (cold ++ p ∷ []) (g ∷ []) l
+  leaving_stays l e = record { index = e.index; part = e.part; group = e.group; part_is = slice_get-append cold (p ∷ []) e.index e.part e.part_is; group_is = e.group_is; permitted = e.permitted; is = e.is }
+
+  only : (f : Group) → Contains (g ∷ []) f → f ≡ g
+  only f found = ⊎_elim (λ none. absurd (none_in_nil f none)) (λ e. sym e) (Contains-push_cases [] g f found)
+
+  -- a part more, whose source is permitted to the group
+  pub leaving-push : (now : List Link) → IsFree c g p.source → now ≡ after ++ open_link (g.first_node + rank_of places p) (length hot + length cold) ∷ [] → Appends (IsLeaving c places hot (cold ++ p ∷ []) (g ∷ [])) (m + 1) before now
+  leaving-push now free is =
+      appends-push (IsLeaving c places hot cold (g ∷ [])) (IsLeaving c places hot (cold ++ p ∷ []) (g ∷ [])) m before after now (open_link (g.first_node + rank_of places p) (length hot + length cold)) h is
+      (record { index = length cold; part = p; group = g; part_is = slice_get-end cold p; group_is = Contains-push [] g; permitted = λ source found. All-contains (λ s. is_forbidden c.forbids s p.source ≡ false) g.sources source free found; is = refl })
+      leaving_stays
+      (λ l e.
+      ⊎_elim (λ early. inl (record { index = e.index; part = e.part; group = e.group; part_is = early; group_is = e.group_is; permitted = e.permitted; is = e.is }))
+      (λ last. inr (e.is ∙ ap₂ open_link (ap₂ (λ f q. f.first_node + rank_of places q) (only e.group e.group_is) last.1) (ap (λ n. length hot + n) last.0)))
+      (slice_get_push cold p e.index e.part e.part_is))
+
+  -- a part more, whose source is not
+  pub leaving-pass : (IsFree c g p.source → ⊥) → Appends (IsLeaving c places hot (cold ++ p ∷ []) (g ∷ [])) (m + 1) before after
+  leaving-pass barred = appends-same (IsLeaving c places hot cold (g ∷ [])) (IsLeaving c places hot (cold ++ p ∷ []) (g ∷ [])) m (m + 1) before after leaving_stays back (omega arith) h
+    where
+      free : (f : Group) (q : Part) → f ≡ g → q ≡ p → ((source : Source) → Contains f.sources source → is_forbidden c.forbids source q.source ≡ false) → IsFree c g p.source
+      free f q e d permitted k s within =
+          let source = get_or g.sources k s in
+          subst (λ r. is_forbidden c.forbids source r.source ≡ false) d (permitted source (subst (λ x. Contains x.sources source) (sym e) (Contains-get_or g.sources k s within)))
+
+      back : (l : Link) → IsLeaving c places hot (cold ++ p ∷ []) (g ∷ []) l → IsLeaving c places hot cold (g ∷ []) l
+      back l e =
+          ⊎_elim (λ early. record { index = e.index; part = e.part; group = e.group; part_is = early; group_is = e.group_is; permitted = e.permitted; is = e.is })
+          (λ last. absurd (barred (free e.group e.part (only e.group e.group_is) last.1 e.permitted)))
+          (slice_get_push cold p e.index e.part e.part_is)
+
+-- ---- steps of loops over parts
+
+-- one part more
+part_more : (parts : List Part) (i : ℕ) (p : Part) → i < length parts → p ≡ get_or parts i p → take i parts ++ p ∷ [] ≡ take (i + 1) parts
+part_more parts i p within is = sym (subst (λ q. take (i + 1) parts ≡ take i parts ++ q ∷ []) (sym is) (take_more parts i p within))
+
+module _ (c : Case) (places : List ℤ) (hot cold : List Part) (groups : List Group) (i : ℕ) (within : i < length hot) (p : Part) (is : p ≡ get_or hot i p) (before after now : List Link) (so_far : Appends (IsEntering c places (take i hot) cold groups) i before after) where
+  pub entering-more : (k : Case) → AreGroups k groups → (node : ℕ) → Any (λ g. (g.first_node ≡ node) × Contains g.sources p.source) groups → now ≡ after ++ open_link i (node + rank_of places p) ∷ [] → Appends (IsEntering c places (take (i + 1) hot) cold groups) (i + 1) before now
+  entering-more k are node stands pushed =
+      let count : length (take i hot) ≡ i = length-take-le i hot (omega (arith, within)) in
+      subst (λ ps. Appends (IsEntering c places ps cold groups) (i + 1) before now) (part_more hot i p within is)
+      (entering-push c places (take i hot) cold groups p k are node i before after now so_far stands (pushed ∙ ap (λ n. after ++ open_link n (node + rank_of places p) ∷ []) (sym count)))
+
+  pub entering-other : All (λ g. Contains g.sources p.source → ⊥) groups → now ≡ after → Appends (IsEntering c places (take (i + 1) hot) cold groups) (i + 1) before now
+  entering-other nowhere same =
+      subst₂ (λ ps ls. Appends (IsEntering c places ps cold groups) (i + 1) before ls) (part_more hot i p within is) (sym same) (entering-pass c places (take i hot) cold groups p i before after so_far nowhere)
+
+module _ (c : Case) (places : List ℤ) (hot cold : List Part) (g : Group) (i : ℕ) (within : i < length cold) (p : Part) (is : p ≡ get_or cold i p) (before after now : List Link) (so_far : Appends (IsLeaving c places hot (take i cold) (g ∷ [])) i before after) where
+  pub leaving-more : IsFree c g p.source → now ≡ after ++ open_link (g.first_node + rank_of places p) (length hot + i) ∷ [] → Appends (IsLeaving c places hot (take (i + 1) cold) (g ∷ [])) (i + 1) before now
+  leaving-more free pushed =
+      let count : length (take i cold) ≡ i = length-take-le i cold (omega (arith, within)) in
+      subst (λ ps. Appends (IsLeaving c places hot ps (g ∷ [])) (i + 1) before now) (part_more cold i p within is)
+      (leaving-push c places hot (take i cold) g p i before after so_far now free (pushed ∙ ap (λ n. after ++ open_link (g.first_node + rank_of places p) (length hot + n) ∷ []) (sym count)))
+
+  pub leaving-other : (IsFree c g p.source → ⊥) → now ≡ after → Appends (IsLeaving c places hot (take (i + 1) cold) (g ∷ [])) (i + 1) before now
+  leaving-other barred same = subst₂ (λ ps ls. Appends (IsLeaving c places hot ps (g ∷ [])) (i + 1) before ls) (part_more cold i p within is) (sym same) (leaving-pass c places hot (take i cold) g p i before after so_far barred)
+
+-- ---- group by group
+
+module _ (c : Case) (places : List ℤ) (hot cold : List Part) (groups : List Group) where
+  -- the entering links of all groups, the onward and the leaving ones of those that are done
+  abbrev pub IsLinkSoFar : List Group → Link → Type 0
+  IsLinkSoFar done l = IsEntering c places hot cold groups l ⊎ IsOnward c places hot cold done l ⊎ IsLeaving c places hot cold done l
+
+  abbrev pub most_so_far : ℕ → ℕ
+  most_so_far n = length hot + n * (length cold + 2 * length places)
+
+  pub chains-none : (links made : List Link) → links ≡ [] → Appends (IsEntering c places hot cold groups) (length hot) links made → Appends (IsLinkSoFar []) (most_so_far 0) [] made
+  chains-none links made none h =
+      appends-same (IsEntering c places hot cold groups) (IsLinkSoFar []) (length hot) (most_so_far 0) [] made (λ l e. inl e)
+      (λ l e. ⊎_elim (λ enters. enters) (λ other. ⊎_elim (λ onward. absurd (none_in_nil onward.group onward.group_is)) (λ leaves. absurd (none_in_nil leaves.group leaves.group_is)) other) e) (omega arith)
+      (subst (λ ls. Appends (IsEntering c places hot cold groups) (length hot) ls made) none h)
+
+  module _ (done : List Group) (g : Group) where
+    abbrev IsOfGroup : Link → Type 0
+    IsOfGroup l = IsStep g.first_node (rank_count places) l ⊎ IsLeaving c places hot cold (g ∷ []) l
+
+    onward_stays : (l : Link) → IsOnward c places hot cold done l → IsOnward c places hot cold (done ++ g ∷ []) l
+    onward_stays l e = record { group = e.group; rank = e.rank; group_is = Contains-append_left done (g ∷ []) e.group e.group_is; within = e.within; is = e.is }
+
+    leaving_kept : (l : Link) → IsLeaving c places hot cold done l → IsLeaving c places hot cold (done ++ g ∷ []) l
+    leaving_kept l e = record { index = e.index; part = e.part; group = e.group; part_is = e.part_is; group_is = Contains-append_left done (g ∷ []) e.group e.group_is; permitted = e.permitted; is = e.is }
+
+    step_onward : (l : Link) → IsStep g.first_node (rank_count places) l → IsOnward c places hot cold (done ++ g ∷ []) l
+    step_onward l e = record { group = g; rank = e.rank; group_is = Contains-push done g; within = e.within; is = e.is }
+
+    leaving_of : (l : Link) → IsLeaving c places hot cold (g ∷ []) l → IsLeaving c places hot cold (done ++ g ∷ []) l
+    leaving_of l e = record { index = e.index; part = e.part; group = e.group; part_is = e.part_is; group_is = Contains-append_right done (g ∷ []) e.group e.group_is; permitted = e.permitted; is = e.is }
+
+    onward_cases : (l : Link) → IsOnward c places hot cold (done ++ g ∷ []) l → IsOnward c places hot cold done l ⊎ IsStep g.first_node (rank_count places) l
+    onward_cases l e =
+        ⊎_elim (λ early. inl (record { group = e.group; rank = e.rank; group_is = early; within = e.within; is = e.is }))
+        (λ last. inr (record { rank = e.rank; within = e.within; is = e.is ∙ ap (λ f. open_link (f.first_node + e.rank) (f.first_node + (e.rank + 1))) (sym last) }))
+        (Contains-push_cases done g e.group e.group_is)
+
+    leaving_cases : (l : Link) → IsLeaving c places hot cold (done ++ g ∷ []) l → IsLeaving c places hot cold done l ⊎ IsLeaving c places hot cold (g ∷ []) l
+    leaving_cases l e =
+        ⊎_elim (λ early. inl (record { index = e.index; part = e.part; group = e.group; part_is = e.part_is; group_is = early; permitted = e.permitted; is = e.is }))
+        (λ last. inr (record { index = e.index; part = e.part; group = e.group; part_is = e.part_is; group_is = subst (Contains (g ∷ [])) last (Contains-push [] g); permitted = e.permitted; is = e.is }))
+        (Contains-push_cases done g e.group e.group_is)
+
+    pub chains-push : (before between after : List Link) → Appends (IsLinkSoFar done) (most_so_far (length done)) [] before → Appends (IsStep g.first_node (rank_count places)) (rank_count places - 1) before between
+        → Appends (IsLeaving c places hot cold (g ∷ [])) (length cold) between after → Appends (IsLinkSoFar (done ++ g ∷ [])) (most_so_far (length done + 1)) [] after
+    chains-push before between after so_far steps leaves =
+        let own = appends-then (IsStep g.first_node (rank_count places)) (IsLeaving c places hot cold (g ∷ [])) IsOfGroup (rank_count places - 1) (length cold) before between after steps leaves (λ l e. inl e) (λ l e. inr e) (λ l e. e) in
+        let both = appends-then (IsLinkSoFar done) IsOfGroup (IsLinkSoFar (done ++ g ∷ [])) (most_so_far (length done)) (rank_count places - 1 + length cold) [] before after so_far own
+        (λ l e. ⊎_elim (λ enters. inl enters) (λ other. inr (⊎_elim (λ onward. inl (onward_stays l onward)) (λ leaving. inr (leaving_kept l leaving)) other)) e)
+        (λ l e. inr (⊎_elim (λ step. inl (step_onward l step)) (λ leaving. inr (leaving_of l leaving)) e))
+        (λ l e. ⊎_elim (λ enters. inl (inl enters)) (λ other. ⊎_elim (λ onward. ⊎_elim (λ early. inl (inr (inl early))) (λ step. inr (inl step)) (onward_cases l onward)) (λ leaving. ⊎_elim (λ early. inl (inr (inr early))) (λ own. inr (inr own)) (leaving_cases l leaving)) other) e) in
+        appends-same (IsLinkSoFar (done ++ g ∷ [])) (IsLinkSoFar (done ++ g ∷ [])) (most_so_far (length done) + (rank_count places - 1 + length cold)) (most_so_far (length done + 1)) [] after (λ l e. e) (λ l e. e) (one_more (length done)) both
+      where
+        one_more : (n : ℕ) → most_so_far n + (rank_count places - 1 + length cold) ≤ most_so_far (n + 1)
+        one_more n = omega arith
+
+  pub HoldsChains-all : (links : List Link) → Appends (IsLinkSoFar groups) (most_so_far (length groups)) [] links → HoldsChains c places hot cold groups links
+  HoldsChains-all links h = record { each = subst (All (IsChainLink c places hot cold groups)) (sym h.is) h.each; every = λ l e. subst (λ ls. Contains ls l) (sym h.is) (h.every l e) }
+
+  pub few-all : (links : List Link) → Appends (IsLinkSoFar groups) (most_so_far (length groups)) [] links → length links ≤ most_so_far (length groups)
+  few-all links h = omega (arith, h.few, ap length h.is)
+
+  -- the step of the loop over the groups
+  pub chains-more : (i : ℕ) → i < length groups → (g : Group) → g ≡ get_or groups i g → (before between after : List Link) → Appends (IsLinkSoFar (take i groups)) (most_so_far i) [] before → Appends (IsStep g.first_node (rank_count places)) (rank_count places - 1) before between
+      → Appends (IsLeaving c places hot cold (g ∷ [])) (length cold) between after → Appends (IsLinkSoFar (take (i + 1) groups)) (most_so_far (i + 1)) [] after
+  chains-more i within g is before between after so_far steps leaves =
+      let count : length (take i groups) ≡ i = length-take-le i groups (omega (arith, within)) in
+      let more : take i groups ++ g ∷ [] ≡ take (i + 1) groups = sym (subst (λ f. take (i + 1) groups ≡ take i groups ++ f ∷ []) (sym is) (take_more groups i g within)) in
+      subst₂ (λ done n. Appends (IsLinkSoFar done) (most_so_far (n + 1)) [] after) more count
+      (chains-push (take i groups) g before between after (subst (λ n. Appends (IsLinkSoFar (take i groups)) (most_so_far n) [] before) (sym count) so_far) steps leaves)

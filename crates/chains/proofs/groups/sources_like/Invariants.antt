@@ -1,0 +1,6 @@
+use Rattle.chains.specs.Groups.{HaveSamePartners}
+use Rattle.chains.proofs.OnceLemmas.{KeptSoFar}
+use Rattle.chains.proofs.groups.sources_like.Given as goal
+
+abbrev pub invariant-loop-source : goal.invariant-loop-source
+invariant-loop-source l = KeptSoFar (HaveSamePartners l.case l.first) l.hot l.source-index l.sources.items

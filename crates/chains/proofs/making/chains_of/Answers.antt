@@ -1,0 +1,155 @@
+-- The net of the chains of a case, group by group.
+use Rattle.std.proofs.Common.{◌≡◌, ◌∙◌, ◌+◌, ◌-◌, ◌*◌, ◌≤◌, length, sym, ap, ap₂, subst, subst₂, arith}
+use Rattle.std.specs.Prelude.{All}
+use Rattle.stream_case.specs.declared.limits.TheConstants.{MOST_PARTS, MOST_PLACES}
+use Rattle.grid.specs.Grid.{IsGrid}
+use Rattle.grid.proofs.SizeLemmas.{length-grid}
+use Rattle.chains.specs.declared.net.Group.{Group}
+use Rattle.chains.specs.declared.net.TheConstants.{MOST_INNER_NODES}
+use Rattle.chains.specs.ChainNet.{IsEntering, StandInLine}
+use Rattle.chains.specs.Groups.{AreGroups}
+use Rattle.chains.specs.Making.{Appends, IsStep}
+use Rattle.chains.specs.Ranks.{rank_count}
+use Rattle.chains.proofs.GroupLemmas.{few_chain_nodes}
+use Rattle.chains.proofs.LinkLemmas.{chains-none, chains-more}
+use Rattle.chains.proofs.NetLemmas.{AreChains, AreChains-made, chains-done, first_nodes_few}
+use Rattle.chains.proofs.RankLemmas.{places_some}
+use Rattle.chains.proofs.making.chains_of.Goals as goal
+
+pub rank_count-ranks-requires : goal.rank_count-ranks-requires
+rank_count-ranks-requires c =
+    let grid = subst (IsGrid c.args.case.now) (sym c.as_slice-places.ensures) c.in_ok-grid.ensures in
+    let few = length-grid c.args.case.now c.as_slice-places.result.now c.requires.complete grid in
+    record { few = few }
+
+pub groups_of-requires-clause-ranks : goal.groups_of-requires-clause-ranks
+groups_of-requires-clause-ranks c =
+    let grid = subst (IsGrid c.args.case.now) (sym c.as_slice-places.ensures) c.in_ok-grid.ensures in
+    let few = length-grid c.args.case.now c.as_slice-places.result.now c.requires.complete grid in
+    omega (arith, few, c.rank_count-ranks.ensures)
+
+pub push_entering-requires-clause-few_places : goal.push_entering-requires-clause-few_places
+push_entering-requires-clause-few_places c =
+    let grid = subst (IsGrid c.args.case.now) (sym c.as_slice-places.ensures) c.in_ok-grid.ensures in
+    length-grid c.args.case.now c.as_slice-places.result.now c.requires.complete grid
+
+pub push_entering-requires-clause-nodes : goal.push_entering-requires-clause-nodes
+push_entering-requires-clause-nodes c =
+    let grid = subst (IsGrid c.args.case.now) (sym c.as_slice-places.ensures) c.in_ok-grid.ensures in
+    let few = length-grid c.args.case.now c.as_slice-places.result.now c.requires.complete grid in
+    let ranks : c.rank_count-ranks.result ≤ 2 * MOST_PLACES = omega (arith, few, c.rank_count-ranks.ensures) in
+    let parts : c.len.result + c.len-2.result ≤ 2 * MOST_PARTS = omega (arith, c.len.ensures, c.len-2.ensures, c.args.parts.now.few_hot, c.args.parts.now.few_cold) in
+    let nodes = first_nodes_few (c.len.result + c.len-2.result) c.rank_count-ranks.result c.in_ok-groups.groups.items c.in_ok-groups.ensures.chains c.in_ok-groups.ensures.few parts ranks in
+    subst (All (λ g. g.first_node ≤ MOST_INNER_NODES)) (sym c.as_slice.ensures.value) nodes
+
+pub loop-group-init : goal.loop-group-init
+loop-group-init c =
+    let case = c.args.case.now in
+    let places = c.as_slice-places.result.now in
+    let cold = c.args.parts.now.cold in
+    let links = c.new-links.result.items in
+    let made = c.push_entering.new.links.items in
+    let entering = subst₂ (λ hot groups. Appends (IsEntering case places hot cold groups) (length hot) links made) c.as_slice-2.ensures (c.as_slice.ensures.value ∙ sym c.deref-group-items.ensures.value) (c.in_ok-push_entering.ensures case cold) in
+    chains-none case places c.args.parts.now.hot cold c.deref-group-items.result.now links made c.new-links.ensures.items entering
+
+pub push_onward-requires-clause-node : goal.push_onward-requires-clause-node
+push_onward-requires-clause-node c =
+    let grid = subst (IsGrid c.args.case.now) (sym c.as_slice-places.ensures) c.in_ok-grid.ensures in
+    let few = length-grid c.args.case.now c.as_slice-places.result.now c.requires.complete grid in
+    let ranks : c.rank_count-ranks.result ≤ 2 * MOST_PLACES = omega (arith, few, c.rank_count-ranks.ensures) in
+    let parts : c.len.result + c.len-2.result ≤ 2 * MOST_PARTS = omega (arith, c.len.ensures, c.len-2.ensures, c.args.parts.now.few_hot, c.args.parts.now.few_cold) in
+    let nodes = first_nodes_few (c.len.result + c.len-2.result) c.rank_count-ranks.result c.in_ok-groups.groups.items c.in_ok-groups.ensures.chains c.in_ok-groups.ensures.few parts ranks in
+    let here = subst (All (λ g. g.first_node ≤ MOST_INNER_NODES)) (sym c.deref-group-items.ensures.value) nodes c.loop-group.group-index c.group-item.result c.loop-group-test.true in
+    subst (λ (g : Group). g.first_node ≤ MOST_INNER_NODES) (sym c.group-item.is) here
+
+pub push_onward-requires-clause-some : goal.push_onward-requires-clause-some
+push_onward-requires-clause-some c =
+    let grid = subst (IsGrid c.args.case.now) (sym c.as_slice-places.ensures) c.in_ok-grid.ensures in
+    let some = places_some c.args.case.now c.as_slice-places.result.now c.requires.complete grid in
+    omega (arith, some, c.rank_count-ranks.ensures)
+
+pub push_onward-requires-clause-ranks : goal.push_onward-requires-clause-ranks
+push_onward-requires-clause-ranks c =
+    let grid = subst (IsGrid c.args.case.now) (sym c.as_slice-places.ensures) c.in_ok-grid.ensures in
+    let few = length-grid c.args.case.now c.as_slice-places.result.now c.requires.complete grid in
+    omega (arith, few, c.rank_count-ranks.ensures)
+
+pub push_leaving-requires-clause-few_places : goal.push_leaving-requires-clause-few_places
+push_leaving-requires-clause-few_places c =
+    let grid = subst (IsGrid c.args.case.now) (sym c.as_slice-places.ensures) c.in_ok-grid.ensures in
+    length-grid c.args.case.now c.as_slice-places.result.now c.requires.complete grid
+
+pub push_leaving-requires-clause-node : goal.push_leaving-requires-clause-node
+push_leaving-requires-clause-node c =
+    let grid = subst (IsGrid c.args.case.now) (sym c.as_slice-places.ensures) c.in_ok-grid.ensures in
+    let few = length-grid c.args.case.now c.as_slice-places.result.now c.requires.complete grid in
+    let ranks : c.rank_count-ranks.result ≤ 2 * MOST_PLACES = omega (arith, few, c.rank_count-ranks.ensures) in
+    let parts : c.len.result + c.len-2.result ≤ 2 * MOST_PARTS = omega (arith, c.len.ensures, c.len-2.ensures, c.args.parts.now.few_hot, c.args.parts.now.few_cold) in
+    let nodes = first_nodes_few (c.len.result + c.len-2.result) c.rank_count-ranks.result c.in_ok-groups.groups.items c.in_ok-groups.ensures.chains c.in_ok-groups.ensures.few parts ranks in
+    let here = subst (All (λ g. g.first_node ≤ MOST_INNER_NODES)) (sym c.deref-group-items.ensures.value) nodes c.loop-group.group-index c.group-item.result c.loop-group-test.true in
+    subst (λ (g : Group). g.first_node ≤ MOST_INNER_NODES) (sym c.group-item.is) here
+
+pub push_leaving-requires-clause-cold : goal.push_leaving-requires-clause-cold
+push_leaving-requires-clause-cold c =
+    λ k d within. (c.requires.parts.cold_parts k d within).source
+
+pub loop-group-preserved : goal.loop-group-preserved
+loop-group-preserved c =
+    let case = c.args.case.now in
+    let places = c.as_slice-places.result.now in
+    let hot = c.args.parts.now.hot in
+    let cold = c.args.parts.now.cold in
+    let g = c.group-item.result in
+    let before = c.loop-group.links.items in
+    let between = c.push_onward.new.links.items in
+    let steps = subst (λ n. Appends (IsStep g.first_node n) (n - 1) before between) c.rank_count-ranks.ensures c.in_ok-push_onward.ensures in
+    chains-more case places hot cold c.deref-group-items.result.now c.loop-group.group-index c.loop-group-test.true g c.group-item.is before between c.push_leaving.new.links.items c.loop-group.invariant steps c.in_ok-push_leaving.ensures
+
+pub overflow_mul-result : goal.overflow_mul-result
+overflow_mul-result c =
+    let grid = subst (IsGrid c.args.case.now) (sym c.as_slice-places.ensures) c.in_ok-grid.ensures in
+    let few = length-grid c.args.case.now c.as_slice-places.result.now c.requires.complete grid in
+    let ranks : c.rank_count-ranks.result ≤ 2 * MOST_PLACES = omega (arith, few, c.rank_count-ranks.ensures) in
+    let parts : c.len.result + c.len-2.result ≤ 2 * MOST_PARTS = omega (arith, c.len.ensures, c.len-2.ensures, c.args.parts.now.few_hot, c.args.parts.now.few_cold) in
+    let most = few_chain_nodes c.len-3.result c.rank_count-ranks.result (omega (arith, c.len-3.ensures, c.in_ok-groups.ensures.few)) ranks in
+    omega (arith, most)
+
+pub overflow_add-result : goal.overflow_add-result
+overflow_add-result c =
+    let grid = subst (IsGrid c.args.case.now) (sym c.as_slice-places.ensures) c.in_ok-grid.ensures in
+    let few = length-grid c.args.case.now c.as_slice-places.result.now c.requires.complete grid in
+    let ranks : c.rank_count-ranks.result ≤ 2 * MOST_PLACES = omega (arith, few, c.rank_count-ranks.ensures) in
+    let parts : c.len.result + c.len-2.result ≤ 2 * MOST_PARTS = omega (arith, c.len.ensures, c.len-2.ensures, c.args.parts.now.few_hot, c.args.parts.now.few_cold) in
+    let most = few_chain_nodes c.len-3.result c.rank_count-ranks.result (omega (arith, c.len-3.ensures, c.in_ok-groups.ensures.few)) ranks in
+    omega (arith, most, parts)
+
+made : (c : goal.After-drop-grid-2) → AreChains c.args.case.now c.args.parts.now.hot c.args.parts.now.cold (record { groups = c.from_vec-2.result; net = record { nodes = (c.len.result + c.len-2.result) + c.len-3.result * c.rank_count-ranks.result; links = c.from_vec.result } })
+made c =
+    let case = c.args.case.now in
+    let places = c.as_slice-places.result.now in
+    let hot = c.args.parts.now.hot in
+    let cold = c.args.parts.now.cold in
+    let answer = c.in_ok-groups.ensures in
+    let same = sym c.from_vec-2.ensures in
+    let grid = subst (IsGrid case) (sym c.as_slice-places.ensures) c.in_ok-grid.ensures in
+    let first : c.len.result + c.len-2.result ≡ length hot + length cold = ap₂ ◌+◌ c.len.ensures c.len-2.ensures in
+    let in_line = subst₂ (λ n ranks. StandInLine n ranks c.from_vec-2.result) first c.rank_count-ranks.ensures (subst (StandInLine (c.len.result + c.len-2.result) c.rank_count-ranks.result) same answer.chains) in
+    let links = chains-done case places hot cold c.deref-group-items.result.now c.from_vec-2.result c.loop-group.group-index c.loop-group.links.items c.from_vec.result (c.deref-group-items.ensures.value ∙ same) (sym c.from_vec.ensures) c.loop-group-test.false c.loop-group.auto.group-index-end c.loop-group.invariant in
+    let count : c.len-3.result ≡ length c.from_vec-2.result = omega (arith, c.len-3.ensures, ap length c.from_vec-2.ensures) in
+    let nodes : (c.len.result + c.len-2.result) + c.len-3.result * c.rank_count-ranks.result ≡ (length hot + length cold) + length c.from_vec-2.result * rank_count places = ap₂ ◌+◌ first (ap₂ ◌*◌ count c.rank_count-ranks.ensures) in
+    AreChains-made case places hot cold _ c.requires.complete grid c.requires.parts c.args.parts.now.few_hot c.args.parts.now.few_cold (subst (AreGroups case) same answer.groups) in_line (omega (arith, answer.few, ap length c.from_vec-2.ensures)) links nodes
+
+pub returns-clause-groups : goal.returns-clause-groups
+returns-clause-groups c = (made c).groups
+
+pub returns-clause-first_nodes : goal.returns-clause-first_nodes
+returns-clause-first_nodes c = (made c).first_nodes
+
+pub returns-clause-inner : goal.returns-clause-inner
+returns-clause-inner c = (made c).inner
+
+pub returns-clause-paths : goal.returns-clause-paths
+returns-clause-paths c = (made c).paths
+
+pub returns-clause-small : goal.returns-clause-small
+returns-clause-small c = (made c).small

@@ -1,0 +1,12 @@
+pub mod ChainNet
+pub mod Gathered
+pub mod Groups
+pub mod Inner
+pub mod Making
+pub mod OnGrid
+pub mod Path
+pub mod Ranks
+pub mod Sizes
+pub mod Spread
+pub mod Stock
+pub mod Ways

@@ -1,0 +1,137 @@
+//! The groups of the hot sources of a case.
+ghost use Rattle.std.specs.Prelude.{◌≡◌, ◌↔◌, ◌≤◌, ◌<◌, ◌+◌, ◌*◌, ◌^◌, [], length, IsTrue, All, Any, Contains, IfOk, OnOk, Some};
+ghost use Rattle.stream_case.specs.declared.limits.TheConstants.{ALL_UTILITIES, MOST_PARTS, MOST_PLACES, MOST_STREAMS};
+ghost use Rattle.stream_case.specs.declared.source.Side.TheVariants.{Hot, Cold};
+ghost use Rattle.stream_case.specs.Case.{side_of, is_forbidden, IsComplete};
+ghost use Rattle.chains.specs.ChainNet.{StandInLine};
+ghost use Rattle.chains.specs.Groups.{AreGroups, HaveSamePartners};
+ghost use Rattle.chains.specs.Making.{AreSources, IsLike, ListsOnce};
+
+use crate::net::Group;
+use std::alloc::{AllocError, Global};
+use stream_case::{Case, Items, Side, Source};
+
+/// Appends the streams of a side.
+fn push_streams(sources: &mut Vec<Source>, case: &Case, side: Side) -> Result<(), AllocError>
+    requires few { length case.now.streams < 2 ^ 32 }
+    requires none { sources.old.items ≡ [] }
+    ensures { OnOk result (AreSources case.now.streams [] side sources.new.items) }
+{
+    let streams = case.streams.as_slice();
+    for (index, stream) in streams.iter().enumerate() {
+        if stream.side == side {
+            sources.push(Source::Stream(index as u32))?;
+        }
+    }
+    Ok(())
+}
+
+/// Appends the utilities of a side to the streams of the side.
+fn push_utilities(sources: &mut Vec<Source>, case: &Case, side: Side) -> Result<(), AllocError>
+    requires few { length case.now.utilities < 2 ^ 32 }
+    requires streams { AreSources case.now.streams [] side sources.old.items }
+    ensures { OnOk result (AreSources case.now.streams case.now.utilities side sources.new.items) }
+{
+    let utilities = case.utilities.as_slice();
+    for (index, utility) in utilities.iter().enumerate() {
+        if utility.side == side {
+            sources.push(Source::Utility(index as u32))?;
+        }
+    }
+    Ok(())
+}
+
+/// The sources of a side, streams before utilities, each in the order of the case.
+pub(crate) fn sources_of(alloc: Global, case: &Case, side: Side) -> Result<Vec<Source>, AllocError>
+    requires { IsComplete case.now }
+    ensures { IfOk result (λ sources. AreSources case.now.streams case.now.utilities side sources.items) }
+{
+    let mut sources = Vec::new(alloc);
+    push_streams(&mut sources, case, side)?;
+    push_utilities(&mut sources, case, side)?;
+    Ok(sources)
+}
+
+/// Whether a cold source is permitted to both hot sources or to none of them.
+fn is_shared(case: &Case, first: Source, second: Source, cold: &Source) -> bool
+    ensures { IsTrue result
+        ↔ (is_forbidden case.now.forbids first cold.now ≡ is_forbidden case.now.forbids second cold.now) }
+{
+    case.is_forbidden(first, *cold) == case.is_forbidden(second, *cold)
+}
+
+/// Whether the same of these cold sources are permitted to two hot sources.
+fn are_alike(case: &Case, cold: &[Source], first: Source, second: Source) -> bool
+    ensures { IsTrue result
+        ↔ All (λ source. is_forbidden case.now.forbids first source ≡ is_forbidden case.now.forbids second source) cold.now }
+{
+    cold.iter()
+        .all(|source| is_shared(case, first, second, source))
+}
+
+/// The hot sources to which the same cold sources are permitted as to this one.
+fn sources_like(
+    alloc: Global,
+    case: &Case,
+    hot: &[Source],
+    cold: &[Source],
+    first: Source,
+) -> Result<Vec<Source>, AllocError>
+    requires hot { ListsOnce (λ source. side_of case.now source ≡ Some Hot) hot.now }
+    requires cold { ListsOnce (λ source. side_of case.now source ≡ Some Cold) cold.now }
+    ensures { IfOk result (λ sources. ListsOnce (IsLike case.now first) sources.items) }
+{
+    let mut sources = Vec::new(alloc);
+    for source in hot {
+        if are_alike(case, cold, first, *source) {
+            sources.push(*source)?;
+        }
+    }
+    Ok(sources)
+}
+
+/// Whether a source stands in a group.
+pub(crate) fn has_source(group: &Group, source: Source) -> bool
+    ensures { IsTrue result ↔ Contains group.now.sources source }
+{
+    group.sources.as_slice().contains(&source)
+}
+
+/// Whether a source stands in one of the groups.
+fn stands_in_one(groups: &[Group], source: Source) -> bool
+    ensures { IsTrue result ↔ Any (λ g. Contains g.sources source) groups.now }
+{
+    groups.iter().any(|group| has_source(group, source))
+}
+
+/// The groups of the hot sources: each source that stands in none yet begins a group of all to
+/// which the same cold sources are permitted. Their chains stand one after the other, from node
+/// `first` on, with `ranks` nodes each.
+pub(crate) fn groups_of(
+    alloc: Global,
+    case: &Case,
+    first: u32,
+    ranks: u32,
+) -> Result<Vec<Group>, AllocError>
+    requires complete { IsComplete case.now }
+    requires first { first ≤ 2 * MOST_PARTS }
+    requires ranks { ranks ≤ 2 * MOST_PLACES }
+    ensures groups { IfOk result (λ groups. AreGroups case.now groups.items) }
+    ensures chains { IfOk result (λ groups. StandInLine first ranks groups.items) }
+    ensures few { IfOk result (λ groups. length groups.items ≤ MOST_STREAMS + ALL_UTILITIES) }
+{
+    let hot = sources_of(alloc, case, Side::Hot)?;
+    let cold = sources_of(alloc, case, Side::Cold)?;
+    let mut groups = Vec::new(alloc);
+    for source in &hot {
+        if !stands_in_one(groups.as_slice(), *source) {
+            let first_node = first + groups.len() as u32 * ranks;
+            let sources = sources_like(alloc, case, hot.as_slice(), cold.as_slice(), *source)?;
+            groups.push(Group {
+                sources: Items::from_vec(sources),
+                first_node,
+            })?;
+        }
+    }
+    Ok(groups)
+}

@@ -1,0 +1,149 @@
+//! The links of a net of chains.
+ghost use Rattle.std.specs.Prelude.{◌≡◌, ◌↔◌, ◌≤◌, ◌+◌, ◌-◌, ◌*◌, ◌∷◌, [], false, List, length, IsTrue, IfOk, IfSome, IfNone, OnOk, All, Any, Contains, Some};
+ghost use Rattle.stream_case.specs.declared.case.Case.{Case};
+ghost use Rattle.stream_case.specs.declared.limits.TheConstants.{MOST_PARTS, MOST_PLACES};
+ghost use Rattle.stream_case.specs.declared.source.Source.{Source};
+ghost use Rattle.stream_case.specs.declared.source.Side.TheVariants.{Cold};
+ghost use Rattle.stream_case.specs.Case.{side_of, is_forbidden, IsComplete};
+ghost use Rattle.grid.specs.declared.part.Part.{Part};
+ghost use Rattle.chains.specs.declared.net.TheConstants.{MOST_INNER_NODES};
+ghost use Rattle.chains.specs.ChainNet.{open_link, IsEntering, IsLeaving};
+ghost use Rattle.chains.specs.Groups.{AreGroups};
+ghost use Rattle.chains.specs.Making.{Appends, IsStep};
+
+use crate::groups::{has_source, sources_of};
+use crate::net::Group;
+use crate::ranks::rank_of;
+use flow_net::{Link, MOST_ROOM};
+use grid::{Part, Parts};
+use std::alloc::{AllocError, Global};
+use stream_case::{Case, Side, Source};
+
+/// A link with room for all heat, at no cost.
+fn open_link(from: u32, to: u32) -> Link
+    ensures { result ≡ open_link from to }
+{
+    Link {
+        from,
+        to,
+        room: MOST_ROOM,
+        cost: 0,
+    }
+}
+
+/// The first node of the group in which a source stands, if it stands in one.
+fn first_node_of(groups: &[Group], source: Source) -> Option<u32>
+    ensures some { IfSome result (λ node. Any (λ g. (g.first_node ≡ node) × Contains g.sources source) groups.now) }
+    ensures none { IfNone result (All (λ g. Contains g.sources source → ⊥) groups.now) }
+{
+    for group in groups {
+        if has_source(group, source) {
+            return Some(group.first_node);
+        }
+    }
+    None
+}
+
+/// Appends a link from each hot part into the chain of its source's group, at the part's rank.
+pub(crate) fn push_entering(
+    links: &mut Vec<Link>,
+    places: &[i32],
+    groups: &[Group],
+    hot: &[Part],
+) -> Result<(), AllocError>
+    requires few_places { length places.now ≤ MOST_PLACES }
+    requires few_parts { length hot.now ≤ MOST_PARTS }
+    requires groups { (c : Case) × AreGroups c groups.now }
+    requires nodes { All (λ g. g.first_node ≤ MOST_INNER_NODES) groups.now }
+    ensures { OnOk result
+        ((c : Case) (cold : List Part) → Appends (IsEntering c places.now hot.now cold groups.now) (length hot.now) links.old.items links.new.items) }
+{
+    for (index, part) in hot.iter().enumerate() {
+        if let Some(first_node) = first_node_of(groups, part.source) {
+            let node = first_node + rank_of(places, part);
+            links.push(open_link(index as u32, node))?;
+        }
+    }
+    Ok(())
+}
+
+/// Appends a link from each node of a group's chain, of so many nodes, to the next one.
+pub(crate) fn push_onward(
+    links: &mut Vec<Link>,
+    group: &Group,
+    ranks: u32,
+) -> Result<(), AllocError>
+    requires node { group.now.first_node ≤ MOST_INNER_NODES }
+    requires some { 1 ≤ ranks }
+    requires ranks { ranks ≤ 2 * MOST_PLACES }
+    ensures { OnOk result (Appends (IsStep group.now.first_node ranks) (ranks - 1) links.old.items links.new.items) }
+{
+    for rank in 1..ranks {
+        let node = group.first_node + rank;
+        links.push(open_link(node - 1, node))?;
+    }
+    Ok(())
+}
+
+/// Whether a cold source is permitted to each source of a group.
+fn is_permitted(case: &Case, group: &Group, cold: Source) -> bool
+    ensures { IsTrue result
+        ↔ All (λ hot. is_forbidden case.now.forbids hot cold ≡ false) group.now.sources }
+{
+    group
+        .sources
+        .as_slice()
+        .iter()
+        .all(|hot| !case.is_forbidden(*hot, cold))
+}
+
+/// The cold sources that are permitted to each source of a group.
+fn permitted_to(alloc: Global, case: &Case, group: &Group) -> Result<Vec<Source>, AllocError>
+    requires { IsComplete case.now }
+    ensures { IfOk result (λ permitted. (cold : Source) → side_of case.now cold ≡ Some Cold
+        → (Contains permitted.items cold ↔ All (λ hot. is_forbidden case.now.forbids hot cold ≡ false) group.now.sources)) }
+{
+    let cold = sources_of(alloc, case, Side::Cold)?;
+    let mut permitted = Vec::new(alloc);
+    for source in &cold {
+        if is_permitted(case, group, *source) {
+            permitted.push(*source)?;
+        }
+    }
+    Ok(permitted)
+}
+
+/// Whether a source is one of these.
+fn is_one_of(sources: &[Source], source: Source) -> bool
+    ensures { IsTrue result ↔ Contains sources.now source }
+{
+    sources.contains(&source)
+}
+
+/// Appends a link from a group's chain, at the part's rank, to each cold part whose source is
+/// permitted to the group.
+pub(crate) fn push_leaving(
+    links: &mut Vec<Link>,
+    alloc: Global,
+    case: &Case,
+    group: &Group,
+    places: &[i32],
+    parts: &Parts,
+) -> Result<(), AllocError>
+    requires complete { IsComplete case.now }
+    requires few_places { length places.now ≤ MOST_PLACES }
+    requires node { group.now.first_node ≤ MOST_INNER_NODES }
+    requires cold { All (λ part. side_of case.now part.source ≡ Some Cold) parts.now.cold }
+    ensures { OnOk result
+        (Appends (IsLeaving case.now places.now parts.now.hot parts.now.cold (group.now ∷ [])) (length parts.now.cold) links.old.items links.new.items) }
+{
+    let permitted = permitted_to(alloc, case, group)?;
+    let hots = parts.hot.len() as u32;
+    for (index, part) in parts.cold.as_slice().iter().enumerate() {
+        if is_one_of(permitted.as_slice(), part.source) {
+            let node = group.first_node + rank_of(places, part);
+            links.push(open_link(node, hots + index as u32))?;
+        }
+    }
+    Ok(())
+}

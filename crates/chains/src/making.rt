@@ -1,0 +1,51 @@
+//! The net of chains of a case.
+ghost use Rattle.std.specs.Prelude.{length, All, IfOk};
+ghost use Rattle.stream_case.specs.Case.{IsComplete};
+ghost use Rattle.heat_flow.specs.Reach.{reach_between};
+ghost use Rattle.chains.specs.Groups.{AreGroups, StartsChain};
+ghost use Rattle.chains.specs.Inner.{IsInner};
+ghost use Rattle.chains.specs.OnGrid.{AreOnGrid};
+ghost use Rattle.chains.specs.Path.{PathsAreReaches};
+ghost use Rattle.chains.specs.Sizes.{IsSmall};
+
+use crate::groups::groups_of;
+use crate::links::{push_entering, push_leaving, push_onward};
+use crate::net::Chains;
+use crate::ranks::rank_count;
+use flow_net::Net;
+use grid::{Parts, grid_of};
+use std::alloc::{AllocError, Global};
+use stream_case::{Case, Items};
+
+/// The chains of a case, and their net with a node for each of these parts, which stand on the
+/// grid of the case; the prices of its utilities do not matter. A path of links leads from a hot
+/// part to a cold part exactly where the two reach (residual heat of Papoulias and Grossmann 1983,
+/// one chain for all hot sources with the same permitted partners: this project's rule).
+pub fn chains_of(alloc: Global, case: &Case, parts: &Parts) -> Result<Chains, AllocError>
+    requires complete { IsComplete case.now }
+    requires parts { AreOnGrid case.now parts.now.hot parts.now.cold }
+    ensures groups { IfOk result (λ chains. AreGroups case.now chains.groups) }
+    ensures first_nodes { IfOk result (λ chains. All (StartsChain case.now parts.now.hot parts.now.cold chains.net) chains.groups) }
+    ensures inner { IfOk result (λ chains. IsInner (length parts.now.hot) (length parts.now.cold) chains.net) }
+    ensures paths { IfOk result (λ chains. PathsAreReaches (length parts.now.hot) (length parts.now.cold) chains.net.links (reach_between case.now parts.now.hot parts.now.cold)) }
+    ensures small { IfOk result (λ chains. IsSmall case.now (length parts.now.hot) (length parts.now.cold) chains) }
+{
+    let grid = grid_of(alloc, case)?;
+    let places = grid.places.as_slice();
+    let ranks = rank_count(places);
+    let first = (parts.hot.len() + parts.cold.len()) as u32;
+    let groups = groups_of(alloc, case, first, ranks)?;
+    let mut links = Vec::new(alloc);
+    push_entering(&mut links, places, groups.as_slice(), parts.hot.as_slice())?;
+    for group in &groups {
+        push_onward(&mut links, group, ranks)?;
+        push_leaving(&mut links, alloc, case, group, places, parts)?;
+    }
+    Ok(Chains {
+        net: Net {
+            nodes: first + groups.len() as u32 * ranks,
+            links: Items::from_vec(links),
+        },
+        groups: Items::from_vec(groups),
+    })
+}

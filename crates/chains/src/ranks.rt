@@ -1,0 +1,40 @@
+//! The ranks of parts: the numbers of their places and intervals, from the highest down.
+ghost use Rattle.std.specs.Prelude.{◌≡◌, ◌+◌, ◌*◌, ◌≤◌, length};
+ghost use Rattle.stream_case.specs.declared.limits.TheConstants.{MOST_PLACES};
+ghost use Rattle.chains.specs.Ranks.{place_index, rank_of, rank_count};
+
+use grid::Part;
+
+/// The index of a temperature, in tenths of °C, among the places; their number where it is none
+/// of them.
+fn place_index(places: &[i32], temperature: i32) -> usize
+    ensures value { result ≡ place_index places.now temperature }
+    ensures within { result ≤ length places.now }
+{
+    places
+        .iter()
+        .position(|place| *place == temperature)
+        .unwrap_or(places.len())
+}
+
+/// The rank of a part whose ends stand among the places.
+pub(crate) fn rank_of(places: &[i32], part: &Part) -> u32
+    requires few { length places.now ≤ MOST_PLACES }
+    ensures value { result ≡ rank_of places.now part.now }
+    ensures within { result ≤ 2 * length places.now + 1 }
+{
+    let place = place_index(places, part.high) as u32;
+    if part.high == part.low {
+        2 * place
+    } else {
+        2 * place + 1
+    }
+}
+
+/// How many ranks there are: one for each place, and one between each two.
+pub(crate) fn rank_count(places: &[i32]) -> u32
+    requires few { length places.now ≤ MOST_PLACES }
+    ensures { result ≡ rank_count places.now }
+{
+    (2 * places.len()).saturating_sub(1) as u32
+}
