@@ -17,7 +17,8 @@ use Rattle.flow_net.specs.declared.net.Link.{Link}
 use Rattle.flow_net.specs.declared.net.Net.{Net}
 use Rattle.flow_net.specs.Net.{flow_on, inflow, outflow, reduced_cost, IsRouting, IsWithinRooms, IsWithinLimits, AreEnds, AreProofOfLeast}
 use Rattle.heat_flow.specs.Cuts.{parts_of}
-use Rattle.transport.specs.Around.{IsInner, IsInnerLink, most_of, net_around}
+use Rattle.chains.specs.Inner.{IsInner, IsInnerLink}
+use Rattle.transport.specs.Around.{most_of, net_around}
 use Rattle.transport.proofs.LinkSums.{ends, whole_at, spare_at, between_at, sum_over_links}
 use Rattle.transport.proofs.LinkPlaces.{IsLinkAt, between_is, whole_is, spare_is}
 use Rattle.transport.proofs.Falls.{term, falls_around}
@@ -44,7 +45,7 @@ mark m n v = if v == n then m else pos 0
 mark_here : (m : ℤ) (n v : ℕ) → v ≡ n → mark m n v ≡ m
 mark_here m n v same = rw (eq-eqb v n same) refl
 
-mark_other : (m : ℤ) (n v : ℕ) → v ≢ n → mark m n v ≡ pos 0
+pub mark_other : (m : ℤ) (n v : ℕ) → v ≢ n → mark m n v ≡ pos 0
 mark_other m n v other = rw (ne_eqb v n other) refl
 
 term_from : (b : Bool) (z x : ℤ) → z ≡ pos 0 → term (if b then pos 1 else pos 0) z x ≡ (if b then x else pos 0)
@@ -55,7 +56,7 @@ term_to : (b : Bool) (z x : ℤ) → z ≡ pos 0 → term z (if b then neg_ℤ (
 term_to true z x e = rw e (omega (arith, ints))
 term_to false z x e = rw e (omega (arith, ints))
 
-two_terms : (a b c d x y : ℤ) → a ≡ pos 0 → b ≡ pos 0 → c ≡ pos 0 → d ≡ pos 0 → term a b x +ℤ term c d y ≡ pos 0
+pub two_terms : (a b c d x y : ℤ) → a ≡ pos 0 → b ≡ pos 0 → c ≡ pos 0 → d ≡ pos 0 → term a b x +ℤ term c d y ≡ pos 0
 two_terms a b c d x y ha hb hc hd = rw (ha, hb, hc, hd) (omega (arith, ints))
 
 module _ (hot cold : List Part) (inner : Net) (is_inner : IsInner (length hot) (length cold) inner) (flow : List ℤ) (limits : IsWithinLimits (net_around hot cold inner)) (are_ends : AreEnds (net_around hot cold inner) (ends hot cold inner).source (ends hot cold inner).sink) (routing : IsRouting (net_around hot cold inner) (ends hot cold inner).source (ends hot cold inner).sink (most_of hot +ℤ most_of cold) flow) where
@@ -70,7 +71,7 @@ module _ (hot cold : List Part) (inner : Net) (is_inner : IsInner (length hot) (
   between j = flow_on flow (between_at hot cold inner + j)
 
   -- the law of falls for this amount
-  law : (inside : ℕ → ℤ) (s t f p : ℤ) →
+  pub law : (inside : ℕ → ℤ) (s t f p : ℤ) →
       int_sum_from (λ k l. term (inside l.from) (inside l.to) (flow_on flow k)) 0 inner.links
       +ℤ (int_sum_from (λ i q. term s (inside (0 + i)) (whole Hot i) +ℤ term (inside (0 + i)) p (spare Hot i)) 0 hot
       +ℤ (int_sum_from (λ i q. term (inside (length hot + i)) t (whole Cold i) +ℤ term f (inside (length hot + i)) (spare Cold i)) 0 cold

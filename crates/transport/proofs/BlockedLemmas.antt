@@ -1,5 +1,5 @@
 -- What a cut of the net says of the parts: those on one side of it need more than is on offer.
-use Rattle.std.proofs.Common.{◌≡◌, ◌∙◌, ⊎_elim, refl, sym, ap, ap₂, subst, ℕ, ◌+◌, Bool, true, false, not, ◌&&◌, List, length, zero-add, arith}
+use Rattle.std.proofs.Common.{◌≡◌, ◌∙◌, ⊎_elim, refl, sym, ap, ap₂, subst, ℕ, ◌+◌, Bool, true, false, not, ◌&&◌, List, [], ◌∷◌, length, zero-add, arith}
 use Rattle.std.specs.Prelude.{if◌then◌else◌, ℤ, pos, ◌+ℤ◌, ◌-ℤ◌, ◌≤ℤ◌, ◌<ℤ◌, Some, slice_get}
 use Rattle.std.proofs.lemmas.Bool.{cases_Bool, false≢true}
 use Rattle.std.proofs.lemmas.Int.{ints}
@@ -14,7 +14,9 @@ use Rattle.flow_net.specs.declared.limits.TheConstants.{MOST_ROOM}
 use Rattle.flow_net.specs.declared.net.Link.{Link}
 use Rattle.flow_net.specs.declared.net.Net.{Net}
 use Rattle.flow_net.specs.Net.{link_at, is_in, leaves}
-use Rattle.transport.specs.Around.{BlocksMost, IsInnerLink, whole_link, spare_link, links_between, most_of, net_around}
+use Rattle.chains.specs.Inner.{IsInnerLink}
+use Rattle.chains.specs.Path.{IsPath, PathsAreReaches}
+use Rattle.transport.specs.Around.{BlocksMost, whole_link, spare_link, links_between, most_of, net_around}
 use Rattle.transport.proofs.CutLemmas.{IsShort}
 use Rattle.transport.proofs.Limits.{IsAround, limits_around, room_around}
 use Rattle.transport.proofs.LinkPlaces.{between_is}
@@ -169,13 +171,18 @@ module _ (hot cold : List Part) (inner : Net) (g : IsAround hot cold inner) (set
           let second = room_or_none c (p.most -ℤ p.least) (omega (arith, ints, most)) in
           omega (arith, ints, first, second)
 
-  -- ---- the shortages, where each pair that reaches has a link
+  -- ---- the shortages, where a path leads between the pairs that reach
 
-  module _ (reach : ℕ → ℕ → Bool) (linked : (a b : ℕ) → reach a b ≡ true → (k : ℕ) × (l : Link) × (slice_get inner.links k ≡ Some l) × (l.from ≡ a) × (l.to ≡ length hot + b)) where
+  -- what a path leads to is inside with its first node, as no link of it leaves
+  path_closed : (path : List Link) (u v : ℕ) → IsPath inner.links path u v → inside u ≡ true → inside v ≡ true
+  path_closed [] u v same first = subst (λ w. inside w ≡ true) same first
+  path_closed (l ∷ path) u v h first =
+      let (k, within, is) = h.0 in
+      path_closed path l.to v h.2 (inner_closed k l (slice_get-get_or inner.links k l within ∙ ap Some is) (subst (λ w. inside w ≡ true) (sym h.1) first))
+
+  module _ (reach : ℕ → ℕ → Bool) (paths : PathsAreReaches (length hot) (length cold) inner.links reach) where
     reach_closed : (a b : ℕ) → reach a b ≡ true → inside a ≡ true → inside (length hot + b) ≡ true
-    reach_closed a b joined first =
-        let (k, l, at, from, to) = linked a b joined in
-        subst (λ v. inside v ≡ true) to (inner_closed k l at (subst (λ v. inside v ≡ true) (sym from) first))
+    reach_closed a b joined first = let (path, is) = paths.leads a b joined in path_closed path a (length hot + b) is first
 
     pub demand : inside (ends hot cold inner).filler ≡ true → IsShort Cold reach hot cold (λ i. not (inside (length hot + i))) (λ j. not (inside j))
     demand filler = record {

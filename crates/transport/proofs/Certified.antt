@@ -1,45 +1,39 @@
--- The flow and the potentials of a net of pairs are a heat flow with prices that certify it.
-use Rattle.std.proofs.Common.{◌≡◌, ◌∙◌, ⊎_elim, refl, sym, ap, ap₂, subst, ℕ, zero, suc, ◌+◌, ◌-◌, ◌<◌, Bool, true, false, List, length, get_or, map, add-zero, zero-add, arith}
-use Rattle.std.specs.Prelude.{◌==◌, if◌then◌else◌, IsTrue, ℤ, pos, ◌-ℤ◌, ◌*ℤ◌, ◌≤ℤ◌, ◌<ℤ◌, Some, slice_get, All}
+-- Transfers into which a flow of an inner net is taken apart are a heat flow, wherever the paths of the net are the pairs that
+-- reach, and the potentials give prices that certify it.
+use Rattle.std.proofs.Common.{◌≡◌, ◌∙◌, ⊎_elim, refl, sym, ap, ap₂, subst, ℕ, zero, suc, ◌+◌, ◌<◌, Bool, List, [], ◌∷◌, length, get_or, map, add-zero, zero-add, arith}
+use Rattle.std.specs.Prelude.{ℤ, pos, ◌-ℤ◌, ◌*ℤ◌, ◌≤ℤ◌, Some, slice_get, All, Result, IfOk}
 use Rattle.std.specs.List.{range_with_len}
-use Rattle.std.proofs.lemmas.Bool.{cases_lt, eq-eqb}
+use Rattle.std.proofs.lemmas.Bool.{cases_lt}
 use Rattle.std.proofs.lemmas.Int.{ints}
 use Rattle.std.proofs.lemmas.List.{get_or_past, get_or_default}
-use Rattle.std.proofs.lemmas.Option.{slice_get-get_or, slice_get_within}
+use Rattle.std.proofs.lemmas.Option.{slice_get_within}
+use Rattle.std.proofs.lemmas.Result.{IfOk-weaker}
 use Rattle.stream_case.specs.declared.source.Side.TheVariants.{Hot, Cold}
 use Rattle.stream_case.specs.Limits.{IsBetween, IsPartPrice}
-use Rattle.sums.proofs.ListLemmas.{All-slice_get}
 use Rattle.sums.proofs.SumLemmas.{int_sum_from-same_each}
 use Rattle.grid.specs.declared.part.Part.{Part}
-use Rattle.grid.specs.Bounds.{IsBounded}
+use Rattle.heat_flow.specs.declared.cut.Cut.{Cut}
+use Rattle.heat_flow.specs.declared.flow.Flow.{Flow}
 use Rattle.heat_flow.specs.declared.flow.Transfer.{Transfer}
-use Rattle.heat_flow.specs.declared.reach.Reach.{Reach}
+use Rattle.heat_flow.specs.declared.prices.Prices.{Prices}
 use Rattle.heat_flow.specs.Flow.{heat_at, KeepsRanges, IsHeatFlow, IsLeastCost, cost_of}
 use Rattle.heat_flow.specs.Prices.{price_at, IsSupporting, excess_price}
-use Rattle.heat_flow.specs.Table.{HasSizes, reaches}
 use Rattle.heat_flow.specs.Checks.{HasCost}
-use Rattle.heat_flow.proofs.Blanks.{blank}
 use Rattle.heat_flow.proofs.CostLemmas.{HasCost-flow}
-use Rattle.flow_net.specs.declared.limits.TheConstants.{MOST_ROOM}
 use Rattle.flow_net.specs.declared.net.Link.{Link}
 use Rattle.flow_net.specs.declared.net.Net.{Net}
-use Rattle.flow_net.specs.Net.{link_at, flow_on, potential_at, inflow, outflow}
-use Rattle.transport.specs.Answer.{ArePartPrices, IsCertified}
-use Rattle.transport.specs.Around.{IsInnerLink, RoutesMost, IsNodePotential, prices_of}
-use Rattle.transport.specs.Pairs.{pair_link, IsPairLink, IsPairNet}
-use Rattle.transport.specs.Transfers.{transfers_of}
+use Rattle.flow_net.specs.Net.{link_at, potential_at, inflow, outflow}
+use Rattle.chains.specs.Path.{IsPath, PathsAreReaches}
+use Rattle.chains.specs.Spread.{IsSpread}
+use Rattle.transport.specs.declared.answer.Answer.{Answer}
+use Rattle.transport.specs.Answer.{IfLeast, IfStuck, ArePartPrices, IsCertified, priced}
+use Rattle.transport.specs.Around.{RoutesMost, IsNodePotential, prices_of}
 use Rattle.transport.proofs.Balances.{spare, spare_within, hot_given, cold_taken}
+use Rattle.transport.proofs.InnerFlows.{not_full}
 use Rattle.transport.proofs.Limits.{IsAround, limits_around, ends_around, small_cold, potentials_within}
-use Rattle.transport.proofs.LinkPlaces.{inner_at}
-use Rattle.transport.proofs.LinkSums.{ends, sum_over_links}
-use Rattle.transport.proofs.PairLemmas.{hot_within, cold_within}
+use Rattle.transport.proofs.LinkSums.{ends}
 use Rattle.transport.proofs.SlackLemmas.{IsSlack, Certifies, value-is_cost, IsLeastCost-certified}
-use Rattle.transport.proofs.SumsFrom.{int_sum_from-term}
-use Rattle.transport.proofs.TransferLemmas.{All-transfers_of, ordered_transfers, hot_heat, cold_heat}
 use Rattle.transport.proofs.Worth.{falls, filler_falls, worth_is, hot_slack, cold_slack}
-
-abbrev no_link : Link
-no_link = record { from = 0; to = 0; room = pos 0; cost = pos 0 }
 
 -- ---- numbers of a range of nodes
 
@@ -76,15 +70,12 @@ module _ (potentials : List ℤ) (each : All IsNodePotential potentials) (end : 
 
 -- ---- the heat flow and the prices
 
-module _ (hot cold : List Part) (r : Reach) (net : Net) (sizes : HasSizes r (length hot) (length cold)) (pairs : IsPairNet r net) (g : IsAround hot cold net) (flow potentials : List ℤ) (m : RoutesMost hot cold net flow potentials) where
-  abbrev transfers : List Transfer
-  transfers = transfers_of (length hot) net.links flow
-
+module _ (hot cold : List Part) (inner : Net) (reach : ℕ → ℕ → Bool) (g : IsAround hot cold inner) (paths : PathsAreReaches (length hot) (length cold) inner.links reach) (flow potentials : List ℤ) (m : RoutesMost hot cold inner flow potentials) (transfers : List Transfer) (spread : IsSpread (length hot) (length cold) inner.links flow transfers) where
   abbrev spill : ℕ
-  spill = (ends hot cold net).spill
+  spill = (ends hot cold inner).spill
 
   abbrev filler : ℕ
-  filler = (ends hot cold net).filler
+  filler = (ends hot cold inner).filler
 
   abbrev hot_prices : List ℤ
   hot_prices = prices_of potentials 0 (length hot) spill
@@ -93,74 +84,38 @@ module _ (hot cold : List Part) (r : Reach) (net : Net) (sizes : HasSizes r (len
   cold_prices = prices_of potentials (length hot) (length cold) filler
 
   each_potential : All IsNodePotential potentials
-  each_potential = potentials_within hot cold net g potentials m.bounded
-
-  inner_link : (k : ℕ) (l : Link) → slice_get net.links k ≡ Some l → IsInnerLink (length hot) (length cold) net.nodes l
-  inner_link k l at = All-slice_get (IsInnerLink (length hot) (length cold) net.nodes) net.links k l g.inner_net.links at
-
-  pair_at : (k : ℕ) (l : Link) → slice_get net.links k ≡ Some l → IsPairLink r l
-  pair_at k l at = All-slice_get (IsPairLink r) net.links k l pairs.links.each at
-
-  none_negative : (k : ℕ) (l : Link) → slice_get net.links k ≡ Some l → pos 0 ≤ℤ flow_on flow k
-  none_negative k l at = m.routing.rooms.not_negative k (inner_at hot cold net k (slice_get_within net.links k l at)).within
+  each_potential = potentials_within hot cold inner g potentials m.bounded
 
   -- what each part exchanges
-  hot_heat_is : (a : ℕ) → heat_at Hot transfers a ≡ outflow net.links flow a
-  hot_heat_is a = hot_heat (length hot) flow a 0 net.links (λ k l at. subst (λ i. pos 0 ≤ℤ flow_on flow i) (sym (zero-add k)) (none_negative k l at)) ∙ sym (sum_over_links (λ k l. if l.from == a then flow_on flow k else pos 0) net.links)
+  hot_heat_is : (a : ℕ) (p : Part) → slice_get hot a ≡ Some p → heat_at Hot transfers a ≡ outflow inner.links flow a
+  hot_heat_is a p at = spread.given a (slice_get_within hot a p at)
 
-  cold_heat_is : (b : ℕ) → heat_at Cold transfers b ≡ inflow net.links flow (length hot + b)
-  cold_heat_is b =
-      cold_heat (length hot) flow b 0 net.links (λ k l at. (inner_link k l at).enters) (λ k l at. subst (λ i. pos 0 ≤ℤ flow_on flow i) (sym (zero-add k)) (none_negative k l at))
-      ∙ sym (sum_over_links (λ k l. if l.to == (length hot + b) then flow_on flow k else pos 0) net.links)
+  cold_heat_is : (b : ℕ) (p : Part) → slice_get cold b ≡ Some p → heat_at Cold transfers b ≡ inflow inner.links flow (length hot + b)
+  cold_heat_is b p at = spread.taken b (slice_get_within cold b p at)
 
   from_spare : (least most x heat : ℤ) → heat ≡ most -ℤ x → IsBetween (pos 0) (most -ℤ least) x → IsBetween least most heat
   from_spare least most x heat is h = record { from = omega (arith, ints, is, h.upto); upto = omega (arith, ints, is, h.from) }
 
   hot_ranges : KeepsRanges Hot hot transfers
   hot_ranges a p at =
-      from_spare p.least p.most (spare hot cold net g.inner_net flow (limits_around hot cold net g) (ends_around hot cold net g) m.routing Hot a) (heat_at Hot transfers a)
-      (hot_heat_is a ∙ hot_given hot cold net g.inner_net flow (limits_around hot cold net g) (ends_around hot cold net g) m.routing a p at) (spare_within hot cold net g.inner_net flow (limits_around hot cold net g) (ends_around hot cold net g) m.routing Hot a p at)
+      from_spare p.least p.most (spare hot cold inner g.inner_net flow (limits_around hot cold inner g) (ends_around hot cold inner g) m.routing Hot a) (heat_at Hot transfers a)
+      (hot_heat_is a p at ∙ hot_given hot cold inner g.inner_net flow (limits_around hot cold inner g) (ends_around hot cold inner g) m.routing a p at) (spare_within hot cold inner g.inner_net flow (limits_around hot cold inner g) (ends_around hot cold inner g) m.routing Hot a p at)
 
   cold_ranges : KeepsRanges Cold cold transfers
   cold_ranges b p at =
-      from_spare p.least p.most (spare hot cold net g.inner_net flow (limits_around hot cold net g) (ends_around hot cold net g) m.routing Cold b) (heat_at Cold transfers b)
-      (cold_heat_is b ∙ cold_taken hot cold net g.inner_net flow (limits_around hot cold net g) (ends_around hot cold net g) m.routing b p at) (spare_within hot cold net g.inner_net flow (limits_around hot cold net g) (ends_around hot cold net g) m.routing Cold b p at)
+      from_spare p.least p.most (spare hot cold inner g.inner_net flow (limits_around hot cold inner g) (ends_around hot cold inner g) m.routing Cold b) (heat_at Cold transfers b)
+      (cold_heat_is b p at ∙ cold_taken hot cold inner g.inner_net flow (limits_around hot cold inner g) (ends_around hot cold inner g) m.routing b p at) (spare_within hot cold inner g.inner_net flow (limits_around hot cold inner g) (ends_around hot cold inner g) m.routing Cold b p at)
 
-  -- the cold part of a link
-  cold_is : (l : Link) (pair : IsPairLink r l) → l.to - length hot ≡ pair.cold
-  cold_is l pair = let to = ap (λ k. k.to) pair.is in let hots = sizes.hots in omega (arith, to, hots)
-
-  heat_flow : IsHeatFlow (reaches r) hot cold transfers
+  heat_flow : IsHeatFlow reach hot cold transfers
   heat_flow = record {
-    positive = All-transfers_of (length hot) flow (λ t. pos 0 <ℤ t.heat) net.links (λ k l at some. some);
-    hot_indexes = All-transfers_of (length hot) flow (λ t. t.hot < length hot) net.links (λ k l at some. let pair = pair_at k l at in let row = hot_within r l.from pair.cold pair.joined in let hots = sizes.hots in omega (arith, row, hots));
-    cold_indexes = All-transfers_of (length hot) flow (λ t. t.cold < length cold) net.links (λ k l at some. let pair = pair_at k l at in let column = cold_within r l.from pair.cold pair.joined in let colds = sizes.colds in let is = cold_is l pair in omega (arith, column, colds, is));
-    joined = All-transfers_of (length hot) flow (λ t. IsTrue (reaches r t.hot t.cold)) net.links (λ k l at some. let pair = pair_at k l at in subst (λ b. IsTrue (reaches r l.from b)) (sym (cold_is l pair)) pair.joined);
-    ordered = ordered_transfers (length hot) flow 0 net.links (λ k l at. (inner_link k l at).enters) pairs.links.ordered;
+    positive = spread.positive;
+    hot_indexes = spread.hot_indexes;
+    cold_indexes = spread.cold_indexes;
+    joined = λ k d within. let t = get_or transfers k d in paths.reaches t.hot t.cold (spread.hot_indexes k d within) (spread.cold_indexes k d within) (spread.joined k d within);
+    ordered = spread.ordered;
     hot_ranges = hot_ranges;
     cold_ranges = cold_ranges;
   }
-
-  -- no link of a pair is full
-  not_full : (k : ℕ) → k < length net.links → flow_on flow k <ℤ MOST_ROOM
-  not_full k within =
-      let l = get_or net.links k no_link in
-      let at = slice_get-get_or net.links k no_link within in
-      let pair = pair_at k l at in
-      let row : l.from < length hot = (let here = hot_within r l.from pair.cold pair.joined in let hots = sizes.hots in omega (arith, here, hots)) in
-      let p = get_or hot l.from blank in
-      let there = slice_get-get_or hot l.from blank row in
-      let term = int_sum_from-term (λ j n. if n.from == l.from then flow_on flow j else pos 0) net.links (λ j n here. some_or_none (n.from == l.from) (flow_on flow j) (none_negative j n here)) k l at in
-      let own : (if l.from == l.from then flow_on flow k else pos 0) ≡ flow_on flow k = ap (λ b. if b then flow_on flow k else pos 0) (eq-eqb l.from l.from refl) in
-      let sum = sum_over_links (λ j n. if n.from == l.from then flow_on flow j else pos 0) net.links in
-      let range = hot_ranges l.from p there in
-      let heat = hot_heat_is l.from in
-      let most = (All-slice_get IsBounded hot l.from p g.hot_bounded there).most.upto in
-      omega (arith, ints, term, own, sum, range.upto, heat, most)
-    where
-      some_or_none : (b : Bool) (x : ℤ) → pos 0 ≤ℤ x → pos 0 ≤ℤ (if b then x else pos 0)
-      some_or_none true x some = some
-      some_or_none false x some = omega (arith, ints)
 
   -- ---- the prices
 
@@ -170,65 +125,75 @@ module _ (hot cold : List Part) (r : Reach) (net : Net) (sizes : HasSizes r (len
   cold_price : (b : ℕ) → b < length cold → price_at cold_prices b ≡ potential_at potentials (length hot + b) -ℤ potential_at potentials filler
   cold_price b within = price_is potentials each_potential filler (length cold) (length hot) b within
 
-  supporting : IsSupporting (reaches r) hot_prices cold_prices
+  -- the potential does not rise along a path, as it does not along a link that is not full
+  path_falls : (path : List Link) (u v : ℕ) → IsPath inner.links path u v → potential_at potentials v ≤ℤ potential_at potentials u
+  path_falls [] u v same = let here = ap (potential_at potentials) same in omega (arith, ints, here)
+  path_falls (l ∷ path) u v h =
+      let (k, within, is) = h.0 in
+      let here : link_at inner.links k ≡ l = get_or_default inner.links k (record { from = 0; to = 0; room = pos 0; cost = pos 0 }) l within ∙ is in
+      let fall = falls hot cold inner g.inner_net flow potentials (limits_around hot cold inner g) (ends_around hot cold inner g) m.routing m.proof k within (not_full hot cold inner g flow m.routing k within) in
+      let down : potential_at potentials l.to ≤ℤ potential_at potentials l.from = subst (λ n. potential_at potentials n.to ≤ℤ potential_at potentials n.from) here fall in
+      let from = ap (potential_at potentials) h.1 in
+      let rest = path_falls path l.to v h.2 in
+      omega (arith, ints, down, from, rest)
+
+  supporting : IsSupporting reach hot_prices cold_prices
   supporting a b joined =
-      let hots = sizes.hots in
-      let colds = sizes.colds in
-      let row : a < length hot = (let here = hot_within r a b joined in omega (arith, here, hots)) in
-      let column : b < length cold = (let here = cold_within r a b joined in omega (arith, here, colds)) in
-      let l = pair_link r a b in
-      let (k, within, is) = pairs.links.every l (record { cold = b; joined = joined; is = refl }) in
-      let here : link_at net.links k ≡ l = get_or_default net.links k (record { from = 0; to = 0; room = pos 0; cost = pos 0 }) l within ∙ is in
-      let fall = falls hot cold net g.inner_net flow potentials (limits_around hot cold net g) (ends_around hot cold net g) m.routing m.proof k within (not_full k within) in
-      let down : potential_at potentials (r.hots + b) ≤ℤ potential_at potentials a = subst (λ n. potential_at potentials n.to ≤ℤ potential_at potentials n.from) here fall in
-      let node = ap (λ n. potential_at potentials (n + b)) hots in
-      let over = filler_falls hot cold net g.inner_net flow potentials (limits_around hot cold net g) (ends_around hot cold net g) m.routing m.proof (small_cold hot cold net g) in
-      let y = hot_price a row in
-      let z = cold_price b column in
-      omega (arith, ints, down, node, over, y, z)
+      let (path, is) = paths.leads a b joined in
+      let down = path_falls path a (length hot + b) is in
+      let over = filler_falls hot cold inner g.inner_net flow potentials (limits_around hot cold inner g) (ends_around hot cold inner g) m.routing m.proof (small_cold hot cold inner g) in
+      let y = hot_price a (paths.hot_within a b joined) in
+      let z = cold_price b (paths.cold_within a b joined) in
+      omega (arith, ints, down, over, y, z)
 
   certifies : Certifies hot cold transfers hot_prices cold_prices
   certifies =
-      let worth = worth_is hot cold net g.inner_net flow potentials (limits_around hot cold net g) (ends_around hot cold net g) m.routing m.proof (small_cold hot cold net g) not_full in
+      let worth = worth_is hot cold inner g.inner_net flow potentials (limits_around hot cold inner g) (ends_around hot cold inner g) m.routing m.proof (small_cold hot cold inner g) (not_full hot cold inner g flow m.routing) in
       let given =
-      int_sum_from-same_each (λ i p. price_at hot_prices i *ℤ heat_at Hot transfers i) (λ i (q : Part). (potential_at potentials (0 + i) -ℤ potential_at potentials spill) *ℤ outflow net.links flow (0 + i)) hot
-      (λ i p at. ap₂ ◌*ℤ◌ (price_is potentials each_potential spill (length hot) 0 i (slice_get_within hot i p at)) (hot_heat_is i ∙ ap (outflow net.links flow) (sym (zero-add i)))) in
+      int_sum_from-same_each (λ i p. price_at hot_prices i *ℤ heat_at Hot transfers i) (λ i (q : Part). (potential_at potentials (0 + i) -ℤ potential_at potentials spill) *ℤ outflow inner.links flow (0 + i)) hot
+      (λ i p at. ap₂ ◌*ℤ◌ (price_is potentials each_potential spill (length hot) 0 i (slice_get_within hot i p at)) (hot_heat_is i p at ∙ ap (outflow inner.links flow) (sym (zero-add i)))) in
       let taken =
-      int_sum_from-same_each (λ i p. price_at cold_prices i *ℤ heat_at Cold transfers i) (λ i (q : Part). (potential_at potentials (length hot + i) -ℤ potential_at potentials filler) *ℤ inflow net.links flow (length hot + i)) cold
-      (λ i p at. ap₂ ◌*ℤ◌ (cold_price i (slice_get_within cold i p at)) (cold_heat_is i)) in
+      int_sum_from-same_each (λ i p. price_at cold_prices i *ℤ heat_at Cold transfers i) (λ i (q : Part). (potential_at potentials (length hot + i) -ℤ potential_at potentials filler) *ℤ inflow inner.links flow (length hot + i)) cold
+      (λ i p at. ap₂ ◌*ℤ◌ (cold_price i (slice_get_within cold i p at)) (cold_heat_is i p at)) in
       record {
         hot_slack = λ i p at.
             subst (λ y. IsSlack (excess_price Hot p.price y) p.least p.most (heat_at Hot transfers i)) (sym (hot_price i (slice_get_within hot i p at)))
-            (subst (IsSlack (excess_price Hot p.price (potential_at potentials i -ℤ potential_at potentials spill)) p.least p.most) (sym (hot_heat_is i)) (hot_slack hot cold net g.inner_net flow potentials (limits_around hot cold net g) (ends_around hot cold net g) m.routing m.proof i p at));
+            (subst (IsSlack (excess_price Hot p.price (potential_at potentials i -ℤ potential_at potentials spill)) p.least p.most) (sym (hot_heat_is i p at)) (hot_slack hot cold inner g.inner_net flow potentials (limits_around hot cold inner g) (ends_around hot cold inner g) m.routing m.proof i p at));
         cold_slack = λ i p at.
             subst (λ z. IsSlack (excess_price Cold p.price z) p.least p.most (heat_at Cold transfers i)) (sym (cold_price i (slice_get_within cold i p at)))
-            (subst (IsSlack (excess_price Cold p.price (potential_at potentials (length hot + i) -ℤ potential_at potentials filler)) p.least p.most) (sym (cold_heat_is i)) (cold_slack hot cold net g.inner_net flow potentials (limits_around hot cold net g) (ends_around hot cold net g) m.routing m.proof i p at));
+            (subst (IsSlack (excess_price Cold p.price (potential_at potentials (length hot + i) -ℤ potential_at potentials filler)) p.least p.most) (sym (cold_heat_is i p at)) (cold_slack hot cold inner g.inner_net flow potentials (limits_around hot cold inner g) (ends_around hot cold inner g) m.routing m.proof i p at));
         worth = given ∙ worth ∙ sym taken;
       }
 
-  certified : IsCertified (reaches r) hot cold transfers hot_prices cold_prices (cost_of hot cold transfers)
+  pub certified : IsCertified reach hot cold transfers hot_prices cold_prices (cost_of hot cold transfers)
   certified = record {
     flow = heat_flow;
     supporting = supporting;
     hot_prices = prices_are potentials each_potential spill hot 0;
     cold_prices = prices_are potentials each_potential filler cold (length hot);
     costs = refl;
-    value = value-is_cost (reaches r) hot cold transfers hot_prices cold_prices heat_flow certifies;
+    value = value-is_cost reach hot cold transfers hot_prices cold_prices heat_flow certifies;
   }
 
-  least_cost : IsLeastCost (reaches r) hot cold (cost_of hot cold transfers)
-  least_cost = IsLeastCost-certified (reaches r) hot cold transfers hot_prices cold_prices supporting heat_flow certifies
+  pub least_cost : IsLeastCost reach hot cold (cost_of hot cold transfers)
+  least_cost = IsLeastCost-certified reach hot cold transfers hot_prices cold_prices supporting heat_flow certifies
 
-  -- the same of lists that are these
-  module _ (ts : List Transfer) (same : ts ≡ transfers) where
-    pub certified_as : (y z : List ℤ) (cost : ℤ) → y ≡ hot_prices → z ≡ cold_prices → cost ≡ cost_of hot cold ts → IsCertified (reaches r) hot cold ts y z cost
-    certified_as y z cost hot_same cold_same cost_same =
-        subst (IsCertified (reaches r) hot cold ts y z) (sym cost_same)
-        (subst (λ k. IsCertified (reaches r) hot cold ts y k (cost_of hot cold ts)) (sym cold_same)
-        (subst (λ k. IsCertified (reaches r) hot cold ts k cold_prices (cost_of hot cold ts)) (sym hot_same) (subst (λ k. IsCertified (reaches r) hot cold k hot_prices cold_prices (cost_of hot cold k)) (sym same) certified)))
+  pub has_cost : HasCost hot cold transfers
+  has_cost = HasCost-flow reach hot cold transfers heat_flow
 
-    pub least_as : (cost : ℤ) → cost ≡ cost_of hot cold ts → IsLeastCost (reaches r) hot cold cost
-    least_as cost cost_same = subst (IsLeastCost (reaches r) hot cold) (sym (cost_same ∙ ap (cost_of hot cold) same)) least_cost
+  -- ---- the answer with the prices
 
-    pub has_cost : HasCost hot cold ts
-    has_cost = subst (HasCost hot cold) (sym same) (HasCost-flow (reaches r) hot cold transfers heat_flow)
+  module _ {E : Type 0} (carried : Flow) (same : carried.transfers ≡ transfers) (result : Result Answer E) (answered : IfOk result (λ a. a ≡ priced hot cold inner.nodes potentials carried)) where
+    -- what holds of the answer with these prices and this cost
+    of_answer : (P : Flow → Prices → ℤ → Type 0) → P carried (record { hot = hot_prices; cold = cold_prices }) (cost_of hot cold carried.transfers) → IfOk result (λ a. IfLeast a P)
+    of_answer P holds = IfOk-weaker result (λ a. a ≡ priced hot cold inner.nodes potentials carried) (λ a. IfLeast a P) (λ a is. subst (λ b. IfLeast b P) (sym is) holds) answered
+
+    pub answer_certified : IfOk result (λ a. IfLeast a (λ found prices cost. IsCertified reach hot cold found.transfers prices.hot prices.cold cost))
+    answer_certified =
+        of_answer (λ found prices cost. IsCertified reach hot cold found.transfers prices.hot prices.cold cost) (subst (λ ts. IsCertified reach hot cold ts hot_prices cold_prices (cost_of hot cold ts)) (sym same) certified)
+
+    pub answer_least : IfOk result (λ a. IfLeast a (λ found prices cost. IsLeastCost reach hot cold cost))
+    answer_least = of_answer (λ found prices cost. IsLeastCost reach hot cold cost) (subst (λ ts. IsLeastCost reach hot cold (cost_of hot cold ts)) (sym same) least_cost)
+
+    pub answer_not_stuck : (P : Cut → Type 0) → IfOk result (λ a. IfStuck a P)
+    answer_not_stuck P = IfOk-weaker result (λ a. a ≡ priced hot cold inner.nodes potentials carried) (λ a. IfStuck a P) (λ a is. subst (λ b. IfStuck b P) (sym is) tt) answered

@@ -14,7 +14,8 @@ use Rattle.flow_net.specs.declared.net.Link.{Link}
 use Rattle.flow_net.specs.declared.net.Net.{Net}
 use Rattle.flow_net.specs.Net.{flow_on, IsRouting, IsWithinLimits, AreEnds}
 use Rattle.flow_net.proofs.Duality.{falls_of_routing}
-use Rattle.transport.specs.Around.{IsInner, IsInnerLink, net_around}
+use Rattle.chains.specs.Inner.{IsInner, IsInnerLink}
+use Rattle.transport.specs.Around.{net_around}
 use Rattle.transport.proofs.LinkSums.{ends, first_node, whole_at, spare_at, between_at, parts_sum, sum_around, sum_over_links}
 
 -- a number for each node: one for each of the four further nodes, and those of an inner net

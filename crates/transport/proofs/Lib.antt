@@ -3,11 +3,14 @@ pub mod BlockedLemmas
 pub mod Certified
 pub mod CutLemmas
 pub mod Falls
+pub mod FrontLemmas
+pub mod InnerFlows
 pub mod Limits
-pub mod FewPairs
 pub mod LinkPlaces
 pub mod LinkSums
 pub mod LoopLemmas
+pub mod OfferLemmas
+pub mod PairFlows
 pub mod PairLemmas
 pub mod SlackLemmas
 pub mod StuckLemmas

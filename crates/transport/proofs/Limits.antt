@@ -15,6 +15,7 @@ use Rattle.stream_case.specs.Limits.{IsBetween}
 use Rattle.sums.proofs.ListLemmas.{All-slice_get}
 use Rattle.sums.proofs.SumLemmas.{int_sum_by-at_most, int_sum_by-not_negative}
 use Rattle.grid.specs.declared.part.Part.{Part}
+use Rattle.grid.specs.declared.parts.Parts.{Parts}
 use Rattle.grid.specs.Bounds.{IsBounded}
 use Rattle.heat_flow.specs.Cuts.{parts_of}
 use Rattle.flow_net.specs.declared.limits.TheConstants.{MOST_ROOM}
@@ -22,9 +23,9 @@ use Rattle.flow_net.specs.declared.net.Link.{Link}
 use Rattle.flow_net.specs.declared.net.Net.{Net}
 use Rattle.flow_net.specs.Net.{potential_at, reduced_cost, largest_cost, IsRoom, IsLinkWithin, IsWithinLimits, AreEnds, AreInitialPotentials, AreBounded}
 use Rattle.flow_net.proofs.Sizes.{sizes, greatest-le}
-use Rattle.transport.specs.declared.net.TheConstants.{MOST_INNER_NODES}
-use Rattle.transport.specs.declared.least_cost.TheConstants.{MOST_PAIRS}
-use Rattle.transport.specs.Around.{IsInner, IsInnerLink, whole_link, spare_link, links_between, most_of, net_around, start_of, IsNodePotential}
+use Rattle.chains.specs.declared.net.TheConstants.{MOST_INNER_LINKS, MOST_INNER_NODES}
+use Rattle.chains.specs.Inner.{IsInner, IsInnerLink}
+use Rattle.transport.specs.Around.{whole_link, spare_link, links_between, most_of, net_around, start_of, IsNodePotential}
 use Rattle.transport.proofs.LinkSums.{ends, first_node}
 use Rattle.transport.proofs.LinkPlaces.{All-net_around, length-net_around}
 
@@ -32,11 +33,22 @@ use Rattle.transport.proofs.LinkPlaces.{All-net_around, length-net_around}
 pub record IsAround (hot cold : List Part) (inner : Net) : Type 0 where
   pub inner_net : IsInner (length hot) (length cold) inner
   pub few_nodes : inner.nodes ≤ MOST_INNER_NODES
-  pub few_links : length inner.links ≤ MOST_PAIRS
+  pub few_links : length inner.links ≤ MOST_INNER_LINKS
   pub few_hot : length hot ≤ MOST_PARTS
   pub few_cold : length cold ≤ MOST_PARTS
   pub hot_bounded : All IsBounded hot
   pub cold_bounded : All IsBounded cold
+
+pub IsAround-parts : (parts : Parts) (inner : Net) → IsInner (length parts.hot) (length parts.cold) inner → inner.nodes ≤ MOST_INNER_NODES → length inner.links ≤ MOST_INNER_LINKS → IsAround parts.hot parts.cold inner
+IsAround-parts parts inner inner_net few_nodes few_links = record {
+  inner_net = inner_net;
+  few_nodes = few_nodes;
+  few_links = few_links;
+  few_hot = parts.few_hot;
+  few_cold = parts.few_cold;
+  hot_bounded = parts.hot_bounded;
+  cold_bounded = parts.cold_bounded;
+}
 
 pub most_within : (parts : List Part) → length parts ≤ MOST_PARTS → All IsBounded parts → IsBetween (pos 0) (pos MOST_PARTS *ℤ MOST_HEAT) (most_of parts)
 most_within parts few bounded =

@@ -8,13 +8,11 @@ use Rattle.std.proofs.lemmas.List.Kept.{AllPairs-cons}
 use Rattle.flow_net.specs.declared.net.Link.{Link}
 use Rattle.flow_net.specs.declared.net.Net.{Net}
 use Rattle.heat_flow.specs.declared.reach.Reach.{Reach}
-use Rattle.stream_case.specs.declared.limits.TheConstants.{MOST_PARTS}
-use Rattle.grid.specs.declared.part.Part.{Part}
-use Rattle.grid.specs.Bounds.{IsBounded}
+use Rattle.grid.specs.declared.parts.Parts.{Parts}
 use Rattle.heat_flow.specs.Table.{HasSizes, reaches}
-use Rattle.transport.specs.Around.{IsInner, IsInnerLink}
+use Rattle.chains.specs.Inner.{IsInner, IsInnerLink}
 use Rattle.transport.specs.declared.least_cost.TheConstants.{MOST_PAIRS}
-use Rattle.transport.proofs.Limits.{IsAround}
+use Rattle.transport.proofs.Limits.{IsAround, IsAround-parts}
 use Rattle.transport.specs.Pairs.{pair_link, pair_before, nodes_before, IsPairLink, HoldsPairs, IsPairNet}
 
 -- ---- the indexes of parts that reach
@@ -123,23 +121,18 @@ IsInner-pairs r net h = record {
           to_in = omega (arith, nodes, column, to);
           leaves = inl row;
           enters = omega (arith, to);
+          onward = λ behind later. absurd (omega (arith, row, behind));
           room = ap (λ m. m.room) pair.is;
           cost = ap (λ m. m.cost) pair.is;
         }
 
 -- the net of the pairs of parts that are few
-pub IsAround-pairs : (hot cold : List Part) (r : Reach) (net : Net) → HasSizes r (length hot) (length cold) → IsPairNet r net → r.hots * r.colds ≤ MOST_PAIRS → length hot ≤ MOST_PARTS → length cold ≤ MOST_PARTS → All IsBounded hot → All IsBounded cold → IsAround hot cold net
-IsAround-pairs hot cold r net sizes pairs few few_hot few_cold hot_bounded cold_bounded =
+pub IsAround-pairs : (parts : Parts) (r : Reach) (net : Net) → HasSizes r (length parts.hot) (length parts.cold) → IsPairNet r net → r.hots * r.colds ≤ MOST_PAIRS → IsAround parts.hot parts.cold net
+IsAround-pairs parts r net sizes pairs few =
     let nodes = pairs.nodes in
     let hots = sizes.hots in
     let colds = sizes.colds in
     let links = pairs.few in
-    record {
-      inner_net = subst₂ (λ h k. IsInner h k net) hots colds (IsInner-pairs r net pairs);
-      few_nodes = omega (arith, nodes, hots, colds, few_hot, few_cold);
-      few_links = omega (arith, links, few);
-      few_hot = few_hot;
-      few_cold = few_cold;
-      hot_bounded = hot_bounded;
-      cold_bounded = cold_bounded;
-    }
+    let few_hot = parts.few_hot in
+    let few_cold = parts.few_cold in
+    IsAround-parts parts net (subst₂ (λ h k. IsInner h k net) hots colds (IsInner-pairs r net pairs)) (omega (arith, nodes, hots, colds, few_hot, few_cold)) (omega (arith, links, few))

@@ -13,7 +13,8 @@ use Rattle.heat_flow.specs.Prices.{excess_price}
 use Rattle.flow_net.specs.declared.limits.TheConstants.{MOST_ROOM}
 use Rattle.flow_net.specs.declared.net.Net.{Net}
 use Rattle.flow_net.specs.Net.{link_at, flow_on, potential_at, inflow, outflow, IsRouting, IsWithinLimits, AreEnds, AreProofOfLeast}
-use Rattle.transport.specs.Around.{IsInner, IsInnerLink, most_of, net_around}
+use Rattle.chains.specs.Inner.{IsInner, IsInnerLink}
+use Rattle.transport.specs.Around.{most_of, net_around}
 use Rattle.transport.proofs.LinkSums.{ends, between_at}
 use Rattle.transport.proofs.LinkPlaces.{inner_at, between_is, spare_is}
 use Rattle.transport.proofs.Falls.{term, falls_around}

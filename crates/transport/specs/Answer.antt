@@ -11,6 +11,7 @@ use Rattle.heat_flow.specs.Flow.{IsHeatFlow, cost_of}
 use Rattle.heat_flow.specs.Prices.{IsSupporting, value_of}
 use Rattle.transport.specs.declared.answer.Answer.{Answer}
 use Rattle.transport.specs.declared.answer.Answer.TheVariants.{Least, Stuck}
+use Rattle.transport.specs.Around.{ends_behind, prices_of}
 
 -- p of the heat flow, its prices and its cost where there is a heat flow, and p of the cut where there is none
 abbrev pub IfLeast : Answer → (Flow → Prices → ℤ → Type 0) → Type 0
@@ -41,3 +42,14 @@ pub record IsCutOf (reach : ℕ → ℕ → Bool) (hot cold : List Part) (cut : 
   pub parts : IsCut (cut_side cut.kind) reach hot cold cut.parts
   pub need : cut.need ≡ need_of (parts_of (cut_side cut.kind) hot cold) cut.parts
   pub offer : cut.offer ≡ offer_of (cut_side cut.kind) reach (parts_of (opposite (cut_side cut.kind)) hot cold) cut.parts
+
+-- the answer with this heat flow: the prices are how far the potentials fall from the nodes of the parts, of a net around an inner
+-- net of so many nodes
+abbrev pub priced : List Part → List Part → ℕ → List ℤ → Flow → Answer
+priced hot cold nodes potentials flow =
+    Least flow
+    (record {
+      hot = prices_of potentials 0 (length hot) (ends_behind nodes).spill;
+      cold = prices_of potentials (length hot) (length cold) (ends_behind nodes).filler;
+    })
+    (cost_of hot cold flow.transfers)

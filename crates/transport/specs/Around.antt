@@ -1,6 +1,6 @@
 -- A net around an inner net, in which heat passes from hot parts to cold parts. The node of hot part a is a, that of cold part
 -- b is the number of hot parts plus b.
-use Rattle.std.specs.Prelude.{◌≡◌, ◌⊎◌, ℕ, suc, ◌+◌, ◌<◌, ◌≤◌, ℤ, pos, neg_ℤ, ◌+ℤ◌, ◌-ℤ◌, List, [], ◌∷◌, ◌++◌, length, map, replicate, All, Bool}
+use Rattle.std.specs.Prelude.{ℕ, suc, ◌+◌, ℤ, pos, neg_ℤ, ◌+ℤ◌, ◌-ℤ◌, List, [], ◌∷◌, ◌++◌, length, map, replicate, Bool}
 use Rattle.std.specs.List.{range_with_len}
 use Rattle.stream_case.specs.declared.limits.TheConstants.{MOST_PRICE}
 use Rattle.stream_case.specs.declared.source.Side.{Side}
@@ -13,20 +13,6 @@ use Rattle.flow_net.specs.declared.net.Link.{Link}
 use Rattle.flow_net.specs.declared.net.Net.{Net}
 use Rattle.flow_net.specs.Net.{potential_at, IsRouting, AreProofOfLeast, AreBounded, IsCutBelow}
 use Rattle.transport.specs.declared.net.Ends.{Ends}
-
--- a link of an inner net: it enters no hot part's node, leaves no cold part's node, and has room for all heat, at no cost
-pub record IsInnerLink (hots colds nodes : ℕ) (l : Link) : Type 0 where
-  pub from_in : l.from < nodes
-  pub to_in : l.to < nodes
-  pub leaves : (l.from < hots) ⊎ ((hots + colds) ≤ l.from)
-  pub enters : hots ≤ l.to
-  pub room : l.room ≡ MOST_ROOM
-  pub cost : l.cost ≡ pos 0
-
--- an inner net for so many hot and cold parts
-pub record IsInner (hots colds : ℕ) (inner : Net) : Type 0 where
-  pub nodes : (hots + colds) ≤ inner.nodes
-  pub links : All (IsInnerLink hots colds inner.nodes) inner.links
 
 -- the nodes behind those of an inner net
 abbrev pub ends_behind : ℕ → Ends

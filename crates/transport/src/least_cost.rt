@@ -1,26 +1,53 @@
 //! The heat flow of least cost, or a cut.
-ghost use Rattle.std.specs.Prelude.{◌*◌, ◌≤◌, length, All, IfOk};
-ghost use Rattle.stream_case.specs.Case.{IsComplete, IsSourceOf};
+ghost use Rattle.std.specs.Prelude.{◌≡◌, ◌+◌, ◌*◌, ◌≤◌, length, All, IfOk};
+ghost use Rattle.stream_case.specs.Case.{IsComplete};
+ghost use Rattle.heat_flow.specs.Checks.{HasCost};
 ghost use Rattle.heat_flow.specs.Cuts.{HasNoFlow};
 ghost use Rattle.heat_flow.specs.Flow.{IsLeastCost};
 ghost use Rattle.heat_flow.specs.Reach.{reach_between};
 ghost use Rattle.heat_flow.specs.Table.{HasSizes, reaches};
-ghost use Rattle.transport.specs.Answer.{IfLeast, IfStuck, IsCertified, IsCutOf};
+ghost use Rattle.chains.specs.declared.net.TheConstants.{MOST_INNER_NODES};
+ghost use Rattle.chains.specs.OnGrid.{AreOnGrid};
+ghost use Rattle.transport.specs.Answer.{IfLeast, IfStuck, IsCertified, IsCutOf, priced};
+ghost use Rattle.transport.specs.Around.{IsNodePotential};
 
 use crate::answer::Answer;
-use crate::cut::cut_of;
-use crate::flow::flow_of;
+use crate::cut::{blocked_members, cut_of, other_parts};
+use crate::flow::{flow_of, front_of};
+use crate::offer::case_offer;
 use crate::pairs::pairs_of;
 use crate::prices::part_prices;
 use crate::route::route;
+use chains::{chains_of, spread};
 use flow_net::Solved;
 use grid::Parts;
-use heat_flow::{Reach, cost_of, reach_of};
+use heat_flow::{Flow, Reach, cost_of, offer_of};
 use std::alloc::{AllocError, Global};
 use stream_case::Case;
 
-/// The most pairs of a hot and a cold part.
+/// The most pairs of a hot and a cold part that `least` takes.
 pub const MOST_PAIRS: usize = 900_000;
+
+/// The answer with a heat flow: its prices, from the potentials of a net around an inner net of so
+/// many nodes, and its cost.
+fn priced(
+    alloc: Global,
+    parts: &Parts,
+    nodes: u32,
+    potentials: &[i64],
+    flow: Flow,
+) -> Result<Answer, AllocError>
+    requires inner { length parts.now.hot + length parts.now.cold ≤ nodes }
+    requires few { nodes ≤ MOST_INNER_NODES }
+    requires one_each { length potentials.now ≡ nodes + 4 }
+    requires bounded { All IsNodePotential potentials.now }
+    requires has_cost { HasCost parts.now.hot parts.now.cold flow.transfers }
+    ensures { IfOk result (λ answer. answer ≡ priced parts.now.hot parts.now.cold nodes potentials.now flow) }
+{
+    let prices = part_prices(alloc, parts.hot.len(), parts.cold.len(), nodes, potentials)?;
+    let cost = cost_of(parts, &flow);
+    Ok(Answer::Least { flow, prices, cost })
+}
 
 /// The heat flow of least cost between parts, where the table tells which reach each other, or a
 /// cut. Heat is in W, a price is of a watt. Beside the heat flow stand prices from
@@ -39,29 +66,41 @@ pub fn least(alloc: Global, parts: &Parts, reach: &Reach) -> Result<Answer, Allo
     match route(alloc, parts, &net)? {
         Solved::Routed { flow, potentials } => {
             let flow = flow_of(alloc, reach.hots, net.links.as_slice(), flow.as_slice())?;
-            let prices = part_prices(alloc, reach, net.nodes, potentials.as_slice())?;
-            let cost = cost_of(parts, &flow);
-            Ok(Answer::Least { flow, prices, cost })
+            priced(alloc, parts, net.nodes, potentials.as_slice(), flow)
         }
         Solved::Blocked { reached } => {
-            let cut = cut_of(alloc, parts, reach, &net, reached.as_slice())?;
-            Ok(Answer::Stuck(cut))
+            let members = blocked_members(alloc, parts, &net, reached.as_slice())?;
+            let others = other_parts(members.kind, parts);
+            let indexes = members.indexes.as_slice();
+            let offer = offer_of(members.kind.side(), reach, others, indexes);
+            Ok(Answer::Stuck(cut_of(parts, members, offer)))
         }
     }
 }
 
-/// The heat flow of least cost between the parts of a case, or a cut: `least` by the table of the
-/// pairs of the case.
+/// The heat flow of least cost between parts on the grid of a case, or a cut, as `least` gives it
+/// by the table of the pairs of the case. No table is made: heat passes through chains, one for
+/// all hot sources with the same permitted partners (residual heat of Papoulias and Grossmann
+/// 1983), so the number of pairs does not matter.
 pub fn least_case(alloc: Global, case: &Case, parts: &Parts) -> Result<Answer, AllocError>
     requires complete { IsComplete case.now }
-    requires hot_sources { All (λ p. IsSourceOf case.now p.source) parts.now.hot }
-    requires cold_sources { All (λ p. IsSourceOf case.now p.source) parts.now.cold }
-    requires few { length parts.now.hot * length parts.now.cold ≤ MOST_PAIRS }
+    requires parts { AreOnGrid case.now parts.now.hot parts.now.cold }
     ensures certified { IfOk result (λ a. IfLeast a (λ flow prices cost. IsCertified (reach_between case.now parts.now.hot parts.now.cold) parts.now.hot parts.now.cold flow.transfers prices.hot prices.cold cost)) }
     ensures least { IfOk result (λ a. IfLeast a (λ flow prices cost. IsLeastCost (reach_between case.now parts.now.hot parts.now.cold) parts.now.hot parts.now.cold cost)) }
     ensures cut { IfOk result (λ a. IfStuck a (λ cut. IsCutOf (reach_between case.now parts.now.hot parts.now.cold) parts.now.hot parts.now.cold cut)) }
     ensures stuck_only { IfOk result (λ a. IfStuck a (λ cut. HasNoFlow (reach_between case.now parts.now.hot parts.now.cold) parts.now.hot parts.now.cold)) }
 {
-    let reach = reach_of(alloc, case, parts)?;
-    least(alloc, parts, &reach)
+    let chains = chains_of(alloc, case, parts)?;
+    match route(alloc, parts, &chains.net)? {
+        Solved::Routed { flow, potentials } => {
+            let front = front_of(alloc, &flow, chains.net.links.len())?;
+            let flow = spread(alloc, &chains, parts, &front)?;
+            priced(alloc, parts, chains.net.nodes, potentials.as_slice(), flow)
+        }
+        Solved::Blocked { reached } => {
+            let members = blocked_members(alloc, parts, &chains.net, reached.as_slice())?;
+            let offer = case_offer(alloc, case, parts, &members)?;
+            Ok(Answer::Stuck(cut_of(parts, members, offer)))
+        }
+    }
 }

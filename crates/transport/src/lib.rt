@@ -12,6 +12,7 @@ mod cut;
 mod flow;
 mod least_cost;
 mod net;
+mod offer;
 mod pairs;
 mod prices;
 mod route;

@@ -3,16 +3,13 @@ ghost use Rattle.std.specs.Prelude.{◌≡◌, ◌+◌, ◌++◌, ◌≤◌, pos
 ghost use Rattle.stream_case.specs.declared.limits.TheConstants.{MOST_HEAT, MOST_PARTS};
 ghost use Rattle.stream_case.specs.Limits.{IsBetween};
 ghost use Rattle.grid.specs.Bounds.{IsBounded};
-ghost use Rattle.transport.specs.declared.net.TheConstants.{MOST_INNER_NODES};
+ghost use Rattle.chains.specs.declared.net.TheConstants.{MOST_INNER_NODES};
 ghost use Rattle.transport.specs.Around.{ends_behind, whole_link, spare_link, links_of_parts, links_between, net_around, most_of};
 
 use flow_net::{Link, MOST_ROOM, Net};
 use grid::{Part, Parts};
 use std::alloc::{AllocError, Global};
 use stream_case::{Items, MOST_PARTS, Side};
-
-/// The most nodes of an inner net.
-pub(crate) const MOST_INNER_NODES: u32 = 25_000;
 
 /// The nodes around an inner net.
 #[derive(Clone, Copy)]

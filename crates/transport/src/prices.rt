@@ -1,10 +1,10 @@
 //! The prices of parts, from the potentials of their nodes.
 ghost use Rattle.std.specs.Prelude.{◌≡◌, ◌+◌, ◌<◌, ◌≤◌, length, All, IfOk};
-ghost use Rattle.transport.specs.declared.net.TheConstants.{MOST_INNER_NODES};
+ghost use Rattle.chains.specs.declared.net.TheConstants.{MOST_INNER_NODES};
 ghost use Rattle.transport.specs.Around.{ends_behind, IsNodePotential, prices_of};
 
 use crate::net::ends_behind;
-use heat_flow::{Prices, Reach};
+use heat_flow::Prices;
 use std::alloc::{AllocError, Global};
 use stream_case::Items;
 
@@ -28,24 +28,23 @@ fn prices_of(
     Ok(Items::from_vec(prices))
 }
 
-/// The price of a hot part is how far the potential falls from its node to the spill, that of a
-/// cold part how far it falls to the filler.
+/// The prices of so many hot and cold parts: that of a hot part is how far the potential falls from
+/// its node to the spill, that of a cold part how far it falls to the filler.
 pub(crate) fn part_prices(
     alloc: Global,
-    reach: &Reach,
+    hots: usize,
+    colds: usize,
     nodes: u32,
     potentials: &[i64],
 ) -> Result<Prices, AllocError>
-    requires inner { reach.now.hots + reach.now.colds ≤ nodes }
+    requires inner { hots + colds ≤ nodes }
     requires few { nodes ≤ MOST_INNER_NODES }
     requires one_each { length potentials.now ≡ nodes + 4 }
     requires bounded { All IsNodePotential potentials.now }
-    ensures hot { IfOk result (λ prices. prices.hot ≡ prices_of potentials.now 0 reach.now.hots (ends_behind nodes).spill) }
-    ensures cold { IfOk result (λ prices. prices.cold ≡ prices_of potentials.now reach.now.hots reach.now.colds (ends_behind nodes).filler) }
+    ensures hot { IfOk result (λ prices. prices.hot ≡ prices_of potentials.now 0 hots (ends_behind nodes).spill) }
+    ensures cold { IfOk result (λ prices. prices.cold ≡ prices_of potentials.now hots colds (ends_behind nodes).filler) }
 {
     let ends = ends_behind(nodes);
-    let hots = reach.hots as usize;
-    let colds = reach.colds as usize;
     Ok(Prices {
         hot: prices_of(alloc, potentials, 0, hots, ends.spill)?,
         cold: prices_of(alloc, potentials, hots, colds, ends.filler)?,

@@ -1,9 +1,9 @@
 //! Routing the most of all parts through a net around an inner net.
 ghost use Rattle.std.specs.Prelude.{◌≡◌, ◌≤◌, length, IfOk};
-ghost use Rattle.transport.specs.declared.net.TheConstants.{MOST_INNER_NODES};
-ghost use Rattle.transport.specs.declared.least_cost.TheConstants.{MOST_PAIRS};
 ghost use Rattle.flow_net.specs.Net.{IfRouted, IfBlocked};
-ghost use Rattle.transport.specs.Around.{IsInner, start_of, RoutesMost, BlocksMost};
+ghost use Rattle.chains.specs.declared.net.TheConstants.{MOST_INNER_LINKS, MOST_INNER_NODES};
+ghost use Rattle.chains.specs.Inner.{IsInner};
+ghost use Rattle.transport.specs.Around.{start_of, RoutesMost, BlocksMost};
 
 use crate::net::{ends_behind, most_of, net_around};
 use flow_net::{Net, Solved, solve};
@@ -29,7 +29,7 @@ fn start_of(alloc: Global, nodes: u32) -> Result<Items<i64>, AllocError>
 pub(crate) fn route(alloc: Global, parts: &Parts, inner: &Net) -> Result<Solved, AllocError>
     requires inner { IsInner (length parts.now.hot) (length parts.now.cold) inner.now }
     requires few_nodes { inner.now.nodes ≤ MOST_INNER_NODES }
-    requires few_links { length inner.now.links ≤ MOST_PAIRS }
+    requires few_links { length inner.now.links ≤ MOST_INNER_LINKS }
     ensures routed { IfOk result (λ s. IfRouted s (RoutesMost parts.now.hot parts.now.cold inner.now)) }
     ensures blocked { IfOk result (λ s. IfBlocked s (BlocksMost parts.now.hot parts.now.cold inner.now)) }
 {

@@ -1,18 +1,10 @@
 use Rattle.std.proofs.Common.{sym, subst, subst₂}
 use Rattle.flow_net.specs.Net.{IsWithinLimits, AreInitialPotentials}
-use Rattle.transport.proofs.Limits.{IsAround, limits_around, start_around}
+use Rattle.transport.proofs.Limits.{IsAround, IsAround-parts, limits_around, start_around}
 use Rattle.transport.proofs.route.route.Goals as goal
 
 around : (c : goal.After-start-2-1) → IsAround c.args.parts.now.hot c.args.parts.now.cold c.args.inner.now
-around c = record {
-  inner_net = c.requires.inner;
-  few_nodes = c.requires.few_nodes;
-  few_links = c.requires.few_links;
-  few_hot = c.args.parts.now.few_hot;
-  few_cold = c.args.parts.now.few_cold;
-  hot_bounded = c.args.parts.now.hot_bounded;
-  cold_bounded = c.args.parts.now.cold_bounded;
-}
+around c = IsAround-parts c.args.parts.now c.args.inner.now c.requires.inner c.requires.few_nodes c.requires.few_links
 
 pub solve-requires-clause-net : goal.solve-requires-clause-net
 solve-requires-clause-net c = subst IsWithinLimits (sym c.in_ok-net.ensures) (limits_around c.args.parts.now.hot c.args.parts.now.cold c.args.inner.now (around c))
