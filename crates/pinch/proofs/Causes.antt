@@ -5,23 +5,21 @@ use Rattle.pinch_outside.specs.declared.limits.TheConstants.{MAX_FILE}
 use Rattle.stream_case.specs.declared.case.Case.{Case}
 use Rattle.stream_case.specs.Case.{completed}
 use Rattle.pinch.specs.declared.command.Command.{Command}
-use Rattle.pinch.specs.declared.command.Command.TheVariants.{Targets, Flow, Design, Vertical, Curves, Audit, Site, Sweep}
+use Rattle.pinch.specs.declared.command.Command.TheVariants.{OfCase, Audit, Site, Sample}
 use Rattle.reports.specs.declared.shown.FileRole.{FileRole}
 use Rattle.reports.specs.declared.shown.Shown.{Shown}
 use Rattle.pinch.specs.Files.{NoFile, failed, too_long, NoText, no_file, refused, FromText, no_text, by_text}
 use Rattle.pinch.specs.Format.{Format}
-use Rattle.pinch.specs.Case.{case_file, AreTargetsOf, AreCurvesOf}
+use Rattle.pinch.specs.Case.{case_file}
 use Rattle.pinch.specs.Answers.{FromFile, FromNetwork, ShowsCommand}
 use Rattle.pinch.specs.Causes.{Causes, HasCause}
 use Rattle.pinch.specs.Command.{file_of}
-use Rattle.pinch.specs.Design.{ShowsDesign}
-use Rattle.pinch.specs.Flow.{ShowsFlow}
 use Rattle.pinch.specs.Network.{network_file}
 use Rattle.pinch.specs.Site.{site_file, ShowsSite}
-use Rattle.pinch.specs.Sweep.{ShowsSweep}
-use Rattle.pinch.specs.Vertical.{ShowsVertical}
+use Rattle.pinch.specs.Status.{status_of, IsAnswered}
+use Rattle.pinch.specs.Tasks.{ShowsTask}
 use Rattle.pinch.proofs.Formats.{IsLawful, lawful_case, lawful_network, lawful_site}
-use Rattle.pinch.proofs.Plain.{is_plain, plain_design, plain_flow, plain_audit, plain_vertical}
+use Rattle.pinch.proofs.Plain.{is_plain, plain_audit, plain_task}
 
 -- the last file was read to its end
 pub record Ended (new : ShelfState) : Type 0 where
@@ -119,12 +117,7 @@ of_network files case_name name old new shown case_here here shows =
 pub causes : (command : Option Command) (old new : ShelfState) (shown : Shown) → ShowsCommand command old new shown → HasCause command old new shown
 unfolding ShowsCommand HasCause
 causes None old new shown shows = shows
-causes (Some (Targets case)) old new shown shows = of_file case_file lawful_case (file_of (Targets case)) case old new shown AreTargetsOf refl (λ c is. ap is_plain is.is) shows
-causes (Some (Flow case)) old new shown shows = of_file case_file lawful_case (file_of (Flow case)) case old new shown ShowsFlow refl (λ c is. plain_flow (completed c) shown is.answer) shows
-causes (Some (Design case)) old new shown shows = of_file case_file lawful_case (file_of (Design case)) case old new shown ShowsDesign refl (λ c is. plain_design (completed c) shown is.answer) shows
-causes (Some (Vertical case)) old new shown shows = of_file case_file lawful_case (file_of (Vertical case)) case old new shown ShowsVertical refl (λ c is. plain_vertical (completed c) shown is) shows
-causes (Some (Curves case)) old new shown shows = of_file case_file lawful_case (file_of (Curves case)) case old new shown AreCurvesOf refl (λ c is. ap is_plain is.is) shows
+causes (Some (OfCase case task)) old new shown shows = of_file case_file lawful_case (file_of (OfCase case task)) case old new shown (ShowsTask task) refl (λ c is. plain_task task c shown is) shows
 causes (Some (Audit case network)) old new shown shows = of_network (file_of (Audit case network)) case network old new shown refl (λ c. refl) shows
 causes (Some (Site site)) old new shown shows = of_file site_file lawful_site (file_of (Site site)) site old new shown ShowsSite refl (λ s is. ap is_plain is.is) shows
-causes (Some (Sweep case plan workers)) old new shown shows =
-    of_file case_file lawful_case (file_of (Sweep case plan workers)) case old new shown (ShowsSweep plan) refl (λ c is. ap is_plain is.is) shows
+causes (Some (Sample number count)) old new shown shows = (subst (λ result. IsAnswered (status_of result)) (sym shows.0.is) tt, shows.1)

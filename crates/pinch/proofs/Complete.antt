@@ -15,19 +15,21 @@ use Rattle.network_audit.specs.declared.verdict.Verdict.TheVariants as verdict
 use Rattle.reports.specs.declared.shown.FileRole.{FileRole}
 use Rattle.reports.specs.declared.shown.Shown.{Shown}
 use Rattle.pinch.specs.declared.command.Command.{Command}
-use Rattle.pinch.specs.declared.command.Command.TheVariants.{Targets, Flow, Design, Vertical, Curves, Audit, Site as OfSite, Sweep}
+use Rattle.pinch.specs.declared.command.Command.TheVariants.{OfCase, Audit, Site as OfSite, Sample}
+use Rattle.pinch.specs.declared.command.CaseTask.{CaseTask}
+use Rattle.pinch.specs.declared.command.CaseTask.TheVariants.{Targets, Flow, Design, Vertical, Curves, Sweep}
 use Rattle.pinch.specs.Answers.{FromFile, FromNetwork, ShowsCommand}
-use Rattle.pinch.specs.Case.{case_file, AreTargetsOf, AreCurvesOf}
+use Rattle.pinch.specs.Case.{case_file}
 use Rattle.pinch.specs.Complete.{Holds, HoldsText, HoldsFault, CanAnswer, HasBadFile}
-use Rattle.pinch.specs.Design.{IsDesignAnswer, ShowsDesign}
+use Rattle.pinch.specs.Design.{IsDesignAnswer}
 use Rattle.pinch.specs.Files.{NoFile, failed, too_long, NoText, no_file, refused, FromText, no_text, by_text, IsRefused}
-use Rattle.pinch.specs.Flow.{IsFlowAnswer, IsCutAnswer, ShowsFlow}
+use Rattle.pinch.specs.Flow.{IsFlowAnswer, IsCutAnswer}
 use Rattle.pinch.specs.Format.{Format}
 use Rattle.pinch.specs.Network.{network_file, ShowsVerdict}
 use Rattle.pinch.specs.Site.{site_file, ShowsSite}
 use Rattle.pinch.specs.Status.{status_of, status_of_site, IsAnswered}
-use Rattle.pinch.specs.Sweep.{ShowsSweep}
-use Rattle.pinch.specs.Vertical.{AnswersVertical, ShowsVertical}
+use Rattle.pinch.specs.Tasks.{HasAnswer, ShowsTask}
+use Rattle.pinch.specs.Vertical.{AnswersVertical}
 use Rattle.pinch.proofs.Formats.{IsLawful, lawful_case, lawful_network, lawful_site, one_value, one_refusal, not_both}
 
 -- a file within the limit is not above it
@@ -96,6 +98,15 @@ vertical_answers : (c : Case) (shown : Shown) → IsStandard c → AnswersVertic
 vertical_answers c shown standard (inl design) = answers shown _ tt design.1.is
 vertical_answers c shown standard (inr turned_down) = absurd (turned_down.other standard)
 
+-- so a task that has an answer for a case is answered
+task_answers : (task : CaseTask) (c : Case) (shown : Shown) → HasAnswer task c → ShowsTask task c shown → IsAnswered (status_of shown)
+task_answers Targets c shown has is = answers shown _ tt is.is
+task_answers Flow c shown has is = flow_answers (completed c) shown is.answer
+task_answers Design c shown has is = design_answers (completed c) shown is.answer
+task_answers Vertical c shown standard is = vertical_answers (completed c) shown standard is
+task_answers Curves c shown has is = answers shown _ tt is.is
+task_answers (Sweep plan workers) c shown has is = answers shown _ tt is.is
+
 -- and so is what is shown of a site
 site_is_answered : (a : Answer) → IsAnswered (status_of_site a)
 site_is_answered (answer.Least flow prices cost) = tt
@@ -146,24 +157,16 @@ pub complete : (command : Option Command) (old new : ShelfState) (shown : Shown)
     → CanAnswer command old.files → (Rose old.faults new.faults → ⊥) → IsAnswered (status_of shown)
 unfolding ShowsCommand CanAnswer
 complete None old new shown shows can no_fault = absurd can
-complete (Some (Targets case)) old new shown shows can no_fault = of_file case_file lawful_case case old new shown _ AreTargetsOf no_fault can (λ c t is. answers shown _ tt is.is) shows
-complete (Some (Flow case)) old new shown shows can no_fault = of_file case_file lawful_case case old new shown _ ShowsFlow no_fault can (λ c t is. flow_answers (completed c) shown is.answer) shows
-complete (Some (Design case)) old new shown shows can no_fault = of_file case_file lawful_case case old new shown _ ShowsDesign no_fault can (λ c t is. design_answers (completed c) shown is.answer) shows
-complete (Some (Vertical case)) old new shown shows can no_fault = of_file case_file lawful_case case old new shown _ ShowsVertical no_fault can (λ c standard is. vertical_answers (completed c) shown standard is) shows
-complete (Some (Curves case)) old new shown shows can no_fault = of_file case_file lawful_case case old new shown _ AreCurvesOf no_fault can (λ c t is. answers shown _ tt is.is) shows
+complete (Some (OfCase case task)) old new shown shows can no_fault = of_file case_file lawful_case case old new shown _ (ShowsTask task) no_fault can (λ c has is. task_answers task c shown has is) shows
 complete (Some (Audit case network)) old new shown shows can no_fault = audit_answers case network old new shown no_fault shows can
 complete (Some (OfSite site)) old new shown shows can no_fault = of_file site_file lawful_site site old new shown _ ShowsSite no_fault can (λ s t is. site_answers s shown is) shows
-complete (Some (Sweep case plan workers)) old new shown shows can no_fault = of_file case_file lawful_case case old new shown _ (ShowsSweep plan) no_fault can (λ c t is. answers shown _ tt is.is) shows
+complete (Some (Sample number count)) old new shown shows can no_fault = answers shown _ tt shows.0.is
 
 pub bad_file : (command : Option Command) (old new : ShelfState) (shown : Shown) → ShowsCommand command old new shown
     → (refusal : Shown) → HasBadFile command old.files refusal → (Rose old.faults new.faults → ⊥) → shown ≡ refusal
 unfolding ShowsCommand HasBadFile
 bad_file None old new shown shows refusal bad no_fault = absurd bad
-bad_file (Some (Targets case)) old new shown shows refusal bad no_fault = of_refused case_file lawful_case case old new shown no_fault refusal _ bad shows
-bad_file (Some (Flow case)) old new shown shows refusal bad no_fault = of_refused case_file lawful_case case old new shown no_fault refusal _ bad shows
-bad_file (Some (Design case)) old new shown shows refusal bad no_fault = of_refused case_file lawful_case case old new shown no_fault refusal _ bad shows
-bad_file (Some (Vertical case)) old new shown shows refusal bad no_fault = of_refused case_file lawful_case case old new shown no_fault refusal _ bad shows
-bad_file (Some (Curves case)) old new shown shows refusal bad no_fault = of_refused case_file lawful_case case old new shown no_fault refusal _ bad shows
+bad_file (Some (OfCase case task)) old new shown shows refusal bad no_fault = of_refused case_file lawful_case case old new shown no_fault refusal _ bad shows
 bad_file (Some (Audit case network)) old new shown shows refusal bad no_fault = bad_case_or_network case network old new shown no_fault shows refusal bad
 bad_file (Some (OfSite site)) old new shown shows refusal bad no_fault = of_refused site_file lawful_site site old new shown no_fault refusal _ bad shows
-bad_file (Some (Sweep case plan workers)) old new shown shows refusal bad no_fault = of_refused case_file lawful_case case old new shown no_fault refusal _ bad shows
+bad_file (Some (Sample number count)) old new shown shows refusal bad no_fault = absurd bad

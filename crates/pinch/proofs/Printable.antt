@@ -11,17 +11,19 @@ use Rattle.reports.specs.declared.shown.FileRole.{FileRole}
 use Rattle.reports.specs.declared.shown.Shown.{Shown}
 use Rattle.reports.specs.declared.shown.Shown.TheVariants.{BadWords}
 use Rattle.pinch.specs.declared.command.Command.{Command}
-use Rattle.pinch.specs.declared.command.Command.TheVariants.{Targets, Flow, Design, Vertical, Curves, Audit, Site as OfSite, Sweep}
+use Rattle.pinch.specs.declared.command.Command.TheVariants.{OfCase, Audit, Site as OfSite, Sample}
+use Rattle.pinch.specs.declared.command.CaseTask.{CaseTask}
+use Rattle.pinch.specs.declared.command.CaseTask.TheVariants.{Targets, Flow, Design, Vertical, Curves, Sweep}
 use Rattle.pinch.specs.Answers.{FromFile, ShowsCommand}
-use Rattle.pinch.specs.Case.{case_file, AreTargetsOf, AreCurvesOf}
-use Rattle.pinch.specs.Design.{IsDesignAnswer, ShowsDesign}
+use Rattle.pinch.specs.Case.{case_file}
+use Rattle.pinch.specs.Design.{IsDesignAnswer}
 use Rattle.pinch.specs.Files.{NoFile, failed, too_long, no_file, refused, FromText, no_text, by_text}
-use Rattle.pinch.specs.Flow.{IsFlowAnswer, IsCutAnswer, ShowsFlow}
+use Rattle.pinch.specs.Flow.{IsFlowAnswer, IsCutAnswer}
 use Rattle.pinch.specs.Format.{Format}
 use Rattle.pinch.specs.Network.{network_file, ShowsVerdict}
 use Rattle.pinch.specs.Site.{site_file, ShowsSite}
-use Rattle.pinch.specs.Sweep.{ShowsSweep}
-use Rattle.pinch.specs.Vertical.{AnswersVertical, ShowsVertical}
+use Rattle.pinch.specs.Tasks.{ShowsTask}
+use Rattle.pinch.specs.Vertical.{AnswersVertical}
 
 of_is : (shown result : Shown) → shown ≡ result → IsPrintable result → IsPrintable shown
 of_is shown result is printable = subst IsPrintable (sym is) printable
@@ -58,6 +60,15 @@ unfolding IsPrintable
 of_vertical c shown (inl design) = of_is shown _ design.1.is (design.1.complete, design.1.shape)
 of_vertical c shown (inr turned_down) = of_is shown _ turned_down.is tt
 
+of_task : (task : CaseTask) (c : Case) (shown : Shown) → ShowsTask task c shown → IsPrintable shown
+unfolding IsPrintable
+of_task Targets c shown is = of_is shown _ is.is tt
+of_task Flow c shown is = of_flow (completed c) shown is.answer
+of_task Design c shown is = of_design (completed c) shown is.answer
+of_task Vertical c shown is = of_vertical (completed c) shown is
+of_task Curves c shown is = of_is shown _ is.is tt
+of_task (Sweep plan workers) c shown is = of_is shown _ is.is tt
+
 of_verdict : (c : Case) (network : Network) (v : Verdict) (shown : Shown) → ShowsVerdict c network v shown → IsPrintable shown
 unfolding IsPrintable
 of_verdict c network (verdict.Accepted balance) shown shows = of_is shown _ shows.is tt
@@ -67,13 +78,9 @@ of_verdict c network (verdict.TooFine place step) shown is = of_is shown _ is tt
 pub printable : (command : Option Command) (old new : ShelfState) (shown : Shown) → ShowsCommand command old new shown → IsPrintable shown
 unfolding ShowsCommand IsPrintable
 printable None old new shown shows = of_is shown BadWords shows.0 tt
-printable (Some (Targets case)) old new shown shows = of_file case_file case old new shown AreTargetsOf (λ at why. tt) (λ c is. of_is shown _ is.is tt) shows
-printable (Some (Flow case)) old new shown shows = of_file case_file case old new shown ShowsFlow (λ at why. tt) (λ c is. of_flow (completed c) shown is.answer) shows
-printable (Some (Design case)) old new shown shows = of_file case_file case old new shown ShowsDesign (λ at why. tt) (λ c is. of_design (completed c) shown is.answer) shows
-printable (Some (Vertical case)) old new shown shows = of_file case_file case old new shown ShowsVertical (λ at why. tt) (λ c is. of_vertical (completed c) shown is) shows
-printable (Some (Curves case)) old new shown shows = of_file case_file case old new shown AreCurvesOf (λ at why. tt) (λ c is. of_is shown _ is.is tt) shows
+printable (Some (OfCase case task)) old new shown shows = of_file case_file case old new shown (ShowsTask task) (λ at why. tt) (λ c is. of_task task c shown is) shows
 printable (Some (OfSite site)) old new shown shows = of_file site_file site old new shown ShowsSite (λ at why. tt) (λ s is. of_is shown _ is.is tt) shows
-printable (Some (Sweep case plan workers)) old new shown shows = of_file case_file case old new shown (ShowsSweep plan) (λ at why. tt) (λ c is. of_is shown _ is.is tt) shows
+printable (Some (Sample number count)) old new shown shows = of_is shown _ shows.0.is tt
 printable (Some (Audit case network)) old new shown shows =
     of_text case_file case old new shown _ (λ at why. tt)
     (λ mid c then. of_text (network_file (completed c)) network mid new shown _ (λ at why. tt)

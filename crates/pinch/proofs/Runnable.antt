@@ -6,13 +6,14 @@ use Rattle.std.proofs.lemmas.Bool.Decides.{nat_tests}
 use Rattle.std.proofs.lemmas.Int.{ints}
 use Rattle.stream_case.specs.Digits.{natural_in}
 use Rattle.study.specs.Plan.{IsSweepPlan}
-use Rattle.study.specs.declared.limits.TheConstants.{MOST_ROWS, MOST_WORKERS}
+use Rattle.study.specs.declared.limits.TheConstants.{MOST_ROWS, MOST_SAMPLE_NUMBER, MOST_SAMPLE_STREAMS, MOST_WORKERS}
 use Rattle.study.specs.declared.plan.SweepPlan.{SweepPlan}
 use Rattle.pinch.specs.declared.numbers.TheConstants.{MOST_DIGITS, MOST_END, MOST_STEP}
-use Rattle.pinch.specs.Command.{audit_of, command_of, command_of_word, one_file, sweep_of, sweep_with, IsRunnable}
-use Rattle.pinch.specs.Numbers.{limited, number_within, plan_of, plan_with, workers_of}
+use Rattle.pinch.specs.Command.{audit_of, command_of, command_of_word, one_file, sample_of, sample_with, sweep_of, sweep_with, IsRunnable}
+use Rattle.pinch.specs.Numbers.{limited, number_within, plan_of, plan_with, sample_count_of, sample_number_of, workers_of}
+use Rattle.pinch.specs.declared.command.CaseTask.TheVariants.{Targets, Flow, Design, Vertical, Curves}
 use Rattle.pinch.specs.declared.command.Command.{Command}
-use Rattle.pinch.specs.declared.command.Command.TheVariants.{Targets, Flow, Design, Vertical, Curves, Site}
+use Rattle.pinch.specs.declared.command.Command.TheVariants.{OfCase, Site}
 
 -- what is there only where a test holds
 where_true : {X : Type 0} (b : Bool) (x : X) (P : X → Type 0) → (b ≡ true → P x) → IfSome (if b then Some x else None) P
@@ -61,6 +62,16 @@ of_sweep ((byte ∷ case) ∷ from ∷ to ∷ step ∷ workers ∷ []) =
     (limited-within 1 MOST_WORKERS (natural_in MOST_DIGITS workers))
 of_sweep words = tt
 
+of_sample_numbers : (number count : Option ℕ) → IfSome number (λ n. (1 ≤ n) × (n ≤ MOST_SAMPLE_NUMBER)) → IfSome count (λ n. (1 ≤ n) × (n ≤ MOST_SAMPLE_STREAMS)) → IfSome (sample_with number count) IsRunnable
+of_sample_numbers (Some number) (Some count) known few = (known.0, known.1, few.0, few.1)
+of_sample_numbers (Some number) None known few = tt
+of_sample_numbers None count known few = tt
+
+of_sample : (words : List (List ℕ)) → IfSome (sample_of words) IsRunnable
+of_sample (number ∷ count ∷ []) =
+    of_sample_numbers (sample_number_of number) (sample_count_of count) (limited-within 1 MOST_SAMPLE_NUMBER (natural_in MOST_DIGITS number)) (limited-within 1 MOST_SAMPLE_STREAMS (natural_in MOST_DIGITS count))
+of_sample words = tt
+
 of_audit : (words : List (List ℕ)) → IfSome (audit_of words) IsRunnable
 of_audit ((byte ∷ case) ∷ (other ∷ network) ∷ []) = tt
 of_audit words = tt
@@ -75,14 +86,15 @@ either false x y one other = other
 
 of_word : (word : List ℕ) (rest : List (List ℕ)) → IfSome (command_of_word word rest) IsRunnable
 of_word word rest =
-    either (bytes_eq word (codes "targets")) _ _ (of_file Targets (λ n. tt) (one_file rest))
-    (either (bytes_eq word (codes "flow")) _ _ (of_file Flow (λ n. tt) (one_file rest))
-    (either (bytes_eq word (codes "design")) _ _ (of_file Design (λ n. tt) (one_file rest))
-    (either (bytes_eq word (codes "vertical")) _ _ (of_file Vertical (λ n. tt) (one_file rest))
-    (either (bytes_eq word (codes "curves")) _ _ (of_file Curves (λ n. tt) (one_file rest))
+    either (bytes_eq word (codes "targets")) _ _ (of_file (λ n. OfCase n Targets) (λ n. tt) (one_file rest))
+    (either (bytes_eq word (codes "flow")) _ _ (of_file (λ n. OfCase n Flow) (λ n. tt) (one_file rest))
+    (either (bytes_eq word (codes "design")) _ _ (of_file (λ n. OfCase n Design) (λ n. tt) (one_file rest))
+    (either (bytes_eq word (codes "vertical")) _ _ (of_file (λ n. OfCase n Vertical) (λ n. tt) (one_file rest))
+    (either (bytes_eq word (codes "curves")) _ _ (of_file (λ n. OfCase n Curves) (λ n. tt) (one_file rest))
     (either (bytes_eq word (codes "audit")) _ _ (of_audit rest)
     (either (bytes_eq word (codes "site")) _ _ (of_file Site (λ n. tt) (one_file rest))
-    (either (bytes_eq word (codes "sweep")) _ _ (of_sweep rest) tt)))))))
+    (either (bytes_eq word (codes "sweep")) _ _ (of_sweep rest)
+    (either (bytes_eq word (codes "sample")) _ _ (of_sample rest) tt))))))))
 
 of_words : (words : List (List ℕ)) → IfSome (command_of words) IsRunnable
 of_words [] = tt

@@ -4,17 +4,15 @@ use Rattle.stream_case.specs.Case.{completed}
 use Rattle.pinch_outside.specs.Shelf.{ShelfState}
 use Rattle.reports.specs.declared.shown.Shown.{Shown}
 use Rattle.reports.specs.declared.shown.Shown.TheVariants.{BadWords}
-use Rattle.pinch.specs.Case.{case_file, AreTargetsOf, AreCurvesOf}
-use Rattle.pinch.specs.Design.{ShowsDesign}
+use Rattle.pinch.specs.Case.{case_file}
 use Rattle.pinch.specs.Files.{FromText}
-use Rattle.pinch.specs.Flow.{ShowsFlow}
 use Rattle.pinch.specs.Format.{Format}
 use Rattle.pinch.specs.Network.{network_file, IsAuditOf}
+use Rattle.pinch.specs.Sample.{ShowsSample}
 use Rattle.pinch.specs.Site.{site_file, ShowsSite}
-use Rattle.pinch.specs.Sweep.{ShowsSweep}
-use Rattle.pinch.specs.Vertical.{ShowsVertical}
+use Rattle.pinch.specs.Tasks.{ShowsTask}
 use Rattle.pinch.specs.declared.command.Command.{Command}
-use Rattle.pinch.specs.declared.command.Command.TheVariants.{Targets, Flow, Design, Vertical, Curves, Audit, Site, Sweep}
+use Rattle.pinch.specs.declared.command.Command.TheVariants.{OfCase, Audit, Site, Sample}
 
 -- what is shown by a command of one file, of what the file says
 abbrev pub FromFile : {Value Cause : Type 0} → Format Value Cause → List ℕ → ShelfState → ShelfState → Shown → (Value → Shown → Type 0) → Type 0
@@ -29,11 +27,7 @@ FromNetwork case_name name old new shown =
 -- what is shown for a command, or for words that form none
 unfoldable pub ShowsCommand : Option Command → ShelfState → ShelfState → Shown → Type 0
 ShowsCommand None old new shown = (shown ≡ BadWords) × (new ≡ old)
-ShowsCommand (Some (Targets case)) old new shown = FromFile case_file case old new shown AreTargetsOf
-ShowsCommand (Some (Flow case)) old new shown = FromFile case_file case old new shown ShowsFlow
-ShowsCommand (Some (Design case)) old new shown = FromFile case_file case old new shown ShowsDesign
-ShowsCommand (Some (Vertical case)) old new shown = FromFile case_file case old new shown ShowsVertical
-ShowsCommand (Some (Curves case)) old new shown = FromFile case_file case old new shown AreCurvesOf
+ShowsCommand (Some (OfCase case task)) old new shown = FromFile case_file case old new shown (ShowsTask task)
 ShowsCommand (Some (Audit case network)) old new shown = FromNetwork case network old new shown
 ShowsCommand (Some (Site site)) old new shown = FromFile site_file site old new shown ShowsSite
-ShowsCommand (Some (Sweep case plan workers)) old new shown = FromFile case_file case old new shown (ShowsSweep plan)
+ShowsCommand (Some (Sample number count)) old new shown = ShowsSample number count shown × (new ≡ old)

@@ -5,6 +5,7 @@ use Rattle.pinch_outside.specs.declared.limits.TheConstants.{MAX_FILE}
 use Rattle.pinch.specs.Command.{file_of}
 use Rattle.pinch.specs.Status.{status_of, IsAnswered}
 use Rattle.pinch.specs.declared.command.Command.{Command}
+use Rattle.pinch.specs.declared.command.Command.TheVariants.{Sample}
 use Rattle.reports.specs.declared.shown.FileRole.{FileRole}
 use Rattle.reports.specs.declared.shown.Shown.{Shown}
 use Rattle.reports.specs.declared.shown.Shown.TheVariants.{BadWords, ReadFault, TooLong}
@@ -21,7 +22,8 @@ pub record Causes (files : FileRole → Option (List ℕ)) (old new : ShelfState
   -- where the command is answered, the last file was read to its end
   pub ended : IsAnswered (status_of shown) → new.ended ≡ true
 
--- the same for all words: they are blamed exactly where they form no command
+-- the same for all words: they are blamed exactly where they form no command. A sample is answered, and reads no file
 unfoldable pub HasCause : Option Command → ShelfState → ShelfState → Shown → Type 0
 HasCause None old new shown = (shown ≡ BadWords) × (new ≡ old)
+HasCause (Some (Sample number count)) old new shown = IsAnswered (status_of shown) × (new ≡ old)
 HasCause (Some command) old new shown = Causes (file_of command) old new shown

@@ -4,16 +4,22 @@ use Rattle.std.specs.Str.{bytes_eq}
 use Rattle.reports.specs.declared.shown.FileRole.{FileRole}
 use Rattle.reports.specs.declared.shown.FileRole.TheVariants.{Case, Network, Site as SiteFile}
 use Rattle.study.specs.Plan.{IsSweepPlan}
-use Rattle.study.specs.declared.limits.TheConstants.{MOST_WORKERS}
+use Rattle.study.specs.declared.limits.TheConstants.{MOST_SAMPLE_NUMBER, MOST_SAMPLE_STREAMS, MOST_WORKERS}
 use Rattle.study.specs.declared.plan.SweepPlan.{SweepPlan}
-use Rattle.pinch.specs.Numbers.{plan_of, workers_of}
+use Rattle.pinch.specs.Numbers.{plan_of, sample_count_of, sample_number_of, workers_of}
+use Rattle.pinch.specs.declared.command.CaseTask.{CaseTask}
+use Rattle.pinch.specs.declared.command.CaseTask.TheVariants.{Targets, Flow, Design, Vertical, Curves, Sweep}
 use Rattle.pinch.specs.declared.command.Command.{Command}
-use Rattle.pinch.specs.declared.command.Command.TheVariants.{Targets, Flow, Design, Vertical, Curves, Audit, Site, Sweep}
+use Rattle.pinch.specs.declared.command.Command.TheVariants.{OfCase, Audit, Site, Sample}
 
 -- the name of a file, where the words are just that; it is not empty
 abbrev pub one_file : List (List ℕ) → Option (List ℕ)
 one_file ((byte ∷ name) ∷ []) = Some (byte ∷ name)
 one_file words = None
+
+-- a task on the case of a file, where the words are just its name
+abbrev pub of_case : CaseTask → List (List ℕ) → Option Command
+of_case task words = option_map (λ case. OfCase case task) (one_file words)
 
 -- the audit of the case and the network of two files, where the words are just their names; none is empty
 abbrev pub audit_of : List (List ℕ) → Option Command
@@ -22,7 +28,7 @@ audit_of words = None
 
 -- the sweep of the case of a file by this plan and so many workers, where they are there
 abbrev pub sweep_with : List ℕ → Option SweepPlan → Option ℕ → Option Command
-sweep_with case (Some plan) (Some workers) = Some (Sweep case plan workers)
+sweep_with case (Some plan) (Some workers) = Some (OfCase case (Sweep plan workers))
 sweep_with case plan workers = None
 
 -- the same, where the words are just the name of the file, which is not empty, and four numbers that a sweep can have
@@ -30,17 +36,28 @@ abbrev pub sweep_of : List (List ℕ) → Option Command
 sweep_of ((byte ∷ case) ∷ from ∷ to ∷ step ∷ workers ∷ []) = sweep_with (byte ∷ case) (plan_of from to step) (workers_of workers)
 sweep_of words = None
 
+-- the sample of this number with so many streams on each side, where they are there
+abbrev pub sample_with : Option ℕ → Option ℕ → Option Command
+sample_with (Some number) (Some count) = Some (Sample number count)
+sample_with number count = None
+
+-- the same, where the words are just two numbers that a sample can have
+abbrev pub sample_of : List (List ℕ) → Option Command
+sample_of (number ∷ count ∷ []) = sample_with (sample_number_of number) (sample_count_of count)
+sample_of words = None
+
 -- the command that a word and those behind it form
 abbrev pub command_of_word : List ℕ → List (List ℕ) → Option Command
 command_of_word word rest =
-    if bytes_eq word (codes "targets") then option_map Targets (one_file rest)
-    else if bytes_eq word (codes "flow") then option_map Flow (one_file rest)
-    else if bytes_eq word (codes "design") then option_map Design (one_file rest)
-    else if bytes_eq word (codes "vertical") then option_map Vertical (one_file rest)
-    else if bytes_eq word (codes "curves") then option_map Curves (one_file rest)
+    if bytes_eq word (codes "targets") then of_case Targets rest
+    else if bytes_eq word (codes "flow") then of_case Flow rest
+    else if bytes_eq word (codes "design") then of_case Design rest
+    else if bytes_eq word (codes "vertical") then of_case Vertical rest
+    else if bytes_eq word (codes "curves") then of_case Curves rest
     else if bytes_eq word (codes "audit") then audit_of rest
     else if bytes_eq word (codes "site") then option_map Site (one_file rest)
     else if bytes_eq word (codes "sweep") then sweep_of rest
+    else if bytes_eq word (codes "sample") then sample_of rest
     else None
 
 -- the command that the words form, if they form one
@@ -49,19 +66,20 @@ command_of [] = None
 command_of (word ∷ rest) = command_of_word word rest
 
 -- a sweep has a plan and workers that it can have
+abbrev pub CanDo : CaseTask → Type 0
+CanDo (Sweep plan workers) = IsSweepPlan plan × (1 ≤ workers) × (workers ≤ MOST_WORKERS)
+CanDo other = ⊤
+
+-- and a sample a number and a count
 abbrev pub IsRunnable : Command → Type 0
-IsRunnable (Sweep case plan workers) = IsSweepPlan plan × (1 ≤ workers) × (workers ≤ MOST_WORKERS)
+IsRunnable (OfCase case task) = CanDo task
+IsRunnable (Sample number count) = (1 ≤ number) × (number ≤ MOST_SAMPLE_NUMBER) × (1 ≤ count) × (count ≤ MOST_SAMPLE_STREAMS)
 IsRunnable other = ⊤
 
 -- the file that a command reads in this role, by its name
 abbrev pub file_of : Command → FileRole → Option (List ℕ)
+file_of (OfCase case task) Case = Some case
 file_of (Audit case network) Case = Some case
 file_of (Audit case network) Network = Some network
-file_of (Targets case) Case = Some case
-file_of (Flow case) Case = Some case
-file_of (Design case) Case = Some case
-file_of (Vertical case) Case = Some case
-file_of (Curves case) Case = Some case
 file_of (Site site) SiteFile = Some site
-file_of (Sweep case plan workers) Case = Some case
 file_of command role = None

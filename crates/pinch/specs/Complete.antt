@@ -2,15 +2,16 @@
 use Rattle.std.specs.Prelude.{◌≡◌, ◌⊎◌, ◌≤◌, ℕ, List, length, ⊤, Option, Some, None, Ok}
 use Rattle.pinch_outside.specs.Shelf.{NamedFile, find_file}
 use Rattle.pinch_outside.specs.declared.limits.TheConstants.{MAX_FILE}
-use Rattle.stream_case.specs.Case.{completed, IsStandard}
+use Rattle.stream_case.specs.Case.{completed}
 use Rattle.reports.specs.declared.shown.Shown.{Shown}
 use Rattle.pinch.specs.Case.{case_file}
 use Rattle.pinch.specs.Files.{IsRefused}
 use Rattle.pinch.specs.Format.{Format}
 use Rattle.pinch.specs.Network.{network_file}
 use Rattle.pinch.specs.Site.{site_file}
+use Rattle.pinch.specs.Tasks.{HasAnswer}
 use Rattle.pinch.specs.declared.command.Command.{Command}
-use Rattle.pinch.specs.declared.command.Command.TheVariants.{Targets, Flow, Design, Vertical, Curves, Audit, Site, Sweep}
+use Rattle.pinch.specs.declared.command.Command.TheVariants.{OfCase, Audit, Site, Sample}
 
 -- the files are told, and the first of that name is within the limit, with these bytes
 pub record Holds (files : Option (List NamedFile)) (name bytes : List ℕ) : Type 0 where
@@ -36,24 +37,16 @@ pub record HoldsFault {Value Cause : Type 0} (format : Format Value Cause) (file
 -- the files of a command are there, and are what it wants
 unfoldable pub CanAnswer : Option Command → Option (List NamedFile) → Type 0
 CanAnswer None files = ⊥
-CanAnswer (Some (Targets case)) files = HoldsText case_file files case (λ c. ⊤)
-CanAnswer (Some (Flow case)) files = HoldsText case_file files case (λ c. ⊤)
-CanAnswer (Some (Design case)) files = HoldsText case_file files case (λ c. ⊤)
-CanAnswer (Some (Vertical case)) files = HoldsText case_file files case (λ c. IsStandard (completed c))
-CanAnswer (Some (Curves case)) files = HoldsText case_file files case (λ c. ⊤)
+CanAnswer (Some (OfCase case task)) files = HoldsText case_file files case (HasAnswer task)
 CanAnswer (Some (Audit case network)) files = HoldsText case_file files case (λ c. HoldsText (network_file (completed c)) files network (λ n. ⊤))
 CanAnswer (Some (Site site)) files = HoldsText site_file files site (λ s. ⊤)
-CanAnswer (Some (Sweep case plan workers)) files = HoldsText case_file files case (λ c. ⊤)
+CanAnswer (Some (Sample number count)) files = ⊤
 
 -- a file of a command is there, those before it are what they should be, and its grammar refuses it, which is to be shown
 unfoldable pub HasBadFile : Option Command → Option (List NamedFile) → Shown → Type 0
 HasBadFile None files shown = ⊥
-HasBadFile (Some (Targets case)) files shown = HoldsFault case_file files case shown
-HasBadFile (Some (Flow case)) files shown = HoldsFault case_file files case shown
-HasBadFile (Some (Design case)) files shown = HoldsFault case_file files case shown
-HasBadFile (Some (Vertical case)) files shown = HoldsFault case_file files case shown
-HasBadFile (Some (Curves case)) files shown = HoldsFault case_file files case shown
+HasBadFile (Some (OfCase case task)) files shown = HoldsFault case_file files case shown
 HasBadFile (Some (Audit case network)) files shown =
     HoldsFault case_file files case shown ⊎ HoldsText case_file files case (λ c. HoldsFault (network_file (completed c)) files network shown)
 HasBadFile (Some (Site site)) files shown = HoldsFault site_file files site shown
-HasBadFile (Some (Sweep case plan workers)) files shown = HoldsFault case_file files case shown
+HasBadFile (Some (Sample number count)) files shown = ⊥

@@ -10,8 +10,10 @@ pub mod Flow
 pub mod Format
 pub mod Network
 pub mod Numbers
+pub mod Sample
 pub mod Site
 pub mod Status
 pub mod Stop
 pub mod Sweep
+pub mod Tasks
 pub mod Vertical

@@ -1,7 +1,7 @@
--- The numbers of a sweep, as words spell them.
+-- The numbers of a sweep and of a sample, as words spell them.
 use Rattle.std.specs.Prelude.{ℕ, pos, ◌+◌, ◌*◌, ◌&&◌, nat_le, nat_lt, List, Option, Some, None, if◌then◌else◌}
 use Rattle.stream_case.specs.Digits.{natural_in}
-use Rattle.study.specs.declared.limits.TheConstants.{MOST_ROWS, MOST_WORKERS}
+use Rattle.study.specs.declared.limits.TheConstants.{MOST_ROWS, MOST_SAMPLE_NUMBER, MOST_SAMPLE_STREAMS, MOST_WORKERS}
 use Rattle.study.specs.declared.plan.SweepPlan.{SweepPlan}
 use Rattle.pinch.specs.declared.numbers.TheConstants.{MOST_DIGITS, MOST_END, MOST_STEP}
 
@@ -27,3 +27,11 @@ plan_of from to step = plan_with (number_within 0 MOST_END from) (number_within 
 -- how many workers a word asks for
 abbrev pub workers_of : List ℕ → Option ℕ
 workers_of word = number_within 1 MOST_WORKERS word
+
+-- the number of a sample that a word spells
+abbrev pub sample_number_of : List ℕ → Option ℕ
+sample_number_of word = number_within 1 MOST_SAMPLE_NUMBER word
+
+-- how many streams of each side a word asks for
+abbrev pub sample_count_of : List ℕ → Option ℕ
+sample_count_of word = number_within 1 MOST_SAMPLE_STREAMS word

@@ -37,6 +37,7 @@ status_of (shows.Rejected case network place reason) = AnsweredNo
 status_of (shows.TooFine case network place step) = TooFine
 status_of (shows.SiteShown site parts sinks sources answer) = status_of_site answer
 status_of (shows.Sweep rows) = Answered
+status_of (shows.Sample hot cold cost) = Answered
 status_of shows.BadWords = NoCommand
 status_of (shows.BadCase row why) = CaseRefused
 status_of shows.NotStandard = CaseRefused

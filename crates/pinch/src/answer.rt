@@ -5,14 +5,12 @@ ghost use Rattle.pinch.specs.Command.{command_of, IsRunnable};
 ghost use Rattle.pinch.specs.Stop.{IfShown};
 
 use crate::audit::show_audit;
-use crate::case_answer::{show_curves, show_flow, show_targets};
+use crate::case_answer::show_task;
 use crate::command::{Command, read_command};
-use crate::design::show_design;
 use crate::files::{take_case, take_network, take_site};
+use crate::sample_answer::show_sample;
 use crate::site_answer::show_site;
 use crate::stop::Stop;
-use crate::sweep_answer::show_sweep;
-use crate::vertical_answer::show_vertical;
 use crate::word::Word;
 use pinch_outside::Shelf;
 use reports::Shown;
@@ -50,39 +48,16 @@ fn answer_command<R: Threads + Sync, G: Gate + Sync, S: Shelf>(
     ensures { IfShown result (ShowsCommand (Some command.now) (S.state shelf.old) (S.state shelf.new)) }
 {
     match command {
-        Command::Targets { case } => {
+        Command::OfCase { case, task } => {
             let case = take_case(alloc, shelf, case)?;
-            Ok(show_targets(alloc, &case)?)
-        }
-        Command::Flow { case } => {
-            let case = take_case(alloc, shelf, case)?;
-            Ok(show_flow(alloc, &case)?)
-        }
-        Command::Design { case } => {
-            let case = take_case(alloc, shelf, case)?;
-            Ok(show_design(alloc, &case)?)
-        }
-        Command::Vertical { case } => {
-            let case = take_case(alloc, shelf, case)?;
-            Ok(show_vertical(alloc, &case)?)
-        }
-        Command::Curves { case } => {
-            let case = take_case(alloc, shelf, case)?;
-            Ok(show_curves(alloc, &case)?)
+            Ok(show_task(rt, alloc, gate, &case, *task)?)
         }
         Command::Audit { case, network } => answer_audit(alloc, shelf, case, network),
         Command::Site { site } => {
             let site = take_site(alloc, shelf, site)?;
             Ok(show_site(alloc, site)?)
         }
-        Command::Sweep {
-            case,
-            plan,
-            workers,
-        } => {
-            let case = take_case(alloc, shelf, case)?;
-            Ok(show_sweep(rt, alloc, gate, &case, *plan, *workers)?)
-        }
+        Command::Sample { number, count } => Ok(show_sample(alloc, *number, *count)?),
     }
 }
 

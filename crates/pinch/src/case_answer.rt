@@ -1,15 +1,45 @@
-//! What a command shows of the case that it reads.
+//! What a task shows of a case.
 ghost use Rattle.std.specs.Prelude.{IfOk};
 ghost use Rattle.stream_case.specs.Case.{IsValid, completed};
 ghost use Rattle.pinch.specs.Case.{AreTargetsOf, AreCurvesOf};
+ghost use Rattle.pinch.specs.Command.{CanDo};
 ghost use Rattle.pinch.specs.Flow.{AnswersFlow};
+ghost use Rattle.pinch.specs.Tasks.{ShowsTask};
 
+use crate::command::CaseTask;
+use crate::design::show_design;
 use crate::flow::answer_completed;
+use crate::sweep_answer::show_sweep;
+use crate::vertical_answer::show_vertical;
 use curves::{cold_curve, grand_curve, hot_curve};
 use problem_table::{pinches, targets};
 use reports::Shown;
 use std::alloc::{AllocError, Global};
+use std::thread::Threads;
 use stream_case::{Case, complete};
+use study::Gate;
+
+/// What a task shows of a case. Workers pass the gate, which has no influence on it.
+pub fn show_task<R: Threads + Sync, G: Gate + Sync>(
+    rt: &R,
+    alloc: Global,
+    gate: &G,
+    case: &Case,
+    task: CaseTask,
+) -> Result<Shown, AllocError>
+    requires valid { IsValid case.now }
+    requires task { CanDo task }
+    ensures { IfOk result (ShowsTask task case.now) }
+{
+    match task {
+        CaseTask::Targets => show_targets(alloc, case),
+        CaseTask::Flow => show_flow(alloc, case),
+        CaseTask::Design => show_design(alloc, case),
+        CaseTask::Vertical => show_vertical(alloc, case),
+        CaseTask::Curves => show_curves(alloc, case),
+        CaseTask::Sweep { plan, workers } => show_sweep(rt, alloc, gate, case, plan, workers),
+    }
+}
 
 /// The targets of a case and its pinches.
 pub fn show_targets(alloc: Global, case: &Case) -> Result<Shown, AllocError>

@@ -1,52 +1,43 @@
 //! The forms of a command.
 ghost use Rattle.std.specs.Prelude.{◌≡◌, IfOk};
-ghost use Rattle.pinch.specs.Command.{audit_of, command_of, command_of_word, one_file, sweep_of, sweep_with};
+ghost use Rattle.pinch.specs.Command.{audit_of, command_of, command_of_word, of_case, one_file, sample_of, sample_with, sweep_of, sweep_with};
 
-use crate::numbers::{plan_of, workers_of};
+use crate::numbers::{plan_of, sample_count_of, sample_number_of, workers_of};
 use crate::word::Word;
 use std::alloc::{AllocError, Global};
 use stream_case::Items;
 use study::SweepPlan;
 
-/// A command with what it needs: the names of its files, and the numbers of a sweep.
-#[derive(Debug, Drop)]
-pub enum Command {
+/// What is asked of a case.
+#[derive(Clone, Copy, Debug)]
+pub enum CaseTask {
     /// `targets CASE`: the targets and the pinches.
-    Targets {
-        case: Word,
-    },
+    Targets,
     /// `flow CASE`: a heat flow of least cost, with prices that prove it.
-    Flow {
-        case: Word,
-    },
+    Flow,
     /// `design CASE`: a network that realises a heat flow of least cost.
-    Design {
-        case: Word,
-    },
+    Design,
     /// `vertical CASE`: a network of a standard case by its composite curves.
-    Vertical {
-        case: Word,
-    },
+    Vertical,
     /// `curves CASE`: the composite curves and the grand composite curve.
-    Curves {
-        case: Word,
-    },
-    /// `audit CASE NETWORK`: whether the network is valid for the completed case.
-    Audit {
-        case: Word,
-        network: Word,
-    },
-    /// `site SITE`: the profiles of a site, and its least boiler heat with a certificate.
-    Site {
-        site: Word,
-    },
+    Curves,
     /// `sweep CASE FROM TO STEP WORKERS`: the targets and the least cost for each contribution of
     /// the plan, by so many workers.
-    Sweep {
-        case: Word,
-        plan: SweepPlan,
-        workers: u32,
-    },
+    Sweep { plan: SweepPlan, workers: u32 },
+}
+
+/// A command with what it needs: the names of its files, and its numbers.
+#[derive(Debug, Drop)]
+pub enum Command {
+    /// A task on the case of a file.
+    OfCase { case: Word, task: CaseTask },
+    /// `audit CASE NETWORK`: whether the network is valid for the completed case.
+    Audit { case: Word, network: Word },
+    /// `site SITE`: the profiles of a site, and its least boiler heat with a certificate.
+    Site { site: Word },
+    /// `sample NUMBER N`: the targets and the least cost of the sample of a number, with so many
+    /// streams on each side.
+    Sample { number: u32, count: u32 },
 }
 
 /// The command that the words form, if they form one.
@@ -63,14 +54,15 @@ fn command_of_word(alloc: Global, word: &str, rest: &[Word]) -> Result<Option<Co
     ensures { IfOk result (λ command. command ≡ command_of_word word.now rest.now) }
 {
     match word {
-        "targets" => Ok(one_file(alloc, rest)?.map(|case| Command::Targets { case })),
-        "flow" => Ok(one_file(alloc, rest)?.map(|case| Command::Flow { case })),
-        "design" => Ok(one_file(alloc, rest)?.map(|case| Command::Design { case })),
-        "vertical" => Ok(one_file(alloc, rest)?.map(|case| Command::Vertical { case })),
-        "curves" => Ok(one_file(alloc, rest)?.map(|case| Command::Curves { case })),
+        "targets" => of_case(alloc, rest, CaseTask::Targets),
+        "flow" => of_case(alloc, rest, CaseTask::Flow),
+        "design" => of_case(alloc, rest, CaseTask::Design),
+        "vertical" => of_case(alloc, rest, CaseTask::Vertical),
+        "curves" => of_case(alloc, rest, CaseTask::Curves),
         "audit" => audit_of(alloc, rest),
         "site" => Ok(one_file(alloc, rest)?.map(|site| Command::Site { site })),
         "sweep" => sweep_of(alloc, rest),
+        "sample" => Ok(sample_of(rest)),
         _ => Ok(None),
     }
 }
@@ -83,6 +75,13 @@ fn one_file(alloc: Global, words: &[Word]) -> Result<Option<Word>, AllocError>
         [name] if !name.as_str().is_empty() => Ok(Some(name.copied(alloc)?)),
         _ => Ok(None),
     }
+}
+
+/// A task on the case of a file, where the words are just its name; it is not empty.
+fn of_case(alloc: Global, words: &[Word], task: CaseTask) -> Result<Option<Command>, AllocError>
+    ensures { IfOk result (λ command. command ≡ of_case task words.now) }
+{
+    Ok(one_file(alloc, words)?.map(|case| Command::OfCase { case, task }))
 }
 
 /// The audit of two files, where the words are just their names; none is empty.
@@ -122,11 +121,29 @@ fn sweep_with(
     ensures { IfOk result (λ command. command ≡ sweep_with case.now plan workers) }
 {
     match (plan, workers) {
-        (Some(plan), Some(workers)) => Ok(Some(Command::Sweep {
+        (Some(plan), Some(workers)) => Ok(Some(Command::OfCase {
             case: case.copied(alloc)?,
-            plan,
-            workers,
+            task: CaseTask::Sweep { plan, workers },
         })),
         _ => Ok(None),
+    }
+}
+
+/// The sample of a number, where the words are just two numbers that a sample can have.
+fn sample_of(words: &[Word]) -> Option<Command>
+    ensures { result ≡ sample_of words.now }
+{
+    match words {
+        [number, count] => sample_with(sample_number_of(number), sample_count_of(count)),
+        _ => None,
+    }
+}
+
+fn sample_with(number: Option<u32>, count: Option<u32>) -> Option<Command>
+    ensures { result ≡ sample_with number count }
+{
+    match (number, count) {
+        (Some(number), Some(count)) => Some(Command::Sample { number, count }),
+        _ => None,
     }
 }

@@ -11,6 +11,7 @@ mod files;
 mod flow;
 mod numbers;
 mod program;
+mod sample_answer;
 mod site_answer;
 mod status;
 mod stop;
@@ -21,7 +22,7 @@ mod vertical_answer;
 mod word;
 
 use arguments::run_arguments;
-pub use command::Command;
+pub use command::{CaseTask, Command};
 use pinch_outside::{FileShelf, OutSink};
 pub use program::{Done, run, run_gated};
 pub use status::Status;

@@ -1,10 +1,12 @@
-//! The numbers of a sweep, as words spell them.
+//! The numbers of a sweep and of a sample, as words spell them.
 ghost use Rattle.std.specs.Prelude.{◌≡◌, ◌≤◌, IfSome};
-ghost use Rattle.pinch.specs.Numbers.{number_within, plan_of, workers_of};
+ghost use Rattle.pinch.specs.Numbers.{number_within, plan_of, sample_count_of, sample_number_of, workers_of};
 
 use crate::word::Word;
 use stream_case::{MOST_CONTRIBUTION, natural_of};
-use study::{LONGEST_STEP, MOST_ROWS, MOST_WORKERS, SweepPlan};
+use study::{
+    LONGEST_STEP, MOST_ROWS, MOST_SAMPLE_NUMBER, MOST_SAMPLE_STREAMS, MOST_WORKERS, SweepPlan,
+};
 
 /// The most digits of a number.
 const MOST_DIGITS: usize = 10;
@@ -51,4 +53,18 @@ pub fn workers_of(word: &Word) -> Option<u32>
     ensures { result ≡ workers_of word.now }
 {
     number_within(1, MOST_WORKERS, word)
+}
+
+/// The number of a sample that a word spells, if there is a sample of it.
+pub fn sample_number_of(word: &Word) -> Option<u32>
+    ensures { result ≡ sample_number_of word.now }
+{
+    number_within(1, MOST_SAMPLE_NUMBER, word)
+}
+
+/// How many streams of each side a word asks for, if a sample can have so many.
+pub fn sample_count_of(word: &Word) -> Option<u32>
+    ensures { result ≡ sample_count_of word.now }
+{
+    number_within(1, MOST_SAMPLE_STREAMS, word)
 }

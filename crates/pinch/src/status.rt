@@ -60,7 +60,8 @@ pub fn status_of(shown: &Shown) -> Status
         | Shown::Curves { .. }
         | Shown::Design { .. }
         | Shown::Accepted { .. }
-        | Shown::Sweep { .. } => Status::Answered,
+        | Shown::Sweep { .. }
+        | Shown::Sample { .. } => Status::Answered,
         Shown::Stuck { .. } | Shown::Rejected { .. } => Status::AnsweredNo,
         Shown::SiteShown { answer, .. } => status_of_site(answer),
         Shown::TooFine { .. } => Status::TooFine,

@@ -14,6 +14,7 @@ mod limits;
 mod meeting_gate;
 mod network_lines;
 mod penalty_lines;
+mod sample;
 mod support;
 mod sweep;
 mod targets;

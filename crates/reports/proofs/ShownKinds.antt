@@ -23,7 +23,7 @@ use Rattle.penalties.specs.declared.list.PenaltyList.{PenaltyList}
 use Rattle.reports.specs.Text.{is_of_network, is_refusal}
 use Rattle.reports.specs.declared.shown.FileRole.{FileRole}
 use Rattle.reports.specs.declared.shown.Shown.{Shown}
-use Rattle.reports.specs.declared.shown.Shown.TheVariants.{Targets, Flow, Stuck, Curves, Design, Accepted, Rejected, TooFine, SiteShown, Sweep, BadWords, BadCase, NotStandard, BadSite, BadNetwork, TooLong, ReadFault}
+use Rattle.reports.specs.declared.shown.Shown.TheVariants.{Targets, Flow, Stuck, Curves, Design, Accepted, Rejected, TooFine, SiteShown, Sweep, Sample, BadWords, BadCase, NotStandard, BadSite, BadNetwork, TooLong, ReadFault}
 
 -- what is no answer and no network is a refusal
 pub is_refusal-other : (shown : Shown)
@@ -33,28 +33,30 @@ pub is_refusal-other : (shown : Shown)
     → ((hot cold net : List Point) → shown ≡ Curves hot cold net → ⊥)
     → ((site : Site) (parts : SiteTable) (sinks sources : List ℤ) (answer : Answer) → shown ≡ SiteShown site parts sinks sources answer → ⊥)
     → ((rows : List SweepRow) → shown ≡ Sweep rows → ⊥)
+    → ((hot cold cost : ℤ) → shown ≡ Sample hot cold cost → ⊥)
     → ((c : Case) (network : Network) (balance : Balance) → shown ≡ Design c network balance → ⊥)
     → ((c : Case) (network : Network) (balance : Balance) (place : ℤ) (penalties : PenaltyList) → shown ≡ Accepted c network balance place penalties → ⊥)
     → ((c : Case) (network : Network) (place : Place) (reason : Reason) → shown ≡ Rejected c network place reason → ⊥)
     → ((c : Case) (network : Network) (place : Place) (step : ℕ) → shown ≡ TooFine c network place step → ⊥)
     → IsTrue (is_refusal shown)
-is_refusal-other (Targets targets pinches) t f s c e w d a r o = absurd (t targets pinches refl)
-is_refusal-other (Flow k parts flow prices cost) t f s c e w d a r o = absurd (f k parts flow prices cost refl)
-is_refusal-other (Stuck k parts cut) t f s c e w d a r o = absurd (s k parts cut refl)
-is_refusal-other (Curves hot cold net) t f s c e w d a r o = absurd (c hot cold net refl)
-is_refusal-other (SiteShown site parts sinks sources answer) t f s c e w d a r o = absurd (e site parts sinks sources answer refl)
-is_refusal-other (Sweep rows) t f s c e w d a r o = absurd (w rows refl)
-is_refusal-other (Design k network balance) t f s c e w d a r o = absurd (d k network balance refl)
-is_refusal-other (Accepted k network balance place penalties) t f s c e w d a r o = absurd (a k network balance place penalties refl)
-is_refusal-other (Rejected k network place reason) t f s c e w d a r o = absurd (r k network place reason refl)
-is_refusal-other (TooFine k network place step) t f s c e w d a r o = absurd (o k network place step refl)
-is_refusal-other BadWords t f s c e w d a r o = refl
-is_refusal-other (BadCase row why) t f s c e w d a r o = refl
-is_refusal-other NotStandard t f s c e w d a r o = refl
-is_refusal-other (BadSite row why) t f s c e w d a r o = refl
-is_refusal-other (BadNetwork line why) t f s c e w d a r o = refl
-is_refusal-other (TooLong file) t f s c e w d a r o = refl
-is_refusal-other (ReadFault file) t f s c e w d a r o = refl
+is_refusal-other (Targets targets pinches) t f s c e w m d a r o = absurd (t targets pinches refl)
+is_refusal-other (Flow k parts flow prices cost) t f s c e w m d a r o = absurd (f k parts flow prices cost refl)
+is_refusal-other (Stuck k parts cut) t f s c e w m d a r o = absurd (s k parts cut refl)
+is_refusal-other (Curves hot cold net) t f s c e w m d a r o = absurd (c hot cold net refl)
+is_refusal-other (SiteShown site parts sinks sources answer) t f s c e w m d a r o = absurd (e site parts sinks sources answer refl)
+is_refusal-other (Sweep rows) t f s c e w m d a r o = absurd (w rows refl)
+is_refusal-other (Sample hot cold cost) t f s c e w m d a r o = absurd (m hot cold cost refl)
+is_refusal-other (Design k network balance) t f s c e w m d a r o = absurd (d k network balance refl)
+is_refusal-other (Accepted k network balance place penalties) t f s c e w m d a r o = absurd (a k network balance place penalties refl)
+is_refusal-other (Rejected k network place reason) t f s c e w m d a r o = absurd (r k network place reason refl)
+is_refusal-other (TooFine k network place step) t f s c e w m d a r o = absurd (o k network place step refl)
+is_refusal-other BadWords t f s c e w m d a r o = refl
+is_refusal-other (BadCase row why) t f s c e w m d a r o = refl
+is_refusal-other NotStandard t f s c e w m d a r o = refl
+is_refusal-other (BadSite row why) t f s c e w m d a r o = refl
+is_refusal-other (BadNetwork line why) t f s c e w m d a r o = refl
+is_refusal-other (TooLong file) t f s c e w m d a r o = refl
+is_refusal-other (ReadFault file) t f s c e w m d a r o = refl
 
 -- a network is shown in one of four ways
 pub no_network : (shown : Shown) → IsTrue (is_of_network shown)

@@ -6,6 +6,7 @@ pub mod Flow
 pub mod Lines
 pub mod Names
 pub mod Refusals
+pub mod Sample
 pub mod Site
 pub mod Sweep
 pub mod Targets

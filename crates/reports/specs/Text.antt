@@ -9,11 +9,12 @@ use Rattle.reports.specs.Design.{design_text}
 use Rattle.reports.specs.Flow.{flow_text}
 use Rattle.reports.specs.Names.{case_names}
 use Rattle.reports.specs.Refusals.{bad_case_text, bad_network_text, bad_site_text, file_text}
+use Rattle.reports.specs.Sample.{sample_text}
 use Rattle.reports.specs.Site.{total_site_text}
 use Rattle.reports.specs.Sweep.{sweep_text}
 use Rattle.reports.specs.Targets.{targets_text}
 use Rattle.reports.specs.declared.shown.Shown.{Shown}
-use Rattle.reports.specs.declared.shown.Shown.TheVariants.{Targets, Flow, Stuck, Curves, Design, Accepted, Rejected, TooFine, SiteShown, Sweep, BadWords, BadCase, NotStandard, BadSite, BadNetwork, ReadFault, TooLong}
+use Rattle.reports.specs.declared.shown.Shown.TheVariants.{Targets, Flow, Stuck, Curves, Design, Accepted, Rejected, TooFine, SiteShown, Sweep, Sample, BadWords, BadCase, NotStandard, BadSite, BadNetwork, ReadFault, TooLong}
 
 -- a design has the shape of a network of its completed case
 unfoldable pub IsPrintable : Shown → Type 0
@@ -51,6 +52,7 @@ text (Rejected case network place reason) = rejected_text case network place rea
 text (TooFine case network place step) = too_fine_text case network place step
 text (SiteShown site parts sinks sources answer) = total_site_text site parts sinks sources answer
 text (Sweep rows) = sweep_text rows
+text (Sample hot cold cost) = sample_text hot cold cost
 text BadWords = codes "words: targets flow curves design vertical audit site sweep sample certify prices\n"
 text (BadCase row why) = bad_case_text row why
 text NotStandard = codes "case not standard\n"

@@ -9,6 +9,7 @@ mod line;
 mod names;
 mod points;
 mod refusal;
+mod sample;
 mod shown;
 mod source;
 mod sweep;

@@ -99,6 +99,12 @@ pub enum Shown {
     Sweep {
         rows: Items<SweepRow>,
     },
+    /// The least hot and cold utility of a completed sample in W, and the least cost of a heat flow.
+    Sample {
+        hot: i64,
+        cold: i64,
+        cost: i128,
+    },
     /// The words are no command.
     BadWords,
     /// The case file is refused: the row, counted from 1, and what is to be mended there.

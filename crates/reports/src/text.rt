@@ -11,6 +11,7 @@ use crate::points::curves_text;
 use crate::refusal::{
     NOT_STANDARD, WORDS, bad_case_text, bad_network_text, bad_site_text, file_text,
 };
+use crate::sample::sample_text;
 use crate::shown::Shown;
 use crate::sweep::sweep_text;
 use crate::targets::targets_text;
@@ -52,6 +53,9 @@ pub fn text_of(alloc: Global, shown: &Shown) -> Result<Vec<u8>, AllocError>
             answer,
         } => Ok(total_site_text(alloc, site, parts, sinks, sources, answer)?.into_bytes()),
         Shown::Sweep { rows } => Ok(sweep_text(alloc, rows.as_slice())?.into_bytes()),
+        Shown::Sample { hot, cold, cost } => {
+            Ok(sample_text(alloc, *hot, *cold, *cost)?.into_bytes())
+        }
         Shown::Design { .. }
         | Shown::Accepted { .. }
         | Shown::Rejected { .. }

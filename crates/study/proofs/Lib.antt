@@ -8,3 +8,6 @@ pub mod ContributionLemmas
 pub mod RowLemmas
 pub mod PlanLemmas
 pub mod SweepLemmas
+pub mod Leasts
+pub mod NoCut
+pub mod SampleRowLemmas

@@ -8,7 +8,7 @@ use Rattle.study.specs.declared.row.SweepRow.{SweepRow}
 use Rattle.study.specs.Cost.{HasNoFlowOf, IsCostOf}
 use Rattle.study.specs.Row.{OneRow, case_with}
 
-one_cost : (c : Case) (cost other : ℤ) → IsLeastCostOf c cost → IsLeastCostOf c other → cost ≡ other
+pub one_cost : (c : Case) (cost other : ℤ) → IsLeastCostOf c cost → IsLeastCostOf c other → cost ≡ other
 one_cost c cost other one two =
     let (hot, cold, parts) = one.some in
     let first = one.each hot cold parts in

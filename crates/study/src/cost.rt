@@ -35,7 +35,8 @@ fn searched_cost(alloc: Global, case: &Case) -> Result<Option<i128>, AllocError>
     Ok(cost_found(&answer))
 }
 
-fn case_parts(alloc: Global, case: &Case) -> Result<Parts, AllocError>
+/// The parts of a completed case on its grid.
+pub(crate) fn case_parts(alloc: Global, case: &Case) -> Result<Parts, AllocError>
     requires { IsComplete case.now }
     ensures { IfOk result (λ parts. AreCaseParts case.now parts.hot parts.cold) }
 {

@@ -1,5 +1,5 @@
 //! Studies of a case: sweeps over the contribution to the least approach, by several workers, and
-//! samples, which are cases out of the draws of a generator.
+//! samples, which are cases out of the draws of a generator, with their targets and least cost.
 #![tactic(auto)]
 
 mod contribution;
@@ -10,6 +10,8 @@ mod limits;
 mod plan;
 mod row;
 mod sample;
+mod sample_targets;
+mod supplied;
 mod workers;
 
 pub use cost::least_cost;
@@ -22,4 +24,6 @@ pub use limits::{
 pub use plan::SweepPlan;
 pub use row::SweepRow;
 pub use sample::sample_case;
+pub use sample_targets::{SampleRow, sample_row, sample_rows_are_one};
+pub use supplied::supplied_cost;
 pub use workers::{rows_are_one, sweep};

@@ -1,0 +1,215 @@
+-- A case whose utilities are the two standard ones, neither of them in a forbidden match, has no cut: `HOT` reaches each cold part and can give
+-- more than all of them take, and each hot part reaches `COLD`, which can take more than all of them give.
+use Rattle.std.proofs.Common.{◌≡◌, ◌≢◌, ◌∙◌, ⊎_elim, inl, inr, refl, sym, ap, ap₂, ℕ, ◌+◌, Bool, true, false, not, ◌&&◌, ◌||◌, List, [], ◌∷◌, get_or, Some, arith}
+use Rattle.std.specs.Prelude.{ℤ, pos, ◌≤ℤ◌, ◌<ℤ◌, ◌==◌, int_le, if◌then◌else◌, All, slice_get}
+use Rattle.std.specs.Ordering.{int_eq}
+use Rattle.std.proofs.lemmas.Bool.{and_from, and_left, and_right, both_ways, cases_eq, eq-eqb, ne_eqb, true≢false}
+use Rattle.std.proofs.lemmas.Int.{ints}
+use Rattle.std.proofs.lemmas.List.Elements.{All-head, All-nil}
+use Rattle.std.proofs.lemmas.List.Folds.{list_any_at, list_any_none}
+use Rattle.std.proofs.lemmas.Option.{same_Some, slice_get-get_or, slice_get_within}
+use Rattle.stream_case.specs.declared.limits.TheConstants.{ALL_STREAMS_HEAT, MOST_HEAT}
+use Rattle.stream_case.specs.declared.source.Side.{Side}
+use Rattle.stream_case.specs.declared.source.Side.TheVariants.{Hot, Cold}
+use Rattle.stream_case.specs.declared.source.Source.{Source}
+use Rattle.stream_case.specs.declared.source.Source.TheVariants.{Stream as of_stream, Utility as of_utility}
+use Rattle.stream_case.specs.declared.case.Forbid.{Forbid}
+use Rattle.stream_case.specs.declared.case.Case.{Case}
+use Rattle.stream_case.specs.Case.{is_forbidden, standard_utility, IsComplete, IsStandard, IsValid}
+use Rattle.stream_case.specs.Source.{is_stream, same_source}
+use Rattle.stream_case.specs.Stream.{heat_above}
+use Rattle.stream_case.proofs.CaseLemmas.{length-AreStreams}
+use Rattle.stream_case.proofs.HeatLemmas.{heat_above-between}
+use Rattle.sums.specs.Sum.{int_sum_by}
+use Rattle.sums.proofs.IntegerLemmas.{int_le-from}
+use Rattle.sums.proofs.OrderLemmas.{AllPairs-nil}
+use Rattle.sums.proofs.SumLemmas.{int_sum_by-le, int_sum_from-le_each, int_sum_from-single, int_sum_from-zero}
+use Rattle.problem_table.proofs.SideLemmas.{sum_side-heat}
+use Rattle.grid.specs.declared.part.Part.{Part}
+use Rattle.grid.specs.Part.{utility_part, AreParts, AreCaseParts}
+use Rattle.grid.proofs.HeatLemmas.{heat_from}
+use Rattle.heat_flow.specs.Cuts.{joins, least_at, meets, offer_of, opposite, parts_of, IsCut}
+use Rattle.heat_flow.specs.Reach.{both_reach, part_reaches, passes_heat, reach_between}
+use Rattle.corner_flow.proofs.HeatLemmas.{above, from_stream, from_utility, is_reached, one_times}
+use Rattle.corner_flow.proofs.SideLemmas.{AreStandardParts, AreStandardParts-parts, IsStandardPart, IsUtilityHere}
+use Rattle.corner_flow.proofs.StandardLemmas.{end_of, some_utility}
+use Rattle.study.specs.Supplied.{IsSupplied, JoinsStreams}
+use Rattle.study.proofs.Leasts.{need-at_most, part_at}
+
+-- ---- the case without its forbidden matches is standard, and has the same parts
+
+abbrev unforbidden : Case → Case
+unforbidden c = record c { forbids = [] }
+
+IsValid-unforbidden : (c : Case) → IsValid c → IsValid (unforbidden c)
+IsValid-unforbidden c h = record {
+  contribution = h.contribution;
+  streams = h.streams;
+  utilities = h.utilities;
+  few_utilities = h.few_utilities;
+  stream_contributions = h.stream_contributions;
+  utility_contributions = h.utility_contributions;
+  distinct_names = h.distinct_names;
+  stream_names = h.stream_names;
+  utility_names = h.utility_names;
+  forbids = All-nil _;
+  few_forbids = omega arith;
+  distinct_forbids = AllPairs-nil (λ (f g : Forbid). f ≢ g);
+}
+
+IsComplete-unforbidden : (c : Case) → IsComplete c → IsComplete (unforbidden c)
+IsComplete-unforbidden c (k, valid, is) = (unforbidden k, IsValid-unforbidden k valid, ap unforbidden is)
+
+IsStandard-unforbidden : (c : Case) → IsSupplied c → IsStandard (unforbidden c)
+IsStandard-unforbidden c supplied = record { free = refl; utilities = supplied.utilities }
+
+AreCaseParts-unforbidden : (c : Case) (hot cold : List Part) → AreCaseParts c hot cold → AreCaseParts (unforbidden c) hot cold
+AreCaseParts-unforbidden c hot cold parts = record { grid = parts.grid; is_grid = parts.is_grid; hot_parts = parts.hot_parts; cold_parts = parts.cold_parts }
+
+-- ---- a part that meets a member is on offer
+
+not_negative-if : (b : Bool) (x : ℤ) → pos 0 ≤ℤ x → pos 0 ≤ℤ (if b then x else pos 0)
+not_negative-if true x h = h
+not_negative-if false x h = omega (arith, ints)
+
+offer-at_least : (side : Side) (reach : ℕ → ℕ → Bool) (others : List Part) (members : List ℕ) (u : ℕ) (p : Part)
+    → ((j : ℕ) (q : Part) → slice_get others j ≡ Some q → pos 0 ≤ℤ q.most)
+    → slice_get others u ≡ Some p → meets side reach members u ≡ true → p.most ≤ℤ offer_of side reach others members
+offer-at_least side reach others members u p not_negative at met =
+    let within = slice_get_within others u p at in
+    let single =
+    int_sum_from-single (λ j q. if j == u then p.most else pos 0) u 0 others p (omega arith) (omega (arith, within))
+    (λ j q other. ap (λ b. if b then p.most else pos 0) (ne_eqb j u other)) in
+    let own = ap (λ b. if b then p.most else pos 0) (eq-eqb u u refl) in
+    let each =
+    int_sum_from-le_each (λ j q. if j == u then p.most else pos 0) (λ j q. if meets side reach members j then q.most else pos 0) others
+    (λ j q other.
+    ⊎_elim
+    (λ same.
+    let left = ap (λ b. if b then p.most else pos 0) (eq-eqb j u same) in
+    let right = ap (λ b. if b then q.most else pos 0) (ap (meets side reach members) same ∙ met) in
+    let is : p ≡ q = same_Some p q (sym at ∙ ap (slice_get others) (sym same) ∙ other) in
+    let most = ap (λ r. r.most) is in
+    omega (arith, ints))
+    (λ differ.
+    let left = ap (λ b. if b then p.most else pos 0) (ne_eqb j u differ) in
+    let right = not_negative-if (meets side reach members j) q.most (not_negative j q other) in
+    omega (arith, ints))
+    (cases_eq j u)) in
+    omega (arith, ints)
+
+-- ---- what a utility reaches
+
+unlike : (a b : Source) → is_stream a ≡ true → is_stream b ≡ false → same_source a b ≡ false
+unlike (of_stream i) (of_stream j) h k = absurd (true≢false k)
+unlike (of_stream i) (of_utility j) h k = refl
+unlike (of_utility i) b h k = absurd (true≢false (sym h))
+
+module _ (c : Case) (supplied : IsSupplied c) where
+  free_hot : (p q : Part) → is_stream p.source ≡ false → is_forbidden c.forbids p.source q.source ≡ false
+  free_hot p q utility =
+      list_any_none (λ f. same_source f.hot p.source && same_source f.cold q.source) c.forbids
+      (λ k d within. let f = get_or c.forbids k d in and_left (same_source f.hot p.source) (same_source f.cold q.source) (unlike f.hot p.source (supplied.joins_streams k d within).0 utility))
+
+  free_cold : (p q : Part) → is_stream q.source ≡ false → is_forbidden c.forbids p.source q.source ≡ false
+  free_cold p q utility =
+      list_any_none (λ f. same_source f.hot p.source && same_source f.cold q.source) c.forbids
+      (λ k d within. let f = get_or c.forbids k d in and_right (same_source f.hot p.source) (same_source f.cold q.source) (unlike f.cold q.source (supplied.joins_streams k d within).1 utility))
+
+  reaches_below : (p q : Part) → q.high ≤ℤ p.low → is_forbidden c.forbids p.source q.source ≡ false → part_reaches c p q ≡ true
+  reaches_below p q below free =
+      let passes : passes_heat p q ≡ true = ap (λ b. b || (int_eq p.high q.high && int_eq p.low q.low)) (int_le-from q.high p.low below) in
+      and_from (passes_heat p q) (not (is_forbidden c.forbids p.source q.source)) passes (ap not free)
+
+-- ---- no cut
+
+side-standard : (side : Side) (c : Case) → (standard_utility side c).side ≡ side
+side-standard Hot c = refl
+side-standard Cold c = refl
+
+module _ (c : Case) (hot cold : List Part) (complete : IsComplete c) (supplied : IsSupplied c) (parts : AreCaseParts c hot cold) where
+  standard : AreStandardParts (unforbidden c) hot cold
+  standard = AreStandardParts-parts (IsComplete-unforbidden c complete) (IsStandard-unforbidden c supplied) (AreCaseParts-unforbidden c hot cold parts)
+
+  -- the lowest stream end, above which all parts lie
+  abbrev bottom : ℤ
+  bottom = end_of (unforbidden c) Cold
+
+  part_least : (side : Side) (p : Part) → IsStandardPart (unforbidden c) standard.grid side p → p.least ≤ℤ heat_from bottom (pos 0) p
+  part_least side p here =
+      ⊎_elim (λ stream. let whole = from_stream bottom (pos 0) p stream.source_is ∙ one_times (above bottom p) p.least (is_reached bottom p.low here.from) in omega (arith, ints))
+      (λ utility. let none = from_utility bottom (pos 0) p utility.source_is in let least = utility.least in omega (arith, ints))
+      here.kind
+
+  -- the parts of a side have to have no more than the heat of all streams
+  leasts-at_most : (side : Side) → int_sum_by (λ p. p.least) (parts_of side hot cold) ≤ℤ ALL_STREAMS_HEAT
+  leasts-at_most side =
+      let mine = parts_of side hot cold in
+      let streams = standard.valid.are_streams in
+      let each =
+      int_sum_by-le (λ p. p.least) (heat_from bottom (pos 0)) mine
+      (λ k d within. let p = get_or mine k d in part_least side p ((standard.sides side).each k p (slice_get-get_or mine k d within))) in
+      let sum = (standard.sides side).sum bottom (pos 0) (standard.ends Cold) in
+      let heat = (sum_side-heat side (heat_above bottom) (heat_above-between bottom) c.streams streams.each (length-AreStreams c.streams streams)).upto in
+      omega (arith, ints)
+
+  leasts-not_negative : (side : Side) → All (λ p. pos 0 ≤ℤ p.least) (parts_of side hot cold)
+  leasts-not_negative side k d within =
+      let mine = parts_of side hot cold in
+      ((standard.sides side).each k (get_or mine k d) (slice_get-get_or mine k d within)).bounded.least.from
+
+  mosts-not_negative : (side : Side) (j : ℕ) (p : Part) → slice_get (parts_of side hot cold) j ≡ Some p → pos 0 ≤ℤ p.most
+  mosts-not_negative side j p at =
+      let bounded = ((standard.sides side).each j p at).bounded in
+      let least = bounded.least.from in
+      let most = bounded.most.from in
+      omega (arith, ints)
+
+  -- the utility of a side is one of its parts
+  abbrev OwnUtility : Side → List Part → Type 0
+  OwnUtility side mine = (u : ℕ) × (p : Part) × (slice_get mine u ≡ Some p) × (is_stream p.source ≡ false)
+
+  own_among : (side : Side) (mine : List Part) → AreParts c.streams c.utilities parts.grid side mine → OwnUtility side mine
+  own_among side mine are =
+      let (i, at) = some_utility (unforbidden c) (IsStandard-unforbidden c supplied) side in
+      let p = utility_part i (standard_utility side (unforbidden c)) in
+      let (u, within, is) = are.every p (inr (i, standard_utility side (unforbidden c), record { utility = at; side_is = side-standard side (unforbidden c); is = refl })) in
+      (u, p, slice_get-get_or mine u p within ∙ ap Some is, refl)
+
+  own_utility : (side : Side) → OwnUtility side (parts_of side hot cold)
+  own_utility Hot = own_among Hot hot parts.hot_parts
+  own_utility Cold = own_among Cold cold parts.cold_parts
+
+  utility_here : (side : Side) (u : ℕ) (p : Part) → slice_get (parts_of side hot cold) u ≡ Some p → is_stream p.source ≡ false → IsUtilityHere (unforbidden c) side p
+  utility_here side u p at utility =
+      ⊎_elim (λ stream. absurd (both_ways (is_stream p.source) utility stream.source_is)) (λ here. here) ((standard.sides side).each u p at).kind
+
+  -- each part joins the utility of the other side
+  joins_utility : (side : Side) (m u : ℕ) (q p : Part) → slice_get (parts_of side hot cold) m ≡ Some q → slice_get (parts_of (opposite side) hot cold) u ≡ Some p
+      → is_stream p.source ≡ false → joins side (reach_between c hot cold) m u ≡ true
+  joins_utility Hot m u q p at other utility =
+      let low = (utility_here Cold u p other utility).high in
+      let from = ((standard.sides Hot).each m q at).from in
+      ap₂ (both_reach c) at other ∙ reaches_below c supplied q p (omega (arith, ints)) (free_cold c supplied q p utility)
+  joins_utility Cold m u q p at other utility =
+      let high = (utility_here Hot u p other utility).low in
+      let upto = ((standard.sides Cold).each m q at).upto in
+      ap₂ (both_reach c) other at ∙ reaches_below c supplied p q (omega (arith, ints)) (free_hot c supplied p q utility)
+
+  pub no_cut : (side : Side) (members : List ℕ) → IsCut side (reach_between c hot cold) hot cold members → ⊥
+  no_cut side [] cut =
+      let short = cut.short in
+      let none = int_sum_from-zero (λ j p. if meets side (reach_between c hot cold) [] j then p.most else pos 0) 0 (parts_of (opposite side) hot cold) (λ j p le. refl) in
+      omega (arith, ints)
+  no_cut side (m ∷ members) cut =
+      let reach = reach_between c hot cold in
+      let mine = parts_of side hot cold in
+      let (u, p, other, utility) = own_utility (opposite side) in
+      let (q, at) = part_at mine m (All-head (λ i. pos 0 <ℤ least_at mine i) m members cut.needing) in
+      let met = list_any_at (λ i. joins side reach i u) (m ∷ members) 0 m (omega arith) (joins_utility side m u q p at other utility) in
+      let offer = offer-at_least side reach (parts_of (opposite side) hot cold) (m ∷ members) u p (mosts-not_negative (opposite side)) other met in
+      let most = (utility_here (opposite side) u p other utility).most in
+      let need = need-at_most mine (leasts-not_negative side) (m ∷ members) cut.ordered in
+      let heat = leasts-at_most side in
+      let short = cut.short in
+      omega (arith, ints)
