@@ -1,9 +1,11 @@
-//! The parts of a completed case, and which of them reach.
-ghost use Rattle.std.specs.Prelude.{IfOk};
+//! The parts of a completed case, which of them reach, and its net of chains.
+ghost use Rattle.std.specs.Prelude.{length, IfOk};
 ghost use Rattle.stream_case.specs.Case.{IsComplete, IsStandard};
 ghost use Rattle.grid.specs.Part.{AreCaseParts};
+ghost use Rattle.heat_flow.specs.Table.{HasSizes};
 
 use crate::tables::{FOUR_STREAMS, completed_case};
+use chains::{Chains, chains_of};
 use grid::{Parts, grid_of, parts_of};
 use heat_flow::{Reach, reach_of};
 use std::alloc::{AllocError, Global};
@@ -21,8 +23,16 @@ pub fn parts_of_case(alloc: Global, case: &Case) -> Result<Parts, AllocError>
 pub fn reach_of_case(alloc: Global, case: &Case, parts: &Parts) -> Result<Reach, AllocError>
     requires complete { IsComplete case.now }
     requires parts { AreCaseParts case.now parts.now.hot parts.now.cold }
+    ensures { IfOk result (λ reach. HasSizes reach (length parts.now.hot) (length parts.now.cold)) }
 {
     reach_of(alloc, case, parts)
+}
+
+pub fn chains_of_case(alloc: Global, case: &Case, parts: &Parts) -> Result<Chains, AllocError>
+    requires complete { IsComplete case.now }
+    requires parts { AreCaseParts case.now parts.now.hot parts.now.cold }
+{
+    chains_of(alloc, case, parts)
 }
 
 /// A completed case, its parts, and the table of their pairs.

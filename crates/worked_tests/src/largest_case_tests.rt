@@ -1,16 +1,18 @@
-//! A case with as many streams and utilities as a case may have: its grid, its parts and their
-//! table are not too large.
-ghost use Rattle.std.specs.Prelude.{IfOk};
+//! A case with as many streams and utilities as a case may have: its grid, its parts, their table
+//! and its net of chains are not too large, and it has its least cost.
+ghost use Rattle.std.specs.Prelude.{◌<◌, IfOk};
 ghost use Rattle.stream_case.specs.Case.{IsComplete};
 
 use crate::compare::assert_same;
-use crate::flows::reach_of_case;
+use crate::flows::{chains_of_case, parts_of_case, reach_of_case};
+use crate::least_cost_tests::cost_in;
 use crate::tables::{MOST_HEAT, completed, stream, utility};
+use crate::transport_tests::answer_of;
 use grid::{grid_of, parts_of};
 use std::alloc::Global;
 use std::test::Fail;
 use stream_case::Side::{Cold, Hot};
-use stream_case::{Case, Items, MOST_STREAMS, MOST_UTILITIES, Stream, Utility};
+use stream_case::{Case, Forbid, Items, MOST_STREAMS, MOST_UTILITIES, Source, Stream, Utility};
 
 /// The intervals that each stream spans.
 const SPANNED: usize = 2 * MOST_STREAMS + MOST_UTILITIES;
@@ -20,6 +22,18 @@ const COUNTS: [usize; 3] = [
     4 * MOST_STREAMS + MOST_UTILITIES,
     MOST_STREAMS * SPANNED + MOST_UTILITIES,
     MOST_STREAMS * SPANNED + 1,
+];
+
+/// The groups, where no two hot sources have the same partners.
+const GROUPS: usize = MOST_STREAMS + MOST_UTILITIES;
+
+/// The nodes of the parts and of a chain for each group, and the links: one for each hot part,
+/// those down the chains, and one for each group and cold part but the forbidden matches.
+const NET: [usize; 3] = [
+    GROUPS,
+    COUNTS[1] + COUNTS[2] + GROUPS * (2 * COUNTS[0] - 1),
+    COUNTS[1] + GROUPS * (2 * COUNTS[0] - 2) + GROUPS * COUNTS[2]
+        - (MOST_STREAMS + 2 * MOST_UTILITIES) * SPANNED,
 ];
 
 /// Streams on both sides, all of whose upper ends lie above all their lower ends. The upper ends
@@ -48,8 +62,34 @@ fn most_utilities(alloc: Global) -> Result<Vec<Utility>, Fail> {
     Ok(utilities)
 }
 
-/// The case, completed with `COLD`.
-fn largest_case(alloc: Global) -> Result<Case, Fail>
+/// A match with a cold stream, which stands beside the hot stream of the same number.
+fn forbid(hot: Source, number: u32) -> Forbid
+    requires { number < 1000 }
+{
+    Forbid {
+        hot,
+        cold: Source::Stream(2 * number + 1),
+    }
+}
+
+/// A hot stream may not match the cold stream after the one of its number, a utility neither that
+/// one nor the one of its own number. So no two hot sources have the same partners, and each cold
+/// stream can take all its heat from the hot stream of its number.
+fn unlike_partners(alloc: Global) -> Result<Vec<Forbid>, Fail> {
+    let mut forbids = Vec::new(alloc);
+    for number in 0..MOST_STREAMS as u32 {
+        let next = (number + 1) % MOST_STREAMS as u32;
+        forbids.push(forbid(Source::Stream(2 * number), next))?;
+    }
+    for number in 0..MOST_UTILITIES as u32 {
+        forbids.push(forbid(Source::Utility(number), number))?;
+        forbids.push(forbid(Source::Utility(number), number + 1))?;
+    }
+    Ok(forbids)
+}
+
+/// The case with these forbidden matches, completed with `COLD`.
+fn largest_case(alloc: Global, forbids: Vec<Forbid>) -> Result<Case, Fail>
     ensures { IfOk result IsComplete }
 {
     let streams = most_streams(alloc)?;
@@ -58,14 +98,14 @@ fn largest_case(alloc: Global) -> Result<Case, Fail>
         contribution: 0,
         streams: Items::from_vec(streams),
         utilities: Items::from_vec(utilities),
-        forbids: Items::new(alloc),
+        forbids: Items::from_vec(forbids),
     };
     completed(alloc, &case)
 }
 
 #[test]
 fn the_largest_case_has_its_grid_parts_and_table(rt: HostRuntime) -> Result<(), Fail> {
-    let case = largest_case(rt.alloc())?;
+    let case = largest_case(rt.alloc(), Vec::new(rt.alloc()))?;
     let grid = grid_of(rt.alloc(), &case)?;
     let parts = parts_of(rt.alloc(), &case, &grid)?;
     let counts = [grid.places.len(), parts.hot.len(), parts.cold.len()];
@@ -73,5 +113,25 @@ fn the_largest_case_has_its_grid_parts_and_table(rt: HostRuntime) -> Result<(), 
     let reach = reach_of_case(rt.alloc(), &case, &parts)?;
     let cells = parts.hot.len() * parts.cold.len();
     assert_same(&rt, "cells", &reach.cells.len(), &cells);
+    Ok(())
+}
+
+#[test]
+fn the_largest_case_has_its_net_of_chains(rt: HostRuntime) -> Result<(), Fail> {
+    let case = largest_case(rt.alloc(), unlike_partners(rt.alloc())?)?;
+    let parts = parts_of_case(rt.alloc(), &case)?;
+    let chains = chains_of_case(rt.alloc(), &case, &parts)?;
+    let nodes = chains.net.nodes as usize;
+    let counts = [chains.groups.len(), nodes, chains.net.links.len()];
+    assert_same(&rt, "groups, nodes and links", &counts, &NET);
+    Ok(())
+}
+
+#[test]
+fn the_largest_case_needs_no_heater(rt: HostRuntime) -> Result<(), Fail> {
+    let case = largest_case(rt.alloc(), unlike_partners(rt.alloc())?)?;
+    let parts = parts_of_case(rt.alloc(), &case)?;
+    let answer = answer_of(rt.alloc(), &case, &parts)?;
+    assert_same(&rt, "the least cost", &cost_in(&answer), &Some(0));
     Ok(())
 }

@@ -5,6 +5,8 @@
 #[cfg(test)]
 mod case_text_tests;
 #[cfg(test)]
+mod chains_tests;
+#[cfg(test)]
 mod compare;
 #[cfg(test)]
 mod corner_flow_tests;
@@ -23,6 +25,8 @@ mod heat_flow_tests;
 #[cfg(test)]
 mod largest_case_tests;
 #[cfg(test)]
+mod least_cost_tests;
+#[cfg(test)]
 mod network_printer_tests;
 #[cfg(test)]
 mod network_text_tests;
@@ -36,6 +40,8 @@ mod reports_tests;
 mod site_tests;
 #[cfg(test)]
 mod site_text_tests;
+#[cfg(test)]
+mod spread_tests;
 #[cfg(test)]
 mod stream_case_tests;
 #[cfg(test)]

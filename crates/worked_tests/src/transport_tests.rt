@@ -231,7 +231,7 @@ fn sources_of(alloc: Global, parts: &Parts, cut: &Cut) -> Result<Vec<Source>, Al
     Ok(sources)
 }
 
-fn answer_of(alloc: Global, case: &Case, parts: &Parts) -> Result<Answer, AllocError>
+pub fn answer_of(alloc: Global, case: &Case, parts: &Parts) -> Result<Answer, AllocError>
     requires complete { IsComplete case.now }
     requires parts { AreCaseParts case.now parts.now.hot parts.now.cold }
 {

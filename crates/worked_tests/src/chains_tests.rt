@@ -1,0 +1,243 @@
+//! The nets of chains of cases that were worked by hand.
+
+use crate::compare::{assert_lists, assert_same};
+use crate::flows::{chains_of_case, parts_of_case};
+use crate::tables::{
+    FOUR_STREAMS, MOST_HEAT, RESTRICTED, StreamRow, TWO_STREAMS, Table, UtilityRow, completed_case,
+};
+use chains::{Chains, Group};
+use flow_net::Link;
+use std::alloc::{AllocError, Global};
+use std::process::Abort;
+use std::test::Fail;
+use stream_case::Side::{Cold, Hot};
+use stream_case::Source::{Stream, Utility};
+use stream_case::{Forbid, Source};
+
+/// The sources of a group and the first node of its chain.
+type GroupRow = (&'static [Source], u32);
+
+/// The groups of a case, and how many nodes and links its net has.
+#[derive(Clone, Copy)]
+struct Wanted {
+    groups: &'static [GroupRow],
+    nodes: u32,
+    links: usize,
+}
+
+/// A heater above a hot and a cold stream, and a cooler below them: six places, three parts on
+/// each side.
+const HEATER_AND_COOLER: [UtilityRow; 2] = [
+    ("S", Hot, 1700, 0, MOST_HEAT, 1),
+    ("W", Cold, 100, 0, MOST_HEAT, 0),
+];
+
+const CASES: [(&str, Table, Wanted); 6] = [
+    (
+        "no match forbidden",
+        FOUR_STREAMS,
+        Wanted {
+            groups: &[(&[Stream(1), Stream(3), Utility(0)], 15)],
+            nodes: 26,
+            links: 9 + 10 + 6,
+        },
+    ),
+    (
+        "two hot streams with different partners",
+        Table {
+            forbids: &[
+                Forbid {
+                    hot: Stream(1),
+                    cold: Stream(0),
+                },
+                Forbid {
+                    hot: Stream(3),
+                    cold: Stream(2),
+                },
+            ],
+            ..FOUR_STREAMS
+        },
+        Wanted {
+            groups: &[(&[Stream(1)], 15), (&[Stream(3)], 26), (&[Utility(0)], 37)],
+            nodes: 48,
+            links: 9 + 30 + (3 + 4 + 6),
+        },
+    ),
+    (
+        "two hot streams with the same partners",
+        Table {
+            forbids: &[
+                Forbid {
+                    hot: Stream(3),
+                    cold: Stream(0),
+                },
+                Forbid {
+                    hot: Stream(1),
+                    cold: Stream(0),
+                },
+            ],
+            ..FOUR_STREAMS
+        },
+        Wanted {
+            groups: &[(&[Stream(1), Stream(3)], 15), (&[Utility(0)], 26)],
+            nodes: 37,
+            links: 9 + 20 + (3 + 6),
+        },
+    ),
+    (
+        "utilities with different partners",
+        RESTRICTED,
+        Wanted {
+            groups: &[
+                (&[Stream(0)], 12),
+                (&[Utility(0)], 25),
+                (&[Utility(1)], 38),
+                (&[Utility(2)], 51),
+            ],
+            nodes: 64,
+            links: 6 + 48 + (5 + 5 + 3 + 6),
+        },
+    ),
+    (
+        "every pair forbidden",
+        Table {
+            utilities: &HEATER_AND_COOLER,
+            forbids: &[
+                Forbid {
+                    hot: Stream(0),
+                    cold: Stream(1),
+                },
+                Forbid {
+                    hot: Stream(0),
+                    cold: Utility(1),
+                },
+                Forbid {
+                    hot: Utility(0),
+                    cold: Stream(1),
+                },
+                Forbid {
+                    hot: Utility(0),
+                    cold: Utility(1),
+                },
+            ],
+            ..TWO_STREAMS
+        },
+        Wanted {
+            groups: &[(&[Stream(0), Utility(0)], 6)],
+            nodes: 17,
+            links: 3 + 10,
+        },
+    ),
+    (
+        "a hot stream that is permitted nothing",
+        Table {
+            utilities: &HEATER_AND_COOLER,
+            forbids: &[
+                Forbid {
+                    hot: Stream(0),
+                    cold: Stream(1),
+                },
+                Forbid {
+                    hot: Stream(0),
+                    cold: Utility(1),
+                },
+            ],
+            ..TWO_STREAMS
+        },
+        Wanted {
+            groups: &[(&[Stream(0)], 6), (&[Utility(0)], 17)],
+            nodes: 28,
+            links: 3 + 20 + (0 + 3),
+        },
+    ),
+];
+
+const ONE_HOT: [StreamRow; 1] = [("H", Hot, 1000, 500, 10)];
+
+/// A hot stream between a heater at its upper end and a cooler at its lower end: two places.
+const TWO_PLACES: Table = Table {
+    streams: &ONE_HOT,
+    utilities: &[
+        ("S", Hot, 1000, 0, MOST_HEAT, 1),
+        ("W", Cold, 400, 0, MOST_HEAT, 0),
+    ],
+    ..TWO_STREAMS
+};
+
+/// Two streams, with a heater and a cooler at one level inside both ranges.
+const ONE_LEVEL: Table = Table {
+    utilities: &[
+        ("S", Hot, 650, 0, MOST_HEAT, 1),
+        ("W", Cold, 550, 0, MOST_HEAT, 0),
+    ],
+    ..TWO_STREAMS
+};
+
+/// The ends of the links of a net, in rising order.
+const TWO_PLACES_LINKS: [(u32, u32); 5] = [(0, 3), (1, 4), (3, 4), (4, 5), (5, 2)];
+
+const ONE_LEVEL_LINKS: [(u32, u32); 16] = [
+    (0, 9),
+    (1, 11),
+    (2, 12),
+    (3, 13),
+    (8, 9),
+    (9, 10),
+    (10, 11),
+    (11, 4),
+    (11, 12),
+    (12, 5),
+    (12, 13),
+    (13, 6),
+    (13, 14),
+    (14, 15),
+    (15, 7),
+    (15, 16),
+];
+
+/// The net of chains of a table.
+fn chains_of_table(alloc: Global, table: &Table) -> Result<Chains, Fail> {
+    let case = completed_case(alloc, table)?;
+    let parts = parts_of_case(alloc, &case)?;
+    Ok(chains_of_case(alloc, &case, &parts)?)
+}
+
+fn compare_groups(rt: &impl Abort, at: &str, groups: &[Group], wanted: &[GroupRow]) {
+    assert_same(rt, at, &groups.len(), &wanted.len());
+    for (group, (sources, first_node)) in groups.iter().zip(wanted) {
+        assert_lists(rt, at, group.sources.as_slice(), sources);
+        assert_same(rt, at, &group.first_node, first_node);
+    }
+}
+
+/// The ends of links, in rising order.
+fn ends_of(alloc: Global, links: &[Link]) -> Result<Vec<(u32, u32)>, AllocError> {
+    let mut ends = Vec::new(alloc);
+    for link in links {
+        ends.push((link.from, link.to))?;
+    }
+    ends.sort()?;
+    Ok(ends)
+}
+
+#[test]
+fn cases_have_these_groups_and_nets_of_this_size(rt: HostRuntime) -> Result<(), Fail> {
+    for (at, table, wanted) in &CASES {
+        let chains = chains_of_table(rt.alloc(), table)?;
+        compare_groups(&rt, at, chains.groups.as_slice(), wanted.groups);
+        assert_same(&rt, at, &chains.net.nodes, &wanted.nodes);
+        assert_same(&rt, at, &chains.net.links.len(), &wanted.links);
+    }
+    Ok(())
+}
+
+#[test]
+fn links_lead_from_rank_to_rank(rt: HostRuntime) -> Result<(), Fail> {
+    let chains = chains_of_table(rt.alloc(), &TWO_PLACES)?;
+    let ends = ends_of(rt.alloc(), chains.net.links.as_slice())?;
+    assert_lists(&rt, "two places", &ends, &TWO_PLACES_LINKS);
+    let chains = chains_of_table(rt.alloc(), &ONE_LEVEL)?;
+    let ends = ends_of(rt.alloc(), chains.net.links.as_slice())?;
+    assert_lists(&rt, "one level", &ends, &ONE_LEVEL_LINKS);
+    Ok(())
+}
