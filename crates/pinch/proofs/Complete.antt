@@ -90,12 +90,12 @@ flow_answers c shown (inr cut) = answers shown _ tt cut.is
 
 -- and so is a design
 design_answers : (c : Case) (shown : Shown) → IsDesignAnswer c shown ⊎ IsCutAnswer c shown → IsAnswered (status_of shown)
-design_answers c shown (inl design) = answers shown _ tt design.design.is
+design_answers c shown (inl design) = answers shown _ tt design.design.shows.is
 design_answers c shown (inr cut) = answers shown _ tt cut.is
 
 -- and so is the network of a standard case by its composite curves
 vertical_answers : (c : Case) (shown : Shown) → IsStandard c → AnswersVertical c shown → IsAnswered (status_of shown)
-vertical_answers c shown standard (inl design) = answers shown _ tt design.1.is
+vertical_answers c shown standard (inl design) = answers shown _ tt design.1.shows.is
 vertical_answers c shown standard (inr turned_down) = absurd (turned_down.other standard)
 
 -- so a task that has an answer for a case is answered

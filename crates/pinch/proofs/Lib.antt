@@ -9,4 +9,5 @@ mod Plain
 mod Printable
 mod Profiles
 mod Runnable
+mod ShownNetworks
 mod SiteCosts

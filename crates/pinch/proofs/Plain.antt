@@ -29,12 +29,12 @@ plain_flow c shown (inr cut) = ap is_plain cut.is
 
 -- and so is what `design` shows
 plain_design : (c : Case) (shown : Shown) → IsDesignAnswer c shown ⊎ IsCutAnswer c shown → is_plain shown ≡ true
-plain_design c shown (inl design) = ap is_plain design.design.is
+plain_design c shown (inl design) = ap is_plain design.design.shows.is
 plain_design c shown (inr cut) = ap is_plain cut.is
 
 -- and what `vertical` shows is a result, or blames the case
 plain_vertical : (c : Case) (shown : Shown) → AnswersVertical c shown → is_plain shown ≡ true
-plain_vertical c shown (inl design) = ap is_plain design.1.is
+plain_vertical c shown (inl design) = ap is_plain design.1.shows.is
 plain_vertical c shown (inr refused) = ap is_plain refused.is
 
 -- so what is shown of a case is plain

@@ -52,12 +52,12 @@ of_flow c shown (inr cut) = of_is shown _ cut.is tt
 
 of_design : (c : Case) (shown : Shown) → IsDesignAnswer c shown ⊎ IsCutAnswer c shown → IsPrintable shown
 unfolding IsPrintable
-of_design c shown (inl answer) = of_is shown _ answer.design.is (answer.design.complete, answer.design.shape)
+of_design c shown (inl answer) = of_is shown _ answer.design.shows.is (answer.design.shows.complete, answer.design.shows.shape)
 of_design c shown (inr cut) = of_is shown _ cut.is tt
 
 of_vertical : (c : Case) (shown : Shown) → AnswersVertical c shown → IsPrintable shown
 unfolding IsPrintable
-of_vertical c shown (inl design) = of_is shown _ design.1.is (design.1.complete, design.1.shape)
+of_vertical c shown (inl design) = of_is shown _ design.1.shows.is (design.1.shows.complete, design.1.shows.shape)
 of_vertical c shown (inr turned_down) = of_is shown _ turned_down.is tt
 
 of_task : (task : CaseTask) (c : Case) (shown : Shown) → ShowsTask task c shown → IsPrintable shown

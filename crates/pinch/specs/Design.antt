@@ -18,27 +18,31 @@ use Rattle.network_audit.specs.Balance.{balance_of}
 use Rattle.network_audit.specs.Findings.{HasNoFinding}
 use Rattle.network_audit.specs.Valid.{IsValidNetwork}
 use Rattle.network_audit.specs.declared.verdict.Balance.{Balance}
-use Rattle.network_printer.specs.Printed.{text_of}
 use Rattle.interval_design.specs.Courses.{exchanger_of}
+use Rattle.reports.specs.Design.{design_text}
 use Rattle.reports.specs.declared.shown.Shown.{Shown}
 use Rattle.reports.specs.declared.shown.Shown.TheVariants as show
 use Rattle.pinch.specs.Flow.{IsCornerAnswer, IsCutAnswer, IsLeastFlow}
 
--- a network that realises a heat flow is shown, with its balance: its exchangers are the transfers, between the sources of their parts and with their
--- heat. It is valid, an audit finds nothing in it, and it costs what the heat flow costs. Where it keeps the counts of a text, its text is read
--- as this network
-pub record IsDesignOf (c : Case) (parts : Parts) (flow : Flow) (shown : Shown) : Type 0 where
-  pub network : Network
-  pub balance : Balance
+-- a network of a completed case is shown with its balance: it is valid, and an audit finds nothing in it. Where it keeps the counts of a text, what is
+-- printed is read as this network
+pub record IsShownNetwork (c : Case) (network : Network) (balance : Balance) (shown : Shown) : Type 0 where
   pub complete : IsComplete c
-  pub exchangers : exchangers_of network.lines ≡ map (exchanger_of parts.hot parts.cold) (enumerate_from 0 flow.transfers)
   pub shape : HasShape c network
   pub valid : IsValidNetwork c network
   pub accepted : HasNoFinding c network
   pub sums : balance ≡ balance_of c network
-  pub costs : balance.cost ≡ whole (cost_of parts.hot parts.cold flow.transfers)
-  pub read_back : KeepsCounts network → IsNetwork c (statements_of (text_of c network)) network
+  pub read_back : KeepsCounts network → IsNetwork c (statements_of (design_text c network balance)) network
   pub is : shown ≡ show.Design c network balance
+
+-- the network realises a heat flow: its exchangers are the transfers, between the sources of their parts and with their heat, and it costs what the
+-- heat flow costs
+pub record IsDesignOf (c : Case) (parts : Parts) (flow : Flow) (shown : Shown) : Type 0 where
+  pub network : Network
+  pub balance : Balance
+  pub shows : IsShownNetwork c network balance shown
+  pub exchangers : exchangers_of network.lines ≡ map (exchanger_of parts.hot parts.cold) (enumerate_from 0 flow.transfers)
+  pub costs : balance.cost ≡ whole (cost_of parts.hot parts.cold flow.transfers)
 
 -- the network of a heat flow of least cost
 pub record IsDesignAnswer (c : Case) (shown : Shown) : Type 0 where

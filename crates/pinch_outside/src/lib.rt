@@ -10,8 +10,6 @@ mod memory_shelf;
 mod memory_sink;
 mod shelf;
 mod sink;
-#[cfg(test)]
-mod tests;
 
 pub use adapters::{FileShelf, OutSink};
 pub use limits::MAX_FILE;

@@ -1,2 +1,3 @@
+pub mod DesignText
 mod ShownKinds
 mod TextLemmas

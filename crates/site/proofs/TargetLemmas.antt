@@ -1,11 +1,10 @@
 -- The parts of a site are fixed, and make few pairs.
 use mathlib.Core.Path.{fun_ext}
-use Rattle.std.proofs.Common.{◌≡◌, ◌∙◌, ap, sym, subst, subst₂, Bool, ℕ, ◌+◌, ◌*◌, ◌≤◌, List, length, arith, Result, Ok, Err, IfOk}
+use Rattle.std.proofs.Common.{◌≡◌, ◌∙◌, ap, sym, subst, subst₂, Bool, ℕ, ◌*◌, ◌≤◌, List, length, arith, Result, Ok, Err, IfOk}
 use Rattle.std.specs.Prelude.{ℤ, Contains}
 use Rattle.std.proofs.Math.Nat.{mul-le-mul}
 use Rattle.stream_case.specs.declared.source.Side.{Side}
 use Rattle.stream_case.specs.declared.source.Side.TheVariants.{Cold, Hot}
-use Rattle.stream_case.specs.Stream.{count_on}
 use Rattle.stream_case.proofs.CaseLemmas.{count_on-add}
 use Rattle.sums.proofs.CountLemmas.{length-le_falling}
 use Rattle.sums.proofs.OrderLemmas.{ListsFalling-unique}

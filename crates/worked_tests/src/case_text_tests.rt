@@ -7,7 +7,7 @@ use std::alloc::{AllocError, Global};
 use std::process::Abort;
 use std::test::Fail;
 use stream_case::Side::{Cold, Hot};
-use stream_case::{Case, Forbid, MOST_STREAMS, MOST_UTILITIES, Source};
+use stream_case::{Case, Forbid, Source};
 
 /// The most bytes of the tests' files.
 const LONGEST: usize = 2_000_000;
@@ -166,20 +166,10 @@ fn numbered_rows(alloc: Global, kind: &str, rest: &str, rows: usize) -> Result<S
 
 #[test]
 fn rows_past_the_counts_are_refused(rt: HostRuntime) -> Result<(), Fail> {
-    let text = numbered_rows(rt.alloc(), "hot", "900,400,10,,", MOST_STREAMS + 1)?;
-    assert_refused(
-        &rt,
-        text.as_bytes(),
-        MOST_STREAMS as u32 + 1,
-        CaseWhy::TooMany,
-    );
-    let text = numbered_rows(rt.alloc(), "cooler", "0,0,1,0,", MOST_UTILITIES + 1)?;
-    assert_refused(
-        &rt,
-        text.as_bytes(),
-        MOST_UTILITIES as u32 + 1,
-        CaseWhy::TooMany,
-    );
+    let text = numbered_rows(rt.alloc(), "hot", "900,400,10,,", 13)?;
+    assert_refused(&rt, text.as_bytes(), 13, CaseWhy::TooMany);
+    let text = numbered_rows(rt.alloc(), "cooler", "0,0,1,0,", 7)?;
+    assert_refused(&rt, text.as_bytes(), 7, CaseWhy::TooMany);
     Ok(())
 }
 

@@ -1,10 +1,9 @@
 //! Site files that are read and refused.
 use crate::compare::assert_same;
-use site::{MOST_PLANTS, MOST_SIDE_STREAMS, Site};
+use site::Site;
 use site_text::{SiteFault, SiteWhy, read_site};
 use std::process::Abort;
 use std::test::Fail;
-use stream_case::MOST_MAINS;
 
 /// The most bytes of the tests' files.
 const LONGEST: usize = 10_000;
@@ -141,10 +140,10 @@ fn with_rows(
 
 /// A kind of row, the rest of it, and how many are accepted behind the first rows.
 const COUNTS: [(&str, &str, usize); 4] = [
-    ("hot", "900,400,10,,", MOST_SIDE_STREAMS - 1),
-    ("cold", "400,900,10,,", MOST_SIDE_STREAMS),
-    ("plant", ",,,,", MOST_PLANTS - 1),
-    ("main", "900,,,,", MOST_MAINS - 1),
+    ("hot", "900,400,10,,", 11),
+    ("cold", "400,900,10,,", 12),
+    ("plant", ",,,,", 5),
+    ("main", "900,,,,", 3),
 ];
 
 #[test]

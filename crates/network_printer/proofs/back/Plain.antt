@@ -23,7 +23,8 @@ use Rattle.network_printer.proofs.print.Fields.{any_name_plain, fraction_plain, 
 use Rattle.network_printer.proofs.print.Names.{many_exchangers, many_names}
 use Rattle.network_printer.proofs.print.Text.{IsPlainField, IsPlainStatement, IsVisible}
 
-word_plain : (word : List ℕ) → 0 < length word → list_all (nat_lt 32) word ≡ true → IsPlainField word
+-- a word without blanks and marks
+pub word_plain : (word : List ℕ) → 0 < length word → list_all (nat_lt 32) word ≡ true → IsPlainField word
 word_plain word some passes = record {
   some = some;
   visible = All-weaker (λ b. nat_lt 32 b ≡ true) IsVisible (λ b test. grind (arith, nat_tests, test)) word (AllPass-from_list_all (nat_lt 32) word passes);

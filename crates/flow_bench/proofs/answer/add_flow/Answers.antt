@@ -1,11 +1,8 @@
-use Rattle.std.proofs.Common.{◌≡◌, ◌+◌, ◌<◌, ◌≤◌, ◌∙◌, zero, pos, ◌+ℤ◌, ◌-ℤ◌, FitsSigned, length, set, to_z, of_z, ap, ap₂, sym, subst, arith}
+use Rattle.std.proofs.Common.{◌≡◌, ◌<◌, ◌∙◌, pos, ◌-ℤ◌, length, to_z, of_z, ap, subst, arith}
 use Rattle.std.specs.Int.{w128}
 use Rattle.std.proofs.lemmas.Int.{ints}
-use Rattle.std.proofs.lemmas.List.{length-set, length-replicate}
-use Rattle.flow_net.specs.declared.net.Link.{Link}
+use Rattle.std.proofs.lemmas.List.{length-set}
 use Rattle.flow_net.specs.Net.{link_at, flow_on}
-use Rattle.flow_net.proofs.Lists.{replicate_same}
-use Rattle.flow_bench.specs.Certificate.{surplus_at}
 use Rattle.flow_bench.proofs.SumLemmas.{surplus_below, surplus_below-more, carried, first_fits, second_fits}
 use Rattle.flow_bench.proofs.answer.add_flow.Goals as goal
 use Rattle.flow_bench.proofs.answer.add_flow.Goals.{In-loop-index}

@@ -1,8 +1,7 @@
-use Rattle.std.proofs.Common.{◌≡◌, ◌+◌, ◌<◌, length, pos, ◌+ℤ◌, ◌*ℤ◌, to_z, of_z, FitsSigned, ap, ap₂, ◌∙◌, subst, refl, arith}
+use Rattle.std.proofs.Common.{◌≡◌, ◌+◌, ◌<◌, length, ◌+ℤ◌, ◌*ℤ◌, to_z, of_z, FitsSigned, ap, ap₂, ◌∙◌, subst, refl, arith}
 use Rattle.std.specs.Int.{w128}
 use Rattle.std.proofs.Math.Numerals.{add-one}
 use Rattle.std.proofs.lemmas.Int.{ints, to_z-of_z}
-use Rattle.flow_net.specs.Sum.{sum_below}
 use Rattle.flow_net.specs.Net.{link_at, flow_on}
 use Rattle.flow_net.proofs.Sizes.{sizes}
 use Rattle.flow_bench.proofs.SumLemmas.{link_cost_small, cost_small}

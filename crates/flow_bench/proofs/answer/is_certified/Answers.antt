@@ -1,4 +1,4 @@
-use Rattle.std.proofs.Common.{◌≡◌, ◌<◌, length, ap, ◌∙◌, sym, subst, refl, arith}
+use Rattle.std.proofs.Common.{◌<◌, ◌∙◌, sym, subst, refl, arith}
 use Rattle.flow_net.proofs.Duality.{surplus_is, routing_from_surplus}
 use Rattle.flow_bench.specs.Certificate.{AreBalanced}
 use Rattle.flow_bench.proofs.SumLemmas.{due_is}
