@@ -1,8 +1,8 @@
 -- The case of a file that is accepted is valid.
-use Rattle.std.proofs.Common.{◌≡◌, ◌≢◌, ◌∙◌, ◌∷◌, ◌++◌, ◌<◌, ◌≤◌, ℕ, zero, suc, ℤ, pos, true, not, List, [], All, AllPairs, Option, Some, None, Result, Ok, Err, IfOk, IfSome, option_map, unwrap_or, length, nat_lt, slice_get, refl, sym, arith, append_assoc, length-append}
+use Rattle.std.proofs.Common.{◌≡◌, ◌≢◌, ◌∙◌, ◌∷◌, ◌++◌, ◌<◌, ◌≤◌, ℕ, zero, suc, ℤ, pos, true, not, List, [], All, AllPairs, Option, Some, None, Result, Ok, Err, IfOk, IfSome, option_map, unwrap_or, length, slice_get, refl, sym, arith, append_assoc, length-append}
 use Rattle.first_fault.specs.Outcome.{given_by}
 use Rattle.std.specs.Map.{keys_of}
-use Rattle.std.proofs.lemmas.Bool.Decides.{Decides-ltb, nat_tests}
+use Rattle.std.proofs.lemmas.Bool.Decides.{nat_tests}
 use Rattle.std.proofs.lemmas.List.{length-map, map-append}
 use Rattle.std.proofs.lemmas.List.Elements.{All-map, All-nil, All-push, All-weaker}
 use Rattle.std.proofs.lemmas.List.Quantifiers.{all_pairs_push}
@@ -10,7 +10,7 @@ use Rattle.csv_rows.specs.Rows.{Row}
 use Rattle.first_fault.proofs.CheckLemmas.{Passes}
 use Rattle.first_fault.proofs.Steps.{IsKept, given_has}
 use Rattle.stream_case.specs.Case.{IsRightlyNamed, IsUnreserved, IsValid, IsValidForbid}
-use Rattle.stream_case.specs.Limits.{IsBetween, IsContribution}
+use Rattle.stream_case.specs.Limits.{IsContribution}
 use Rattle.stream_case.specs.Name.{is_name}
 use Rattle.stream_case.specs.Stream.{IsValidStream, count_on}
 use Rattle.stream_case.specs.Utility.{IsValidUtility}
@@ -24,10 +24,10 @@ use Rattle.stream_case.specs.declared.source.Source.TheVariants as source
 use Rattle.stream_case.specs.declared.stream.Stream.{Stream}
 use Rattle.stream_case.specs.declared.utility.Utility.{Utility}
 use Rattle.stream_case.proofs.NameTests.{passed-name}
-use Rattle.stream_case.proofs.SourceLemmas.{Decides-is_right_way}
 use Rattle.row_fields.specs.Fields.{field, number}
-use Rattle.row_fields.specs.Numbers.{is_within}
-use Rattle.row_fields.proofs.Tests.{Decides-int_le, Decides-is_within}
+use Rattle.row_fields.proofs.Seams.{All-back}
+use Rattle.row_fields.proofs.Streams.{range_of, stream-is_valid}
+use Rattle.row_fields.proofs.Tests.{Decides-int_le, passed-room, passed-within}
 use Rattle.case_text.specs.Rows.{kind_of}
 use Rattle.case_text.specs.Given.{Given, case_of, entry_by, nothing, source_at, stream_data, stream_of, utility_data, utility_of, with_entry}
 use Rattle.case_text.specs.Checks.{checks, contribution_checks, end_checks, forbid_checks, is_reserved, is_reserved_from, is_taken, kind_checks, stream_checks, stream_number_checks, utility_checks, utility_number_checks}
@@ -40,7 +40,7 @@ use Rattle.case_text.specs.declared.entry.StreamData.{StreamData}
 use Rattle.case_text.specs.declared.entry.UtilityData.{UtilityData}
 use Rattle.case_text.specs.declared.kind.Kind.{Kind}
 use Rattle.case_text.specs.declared.kind.Kind.TheVariants as kind
-use Rattle.case_text.proofs.ListLemmas.{All-back, All-front, AllPairs-insert}
+use Rattle.case_text.proofs.ListLemmas.{All-front, AllPairs-insert}
 use Rattle.case_text.proofs.Sources.{Streams, Utilities, count_on-case, few_with_stream, names_of-case, side_in, side_of-case}
 use Rattle.case_text.proofs.Tests.{Decides-is_forbidden, Decides-is_reserved, Decides-is_reserved_from, Decides-is_taken, IsRightNameOf, source_on}
 
@@ -100,16 +100,10 @@ forbids_stay given e fits = record {
   distinct = fits.distinct;
 }
 
-within : (low high n : ℤ) → is_within low high n ≡ true → IsBetween low high n
-within low high n = (Decides-is_within low high n).0
-
-room : (n most : ℕ) → nat_lt n most ≡ true → n < most
-room n most = (Decides-ltb n most).0
-
 contribution_kept : (given : Given) (row : Row) → Fits given → Passes (contribution_checks given row) → Fits (with_entry given (entry.Contribution (number row 2)))
 unfolding contribution_checks
 contribution_kept given row fits (_, (_, (_, (range, _)))) = record {
-  contribution = within _ _ _ range;
+  contribution = passed-within _ _ _ range;
   sources = fits.sources;
   forbids = forbids_stay given (entry.Contribution (number row 2)) fits.forbids;
 }
@@ -117,14 +111,7 @@ contribution_kept given row fits (_, (_, (_, (range, _)))) = record {
 stream_fits : (of : Side) (row : Row) → is_name (field row 1) ≡ true → not (is_reserved (field row 1)) ≡ true → Passes (stream_number_checks of row) → StreamFits (field row 1, stream_data of row)
 unfolding stream_number_checks
 stream_fits of row name unreserved (_, (_, (_, (supply, (target, (cp, (way, _))))))) = record {
-  valid = λ contribution range. record {
-    name = passed-name (field row 1) name;
-    supply = within _ _ _ supply;
-    target = within _ _ _ target;
-    way = (Decides-is_right_way of (number row 2) (number row 3)).0 way;
-    cp = within _ _ _ cp;
-    contribution = range;
-  };
+  valid = λ contribution range. stream-is_valid (stream_of contribution (field row 1, stream_data of row)) name supply target cp way range;
   name = (Decides-is_reserved (field row 1)).0 unreserved;
 }
 
@@ -144,7 +131,7 @@ stream_kept given row of fits (_, (few, (name, (unreserved, (free, numbers))))) 
     let new = new_name given s.0 free in
     let before = All-front (λ (o : List ℕ). o ≢ s.0) streams utilities new in
     let behind = All-weaker (λ (o : List ℕ). o ≢ s.0) (λ (o : List ℕ). s.0 ≢ o) (λ o differs same. differs (sym same)) utilities (All-back (λ (o : List ℕ). o ≢ s.0) streams utilities new) in
-    let place = rw (count_on-case of (unwrap_or given.contribution (pos 0)) given.streams) at (room (count_on of (case_of given).streams) MOST_STREAMS few) in
+    let place = rw (count_on-case of (unwrap_or given.contribution (pos 0)) given.streams) at (passed-room (count_on of (case_of given).streams) MOST_STREAMS few) in
     record {
       contribution = fits.contribution;
       sources = record {
@@ -161,10 +148,10 @@ unfolding utility_number_checks
 utility_fits of row name unreserved (_, (_, (_, (_, (level, (least, (most, (price, (order, _))))))))) = record {
   valid = λ contribution range. record {
     name = passed-name (field row 1) name;
-    level = within _ _ _ level;
-    least = within _ _ _ least;
-    most = record { from = (Decides-int_le (number row 3) (number row 4)).0 order; upto = (within _ _ _ most).upto };
-    price = within _ _ _ price;
+    level = passed-within _ _ _ level;
+    least = passed-within _ _ _ least;
+    most = record { from = (Decides-int_le (number row 3) (number row 4)).0 order; upto = (passed-within _ _ _ most).upto };
+    price = passed-within _ _ _ price;
     contribution = range;
   };
   name = (Decides-is_reserved_from of (field row 1)).0 unreserved;
@@ -180,7 +167,7 @@ utility_kept given row of fits (_, (few, (name, (unreserved, (free, numbers)))))
       sources = record {
         streams = fits.sources.streams;
         utilities = All-push UtilityFits given.utilities u fits.sources.utilities (utility_fits of row name unreserved numbers);
-        few = record { streams_on = fits.sources.few.streams_on; few_utilities = omega (arith, room (length given.utilities) MOST_UTILITIES few, length-append given.utilities (u ∷ [])) };
+        few = record { streams_on = fits.sources.few.streams_on; few_utilities = omega (arith, passed-room (length given.utilities) MOST_UTILITIES few, length-append given.utilities (u ∷ [])) };
         names = rw (keys_push given.utilities u, ← append_assoc) names;
       };
       forbids = forbids_stay given (entry.Utility u.0 u.1) fits.forbids;
@@ -202,7 +189,7 @@ forbid_kept given row fits (_, (few, (_, (_, (hot, (cold, (new, _))))))) =
       sources = fits.sources;
       forbids = record {
         each = All-push (ForbidFits (with_entry given (entry.Forbid f))) given.forbids f forbids.each fit;
-        few = omega (arith, room (length given.forbids) MOST_FORBIDS few, length-append given.forbids (f ∷ []));
+        few = omega (arith, passed-room (length given.forbids) MOST_FORBIDS few, length-append given.forbids (f ∷ []));
         distinct = all_pairs_push (λ (f g : Forbid). f ≢ g) given.forbids f forbids.distinct ((Decides-is_forbidden given.forbids h c).0 new);
       };
     }
@@ -239,10 +226,6 @@ nothing_fits = record {
 }
 
 -- ---- the case
-
-range_of : (o : Option ℤ) → IfSome o IsContribution → IsContribution (unwrap_or o (pos 0))
-range_of None fits = record { from = omega arith; upto = omega arith }
-range_of (Some c) fits = fits
 
 case_valid : (given : Given) → Fits given → 0 < length given.streams → IsValid (case_of given)
 case_valid given fits some =

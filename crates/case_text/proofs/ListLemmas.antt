@@ -1,7 +1,7 @@
 -- Parts of lists, lists whose items all differ, and maps.
-use Rattle.std.proofs.Common.{Bool, cond, count_by, map, Option, Some, None, option_map, refl, ◌≡◌, ◌<◌, ◌∷◌, ◌++◌, suc, List, [], All, AllPairs, length, get_or, ap, subst, arith, length-append}
-use Rattle.std.proofs.Math.Seq.{drop-append_seam, take-append_seam}
-use Rattle.std.proofs.lemmas.List.Elements.{All-append, All-drop, All-head, All-push, All-tail, All-take}
+use Rattle.std.proofs.Common.{Bool, cond, count_by, map, Option, Some, None, option_map, refl, ◌≡◌, ◌∷◌, ◌++◌, suc, List, [], All, AllPairs, length, arith}
+use Rattle.std.proofs.Math.Seq.{take-append_seam}
+use Rattle.std.proofs.lemmas.List.Elements.{All-append, All-head, All-push, All-tail, All-take}
 use Rattle.std.proofs.lemmas.List.Kept.{AllPairs-cons}
 use Rattle.std.proofs.lemmas.List.Sums.{sum_by-cons}
 use Rattle.std.proofs.lemmas.List.Quantifiers.{all_pairs_push}
@@ -11,9 +11,6 @@ use Rattle.stream_case.proofs.DistinctLemmas.{AllPairs-across, AllPairs-back, Al
 
 pub All-front : {X : Type 0} (P : X → Type 0) (xs ys : List X) → All P (xs ++ ys) → All P xs
 All-front P xs ys all = rw take-append_seam at (All-take P (length xs) (xs ++ ys) all)
-
-pub All-back : {X : Type 0} (P : X → Type 0) (xs ys : List X) → All P (xs ++ ys) → All P ys
-All-back P xs ys all = rw drop-append_seam at (All-drop P (length xs) (xs ++ ys) all)
 
 -- ---- pairs
 
@@ -29,17 +26,6 @@ AllPairs-append {X = X} R (x ∷ xs) ys front back across =
 pub AllPairs-insert : {X : Type 0} (R : X → X → Type 0) (xs ys : List X) (x : X) → AllPairs R (xs ++ ys) → All (λ z. R z x) xs → All (R x) ys → AllPairs R ((xs ++ x ∷ []) ++ ys)
 AllPairs-insert R xs ys x pairs before behind =
     AllPairs-append R (xs ++ x ∷ []) ys (all_pairs_push R xs x (AllPairs-front R xs ys pairs) before) (AllPairs-back R xs ys pairs) (All-push (λ z. All (R z) ys) xs x (λ i d within. AllPairs-across R xs ys i d pairs within) behind)
-
--- ---- the item between the two parts of a list
-
-pub All-seam : {X : Type 0} (P : X → Type 0) (all before : List X) (x : X) (after : List X) → all ≡ before ++ x ∷ after → All P all → P x
-All-seam P all before x after is holds = All-head P x after (All-back P before (x ∷ after) (subst (All P) is holds))
-
-pub AllPairs-seam : {X : Type 0} (R : X → X → Type 0) (all before : List X) (x : X) (after : List X) → all ≡ before ++ x ∷ after → AllPairs R all → All (λ z. R z x) before
-AllPairs-seam R all before x after is pairs i d early = All-head (R (get_or before i d)) x after (AllPairs-across R before (x ∷ after) i d (subst (AllPairs R) is pairs) early)
-
-pub length-seam : {X : Type 0} (all before : List X) (x : X) (after : List X) → all ≡ before ++ x ∷ after → length before < length all
-length-seam all before x after is = omega (arith, ap length is, length-append before (x ∷ after))
 
 -- ---- maps
 

@@ -1,5 +1,5 @@
 -- The sources of the case so far, by the entries of the two maps.
-use Rattle.std.proofs.Common.{◌≡◌, ◌∙◌, ◌∷◌, ◌++◌, ◌<◌, ◌≤◌, ◌+◌, ◌||◌, ℕ, ℤ, pos, true, false, cond, List, [], length, map, count_by, position, Option, None, is_some, option_map, unwrap_or, slice_get, refl, sym, ap, arith}
+use Rattle.std.proofs.Common.{◌≡◌, ◌∙◌, ◌∷◌, ◌++◌, ◌<◌, ◌≤◌, ◌+◌, ◌||◌, ℕ, ℤ, pos, false, cond, List, [], length, map, count_by, position, Option, None, is_some, option_map, unwrap_or, slice_get, sym, ap, arith}
 use Rattle.std.specs.Map.{keys_of, lookup}
 use Rattle.std.specs.Str.{bytes_eq}
 use Rattle.std.proofs.lemmas.Bool.{or_parts}
@@ -22,7 +22,7 @@ use Rattle.stream_case.specs.declared.stream.Stream.{Stream}
 use Rattle.stream_case.specs.declared.utility.Utility.{Utility}
 use Rattle.stream_case.proofs.CaseLemmas.{count_on-add}
 use Rattle.stream_case.proofs.ListLemmas.{none_there, position-map}
-use Rattle.stream_case.proofs.SourceLemmas.{same_side-true}
+use Rattle.row_fields.proofs.Streams.{one_more_on}
 use Rattle.case_text.specs.Given.{Given, case_of, stream_of, utility_of}
 use Rattle.case_text.specs.Answers.{HasFewSources}
 use Rattle.case_text.specs.Checks.{is_taken}
@@ -92,15 +92,8 @@ few_streams ss us few =
     let streams = map (stream_of (pos 0)) ss in
     omega (arith, count_on-case side.Hot (pos 0) ss, count_on-case side.Cold (pos 0) ss, count_on-add streams, length-map ss (stream_of (pos 0)), few.streams_on side.Hot, few.streams_on side.Cold)
 
--- one stream more on a side that has room
-one_more_on : (of own : Side) (n most : ℕ) → n ≤ most → (same_side own of ≡ true → n < most) → n + cond (same_side own of) 1 0 ≤ most
-one_more_on side.Hot side.Hot n most few room = omega (arith, room refl)
-one_more_on side.Hot side.Cold n most few room = omega arith
-one_more_on side.Cold side.Hot n most few room = omega arith
-one_more_on side.Cold side.Cold n most few room = omega (arith, room refl)
-
 pub few_with_stream : (ss : Streams) (us : Utilities) (s : List ℕ × StreamData) → HasFewSources ss us → count_of s.1.side ss < MOST_STREAMS → HasFewSources (ss ++ s ∷ []) us
 few_with_stream ss us s few room = record {
-  streams_on = λ of. rw (sum_by_push (λ (t : List ℕ × StreamData). cond (same_side t.1.side of) 1 0) ss s) (one_more_on of s.1.side (count_of of ss) MOST_STREAMS (few.streams_on of) (λ same. rw (← same_side-true s.1.side of same) room));
+  streams_on = λ of. rw (sum_by_push (λ (t : List ℕ × StreamData). cond (same_side t.1.side of) 1 0) ss s) (one_more_on s.1.side (λ own. count_of own ss) MOST_STREAMS few.streams_on room of);
   few_utilities = few.few_utilities;
 }

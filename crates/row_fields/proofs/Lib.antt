@@ -1,2 +1,4 @@
 pub mod PrintedNumbers
 pub mod Tests
+pub mod Streams
+pub mod Seams

@@ -1,6 +1,6 @@
 -- The site of a file that is accepted is valid.
-use Rattle.std.proofs.Common.{◌≡◌, ◌≢◌, ◌∷◌, ◌++◌, ◌<◌, ◌≤◌, ℕ, ℤ, pos, true, not, List, [], All, Option, Some, None, Result, Ok, Err, IfOk, IfSome, unwrap_or, length, map, nat_lt, ◌==◌, refl, arith, length-append}
-use Rattle.std.proofs.lemmas.Bool.Decides.{Decides-ltb, nat_tests}
+use Rattle.std.proofs.Common.{◌≡◌, ◌≢◌, ◌∷◌, ◌++◌, ◌<◌, ◌≤◌, ℕ, ℤ, pos, true, not, List, [], All, Option, Some, None, Result, Ok, Err, IfOk, IfSome, unwrap_or, length, map, ◌==◌, refl, arith, length-append}
+use Rattle.std.proofs.lemmas.Bool.Decides.{nat_tests}
 use Rattle.std.proofs.lemmas.List.{append-nil, length-map, map-append}
 use Rattle.std.proofs.lemmas.List.Elements.{All-map, All-nil, All-push, All-weaker}
 use Rattle.std.proofs.lemmas.List.Quantifiers.{all_pairs_push}
@@ -8,17 +8,16 @@ use Rattle.csv_rows.specs.Rows.{Row}
 use Rattle.first_fault.specs.Outcome.{given_by}
 use Rattle.first_fault.proofs.CheckLemmas.{Passes}
 use Rattle.first_fault.proofs.Steps.{IsKept, given_has}
-use Rattle.stream_case.specs.Limits.{IsBetween, IsContribution, IsTemperature}
+use Rattle.stream_case.specs.Limits.{IsContribution, IsTemperature}
 use Rattle.stream_case.specs.Name.{IsName, is_name}
 use Rattle.stream_case.specs.Stream.{IsValidStream, count_on}
 use Rattle.stream_case.specs.declared.limits.TheConstants.{MOST_MAINS}
 use Rattle.stream_case.specs.declared.source.Side.{Side}
 use Rattle.stream_case.specs.declared.stream.Stream.{Stream}
 use Rattle.stream_case.proofs.NameTests.{passed-name}
-use Rattle.stream_case.proofs.SourceLemmas.{Decides-is_right_way}
 use Rattle.row_fields.specs.Fields.{field, number}
-use Rattle.row_fields.specs.Numbers.{is_within}
-use Rattle.row_fields.proofs.Tests.{Decides-is_within}
+use Rattle.row_fields.proofs.Streams.{range_of, stream-is_valid}
+use Rattle.row_fields.proofs.Tests.{passed-room, passed-within}
 use Rattle.site.specs.Site.{AreDistinct, ArePlants, IsUnreserved, IsValidSite, streams_of}
 use Rattle.site.specs.declared.limits.TheConstants.{MOST_SIDE_STREAMS}
 use Rattle.site.specs.declared.plants.Main.{Main}
@@ -59,12 +58,6 @@ record Fits (given : Given) : Type 0 where
 
 -- ---- one entry more
 
-within : (low high n : ℤ) → is_within low high n ≡ true → IsBetween low high n
-within low high n = (Decides-is_within low high n).0
-
-room : (n most : ℕ) → nat_lt n most ≡ true → n < most
-room n most = (Decides-ltb n most).0
-
 -- a list of names that differ, with a new one
 distinct_push : {X : Type 0} (name : X → List ℕ) (xs : List X) (x : X) → AreDistinct (map name xs) → not (is_among name xs (name x)) ≡ true → AreDistinct (map name (xs ++ x ∷ []))
 distinct_push name xs x distinct new =
@@ -72,7 +65,7 @@ distinct_push name xs x distinct new =
 
 contribution_kept : (given : Given) (row : Row) → Fits given → Passes (contribution_checks given row) → Fits (with_entry given (entry.Contribution (number row 2)))
 unfolding contribution_checks
-contribution_kept given row fits (_, (_, (_, (range, _)))) = record { contribution = within _ _ _ range; plants = fits.plants; mains = fits.mains; streams = fits.streams }
+contribution_kept given row fits (_, (_, (_, (range, _)))) = record { contribution = passed-within _ _ _ range; plants = fits.plants; mains = fits.mains; streams = fits.streams }
 
 plant_kept : (given : Given) (row : Row) → Fits given → Passes (plant_checks given row) → Fits (with_entry given (entry.Plant (field row 1)))
 unfolding plant_checks
@@ -83,7 +76,7 @@ plant_kept given row fits (_, (few, (name, (new, _)))) =
       plants = record {
         names = All-push (λ (p : Plant). IsName p.name) given.plants plant fits.plants.names (passed-name (field row 1) name);
         distinct = distinct_push (λ (p : Plant). p.name) given.plants plant fits.plants.distinct new;
-        few = omega (arith, room (length given.plants) _ few, length-append given.plants (plant ∷ []));
+        few = omega (arith, passed-room (length given.plants) _ few, length-append given.plants (plant ∷ []));
       };
       mains = fits.mains;
       streams = rw (streams_of-plant given.plants plant, append-nil) fits.streams;
@@ -96,9 +89,9 @@ main_kept given row fits (_, (few, (name, (new, (_, (level, _)))))) = record {
   plants = fits.plants;
   mains = record {
     names = All-push (λ (m : Main). IsName m.name) given.mains (main_in row) fits.mains.names (passed-name (field row 1) name);
-    levels = All-push (λ (m : Main). IsTemperature m.level) given.mains (main_in row) fits.mains.levels (within _ _ _ level);
+    levels = All-push (λ (m : Main). IsTemperature m.level) given.mains (main_in row) fits.mains.levels (passed-within _ _ _ level);
     distinct = distinct_push (λ (m : Main). m.name) given.mains (main_in row) fits.mains.distinct new;
-    few = omega (arith, room (length given.mains) MOST_MAINS few, length-append given.mains (main_in row ∷ []));
+    few = omega (arith, passed-room (length given.mains) MOST_MAINS few, length-append given.mains (main_in row ∷ []));
   };
   streams = fits.streams;
 }
@@ -106,14 +99,7 @@ main_kept given row fits (_, (few, (name, (new, (_, (level, _)))))) = record {
 stream_fits : (of : Side) (row : Row) → is_name (field row 1) ≡ true → not (is_reserved (field row 1)) ≡ true → Passes (stream_number_checks of row) → StreamFits (stream_in of row)
 unfolding stream_number_checks
 stream_fits of row name unreserved (_, (_, (_, (supply, (target, (cp, (way, _))))))) = record {
-  valid = λ contribution range. record {
-    name = passed-name (field row 1) name;
-    supply = within _ _ _ supply;
-    target = within _ _ _ target;
-    way = (Decides-is_right_way of (number row 2) (number row 3)).0 way;
-    cp = within _ _ _ cp;
-    contribution = range;
-  };
+  valid = λ contribution range. stream-is_valid (with_contribution contribution (stream_in of row)) name supply target cp way range;
   name = (Decides-is_reserved (field row 1)).0 unreserved;
 }
 
@@ -130,7 +116,7 @@ stream_kept given row of fits (_, (few, (plant, (name, (unreserved, (new, number
     let more : StreamsFit (streams ++ s ∷ []) = record {
       each = All-push StreamFits streams s fits.streams.each (stream_fits of row name unreserved numbers);
       distinct = distinct_push (λ (t : Stream). t.name) streams s fits.streams.distinct new;
-      few = few_with_stream streams s fits.streams.few (room (count_on of streams) MOST_SIDE_STREAMS few);
+      few = few_with_stream streams s fits.streams.few (passed-room (count_on of streams) MOST_SIDE_STREAMS few);
     } in
     record {
       contribution = fits.contribution;
@@ -170,10 +156,6 @@ nothing_fits = record {
 }
 
 -- ---- the site
-
-range_of : (o : Option ℤ) → IfSome o IsContribution → IsContribution (unwrap_or o (pos 0))
-range_of None fits = record { from = omega arith; upto = omega arith }
-range_of (Some c) fits = fits
 
 -- what the end of a file asks for is there
 record IsWhole (given : Given) : Type 0 where

@@ -1,5 +1,5 @@
 -- The plants so far, with one plant or one stream more, and with a contribution.
-use Rattle.std.proofs.Common.{◌≡◌, ◌∙◌, ℕ, zero, suc, ◌+◌, ◌<◌, ◌≤◌, ℤ, true, not, ◌==◌, ◌||◌, cond, List, [], ◌∷◌, ◌++◌, length, map, get_or, take, drop, refl, sym, ap, arith, append_assoc, length-append}
+use Rattle.std.proofs.Common.{◌≡◌, ◌∙◌, ℕ, zero, suc, ◌+◌, ◌<◌, ◌≤◌, ℤ, not, ◌==◌, ◌||◌, cond, List, [], ◌∷◌, ◌++◌, length, map, get_or, take, drop, refl, sym, ap, arith, append_assoc, length-append}
 use Rattle.std.specs.Prelude.{All}
 use Rattle.std.specs.List.{list_any}
 use Rattle.std.specs.Str.{bytes_eq}
@@ -15,9 +15,8 @@ use Rattle.stream_case.specs.Name.{IsName}
 use Rattle.stream_case.specs.Source.{same_side}
 use Rattle.stream_case.specs.Stream.{count_on}
 use Rattle.stream_case.specs.declared.source.Side.{Side}
-use Rattle.stream_case.specs.declared.source.Side.TheVariants as side
 use Rattle.stream_case.specs.declared.stream.Stream.{Stream}
-use Rattle.stream_case.proofs.SourceLemmas.{same_side-true}
+use Rattle.row_fields.proofs.Streams.{one_more_on}
 use Rattle.sums.proofs.CountLemmas.{count_by-map}
 use Rattle.site.specs.Site.{streams_of}
 use Rattle.site.specs.declared.limits.TheConstants.{MOST_SIDE_STREAMS}
@@ -111,15 +110,9 @@ count_on-take of plants n =
     omega (arith, whole, parts)
 
 -- one stream more on a side that has room
-one_more_on : (of own : Side) (n most : ℕ) → n ≤ most → (same_side own of ≡ true → n < most) → n + cond (same_side own of) 1 0 ≤ most
-one_more_on side.Hot side.Hot n most few room = omega (arith, room refl)
-one_more_on side.Hot side.Cold n most few room = omega arith
-one_more_on side.Cold side.Hot n most few room = omega arith
-one_more_on side.Cold side.Cold n most few room = omega (arith, room refl)
-
 pub few_with_stream : (streams : List Stream) (s : Stream) → ((of : Side) → count_on of streams ≤ MOST_SIDE_STREAMS) → count_on s.side streams < MOST_SIDE_STREAMS → (of : Side) → count_on of (streams ++ s ∷ []) ≤ MOST_SIDE_STREAMS
 few_with_stream streams s few room of =
-    rw (sum_by_push (λ (t : Stream). cond (same_side t.side of) 1 0) streams s) (one_more_on of s.side (count_on of streams) MOST_SIDE_STREAMS (few of) (λ same. rw (← same_side-true s.side of same) room))
+    rw (sum_by_push (λ (t : Stream). cond (same_side t.side of) 1 0) streams s) (one_more_on s.side (λ own. count_on own streams) MOST_SIDE_STREAMS few room of)
 
 -- the same of the plants that have it
 pub few_with : (plants : List Plant) (s : Stream) → HaveFewStreams plants → count_on s.side (streams_of plants) < MOST_SIDE_STREAMS → HaveFewStreams (with_stream s plants)

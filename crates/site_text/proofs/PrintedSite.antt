@@ -1,11 +1,11 @@
 -- The printed rows of a valid site give the site.
-use Rattle.std.proofs.Common.{◌≡◌, ◌≢◌, ◌∙◌, ◌∷◌, ◌++◌, ◌<◌, ℕ, ℤ, pos, Bool, cond, List, [], All, AllPairs, Some, None, is_some, true, length, map, get_or, refl, sym, ap, subst, arith, append_assoc, length-append}
-use Rattle.std.proofs.Math.Seq.{append_snoc, drop-append_seam}
+use Rattle.std.proofs.Common.{◌≡◌, ◌≢◌, ◌∙◌, ◌∷◌, ◌++◌, ◌<◌, ℕ, ℤ, pos, Bool, cond, List, [], All, AllPairs, Some, None, is_some, true, length, map, refl, sym, ap, subst, arith, append_assoc, length-append}
+use Rattle.std.proofs.Math.Seq.{append_snoc}
 use Rattle.std.specs.List.{flat_map}
 use Rattle.std.proofs.lemmas.Bool.Decides.{nat_tests}
 use Rattle.std.proofs.lemmas.List.{append-nil, length-map, map-append}
 use Rattle.std.proofs.lemmas.List.Concat.{flat_map-append}
-use Rattle.std.proofs.lemmas.List.Elements.{All-drop, All-head, All-tail}
+use Rattle.std.proofs.lemmas.List.Elements.{All-head, All-tail}
 use Rattle.std.proofs.lemmas.List.Sums.{sum_by-append, sum_by-cons}
 use Rattle.first_fault.proofs.Steps.{Follows, Give, all_give, nothing_gives, one_more_gives}
 use Rattle.stream_case.specs.Limits.{IsTemperature}
@@ -15,7 +15,7 @@ use Rattle.stream_case.specs.Stream.{IsValidStream, count_on}
 use Rattle.stream_case.specs.declared.limits.TheConstants.{MOST_MAINS}
 use Rattle.stream_case.specs.declared.stream.Stream.{Stream}
 use Rattle.stream_case.proofs.SourceLemmas.{own_side}
-use Rattle.sums.proofs.OrderLemmas.{AllPairs-across}
+use Rattle.row_fields.proofs.Seams.{All-back, All-seam, AllPairs-seam, length-seam}
 use Rattle.site.specs.Site.{IsUnreserved, IsValidSite, streams_of}
 use Rattle.site.specs.declared.limits.TheConstants.{MOST_PLANTS, MOST_SIDE_STREAMS}
 use Rattle.site.specs.declared.plants.Main.{Main}
@@ -29,22 +29,9 @@ use Rattle.site_text.specs.Printed.{contribution_row, main_row, plant_row, plant
 use Rattle.site_text.proofs.Plants.{count_on-with, plant_names-with, stream_names-with, streams_of-plant, streams_of-plant_with, with_stream-last}
 use Rattle.site_text.proofs.PrintedRows.{contribution_follows, main_follows, plant_follows, stream_follows}
 
--- ---- the item between the two parts of a list
-
-All-seam : {X : Type 0} (P : X → Type 0) (all before : List X) (x : X) (after : List X) → all ≡ before ++ x ∷ after → All P all → P x
-All-seam P all before x after is holds = All-head P x after (rw drop-append_seam at (All-drop P (length before) (before ++ x ∷ after) (subst (All P) is holds)))
-
 -- the name of an item is that of none before it
 new_name : {X : Type 0} (name : X → List ℕ) (all before : List X) (x : X) (after : List X) → all ≡ before ++ x ∷ after → AllPairs (λ a b. a ≢ b) (map name all) → All (λ other. other ≢ name x) (map name before)
-new_name name all before x after is distinct i d early =
-    let names : map name all ≡ map name before ++ name x ∷ map name after = ap (map name) is ∙ map-append name before (x ∷ after) in
-    All-head (λ other. get_or (map name before) i d ≢ other) (name x) (map name after) (AllPairs-across (λ a b. a ≢ b) (map name before) (name x ∷ map name after) i d (subst (AllPairs (λ a b. a ≢ b)) names distinct) early)
-
-All-back : {X : Type 0} (P : X → Type 0) (xs ys : List X) → All P (xs ++ ys) → All P ys
-All-back P xs ys all = rw drop-append_seam at (All-drop P (length xs) (xs ++ ys) all)
-
-length-seam : {X : Type 0} (all before : List X) (x : X) (after : List X) → all ≡ before ++ x ∷ after → length before < length all
-length-seam all before x after is = omega (arith, ap length is, length-append before (x ∷ after))
+new_name name all before x after is distinct = AllPairs-seam (λ (a b : List ℕ). a ≢ b) (map name all) (map name before) (name x) (map name after) (ap (map name) is ∙ map-append name before (x ∷ after)) distinct
 
 -- ---- what is given so far
 

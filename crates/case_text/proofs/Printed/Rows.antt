@@ -1,13 +1,12 @@
 -- Each printed row follows on the rows before it.
-use Rattle.std.proofs.Common.{◌≡◌, ◌≢◌, ◌∷◌, ◌++◌, ◌<◌, ℕ, ℤ, pos, true, List, All, Some, unwrap_or, length, nat_lt, refl, arith}
+use Rattle.std.proofs.Common.{◌≡◌, ◌≢◌, ◌∷◌, ◌++◌, ◌<◌, ℕ, ℤ, pos, List, All, Some, unwrap_or, length, refl, arith}
 use Rattle.std.specs.Map.{keys_of}
-use Rattle.std.proofs.lemmas.Bool.Decides.{Decides-ltb}
 use Rattle.std.proofs.lemmas.Int.{ints}
 use Rattle.csv_rows.specs.Rows.{Row}
 use Rattle.first_fault.proofs.CheckLemmas.{Passes, none_fails}
 use Rattle.first_fault.proofs.Steps.{Follows}
 use Rattle.stream_case.specs.Case.{IsRightlyNamed, IsUnreserved, side_of, source_name, source_named}
-use Rattle.stream_case.specs.Limits.{IsBetween, IsContribution, IsHeat}
+use Rattle.stream_case.specs.Limits.{IsContribution, IsHeat}
 use Rattle.stream_case.specs.Name.{IsName}
 use Rattle.stream_case.specs.Stream.{IsValidStream, count_on}
 use Rattle.stream_case.specs.Utility.{IsValidUtility}
@@ -22,8 +21,7 @@ use Rattle.stream_case.specs.declared.utility.Utility.{Utility}
 use Rattle.stream_case.proofs.NameTests.{name-passes}
 use Rattle.stream_case.proofs.SourceLemmas.{Decides-is_right_way}
 use Rattle.row_fields.specs.Fields.{are_empty, is_number, is_passed_over, number}
-use Rattle.row_fields.specs.Numbers.{is_within}
-use Rattle.row_fields.proofs.Tests.{Decides-int_le, Decides-is_within}
+use Rattle.row_fields.proofs.Tests.{Decides-int_le, room-passes, within-passes}
 use Rattle.case_text.specs.Rows.{kind_of}
 use Rattle.case_text.specs.Given.{Given, case_of, nothing, with_entry}
 use Rattle.case_text.specs.Checks.{checks, contribution_checks, forbid_checks, kind_checks, stream_checks, stream_number_checks, utility_checks, utility_number_checks}
@@ -37,18 +35,12 @@ use Rattle.row_fields.proofs.PrintedNumbers.{contribution, flow_rate, heat, numb
 use Rattle.case_text.proofs.Sources.{count_of, count_on-case, names_of-case}
 use Rattle.case_text.proofs.Tests.{Decides-is_forbidden, Decides-is_reserved, Decides-is_reserved_from, Decides-is_taken, is_source-named}
 
-within : (low high n : ℤ) → IsBetween low high n → is_within low high n ≡ true
-within low high n = (Decides-is_within low high n).1
-
-room : (n most : ℕ) → n < most → nat_lt n most ≡ true
-room n most = (Decides-ltb n most).1
-
 -- the row of the contribution comes first
 pub contribution_follows : (c : ℤ) → IsContribution c → Follows grammar nothing (contribution_row c) (with_entry nothing (entry.Contribution c))
 unfolding checks kind_checks contribution_checks kind_of is_passed_over are_empty is_number number
 contribution_follows c range =
     let read = number_read c (contribution c range) in
-    let passes : Passes (checks nothing (contribution_row c)) = rw read (refl, (refl, (refl, (refl, (refl, (within _ _ _ range, tt)))))) in
+    let passes : Passes (checks nothing (contribution_row c)) = rw read (refl, (refl, (refl, (refl, (refl, (within-passes _ _ _ range, tt)))))) in
     record { passes = none_fails (checks nothing (contribution_row c)) passes; next_is = rw read refl }
 
 -- ---- streams
@@ -70,10 +62,10 @@ stream_follows given s valid unreserved few new =
     let supply = number_read s.supply (temperature s.supply valid.supply) in
     let target = number_read s.target (temperature s.target valid.target) in
     let cp = number_read s.cp (flow_rate s.cp valid.cp) in
-    let place = room (count_on s.side (case_of given).streams) MOST_STREAMS (rw (count_on-case s.side (unwrap_or given.contribution (pos 0)) given.streams) few) in
+    let place = room-passes (count_on s.side (case_of given).streams) MOST_STREAMS (rw (count_on-case s.side (unwrap_or given.contribution (pos 0)) given.streams) few) in
     let free = (Decides-is_taken (case_of given) s.name).1 (rw (names_of-case given) new) in
     let numbers : Passes (stream_number_checks s.side (stream_row s)) =
-    rw (supply, target, cp) (refl, (refl, (refl, (within _ _ _ valid.supply, (within _ _ _ valid.target, (within _ _ _ valid.cp, ((Decides-is_right_way s.side s.supply s.target).1 valid.way, tt))))))) in
+    rw (supply, target, cp) (refl, (refl, (refl, (within-passes _ _ _ valid.supply, (within-passes _ _ _ valid.target, (within-passes _ _ _ valid.cp, ((Decides-is_right_way s.side s.supply s.target).1 valid.way, tt))))))) in
     let passes : Passes (checks given (stream_row s)) = rw is (refl, (refl, (refl, (place, (name-passes s.name valid.name, ((Decides-is_reserved s.name).1 unreserved, (free, numbers))))))) in
     record { passes = none_fails (checks given (stream_row s)) passes; next_is = rw (is, supply, target, cp) refl }
 
@@ -99,8 +91,8 @@ utility_follows given u valid named few new =
     let each = number_read u.price (price u.price valid.price) in
     let free = (Decides-is_taken (case_of given) u.name).1 (rw (names_of-case given) new) in
     let numbers : Passes (utility_number_checks (utility_row u)) =
-    rw (level, least, most, each) (refl, (refl, (refl, (refl, (within _ _ _ valid.level, (within _ _ _ valid.least, (within _ _ _ most_range, (within _ _ _ valid.price, ((Decides-int_le u.least u.most).1 valid.most.from, tt))))))))) in
-    let passes : Passes (checks given (utility_row u)) = rw is (refl, (refl, (refl, (room _ _ few, (name-passes u.name valid.name, ((Decides-is_reserved_from u.side u.name).1 named, (free, numbers))))))) in
+    rw (level, least, most, each) (refl, (refl, (refl, (refl, (within-passes _ _ _ valid.level, (within-passes _ _ _ valid.least, (within-passes _ _ _ most_range, (within-passes _ _ _ valid.price, ((Decides-int_le u.least u.most).1 valid.most.from, tt))))))))) in
+    let passes : Passes (checks given (utility_row u)) = rw is (refl, (refl, (refl, (room-passes _ _ few, (name-passes u.name valid.name, ((Decides-is_reserved_from u.side u.name).1 named, (free, numbers))))))) in
     record { passes = none_fails (checks given (utility_row u)) passes; next_is = rw (is, level, least, most, each) refl }
 
 -- ---- forbidden matches
@@ -118,5 +110,5 @@ forbid_follows given k f hot cold few new =
     let h = is_source-named side.Hot (case_of given) (source_name k f.hot) f.hot hot.named hot.on in
     let c = is_source-named side.Cold (case_of given) (source_name k f.cold) f.cold cold.named cold.on in
     let fresh = (Decides-is_forbidden given.forbids f.hot f.cold).1 new in
-    let passes : Passes (checks given (forbid_row k f)) = (refl, (refl, (refl, (room _ _ few, (name-passes _ hot.is_name, (name-passes _ cold.is_name, (h, (c, (rw (hot.named, cold.named) fresh, tt))))))))) in
+    let passes : Passes (checks given (forbid_row k f)) = (refl, (refl, (refl, (room-passes _ _ few, (name-passes _ hot.is_name, (name-passes _ cold.is_name, (h, (c, (rw (hot.named, cold.named) fresh, tt))))))))) in
     record { passes = none_fails (checks given (forbid_row k f)) passes; next_is = rw (hot.named, cold.named) refl }

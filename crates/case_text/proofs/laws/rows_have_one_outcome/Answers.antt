@@ -2,14 +2,5 @@ use Rattle.first_fault.proofs.OneOutcome.{fault_or_value, no_value, one_fault, o
 use Rattle.case_text.specs.Outcome.{grammar}
 use Rattle.case_text.proofs.laws.rows_have_one_outcome.Goals as goal
 
-pub returns-clause-some : goal.returns-clause-some
-returns-clause-some c = fault_or_value grammar
-
-pub returns-clause-fault : goal.returns-clause-fault
-returns-clause-fault c = one_fault grammar
-
-pub returns-clause-apart : goal.returns-clause-apart
-returns-clause-apart c = no_value grammar
-
-pub returns-clause-case : goal.returns-clause-case
-returns-clause-case c = one_value grammar
+pub returns : goal.returns
+returns c = record { some = fault_or_value grammar; fault = one_fault grammar; apart = no_value grammar; case = one_value grammar }
