@@ -18,3 +18,4 @@ pub mod LineSteps
 pub mod SumBounds
 pub mod GroupSums
 pub mod NoFinding
+pub mod BalanceWithin

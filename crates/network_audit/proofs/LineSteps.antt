@@ -57,7 +57,7 @@ pub record IsRoomy (v : BranchValue) : Type 0 where
   pub heat : IsWithinLimits (times v.cp v.t)
   pub wanted : (approach : ℤ) → IsApproach approach → IsWithinLimits (plus v.t (whole approach))
 
-within-zero : IsWithinLimits rational_zero
+pub within-zero : IsWithinLimits rational_zero
 within-zero = within-whole (pos 0) (omega arith)
 
 roomy_none : IsRoomy no_value

@@ -1,5 +1,5 @@
 -- What the audit reads of the table of exchangers is what the items say: the ends of the sides, and the duties of the utilities.
-use Rattle.std.proofs.Common.{◌≡◌, ◌∙◌, ◌<◌, ◌+◌, ◌∷◌, ◌++◌, ℕ, List, [], Some, inl, inr, slice_get, get_or, length, map, take, refl, sym, ap, ap₂, arith}
+use Rattle.std.proofs.Common.{◌≡◌, ◌∙◌, ◌<◌, ◌+◌, ◌∷◌, ◌++◌, ℕ, List, [], Some, ◌⊎◌, inl, inr, slice_get, get_or, length, map, take, refl, sym, ap, ap₂, arith}
 use Rattle.std.specs.Prelude.{unwrap_or}
 use Rattle.std.specs.List.{cons_option, enumerate_from, filter_map, flat_map}
 use Rattle.std.proofs.lemmas.List.{length-take, map-append, take_more}
@@ -37,42 +37,31 @@ unfolding branch_side
 branch_side-is case network from stream on of_stream is = ap (λ s. unwrap_or (side_of case (source.Stream s)) side.Hot) of_stream ∙ ap (λ o. unwrap_or o side.Hot) is
 
 -- where a stream's pass is found, its ends are those of the branches
-hot_run : (case : Case) (network : Network) (values : Valuation) (number stream from to : ℕ) → pass_of network number stream ≡ Some (line.Pass from number to) → branch_side case network from ≡ side.Hot
-    → ends_of side.Hot (side_run case network values number (source.Stream stream)) ≡ ends_at case values (source.Stream stream) (Some (record { from = from; to = to }))
+stream_run : (case : Case) (network : Network) (values : Valuation) (number stream from to : ℕ) (on : Side) → pass_of network number stream ≡ Some (line.Pass from number to) → branch_side case network from ≡ on
+    → ends_of on (side_run case network values number (source.Stream stream)) ≡ ends_at case values (source.Stream stream) (Some (record { from = from; to = to }))
 unfolding side_run
-hot_run case network values number stream from to found on =
-    ap (λ o. ends_of side.Hot (pass_run case network values o)) found
-    ∙ ap (λ s. ends_of side.Hot (run_between s (value_at values from) (value_at values to))) on
-
-cold_run : (case : Case) (network : Network) (values : Valuation) (number stream from to : ℕ) → pass_of network number stream ≡ Some (line.Pass from number to) → branch_side case network from ≡ side.Cold
-    → ends_of side.Cold (side_run case network values number (source.Stream stream)) ≡ ends_at case values (source.Stream stream) (Some (record { from = from; to = to }))
-unfolding side_run
-cold_run case network values number stream from to found on =
-    ap (λ o. ends_of side.Cold (pass_run case network values o)) found
-    ∙ ap (λ s. ends_of side.Cold (run_between s (value_at values from) (value_at values to))) on
+stream_run case network values number stream from to on found is =
+    ap (λ o. ends_of on (pass_run case network values o)) found ∙ ap (λ s. ends_of on (run_between s (value_at values from) (value_at values to))) is ∙ by on
+  where
+    by : (s : Side) → ends_of s (run_between s (value_at values from) (value_at values to)) ≡ ends_at case values (source.Stream stream) (Some (record { from = from; to = to }))
+    by side.Hot = refl
+    by side.Cold = refl
 
 -- the pass that the table has of a stream
 crossing-found : (network : Network) (number stream from to : ℕ) → pass_of network number stream ≡ Some (line.Pass from number to) → crossing_among network.branches network.lines number (source.Stream stream) ≡ Some (record { from = from; to = to })
 unfolding pass_of
 crossing-found network number stream from to found = ap crossing_by found
 
-pub hot_ends : (case : Case) (network : Network) (values : Valuation) (number : ℕ) (e : Exchanger) (of : Source) → HasShape case network → slice_get (exchangers_of network.lines) number ≡ Some e → e.hot ≡ of → side_of case of ≡ Some side.Hot
-    → ends_at case values of (crossing_among network.branches network.lines number of) ≡ ends_of side.Hot (side_run case network values number of)
+-- the ends that are read from the table
+ends-are : (case : Case) (network : Network) (values : Valuation) (number : ℕ) (e : Exchanger) (of : Source) (on : Side) → HasShape case network → slice_get (exchangers_of network.lines) number ≡ Some e → (e.hot ≡ of) ⊎ (e.cold ≡ of) → side_of case of ≡ Some on
+    → ends_at case values of (crossing_among network.branches network.lines number of) ≡ ends_of on (side_run case network values number of)
 unfolding side_run
-hot_ends case network values number e (source.Utility index) shape at is on = refl
-hot_ends case network values number e (source.Stream stream) shape at is on =
-    let (from, to, index, pass) = the_pass_of shape number stream e at (inl is) in
+ends-are case network values number e (source.Utility index) side.Hot shape at joins is = refl
+ends-are case network values number e (source.Utility index) side.Cold shape at joins is = refl
+ends-are case network values number e (source.Stream stream) on shape at joins is =
+    let (from, to, index, pass) = the_pass_of shape number stream e at joins in
     ap (ends_at case values (source.Stream stream)) (crossing-found network number stream from to pass.found)
-    ∙ sym (hot_run case network values number stream from to pass.found (branch_side-is case network from stream side.Hot pass.of_stream on))
-
-pub cold_ends : (case : Case) (network : Network) (values : Valuation) (number : ℕ) (e : Exchanger) (of : Source) → HasShape case network → slice_get (exchangers_of network.lines) number ≡ Some e → e.cold ≡ of → side_of case of ≡ Some side.Cold
-    → ends_at case values of (crossing_among network.branches network.lines number of) ≡ ends_of side.Cold (side_run case network values number of)
-unfolding side_run
-cold_ends case network values number e (source.Utility index) shape at is on = refl
-cold_ends case network values number e (source.Stream stream) shape at is on =
-    let (from, to, index, pass) = the_pass_of shape number stream e at (inr is) in
-    ap (ends_at case values (source.Stream stream)) (crossing-found network number stream from to pass.found)
-    ∙ sym (cold_run case network values number stream from to pass.found (branch_side-is case network from stream side.Cold pass.of_stream on))
+    ∙ sym (stream_run case network values number stream from to on pass.found (branch_side-is case network from stream on pass.of_stream is))
 
 -- ---- members of a table that was made from members
 
@@ -95,7 +84,7 @@ joint_items-are case network values shape =
         → joint_items_at case values (number, joint_among network.branches network.lines (number, e)) ≡ exchanger_items_at case network values (number, e)
     each number e at =
         let is = all_at (IsExchanger case) (exchangers_of network.lines) number e shape.exchangers.each at in
-        ap₂ (side_items case (place.Exchanger number) e.hot e.cold) (hot_ends case network values number e e.hot shape at refl is.hot) (cold_ends case network values number e e.cold shape at refl is.cold)
+        ap₂ (side_items case (place.Exchanger number) e.hot e.cold) (ends-are case network values number e e.hot side.Hot shape at (inl refl) is.hot) (ends-are case network values number e e.cold side.Cold shape at (inr refl) is.cold)
 
 -- ---- duties
 

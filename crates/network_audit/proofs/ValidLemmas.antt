@@ -92,12 +92,13 @@ module _ {X : Type 0} (f : ℕ × X → List Item) where
   pub passed-member : (xs : List X) → first_finding (flat_map f (enumerate_from 0 xs)) ≡ None → (i : ℕ) (x : X) → slice_get xs i ≡ Some x → first_finding (f (i, x)) ≡ None
   passed-member xs none i x at = let n : i ≡ 0 + i = omega arith in ap (λ k. first_finding (f (k, x))) n ∙ passed-from 0 xs none i x at
 
--- all items of a whole valuation are passed, member by member
-record AllPassed (case : Case) (network : Network) (values : Valuation) : Type 0 where
-  lines : (k : ℕ) (l : Line) → slice_get network.lines k ≡ Some l → first_finding (line_items case network values (place.Line (k + 1)) l) ≡ None
-  streams : (index : ℕ) (s : Stream) → slice_get case.streams index ≡ Some s → first_finding (stream_items_at network (index, s)) ≡ None
-  exchangers : (number : ℕ) (e : Exchanger) → slice_get (exchangers_of network.lines) number ≡ Some e → first_finding (exchanger_items_at case network values (number, e)) ≡ None
-  utilities : (index : ℕ) (u : Utility) → slice_get case.utilities index ≡ Some u → first_finding (utility_items_at network (index, u)) ≡ None
+-- all items of a whole valuation are passed, member by member, and those of the balance
+pub record AllPassed (case : Case) (network : Network) (values : Valuation) : Type 0 where
+  pub lines : (k : ℕ) (l : Line) → slice_get network.lines k ≡ Some l → first_finding (line_items case network values (place.Line (k + 1)) l) ≡ None
+  pub streams : (index : ℕ) (s : Stream) → slice_get case.streams index ≡ Some s → first_finding (stream_items_at network (index, s)) ≡ None
+  pub exchangers : (number : ℕ) (e : Exchanger) → slice_get (exchangers_of network.lines) number ≡ Some e → first_finding (exchanger_items_at case network values (number, e)) ≡ None
+  pub utilities : (index : ℕ) (u : Utility) → slice_get case.utilities index ≡ Some u → first_finding (utility_items_at network (index, u)) ≡ None
+  pub balance : first_finding (balance_items case network) ≡ None
 
 all_lines : (case : Case) (network : Network) (values : Valuation) → items_before case network values (length network.lines + 1) ≡ flat_map (statement_items case network values) (enumerate_from 0 network.lines)
 unfolding items_before
@@ -109,7 +110,7 @@ items-whole case network values =
     ap (λ b. items_before case network values (length network.lines + 1) ++ (if b then items_behind case network values else [])) (eq-eqb (length network.lines) (length network.lines) refl)
     ∙ ap (λ xs. xs ++ items_behind case network values) (all_lines case network values)
 
-passed-each : (case : Case) (network : Network) (values : Valuation) → first_finding (items case network values (length network.lines)) ≡ None → AllPassed case network values
+pub passed-each : (case : Case) (network : Network) (values : Valuation) → first_finding (items case network values (length network.lines)) ≡ None → AllPassed case network values
 unfolding items_behind stream_items exchanger_items utility_items
 passed-each case network values none =
     let statements = flat_map (statement_items case network values) (enumerate_from 0 network.lines) in
@@ -122,6 +123,7 @@ passed-each case network values none =
       streams = passed-member (stream_items_at network) case.streams (passed-front (stream_items case network) (exchanger_items case network values ++ (utility_items case network ++ balance_items case network)) behind);
       exchangers = passed-member (exchanger_items_at case network values) (exchangers_of network.lines) (passed-front (exchanger_items case network values) (utility_items case network ++ balance_items case network) later);
       utilities = passed-member (utility_items_at network) case.utilities (passed-front (utility_items case network) (balance_items case network) last);
+      balance = passed-back (utility_items case network) (balance_items case network) last;
     }
 
 -- ---- no finding, and so valid

@@ -1,15 +1,18 @@
 -- The first step that is too fine, of steps in a row and of the steps of many members.
-use Rattle.std.proofs.Common.{◌≡◌, ◌∙◌, ◌<◌, ◌≤◌, ◌+◌, ◌∷◌, ◌++◌, ℕ, true, false, List, [], Option, Some, None, option_map, length, get_or, take, drop, refl, sym, ap, arith}
+use Rattle.std.proofs.Common.{◌≡◌, ◌∙◌, ◌<◌, ◌≤◌, ◌+◌, ◌∷◌, ◌++◌, ℕ, true, false, List, [], Option, Some, None, option_map, Result, Ok, Err, length, get_or, take, drop, refl, sym, ap, ap₂, subst, arith}
 use Rattle.std.specs.List.{enumerate_from, find, flat_map}
 use Rattle.std.specs.Option.{option_or}
+use Rattle.std.specs.Result.{IsErrAnd}
 use Rattle.std.proofs.lemmas.List.{append-nil, length-take, take-append-drop, take_all, take_more}
 use Rattle.std.proofs.lemmas.List.Concat.{flat_map-append}
 use Rattle.std.proofs.lemmas.List.Folds.{find-append}
 use Rattle.sums.proofs.EnumerationLemmas.{enumerate_from-append}
-use Rattle.fractions.specs.Rationals.{Gives, Rational, is_within_limits}
-use Rattle.fractions.proofs.Limits.{within_formed, within_not_formed}
+use Rattle.fractions.specs.Rationals.{Gives, Rational, is_within_limits, minus}
+use Rattle.fractions.proofs.Limits.{value_formed, within_formed, within_not_formed}
 use Rattle.network_audit.specs.declared.findings.Place.{Place}
+use Rattle.penalties.specs.Answers.{Formed}
 use Rattle.penalties.specs.Steps.{Step, first_too_fine, is_too_fine, spot_of, step}
+use Rattle.penalties.specs.declared.list.TooFine.{TooFine}
 
 -- ---- one step
 
@@ -43,6 +46,24 @@ first_behind xs ys none = first-append xs ys ∙ ap (λ o. option_or o (first_to
 -- more steps change nothing
 pub first_front : (xs ys : List Step) (found : Place × ℕ) → first_too_fine xs ≡ Some found → first_too_fine (xs ++ ys) ≡ Some found
 first_front xs ys found some = first-append xs ys ∙ ap (λ o. option_or o (first_too_fine ys)) some
+
+-- ---- answers
+
+-- what a `?` hands on
+pub handed_on : {X : Type 0} (steps : List Step) (P : X → Type 0) (found : TooFine) (answer : Result X TooFine) → IsErrAnd answer (λ e. e ≡ found) → first_too_fine steps ≡ Some (found.place, found.step) → Formed steps P answer
+handed_on steps P found (Ok x) same is = absurd same
+handed_on steps P found (Err e) same is = subst (λ (f : TooFine). first_too_fine steps ≡ Some (f.place, f.step)) (sym same) is
+
+-- the difference of two numbers, behind the steps that form them
+module _ (xs ys : List Step) (a b x y : Rational) (at : Place) (k : ℕ) (r : Option Rational) (one : (first_too_fine xs ≡ None) × (a ≡ x)) (other : (first_too_fine ys ≡ None) × (b ≡ y)) (gives : Gives r (minus a b)) where
+  difference : Gives r (minus x y)
+  difference = subst (Gives r) (ap₂ minus one.1 other.1) gives
+
+  pub difference_formed : (d : Rational) → r ≡ Some d → (first_too_fine (xs ++ (ys ++ step at k (minus x y) ∷ [])) ≡ None) × (d ≡ minus x y)
+  difference_formed d is = (first_behind xs _ one.0 ∙ first_behind ys _ other.0 ∙ after_formed at k (minus x y) d r [] is difference ∙ none_of_nothing, value_formed (minus x y) d r is difference)
+
+  pub difference_not_formed : r ≡ None → first_too_fine (xs ++ (ys ++ step at k (minus x y) ∷ [])) ≡ Some (at, k)
+  difference_not_formed is = first_behind xs _ one.0 ∙ first_behind ys _ other.0 ∙ at_not_formed at k (minus x y) r [] is difference
 
 -- ---- the steps of many members, each with its index
 

@@ -1,27 +1,15 @@
-use Rattle.std.proofs.Common.{◌∙◌, subst, ap₂}
-use Rattle.std.proofs.lemmas.Result.{err_from_is_err_and}
-use Rattle.fractions.specs.Rationals.{Gives, minus}
-use Rattle.fractions.proofs.Limits.{value_formed}
-use Rattle.penalties.specs.Survey.{seen_height}
-use Rattle.penalties.proofs.StepLemmas.{after_formed, at_not_formed, first_behind, first_front, none_of_nothing}
+use Rattle.std.proofs.Common.{◌∙◌, ◌+◌}
+use Rattle.penalties.proofs.StepLemmas.{difference_formed, difference_not_formed, first_behind, first_front, handed_on}
 use Rattle.penalties.proofs.heights.Survey.loss.Goals as goal
 
 pub returns-in_err-high : goal.returns-in_err-high
-returns-in_err-high c = let p = err_from_is_err_and c.from_residual.result c.from_residual.ensures.1 in rw (p.1, p.2) (first_front _ _ _ c.in_err-high.ensures)
+returns-in_err-high c = handed_on _ _ _ _ c.from_residual.ensures.1 (first_front _ _ _ c.in_err-high.ensures)
 
 pub returns-in_err-low : goal.returns-in_err-low
-returns-in_err-low c =
-    let p = err_from_is_err_and c.from_residual-in_err-low.result c.from_residual-in_err-low.ensures.1 in
-    rw (p.1, p.2) (first_behind _ _ c.in_ok-high.ensures.0 ∙ first_front _ _ _ c.in_err-low.ensures)
+returns-in_err-low c = handed_on _ _ _ _ c.from_residual-in_err-low.ensures.1 (first_behind _ _ c.in_ok-high.ensures.0 ∙ first_front _ _ _ c.in_err-low.ensures)
 
 pub returns-in-Some : goal.returns-in-Some
-returns-in-Some c =
-    let gives : Gives c.minus.result (minus (seen_height c.args.self.now c.args.first) (seen_height c.args.self.now c.args.second)) = subst (Gives c.minus.result) (ap₂ minus c.in_ok-high.ensures.1 c.in_ok-low.ensures.1) c.minus.ensures in (
-      first_behind _ _ c.in_ok-high.ensures.0 ∙ first_behind _ _ c.in_ok-low.ensures.0 ∙ after_formed c.args.place _ _ _ _ _ c.in-Some.is gives ∙ none_of_nothing,
-      value_formed _ _ _ c.in-Some.is gives,
-    )
+returns-in-Some c = difference_formed _ _ _ _ _ _ c.args.place (c.args.step + 4) _ c.in_ok-high.ensures c.in_ok-low.ensures c.minus.ensures _ c.in-Some.is
 
 pub returns-in-None : goal.returns-in-None
-returns-in-None c =
-    let gives : Gives c.minus.result (minus (seen_height c.args.self.now c.args.first) (seen_height c.args.self.now c.args.second)) = subst (Gives c.minus.result) (ap₂ minus c.in_ok-high.ensures.1 c.in_ok-low.ensures.1) c.minus.ensures in
-    first_behind _ _ c.in_ok-high.ensures.0 ∙ first_behind _ _ c.in_ok-low.ensures.0 ∙ at_not_formed c.args.place _ _ _ _ c.in-None.is gives
+returns-in-None c = difference_not_formed _ _ _ _ _ _ c.args.place (c.args.step + 4) _ c.in_ok-high.ensures c.in_ok-low.ensures c.minus.ensures c.in-None.is
