@@ -1,17 +1,19 @@
 //! Printing a network.
 
-ghost use Rattle.std.specs.Prelude.{◌≡◌, ◌<◌, [], IfOk, length, option_map, slice_index_or, string_bytes};
+ghost use Rattle.std.specs.Prelude.{◌≡◌, ◌<◌, ◌∷◌, [], IfOk, codes, length, option_map, string_bytes};
 ghost use Rattle.std.specs.List.{filter_map};
-ghost use Rattle.stream_case.specs.Case.{IsComplete};
+ghost use Rattle.stream_case.specs.Case.{IsComplete, IsSourceOf, source_name};
+ghost use Rattle.fractions.specs.Rationals.{fraction_text};
 ghost use Rattle.network_text.specs.Lines.{exchanger_of};
 ghost use Rattle.network_text.specs.Statements.{statements_of};
 ghost use Rattle.network_text.specs.Outcome.{IsNetwork};
 ghost use Rattle.network_text.specs.Shape.{HasShape, KeepsCounts, NamesKnown};
 ghost use Rattle.network_printer.specs.Printed.{branch_name, exchanger_names, statement_of, statement_text, text_of};
 
+use fractions::Frac;
 use network_text::{Line, Network};
 use std::alloc::{AllocError, Global};
-use stream_case::{Case, Name};
+use stream_case::{Case, Name, Source};
 
 /// The name of a branch.
 #[tactic(auto, unfolding(crate::specs::Printed::branch_name))]
@@ -49,16 +51,95 @@ pub fn exchanger_names(alloc: Global, network: &Network) -> Result<Vec<Name>, Al
     declared_names(alloc, network.lines.as_slice())
 }
 
-/// The name with a number.
-fn name_at(names: &[Name], number: u32) -> Name
-    requires { number < length names.now }
-    ensures { result ≡ slice_index_or names.now number [] }
+/// The line that declares an exchanger.
+#[tactic(auto, unfolding(crate::specs::Printed::fields_text))]
+fn exchanger_line(
+    alloc: Global,
+    case: &Case,
+    name: Name,
+    hot: Source,
+    cold: Source,
+    duty: Frac,
+) -> Result<String, AllocError>
+    requires hot { IsSourceOf case.now hot }
+    requires cold { IsSourceOf case.now cold }
+    ensures { IfOk result (λ line. string_bytes line ≡ statement_text (codes "exchanger" ∷ name ∷ source_name case.now hot ∷ source_name case.now cold ∷ fraction_text duty ∷ [])) }
 {
-    names[number as usize]
+    let hot = case.name_of(hot);
+    let cold = case.name_of(cold);
+    format!(in alloc; "exchanger {name} {hot} {cold} {duty}\n")
+}
+
+/// The line that divides a branch in two.
+#[tactic(auto, unfolding(crate::specs::Printed::fields_text))]
+fn split_line(
+    alloc: Global,
+    network: &Network,
+    from: u32,
+    first: u32,
+    cp: Frac,
+    second: u32,
+) -> Result<String, AllocError>
+    requires from { from < length network.now.branches }
+    requires first { first < length network.now.branches }
+    requires second { second < length network.now.branches }
+    ensures { IfOk result (λ line. string_bytes line ≡ statement_text (codes "split" ∷ branch_name network.now from ∷ branch_name network.now first ∷ fraction_text cp ∷ branch_name network.now second ∷ [])) }
+{
+    let from = branch_name(network, from);
+    let first = branch_name(network, first);
+    let second = branch_name(network, second);
+    format!(in alloc; "split {from} {first} {cp} {second}\n")
+}
+
+/// The line that leads a branch through an exchanger.
+#[tactic(auto, unfolding(crate::specs::Printed::fields_text))]
+fn pass_line(
+    alloc: Global,
+    network: &Network,
+    from: u32,
+    exchanger: Name,
+    to: u32,
+) -> Result<String, AllocError>
+    requires from { from < length network.now.branches }
+    requires to { to < length network.now.branches }
+    ensures { IfOk result (λ line. string_bytes line ≡ statement_text (codes "pass" ∷ branch_name network.now from ∷ exchanger ∷ branch_name network.now to ∷ [])) }
+{
+    let from = branch_name(network, from);
+    let to = branch_name(network, to);
+    format!(in alloc; "pass {from} {exchanger} {to}\n")
+}
+
+/// The line that joins two branches.
+#[tactic(auto, unfolding(crate::specs::Printed::fields_text))]
+fn mix_line(
+    alloc: Global,
+    network: &Network,
+    first: u32,
+    second: u32,
+    to: u32,
+) -> Result<String, AllocError>
+    requires first { first < length network.now.branches }
+    requires second { second < length network.now.branches }
+    requires to { to < length network.now.branches }
+    ensures { IfOk result (λ line. string_bytes line ≡ statement_text (codes "mix" ∷ branch_name network.now first ∷ branch_name network.now second ∷ branch_name network.now to ∷ [])) }
+{
+    let first = branch_name(network, first);
+    let second = branch_name(network, second);
+    let to = branch_name(network, to);
+    format!(in alloc; "mix {first} {second} {to}\n")
+}
+
+/// The line that closes a branch.
+#[tactic(auto, unfolding(crate::specs::Printed::fields_text))]
+fn end_line(alloc: Global, network: &Network, branch: u32) -> Result<String, AllocError>
+    requires { branch < length network.now.branches }
+    ensures { IfOk result (λ line. string_bytes line ≡ statement_text (codes "end" ∷ branch_name network.now branch ∷ [])) }
+{
+    let branch = branch_name(network, branch);
+    format!(in alloc; "end {branch}\n")
 }
 
 /// A statement of the network as a line.
-#[tactic(auto, unfolding(crate::specs::Printed::fields_text))]
 fn statement_line(
     alloc: Global,
     case: &Case,
@@ -76,42 +157,20 @@ fn statement_line(
             hot,
             cold,
             duty,
-        } => {
-            let hot = case.name_of(hot);
-            let cold = case.name_of(cold);
-            format!(in alloc; "exchanger {name} {hot} {cold} {duty}\n")
-        }
+        } => exchanger_line(alloc, case, name, hot, cold, duty),
         Line::Split {
             from,
             first,
             cp,
             second,
-        } => {
-            let from = branch_name(network, from);
-            let first = branch_name(network, first);
-            let second = branch_name(network, second);
-            format!(in alloc; "split {from} {first} {cp} {second}\n")
-        }
+        } => split_line(alloc, network, from, first, cp, second),
         Line::Pass {
             from,
             exchanger,
             to,
-        } => {
-            let from = branch_name(network, from);
-            let exchanger = name_at(exchangers, exchanger);
-            let to = branch_name(network, to);
-            format!(in alloc; "pass {from} {exchanger} {to}\n")
-        }
-        Line::Mix { first, second, to } => {
-            let first = branch_name(network, first);
-            let second = branch_name(network, second);
-            let to = branch_name(network, to);
-            format!(in alloc; "mix {first} {second} {to}\n")
-        }
-        Line::End { branch } => {
-            let branch = branch_name(network, branch);
-            format!(in alloc; "end {branch}\n")
-        }
+        } => pass_line(alloc, network, from, exchangers[exchanger as usize], to),
+        Line::Mix { first, second, to } => mix_line(alloc, network, first, second, to),
+        Line::End { branch } => end_line(alloc, network, branch),
     }
 }
 
