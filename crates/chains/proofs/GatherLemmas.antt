@@ -21,7 +21,7 @@ use Rattle.stream_case.specs.declared.source.Side.TheVariants.{Hot, Cold}
 use Rattle.sums.specs.Sum.{int_sum_by}
 use Rattle.sums.proofs.IntegerLemmas.{if_between}
 use Rattle.sums.proofs.OrderLemmas.{AllPairs-across, AllPairs-front, AllPairs-nil}
-use Rattle.sums.proofs.SumLemmas.{int_sum_by-append}
+use Rattle.sums.proofs.SumLemmas.{int_sum_by-append, int_sum_by-more}
 use Rattle.heat_flow.specs.declared.flow.Transfer.{Transfer}
 use Rattle.heat_flow.specs.Flow.{heat_at, part_index, precedes}
 use Rattle.chains.specs.declared.stock.Share.{Share}
@@ -123,6 +123,32 @@ is_joined old n last t heat long read one_pair sum =
       new_is = sym (take_all (n + 1) (set old n more) (omega (arith, long, length-set old n more))) ∙ (take_more_set old n more within ∙ ap (λ z. take n old ++ record { hot = last.hot; cold = last.cold; heat = z } ∷ []) sum);
     }
 
+-- the share at an index of shares in order
+pub record IsShareAt (hots : ℕ) (most : ℤ) (shares : List Share) (i : ℕ) (s : Share) : Type 0 where
+  pub next : Neighbours shares
+  pub within : i < length shares
+  pub is : (d : Share) → get_or shares i d ≡ s
+  pub at_cold : hots ≤ s.node
+  pub some : pos 0 <ℤ s.heat
+  pub positive : All (λ u. pos 0 <ℤ u.heat) shares
+  pub fits : held_of shares s.hot ≤ℤ most
+
+pub share_at : (hots : ℕ) (most : ℤ) (unsorted shares : List Share) → IsPermutation unsorted shares → Neighbours shares → All (λ u. hots ≤ u.node) unsorted → All (λ u. pos 0 <ℤ u.heat) unsorted → All (λ u. held_of unsorted u.hot ≤ℤ most) unsorted → (i : ℕ) (d : Share) → i < length shares → IsShareAt hots most shares i (get_or shares i d)
+share_at hots most unsorted shares same next at_cold positive fits i d within =
+    let s = get_or shares i d in
+    let some = All-permutation (λ (u : Share). pos 0 <ℤ u.heat) unsorted shares same positive in
+    let upto = All-permutation (λ (u : Share). held_of unsorted u.hot ≤ℤ most) unsorted shares same fits i d within in
+    let sum = int_sum_by-permutation (λ (u : Share). if u.hot == s.hot then u.heat else pos 0) unsorted shares same in
+    record {
+      next = next;
+      within = within;
+      is = λ e. get_or_default shares i e d within;
+      at_cold = All-permutation (λ (u : Share). hots ≤ u.node) unsorted shares same at_cold i d within;
+      some = some i d within;
+      positive = some;
+      fits = omega (arith, ints, upto, sum);
+    }
+
 module _ (hots : ℕ) where
   pub AreGathered-none : AreGathered hots [] []
   AreGathered-none = record {
@@ -137,40 +163,35 @@ module _ (hots : ℕ) where
   abbrev HasShare : List Share → Transfer → Type 0
   HasShare shares t = (s : Share) × Contains shares s × (s.hot ≡ t.hot) × (s.node ≡ hots + t.cold)
 
-  module _ (shares : List Share) (next : Neighbours shares) (i : ℕ) (within : i < length shares) (s : Share) (is : (d : Share) → get_or shares i d ≡ s) (at_cold : hots ≤ s.node) (some : pos 0 <ℤ s.heat) (transfers new : List Transfer) (before : AreGathered hots (take i shares) transfers) where
+  module _ (most : ℤ) (shares : List Share) (i : ℕ) (s : Share) (at : IsShareAt hots most shares i s) (transfers new : List Transfer) (before : AreGathered hots (take i shares) transfers) where
     abbrev t : Transfer
     t = transfer_of hots s
 
     -- one share more
     front_is : take (i + 1) shares ≡ take i shares ++ s ∷ []
-    front_is = take_more shares i s within ∙ ap (λ u. take i shares ++ u ∷ []) (is s)
+    front_is = take_more shares i s at.within ∙ ap (λ u. take i shares ++ u ∷ []) (at.is s)
 
     more_shares : (u : Transfer) → HasShare (take i shares) u → HasShare (take (i + 1) shares) u
     more_shares u (r, stands, hot, node) = (r, subst (λ xs. Contains xs r) (sym front_is) (Contains-append_left (take i shares) (s ∷ []) r stands), hot, node)
 
     this_share : (u : Transfer) → AreOfOnePair u t → HasShare (take (i + 1) shares) u
-    this_share u pair = let cold = pair.1 in (s, subst (λ xs. Contains xs s) (sym front_is) (Contains-push (take i shares) s), sym pair.0, omega (arith, cold, at_cold))
+    this_share u pair = let cold = pair.1 in (s, subst (λ xs. Contains xs s) (sym front_is) (Contains-push (take i shares) s), sym pair.0, omega (arith, cold, at.at_cold))
 
     -- the transfers so far are not after it
     so_far : All (λ u. (u.hot < t.hot) ⊎ ((u.hot ≡ t.hot) × (u.cold ≤ t.cold))) transfers
     so_far k d k_in =
         let (r, stands, hot, node) = before.pairs k d k_in in
-        let order = All-contains (λ v. IsNotAfter v s) (take i shares) r (subst (λ v. All (λ w. IsNotAfter w v) (take i shares)) (is s) (earlier shares next i s within)) stands in
-        ⊎_elim (λ less. inl (omega (arith, less, hot))) (λ same. let low = same.1 in inr (sym hot ∙ same.0, omega (arith, low, node, at_cold))) order
+        let order = All-contains (λ v. IsNotAfter v s) (take i shares) r (subst (λ v. All (λ w. IsNotAfter w v) (take i shares)) (at.is s) (earlier shares at.next i s at.within)) stands in
+        ⊎_elim (λ less. inl (omega (arith, less, hot))) (λ same. let low = same.1 in inr (sym hot ∙ same.0, omega (arith, low, node, at.at_cold))) order
+
+    sum_more : (f : Share → ℤ) → int_sum_by f (take (i + 1) shares) ≡ int_sum_by f (take i shares) +ℤ f s
+    sum_more f = int_sum_by-more f shares i s at.within ∙ ap (λ u. int_sum_by f (take i shares) +ℤ f u) (at.is s)
 
     held_more : (a : ℕ) → held_of (take (i + 1) shares) a ≡ held_of (take i shares) a +ℤ (if s.hot == a then s.heat else pos 0)
-    held_more a =
-        let f = λ (u : Share). if u.hot == a then u.heat else pos 0 in
-        let sum = ap (int_sum_by f) front_is in
-        let both = int_sum_by-append f (take i shares) (s ∷ []) in
-        omega (arith, ints)
+    held_more a = sum_more (λ u. if u.hot == a then u.heat else pos 0)
 
     held_at_more : (v : ℕ) → held_at (take (i + 1) shares) v ≡ held_at (take i shares) v +ℤ (if s.node == v then s.heat else pos 0)
-    held_at_more v =
-        let f = λ (u : Share). if u.node == v then u.heat else pos 0 in
-        let sum = ap (int_sum_by f) front_is in
-        let both = int_sum_by-append f (take i shares) (s ∷ []) in
-        omega (arith, ints)
+    held_at_more v = sum_more (λ u. if u.node == v then u.heat else pos 0)
 
     given_more : IsAdded transfers t new → (a : ℕ) → heat_at Hot new a ≡ held_of (take (i + 1) shares) a
     given_more added a = let old = before.given a in let more = held_more a in let heat = added_heat Hot a transfers t new added in omega (arith, ints)
@@ -180,7 +201,7 @@ module _ (hots : ℕ) where
         let old = before.taken b in
         let more = held_at_more (hots + b) in
         let heat = added_heat Cold b transfers t new added in
-        let same = ap (λ test. if test then s.heat else pos 0) (same_cold s.node hots b at_cold) in
+        let same = ap (λ test. if test then s.heat else pos 0) (same_cold s.node hots b at.at_cold) in
         omega (arith, ints)
 
     -- behind transfers of which the last one is of another pair
@@ -200,7 +221,7 @@ module _ (hots : ℕ) where
 
     pub AreGathered-more : IsAdded transfers t new → AreGathered hots (take (i + 1) shares) new
     AreGathered-more (inr pushed) = record {
-      positive = subst (All (λ u. pos 0 <ℤ u.heat)) (sym pushed.new_is) (All-push (λ u. pos 0 <ℤ u.heat) transfers t before.positive some);
+      positive = subst (All (λ u. pos 0 <ℤ u.heat)) (sym pushed.new_is) (All-push (λ u. pos 0 <ℤ u.heat) transfers t before.positive at.some);
       ordered = subst (AllPairs precedes) (sym pushed.new_is) (all_pairs_push precedes transfers t before.ordered (behind pushed));
       pairs = subst (All (HasShare (take (i + 1) shares))) (sym pushed.new_is)
           (All-push (HasShare (take (i + 1) shares)) transfers t (All-weaker (HasShare (take i shares)) (HasShare (take (i + 1) shares)) more_shares transfers before.pairs) (this_share t (refl, refl)));
@@ -215,7 +236,7 @@ module _ (hots : ℕ) where
         let pairs = All-pop (HasShare (take i shares)) transfers front (Some last) joined.old_is before.pairs in
         let ordered = subst (AllPairs precedes) joined.old_is before.ordered in
         record {
-          positive = subst (All (λ u. pos 0 <ℤ u.heat)) (sym joined.new_is) (All-push (λ u. pos 0 <ℤ u.heat) front more positive.0 (let had = positive.1 in omega (arith, ints, had, some)));
+          positive = subst (All (λ u. pos 0 <ℤ u.heat)) (sym joined.new_is) (All-push (λ u. pos 0 <ℤ u.heat) front more positive.0 (let had = positive.1 in omega (arith, ints, had, at.some)));
           ordered = subst (AllPairs precedes) (sym joined.new_is) (all_pairs_push precedes front more (AllPairs-front precedes front (last ∷ []) ordered) (λ k d k_in. All-head (precedes (get_or front k d)) last [] (AllPairs-across precedes front (last ∷ []) k d ordered k_in)));
           pairs = subst (All (HasShare (take (i + 1) shares))) (sym joined.new_is)
               (All-push (HasShare (take (i + 1) shares)) front more (All-weaker (HasShare (take i shares)) (HasShare (take (i + 1) shares)) more_shares front pairs.0) (this_share more joined.one_pair));
@@ -224,8 +245,8 @@ module _ (hots : ℕ) where
         }
 
     -- what is gathered of its hot part leaves room for it
-    pub room_for_it : (most : ℤ) → All (λ (u : Share). pos 0 <ℤ u.heat) shares → held_of shares s.hot ≤ℤ most → All (λ (u : Transfer). u.hot ≡ s.hot → (u.heat +ℤ s.heat) ≤ℤ most) transfers
-    room_for_it most positive fits k d k_in same =
+    pub room_for_it : All (λ (u : Transfer). u.hot ≡ s.hot → (u.heat +ℤ s.heat) ≤ℤ most) transfers
+    room_for_it k d k_in same =
         let u = get_or transfers k d in
         let f = λ (v : Transfer). if v.hot == s.hot then v.heat else pos 0 in
         let g = λ (v : Share). if v.hot == s.hot then v.heat else pos 0 in
@@ -234,7 +255,8 @@ module _ (hots : ℕ) where
         let two = ap (λ b. if b then s.heat else pos 0) (eq-eqb s.hot s.hot refl) in
         let gathered = before.given s.hot in
         let more = held_more s.hot in
-        let upto = int_sum_by-front g (i + 1) shares (λ j c j_in. let had = positive j c j_in in (if_between ((get_or shares j c).hot == s.hot) (get_or shares j c).heat (omega (arith, ints, had))).0) in
+        let fits = at.fits in
+        let upto = int_sum_by-front g (i + 1) shares (λ j c j_in. let had = at.positive j c j_in in (if_between ((get_or shares j c).hot == s.hot) (get_or shares j c).heat (omega (arith, ints, had))).0) in
         omega (arith, ints)
 
   -- gathered in one order, gathered in any
@@ -246,18 +268,3 @@ module _ (hots : ℕ) where
     given = λ a. gathered.given a ∙ int_sum_by-permutation (λ s. if s.hot == a then s.heat else pos 0) shares sorted same;
     taken = λ b. gathered.taken b ∙ int_sum_by-permutation (λ s. if s.node == (hots + b) then s.heat else pos 0) shares sorted same;
   }
-
--- a share of the sorted list
-pub record IsSortedShare (hots : ℕ) (most : ℤ) (items : List Share) (s : Share) : Type 0 where
-  pub at_cold : hots ≤ s.node
-  pub some : pos 0 <ℤ s.heat
-  pub positive : All (λ u. pos 0 <ℤ u.heat) items
-  pub fits : held_of items s.hot ≤ℤ most
-
-pub sorted_share : (hots : ℕ) (most : ℤ) (shares items : List Share) → IsPermutation shares items → All (λ u. hots ≤ u.node) shares → All (λ u. pos 0 <ℤ u.heat) shares → All (λ u. held_of shares u.hot ≤ℤ most) shares → (i : ℕ) (d : Share) → i < length items → IsSortedShare hots most items (get_or items i d)
-sorted_share hots most shares items same at_cold positive fits i d within =
-    let s = get_or items i d in
-    let some = All-permutation (λ (u : Share). pos 0 <ℤ u.heat) shares items same positive in
-    let upto = All-permutation (λ (u : Share). held_of shares u.hot ≤ℤ most) shares items same fits i d within in
-    let sum = int_sum_by-permutation (λ (u : Share). if u.hot == s.hot then u.heat else pos 0) shares items same in
-    record { at_cold = All-permutation (λ (u : Share). hots ≤ u.node) shares items same at_cold i d within; some = some i d within; positive = some; fits = omega (arith, ints, upto, sum) }

@@ -1,5 +1,5 @@
 -- The net of chains is an inner net, and it is small.
-use Rattle.std.proofs.Common.{◌≡◌, ⊎_elim, inl, inr, refl, sym, ap, subst, subst₂, ℕ, ◌+◌, ◌-◌, ◌*◌, ◌<◌, ◌≤◌, List, [], length, get_or, take, arith}
+use Rattle.std.proofs.Common.{◌≡◌, ◌⊎◌, ⊎_elim, inl, inr, refl, sym, subst, subst₂, ℕ, ◌+◌, ◌-◌, ◌*◌, ◌<◌, ◌≤◌, List, [], length, get_or, take, arith}
 use Rattle.std.specs.Prelude.{ℤ, All, Contains}
 use Rattle.std.proofs.lemmas.List.{take_all}
 use Rattle.std.proofs.lemmas.List.Elements.{All-weaker, Contains-get_or}
@@ -20,7 +20,7 @@ use Rattle.flow_net.specs.declared.net.Net.{Net}
 use Rattle.chains.specs.declared.net.Chains.{Chains}
 use Rattle.chains.specs.declared.net.Group.{Group}
 use Rattle.chains.specs.declared.net.TheConstants.{MOST_INNER_LINKS, MOST_INNER_NODES}
-use Rattle.chains.specs.ChainNet.{IsEntering, IsOnward, IsLeaving, IsChainLink, HoldsChains, StandInLine}
+use Rattle.chains.specs.ChainNet.{open_link, IsEntering, IsOnward, IsLeaving, IsChainLink, HoldsChains, StandInLine}
 use Rattle.chains.specs.Groups.{AreGroups, StartsChain}
 use Rattle.chains.specs.Inner.{IsInner, IsInnerLink}
 use Rattle.chains.specs.Making.{Appends}
@@ -56,65 +56,43 @@ chain_node first ranks groups in_line g r found below =
     (omega (arith, is), omega (arith, is, last))
 
 module _ (c : Case) (places : List ℤ) (hot cold : List Part) (groups : List Group) (is_grid : IsGrid c places) (hot_on : All (IsOnPlaces c places Hot) hot) (cold_on : All (IsOnPlaces c places Cold) cold) (in_line : StandInLine (length hot + length cold) (rank_count places) groups) where
-  inner_link : (l : Link) → IsChainLink c places hot cold groups l → IsInnerLink (length hot) (length cold) ((length hot + length cold) + length groups * rank_count places) l
+  -- among the nodes of the parts and of the chains
+  abbrev IsAmong : Link → Type 0
+  IsAmong l = IsInnerLink (length hot) (length cold) ((length hot + length cold) + length groups * rank_count places) l
+
+  -- an open link between two of them
+  among : (l : Link) (from to : ℕ) → l ≡ open_link from to → from < (length hot + length cold) + length groups * rank_count places → to < (length hot + length cold) + length groups * rank_count places
+      → (from < length hot) ⊎ ((length hot + length cold) ≤ from) → length hot ≤ to → ((length hot + length cold) ≤ from → (length hot + length cold) ≤ to → from < to) → IsAmong l
+  among l from to same from_in to_in leave enter order = subst IsAmong (sym same) (record { from_in = from_in; to_in = to_in; leaves = leave; enters = enter; onward = order; room = refl; cost = refl })
+
+  inner_link : (l : Link) → IsChainLink c places hot cold groups l → IsAmong l
   inner_link l is = ⊎_elim enters (λ other. ⊎_elim onward leaves other) is
     where
-      enters : IsEntering c places hot cold groups l → IsInnerLink (length hot) (length cold) ((length hot + length cold) + length groups * rank_count places) l
+      enters : IsEntering c places hot cold groups l → IsAmong l
       enters e =
           let index = slice_get_within hot e.index e.part e.part_is in
           let rank = rank_within c places is_grid.ordered Hot e.part (All-slice_get (IsOnPlaces c places Hot) hot e.index e.part hot_on e.part_is) in
           let node = chain_node (length hot + length cold) (rank_count places) groups in_line e.group _ e.group_is rank in
-          let from = ap (λ k. k.from) e.is in
-          let to = ap (λ k. k.to) e.is in
-          record {
-            from_in = omega (arith, from, index);
-            to_in = omega (arith, to, node);
-            leaves = inl (omega (arith, from, index));
-            enters = omega (arith, to, node);
-            onward = λ late _. absurd (omega (arith, late, from, index));
-            room = ap (λ k. k.room) e.is;
-            cost = ap (λ k. k.cost) e.is;
-          }
+          among l _ _ e.is (omega (arith, index)) (omega (arith, node)) (inl index) (omega (arith, node)) (λ late _. absurd (omega (arith, late, index)))
 
-      onward : IsOnward c places hot cold groups l → IsInnerLink (length hot) (length cold) ((length hot + length cold) + length groups * rank_count places) l
+      onward : IsOnward c places hot cold groups l → IsAmong l
       onward e =
           let below = e.within in
           let first = chain_node (length hot + length cold) (rank_count places) groups in_line e.group e.rank e.group_is (omega (arith, below)) in
           let second = chain_node (length hot + length cold) (rank_count places) groups in_line e.group (e.rank + 1) e.group_is below in
-          let from = ap (λ k. k.from) e.is in
-          let to = ap (λ k. k.to) e.is in
-          record {
-            from_in = omega (arith, from, first);
-            to_in = omega (arith, to, second);
-            leaves = inr (omega (arith, from, first));
-            enters = omega (arith, to, second);
-            onward = λ _ _. omega (arith, from, to);
-            room = ap (λ k. k.room) e.is;
-            cost = ap (λ k. k.cost) e.is;
-          }
+          among l _ _ e.is (omega (arith, first)) (omega (arith, second)) (inr (omega (arith, first))) (omega (arith, second)) (λ _ _. omega arith)
 
-      leaves : IsLeaving c places hot cold groups l → IsInnerLink (length hot) (length cold) ((length hot + length cold) + length groups * rank_count places) l
+      leaves : IsLeaving c places hot cold groups l → IsAmong l
       leaves e =
           let index = slice_get_within cold e.index e.part e.part_is in
           let rank = rank_within c places is_grid.ordered Cold e.part (All-slice_get (IsOnPlaces c places Cold) cold e.index e.part cold_on e.part_is) in
           let node = chain_node (length hot + length cold) (rank_count places) groups in_line e.group _ e.group_is rank in
-          let from = ap (λ k. k.from) e.is in
-          let to = ap (λ k. k.to) e.is in
-          record {
-            from_in = omega (arith, from, node);
-            to_in = omega (arith, to, index);
-            leaves = inr (omega (arith, from, node));
-            enters = omega (arith, to);
-            onward = λ _ late. absurd (omega (arith, late, to, index));
-            room = ap (λ k. k.room) e.is;
-            cost = ap (λ k. k.cost) e.is;
-          }
+          among l _ _ e.is (omega (arith, node)) (omega (arith, index)) (inr (omega (arith, node))) (omega arith) (λ _ late. absurd (omega (arith, late, index)))
 
   pub IsInner-chains : (net : Net) → HoldsChains c places hot cold groups net.links → net.nodes ≡ (length hot + length cold) + length groups * rank_count places → IsInner (length hot) (length cold) net
   IsInner-chains net holds nodes = record {
     nodes = omega (arith, nodes);
-    links = subst (λ n. All (IsInnerLink (length hot) (length cold) n) net.links) (sym nodes)
-        (All-weaker (IsChainLink c places hot cold groups) (IsInnerLink (length hot) (length cold) ((length hot + length cold) + length groups * rank_count places)) inner_link net.links holds.each);
+    links = subst (λ n. All (IsInnerLink (length hot) (length cold) n) net.links) (sym nodes) (All-weaker (IsChainLink c places hot cold groups) IsAmong inner_link net.links holds.each);
   }
 
 -- ---- sizes

@@ -4,7 +4,7 @@ ghost use Rattle.stream_case.specs.declared.limits.TheConstants.{ALL_UTILITIES, 
 ghost use Rattle.stream_case.specs.declared.source.Side.TheVariants.{Hot, Cold};
 ghost use Rattle.stream_case.specs.Case.{side_of, is_forbidden, IsComplete};
 ghost use Rattle.chains.specs.ChainNet.{StandInLine};
-ghost use Rattle.chains.specs.Groups.{AreGroups, HaveSamePartners};
+ghost use Rattle.chains.specs.Groups.{AreGroups};
 ghost use Rattle.chains.specs.Making.{AreSources, IsLike, ListsOnce};
 
 use crate::net::Group;

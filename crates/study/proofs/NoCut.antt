@@ -1,14 +1,14 @@
 -- A case whose utilities are the two standard ones, neither of them in a forbidden match, has no cut: `HOT` reaches each cold part and can give
 -- more than all of them take, and each hot part reaches `COLD`, which can take more than all of them give.
-use Rattle.std.proofs.Common.{◌≡◌, ◌≢◌, ◌∙◌, ⊎_elim, inl, inr, refl, sym, ap, ap₂, ℕ, ◌+◌, Bool, true, false, not, ◌&&◌, ◌||◌, List, [], ◌∷◌, get_or, Some, arith}
-use Rattle.std.specs.Prelude.{ℤ, pos, ◌≤ℤ◌, ◌<ℤ◌, ◌==◌, int_le, if◌then◌else◌, All, slice_get}
+use Rattle.std.proofs.Common.{◌≡◌, ◌≢◌, ◌∙◌, ⊎_elim, inr, refl, sym, ap, ap₂, ℕ, Bool, true, false, not, ◌&&◌, ◌||◌, List, [], ◌∷◌, get_or, Some, arith}
+use Rattle.std.specs.Prelude.{ℤ, pos, ◌≤ℤ◌, ◌<ℤ◌, ◌==◌, if◌then◌else◌, All, slice_get}
 use Rattle.std.specs.Ordering.{int_eq}
 use Rattle.std.proofs.lemmas.Bool.{and_from, and_left, and_right, both_ways, cases_eq, eq-eqb, ne_eqb, true≢false}
 use Rattle.std.proofs.lemmas.Int.{ints}
 use Rattle.std.proofs.lemmas.List.Elements.{All-head, All-nil}
 use Rattle.std.proofs.lemmas.List.Folds.{list_any_at, list_any_none}
 use Rattle.std.proofs.lemmas.Option.{same_Some, slice_get-get_or, slice_get_within}
-use Rattle.stream_case.specs.declared.limits.TheConstants.{ALL_STREAMS_HEAT, MOST_HEAT}
+use Rattle.stream_case.specs.declared.limits.TheConstants.{ALL_STREAMS_HEAT}
 use Rattle.stream_case.specs.declared.source.Side.{Side}
 use Rattle.stream_case.specs.declared.source.Side.TheVariants.{Hot, Cold}
 use Rattle.stream_case.specs.declared.source.Source.{Source}
@@ -33,7 +33,7 @@ use Rattle.heat_flow.specs.Reach.{both_reach, part_reaches, passes_heat, reach_b
 use Rattle.corner_flow.proofs.HeatLemmas.{above, from_stream, from_utility, is_reached, one_times}
 use Rattle.corner_flow.proofs.SideLemmas.{AreStandardParts, AreStandardParts-parts, IsStandardPart, IsUtilityHere}
 use Rattle.corner_flow.proofs.StandardLemmas.{end_of, some_utility}
-use Rattle.study.specs.Supplied.{IsSupplied, JoinsStreams}
+use Rattle.study.specs.Supplied.{IsSupplied}
 use Rattle.study.proofs.Leasts.{need-at_most, part_at}
 
 -- ---- the case without its forbidden matches is standard, and has the same parts

@@ -1,14 +1,14 @@
 -- A completed sample has a heat flow, and a sample has one row.
-use Rattle.std.proofs.Common.{◌≡◌, ◌∙◌, inl, refl, sym, ℕ, ◌*◌, ◌≤◌, map, arith}
+use Rattle.std.proofs.Common.{◌≡◌, ◌∙◌, inl, refl, sym, ℕ, ◌*◌, ◌≤◌}
 use Rattle.std.specs.Prelude.{◌==◌, filter}
 use Rattle.std.specs.List.{range_with_len}
 use Rattle.std.proofs.lemmas.List.Elements.{All-map}
-use Rattle.stream_case.specs.Case.{completed, IsComplete}
+use Rattle.stream_case.specs.Case.{IsComplete}
 use Rattle.study.specs.declared.limits.TheConstants.{FORBID_CHANCE, MOST_SAMPLE_STREAMS}
 use Rattle.study.specs.declared.sample_targets.SampleRow.{SampleRow}
 use Rattle.study.specs.Draws.{draw, state_after}
 use Rattle.study.specs.Sample.{pair_of, sample}
-use Rattle.study.specs.SampleRow.{completed_sample, IsSampleRow, OneSampleRow}
+use Rattle.study.specs.SampleRow.{completed_sample, OneSampleRow}
 use Rattle.study.specs.Supplied.{IsSupplied, JoinsStreams}
 use Rattle.study.proofs.RowLemmas.{one_cost}
 use Rattle.study.proofs.SampleLemmas.{IsValid-sample}

@@ -1,5 +1,5 @@
 //! The contributions of a sweep.
-ghost use Rattle.std.specs.Prelude.{◌≡◌, ◌<◌, ◌≤◌, ◌↔◌, ◌≤ℤ◌, ℕ};
+ghost use Rattle.std.specs.Prelude.{◌≡◌, ◌<◌, ◌≤◌, ◌↔◌, ℕ};
 ghost use Rattle.stream_case.specs.Limits.{IsContribution};
 ghost use Rattle.study.specs.declared.limits.TheConstants.{MOST_ROWS};
 ghost use Rattle.study.specs.Plan.{contribution_at, has_row, IsSweepPlan};

@@ -1,9 +1,9 @@
 //! Sweeps by several workers.
-ghost use Rattle.std.specs.Prelude.{◌≡◌, ◌<◌, ◌≤◌, ℕ, length, IfOk};
+ghost use Rattle.std.specs.Prelude.{◌≡◌, ◌<◌, ◌≤◌, length, IfOk};
 ghost use Rattle.stream_case.specs.Case.{IsValid};
 ghost use Rattle.study.specs.declared.limits.TheConstants.{MOST_WORKERS};
 ghost use Rattle.study.specs.Plan.{has_row, IsSweepPlan};
-ghost use Rattle.study.specs.Row.{IsRow, OneRow};
+ghost use Rattle.study.specs.Row.{OneRow};
 ghost use Rattle.study.specs.Sweep.{AreRows, AreRowsOfWorker, AreRowsOfWorkers, IsRowAt, OneSweep};
 
 use crate::gate::Gate;

@@ -12,9 +12,7 @@ use Rattle.stream_case.specs.declared.source.Side.TheVariants.{Hot, Cold}
 use Rattle.stream_case.specs.Limits.{IsBetween, IsPartPrice}
 use Rattle.sums.proofs.SumLemmas.{int_sum_from-same_each}
 use Rattle.grid.specs.declared.part.Part.{Part}
-use Rattle.heat_flow.specs.declared.cut.Cut.{Cut}
 use Rattle.heat_flow.specs.declared.flow.Flow.{Flow}
-use Rattle.heat_flow.specs.declared.flow.Transfer.{Transfer}
 use Rattle.heat_flow.specs.declared.prices.Prices.{Prices}
 use Rattle.heat_flow.specs.Flow.{heat_at, KeepsRanges, IsHeatFlow, IsLeastCost, cost_of}
 use Rattle.heat_flow.specs.Prices.{price_at, IsSupporting, excess_price}
@@ -26,7 +24,7 @@ use Rattle.flow_net.specs.Net.{link_at, potential_at, inflow, outflow}
 use Rattle.chains.specs.Path.{IsPath, PathsAreReaches}
 use Rattle.chains.specs.Spread.{IsSpread}
 use Rattle.transport.specs.declared.answer.Answer.{Answer}
-use Rattle.transport.specs.Answer.{IfLeast, IfStuck, ArePartPrices, IsCertified, priced}
+use Rattle.transport.specs.Answer.{IfLeast, ArePartPrices, IsCertified, priced}
 use Rattle.transport.specs.Around.{RoutesMost, IsNodePotential, prices_of}
 use Rattle.transport.proofs.Balances.{spare, spare_within, hot_given, cold_taken}
 use Rattle.transport.proofs.InnerFlows.{not_full}
@@ -70,7 +68,15 @@ module _ (potentials : List ℤ) (each : All IsNodePotential potentials) (end : 
 
 -- ---- the heat flow and the prices
 
-module _ (hot cold : List Part) (inner : Net) (reach : ℕ → ℕ → Bool) (g : IsAround hot cold inner) (paths : PathsAreReaches (length hot) (length cold) inner.links reach) (flow potentials : List ℤ) (m : RoutesMost hot cold inner flow potentials) (transfers : List Transfer) (spread : IsSpread (length hot) (length cold) inner.links flow transfers) where
+-- the most of all parts, routed through an inner net whose paths are the pairs that reach, and transfers into which the flow is taken
+-- apart
+pub record IsRoutedHeat (hot cold : List Part) (inner : Net) (reach : ℕ → ℕ → Bool) (flow potentials : List ℤ) (carried : Flow) : Type 0 where
+  pub around : IsAround hot cold inner
+  pub paths : PathsAreReaches (length hot) (length cold) inner.links reach
+  pub routes : RoutesMost hot cold inner flow potentials
+  pub spread : IsSpread (length hot) (length cold) inner.links flow carried.transfers
+
+module _ {hot cold : List Part} {inner : Net} {reach : ℕ → ℕ → Bool} {flow potentials : List ℤ} {carried : Flow} (r : IsRoutedHeat hot cold inner reach flow potentials carried) where
   abbrev spill : ℕ
   spill = (ends hot cold inner).spill
 
@@ -83,36 +89,36 @@ module _ (hot cold : List Part) (inner : Net) (reach : ℕ → ℕ → Bool) (g 
   abbrev cold_prices : List ℤ
   cold_prices = prices_of potentials (length hot) (length cold) filler
 
-  each_potential : All IsNodePotential potentials
-  each_potential = potentials_within hot cold inner g potentials m.bounded
+  pub each_potential : All IsNodePotential potentials
+  each_potential = potentials_within hot cold inner r.around potentials r.routes.bounded
 
   -- what each part exchanges
-  hot_heat_is : (a : ℕ) (p : Part) → slice_get hot a ≡ Some p → heat_at Hot transfers a ≡ outflow inner.links flow a
-  hot_heat_is a p at = spread.given a (slice_get_within hot a p at)
+  hot_heat_is : (a : ℕ) (p : Part) → slice_get hot a ≡ Some p → heat_at Hot carried.transfers a ≡ outflow inner.links flow a
+  hot_heat_is a p at = r.spread.given a (slice_get_within hot a p at)
 
-  cold_heat_is : (b : ℕ) (p : Part) → slice_get cold b ≡ Some p → heat_at Cold transfers b ≡ inflow inner.links flow (length hot + b)
-  cold_heat_is b p at = spread.taken b (slice_get_within cold b p at)
+  cold_heat_is : (b : ℕ) (p : Part) → slice_get cold b ≡ Some p → heat_at Cold carried.transfers b ≡ inflow inner.links flow (length hot + b)
+  cold_heat_is b p at = r.spread.taken b (slice_get_within cold b p at)
 
   from_spare : (least most x heat : ℤ) → heat ≡ most -ℤ x → IsBetween (pos 0) (most -ℤ least) x → IsBetween least most heat
   from_spare least most x heat is h = record { from = omega (arith, ints, is, h.upto); upto = omega (arith, ints, is, h.from) }
 
-  hot_ranges : KeepsRanges Hot hot transfers
+  hot_ranges : KeepsRanges Hot hot carried.transfers
   hot_ranges a p at =
-      from_spare p.least p.most (spare hot cold inner g.inner_net flow (limits_around hot cold inner g) (ends_around hot cold inner g) m.routing Hot a) (heat_at Hot transfers a)
-      (hot_heat_is a p at ∙ hot_given hot cold inner g.inner_net flow (limits_around hot cold inner g) (ends_around hot cold inner g) m.routing a p at) (spare_within hot cold inner g.inner_net flow (limits_around hot cold inner g) (ends_around hot cold inner g) m.routing Hot a p at)
+      from_spare p.least p.most (spare hot cold inner r.around.inner_net flow (limits_around hot cold inner r.around) (ends_around hot cold inner r.around) r.routes.routing Hot a) (heat_at Hot carried.transfers a)
+      (hot_heat_is a p at ∙ hot_given hot cold inner r.around.inner_net flow (limits_around hot cold inner r.around) (ends_around hot cold inner r.around) r.routes.routing a p at) (spare_within hot cold inner r.around.inner_net flow (limits_around hot cold inner r.around) (ends_around hot cold inner r.around) r.routes.routing Hot a p at)
 
-  cold_ranges : KeepsRanges Cold cold transfers
+  cold_ranges : KeepsRanges Cold cold carried.transfers
   cold_ranges b p at =
-      from_spare p.least p.most (spare hot cold inner g.inner_net flow (limits_around hot cold inner g) (ends_around hot cold inner g) m.routing Cold b) (heat_at Cold transfers b)
-      (cold_heat_is b p at ∙ cold_taken hot cold inner g.inner_net flow (limits_around hot cold inner g) (ends_around hot cold inner g) m.routing b p at) (spare_within hot cold inner g.inner_net flow (limits_around hot cold inner g) (ends_around hot cold inner g) m.routing Cold b p at)
+      from_spare p.least p.most (spare hot cold inner r.around.inner_net flow (limits_around hot cold inner r.around) (ends_around hot cold inner r.around) r.routes.routing Cold b) (heat_at Cold carried.transfers b)
+      (cold_heat_is b p at ∙ cold_taken hot cold inner r.around.inner_net flow (limits_around hot cold inner r.around) (ends_around hot cold inner r.around) r.routes.routing b p at) (spare_within hot cold inner r.around.inner_net flow (limits_around hot cold inner r.around) (ends_around hot cold inner r.around) r.routes.routing Cold b p at)
 
-  heat_flow : IsHeatFlow reach hot cold transfers
+  heat_flow : IsHeatFlow reach hot cold carried.transfers
   heat_flow = record {
-    positive = spread.positive;
-    hot_indexes = spread.hot_indexes;
-    cold_indexes = spread.cold_indexes;
-    joined = λ k d within. let t = get_or transfers k d in paths.reaches t.hot t.cold (spread.hot_indexes k d within) (spread.cold_indexes k d within) (spread.joined k d within);
-    ordered = spread.ordered;
+    positive = r.spread.positive;
+    hot_indexes = r.spread.hot_indexes;
+    cold_indexes = r.spread.cold_indexes;
+    joined = λ k d within. let t = get_or carried.transfers k d in r.paths.reaches t.hot t.cold (r.spread.hot_indexes k d within) (r.spread.cold_indexes k d within) (r.spread.joined k d within);
+    ordered = r.spread.ordered;
     hot_ranges = hot_ranges;
     cold_ranges = cold_ranges;
   }
@@ -131,7 +137,7 @@ module _ (hot cold : List Part) (inner : Net) (reach : ℕ → ℕ → Bool) (g 
   path_falls (l ∷ path) u v h =
       let (k, within, is) = h.0 in
       let here : link_at inner.links k ≡ l = get_or_default inner.links k (record { from = 0; to = 0; room = pos 0; cost = pos 0 }) l within ∙ is in
-      let fall = falls hot cold inner g.inner_net flow potentials (limits_around hot cold inner g) (ends_around hot cold inner g) m.routing m.proof k within (not_full hot cold inner g flow m.routing k within) in
+      let fall = falls hot cold inner r.around.inner_net flow potentials (limits_around hot cold inner r.around) (ends_around hot cold inner r.around) r.routes.routing r.routes.proof k within (not_full hot cold inner r.around flow r.routes.routing k within) in
       let down : potential_at potentials l.to ≤ℤ potential_at potentials l.from = subst (λ n. potential_at potentials n.to ≤ℤ potential_at potentials n.from) here fall in
       let from = ap (potential_at potentials) h.1 in
       let rest = path_falls path l.to v h.2 in
@@ -139,61 +145,57 @@ module _ (hot cold : List Part) (inner : Net) (reach : ℕ → ℕ → Bool) (g 
 
   supporting : IsSupporting reach hot_prices cold_prices
   supporting a b joined =
-      let (path, is) = paths.leads a b joined in
+      let (path, is) = r.paths.leads a b joined in
       let down = path_falls path a (length hot + b) is in
-      let over = filler_falls hot cold inner g.inner_net flow potentials (limits_around hot cold inner g) (ends_around hot cold inner g) m.routing m.proof (small_cold hot cold inner g) in
-      let y = hot_price a (paths.hot_within a b joined) in
-      let z = cold_price b (paths.cold_within a b joined) in
+      let over = filler_falls hot cold inner r.around.inner_net flow potentials (limits_around hot cold inner r.around) (ends_around hot cold inner r.around) r.routes.routing r.routes.proof (small_cold hot cold inner r.around) in
+      let y = hot_price a (r.paths.hot_within a b joined) in
+      let z = cold_price b (r.paths.cold_within a b joined) in
       omega (arith, ints, down, over, y, z)
 
-  certifies : Certifies hot cold transfers hot_prices cold_prices
+  certifies : Certifies hot cold carried.transfers hot_prices cold_prices
   certifies =
-      let worth = worth_is hot cold inner g.inner_net flow potentials (limits_around hot cold inner g) (ends_around hot cold inner g) m.routing m.proof (small_cold hot cold inner g) (not_full hot cold inner g flow m.routing) in
+      let worth = worth_is hot cold inner r.around.inner_net flow potentials (limits_around hot cold inner r.around) (ends_around hot cold inner r.around) r.routes.routing r.routes.proof (small_cold hot cold inner r.around) (not_full hot cold inner r.around flow r.routes.routing) in
       let given =
-      int_sum_from-same_each (λ i p. price_at hot_prices i *ℤ heat_at Hot transfers i) (λ i (q : Part). (potential_at potentials (0 + i) -ℤ potential_at potentials spill) *ℤ outflow inner.links flow (0 + i)) hot
+      int_sum_from-same_each (λ i p. price_at hot_prices i *ℤ heat_at Hot carried.transfers i) (λ i (q : Part). (potential_at potentials (0 + i) -ℤ potential_at potentials spill) *ℤ outflow inner.links flow (0 + i)) hot
       (λ i p at. ap₂ ◌*ℤ◌ (price_is potentials each_potential spill (length hot) 0 i (slice_get_within hot i p at)) (hot_heat_is i p at ∙ ap (outflow inner.links flow) (sym (zero-add i)))) in
       let taken =
-      int_sum_from-same_each (λ i p. price_at cold_prices i *ℤ heat_at Cold transfers i) (λ i (q : Part). (potential_at potentials (length hot + i) -ℤ potential_at potentials filler) *ℤ inflow inner.links flow (length hot + i)) cold
+      int_sum_from-same_each (λ i p. price_at cold_prices i *ℤ heat_at Cold carried.transfers i) (λ i (q : Part). (potential_at potentials (length hot + i) -ℤ potential_at potentials filler) *ℤ inflow inner.links flow (length hot + i)) cold
       (λ i p at. ap₂ ◌*ℤ◌ (cold_price i (slice_get_within cold i p at)) (cold_heat_is i p at)) in
       record {
         hot_slack = λ i p at.
-            subst (λ y. IsSlack (excess_price Hot p.price y) p.least p.most (heat_at Hot transfers i)) (sym (hot_price i (slice_get_within hot i p at)))
-            (subst (IsSlack (excess_price Hot p.price (potential_at potentials i -ℤ potential_at potentials spill)) p.least p.most) (sym (hot_heat_is i p at)) (hot_slack hot cold inner g.inner_net flow potentials (limits_around hot cold inner g) (ends_around hot cold inner g) m.routing m.proof i p at));
+            subst (λ y. IsSlack (excess_price Hot p.price y) p.least p.most (heat_at Hot carried.transfers i)) (sym (hot_price i (slice_get_within hot i p at)))
+            (subst (IsSlack (excess_price Hot p.price (potential_at potentials i -ℤ potential_at potentials spill)) p.least p.most) (sym (hot_heat_is i p at)) (hot_slack hot cold inner r.around.inner_net flow potentials (limits_around hot cold inner r.around) (ends_around hot cold inner r.around) r.routes.routing r.routes.proof i p at));
         cold_slack = λ i p at.
-            subst (λ z. IsSlack (excess_price Cold p.price z) p.least p.most (heat_at Cold transfers i)) (sym (cold_price i (slice_get_within cold i p at)))
-            (subst (IsSlack (excess_price Cold p.price (potential_at potentials (length hot + i) -ℤ potential_at potentials filler)) p.least p.most) (sym (cold_heat_is i p at)) (cold_slack hot cold inner g.inner_net flow potentials (limits_around hot cold inner g) (ends_around hot cold inner g) m.routing m.proof i p at));
+            subst (λ z. IsSlack (excess_price Cold p.price z) p.least p.most (heat_at Cold carried.transfers i)) (sym (cold_price i (slice_get_within cold i p at)))
+            (subst (IsSlack (excess_price Cold p.price (potential_at potentials (length hot + i) -ℤ potential_at potentials filler)) p.least p.most) (sym (cold_heat_is i p at)) (cold_slack hot cold inner r.around.inner_net flow potentials (limits_around hot cold inner r.around) (ends_around hot cold inner r.around) r.routes.routing r.routes.proof i p at));
         worth = given ∙ worth ∙ sym taken;
       }
 
-  pub certified : IsCertified reach hot cold transfers hot_prices cold_prices (cost_of hot cold transfers)
+  pub certified : IsCertified reach hot cold carried.transfers hot_prices cold_prices (cost_of hot cold carried.transfers)
   certified = record {
     flow = heat_flow;
     supporting = supporting;
     hot_prices = prices_are potentials each_potential spill hot 0;
     cold_prices = prices_are potentials each_potential filler cold (length hot);
     costs = refl;
-    value = value-is_cost reach hot cold transfers hot_prices cold_prices heat_flow certifies;
+    value = value-is_cost reach hot cold carried.transfers hot_prices cold_prices heat_flow certifies;
   }
 
-  pub least_cost : IsLeastCost reach hot cold (cost_of hot cold transfers)
-  least_cost = IsLeastCost-certified reach hot cold transfers hot_prices cold_prices supporting heat_flow certifies
+  pub least_cost : IsLeastCost reach hot cold (cost_of hot cold carried.transfers)
+  least_cost = IsLeastCost-certified reach hot cold carried.transfers hot_prices cold_prices supporting heat_flow certifies
 
-  pub has_cost : HasCost hot cold transfers
-  has_cost = HasCost-flow reach hot cold transfers heat_flow
+  pub has_cost : HasCost hot cold carried.transfers
+  has_cost = HasCost-flow reach hot cold carried.transfers heat_flow
 
   -- ---- the answer with the prices
 
-  module _ {E : Type 0} (carried : Flow) (same : carried.transfers ≡ transfers) (result : Result Answer E) (answered : IfOk result (λ a. a ≡ priced hot cold inner.nodes potentials carried)) where
+  module _ {E : Type 0} (result : Result Answer E) (answered : IfOk result (λ a. a ≡ priced hot cold inner.nodes potentials carried)) where
     -- what holds of the answer with these prices and this cost
     of_answer : (P : Flow → Prices → ℤ → Type 0) → P carried (record { hot = hot_prices; cold = cold_prices }) (cost_of hot cold carried.transfers) → IfOk result (λ a. IfLeast a P)
     of_answer P holds = IfOk-weaker result (λ a. a ≡ priced hot cold inner.nodes potentials carried) (λ a. IfLeast a P) (λ a is. subst (λ b. IfLeast b P) (sym is) holds) answered
 
     pub answer_certified : IfOk result (λ a. IfLeast a (λ found prices cost. IsCertified reach hot cold found.transfers prices.hot prices.cold cost))
-    answer_certified =
-        of_answer (λ found prices cost. IsCertified reach hot cold found.transfers prices.hot prices.cold cost) (subst (λ ts. IsCertified reach hot cold ts hot_prices cold_prices (cost_of hot cold ts)) (sym same) certified)
+    answer_certified = of_answer (λ found prices cost. IsCertified reach hot cold found.transfers prices.hot prices.cold cost) certified
 
     pub answer_least : IfOk result (λ a. IfLeast a (λ found prices cost. IsLeastCost reach hot cold cost))
-    answer_least = of_answer (λ found prices cost. IsLeastCost reach hot cold cost) (subst (λ ts. IsLeastCost reach hot cold (cost_of hot cold ts)) (sym same) least_cost)
-
-    pub answer_not_stuck : (P : Cut → Type 0) → IfOk result (λ a. IfStuck a P)
-    answer_not_stuck P = IfOk-weaker result (λ a. a ≡ priced hot cold inner.nodes potentials carried) (λ a. IfStuck a P) (λ a is. subst (λ b. IfStuck b P) (sym is) tt) answered
+    answer_least = of_answer (λ found prices cost. IsLeastCost reach hot cold cost) least_cost

@@ -1,6 +1,6 @@
 -- A net around an inner net is within the limits of nets, and so are what is routed and the initial potentials.
-use Rattle.std.proofs.Common.{◌≡◌, ◌∙◌, refl, sym, ap, subst, ℕ, zero, suc, ◌+◌, ◌-◌, ◌*◌, ◌<◌, ◌≤◌, ⊎_elim, List, [], ◌∷◌, length, length-append, get_or, replicate, arith}
-use Rattle.std.specs.Prelude.{ℤ, pos, neg_ℤ, ◌+ℤ◌, ◌*ℤ◌, ◌≤ℤ◌, ◌<ℤ◌, Some, slice_get, All}
+use Rattle.std.proofs.Common.{◌≡◌, ◌∙◌, sym, ap, subst, ℕ, zero, suc, ◌+◌, ◌-◌, ◌*◌, ◌<◌, ◌≤◌, ⊎_elim, List, [], ◌∷◌, length, length-append, get_or, replicate, arith}
+use Rattle.std.specs.Prelude.{ℤ, pos, neg_ℤ, ◌+ℤ◌, ◌-ℤ◌, ◌*ℤ◌, ◌≤ℤ◌, ◌<ℤ◌, Some, slice_get, All}
 use Rattle.std.specs.Int.RustNames.{unsigned_abs}
 use Rattle.std.proofs.lemmas.Bool.{cases_lt}
 use Rattle.std.proofs.lemmas.Int.{ints}
@@ -11,7 +11,7 @@ use Rattle.std.proofs.lemmas.Option.{slice_get_within}
 use Rattle.stream_case.specs.declared.limits.TheConstants.{MOST_HEAT, MOST_PARTS, MOST_PRICE}
 use Rattle.stream_case.specs.declared.source.Side.{Side}
 use Rattle.stream_case.specs.declared.source.Side.TheVariants.{Hot, Cold}
-use Rattle.stream_case.specs.Limits.{IsBetween}
+use Rattle.stream_case.specs.Limits.{IsBetween, IsPrice}
 use Rattle.sums.proofs.ListLemmas.{All-slice_get}
 use Rattle.sums.proofs.SumLemmas.{int_sum_by-at_most, int_sum_by-not_negative}
 use Rattle.grid.specs.declared.part.Part.{Part}
@@ -61,6 +61,30 @@ record IsNear (n : ℕ) (l : Link) : Type 0 where
   limits : IsLinkWithin n l
   price : IsBetween (neg_ℤ MOST_PRICE) MOST_PRICE l.cost
 
+-- no cost, and the rooms and costs of the links of a part, are within the limits
+no_cost : IsPrice (pos 0)
+no_cost = record { from = omega (arith, ints); upto = omega (arith, ints) }
+
+whole_room : (p : Part) → IsBounded p → IsRoom p.most
+whole_room p b =
+    let least = b.least.from in
+    let from = b.most.from in
+    let upto = b.most.upto in
+    record { from = omega (arith, ints); upto = omega (arith, ints) }
+
+spare_room : (p : Part) → IsBounded p → IsRoom (p.most -ℤ p.least)
+spare_room p b =
+    let least = b.least.from in
+    let from = b.most.from in
+    let upto = b.most.upto in
+    record { from = omega (arith, ints); upto = omega (arith, ints) }
+
+spare_cost : (p : Part) → IsBounded p → IsPrice (neg_ℤ p.price)
+spare_cost p b =
+    let from = b.price.from in
+    let upto = b.price.upto in
+    record { from = omega (arith, ints); upto = omega (arith, ints) }
+
 module _ (hot cold : List Part) (inner : Net) (g : IsAround hot cold inner) where
   bounded_of : (side : Side) → All IsBounded (parts_of side hot cold)
   bounded_of Hot = g.hot_bounded
@@ -70,80 +94,36 @@ module _ (hot cold : List Part) (inner : Net) (g : IsAround hot cold inner) wher
   node_within Hot i p at = let nodes = g.inner_net.nodes in omega (arith, nodes, slice_get_within hot i p at)
   node_within Cold i p at = let nodes = g.inner_net.nodes in omega (arith, nodes, slice_get_within cold i p at)
 
+  near : (l : Link) → l.from < inner.nodes + 4 → l.to < inner.nodes + 4 → IsRoom l.room → IsPrice l.cost → IsNear (inner.nodes + 4) l
+  near l from to room price = record { limits = record { from_in = from; to_in = to; room = room; cost = omega (arith, sizes, price.from, price.upto) }; price = price }
+
   near_inner : (l : Link) → IsInnerLink (length hot) (length cold) inner.nodes l → IsNear (inner.nodes + 4) l
   near_inner l h =
       let from_in = h.from_in in
       let to_in = h.to_in in
       let room = h.room in
       let cost = h.cost in
-      record {
-        limits = record {
-          from_in = omega (arith, from_in);
-          to_in = omega (arith, to_in);
-          room = record { from = omega (arith, ints, room); upto = omega (arith, ints, room) };
-          cost = omega (arith, sizes, cost);
-        };
-        price = record { from = omega (arith, ints, cost); upto = omega (arith, ints, cost) };
-      }
+      near l (omega (arith, from_in)) (omega (arith, to_in)) (record { from = omega (arith, ints, room); upto = omega (arith, ints, room) }) (record { from = omega (arith, ints, cost); upto = omega (arith, ints, cost) })
 
   near_whole : (side : Side) (node : ℕ) (p : Part) → node < inner.nodes → IsBounded p → IsNear (inner.nodes + 4) (whole_link side (ends hot cold inner) node p)
-  near_whole Hot node p within b =
-      let from = b.least.from in
-      let order = b.most.from in
-      let upto = b.most.upto in
-      record {
-        limits = record { from_in = omega arith; to_in = omega (arith, within); room = record { from = omega (arith, ints); upto = omega (arith, ints) }; cost = omega (arith, sizes) };
-        price = record { from = omega (arith, ints); upto = omega (arith, ints) };
-      }
-  near_whole Cold node p within b =
-      let from = b.least.from in
-      let order = b.most.from in
-      let upto = b.most.upto in
-      record {
-        limits = record { from_in = omega (arith, within); to_in = omega arith; room = record { from = omega (arith, ints); upto = omega (arith, ints) }; cost = omega (arith, sizes) };
-        price = record { from = omega (arith, ints); upto = omega (arith, ints) };
-      }
+  near_whole Hot node p within b = near (whole_link Hot (ends hot cold inner) node p) (omega arith) (omega (arith, within)) (whole_room p b) no_cost
+  near_whole Cold node p within b = near (whole_link Cold (ends hot cold inner) node p) (omega (arith, within)) (omega arith) (whole_room p b) no_cost
 
   near_spare : (side : Side) (node : ℕ) (p : Part) → node < inner.nodes → IsBounded p → IsNear (inner.nodes + 4) (spare_link side (ends hot cold inner) node p)
-  near_spare Hot node p within b =
-      let from = b.least.from in
-      let order = b.most.from in
-      let upto = b.most.upto in
-      let low = b.price.from in
-      let high = b.price.upto in
-      record {
-        limits = record { from_in = omega (arith, within); to_in = omega arith; room = record { from = omega (arith, ints); upto = omega (arith, ints) }; cost = omega (arith, sizes) };
-        price = record { from = omega (arith, ints); upto = omega (arith, ints) };
-      }
-  near_spare Cold node p within b =
-      let from = b.least.from in
-      let order = b.most.from in
-      let upto = b.most.upto in
-      let low = b.price.from in
-      let high = b.price.upto in
-      record {
-        limits = record { from_in = omega arith; to_in = omega (arith, within); room = record { from = omega (arith, ints); upto = omega (arith, ints) }; cost = omega (arith, sizes) };
-        price = record { from = omega (arith, ints); upto = omega (arith, ints) };
-      }
+  near_spare Hot node p within b = near (spare_link Hot (ends hot cold inner) node p) (omega (arith, within)) (omega arith) (spare_room p b) (spare_cost p b)
+  near_spare Cold node p within b = near (spare_link Cold (ends hot cold inner) node p) (omega arith) (omega (arith, within)) (spare_room p b) (spare_cost p b)
 
   near_between : All (IsNear (inner.nodes + 4)) (links_between (ends hot cold inner) (most_of hot) (most_of cold))
   near_between =
       let given = most_within hot g.few_hot g.hot_bounded in
       let taken = most_within cold g.few_cold g.cold_bounded in
-      let near = λ (l : Link) (from : l.from < inner.nodes + 4) (to : l.to < inner.nodes + 4) (low : pos 0 ≤ℤ l.room) (high : l.room ≤ℤ MOST_ROOM) (free : l.cost ≡ pos 0). is_near l from to low high free in
       let P = IsNear (inner.nodes + 4) in
       let one : Link = record { from = inner.nodes; to = inner.nodes + 2; room = most_of cold; cost = pos 0 } in
       let two : Link = record { from = inner.nodes + 3; to = inner.nodes + 1; room = most_of hot; cost = pos 0 } in
       let three : Link = record { from = inner.nodes + 2; to = inner.nodes + 3; room = MOST_ROOM; cost = pos 0 } in
-      All-cons P one (two ∷ three ∷ []) (near one (omega arith) (omega arith) (omega (arith, ints, taken.from)) (omega (arith, ints, taken.upto)) refl)
-      (All-cons P two (three ∷ []) (near two (omega arith) (omega arith) (omega (arith, ints, given.from)) (omega (arith, ints, given.upto)) refl)
-      (All-cons P three [] (near three (omega arith) (omega arith) (omega (arith, ints)) (omega (arith, ints)) refl) (All-nil P)))
-    where
-      is_near : (l : Link) → l.from < inner.nodes + 4 → l.to < inner.nodes + 4 → pos 0 ≤ℤ l.room → l.room ≤ℤ MOST_ROOM → l.cost ≡ pos 0 → IsNear (inner.nodes + 4) l
-      is_near l from to low high free = record {
-        limits = record { from_in = from; to_in = to; room = record { from = low; upto = high }; cost = omega (arith, sizes, free) };
-        price = record { from = omega (arith, ints, free); upto = omega (arith, ints, free) };
-      }
+      All-cons P one (two ∷ three ∷ []) (near one (omega arith) (omega arith) (record { from = omega (arith, ints, taken.from); upto = omega (arith, ints, taken.upto) }) no_cost)
+      (All-cons P two (three ∷ []) (near two (omega arith) (omega arith) (record { from = omega (arith, ints, given.from); upto = omega (arith, ints, given.upto) }) no_cost)
+      (All-cons P three [] (near three (omega arith) (omega arith) (record { from = omega (arith, ints); upto = omega (arith, ints) }) no_cost) (All-nil P)))
 
   near_all : All (IsNear (inner.nodes + 4)) (net_around hot cold inner).links
   near_all =

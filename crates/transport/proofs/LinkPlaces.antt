@@ -101,40 +101,37 @@ module _ (hot cold : List Part) (inner : Net) where
   pub between_is : (j : ℕ) → j < 3 → IsLinkAt (net_around hot cold inner) (between_at hot cold inner + j) (link_at between j)
   between_is j within = record { within = omega (arith, within, length-net_around); is = past_cold j }
 
+  -- the links of the hot parts, and those of the cold parts
+  hot_at : (j : ℕ) → j < 2 * length hot → get_or (net_around hot cold inner).links (length inner.links + j) no_link ≡ get_or hot_links j no_link
+  hot_at j within = past_inner j ∙ get_or_append_left hot_links (cold_links ++ between) no_link j (omega (arith, within, length-links_of_parts Hot (ends hot cold inner) 0 hot))
+
+  cold_at : (j : ℕ) → j < 2 * length cold → get_or (net_around hot cold inner).links (length inner.links + 2 * length hot + j) no_link ≡ get_or cold_links j no_link
+  cold_at j within = past_hot j ∙ get_or_append_left cold_links between no_link j (omega (arith, within, length-links_of_parts Cold (ends hot cold inner) (length hot) cold))
+
   pub whole_is : (side : Side) (i : ℕ) (p : Part) → slice_get (parts_of side hot cold) i ≡ Some p → IsLinkAt (net_around hot cold inner) (whole_at hot cold inner side i) (whole_link side (ends hot cold inner) (first_node hot cold inner side + i) p)
   whole_is Hot i p at =
       let inside = slice_get_within hot i p at in
-      let h = length-links_of_parts Hot (ends hot cold inner) 0 hot in
-      record {
-        within = omega (arith, inside, length-net_around);
-        is = past_inner (2 * i) ∙ get_or_append_left hot_links (cold_links ++ between) no_link (2 * i) (omega (arith, inside, h)) ∙ whole_there Hot (ends hot cold inner) 0 hot i p no_link at;
-      }
+      record { within = omega (arith, inside, length-net_around); is = hot_at (2 * i) (omega (arith, inside)) ∙ whole_there Hot (ends hot cold inner) 0 hot i p no_link at }
   whole_is Cold i p at =
       let inside = slice_get_within cold i p at in
-      let k = length-links_of_parts Cold (ends hot cold inner) (length hot) cold in
-      record {
-        within = omega (arith, inside, length-net_around);
-        is = past_hot (2 * i) ∙ get_or_append_left cold_links between no_link (2 * i) (omega (arith, inside, k)) ∙ whole_there Cold (ends hot cold inner) (length hot) cold i p no_link at;
-      }
+      record { within = omega (arith, inside, length-net_around); is = cold_at (2 * i) (omega (arith, inside)) ∙ whole_there Cold (ends hot cold inner) (length hot) cold i p no_link at }
 
   pub spare_is : (side : Side) (i : ℕ) (p : Part) → slice_get (parts_of side hot cold) i ≡ Some p → IsLinkAt (net_around hot cold inner) (spare_at hot cold inner side i) (spare_link side (ends hot cold inner) (first_node hot cold inner side + i) p)
   spare_is Hot i p at =
       let inside = slice_get_within hot i p at in
-      let h = length-links_of_parts Hot (ends hot cold inner) 0 hot in
       record {
         within = omega (arith, inside, length-net_around);
         is =
             ap (λ n. get_or (net_around hot cold inner).links n no_link) {x = length inner.links + 2 * i + 1} {y = length inner.links + (2 * i + 1)} (omega arith)
-            ∙ past_inner (2 * i + 1) ∙ get_or_append_left hot_links (cold_links ++ between) no_link (2 * i + 1) (omega (arith, inside, h)) ∙ spare_there Hot (ends hot cold inner) 0 hot i p no_link at;
+            ∙ hot_at (2 * i + 1) (omega (arith, inside)) ∙ spare_there Hot (ends hot cold inner) 0 hot i p no_link at;
       }
   spare_is Cold i p at =
       let inside = slice_get_within cold i p at in
-      let k = length-links_of_parts Cold (ends hot cold inner) (length hot) cold in
       record {
         within = omega (arith, inside, length-net_around);
         is =
             ap (λ n. get_or (net_around hot cold inner).links n no_link) {x = length inner.links + 2 * length hot + 2 * i + 1} {y = length inner.links + 2 * length hot + (2 * i + 1)} (omega arith)
-            ∙ past_hot (2 * i + 1) ∙ get_or_append_left cold_links between no_link (2 * i + 1) (omega (arith, inside, k)) ∙ spare_there Cold (ends hot cold inner) (length hot) cold i p no_link at;
+            ∙ cold_at (2 * i + 1) (omega (arith, inside)) ∙ spare_there Cold (ends hot cold inner) (length hot) cold i p no_link at;
       }
 
   -- what holds of all links of a net around an inner net

@@ -1,6 +1,5 @@
 //! The offer of a cut of the parts of a case, without a table of their pairs.
-ghost use Rattle.std.specs.Prelude.{◌≡◌, ◌≤◌, pos, if◌then◌else◌, length, All, IfOk, slice_get};
-ghost use Rattle.std.specs.List.{list_any};
+ghost use Rattle.std.specs.Prelude.{◌≡◌, pos, if◌then◌else◌, IfOk, slice_get};
 ghost use Rattle.stream_case.specs.Case.{is_forbidden};
 ghost use Rattle.stream_case.specs.Limits.{IsHeat};
 ghost use Rattle.grid.specs.Bounds.{IsBounded};

@@ -1,6 +1,5 @@
 //! The inner net with a link for each pair of parts that reach.
-ghost use Rattle.std.specs.Prelude.{◌≡◌, ◌+◌, ◌*◌, ◌<◌, ◌≤◌, length, IfOk, OnOk};
-ghost use Rattle.transport.specs.declared.least_cost.TheConstants.{MOST_PAIRS};
+ghost use Rattle.std.specs.Prelude.{◌+◌, ◌<◌, IfOk, OnOk};
 ghost use Rattle.transport.specs.Pairs.{HoldsPairs, IsPairNet};
 
 use flow_net::{Link, MOST_ROOM, Net};

@@ -1,62 +1,54 @@
-use Rattle.std.proofs.Common.{refl, sym, subst, arith}
+use Rattle.std.proofs.Common.{sym, subst, arith}
 use Rattle.std.specs.Prelude.{All}
 use Rattle.heat_flow.specs.Cuts.{cut_side}
 use Rattle.heat_flow.specs.Reach.{reach_between}
 use Rattle.heat_flow.proofs.CutLemmas.{cuts_refuse_flows}
 use Rattle.chains.specs.Inner.{IsHeatOf}
-use Rattle.transport.specs.Around.{IsNodePotential}
-use Rattle.transport.proofs.Certified.{answer_certified, answer_least, has_cost}
+use Rattle.transport.specs.Around.{IsNodePotential, RoutesMost}
+use Rattle.transport.proofs.Certified.{IsRoutedHeat, each_potential, has_cost, answer_certified, answer_least}
 use Rattle.transport.proofs.FrontLemmas.{IsHeatOf-front, IsSpread-whole}
-use Rattle.transport.proofs.Limits.{IsAround-parts, potentials_within}
+use Rattle.transport.proofs.Limits.{IsAround, IsAround-parts}
 use Rattle.transport.proofs.least_cost.least_case.Goals as goal
+
+around : (c : goal.In-Routed) → IsAround c.args.parts.now.hot c.args.parts.now.cold c.in_ok-chains.chains.net
+around c =
+    let made = c.in_ok-chains.ensures in
+    IsAround-parts c.args.parts.now c.in_ok-chains.chains.net made.inner (let few = made.small.few_nodes in omega (arith, few)) made.small.few_links
+
+routes : (c : goal.In-Routed) → RoutesMost c.args.parts.now.hot c.args.parts.now.cold c.in_ok-chains.chains.net c.in-Routed.flow c.in-Routed.potentials
+routes c = rw c.in-Routed.is at c.in_ok-flow.ensures.routed
+
+routed : (c : goal.In_ok-flow-in-Routed) → IsRoutedHeat c.args.parts.now.hot c.args.parts.now.cold c.in_ok-chains.chains.net (reach_between c.args.case.now c.args.parts.now.hot c.args.parts.now.cold) c.in-Routed.flow c.in-Routed.potentials c.in_ok-flow-in-Routed.flow
+routed c =
+    let parts = c.args.parts.now in
+    let p = (goal.at.In_ok-flow-in-Routed c).In-Routed in
+    record {
+      around = around p;
+      paths = c.in_ok-chains.ensures.paths;
+      routes = routes p;
+      spread = IsSpread-whole parts.hot parts.cold c.in_ok-chains.chains.net (around p) c.in-Routed.flow (routes p).routing c.in_ok-flow-in-Routed.flow.transfers (rw (c.in_ok-front-in-Routed.ensures, c.len.ensures) at c.in_ok-flow-in-Routed.ensures);
+    }
 
 pub spread-requires-clause-heat : goal.spread-requires-clause-heat
 spread-requires-clause-heat c =
     let parts = c.args.parts.now in
     let net = c.in_ok-chains.chains.net in
-    let made = c.in_ok-chains.ensures in
-    let g = IsAround-parts parts net made.inner (let few = made.small.few_nodes in omega (arith, few)) made.small.few_links in
-    let routes = rw c.in-Routed.is at c.in_ok-flow.ensures.routed in
-    subst (IsHeatOf parts.hot parts.cold net) (sym (rw c.len.ensures at c.in_ok-front-in-Routed.ensures)) (IsHeatOf-front parts.hot parts.cold net g c.in-Routed.flow routes.routing)
+    let p = (goal.at.spread-requires-clause-heat c).In-Routed in
+    subst (IsHeatOf parts.hot parts.cold net) (sym (rw c.len.ensures at c.in_ok-front-in-Routed.ensures)) (IsHeatOf-front parts.hot parts.cold net (around p) c.in-Routed.flow (routes p).routing)
 
 pub priced-requires-clause-bounded : goal.priced-requires-clause-bounded
-priced-requires-clause-bounded c =
-    let parts = c.args.parts.now in
-    let net = c.in_ok-chains.chains.net in
-    let made = c.in_ok-chains.ensures in
-    let g = IsAround-parts parts net made.inner (let few = made.small.few_nodes in omega (arith, few)) made.small.few_links in
-    let routes = rw c.in-Routed.is at c.in_ok-flow.ensures.routed in
-    subst (All IsNodePotential) (sym c.as_slice.ensures) (potentials_within parts.hot parts.cold net g c.in-Routed.potentials routes.bounded)
+priced-requires-clause-bounded c = subst (All IsNodePotential) (sym c.as_slice.ensures) (each_potential (routed (goal.at.priced-requires-clause-bounded c).In_ok-flow-in-Routed))
 
 pub priced-requires-clause-has_cost : goal.priced-requires-clause-has_cost
-priced-requires-clause-has_cost c =
-    let parts = c.args.parts.now in
-    let net = c.in_ok-chains.chains.net in
-    let made = c.in_ok-chains.ensures in
-    let g = IsAround-parts parts net made.inner (let few = made.small.few_nodes in omega (arith, few)) made.small.few_links in
-    let routes = rw c.in-Routed.is at c.in_ok-flow.ensures.routed in
-    let spread = IsSpread-whole parts.hot parts.cold net g c.in-Routed.flow routes.routing c.in_ok-flow-in-Routed.flow.transfers (rw (c.in_ok-front-in-Routed.ensures, c.len.ensures) at c.in_ok-flow-in-Routed.ensures) in
-    has_cost parts.hot parts.cold net (reach_between c.args.case.now parts.hot parts.cold) g made.paths c.in-Routed.flow c.in-Routed.potentials routes c.in_ok-flow-in-Routed.flow.transfers spread
+priced-requires-clause-has_cost c = has_cost (routed (goal.at.priced-requires-clause-has_cost c).In_ok-flow-in-Routed)
 
 pub returns-in-Routed-clause-certified : goal.returns-in-Routed-clause-certified
 returns-in-Routed-clause-certified c =
-    let parts = c.args.parts.now in
-    let net = c.in_ok-chains.chains.net in
-    let made = c.in_ok-chains.ensures in
-    let g = IsAround-parts parts net made.inner (let few = made.small.few_nodes in omega (arith, few)) made.small.few_links in
-    let routes = rw c.in-Routed.is at c.in_ok-flow.ensures.routed in
-    let spread = IsSpread-whole parts.hot parts.cold net g c.in-Routed.flow routes.routing c.in_ok-flow-in-Routed.flow.transfers (rw (c.in_ok-front-in-Routed.ensures, c.len.ensures) at c.in_ok-flow-in-Routed.ensures) in
-    answer_certified parts.hot parts.cold net (reach_between c.args.case.now parts.hot parts.cold) g made.paths c.in-Routed.flow c.in-Routed.potentials routes c.in_ok-flow-in-Routed.flow.transfers spread c.in_ok-flow-in-Routed.flow refl c.priced.result (rw c.as_slice.ensures at c.priced.ensures)
+    answer_certified (routed (goal.at.returns-in-Routed-clause-certified c).In_ok-flow-in-Routed) c.priced.result (rw c.as_slice.ensures at c.priced.ensures)
 
 pub returns-in-Routed-clause-least : goal.returns-in-Routed-clause-least
 returns-in-Routed-clause-least c =
-    let parts = c.args.parts.now in
-    let net = c.in_ok-chains.chains.net in
-    let made = c.in_ok-chains.ensures in
-    let g = IsAround-parts parts net made.inner (let few = made.small.few_nodes in omega (arith, few)) made.small.few_links in
-    let routes = rw c.in-Routed.is at c.in_ok-flow.ensures.routed in
-    let spread = IsSpread-whole parts.hot parts.cold net g c.in-Routed.flow routes.routing c.in_ok-flow-in-Routed.flow.transfers (rw (c.in_ok-front-in-Routed.ensures, c.len.ensures) at c.in_ok-flow-in-Routed.ensures) in
-    answer_least parts.hot parts.cold net (reach_between c.args.case.now parts.hot parts.cold) g made.paths c.in-Routed.flow c.in-Routed.potentials routes c.in_ok-flow-in-Routed.flow.transfers spread c.in_ok-flow-in-Routed.flow refl c.priced.result (rw c.as_slice.ensures at c.priced.ensures)
+    answer_least (routed (goal.at.returns-in-Routed-clause-least c).In_ok-flow-in-Routed) c.priced.result (rw c.as_slice.ensures at c.priced.ensures)
 
 -- ---- the cut
 
