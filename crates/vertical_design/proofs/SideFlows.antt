@@ -27,6 +27,7 @@ use Rattle.curves.specs.Below.{length_below}
 use Rattle.problem_table.specs.Sides.{sum_side}
 use Rattle.problem_table.proofs.DeficitLemmas.{cold_target-within, hot_target-within}
 use Rattle.problem_table.proofs.SideLemmas.{sum_side-heat, sum_side-le, sum_side-same, sum_side-zero}
+use Rattle.design_lines.proofs.ListLemmas.{All-kept}
 use Rattle.vertical_design.specs.Axis.{AreCuts, begin_of, ends_of, heat_at, heat_below, spans_of, stream_span, utility_from, utility_span, utility_to}
 use Rattle.vertical_design.specs.Matches.{flow_in, side_flow}
 use Rattle.vertical_design.specs.declared.span.Span.{Span}
@@ -34,7 +35,6 @@ use Rattle.vertical_design.proofs.CurveLemmas.{heat_below-all, heat_below-betwee
 use Rattle.vertical_design.proofs.CurveOrder.{IsOutside, below_and_above}
 use Rattle.vertical_design.proofs.CurveSegments.{EndsPlaced, HasNoEnd, IsPlaced, IsSegment, Runs, heat_rises}
 use Rattle.vertical_design.proofs.Foremost.{IsForemost, foremost}
-use Rattle.vertical_design.proofs.OverlapLists.{All-kept}
 use Rattle.vertical_design.proofs.SegmentTemperatures.{flow_positive, running_flow}
 use Rattle.vertical_design.proofs.SpanRuns.{cut_below, is_cut, no_end_between, none_between, side_flow-running, span_of}
 use Rattle.vertical_design.proofs.SpanSources.{utility_place, utility_span_of}

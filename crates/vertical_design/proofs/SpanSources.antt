@@ -15,10 +15,10 @@ use Rattle.stream_case.specs.declared.source.Source.TheVariants as source
 use Rattle.stream_case.specs.declared.stream.Stream.{Stream}
 use Rattle.stream_case.specs.declared.utility.Utility.{Utility}
 use Rattle.stream_case.proofs.SourceLemmas.{own_side, same_side-true, same_source-same, same_source-true}
+use Rattle.design_lines.proofs.ListLemmas.{All-kept}
 use Rattle.vertical_design.specs.Axis.{spans_of, stream_span, utility_from, utility_span, utility_to}
 use Rattle.vertical_design.specs.Matches.{source_at}
 use Rattle.vertical_design.specs.declared.span.Span.{Span}
-use Rattle.vertical_design.proofs.OverlapLists.{All-kept}
 use Rattle.vertical_design.proofs.SpanRuns.{span_of}
 
 abbrev pub utility_span_of : Side → List Stream → ℕ → Span
