@@ -17,8 +17,8 @@ use Rattle.network_text.specs.Shape.{IsPositive, Joins}
 use Rattle.network_text.proofs.Lists.{all_at}
 use Rattle.design_lines.specs.Led.{IsShareOf}
 use Rattle.design_lines.specs.declared.stage.Share.{Share}
+use Rattle.design_lines.proofs.ListLemmas.{kept_hold}
 use Rattle.design_lines.proofs.NumberedItems.{slice_get-numbered}
-use Rattle.design_lines.proofs.NumberedShares.{shares_hold}
 use Rattle.grid.specs.declared.part.Part.{Part}
 use Rattle.heat_flow.specs.Cuts.{parts_of}
 use Rattle.heat_flow.specs.Flow.{ArePositive, part_index}
@@ -28,7 +28,7 @@ use Rattle.interval_design.specs.Courses.{exchanger_of, share_of, shares_of, sou
 -- what holds of the share of each transfer of a part holds of the shares of the part
 pub each-share : (P : Share → Type 0) (of : Side) (index width n : ℕ) (ts : List Transfer) → ((i : ℕ) (t : Transfer) → slice_get ts i ≡ Some t → part_index of t ≡ index → P (record { exchanger = n + i; cp = ratio t.heat width }))
     → All P (filter_map (share_of of index width) (enumerate_from n ts))
-each-share P of index width n ts each = shares_hold (λ (t : Transfer). part_index of t == index) (λ (t : Transfer). ratio t.heat width) (share_of of index width) (λ k t. refl) P n ts (λ i t at is. each i t at (grind (arith, nat_tests, is)))
+each-share P of index width n ts each = kept_hold (λ (t : Transfer). part_index of t == index) (share_of of index width) (λ (k : ℕ) (t : Transfer). record { exchanger = k; cp = ratio t.heat width }) (λ k t. refl) P n ts (λ i t at is. each i t at (grind (arith, nat_tests, is)))
 
 -- the exchanger of a transfer has a side of the stream of its part
 pub joins-stream : (of : Side) (hot cold : List Part) (number : ℕ) (t : Transfer) (index stream : ℕ) (p : Part) → slice_get (parts_of of hot cold) index ≡ Some p → part_index of t ≡ index → same_source p.source (source.Stream stream) ≡ true

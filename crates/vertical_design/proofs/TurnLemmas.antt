@@ -16,8 +16,8 @@ use Rattle.design_lines.specs.Drawn.{Course}
 use Rattle.design_lines.specs.Led.{turns}
 use Rattle.design_lines.specs.Ways.{on_the_way}
 use Rattle.design_lines.specs.declared.stage.Share.{Share}
-use Rattle.design_lines.proofs.ListLemmas.{sum_by-reverse}
-use Rattle.design_lines.proofs.NumberedShares.{one_share, shares_hold}
+use Rattle.design_lines.proofs.ListLemmas.{kept_hold, sum_by-reverse}
+use Rattle.design_lines.proofs.NumberedShares.{one_share}
 use Rattle.vertical_design.specs.Courses.{course_of, cp_on, share_of, shares_in, source_on, stages_of}
 use Rattle.vertical_design.specs.Matches.{intervals_below, intervals_of, matches_in, matches_of}
 use Rattle.vertical_design.specs.declared.interval.Interval.{Interval}
@@ -86,7 +86,7 @@ module _ (of : Side) (stream number : ℕ) where
 
 pub each-share : (P : Share → Type 0) (of : Side) (stream n : ℕ) (ms : List Match) → ((i : ℕ) (m : Match) → slice_get ms i ≡ Some m → same_source (source_on of m) (source.Stream stream) ≡ true → P (record { exchanger = n + i; cp = cp_on of m }))
     → All P (filter_map (share_of of stream) (enumerate_from n ms))
-each-share P of stream n ms each = shares_hold (λ (m : Match). same_source (source_on of m) (source.Stream stream)) (cp_on of) (share_of of stream) (λ k m. refl) P n ms each
+each-share P of stream n ms each = kept_hold (λ (m : Match). same_source (source_on of m) (source.Stream stream)) (share_of of stream) (λ (k : ℕ) (m : Match). record { exchanger = k; cp = cp_on of m }) (λ k m. refl) P n ms each
 
 kept-all : (Q : List Share → Type 0) (x : List Share) (rest : Course) (b : Bool) → Q x → All Q rest → All Q (if b then x ∷ rest else rest)
 kept-all Q x rest true here all = All-cons Q x rest here all
