@@ -34,7 +34,7 @@ use Rattle.grid.specs.Part.{AreCaseParts, AreParts, IsPartOf}
 use Rattle.grid.specs.declared.part.Part.{Part}
 use Rattle.grid.proofs.PlaceLemmas.{interval_falls}
 use Rattle.heat_flow.specs.Cuts.{parts_of}
-use Rattle.heat_flow.specs.Flow.{HaveParts, KeepsRanges, heat_at, part_index, precedes}
+use Rattle.heat_flow.specs.Flow.{HaveParts, IsHeatFlow, KeepsRanges, heat_at, part_index, precedes}
 use Rattle.heat_flow.specs.declared.flow.Transfer.{Transfer}
 use Rattle.interval_design.specs.Courses.{AllCanBeLed, CanBeLed, course_of, courses_of, on_the_way, share_of, shares_of, stage_of, stream_course, width_of}
 use Rattle.interval_design.proofs.NetworkLemmas.{length-courses_of}
@@ -69,7 +69,7 @@ key-below rows columns t hot cold =
     omega (arith, product, cold)
 
 -- transfers are pairs of a hot and a cold part, each once
-pub few_transfers : (hot cold : List Part) (ts : List Transfer) → AllPairs precedes ts → HaveParts side.Hot hot ts → HaveParts side.Cold cold ts → length ts ≤ length hot * length cold
+few_transfers : (hot cold : List Part) (ts : List Transfer) → AllPairs precedes ts → HaveParts side.Hot hot ts → HaveParts side.Cold cold ts → length ts ≤ length hot * length cold
 few_transfers hot cold [] pairs rows columns = omega arith
 few_transfers hot cold (t ∷ ts) pairs rows columns =
     let n = length ts in
@@ -240,8 +240,11 @@ all_led case hot cold ts complete parts hots colds number s here = by s.side
 abbrev pub most_transfers : ℕ
 most_transfers = MOST_PARTS * MOST_PARTS
 
-pub few_pairs : (rows columns : ℕ) → rows ≤ MOST_PARTS → columns ≤ MOST_PARTS → rows * columns ≤ most_transfers
-few_pairs rows columns one two = mul-le-mul one two
+pub few_flow : {reach : ℕ → ℕ → Bool} {hot cold : List Part} {ts : List Transfer} → IsHeatFlow reach hot cold ts → length hot ≤ MOST_PARTS → length cold ≤ MOST_PARTS → length ts ≤ most_transfers
+few_flow {reach} {hot} {cold} {ts} flow rows columns =
+    let pairs = few_transfers hot cold ts flow.ordered flow.hot_indexes flow.cold_indexes in
+    let product : length hot * length cold ≤ most_transfers = mul-le-mul rows columns in
+    omega (arith, pairs, product)
 
 course-small : (most : ℕ) (of : Side) (parts : List Part) (ts : List Transfer) (stream : ℕ) → length ts ≤ most → CanBeLed of parts ts stream → course_branches (course_of of parts ts stream) ≤ 4 * most
 course-small most of parts ts stream few led =
