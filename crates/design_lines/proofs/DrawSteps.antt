@@ -1,13 +1,10 @@
 -- A network is drawn course by course, and a course stage by stage.
-use Rattle.std.proofs.Common.{◌≡◌, ◌∙◌, ◌<◌, ◌≤◌, ◌+◌, ◌-◌, ◌*◌, ◌∷◌, ◌++◌, ℕ, suc, List, [], get_or, length, drop, sym, ap, arith, append_assoc, length-append}
+use Rattle.std.proofs.Common.{◌≡◌, ◌∙◌, ◌<◌, ◌≤◌, ◌+◌, ◌-◌, ◌∷◌, ◌++◌, ℕ, suc, List, get_or, length, drop, sym, ap, arith, append_assoc, length-append}
 use Rattle.std.proofs.Math.Seq.{drop-cons}
 use Rattle.std.proofs.lemmas.List.{append-nil, drop_all}
 use Rattle.network_text.specs.declared.network.Branch.{Branch}
 use Rattle.network_text.specs.declared.network.Line.{Line}
-use Rattle.network_text.specs.declared.network.Line.TheVariants as line
 use Rattle.design_lines.specs.Drawn.{Course, all_branches, course_branches, course_lines, courses_lines, made_branches, numbered}
-use Rattle.design_lines.specs.Stages.{stage_end, stage_lines}
-use Rattle.design_lines.specs.declared.stage.Share.{Share}
 use Rattle.design_lines.proofs.BranchStreams.{length-numbered}
 
 -- the item of a loop is the next one of those that are left
@@ -68,3 +65,11 @@ module _ (courses : List Course) (own : ℕ) (old_lines : List Line) (old_branch
           many = omega (arith, long, many);
           least = omega (arith, long, led.least);
         }
+
+    -- behind the last course they are those of all courses
+    pub courses_end : length courses ≤ number → (lines ≡ old_lines ++ courses_lines own 0 courses) × (branches ≡ old_branches ++ made_branches 0 0 courses)
+    courses_end upto =
+        let none = drop_all number courses upto in (
+          sym (append-nil lines) ∙ ap (λ (cs : List Course). lines ++ courses_lines (length branches) number cs) (sym none) ∙ led.drawn,
+          sym (append-nil branches) ∙ ap (λ (cs : List Course). branches ++ made_branches (length branches - own) number cs) (sym none) ∙ led.made,
+        )

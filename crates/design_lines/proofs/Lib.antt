@@ -21,3 +21,4 @@ pub mod PassRuns
 pub mod CourseEnds
 pub mod DrawSteps
 pub mod NumberedItems
+pub mod NumberedShares

@@ -3,12 +3,14 @@ use Rattle.std.proofs.Common.{◌≡◌, ◌∙◌, ◌<◌, ◌≤◌, ◌+◌,
 use Rattle.std.proofs.lemmas.List.Elements.{All-append, All-cons, All-head, All-nil, All-tail}
 use Rattle.stream_case.specs.declared.case.Case.{Case}
 use Rattle.stream_case.specs.declared.source.Side.{Side}
+use Rattle.stream_case.specs.declared.source.Side.TheVariants as side
 use Rattle.stream_case.specs.declared.stream.Stream.{Stream}
 use Rattle.fractions.specs.Rationals.{Rational}
 use Rattle.network_text.specs.Lines.{stream_at}
 use Rattle.network_text.specs.declared.network.Line.{Line}
 use Rattle.network_text.specs.declared.network.Line.TheVariants as line
 use Rattle.network_text.specs.declared.network.Network.{Network}
+use Rattle.network_values.specs.Sides.{enters, leaves, run_between}
 use Rattle.network_values.specs.Values.{Valuation, first_state, full_size, value_at}
 use Rattle.network_values.specs.declared.values.BranchValue.{BranchValue}
 use Rattle.design_lines.specs.Drawn.{course_branches, course_lines, courses_lines}
@@ -131,3 +133,13 @@ module _ (case : Case) (network : Network) (R : ℕ → ℕ → Rational → Rat
       (course_runs stream s here course values later final next stream (first_state s) start (own.each stream s here) is.led is.joined led.1 led.2 (subst (λ k. All (StageRuns k) course) number (runs 0 course refl)) same)
       (courses_run courses (values ++ made) more final (next + count) (stream + 1) one.next_is (own_more case values made own) led.3
       (λ k other there. let further : stream + suc k ≡ stream + 1 + k = omega arith in subst (λ n. All (StageRuns n) other) further (runs (suc k) other there)) (same ∙ sym (append_assoc values made later)))
+
+-- ---- the ends of a run
+
+pub enters-run : (of : Side) (from to : BranchValue) → enters of (run_between of from to) ≡ from.t
+enters-run side.Hot from to = refl
+enters-run side.Cold from to = refl
+
+pub leaves-run : (of : Side) (from to : BranchValue) → leaves of (run_between of from to) ≡ to.t
+leaves-run side.Hot from to = refl
+leaves-run side.Cold from to = refl

@@ -26,10 +26,10 @@ use Rattle.network_text.proofs.Lists.{all_at}
 use Rattle.network_text.proofs.OfShape.{the_pass_of}
 use Rattle.network_values.specs.Sides.{KeepApproaches, Level, SideRun, contribution_of, enters, leaves, pass_run, run_between, side_run}
 use Rattle.network_values.specs.Values.{Valuation, branch_side, first_value, value_at}
-use Rattle.network_values.specs.declared.values.BranchValue.{BranchValue}
 use Rattle.network_audit.proofs.HeatLemmas.{source_on}
 use Rattle.design_lines.specs.Values.{courses_values}
-use Rattle.design_lines.proofs.PassRuns.{RunsAs}
+use Rattle.design_lines.proofs.NumberedItems.{numbered-item}
+use Rattle.design_lines.proofs.PassRuns.{RunsAs, enters-run, leaves-run}
 use Rattle.grid.specs.Part.{AreCaseParts, IsPartOf}
 use Rattle.grid.specs.declared.part.Part.{Part}
 use Rattle.grid.proofs.PlaceLemmas.{interval_falls}
@@ -39,20 +39,11 @@ use Rattle.heat_flow.specs.Reach.{both_reach, part_reaches, passes_heat, reach_b
 use Rattle.heat_flow.specs.declared.flow.Transfer.{Transfer}
 use Rattle.interval_design.specs.Courses.{exchanger_of, network_of}
 use Rattle.interval_design.specs.Values.{actual, entered_at, led_courses, left_at}
-use Rattle.interval_design.proofs.CourseShape.{numbered-item}
 use Rattle.interval_design.proofs.ExchangerLemmas.{exchangers_of-network_of}
 use Rattle.interval_design.proofs.PassTemperatures.{RunsThrough, RunsThroughPart, network_runs}
 use Rattle.interval_design.proofs.TurnLemmas.{part_there}
 
--- ---- runs and levels
-
-enters-run : (of : Side) (from to : BranchValue) → enters of (run_between of from to) ≡ from.t
-enters-run side.Hot from to = refl
-enters-run side.Cold from to = refl
-
-leaves-run : (of : Side) (from to : BranchValue) → leaves of (run_between of from to) ≡ to.t
-leaves-run side.Hot from to = refl
-leaves-run side.Cold from to = refl
+-- ---- levels
 
 enters-level : (of : Side) (at : Rational) → enters of (Level at) ≡ at
 enters-level side.Hot at = refl

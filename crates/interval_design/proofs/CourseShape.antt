@@ -1,10 +1,10 @@
 -- The courses of a heat flow are courses of their streams, of shares that have a flow and pass exchangers of the stream.
-use Rattle.std.proofs.Common.{◌≡◌, ◌∙◌, ◌<◌, ◌+◌, ◌^◌, ◌∷◌, inl, inr, ℕ, ℤ, zero, suc, ◌-ℤ◌, ◌≤ℤ◌, ◌<ℤ◌, Bool, true, false, if◌then◌else◌, List, [], All, Some, None, slice_get, map, refl, sym, ap, subst, arith}
+use Rattle.std.proofs.Common.{◌≡◌, ◌∙◌, ◌<◌, ◌+◌, ◌^◌, ◌∷◌, inl, inr, ℕ, ℤ, ◌-ℤ◌, ◌≤ℤ◌, ◌<ℤ◌, Bool, true, false, if◌then◌else◌, List, [], All, Some, slice_get, map, sym, ap, subst, arith}
 use Rattle.std.specs.Prelude.{unsigned_abs}
-use Rattle.std.specs.List.{cons_option, enumerate_from, filter_map}
+use Rattle.std.specs.List.{enumerate_from, filter_map}
 use Rattle.std.proofs.lemmas.Bool.{false≢true}
 use Rattle.std.proofs.lemmas.Int.{ints}
-use Rattle.std.proofs.lemmas.List.Elements.{All-cons, All-head, All-nil, All-tail}
+use Rattle.std.proofs.lemmas.List.Elements.{All-head, All-nil, All-tail}
 use Rattle.stream_case.specs.Case.{IsComplete}
 use Rattle.stream_case.specs.Limits.{IsHeat, IsTemperature}
 use Rattle.stream_case.specs.Shift.{shifted}
@@ -19,6 +19,8 @@ use Rattle.network_text.proofs.Lists.{all_at}
 use Rattle.design_lines.specs.Led.{IsCourseOf, IsShareOf}
 use Rattle.design_lines.specs.Drawn.{Course}
 use Rattle.design_lines.specs.declared.stage.Share.{Share}
+use Rattle.design_lines.proofs.ListLemmas.{All-kept}
+use Rattle.design_lines.proofs.NumberedItems.{numbered-item}
 use Rattle.grid.specs.Grid.{IsGrid}
 use Rattle.grid.specs.Part.{AreCaseParts, AreParts, IsPartOf}
 use Rattle.grid.specs.declared.part.Part.{Part}
@@ -51,18 +53,14 @@ part_narrow case grid of p stream complete is_grid (inr (i, u, is)) own =
 
 -- ---- courses
 
--- what holds of the shares of each part of the stream holds of each stage
-one_stage : (Q : List Share → Type 0) (b : Bool) (shares : List Share) (rest : Course) → (b ≡ true → Q shares) → All Q rest → All Q (cons_option (if b then Some shares else None) rest)
-one_stage Q true shares rest own all = All-cons Q shares rest (own refl) all
-one_stage Q false shares rest own all = all
-
 abbrev HoldsOf : (List Share → Type 0) → Side → List Transfer → ℕ → ℕ × Part → Type 0
 HoldsOf Q of ts stream (index, p) = same_source p.source (source.Stream stream) ≡ true → Q (shares_of of index (width_of p) ts)
 
+-- what holds of the shares of each part of the stream holds of each stage
 each-stage : (Q : List Share → Type 0) (of : Side) (ts : List Transfer) (stream : ℕ) (xs : List (ℕ × Part)) → All (HoldsOf Q of ts stream) xs → All Q (filter_map (stage_of of ts stream) xs)
 each-stage Q of ts stream [] each = All-nil Q
 each-stage Q of ts stream ((index, p) ∷ xs) each =
-    one_stage Q (same_source p.source (source.Stream stream)) (shares_of of index (width_of p) ts) (filter_map (stage_of of ts stream) xs) (All-head (HoldsOf Q of ts stream) (index, p) xs each)
+    All-kept Q (same_source p.source (source.Stream stream)) (shares_of of index (width_of p) ts) (filter_map (stage_of of ts stream) xs) (All-head (HoldsOf Q of ts stream) (index, p) xs each)
     (each-stage Q of ts stream xs (All-tail (HoldsOf Q of ts stream) (index, p) xs each))
 
 course-shares : (case : Case) (grid : List ℤ) (of : Side) (hot cold : List Part) (ts : List Transfer) (stream : ℕ) → IsComplete case → IsGrid case grid → AreParts case.streams case.utilities grid of (parts_of of hot cold)
@@ -78,18 +76,6 @@ course-shares case grid of hot cold ts stream complete is_grid are positive heat
           let narrow = part_narrow case grid of p stream complete is_grid (all_at (IsPartOf case.streams case.utilities grid of) parts i p are.each here) own in
           shares-joined of hot cold ts stream i (width_of p) p positive heats here own wide narrow));
     }
-
--- the item of a list that is made of numbered items
-pub numbered-item : {X Y : Type 0} (f : ℕ × X → Y) (n : ℕ) (xs : List X) (i : ℕ) (y : Y) → slice_get (map f (enumerate_from n xs)) i ≡ Some y → (x : X) × (slice_get xs i ≡ Some x) × (f (n + i, x) ≡ y)
-numbered-item f n [] i y at = cc at
-numbered-item {X} f n (x ∷ xs) zero y at =
-    let here : f (n, x) ≡ y = cc at in
-    let none : n + 0 ≡ n = omega arith in
-    (x, refl, ap (λ (k : ℕ). f (k, x)) none ∙ here)
-numbered-item f n (x ∷ xs) (suc i) y at =
-    let (z, here, is) = numbered-item f (n + 1) xs i y at in
-    let further : n + suc i ≡ n + 1 + i = omega arith in
-    (z, here, ap (λ (k : ℕ). f (k, z)) further ∙ is)
 
 pub courses-are : (case : Case) (hot cold : List Part) (ts : List Transfer) → IsComplete case → AreCaseParts case hot cold → ArePositive ts → All (λ t. IsHeat t.heat) ts → AllCanBeLed case hot cold ts
     → (stream : ℕ) (course : Course) → slice_get (courses_of case hot cold ts) stream ≡ Some course → IsCourseOf (map (exchanger_of hot cold) (enumerate_from 0 ts)) stream course

@@ -1,5 +1,5 @@
 -- The network of a heat flow has the shape of a network.
-use Rattle.std.proofs.Common.{◌≤◌, ◌+◌, ◌*◌, List, All, length, map, sym, ap, subst, arith, length-append}
+use Rattle.std.proofs.Common.{◌≤◌, ◌+◌, ◌*◌, List, All, length, map, refl, sym, ap, subst, arith, length-append}
 use Rattle.std.specs.List.{enumerate_from}
 use Rattle.std.proofs.lemmas.List.{length-map}
 use Rattle.std.proofs.lemmas.List.FromFn.{length-enumerate_from}
@@ -14,6 +14,7 @@ use Rattle.network_text.specs.declared.network.Network.{Network}
 use Rattle.design_lines.specs.Drawn.{courses_lines, declared_line, drawn}
 use Rattle.design_lines.specs.Led.{AreLed}
 use Rattle.design_lines.proofs.FewLines.{few-courses}
+use Rattle.design_lines.proofs.NumberedItems.{numbered_names-differ}
 use Rattle.design_lines.proofs.Shaped.{HasShape-drawn}
 use Rattle.grid.specs.Part.{AreCaseParts}
 use Rattle.grid.specs.declared.part.Part.{Part}
@@ -24,7 +25,7 @@ use Rattle.interval_design.proofs.CourseShape.{courses-are}
 use Rattle.interval_design.proofs.ExchangerLemmas.{exchangers_of-network_of, network_of-drawn}
 use Rattle.interval_design.proofs.FlowLemmas.{few-shares, most_transfers}
 use Rattle.interval_design.proofs.NetworkLemmas.{length-courses_of}
-use Rattle.interval_design.proofs.TransferExchangers.{all-exchangers, names-differ}
+use Rattle.interval_design.proofs.TransferExchangers.{all-exchangers}
 use Rattle.interval_design.proofs.TurnLemmas.{once-passed}
 
 -- what a heat flow of a case gives its design
@@ -65,7 +66,7 @@ pub AreLed-transfers : (case : Case) (hot cold : List Part) (transfers : List Tr
     → AreLed case (map (exchanger_of hot cold) (enumerate_from 0 transfers)) (courses_of case hot cold transfers)
 AreLed-transfers case hot cold transfers complete can = record {
   declared = all-exchangers case hot cold transfers can.parts can.hot_indexes can.cold_indexes can.positive can.heats (omega (arith, can.few));
-  distinct = names-differ hot cold transfers (omega (arith, can.few));
+  distinct = numbered_names-differ (exchanger_of hot cold) transfers (λ n t. refl) (omega (arith, can.few));
   all = length-courses_of case hot cold transfers;
   each = courses-are case hot cold transfers complete can.parts can.positive can.heats can.led;
   once = once-passed case hot cold transfers can.parts can.hot_indexes can.cold_indexes;

@@ -1,13 +1,13 @@
 -- A heat flow of a case can be led: each part of a stream has a width and a transfer, and there are few transfers.
-use Rattle.std.proofs.Common.{◌≡◌, ◌∙◌, ◌<◌, ◌≤◌, ◌+◌, ◌-◌, ◌*◌, ◌^◌, ◌∷◌, ◌++◌, ◌==◌, inl, inr, ℕ, zero, suc, ℤ, pos, ◌+ℤ◌, ◌-ℤ◌, ◌*ℤ◌, ◌<ℤ◌, Bool, true, false, cond, if◌then◌else◌, List, [], All, AllPairs, Some, None, get_or, slice_get, length, map, refl, sym, ap, subst, arith}
+use Rattle.std.proofs.Common.{◌≡◌, ◌∙◌, ◌<◌, ◌≤◌, ◌+◌, ◌-◌, ◌*◌, ◌^◌, ◌∷◌, ◌==◌, inl, inr, ℕ, zero, suc, ℤ, pos, ◌+ℤ◌, ◌-ℤ◌, ◌*ℤ◌, ◌<ℤ◌, Bool, true, false, cond, if◌then◌else◌, List, [], All, AllPairs, Some, None, get_or, slice_get, length, map, refl, sym, ap, subst, arith}
 use Rattle.std.specs.Prelude.{Option, count_by, nat_lt, reverse, sum_by}
 use Rattle.std.specs.List.{cons_option, enumerate_from, filter_map}
 use Rattle.std.proofs.Math.Nat.{mul-le-mul}
 use Rattle.std.proofs.lemmas.Bool.{false≢true}
 use Rattle.std.proofs.lemmas.Bool.Decides.{nat_tests}
 use Rattle.std.proofs.lemmas.Int.{ints}
-use Rattle.std.proofs.lemmas.List.{get_or-reverse, length-reverse, reverse-append}
-use Rattle.std.proofs.lemmas.List.Elements.{All-cons, All-head, All-map, All-nil, All-tail, filter_map-append}
+use Rattle.std.proofs.lemmas.List.{get_or-reverse, length-reverse}
+use Rattle.std.proofs.lemmas.List.Elements.{All-head, All-map, All-nil, All-tail}
 use Rattle.std.proofs.lemmas.List.FromFn.{get_or-enumerate_from, length-enumerate_from}
 use Rattle.std.proofs.lemmas.List.Sums.{count_by-le-length, sum_by-cons}
 use Rattle.std.proofs.lemmas.Option.{slice_get-get_or}
@@ -28,15 +28,17 @@ use Rattle.fractions.specs.Rationals.{ratio}
 use Rattle.network_text.proofs.Lists.{all_at}
 use Rattle.design_lines.specs.Drawn.{Course, all_branches, course_branches}
 use Rattle.design_lines.specs.declared.stage.Share.{Share}
+use Rattle.design_lines.proofs.ListLemmas.{All-kept, sum_by-reverse}
 use Rattle.grid.specs.Grid.{IsGrid}
 use Rattle.grid.specs.Part.{AreCaseParts, AreParts, IsPartOf}
 use Rattle.grid.specs.declared.part.Part.{Part}
 use Rattle.grid.proofs.PlaceLemmas.{interval_falls}
 use Rattle.heat_flow.specs.Cuts.{parts_of}
-use Rattle.heat_flow.specs.Flow.{HaveParts, KeepsRanges, heat_at, part_index, precedes}
+use Rattle.heat_flow.specs.Flow.{HaveParts, IsHeatFlow, KeepsRanges, heat_at, part_index, precedes}
 use Rattle.heat_flow.specs.declared.flow.Transfer.{Transfer}
 use Rattle.interval_design.specs.Courses.{AllCanBeLed, CanBeLed, course_of, courses_of, on_the_way, share_of, shares_of, stage_of, stream_course, width_of}
 use Rattle.interval_design.proofs.NetworkLemmas.{length-courses_of}
+use Rattle.interval_design.proofs.WayLemmas.{filter_map-reverse}
 
 -- ---- few transfers
 
@@ -67,7 +69,7 @@ key-below rows columns t hot cold =
     omega (arith, product, cold)
 
 -- transfers are pairs of a hot and a cold part, each once
-pub few_transfers : (hot cold : List Part) (ts : List Transfer) → AllPairs precedes ts → HaveParts side.Hot hot ts → HaveParts side.Cold cold ts → length ts ≤ length hot * length cold
+few_transfers : (hot cold : List Part) (ts : List Transfer) → AllPairs precedes ts → HaveParts side.Hot hot ts → HaveParts side.Cold cold ts → length ts ≤ length hot * length cold
 few_transfers hot cold [] pairs rows columns = omega arith
 few_transfers hot cold (t ∷ ts) pairs rows columns =
     let n = length ts in
@@ -116,22 +118,14 @@ total-stages of ts stream n (p ∷ parts) =
     stage_total (same_source p.source (source.Stream stream)) (shares_of of n (width_of p) ts) (filter_map (stage_of of ts stream) (enumerate_from (n + 1) parts)) (before of ts n) (before of ts (n + 1)) (length ts)
     (omega (arith, size, more)) (total-stages of ts stream (n + 1) parts)
 
-total-cons : (o : Option (List Share)) (rest : Course) → total (cons_option o rest) ≡ total (cons_option o []) + total rest
-total-cons None rest = omega arith
-total-cons (Some shares) rest = omega arith
-
-total-append : (xs ys : Course) → total (xs ++ ys) ≡ total xs + total ys
-total-append [] ys = omega arith
-total-append (x ∷ xs) ys = let rest = total-append xs ys in omega (arith, rest)
+total-is : (course : Course) → total course ≡ sum_by (λ ss. length ss) course
+total-is [] = refl
+total-is (shares ∷ stages) = omega (arith, sum_by-cons (λ (ss : List Share). length ss) shares stages, total-is stages)
 
 total-reverse : (h : ℕ × Part → Option (List Share)) (xs : List (ℕ × Part)) → total (filter_map h (reverse xs)) ≡ total (filter_map h xs)
-total-reverse h [] = refl
-total-reverse h (x ∷ xs) =
-    let turned : reverse (x ∷ xs) ≡ reverse xs ++ x ∷ [] = reverse-append (x ∷ []) xs in
-    let parts = ap total (ap (filter_map h) turned ∙ filter_map-append h (reverse xs) (x ∷ [])) ∙ total-append (filter_map h (reverse xs)) (filter_map h (x ∷ [])) in
-    let rest = total-reverse h xs in
-    let one = total-cons (h x) (filter_map h xs) in
-    omega (arith, parts, rest, one)
+total-reverse h xs =
+    let stages = filter_map h xs in
+    ap total (filter_map-reverse h xs) ∙ total-is (reverse stages) ∙ sum_by-reverse (λ (ss : List Share). length ss) stages ∙ sym (total-is stages)
 
 total-course : (of : Side) (parts : List Part) (ts : List Transfer) (stream : ℕ) → total (course_of of parts ts stream) ≤ length ts
 total-course side.Hot parts ts stream = let all = total-stages side.Hot ts stream 0 parts in omega (arith, all)
@@ -179,14 +173,10 @@ some_share of ts index width heat =
     by zero size none = let nothing = none refl in absurd (omega (arith, ints, nothing, heat))
     by (suc n) size none = omega (arith, size)
 
-one_used : (b : Bool) (shares : List Share) (rest : Course) → (b ≡ true → 0 < length shares) → All (λ ss. 0 < length ss) rest → All (λ ss. 0 < length ss) (cons_option (if b then Some shares else None) rest)
-one_used true shares rest some all = All-cons (λ (ss : List Share). 0 < length ss) shares rest (some refl) all
-one_used false shares rest some all = all
-
 stages-used : (of : Side) (ts : List Transfer) (stream : ℕ) (xs : List (ℕ × Part)) → All (HasHeat of ts stream) xs → All (λ ss. 0 < length ss) (filter_map (stage_of of ts stream) xs)
 stages-used of ts stream [] heats = All-nil (λ (ss : List Share). 0 < length ss)
 stages-used of ts stream ((index, p) ∷ xs) heats =
-    one_used (same_source p.source (source.Stream stream)) (shares_of of index (width_of p) ts) (filter_map (stage_of of ts stream) xs)
+    All-kept (λ (ss : List Share). 0 < length ss) (same_source p.source (source.Stream stream)) (shares_of of index (width_of p) ts) (filter_map (stage_of of ts stream) xs)
     (λ own. some_share of ts index (width_of p) (All-head (HasHeat of ts stream) (index, p) xs heats own)) (stages-used of ts stream xs (All-tail (HasHeat of ts stream) (index, p) xs heats))
 
 -- what holds of each part with its index holds on the way
@@ -250,8 +240,11 @@ all_led case hot cold ts complete parts hots colds number s here = by s.side
 abbrev pub most_transfers : ℕ
 most_transfers = MOST_PARTS * MOST_PARTS
 
-pub few_pairs : (rows columns : ℕ) → rows ≤ MOST_PARTS → columns ≤ MOST_PARTS → rows * columns ≤ most_transfers
-few_pairs rows columns one two = mul-le-mul one two
+pub few_flow : {reach : ℕ → ℕ → Bool} {hot cold : List Part} {ts : List Transfer} → IsHeatFlow reach hot cold ts → length hot ≤ MOST_PARTS → length cold ≤ MOST_PARTS → length ts ≤ most_transfers
+few_flow {reach} {hot} {cold} {ts} flow rows columns =
+    let pairs = few_transfers hot cold ts flow.ordered flow.hot_indexes flow.cold_indexes in
+    let product : length hot * length cold ≤ most_transfers = mul-le-mul rows columns in
+    omega (arith, pairs, product)
 
 course-small : (most : ℕ) (of : Side) (parts : List Part) (ts : List Transfer) (stream : ℕ) → length ts ≤ most → CanBeLed of parts ts stream → course_branches (course_of of parts ts stream) ≤ 4 * most
 course-small most of parts ts stream few led =
@@ -334,10 +327,6 @@ either-side side.Cold hot cold ts k = omega arith
 total-courses : (hot cold : List Part) (ts : List Transfer) (k : ℕ) (streams : List Stream) → all-total (map (stream_course hot cold ts) (enumerate_from k streams)) ≤ over (λ j. total (course_of side.Hot hot ts j)) k (length streams) + over (λ j. total (course_of side.Cold cold ts j)) k (length streams)
 total-courses hot cold ts k [] = omega arith
 total-courses hot cold ts k (s ∷ streams) = omega (arith, either-side s.side hot cold ts k, total-courses hot cold ts (k + 1) streams)
-
-total-is : (course : Course) → total course ≡ sum_by (λ ss. length ss) course
-total-is [] = refl
-total-is (shares ∷ stages) = omega (arith, sum_by-cons (λ (ss : List Share). length ss) shares stages, total-is stages)
 
 all-total-is : (courses : List Course) → all-total courses ≡ sum_by (λ course. sum_by (λ ss. length ss) course) courses
 all-total-is [] = refl

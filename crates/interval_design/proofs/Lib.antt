@@ -1,10 +1,10 @@
 pub mod ItemLemmas
 pub mod CourseLemmas
 pub mod NetworkLemmas
+pub mod WayLemmas
 pub mod FlowLemmas
 pub mod ExchangerLemmas
 pub mod PartValues
-pub mod WayLemmas
 pub mod StreamValues
 pub mod NetworkValues
 pub mod TransferExchangers

@@ -3,7 +3,7 @@ use Rattle.std.proofs.Common.{◌≡◌, ◌∙◌, ◌<◌, ◌+◌, ◌∷◌,
 use Rattle.std.specs.Prelude.{option_map}
 use Rattle.std.specs.List.{cons_option, enumerate_from, filter_map}
 use Rattle.std.proofs.lemmas.Int.{ints}
-use Rattle.std.proofs.lemmas.List.Elements.{All-cons, All-head, All-nil, All-tail}
+use Rattle.std.proofs.lemmas.List.Elements.{All-head, All-nil, All-tail}
 use Rattle.std.proofs.lemmas.List.FromFn.{get_or-enumerate_from, length-enumerate_from}
 use Rattle.std.proofs.lemmas.Option.{get_or_from_slice_get, slice_get-get_or, slice_get-map, slice_get_within}
 use Rattle.stream_case.specs.declared.case.Case.{Case}
@@ -18,6 +18,7 @@ use Rattle.network_text.proofs.Lists.{all_at}
 use Rattle.network_values.specs.Values.{change, duty_at, duty_of, full_size}
 use Rattle.design_lines.specs.Values.{IsLedStage, size_of}
 use Rattle.design_lines.specs.declared.stage.Share.{Share}
+use Rattle.design_lines.proofs.ListLemmas.{All-kept}
 use Rattle.grid.specs.declared.part.Part.{Part}
 use Rattle.heat_flow.specs.Flow.{ArePositive, heat_at, part_index}
 use Rattle.heat_flow.specs.declared.flow.Transfer.{Transfer}
@@ -28,16 +29,12 @@ use Rattle.interval_design.proofs.FlowLemmas.{All-numbered, some_share}
 
 -- ---- the shares of a part
 
-one_share : (P : Share → Type 0) (b : Bool) (s : Share) (rest : List Share) → P s → All P rest → All P (cons_option (if b then Some s else None) rest)
-one_share P true s rest one all = All-cons P s rest one all
-one_share P false s rest one all = all
-
 -- what holds of the share of each transfer
 pub shares_each : (P : Share → Type 0) (of : Side) (index width : ℕ) (xs : List (ℕ × Transfer)) → All (λ e. P (record { exchanger = e.0; cp = ratio e.1.heat width })) xs → All P (filter_map (share_of of index width) xs)
 shares_each P of index width [] all = All-nil P
 shares_each P of index width ((k, t) ∷ xs) all =
     let Q : ℕ × Transfer → Type 0 = λ e. P (record { exchanger = e.0; cp = ratio e.1.heat width }) in
-    one_share P (part_index of t == index) (record { exchanger = k; cp = ratio t.heat width }) (filter_map (share_of of index width) xs) (All-head Q (k, t) xs all) (shares_each P of index width xs (All-tail Q (k, t) xs all))
+    All-kept P (part_index of t == index) (record { exchanger = k; cp = ratio t.heat width }) (filter_map (share_of of index width) xs) (λ own. All-head Q (k, t) xs all) (shares_each P of index width xs (All-tail Q (k, t) xs all))
 
 one_size : (b : Bool) (number width : ℕ) (heat others : ℤ) (rest : List Share) → size_of rest ≡ ratio others width
     → size_of (cons_option (if b then Some (record { exchanger = number; cp = ratio heat width }) else None) rest) ≡ ratio ((if b then heat else pos 0) +ℤ others) width

@@ -13,6 +13,7 @@ use Rattle.fractions.specs.Rationals.{Rational, whole}
 use Rattle.network_values.specs.Values.{Valuation, first_value}
 use Rattle.design_lines.specs.Drawn.{Course, courses_lines, declared_line}
 use Rattle.design_lines.specs.Values.{LedStage, courses_values}
+use Rattle.design_lines.proofs.NumberedItems.{numbered-item}
 use Rattle.design_lines.proofs.PassRuns.{EachRuns, RunsAs, StageRuns, courses_run}
 use Rattle.design_lines.proofs.WholeValues.{own_start}
 use Rattle.grid.specs.Part.{AreCaseParts}
@@ -23,7 +24,6 @@ use Rattle.heat_flow.specs.Reach.{reach_between}
 use Rattle.heat_flow.specs.declared.flow.Transfer.{Transfer}
 use Rattle.interval_design.specs.Courses.{courses_of, exchanger_of, network_of, on_the_way, shares_of, width_of}
 use Rattle.interval_design.specs.Values.{actual, entered_at, led_course, led_courses, led_part, left_at}
-use Rattle.interval_design.proofs.CourseShape.{numbered-item}
 use Rattle.interval_design.proofs.FlowLemmas.{All-way}
 use Rattle.interval_design.proofs.NetworkValues.{all_led_network, courses_along-led}
 use Rattle.interval_design.proofs.ShareLemmas.{each-share}

@@ -1,10 +1,9 @@
 -- The shares of a stream's part have a flow above 0, and pass exchangers that have a side of the stream.
-use Rattle.std.proofs.Common.{◌≡◌, ◌∙◌, ◌<◌, ◌+◌, ◌^◌, ◌==◌, ◌∷◌, inl, inr, ℕ, ℤ, zero, suc, pos, ◌<ℤ◌, Bool, true, false, if◌then◌else◌, List, [], All, Some, None, slice_get, map, refl, sym, ap, subst, arith}
-use Rattle.std.specs.List.{cons_option, enumerate_from, filter_map}
+use Rattle.std.proofs.Common.{◌≡◌, ◌∙◌, ◌<◌, ◌+◌, ◌^◌, ◌==◌, inl, inr, ℕ, ℤ, pos, ◌<ℤ◌, true, List, All, Some, slice_get, map, refl, sym, ap, arith}
+use Rattle.std.specs.List.{enumerate_from, filter_map}
 use Rattle.std.specs.Option.{option_map_or}
 use Rattle.std.proofs.lemmas.Bool.Decides.{nat_tests}
 use Rattle.std.proofs.lemmas.Int.{ints}
-use Rattle.std.proofs.lemmas.List.Elements.{All-cons, All-nil}
 use Rattle.stream_case.specs.Limits.{IsHeat}
 use Rattle.stream_case.specs.Source.{same_source}
 use Rattle.stream_case.specs.declared.source.Side.{Side}
@@ -18,39 +17,18 @@ use Rattle.network_text.specs.Shape.{IsPositive, Joins}
 use Rattle.network_text.proofs.Lists.{all_at}
 use Rattle.design_lines.specs.Led.{IsShareOf}
 use Rattle.design_lines.specs.declared.stage.Share.{Share}
+use Rattle.design_lines.proofs.ListLemmas.{kept_hold}
+use Rattle.design_lines.proofs.NumberedItems.{slice_get-numbered}
 use Rattle.grid.specs.declared.part.Part.{Part}
 use Rattle.heat_flow.specs.Cuts.{parts_of}
 use Rattle.heat_flow.specs.Flow.{ArePositive, part_index}
 use Rattle.heat_flow.specs.declared.flow.Transfer.{Transfer}
 use Rattle.interval_design.specs.Courses.{exchanger_of, share_of, shares_of, source_at}
 
--- the item at an index of a list that is made of numbered items
-slice_get-numbered : {X Y : Type 0} (f : ℕ × X → Y) (n : ℕ) (xs : List X) (i : ℕ) (x : X) → slice_get xs i ≡ Some x → slice_get (map f (enumerate_from n xs)) i ≡ Some (f (n + i, x))
-slice_get-numbered f n [] i x at = cc at
-slice_get-numbered {X} f n (y ∷ xs) zero x at =
-    let same : y ≡ x = cc at in
-    let none : n ≡ n + 0 = omega arith in
-    ap (λ (z : X). Some (f (n, z))) same ∙ ap (λ (k : ℕ). Some (f (k, x))) none
-slice_get-numbered f n (y ∷ xs) (suc i) x at =
-    let further : n + 1 + i ≡ n + suc i = omega arith in
-    slice_get-numbered f (n + 1) xs i x at ∙ ap (λ (k : ℕ). Some (f (k, x))) further
-
 -- what holds of the share of each transfer of a part holds of the shares of the part
-one_share : (P : Share → Type 0) (b : Bool) (s : Share) (rest : List Share) → (b ≡ true → P s) → All P rest → All P (cons_option (if b then Some s else None) rest)
-one_share P true s rest own all = All-cons P s rest (own refl) all
-one_share P false s rest own all = all
-
 pub each-share : (P : Share → Type 0) (of : Side) (index width n : ℕ) (ts : List Transfer) → ((i : ℕ) (t : Transfer) → slice_get ts i ≡ Some t → part_index of t ≡ index → P (record { exchanger = n + i; cp = ratio t.heat width }))
     → All P (filter_map (share_of of index width) (enumerate_from n ts))
-each-share P of index width n [] each = All-nil P
-each-share P of index width n (t ∷ ts) each =
-    let share : ℕ → Share = λ k. record { exchanger = k; cp = ratio t.heat width } in
-    let none : n + 0 ≡ n = omega arith in
-    let rest = each-share P of index width (n + 1) ts (λ i u at own.
-    let further : n + suc i ≡ n + 1 + i = omega arith in
-    subst (λ (k : ℕ). P (record { exchanger = k; cp = ratio u.heat width })) further (each (suc i) u at own)) in
-    one_share P (part_index of t == index) (share n) (filter_map (share_of of index width) (enumerate_from (n + 1) ts))
-    (λ is. let own : part_index of t ≡ index = grind (arith, nat_tests, is) in subst (λ (k : ℕ). P (share k)) none (each 0 t refl own)) rest
+each-share P of index width n ts each = kept_hold (λ (t : Transfer). part_index of t == index) (share_of of index width) (λ (k : ℕ) (t : Transfer). record { exchanger = k; cp = ratio t.heat width }) (λ k t. refl) P n ts (λ i t at is. each i t at (grind (arith, nat_tests, is)))
 
 -- the exchanger of a transfer has a side of the stream of its part
 pub joins-stream : (of : Side) (hot cold : List Part) (number : ℕ) (t : Transfer) (index stream : ℕ) (p : Part) → slice_get (parts_of of hot cold) index ≡ Some p → part_index of t ≡ index → same_source p.source (source.Stream stream) ≡ true

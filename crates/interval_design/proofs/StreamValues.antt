@@ -3,7 +3,7 @@ use Rattle.std.proofs.Common.{◌≡◌, ◌∙◌, ◌∷◌, inl, ℕ, ℤ, po
 use Rattle.std.specs.Prelude.{Contains}
 use Rattle.std.specs.List.{cons_option, enumerate_from, filter_map}
 use Rattle.std.proofs.lemmas.Int.{ints}
-use Rattle.std.proofs.lemmas.List.Elements.{All-cons, All-head, All-nil, All-tail}
+use Rattle.std.proofs.lemmas.List.Elements.{All-head, All-nil, All-tail}
 use Rattle.sums.proofs.ProductLemmas.{product_positive}
 use Rattle.stream_case.specs.Case.{IsComplete}
 use Rattle.stream_case.specs.Shift.{shifted}
@@ -21,6 +21,7 @@ use Rattle.network_text.proofs.Lists.{all_at}
 use Rattle.network_values.specs.Values.{first_state, full_size, last_state}
 use Rattle.design_lines.specs.Drawn.{Course}
 use Rattle.design_lines.specs.Values.{IsLedStage, IsLedStream, LedStage, Meet, shares_along, state_behind}
+use Rattle.design_lines.proofs.ListLemmas.{All-kept}
 use Rattle.grid.specs.Part.{AreCaseParts, AreParts, IsPartOf}
 use Rattle.grid.specs.declared.part.Part.{Part}
 use Rattle.grid.proofs.MakingLemmas.{HoldsPlaces-IsGrid, holds_ends}
@@ -71,11 +72,7 @@ pub led_each : (P : LedStage → Type 0) (s : Stream) (ts : List Transfer) (numb
 led_each P s ts number [] all = All-nil P
 led_each P s ts number ((index, p) ∷ xs) all =
     let Q : ℕ × Part → Type 0 = λ e. same_source e.1.source (source.Stream number) ≡ true → P (led_part s ts e) in
-    one (same_source p.source (source.Stream number)) (filter_map (led_stage s ts number) xs) (All-head Q (index, p) xs all) (led_each P s ts number xs (All-tail Q (index, p) xs all))
-  where
-    one : (b : Bool) (stages : List LedStage) → (b ≡ true → P (led_part s ts (index, p))) → All P stages → All P (cons_option (if b then Some (led_part s ts (index, p)) else None) stages)
-    one true stages here rest = All-cons P (led_part s ts (index, p)) stages (here refl) rest
-    one false stages here rest = rest
+    All-kept P (same_source p.source (source.Stream number)) (led_part s ts (index, p)) (filter_map (led_stage s ts number) xs) (All-head Q (index, p) xs all) (led_each P s ts number xs (All-tail Q (index, p) xs all))
 
 -- ---- the temperatures
 

@@ -1,12 +1,9 @@
--- The exchangers of transfers are exchangers of the case: their names differ, and their sources are a hot and a cold one.
-use Rattle.std.proofs.Common.{◌≡◌, ◌≢◌, ◌∙◌, ◌<◌, ◌+◌, ◌^◌, ◌∷◌, inl, inr, ℕ, ℤ, pos, ◌<ℤ◌, List, [], All, AllPairs, Some, get_or, length, map, option_map, sym, ap, arith}
-use Rattle.std.specs.Fmt.{decimal}
+-- The exchangers of transfers are exchangers of the case: their sources are a hot and a cold one.
+use Rattle.std.proofs.Common.{◌≡◌, ◌∙◌, ◌<◌, ◌^◌, ◌∷◌, inl, inr, ℕ, ℤ, pos, ◌<ℤ◌, List, [], All, Some, get_or, length, map, option_map, ap, arith}
 use Rattle.std.specs.List.{enumerate_from}
 use Rattle.std.specs.Option.{option_map_or}
-use Rattle.std.proofs.lemmas.Fmt.{decimal_injective}
 use Rattle.std.proofs.lemmas.Int.{ints}
 use Rattle.std.proofs.lemmas.List.Elements.{All-map}
-use Rattle.std.proofs.lemmas.List.FromFn.{get_or-enumerate_from, length-enumerate_from}
 use Rattle.std.proofs.lemmas.Option.{slice_get-get_or, slice_get_within}
 use Rattle.sums.proofs.EnumerationLemmas.{All-enumerated}
 use Rattle.stream_case.specs.Case.{side_of}
@@ -19,34 +16,14 @@ use Rattle.stream_case.specs.declared.stream.Stream.{Stream}
 use Rattle.stream_case.specs.declared.utility.Utility.{Utility}
 use Rattle.fractions.specs.Rationals.{whole}
 use Rattle.fractions.proofs.Limits.{within-whole}
-use Rattle.network_text.specs.Lines.{Exchanger}
 use Rattle.network_text.specs.Shape.{IsExchanger, IsPositive}
-use Rattle.network_text.proofs.Lists.{AllPairs-map, all_at}
-use Rattle.design_lines.specs.Names.{exchanger_name}
+use Rattle.network_text.proofs.Lists.{all_at}
 use Rattle.design_lines.proofs.NameLemmas.{IsName-exchanger_name}
 use Rattle.grid.specs.Part.{AreCaseParts, AreParts, IsPartOf}
 use Rattle.grid.specs.declared.part.Part.{Part}
 use Rattle.heat_flow.specs.Flow.{ArePositive, HaveParts}
 use Rattle.heat_flow.specs.declared.flow.Transfer.{Transfer}
 use Rattle.interval_design.specs.Courses.{exchanger_of, source_at}
-
--- ---- names
-
-exchanger_name-injective : (m n : ℕ) → m < 2 ^ 33 → n < 2 ^ 33 → exchanger_name m ≡ exchanger_name n → m ≡ n
-exchanger_name-injective m n small_m small_n same =
-    let digits : decimal (m + 1) ≡ decimal (n + 1) = cc same in
-    let next = decimal_injective (m + 1) (n + 1) (omega (arith, small_m)) (omega (arith, small_n)) digits in
-    omega (arith, next)
-
-pub names-differ : (hot cold : List Part) (transfers : List Transfer) → length transfers < 2 ^ 32 → AllPairs (λ a b. a.name ≢ b.name) (map (exchanger_of hot cold) (enumerate_from 0 transfers))
-names-differ hot cold transfers few =
-    AllPairs-map (λ (a b : Exchanger). a.name ≢ b.name) (exchanger_of hot cold) (enumerate_from 0 transfers) (λ i j d before within.
-    let inside : j < length transfers = omega (arith, within, length-enumerate_from 0 transfers) in
-    let name : ℕ × Transfer → List ℕ = λ e. (exchanger_of hot cold e).name in
-    let one = ap name (get_or-enumerate_from 0 transfers i d (omega (arith, before, inside))) in
-    let other = ap name (get_or-enumerate_from 0 transfers j d inside) in
-    λ same. let equal = exchanger_name-injective (0 + i) (0 + j) (omega (arith, before, inside, few)) (omega (arith, inside, few)) (sym one ∙ same ∙ other) in
-    absurd (omega (arith, equal, before)))
 
 -- ---- sources
 

@@ -1,14 +1,11 @@
 -- The exchanger of a transfer stands in one share of the course of each of its streams.
-use Rattle.std.proofs.Common.{◌≡◌, ◌∙◌, ◌<◌, ◌+◌, ◌==◌, ◌∷◌, ◌++◌, inl, inr, ℕ, ℤ, zero, suc, Bool, true, false, cond, if◌then◌else◌, List, [], Some, None, get_or, slice_get, length, map, option_map, refl, sym, ap, arith}
-use Rattle.std.specs.Prelude.{Option, count_by, reverse}
+use Rattle.std.proofs.Common.{◌≡◌, ◌∙◌, ◌<◌, ◌+◌, ◌==◌, ◌∷◌, inl, inr, ℕ, ℤ, zero, suc, Bool, true, false, cond, if◌then◌else◌, List, [], Some, None, get_or, slice_get, length, map, option_map, refl, sym, ap, arith}
+use Rattle.std.specs.Prelude.{count_by}
 use Rattle.std.specs.List.{cons_option, enumerate_from, filter_map}
 use Rattle.std.specs.Option.{option_map_or}
 use Rattle.std.proofs.lemmas.Bool.Decides.{nat_tests}
-use Rattle.std.proofs.lemmas.List.{reverse-append}
-use Rattle.std.proofs.lemmas.List.Elements.{filter_map-append}
-use Rattle.std.proofs.lemmas.List.Sums.{sum_by-append, sum_by-cons}
+use Rattle.std.proofs.lemmas.List.Sums.{sum_by-cons}
 use Rattle.std.proofs.lemmas.Option.{slice_get-get_or}
-use Rattle.sums.proofs.CountLemmas.{count_by-cons}
 use Rattle.stream_case.specs.Case.{side_of}
 use Rattle.stream_case.specs.Source.{same_source}
 use Rattle.stream_case.specs.declared.case.Case.{Case}
@@ -25,51 +22,23 @@ use Rattle.network_text.proofs.Lists.{all_at}
 use Rattle.design_lines.specs.Drawn.{Course}
 use Rattle.design_lines.specs.Led.{turns}
 use Rattle.design_lines.specs.declared.stage.Share.{Share}
+use Rattle.design_lines.proofs.ListLemmas.{sum_by-reverse}
+use Rattle.design_lines.proofs.NumberedItems.{numbered-item}
+use Rattle.design_lines.proofs.NumberedShares.{one_share}
 use Rattle.grid.specs.Part.{AreCaseParts, AreParts}
 use Rattle.grid.specs.declared.part.Part.{Part}
 use Rattle.heat_flow.specs.Cuts.{parts_of}
 use Rattle.heat_flow.specs.Flow.{HaveParts, part_index}
 use Rattle.heat_flow.specs.declared.flow.Transfer.{Transfer}
 use Rattle.interval_design.specs.Courses.{course_of, courses_of, exchanger_of, share_of, shares_of, source_at, stage_of, stream_course, width_of}
-use Rattle.interval_design.proofs.CourseShape.{numbered-item}
 use Rattle.interval_design.proofs.TransferExchangers.{source-side}
+use Rattle.interval_design.proofs.WayLemmas.{filter_map-reverse}
 
 -- ---- the shares of a part
 
-count_skip : (p : Share → Bool) (b : Bool) (s : Share) (rest : List Share) → p s ≡ false → count_by p (cons_option (if b then Some s else None) rest) ≡ count_by p rest
-count_skip p true s rest fails = let none = ap {B = ℕ} (λ t. cond t 1 0) fails in omega (arith, count_by-cons p s rest, none)
-count_skip p false s rest fails = refl
-
-count_take : (p : Share → Bool) (b : Bool) (s : Share) (rest : List Share) → p s ≡ true → count_by p (cons_option (if b then Some s else None) rest) ≡ cond b 1 0 + count_by p rest
-count_take p true s rest holds = let one = ap {B = ℕ} (λ t. cond t 1 0) holds in omega (arith, count_by-cons p s rest, one)
-count_take p false s rest holds = omega arith
-
-shares-behind : (of : Side) (index width number n : ℕ) (ts : List Transfer) → number < n → count_by (λ s. number == s.exchanger) (filter_map (share_of of index width) (enumerate_from n ts)) ≡ 0
-shares-behind of index width number n [] less = refl
-shares-behind of index width number n (t ∷ ts) less =
-    let fails : (number == n) ≡ false = grind (arith, nat_tests, less) in
-    count_skip (λ s. number == s.exchanger) (part_index of t == index) (record { exchanger = n; cp = ratio t.heat width }) (filter_map (share_of of index width) (enumerate_from (n + 1) ts)) fails
-    ∙ shares-behind of index width number (n + 1) ts (omega (arith, less))
-
-shares-at : (of : Side) (index width number n i : ℕ) (ts : List Transfer) (t : Transfer) → n + i ≡ number → slice_get ts i ≡ Some t
-    → count_by (λ s. number == s.exchanger) (filter_map (share_of of index width) (enumerate_from n ts)) ≡ cond (part_index of t == index) 1 0
-shares-at of index width number n i [] t is at = cc at
-shares-at of index width number n zero (u ∷ ts) t is at =
-    let same : u ≡ t = cc at in
-    let holds : (number == n) ≡ true = grind (arith, nat_tests, is) in
-    let later = filter_map (share_of of index width) (enumerate_from (n + 1) ts) in
-    let one = count_take (λ s. number == s.exchanger) (part_index of u == index) (record { exchanger = n; cp = ratio u.heat width }) later holds in
-    let none = shares-behind of index width number (n + 1) ts (omega (arith, is)) in
-    let all : count_by (λ s. number == s.exchanger) (filter_map (share_of of index width) (enumerate_from n (u ∷ ts))) ≡ cond (part_index of u == index) 1 0 = omega (arith, one, none) in
-    all ∙ ap {B = ℕ} (λ (v : Transfer). cond (part_index of v == index) 1 0) same
-shares-at of index width number n (suc i) (u ∷ ts) t is at =
-    let fails : (number == n) ≡ false = grind (arith, nat_tests, is) in
-    count_skip (λ s. number == s.exchanger) (part_index of u == index) (record { exchanger = n; cp = ratio u.heat width }) (filter_map (share_of of index width) (enumerate_from (n + 1) ts)) fails
-    ∙ shares-at of index width number (n + 1) i ts t (omega (arith, is)) at
-
 shares-turns : (of : Side) (index width number : ℕ) (ts : List Transfer) (t : Transfer) → slice_get ts number ≡ Some t → count_by (λ s. number == s.exchanger) (shares_of of index width ts) ≡ cond (part_index of t == index) 1 0
 unfolding shares_of
-shares-turns of index width number ts t at = shares-at of index width number 0 number ts t (omega arith) at
+shares-turns of index width number ts t at = one_share (λ (u : Transfer). part_index of u == index) (λ (u : Transfer). ratio u.heat width) (share_of of index width) (λ k u. refl) number 0 number ts t (omega arith) at
 
 -- ---- the stages of a stream
 
@@ -118,28 +87,13 @@ turns-at of ts number t stream n (suc i) (q ∷ parts) p at is here own =
     let rest = turns-at of ts number t stream (n + 1) i parts p at (omega (arith, is)) here own in
     omega (arith, stage-turns number q_own shares (filter_map (stage_of of ts stream) (enumerate_from (n + 1) parts)), none, rest)
 
--- the same where the parts come in the other order
-turns-append : (number : ℕ) (xs ys : Course) → turns number (xs ++ ys) ≡ turns number xs + turns number ys
-turns-append number xs ys = sum_by-append (λ ss. count_by (λ s. number == s.exchanger) ss) xs ys
-
-turns-cons : (number : ℕ) (o : Option (List Share)) (rest : Course) → turns number (cons_option o rest) ≡ turns number (cons_option o []) + turns number rest
-turns-cons number None rest = omega arith
-turns-cons number (Some shares) rest = turns-append number (shares ∷ []) rest
-
-turns-reverse : (number : ℕ) (h : ℕ × Part → Option (List Share)) (xs : List (ℕ × Part)) → turns number (filter_map h (reverse xs)) ≡ turns number (filter_map h xs)
-turns-reverse number h [] = refl
-turns-reverse number h (x ∷ xs) =
-    let turned : reverse (x ∷ xs) ≡ reverse xs ++ x ∷ [] = reverse-append (x ∷ []) xs in
-    let parts = ap (turns number) (ap (filter_map h) turned ∙ filter_map-append h (reverse xs) (x ∷ [])) ∙ turns-append number (filter_map h (reverse xs)) (filter_map h (x ∷ [])) in
-    let rest = turns-reverse number h xs in
-    let one = turns-cons number (h x) (filter_map h xs) in
-    omega (arith, parts, rest, one)
-
 turns-course : (of : Side) (ts : List Transfer) (number : ℕ) (t : Transfer) (stream : ℕ) (parts : List Part) (p : Part) → slice_get ts number ≡ Some t → slice_get parts (part_index of t) ≡ Some p → same_source p.source (source.Stream stream) ≡ true
     → turns number (course_of of parts ts stream) ≡ 1
 turns-course side.Hot ts number t stream parts p at here own = turns-at side.Hot ts number t stream 0 t.hot parts p at (omega arith) here own
 turns-course side.Cold ts number t stream parts p at here own =
-    turns-reverse number (stage_of side.Cold ts stream) (enumerate_from 0 parts) ∙ turns-at side.Cold ts number t stream 0 t.cold parts p at (omega arith) here own
+    let stages = filter_map (stage_of side.Cold ts stream) (enumerate_from 0 parts) in
+    ap (turns number) (filter_map-reverse (stage_of side.Cold ts stream) (enumerate_from 0 parts)) ∙ sum_by-reverse (λ (ss : List Share). count_by (λ s. number == s.exchanger) ss) stages
+    ∙ turns-at side.Cold ts number t stream 0 t.cold parts p at (omega arith) here own
 
 -- ---- the streams of a transfer
 

@@ -1,5 +1,5 @@
 -- What runs in an interval has its whole flow in its matches there, and what does not run has none.
-use Rattle.std.proofs.Common.{◌≡◌, ◌∙◌, inl, inr, ◌<◌, ◌+◌, ◌==◌, ◌∷◌, ℕ, zero, suc, ℤ, pos, ◌+ℤ◌, ◌*ℤ◌, ◌≤ℤ◌, ◌<ℤ◌, Bool, true, false, if◌then◌else◌, List, [], All, Some, None, get_or, slice_get, length, map, refl, sym, ap, subst, arith}
+use Rattle.std.proofs.Common.{◌≡◌, ◌∙◌, inl, inr, ◌<◌, ◌+◌, ◌==◌, ◌∷◌, ℕ, zero, suc, ℤ, pos, ◌+ℤ◌, ◌*ℤ◌, ◌≤ℤ◌, ◌<ℤ◌, Bool, true, false, if◌then◌else◌, List, [], All, AllPairs, Some, None, get_or, slice_get, length, map, refl, sym, ap, subst, arith}
 use Rattle.std.specs.Prelude.{◌&&◌, int_le, unsigned_abs}
 use Rattle.std.specs.List.{cons_option, enumerate_from, filter_map}
 use Rattle.std.specs.Option.{option_map_or}
@@ -14,7 +14,6 @@ use Rattle.sums.proofs.IntegerLemmas.{int_le-true}
 use Rattle.sums.proofs.ListLemmas.{Contains-slice_get}
 use Rattle.sums.proofs.ProductLemmas.{zero_times}
 use Rattle.sums.proofs.SumLemmas.{int_sum_by-same}
-use Rattle.sums.proofs.WalkLemmas.{overlaps_first, overlaps_second}
 use Rattle.stream_case.specs.Source.{same_side, same_source}
 use Rattle.stream_case.specs.Stream.{AreStreams}
 use Rattle.stream_case.specs.declared.case.Case.{Case}
@@ -37,13 +36,12 @@ use Rattle.vertical_design.specs.Matches.{amounts_in, flow_in, match_of, matches
 use Rattle.vertical_design.specs.declared.matches.Match.{Match}
 use Rattle.vertical_design.specs.declared.span.Span.{Span}
 use Rattle.vertical_design.proofs.CurveSegments.{Runs}
-use Rattle.vertical_design.proofs.IntervalLemmas.{amounts-positive, length-amounts}
+use Rattle.vertical_design.proofs.IntervalLemmas.{length-amounts}
 use Rattle.vertical_design.proofs.IntervalTemperatures.{size_is}
 use Rattle.vertical_design.proofs.OverlapLists.{ListsOverlaps-pairs_of, overlap-within}
-use Rattle.vertical_design.proofs.OverlapSums.{amounts-balanced}
-use Rattle.vertical_design.proofs.OwnPairs.{own_amount}
+use Rattle.vertical_design.proofs.OwnPairs.{index_on, list_across, list_on, own_amount, own_amounts, sum-filter}
 use Rattle.vertical_design.proofs.SpanRuns.{span_of}
-use Rattle.vertical_design.proofs.SpanSources.{IsSourceSpan, own_place, sources_differ, span_sources, stream_place}
+use Rattle.vertical_design.proofs.SpanSources.{Differ, HasSpan, IsSourceSpan, own_place, sources_differ, span_sources, stream_place}
 use Rattle.vertical_design.proofs.TurnLemmas.{each-share}
 
 -- ---- lists
@@ -195,51 +193,30 @@ module _ (case : Case) (low high : ℤ) (are_hot : AreSpans (spans_of side.Hot c
       let some : 0 < unsigned_abs other = omega (arith, ints, above, size) in
       ap (λ z. ratio (flow *ℤ z) (unsigned_abs other)) size ∙ ratio-multiple flow (unsigned_abs other) some
 
-  sum-hot : (number : ℕ) (s : Stream) → slice_get case.streams number ≡ Some s → s.side ≡ side.Hot
-      → int_sum_by (λ p. if same_source (source_at hot_spans p.first) (source.Stream number) then p.amount else pos 0) (pairs_of hot_amounts cold_amounts) ≡ flow_in low high (span_of side.Hot case.streams number s) *ℤ side_flow low high cold_spans
-  sum-hot number s here side_is =
-      let us = hot_amounts in
-      let vs = cold_amounts in
-      let ps = pairs_of us vs in
-      let lists = ListsOverlaps-pairs_of us vs in
-      let a = span_of side.Hot case.streams number s in
-      let (k, there) = stream_place case side.Hot number s here side_is in
-      let long = length-amounts low high hot_spans cold_spans in
-      let inside = slice_get_within hot_spans k a there in
-      int_sum_by-same (λ p. if same_source (source_at hot_spans p.first) (source.Stream number) then p.amount else pos 0) (λ p. if p.first == k then p.amount else pos 0) ps
-      (λ i o within.
-      let p = get_or ps i o in
-      let first = (lists.each i o within).first_within in
-      ap (λ b. if b then p.amount else pos 0) (own_place hot_spans (sources_differ case side.Hot) k a there p.first (omega (arith, first, long))))
-      ∙ overlaps_first us vs ps (amounts-positive low high hot_spans cold_spans are_hot are_cold) (amounts-positive low high cold_spans hot_spans are_cold are_hot) (amounts-balanced low high hot_spans cold_spans) lists k (omega (arith, inside, long))
-      ∙ own_amount low high hot_spans cold_spans k a there
+  index_within : (of : Side) (p : Pair) → IsOverlap hot_amounts cold_amounts p → index_on of p < length (list_on of hot_spans cold_spans)
+  index_within side.Hot p is = let inside = is.first_within in omega (arith, inside, length-amounts low high hot_spans cold_spans)
+  index_within side.Cold p is = let inside = is.second_within in omega (arith, inside, length-amounts low high cold_spans hot_spans)
 
-  sum-cold : (number : ℕ) (s : Stream) → slice_get case.streams number ≡ Some s → s.side ≡ side.Cold
-      → int_sum_by (λ p. if same_source (source_at cold_spans p.second) (source.Stream number) then p.amount else pos 0) (pairs_of hot_amounts cold_amounts) ≡ flow_in low high (span_of side.Cold case.streams number s) *ℤ side_flow low high hot_spans
-  sum-cold number s here side_is =
-      let us = hot_amounts in
-      let vs = cold_amounts in
-      let ps = pairs_of us vs in
-      let lists = ListsOverlaps-pairs_of us vs in
-      let a = span_of side.Cold case.streams number s in
-      let (k, there) = stream_place case side.Cold number s here side_is in
-      let long = length-amounts low high cold_spans hot_spans in
-      let inside = slice_get_within cold_spans k a there in
-      int_sum_by-same (λ p. if same_source (source_at cold_spans p.second) (source.Stream number) then p.amount else pos 0) (λ p. if p.second == k then p.amount else pos 0) ps
+  sum_own : (of : Side) (number : ℕ) (s : Stream) → AllPairs Differ (list_on of hot_spans cold_spans) → HasSpan (list_on of hot_spans cold_spans) (span_of of case.streams number s)
+      → int_sum_by (λ p. if same_source (source_at (list_on of hot_spans cold_spans) (index_on of p)) (source.Stream number) then p.amount else pos 0) (pairs_of hot_amounts cold_amounts) ≡ flow_in low high (span_of of case.streams number s) *ℤ side_flow low high (list_across of hot_spans cold_spans)
+  sum_own of number s differ (k, there) =
+      let ps = pairs_of hot_amounts cold_amounts in
+      let spans = list_on of hot_spans cold_spans in
+      let a = span_of of case.streams number s in
+      int_sum_by-same (λ (p : Pair). if same_source (source_at spans (index_on of p)) (source.Stream number) then p.amount else pos 0) (λ (p : Pair). if index_on of p == k then p.amount else pos 0) ps
       (λ i o within.
       let p = get_or ps i o in
-      let second = (lists.each i o within).second_within in
-      ap (λ b. if b then p.amount else pos 0) (own_place cold_spans (sources_differ case side.Cold) k a there p.second (omega (arith, second, long))))
-      ∙ overlaps_second us vs ps (amounts-positive low high hot_spans cold_spans are_hot are_cold) (amounts-positive low high cold_spans hot_spans are_cold are_hot) (amounts-balanced low high hot_spans cold_spans) lists k (omega (arith, inside, long))
-      ∙ own_amount low high cold_spans hot_spans k a there
+      ap (λ b. if b then p.amount else pos 0) (own_place spans differ k a there (index_on of p) (index_within of p ((ListsOverlaps-pairs_of hot_amounts cold_amounts).each i o within))))
+      ∙ sym (sum-filter (λ (p : Pair). index_on of p == k) (λ p. p.amount) ps) ∙ own_amounts low high hot_spans cold_spans are_hot are_cold of k (slice_get_within spans k a there)
+      ∙ own_amount low high spans (list_across of hot_spans cold_spans) k a there
 
   -- its shares are the flow that it has there
   pub shares_size : (of : Side) (number first : ℕ) (s : Stream) → slice_get case.streams number ≡ Some s → s.side ≡ of → pos 0 <ℤ side_flow low high hot_spans → pos 0 <ℤ side_flow low high cold_spans
       → size_of (shares_in of number (record { first = first; matches = matches_in low high hot_spans cold_spans })) ≡ whole (flow_in low high (span_of of case.streams number s))
   unfolding matches_in
   shares_size side.Hot number first s here side_is hot_above cold_above =
-      sizes-hot low high hot_spans cold_spans number first (pairs_of hot_amounts cold_amounts) ∙ ap (λ z. ratio z (unsigned_abs (side_flow low high cold_spans))) (sum-hot number s here side_is)
+      sizes-hot low high hot_spans cold_spans number first (pairs_of hot_amounts cold_amounts) ∙ ap (λ z. ratio z (unsigned_abs (side_flow low high cold_spans))) (sum_own side.Hot number s (sources_differ case side.Hot) (stream_place case side.Hot number s here side_is))
       ∙ whole_flow (flow_in low high (span_of side.Hot case.streams number s)) (side_flow low high cold_spans) cold_above
   shares_size side.Cold number first s here side_is hot_above cold_above =
-      sizes-cold low high hot_spans cold_spans number first (pairs_of hot_amounts cold_amounts) ∙ ap (λ z. ratio z (unsigned_abs (side_flow low high hot_spans))) (sum-cold number s here side_is)
+      sizes-cold low high hot_spans cold_spans number first (pairs_of hot_amounts cold_amounts) ∙ ap (λ z. ratio z (unsigned_abs (side_flow low high hot_spans))) (sum_own side.Cold number s (sources_differ case side.Cold) (stream_place case side.Cold number s here side_is))
       ∙ whole_flow (flow_in low high (span_of side.Cold case.streams number s)) (side_flow low high hot_spans) hot_above

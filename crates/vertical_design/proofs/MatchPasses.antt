@@ -24,13 +24,12 @@ use Rattle.network_text.proofs.Lists.{all_at}
 use Rattle.network_text.proofs.OfShape.{the_pass_of}
 use Rattle.network_values.specs.Sides.{contribution_of, enters, leaves, pass_run, run_between, side_run}
 use Rattle.network_values.specs.Values.{Valuation, branch_side, first_value, value_at}
-use Rattle.network_values.specs.declared.values.BranchValue.{BranchValue}
 use Rattle.design_lines.specs.Drawn.{Course, courses_lines, declared_line}
 use Rattle.design_lines.specs.Values.{LedStage, courses_values}
 use Rattle.design_lines.specs.declared.stage.Share.{Share}
 use Rattle.design_lines.proofs.Declared.{exchangers_of-drawn}
 use Rattle.design_lines.proofs.NumberedItems.{numbered-item}
-use Rattle.design_lines.proofs.PassRuns.{EachRuns, RunsAs, StageRuns, courses_run}
+use Rattle.design_lines.proofs.PassRuns.{EachRuns, RunsAs, StageRuns, courses_run, enters-run, leaves-run}
 use Rattle.design_lines.proofs.WholeValues.{own_start}
 use Rattle.vertical_design.specs.Axis.{AreCuts, spans_of, utility_from, utility_to}
 use Rattle.vertical_design.specs.Courses.{courses_of, exchanger_of, exchangers_for, network_of, source_on}
@@ -85,14 +84,6 @@ module _ (case : Case) (cuts : List ℤ) (are : AreStreams case.streams) where
       })))
 
 -- ---- the network
-
-enters-run : (of : Side) (from to : BranchValue) → enters of (run_between of from to) ≡ from.t
-enters-run side.Hot from to = refl
-enters-run side.Cold from to = refl
-
-leaves-run : (of : Side) (from to : BranchValue) → leaves of (run_between of from to) ≡ to.t
-leaves-run side.Hot from to = refl
-leaves-run side.Cold from to = refl
 
 side_there : (case : Case) (of : Side) (a : Source) (stream : ℕ) → side_of case a ≡ Some of → a ≡ source.Stream stream → (s : Stream) × (slice_get case.streams stream ≡ Some s) × (s.side ≡ of)
 side_there case of a stream on is = found (λ (s : Stream). s.side) of (slice_get case.streams stream) (sym (ap (side_of case) is) ∙ on)

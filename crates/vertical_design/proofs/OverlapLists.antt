@@ -4,7 +4,7 @@ use Rattle.std.specs.Prelude.{◌+ℤ◌, int_lt, Contains}
 use Rattle.std.specs.List.{cons_option, filter_map, flat_map, range_with_len}
 use Rattle.std.proofs.lemmas.Bool.{cases_lt}
 use Rattle.std.proofs.lemmas.Int.{clamps, ints}
-use Rattle.std.proofs.lemmas.List.Elements.{All-append, All-cons, All-head, All-nil, All-tail, All-weaker, Contains-append_left, Contains-append_right}
+use Rattle.std.proofs.lemmas.List.Elements.{All-append, All-head, All-nil, All-tail, All-weaker, Contains-append_left, Contains-append_right}
 use Rattle.sums.specs.Pairing.{cons_if}
 use Rattle.sums.specs.Spans.{IsOverlap, ListsOverlaps, NotNegative, begin_of, overlap, pair_before}
 use Rattle.sums.specs.declared.pairs.Pair.{Pair}
@@ -16,11 +16,6 @@ use Rattle.vertical_design.specs.Matches.{pair_of, pairs_of}
 kept : {X : Type 0} (b : Bool) (x : X) (xs : List X) → cons_option (if b then Some x else None) xs ≡ cons_if b x xs
 kept true x xs = refl
 kept false x xs = refl
-
--- what holds of all that a test keeps
-pub All-kept : {X : Type 0} (P : X → Type 0) (b : Bool) (x : X) (xs : List X) → (b ≡ true → P x) → All P xs → All P (cons_option (if b then Some x else None) xs)
-All-kept P true x xs is all = All-cons P x xs (is refl) all
-All-kept P false x xs is all = all
 
 pair_one_way : (p q : Pair) → pair_before p q → pair_before q p → ⊥
 pair_one_way p q (inl h) (inl k) = omega arith

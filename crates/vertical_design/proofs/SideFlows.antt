@@ -27,6 +27,7 @@ use Rattle.curves.specs.Below.{length_below}
 use Rattle.problem_table.specs.Sides.{sum_side}
 use Rattle.problem_table.proofs.DeficitLemmas.{cold_target-within, hot_target-within}
 use Rattle.problem_table.proofs.SideLemmas.{sum_side-heat, sum_side-le, sum_side-same, sum_side-zero}
+use Rattle.design_lines.proofs.ListLemmas.{kept_hold}
 use Rattle.vertical_design.specs.Axis.{AreCuts, begin_of, ends_of, heat_at, heat_below, spans_of, stream_span, utility_from, utility_span, utility_to}
 use Rattle.vertical_design.specs.Matches.{flow_in, side_flow}
 use Rattle.vertical_design.specs.declared.span.Span.{Span}
@@ -34,7 +35,6 @@ use Rattle.vertical_design.proofs.CurveLemmas.{heat_below-all, heat_below-betwee
 use Rattle.vertical_design.proofs.CurveOrder.{IsOutside, below_and_above}
 use Rattle.vertical_design.proofs.CurveSegments.{EndsPlaced, HasNoEnd, IsPlaced, IsSegment, Runs, heat_rises}
 use Rattle.vertical_design.proofs.Foremost.{IsForemost, foremost}
-use Rattle.vertical_design.proofs.OverlapLists.{All-kept}
 use Rattle.vertical_design.proofs.SegmentTemperatures.{flow_positive, running_flow}
 use Rattle.vertical_design.proofs.SpanRuns.{cut_below, is_cut, no_end_between, none_between, side_flow-running, span_of}
 use Rattle.vertical_design.proofs.SpanSources.{utility_place, utility_span_of}
@@ -221,14 +221,10 @@ utility_on_axis side.Cold streams axis =
 
 module _ (of : Side) (streams : List Stream) (P : Span → Type 0) where
   stream_spans_hold : ((n : ℕ) (s : Stream) → P (span_of of streams n s)) → (n : ℕ) (ss : List Stream) → All P (filter_map (stream_span of streams) (enumerate_from n ss))
-  stream_spans_hold each n [] = All-nil P
-  stream_spans_hold each n (s ∷ ss) =
-      All-kept P (same_side s.side of) (span_of of streams n s) (filter_map (stream_span of streams) (enumerate_from (n + 1) ss)) (λ own. each n s) (stream_spans_hold each (n + 1) ss)
+  stream_spans_hold each n ss = kept_hold (λ (s : Stream). same_side s.side of) (stream_span of streams) (span_of of streams) (λ k s. refl) P n ss (λ i s at own. each (n + i) s)
 
   utility_spans_hold : ((n : ℕ) → P (utility_span_of of streams n)) → (n : ℕ) (us : List Utility) → All P (filter_map (utility_span of streams) (enumerate_from n us))
-  utility_spans_hold each n [] = All-nil P
-  utility_spans_hold each n (u ∷ us) =
-      All-kept P (same_side u.side of) (utility_span_of of streams n) (filter_map (utility_span of streams) (enumerate_from (n + 1) us)) (λ own. each n) (utility_spans_hold each (n + 1) us)
+  utility_spans_hold each n us = kept_hold (λ (u : Utility). same_side u.side of) (utility_span of streams) (λ k (u : Utility). utility_span_of of streams k) (λ k u. refl) P n us (λ i u at own. each (n + i))
 
 ends_hold : (P : ℤ → Type 0) (spans : List Span) → All (λ a. P a.from × P a.to) spans → All P (ends_of spans)
 ends_hold P [] each = All-nil P

@@ -29,11 +29,11 @@ use Rattle.problem_table.specs.Deficit.{cold_target, hot_target}
 use Rattle.problem_table.specs.Sides.{sum_side}
 use Rattle.problem_table.proofs.DeficitLemmas.{cold_target-within, hot_target-within}
 use Rattle.problem_table.proofs.SideLemmas.{sum_side-heat, sum_side-le}
+use Rattle.design_lines.proofs.ListLemmas.{All-kept}
 use Rattle.vertical_design.specs.Axis.{heat_at, heat_below, spans_of, stream_span, utility_from, utility_span, utility_to}
 use Rattle.vertical_design.specs.Limits.{AreSpans, IsPlace, IsSpan}
 use Rattle.vertical_design.specs.declared.span.Span.{Span}
 use Rattle.vertical_design.proofs.CurveLemmas.{heat_below-between}
-use Rattle.vertical_design.proofs.OverlapLists.{All-kept}
 
 -- ---- all heat
 

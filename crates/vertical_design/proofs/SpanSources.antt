@@ -4,7 +4,7 @@ use Rattle.std.specs.List.{cons_option, enumerate_from, filter_map}
 use Rattle.std.specs.Option.{option_map_or}
 use Rattle.std.specs.Prelude.{pos}
 use Rattle.std.proofs.lemmas.Bool.{cases_eq, cases_order, eq-eqb, false_from_ne_true, ne_eqb}
-use Rattle.std.proofs.lemmas.List.Elements.{All-append, All-nil, All-weaker}
+use Rattle.std.proofs.lemmas.List.Elements.{All-append, All-weaker}
 use Rattle.std.proofs.lemmas.List.Kept.{AllPairs-cons}
 use Rattle.std.proofs.lemmas.Option.{get_or_from_slice_get, same_Some, slice_get-get_or, slice_get_within}
 use Rattle.sums.proofs.OrderLemmas.{AllPairs-append, AllPairs-nil}
@@ -15,10 +15,10 @@ use Rattle.stream_case.specs.declared.source.Source.TheVariants as source
 use Rattle.stream_case.specs.declared.stream.Stream.{Stream}
 use Rattle.stream_case.specs.declared.utility.Utility.{Utility}
 use Rattle.stream_case.proofs.SourceLemmas.{own_side, same_side-true, same_source-same, same_source-true}
+use Rattle.design_lines.proofs.ListLemmas.{kept_hold}
 use Rattle.vertical_design.specs.Axis.{spans_of, stream_span, utility_from, utility_span, utility_to}
 use Rattle.vertical_design.specs.Matches.{source_at}
 use Rattle.vertical_design.specs.declared.span.Span.{Span}
-use Rattle.vertical_design.proofs.OverlapLists.{All-kept}
 use Rattle.vertical_design.proofs.SpanRuns.{span_of}
 
 abbrev pub utility_span_of : Side → List Stream → ℕ → Span
@@ -41,30 +41,15 @@ IsSourceSpan case of a = ((number : ℕ) × (s : Stream) × IsStreamSpan case of
 -- ---- each span has a source
 
 module _ (case : Case) (of : Side) where
-  stream_sources : (n : ℕ) (ss : List Stream) → ((i : ℕ) (s : Stream) → slice_get ss i ≡ Some s → slice_get case.streams (n + i) ≡ Some s) → All (IsSourceSpan case of) (filter_map (stream_span of case.streams) (enumerate_from n ss))
-  stream_sources n [] there = All-nil (IsSourceSpan case of)
-  stream_sources n (s ∷ ss) there =
-      let none : n + 0 ≡ n = omega arith in
-      let here : slice_get case.streams n ≡ Some s = ap (slice_get case.streams) (sym none) ∙ there 0 s refl in
-      let rest = stream_sources (n + 1) ss (λ i t at. let same : n + 1 + i ≡ n + suc i = omega arith in ap (slice_get case.streams) same ∙ there (suc i) t at) in
-      All-kept (IsSourceSpan case of) (same_side s.side of) (span_of of case.streams n s) (filter_map (stream_span of case.streams) (enumerate_from (n + 1) ss))
-      (λ own. inl (n, s, record { here = here; side_is = same_side-true s.side of own; is = refl })) rest
-
-  utility_sources : (n : ℕ) (us : List Utility) → ((i : ℕ) (u : Utility) → slice_get us i ≡ Some u → slice_get case.utilities (n + i) ≡ Some u) → All (IsSourceSpan case of) (filter_map (utility_span of case.streams) (enumerate_from n us))
-  utility_sources n [] there = All-nil (IsSourceSpan case of)
-  utility_sources n (u ∷ us) there =
-      let none : n + 0 ≡ n = omega arith in
-      let here : slice_get case.utilities n ≡ Some u = ap (slice_get case.utilities) (sym none) ∙ there 0 u refl in
-      let rest = utility_sources (n + 1) us (λ i t at. let same : n + 1 + i ≡ n + suc i = omega arith in ap (slice_get case.utilities) same ∙ there (suc i) t at) in
-      All-kept (IsSourceSpan case of) (same_side u.side of) (utility_span_of of case.streams n) (filter_map (utility_span of case.streams) (enumerate_from (n + 1) us))
-      (λ own. inr (n, u, record { here = here; side_is = same_side-true u.side of own; is = refl })) rest
-
   pub span_sources : All (IsSourceSpan case of) (spans_of of case)
   unfolding spans_of
   span_sources =
+      let first : (i : ℕ) → 0 + i ≡ i = λ i. omega arith in
       All-append (IsSourceSpan case of) (filter_map (stream_span of case.streams) (enumerate_from 0 case.streams)) (filter_map (utility_span of case.streams) (enumerate_from 0 case.utilities))
-      (stream_sources 0 case.streams (λ i s at. let same : 0 + i ≡ i = omega arith in ap (slice_get case.streams) same ∙ at))
-      (utility_sources 0 case.utilities (λ i u at. let same : 0 + i ≡ i = omega arith in ap (slice_get case.utilities) same ∙ at))
+      (kept_hold (λ (s : Stream). same_side s.side of) (stream_span of case.streams) (span_of of case.streams) (λ k s. refl) (IsSourceSpan case of) 0 case.streams
+      (λ i s at own. inl (0 + i, s, record { here = ap (slice_get case.streams) (first i) ∙ at; side_is = same_side-true s.side of own; is = refl })))
+      (kept_hold (λ (u : Utility). same_side u.side of) (utility_span of case.streams) (λ k (u : Utility). utility_span_of of case.streams k) (λ k u. refl) (IsSourceSpan case of) 0 case.utilities
+      (λ i u at own. inr (0 + i, u, record { here = ap (slice_get case.utilities) (first i) ∙ at; side_is = same_side-true u.side of own; is = refl })))
 
 -- ---- different spans have different sources
 
@@ -101,18 +86,10 @@ stream_or_utility n m a b one other same = let both : source.Stream one.0 ≡ so
 
 module _ (streams : List Stream) (of : Side) where
   streams_from : (n : ℕ) (ss : List Stream) → All (StreamFrom n) (filter_map (stream_span of streams) (enumerate_from n ss))
-  streams_from n [] = All-nil (StreamFrom n)
-  streams_from n (s ∷ ss) =
-      let rest = filter_map (stream_span of streams) (enumerate_from (n + 1) ss) in
-      All-kept (StreamFrom n) (same_side s.side of) (span_of of streams n s) rest (λ own. (n, refl, omega arith))
-      (All-weaker (StreamFrom (n + 1)) (StreamFrom n) (λ a later. let from = later.2 in (later.0, later.1, omega (arith, from))) rest (streams_from (n + 1) ss))
+  streams_from n ss = kept_hold (λ (s : Stream). same_side s.side of) (stream_span of streams) (span_of of streams) (λ k s. refl) (StreamFrom n) n ss (λ i s at own. (n + i, refl, omega arith))
 
   utilities_from : (n : ℕ) (us : List Utility) → All (UtilityFrom n) (filter_map (utility_span of streams) (enumerate_from n us))
-  utilities_from n [] = All-nil (UtilityFrom n)
-  utilities_from n (u ∷ us) =
-      let rest = filter_map (utility_span of streams) (enumerate_from (n + 1) us) in
-      All-kept (UtilityFrom n) (same_side u.side of) (utility_span_of of streams n) rest (λ own. (n, refl, omega arith))
-      (All-weaker (UtilityFrom (n + 1)) (UtilityFrom n) (λ a later. let from = later.2 in (later.0, later.1, omega (arith, from))) rest (utilities_from (n + 1) us))
+  utilities_from n us = kept_hold (λ (u : Utility). same_side u.side of) (utility_span of streams) (λ k (u : Utility). utility_span_of of streams k) (λ k u. refl) (UtilityFrom n) n us (λ i u at own. (n + i, refl, omega arith))
 
   streams_differ : (n : ℕ) (ss : List Stream) → AllPairs Differ (filter_map (stream_span of streams) (enumerate_from n ss))
   streams_differ n [] = AllPairs-nil Differ

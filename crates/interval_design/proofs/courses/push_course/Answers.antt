@@ -6,7 +6,7 @@ use Rattle.network_text.specs.declared.network.Line.TheVariants as line
 use Rattle.design_lines.specs.Stages.{stage_end}
 use Rattle.grid.specs.declared.part.Part.{Part}
 use Rattle.interval_design.specs.Courses.{shares_of, width_of}
-use Rattle.interval_design.proofs.CourseLemmas.{IsTurn, led_end, led_next, led_skip, led_stage, led_start}
+use Rattle.interval_design.proofs.CourseLemmas.{HasStage, IsTurn, led_end, led_next, led_skip, led_stage, led_start}
 use Rattle.interval_design.proofs.courses.push_course.Goals as goal
 
 pub loop-turn-init : goal.loop-turn-init
@@ -26,49 +26,38 @@ shares_of-requires-clause-wide c =
     (sym c.is_part_of-is_own.ensures ∙ c.if-not-is_own.false) in
     omega (arith, wide, c.width_of.ensures)
 
+-- the part at the turn is the stream's, and its shares are a stage, for which there is room
+turn_is : (c : goal.After-as_slice) → IsTurn c.args.side c.args.parts.now c.loop-turn.turn c.index_at-index.result c.part_at-part.result
+turn_is c = record { within = c.loop-turn-test.true; index_is = c.index_at-index.ensures; here = c.part_at-part.ensures }
+
+own : (c : goal.After-as_slice) → same_source c.part_at-part.result.source (source.Stream c.args.stream) ≡ true
+own c = sym c.is_part_of-is_own.ensures ∙ c.if-not-is_own.false
+
+shares_are : (c : goal.After-as_slice) → c.as_slice.result.now ≡ shares_of c.args.side c.index_at-index.result (width_of c.part_at-part.result) c.args.transfers.now
+shares_are c = c.as_slice.ensures.value ∙ c.in_ok-shares.ensures ∙ ap (λ n. shares_of c.args.side c.index_at-index.result n c.args.transfers.now) c.width_of.ensures
+
+stage : (c : goal.After-as_slice) → HasStage c.args.side c.args.parts.now c.args.transfers.now c.args.stream c.args.next c.args.lines.now.items c.loop-turn.turn c.loop-turn.lines.items c.loop-turn.free c.loop-turn.at c.as_slice.result.now
+stage c =
+    led_stage c.args.side c.args.parts.now c.args.transfers.now c.args.stream c.args.next c.args.lines.now.items c.loop-turn.turn c.loop-turn.lines.items c.loop-turn.free c.loop-turn.at
+    c.index_at-index.result c.part_at-part.result c.as_slice.result.now (turn_is c) (own c) c.loop-turn.invariant (shares_are c)
+
 pub push_stage-requires-clause-some : goal.push_stage-requires-clause-some
-push_stage-requires-clause-some c =
-    let p = c.part_at-part.result in
-    let is : IsTurn c.args.side c.args.parts.now c.loop-turn.turn c.index_at-index.result p = record { within = c.loop-turn-test.true; index_is = c.index_at-index.ensures; here = c.part_at-part.ensures } in
-    let own : same_source p.source (source.Stream c.args.stream) ≡ true = sym c.is_part_of-is_own.ensures ∙ c.if-not-is_own.false in
-    let are : c.as_slice.result.now ≡ shares_of c.args.side c.index_at-index.result (width_of p) c.args.transfers.now =
-    c.as_slice.ensures.value ∙ c.in_ok-shares.ensures ∙ ap (λ n. shares_of c.args.side c.index_at-index.result n c.args.transfers.now) c.width_of.ensures in
-    let stage = led_stage c.args.side c.args.parts.now c.args.transfers.now c.args.stream c.args.next c.args.lines.now.items c.loop-turn.turn c.loop-turn.lines.items c.loop-turn.free c.loop-turn.at
-    c.index_at-index.result p c.as_slice.result.now is own c.loop-turn.invariant are in
-    stage.some
+push_stage-requires-clause-some c = (stage c).some
 
 pub push_stage-requires-clause-fits : goal.push_stage-requires-clause-fits
-push_stage-requires-clause-fits c =
-    let p = c.part_at-part.result in
-    let is : IsTurn c.args.side c.args.parts.now c.loop-turn.turn c.index_at-index.result p = record { within = c.loop-turn-test.true; index_is = c.index_at-index.ensures; here = c.part_at-part.ensures } in
-    let own : same_source p.source (source.Stream c.args.stream) ≡ true = sym c.is_part_of-is_own.ensures ∙ c.if-not-is_own.false in
-    let are : c.as_slice.result.now ≡ shares_of c.args.side c.index_at-index.result (width_of p) c.args.transfers.now =
-    c.as_slice.ensures.value ∙ c.in_ok-shares.ensures ∙ ap (λ n. shares_of c.args.side c.index_at-index.result n c.args.transfers.now) c.width_of.ensures in
-    let stage = led_stage c.args.side c.args.parts.now c.args.transfers.now c.args.stream c.args.next c.args.lines.now.items c.loop-turn.turn c.loop-turn.lines.items c.loop-turn.free c.loop-turn.at
-    c.index_at-index.result p c.as_slice.result.now is own c.loop-turn.invariant are in
-    omega (arith, stage.room, c.requires.fits)
+push_stage-requires-clause-fits c = omega (arith, (stage c).room, c.requires.fits)
 
 pub overflow_add-free : goal.overflow_add-free
 overflow_add-free c =
-    let p = c.part_at-part.result in
-    let is : IsTurn c.args.side c.args.parts.now c.loop-turn.turn c.index_at-index.result p = record { within = c.loop-turn-test.true; index_is = c.index_at-index.ensures; here = c.part_at-part.ensures } in
-    let own : same_source p.source (source.Stream c.args.stream) ≡ true = sym c.is_part_of-is_own.ensures ∙ c.if-not-is_own.false in
-    let are : c.as_slice.result.now ≡ shares_of c.args.side c.index_at-index.result (width_of p) c.args.transfers.now =
-    c.as_slice.ensures.value ∙ c.in_ok-shares.ensures ∙ ap (λ n. shares_of c.args.side c.index_at-index.result n c.args.transfers.now) c.width_of.ensures in
-    let stage = led_stage c.args.side c.args.parts.now c.args.transfers.now c.args.stream c.args.next c.args.lines.now.items c.loop-turn.turn c.loop-turn.lines.items c.loop-turn.free c.loop-turn.at
-    c.index_at-index.result p c.as_slice.result.now is own c.loop-turn.invariant are in
+    let here = stage (goal.at.overflow_add-free c).After-as_slice in
     let ends : c.in_ok-at.at ≡ stage_end c.loop-turn.free c.as_slice.result.now = c.in_ok-at.ensures.end in
-    omega (arith, stage.room, stage.some, ends, c.requires.fits)
+    omega (arith, here.room, here.some, ends, c.requires.fits)
 
 pub loop-turn-preserved : goal.loop-turn-preserved
 loop-turn-preserved c =
-    let p = c.part_at-part.result in
-    let is : IsTurn c.args.side c.args.parts.now c.loop-turn.turn c.index_at-index.result p = record { within = c.loop-turn-test.true; index_is = c.index_at-index.ensures; here = c.part_at-part.ensures } in
-    let own : same_source p.source (source.Stream c.args.stream) ≡ true = sym c.is_part_of-is_own.ensures ∙ c.if-not-is_own.false in
-    let are : c.as_slice.result.now ≡ shares_of c.args.side c.index_at-index.result (width_of p) c.args.transfers.now =
-    c.as_slice.ensures.value ∙ c.in_ok-shares.ensures ∙ ap (λ n. shares_of c.args.side c.index_at-index.result n c.args.transfers.now) c.width_of.ensures in
+    let before = (goal.at.loop-turn-preserved c).After-as_slice in
     led_next c.args.side c.args.parts.now c.args.transfers.now c.args.stream c.args.next c.args.lines.now.items c.loop-turn.turn c.loop-turn.lines.items c.loop-turn.free c.loop-turn.at
-    c.index_at-index.result p c.as_slice.result.now c.push_stage.new.lines.items c.in_ok-at.at is own c.loop-turn.invariant are c.in_ok-at.ensures.lines c.in_ok-at.ensures.end
+    c.index_at-index.result c.part_at-part.result c.as_slice.result.now c.push_stage.new.lines.items c.in_ok-at.at (turn_is before) (own before) c.loop-turn.invariant (shares_are before) c.in_ok-at.ensures.lines c.in_ok-at.ensures.end
 
 pub returns-clause-lines : goal.returns-clause-lines
 returns-clause-lines c =

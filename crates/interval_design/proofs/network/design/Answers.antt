@@ -22,16 +22,13 @@ use Rattle.stream_case.proofs.CompleteLemmas.{AreStreams-IsComplete}
 use Rattle.heat_flow.proofs.CostLemmas.{HasCost-flow, heats_within}
 use Rattle.heat_flow.specs.Reach.{reach_between}
 use Rattle.network_text.proofs.OfShape.{many_own}
-use Rattle.interval_design.proofs.FlowLemmas.{all-fit, all_led, few_pairs, few_transfers}
+use Rattle.interval_design.proofs.FlowLemmas.{all-fit, all_led, few_flow}
 use Rattle.interval_design.proofs.network.design.Goals as goal
 
 pub exchanger_lines-requires-clause-few : goal.exchanger_lines-requires-clause-few
 exchanger_lines-requires-clause-few c =
-    let hot = c.args.parts.now.hot in
-    let cold = c.args.parts.now.cold in
-    let pairs = few_transfers hot cold c.args.flow.now.transfers c.requires.flow.ordered c.requires.flow.hot_indexes c.requires.flow.cold_indexes in
-    let few = few_pairs (length hot) (length cold) c.args.parts.now.few_hot c.args.parts.now.few_cold in
-    omega (arith, pairs, few, ap length c.as_slice-transfers.ensures)
+    let few = few_flow c.requires.flow c.args.parts.now.few_hot c.args.parts.now.few_cold in
+    omega (arith, few, ap length c.as_slice-transfers.ensures)
 
 pub own_branches-requires : goal.own_branches-requires
 own_branches-requires c = omega (arith, length-AreStreams c.args.case.now.streams (AreStreams-IsComplete c.args.case.now c.requires.complete))
@@ -42,12 +39,7 @@ push_courses-requires-clause-heats c =
     (HasCost-flow (reach_between c.args.case.now c.args.parts.now.hot c.args.parts.now.cold) c.args.parts.now.hot c.args.parts.now.cold c.args.flow.now.transfers c.requires.flow)
 
 pub push_courses-requires-clause-few_transfers : goal.push_courses-requires-clause-few_transfers
-push_courses-requires-clause-few_transfers c =
-    let hot = c.args.parts.now.hot in
-    let cold = c.args.parts.now.cold in
-    let pairs = few_transfers hot cold c.args.flow.now.transfers c.requires.flow.ordered c.requires.flow.hot_indexes c.requires.flow.cold_indexes in
-    let few = few_pairs (length hot) (length cold) c.args.parts.now.few_hot c.args.parts.now.few_cold in
-    omega (arith, pairs, few)
+push_courses-requires-clause-few_transfers c = let few = few_flow c.requires.flow c.args.parts.now.few_hot c.args.parts.now.few_cold in omega (arith, few)
 
 pub push_courses-requires-clause-led : goal.push_courses-requires-clause-led
 push_courses-requires-clause-led c =
@@ -60,10 +52,8 @@ pub push_courses-requires-clause-fits : goal.push_courses-requires-clause-fits
 push_courses-requires-clause-fits c =
     let hot = c.args.parts.now.hot in
     let cold = c.args.parts.now.cold in
-    let pairs = few_transfers hot cold c.args.flow.now.transfers c.requires.flow.ordered c.requires.flow.hot_indexes c.requires.flow.cold_indexes in
-    let few = few_pairs (length hot) (length cold) c.args.parts.now.few_hot c.args.parts.now.few_cold in
     let streams = length-AreStreams c.args.case.now.streams (AreStreams-IsComplete c.args.case.now c.requires.complete) in
-    all-fit c.args.case.now hot cold c.args.flow.now.transfers streams (omega (arith, pairs, few))
+    all-fit c.args.case.now hot cold c.args.flow.now.transfers streams (few_flow c.requires.flow c.args.parts.now.few_hot c.args.parts.now.few_cold)
     (all_led c.args.case.now hot cold c.args.flow.now.transfers c.requires.complete c.requires.parts c.requires.flow.hot_ranges c.requires.flow.cold_ranges)
 
 -- ---- the network
@@ -99,15 +89,13 @@ has_shape c =
     let hot = c.args.parts.now.hot in
     let cold = c.args.parts.now.cold in
     let ts = c.args.flow.now.transfers in
-    let pairs = few_transfers hot cold ts c.requires.flow.ordered c.requires.flow.hot_indexes c.requires.flow.cold_indexes in
-    let few = few_pairs (length hot) (length cold) c.args.parts.now.few_hot c.args.parts.now.few_cold in
     HasShape-network_of case hot cold ts c.requires.complete (record {
       parts = c.requires.parts;
       hot_indexes = c.requires.flow.hot_indexes;
       cold_indexes = c.requires.flow.cold_indexes;
       positive = c.requires.flow.positive;
       heats = heats c;
-      few = omega (arith, pairs, few);
+      few = few_flow c.requires.flow c.args.parts.now.few_hot c.args.parts.now.few_cold;
       led = all_led case hot cold ts c.requires.complete c.requires.parts c.requires.flow.hot_ranges c.requires.flow.cold_ranges;
       few_streams = few_streams c;
     })

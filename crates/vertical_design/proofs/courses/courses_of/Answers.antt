@@ -1,7 +1,6 @@
-use Rattle.std.proofs.Common.{◌≡◌, ◌<◌, ◌∙◌, ◌∷◌, ◌++◌, List, [], get_or, length, ap, sym, subst}
-use Rattle.stream_case.specs.declared.stream.Stream.{Stream}
+use Rattle.std.proofs.Common.{◌≡◌, ◌∙◌, ◌∷◌, ◌++◌, List, [], ap, sym}
 use Rattle.design_lines.specs.Drawn.{Course}
-use Rattle.design_lines.proofs.ListLemmas.{map-enumerate_more}
+use Rattle.design_lines.proofs.ListLemmas.{item_there, map-enumerate_more}
 use Rattle.vertical_design.specs.Courses.{course_of}
 use Rattle.vertical_design.proofs.courses.courses_of.Goals as goal
 
@@ -10,9 +9,7 @@ loop-number-preserved c =
     let s = c.stream-item.result in
     let number = c.loop-number.number in
     let streams = c.args.case.now.streams in
-    let items = c.as_slice-stream-items.ensures in
-    let within : number < length streams = subst (λ (xs : List Stream). number < length xs) items c.loop-number-test.true in
-    let is = c.stream-item.is ∙ ap (λ (xs : List Stream). get_or xs number s) items in
+    let (within, is) = item_there number s c.as_slice-stream-items.ensures c.loop-number-test.true c.stream-item.is in
     let f = course_of c.args.intervals.now in
     let before = c.loop-number.courses.items in
     let pushed : c.push.new.self.items ≡ before ++ c.in_ok-course.course ∷ [] = cc c.in_ok-push.ensures.items in

@@ -1,11 +1,11 @@
-use Rattle.std.proofs.Common.{◌≡◌, ◌<◌, ◌∙◌, ◌+◌, ◌∷◌, ◌++◌, List, Bool, Some, None, [], get_or, length, ap, sym, subst, false, true, if◌then◌else◌}
+use Rattle.std.proofs.Common.{◌≡◌, ◌∙◌, ◌+◌, ◌∷◌, ◌++◌, List, Bool, Some, None, [], ap, sym, false, true, if◌then◌else◌}
 use Rattle.stream_case.specs.Source.{same_source}
 use Rattle.stream_case.specs.declared.source.Source.{Source}
 use Rattle.stream_case.specs.declared.source.Source.TheVariants as source
 use Rattle.design_lines.specs.declared.stage.Share.{Share}
+use Rattle.design_lines.proofs.ListLemmas.{item_there}
 use Rattle.fractions.specs.Rationals.{Rational}
 use Rattle.vertical_design.specs.Courses.{cp_on, source_on}
-use Rattle.vertical_design.specs.declared.matches.Match.{Match}
 use Rattle.vertical_design.proofs.CourseLemmas.{shares_more, shares_skip}
 use Rattle.vertical_design.proofs.courses.shares_in.Goals as goal
 
@@ -15,9 +15,7 @@ loop-index-preserved-then-not-is_own c =
     let i = c.loop-index.index in
     let ms = c.args.interval.now.matches in
     let first = c.args.interval.now.first in
-    let items = c.as_slice-found-items.ensures in
-    let within : i < length ms = subst (λ (xs : List Match). i < length xs) items c.loop-index-test.true in
-    let is = c.found-item.is ∙ ap (λ (xs : List Match). get_or xs i m) items in
+    let (within, is) = item_there i m c.as_slice-found-items.ensures c.loop-index-test.true c.found-item.is in
     let other : same_source (source_on c.args.side m) (source.Stream c.args.stream) ≡ false =
     sym (c.is_stream-is_own.ensures ∙ ap (λ (a : Source). same_source a (source.Stream c.args.stream)) c.source_on.ensures) ∙ c.if-not-is_own.true in
     let share : Share = record { exchanger = first + i; cp = cp_on c.args.side m } in
@@ -29,9 +27,7 @@ loop-index-preserved c =
     let i = c.loop-index.index in
     let ms = c.args.interval.now.matches in
     let first = c.args.interval.now.first in
-    let items = c.as_slice-found-items.ensures in
-    let within : i < length ms = subst (λ (xs : List Match). i < length xs) items c.loop-index-test.true in
-    let is = c.found-item.is ∙ ap (λ (xs : List Match). get_or xs i m) items in
+    let (within, is) = item_there i m c.as_slice-found-items.ensures c.loop-index-test.true c.found-item.is in
     let own : same_source (source_on c.args.side m) (source.Stream c.args.stream) ≡ true =
     sym (c.is_stream-is_own.ensures ∙ ap (λ (a : Source). same_source a (source.Stream c.args.stream)) c.source_on.ensures) ∙ c.if-not-is_own.false in
     let share : Share = record { exchanger = first + i; cp = cp_on c.args.side m } in

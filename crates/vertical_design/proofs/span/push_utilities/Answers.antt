@@ -1,9 +1,9 @@
 -- The utility of the side has its span.
-use Rattle.std.proofs.Common.{◌≡◌, ◌<◌, ◌∙◌, ◌∷◌, ◌++◌, [], ap, sym, length, pos, w64, to_z, of_z, Some, None, get_or, subst, rules}
-use Rattle.std.specs.Prelude.{Bool, List, if◌then◌else◌}
+use Rattle.std.proofs.Common.{◌≡◌, ◌∙◌, ◌∷◌, ◌++◌, [], ap, sym, pos, w64, to_z, of_z, Some, None, rules}
+use Rattle.std.specs.Prelude.{Bool, if◌then◌else◌}
 use Rattle.std.proofs.lemmas.Int.{to_z-of_z}
 use Rattle.stream_case.specs.declared.source.Source.TheVariants as source
-use Rattle.stream_case.specs.declared.utility.Utility.{Utility}
+use Rattle.design_lines.proofs.ListLemmas.{item_there}
 use Rattle.vertical_design.specs.Axis.{utility_from, utility_span, utility_to}
 use Rattle.vertical_design.specs.declared.span.Span.{Span}
 use Rattle.vertical_design.proofs.SpanLemmas.{span_more, span_skip}
@@ -17,9 +17,7 @@ loop-number-preserved-then-not-is_on c =
     let number = c.loop-number.number in
     let u = c.utility-item.result in
     let span : Span = record { source = source.Utility number; from = utility_from side streams; to = utility_to side streams; cp = pos 1 } in
-    let items = c.as_slice-utility-items.ensures in
-    let within : number < length us = subst (λ (xs : List Utility). number < length xs) items c.loop-number-test.true in
-    let is = c.utility-item.is ∙ ap (λ (xs : List Utility). get_or xs number u) items in
+    let (within, is) = item_there number u c.as_slice-utility-items.ensures c.loop-number-test.true c.utility-item.is in
     span_skip (utility_span side streams) c.args.spans.now.items us number u within is c.loop-number.spans.items
     (ap (λ (b : Bool). if b then Some span else None) (sym c.is_on.ensures ∙ c.if-not-is_on.true)) c.loop-number.invariant
 
@@ -32,9 +30,7 @@ loop-number-preserved c =
     let u = c.utility-item.result in
     let before = c.loop-number.spans.items in
     let span : Span = record { source = source.Utility number; from = utility_from side streams; to = utility_to side streams; cp = pos 1 } in
-    let items = c.as_slice-utility-items.ensures in
-    let within : number < length us = subst (λ (xs : List Utility). number < length xs) items c.loop-number-test.true in
-    let is = c.utility-item.is ∙ ap (λ (xs : List Utility). get_or xs number u) items in
+    let (within, is) = item_there number u c.as_slice-utility-items.ensures c.loop-number-test.true c.utility-item.is in
     let from : to_z w64 (of_z w64 c.utility_range-from.result.0) ≡ span.from = to_z-of_z w64 c.utility_range-from.result.0 (search rules) ∙ c.utility_range-from.ensures.from ∙ ap (utility_from side) c.as_slice.ensures in
     let to : to_z w64 (of_z w64 c.utility_range-from.result.1) ≡ span.to = to_z-of_z w64 c.utility_range-from.result.1 (search rules) ∙ c.utility_range-from.ensures.to ∙ ap (utility_to side) c.as_slice.ensures in
     let raw : Span = record { source = source.Utility number; from = to_z w64 (of_z w64 c.utility_range-from.result.0); to = to_z w64 (of_z w64 c.utility_range-from.result.1); cp = pos 1 } in
