@@ -25,10 +25,22 @@ comment-fields b rest = refl
 
 fields_plain : (b : Balance) → HasFractions b → All IsPlainField (codes "#" ∷ balance_fields b)
 fields_plain b within =
-    All-from_recursion IsPlainField (codes "#" ∷ balance_fields b)
-    ( word_plain (codes "#") (omega arith) refl
-    , (word_plain (codes "hot") (omega arith) refl, (fraction_plain b.hot within.hot, (word_plain (codes "cold") (omega arith) refl, (fraction_plain b.cold within.cold
-    , (word_plain (codes "excess") (omega arith) refl, (fraction_plain b.excess within.excess, (word_plain (codes "cost") (omega arith) refl, (fraction_plain b.cost within.cost, tt)))))))))
+    All-from_recursion IsPlainField (codes "#" ∷ balance_fields b) (
+      word_plain (codes "#") (omega arith) refl,
+      (
+        word_plain (codes "hot") (omega arith) refl,
+        (
+          fraction_plain b.hot within.hot,
+          (
+            word_plain (codes "cold") (omega arith) refl,
+            (
+              fraction_plain b.cold within.cold,
+              (word_plain (codes "excess") (omega arith) refl, (fraction_plain b.excess within.excess, (word_plain (codes "cost") (omega arith) refl, (fraction_plain b.cost within.cost, tt)))),
+            ),
+          ),
+        ),
+      ),
+    )
 
 comment-counts_not : (b : Balance) → is_statement (codes "#" ∷ balance_fields b) ≡ false
 unfolding is_statement
