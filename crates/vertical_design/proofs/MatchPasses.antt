@@ -1,5 +1,5 @@
 -- Each pass of the network of the matches leads its stream through the interval of the match whose exchanger it passes: so both sources of an exchanger face each other at both of its ends, and its streams stay in their ranges.
-use Rattle.std.proofs.Common.{◌≡◌, ◌∙◌, inl, inr, ◌+◌, ◌++◌, ℕ, ℤ, pos, ◌≤ℤ◌, ◌<ℤ◌, List, [], All, Some, slice_get, length, map, option_map, refl, sym, ap, subst, append-nil, arith}
+use Rattle.std.proofs.Common.{◌≡◌, ◌∙◌, inl, inr, ◌+◌, ◌++◌, ℕ, ℤ, pos, ◌≤ℤ◌, ◌<ℤ◌, List, [], All, Some, slice_get, length, map, option_map, refl, sym, ap, subst, subst₂, append-nil, arith}
 use Rattle.std.specs.Prelude.{unwrap_or}
 use Rattle.std.specs.Option.{option_map_or}
 use Rattle.std.proofs.lemmas.Int.{ints}
@@ -188,23 +188,11 @@ module _ (case : Case) (cuts : List ℤ) (complete : IsComplete case) (standard 
 
   -- ---- ranges
 
-  in_range_hot : (number stream : ℕ) (s : Stream) → IsThrough side.Hot number (source.Stream stream) s
-      → IsWithinRange s (exit case network values number side.Hot (source.Stream stream)) (entry case network values number side.Hot (source.Stream stream))
-  in_range_hot number stream s is =
-      let goes = is.goes in
+  in_range : (of : Side) (number stream : ℕ) (s : Stream) (is : IsThrough of number (source.Stream stream) s) → IsWithinRange s (is.goes.scale (lower_cut cuts is.at)) (is.goes.scale (upper_cut cuts is.at))
+  in_range of number stream s is =
       let low = lower_cut cuts is.at in
       let high = upper_cut cuts is.at in
-      let within = scale_within case.streams are low high side.Hot (side_flow low high (spans_of side.Hot case)) goes.scale s goes.is (gap_of is.at number is.place) goes.runs in
-      subst (λ x. IsWithinRange s x (entry case network values number side.Hot (source.Stream stream))) (sym goes.exit_is) (subst (IsWithinRange s (goes.scale low)) (sym goes.entry_is) within)
-
-  in_range_cold : (number stream : ℕ) (s : Stream) → IsThrough side.Cold number (source.Stream stream) s
-      → IsWithinRange s (entry case network values number side.Cold (source.Stream stream)) (exit case network values number side.Cold (source.Stream stream))
-  in_range_cold number stream s is =
-      let goes = is.goes in
-      let low = lower_cut cuts is.at in
-      let high = upper_cut cuts is.at in
-      let within = scale_within case.streams are low high side.Cold (side_flow low high (spans_of side.Cold case)) goes.scale s goes.is (gap_of is.at number is.place) goes.runs in
-      subst (λ x. IsWithinRange s x (exit case network values number side.Cold (source.Stream stream))) (sym goes.entry_is) (subst (IsWithinRange s (goes.scale low)) (sym goes.exit_is) within)
+      scale_within case.streams are low high of (side_flow low high (spans_of of case)) is.goes.scale s is.goes.is (gap_of is.at number is.place) is.goes.runs
 
   pub stay_in_range : AllStayInRange case network values
   stay_in_range number e declared =
@@ -212,12 +200,14 @@ module _ (case : Case) (cuts : List ℤ) (complete : IsComplete case) (standard 
       record {
         hot = λ i s from here.
             let side_is : s.side ≡ side.Hot = same_Some s.side side.Hot (sym (ap (option_map (λ (r : Stream). r.side)) here) ∙ sym (ap (side_of case) from) ∙ is.hot) in
+            let through_hot = through side.Hot number i s e here side_is declared (inl from) in
             subst (λ a. IsWithinRange s (exit case network values number side.Hot a) (entry case network values number side.Hot a)) (sym from)
-            (in_range_hot number i s (through side.Hot number i s e here side_is declared (inl from)));
+            (subst₂ (IsWithinRange s) (sym through_hot.goes.exit_is) (sym through_hot.goes.entry_is) (in_range side.Hot number i s through_hot));
         cold = λ i s from here.
             let side_is : s.side ≡ side.Cold = same_Some s.side side.Cold (sym (ap (option_map (λ (r : Stream). r.side)) here) ∙ sym (ap (side_of case) from) ∙ is.cold) in
+            let through_cold = through side.Cold number i s e here side_is declared (inr from) in
             subst (λ a. IsWithinRange s (entry case network values number side.Cold a) (exit case network values number side.Cold a)) (sym from)
-            (in_range_cold number i s (through side.Cold number i s e here side_is declared (inr from)));
+            (subst₂ (IsWithinRange s) (sym through_cold.goes.entry_is) (sym through_cold.goes.exit_is) (in_range side.Cold number i s through_cold));
       }
 
   -- ---- both sources at one heat
