@@ -1,9 +1,10 @@
 -- Readers of networks pass over the line of the balance above a design.
-use Rattle.std.proofs.Common.{◌≡◌, ◌∙◌, ◌∷◌, ◌++◌, ℕ, List, [], All, false, refl, ap, arith}
+use Rattle.std.proofs.Common.{◌≡◌, ◌∙◌, ◌<◌, ◌∷◌, ◌++◌, ℕ, true, false, List, [], All, length, nat_lt, refl, ap, arith}
 use Rattle.std.specs.Prelude.{codes}
-use Rattle.std.proofs.lemmas.List.Elements.{All-from_recursion}
+use Rattle.std.specs.List.{list_all}
+use Rattle.std.proofs.lemmas.List.Elements.{All-cons, All-nil}
 use Rattle.stream_case.specs.declared.case.Case.{Case}
-use Rattle.fractions.specs.Rationals.{fraction_text}
+use Rattle.fractions.specs.Rationals.{IsWithinLimits, Rational, fraction_text}
 use Rattle.network_text.specs.Statements.{Statement, is_statement, statements_of}
 use Rattle.network_text.specs.declared.network.Network.{Network}
 use Rattle.network_printer.specs.Printed.{fields_text, statement_text, text_of}
@@ -23,24 +24,18 @@ comment-fields : (b : Balance) (rest : List ℕ) → balance_comment b ++ rest �
 unfolding fields_text
 comment-fields b rest = refl
 
+-- a number behind its word
+numbered : (word : List ℕ) → 0 < length word → list_all (nat_lt 32) word ≡ true → (a : Rational) → IsWithinLimits a → (fields : Statement) → All IsPlainField fields → All IsPlainField (word ∷ fraction_text a ∷ fields)
+numbered word some passes a within fields plain =
+    All-cons IsPlainField word (fraction_text a ∷ fields) (word_plain word some passes) (All-cons IsPlainField (fraction_text a) fields (fraction_plain a within) plain)
+
 fields_plain : (b : Balance) → HasFractions b → All IsPlainField (codes "#" ∷ balance_fields b)
 fields_plain b within =
-    All-from_recursion IsPlainField (codes "#" ∷ balance_fields b) (
-      word_plain (codes "#") (omega arith) refl,
-      (
-        word_plain (codes "hot") (omega arith) refl,
-        (
-          fraction_plain b.hot within.hot,
-          (
-            word_plain (codes "cold") (omega arith) refl,
-            (
-              fraction_plain b.cold within.cold,
-              (word_plain (codes "excess") (omega arith) refl, (fraction_plain b.excess within.excess, (word_plain (codes "cost") (omega arith) refl, (fraction_plain b.cost within.cost, tt)))),
-            ),
-          ),
-        ),
-      ),
-    )
+    let cost = numbered (codes "cost") (omega arith) refl b.cost within.cost [] (All-nil IsPlainField) in
+    let excess = numbered (codes "excess") (omega arith) refl b.excess within.excess _ cost in
+    let cold = numbered (codes "cold") (omega arith) refl b.cold within.cold _ excess in
+    let hot = numbered (codes "hot") (omega arith) refl b.hot within.hot _ cold in
+    All-cons IsPlainField (codes "#") (balance_fields b) (word_plain (codes "#") (omega arith) refl) hot
 
 comment-counts_not : (b : Balance) → is_statement (codes "#" ∷ balance_fields b) ≡ false
 unfolding is_statement
