@@ -15,17 +15,18 @@ use Rattle.chains.proofs.LinkLemmas.{chains-none, chains-more}
 use Rattle.chains.proofs.NetLemmas.{AreChains, AreChains-made, chains-done, first_nodes_few}
 use Rattle.chains.proofs.RankLemmas.{places_some}
 use Rattle.chains.proofs.making.chains_of.Goals as goal
+use Rattle.chains.proofs.making.chains_of.Goals.{After-as_slice-places, After-rank_count-ranks, After-len-2, In_ok-groups, In-loop-group, After-len-3, After-drop-grid-2}
 
-grid : (c : goal.After-as_slice-places) → IsGrid c.args.case.now c.as_slice-places.result.now
+grid : (c : After-as_slice-places) → IsGrid c.args.case.now c.as_slice-places.result.now
 grid c = subst (IsGrid c.args.case.now) (sym c.as_slice-places.ensures) c.in_ok-grid.ensures
 
-few_places : (c : goal.After-as_slice-places) → length c.as_slice-places.result.now ≤ MOST_PLACES
+few_places : (c : After-as_slice-places) → length c.as_slice-places.result.now ≤ MOST_PLACES
 few_places c = length-grid c.args.case.now c.as_slice-places.result.now c.requires.complete (grid c)
 
-few_ranks : (c : goal.After-rank_count-ranks) → c.rank_count-ranks.result ≤ 2 * MOST_PLACES
+few_ranks : (c : After-rank_count-ranks) → c.rank_count-ranks.result ≤ 2 * MOST_PLACES
 few_ranks c = let few = few_places (goal.at.After-rank_count-ranks c).After-as_slice-places in omega (arith, few, c.rank_count-ranks.ensures)
 
-few_parts : (c : goal.After-len-2) → c.len.result + c.len-2.result ≤ 2 * MOST_PARTS
+few_parts : (c : After-len-2) → c.len.result + c.len-2.result ≤ 2 * MOST_PARTS
 few_parts c = omega (arith, c.len.ensures, c.len-2.ensures, c.args.parts.now.few_hot, c.args.parts.now.few_cold)
 
 pub rank_count-ranks-requires : goal.rank_count-ranks-requires
@@ -35,7 +36,7 @@ pub groups_of-requires-clause-ranks : goal.groups_of-requires-clause-ranks
 groups_of-requires-clause-ranks c = few_ranks (goal.at.groups_of-requires-clause-ranks c).After-rank_count-ranks
 
 -- each chain begins within the limits
-first_nodes : (c : goal.In_ok-groups) → All (λ (g : Group). g.first_node ≤ MOST_INNER_NODES) c.in_ok-groups.groups.items
+first_nodes : (c : In_ok-groups) → All (λ (g : Group). g.first_node ≤ MOST_INNER_NODES) c.in_ok-groups.groups.items
 first_nodes c =
     first_nodes_few (c.len.result + c.len-2.result) c.rank_count-ranks.result c.in_ok-groups.groups.items c.in_ok-groups.ensures.chains c.in_ok-groups.ensures.few (few_parts (goal.at.In_ok-groups c).After-len-2) (few_ranks (goal.at.In_ok-groups c).After-rank_count-ranks)
 
@@ -56,7 +57,7 @@ loop-group-init c =
     chains-none case places c.args.parts.now.hot cold c.deref-group-items.result.now links made c.new-links.ensures.items entering
 
 -- and so does the one of this group
-first_node : (c : goal.In-loop-group) (g : Group) → g ≡ get_or c.deref-group-items.result.now c.loop-group.group-index g → g.first_node ≤ MOST_INNER_NODES
+first_node : (c : In-loop-group) (g : Group) → g ≡ get_or c.deref-group-items.result.now c.loop-group.group-index g → g.first_node ≤ MOST_INNER_NODES
 first_node c g is =
     let here = subst (All (λ (h : Group). h.first_node ≤ MOST_INNER_NODES)) (sym c.deref-group-items.ensures.value) (first_nodes (goal.at.In-loop-group c).In_ok-groups) c.loop-group.group-index g c.loop-group-test.true in
     subst (λ (h : Group). h.first_node ≤ MOST_INNER_NODES) (sym is) here
@@ -94,7 +95,7 @@ loop-group-preserved c =
     let steps = subst (λ n. Appends (IsStep g.first_node n) (n - 1) before between) c.rank_count-ranks.ensures c.in_ok-push_onward.ensures in
     chains-more case places hot cold c.deref-group-items.result.now c.loop-group.group-index c.loop-group-test.true g c.group-item.is before between c.push_leaving.new.links.items c.loop-group.invariant steps c.in_ok-push_leaving.ensures
 
-few_nodes : (c : goal.After-len-3) → 2 * MOST_PARTS + c.len-3.result * c.rank_count-ranks.result < MOST_INNER_NODES
+few_nodes : (c : After-len-3) → 2 * MOST_PARTS + c.len-3.result * c.rank_count-ranks.result < MOST_INNER_NODES
 few_nodes c = few_chain_nodes c.len-3.result c.rank_count-ranks.result (omega (arith, c.len-3.ensures, c.in_ok-groups.ensures.few)) (few_ranks (goal.at.After-len-3 c).After-rank_count-ranks)
 
 pub overflow_mul-result : goal.overflow_mul-result
@@ -106,7 +107,7 @@ overflow_add-result c =
     let parts = few_parts (goal.at.overflow_add-result c).After-len-2 in
     omega (arith, most, parts)
 
-made : (c : goal.After-drop-grid-2) → AreChains c.args.case.now c.args.parts.now.hot c.args.parts.now.cold (record { groups = c.from_vec-2.result; net = record { nodes = (c.len.result + c.len-2.result) + c.len-3.result * c.rank_count-ranks.result; links = c.from_vec.result } })
+made : (c : After-drop-grid-2) → AreChains c.args.case.now c.args.parts.now.hot c.args.parts.now.cold (record { groups = c.from_vec-2.result; net = record { nodes = (c.len.result + c.len-2.result) + c.len-3.result * c.rank_count-ranks.result; links = c.from_vec.result } })
 made c =
     let case = c.args.case.now in
     let places = c.as_slice-places.result.now in

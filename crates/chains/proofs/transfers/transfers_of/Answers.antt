@@ -6,15 +6,16 @@ use Rattle.chains.specs.Gathered.{AreGathered}
 use Rattle.chains.specs.Stock.{held_of}
 use Rattle.chains.proofs.GatherLemmas.{IsShareAt, share_at, neighbours_from_sort, AreGathered-more, AreGathered-permutation, room_for_it, Neighbours}
 use Rattle.chains.proofs.transfers.transfers_of.Goals as goal
+use Rattle.chains.proofs.transfers.transfers_of.Goals.{After-deref-share-items, In-loop-share}
 
 abbrev no_share : Share
 no_share = record { hot = 0; node = 0; heat = pos 0 }
 
-same : (c : goal.After-deref-share-items) → IsPermutation c.args.shares.items c.deref-share-items.result.now
+same : (c : After-deref-share-items) → IsPermutation c.args.shares.items c.deref-share-items.result.now
 same c = subst (IsPermutation c.args.shares.items) (sym c.deref-share-items.ensures.value) c.sort_by_key.ensures.permutation
 
 -- the share that is added
-here : (c : goal.In-loop-share) (most : ℤ) → All (λ (u : Share). held_of c.args.shares.items u.hot ≤ℤ most) c.args.shares.items → IsShareAt c.args.hots most c.deref-share-items.result.now c.loop-share.share-index (get_or c.deref-share-items.result.now c.loop-share.share-index no_share)
+here : (c : In-loop-share) (most : ℤ) → All (λ (u : Share). held_of c.args.shares.items u.hot ≤ℤ most) c.args.shares.items → IsShareAt c.args.hots most c.deref-share-items.result.now c.loop-share.share-index (get_or c.deref-share-items.result.now c.loop-share.share-index no_share)
 here c most fits =
     let next = subst Neighbours (sym c.deref-share-items.ensures.value) (neighbours_from_sort c.sort_by_key.new.self.items c.in_ok-sort_by_key.ensures.sorted (λ a r q k. search rules)) in
     share_at c.args.hots most c.args.shares.items c.deref-share-items.result.now (same (goal.at.In-loop-share c).After-deref-share-items) next c.requires.at_cold c.requires.positive fits c.loop-share.share-index no_share c.loop-share-test.true
