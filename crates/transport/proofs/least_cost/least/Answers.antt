@@ -13,13 +13,14 @@ use Rattle.transport.proofs.PairFlows.{PathsAreReaches-pairs, IsSpread-pairs}
 use Rattle.transport.proofs.PairLemmas.{IsAround-pairs}
 use Rattle.transport.proofs.StuckLemmas.{IsCutOf-members}
 use Rattle.transport.proofs.least_cost.least.Goals as goal
+use Rattle.transport.proofs.least_cost.least.Goals.{In_ok-net, In_ok-flow-in-Routed, After-offer_of-offer}
 
-paths : (c : goal.In_ok-net) → PathsAreReaches (length c.args.parts.now.hot) (length c.args.parts.now.cold) c.in_ok-net.net.links (reaches c.args.reach.now)
+paths : (c : In_ok-net) → PathsAreReaches (length c.args.parts.now.hot) (length c.args.parts.now.cold) c.in_ok-net.net.links (reaches c.args.reach.now)
 paths c = PathsAreReaches-pairs c.args.parts.now.hot c.args.parts.now.cold c.args.reach.now c.in_ok-net.net c.requires.sizes c.in_ok-net.ensures
 
 -- ---- the heat flow
 
-routed : (c : goal.In_ok-flow-in-Routed) → IsRoutedHeat c.args.parts.now.hot c.args.parts.now.cold c.in_ok-net.net (reaches c.args.reach.now) c.in-Routed.flow c.in-Routed.potentials c.in_ok-flow-in-Routed.flow
+routed : (c : In_ok-flow-in-Routed) → IsRoutedHeat c.args.parts.now.hot c.args.parts.now.cold c.in_ok-net.net (reaches c.args.reach.now) c.in-Routed.flow c.in-Routed.potentials c.in_ok-flow-in-Routed.flow
 routed c =
     let parts = c.args.parts.now in
     let net = c.in_ok-net.net in
@@ -49,10 +50,10 @@ returns-in-Routed-clause-least c =
 
 -- ---- the cut
 
-within : (c : goal.After-offer_of-offer) → IsCutWithin (cut_side c.in_ok-members-in-Blocked.members.kind) (reaches c.args.reach.now) c.args.parts.now.hot c.args.parts.now.cold c.in_ok-members-in-Blocked.members.indexes
+within : (c : After-offer_of-offer) → IsCutWithin (cut_side c.in_ok-members-in-Blocked.members.kind) (reaches c.args.reach.now) c.args.parts.now.hot c.args.parts.now.cold c.in_ok-members-in-Blocked.members.indexes
 within c = c.in_ok-members-in-Blocked.ensures (reaches c.args.reach.now) (paths (goal.at.After-offer_of-offer c).In_ok-net)
 
-offer_is : (c : goal.After-offer_of-offer) → to_z w128 (of_z w128 c.offer_of-offer.result) ≡ offer_of (cut_side c.in_ok-members-in-Blocked.members.kind) (reaches c.args.reach.now) (parts_of (opposite (cut_side c.in_ok-members-in-Blocked.members.kind)) c.args.parts.now.hot c.args.parts.now.cold) c.in_ok-members-in-Blocked.members.indexes
+offer_is : (c : After-offer_of-offer) → to_z w128 (of_z w128 c.offer_of-offer.result) ≡ offer_of (cut_side c.in_ok-members-in-Blocked.members.kind) (reaches c.args.reach.now) (parts_of (opposite (cut_side c.in_ok-members-in-Blocked.members.kind)) c.args.parts.now.hot c.args.parts.now.cold) c.in_ok-members-in-Blocked.members.indexes
 offer_is c =
     let fits : FitsSigned w128 c.offer_of-offer.result = search rules in
     to_z-of_z w128 c.offer_of-offer.result fits ∙ rw (c.side.ensures, c.other_parts-others.ensures, c.as_slice-indexes.ensures) at c.offer_of-offer.ensures

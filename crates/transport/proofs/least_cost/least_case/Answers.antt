@@ -9,16 +9,17 @@ use Rattle.transport.proofs.Certified.{IsRoutedHeat, each_potential, has_cost, a
 use Rattle.transport.proofs.FrontLemmas.{IsHeatOf-front, IsSpread-whole}
 use Rattle.transport.proofs.Limits.{IsAround, IsAround-parts}
 use Rattle.transport.proofs.least_cost.least_case.Goals as goal
+use Rattle.transport.proofs.least_cost.least_case.Goals.{In-Routed, In_ok-flow-in-Routed}
 
-around : (c : goal.In-Routed) → IsAround c.args.parts.now.hot c.args.parts.now.cold c.in_ok-chains.chains.net
+around : (c : In-Routed) → IsAround c.args.parts.now.hot c.args.parts.now.cold c.in_ok-chains.chains.net
 around c =
     let made = c.in_ok-chains.ensures in
     IsAround-parts c.args.parts.now c.in_ok-chains.chains.net made.inner (let few = made.small.few_nodes in omega (arith, few)) made.small.few_links
 
-routes : (c : goal.In-Routed) → RoutesMost c.args.parts.now.hot c.args.parts.now.cold c.in_ok-chains.chains.net c.in-Routed.flow c.in-Routed.potentials
+routes : (c : In-Routed) → RoutesMost c.args.parts.now.hot c.args.parts.now.cold c.in_ok-chains.chains.net c.in-Routed.flow c.in-Routed.potentials
 routes c = rw c.in-Routed.is at c.in_ok-flow.ensures.routed
 
-routed : (c : goal.In_ok-flow-in-Routed) → IsRoutedHeat c.args.parts.now.hot c.args.parts.now.cold c.in_ok-chains.chains.net (reach_between c.args.case.now c.args.parts.now.hot c.args.parts.now.cold) c.in-Routed.flow c.in-Routed.potentials c.in_ok-flow-in-Routed.flow
+routed : (c : In_ok-flow-in-Routed) → IsRoutedHeat c.args.parts.now.hot c.args.parts.now.cold c.in_ok-chains.chains.net (reach_between c.args.case.now c.args.parts.now.hot c.args.parts.now.cold) c.in-Routed.flow c.in-Routed.potentials c.in_ok-flow-in-Routed.flow
 routed c =
     let parts = c.args.parts.now in
     let p = (goal.at.In_ok-flow-in-Routed c).In-Routed in
