@@ -8,6 +8,7 @@ use Rattle.grid.specs.declared.part.Part.{Part}
 use Rattle.interval_design.specs.Courses.{shares_of, width_of}
 use Rattle.interval_design.proofs.CourseLemmas.{HasStage, IsTurn, led_end, led_next, led_skip, led_stage, led_start}
 use Rattle.interval_design.proofs.courses.push_course.Goals as goal
+use Rattle.interval_design.proofs.courses.push_course.Goals.{After-as_slice}
 
 pub loop-turn-init : goal.loop-turn-init
 loop-turn-init c = led_start c.args.side c.args.parts.now c.args.transfers.now c.args.stream c.args.next c.args.lines.now.items 0 c.args.lines.now.items c.args.next c.args.stream refl refl refl refl c.requires.led.used
@@ -27,25 +28,25 @@ shares_of-requires-clause-wide c =
     omega (arith, wide, c.width_of.ensures)
 
 -- the part at the turn is the stream's, and its shares are a stage, for which there is room
-turn_is : (c : goal.After-as_slice) → IsTurn c.args.side c.args.parts.now c.loop-turn.turn c.index_at-index.result c.part_at-part.result
+turn_is : (c : After-as_slice) → IsTurn c.args.side c.args.parts.now c.loop-turn.turn c.index_at-index.result c.part_at-part.result
 turn_is c = record { within = c.loop-turn-test.true; index_is = c.index_at-index.ensures; here = c.part_at-part.ensures }
 
-own : (c : goal.After-as_slice) → same_source c.part_at-part.result.source (source.Stream c.args.stream) ≡ true
+own : (c : After-as_slice) → same_source c.part_at-part.result.source (source.Stream c.args.stream) ≡ true
 own c = sym c.is_part_of-is_own.ensures ∙ c.if-not-is_own.false
 
-shares_are : (c : goal.After-as_slice) → c.as_slice.result.now ≡ shares_of c.args.side c.index_at-index.result (width_of c.part_at-part.result) c.args.transfers.now
+shares_are : (c : After-as_slice) → c.as_slice.result.now ≡ shares_of c.args.side c.index_at-index.result (width_of c.part_at-part.result) c.args.transfers.now
 shares_are c = c.as_slice.ensures.value ∙ c.in_ok-shares.ensures ∙ ap (λ n. shares_of c.args.side c.index_at-index.result n c.args.transfers.now) c.width_of.ensures
 
-stage : (c : goal.After-as_slice) → HasStage c.args.side c.args.parts.now c.args.transfers.now c.args.stream c.args.next c.args.lines.now.items c.loop-turn.turn c.loop-turn.lines.items c.loop-turn.free c.loop-turn.at c.as_slice.result.now
+stage : (c : After-as_slice) → HasStage c.args.side c.args.parts.now c.args.transfers.now c.args.stream c.args.next c.args.lines.now.items c.loop-turn.turn c.loop-turn.lines.items c.loop-turn.free c.loop-turn.at c.as_slice.result.now
 stage c =
     led_stage c.args.side c.args.parts.now c.args.transfers.now c.args.stream c.args.next c.args.lines.now.items c.loop-turn.turn c.loop-turn.lines.items c.loop-turn.free c.loop-turn.at
     c.index_at-index.result c.part_at-part.result c.as_slice.result.now (turn_is c) (own c) c.loop-turn.invariant (shares_are c)
 
 pub push_stage-requires-clause-some : goal.push_stage-requires-clause-some
-push_stage-requires-clause-some c = (stage c).some
+push_stage-requires-clause-some c = (stage (goal.at.push_stage-requires-clause-some c).After-as_slice).some
 
 pub push_stage-requires-clause-fits : goal.push_stage-requires-clause-fits
-push_stage-requires-clause-fits c = omega (arith, (stage c).room, c.requires.fits)
+push_stage-requires-clause-fits c = omega (arith, (stage (goal.at.push_stage-requires-clause-fits c).After-as_slice).room, c.requires.fits)
 
 pub overflow_add-free : goal.overflow_add-free
 overflow_add-free c =

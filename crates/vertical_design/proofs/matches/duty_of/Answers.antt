@@ -1,19 +1,14 @@
-use Rattle.std.proofs.Common.{◌≡◌, ◌∙◌, ℤ, ap₂, w64, to_z, of_z, arith}
+use Rattle.std.proofs.Common.{◌≡◌, ◌∙◌, ℤ, sym, ap₂, subst₂, w64, to_z, of_z, arith}
 use Rattle.std.specs.Prelude.{◌-ℤ◌, ◌*ℤ◌, unsigned_abs}
 use Rattle.std.specs.Int.{w128}
 use Rattle.std.proofs.lemmas.Int.{ints}
 use Rattle.fractions.specs.Rationals.{ratio}
 use Rattle.vertical_design.proofs.FlowLemmas.{IsFraction, duty-within}
 use Rattle.vertical_design.proofs.matches.duty_of.Goals as goal
+use Rattle.vertical_design.proofs.matches.duty_of.Goals.{After-from-part}
 
-numbers : (c : goal.After-from-part) → IsFraction ((c.args.gap.high -ℤ c.args.gap.low) *ℤ c.args.share) (c.args.gap.hot *ℤ c.args.gap.cold)
-numbers c =
-    let gap = c.args.gap in
-    let from = c.requires.share.from in
-    duty-within gap.low gap.high c.args.share gap.hot gap.cold c.requires.gap (omega (arith, ints, from)) c.requires.share.upto c.requires.hot c.requires.cold
-
--- the two products, as the code forms them
-heat_is : (c : goal.After-from-part) → to_z w128 (of_z w128 c.from-width.result) *ℤ to_z w128 (of_z w128 c.from-part.result) ≡ (c.args.gap.high -ℤ c.args.gap.low) *ℤ c.args.share
+-- the two products, as the code forms them, and that they are within the limits of a fraction
+heat_is : (c : After-from-part) → to_z w128 (of_z w128 c.from-width.result) *ℤ to_z w128 (of_z w128 c.from-part.result) ≡ (c.args.gap.high -ℤ c.args.gap.low) *ℤ c.args.share
 heat_is c =
     let falls = c.requires.gap.falls in
     let low = c.requires.gap.low_place in
@@ -22,7 +17,7 @@ heat_is c =
     let part : to_z w128 (of_z w128 c.from-part.result) ≡ c.args.share = omega (arith, ints) in
     ap₂ ◌*ℤ◌ width part
 
-flows_are : (c : goal.After-from-part) → to_z w64 (of_z w64 c.args.gap.hot) *ℤ to_z w64 (of_z w64 c.args.gap.cold) ≡ c.args.gap.hot *ℤ c.args.gap.cold
+flows_are : (c : After-from-part) → to_z w64 (of_z w64 c.args.gap.hot) *ℤ to_z w64 (of_z w64 c.args.gap.cold) ≡ c.args.gap.hot *ℤ c.args.gap.cold
 flows_are c =
     let hot_range = c.requires.hot in
     let cold_range = c.requires.cold in
@@ -30,26 +25,32 @@ flows_are c =
     let cold : to_z w64 (of_z w64 c.args.gap.cold) ≡ c.args.gap.cold = omega (arith, ints) in
     ap₂ ◌*ℤ◌ hot cold
 
+formed : (c : After-from-part) → IsFraction (to_z w128 (of_z w128 c.from-width.result) *ℤ to_z w128 (of_z w128 c.from-part.result)) (to_z w64 (of_z w64 c.args.gap.hot) *ℤ to_z w64 (of_z w64 c.args.gap.cold))
+formed c =
+    let gap = c.args.gap in
+    let from = c.requires.share.from in
+    subst₂ IsFraction (sym (heat_is c)) (sym (flows_are c)) (duty-within gap.low gap.high c.args.share gap.hot gap.cold c.requires.gap (omega (arith, ints, from)) c.requires.share.upto c.requires.hot c.requires.cold)
+
 pub overflow_mul-heat : goal.overflow_mul-heat
-overflow_mul-heat c = let d = numbers c in let product = heat_is c in omega (arith, ints, product, d.num_above, d.num_upto)
+overflow_mul-heat c = let d = formed (goal.at.overflow_mul-heat c).After-from-part in omega (arith, ints, d.num_above, d.num_upto)
 
 pub overflow_mul-flows : goal.overflow_mul-flows
-overflow_mul-flows c = let d = numbers c in let product = flows_are c in omega (arith, ints, product, d.den_from, d.den_upto)
+overflow_mul-flows c = let d = formed (goal.at.overflow_mul-flows c).After-from-part in omega (arith, ints, d.den_from, d.den_upto)
 
 pub quotient-requires-clause-above : goal.quotient-requires-clause-above
-quotient-requires-clause-above c = let d = numbers c in let product = flows_are c in omega (arith, ints, product, d.den_from, d.den_upto)
+quotient-requires-clause-above c = let d = formed (goal.at.quotient-requires-clause-above c).After-from-part in omega (arith, ints, d.den_from, d.den_upto)
 
 pub quotient-requires-clause-den : goal.quotient-requires-clause-den
-quotient-requires-clause-den c = let d = numbers c in let product = flows_are c in omega (arith, ints, product, d.den_from, d.den_upto)
+quotient-requires-clause-den c = let d = formed (goal.at.quotient-requires-clause-den c).After-from-part in omega (arith, ints, d.den_from, d.den_upto)
 
 pub quotient-requires-clause-num : goal.quotient-requires-clause-num
-quotient-requires-clause-num c = let d = numbers c in let product = heat_is c in omega (arith, ints, product, d.num_above, d.num_upto)
+quotient-requires-clause-num c = let d = formed (goal.at.quotient-requires-clause-num c).After-from-part in omega (arith, ints, d.num_above, d.num_upto)
 
 pub returns : goal.returns
 returns c =
     let gap = c.args.gap in
     let before = (goal.at.returns c).After-from-part in
-    let d = numbers before in
+    let d = formed before in
     let heats = heat_is before in
     let flows = flows_are before in
     let num : to_z w128 (of_z w128 (to_z w128 (of_z w128 c.from-width.result) *ℤ to_z w128 (of_z w128 c.from-part.result))) ≡ (gap.high -ℤ gap.low) *ℤ c.args.share = omega (arith, ints, heats, d.num_above, d.num_upto) in

@@ -2,15 +2,16 @@ use Rattle.std.proofs.Common.{arith}
 use Rattle.std.proofs.lemmas.Int.{ints}
 use Rattle.vertical_design.proofs.FlowLemmas.{IsShare, share-within}
 use Rattle.vertical_design.proofs.matches.match_of.Goals as goal
+use Rattle.vertical_design.proofs.matches.match_of.Goals.{After-source_at-2}
 
-share : (c : goal.After-source_at-2) → IsShare c.args.gap.low c.args.gap.high c.args.hot.now c.args.cold.now c.args.pair
+share : (c : After-source_at-2) → IsShare c.args.gap.low c.args.gap.high c.args.hot.now c.args.cold.now c.args.pair
 share c = share-within c.args.gap.low c.args.gap.high c.args.hot.now c.args.cold.now c.args.pair c.requires.hot c.requires.cold c.requires.pair
 
 pub quotient-requires-clause-above : goal.quotient-requires-clause-above
-quotient-requires-clause-above c = let h = (share c).cold_flow.from in omega (arith, ints, c.requires.cold_flow)
+quotient-requires-clause-above c = let h = (share (goal.at.quotient-requires-clause-above c).After-source_at-2).cold_flow.from in omega (arith, ints, c.requires.cold_flow)
 
 pub quotient-requires-clause-den : goal.quotient-requires-clause-den
-quotient-requires-clause-den c = let h = (share c).cold_flow.upto in omega (arith, ints, c.requires.cold_flow)
+quotient-requires-clause-den c = let h = (share (goal.at.quotient-requires-clause-den c).After-source_at-2).cold_flow.upto in omega (arith, ints, c.requires.cold_flow)
 
 pub quotient-requires-2-clause-above : goal.quotient-requires-2-clause-above
 quotient-requires-2-clause-above c = let h = (share (goal.at.quotient-requires-2-clause-above c).After-source_at-2).hot_flow.from in omega (arith, ints, c.requires.hot_flow)

@@ -10,9 +10,10 @@ use Rattle.vertical_design.specs.declared.matches.Match.{Match}
 use Rattle.vertical_design.proofs.FlowLemmas.{map_more}
 use Rattle.vertical_design.proofs.OverlapLists.{pairs_are}
 use Rattle.vertical_design.proofs.matches.matches_in.Goals as goal
+use Rattle.vertical_design.proofs.matches.matches_in.Goals.{In_ok-pairs}
 
 -- the pairs are those of what the sources of both sides offer and ask for
-overlaps : (c : goal.In_ok-pairs)
+overlaps : (c : In_ok-pairs)
     → ListsOverlaps (amounts_in (to_z w64 (of_z w64 c.args.low)) (to_z w64 (of_z w64 c.args.high)) c.args.hot.now c.args.cold.now) (amounts_in (to_z w64 (of_z w64 c.args.low)) (to_z w64 (of_z w64 c.args.high)) c.args.cold.now c.args.hot.now) c.in_ok-pairs.pairs.items
 overlaps c =
     let low = to_z w64 (of_z w64 c.args.low) in
