@@ -31,11 +31,14 @@ numbered word some passes a within fields plain =
 
 fields_plain : (b : Balance) → HasFractions b → All IsPlainField (codes "#" ∷ balance_fields b)
 fields_plain b within =
-    let cost = numbered (codes "cost") (omega arith) refl b.cost within.cost [] (All-nil IsPlainField) in
-    let excess = numbered (codes "excess") (omega arith) refl b.excess within.excess _ cost in
-    let cold = numbered (codes "cold") (omega arith) refl b.cold within.cold _ excess in
-    let hot = numbered (codes "hot") (omega arith) refl b.hot within.hot _ cold in
-    All-cons IsPlainField (codes "#") (balance_fields b) (word_plain (codes "#") (omega arith) refl) hot
+    let cost : Statement = codes "cost" ∷ fraction_text b.cost ∷ [] in
+    let excess : Statement = codes "excess" ∷ fraction_text b.excess ∷ cost in
+    let cold : Statement = codes "cold" ∷ fraction_text b.cold ∷ excess in
+    All-cons IsPlainField (codes "#") (balance_fields b) (word_plain (codes "#") (omega arith) refl)
+    (numbered (codes "hot") (omega arith) refl b.hot within.hot cold
+    (numbered (codes "cold") (omega arith) refl b.cold within.cold excess
+    (numbered (codes "excess") (omega arith) refl b.excess within.excess cost
+    (numbered (codes "cost") (omega arith) refl b.cost within.cost [] (All-nil IsPlainField)))))
 
 comment-counts_not : (b : Balance) → is_statement (codes "#" ∷ balance_fields b) ≡ false
 unfolding is_statement
