@@ -32,6 +32,7 @@ pub mod IntervalShares
 pub mod IntervalStages
 pub mod StreamCourses
 pub mod NetworkCourses
+pub mod UtilitiesApart
 pub mod MatchPasses
 pub mod NetworkValid
 pub mod StageLimits

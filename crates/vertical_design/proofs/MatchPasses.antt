@@ -45,6 +45,7 @@ use Rattle.vertical_design.proofs.IntervalTemperatures.{IsScale}
 use Rattle.vertical_design.proofs.NetworkCourses.{AreCourses, all_led_network, intervals_between, network_values}
 use Rattle.vertical_design.proofs.SpanRuns.{cut_below}
 use Rattle.vertical_design.proofs.TurnLemmas.{each-share}
+use Rattle.vertical_design.proofs.UtilitiesApart.{has_stream}
 use Rattle.vertical_design.proofs.VerticalApproaches.{AllStayInRange, IsWithinRange, found}
 
 -- ---- passes
@@ -268,7 +269,9 @@ module _ (case : Case) (cuts : List ℤ) (complete : IsComplete case) (standard 
         hot_end = subst (λ x. IsAtUtility side.Hot case.streams (curve_heat side.Cold case.streams x)) (sym one.goes.exit_is) (lies (upper_cut cuts one.at) (omega (arith, ints, gap)) (omega (arith, ints)));
         cold_end = subst (λ x. IsAtUtility side.Hot case.streams (curve_heat side.Cold case.streams x)) (sym one.goes.entry_is) (lies (lower_cut cuts one.at) (omega (arith, ints)) (omega (arith, ints, gap)));
       }
-  faces number e declared (source.Utility i) (source.Utility j) hot_is cold_is = record { hot_end = tt; cold_end = tt }
+  faces number e declared (source.Utility i) (source.Utility j) hot_is cold_is =
+      let (m, there, m_hot, m_cold) = match_for number e declared in
+      absurd (has_stream case are cuts are_cuts number m there i j (m_hot ∙ hot_is) (m_cold ∙ cold_is))
 
   pub are_vertical : AreVertical case network values
   are_vertical number e declared = let both = faces number e declared e.hot e.cold refl refl in record { hot_end = both.hot_end; cold_end = both.cold_end }

@@ -41,12 +41,13 @@ pub record IsAtUtility (of : Side) (streams : List Stream) (heat : Rational) : T
   pub from : IsAtMost (whole (utility_from of streams)) heat
   pub upto : IsAtMost heat (whole (utility_to of streams))
 
--- two sources face each other at these shifted temperatures: two streams at one heat of both curves, and a stream and a utility where the utility lies
+-- two sources face each other at these shifted temperatures: two streams at one heat of both curves; and at a utility the heat of the other side lies where that utility does, be it that of a stream or of the other side's utility at its level
 abbrev pub AreFacing : List Stream → Source → Source → Rational → Rational → Type 0
 AreFacing streams (source.Stream i) (source.Stream j) hot cold = curve_heat side.Hot streams hot ≡ curve_heat side.Cold streams cold
 AreFacing streams (source.Stream i) (source.Utility j) hot cold = IsAtUtility side.Cold streams (curve_heat side.Hot streams hot)
 AreFacing streams (source.Utility i) (source.Stream j) hot cold = IsAtUtility side.Hot streams (curve_heat side.Cold streams cold)
-AreFacing streams (source.Utility i) (source.Utility j) hot cold = Unit {0}
+AreFacing streams (source.Utility i) (source.Utility j) hot cold =
+    IsAtUtility side.Hot streams (curve_heat side.Cold streams cold) × IsAtUtility side.Cold streams (curve_heat side.Hot streams hot)
 
 -- the shifted temperatures at which the source of an exchanger on a side enters it and leaves it
 abbrev pub entry : Case → Network → Valuation → ℕ → Side → Source → Rational
