@@ -1,10 +1,12 @@
-//! Which parts reach, in cases that were worked by hand.
+//! Which parts reach, and which are cuts, in cases that were worked by hand.
 ghost use Rattle.stream_case.specs.Case.{IsComplete};
 
 use crate::compare::{assert_lists, assert_same};
 use crate::flows::{four_streams, parts_of_case, reach_of_case};
-use crate::tables::{FOUR_STREAMS, RESTRICTED, Table, completed_case};
-use heat_flow::{Flow, Prices, is_flow, is_supported, reaches};
+use crate::tables::{
+    FOUR_STREAMS, RESTRICTED, TOO_COLD_A_HEATER, TOO_LITTLE_COOLING, Table, completed_case,
+};
+use heat_flow::{Cut, CutKind, Flow, Prices, is_cut, is_flow, is_supported, reaches};
 use std::alloc::{AllocError, Global};
 use std::test::Fail;
 use stream_case::{Case, Items};
@@ -94,5 +96,43 @@ fn no_heat_and_no_prices_are_refused(rt: HostRuntime) -> Result<(), Fail> {
         is_supported(&four.reach, &prices),
     );
     assert_same(&rt, "none", &found, &(false, false));
+    Ok(())
+}
+
+/// A kind, parts by their indexes, their need and an offer, and whether that is a cut of a table.
+type CutRow = (Table, CutKind, &'static [u32], i64, i64, bool);
+
+const CUTS: [CutRow; 5] = [
+    // the hot stream, which the cold one and the cooler can take 1,000 W each of
+    (TOO_LITTLE_COOLING, CutKind::Supply, &[1], 5000, 2000, true),
+    // the cooler is left out of what is on offer
+    (TOO_LITTLE_COOLING, CutKind::Supply, &[1], 5000, 1000, false),
+    // the cold stream above the heater, which `HOT` does not stand beside
+    (TOO_COLD_A_HEATER, CutKind::Demand, &[0], 2000, 0, true),
+    // the heater reaches its lower part
+    (TOO_COLD_A_HEATER, CutKind::Demand, &[0, 1], 3000, 0, false),
+    // the other side
+    (TOO_COLD_A_HEATER, CutKind::Supply, &[0], 2000, 0, false),
+];
+
+fn is_cut_of(alloc: Global, (table, kind, members, need, offer, _): CutRow) -> Result<bool, Fail> {
+    let case = completed_case(alloc, &table)?;
+    let parts = parts_of_case(alloc, &case)?;
+    let reach = reach_of_case(alloc, &case, &parts)?;
+    let cut = Cut {
+        kind,
+        parts: Items::from_vec(members.to_vec(alloc)?),
+        need,
+        offer,
+    };
+    Ok(is_cut(&parts, &reach, &cut))
+}
+
+#[test]
+fn a_cut_offers_all_that_reaches_it(rt: HostRuntime) -> Result<(), Fail> {
+    for row in CUTS {
+        let found = is_cut_of(rt.alloc(), row)?;
+        assert_same(&rt, "a cut", &found, &row.5);
+    }
     Ok(())
 }

@@ -27,6 +27,10 @@ mod largest_case_tests;
 #[cfg(test)]
 mod least_cost_tests;
 #[cfg(test)]
+mod limits_tests;
+#[cfg(test)]
+mod network_audit_tests;
+#[cfg(test)]
 mod network_printer_tests;
 #[cfg(test)]
 mod network_text_tests;

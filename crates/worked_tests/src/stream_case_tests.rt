@@ -165,7 +165,11 @@ fn only_complete_cases_without_forbidden_matches_are_standard(rt: HostRuntime) -
 fn cases_are_shared_by_threads(rt: HostRuntime) -> Result<(), Fail> {
     let case = case_of(rt.alloc(), &FOUR_STREAMS)?;
     let alloc = rt.alloc();
-    let completed = thread::map_indices(&rt, alloc, 2, &|_| complete(alloc, &case))?;
-    assert_same(&rt, "the threads", &completed.len(), &2);
+    let wanted = complete(alloc, &case)?;
+    let made = thread::map_indices(&rt, alloc, 2, &|_| complete(alloc, &case))?;
+    assert_same(&rt, "the threads", &made.len(), &2);
+    for completed in made {
+        assert_same(&rt, "the case of a thread", &completed?, &wanted);
+    }
     Ok(())
 }

@@ -4,7 +4,7 @@ ghost use Rattle.stream_case.specs.Case.{IsComplete};
 ghost use Rattle.study.specs.Plan.{IsSweepPlan};
 
 use crate::compare::{assert_lists, assert_same};
-use crate::tables::{FOUR_STREAMS, TWO_STREAMS, Table, case_of, completed};
+use crate::tables::{FOUR_STREAMS, TOO_LITTLE_COOLING, Table, case_of, completed};
 use problem_table::{Target, targets};
 use std::alloc::{AllocError, Global};
 use std::process::Abort;
@@ -32,13 +32,6 @@ const FOUR_STREAM_ROWS: [Row; 11] = [
     (90, 56_000, 96_000, Some(56_000)),
     (100, 65_000, 105_000, Some(65_000)),
 ];
-
-/// A cooler that takes less heat than the hot stream has to give.
-const TOO_LITTLE_COOLING: Table = Table {
-    streams: &[("H", Hot, 1000, 500, 10), ("C", Cold, 300, 400, 10)],
-    utilities: &[("CW", Cold, 200, 0, 1000, 0)],
-    ..TWO_STREAMS
-};
 
 fn rows_of(alloc: Global, rows: &[SweepRow]) -> Result<Vec<Row>, AllocError> {
     let mut found = Vec::new(alloc);
@@ -193,32 +186,69 @@ fn cost_of(alloc: Global, case: &Case) -> Result<(Target, Option<i128>), AllocEr
     Ok((targets, least_cost(alloc, case, targets)?))
 }
 
+/// A sample of the first number: its hot and its cold streams each, what is drawn of the first
+/// ones, and the number of the one hot stream whose pair is forbidden. The draws were worked out by
+/// a second generator.
+type SampleRow = (u32, &'static [Drawn], u32);
+
+const SAMPLES: [SampleRow; 3] = [
+    (1, &[(Hot, 1857, 607, 74), (Cold, 158, 589, 273)], 0),
+    (
+        2,
+        &[
+            (Hot, 1857, 607, 74),
+            (Hot, 889, 458, 273),
+            (Cold, 1044, 1923, 424),
+            (Cold, 709, 2150, 166),
+        ],
+        0,
+    ),
+    (
+        12,
+        &[
+            (Hot, 1857, 607, 74),
+            (Hot, 889, 458, 273),
+            (Hot, 2223, 1344, 424),
+            (Hot, 2450, 1009, 166),
+        ],
+        5,
+    ),
+];
+
+/// Compares a sample of the first number.
+fn check_sample(rt: &(impl Abort + AllocGlobal), row: &SampleRow) -> Result<(), Fail> {
+    let (count, wanted, hot) = *row;
+    if count == 0 || count > 12 {
+        return Err("no such sample".into());
+    }
+    let case = sample_case(rt.alloc(), 1, count)?;
+    assert_same(rt, "the contribution", &case.contribution, &50);
+    for stream in case.streams.as_slice() {
+        assert_same(rt, "a contribution", &stream.contribution, &50);
+    }
+    let mut found = drawn_of(rt.alloc(), case.streams.as_slice())?;
+    assert_same(rt, "so many streams", &found.len(), &(2 * count as usize));
+    found.truncate(wanted.len());
+    assert_lists(rt, "the streams", &found, wanted);
+    let pair = Forbid {
+        hot: Source::Stream(hot),
+        cold: Source::Stream(count.saturating_add(hot)),
+    };
+    assert_lists(rt, "the pairs", case.forbids.as_slice(), &[pair]);
+    Ok(())
+}
+
 #[test]
 fn samples_are_drawn(rt: HostRuntime) -> Result<(), Fail> {
-    let case = sample_case(rt.alloc(), 1, 1)?;
-    let found = drawn_of(rt.alloc(), case.streams.as_slice())?;
-    let wanted = [(Hot, 1857, 607, 74), (Cold, 158, 589, 273)];
-    assert_lists(&rt, "the streams", &found, &wanted);
-    let pair = Forbid {
-        hot: Source::Stream(0),
-        cold: Source::Stream(1),
-    };
-    assert_lists(&rt, "the pairs", case.forbids.as_slice(), &[pair]);
-    let case = completed(rt.alloc(), &case)?;
+    for row in &SAMPLES {
+        check_sample(&rt, row)?;
+    }
+    let case = completed(rt.alloc(), &sample_case(rt.alloc(), 1, 1)?)?;
     let answer = cost_of(rt.alloc(), &case)?;
     let targets = Target {
         hot: 25_163,
         cold: 0,
     };
     assert_same(&rt, "the answer", &answer, &(targets, Some(117_663)));
-    let case = sample_case(rt.alloc(), 1, 2)?;
-    let found = drawn_of(rt.alloc(), case.streams.as_slice())?;
-    let wanted = [
-        (Hot, 1857, 607, 74),
-        (Hot, 889, 458, 273),
-        (Cold, 1044, 1923, 424),
-        (Cold, 709, 2150, 166),
-    ];
-    assert_lists(&rt, "the streams", &found, &wanted);
     Ok(())
 }

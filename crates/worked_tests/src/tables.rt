@@ -51,6 +51,22 @@ pub const TWO_STREAMS: Table = Table {
     forbids: &[],
 };
 
+/// A cooler that takes less heat than the hot stream has to give.
+pub const TOO_LITTLE_COOLING: Table = Table {
+    contribution: 50,
+    streams: &[("H", Hot, 1000, 500, 10), ("C", Cold, 300, 400, 10)],
+    utilities: &[("CW", Cold, 200, 0, 1000, 0)],
+    forbids: &[],
+};
+
+/// A heater that does not reach the upper part of the cold stream.
+pub const TOO_COLD_A_HEATER: Table = Table {
+    contribution: 50,
+    streams: &[("C", Cold, 200, 500, 10)],
+    utilities: &[("ST", Hot, 400, 0, MOST_HEAT, 1)],
+    forbids: &[],
+};
+
 /// The two streams with three utilities on each side, where A may not match E, B not C, and H
 /// not F.
 pub const RESTRICTED: Table = Table {

@@ -4,7 +4,10 @@ ghost use Rattle.grid.specs.Part.{AreCaseParts};
 
 use crate::compare::{assert_lists, assert_same};
 use crate::flows::parts_of_case;
-use crate::tables::{FOUR_STREAMS, MOST_HEAT, StreamRow, TWO_STREAMS, Table, completed_case};
+use crate::tables::{
+    FOUR_STREAMS, MOST_HEAT, StreamRow, TOO_COLD_A_HEATER, TOO_LITTLE_COOLING, TWO_STREAMS, Table,
+    completed_case,
+};
 use grid::{Part, Parts};
 use heat_flow::{Cut, CutKind, Flow};
 use std::alloc::{AllocError, Global};
@@ -66,20 +69,12 @@ const CASES: [(&str, Table, Wanted); 12] = [
     ),
     (
         "too little cooling",
-        Table {
-            streams: &[("H", Hot, 1000, 500, 10), ("C", Cold, 300, 400, 10)],
-            utilities: &[("CW", Cold, 200, 0, 1000, 0)],
-            ..TWO_STREAMS
-        },
+        TOO_LITTLE_COOLING,
         Wanted::Stuck(CutKind::Supply, 5_000, 2_000, &[Source::Stream(0)]),
     ),
     (
         "a heater that is too cold",
-        Table {
-            streams: &ONE_COLD,
-            utilities: &[("ST", Hot, 400, 0, MOST_HEAT, 1)],
-            ..TWO_STREAMS
-        },
+        TOO_COLD_A_HEATER,
         Wanted::Stuck(CutKind::Demand, 2_000, 0, &[Source::Stream(0)]),
     ),
     (

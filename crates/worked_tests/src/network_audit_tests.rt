@@ -1,0 +1,93 @@
+//! Audits of small networks, and what they leave of the branches, worked by hand.
+ghost use Rattle.stream_case.specs.Case.{IsComplete};
+
+use crate::compare::assert_same;
+use crate::network_text_tests::SIX_EXCHANGERS;
+use crate::tables::{FOUR_STREAMS, TOO_LITTLE_COOLING, completed_case};
+use fractions::Frac;
+use network_audit::{Auditor, Balance, Place, Reason, Verdict};
+use network_text::read_network;
+use std::alloc::Global;
+use std::process::Abort;
+use std::test::Fail;
+use stream_case::Case;
+
+/// A branch, and the flow and the temperature that it carries, if any.
+type Carried = (u32, Option<(i64, i64)>);
+
+/// Of the six exchangers: a stream's own branch, one between two exchangers, the last one, and one
+/// beyond.
+const CARRIED: [Carried; 4] = [
+    (1, Some((300, 1700))),
+    (6, Some((150, 900))),
+    (13, Some((400, 1400))),
+    (14, None),
+];
+
+const NOTHING: [Carried; 2] = [(1, None), (14, None)];
+
+/// A network whose cooler takes 4,000 W, which is more than its most.
+const TOO_MUCH_COOLING: &[u8] = b"exchanger E1 H C 1000\nexchanger Q1 H CW 4000\npass H E1 a\n\
+pass a Q1 b\nend b\npass C E1 d\nend d\n";
+
+fn auditor_of(alloc: Global, case: &Case, text: &[u8]) -> Result<Auditor, Fail>
+    requires { IsComplete case.now }
+{
+    let network = read_network(alloc, case, text)?;
+    Ok(Auditor::new(alloc, case, &network)?)
+}
+
+/// Compares what branches carry after the last audit.
+fn check_values(rt: &impl Abort, auditor: &Auditor, wanted: &[Carried]) {
+    for (branch, carried) in wanted {
+        let found = auditor.value(*branch).map(|value| (value.cp, value.t));
+        let wanted = carried.map(|(cp, t)| (Frac::whole(cp), Frac::whole(t)));
+        assert_same(rt, "a branch", &found, &wanted);
+    }
+}
+
+fn unfinished(stream: u32, cp: i64) -> Verdict {
+    Verdict::Rejected {
+        place: Place::Stream(stream),
+        reason: Reason::Unfinished {
+            found: Frac::whole(0),
+            wanted: Frac::whole(cp),
+        },
+    }
+}
+
+#[test]
+fn an_accepted_network_tells_what_its_branches_carry(rt: HostRuntime) -> Result<(), Fail> {
+    let case = completed_case(rt.alloc(), &FOUR_STREAMS)?;
+    let mut six = auditor_of(rt.alloc(), &case, SIX_EXCHANGERS)?;
+    let mut none = auditor_of(rt.alloc(), &case, b"")?;
+    check_values(&rt, &six, &NOTHING);
+    let accepted = Verdict::Accepted(Balance {
+        hot: Frac::whole(20_000),
+        cold: Frac::whole(60_000),
+        excess: Frac::whole(0),
+        cost: Frac::whole(20_000),
+    });
+    assert_same(&rt, "six exchangers", &six.audit(), &accepted);
+    check_values(&rt, &six, &CARRIED);
+    assert_same(&rt, "no exchangers", &none.audit(), &unfinished(0, 200));
+    check_values(&rt, &none, &NOTHING);
+    assert_same(&rt, "the six again", &six.audit(), &accepted);
+    check_values(&rt, &six, &CARRIED);
+    Ok(())
+}
+
+#[test]
+fn a_utility_gives_no_more_than_its_most(rt: HostRuntime) -> Result<(), Fail> {
+    let case = completed_case(rt.alloc(), &TOO_LITTLE_COOLING)?;
+    let mut auditor = auditor_of(rt.alloc(), &case, TOO_MUCH_COOLING)?;
+    let wanted = Verdict::Rejected {
+        place: Place::Utility(0),
+        reason: Reason::UtilityRange {
+            found: Frac::whole(4000),
+            wanted: Frac::whole(1000),
+        },
+    };
+    assert_same(&rt, "too much cooling", &auditor.audit(), &wanted);
+    Ok(())
+}
