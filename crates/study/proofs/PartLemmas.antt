@@ -10,7 +10,7 @@ use Rattle.grid.specs.Grid.{places_of, IsGrid}
 use Rattle.grid.specs.Making.{made_parts}
 use Rattle.grid.specs.Part.{AreParts, AreCaseParts}
 use Rattle.grid.proofs.MakingLemmas.{HoldsPlaces-IsGrid, AreParts-made}
-use Rattle.corner_flow.specs.Corner.{HoldsOfParts}
+use Rattle.heat_flow.specs.Certificate.{HoldsOfParts}
 
 module _ (c : Case) where
   same_side : (places others : List ℤ) (side : Side) (parts more : List Part) → IsGrid c places → IsGrid c others → AreParts c.streams c.utilities places side parts → AreParts c.streams c.utilities others side more → parts ≡ more

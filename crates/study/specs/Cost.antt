@@ -1,15 +1,9 @@
 -- The least cost of a case, if it has a heat flow.
 use Rattle.std.specs.Prelude.{ℤ, Option, None, Some, MatchOption}
 use Rattle.stream_case.specs.declared.case.Case.{Case}
-use Rattle.heat_flow.specs.Cuts.{HasNoFlow}
-use Rattle.heat_flow.specs.Reach.{reach_between}
-use Rattle.corner_flow.specs.Corner.{HoldsOfParts, IsLeastCostOf}
+use Rattle.heat_flow.specs.Certificate.{HasNoFlowOf, IsLeastCostOf}
 use Rattle.transport.specs.declared.answer.Answer.{Answer}
 use Rattle.transport.specs.declared.answer.Answer.TheVariants.{Least, Stuck}
-
--- the parts of the case have no heat flow
-abbrev pub HasNoFlowOf : Case → Type 0
-HasNoFlowOf c = HoldsOfParts c (λ hot cold. HasNoFlow (reach_between c hot cold) hot cold)
 
 -- the least cost of its heat flows, or none where it has no heat flow
 abbrev pub IsCostOf : Case → Option ℤ → Type 0

@@ -2,7 +2,7 @@
 ghost use Rattle.std.specs.Prelude.{◌≡◌, IfOk};
 ghost use Rattle.stream_case.specs.Case.{IsComplete};
 ghost use Rattle.problem_table.specs.Deficit.{hot_target};
-ghost use Rattle.corner_flow.specs.Corner.{IsLeastCostOf};
+ghost use Rattle.heat_flow.specs.Certificate.{IsLeastCostOf};
 ghost use Rattle.study.specs.Supplied.{IsSupplied};
 
 use crate::cost::case_parts;

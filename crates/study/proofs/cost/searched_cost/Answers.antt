@@ -10,4 +10,4 @@ least_case-requires-clause-parts c = parts_on_grid c.args.case.now c.in_ok-parts
 pub returns : goal.returns
 returns c =
     let answer = c.in_ok-answer in
-    subst (IsCostOf c.args.case.now) (sym c.cost_found.ensures) (IsCostOf-found c.args.case.now c.in_ok-parts.parts answer.answer c.in_ok-parts.ensures answer.ensures.least answer.ensures.stuck_only)
+    subst (IsCostOf c.args.case.now) (sym c.cost_found.ensures) (IsCostOf-found c.args.case.now c.in_ok-parts.parts answer.answer c.in_ok-parts.ensures answer.ensures)

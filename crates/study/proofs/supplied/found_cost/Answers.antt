@@ -1,7 +1,7 @@
 use Rattle.std.proofs.Common.{sym, subst, FitsSigned, rules}
 use Rattle.std.specs.Int.{w128}
 use Rattle.std.proofs.lemmas.Int.{to_z-of_z}
-use Rattle.corner_flow.specs.Corner.{IsLeastCostOf}
+use Rattle.heat_flow.specs.Certificate.{IsLeastCostOf}
 use Rattle.heat_flow.specs.Flow.{IsLeastCost}
 use Rattle.heat_flow.specs.Cuts.{cut_side}
 use Rattle.heat_flow.specs.Reach.{reach_between}
