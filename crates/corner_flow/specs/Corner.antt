@@ -6,10 +6,11 @@ use Rattle.stream_case.specs.declared.source.Side.TheVariants.{Hot}
 use Rattle.stream_case.specs.declared.case.Case.{Case}
 use Rattle.sums.specs.declared.pairs.Pair.{Pair}
 use Rattle.sums.specs.Spans.{ListsOverlaps}
-use Rattle.problem_table.specs.Deficit.{hot_target, cold_target, IsPinch}
+use Rattle.problem_table.specs.Deficit.{hot_target, cold_target, IsPinch, IsReferencePlace}
 use Rattle.grid.specs.declared.part.Part.{Part}
 use Rattle.stream_case.specs.Source.{is_stream}
 use Rattle.heat_flow.specs.declared.flow.Transfer.{Transfer}
+use Rattle.heat_flow.specs.declared.prices.Prices.{Prices}
 use Rattle.heat_flow.specs.Certificate.{HoldsOfParts, IsFlowOf}
 use Rattle.heat_flow.specs.Cuts.{parts_of}
 use Rattle.heat_flow.specs.Flow.{heat_at}
@@ -38,6 +39,13 @@ IsCornerFlow c hot cold transfers =
 -- where the hot target is 0 every price is 0; else it is 1 for a part that is not below the reference place, and 0 for the others
 abbrev pub corner_price : ℤ → ℤ → Part → ℤ
 corner_price target place p = if int_eq target (pos 0) then pos 0 else if int_le place p.low then pos 1 else pos 0
+
+-- the prices that the corner flow comes with
+pub record AreCornerPrices (c : Case) (hot cold : List Part) (prices : Prices) : Type 0 where
+  pub place : ℤ
+  pub reference : IsReferencePlace c.streams place
+  pub hot_prices : prices.hot ≡ map (corner_price (hot_target c.streams) place) hot
+  pub cold_prices : prices.cold ≡ map (corner_price (hot_target c.streams) place) cold
 
 -- the utility of this side gives or takes just this heat
 abbrev pub UtilityHeat : Side → List Part → List Transfer → ℤ → Type 0

@@ -5,7 +5,7 @@ ghost use Rattle.heat_flow.specs.Checks.{HasCost};
 ghost use Rattle.heat_flow.specs.Reach.{reach_between};
 ghost use Rattle.heat_flow.specs.Table.{HasSizes, reaches};
 ghost use Rattle.chains.specs.declared.net.TheConstants.{MOST_INNER_NODES};
-ghost use Rattle.chains.specs.OnGrid.{AreOnGrid};
+ghost use Rattle.grid.specs.OnGrid.{AreOnGrid};
 ghost use Rattle.transport.specs.Answer.{IsAnswer};
 ghost use Rattle.transport.specs.Priced.{priced};
 ghost use Rattle.transport.specs.Around.{IsNodePotential};

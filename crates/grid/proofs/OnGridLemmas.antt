@@ -13,7 +13,7 @@ use Rattle.grid.specs.declared.part.Part.{Part}
 use Rattle.grid.specs.Grid.{IsGrid}
 use Rattle.grid.specs.Part.{AreCaseParts, IsPartOf, IsStreamPart, IsUtilityPart}
 use Rattle.grid.proofs.MakingLemmas.{HoldsPlaces-IsGrid, holds_levels}
-use Rattle.chains.specs.OnGrid.{AreOnGrid, IsOnPlaces}
+use Rattle.grid.specs.OnGrid.{AreOnGrid, IsOnPlaces}
 
 module _ (c : Case) (places : List ℤ) (grid : IsGrid c places) (side : Side) where
   stream_on_places : (i : ℕ) (s : Stream) (p : Part) → IsStreamPart c.streams places side i s p → IsOnPlaces c places side p

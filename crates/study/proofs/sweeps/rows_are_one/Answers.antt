@@ -1,6 +1,6 @@
 use Rattle.study.proofs.RowLemmas.{one_row}
 use Rattle.study.proofs.SweepLemmas.{one_sweep}
-use Rattle.study.proofs.workers.rows_are_one.Goals as goal
+use Rattle.study.proofs.sweeps.rows_are_one.Goals as goal
 
 pub returns-clause-row : goal.returns-clause-row
 returns-clause-row c = one_row

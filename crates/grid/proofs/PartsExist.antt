@@ -1,19 +1,20 @@
--- A case has parts.
+-- A case has parts, and no others.
 use Rattle.std.proofs.Common.{◌≡◌, ⊎_elim, ◌∙◌, refl, sym, ap, subst, Bool, true, false, cond, List, [], ◌∷◌, ◌++◌, arith}
 use Rattle.std.specs.Prelude.{ℤ, ◌<ℤ◌, int_lt, filter, All, Contains}
 use Rattle.std.proofs.lemmas.Int.{ints, by_lt_z}
 use Rattle.std.proofs.lemmas.List.Elements.{All-nil, All-cons, All-append, All-filter, All-weaker, filter_passes, Contains-append_left, Contains-append_right}
 use Rattle.std.proofs.lemmas.List.Kept.{AllPairs-filter}
+use Rattle.stream_case.specs.declared.source.Side.{Side}
 use Rattle.stream_case.specs.declared.source.Side.TheVariants.{Hot, Cold}
 use Rattle.stream_case.specs.declared.case.Case.{Case}
 use Rattle.sums.specs.Order.{ListsFalling}
 use Rattle.std.proofs.lemmas.List.Kept.{AllPairs-cons}
-use Rattle.sums.proofs.OrderLemmas.{AllPairs-nil, AllPairs-append, Contains-cons}
+use Rattle.sums.proofs.OrderLemmas.{AllPairs-nil, AllPairs-append, Contains-cons, ListsFalling-unique}
 use Rattle.grid.specs.declared.part.Part.{Part}
-use Rattle.grid.specs.Grid.{places_of}
+use Rattle.grid.specs.Grid.{places_of, IsGrid}
 use Rattle.grid.specs.Making.{made_parts}
-use Rattle.grid.specs.Part.{AreCaseParts}
-use Rattle.grid.proofs.MakingLemmas.{HoldsPlaces-IsGrid, made_parts-AreParts}
+use Rattle.grid.specs.Part.{AreParts, AreCaseParts}
+use Rattle.grid.proofs.MakingLemmas.{HoldsPlaces-IsGrid, made_parts-AreParts, AreParts-made}
 
 one_more : {X : Type 0} (b : Bool) (y : X) (ys : List X) (x : X) → Contains ys x → Contains (cond b (y ∷ ys) ys) x
 one_more true y ys x found = Contains-append_right (y ∷ []) ys x found
@@ -72,3 +73,10 @@ some_parts c =
         cold_parts = made_parts-AreParts c.streams c.utilities Cold grid holds;
       },
     )
+
+-- the parts of a side are fixed, since the grid is
+pub one_side : (c : Case) (places others : List ℤ) (side : Side) (parts more : List Part) → IsGrid c places → IsGrid c others → AreParts c.streams c.utilities places side parts → AreParts c.streams c.utilities others side more → parts ≡ more
+one_side c places others side parts more grid other are are_more =
+    AreParts-made c.streams c.utilities side places parts (HoldsPlaces-IsGrid c places grid) are
+    ∙ ap (made_parts c.streams c.utilities side) (ListsFalling-unique (Contains (places_of c.streams c.utilities)) places others grid other)
+    ∙ sym (AreParts-made c.streams c.utilities side others more (HoldsPlaces-IsGrid c others other) are_more)
