@@ -1,21 +1,18 @@
 -- The ends and the grid of a standard case.
-use Rattle.std.proofs.Common.{◌≡◌, ◌≢◌, ⊎_elim, ◌∙◌, refl, sym, ap, subst, ℕ, zero, suc, ◌<◌, List, [], ◌∷◌, length, get_or, map, Some, arith}
-use Rattle.std.specs.Prelude.{ℤ, pos, ◌-ℤ◌, ◌≤ℤ◌, if◌then◌else◌, Contains, slice_get}
+use Rattle.std.proofs.Common.{◌≡◌, ⊎_elim, ◌∙◌, sym, ap, subst, ◌<◌, List, length, get_or, map, arith}
+use Rattle.std.specs.Prelude.{ℤ, ◌-ℤ◌, ◌≤ℤ◌, Contains}
 use Rattle.std.proofs.lemmas.Int.{ints}
 use Rattle.std.proofs.lemmas.List.{get_or-map, length-map}
 use Rattle.std.proofs.lemmas.List.Elements.{All-weaker, All-contains, Contains-append_left, Contains-append_cases}
-use Rattle.std.proofs.lemmas.Option.{none-some, same_Some, slice_get-get_or}
+use Rattle.std.proofs.lemmas.Option.{slice_get-get_or}
 use Rattle.stream_case.specs.declared.source.Side.{Side}
 use Rattle.stream_case.specs.declared.source.Side.TheVariants.{Hot, Cold}
-use Rattle.stream_case.specs.declared.utility.Utility.{Utility}
 use Rattle.stream_case.specs.declared.case.Case.{Case}
 use Rattle.stream_case.specs.Case.{outermost, standard_utility, IsStandard}
-use Rattle.stream_case.specs.Source.{same_side}
 use Rattle.stream_case.specs.Stream.{high_end, low_end, stream_ends, HasValidStreams}
 use Rattle.stream_case.specs.Utility.{shifted_level}
 use Rattle.stream_case.proofs.CompleteLemmas.{shifted_level-standard}
 use Rattle.stream_case.proofs.EndLemmas.{length-stream_ends, each_end}
-use Rattle.sums.specs.Sum.{int_sum_by}
 use Rattle.problem_table.specs.Deficit.{deficit_above, hot_target, cold_target}
 use Rattle.problem_table.proofs.DeficitLemmas.{deficit_above-lowest}
 use Rattle.problem_table.proofs.EndLemmas.{IsOutside, IsOutermost, IsOutermost-outermost}

@@ -13,7 +13,6 @@ use Rattle.stream_case.specs.Limits.{IsBetween, IsPartPrice}
 use Rattle.sums.proofs.SumLemmas.{int_sum_from-same_each}
 use Rattle.grid.specs.declared.part.Part.{Part}
 use Rattle.heat_flow.specs.declared.flow.Flow.{Flow}
-use Rattle.heat_flow.specs.declared.prices.Prices.{Prices}
 use Rattle.heat_flow.specs.Flow.{heat_at, KeepsRanges, IsHeatFlow, IsLeastCost, cost_of}
 use Rattle.heat_flow.specs.Prices.{price_at, IsSupporting, excess_price}
 use Rattle.heat_flow.specs.Checks.{HasCost}
