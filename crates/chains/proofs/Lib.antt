@@ -6,7 +6,6 @@ mod LinkLemmas
 mod ListSums
 mod NetLemmas
 mod OnceLemmas
-pub mod OnGridLemmas
 mod PassLemmas
 pub mod PathLemmas
 pub mod RankLemmas

@@ -24,7 +24,7 @@ use Rattle.chains.specs.ChainNet.{open_link, IsEntering, IsOnward, IsLeaving, Is
 use Rattle.chains.specs.Groups.{AreGroups, StartsChain}
 use Rattle.chains.specs.Inner.{IsInner, IsInnerLink}
 use Rattle.chains.specs.Making.{Appends}
-use Rattle.chains.specs.OnGrid.{AreOnGrid, IsOnPlaces}
+use Rattle.grid.specs.OnGrid.{AreOnGrid, IsOnPlaces}
 use Rattle.chains.specs.Path.{PathsAreReaches}
 use Rattle.chains.specs.Ranks.{rank_count}
 use Rattle.chains.specs.Sizes.{IsSmall}

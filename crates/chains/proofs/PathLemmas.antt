@@ -17,7 +17,7 @@ use Rattle.flow_net.specs.declared.net.Net.{Net}
 use Rattle.chains.specs.declared.net.Group.{Group}
 use Rattle.chains.specs.ChainNet.{IsChainLink, IsEntering, HoldsChains, StandInLine, open_link}
 use Rattle.chains.specs.Groups.{AreGroups, StartsChain}
-use Rattle.chains.specs.OnGrid.{IsOnPlaces}
+use Rattle.grid.specs.OnGrid.{IsOnPlaces}
 use Rattle.chains.specs.Path.{IsPath, LeadsTo, PathsAreReaches}
 use Rattle.chains.specs.Ranks.{rank_of, rank_count}
 use Rattle.chains.proofs.LeadsToLemmas.{IsPath-keeps, LeadsTo-append, LeadsTo-link, LeadsTo-none}

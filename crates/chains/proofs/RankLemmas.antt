@@ -20,7 +20,7 @@ use Rattle.grid.specs.Grid.{IsGrid}
 use Rattle.grid.specs.Part.{IsInterval}
 use Rattle.grid.proofs.PlaceLemmas.{interval_falls}
 use Rattle.heat_flow.specs.Reach.{passes_heat}
-use Rattle.chains.specs.OnGrid.{IsOnPlaces}
+use Rattle.grid.specs.OnGrid.{IsOnPlaces}
 use Rattle.chains.specs.Ranks.{place_index, rank_of, rank_count}
 
 -- ---- places

@@ -3,7 +3,6 @@ pub mod Gathered
 pub mod Groups
 pub mod Inner
 pub mod Making
-pub mod OnGrid
 pub mod Path
 pub mod Ranks
 pub mod Sizes

@@ -4,7 +4,7 @@ ghost use Rattle.stream_case.specs.Case.{IsComplete};
 ghost use Rattle.heat_flow.specs.Reach.{reach_between};
 ghost use Rattle.chains.specs.Groups.{AreGroups, StartsChain};
 ghost use Rattle.chains.specs.Inner.{IsInner};
-ghost use Rattle.chains.specs.OnGrid.{AreOnGrid};
+ghost use Rattle.grid.specs.OnGrid.{AreOnGrid};
 ghost use Rattle.chains.specs.Path.{PathsAreReaches};
 ghost use Rattle.chains.specs.Sizes.{IsSmall};
 

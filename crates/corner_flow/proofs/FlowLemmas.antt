@@ -27,7 +27,8 @@ use Rattle.heat_flow.specs.Cuts.{parts_of}
 use Rattle.heat_flow.specs.Flow.{heat_at, KeepsRanges, cost_of, IsLeastCost}
 use Rattle.heat_flow.specs.Reach.{both_reach, reach_between}
 use Rattle.heat_flow.proofs.Blanks.{blank}
-use Rattle.corner_flow.specs.Corner.{part_heat, heats_of, as_pair, as_transfer, IsCornerFlow, IsFlowOf, UtilityHeat}
+use Rattle.corner_flow.specs.Corner.{part_heat, heats_of, as_pair, as_transfer, IsCornerFlow, UtilityHeat}
+use Rattle.heat_flow.specs.Certificate.{IsFlowOf}
 use Rattle.corner_flow.proofs.StandardLemmas.{end_of}
 use Rattle.corner_flow.proofs.SideLemmas.{IsStandardPart, AreStandardParts}
 use Rattle.corner_flow.proofs.HeatLemmas.{target_of, above, is_reached, one_times, from_stream, from_utility, sum_above, cost-hot_utility, cost-at_least}

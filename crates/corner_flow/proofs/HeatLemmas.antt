@@ -31,7 +31,8 @@ use Rattle.heat_flow.specs.Prices.{price_at, IsSupporting}
 use Rattle.heat_flow.specs.Reach.{passes_heat, part_reaches, both_reach, reach_between}
 use Rattle.heat_flow.proofs.CostLemmas.{heats_at-not_negative}
 use Rattle.heat_flow.proofs.Duality.{side_worth, side_worth-parts, worth-le}
-use Rattle.corner_flow.specs.Corner.{IsFlowOf, UtilityHeat, NeedsHeat}
+use Rattle.corner_flow.specs.Corner.{UtilityHeat, NeedsHeat}
+use Rattle.heat_flow.specs.Certificate.{IsFlowOf}
 use Rattle.corner_flow.proofs.StandardLemmas.{end_of}
 use Rattle.corner_flow.proofs.SideLemmas.{unit_price, IsStandardPart, AreStandardParts}
 

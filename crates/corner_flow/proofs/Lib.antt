@@ -5,5 +5,4 @@ pub mod PriceLemmas
 pub mod ReachLemmas
 pub mod FlowLemmas
 pub mod PinchLaw
-pub mod PartsExist
 pub mod FewTransfers

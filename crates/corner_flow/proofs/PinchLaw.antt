@@ -12,7 +12,8 @@ use Rattle.grid.specs.declared.part.Part.{Part}
 use Rattle.grid.proofs.PlaceLemmas.{interval_falls}
 use Rattle.heat_flow.specs.declared.flow.Transfer.{Transfer}
 use Rattle.heat_flow.specs.Prices.{price_at}
-use Rattle.corner_flow.specs.Corner.{IsFlowOf, UtilityHeat, NoHeatCrosses, NoHeatCrossesPinch}
+use Rattle.corner_flow.specs.Corner.{UtilityHeat, NoHeatCrosses, NoHeatCrossesPinch}
+use Rattle.heat_flow.specs.Certificate.{IsFlowOf}
 use Rattle.corner_flow.proofs.StandardLemmas.{end_of}
 use Rattle.corner_flow.proofs.SideLemmas.{IsStandardPart, AreStandardParts}
 use Rattle.corner_flow.proofs.HeatLemmas.{above, reached, is_reached, is_missed, zero_times, one_times, price_at-map, taken-le, worth_above, heat, utility_heat}

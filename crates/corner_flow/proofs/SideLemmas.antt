@@ -26,7 +26,8 @@ use Rattle.grid.proofs.MakingLemmas.{HoldsPlaces-IsGrid, AreParts-made}
 use Rattle.grid.proofs.PlaceLemmas.{interval_falls, interval_ends}
 use Rattle.grid.proofs.SizeLemmas.{IsBounded-part}
 use Rattle.heat_flow.specs.Cuts.{parts_of}
-use Rattle.corner_flow.proofs.StandardLemmas.{own_utility, some_utility, one_utility, sum_utilities, end_of, grid_is_ends, grid_within, stream_end_on_grid, end_on_grid, cold_target-lowest_end}
+use Rattle.grid.proofs.StandardUtilities.{own_utility, some_utility, one_utility, sum_utilities}
+use Rattle.corner_flow.proofs.StandardLemmas.{end_of, grid_is_ends, grid_within, stream_end_on_grid, end_on_grid, cold_target-lowest_end}
 
 -- ---- one part
 

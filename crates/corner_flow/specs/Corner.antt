@@ -6,14 +6,14 @@ use Rattle.stream_case.specs.declared.source.Side.TheVariants.{Hot}
 use Rattle.stream_case.specs.declared.case.Case.{Case}
 use Rattle.sums.specs.declared.pairs.Pair.{Pair}
 use Rattle.sums.specs.Spans.{ListsOverlaps}
-use Rattle.problem_table.specs.Deficit.{hot_target, cold_target, IsPinch}
+use Rattle.problem_table.specs.Deficit.{hot_target, cold_target, IsPinch, IsReferencePlace}
 use Rattle.grid.specs.declared.part.Part.{Part}
 use Rattle.stream_case.specs.Source.{is_stream}
-use Rattle.grid.specs.Part.{AreCaseParts}
 use Rattle.heat_flow.specs.declared.flow.Transfer.{Transfer}
+use Rattle.heat_flow.specs.declared.prices.Prices.{Prices}
+use Rattle.heat_flow.specs.Certificate.{HoldsOfParts, IsFlowOf}
 use Rattle.heat_flow.specs.Cuts.{parts_of}
-use Rattle.heat_flow.specs.Flow.{heat_at, IsHeatFlow, IsLeastCost}
-use Rattle.heat_flow.specs.Reach.{reach_between}
+use Rattle.heat_flow.specs.Flow.{heat_at}
 
 -- the heat of a part: a stream's own, and the target for the utility of the side
 abbrev pub part_heat : ℤ → Part → ℤ
@@ -40,9 +40,12 @@ IsCornerFlow c hot cold transfers =
 abbrev pub corner_price : ℤ → ℤ → Part → ℤ
 corner_price target place p = if int_eq target (pos 0) then pos 0 else if int_le place p.low then pos 1 else pos 0
 
--- a heat flow of these parts of the case
-abbrev pub IsFlowOf : Case → List Part → List Part → List Transfer → Type 0
-IsFlowOf c hot cold transfers = IsHeatFlow (reach_between c hot cold) hot cold transfers
+-- the prices that the corner flow comes with
+pub record AreCornerPrices (c : Case) (hot cold : List Part) (prices : Prices) : Type 0 where
+  pub place : ℤ
+  pub reference : IsReferencePlace c.streams place
+  pub hot_prices : prices.hot ≡ map (corner_price (hot_target c.streams) place) hot
+  pub cold_prices : prices.cold ≡ map (corner_price (hot_target c.streams) place) cold
 
 -- the utility of this side gives or takes just this heat
 abbrev pub UtilityHeat : Side → List Part → List Transfer → ℤ → Type 0
@@ -56,18 +59,9 @@ UtilityHeatAtLeast side parts transfers heat = (a : ℕ) (p : Part) → slice_ge
 abbrev pub NeedsHeat : Case → List Part → List Part → Side → ℤ → Type 0
 NeedsHeat c hot cold side heat = (transfers : List Transfer) → IsFlowOf c hot cold transfers → UtilityHeatAtLeast side (parts_of side hot cold) transfers heat
 
--- the case has parts, and this holds of them
-pub record HoldsOfParts (c : Case) (P : List Part → List Part → Type 0) : Type 0 where
-  pub some : (hot : List Part) × (cold : List Part) × AreCaseParts c hot cold
-  pub each : (hot cold : List Part) → AreCaseParts c hot cold → P hot cold
-
 -- the same of the parts of the case
 abbrev pub NeedsHeatOf : Case → Side → ℤ → Type 0
 NeedsHeatOf c side heat = HoldsOfParts c (λ hot cold. NeedsHeat c hot cold side heat)
-
--- this is the least cost of the heat flows of the case
-abbrev pub IsLeastCostOf : Case → ℤ → Type 0
-IsLeastCostOf c cost = HoldsOfParts c (λ hot cold. IsLeastCost (reach_between c hot cold) hot cold cost)
 
 -- a transfer takes heat across a place where it joins a hot part above the place to a cold part below it
 pub record CrossesHeat (hot cold : List Part) (place : ℤ) (t : Transfer) : Type 0 where

@@ -6,7 +6,8 @@ ghost use Rattle.sums.specs.Spans.{NotNegative, ListsOverlaps};
 ghost use Rattle.problem_table.specs.Deficit.{hot_target, cold_target};
 ghost use Rattle.grid.specs.Part.{AreCaseParts};
 ghost use Rattle.heat_flow.specs.Flow.{cost_of};
-ghost use Rattle.corner_flow.specs.Corner.{part_heat, heats_of, as_transfer, IsCornerFlow, IsFlowOf, UtilityHeat, NeedsHeat, NoHeatCrossesPinch};
+ghost use Rattle.corner_flow.specs.Corner.{part_heat, heats_of, as_transfer, IsCornerFlow, UtilityHeat, NeedsHeat, NoHeatCrossesPinch};
+ghost use Rattle.heat_flow.specs.Certificate.{IsFlowOf};
 
 use grid::{Part, Parts};
 use heat_flow::{Flow, Transfer};

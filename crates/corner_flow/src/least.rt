@@ -3,7 +3,8 @@ ghost use Rattle.std.specs.Prelude.{◌≡◌};
 ghost use Rattle.stream_case.specs.Case.{IsComplete, IsStandard};
 ghost use Rattle.stream_case.specs.declared.source.Side.TheVariants.{Hot, Cold};
 ghost use Rattle.problem_table.specs.Deficit.{hot_target, cold_target};
-ghost use Rattle.corner_flow.specs.Corner.{IsLeastCostOf, NeedsHeatOf};
+ghost use Rattle.corner_flow.specs.Corner.{NeedsHeatOf};
+ghost use Rattle.heat_flow.specs.Certificate.{IsLeastCostOf};
 
 use problem_table::Target;
 use stream_case::Case;

@@ -1,4 +1,5 @@
 pub mod Bounds
 pub mod Grid
 pub mod Making
+pub mod OnGrid
 pub mod Part

@@ -11,7 +11,7 @@ mod part;
 mod parts;
 mod places;
 
-pub use making::{parts_of, parts_on};
+pub use making::{case_parts, parts_of, parts_on};
 pub use part::Part;
 pub use parts::Parts;
 pub use places::{Grid, grid_of, places_of};

@@ -6,12 +6,12 @@ ghost use Rattle.stream_case.specs.Case.{IsComplete};
 ghost use Rattle.stream_case.specs.Stream.{high_end, low_end, AreStreams, IsValidStream};
 ghost use Rattle.stream_case.specs.Utility.{IsPlaced};
 ghost use Rattle.grid.specs.Grid.{HoldsPlaces, IsGrid};
-ghost use Rattle.grid.specs.Part.{stream_part, utility_part, AreParts};
+ghost use Rattle.grid.specs.Part.{stream_part, utility_part, AreParts, AreCaseParts};
 ghost use Rattle.grid.specs.Making.{picked, is_here, covers, made_parts};
 
 use crate::part::Part;
 use crate::parts::Parts;
-use crate::places::Grid;
+use crate::places::{Grid, grid_of};
 use std::alloc::{AllocError, Global};
 use stream_case::{Case, Items, Side, Source, Stream, Utility};
 
@@ -169,4 +169,13 @@ pub fn parts_of(alloc: Global, case: &Case, grid: &Grid) -> Result<Parts, AllocE
     let streams = case.streams.as_slice();
     let utilities = case.utilities.as_slice();
     parts_on(alloc, streams, utilities, grid.places.as_slice())
+}
+
+/// The parts of a completed case on its grid.
+pub fn case_parts(alloc: Global, case: &Case) -> Result<Parts, AllocError>
+    requires { IsComplete case.now }
+    ensures { IfOk result (λ parts. AreCaseParts case.now parts.hot parts.cold) }
+{
+    let grid = grid_of(alloc, case)?;
+    parts_of(alloc, case, &grid)
 }

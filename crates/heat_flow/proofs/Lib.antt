@@ -4,5 +4,6 @@ pub mod CostLemmas
 pub mod CutLemmas
 pub mod Duality
 pub mod LoopSums
+pub mod PartLemmas
 pub mod RangeLemmas
 pub mod ReachLemmas

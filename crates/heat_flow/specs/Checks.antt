@@ -3,8 +3,10 @@ use Rattle.std.specs.Prelude.{◌≡◌, ℕ, IsTrue, ℤ, pos, ◌<ℤ◌, ◌�
 use Rattle.stream_case.specs.declared.source.Side.TheVariants.{Hot, Cold}
 use Rattle.stream_case.specs.Limits.{IsBetween}
 use Rattle.grid.specs.declared.part.Part.{Part}
+use Rattle.heat_flow.specs.declared.cut.Cut.{Cut}
 use Rattle.heat_flow.specs.declared.flow.Transfer.{Transfer}
 use Rattle.heat_flow.specs.declared.reach.Reach.{Reach}
+use Rattle.heat_flow.specs.Certificate.{IsCutOf}
 use Rattle.heat_flow.specs.Flow.{heat_at, HaveParts, ArePositive, IsHeatFlow}
 use Rattle.heat_flow.specs.Prices.{IsSupporting}
 use Rattle.heat_flow.specs.Table.{HasSizes, reaches}
@@ -18,6 +20,11 @@ pub record IsTransfer (r : Reach) (t : Transfer) : Type 0 where
 pub record IsFlowOver (hot cold : List Part) (r : Reach) (transfers : List Transfer) : Type 0 where
   pub sizes : HasSizes r (length hot) (length cold)
   pub flow : IsHeatFlow (reaches r) hot cold transfers
+
+-- a cut of these parts and this table of them, with its need and its offer
+pub record IsCutOver (hot cold : List Part) (r : Reach) (cut : Cut) : Type 0 where
+  pub sizes : HasSizes r (length hot) (length cold)
+  pub is_cut : IsCutOf (reaches r) hot cold cut
 
 -- prices for this table that support its heat flows
 pub record IsSupported (r : Reach) (y z : List ℤ) : Type 0 where

@@ -7,12 +7,9 @@ use Rattle.stream_case.specs.declared.source.Side.TheVariants.{Hot, Cold}
 use Rattle.sums.specs.Sum.{int_sum_by, int_sum_from}
 use Rattle.grid.specs.declared.part.Part.{Part}
 use Rattle.heat_flow.specs.declared.flow.Transfer.{Transfer}
-use Rattle.heat_flow.specs.declared.reach.Reach.{Reach}
-use Rattle.heat_flow.specs.declared.cut.Cut.{Cut}
 use Rattle.heat_flow.specs.declared.cut.CutKind.{CutKind}
 use Rattle.heat_flow.specs.declared.cut.CutKind.TheVariants.{Demand, Supply}
 use Rattle.heat_flow.specs.Flow.{IsHeatFlow}
-use Rattle.heat_flow.specs.Table.{HasSizes, reaches}
 
 abbrev pub opposite : Side → Side
 opposite Hot = Cold
@@ -54,13 +51,6 @@ pub record IsCut (side : Side) (reach : ℕ → ℕ → Bool) (hot cold : List P
   pub ordered : AllPairs (λ i j. i < j) members
   pub needing : All (λ i. pos 0 <ℤ least_at (parts_of side hot cold) i) members
   pub short : offer_of side reach (parts_of (opposite side) hot cold) members <ℤ need_of (parts_of side hot cold) members
-
--- a cut of these parts and this table of them, with its need and its offer
-pub record IsCutOver (hot cold : List Part) (r : Reach) (cut : Cut) : Type 0 where
-  pub sizes : HasSizes r (length hot) (length cold)
-  pub parts : IsCut (cut_side cut.kind) (reaches r) hot cold cut.parts
-  pub need : cut.need ≡ need_of (parts_of (cut_side cut.kind) hot cold) cut.parts
-  pub offer : cut.offer ≡ offer_of (cut_side cut.kind) (reaches r) (parts_of (opposite (cut_side cut.kind)) hot cold) cut.parts
 
 -- these parts have no heat flow
 abbrev pub HasNoFlow : (ℕ → ℕ → Bool) → List Part → List Part → Type 0

@@ -1,4 +1,5 @@
 pub mod Cells
+pub mod Certificate
 pub mod Checks
 pub mod Cuts
 pub mod Flow

@@ -3,7 +3,8 @@ ghost use Rattle.std.specs.Prelude.{◌≡◌, ◌↔◌, ◌<◌, ◌≤◌, po
 ghost use Rattle.stream_case.specs.declared.limits.TheConstants.{MOST_PARTS};
 ghost use Rattle.stream_case.specs.Limits.{IsHeat};
 ghost use Rattle.grid.specs.Bounds.{IsBounded};
-ghost use Rattle.heat_flow.specs.Cuts.{opposite, parts_of, joins, meets, least_at, need_of, offer_of, IsCutOver, HasNoFlow};
+ghost use Rattle.heat_flow.specs.Cuts.{opposite, parts_of, joins, meets, least_at, need_of, offer_of, HasNoFlow};
+ghost use Rattle.heat_flow.specs.Checks.{IsCutOver};
 ghost use Rattle.heat_flow.specs.Table.{reaches};
 
 use crate::cut::Cut;

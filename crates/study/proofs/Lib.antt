@@ -2,8 +2,6 @@ pub mod DrawLemmas
 pub mod NumberLemmas
 pub mod NameLemmas
 pub mod SampleLemmas
-pub mod PartLemmas
-pub mod CostLemmas
 pub mod ContributionLemmas
 pub mod RowLemmas
 pub mod PlanLemmas

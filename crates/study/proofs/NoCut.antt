@@ -32,7 +32,8 @@ use Rattle.heat_flow.specs.Cuts.{joins, least_at, meets, offer_of, opposite, par
 use Rattle.heat_flow.specs.Reach.{both_reach, part_reaches, passes_heat, reach_between}
 use Rattle.corner_flow.proofs.HeatLemmas.{above, from_stream, from_utility, is_reached, one_times}
 use Rattle.corner_flow.proofs.SideLemmas.{AreStandardParts, AreStandardParts-parts, IsStandardPart, IsUtilityHere}
-use Rattle.corner_flow.proofs.StandardLemmas.{end_of, some_utility}
+use Rattle.grid.proofs.StandardUtilities.{some_utility}
+use Rattle.corner_flow.proofs.StandardLemmas.{end_of}
 use Rattle.study.specs.Supplied.{IsSupplied}
 use Rattle.study.proofs.Leasts.{need-at_most, part_at}
 

@@ -3,9 +3,9 @@ use Rattle.std.proofs.Common.{◌≡◌, ◌∙◌, refl, sym, ap, Option, None,
 use Rattle.std.specs.Prelude.{ℤ}
 use Rattle.std.proofs.lemmas.Int.{ints}
 use Rattle.stream_case.specs.declared.case.Case.{Case}
-use Rattle.corner_flow.specs.Corner.{IsLeastCostOf}
+use Rattle.heat_flow.specs.Certificate.{IsLeastCostOf, HasNoFlowOf}
 use Rattle.study.specs.declared.row.SweepRow.{SweepRow}
-use Rattle.study.specs.Cost.{HasNoFlowOf, IsCostOf}
+use Rattle.study.specs.Cost.{IsCostOf}
 use Rattle.study.specs.Row.{OneRow, case_with}
 
 pub one_cost : (c : Case) (cost other : ℤ) → IsLeastCostOf c cost → IsLeastCostOf c other → cost ≡ other

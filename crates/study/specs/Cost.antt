@@ -1,21 +1,14 @@
 -- The least cost of a case, if it has a heat flow.
-use Rattle.std.specs.Prelude.{ℤ, Option, None, Some, MatchOption}
+use Rattle.std.specs.Prelude.{ℤ, Option, MatchOption}
 use Rattle.stream_case.specs.declared.case.Case.{Case}
-use Rattle.heat_flow.specs.Cuts.{HasNoFlow}
+use Rattle.heat_flow.specs.declared.cut.Cut.{Cut}
+use Rattle.heat_flow.specs.Certificate.{HasNoFlowOf, HoldsOfParts, IsCutOf, IsLeastCostOf}
 use Rattle.heat_flow.specs.Reach.{reach_between}
-use Rattle.corner_flow.specs.Corner.{HoldsOfParts, IsLeastCostOf}
-use Rattle.transport.specs.declared.answer.Answer.{Answer}
-use Rattle.transport.specs.declared.answer.Answer.TheVariants.{Least, Stuck}
-
--- the parts of the case have no heat flow
-abbrev pub HasNoFlowOf : Case → Type 0
-HasNoFlowOf c = HoldsOfParts c (λ hot cold. HasNoFlow (reach_between c hot cold) hot cold)
 
 -- the least cost of its heat flows, or none where it has no heat flow
 abbrev pub IsCostOf : Case → Option ℤ → Type 0
 IsCostOf c cost = MatchOption cost (HasNoFlowOf c) (IsLeastCostOf c)
 
--- the cost of the heat flow that is found, or none where a cut is found
-abbrev pub cost_found : Answer → Option ℤ
-cost_found (Least flow prices cost) = Some cost
-cost_found (Stuck cut) = None
+-- a cut of the parts of the case
+abbrev pub IsCaseCut : Case → Cut → Type 0
+IsCaseCut c cut = HoldsOfParts c (λ hot cold. IsCutOf (reach_between c hot cold) hot cold cut)

@@ -1,3 +1,4 @@
+pub mod Answer
 pub mod Cost
 pub mod Draws
 pub mod Plan

@@ -3,7 +3,7 @@ use Rattle.std.specs.Prelude.{◌≡◌, ℕ}
 use Rattle.stream_case.specs.declared.case.Case.{Case}
 use Rattle.stream_case.specs.Case.{completed}
 use Rattle.problem_table.specs.Deficit.{hot_target, cold_target}
-use Rattle.corner_flow.specs.Corner.{IsLeastCostOf}
+use Rattle.heat_flow.specs.Certificate.{IsLeastCostOf}
 use Rattle.study.specs.declared.sample_targets.SampleRow.{SampleRow}
 use Rattle.study.specs.Sample.{sample}
 

@@ -2,9 +2,9 @@
 //! samples, which are cases out of the draws of a generator, with their targets and least cost.
 #![tactic(auto)]
 
+mod answer;
 mod contribution;
 mod cost;
-mod gate;
 mod generator;
 mod limits;
 mod plan;
@@ -12,10 +12,10 @@ mod row;
 mod sample;
 mod sample_targets;
 mod supplied;
-mod workers;
+mod sweeps;
 
+pub use answer::case_answer;
 pub use cost::least_cost;
-pub use gate::{Gate, OpenGate};
 pub use limits::{
     FLOW_RATES, FORBID_CHANCE, LEAST_HOT_TEMPERATURE, LONGEST_STEP, MODULUS, MOST_ROWS,
     MOST_SAMPLE_NUMBER, MOST_SAMPLE_STREAMS, MOST_WORKERS, MULTIPLIER, SAMPLE_CONTRIBUTION,
@@ -26,4 +26,5 @@ pub use row::SweepRow;
 pub use sample::sample_case;
 pub use sample_targets::{SampleRow, sample_row, sample_rows_are_one};
 pub use supplied::supplied_cost;
-pub use workers::{rows_are_one, sweep};
+pub use sweeps::{rows_are_one, sweep};
+pub use workers::{Gate, OpenGate};

@@ -13,7 +13,6 @@ use Rattle.stream_case.specs.Limits.{IsBetween, IsPartPrice}
 use Rattle.sums.proofs.SumLemmas.{int_sum_from-same_each}
 use Rattle.grid.specs.declared.part.Part.{Part}
 use Rattle.heat_flow.specs.declared.flow.Flow.{Flow}
-use Rattle.heat_flow.specs.declared.prices.Prices.{Prices}
 use Rattle.heat_flow.specs.Flow.{heat_at, KeepsRanges, IsHeatFlow, IsLeastCost, cost_of}
 use Rattle.heat_flow.specs.Prices.{price_at, IsSupporting, excess_price}
 use Rattle.heat_flow.specs.Checks.{HasCost}
@@ -24,7 +23,9 @@ use Rattle.flow_net.specs.Net.{link_at, potential_at, inflow, outflow}
 use Rattle.chains.specs.Path.{IsPath, PathsAreReaches}
 use Rattle.chains.specs.Spread.{IsSpread}
 use Rattle.transport.specs.declared.answer.Answer.{Answer}
-use Rattle.transport.specs.Answer.{IfLeast, ArePartPrices, IsCertified, priced}
+use Rattle.transport.specs.Answer.{IsAnswer}
+use Rattle.heat_flow.specs.Certificate.{ArePartPrices, IsCertified}
+use Rattle.transport.specs.Priced.{priced}
 use Rattle.transport.specs.Around.{RoutesMost, IsNodePotential, prices_of}
 use Rattle.transport.proofs.Balances.{spare, spare_within, hot_given, cold_taken}
 use Rattle.transport.proofs.InnerFlows.{not_full}
@@ -187,15 +188,8 @@ module _ {hot cold : List Part} {inner : Net} {reach : ℕ → ℕ → Bool} {fl
   pub has_cost : HasCost hot cold carried.transfers
   has_cost = HasCost-flow reach hot cold carried.transfers heat_flow
 
-  -- ---- the answer with the prices
-
-  module _ {E : Type 0} (result : Result Answer E) (answered : IfOk result (λ a. a ≡ priced hot cold inner.nodes potentials carried)) where
-    -- what holds of the answer with these prices and this cost
-    of_answer : (P : Flow → Prices → ℤ → Type 0) → P carried (record { hot = hot_prices; cold = cold_prices }) (cost_of hot cold carried.transfers) → IfOk result (λ a. IfLeast a P)
-    of_answer P holds = IfOk-weaker result (λ a. a ≡ priced hot cold inner.nodes potentials carried) (λ a. IfLeast a P) (λ a is. subst (λ b. IfLeast b P) (sym is) holds) answered
-
-    pub answer_certified : IfOk result (λ a. IfLeast a (λ found prices cost. IsCertified reach hot cold found.transfers prices.hot prices.cold cost))
-    answer_certified = of_answer (λ found prices cost. IsCertified reach hot cold found.transfers prices.hot prices.cold cost) certified
-
-    pub answer_least : IfOk result (λ a. IfLeast a (λ found prices cost. IsLeastCost reach hot cold cost))
-    answer_least = of_answer (λ found prices cost. IsLeastCost reach hot cold cost) least_cost
+  -- the answer with the prices
+  pub answer_is : {E : Type 0} (result : Result Answer E) → IfOk result (λ a. a ≡ priced hot cold inner.nodes potentials carried) → IfOk result (IsAnswer reach hot cold)
+  answer_is result answered =
+      IfOk-weaker result (λ a. a ≡ priced hot cold inner.nodes potentials carried) (IsAnswer reach hot cold)
+      (λ a is. subst (IsAnswer reach hot cold) (sym is) (record { certified = certified; least = least_cost; cut = tt; stuck_only = tt })) answered

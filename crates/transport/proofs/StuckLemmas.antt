@@ -10,10 +10,13 @@ use Rattle.heat_flow.specs.declared.cut.Cut.{Cut}
 use Rattle.heat_flow.specs.declared.cut.CutKind.{CutKind}
 use Rattle.heat_flow.specs.declared.cut.CutKind.TheVariants.{Demand, Supply}
 use Rattle.heat_flow.specs.Cuts.{opposite, parts_of, cut_side, need_of, offer_of, IsCut}
+use Rattle.heat_flow.proofs.CutLemmas.{cuts_refuse_flows}
 use Rattle.flow_net.specs.declared.net.Net.{Net}
 use Rattle.flow_net.specs.Net.{is_in}
 use Rattle.chains.specs.Path.{PathsAreReaches}
-use Rattle.transport.specs.Answer.{IsCutOf}
+use Rattle.heat_flow.specs.Certificate.{IsCutOf}
+use Rattle.transport.specs.Answer.{IsAnswer}
+use Rattle.transport.specs.declared.answer.Answer.TheVariants.{Stuck}
 use Rattle.transport.specs.Around.{BlocksMost, ends_behind, most_of}
 use Rattle.transport.specs.Members.{needing_from, members_of, IsSideHeat, IsCutWithin}
 use Rattle.transport.proofs.BlockedLemmas.{demand, supply}
@@ -57,6 +60,10 @@ IsCutOf-members reach hot cold kind members cut h kind_is parts_are need offer =
   need = need ∙ ap₂ (λ k ms. need_of (parts_of (cut_side k) hot cold) ms) (sym kind_is) (sym parts_are);
   offer = offer ∙ ap₂ (λ k ms. offer_of (cut_side k) reach (parts_of (opposite (cut_side k)) hot cold) ms) (sym kind_is) (sym parts_are);
 }
+
+-- a cut answers, since it proves that there is no heat flow
+pub IsAnswer-cut : (reach : ℕ → ℕ → Bool) (hot cold : List Part) (cut : Cut) → IsCutOf reach hot cold cut → IsAnswer reach hot cold (Stuck cut)
+IsAnswer-cut reach hot cold cut is = record { certified = tt; least = tt; cut = is; stuck_only = cuts_refuse_flows reach hot cold (cut_side cut.kind) cut.parts is.parts }
 
 -- a number of a cut, formed in 128 bits, fits its field of 64
 pub number_fits : (x y : ℤ) → x ≡ y → IsSideHeat y → FitsSigned w64 (to_z w128 (of_z w128 x))

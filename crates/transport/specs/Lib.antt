@@ -3,4 +3,5 @@ pub mod Around
 pub mod Members
 pub mod Offer
 pub mod Pairs
+pub mod Priced
 pub mod Transfers

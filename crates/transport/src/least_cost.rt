@@ -2,13 +2,12 @@
 ghost use Rattle.std.specs.Prelude.{◌≡◌, ◌+◌, ◌*◌, ◌≤◌, length, All, IfOk};
 ghost use Rattle.stream_case.specs.Case.{IsComplete};
 ghost use Rattle.heat_flow.specs.Checks.{HasCost};
-ghost use Rattle.heat_flow.specs.Cuts.{HasNoFlow};
-ghost use Rattle.heat_flow.specs.Flow.{IsLeastCost};
 ghost use Rattle.heat_flow.specs.Reach.{reach_between};
 ghost use Rattle.heat_flow.specs.Table.{HasSizes, reaches};
 ghost use Rattle.chains.specs.declared.net.TheConstants.{MOST_INNER_NODES};
-ghost use Rattle.chains.specs.OnGrid.{AreOnGrid};
-ghost use Rattle.transport.specs.Answer.{IfLeast, IfStuck, IsCertified, IsCutOf, priced};
+ghost use Rattle.grid.specs.OnGrid.{AreOnGrid};
+ghost use Rattle.transport.specs.Answer.{IsAnswer};
+ghost use Rattle.transport.specs.Priced.{priced};
 ghost use Rattle.transport.specs.Around.{IsNodePotential};
 
 use crate::answer::Answer;
@@ -57,10 +56,7 @@ fn priced(
 pub fn least(alloc: Global, parts: &Parts, reach: &Reach) -> Result<Answer, AllocError>
     requires sizes { HasSizes reach.now (length parts.now.hot) (length parts.now.cold) }
     requires few { reach.now.hots * reach.now.colds ≤ MOST_PAIRS }
-    ensures certified { IfOk result (λ a. IfLeast a (λ flow prices cost. IsCertified (reaches reach.now) parts.now.hot parts.now.cold flow.transfers prices.hot prices.cold cost)) }
-    ensures least { IfOk result (λ a. IfLeast a (λ flow prices cost. IsLeastCost (reaches reach.now) parts.now.hot parts.now.cold cost)) }
-    ensures cut { IfOk result (λ a. IfStuck a (λ cut. IsCutOf (reaches reach.now) parts.now.hot parts.now.cold cut)) }
-    ensures stuck_only { IfOk result (λ a. IfStuck a (λ cut. HasNoFlow (reaches reach.now) parts.now.hot parts.now.cold)) }
+    ensures { IfOk result (IsAnswer (reaches reach.now) parts.now.hot parts.now.cold) }
 {
     let net = pairs_of(alloc, reach)?;
     match route(alloc, parts, &net)? {
@@ -85,10 +81,7 @@ pub fn least(alloc: Global, parts: &Parts, reach: &Reach) -> Result<Answer, Allo
 pub fn least_case(alloc: Global, case: &Case, parts: &Parts) -> Result<Answer, AllocError>
     requires complete { IsComplete case.now }
     requires parts { AreOnGrid case.now parts.now.hot parts.now.cold }
-    ensures certified { IfOk result (λ a. IfLeast a (λ flow prices cost. IsCertified (reach_between case.now parts.now.hot parts.now.cold) parts.now.hot parts.now.cold flow.transfers prices.hot prices.cold cost)) }
-    ensures least { IfOk result (λ a. IfLeast a (λ flow prices cost. IsLeastCost (reach_between case.now parts.now.hot parts.now.cold) parts.now.hot parts.now.cold cost)) }
-    ensures cut { IfOk result (λ a. IfStuck a (λ cut. IsCutOf (reach_between case.now parts.now.hot parts.now.cold) parts.now.hot parts.now.cold cut)) }
-    ensures stuck_only { IfOk result (λ a. IfStuck a (λ cut. HasNoFlow (reach_between case.now parts.now.hot parts.now.cold) parts.now.hot parts.now.cold)) }
+    ensures { IfOk result (IsAnswer (reach_between case.now parts.now.hot parts.now.cold) parts.now.hot parts.now.cold) }
 {
     let chains = chains_of(alloc, case, parts)?;
     match route(alloc, parts, &chains.net)? {

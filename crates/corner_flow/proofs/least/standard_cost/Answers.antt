@@ -10,7 +10,7 @@ use Rattle.corner_flow.specs.Corner.{NeedsHeat}
 use Rattle.corner_flow.proofs.SideLemmas.{AreStandardParts, AreStandardParts-parts}
 use Rattle.corner_flow.proofs.HeatLemmas.{needs_heat}
 use Rattle.corner_flow.proofs.FlowLemmas.{least_cost}
-use Rattle.corner_flow.proofs.PartsExist.{some_parts}
+use Rattle.grid.proofs.PartsExist.{some_parts}
 use Rattle.corner_flow.proofs.least.standard_cost.Goals as goal
 
 standard : (c : goal.After-from) (hot cold : List Part) → AreCaseParts c.args.case.now hot cold → AreStandardParts c.args.case.now hot cold

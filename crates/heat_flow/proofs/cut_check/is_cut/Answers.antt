@@ -2,7 +2,8 @@ use Rattle.std.proofs.Common.{◌≡◌, ◌∙◌, refl, sym, FitsSigned, to_z,
 use Rattle.std.specs.Int.{w128}
 use Rattle.std.specs.Prelude.{IsTrue}
 use Rattle.std.proofs.lemmas.Int.{to_z-of_z}
-use Rattle.heat_flow.specs.Cuts.{opposite, cut_side, parts_of, need_of, offer_of, IsCutOver}
+use Rattle.heat_flow.specs.Cuts.{opposite, cut_side, parts_of, need_of, offer_of}
+use Rattle.heat_flow.specs.Checks.{IsCutOver}
 use Rattle.heat_flow.specs.Table.{reaches}
 use Rattle.heat_flow.proofs.CutLemmas.{cuts_refuse_flows}
 use Rattle.heat_flow.proofs.cut_check.is_cut.Goals as goal
@@ -25,17 +26,19 @@ cut c e =
     let short = c.is_short.ensures.0 e in
     record {
       sizes = c.if-not-has_sizes.ensures.0 refl;
-      parts = record {
-        ordered = rw c.as_slice-members.ensures at (c.if-not-are_rising.ensures.0 refl);
-        needing = rw (own c, c.as_slice-members.ensures) at (c.if-not-are_needing.ensures.0 refl);
-        short = rw (need c, offer c) at short.2;
+      is_cut = record {
+        parts = record {
+          ordered = rw c.as_slice-members.ensures at (c.if-not-are_rising.ensures.0 refl);
+          needing = rw (own c, c.as_slice-members.ensures) at (c.if-not-are_needing.ensures.0 refl);
+          short = rw (need c, offer c) at short.2;
+        };
+        need = short.0 ∙ need c;
+        offer = short.1 ∙ offer c;
       };
-      need = short.0 ∙ need c;
-      offer = short.1 ∙ offer c;
     }
 
 pub returns-clause-exact : goal.returns-clause-exact
-returns-clause-exact c = (cut c, λ h. c.is_short.ensures.1 (h.need ∙ sym (need c), h.offer ∙ sym (offer c), rw (need c, offer c) h.parts.short))
+returns-clause-exact c = (cut c, λ h. c.is_short.ensures.1 (h.is_cut.need ∙ sym (need c), h.is_cut.offer ∙ sym (offer c), rw (need c, offer c) h.is_cut.parts.short))
 
 pub returns-clause-refuses : goal.returns-clause-refuses
-returns-clause-refuses c e = cuts_refuse_flows (reaches c.args.reach.now) c.args.parts.now.hot c.args.parts.now.cold (cut_side c.args.cut.now.kind) c.args.cut.now.parts (cut c e).parts
+returns-clause-refuses c e = cuts_refuse_flows (reaches c.args.reach.now) c.args.parts.now.hot c.args.parts.now.cold (cut_side c.args.cut.now.kind) c.args.cut.now.parts (cut c e).is_cut.parts

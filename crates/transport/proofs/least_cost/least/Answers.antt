@@ -4,14 +4,13 @@ use Rattle.std.specs.Prelude.{All}
 use Rattle.std.proofs.lemmas.Int.{to_z-of_z}
 use Rattle.heat_flow.specs.Cuts.{opposite, parts_of, cut_side, offer_of}
 use Rattle.heat_flow.specs.Table.{reaches}
-use Rattle.heat_flow.proofs.CutLemmas.{cuts_refuse_flows}
 use Rattle.chains.specs.Path.{PathsAreReaches}
 use Rattle.transport.specs.Around.{IsNodePotential}
 use Rattle.transport.specs.Members.{IsSideHeat, IsCutWithin}
-use Rattle.transport.proofs.Certified.{IsRoutedHeat, each_potential, has_cost, answer_certified, answer_least}
+use Rattle.transport.proofs.Certified.{IsRoutedHeat, each_potential, has_cost, answer_is}
 use Rattle.transport.proofs.PairFlows.{PathsAreReaches-pairs, IsSpread-pairs}
 use Rattle.transport.proofs.PairLemmas.{IsAround-pairs}
-use Rattle.transport.proofs.StuckLemmas.{IsCutOf-members}
+use Rattle.transport.proofs.StuckLemmas.{IsAnswer-cut, IsCutOf-members}
 use Rattle.transport.proofs.least_cost.least.Goals as goal
 use Rattle.transport.proofs.least_cost.least.Goals.{In_ok-net, In_ok-flow-in-Routed, After-offer_of-offer}
 
@@ -40,13 +39,8 @@ priced-requires-clause-bounded c = subst (All IsNodePotential) (sym c.as_slice-i
 pub priced-requires-clause-has_cost : goal.priced-requires-clause-has_cost
 priced-requires-clause-has_cost c = has_cost (routed (goal.at.priced-requires-clause-has_cost c).In_ok-flow-in-Routed)
 
-pub returns-in-Routed-clause-certified : goal.returns-in-Routed-clause-certified
-returns-in-Routed-clause-certified c =
-    answer_certified (routed (goal.at.returns-in-Routed-clause-certified c).In_ok-flow-in-Routed) c.priced.result (rw c.as_slice-in-Routed-2.ensures at c.priced.ensures)
-
-pub returns-in-Routed-clause-least : goal.returns-in-Routed-clause-least
-returns-in-Routed-clause-least c =
-    answer_least (routed (goal.at.returns-in-Routed-clause-least c).In_ok-flow-in-Routed) c.priced.result (rw c.as_slice-in-Routed-2.ensures at c.priced.ensures)
+pub returns-in-Routed : goal.returns-in-Routed
+returns-in-Routed c = answer_is (routed (goal.at.returns-in-Routed c).In_ok-flow-in-Routed) c.priced.result (rw c.as_slice-in-Routed-2.ensures at c.priced.ensures)
 
 -- ---- the cut
 
@@ -66,14 +60,10 @@ cut_of-requires-clause-offered c =
     let p = (goal.at.cut_of-requires-clause-offered c).After-offer_of-offer in
     subst IsSideHeat (sym (offer_is p)) (within p).offer
 
-pub returns-clause-cut : goal.returns-clause-cut
-returns-clause-cut c =
+pub returns : goal.returns
+returns c =
     let parts = c.args.parts.now in
     let members = c.in_ok-members-in-Blocked.members in
-    let p = (goal.at.returns-clause-cut c).After-offer_of-offer in
-    IsCutOf-members (reaches c.args.reach.now) parts.hot parts.cold members.kind members.indexes c.cut_of.result (within p) c.cut_of.ensures.kind c.cut_of.ensures.parts c.cut_of.ensures.need (c.cut_of.ensures.offer ∙ offer_is p)
-
-pub returns-clause-stuck_only : goal.returns-clause-stuck_only
-returns-clause-stuck_only c =
-    let members = c.in_ok-members-in-Blocked.members in
-    cuts_refuse_flows (reaches c.args.reach.now) c.args.parts.now.hot c.args.parts.now.cold (cut_side members.kind) members.indexes (within (goal.at.returns-clause-stuck_only c).After-offer_of-offer).cut
+    let p = (goal.at.returns c).After-offer_of-offer in
+    IsAnswer-cut (reaches c.args.reach.now) parts.hot parts.cold c.cut_of.result
+    (IsCutOf-members (reaches c.args.reach.now) parts.hot parts.cold members.kind members.indexes c.cut_of.result (within p) c.cut_of.ensures.kind c.cut_of.ensures.parts c.cut_of.ensures.need (c.cut_of.ensures.offer ∙ offer_is p))

@@ -1,13 +1,14 @@
-use Rattle.std.proofs.Common.{sym, subst, arith}
+use Rattle.std.proofs.Common.{◌∙◌, sym, subst, FitsSigned, rules, arith}
+use Rattle.std.specs.Int.{w128}
 use Rattle.std.specs.Prelude.{All}
-use Rattle.heat_flow.specs.Cuts.{cut_side}
+use Rattle.std.proofs.lemmas.Int.{to_z-of_z}
 use Rattle.heat_flow.specs.Reach.{reach_between}
-use Rattle.heat_flow.proofs.CutLemmas.{cuts_refuse_flows}
 use Rattle.chains.specs.Inner.{IsHeatOf}
 use Rattle.transport.specs.Around.{IsNodePotential, RoutesMost}
-use Rattle.transport.proofs.Certified.{IsRoutedHeat, each_potential, has_cost, answer_certified, answer_least}
+use Rattle.transport.proofs.Certified.{IsRoutedHeat, each_potential, has_cost, answer_is}
 use Rattle.transport.proofs.FrontLemmas.{IsHeatOf-front, IsSpread-whole}
 use Rattle.transport.proofs.Limits.{IsAround, IsAround-parts}
+use Rattle.transport.proofs.StuckLemmas.{IsAnswer-cut, IsCutOf-members}
 use Rattle.transport.proofs.least_cost.least_case.Goals as goal
 use Rattle.transport.proofs.least_cost.least_case.Goals.{In-Routed, In_ok-flow-in-Routed}
 
@@ -43,19 +44,18 @@ priced-requires-clause-bounded c = subst (All IsNodePotential) (sym c.as_slice.e
 pub priced-requires-clause-has_cost : goal.priced-requires-clause-has_cost
 priced-requires-clause-has_cost c = has_cost (routed (goal.at.priced-requires-clause-has_cost c).In_ok-flow-in-Routed)
 
-pub returns-in-Routed-clause-certified : goal.returns-in-Routed-clause-certified
-returns-in-Routed-clause-certified c =
-    answer_certified (routed (goal.at.returns-in-Routed-clause-certified c).In_ok-flow-in-Routed) c.priced.result (rw c.as_slice.ensures at c.priced.ensures)
-
-pub returns-in-Routed-clause-least : goal.returns-in-Routed-clause-least
-returns-in-Routed-clause-least c =
-    answer_least (routed (goal.at.returns-in-Routed-clause-least c).In_ok-flow-in-Routed) c.priced.result (rw c.as_slice.ensures at c.priced.ensures)
+pub returns-in-Routed : goal.returns-in-Routed
+returns-in-Routed c = answer_is (routed (goal.at.returns-in-Routed c).In_ok-flow-in-Routed) c.priced.result (rw c.as_slice.ensures at c.priced.ensures)
 
 -- ---- the cut
 
-pub returns-clause-stuck_only : goal.returns-clause-stuck_only
-returns-clause-stuck_only c =
+pub returns : goal.returns
+returns c =
     let parts = c.args.parts.now in
-    let within = c.in_ok-members-in-Blocked.ensures (reach_between c.args.case.now parts.hot parts.cold) c.in_ok-chains.ensures.paths in
+    let reach = reach_between c.args.case.now parts.hot parts.cold in
+    let within = c.in_ok-members-in-Blocked.ensures reach c.in_ok-chains.ensures.paths in
     let members = c.in_ok-members-in-Blocked.members in
-    cuts_refuse_flows (reach_between c.args.case.now parts.hot parts.cold) parts.hot parts.cold (cut_side members.kind) members.indexes within.cut
+    let cut = c.cut_of.ensures in
+    let offer = c.in_ok-offer-in-Blocked in
+    let fits : FitsSigned w128 offer.offer = search rules in
+    IsAnswer-cut reach parts.hot parts.cold c.cut_of.result (IsCutOf-members reach parts.hot parts.cold members.kind members.indexes c.cut_of.result within cut.kind cut.parts cut.need (cut.offer ∙ to_z-of_z w128 offer.offer fits ∙ offer.ensures))

@@ -1,0 +1,12 @@
+use Rattle.std.proofs.Common.{◌≡◌, ◌+◌, ◌-◌, ◌*◌, length, Ok}
+use Rattle.workers.specs.Shares.{EachIsItem}
+use Rattle.workers.proofs.sharing.worker_items.Given as goal
+
+abbrev pub invariant-loop-number : goal.invariant-loop-number
+invariant-loop-number g l = record {
+  at : l.number ≡ l.fn.worker + length l.items * l.workers;
+  each : EachIsItem (λ j x. goal.F-post g l.item (l.fn.worker + j * l.workers) (Ok x)) l.items;
+}
+
+abbrev pub decreases-loop-number : goal.decreases-loop-number
+decreases-loop-number g l = l.count - l.number
