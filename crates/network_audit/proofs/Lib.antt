@@ -19,3 +19,4 @@ pub mod SumBounds
 pub mod GroupSums
 pub mod NoFinding
 pub mod BalanceWithin
+pub mod AcceptedLemmas

@@ -80,7 +80,10 @@ balanced c =
 pub returns-in-Ok : goal.returns-in-Ok
 returns-in-Ok c =
     let b = balanced (goal.at.returns-in-Ok c).After-hot_target-target in
-    record { valuation = c.in_default.ensures.0; none = all_found (goal.at.returns-in-Ok c).In_default ∙ b.found ∙ c.in-Ok.ensures.0 place.Balance; sums = c.in-Ok.ensures.1 ∙ b.is }
+    record {
+      faultless = record { valuation = c.in_default.ensures.0; none = all_found (goal.at.returns-in-Ok c).In_default ∙ b.found ∙ c.in-Ok.ensures.0 place.Balance };
+      sums = c.in-Ok.ensures.1 ∙ b.is;
+    }
 
 pub returns-in-Err-balance_of : goal.returns-in-Err-balance_of
 returns-in-Err-balance_of c =
