@@ -10,5 +10,6 @@ pub mod EndLemmas
 pub mod WeightLemmas
 pub mod PassLemmas
 pub mod PenaltyLemmas
+pub mod ScaleLemmas
 pub mod SignLemmas
 mod OnNetwork

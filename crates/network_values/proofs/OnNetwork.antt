@@ -20,7 +20,7 @@ use Rattle.network_text.specs.declared.network.Branch.{Branch}
 use Rattle.network_text.specs.declared.network.Line.{Line}
 use Rattle.network_text.specs.declared.network.Line.TheVariants as line
 use Rattle.network_text.specs.declared.network.Network.{Network}
-use Rattle.network_values.specs.Heights.{positive_part}
+use Rattle.network_values.specs.Heights.{positive_part, view_above}
 use Rattle.network_values.specs.Penalties.{height_at, heights, hot_heat, mix_penalties, penalty}
 use Rattle.network_values.specs.Sides.{KeepApproaches, KeepsApproach, side_run}
 use Rattle.network_values.specs.Values.{AreEnded, IsFullEnd, IsWholeValuation, Solves, Valuation, branch_side, duty_at, ended_by, ended_streams, last_value}
@@ -169,10 +169,10 @@ unfolding exchangers_of plus ratio lowest_form gcd last_remainder
 used = refl
 
 -- above 55 °C, the pinch: the heater of 2500 W works below it for 1000 W, and the mix loses 500 W
-exchangers : map (λ p. numbers (penalty (height_at worked_case (pos 550) worked_network worked_values) worked_network p)) (enumerate_from 0 (exchangers_of worked_network.lines)) ≡ (pos 0, 1) ∷ (pos 1000, 1) ∷ (pos 0, 1) ∷ (pos 0, 1) ∷ []
+exchangers : map (λ p. numbers (penalty (height_at worked_case (view_above (pos 550)) worked_network worked_values) worked_network p)) (enumerate_from 0 (exchangers_of worked_network.lines)) ≡ (pos 0, 1) ∷ (pos 1000, 1) ∷ (pos 0, 1) ∷ (pos 0, 1) ∷ []
 unfolding exchangers_of pass_of stream_at heights positive_part plus minus times rational_cmp ratio lowest_form gcd last_remainder
 exchangers = refl
 
-mixes : numbers (mix_penalties worked_case (pos 550) worked_network worked_values) ≡ (pos 500, 1)
+mixes : numbers (mix_penalties worked_case (view_above (pos 550)) worked_network worked_values) ≡ (pos 500, 1)
 unfolding exchangers_of pass_of stream_at heights positive_part plus minus times rational_cmp ratio lowest_form gcd last_remainder
 mixes = refl

@@ -1,7 +1,7 @@
 -- Heights of flows above a place, and the shares of a duty that lie above it. Distances are temperatures less the place.
-use Rattle.std.specs.Prelude.{◌≡◌, Bool, true, false, if◌then◌else◌, List, All}
+use Rattle.std.specs.Prelude.{◌≡◌, ℤ, Bool, true, false, if◌then◌else◌, List, All}
 use Rattle.std.specs.Ordering.{is_le}
-use Rattle.fractions.specs.Rationals.{IsAtMost, IsBelow, Rational, is_below, minus, over, rational_cmp, rational_sum_by, rational_zero, times}
+use Rattle.fractions.specs.Rationals.{IsAtMost, IsBelow, Rational, is_below, minus, over, rational_cmp, rational_sum_by, rational_zero, times, whole}
 use Rattle.network_values.specs.Sides.{Between, Level, SideRun, high_of, low_of, seen_from}
 
 -- the positive part of a number: what it is above 0, and 0 where it is not
@@ -28,6 +28,20 @@ is_above false distance = is_below rational_zero distance
 abbrev pub share : Bool → Rational → SideRun → Rational
 share from_itself duty (Between size low high) = minus (height size high) (height size low)
 share from_itself duty (Level at) = if is_above from_itself at then duty else rational_zero
+
+-- ---- views
+
+-- a place of the shifted scale, in tenths of °C, and whether what stays at the place itself is counted as above it
+pub record View : Type 0 where
+  pub place : ℤ
+  pub from_itself : Bool
+
+abbrev pub view_above : ℤ → View
+view_above place = record { place = place; from_itself = false }
+
+-- the share of a side whose temperatures are on the shifted scale
+abbrev pub share_in : View → Rational → SideRun → Rational
+share_in view duty side = share view.from_itself duty (seen_from (whole view.place) side)
 
 -- ---- the fact on one exchanger
 
