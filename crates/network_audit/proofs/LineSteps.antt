@@ -3,6 +3,7 @@ use Rattle.std.proofs.Common.{◌≡◌, ◌∙◌, ◌+◌, ◌*◌, ◌<◌, �
 use Rattle.std.specs.Prelude.{if◌then◌else◌}
 use Rattle.std.specs.Option.{option_map_or}
 use Rattle.std.proofs.Math.Nat.{mul-le-mul, mul-pos}
+use Rattle.std.proofs.lemmas.Option.{same_Some}
 use Rattle.std.proofs.lemmas.Bool.{cases_lt}
 use Rattle.std.proofs.lemmas.Int.{ints}
 use Rattle.std.proofs.lemmas.List.{get_or_past}
@@ -32,13 +33,12 @@ use Rattle.network_text.specs.declared.network.Line.TheVariants as line
 use Rattle.network_text.specs.declared.network.Network.{Network}
 use Rattle.network_text.proofs.Lists.{all_at}
 use Rattle.network_text.proofs.OfShape.{names-known}
-use Rattle.network_values.specs.Sides.{approach_of, contribution_of, high_of, low_of, pass_run, run_between, side_run}
+use Rattle.network_values.specs.Sides.{approach_of, contribution_of, fixed_level, high_of, low_of, pass_run, run_between, side_run}
 use Rattle.network_values.specs.Values.{IsMix, IsPass, IsSplit, IsWholeValuation, Solves, Valuation, branch_side, change, duty_at, no_value, value_at}
 use Rattle.network_values.specs.declared.values.BranchValue.{BranchValue}
 use Rattle.network_values.proofs.LineLemmas.{mix_determined, mixed_positive, pass_determined, split_determined}
 use Rattle.network_values.proofs.WholeLemmas.{all_solved, branch_above}
 use Rattle.network_audit.specs.Items.{IsFormed, Item, end_items, ends_of, exchanger_items_at, line_items, mean_items, mix_items, pass_items, side_items, split_items}
-use Rattle.network_audit.specs.Table.{level_of}
 use Rattle.network_audit.specs.declared.findings.Place.{Place}
 use Rattle.network_audit.specs.declared.findings.Place.TheVariants as place
 use Rattle.network_audit.proofs.FormedLemmas.{AreFormed, formed-none, formed-step}
@@ -201,8 +201,10 @@ approach-within case complete hot cold =
     let two_upto = two.upto in
     record { from = omega (arith, ints, one_from, two_from); upto = omega (arith, ints, one_upto, two_upto) }
 
-level-within : (case : Case) → IsComplete case → (number : ℕ) → IsLevel (level_of case number)
-level-within case complete number = by (slice_get case.utilities number) refl
+-- a level that a source has is one of a case
+level-within : (case : Case) → IsComplete case → (s : Source) (level : ℤ) → fixed_level case s ≡ Some level → IsLevel level
+level-within case complete (source.Stream number) level is = cc is
+level-within case complete (source.Utility number) level is = subst IsLevel (same_Some _ level is) (by (slice_get case.utilities number) refl)
   where
     by : (o : Option Utility) → slice_get case.utilities number ≡ o → IsLevel (option_map_or (λ u. u.level) o (pos 0))
     by None at = record { from = omega (arith, ints); upto = omega (arith, ints) }
@@ -218,23 +220,31 @@ wanted-level level approach is asked =
     subst IsWithinLimits (sym (whole-plus level approach)) (within-whole (level +ℤ approach) (omega (arith, ints, low, high, from, upto)))
 
 -- what holds of the states of all branches and of all levels holds of both ends of a side
-module _ (P : Rational → Type 0) (case : Case) (network : Network) (values : Valuation) (each : (branch : ℕ) → P (value_at values branch).t) (levels : (number : ℕ) → P (whole (level_of case number))) (none : P rational_zero) where
-  between_keeps : (of : Side) (from to : ℕ) → P (low_of (run_between of (value_at values from) (value_at values to))) × P (high_of (run_between of (value_at values from) (value_at values to)))
-  between_keeps side.Hot from to = (each to, each from)
-  between_keeps side.Cold from to = (each from, each to)
+module _
+    (P : Rational → Type 0)
+    (case : Case)
+    (network : Network)
+    (values : Valuation)
+    (each : (branch : ℕ) → P (value_at values branch).t)
+    (levels : (s : Source) (level : ℤ) → fixed_level case s ≡ Some level → P (whole level))
+    (none : P rational_zero)
+  where
+    between_keeps : (of : Side) (from to : ℕ) → P (low_of (run_between of (value_at values from) (value_at values to))) × P (high_of (run_between of (value_at values from) (value_at values to)))
+    between_keeps side.Hot from to = (each to, each from)
+    between_keeps side.Cold from to = (each from, each to)
 
-  pass_keeps : (o : Option Line) → P (low_of (pass_run case network values o)) × P (high_of (pass_run case network values o))
-  pass_keeps None = (none, none)
-  pass_keeps (Some (line.Exchanger name hot cold duty)) = (none, none)
-  pass_keeps (Some (line.Split from first cp second)) = (none, none)
-  pass_keeps (Some (line.Pass from exchanger to)) = between_keeps (branch_side case network from) from to
-  pass_keeps (Some (line.Mix first second to)) = (none, none)
-  pass_keeps (Some (line.End branch)) = (none, none)
+    pass_keeps : (o : Option Line) → P (low_of (pass_run case network values o)) × P (high_of (pass_run case network values o))
+    pass_keeps None = (none, none)
+    pass_keeps (Some (line.Exchanger name hot cold duty)) = (none, none)
+    pass_keeps (Some (line.Split from first cp second)) = (none, none)
+    pass_keeps (Some (line.Pass from exchanger to)) = between_keeps (branch_side case network from) from to
+    pass_keeps (Some (line.Mix first second to)) = (none, none)
+    pass_keeps (Some (line.End branch)) = (none, none)
 
-  side_keeps : (number : ℕ) (of : Source) → P (low_of (side_run case network values number of)) × P (high_of (side_run case network values number of))
-  unfolding side_run
-  side_keeps number (source.Stream stream) = pass_keeps (pass_of network number stream)
-  side_keeps number (source.Utility index) = (levels index, levels index)
+    side_keeps : (number : ℕ) (of : Source) → P (low_of (side_run case network values number of)) × P (high_of (side_run case network values number of))
+    unfolding side_run
+    side_keeps number (source.Stream stream) = pass_keeps (pass_of network number stream)
+    side_keeps number (source.Utility index) = let here = levels (source.Utility index) _ refl in (here, here)
 
 -- an exchanger forms the temperatures that its cold side asks for
 pub exchanger_formed : (case : Case) (network : Network) (values : Valuation) → IsComplete case → All IsRoomy values → (number : ℕ) (e : Exchanger) → AreFormed (exchanger_items_at case network values (number, e))
@@ -244,5 +254,5 @@ exchanger_formed case network values complete roomy number e =
     let given = ends_of side.Hot (side_run case network values number e.hot) in
     let taken = ends_of side.Cold (side_run case network values number e.cold) in
     let both = side_keeps (λ t. IsWithinLimits (plus t (whole approach))) case network values (λ branch. (roomy_at values roomy branch).wanted approach asked)
-    (λ index. wanted-level (level_of case index) approach (level-within case complete index) asked) (roomy_none.wanted approach asked) number e.cold in
+    (λ s level at. wanted-level level approach (level-within case complete s level at) asked) (roomy_none.wanted approach asked) number e.cold in
     All-from_recursion IsFormed (side_items case (place.Exchanger number) e.hot e.cold given taken) (tt, (both.1, (tt, (both.0, (tt, tt)))))

@@ -28,7 +28,7 @@ pub struct Joint {
 }
 
 /// The exchangers of a network in order, with all passes.
-pub fn joints_of(alloc: Global, network: &Network) -> Result<Vec<Joint>, AllocError>
+pub(crate) fn joints_of(alloc: Global, network: &Network) -> Result<Vec<Joint>, AllocError>
     requires { All (PassesBelow (length (exchangers_of network.now.lines))) network.now.lines }
     ensures { IfOk result (λ joints. joints.items ≡ joints_of network.now) }
 {

@@ -5,6 +5,7 @@ use Rattle.fractions.specs.Rationals.{Rational}
 use Rattle.network_text.specs.declared.network.Line.{Line}
 use Rattle.network_text.specs.declared.network.Network.{Network}
 use Rattle.problem_table.specs.Deficit.{IsReferencePlace}
+use Rattle.network_values.specs.Heights.{view_above}
 use Rattle.network_values.specs.Penalties.{height_at}
 use Rattle.network_values.specs.Values.{IsWholeValuation}
 use Rattle.network_audit.specs.Audit.{Audit, HasAccepted, KnowsItsNetwork}
@@ -46,10 +47,10 @@ module _
     table = own_table ∙ ap (λ (a : Audit). joints_of a.network) accepted.is
 
     abbrev height : ℕ → Rational
-    height = height_at case reference network (values_of audit)
+    height = height_at case (view_above reference) network (values_of audit)
 
     abbrev steps : Place → ℕ → ℕ → List Step
-    steps = branch_steps case reference network (values_of audit)
+    steps = branch_steps case (view_above reference) network (values_of audit)
 
     valuation_kept : IsWholeValuation case network (values_of audit)
     valuation_kept = subst (IsWholeValuation case network) (sym (ap values_of accepted.is)) (faultless_values audit case network accepted knows).valuation

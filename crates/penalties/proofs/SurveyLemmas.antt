@@ -5,7 +5,7 @@ use Rattle.stream_case.specs.declared.stream.Stream.{Stream}
 use Rattle.fractions.specs.Rationals.{Rational, is_below, rational_zero, times}
 use Rattle.fractions.proofs.Products.{times-zero}
 use Rattle.network_text.specs.Lines.{stream_at}
-use Rattle.network_values.specs.Heights.{height, positive_part}
+use Rattle.network_values.specs.Heights.{height, positive_part, view_above}
 use Rattle.network_values.specs.Penalties.{heights, stream_height}
 use Rattle.network_values.specs.Values.{Valuation, no_value, value_at}
 use Rattle.network_audit.specs.Audit.{Audit}
@@ -46,10 +46,10 @@ value-read audit branch = by audit.values
     by (Some values) = at values branch
 
 pub height-seen : (s : Survey) (branch : ℕ) (o : Option Stream) → slice_get s.case.now.streams (stream_at s.network.now.branches branch) ≡ o
-    → seen_height s branch ≡ stream_height s.reference o (value_at (values_of s.auditor.now) branch)
+    → seen_height s branch ≡ stream_height (view_above s.reference) o (value_at (values_of s.auditor.now) branch)
 unfolding heights
-height-seen s branch o is = ap (λ o. stream_height s.reference o (value_at (values_of s.auditor.now) branch)) is
+height-seen s branch o is = ap (λ o. stream_height (view_above s.reference) o (value_at (values_of s.auditor.now) branch)) is
 
 pub steps-seen : (s : Survey) (at : Place) (k branch : ℕ) (o : Option Stream) → slice_get s.case.now.streams (stream_at s.network.now.branches branch) ≡ o
-    → seen_steps s at k branch ≡ stream_steps s.reference at k o (value_at (values_of s.auditor.now) branch)
-steps-seen s at k branch o is = ap (λ o. stream_steps s.reference at k o (value_at (values_of s.auditor.now) branch)) is
+    → seen_steps s at k branch ≡ stream_steps (view_above s.reference) at k o (value_at (values_of s.auditor.now) branch)
+steps-seen s at k branch o is = ap (λ o. stream_steps (view_above s.reference) at k o (value_at (values_of s.auditor.now) branch)) is
