@@ -38,14 +38,18 @@ use Rattle.network_values.proofs.WeightLemmas.{weight_balance}
 
 whole_positive_part : (n : ℤ) → positive_part (whole n) ≡ whole (int_max n (pos 0))
 whole_positive_part n =
-    by_lt_z (pos 0) n (λ above. positive_part-above (whole n) (at_most-whole (pos 0) n (omega (arith, ints, above))) ∙ ap whole (omega (arith, ints, clamps, above)))
+    by_lt_z (pos 0) n (λ above. positive_part-above (whole n) (at_most-whole (pos 0) n (omega (arith, ints, above)))
+    ∙ ap whole (omega (arith, ints, clamps, above)))
     (λ upto. positive_part-below (whole n) (at_most-whole n (pos 0) upto) ∙ ap whole (omega (arith, ints, clamps, upto)))
 
 whole_height : (cp t base : ℤ) → height (whole cp) (minus (whole t) (whole base)) ≡ whole (cp *ℤ int_max (t -ℤ base) (pos 0))
-whole_height cp t base = ap (λ x. times (whole cp) (positive_part x)) (whole-minus t base) ∙ ap (times (whole cp)) (whole_positive_part (t -ℤ base)) ∙ whole-times cp (int_max (t -ℤ base) (pos 0))
+whole_height cp t base = ap (λ x. times (whole cp) (positive_part x)) (whole-minus t base) ∙ ap (times (whole cp)) (whole_positive_part (t -ℤ base))
+    ∙ whole-times cp (int_max (t -ℤ base) (pos 0))
 
 -- the height that is lost from t to u
-height_lost : (cp t u base : ℤ) → minus (height (whole cp) (minus (whole t) (whole base))) (height (whole cp) (minus (whole u) (whole base))) ≡ whole (cp *ℤ (int_max (t -ℤ base) (pos 0) -ℤ int_max (u -ℤ base) (pos 0)))
+height_lost : (cp t u base : ℤ)
+    → minus (height (whole cp) (minus (whole t) (whole base))) (height (whole cp) (minus (whole u) (whole base)))
+    ≡ whole (cp *ℤ (int_max (t -ℤ base) (pos 0) -ℤ int_max (u -ℤ base) (pos 0)))
 height_lost cp t u base =
     ap₂ minus (whole_height cp t base) (whole_height cp u base) ∙ whole-minus (cp *ℤ int_max (t -ℤ base) (pos 0)) (cp *ℤ int_max (u -ℤ base) (pos 0))
     ∙ ap whole (sym (*ℤ--ℤ cp (int_max (t -ℤ base) (pos 0)) (int_max (u -ℤ base) (pos 0))))
@@ -114,23 +118,28 @@ minus_turned : (x a b : Rational) → minus x (minus a b) ≡ plus x (minus b a)
 minus_turned = by_three _ (λ n m l d some. simp one_denominator (ap (λ k. ratio k d) (omega (arith, ints))))
 
 less_deficit : (used : Rational) (hot cold : ℤ) → plus used (whole (hot -ℤ cold)) ≡ minus used (whole (cold -ℤ hot))
-less_deficit used hot cold = ap (plus used) (sym (whole-minus hot cold)) ∙ sym (minus_turned used (whole cold) (whole hot)) ∙ ap (minus used) (whole-minus cold hot)
+less_deficit used hot cold = ap (plus used) (sym (whole-minus hot cold)) ∙ sym (minus_turned used (whole cold) (whole hot))
+    ∙ ap (minus used) (whole-minus cold hot)
 
 module _ (weight : ℕ → Rational) (case : Case) (network : Network) (shape : HasShape case network) where
   by_parts : (number : ℕ) (duty : Rational) (hot cold : Source)
-      → minus (released_heat weight network number duty hot) (absorbed_heat weight network number cold) ≡ plus (utility_part duty hot) (plus (side_taken weight network number hot) (side_taken weight network number cold))
+      → minus (released_heat weight network number duty hot) (absorbed_heat weight network number cold)
+      ≡ plus (utility_part duty hot) (plus (side_taken weight network number hot) (side_taken weight network number cold))
   by_parts number duty (source.Stream i) (source.Stream j) =
       let taken = side_taken weight network number (source.Stream i) in
-      minus_turned taken (outlet_height weight (pass_of network number j)) (inlet_height weight (pass_of network number j)) ∙ sym (zero-plus (plus taken (side_taken weight network number (source.Stream j))))
+      minus_turned taken (outlet_height weight (pass_of network number j)) (inlet_height weight (pass_of network number j))
+      ∙ sym (zero-plus (plus taken (side_taken weight network number (source.Stream j))))
   by_parts number duty (source.Stream i) (source.Utility j) =
       let taken = side_taken weight network number (source.Stream i) in
       minus-zero taken ∙ sym (zero-plus (plus taken rational_zero) ∙ plus-zero taken)
   by_parts number duty (source.Utility i) (source.Stream j) =
-      minus_turned duty (outlet_height weight (pass_of network number j)) (inlet_height weight (pass_of network number j)) ∙ ap (plus duty) (sym (zero-plus (side_taken weight network number (source.Stream j))))
+      minus_turned duty (outlet_height weight (pass_of network number j)) (inlet_height weight (pass_of network number j))
+      ∙ ap (plus duty) (sym (zero-plus (side_taken weight network number (source.Stream j))))
   by_parts number duty (source.Utility i) (source.Utility j) = minus-zero duty ∙ sym (ap (plus duty) (plus-zero rational_zero) ∙ plus-zero duty)
 
   -- all exchangers: the hot utilities, and what the passes take
-  pub exchangers_add_up : rational_sum_by (penalty weight network) (enumerate_from 0 (exchangers_of network.lines)) ≡ plus (hot_heat network) (rational_sum_by (pass_loss weight) network.lines)
+  pub exchangers_add_up : rational_sum_by (penalty weight network) (enumerate_from 0 (exchangers_of network.lines))
+      ≡ plus (hot_heat network) (rational_sum_by (pass_loss weight) network.lines)
   exchangers_add_up =
       let es = exchangers_of network.lines in
       let given = λ (p : ℕ × Exchanger). hot_duty p.1 in

@@ -35,7 +35,8 @@ use Rattle.network_values.proofs.WholeLemmas.{all_solved, branch_above}
 
 -- ---- ends with the approach between them, as distances from a place
 
-approach_seen : (h c : Rational) (place a b : ℤ) → IsAtMost (plus c (whole (a +ℤ b))) h → IsAtMost (minus c (whole (place -ℤ b))) (minus h (whole (place +ℤ a)))
+approach_seen : (h c : Rational) (place a b : ℤ) → IsAtMost (plus c (whole (a +ℤ b))) h
+    → IsAtMost (minus c (whole (place -ℤ b))) (minus h (whole (place +ℤ a)))
 approach_seen h c place a b apart =
     let between : (place +ℤ a) -ℤ (place -ℤ b) ≡ a +ℤ b = omega (arith, ints) in
     at_most-minus_swap h c (whole (place -ℤ b)) (whole (place +ℤ a))
@@ -47,7 +48,8 @@ approach_seen h c place a b apart =
 stream_on : (case : Case) (i : ℕ) (on : Side) → side_of case (source.Stream i) ≡ Some on → (s : Stream) × (slice_get case.streams i ≡ Some s) × (s.side ≡ on)
 stream_on case i on is = by (slice_get case.streams i) refl is
   where
-    by : (o : Option Stream) → slice_get case.streams i ≡ o → option_map (λ s. s.side) o ≡ Some on → (s : Stream) × (slice_get case.streams i ≡ Some s) × (s.side ≡ on)
+    by : (o : Option Stream) → slice_get case.streams i ≡ o → option_map (λ s. s.side) o ≡ Some on
+        → (s : Stream) × (slice_get case.streams i ≡ Some s) × (s.side ≡ on)
     by None at none = cc none
     by (Some s) at some = (s, at, same_Some s.side on some)
 
@@ -94,7 +96,8 @@ module _ {case : Case} {network : Network} {values : Valuation} (shape : HasShap
     heat : times (value_at values from).cp (change on (value_at values from).t (value_at values to).t) ≡ duty
     run : side_run case network values number (source.Stream i) ≡ run_between on (value_at values from) (value_at values to)
 
-  run_of : (number i : ℕ) (e : Exchanger) (on : Side) → slice_get (exchangers_of network.lines) number ≡ Some e → Joins e i → side_of case (source.Stream i) ≡ Some on
+  run_of : (number i : ℕ) (e : Exchanger) (on : Side) → slice_get (exchangers_of network.lines) number ≡ Some e → Joins e i
+      → side_of case (source.Stream i) ≡ Some on
       → (s : Stream) × (from : ℕ) × (to : ℕ) × IsRun number i on e.duty s from to
   unfolding side_run branch_side duty_at
   run_of number i e on at joins is =
@@ -103,8 +106,10 @@ module _ {case : Case} {network : Network} {values : Valuation} (shape : HasShap
       let l = line.Pass from number to in
       let solves = all_at (Solves case network values) network.lines index l (all_solved whole_values) pass.here in
       let one = all_at (IsOfOneStream network.branches) network.lines index l shape.one_stream pass.here in
-      let used = all_at (λ x. All (λ b. b < length network.branches) (uses x)) network.lines index l (used_there shape.made_once shape.made_first) pass.here in
-      let of_side : branch_side case network from ≡ on = ap (λ n. unwrap_or (side_of case (source.Stream n)) side.Hot) pass.of_stream ∙ ap (λ o. unwrap_or o side.Hot) is in
+      let used = all_at (λ x. All (λ b. b < length network.branches) (uses x)) network.lines index l
+      (used_there shape.made_once shape.made_first) pass.here in
+      let of_side : branch_side case network from ≡ on =
+      ap (λ n. unwrap_or (side_of case (source.Stream n)) side.Hot) pass.of_stream ∙ ap (λ o. unwrap_or o side.Hot) is in
       let duty : duty_at network number ≡ e.duty = ap duty_of at in (
         s,
         from,

@@ -31,29 +31,38 @@ use Rattle.network_values.proofs.ScaleLemmas.{branch_height, run_on_scale}
 use Rattle.network_values.proofs.ShareLemmas.{hot_shares_lead, shares_parts}
 use Rattle.network_values.proofs.WholeLemmas.{all_solved, branch_above, item_at}
 
-module _ (case : Case) (network : Network) (values : Valuation) (view : View) (shape : HasShape case network) (whole_values : IsWholeValuation case network values) where
+module _ (case : Case) (network : Network) (values : Valuation) (view : View) (shape : HasShape case network)
+    (whole_values : IsWholeValuation case network values) where
+  abbrev height : ℕ → Rational
+  height = height_at case view network values
+
   -- what is released is at least the hot share, and what is absorbed at most the cold one
   released-least : (number : ℕ) (e : Exchanger) (s : Source) → RunsOnOneScale case network values number (record e { hot = s })
-      → IsAtMost (share_in view e.duty (shifted_run side.Hot case network values number s)) (released_heat (height_at case view network values) network number e.duty s)
+      → IsAtMost (share_in view e.duty (shifted_run side.Hot case network values number s))
+      (released_heat height network number e.duty s)
   released-least number e (source.Stream i) runs = at_most_from_same _ _ (sym (runs.released view i refl))
   released-least number e (source.Utility i) runs =
-      (shares_parts view.from_itself (whole view.place) e.duty (shifted_run side.Hot case network values number (source.Utility i)) runs.positive runs.hot_duty).most
+      (shares_parts view.from_itself (whole view.place) e.duty
+      (shifted_run side.Hot case network values number (source.Utility i)) runs.positive runs.hot_duty).most
 
   absorbed-most : (number : ℕ) (e : Exchanger) (s : Source) → RunsOnOneScale case network values number (record e { cold = s })
-      → IsAtMost (absorbed_heat (height_at case view network values) network number s) (share_in view e.duty (shifted_run side.Cold case network values number s))
+      → IsAtMost (absorbed_heat height network number s)
+      (share_in view e.duty (shifted_run side.Cold case network values number s))
   absorbed-most number e (source.Stream i) runs = at_most_from_same _ _ (runs.absorbed view i refl)
   absorbed-most number e (source.Utility i) runs =
-      (shares_parts view.from_itself (whole view.place) e.duty (shifted_run side.Cold case network values number (source.Utility i)) runs.positive runs.cold_duty).least
+      (shares_parts view.from_itself (whole view.place) e.duty
+      (shifted_run side.Cold case network values number (source.Utility i)) runs.positive runs.cold_duty).least
 
   exchanger_sign : (number : ℕ) (e : Exchanger) → slice_get (exchangers_of network.lines) number ≡ Some e → KeepsApproach case network values number e
-      → IsAtMost rational_zero (penalty (height_at case view network values) network (number, e))
+      → IsAtMost rational_zero (penalty height network (number, e))
   exchanger_sign number e at apart =
       let runs = run_on_scale shape whole_values number e at in
       let shares = hot_shares_lead view.from_itself (whole view.place) e.duty _ _ runs.positive runs.hot_duty runs.cold_duty (runs.apart apart) in
       not_negative-minus _ _
       (at_most_trans _ _ _ (absorbed-most number e e.cold runs) (at_most_trans _ _ _ shares (released-least number e e.hot runs)))
 
-  mix_sign : (l : Line) → All (λ b. b < length network.branches) (uses l) → IsOfOneStream network.branches l → Solves case network values l → IsAtMost rational_zero (mix_loss (height_at case view network values) l)
+  mix_sign : (l : Line) → All (λ b. b < length network.branches) (uses l) → IsOfOneStream network.branches l → Solves case network values l
+      → IsAtMost rational_zero (mix_loss height l)
   mix_sign (line.Exchanger name hot cold duty) within one solves = at_most_refl rational_zero
   mix_sign (line.Split from first cp second) within one solves = at_most_refl rational_zero
   mix_sign (line.Pass from exchanger to) within one solves = at_most_refl rational_zero
@@ -62,23 +71,29 @@ module _ (case : Case) (network : Network) (values : Valuation) (view : View) (s
       let second_within = within 1 0 (omega arith) in
       let i = stream_at network.branches first in
       let (s, at) = item_at case.streams i (stream_within shape first first_within) in
-      let mixed = height_on-mixed view.from_itself (course_of view.place s) (value_at values first) (value_at values second) (value_at values to) (branch_above whole_values shape first first_within) (branch_above whole_values shape second second_within) solves in
-      not_negative-minus ((height_at case view network values) to) (plus ((height_at case view network values) first) ((height_at case view network values) second))
-      (subst₂ IsAtMost (sym (branch_height shape whole_values view i s to at one.1)) (sym (ap₂ plus (branch_height shape whole_values view i s first at refl) (branch_height shape whole_values view i s second at one.0))) mixed)
+      let mixed = height_on-mixed view.from_itself (course_of view.place s) (value_at values first) (value_at values second) (value_at values to)
+      (branch_above whole_values shape first first_within) (branch_above whole_values shape second second_within) solves in
+      not_negative-minus (height to)
+      (plus (height first) (height second))
+      (subst₂ IsAtMost (sym (branch_height shape whole_values view i s to at one.1))
+      (sym (ap₂ plus (branch_height shape whole_values view i s first at refl) (branch_height shape whole_values view i s second at one.0))) mixed)
   mix_sign (line.End branch) within one solves = at_most_refl rational_zero
 
   pub no_negative : KeepApproaches case network values → HasNoNegativePenalty case view network values
   no_negative apart = record {
     exchangers = λ number e at. exchanger_sign number e at (apart number e at);
-    mixes = λ k d within. mix_sign (get_or network.lines k d) (used_there shape.made_once shape.made_first k d within) (shape.one_stream k d within) (all_solved whole_values k d within);
+    mixes = λ k d within. mix_sign (get_or network.lines k d) (used_there shape.made_once shape.made_first k d within) (shape.one_stream k d within)
+        (all_solved whole_values k d within);
   }
 
   -- so the sum of all penalties is not negative
-  pub sum_sign : KeepApproaches case network values → IsAtMost rational_zero (plus (exchanger_penalties case view network values) (mix_penalties case view network values))
+  pub sum_sign : KeepApproaches case network values
+      → IsAtMost rational_zero (plus (exchanger_penalties case view network values) (mix_penalties case view network values))
   sum_sign apart =
       let none = no_negative apart in
       not_negative-plus (exchanger_penalties case view network values) (mix_penalties case view network values)
-      (not_negative-enumerated (penalty (height_at case view network values) network) (exchangers_of network.lines) none.exchangers) (not_negative-rational_sum_by (mix_loss (height_at case view network values)) network.lines none.mixes)
+      (not_negative-enumerated (penalty height network) (exchangers_of network.lines) none.exchangers)
+      (not_negative-rational_sum_by (mix_loss height) network.lines none.mixes)
 
 pub penalties_sign : PenaltiesAreNotNegative
 penalties_sign case network values view shape whole_values apart = no_negative case network values view shape whole_values apart
@@ -86,12 +101,15 @@ penalties_sign case network values view shape whole_values apart = no_negative c
 pub deficits_met : DeficitsAreMet
 deficits_met case network values place shape whole_values ended apart =
     at_most_from_not_negative (whole (deficit_above case.streams place)) (hot_heat network)
-    (subst (IsAtMost rational_zero) (penalties_sum case network values (view_above place) shape whole_values ended) (sum_sign case network values (view_above place) shape whole_values apart))
+    (subst (IsAtMost rational_zero) (penalties_sum case network values (view_above place) shape whole_values ended)
+    (sum_sign case network values (view_above place) shape whole_values apart))
 
 -- ---- the targets
 
 hot_heat-least : (case : Case) (network : Network) → HasShape case network → IsAtMost rational_zero (hot_heat network)
-hot_heat-least case network shape = not_negative-rational_sum_by hot_duty (exchangers_of network.lines) (λ k d within. of_source (get_or (exchangers_of network.lines) k d) (shape.exchangers.each k d within))
+hot_heat-least case network shape =
+    not_negative-rational_sum_by hot_duty (exchangers_of network.lines)
+    (λ k d within. of_source (get_or (exchangers_of network.lines) k d) (shape.exchangers.each k d within))
   where
     by : (duty : Rational) → IsBelow rational_zero duty → (s : Source) → IsAtMost rational_zero (utility_part duty s)
     by duty positive (source.Stream i) = at_most_refl rational_zero

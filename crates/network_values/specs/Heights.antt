@@ -54,7 +54,8 @@ pub record IsNowhereBelow (hot cold : SideRun) : Type 0 where
 -- side has at least the share of the cold one
 abbrev pub HotSharesAreAtLeastColdShares : Type 0
 HotSharesAreAtLeastColdShares =
-    (from_itself : Bool) (place duty : Rational) (hot cold : SideRun) → IsBelow rational_zero duty → HasDuty duty hot → HasDuty duty cold → IsNowhereBelow hot cold
+    (from_itself : Bool) (place duty : Rational) (hot cold : SideRun) → IsBelow rational_zero duty → HasDuty duty hot → HasDuty duty cold
+    → IsNowhereBelow hot cold
     → IsAtMost (share from_itself duty (seen_from place cold)) (share from_itself duty (seen_from place hot))
 
 -- the same with prices that rise at some places: shares times rises add up to no less on the hot side
@@ -69,7 +70,8 @@ share_worth duty side rises = rational_sum_by (λ r. times r.rise (share r.from_
 
 abbrev pub PricedSharesAreOrdered : Type 0
 PricedSharesAreOrdered =
-    (duty : Rational) (hot cold : SideRun) (rises : List PriceRise) → IsBelow rational_zero duty → HasDuty duty hot → HasDuty duty cold → IsNowhereBelow hot cold → All (λ r. IsAtMost rational_zero r.rise) rises
+    (duty : Rational) (hot cold : SideRun) (rises : List PriceRise) → IsBelow rational_zero duty → HasDuty duty hot → HasDuty duty cold
+    → IsNowhereBelow hot cold → All (λ r. IsAtMost rational_zero r.rise) rises
     → IsAtMost (share_worth duty cold rises) (share_worth duty hot rises)
 
 -- ---- what a share is
@@ -79,11 +81,13 @@ PricedSharesAreOrdered =
 pub record IsPart (from_itself : Bool) (duty : Rational) (side : SideRun) : Type 0 where
   pub above : IsAtMost rational_zero (low_of side) → IsBelow rational_zero (high_of side) → share from_itself duty side ≡ duty
   pub below : IsAtMost (high_of side) rational_zero → IsBelow (low_of side) rational_zero → share from_itself duty side ≡ rational_zero
-  pub across : IsAtMost (low_of side) rational_zero → IsBelow rational_zero (high_of side) → share from_itself duty side ≡ over (times duty (high_of side)) (minus (high_of side) (low_of side))
+  pub across : IsAtMost (low_of side) rational_zero → IsBelow rational_zero (high_of side)
+      → share from_itself duty side ≡ over (times duty (high_of side)) (minus (high_of side) (low_of side))
   pub itself : low_of side ≡ rational_zero → high_of side ≡ rational_zero → share from_itself duty side ≡ (if from_itself then duty else rational_zero)
   pub least : IsAtMost rational_zero (share from_itself duty side)
   pub most : IsAtMost (share from_itself duty side) duty
 
 abbrev pub SharesAreParts : Type 0
 SharesAreParts =
-    (from_itself : Bool) (place duty : Rational) (side : SideRun) → IsBelow rational_zero duty → HasDuty duty side → IsPart from_itself duty (seen_from place side)
+    (from_itself : Bool) (place duty : Rational) (side : SideRun) → IsBelow rational_zero duty → HasDuty duty side
+    → IsPart from_itself duty (seen_from place side)

@@ -73,12 +73,14 @@ outlet_height height (Some (line.End branch)) = rational_zero
 
 -- what the hot side of an exchanger releases above the place: a stream the height that it loses, a utility the whole duty
 abbrev pub released_heat : (ℕ → Rational) → Network → ℕ → Rational → Source → Rational
-released_heat height network number duty (source.Stream i) = minus (inlet_height height (pass_of network number i)) (outlet_height height (pass_of network number i))
+released_heat height network number duty (source.Stream i) =
+    minus (inlet_height height (pass_of network number i)) (outlet_height height (pass_of network number i))
 released_heat height network number duty (source.Utility i) = duty
 
 -- what the cold side absorbs above the place: a stream the height that it gains, a utility nothing
 abbrev pub absorbed_heat : (ℕ → Rational) → Network → ℕ → Source → Rational
-absorbed_heat height network number (source.Stream i) = minus (outlet_height height (pass_of network number i)) (inlet_height height (pass_of network number i))
+absorbed_heat height network number (source.Stream i) =
+    minus (outlet_height height (pass_of network number i)) (inlet_height height (pass_of network number i))
 absorbed_heat height network number (source.Utility i) = rational_zero
 
 -- the penalty of the exchanger with a number; that of a mix is the height that its branches lose, `mix_loss`
