@@ -14,6 +14,7 @@ pub mod InvalidLemmas
 pub mod VerdictLemmas
 pub mod FormedLemmas
 pub mod Sized
+pub mod StreamSizes
 pub mod LineSteps
 pub mod SumBounds
 pub mod GroupSums

@@ -65,7 +65,8 @@ roomy_none = record {
   size = within-zero;
   state = within-zero;
   heat = subst IsWithinLimits (sym (times-zero rational_zero)) within-zero;
-  wanted = λ approach is. subst IsWithinLimits (sym (zero-plus (whole approach))) (within-whole approach (let from = is.from in let upto = is.upto in omega (arith, ints, from, upto)));
+  wanted = λ approach is. subst IsWithinLimits (sym (zero-plus (whole approach)))
+      (within-whole approach (let from = is.from in let upto = is.upto in omega (arith, ints, from, upto)));
 }
 
 -- the greatest approach
@@ -95,16 +96,19 @@ sized_roomy d m e n v small size state =
     record {
       size = sized-within d m v.cp small.size_den dens.0 small.size size;
       state = sized-within e n v.t small.state_den dens.1 (omega (arith, most)) state;
-      heat = sized-within (d * e) (m * n) (times v.cp v.t) (mul-pos small.size_den small.state_den) small.dens small.heat (sized-times d e m n v.cp v.t small.size_den small.state_den size state);
+      heat = sized-within (d * e) (m * n) (times v.cp v.t) (mul-pos small.size_den small.state_den) small.dens small.heat
+          (sized-times d e m n v.cp v.t small.size_den small.state_den size state);
       wanted = λ approach asked.
           let from = asked.from in
           let upto = asked.upto in
-          let added = sized-plus e n most_approach v.t (whole approach) state (sized-whole e most_approach approach small.state_den (omega (arith, ints, from, upto))) in
+          let added = sized-plus e n most_approach v.t (whole approach) state
+          (sized-whole e most_approach approach small.state_den (omega (arith, ints, from, upto))) in
           sized-within e (n + most_approach) (plus v.t (whole approach)) small.state_den dens.1 (omega (arith, most)) added;
     }
 
 -- and so does the change from one state to another
-pub sized_change : (d m e n : ℕ) (of : Side) (before after : Rational) → AreSmall d m e n → IsSized e n before → IsSized e n after → IsWithinLimits (change of before after)
+pub sized_change : (d m e n : ℕ) (of : Side) (before after : Rational) → AreSmall d m e n → IsSized e n before → IsSized e n after
+    → IsWithinLimits (change of before after)
 sized_change d m e n of before after small one two =
     let dens = factors d e (most_den) small.size_den small.state_den small.dens in
     let most = small.state in
@@ -117,7 +121,8 @@ sized_change d m e n of before after small one two =
 
 -- what holds of nothing and of each value holds of a branch with any number
 pub each_value : (P : BranchValue → Type 0) → P no_value → (values : Valuation) → All P values → (branch : ℕ) → P (value_at values branch)
-each_value P none values each branch = ⊎_elim (λ inside. each branch no_value inside) (λ past. subst P (sym (get_or_past values branch no_value past)) none) (cases_lt branch (length values))
+each_value P none values each branch =
+    ⊎_elim (λ inside. each branch no_value inside) (λ past. subst P (sym (get_or_past values branch no_value past)) none) (cases_lt branch (length values))
 
 roomy_at : (values : Valuation) → All IsRoomy values → (branch : ℕ) → IsRoomy (value_at values branch)
 roomy_at values roomy branch = each_value IsRoomy roomy_none values roomy branch
@@ -125,18 +130,21 @@ roomy_at values roomy branch = each_value IsRoomy roomy_none values roomy branch
 -- what the branches of a network carry leaves room, and so does the change of the state in each pass
 pub record HasRoom (case : Case) (network : Network) (values : Valuation) : Type 0 where
   pub branches : All IsRoomy values
-  pub changes : (k from exchanger to : ℕ) → slice_get network.lines k ≡ Some (line.Pass from exchanger to) → IsWithinLimits (change (branch_side case network from) (value_at values from).t (value_at values to).t)
+  pub changes : (k from exchanger to : ℕ) → slice_get network.lines k ≡ Some (line.Pass from exchanger to)
+      → IsWithinLimits (change (branch_side case network from) (value_at values from).t (value_at values to).t)
 
 -- ---- statements
 
 -- the rest of a split is the size of its second branch
-pub split_formed : (at : Place) (from first second : BranchValue) (cp : Rational) → IsSplit from first second cp → IsRoomy second → AreFormed (split_items at from cp)
+pub split_formed : (at : Place) (from first second : BranchValue) (cp : Rational) → IsSplit from first second cp → IsRoomy second
+    → AreFormed (split_items at from cp)
 split_formed at from first second cp split roomy =
     let rest = ap (λ (v : BranchValue). v.cp) (split_determined from first second cp split).second_is in
     All-from_recursion IsFormed (split_items at from cp) (tt, (subst IsWithinLimits rest roomy.size, tt))
 
 -- a pass forms the change of the state, and the state behind it
-pub pass_formed : (at : Place) (of : Side) (duty : Rational) (from to : BranchValue) → IsBelow rational_zero from.cp → IsPass of duty from to → IsRoomy to → IsWithinLimits (change of from.t to.t) → AreFormed (pass_items at of from duty)
+pub pass_formed : (at : Place) (of : Side) (duty : Rational) (from to : BranchValue) → IsBelow rational_zero from.cp → IsPass of duty from to → IsRoomy to
+    → IsWithinLimits (change of from.t to.t) → AreFormed (pass_items at of from duty)
 pass_formed at of duty from to positive pass roomy change_within =
     let by = change of from.t to.t in
     let over_size = over_from_times by duty from.cp (positive-nonzero from.cp positive) (times_comm by from.cp ∙ pass.heat) in
@@ -148,7 +156,8 @@ formed-if true items formed = formed-none
 formed-if false items formed = formed
 
 -- a mix forms the size, the two products, that of the mixed branch, and its state
-pub mix_formed : (at : Place) (first second to : BranchValue) → IsBelow rational_zero (plus first.cp second.cp) → IsMix first second to → IsRoomy first → IsRoomy second → IsRoomy to → AreFormed (mix_items at first second)
+pub mix_formed : (at : Place) (first second to : BranchValue) → IsBelow rational_zero (plus first.cp second.cp) → IsMix first second to → IsRoomy first
+    → IsRoomy second → IsRoomy to → AreFormed (mix_items at first second)
 mix_formed at first second to positive mix one two both =
     let size = subst IsWithinLimits mix.size both.size in
     let heat = subst IsWithinLimits mix.heat both.heat in
@@ -161,21 +170,29 @@ end_formed : (at : Place) (value : BranchValue) (o : Option Stream) → AreForme
 end_formed at value None = formed-none
 end_formed at value (Some s) = All-from_recursion IsFormed (end_items at value (Some s)) (tt, (tt, tt))
 
-pub lines_formed : (case : Case) (network : Network) (values : Valuation) → HasShape case network → IsWholeValuation case network values → HasRoom case network values
+pub lines_formed : (case : Case) (network : Network) (values : Valuation) → HasShape case network → IsWholeValuation case network values
+    → HasRoom case network values
     → (k : ℕ) (l : Line) → slice_get network.lines k ≡ Some l → AreFormed (line_items case network values (place.Line (k + 1)) l)
 lines_formed case network values shape valuation room k (line.Exchanger name hot cold duty) here = formed-none
 lines_formed case network values shape valuation room k (line.Split from first cp second) here =
-    split_formed (place.Line (k + 1)) (value_at values from) (value_at values first) (value_at values second) cp (all_at (Solves case network values) network.lines k (line.Split from first cp second) (all_solved valuation) here) (roomy_at values room.branches second)
+    split_formed (place.Line (k + 1)) (value_at values from) (value_at values first) (value_at values second) cp
+    (all_at (Solves case network values) network.lines k (line.Split from first cp second) (all_solved valuation) here)
+    (roomy_at values room.branches second)
 lines_formed case network values shape valuation room k (line.Pass from exchanger to) here =
     let known = names-known case network shape k (line.Pass from exchanger to) here in
-    pass_formed (place.Line (k + 1)) (branch_side case network from) (duty_at network exchanger) (value_at values from) (value_at values to) (branch_above valuation shape from known.0)
-    (all_at (Solves case network values) network.lines k (line.Pass from exchanger to) (all_solved valuation) here) (roomy_at values room.branches to) (room.changes k from exchanger to here)
+    pass_formed (place.Line (k + 1)) (branch_side case network from) (duty_at network exchanger) (value_at values from) (value_at values to)
+    (branch_above valuation shape from known.0)
+    (all_at (Solves case network values) network.lines k (line.Pass from exchanger to) (all_solved valuation) here) (roomy_at values room.branches to)
+    (room.changes k from exchanger to here)
 lines_formed case network values shape valuation room k (line.Mix first second to) here =
     let known = names-known case network shape k (line.Mix first second to) here in
-    let positive = mixed_positive (value_at values first) (value_at values second) (branch_above valuation shape first known.0) (branch_above valuation shape second known.1) in
-    mix_formed (place.Line (k + 1)) (value_at values first) (value_at values second) (value_at values to) positive (all_at (Solves case network values) network.lines k (line.Mix first second to) (all_solved valuation) here)
+    let positive = mixed_positive (value_at values first) (value_at values second) (branch_above valuation shape first known.0)
+    (branch_above valuation shape second known.1) in
+    mix_formed (place.Line (k + 1)) (value_at values first) (value_at values second) (value_at values to) positive
+    (all_at (Solves case network values) network.lines k (line.Mix first second to) (all_solved valuation) here)
     (roomy_at values room.branches first) (roomy_at values room.branches second) (roomy_at values room.branches to)
-lines_formed case network values shape valuation room k (line.End branch) here = end_formed (place.Line (k + 1)) (value_at values branch) (slice_get case.streams (stream_at network.branches branch))
+lines_formed case network values shape valuation room k (line.End branch) here =
+    end_formed (place.Line (k + 1)) (value_at values branch) (slice_get case.streams (stream_at network.branches branch))
 
 -- ---- exchangers
 
@@ -229,7 +246,8 @@ module _
     (levels : (s : Source) (level : ℤ) → fixed_level case s ≡ Some level → P (whole level))
     (none : P rational_zero)
   where
-    between_keeps : (of : Side) (from to : ℕ) → P (low_of (run_between of (value_at values from) (value_at values to))) × P (high_of (run_between of (value_at values from) (value_at values to)))
+    between_keeps : (of : Side) (from to : ℕ)
+        → P (low_of (run_between of (value_at values from) (value_at values to))) × P (high_of (run_between of (value_at values from) (value_at values to)))
     between_keeps side.Hot from to = (each to, each from)
     between_keeps side.Cold from to = (each from, each to)
 
@@ -247,7 +265,8 @@ module _
     side_keeps number (source.Utility index) = let here = levels (source.Utility index) _ refl in (here, here)
 
 -- an exchanger forms the temperatures that its cold side asks for
-pub exchanger_formed : (case : Case) (network : Network) (values : Valuation) → IsComplete case → All IsRoomy values → (number : ℕ) (e : Exchanger) → AreFormed (exchanger_items_at case network values (number, e))
+pub exchanger_formed : (case : Case) (network : Network) (values : Valuation) → IsComplete case → All IsRoomy values → (number : ℕ) (e : Exchanger)
+    → AreFormed (exchanger_items_at case network values (number, e))
 exchanger_formed case network values complete roomy number e =
     let approach = approach_of case e.hot e.cold in
     let asked = approach-within case complete e.hot e.cold in

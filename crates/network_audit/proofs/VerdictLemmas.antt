@@ -17,14 +17,17 @@ use Rattle.network_audit.proofs.InvalidLemmas.{invalid_network}
 use Rattle.network_audit.proofs.ValidLemmas.{valid_network}
 
 -- the valuation that is left is the only one
-pub one_valuation_left : (old new : Audit) (given : Verdict) → HasShape old.case old.network → Leaves old given new → IfAccepted given (λ balance. (values : Valuation) → IsWholeValuation old.case old.network values → new.values ≡ Some values)
+pub one_valuation_left : (old new : Audit) (given : Verdict) → HasShape old.case old.network → Leaves old given new
+    → IfAccepted given (λ balance. (values : Valuation) → IsWholeValuation old.case old.network values → new.values ≡ Some values)
 one_valuation_left old new (verdict.Accepted balance) shape (kept, faultless, left) =
-    λ values other. ap (λ a. a.values) left ∙ ap Some (one_valuation old.case old.network (length old.network.lines) kept values shape faultless.valuation other)
+    λ values other. ap (λ a. a.values) left
+    ∙ ap Some (one_valuation old.case old.network (length old.network.lines) kept values shape faultless.valuation other)
 one_valuation_left old new (verdict.Rejected place reason) shape left = tt
 one_valuation_left old new (verdict.TooFine place step) shape left = tt
 
 -- what is accepted is valid, and what is rejected is not
-pub says_valid : (case : Case) (network : Network) (given : Verdict) → HasShape case network → IsVerdict case network given → Says given (IsValidNetwork case network)
+pub says_valid : (case : Case) (network : Network) (given : Verdict) → HasShape case network → IsVerdict case network given
+    → Says given (IsValidNetwork case network)
 says_valid case network (verdict.Accepted balance) shape is = valid_network case network is.0
 says_valid case network (verdict.Rejected place reason) shape is = invalid_network case network place reason shape is
 says_valid case network (verdict.TooFine place step) shape is = tt
@@ -35,9 +38,11 @@ says_exactly P (verdict.Rejected place reason) is = inr ((λ none. absurd none),
 says_exactly P (verdict.TooFine place step) is = inl tt
 
 -- what is accepted does not beat the target
-pub excess_of_verdict : (case : Case) (network : Network) (given : Verdict) → HasShape case network → IsVerdict case network given → IfAccepted given (λ balance. IsAtMost rational_zero balance.excess)
+pub excess_of_verdict : (case : Case) (network : Network) (given : Verdict) → HasShape case network → IsVerdict case network given
+    → IfAccepted given (λ balance. IsAtMost rational_zero balance.excess)
 excess_of_verdict case network (verdict.Accepted balance) shape is =
     let valid = valid_network case network is.0 in
-    subst (λ (b : Balance). IsAtMost rational_zero b.excess) (sym is.1) (targets_met case network valid.values shape valid.valuation valid.ended valid.approaches)
+    subst (λ (b : Balance). IsAtMost rational_zero b.excess) (sym is.1)
+    (targets_met case network valid.values shape valid.valuation valid.ended valid.approaches)
 excess_of_verdict case network (verdict.Rejected place reason) shape is = tt
 excess_of_verdict case network (verdict.TooFine place step) shape is = tt

@@ -36,7 +36,8 @@ abbrev pub ends_at : Case → Valuation → Source → Option Crossing → Ends
 ends_at case values s pass = level_ends (passed_ends values pass) (fixed_level case s)
 
 abbrev pub joint_items_at : Case → Valuation → ℕ × Joint → List Item
-joint_items_at case values (number, joint) = side_items case (place.Exchanger number) joint.hot joint.cold (ends_at case values joint.hot joint.given) (ends_at case values joint.cold joint.taken)
+joint_items_at case values (number, joint) =
+    side_items case (place.Exchanger number) joint.hot joint.cold (ends_at case values joint.hot joint.given) (ends_at case values joint.cold joint.taken)
 
 unfoldable pub joint_items : Case → Valuation → List Joint → List Item
 joint_items case values joints = flat_map (joint_items_at case values) (enumerate_from 0 joints)
@@ -54,7 +55,8 @@ unfoldable pub duties_in : List Joint → ℕ → List Rational
 duties_in joints index = filter_map (joint_duty index) joints
 
 abbrev pub heat_items : List Joint → ℕ × Utility → List Item
-heat_items joints (index, u) = sum_steps (place.Utility index) 0 rational_zero (duties_in joints index) ++ range_items (place.Utility index) u (rational_sum (duties_in joints index))
+heat_items joints (index, u) =
+    sum_steps (place.Utility index) 0 rational_zero (duties_in joints index) ++ range_items (place.Utility index) u (rational_sum (duties_in joints index))
 
 unfoldable pub all_heat_items : List Joint → List Utility → List Item
 all_heat_items joints utilities = flat_map (heat_items joints) (enumerate_from 0 utilities)

@@ -86,15 +86,17 @@ impl Auditor {
         ensures after { Leaves self.old result self.new }
 
         // The valuation that is kept is the only one.
-        ensures only { IfAccepted result (λ _. (values : Valuation) →
-            IsWholeValuation self.old.case self.old.network values → self.new.values ≡ Some values) }
+        ensures only { IfAccepted result (λ _. (values : Valuation)
+            → IsWholeValuation self.old.case self.old.network values
+            → self.new.values ≡ Some values) }
 
-        // An accepted network is valid and a rejected one is not, so it is accepted exactly where it
-        // is valid, unless the verdict is too fine.
+        // An accepted network is valid and a rejected one is not; so the verdict is too fine, or it
+        // accepts exactly the valid networks.
         ensures valid { Says result (IsValidNetwork self.old.case self.old.network) }
         ensures valid_exactly { SaysExactly result (IsValidNetwork self.old.case self.old.network) }
         ensures excess { IfAccepted result (λ balance. IsAtMost rational_zero balance.excess) }
-        ensures again { (other : Verdict) → IsVerdict self.old.case self.old.network other → other ≡ result }
+        ensures again { (other : Verdict) → IsVerdict self.old.case self.old.network other
+            → other ≡ result }
     {
         self.audited()
     }

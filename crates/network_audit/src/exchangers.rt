@@ -100,7 +100,10 @@ fn audit_exchanger(
     given: &Ends,
     taken: &Ends,
 ) -> Result<(), Finding>
-    ensures { Judged (side_items case.now place joint.now.hot joint.now.cold given.now taken.now) (λ _. Unit {0}) result }
+    ensures { Judged
+        (side_items case.now place joint.now.hot joint.now.cold given.now taken.now)
+        (λ _. Unit {0})
+        result }
 {
     if case.is_forbidden(joint.hot, joint.cold) {
         return Err(Finding::Failed {

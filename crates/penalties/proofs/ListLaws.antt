@@ -34,7 +34,8 @@ abbrev value_of : Penalty → Rational
 value_of p = p.value
 
 module _ (height : ℕ → Rational) where
-  sum-mixes : (n : ℕ) (lines : List Line) → rational_sum_by value_of (filter_map (mix_row height) (enumerate_from n lines)) ≡ rational_sum_by (mix_loss height) lines
+  sum-mixes : (n : ℕ) (lines : List Line)
+      → rational_sum_by value_of (filter_map (mix_row height) (enumerate_from n lines)) ≡ rational_sum_by (mix_loss height) lines
   sum-mixes n [] = refl
   sum-mixes n (line.Exchanger name hot cold duty ∷ lines) = sum-mixes (n + 1) lines ∙ sym (zero-plus (rational_sum_by (mix_loss height) lines))
   sum-mixes n (line.Split from first cp second ∷ lines) = sum-mixes (n + 1) lines ∙ sym (zero-plus (rational_sum_by (mix_loss height) lines))
@@ -47,11 +48,15 @@ module _ (height : ℕ → Rational) where
 
   mixes_not_negative : (n : ℕ) (lines : List Line) → All LosesSome lines → All IsNotNegative (filter_map (mix_row height) (enumerate_from n lines))
   mixes_not_negative n [] some = All-nil IsNotNegative
-  mixes_not_negative n (line.Exchanger name hot cold duty ∷ lines) some = mixes_not_negative (n + 1) lines (All-tail LosesSome (line.Exchanger name hot cold duty) lines some)
-  mixes_not_negative n (line.Split from first cp second ∷ lines) some = mixes_not_negative (n + 1) lines (All-tail LosesSome (line.Split from first cp second) lines some)
-  mixes_not_negative n (line.Pass from exchanger to ∷ lines) some = mixes_not_negative (n + 1) lines (All-tail LosesSome (line.Pass from exchanger to) lines some)
+  mixes_not_negative n (line.Exchanger name hot cold duty ∷ lines) some =
+      mixes_not_negative (n + 1) lines (All-tail LosesSome (line.Exchanger name hot cold duty) lines some)
+  mixes_not_negative n (line.Split from first cp second ∷ lines) some =
+      mixes_not_negative (n + 1) lines (All-tail LosesSome (line.Split from first cp second) lines some)
+  mixes_not_negative n (line.Pass from exchanger to ∷ lines) some =
+      mixes_not_negative (n + 1) lines (All-tail LosesSome (line.Pass from exchanger to) lines some)
   mixes_not_negative n (line.Mix first second to ∷ lines) some =
-      All-cons IsNotNegative _ _ (All-head LosesSome (line.Mix first second to) lines some) (mixes_not_negative (n + 1) lines (All-tail LosesSome (line.Mix first second to) lines some))
+      All-cons IsNotNegative _ _ (All-head LosesSome (line.Mix first second to) lines some)
+      (mixes_not_negative (n + 1) lines (All-tail LosesSome (line.Mix first second to) lines some))
   mixes_not_negative n (line.End branch ∷ lines) some = mixes_not_negative (n + 1) lines (All-tail LosesSome (line.End branch) lines some)
 
 -- ---- all rows
@@ -79,7 +84,8 @@ module _ (case : Case) (network : Network) (shape : HasShape case network) (vali
   sum-rows view values is_reference whole_values =
       let height = height_at case view network values in
       rational_sum_by-append value_of (exchanger_rows height network) (mix_rows height network.lines)
-      ∙ ap₂ plus (rational_sum_by-map value_of (exchanger_row height network) (enumerate_from 0 (exchangers_of network.lines))) (sum-mixes height 0 network.lines)
+      ∙ ap₂ plus (rational_sum_by-map value_of (exchanger_row height network) (enumerate_from 0 (exchangers_of network.lines)))
+      (sum-mixes height 0 network.lines)
       ∙ penalties_excess case network values view shape whole_values
       (subst (AreEnded case network) (same_values values whole_values) valid.ended) is_reference
 

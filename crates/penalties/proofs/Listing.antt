@@ -25,10 +25,12 @@ use Rattle.penalties.proofs.StepLemmas.{first_behind, first_front}
 use Rattle.penalties.proofs.TableLemmas.{rows-joints, steps-joints}
 
 -- what a loop found, and what it found not
-pub found_some : (steps : List Step) (P : Type 0) (o : Option TooFine) (found : TooFine) → Finds steps P o → o ≡ Some found → first_too_fine steps ≡ Some (found.place, found.step)
+pub found_some : (steps : List Step) (P : Type 0) (o : Option TooFine) (found : TooFine) → Finds steps P o → o ≡ Some found
+    → first_too_fine steps ≡ Some (found.place, found.step)
 found_some steps P o found finds is = subst (Finds steps P) is finds
 
-pub found_none : (steps : List Step) (P : Type 0) (o : Option TooFine) → Finds steps P o → ((found : TooFine) → o ≡ Some found → ⊥) → (first_too_fine steps ≡ None) × P
+pub found_none : (steps : List Step) (P : Type 0) (o : Option TooFine) → Finds steps P o → ((found : TooFine) → o ≡ Some found → ⊥)
+    → (first_too_fine steps ≡ None) × P
 found_none steps P None finds none = finds
 found_none steps P (Some found) finds none = absurd (none found refl)
 
@@ -58,7 +60,8 @@ module _
     exchangers_first : first_too_fine (all_exchanger_steps height steps network) ≡ first_too_fine (all_joint_steps height steps joints)
     exchangers_first = ap first_too_fine (sym (ap (all_joint_steps height steps) table ∙ steps-joints height network steps))
 
-    pub too_fine_first : (place : Place) (step : ℕ) → first_too_fine (all_joint_steps height steps joints) ≡ Some (place, step) → ListsPenalties case network (list.TooFine place step)
+    pub too_fine_first : (place : Place) (step : ℕ) → first_too_fine (all_joint_steps height steps joints) ≡ Some (place, step)
+        → ListsPenalties case network (list.TooFine place step)
     too_fine_first place step found = record {
       reference = reference;
       values = values_of audit;
@@ -71,18 +74,22 @@ module _
       mixes_later : first_too_fine (all_mix_steps height steps network.lines) ≡ first_too_fine (all_mix_steps height steps lines)
       mixes_later = ap (λ ls. first_too_fine (all_mix_steps height steps ls)) (sym own)
 
-      pub too_fine_later : (place : Place) (step : ℕ) → first_too_fine (all_joint_steps height steps joints) ≡ None → first_too_fine (all_mix_steps height steps lines) ≡ Some (place, step) → ListsPenalties case network (list.TooFine place step)
+      pub too_fine_later : (place : Place) (step : ℕ) → first_too_fine (all_joint_steps height steps joints) ≡ None
+          → first_too_fine (all_mix_steps height steps lines) ≡ Some (place, step) → ListsPenalties case network (list.TooFine place step)
       too_fine_later place step none found = record {
         reference = reference;
         values = values_of audit;
         is_reference = is_reference;
         valuation = valuation_kept;
-        lists = first_behind (all_exchanger_steps height steps network) (all_mix_steps height steps network.lines) (exchangers_first ∙ none) ∙ mixes_later ∙ found;
+        lists = first_behind (all_exchanger_steps height steps network) (all_mix_steps height steps network.lines) (exchangers_first ∙ none) ∙ mixes_later
+            ∙ found;
       }
 
       -- the list begins empty, gets the rows of the exchangers, and then those of the mixes
-      pub all_listed : (start first listed : List Penalty) → first_too_fine (all_joint_steps height steps joints) ≡ None → first_too_fine (all_mix_steps height steps lines) ≡ None
-          → start ≡ [] → first ≡ start ++ joint_rows height joints → listed ≡ first ++ mix_rows height lines → ListsPenalties case network (list.Listed listed)
+      pub all_listed : (start first listed : List Penalty) → first_too_fine (all_joint_steps height steps joints) ≡ None
+          → first_too_fine (all_mix_steps height steps lines) ≡ None
+          → start ≡ [] → first ≡ start ++ joint_rows height joints → listed ≡ first ++ mix_rows height lines
+          → ListsPenalties case network (list.Listed listed)
       all_listed start first listed none later empty rows more = record {
         reference = reference;
         values = values_of audit;
@@ -90,6 +97,7 @@ module _
         valuation = valuation_kept;
         lists = (
           first_behind (all_exchanger_steps height steps network) (all_mix_steps height steps network.lines) (exchangers_first ∙ none) ∙ mixes_later ∙ later,
-          more ∙ ap₂ (λ front ls. front ++ mix_rows height ls) (rows ∙ ap (λ xs. xs ++ joint_rows height joints) empty ∙ ap (joint_rows height) table ∙ rows-joints height network) own,
+          more ∙ ap₂ (λ front ls. front ++ mix_rows height ls) (rows ∙ ap (λ xs. xs ++ joint_rows height joints) empty ∙ ap (joint_rows height) table
+              ∙ rows-joints height network) own,
         );
       }

@@ -25,15 +25,18 @@ unfolding positive_part
 height-below size distance below = ap (λ b. times size (if b then distance else rational_zero)) below ∙ times-zero size
 
 -- the second step is only formed above the place
-pub steps-above : (at : Place) (k : ℕ) (size distance : Rational) → is_below rational_zero distance ≡ true → height_steps at k size distance ≡ step at k distance ∷ step at (k + 1) (times size distance) ∷ []
+pub steps-above : (at : Place) (k : ℕ) (size distance : Rational) → is_below rational_zero distance ≡ true
+    → height_steps at k size distance ≡ step at k distance ∷ step at (k + 1) (times size distance) ∷ []
 steps-above at k size distance above = ap (λ b. step at k distance ∷ (if b then step at (k + 1) (times size distance) ∷ [] else [])) above
 
-pub steps-below : (at : Place) (k : ℕ) (size distance : Rational) → is_below rational_zero distance ≡ false → height_steps at k size distance ≡ step at k distance ∷ []
+pub steps-below : (at : Place) (k : ℕ) (size distance : Rational) → is_below rational_zero distance ≡ false
+    → height_steps at k size distance ≡ step at k distance ∷ []
 steps-below at k size distance below = ap (λ b. step at k distance ∷ (if b then step at (k + 1) (times size distance) ∷ [] else [])) below
 
 -- ---- branches
 
-pub value-read : (audit : Audit) (branch : ℕ) → unwrap_or (option_and_then (λ values. slice_get values branch) audit.values) no_value ≡ value_at (values_of audit) branch
+pub value-read : (audit : Audit) (branch : ℕ)
+    → unwrap_or (option_and_then (λ values. slice_get values branch) audit.values) no_value ≡ value_at (values_of audit) branch
 value-read audit branch = by audit.values
   where
     at : (values : Valuation) (n : ℕ) → unwrap_or (slice_get values n) no_value ≡ value_at values n

@@ -23,7 +23,8 @@ pub fn penalties(
     requires { HasAccepted auditor.now case.now network.now }
     ensures lists { IfOk result (ListsPenalties case.now network.now) }
     ensures not_negative { IfOk result (λ list. IfListed list (All IsNotNegative)) }
-    ensures sum { IfOk result (λ list. IfListed list (λ listed. sum_of listed ≡ excess_of case.now network.now)) }
+    ensures sum { IfOk result (λ list.
+        IfListed list (λ listed. sum_of listed ≡ excess_of case.now network.now)) }
 {
     let joints = auditor.joints();
     let survey = Survey {
