@@ -45,7 +45,8 @@ numbered first stream count = map (λ k. record { name = branch_name k; stream =
 -- the branches that the courses make, those of the streams from number `stream` on
 abbrev pub made_branches : ℕ → ℕ → List Course → List Branch
 made_branches first stream [] = []
-made_branches first stream (course ∷ courses) = numbered first stream (course_branches course) ++ made_branches (first + course_branches course) (stream + 1) courses
+made_branches first stream (course ∷ courses) =
+    numbered first stream (course_branches course) ++ made_branches (first + course_branches course) (stream + 1) courses
 
 -- the line that declares an exchanger
 abbrev pub declared_line : Exchanger → Line

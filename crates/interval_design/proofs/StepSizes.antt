@@ -18,12 +18,13 @@ use Rattle.stream_case.proofs.CompleteLemmas.{HasValidStreams-IsComplete}
 use Rattle.stream_case.proofs.EndLemmas.{AreEnds-IsValidStream}
 use Rattle.stream_case.proofs.HeatLemmas.{HasLength-IsValidStream}
 use Rattle.fractions.specs.Rationals.{IsWithinLimits, whole}
-use Rattle.fractions.proofs.Comparisons.{at_most-whole, at_most_trans}
+use Rattle.fractions.proofs.Comparisons.{at_most_trans}
 use Rattle.network_text.proofs.Lists.{all_at}
 use Rattle.network_values.specs.Values.{change, first_value, full_size, no_value}
 use Rattle.network_values.specs.declared.values.BranchValue.{BranchValue}
 use Rattle.network_audit.proofs.LineSteps.{AreSmall, IsRoomy, sized_change, sized_roomy}
 use Rattle.network_audit.proofs.Sized.{IsSized, sized-between, sized-whole}
+use Rattle.network_audit.proofs.StreamSizes.{first_state-sized, full_size-most, full_size-sized}
 use Rattle.design_lines.specs.Values.{courses_values, stage_values}
 use Rattle.design_lines.specs.declared.stage.Share.{Share}
 use Rattle.design_lines.proofs.StageSizes.{AreOver, CourseHolds, IsOver, IsStageBranch, StageHolds, course_holds, courses_hold, stage_sized}
@@ -88,18 +89,13 @@ plain_change of from to one two = sized_change one.width most_cp 1 highest of fr
 -- ---- a stream's own branch
 
 first_plain : (s : Stream) → IsValidStream s → IsPlain (first_value s)
-first_plain s valid_stream =
-    let low = valid_stream.supply.from in
-    let high = valid_stream.supply.upto in
-    let least = valid_stream.cp.from in
-    let most = valid_stream.cp.upto in
-    record {
-      width = 1;
-      wide = omega arith;
-      narrow = omega arith;
-      size = sized-whole 1 most_cp s.cp (omega arith) (omega (arith, ints, least, most));
-      state = sized-whole 1 highest s.supply (omega arith) (omega (arith, ints, low, high));
-    }
+first_plain s valid = record {
+  width = 1;
+  wide = omega arith;
+  narrow = omega arith;
+  size = full_size-sized s valid most_cp (omega arith);
+  state = first_state-sized s valid highest (omega arith);
+}
 
 -- ---- a part
 
@@ -139,10 +135,9 @@ part_plain case hot cold ts s index p valid positive own from upto =
     let entered_sized = end_sized s.side (entered_at s.side p) s.contribution places.0 valid.contribution in
     let left_sized = end_sized s.side (left_at s.side p) s.contribution places.1 valid.contribution in
     let over : AreOver width shares = shares_each (λ (a : Share). IsOver width a.cp) s.side index width (enumerate_from 0 ts) (λ k e inside. record { num = (get_or (enumerate_from 0 ts) k e).1.heat; is = refl }) in
-    let cp_most = valid.cp.upto in
-    let whole_most = at_most-whole s.cp (pos most_cp) cp_most in
     All-weaker (IsStageBranch width (full_size s) (whole entered) (whole left)) IsPlain (λ v is.
-    let size = sized-between width most_cp v.cp is.over.num wide is.over.is is.least (at_most_trans v.cp (full_size s) (whole (pos most_cp)) is.most whole_most) in
+    let size = sized-between width most_cp v.cp is.over.num wide is.over.is is.least
+        (at_most_trans v.cp (full_size s) (whole (pos most_cp)) is.most (full_size-most s valid)) in
     let state = ⊎_elim (λ same. subst (IsSized 1 highest) (sym same) entered_sized) (λ same. subst (IsSized 1 highest) (sym same) left_sized) is.state in
     record { width = width; wide = wide; narrow = narrow; size = size; state = state })
     (stage_values (whole entered) (whole left) shares) (stage_sized width (full_size s) (whole entered) (whole left) shares over led.positive led.sizes)

@@ -19,6 +19,7 @@ use Rattle.stream_case.proofs.EndLemmas.{AreEnds-IsValidStream}
 use Rattle.fractions.specs.Rationals.{whole}
 use Rattle.network_text.proofs.Lists.{all_at}
 use Rattle.network_values.specs.Values.{first_state, full_size, last_state}
+use Rattle.network_values.proofs.StreamStates.{first_state-unshifted, last_state-unshifted}
 use Rattle.design_lines.specs.Drawn.{Course}
 use Rattle.design_lines.specs.Values.{IsLedStage, IsLedStream, LedStage, Meet, shares_along, state_behind}
 use Rattle.design_lines.proofs.ListLemmas.{All-kept}
@@ -120,12 +121,10 @@ module _ (case : Case) (hot cold : List Part) (ts : List Transfer) (complete : I
       let items = items_of side.Hot hot cold number in
       let way = side_falls side.Hot hot same parts.hot_parts in
       let meets = way_meets side.Hot c ts items (high_end s) (low_end s) way in
-      let start : high_end s +ℤ c ≡ s.supply = ap (λ a. shifted a (if is_hot a then s.supply else s.target) c +ℤ c) same ∙ back s.supply in
-      let end : low_end s +ℤ c ≡ s.target = ap (λ a. shifted a (if is_hot a then s.target else s.supply) c +ℤ c) same ∙ back s.target in
-      (subst (λ t. Meet (whole t) (map (led_at side.Hot c ts) items)) start meets.0, subst (λ t. state_behind (whole t) (map (led_at side.Hot c ts) items) ≡ last_state s) start (meets.1 ∙ ap whole end))
-    where
-      back : (t : ℤ) → (t -ℤ s.contribution) +ℤ s.contribution ≡ t
-      back t = omega (arith, ints)
+      let start : whole (high_end s +ℤ c) ≡ first_state s = first_state-unshifted side.Hot s same in
+      let end : whole (low_end s +ℤ c) ≡ last_state s = last_state-unshifted side.Hot s same in
+      (subst (λ t. Meet t (map (led_at side.Hot c ts) items)) start meets.0,
+      subst (λ t. state_behind t (map (led_at side.Hot c ts) items) ≡ last_state s) start (meets.1 ∙ end))
   joined_on side.Cold same =
       let c = s.contribution in
       let items = items_of side.Cold hot cold number in
@@ -133,12 +132,10 @@ module _ (case : Case) (hot cold : List Part) (ts : List Transfer) (complete : I
       let way : WayTo side.Cold (low_end s) items (high_end s) =
       subst (λ es. WayTo side.Cold (low_end s) es (high_end s)) (sym (filter_map-reverse (own_item number) (enumerate_from 0 cold))) (rise_reverse (high_end s) (filter_map (own_item number) (enumerate_from 0 cold)) (low_end s) down) in
       let meets = way_meets side.Cold c ts items (low_end s) (high_end s) way in
-      let start : low_end s -ℤ c ≡ s.supply = ap (λ a. shifted a (if is_hot a then s.target else s.supply) c -ℤ c) same ∙ back s.supply in
-      let end : high_end s -ℤ c ≡ s.target = ap (λ a. shifted a (if is_hot a then s.supply else s.target) c -ℤ c) same ∙ back s.target in
-      (subst (λ t. Meet (whole t) (map (led_at side.Cold c ts) items)) start meets.0, subst (λ t. state_behind (whole t) (map (led_at side.Cold c ts) items) ≡ last_state s) start (meets.1 ∙ ap whole end))
-    where
-      back : (t : ℤ) → (t +ℤ s.contribution) -ℤ s.contribution ≡ t
-      back t = omega (arith, ints)
+      let start : whole (low_end s -ℤ c) ≡ first_state s = first_state-unshifted side.Cold s same in
+      let end : whole (high_end s -ℤ c) ≡ last_state s = last_state-unshifted side.Cold s same in
+      (subst (λ t. Meet t (map (led_at side.Cold c ts) items)) start meets.0,
+      subst (λ t. state_behind t (map (led_at side.Cold c ts) items) ≡ last_state s) start (meets.1 ∙ end))
 
   -- ---- the parts
 

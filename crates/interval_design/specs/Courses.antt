@@ -63,7 +63,8 @@ pub record CanBeLed (of : Side) (parts : List Part) (transfers : List Transfer) 
 
 -- the same of all streams
 abbrev pub AllCanBeLed : Case → List Part → List Part → List Transfer → Type 0
-AllCanBeLed case hot cold transfers = (number : ℕ) (s : Stream) → slice_get case.streams number ≡ Some s → CanBeLed s.side (parts_of s.side hot cold) transfers number
+AllCanBeLed case hot cold transfers =
+    (number : ℕ) (s : Stream) → slice_get case.streams number ≡ Some s → CanBeLed s.side (parts_of s.side hot cold) transfers number
 
 -- the source of the part at an index; the first stream, of which no rule speaks, where there is none
 abbrev pub source_at : List Part → ℕ → Source
@@ -77,5 +78,6 @@ exchanger_of hot cold (number, t) = record { name = exchanger_name number; hot =
 unfoldable pub network_of : Case → List Part → List Part → List Transfer → Network
 network_of case hot cold transfers = record {
   branches = own_branches case ++ made_branches 0 0 (courses_of case hot cold transfers);
-  lines = map (λ e. declared_line (exchanger_of hot cold e)) (enumerate_from 0 transfers) ++ courses_lines (length case.streams) 0 (courses_of case hot cold transfers);
+  lines = map (λ e. declared_line (exchanger_of hot cold e)) (enumerate_from 0 transfers)
+      ++ courses_lines (length case.streams) 0 (courses_of case hot cold transfers);
 }

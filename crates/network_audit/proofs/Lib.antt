@@ -14,8 +14,10 @@ pub mod InvalidLemmas
 pub mod VerdictLemmas
 pub mod FormedLemmas
 pub mod Sized
+pub mod StreamSizes
 pub mod LineSteps
 pub mod SumBounds
 pub mod GroupSums
 pub mod NoFinding
 pub mod BalanceWithin
+pub mod AcceptedLemmas

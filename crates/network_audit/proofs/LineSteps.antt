@@ -3,6 +3,7 @@ use Rattle.std.proofs.Common.{◌≡◌, ◌∙◌, ◌+◌, ◌*◌, ◌<◌, �
 use Rattle.std.specs.Prelude.{if◌then◌else◌}
 use Rattle.std.specs.Option.{option_map_or}
 use Rattle.std.proofs.Math.Nat.{mul-le-mul, mul-pos}
+use Rattle.std.proofs.lemmas.Option.{same_Some}
 use Rattle.std.proofs.lemmas.Bool.{cases_lt}
 use Rattle.std.proofs.lemmas.Int.{ints}
 use Rattle.std.proofs.lemmas.List.{get_or_past}
@@ -32,13 +33,12 @@ use Rattle.network_text.specs.declared.network.Line.TheVariants as line
 use Rattle.network_text.specs.declared.network.Network.{Network}
 use Rattle.network_text.proofs.Lists.{all_at}
 use Rattle.network_text.proofs.OfShape.{names-known}
-use Rattle.network_values.specs.Sides.{approach_of, contribution_of, high_of, low_of, pass_run, run_between, side_run}
+use Rattle.network_values.specs.Sides.{approach_of, contribution_of, fixed_level, high_of, low_of, pass_run, run_between, side_run}
 use Rattle.network_values.specs.Values.{IsMix, IsPass, IsSplit, IsWholeValuation, Solves, Valuation, branch_side, change, duty_at, no_value, value_at}
 use Rattle.network_values.specs.declared.values.BranchValue.{BranchValue}
 use Rattle.network_values.proofs.LineLemmas.{mix_determined, mixed_positive, pass_determined, split_determined}
 use Rattle.network_values.proofs.WholeLemmas.{all_solved, branch_above}
 use Rattle.network_audit.specs.Items.{IsFormed, Item, end_items, ends_of, exchanger_items_at, line_items, mean_items, mix_items, pass_items, side_items, split_items}
-use Rattle.network_audit.specs.Table.{level_of}
 use Rattle.network_audit.specs.declared.findings.Place.{Place}
 use Rattle.network_audit.specs.declared.findings.Place.TheVariants as place
 use Rattle.network_audit.proofs.FormedLemmas.{AreFormed, formed-none, formed-step}
@@ -65,7 +65,8 @@ roomy_none = record {
   size = within-zero;
   state = within-zero;
   heat = subst IsWithinLimits (sym (times-zero rational_zero)) within-zero;
-  wanted = λ approach is. subst IsWithinLimits (sym (zero-plus (whole approach))) (within-whole approach (let from = is.from in let upto = is.upto in omega (arith, ints, from, upto)));
+  wanted = λ approach is. subst IsWithinLimits (sym (zero-plus (whole approach)))
+      (within-whole approach (let from = is.from in let upto = is.upto in omega (arith, ints, from, upto)));
 }
 
 -- the greatest approach
@@ -95,16 +96,19 @@ sized_roomy d m e n v small size state =
     record {
       size = sized-within d m v.cp small.size_den dens.0 small.size size;
       state = sized-within e n v.t small.state_den dens.1 (omega (arith, most)) state;
-      heat = sized-within (d * e) (m * n) (times v.cp v.t) (mul-pos small.size_den small.state_den) small.dens small.heat (sized-times d e m n v.cp v.t small.size_den small.state_den size state);
+      heat = sized-within (d * e) (m * n) (times v.cp v.t) (mul-pos small.size_den small.state_den) small.dens small.heat
+          (sized-times d e m n v.cp v.t small.size_den small.state_den size state);
       wanted = λ approach asked.
           let from = asked.from in
           let upto = asked.upto in
-          let added = sized-plus e n most_approach v.t (whole approach) state (sized-whole e most_approach approach small.state_den (omega (arith, ints, from, upto))) in
+          let added = sized-plus e n most_approach v.t (whole approach) state
+          (sized-whole e most_approach approach small.state_den (omega (arith, ints, from, upto))) in
           sized-within e (n + most_approach) (plus v.t (whole approach)) small.state_den dens.1 (omega (arith, most)) added;
     }
 
 -- and so does the change from one state to another
-pub sized_change : (d m e n : ℕ) (of : Side) (before after : Rational) → AreSmall d m e n → IsSized e n before → IsSized e n after → IsWithinLimits (change of before after)
+pub sized_change : (d m e n : ℕ) (of : Side) (before after : Rational) → AreSmall d m e n → IsSized e n before → IsSized e n after
+    → IsWithinLimits (change of before after)
 sized_change d m e n of before after small one two =
     let dens = factors d e (most_den) small.size_den small.state_den small.dens in
     let most = small.state in
@@ -117,7 +121,8 @@ sized_change d m e n of before after small one two =
 
 -- what holds of nothing and of each value holds of a branch with any number
 pub each_value : (P : BranchValue → Type 0) → P no_value → (values : Valuation) → All P values → (branch : ℕ) → P (value_at values branch)
-each_value P none values each branch = ⊎_elim (λ inside. each branch no_value inside) (λ past. subst P (sym (get_or_past values branch no_value past)) none) (cases_lt branch (length values))
+each_value P none values each branch =
+    ⊎_elim (λ inside. each branch no_value inside) (λ past. subst P (sym (get_or_past values branch no_value past)) none) (cases_lt branch (length values))
 
 roomy_at : (values : Valuation) → All IsRoomy values → (branch : ℕ) → IsRoomy (value_at values branch)
 roomy_at values roomy branch = each_value IsRoomy roomy_none values roomy branch
@@ -125,18 +130,21 @@ roomy_at values roomy branch = each_value IsRoomy roomy_none values roomy branch
 -- what the branches of a network carry leaves room, and so does the change of the state in each pass
 pub record HasRoom (case : Case) (network : Network) (values : Valuation) : Type 0 where
   pub branches : All IsRoomy values
-  pub changes : (k from exchanger to : ℕ) → slice_get network.lines k ≡ Some (line.Pass from exchanger to) → IsWithinLimits (change (branch_side case network from) (value_at values from).t (value_at values to).t)
+  pub changes : (k from exchanger to : ℕ) → slice_get network.lines k ≡ Some (line.Pass from exchanger to)
+      → IsWithinLimits (change (branch_side case network from) (value_at values from).t (value_at values to).t)
 
 -- ---- statements
 
 -- the rest of a split is the size of its second branch
-pub split_formed : (at : Place) (from first second : BranchValue) (cp : Rational) → IsSplit from first second cp → IsRoomy second → AreFormed (split_items at from cp)
+pub split_formed : (at : Place) (from first second : BranchValue) (cp : Rational) → IsSplit from first second cp → IsRoomy second
+    → AreFormed (split_items at from cp)
 split_formed at from first second cp split roomy =
     let rest = ap (λ (v : BranchValue). v.cp) (split_determined from first second cp split).second_is in
     All-from_recursion IsFormed (split_items at from cp) (tt, (subst IsWithinLimits rest roomy.size, tt))
 
 -- a pass forms the change of the state, and the state behind it
-pub pass_formed : (at : Place) (of : Side) (duty : Rational) (from to : BranchValue) → IsBelow rational_zero from.cp → IsPass of duty from to → IsRoomy to → IsWithinLimits (change of from.t to.t) → AreFormed (pass_items at of from duty)
+pub pass_formed : (at : Place) (of : Side) (duty : Rational) (from to : BranchValue) → IsBelow rational_zero from.cp → IsPass of duty from to → IsRoomy to
+    → IsWithinLimits (change of from.t to.t) → AreFormed (pass_items at of from duty)
 pass_formed at of duty from to positive pass roomy change_within =
     let by = change of from.t to.t in
     let over_size = over_from_times by duty from.cp (positive-nonzero from.cp positive) (times_comm by from.cp ∙ pass.heat) in
@@ -148,7 +156,8 @@ formed-if true items formed = formed-none
 formed-if false items formed = formed
 
 -- a mix forms the size, the two products, that of the mixed branch, and its state
-pub mix_formed : (at : Place) (first second to : BranchValue) → IsBelow rational_zero (plus first.cp second.cp) → IsMix first second to → IsRoomy first → IsRoomy second → IsRoomy to → AreFormed (mix_items at first second)
+pub mix_formed : (at : Place) (first second to : BranchValue) → IsBelow rational_zero (plus first.cp second.cp) → IsMix first second to → IsRoomy first
+    → IsRoomy second → IsRoomy to → AreFormed (mix_items at first second)
 mix_formed at first second to positive mix one two both =
     let size = subst IsWithinLimits mix.size both.size in
     let heat = subst IsWithinLimits mix.heat both.heat in
@@ -161,21 +170,29 @@ end_formed : (at : Place) (value : BranchValue) (o : Option Stream) → AreForme
 end_formed at value None = formed-none
 end_formed at value (Some s) = All-from_recursion IsFormed (end_items at value (Some s)) (tt, (tt, tt))
 
-pub lines_formed : (case : Case) (network : Network) (values : Valuation) → HasShape case network → IsWholeValuation case network values → HasRoom case network values
+pub lines_formed : (case : Case) (network : Network) (values : Valuation) → HasShape case network → IsWholeValuation case network values
+    → HasRoom case network values
     → (k : ℕ) (l : Line) → slice_get network.lines k ≡ Some l → AreFormed (line_items case network values (place.Line (k + 1)) l)
 lines_formed case network values shape valuation room k (line.Exchanger name hot cold duty) here = formed-none
 lines_formed case network values shape valuation room k (line.Split from first cp second) here =
-    split_formed (place.Line (k + 1)) (value_at values from) (value_at values first) (value_at values second) cp (all_at (Solves case network values) network.lines k (line.Split from first cp second) (all_solved valuation) here) (roomy_at values room.branches second)
+    split_formed (place.Line (k + 1)) (value_at values from) (value_at values first) (value_at values second) cp
+    (all_at (Solves case network values) network.lines k (line.Split from first cp second) (all_solved valuation) here)
+    (roomy_at values room.branches second)
 lines_formed case network values shape valuation room k (line.Pass from exchanger to) here =
     let known = names-known case network shape k (line.Pass from exchanger to) here in
-    pass_formed (place.Line (k + 1)) (branch_side case network from) (duty_at network exchanger) (value_at values from) (value_at values to) (branch_above valuation shape from known.0)
-    (all_at (Solves case network values) network.lines k (line.Pass from exchanger to) (all_solved valuation) here) (roomy_at values room.branches to) (room.changes k from exchanger to here)
+    pass_formed (place.Line (k + 1)) (branch_side case network from) (duty_at network exchanger) (value_at values from) (value_at values to)
+    (branch_above valuation shape from known.0)
+    (all_at (Solves case network values) network.lines k (line.Pass from exchanger to) (all_solved valuation) here) (roomy_at values room.branches to)
+    (room.changes k from exchanger to here)
 lines_formed case network values shape valuation room k (line.Mix first second to) here =
     let known = names-known case network shape k (line.Mix first second to) here in
-    let positive = mixed_positive (value_at values first) (value_at values second) (branch_above valuation shape first known.0) (branch_above valuation shape second known.1) in
-    mix_formed (place.Line (k + 1)) (value_at values first) (value_at values second) (value_at values to) positive (all_at (Solves case network values) network.lines k (line.Mix first second to) (all_solved valuation) here)
+    let positive = mixed_positive (value_at values first) (value_at values second) (branch_above valuation shape first known.0)
+    (branch_above valuation shape second known.1) in
+    mix_formed (place.Line (k + 1)) (value_at values first) (value_at values second) (value_at values to) positive
+    (all_at (Solves case network values) network.lines k (line.Mix first second to) (all_solved valuation) here)
     (roomy_at values room.branches first) (roomy_at values room.branches second) (roomy_at values room.branches to)
-lines_formed case network values shape valuation room k (line.End branch) here = end_formed (place.Line (k + 1)) (value_at values branch) (slice_get case.streams (stream_at network.branches branch))
+lines_formed case network values shape valuation room k (line.End branch) here =
+    end_formed (place.Line (k + 1)) (value_at values branch) (slice_get case.streams (stream_at network.branches branch))
 
 -- ---- exchangers
 
@@ -201,8 +218,10 @@ approach-within case complete hot cold =
     let two_upto = two.upto in
     record { from = omega (arith, ints, one_from, two_from); upto = omega (arith, ints, one_upto, two_upto) }
 
-level-within : (case : Case) → IsComplete case → (number : ℕ) → IsLevel (level_of case number)
-level-within case complete number = by (slice_get case.utilities number) refl
+-- a level that a source has is one of a case
+level-within : (case : Case) → IsComplete case → (s : Source) (level : ℤ) → fixed_level case s ≡ Some level → IsLevel level
+level-within case complete (source.Stream number) level is = cc is
+level-within case complete (source.Utility number) level is = subst IsLevel (same_Some _ level is) (by (slice_get case.utilities number) refl)
   where
     by : (o : Option Utility) → slice_get case.utilities number ≡ o → IsLevel (option_map_or (λ u. u.level) o (pos 0))
     by None at = record { from = omega (arith, ints); upto = omega (arith, ints) }
@@ -218,31 +237,41 @@ wanted-level level approach is asked =
     subst IsWithinLimits (sym (whole-plus level approach)) (within-whole (level +ℤ approach) (omega (arith, ints, low, high, from, upto)))
 
 -- what holds of the states of all branches and of all levels holds of both ends of a side
-module _ (P : Rational → Type 0) (case : Case) (network : Network) (values : Valuation) (each : (branch : ℕ) → P (value_at values branch).t) (levels : (number : ℕ) → P (whole (level_of case number))) (none : P rational_zero) where
-  between_keeps : (of : Side) (from to : ℕ) → P (low_of (run_between of (value_at values from) (value_at values to))) × P (high_of (run_between of (value_at values from) (value_at values to)))
-  between_keeps side.Hot from to = (each to, each from)
-  between_keeps side.Cold from to = (each from, each to)
+module _
+    (P : Rational → Type 0)
+    (case : Case)
+    (network : Network)
+    (values : Valuation)
+    (each : (branch : ℕ) → P (value_at values branch).t)
+    (levels : (s : Source) (level : ℤ) → fixed_level case s ≡ Some level → P (whole level))
+    (none : P rational_zero)
+  where
+    between_keeps : (of : Side) (from to : ℕ)
+        → P (low_of (run_between of (value_at values from) (value_at values to))) × P (high_of (run_between of (value_at values from) (value_at values to)))
+    between_keeps side.Hot from to = (each to, each from)
+    between_keeps side.Cold from to = (each from, each to)
 
-  pass_keeps : (o : Option Line) → P (low_of (pass_run case network values o)) × P (high_of (pass_run case network values o))
-  pass_keeps None = (none, none)
-  pass_keeps (Some (line.Exchanger name hot cold duty)) = (none, none)
-  pass_keeps (Some (line.Split from first cp second)) = (none, none)
-  pass_keeps (Some (line.Pass from exchanger to)) = between_keeps (branch_side case network from) from to
-  pass_keeps (Some (line.Mix first second to)) = (none, none)
-  pass_keeps (Some (line.End branch)) = (none, none)
+    pass_keeps : (o : Option Line) → P (low_of (pass_run case network values o)) × P (high_of (pass_run case network values o))
+    pass_keeps None = (none, none)
+    pass_keeps (Some (line.Exchanger name hot cold duty)) = (none, none)
+    pass_keeps (Some (line.Split from first cp second)) = (none, none)
+    pass_keeps (Some (line.Pass from exchanger to)) = between_keeps (branch_side case network from) from to
+    pass_keeps (Some (line.Mix first second to)) = (none, none)
+    pass_keeps (Some (line.End branch)) = (none, none)
 
-  side_keeps : (number : ℕ) (of : Source) → P (low_of (side_run case network values number of)) × P (high_of (side_run case network values number of))
-  unfolding side_run
-  side_keeps number (source.Stream stream) = pass_keeps (pass_of network number stream)
-  side_keeps number (source.Utility index) = (levels index, levels index)
+    side_keeps : (number : ℕ) (of : Source) → P (low_of (side_run case network values number of)) × P (high_of (side_run case network values number of))
+    unfolding side_run
+    side_keeps number (source.Stream stream) = pass_keeps (pass_of network number stream)
+    side_keeps number (source.Utility index) = let here = levels (source.Utility index) _ refl in (here, here)
 
 -- an exchanger forms the temperatures that its cold side asks for
-pub exchanger_formed : (case : Case) (network : Network) (values : Valuation) → IsComplete case → All IsRoomy values → (number : ℕ) (e : Exchanger) → AreFormed (exchanger_items_at case network values (number, e))
+pub exchanger_formed : (case : Case) (network : Network) (values : Valuation) → IsComplete case → All IsRoomy values → (number : ℕ) (e : Exchanger)
+    → AreFormed (exchanger_items_at case network values (number, e))
 exchanger_formed case network values complete roomy number e =
     let approach = approach_of case e.hot e.cold in
     let asked = approach-within case complete e.hot e.cold in
     let given = ends_of side.Hot (side_run case network values number e.hot) in
     let taken = ends_of side.Cold (side_run case network values number e.cold) in
     let both = side_keeps (λ t. IsWithinLimits (plus t (whole approach))) case network values (λ branch. (roomy_at values roomy branch).wanted approach asked)
-    (λ index. wanted-level (level_of case index) approach (level-within case complete index) asked) (roomy_none.wanted approach asked) number e.cold in
+    (λ s level at. wanted-level level approach (level-within case complete s level at) asked) (roomy_none.wanted approach asked) number e.cold in
     All-from_recursion IsFormed (side_items case (place.Exchanger number) e.hot e.cold given taken) (tt, (both.1, (tt, (both.0, (tt, tt)))))

@@ -30,7 +30,8 @@ range_items at u heat =
     ∷ []
 
 abbrev pub utility_items_at : Network → ℕ × Utility → List Item
-utility_items_at network (index, u) = sum_steps (place.Utility index) 0 rational_zero (duties_with network index) ++ range_items (place.Utility index) u (heat_with network index)
+utility_items_at network (index, u) =
+    sum_steps (place.Utility index) 0 rational_zero (duties_with network index) ++ range_items (place.Utility index) u (heat_with network index)
 
 unfoldable pub utility_items : Case → Network → List Item
 utility_items case network = flat_map (utility_items_at network) (enumerate_from 0 case.utilities)
@@ -48,7 +49,8 @@ heats_on side case network = filter_map (heat_on side network) (enumerate_from 0
 -- each price is formed, and added to the cost
 abbrev pub cost_steps : Place → ℕ → Rational → List Rational → List Item
 cost_steps at before cost [] = []
-cost_steps at before cost (price ∷ prices) = Step at (before + 1) price ∷ Step at (before + 2) (plus cost price) ∷ cost_steps at (before + 2) (plus cost price) prices
+cost_steps at before cost (price ∷ prices) =
+    Step at (before + 1) price ∷ Step at (before + 2) (plus cost price) ∷ cost_steps at (before + 2) (plus cost price) prices
 
 -- the heats of the hot utilities are added, then those of the cold ones; then come the excess and the cost
 unfoldable pub balance_items : Case → Network → List Item
@@ -64,7 +66,8 @@ balance_items case network =
 
 -- what follows the statements: streams, exchangers, utilities, and the balance
 unfoldable pub items_behind : Case → Network → Valuation → List Item
-items_behind case network values = stream_items case network ++ (exchanger_items case network values ++ (utility_items case network ++ balance_items case network))
+items_behind case network values =
+    stream_items case network ++ (exchanger_items case network values ++ (utility_items case network ++ balance_items case network))
 
 -- the items that a valuation of the first n statements defines: those of these statements and the next one, and behind the last statement all
 unfoldable pub items : Case → Network → Valuation → ℕ → List Item

@@ -88,7 +88,8 @@ end_items at value (Some s) =
 abbrev pub line_items : Case → Network → Valuation → Place → Line → List Item
 line_items case network values at (line.Exchanger name hot cold duty) = []
 line_items case network values at (line.Split from first cp second) = split_items at (value_at values from) cp
-line_items case network values at (line.Pass from exchanger to) = pass_items at (branch_side case network from) (value_at values from) (duty_at network exchanger)
+line_items case network values at (line.Pass from exchanger to) =
+    pass_items at (branch_side case network from) (value_at values from) (duty_at network exchanger)
 line_items case network values at (line.Mix first second to) = mix_items at (value_at values first) (value_at values second)
 line_items case network values at (line.End branch) = end_items at (value_at values branch) (slice_get case.streams (stream_at network.branches branch))
 
@@ -136,14 +137,17 @@ abbrev pub side_items : Case → Place → Source → Source → Ends → Ends �
 side_items case at hot cold given taken =
     Test at (not (is_forbidden case.forbids hot cold)) reason.Forbidden
     ∷ Step at 1 (wanted_above case hot cold taken.leaves)
-    ∷ Test at (is_reached given.enters (wanted_above case hot cold taken.leaves)) (reason.HotEndApproach given.enters (wanted_above case hot cold taken.leaves))
+    ∷ Test at (is_reached given.enters (wanted_above case hot cold taken.leaves))
+    (reason.HotEndApproach given.enters (wanted_above case hot cold taken.leaves))
     ∷ Step at 2 (wanted_above case hot cold taken.enters)
-    ∷ Test at (is_reached given.leaves (wanted_above case hot cold taken.enters)) (reason.ColdEndApproach given.leaves (wanted_above case hot cold taken.enters))
+    ∷ Test at (is_reached given.leaves (wanted_above case hot cold taken.enters))
+    (reason.ColdEndApproach given.leaves (wanted_above case hot cold taken.enters))
     ∷ []
 
 abbrev pub exchanger_items_at : Case → Network → Valuation → ℕ × Exchanger → List Item
 exchanger_items_at case network values (number, e) =
-    side_items case (place.Exchanger number) e.hot e.cold (ends_of side.Hot (side_run case network values number e.hot)) (ends_of side.Cold (side_run case network values number e.cold))
+    side_items case (place.Exchanger number) e.hot e.cold (ends_of side.Hot (side_run case network values number e.hot))
+    (ends_of side.Cold (side_run case network values number e.cold))
 
 unfoldable pub exchanger_items : Case → Network → Valuation → List Item
 exchanger_items case network values = flat_map (exchanger_items_at case network values) (enumerate_from 0 (exchangers_of network.lines))

@@ -27,7 +27,15 @@ crossing_among branches lines number (source.Stream stream) = crossing_by (find 
 crossing_among branches lines number (source.Utility index) = None
 
 abbrev pub joint_among : List Branch → List Line → ℕ × Exchanger → Joint
-joint_among branches lines (number, e) = record { hot = e.hot; cold = e.cold; duty = e.duty; given = crossing_among branches lines number e.hot; taken = crossing_among branches lines number e.cold }
+joint_among branches lines (number, e) =
+    record {
+      hot = e.hot;
+      cold = e.cold;
+      duty = e.duty;
+      given = crossing_among branches lines number e.hot;
+      taken =
+          crossing_among branches lines number e.cold;
+    }
 
 -- these exchangers, with the passes among some lines
 unfoldable pub joints_among : List Branch → List Line → List Exchanger → List Joint
@@ -53,4 +61,5 @@ noted of stream crossing (Some known) = Some known
 noted of stream crossing None = if same_source of (source.Stream stream) then Some crossing else None
 
 abbrev pub passed_joint : ℕ → Crossing → Joint → Joint
-passed_joint stream crossing joint = record joint { given = noted joint.hot stream crossing joint.given; taken = noted joint.cold stream crossing joint.taken }
+passed_joint stream crossing joint =
+    record joint { given = noted joint.hot stream crossing joint.given; taken = noted joint.cold stream crossing joint.taken }

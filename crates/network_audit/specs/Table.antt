@@ -1,7 +1,6 @@
 -- What the audit reads of its tables: the exchangers with their passes, and the heats of the utilities.
-use Rattle.std.specs.Prelude.{ℕ, ◌+◌, ℤ, pos, Bool, ◌||◌, List, ◌∷◌, ◌++◌, length, map, Option, Some, None, slice_get, slice_index_or, if◌then◌else◌}
+use Rattle.std.specs.Prelude.{ℕ, ◌+◌, ℤ, Bool, ◌||◌, List, ◌∷◌, ◌++◌, length, map, Option, Some, None, slice_index_or, if◌then◌else◌}
 use Rattle.std.specs.List.{enumerate_from, filter_map, flat_map}
-use Rattle.std.specs.Option.{option_map_or}
 use Rattle.stream_case.specs.Source.{same_side, same_source}
 use Rattle.stream_case.specs.declared.case.Case.{Case}
 use Rattle.stream_case.specs.declared.source.Side.{Side}
@@ -10,6 +9,7 @@ use Rattle.stream_case.specs.declared.source.Source.{Source}
 use Rattle.stream_case.specs.declared.source.Source.TheVariants as source
 use Rattle.stream_case.specs.declared.utility.Utility.{Utility}
 use Rattle.fractions.specs.Rationals.{Rational, minus, rational_sum, rational_zero, times, whole}
+use Rattle.network_values.specs.Sides.{fixed_level}
 use Rattle.network_values.specs.Values.{Valuation, value_at}
 use Rattle.network_audit.specs.AllItems.{cost_steps, range_items, sum_steps}
 use Rattle.network_audit.specs.Items.{Item, Step, side_items}
@@ -22,18 +22,22 @@ use Rattle.network_audit.specs.declared.verdict.Balance.{Balance}
 
 -- ---- exchangers
 
--- the level of a utility
-abbrev pub level_of : Case → ℕ → ℤ
-level_of case index = option_map_or (λ u. u.level) (slice_get case.utilities index) (pos 0)
+-- where a side enters an exchanger and leaves it, by its pass; 0, of which no rule speaks, where it has none
+abbrev pub passed_ends : Valuation → Option Crossing → Ends
+passed_ends values None = record { enters = rational_zero; leaves = rational_zero }
+passed_ends values (Some crossing) = record { enters = (value_at values crossing.from).t; leaves = (value_at values crossing.to).t }
 
--- where the side of a source enters an exchanger and leaves it, by its pass
+abbrev pub level_ends : Ends → Option ℤ → Ends
+level_ends ends None = ends
+level_ends ends (Some level) = record { enters = whole level; leaves = whole level }
+
+-- a source has its level, or else the temperatures of its branch before and behind the pass
 abbrev pub ends_at : Case → Valuation → Source → Option Crossing → Ends
-ends_at case values (source.Stream stream) None = record { enters = rational_zero; leaves = rational_zero }
-ends_at case values (source.Stream stream) (Some crossing) = record { enters = (value_at values crossing.from).t; leaves = (value_at values crossing.to).t }
-ends_at case values (source.Utility index) pass = record { enters = whole (level_of case index); leaves = whole (level_of case index) }
+ends_at case values s pass = level_ends (passed_ends values pass) (fixed_level case s)
 
 abbrev pub joint_items_at : Case → Valuation → ℕ × Joint → List Item
-joint_items_at case values (number, joint) = side_items case (place.Exchanger number) joint.hot joint.cold (ends_at case values joint.hot joint.given) (ends_at case values joint.cold joint.taken)
+joint_items_at case values (number, joint) =
+    side_items case (place.Exchanger number) joint.hot joint.cold (ends_at case values joint.hot joint.given) (ends_at case values joint.cold joint.taken)
 
 unfoldable pub joint_items : Case → Valuation → List Joint → List Item
 joint_items case values joints = flat_map (joint_items_at case values) (enumerate_from 0 joints)
@@ -51,7 +55,8 @@ unfoldable pub duties_in : List Joint → ℕ → List Rational
 duties_in joints index = filter_map (joint_duty index) joints
 
 abbrev pub heat_items : List Joint → ℕ × Utility → List Item
-heat_items joints (index, u) = sum_steps (place.Utility index) 0 rational_zero (duties_in joints index) ++ range_items (place.Utility index) u (rational_sum (duties_in joints index))
+heat_items joints (index, u) =
+    sum_steps (place.Utility index) 0 rational_zero (duties_in joints index) ++ range_items (place.Utility index) u (rational_sum (duties_in joints index))
 
 unfoldable pub all_heat_items : List Joint → List Utility → List Item
 all_heat_items joints utilities = flat_map (heat_items joints) (enumerate_from 0 utilities)

@@ -19,7 +19,8 @@ pub record IsInRange (u : Utility) (heat : Rational) : Type 0 where
   pub least : IsAtMost (whole u.least) heat
   pub most : IsAtMost heat (whole u.most)
 
--- the whole network has a valuation, over which each stream ends once in full, both ends of each exchanger keep the approach, no match is forbidden and each utility is in its range
+-- the whole network has a valuation, over which each stream ends once in full, both ends of each exchanger keep the
+-- approach, no match is forbidden and each utility is in its range
 pub record IsValidNetwork (case : Case) (network : Network) : Type 0 where
   pub values : Valuation
   pub valuation : IsWholeValuation case network values

@@ -37,24 +37,33 @@ pub struct Auditor {
 }
 
 impl Model for Auditor {
-    ghost use Rattle.std.specs.Prelude.{Some, None, if◌then◌else◌};
-    ghost use Rattle.network_audit.specs.Audit.{Audit, IsReady};
+    ghost use Rattle.std.specs.Prelude.{IsTrue, Some, None, if◌then◌else◌};
+    ghost use Rattle.network_audit.specs.Audit.{Audit, IsFaultless, IsReady};
 
     ghost Value = { Audit };
 
-    ghost view = { λ a. record { case = a.case; network = a.network; values = (if a.is_accepted then Some a.values.items else None) } };
+    ghost view = { λ a. record {
+      case = a.case;
+      network = a.network;
+      values = (if a.is_accepted then Some a.values.items else None);
+    } };
 
-    ghost invariant = { λ a. IsReady a.case a.network a.joints.items a.values.items a.heats.items };
+    // What it keeps of an audit that accepted the network is a whole valuation without a finding.
+    ghost invariant = { λ a.
+        IsReady a.case a.network a.joints.items a.values.items a.heats.items
+        × (IsTrue a.is_accepted → IsFaultless a.case a.network a.values.items) };
 }
 
 impl Auditor {
-    ghost use Rattle.network_audit.specs.Audit.{Leaves, Says};
+    ghost use Rattle.network_audit.specs.Audit.{KnowsItsNetwork, Leaves, Says, SaysExactly};
+    ghost use Rattle.network_audit.specs.Joints.{joints_of};
 
     /// Takes all the room that the audits need, and copies of the case and the network.
     pub fn new(alloc: Global, case: &Case, network: &Network) -> Result<Auditor, AllocError>
         requires complete { IsComplete case.now }
         requires shape { HasShape case.now network.now }
-        ensures { IfOk result (λ auditor. auditor ≡ record { case = case.now; network = network.now; values = None }) }
+        ensures { IfOk result (λ auditor.
+            auditor ≡ record { case = case.now; network = network.now; values = None }) }
     {
         let none = BranchValue {
             cp: Frac::whole(0),
@@ -77,10 +86,17 @@ impl Auditor {
         ensures after { Leaves self.old result self.new }
 
         // The valuation that is kept is the only one.
-        ensures only { IfAccepted result (λ _. (values : Valuation) → IsWholeValuation self.old.case self.old.network values → self.new.values ≡ Some values) }
+        ensures only { IfAccepted result (λ _. (values : Valuation)
+            → IsWholeValuation self.old.case self.old.network values
+            → self.new.values ≡ Some values) }
+
+        // An accepted network is valid and a rejected one is not; so the verdict is too fine, or it
+        // accepts exactly the valid networks.
         ensures valid { Says result (IsValidNetwork self.old.case self.old.network) }
+        ensures valid_exactly { SaysExactly result (IsValidNetwork self.old.case self.old.network) }
         ensures excess { IfAccepted result (λ balance. IsAtMost rational_zero balance.excess) }
-        ensures again { (other : Verdict) → IsVerdict self.old.case self.old.network other → other ≡ result }
+        ensures again { (other : Verdict) → IsVerdict self.old.case self.old.network other
+            → other ≡ result }
     {
         self.audited()
     }
@@ -106,6 +122,14 @@ impl Auditor {
         }
     }
 
+    /// The exchangers with the branches that pass them, and what is known of the network.
+    pub fn joints(&self) -> &[Joint]
+        ensures table { result.now ≡ joints_of self.now.network }
+        ensures known { KnowsItsNetwork self.now }
+    {
+        self.joints.as_slice()
+    }
+
     /// What a branch carries, by its number: its heat-capacity flow in 10 W/K and its temperature
     /// in tenths of °C. There is none where no audit was made, where the last one did not accept
     /// the network, and where there is no such branch.
@@ -129,7 +153,9 @@ fn audit_network(
     heats: &mut [Frac],
 ) -> Result<Balance, Finding>
     requires { IsReady case.now network.now joints.now values.old heats.old }
-    ensures { MatchResult result (λ balance. Accepts case.now network.now values.new balance) (λ found. IsFinding case.now network.now found) }
+    ensures { MatchResult result
+        (λ balance. Accepts case.now network.now values.new balance)
+        (λ found. IsFinding case.now network.now found) }
 {
     let utilities = case.utilities.as_slice();
     if let Err(found) = audit_statements(case, network, joints, values) {

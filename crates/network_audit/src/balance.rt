@@ -27,7 +27,13 @@ fn is_on(utility: &Utility, side: Side) -> bool
 fn heat_on(side: Side, utilities: &[Utility], heats: &[Frac], before: u32) -> Result<Sum, u32>
     requires room { length heats.now ≡ length utilities.now }
     requires few { before + length utilities.now < 2 ^ 32 }
-    ensures { Formed (λ at. sum_steps at before rational_zero (heats_on_in side utilities.now heats.now)) (λ sum. sum ≡ record { total = rational_sum (heats_on_in side utilities.now heats.now); steps = before + length (heats_on_in side utilities.now heats.now) }) result }
+    ensures { Formed
+        (λ at. sum_steps at before rational_zero (heats_on_in side utilities.now heats.now))
+        (λ sum. sum ≡ record {
+          total = rational_sum (heats_on_in side utilities.now heats.now);
+          steps = before + length (heats_on_in side utilities.now heats.now);
+        })
+        result }
 {
     let mut sum = Sum::after(before);
     for (index, utility) in utilities.iter().enumerate() {
@@ -50,7 +56,10 @@ fn price(utility: &Utility) -> Frac
 fn cost_of(utilities: &[Utility], heats: &[Frac], before: u32) -> Result<Frac, u32>
     requires room { length heats.now ≡ length utilities.now }
     requires few { before + 2 * length utilities.now < 2 ^ 32 }
-    ensures { Formed (λ at. cost_steps at before rational_zero (prices_in utilities.now heats.now)) (λ cost. cost ≡ rational_sum (prices_in utilities.now heats.now)) result }
+    ensures { Formed
+        (λ at. cost_steps at before rational_zero (prices_in utilities.now heats.now))
+        (λ cost. cost ≡ rational_sum (prices_in utilities.now heats.now))
+        result }
 {
     let mut cost = Sum::after(before);
     for (index, utility) in utilities.iter().enumerate() {
@@ -91,7 +100,10 @@ pub(crate) fn balance_of(
 ) -> Result<Balance, u32>
     requires room { length heats.now ≡ length utilities.now }
     requires few { length utilities.now ≤ 1000 }
-    ensures { Formed (λ at. balance_steps_in at target.now utilities.now heats.now) (λ balance. balance ≡ balance_in target.now utilities.now heats.now) result }
+    ensures { Formed
+        (λ at. balance_steps_in at target.now utilities.now heats.now)
+        (λ balance. balance ≡ balance_in target.now utilities.now heats.now)
+        result }
 {
     let hot = heat_on(Side::Hot, utilities, heats, 0)?;
     let cold = heat_on(Side::Cold, utilities, heats, hot.steps)?;

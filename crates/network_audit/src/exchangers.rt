@@ -1,11 +1,11 @@
 //! The audit of the exchangers: whether each may stand, and keeps its approach at both ends.
 ghost use Rattle.std.specs.Prelude.{◌≡◌, ◌<◌, ◌≤◌, ◌^◌, length};
 ghost use Rattle.fractions.specs.Rationals.{whole};
-ghost use Rattle.network_values.specs.Sides.{approach_of, contribution_of};
+ghost use Rattle.network_values.specs.Sides.{approach_of, contribution_of, fixed_level};
 ghost use Rattle.network_values.specs.Values.{value_at};
 ghost use Rattle.network_audit.specs.Answers.{Judged};
 ghost use Rattle.network_audit.specs.Items.{side_items};
-ghost use Rattle.network_audit.specs.Table.{ends_at, joint_items, level_of};
+ghost use Rattle.network_audit.specs.Table.{ends_at, joint_items};
 
 use crate::findings::{Finding, Place, Reason};
 use crate::joints::{Crossing, Joint};
@@ -45,11 +45,15 @@ fn approach_of(case: &Case, hot: Source, cold: Source) -> Frac
     Frac::whole(sum)
 }
 
-/// The level of a utility, in tenths of °C; 0, of which no rule speaks, where there is none.
-fn level_of(case: &Case, index: u32) -> i32
-    ensures { result ≡ level_of case.now index }
+/// The level of a source, in tenths of °C; a stream has none, since it runs between two
+/// temperatures. It is 0, of which no rule speaks, where there is no such utility.
+fn fixed_level(case: &Case, source: Source) -> Option<i32>
+    ensures { result ≡ fixed_level case.now source }
 {
-    case.utilities.get(index as usize).map_or(0, |u| u.level)
+    match source {
+        Source::Stream(_) => None,
+        Source::Utility(index) => Some(case.utilities.get(index as usize).map_or(0, |u| u.level)),
+    }
 }
 
 /// The temperature of a branch in tenths of °C; 0, of which no rule speaks, where there is none.
@@ -62,13 +66,13 @@ fn temperature_at(values: &[BranchValue], number: u32) -> Frac
     }
 }
 
-/// Where the side of a source enters an exchanger and leaves it: a stream has the temperatures of
-/// its branch before and behind its pass, and a utility has its level.
+/// Where the side of a source enters an exchanger and leaves it: at its level, or else at the
+/// temperatures of its branch before and behind its pass.
 fn ends_at(case: &Case, values: &[BranchValue], source: Source, pass: Option<Crossing>) -> Ends
     ensures { result ≡ ends_at case.now values.now source pass }
 {
-    if let Source::Utility(index) = source {
-        let level = Frac::whole(i64::from(level_of(case, index)));
+    if let Some(level) = fixed_level(case, source) {
+        let level = Frac::whole(i64::from(level));
         return Ends {
             enters: level,
             leaves: level,
@@ -96,7 +100,10 @@ fn audit_exchanger(
     given: &Ends,
     taken: &Ends,
 ) -> Result<(), Finding>
-    ensures { Judged (side_items case.now place joint.now.hot joint.now.cold given.now taken.now) (λ _. Unit {0}) result }
+    ensures { Judged
+        (side_items case.now place joint.now.hot joint.now.cold given.now taken.now)
+        (λ _. Unit {0})
+        result }
 {
     if case.is_forbidden(joint.hot, joint.cold) {
         return Err(Finding::Failed {

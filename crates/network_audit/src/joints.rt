@@ -28,7 +28,7 @@ pub struct Joint {
 }
 
 /// The exchangers of a network in order, with all passes.
-pub fn joints_of(alloc: Global, network: &Network) -> Result<Vec<Joint>, AllocError>
+pub(crate) fn joints_of(alloc: Global, network: &Network) -> Result<Vec<Joint>, AllocError>
     requires { All (PassesBelow (length (exchangers_of network.now.lines))) network.now.lines }
     ensures { IfOk result (λ joints. joints.items ≡ joints_of network.now) }
 {
@@ -43,7 +43,8 @@ pub fn joints_of(alloc: Global, network: &Network) -> Result<Vec<Joint>, AllocEr
 
 /// The exchangers that some statements declare, in order, without passes.
 fn declared(alloc: Global, lines: &[Line]) -> Result<Vec<Joint>, AllocError>
-    ensures { IfOk result (λ joints. (branches : List Branch) → joints.items ≡ joints_among branches [] (exchangers_of lines.now)) }
+    ensures { IfOk result (λ joints. (branches : List Branch)
+        → joints.items ≡ joints_among branches [] (exchangers_of lines.now)) }
 {
     let mut joints = Vec::new(alloc);
     for line in lines {
@@ -69,7 +70,8 @@ fn declared(alloc: Global, lines: &[Line]) -> Result<Vec<Joint>, AllocError>
 /// Notes for each exchanger the first pass on each of its sides.
 fn note_passes(branches: &[Branch], lines: &[Line], joints: &mut [Joint])
     requires { All (PassesBelow (length joints.old)) lines.now }
-    ensures { (exchangers : List Exchanger) → joints.old ≡ joints_among branches.now [] exchangers → joints.new ≡ joints_among branches.now lines.now exchangers }
+    ensures { (exchangers : List Exchanger) → joints.old ≡ joints_among branches.now [] exchangers
+        → joints.new ≡ joints_among branches.now lines.now exchangers }
 {
     for line in lines {
         if let Line::Pass {

@@ -22,7 +22,7 @@ mod walk;
 
 pub use auditor::Auditor;
 pub use findings::{Place, Reason};
-pub use joints::{Crossing, Joint, joints_of, stream_at};
+pub use joints::{Crossing, Joint, stream_at};
 pub use laws::{findings_tell_what_is_valid, networks_have_one_verdict};
 pub use network_values::{
     BranchValue, hot_shares_are_at_least_cold_shares, mixes_lose_height, targets_are_met,

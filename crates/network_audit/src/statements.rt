@@ -25,7 +25,10 @@ pub(crate) fn split_rest(
     from: &BranchValue,
     cp: &Frac,
 ) -> Result<BranchValue, Finding>
-    ensures { Judged (split_items place from.now cp.now) (λ rest. rest ≡ second_part from.now cp.now) result }
+    ensures { Judged
+        (split_items place from.now cp.now)
+        (λ rest. rest ≡ second_part from.now cp.now)
+        result }
 {
     if !cp.is_below(&from.cp) {
         return Err(Finding::Failed {
@@ -48,7 +51,10 @@ pub(crate) fn split_rest(
 /// A branch behind an exchanger of this duty in W, or the number of the step that is too fine.
 pub(crate) fn passed(side: Side, from: &BranchValue, duty: &Frac) -> Result<BranchValue, u32>
     requires { IsBelow rational_zero from.now.cp }
-    ensures { Formed (λ at. pass_items at side from.now duty.now) (λ to. to ≡ passed_value side from.now duty.now) result }
+    ensures { Formed
+        (λ at. pass_items at side from.now duty.now)
+        (λ to. to ≡ passed_value side from.now duty.now)
+        result }
 {
     let Some(change) = duty.over(&from.cp) else {
         return Err(1);
@@ -74,7 +80,10 @@ fn moved(side: Side, t: &Frac, change: &Frac) -> Option<Frac>
 pub(crate) fn mixed(first: &BranchValue, second: &BranchValue) -> Result<BranchValue, u32>
     requires first { IsBelow rational_zero first.now.cp }
     requires second { IsBelow rational_zero second.now.cp }
-    ensures { Formed (λ at. mix_items at first.now second.now) (λ to. to ≡ mixed_value first.now second.now) result }
+    ensures { Formed
+        (λ at. mix_items at first.now second.now)
+        (λ to. to ≡ mixed_value first.now second.now)
+        result }
 {
     let Some(cp) = first.cp.plus(&second.cp) else {
         return Err(1);
@@ -90,7 +99,10 @@ pub(crate) fn mixed(first: &BranchValue, second: &BranchValue) -> Result<BranchV
 /// in 10 W/K, or the number of the step that is too fine.
 fn mean(first: &BranchValue, second: &BranchValue, cp: &Frac) -> Result<Frac, u32>
     requires { IsBelow rational_zero cp.now }
-    ensures { Formed (λ at. mean_items at first.now second.now cp.now) (λ t. t ≡ over (heat_of_both first.now second.now) cp.now) result }
+    ensures { Formed
+        (λ at. mean_items at first.now second.now cp.now)
+        (λ t. t ≡ over (heat_of_both first.now second.now) cp.now)
+        result }
 {
     let Some(one) = first.cp.times(&first.t) else {
         return Err(2);
@@ -130,7 +142,8 @@ pub(crate) fn ended(value: &BranchValue, stream: &Stream) -> Result<(), Reason>
 
 /// The side of the stream of a branch; hot, of which no rule speaks, where there is none.
 fn branch_side(case: &Case, branches: &[Branch], number: u32) -> Side
-    ensures { (network : Network) → network.branches ≡ branches.now → result ≡ branch_side case.now network number }
+    ensures { (network : Network) → network.branches ≡ branches.now
+        → result ≡ branch_side case.now network number }
 {
     case.side_of(Source::Stream(stream_at(branches, number)))
         .unwrap_or(Side::Hot)
@@ -149,7 +162,10 @@ pub(crate) fn made_by(
     requires known { NamesKnown case.now network.now line.now }
     requires used { All (λ b. b < length values.now) (uses line.now) }
     requires positive { All (λ v. IsBelow rational_zero v.cp) values.now }
-    ensures { Judged (line_items case.now network.now values.now place line.now) (λ made. members made ≡ made_values case.now network.now values.now line.now) result }
+    ensures { Judged
+        (line_items case.now network.now values.now place line.now)
+        (λ made. members made ≡ made_values case.now network.now values.now line.now)
+        result }
 {
     match *line {
         Line::Exchanger { .. } => Ok(AtMostTwo::Nothing),

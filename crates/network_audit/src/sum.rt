@@ -27,7 +27,13 @@ impl Sum {
     /// The sum with one number more, or the number of this step where it is too fine.
     pub fn plus(&self, number: &Frac) -> Result<Sum, u32>
         requires { self.now.steps + 1 < 2 ^ 32 }
-        ensures { Formed (λ at. Step at (self.now.steps + 1) (plus self.now.total number.now) ∷ []) (λ sum. sum ≡ record { total = plus self.now.total number.now; steps = self.now.steps + 1 }) result }
+        ensures { Formed
+            (λ at. Step at (self.now.steps + 1) (plus self.now.total number.now) ∷ [])
+            (λ sum. sum ≡ record {
+              total = plus self.now.total number.now;
+              steps = self.now.steps + 1;
+            })
+            result }
     {
         let steps = self.steps + 1;
         let Some(total) = self.total.plus(number) else {

@@ -22,7 +22,10 @@ fn needs(joint: &Joint, index: u32) -> bool
 /// fine.
 fn heat_with(joints: &[Joint], index: u32) -> Result<Frac, u32>
     requires { length joints.now < 2 ^ 32 }
-    ensures { Formed (λ at. sum_steps at 0 rational_zero (duties_in joints.now index)) (λ heat. heat ≡ rational_sum (duties_in joints.now index)) result }
+    ensures { Formed
+        (λ at. sum_steps at 0 rational_zero (duties_in joints.now index))
+        (λ heat. heat ≡ rational_sum (duties_in joints.now index))
+        result }
 {
     let mut sum = Sum::after(0);
     for joint in joints {
@@ -70,7 +73,10 @@ fn in_range(utility: &Utility, heat: &Frac) -> Result<(), Reason>
 /// The heat of a utility in W.
 fn audit_utility(joints: &[Joint], index: u32, utility: &Utility) -> Result<Frac, Finding>
     requires { length joints.now < 2 ^ 32 }
-    ensures { Judged (heat_items joints.now (index, utility.now)) (λ heat. heat ≡ rational_sum (duties_in joints.now index)) result }
+    ensures { Judged
+        (heat_items joints.now (index, utility.now))
+        (λ heat. heat ≡ rational_sum (duties_in joints.now index))
+        result }
 {
     let place = Place::Utility(index);
     let heat = match heat_with(joints, index) {
@@ -92,7 +98,10 @@ pub(crate) fn audit_utilities(
     requires joints { length joints.now < 2 ^ 32 }
     requires utilities { length utilities.now < 2 ^ 32 }
     requires room { length heats.old ≡ length utilities.now }
-    ensures { Judged (all_heat_items joints.now utilities.now) (λ _. heats.new ≡ heats_in joints.now utilities.now) result }
+    ensures { Judged
+        (all_heat_items joints.now utilities.now)
+        (λ _. heats.new ≡ heats_in joints.now utilities.now)
+        result }
 {
     for (index, utility) in utilities.iter().enumerate() {
         match audit_utility(joints, index as u32, utility) {

@@ -10,5 +10,7 @@ pub mod EndLemmas
 pub mod WeightLemmas
 pub mod PassLemmas
 pub mod PenaltyLemmas
+pub mod StreamStates
+pub mod ScaleLemmas
 pub mod SignLemmas
 mod OnNetwork

@@ -20,7 +20,7 @@ use Rattle.network_text.specs.declared.network.Branch.{Branch}
 use Rattle.network_text.specs.declared.network.Line.{Line}
 use Rattle.network_text.specs.declared.network.Line.TheVariants as line
 use Rattle.network_text.specs.declared.network.Network.{Network}
-use Rattle.network_values.specs.Heights.{positive_part}
+use Rattle.network_values.specs.Heights.{positive_part, view_above}
 use Rattle.network_values.specs.Penalties.{height_at, heights, hot_heat, mix_penalties, penalty}
 use Rattle.network_values.specs.Sides.{KeepApproaches, KeepsApproach, side_run}
 use Rattle.network_values.specs.Values.{AreEnded, IsFullEnd, IsWholeValuation, Solves, Valuation, branch_side, duty_at, ended_by, ended_streams, last_value}
@@ -85,7 +85,8 @@ at_most_by_test : (a b : Rational) → is_le (rational_cmp a b) ≡ true → IsA
 at_most_by_test a b passes = (Decides-is_le a b).0 passes
 
 values_positive : All (λ v. IsBelow rational_zero v.cp) worked_values
-values_positive = All-from_recursion (λ v. IsBelow rational_zero v.cp) worked_values (full, (half_more, (full, (full, (half, (half, (half, (half, (half_more, (half_more, tt))))))))))
+values_positive = All-from_recursion (λ v. IsBelow rational_zero v.cp) worked_values
+    (full, (half_more, (full, (full, (half, (half, (half, (half, (half_more, (half_more, tt))))))))))
   where
     full : IsBelow rational_zero (whole (pos 20))
     full = below-whole (pos 0) (pos 20) (omega (arith, ints))
@@ -141,7 +142,8 @@ whole_valuation = record { within = omega arith; count = refl; own = refl; posit
 are_ended : AreEnded worked_case worked_network worked_values
 unfolding ended_by ended_streams stream_at
 are_ended = record {
-  full = All-from_recursion (IsFullEnd worked_case worked_network worked_values) (3 ∷ 9 ∷ []) (λ s at. ap last_value (same_Some hot_stream s at), (λ s at. ap last_value (same_Some cold_stream s at), tt));
+  full = All-from_recursion (IsFullEnd worked_case worked_network worked_values) (3 ∷ 9 ∷ [])
+      (λ s at. ap last_value (same_Some hot_stream s at), (λ s at. ap last_value (same_Some cold_stream s at), tt));
   each = each;
 }
   where
@@ -152,10 +154,17 @@ are_ended = record {
 
 keep_approaches : KeepApproaches worked_case worked_network worked_values
 unfolding exchangers_of pass_of stream_at branch_side side_run plus ratio rational_cmp lowest_form gcd last_remainder
-keep_approaches zero e at = subst (KeepsApproach worked_case worked_network worked_values 0) (same_Some _ e at) (record { hot_end = at_most_by_test _ _ refl; cold_end = at_most_by_test _ _ refl })
-keep_approaches (suc zero) e at = subst (KeepsApproach worked_case worked_network worked_values 1) (same_Some _ e at) (record { hot_end = at_most_by_test _ _ refl; cold_end = at_most_by_test _ _ refl })
-keep_approaches (suc (suc zero)) e at = subst (KeepsApproach worked_case worked_network worked_values 2) (same_Some _ e at) (record { hot_end = at_most_by_test _ _ refl; cold_end = at_most_by_test _ _ refl })
-keep_approaches (suc (suc (suc zero))) e at = subst (KeepsApproach worked_case worked_network worked_values 3) (same_Some _ e at) (record { hot_end = at_most_by_test _ _ refl; cold_end = at_most_by_test _ _ refl })
+keep_approaches zero e at = subst (KeepsApproach worked_case worked_network worked_values 0) (same_Some _ e at)
+    (record { hot_end = at_most_by_test _ _ refl; cold_end = at_most_by_test _ _ refl })
+keep_approaches (suc zero) e at =
+    subst (KeepsApproach worked_case worked_network worked_values 1) (same_Some _ e at)
+    (record { hot_end = at_most_by_test _ _ refl; cold_end = at_most_by_test _ _ refl })
+keep_approaches (suc (suc zero)) e at =
+    subst (KeepsApproach worked_case worked_network worked_values 2) (same_Some _ e at)
+    (record { hot_end = at_most_by_test _ _ refl; cold_end = at_most_by_test _ _ refl })
+keep_approaches (suc (suc (suc zero))) e at =
+    subst (KeepsApproach worked_case worked_network worked_values 3) (same_Some _ e at)
+    (record { hot_end = at_most_by_test _ _ refl; cold_end = at_most_by_test _ _ refl })
 keep_approaches (suc (suc (suc (suc number)))) e at = cc at
 
 -- ---- its heat and its penalties
@@ -169,10 +178,11 @@ unfolding exchangers_of plus ratio lowest_form gcd last_remainder
 used = refl
 
 -- above 55 °C, the pinch: the heater of 2500 W works below it for 1000 W, and the mix loses 500 W
-exchangers : map (λ p. numbers (penalty (height_at worked_case (pos 550) worked_network worked_values) worked_network p)) (enumerate_from 0 (exchangers_of worked_network.lines)) ≡ (pos 0, 1) ∷ (pos 1000, 1) ∷ (pos 0, 1) ∷ (pos 0, 1) ∷ []
+exchangers : map (λ p. numbers (penalty (height_at worked_case (view_above (pos 550)) worked_network worked_values) worked_network p))
+    (enumerate_from 0 (exchangers_of worked_network.lines)) ≡ (pos 0, 1) ∷ (pos 1000, 1) ∷ (pos 0, 1) ∷ (pos 0, 1) ∷ []
 unfolding exchangers_of pass_of stream_at heights positive_part plus minus times rational_cmp ratio lowest_form gcd last_remainder
 exchangers = refl
 
-mixes : numbers (mix_penalties worked_case (pos 550) worked_network worked_values) ≡ (pos 500, 1)
+mixes : numbers (mix_penalties worked_case (view_above (pos 550)) worked_network worked_values) ≡ (pos 500, 1)
 unfolding exchangers_of pass_of stream_at heights positive_part plus minus times rational_cmp ratio lowest_form gcd last_remainder
 mixes = refl

@@ -35,10 +35,12 @@ pub record PassesTakeShares : Type 0 where
   pub takes : (from_itself : Bool) (course : Course) (duty : Rational) (low high : BranchValue) → IsBetweenValues duty low high
       → minus (height_on from_itself course high) (height_on from_itself course low) ≡ share from_itself duty (side_on course low high)
   -- a mix raises no height, and a height is additive in the size
-  pub mixes : (from_itself : Bool) (course : Course) (first second to : BranchValue) → IsBelow rational_zero first.cp → IsBelow rational_zero second.cp → IsMix first second to
+  pub mixes : (from_itself : Bool) (course : Course) (first second to : BranchValue) → IsBelow rational_zero first.cp → IsBelow rational_zero second.cp
+      → IsMix first second to
       → IsAtMost (height_on from_itself course to) (plus (height_on from_itself course first) (height_on from_itself course second))
   pub additive : (from_itself : Bool) (course : Course) (f g t : Rational)
-      → height_on from_itself course (record { cp = plus f g; t = t }) ≡ plus (height_on from_itself course (record { cp = f; t = t })) (height_on from_itself course (record { cp = g; t = t }))
+      → height_on from_itself course (record { cp = plus f g; t = t })
+      ≡ plus (height_on from_itself course (record { cp = f; t = t })) (height_on from_itself course (record { cp = g; t = t }))
 
 -- a share is no less from a lower place, and from the place itself no less than above it
 pub record SharesRise : Type 0 where

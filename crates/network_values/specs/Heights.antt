@@ -1,7 +1,7 @@
 -- Heights of flows above a place, and the shares of a duty that lie above it. Distances are temperatures less the place.
-use Rattle.std.specs.Prelude.{◌≡◌, Bool, true, false, if◌then◌else◌, List, All}
+use Rattle.std.specs.Prelude.{◌≡◌, ℤ, Bool, true, false, if◌then◌else◌, List, All}
 use Rattle.std.specs.Ordering.{is_le}
-use Rattle.fractions.specs.Rationals.{IsAtMost, IsBelow, Rational, is_below, minus, over, rational_cmp, rational_sum_by, rational_zero, times}
+use Rattle.fractions.specs.Rationals.{IsAtMost, IsBelow, Rational, is_below, minus, over, rational_cmp, rational_sum_by, rational_zero, times, whole}
 use Rattle.network_values.specs.Sides.{Between, Level, SideRun, high_of, low_of, seen_from}
 
 -- the positive part of a number: what it is above 0, and 0 where it is not
@@ -29,6 +29,20 @@ abbrev pub share : Bool → Rational → SideRun → Rational
 share from_itself duty (Between size low high) = minus (height size high) (height size low)
 share from_itself duty (Level at) = if is_above from_itself at then duty else rational_zero
 
+-- ---- views
+
+-- a place of the shifted scale, in tenths of °C, and whether what stays at the place itself is counted as above it
+pub record View : Type 0 where
+  pub place : ℤ
+  pub from_itself : Bool
+
+abbrev pub view_above : ℤ → View
+view_above place = record { place = place; from_itself = false }
+
+-- the share of a side whose temperatures are on the shifted scale
+abbrev pub share_in : View → Rational → SideRun → Rational
+share_in view duty side = share view.from_itself duty (seen_from (whole view.place) side)
+
 -- ---- the fact on one exchanger
 
 -- at neither end is the hot side below the cold one
@@ -40,7 +54,8 @@ pub record IsNowhereBelow (hot cold : SideRun) : Type 0 where
 -- side has at least the share of the cold one
 abbrev pub HotSharesAreAtLeastColdShares : Type 0
 HotSharesAreAtLeastColdShares =
-    (from_itself : Bool) (place duty : Rational) (hot cold : SideRun) → IsBelow rational_zero duty → HasDuty duty hot → HasDuty duty cold → IsNowhereBelow hot cold
+    (from_itself : Bool) (place duty : Rational) (hot cold : SideRun) → IsBelow rational_zero duty → HasDuty duty hot → HasDuty duty cold
+    → IsNowhereBelow hot cold
     → IsAtMost (share from_itself duty (seen_from place cold)) (share from_itself duty (seen_from place hot))
 
 -- the same with prices that rise at some places: shares times rises add up to no less on the hot side
@@ -55,7 +70,8 @@ share_worth duty side rises = rational_sum_by (λ r. times r.rise (share r.from_
 
 abbrev pub PricedSharesAreOrdered : Type 0
 PricedSharesAreOrdered =
-    (duty : Rational) (hot cold : SideRun) (rises : List PriceRise) → IsBelow rational_zero duty → HasDuty duty hot → HasDuty duty cold → IsNowhereBelow hot cold → All (λ r. IsAtMost rational_zero r.rise) rises
+    (duty : Rational) (hot cold : SideRun) (rises : List PriceRise) → IsBelow rational_zero duty → HasDuty duty hot → HasDuty duty cold
+    → IsNowhereBelow hot cold → All (λ r. IsAtMost rational_zero r.rise) rises
     → IsAtMost (share_worth duty cold rises) (share_worth duty hot rises)
 
 -- ---- what a share is
@@ -65,11 +81,13 @@ PricedSharesAreOrdered =
 pub record IsPart (from_itself : Bool) (duty : Rational) (side : SideRun) : Type 0 where
   pub above : IsAtMost rational_zero (low_of side) → IsBelow rational_zero (high_of side) → share from_itself duty side ≡ duty
   pub below : IsAtMost (high_of side) rational_zero → IsBelow (low_of side) rational_zero → share from_itself duty side ≡ rational_zero
-  pub across : IsAtMost (low_of side) rational_zero → IsBelow rational_zero (high_of side) → share from_itself duty side ≡ over (times duty (high_of side)) (minus (high_of side) (low_of side))
+  pub across : IsAtMost (low_of side) rational_zero → IsBelow rational_zero (high_of side)
+      → share from_itself duty side ≡ over (times duty (high_of side)) (minus (high_of side) (low_of side))
   pub itself : low_of side ≡ rational_zero → high_of side ≡ rational_zero → share from_itself duty side ≡ (if from_itself then duty else rational_zero)
   pub least : IsAtMost rational_zero (share from_itself duty side)
   pub most : IsAtMost (share from_itself duty side) duty
 
 abbrev pub SharesAreParts : Type 0
 SharesAreParts =
-    (from_itself : Bool) (place duty : Rational) (side : SideRun) → IsBelow rational_zero duty → HasDuty duty side → IsPart from_itself duty (seen_from place side)
+    (from_itself : Bool) (place duty : Rational) (side : SideRun) → IsBelow rational_zero duty → HasDuty duty side
+    → IsPart from_itself duty (seen_from place side)

@@ -6,3 +6,4 @@ pub mod Mixes
 pub mod Courses
 pub mod Weights
 pub mod Penalties
+pub mod OneScale

@@ -1,6 +1,7 @@
 -- Penalties of exchangers and mixes: the heat that they carry past a place.
-use Rattle.std.specs.Prelude.{◌≡◌, ℕ, ℤ, ◌+ℤ◌, ◌-ℤ◌, false, Option, Some, None, slice_get, All}
+use Rattle.std.specs.Prelude.{◌≡◌, ℕ, ℤ, pos, ◌+ℤ◌, ◌-ℤ◌, Option, Some, None, slice_get, All}
 use Rattle.std.specs.List.{enumerate_from}
+use Rattle.stream_case.specs.Stream.{heat_above}
 use Rattle.stream_case.specs.declared.case.Case.{Case}
 use Rattle.stream_case.specs.declared.source.Side.{Side}
 use Rattle.stream_case.specs.declared.source.Side.TheVariants as side
@@ -15,8 +16,9 @@ use Rattle.network_text.specs.declared.network.Line.TheVariants as line
 use Rattle.network_text.specs.declared.network.Network.{Network}
 use Rattle.problem_table.specs.Deficit.{IsReferencePlace, deficit_above, hot_target}
 use Rattle.network_values.specs.Courses.{Course, Sensible, height_on}
+use Rattle.network_values.specs.Heights.{View}
 use Rattle.network_values.specs.Sides.{KeepApproaches}
-use Rattle.network_values.specs.Values.{AreEnded, IsWholeValuation, Valuation}
+use Rattle.network_values.specs.Values.{AreEnded, IsWholeValuation, Valuation, first_value, last_value}
 use Rattle.network_values.specs.Weights.{Weight, mix_loss, weight_at}
 use Rattle.network_values.specs.declared.values.BranchValue.{BranchValue}
 
@@ -34,17 +36,21 @@ base_of place s = whole (unshifted s.side place s.contribution)
 abbrev pub course_of : ℤ → Stream → Course
 course_of place s = Sensible (base_of place s)
 
--- the height of a branch of a stream; 0, of which no rule speaks, where there is none
-abbrev pub stream_height : ℤ → Option Stream → BranchValue → Rational
-stream_height place None value = rational_zero
-stream_height place (Some s) value = height_on false (course_of place s) value
+-- the height of what a branch of a stream carries
+abbrev pub height_in : View → Stream → BranchValue → Rational
+height_in view s value = height_on view.from_itself (course_of view.place s) value
 
-unfoldable pub heights : Case → ℤ → Weight
-heights case place stream value = stream_height place (slice_get case.streams stream) value
+-- 0, of which no rule speaks, where there is no stream
+abbrev pub stream_height : View → Option Stream → BranchValue → Rational
+stream_height view None value = rational_zero
+stream_height view (Some s) value = height_in view s value
+
+unfoldable pub heights : Case → View → Weight
+heights case view stream value = stream_height view (slice_get case.streams stream) value
 
 -- the height of the branch with a number
-abbrev pub height_at : Case → ℤ → Network → Valuation → ℕ → Rational
-height_at case place network values = weight_at (heights case place) network values
+abbrev pub height_at : Case → View → Network → Valuation → ℕ → Rational
+height_at case view network values = weight_at (heights case view) network values
 
 -- ---- penalties, by the heights of the branches
 
@@ -67,23 +73,26 @@ outlet_height height (Some (line.End branch)) = rational_zero
 
 -- what the hot side of an exchanger releases above the place: a stream the height that it loses, a utility the whole duty
 abbrev pub released_heat : (ℕ → Rational) → Network → ℕ → Rational → Source → Rational
-released_heat height network number duty (source.Stream i) = minus (inlet_height height (pass_of network number i)) (outlet_height height (pass_of network number i))
+released_heat height network number duty (source.Stream i) =
+    minus (inlet_height height (pass_of network number i)) (outlet_height height (pass_of network number i))
 released_heat height network number duty (source.Utility i) = duty
 
 -- what the cold side absorbs above the place: a stream the height that it gains, a utility nothing
 abbrev pub absorbed_heat : (ℕ → Rational) → Network → ℕ → Source → Rational
-absorbed_heat height network number (source.Stream i) = minus (outlet_height height (pass_of network number i)) (inlet_height height (pass_of network number i))
+absorbed_heat height network number (source.Stream i) =
+    minus (outlet_height height (pass_of network number i)) (inlet_height height (pass_of network number i))
 absorbed_heat height network number (source.Utility i) = rational_zero
 
 -- the penalty of the exchanger with a number; that of a mix is the height that its branches lose, `mix_loss`
 abbrev pub penalty : (ℕ → Rational) → Network → ℕ × Exchanger → Rational
 penalty height network (number, e) = minus (released_heat height network number e.duty e.hot) (absorbed_heat height network number e.cold)
 
-abbrev pub exchanger_penalties : Case → ℤ → Network → Valuation → Rational
-exchanger_penalties case place network values = rational_sum_by (penalty (height_at case place network values) network) (enumerate_from 0 (exchangers_of network.lines))
+abbrev pub exchanger_penalties : Case → View → Network → Valuation → Rational
+exchanger_penalties case view network values =
+    rational_sum_by (penalty (height_at case view network values) network) (enumerate_from 0 (exchangers_of network.lines))
 
-abbrev pub mix_penalties : Case → ℤ → Network → Valuation → Rational
-mix_penalties case place network values = rational_sum_by (mix_loss (height_at case place network values)) network.lines
+abbrev pub mix_penalties : Case → View → Network → Valuation → Rational
+mix_penalties case view network values = rational_sum_by (mix_loss (height_at case view network values)) network.lines
 
 -- ---- the heat of the hot utilities
 
@@ -101,38 +110,60 @@ hot_heat network = rational_sum_by hot_duty (exchangers_of network.lines)
 
 -- ---- the sum of the penalties
 
--- above any place all penalties add up to the heat of the hot utilities less the deficit above the place
+-- a heat is given away by a hot stream, and taken by a cold one
+abbrev pub given_by : Side → ℤ → ℤ
+given_by side.Hot heat = heat
+given_by side.Cold heat = pos 0 -ℤ heat
+
+-- in each view a stream loses the height, from its first state to its last, that it gives away above the place
+abbrev pub StreamsGiveTheirHeat : Type 0
+StreamsGiveTheirHeat =
+    (view : View) (s : Stream)
+    → minus (height_in view s (first_value s)) (height_in view s (last_value s)) ≡ whole (given_by s.side (heat_above view.place s))
+
+-- in each view all penalties add up to the heat of the hot utilities less the deficit above the place
 abbrev pub PenaltiesAddUp : Type 0
 PenaltiesAddUp =
-    (case : Case) (network : Network) (values : Valuation) (place : ℤ) → HasShape case network → IsWholeValuation case network values → AreEnded case network values
-    → plus (exchanger_penalties case place network values) (mix_penalties case place network values) ≡ minus (hot_heat network) (whole (deficit_above case.streams place))
+    (case : Case) (network : Network) (values : Valuation) (view : View)
+    → HasShape case network → IsWholeValuation case network values → AreEnded case network values
+    → plus (exchanger_penalties case view network values) (mix_penalties case view network values)
+    ≡ minus (hot_heat network) (whole (deficit_above case.streams view.place))
 
--- above the reference place to the excess: the heat of the hot utilities less the hot target
+-- from the reference place to the excess: the heat of the hot utilities less the hot target
 abbrev pub PenaltiesAreTheExcess : Type 0
 PenaltiesAreTheExcess =
-    (case : Case) (network : Network) (values : Valuation) (place : ℤ) → HasShape case network → IsWholeValuation case network values → AreEnded case network values → IsReferencePlace case.streams place
-    → plus (exchanger_penalties case place network values) (mix_penalties case place network values) ≡ minus (hot_heat network) (whole (hot_target case.streams))
+    (case : Case) (network : Network) (values : Valuation) (view : View)
+    → HasShape case network → IsWholeValuation case network values → AreEnded case network values
+    → IsReferencePlace case.streams view.place
+    → plus (exchanger_penalties case view network values) (mix_penalties case view network values)
+    ≡ minus (hot_heat network) (whole (hot_target case.streams))
 
 -- ---- none is negative where the approaches are kept
 
 -- no exchanger and no mix has a penalty below 0
-pub record HasNoNegativePenalty (case : Case) (place : ℤ) (network : Network) (values : Valuation) : Type 0 where
-  pub exchangers : (number : ℕ) (e : Exchanger) → slice_get (exchangers_of network.lines) number ≡ Some e → IsAtMost rational_zero (penalty (height_at case place network values) network (number, e))
-  pub mixes : All (λ l. IsAtMost rational_zero (mix_loss (height_at case place network values) l)) network.lines
+pub record HasNoNegativePenalty (case : Case) (view : View) (network : Network) (values : Valuation) : Type 0 where
+  pub exchangers : (number : ℕ) (e : Exchanger) → slice_get (exchangers_of network.lines) number ≡ Some e
+      → IsAtMost rational_zero (penalty (height_at case view network values) network (number, e))
+  pub mixes : All (λ l. IsAtMost rational_zero (mix_loss (height_at case view network values) l)) network.lines
 
 abbrev pub PenaltiesAreNotNegative : Type 0
 PenaltiesAreNotNegative =
-    (case : Case) (network : Network) (values : Valuation) (place : ℤ) → HasShape case network → IsWholeValuation case network values → KeepApproaches case network values
-    → HasNoNegativePenalty case place network values
+    (case : Case) (network : Network) (values : Valuation) (view : View)
+    → HasShape case network → IsWholeValuation case network values → KeepApproaches case network values
+    → HasNoNegativePenalty case view network values
 
 -- the hot utilities give at least the deficit above any place
 abbrev pub DeficitsAreMet : Type 0
 DeficitsAreMet =
-    (case : Case) (network : Network) (values : Valuation) (place : ℤ) → HasShape case network → IsWholeValuation case network values → AreEnded case network values → KeepApproaches case network values
+    (case : Case) (network : Network) (values : Valuation) (place : ℤ)
+    → HasShape case network → IsWholeValuation case network values
+    → AreEnded case network values → KeepApproaches case network values
     → IsAtMost (whole (deficit_above case.streams place)) (hot_heat network)
 
 -- and so at least the hot target: the excess is not negative
 abbrev pub TargetsAreMet : Type 0
 TargetsAreMet =
-    (case : Case) (network : Network) (values : Valuation) → HasShape case network → IsWholeValuation case network values → AreEnded case network values → KeepApproaches case network values
+    (case : Case) (network : Network) (values : Valuation)
+    → HasShape case network → IsWholeValuation case network values
+    → AreEnded case network values → KeepApproaches case network values
     → IsAtMost rational_zero (minus (hot_heat network) (whole (hot_target case.streams)))

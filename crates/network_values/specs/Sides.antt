@@ -56,10 +56,23 @@ pass_run case network values (Some (line.Mix first second to)) = Level rational_
 pass_run case network values (Some (line.End branch)) = Level rational_zero
 pass_run case network values None = Level rational_zero
 
--- a stream runs between the temperatures of its branch before and behind the exchanger, and a utility has its level
+-- the level of a source, in tenths of °C; a stream has none, since it runs between two temperatures
+abbrev pub fixed_level : Case → Source → Option ℤ
+fixed_level case (source.Stream number) = None
+fixed_level case (source.Utility number) = Some (option_map_or (λ u. u.level) (slice_get case.utilities number) (pos 0))
+
+-- the run of the branches of a source that pass an exchanger; a utility has none, and no rule speaks of this one
+abbrev pub passed_run : Case → Network → Valuation → ℕ → Source → SideRun
+passed_run case network values exchanger (source.Stream number) = pass_run case network values (pass_of network exchanger number)
+passed_run case network values exchanger (source.Utility number) = Level rational_zero
+
+abbrev pub level_or : SideRun → Option ℤ → SideRun
+level_or run None = run
+level_or run (Some level) = Level (whole level)
+
+-- a source has its level, or else runs between the temperatures of its branch before and behind the exchanger
 unfoldable pub side_run : Case → Network → Valuation → ℕ → Source → SideRun
-side_run case network values exchanger (source.Stream number) = pass_run case network values (pass_of network exchanger number)
-side_run case network values exchanger (source.Utility number) = Level (whole (option_map_or (λ u. u.level) (slice_get case.utilities number) (pos 0)))
+side_run case network values exchanger s = level_or (passed_run case network values exchanger s) (fixed_level case s)
 
 -- ---- approaches
 
@@ -74,8 +87,14 @@ approach_of case hot cold = contribution_of case hot +ℤ contribution_of case c
 
 -- at both ends the hot side is above the cold one by the approach
 pub record KeepsApproach (case : Case) (network : Network) (values : Valuation) (number : ℕ) (e : Exchanger) : Type 0 where
-  pub hot_end : IsAtMost (plus (leaves side.Cold (side_run case network values number e.cold)) (whole (approach_of case e.hot e.cold))) (enters side.Hot (side_run case network values number e.hot))
-  pub cold_end : IsAtMost (plus (enters side.Cold (side_run case network values number e.cold)) (whole (approach_of case e.hot e.cold))) (leaves side.Hot (side_run case network values number e.hot))
+  pub hot_end : IsAtMost
+      (plus (leaves side.Cold (side_run case network values number e.cold)) (whole (approach_of case e.hot e.cold)))
+      (enters side.Hot (side_run case network values number e.hot))
+  pub cold_end : IsAtMost
+      (plus (enters side.Cold (side_run case network values number e.cold)) (whole (approach_of case e.hot e.cold)))
+      (leaves side.Hot (side_run case network values number e.hot))
 
 abbrev pub KeepApproaches : Case → Network → Valuation → Type 0
-KeepApproaches case network values = (number : ℕ) (e : Exchanger) → slice_get (exchangers_of network.lines) number ≡ Some e → KeepsApproach case network values number e
+KeepApproaches case network values =
+    (number : ℕ) (e : Exchanger) → slice_get (exchangers_of network.lines) number ≡ Some e
+    → KeepsApproach case network values number e

@@ -84,7 +84,8 @@ pub record IsMix (first second to : BranchValue) : Type 0 where
 abbrev pub Solves : Case → Network → Valuation → Line → Type 0
 Solves case network values (line.Exchanger name hot cold duty) = Unit {0}
 Solves case network values (line.Split from first cp second) = IsSplit (value_at values from) (value_at values first) (value_at values second) cp
-Solves case network values (line.Pass from exchanger to) = IsPass (branch_side case network from) (duty_at network exchanger) (value_at values from) (value_at values to)
+Solves case network values (line.Pass from exchanger to) =
+    IsPass (branch_side case network from) (duty_at network exchanger) (value_at values from) (value_at values to)
 Solves case network values (line.Mix first second to) = IsMix (value_at values first) (value_at values second) (value_at values to)
 Solves case network values (line.End branch) = Unit {0}
 
@@ -119,7 +120,8 @@ ended_streams network = map (stream_at network.branches) (ended_by network.lines
 
 -- a branch carries the whole stream at its target
 abbrev pub IsFullEnd : Case → Network → Valuation → ℕ → Type 0
-IsFullEnd case network values branch = (s : Stream) → slice_get case.streams (stream_at network.branches branch) ≡ Some s → value_at values branch ≡ last_value s
+IsFullEnd case network values branch =
+    (s : Stream) → slice_get case.streams (stream_at network.branches branch) ≡ Some s → value_at values branch ≡ last_value s
 
 -- each end is a full one, and each stream has one
 pub record AreEnded (case : Case) (network : Network) (values : Valuation) : Type 0 where

@@ -1,6 +1,6 @@
 //! What follows for a whole network: its ends, the balance of weights, and its penalties.
 
-ghost use Rattle.network_values.specs.Penalties.{DeficitsAreMet, PenaltiesAddUp, PenaltiesAreNotNegative, PenaltiesAreTheExcess, TargetsAreMet};
+ghost use Rattle.network_values.specs.Penalties.{DeficitsAreMet, PenaltiesAddUp, PenaltiesAreNotNegative, PenaltiesAreTheExcess, StreamsGiveTheirHeat, TargetsAreMet};
 ghost use Rattle.network_values.specs.Weights.{StreamsEndOnce, WeightsBalance};
 
 /// Where each end has the full size of its stream at its target, and each stream has an end, no
@@ -15,19 +15,25 @@ pub fn weights_balance()
     ensures { WeightsBalance }
 {}
 
-/// Above any place, the penalties of the exchangers and of the mixes add up to the heat of the hot
+/// In each view, above a place or from the place itself, a stream loses as much height from its
+/// first state to its last as it gives heat away above the place, in W; a cold stream takes it.
+pub fn streams_give_their_heat()
+    ensures { StreamsGiveTheirHeat }
+{}
+
+/// In each view, the penalties of the exchangers and of the mixes add up to the heat of the hot
 /// utilities less the deficit above the place, all in W.
 pub fn penalties_add_up()
     ensures { PenaltiesAddUp }
 {}
 
-/// Above the reference place they add up to the excess: the heat of the hot utilities less the hot
+/// From the reference place they add up to the excess: the heat of the hot utilities less the hot
 /// target.
 pub fn penalties_are_the_excess()
     ensures { PenaltiesAreTheExcess }
 {}
 
-/// Where all approaches are kept, no exchanger and no mix has a penalty below 0, above any place.
+/// Where all approaches are kept, no exchanger and no mix has a penalty below 0, in any view.
 pub fn penalties_are_not_negative()
     ensures { PenaltiesAreNotNegative }
 {}

@@ -3,6 +3,7 @@
 ghost use Rattle.network_values.specs.Courses.{PassesTakeShares, SharesRise};
 ghost use Rattle.network_values.specs.Heights.{HotSharesAreAtLeastColdShares, PricedSharesAreOrdered, SharesAreParts};
 ghost use Rattle.network_values.specs.Mixes.{MixesLoseHeight};
+ghost use Rattle.network_values.specs.OneScale.{ExchangersRunOnOneScale};
 
 /// Along an exchanger whose hot side is nowhere below its cold side, the hot side has at least as
 /// much of the duty above any place as the cold side. A side runs between two temperatures or
@@ -39,4 +40,11 @@ pub fn mixes_lose_height()
 /// duty; heights are additive in the size, and no mix raises them.
 pub fn passes_take_shares()
     ensures { PassesTakeShares }
+{}
+
+/// On the shifted scale both sides of an exchanger of a network have its duty. Where its approach is
+/// kept, the hot side is nowhere below the cold one. In each view the height that a stream loses or
+/// gains at the exchanger is its side's share of the duty.
+pub fn exchangers_run_on_one_scale()
+    ensures { ExchangersRunOnOneScale }
 {}

@@ -14,11 +14,11 @@ mod values;
 
 pub use balance::{
     deficits_are_met, penalties_add_up, penalties_are_not_negative, penalties_are_the_excess,
-    streams_end_once, targets_are_met, weights_balance,
+    streams_end_once, streams_give_their_heat, targets_are_met, weights_balance,
 };
 pub use heights::{
-    hot_shares_are_at_least_cold_shares, mixes_lose_height, passes_take_shares,
-    priced_shares_are_ordered, shares_are_parts, shares_rise,
+    exchangers_run_on_one_scale, hot_shares_are_at_least_cold_shares, mixes_lose_height,
+    passes_take_shares, priced_shares_are_ordered, shares_are_parts, shares_rise,
 };
 pub use valuations::{
     valuations_agree, valuations_exist_where_splits_leave_room, valuations_go_line_by_line,

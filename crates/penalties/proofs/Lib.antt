@@ -4,4 +4,3 @@ pub mod RowLemmas
 pub mod TableLemmas
 pub mod ListLaws
 pub mod Listing
-pub mod Callers

@@ -5,13 +5,14 @@ use Rattle.fractions.specs.Rationals.{Rational}
 use Rattle.network_text.specs.declared.network.Line.{Line}
 use Rattle.network_text.specs.declared.network.Network.{Network}
 use Rattle.problem_table.specs.Deficit.{IsReferencePlace}
+use Rattle.network_values.specs.Heights.{view_above}
 use Rattle.network_values.specs.Penalties.{height_at}
 use Rattle.network_values.specs.Values.{IsWholeValuation}
-use Rattle.network_audit.specs.Audit.{Audit}
+use Rattle.network_audit.specs.Audit.{Audit, HasAccepted, KnowsItsNetwork}
 use Rattle.network_audit.specs.Joints.{joints_of}
 use Rattle.network_audit.specs.declared.findings.Place.{Place}
 use Rattle.network_audit.specs.declared.joints.Joint.{Joint}
-use Rattle.penalties.specs.Accepted.{HasAccepted}
+use Rattle.network_audit.proofs.AcceptedLemmas.{faultless_values}
 use Rattle.penalties.specs.Answers.{Finds, ListsPenalties}
 use Rattle.penalties.specs.Rows.{mix_rows}
 use Rattle.penalties.specs.Steps.{Step, all_exchanger_steps, all_mix_steps, branch_steps, first_too_fine}
@@ -24,58 +25,79 @@ use Rattle.penalties.proofs.StepLemmas.{first_behind, first_front}
 use Rattle.penalties.proofs.TableLemmas.{rows-joints, steps-joints}
 
 -- what a loop found, and what it found not
-pub found_some : (steps : List Step) (P : Type 0) (o : Option TooFine) (found : TooFine) → Finds steps P o → o ≡ Some found → first_too_fine steps ≡ Some (found.place, found.step)
+pub found_some : (steps : List Step) (P : Type 0) (o : Option TooFine) (found : TooFine) → Finds steps P o → o ≡ Some found
+    → first_too_fine steps ≡ Some (found.place, found.step)
 found_some steps P o found finds is = subst (Finds steps P) is finds
 
-pub found_none : (steps : List Step) (P : Type 0) (o : Option TooFine) → Finds steps P o → ((found : TooFine) → o ≡ Some found → ⊥) → (first_too_fine steps ≡ None) × P
+pub found_none : (steps : List Step) (P : Type 0) (o : Option TooFine) → Finds steps P o → ((found : TooFine) → o ≡ Some found → ⊥)
+    → (first_too_fine steps ≡ None) × P
 found_none steps P None finds none = finds
 found_none steps P (Some found) finds none = absurd (none found refl)
 
-module _ (case : Case) (network : Network) (audit : Audit) (reference : ℤ) (joints : List Joint) (accepted : HasAccepted audit case network) (is_reference : IsReferencePlace case.streams reference) (table : joints ≡ joints_of network) where
-  abbrev height : ℕ → Rational
-  height = height_at case reference network (values_of audit)
+module _
+    (case : Case)
+    (network : Network)
+    (audit : Audit)
+    (reference : ℤ)
+    (joints : List Joint)
+    (accepted : HasAccepted audit case network)
+    (knows : KnowsItsNetwork audit)
+    (is_reference : IsReferencePlace case.streams reference)
+    (own_table : joints ≡ joints_of audit.network)
+  where
+    table : joints ≡ joints_of network
+    table = own_table ∙ ap (λ (a : Audit). joints_of a.network) accepted.is
 
-  abbrev steps : Place → ℕ → ℕ → List Step
-  steps = branch_steps case reference network (values_of audit)
+    abbrev height : ℕ → Rational
+    height = height_at case (view_above reference) network (values_of audit)
 
-  valuation_kept : IsWholeValuation case network (values_of audit)
-  valuation_kept = subst (IsWholeValuation case network) (sym (ap values_of accepted.kept)) accepted.valuation
+    abbrev steps : Place → ℕ → ℕ → List Step
+    steps = branch_steps case (view_above reference) network (values_of audit)
 
-  exchangers_first : first_too_fine (all_exchanger_steps height steps network) ≡ first_too_fine (all_joint_steps height steps joints)
-  exchangers_first = ap first_too_fine (sym (ap (all_joint_steps height steps) table ∙ steps-joints height network steps))
+    valuation_kept : IsWholeValuation case network (values_of audit)
+    valuation_kept = subst (IsWholeValuation case network) (sym (ap values_of accepted.is)) (faultless_values audit case network accepted knows).valuation
 
-  pub too_fine_first : (place : Place) (step : ℕ) → first_too_fine (all_joint_steps height steps joints) ≡ Some (place, step) → ListsPenalties case network (list.TooFine place step)
-  too_fine_first place step found = record {
-    reference = reference;
-    values = values_of audit;
-    is_reference = is_reference;
-    valuation = valuation_kept;
-    lists = first_front (all_exchanger_steps height steps network) (all_mix_steps height steps network.lines) (place, step) (exchangers_first ∙ found);
-  }
+    exchangers_first : first_too_fine (all_exchanger_steps height steps network) ≡ first_too_fine (all_joint_steps height steps joints)
+    exchangers_first = ap first_too_fine (sym (ap (all_joint_steps height steps) table ∙ steps-joints height network steps))
 
-  module _ (lines : List Line) (own : lines ≡ network.lines) where
-    mixes_later : first_too_fine (all_mix_steps height steps network.lines) ≡ first_too_fine (all_mix_steps height steps lines)
-    mixes_later = ap (λ ls. first_too_fine (all_mix_steps height steps ls)) (sym own)
-
-    pub too_fine_later : (place : Place) (step : ℕ) → first_too_fine (all_joint_steps height steps joints) ≡ None → first_too_fine (all_mix_steps height steps lines) ≡ Some (place, step) → ListsPenalties case network (list.TooFine place step)
-    too_fine_later place step none found = record {
+    pub too_fine_first : (place : Place) (step : ℕ) → first_too_fine (all_joint_steps height steps joints) ≡ Some (place, step)
+        → ListsPenalties case network (list.TooFine place step)
+    too_fine_first place step found = record {
       reference = reference;
       values = values_of audit;
       is_reference = is_reference;
       valuation = valuation_kept;
-      lists = first_behind (all_exchanger_steps height steps network) (all_mix_steps height steps network.lines) (exchangers_first ∙ none) ∙ mixes_later ∙ found;
+      lists = first_front (all_exchanger_steps height steps network) (all_mix_steps height steps network.lines) (place, step) (exchangers_first ∙ found);
     }
 
-    -- the list begins empty, gets the rows of the exchangers, and then those of the mixes
-    pub all_listed : (start first listed : List Penalty) → first_too_fine (all_joint_steps height steps joints) ≡ None → first_too_fine (all_mix_steps height steps lines) ≡ None
-        → start ≡ [] → first ≡ start ++ joint_rows height joints → listed ≡ first ++ mix_rows height lines → ListsPenalties case network (list.Listed listed)
-    all_listed start first listed none later empty rows more = record {
-      reference = reference;
-      values = values_of audit;
-      is_reference = is_reference;
-      valuation = valuation_kept;
-      lists = (
-        first_behind (all_exchanger_steps height steps network) (all_mix_steps height steps network.lines) (exchangers_first ∙ none) ∙ mixes_later ∙ later,
-        more ∙ ap₂ (λ front ls. front ++ mix_rows height ls) (rows ∙ ap (λ xs. xs ++ joint_rows height joints) empty ∙ ap (joint_rows height) table ∙ rows-joints height network) own,
-      );
-    }
+    module _ (lines : List Line) (own : lines ≡ network.lines) where
+      mixes_later : first_too_fine (all_mix_steps height steps network.lines) ≡ first_too_fine (all_mix_steps height steps lines)
+      mixes_later = ap (λ ls. first_too_fine (all_mix_steps height steps ls)) (sym own)
+
+      pub too_fine_later : (place : Place) (step : ℕ) → first_too_fine (all_joint_steps height steps joints) ≡ None
+          → first_too_fine (all_mix_steps height steps lines) ≡ Some (place, step) → ListsPenalties case network (list.TooFine place step)
+      too_fine_later place step none found = record {
+        reference = reference;
+        values = values_of audit;
+        is_reference = is_reference;
+        valuation = valuation_kept;
+        lists = first_behind (all_exchanger_steps height steps network) (all_mix_steps height steps network.lines) (exchangers_first ∙ none) ∙ mixes_later
+            ∙ found;
+      }
+
+      -- the list begins empty, gets the rows of the exchangers, and then those of the mixes
+      pub all_listed : (start first listed : List Penalty) → first_too_fine (all_joint_steps height steps joints) ≡ None
+          → first_too_fine (all_mix_steps height steps lines) ≡ None
+          → start ≡ [] → first ≡ start ++ joint_rows height joints → listed ≡ first ++ mix_rows height lines
+          → ListsPenalties case network (list.Listed listed)
+      all_listed start first listed none later empty rows more = record {
+        reference = reference;
+        values = values_of audit;
+        is_reference = is_reference;
+        valuation = valuation_kept;
+        lists = (
+          first_behind (all_exchanger_steps height steps network) (all_mix_steps height steps network.lines) (exchangers_first ∙ none) ∙ mixes_later ∙ later,
+          more ∙ ap₂ (λ front ls. front ++ mix_rows height ls) (rows ∙ ap (λ xs. xs ++ joint_rows height joints) empty ∙ ap (joint_rows height) table
+              ∙ rows-joints height network) own,
+        );
+      }

@@ -5,7 +5,7 @@ use Rattle.stream_case.specs.declared.stream.Stream.{Stream}
 use Rattle.fractions.specs.Rationals.{Rational, is_below, rational_zero, times}
 use Rattle.fractions.proofs.Products.{times-zero}
 use Rattle.network_text.specs.Lines.{stream_at}
-use Rattle.network_values.specs.Heights.{height, positive_part}
+use Rattle.network_values.specs.Heights.{height, positive_part, view_above}
 use Rattle.network_values.specs.Penalties.{heights, stream_height}
 use Rattle.network_values.specs.Values.{Valuation, no_value, value_at}
 use Rattle.network_audit.specs.Audit.{Audit}
@@ -25,15 +25,18 @@ unfolding positive_part
 height-below size distance below = ap (λ b. times size (if b then distance else rational_zero)) below ∙ times-zero size
 
 -- the second step is only formed above the place
-pub steps-above : (at : Place) (k : ℕ) (size distance : Rational) → is_below rational_zero distance ≡ true → height_steps at k size distance ≡ step at k distance ∷ step at (k + 1) (times size distance) ∷ []
+pub steps-above : (at : Place) (k : ℕ) (size distance : Rational) → is_below rational_zero distance ≡ true
+    → height_steps at k size distance ≡ step at k distance ∷ step at (k + 1) (times size distance) ∷ []
 steps-above at k size distance above = ap (λ b. step at k distance ∷ (if b then step at (k + 1) (times size distance) ∷ [] else [])) above
 
-pub steps-below : (at : Place) (k : ℕ) (size distance : Rational) → is_below rational_zero distance ≡ false → height_steps at k size distance ≡ step at k distance ∷ []
+pub steps-below : (at : Place) (k : ℕ) (size distance : Rational) → is_below rational_zero distance ≡ false
+    → height_steps at k size distance ≡ step at k distance ∷ []
 steps-below at k size distance below = ap (λ b. step at k distance ∷ (if b then step at (k + 1) (times size distance) ∷ [] else [])) below
 
 -- ---- branches
 
-pub value-read : (audit : Audit) (branch : ℕ) → unwrap_or (option_and_then (λ values. slice_get values branch) audit.values) no_value ≡ value_at (values_of audit) branch
+pub value-read : (audit : Audit) (branch : ℕ)
+    → unwrap_or (option_and_then (λ values. slice_get values branch) audit.values) no_value ≡ value_at (values_of audit) branch
 value-read audit branch = by audit.values
   where
     at : (values : Valuation) (n : ℕ) → unwrap_or (slice_get values n) no_value ≡ value_at values n
@@ -46,10 +49,10 @@ value-read audit branch = by audit.values
     by (Some values) = at values branch
 
 pub height-seen : (s : Survey) (branch : ℕ) (o : Option Stream) → slice_get s.case.now.streams (stream_at s.network.now.branches branch) ≡ o
-    → seen_height s branch ≡ stream_height s.reference o (value_at (values_of s.auditor.now) branch)
+    → seen_height s branch ≡ stream_height (view_above s.reference) o (value_at (values_of s.auditor.now) branch)
 unfolding heights
-height-seen s branch o is = ap (λ o. stream_height s.reference o (value_at (values_of s.auditor.now) branch)) is
+height-seen s branch o is = ap (λ o. stream_height (view_above s.reference) o (value_at (values_of s.auditor.now) branch)) is
 
 pub steps-seen : (s : Survey) (at : Place) (k branch : ℕ) (o : Option Stream) → slice_get s.case.now.streams (stream_at s.network.now.branches branch) ≡ o
-    → seen_steps s at k branch ≡ stream_steps s.reference at k o (value_at (values_of s.auditor.now) branch)
-steps-seen s at k branch o is = ap (λ o. stream_steps s.reference at k o (value_at (values_of s.auditor.now) branch)) is
+    → seen_steps s at k branch ≡ stream_steps (view_above s.reference) at k o (value_at (values_of s.auditor.now) branch)
+steps-seen s at k branch o is = ap (λ o. stream_steps (view_above s.reference) at k o (value_at (values_of s.auditor.now) branch)) is

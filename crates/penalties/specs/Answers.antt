@@ -3,6 +3,7 @@ use Rattle.std.specs.Prelude.{◌≡◌, ℤ, List, Option, Some, None, Result, 
 use Rattle.stream_case.specs.declared.case.Case.{Case}
 use Rattle.fractions.specs.Rationals.{IsAtMost, Rational, rational_sum_by, rational_zero}
 use Rattle.network_text.specs.declared.network.Network.{Network}
+use Rattle.network_values.specs.Heights.{view_above}
 use Rattle.network_values.specs.Values.{IsWholeValuation, Valuation}
 use Rattle.problem_table.specs.Deficit.{IsReferencePlace}
 use Rattle.penalties.specs.Rows.{penalties_of}
@@ -33,7 +34,8 @@ pub record ListsPenalties (case : Case) (network : Network) (answer : PenaltyLis
   pub values : Valuation
   pub is_reference : IsReferencePlace case.streams reference
   pub valuation : IsWholeValuation case network values
-  pub lists : Lists (penalty_steps case reference network values) (penalties_of case reference network values) answer
+  pub lists : Lists
+      (penalty_steps case (view_above reference) network values) (penalties_of case (view_above reference) network values) answer
 
 -- what holds of penalties that are listed
 abbrev pub IfListed : PenaltyList → (List Penalty → Type 0) → Type 0

@@ -1,6 +1,5 @@
 pub mod Steps
 pub mod Rows
 pub mod Answers
-pub mod Accepted
 pub mod Survey
 pub mod Tables

@@ -1,5 +1,5 @@
 -- The steps that form the penalties, with their numbers.
-use Rattle.std.specs.Prelude.{ℕ, ℤ, ◌+◌, Bool, not, List, [], ◌∷◌, ◌++◌, find, Option, Some, None, option_map, slice_get, if◌then◌else◌}
+use Rattle.std.specs.Prelude.{ℕ, ◌+◌, Bool, not, List, [], ◌∷◌, ◌++◌, find, Option, Some, None, option_map, slice_get, if◌then◌else◌}
 use Rattle.std.specs.List.{enumerate_from, flat_map}
 use Rattle.stream_case.specs.declared.case.Case.{Case}
 use Rattle.stream_case.specs.declared.source.Source.{Source}
@@ -10,6 +10,7 @@ use Rattle.network_text.specs.Lines.{Exchanger, exchangers_of, stream_at}
 use Rattle.network_text.specs.declared.network.Line.{Line}
 use Rattle.network_text.specs.declared.network.Line.TheVariants as line
 use Rattle.network_text.specs.declared.network.Network.{Network}
+use Rattle.network_values.specs.Heights.{View}
 use Rattle.network_values.specs.Penalties.{base_of, height_at, penalty}
 use Rattle.network_values.specs.Values.{Valuation, value_at}
 use Rattle.network_values.specs.declared.values.BranchValue.{BranchValue}
@@ -45,13 +46,14 @@ first_too_fine steps = option_map spot_of (find is_too_fine steps)
 abbrev pub height_steps : Place → ℕ → Rational → Rational → List Step
 height_steps at k size distance = step at k distance ∷ (if is_below rational_zero distance then step at (k + 1) (times size distance) ∷ [] else [])
 
-abbrev pub stream_steps : ℤ → Place → ℕ → Option Stream → BranchValue → List Step
-stream_steps reference at k None value = []
-stream_steps reference at k (Some s) value = height_steps at k value.cp (minus value.t (base_of reference s))
+abbrev pub stream_steps : View → Place → ℕ → Option Stream → BranchValue → List Step
+stream_steps view at k None value = []
+stream_steps view at k (Some s) value = height_steps at k value.cp (minus value.t (base_of view.place s))
 
 -- those of the branch with a number
-abbrev pub branch_steps : Case → ℤ → Network → Valuation → Place → ℕ → ℕ → List Step
-branch_steps case reference network values at k branch = stream_steps reference at k (slice_get case.streams (stream_at network.branches branch)) (value_at values branch)
+abbrev pub branch_steps : Case → View → Network → Valuation → Place → ℕ → ℕ → List Step
+branch_steps case view network values at k branch =
+    stream_steps view at k (slice_get case.streams (stream_at network.branches branch)) (value_at values branch)
 
 -- ---- penalties, by the heights of the branches and by the steps that form them
 
@@ -106,7 +108,7 @@ unfoldable pub all_mix_steps : (ℕ → Rational) → (Place → ℕ → ℕ →
 all_mix_steps height steps lines = flat_map (line_steps height steps) (enumerate_from 0 lines)
 
 -- the exchangers in their order, then the mixes in theirs
-abbrev pub penalty_steps : Case → ℤ → Network → Valuation → List Step
-penalty_steps case reference network values =
-    all_exchanger_steps (height_at case reference network values) (branch_steps case reference network values) network
-    ++ all_mix_steps (height_at case reference network values) (branch_steps case reference network values) network.lines
+abbrev pub penalty_steps : Case → View → Network → Valuation → List Step
+penalty_steps case view network values =
+    all_exchanger_steps (height_at case view network values) (branch_steps case view network values) network
+    ++ all_mix_steps (height_at case view network values) (branch_steps case view network values) network.lines

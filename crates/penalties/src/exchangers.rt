@@ -18,7 +18,10 @@ impl<'a> Survey<'a> {
     /// The height in W of one branch less that of another, from this step on.
     fn loss(&self, place: Place, step: u32, first: u32, second: u32) -> Result<Frac, TooFine>
         requires { step + 4 < 2 ^ 32 }
-        ensures { Formed (loss_steps (seen_height self.now) (seen_steps self.now) place step first second) (λ loss. loss ≡ minus (seen_height self.now first) (seen_height self.now second)) result }
+        ensures { Formed
+            (loss_steps (seen_height self.now) (seen_steps self.now) place step first second)
+            (λ loss. loss ≡ minus (seen_height self.now first) (seen_height self.now second))
+            result }
     {
         let high = self.height(place, step, first)?;
         let low = self.height(place, step + 2, second)?;
@@ -32,7 +35,10 @@ impl<'a> Survey<'a> {
     /// What the hot side of an exchanger releases above the reference place, in W: a stream the
     /// height that its branch loses, a utility the whole duty.
     fn released(&self, place: Place, joint: &Joint) -> Result<Frac, TooFine>
-        ensures { Formed (released_steps (seen_height self.now) (seen_steps self.now) place joint.now.hot joint.now.given) (λ heat. heat ≡ released_by (seen_height self.now) joint.now.duty joint.now.hot joint.now.given) result }
+        ensures { let height = seen_height self.now in Formed
+            (released_steps height (seen_steps self.now) place joint.now.hot joint.now.given)
+            (λ heat. heat ≡ released_by height joint.now.duty joint.now.hot joint.now.given)
+            result }
     {
         if let Source::Utility(_) = joint.hot {
             return Ok(joint.duty);
@@ -46,7 +52,10 @@ impl<'a> Survey<'a> {
     /// What the cold side of an exchanger absorbs above the reference place, in W: a stream the
     /// height that its branch gains, a utility nothing.
     fn absorbed(&self, place: Place, joint: &Joint) -> Result<Frac, TooFine>
-        ensures { Formed (absorbed_steps (seen_height self.now) (seen_steps self.now) place joint.now.cold joint.now.taken) (λ heat. heat ≡ absorbed_by (seen_height self.now) joint.now.cold joint.now.taken) result }
+        ensures { let height = seen_height self.now in Formed
+            (absorbed_steps height (seen_steps self.now) place joint.now.cold joint.now.taken)
+            (λ heat. heat ≡ absorbed_by height joint.now.cold joint.now.taken)
+            result }
     {
         if let Source::Utility(_) = joint.cold {
             return Ok(Frac::whole(0));
@@ -59,7 +68,10 @@ impl<'a> Survey<'a> {
 
     /// The penalty of an exchanger, in W.
     fn exchanger_penalty(&self, number: u32, joint: &Joint) -> Result<Frac, TooFine>
-        ensures { Formed (joint_steps (seen_height self.now) (seen_steps self.now) (number, joint.now)) (λ value. value ≡ joint_penalty (seen_height self.now) joint.now) result }
+        ensures { Formed
+            (joint_steps (seen_height self.now) (seen_steps self.now) (number, joint.now))
+            (λ value. value ≡ joint_penalty (seen_height self.now) joint.now)
+            result }
     {
         let place = Place::Exchanger(number);
         let released = self.released(place, joint)?;
@@ -77,7 +89,9 @@ impl<'a> Survey<'a> {
         list: &mut Vec<Penalty>,
     ) -> Result<Option<TooFine>, AllocError>
         requires { length joints.now < 2 ^ 32 }
-        ensures { IfOk result (Finds (all_joint_steps (seen_height self.now) (seen_steps self.now) joints.now) (list.new.items ≡ list.old.items ++ joint_rows (seen_height self.now) joints.now)) }
+        ensures { IfOk result (Finds
+            (all_joint_steps (seen_height self.now) (seen_steps self.now) joints.now)
+            (list.new.items ≡ list.old.items ++ joint_rows (seen_height self.now) joints.now)) }
     {
         for (number, joint) in joints.iter().enumerate() {
             let number = number as u32;

@@ -39,7 +39,10 @@ fn base_of(stream: &Stream, reference: i32) -> Frac
 /// second is only taken above the base.
 fn height(place: Place, step: u32, base: &Frac, value: &BranchValue) -> Result<Frac, TooFine>
     requires { step + 1 < 2 ^ 32 }
-    ensures { Formed (height_steps place step value.now.cp (minus value.now.t base.now)) (λ h. h ≡ height value.now.cp (minus value.now.t base.now)) result }
+    ensures { let distance = minus value.now.t base.now in Formed
+        (height_steps place step value.now.cp distance)
+        (λ h. h ≡ height value.now.cp distance)
+        result }
 {
     let Some(distance) = value.t.minus(base) else {
         return Err(TooFine { place, step });
@@ -72,7 +75,10 @@ impl<'a> Survey<'a> {
     /// The height in W of a branch, from this step on.
     pub fn height(&self, place: Place, step: u32, branch: u32) -> Result<Frac, TooFine>
         requires { step + 1 < 2 ^ 32 }
-        ensures { Formed (seen_steps self.now place step branch) (λ h. h ≡ seen_height self.now branch) result }
+        ensures { Formed
+            (seen_steps self.now place step branch)
+            (λ h. h ≡ seen_height self.now branch)
+            result }
     {
         let stream = stream_at(self.network.branches.as_slice(), branch);
         let Some(stream) = self.case.streams.get(stream as usize) else {

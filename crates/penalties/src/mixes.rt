@@ -17,7 +17,10 @@ impl<'a> Survey<'a> {
 
     /// The height in W that two branches lose in their mix.
     fn mix_penalty(&self, place: Place, first: u32, second: u32, to: u32) -> Result<Frac, TooFine>
-        ensures { Formed (taken_steps (seen_height self.now) (seen_steps self.now) place first second to) (λ value. value ≡ minus (plus (seen_height self.now first) (seen_height self.now second)) (seen_height self.now to)) result }
+        ensures { let height = seen_height self.now in Formed
+            (taken_steps height (seen_steps self.now) place first second to)
+            (λ value. value ≡ minus (plus (height first) (height second)) (height to))
+            result }
     {
         let one = self.height(place, 1, first)?;
         let other = self.height(place, 3, second)?;
@@ -38,7 +41,9 @@ impl<'a> Survey<'a> {
         list: &mut Vec<Penalty>,
     ) -> Result<Option<TooFine>, AllocError>
         requires { length lines.now + 1 < 2 ^ 32 }
-        ensures { IfOk result (Finds (all_mix_steps (seen_height self.now) (seen_steps self.now) lines.now) (list.new.items ≡ list.old.items ++ mix_rows (seen_height self.now) lines.now)) }
+        ensures { IfOk result (Finds
+            (all_mix_steps (seen_height self.now) (seen_steps self.now) lines.now)
+            (list.new.items ≡ list.old.items ++ mix_rows (seen_height self.now) lines.now)) }
     {
         for (index, line) in lines.iter().enumerate() {
             if let Line::Mix { first, second, to } = *line {

@@ -1,15 +1,12 @@
 //! All penalties of a network.
 ghost use Rattle.std.specs.Prelude.{IfOk, ◌≡◌, All};
-ghost use Rattle.stream_case.specs.Case.{IsComplete};
-ghost use Rattle.network_text.specs.Shape.{HasShape};
+ghost use Rattle.network_audit.specs.Audit.{HasAccepted};
 ghost use Rattle.network_audit.specs.Balance.{excess_of};
-ghost use Rattle.network_audit.specs.Valid.{IsValidNetwork};
-ghost use Rattle.penalties.specs.Accepted.{HasAccepted};
 ghost use Rattle.penalties.specs.Answers.{IfListed, IsNotNegative, ListsPenalties, sum_of};
 
 use crate::heights::Survey;
 use crate::list::{PenaltyList, TooFine};
-use network_audit::{Auditor, joints_of};
+use network_audit::Auditor;
 use network_text::Network;
 use problem_table::reference_place;
 use std::alloc::{AllocError, Global};
@@ -23,15 +20,13 @@ pub fn penalties(
     network: &Network,
     auditor: &Auditor,
 ) -> Result<PenaltyList, AllocError>
-    requires complete { IsComplete case.now }
-    requires shape { HasShape case.now network.now }
-    requires valid { IsValidNetwork case.now network.now }
-    requires accepted { HasAccepted auditor.now case.now network.now }
+    requires { HasAccepted auditor.now case.now network.now }
     ensures lists { IfOk result (ListsPenalties case.now network.now) }
     ensures not_negative { IfOk result (λ list. IfListed list (All IsNotNegative)) }
-    ensures sum { IfOk result (λ list. IfListed list (λ listed. sum_of listed ≡ excess_of case.now network.now)) }
+    ensures sum { IfOk result (λ list.
+        IfListed list (λ listed. sum_of listed ≡ excess_of case.now network.now)) }
 {
-    let joints = joints_of(alloc, network)?;
+    let joints = auditor.joints();
     let survey = Survey {
         case,
         network,
@@ -39,7 +34,7 @@ pub fn penalties(
         reference: reference_place(case),
     };
     let mut list = Vec::new(alloc);
-    if let Some(TooFine { place, step }) = survey.add_exchangers(joints.as_slice(), &mut list)? {
+    if let Some(TooFine { place, step }) = survey.add_exchangers(joints, &mut list)? {
         return Ok(PenaltyList::TooFine { place, step });
     }
     if let Some(TooFine { place, step }) = survey.add_mixes(network.lines.as_slice(), &mut list)? {

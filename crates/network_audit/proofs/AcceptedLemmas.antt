@@ -1,0 +1,28 @@
+-- What is known of a network that an auditor has accepted.
+use Rattle.std.proofs.Common.{Some, subst}
+use Rattle.stream_case.specs.Case.{IsComplete}
+use Rattle.stream_case.specs.declared.case.Case.{Case}
+use Rattle.network_text.specs.Shape.{HasShape}
+use Rattle.network_text.specs.declared.network.Network.{Network}
+use Rattle.network_audit.specs.Audit.{Audit, HasAccepted, IsFaultless, KnowsItsNetwork}
+use Rattle.network_audit.specs.Valid.{IsValidNetwork}
+use Rattle.network_audit.proofs.ValidLemmas.{valid_network}
+
+pub record IsKnown (case : Case) (network : Network) : Type 0 where
+  pub complete : IsComplete case
+  pub shape : HasShape case network
+  pub valid : IsValidNetwork case network
+
+module _ (audit : Audit) (case : Case) (network : Network) (accepted : HasAccepted audit case network) (knows : KnowsItsNetwork audit) where
+  known_here : KnowsItsNetwork (record { case = case; network = network; values = Some accepted.values })
+  known_here = subst KnowsItsNetwork accepted.is knows
+
+  pub faultless_values : IsFaultless case network accepted.values
+  faultless_values = known_here.kept
+
+  pub known_network : IsKnown case network
+  known_network = record {
+    complete = known_here.complete;
+    shape = known_here.shape;
+    valid = valid_network case network (record { values = accepted.values; valuation = faultless_values.valuation; none = faultless_values.none });
+  }

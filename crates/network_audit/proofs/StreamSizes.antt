@@ -1,0 +1,26 @@
+-- The full size of a stream of a case and its first state are whole numbers within the limits of a case.
+use Rattle.std.proofs.Common.{◌≤◌, ℕ, unsigned_abs, arith}
+use Rattle.std.proofs.lemmas.Int.{ints}
+use Rattle.stream_case.specs.Stream.{IsValidStream}
+use Rattle.stream_case.specs.declared.limits.TheConstants.{HIGHEST_LEVEL, MOST_CP}
+use Rattle.stream_case.specs.declared.stream.Stream.{Stream}
+use Rattle.fractions.specs.Rationals.{IsAtMost, whole}
+use Rattle.fractions.proofs.Comparisons.{at_most-whole}
+use Rattle.network_values.specs.Values.{first_state, full_size}
+use Rattle.network_audit.proofs.Sized.{IsSized, sized-whole}
+
+module _ (s : Stream) (valid : IsValidStream s) where
+  pub full_size-sized : (m : ℕ) → unsigned_abs MOST_CP ≤ m → IsSized 1 m (full_size s)
+  full_size-sized m larger =
+      let least = valid.cp.from in
+      let most = valid.cp.upto in
+      sized-whole 1 m s.cp (omega arith) (omega (arith, ints, least, most, larger))
+
+  pub full_size-most : IsAtMost (full_size s) (whole MOST_CP)
+  full_size-most = at_most-whole s.cp MOST_CP valid.cp.upto
+
+  pub first_state-sized : (m : ℕ) → unsigned_abs HIGHEST_LEVEL ≤ m → IsSized 1 m (first_state s)
+  first_state-sized m larger =
+      let low = valid.supply.from in
+      let high = valid.supply.upto in
+      sized-whole 1 m s.supply (omega arith) (omega (arith, ints, low, high, larger))

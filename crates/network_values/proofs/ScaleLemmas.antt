@@ -1,0 +1,213 @@
+-- The two sides of an exchanger on the shifted scale, with the heights that streams lose and gain there.
+use Rattle.std.proofs.Common.{◌≡◌, ◌∙◌, inl, inr, ◌<◌, ◌+ℤ◌, ◌-ℤ◌, ℕ, ℤ, pos, Option, Some, None, slice_get, length, refl, sym, ap, ap₂, subst, arith}
+use Rattle.std.specs.Prelude.{All, option_map, unwrap_or}
+use Rattle.std.specs.Option.{option_map_or}
+use mathlib.Core.Path.{subst₂}
+use Rattle.std.proofs.lemmas.Int.{ints}
+use Rattle.std.proofs.lemmas.Option.{same_Some}
+use Rattle.stream_case.specs.Case.{side_of}
+use Rattle.stream_case.specs.declared.case.Case.{Case}
+use Rattle.stream_case.specs.declared.source.Side.{Side}
+use Rattle.stream_case.specs.declared.source.Side.TheVariants as side
+use Rattle.stream_case.specs.declared.source.Source.{Source}
+use Rattle.stream_case.specs.declared.source.Source.TheVariants as source
+use Rattle.stream_case.specs.declared.stream.Stream.{Stream}
+use Rattle.fractions.specs.Rationals.{IsAtMost, IsBelow, Rational, minus, plus, ratio, rational_zero, times, whole}
+use Rattle.fractions.proofs.Comparisons.{at_most-minus_right, at_most-minus_swap, positive-is}
+use Rattle.fractions.proofs.Ratios.{by_three, one_denominator}
+use Rattle.fractions.proofs.Sums.{plus_comm}
+use Rattle.fractions.proofs.Wholes.{whole-minus, whole-plus}
+use Rattle.network_text.specs.Lines.{Exchanger, exchangers_of, pass_of, stream_at, uses}
+use Rattle.network_text.specs.Shape.{HasShape, IsExchanger, IsOfOneStream, Joins}
+use Rattle.network_text.specs.declared.network.Line.TheVariants as line
+use Rattle.network_text.specs.declared.network.Network.{Network}
+use Rattle.network_text.proofs.Lists.{all_at}
+use Rattle.network_text.proofs.OfShape.{the_pass_of, used_there}
+use Rattle.network_values.specs.Courses.{IsBetweenValues, Sensible}
+use Rattle.network_values.specs.Heights.{HasDuty, View, share, share_in}
+use Rattle.network_values.specs.OneScale.{ExchangersRunOnOneScale, RunsOnOneScale, shifted_run}
+use Rattle.network_values.specs.Penalties.{absorbed_heat, base_of, course_of, height_at, height_in, heights, inlet_height, outlet_height, released_heat, stream_height, unshifted}
+use Rattle.network_values.specs.Sides.{Between, Level, SideRun, contribution_of, pass_run, run_between, seen_from, side_run}
+use Rattle.network_values.specs.Values.{IsWholeValuation, Solves, Valuation, branch_side, change, duty_at, duty_of, value_at}
+use Rattle.network_values.proofs.CourseLemmas.{passes_take}
+use Rattle.network_values.proofs.ShareLemmas.{high_of-seen, low_of-seen}
+use Rattle.network_values.proofs.WholeLemmas.{all_solved, branch_above}
+
+-- ---- ends with the approach between them, as distances from a place
+
+approach_seen : (h c : Rational) (place a b : ℤ) → IsAtMost (plus c (whole (a +ℤ b))) h
+    → IsAtMost (minus c (whole (place -ℤ b))) (minus h (whole (place +ℤ a)))
+approach_seen h c place a b apart =
+    let between : (place +ℤ a) -ℤ (place -ℤ b) ≡ a +ℤ b = omega (arith, ints) in
+    at_most-minus_swap h c (whole (place -ℤ b)) (whole (place +ℤ a))
+    (subst (λ x. IsAtMost x (minus h c)) (sym (whole-minus (place +ℤ a) (place -ℤ b) ∙ ap whole between))
+    (at_most-minus_right (whole (a +ℤ b)) h c (subst (λ x. IsAtMost x h) (plus_comm c (whole (a +ℤ b))) apart)))
+
+-- ---- the stream of a side
+
+stream_on : (case : Case) (i : ℕ) (on : Side) → side_of case (source.Stream i) ≡ Some on → (s : Stream) × (slice_get case.streams i ≡ Some s) × (s.side ≡ on)
+stream_on case i on is = by (slice_get case.streams i) refl is
+  where
+    by : (o : Option Stream) → slice_get case.streams i ≡ o → option_map (λ s. s.side) o ≡ Some on
+        → (s : Stream) × (slice_get case.streams i ≡ Some s) × (s.side ≡ on)
+    by None at none = cc none
+    by (Some s) at some = (s, at, same_Some s.side on some)
+
+-- ---- the shifted scale
+
+minus_twice : (t b p : Rational) → minus (minus t b) p ≡ minus t (plus p b)
+minus_twice = by_three _ (λ n m l d some. simp one_denominator (ap (λ k. ratio k d) (omega (arith, ints))))
+
+unshifted-once : (on : Side) (place c : ℤ) → place +ℤ unshifted on (pos 0) c ≡ unshifted on place c
+unshifted-once side.Hot place c = omega (arith, ints)
+unshifted-once side.Cold place c = omega (arith, ints)
+
+-- from a place of the shifted scale a source is seen less the place unshifted
+seen-again : (on : Side) (place c : ℤ) (run : SideRun)
+    → seen_from (whole place) (seen_from (whole (unshifted on (pos 0) c)) run) ≡ seen_from (whole (unshifted on place c)) run
+seen-again on place c run = by run
+  where
+    at : (t : Rational) → minus (minus t (whole (unshifted on (pos 0) c))) (whole place) ≡ minus t (whole (unshifted on place c))
+    at t = minus_twice t (whole (unshifted on (pos 0) c)) (whole place)
+        ∙ ap (minus t) (whole-plus place (unshifted on (pos 0) c) ∙ ap whole (unshifted-once on place c))
+
+    by : (run : SideRun)
+        → seen_from (whole place) (seen_from (whole (unshifted on (pos 0) c)) run) ≡ seen_from (whole (unshifted on place c)) run
+    by (Between size low high) = ap₂ (λ a b. Between size a b) (at low) (at high)
+    by (Level t) = ap Level (at t)
+
+module _ {case : Case} {network : Network} {values : Valuation} (shape : HasShape case network) (whole_values : IsWholeValuation case network values) where
+  pub branch_height : (view : View) (i : ℕ) (s : Stream) (branch : ℕ)
+      → slice_get case.streams i ≡ Some s → stream_at network.branches branch ≡ i
+      → height_at case view network values branch ≡ height_in view s (value_at values branch)
+  unfolding heights
+  branch_height view i s branch at of_stream =
+      ap (λ o. stream_height view o (value_at values branch)) (ap (slice_get case.streams) of_stream ∙ at)
+
+  -- the side of a stream: the one pass of its branches
+  record IsRun (number i : ℕ) (on : Side) (duty : Rational) (s : Stream) (from to : ℕ) : Type 0 where
+    at : slice_get case.streams i ≡ Some s
+    is_on : s.side ≡ on
+    of_from : stream_at network.branches from ≡ i
+    of_to : stream_at network.branches to ≡ i
+    found : pass_of network number i ≡ Some (line.Pass from number to)
+    some : IsBelow rational_zero (value_at values from).cp
+    size : (value_at values to).cp ≡ (value_at values from).cp
+    heat : times (value_at values from).cp (change on (value_at values from).t (value_at values to).t) ≡ duty
+    run : side_run case network values number (source.Stream i) ≡ run_between on (value_at values from) (value_at values to)
+
+  run_of : (number i : ℕ) (e : Exchanger) (on : Side) → slice_get (exchangers_of network.lines) number ≡ Some e → Joins e i
+      → side_of case (source.Stream i) ≡ Some on
+      → (s : Stream) × (from : ℕ) × (to : ℕ) × IsRun number i on e.duty s from to
+  unfolding side_run branch_side duty_at
+  run_of number i e on at joins is =
+      let (s, of_case, is_on) = stream_on case i on is in
+      let (from, to, index, pass) = the_pass_of shape number i e at joins in
+      let l = line.Pass from number to in
+      let solves = all_at (Solves case network values) network.lines index l (all_solved whole_values) pass.here in
+      let one = all_at (IsOfOneStream network.branches) network.lines index l shape.one_stream pass.here in
+      let used = all_at (λ x. All (λ b. b < length network.branches) (uses x)) network.lines index l
+      (used_there shape.made_once shape.made_first) pass.here in
+      let of_side : branch_side case network from ≡ on =
+      ap (λ n. unwrap_or (side_of case (source.Stream n)) side.Hot) pass.of_stream ∙ ap (λ o. unwrap_or o side.Hot) is in
+      let duty : duty_at network number ≡ e.duty = ap duty_of at in (
+        s,
+        from,
+        to,
+        record {
+          at = of_case;
+          is_on = is_on;
+          of_from = pass.of_stream;
+          of_to = one ∙ pass.of_stream;
+          found = pass.found;
+          some = branch_above whole_values shape from (used 0 0 (omega arith));
+          size = solves.size;
+          heat = ap (λ o. times (value_at values from).cp (change o (value_at values from).t (value_at values to).t)) (sym of_side) ∙ solves.heat ∙ duty;
+          run = ap (pass_run case network values) pass.found ∙ ap (λ o. run_between o (value_at values from) (value_at values to)) of_side;
+        },
+      )
+
+  contribution-of : (i : ℕ) (s : Stream) → slice_get case.streams i ≡ Some s → contribution_of case (source.Stream i) ≡ s.contribution
+  contribution-of i s at = ap (λ o. option_map_or (λ (t : Stream). t.contribution) o (pos 0)) at
+
+  -- the side of a stream as it is seen from a place, and from the shifted scale
+  seen_run : (number i : ℕ) (on : Side) (duty : Rational) (s : Stream) (from to : ℕ) → IsRun number i on duty s from to → (place : ℤ)
+      → seen_from (whole place) (shifted_run on case network values number (source.Stream i))
+      ≡ seen_from (base_of place s) (run_between on (value_at values from) (value_at values to))
+  seen_run number i on duty s from to r place =
+      seen-again on place (contribution_of case (source.Stream i)) (side_run case network values number (source.Stream i))
+      ∙ ap₂ seen_from (ap₂ (λ o c. whole (unshifted o place c)) (sym r.is_on) (contribution-of i s r.at)) r.run
+
+  -- what a side has on the shifted scale: the duty, and of a stream the share in each view
+  record IsSide (on : Side) (number : ℕ) (duty : Rational) (s : Source) (taken : View → Rational) : Type 0 where
+    has_duty : HasDuty duty (shifted_run on case network values number s)
+    is_share : (view : View) (i : ℕ) → s ≡ source.Stream i → taken view ≡ share_in view duty (shifted_run on case network values number s)
+
+  hot_side : (number : ℕ) (e : Exchanger) → slice_get (exchangers_of network.lines) number ≡ Some e → (s : Source)
+      → side_of case s ≡ Some side.Hot → ((i : ℕ) → s ≡ source.Stream i → Joins e i)
+      → IsSide side.Hot number e.duty s (λ view. released_heat (height_at case view network values) network number e.duty s)
+  unfolding side_run
+  hot_side number e at (source.Stream i) is joins =
+      let (s, from, to, r) = run_of number i e side.Hot at (joins i refl) is in
+      let base = whole (unshifted side.Hot (pos 0) (contribution_of case (source.Stream i))) in
+      let before = value_at values from in
+      let behind = value_at values to in
+      let between : IsBetweenValues e.duty behind before = record { some = r.some; size = r.size; gives = r.heat } in record {
+        has_duty = subst (λ run. HasDuty e.duty (seen_from base run)) (sym r.run) (passes_take.has_duty (Sensible base) e.duty behind before between);
+        is_share = λ view j same.
+            ap (λ o. minus (inlet_height (height_at case view network values) o) (outlet_height (height_at case view network values) o)) r.found
+            ∙ ap₂ minus (branch_height view i s from r.at r.of_from) (branch_height view i s to r.at r.of_to)
+            ∙ passes_take.takes view.from_itself (course_of view.place s) e.duty behind before between
+            ∙ sym (ap (share view.from_itself e.duty) (seen_run number i side.Hot e.duty s from to r view.place));
+      }
+  hot_side number e at (source.Utility i) is joins = record { has_duty = tt; is_share = λ view j same. cc same }
+
+  cold_side : (number : ℕ) (e : Exchanger) → slice_get (exchangers_of network.lines) number ≡ Some e → (s : Source)
+      → side_of case s ≡ Some side.Cold → ((i : ℕ) → s ≡ source.Stream i → Joins e i)
+      → IsSide side.Cold number e.duty s (λ view. absorbed_heat (height_at case view network values) network number s)
+  unfolding side_run
+  cold_side number e at (source.Stream i) is joins =
+      let (s, from, to, r) = run_of number i e side.Cold at (joins i refl) is in
+      let base = whole (unshifted side.Cold (pos 0) (contribution_of case (source.Stream i))) in
+      let before = value_at values from in
+      let behind = value_at values to in
+      let between : IsBetweenValues e.duty before behind = record {
+        some = subst (IsBelow rational_zero) (sym r.size) r.some;
+        size = sym r.size;
+        gives = ap (λ f. times f (minus behind.t before.t)) r.size ∙ r.heat;
+      } in
+      let run : Between behind.cp before.t behind.t ≡ side_run case network values number (source.Stream i) =
+      ap (λ f. Between f before.t behind.t) r.size ∙ sym r.run in record {
+        has_duty = subst (λ run. HasDuty e.duty (seen_from base run)) run (passes_take.has_duty (Sensible base) e.duty before behind between);
+        is_share = λ view j same.
+            ap (λ o. minus (outlet_height (height_at case view network values) o) (inlet_height (height_at case view network values) o)) r.found
+            ∙ ap₂ minus (branch_height view i s to r.at r.of_to) (branch_height view i s from r.at r.of_from)
+            ∙ passes_take.takes view.from_itself (course_of view.place s) e.duty before behind between
+            ∙ ap (λ f. share view.from_itself e.duty (seen_from (base_of view.place s) (Between f before.t behind.t))) r.size
+            ∙ sym (ap (share view.from_itself e.duty) (seen_run number i side.Cold e.duty s from to r view.place));
+      }
+  cold_side number e at (source.Utility i) is joins = record { has_duty = tt; is_share = λ view j same. cc same }
+
+  pub run_on_scale : (number : ℕ) (e : Exchanger) → slice_get (exchangers_of network.lines) number ≡ Some e → RunsOnOneScale case network values number e
+  run_on_scale number e at =
+      let valid = all_at (IsExchanger case) (exchangers_of network.lines) number e shape.exchangers.each at in
+      let hot = hot_side number e at e.hot valid.hot (λ i same. inl same) in
+      let cold = cold_side number e at e.cold valid.cold (λ i same. inr same) in
+      let high = λ (on : Side) (s : Source). high_of-seen (whole (unshifted on (pos 0) (contribution_of case s))) (side_run case network values number s) in
+      let low = λ (on : Side) (s : Source). low_of-seen (whole (unshifted on (pos 0) (contribution_of case s))) (side_run case network values number s) in
+      record {
+        positive = positive-is e.duty valid.duty.above;
+        hot_duty = hot.has_duty;
+        cold_duty = cold.has_duty;
+        apart = λ apart. record {
+          high = subst₂ IsAtMost (sym (high side.Cold e.cold)) (sym (high side.Hot e.hot))
+              (approach_seen _ _ (pos 0) (contribution_of case e.hot) (contribution_of case e.cold) apart.hot_end);
+          low = subst₂ IsAtMost (sym (low side.Cold e.cold)) (sym (low side.Hot e.hot))
+              (approach_seen _ _ (pos 0) (contribution_of case e.hot) (contribution_of case e.cold) apart.cold_end);
+        };
+        released = hot.is_share;
+        absorbed = cold.is_share;
+      }
+
+pub exchangers_run : ExchangersRunOnOneScale
+exchangers_run case network values number e shape whole_values at = run_on_scale shape whole_values number e at
