@@ -22,7 +22,7 @@ use Rattle.stream_case.specs.declared.stream.Stream.{Stream}
 use Rattle.stream_case.specs.declared.utility.Utility.{Utility}
 use Rattle.stream_case.proofs.CaseLemmas.{count_on-add}
 use Rattle.stream_case.proofs.ListLemmas.{none_there, position-map}
-use Rattle.row_fields.proofs.Streams.{one_more_on}
+use Rattle.rows.proofs.Streams.{one_more_on}
 use Rattle.case_text.specs.Given.{Given, case_of, stream_of, utility_of}
 use Rattle.case_text.specs.Answers.{HasFewSources}
 use Rattle.case_text.specs.Checks.{is_taken}

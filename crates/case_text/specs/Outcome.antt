@@ -1,6 +1,6 @@
 -- The outcome of a case file: the first row at fault, else the fault of the end, else the case.
 use Rattle.std.specs.Prelude.{ℕ, ◌+◌, List, Option, option_map, Result, Ok, Err}
-use Rattle.csv_rows.specs.Rows.{Row}
+use Rattle.rows.specs.Rows.{Row}
 use Rattle.first_fault.specs.Checks.{first_failing}
 use Rattle.first_fault.specs.Outcome.{Grammar}
 use Rattle.first_fault.specs.Outcome as outcome

@@ -1,7 +1,7 @@
 //! Laws of the grammar.
 
 ghost use Rattle.std.specs.Prelude.{◌≡◌, ◌⊎◌, ℕ, List};
-ghost use Rattle.csv_rows.specs.Rows.{Row, rows_of};
+ghost use Rattle.rows.specs.Rows.{Row, rows_of};
 ghost use Rattle.stream_case.specs.Case.{IsValid};
 ghost use Rattle.stream_case.specs.declared.case.Case.{Case};
 ghost use Rattle.case_text.specs.Outcome.{IsCase, IsFault};

@@ -2,7 +2,7 @@
 
 ghost use Rattle.std.specs.Prelude.{◌≡◌, ◌≤◌, ◌++◌, All, IfOk, OnOk, length, string_bytes};
 ghost use Rattle.std.specs.List.{flat_map};
-ghost use Rattle.csv_rows.specs.Rows.{rows_of};
+ghost use Rattle.rows.specs.Rows.{rows_of};
 ghost use Rattle.stream_case.specs.Case.{IsValid, IsValidForbid};
 ghost use Rattle.case_text.specs.Outcome.{IsCase};
 ghost use Rattle.case_text.specs.Printed.{contribution_row, forbid_row, printed_rows, row_text, rows_text, stream_row, utility_row};

@@ -14,12 +14,12 @@ use Rattle.grid.specs.Part.{AreParts}
 use Rattle.grid.proofs.MakingLemmas.{AreParts-made}
 use Rattle.grid.proofs.SizeLemmas.{length-made}
 use Rattle.transport.specs.declared.least_cost.TheConstants.{MOST_PAIRS}
-use Rattle.site.specs.Reach.{reach_between}
-use Rattle.site.specs.Site.{IsValidSite, streams_of}
-use Rattle.site.specs.Table.{IsSiteGrid, site_places, site_utilities}
+use Rattle.plants.specs.Reach.{reach_between}
+use Rattle.plants.specs.Site.{IsValidSite, streams_of}
+use Rattle.plants.specs.Table.{IsSiteGrid, site_places, site_utilities}
 use Rattle.site.specs.Target.{AreSiteParts}
-use Rattle.site.specs.declared.plants.Site.{Site}
-use Rattle.site.proofs.PlaceLemmas.{HoldsPlaces-grid, length-site_places}
+use Rattle.plants.specs.declared.site.Site.{Site}
+use Rattle.plants.proofs.PlaceLemmas.{HoldsPlaces-grid, length-site_places}
 
 module _ (site : Site) (valid : IsValidSite site) where
   -- there are at most 24 streams and 4 mains

@@ -3,9 +3,9 @@ use Rattle.std.specs.Prelude.{ℤ, List}
 use Rattle.stream_case.specs.declared.source.Side.TheVariants.{Cold, Hot}
 use Rattle.grid.specs.Part.{AreParts}
 use Rattle.grid.specs.declared.part.Part.{Part}
-use Rattle.site.specs.Site.{streams_of}
-use Rattle.site.specs.Table.{IsSiteGrid, site_utilities}
-use Rattle.site.specs.declared.plants.Site.{Site}
+use Rattle.plants.specs.Site.{streams_of}
+use Rattle.plants.specs.Table.{IsSiteGrid, site_utilities}
+use Rattle.plants.specs.declared.site.Site.{Site}
 
 -- the hot and the cold parts of a site on its grid
 pub record AreSiteParts (site : Site) (hot cold : List Part) : Type 0 where

@@ -3,13 +3,12 @@ ghost use Rattle.std.specs.Prelude.{List, IfOk};
 ghost use Rattle.grid.specs.declared.part.Part.{Part};
 ghost use Rattle.heat_flow.specs.Cuts.{HasNoFlow};
 ghost use Rattle.heat_flow.specs.Flow.{IsLeastCost};
-ghost use Rattle.site.specs.Reach.{reach_between};
-ghost use Rattle.site.specs.Site.{IsValidSite};
+ghost use Rattle.plants.specs.Reach.{reach_between};
+ghost use Rattle.plants.specs.Site.{IsValidSite};
 ghost use Rattle.site.specs.Target.{AreSiteParts};
 ghost use Rattle.transport.specs.Answer.{IfLeast, IfStuck, IsCertified, IsCutOf};
 
-use crate::plants::Site;
-use crate::table::site_parts;
+use plants::{Site, site_parts};
 use std::alloc::{AllocError, Global};
 use transport::{Answer, least};
 

@@ -22,7 +22,7 @@ use Rattle.stream_case.specs.declared.stream.Stream.{Stream}
 use Rattle.stream_case.specs.declared.utility.Utility.{Utility}
 use Rattle.stream_case.proofs.CaseLemmas.{IsName-source_name, IsSourceOf-side, source_named-source_name}
 use Rattle.stream_case.proofs.SourceLemmas.{own_side}
-use Rattle.row_fields.proofs.Seams.{All-seam, AllPairs-seam, length-seam}
+use Rattle.rows.proofs.Seams.{All-seam, AllPairs-seam, length-seam}
 use Rattle.case_text.specs.Given.{Given, case_of, nothing, stream_of, utility_of}
 use Rattle.case_text.specs.Checks.{end_checks}
 use Rattle.case_text.specs.Outcome.{IsCase, end_fault, grammar}

@@ -15,10 +15,10 @@ use Rattle.csv.specs.Writing.{default_writer, needs_byte}
 use Rattle.csv.specs.Writing as csv
 use Rattle.csv.specs.declared.parser.State.TheVariants as st
 use Rattle.csv.proofs.RoundTrip.{read-write-many}
-use Rattle.csv_rows.specs.Rows.{Row, rows_of}
+use Rattle.rows.specs.Rows.{Row, rows_of}
 use Rattle.stream_case.specs.Name.{IsName, is_name_byte}
 use Rattle.case_text.specs.Printed.{fields_text, row_text, rows_text}
-use Rattle.row_fields.proofs.PrintedNumbers.{IsPrintable}
+use Rattle.rows.proofs.PrintedNumbers.{IsPrintable}
 
 -- ---- fields
 

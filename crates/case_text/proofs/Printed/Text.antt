@@ -7,7 +7,7 @@ use Rattle.std.proofs.lemmas.List.{length-map}
 use Rattle.std.proofs.lemmas.List.Concat.{length-flat_map}
 use Rattle.std.proofs.lemmas.List.Elements.{All-append, All-cons, All-from_recursion, All-head, All-map, All-tail, All-weaker}
 use Rattle.std.proofs.lemmas.List.Sums.{sum_by-le}
-use Rattle.csv_rows.specs.Rows.{Row, rows_of}
+use Rattle.rows.specs.Rows.{Row, rows_of}
 use Rattle.stream_case.specs.Case.{IsValid, IsValidForbid, source_name}
 use Rattle.stream_case.specs.Limits.{IsContribution, IsHeat}
 use Rattle.stream_case.specs.Name.{IsName}
@@ -23,7 +23,7 @@ use Rattle.stream_case.proofs.CaseLemmas.{length-AreStreams}
 use Rattle.stream_case.proofs.NameLemmas.{length-IsName}
 use Rattle.case_text.specs.Outcome.{IsCase}
 use Rattle.case_text.specs.Printed.{contribution_row, fields_text, forbid_row, printed_rows, row_text, rows_text, stream_kind, stream_row, utility_kind, utility_row}
-use Rattle.row_fields.proofs.PrintedNumbers.{IsPrintable, contribution, flow_rate, heat, number_short, price, temperature}
+use Rattle.rows.proofs.PrintedNumbers.{IsPrintable, contribution, flow_rate, heat, number_short, price, temperature}
 use Rattle.case_text.proofs.Printed.Plain.{IsPlain, IsPlainRow, name_plain, number_plain, rows_same}
 use Rattle.case_text.proofs.Printed.Case.{name_of, rows_back}
 

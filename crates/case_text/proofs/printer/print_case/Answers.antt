@@ -2,7 +2,7 @@ use Rattle.std.proofs.Common.{◌≡◌, ◌≤◌, ◌++◌, ℕ, List, length,
 use Rattle.std.specs.List.{flat_map}
 use Rattle.std.proofs.lemmas.List.Concat.{flat_map-append}
 use Rattle.std.proofs.lemmas.List.Folds.{flat_map-map}
-use Rattle.csv_rows.specs.Rows.{rows_of}
+use Rattle.rows.specs.Rows.{rows_of}
 use Rattle.stream_case.specs.declared.case.Case.{Case}
 use Rattle.case_text.specs.Outcome.{IsCase}
 use Rattle.case_text.specs.Printed.{contribution_row, forbid_row, printed_rows, row_text, rows_text, stream_row, utility_row}

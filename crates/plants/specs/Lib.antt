@@ -1,0 +1,5 @@
+pub mod Site
+pub mod Table
+pub mod Reach
+pub mod Profiles
+pub mod Directions

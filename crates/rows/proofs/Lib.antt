@@ -1,0 +1,5 @@
+pub mod Records
+pub mod PrintedNumbers
+pub mod Tests
+pub mod Streams
+pub mod Seams
