@@ -1,5 +1,5 @@
 -- The sources of the case so far, by the entries of the two maps.
-use Rattle.std.proofs.Common.{◌≡◌, ◌∙◌, ◌∷◌, ◌++◌, ◌<◌, ◌≤◌, ◌+◌, ◌||◌, ℕ, ℤ, pos, false, cond, List, [], length, map, count_by, position, Option, None, is_some, option_map, unwrap_or, slice_get, sym, ap, arith}
+use Rattle.std.proofs.Common.{◌≡◌, ◌∙◌, ◌∷◌, ◌++◌, ◌<◌, ◌≤◌, ◌||◌, ℕ, ℤ, pos, false, cond, List, [], length, map, count_by, position, Option, None, is_some, option_map, unwrap_or, slice_get, sym, ap, arith}
 use Rattle.std.specs.Map.{keys_of, lookup}
 use Rattle.std.specs.Str.{bytes_eq}
 use Rattle.std.proofs.lemmas.Bool.{or_parts}

@@ -5,7 +5,8 @@ ghost use Rattle.rows.specs.Rows.{Row, rows_of};
 ghost use Rattle.stream_case.specs.Case.{IsValid};
 ghost use Rattle.stream_case.specs.declared.case.Case.{Case};
 ghost use Rattle.case_text.specs.Outcome.{IsCase, IsFault};
-ghost use Rattle.case_text.specs.Printed.{printed_rows, rows_text};
+ghost use Rattle.rows.specs.Text.{rows_text};
+ghost use Rattle.case_text.specs.Printed.{printed_rows};
 
 use crate::fault::CaseWhy;
 

@@ -8,8 +8,8 @@ ghost use Rattle.plants.specs.Site.{IsValidSite, streams_of};
 ghost use Rattle.plants.specs.Table.{IsSiteGrid, site_utilities};
 
 use crate::places::{site_places, streams_of};
-use crate::site::Site;
 use crate::reach::reach_of;
+use crate::site::Site;
 use crate::utilities::{boiler, cooling};
 use grid::{Parts, parts_on};
 use heat_flow::Reach;

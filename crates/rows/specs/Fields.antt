@@ -1,5 +1,5 @@
 -- The fields of a row, and the numbers in them.
-use Rattle.std.specs.Prelude.{ℕ, ℤ, pos, Bool, ◌==◌, ◌||◌, List, [], ◌∷◌, length, is_some, unwrap_or, slice_index, slice_index_or}
+use Rattle.std.specs.Prelude.{ℕ, ℤ, pos, Bool, ◌==◌, ◌||◌, List, [], ◌∷◌, length, Option, Some, None, is_some, if◌then◌else◌, unwrap_or, slice_index, slice_index_or}
 use Rattle.std.specs.List.{list_all}
 use Rattle.rows.specs.Rows.{Row}
 use Rattle.rows.specs.Numbers.{number_in}
@@ -23,3 +23,16 @@ is_number row index = is_some (number_in (field row index))
 -- the number in a field
 unfoldable pub number : Row → ℕ → ℤ
 number row index = unwrap_or (number_in (field row index)) (pos 0)
+
+-- ---- numbers that may be left out
+
+-- a field is empty
+abbrev pub is_empty : Row → ℕ → Bool
+is_empty row index = length (field row index) == 0
+
+unfoldable pub is_number_or_empty : Row → ℕ → Bool
+is_number_or_empty row index = is_empty row index || is_number row index
+
+-- the number in a field, and none where it is empty
+unfoldable pub optional_number : Row → ℕ → Option ℤ
+optional_number row index = if is_empty row index then None else Some (number row index)

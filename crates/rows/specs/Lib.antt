@@ -2,3 +2,6 @@ pub mod Rows
 pub mod Left
 pub mod Numbers
 pub mod Fields
+pub mod Outcome
+pub mod Text
+pub mod Printed

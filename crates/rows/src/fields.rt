@@ -4,7 +4,7 @@ ghost use Rattle.std.specs.Prelude.{◌≡◌, [], ◌∷◌};
 ghost use Rattle.csv.specs.Records.{fields_of};
 ghost use Rattle.first_fault.specs.Checks.{Checked};
 ghost use Rattle.stream_case.specs.Name.{is_name};
-ghost use Rattle.rows.specs.Fields.{are_empty, field, is_number, is_passed_over, number};
+ghost use Rattle.rows.specs.Fields.{are_empty, field, is_number, is_number_or_empty, is_passed_over, number, optional_number};
 
 use crate::numbers::number_of;
 use csv::ByteRecord;
@@ -50,4 +50,20 @@ pub fn number_in<Cause: Drop>(row: &ByteRecord, index: usize, bad: Cause) -> Res
     ensures { Checked ((is_number (fields_of row.now) index, bad) ∷ []) (λ n. n ≡ number (fields_of row.now) index) result }
 {
     number_of(field(row, index)).ok_or(bad)
+}
+
+/// The number in a field, or the cause for one that is neither empty nor a number text; there is
+/// none where the field is empty.
+#[tactic(auto, unfolding(crate::specs::Fields::is_number_or_empty, crate::specs::Fields::optional_number))]
+pub fn optional_number_in<Cause: Drop>(
+    row: &ByteRecord,
+    index: usize,
+    bad: Cause,
+) -> Result<Option<i64>, Cause>
+    ensures { Checked ((is_number_or_empty (fields_of row.now) index, bad) ∷ []) (λ n. n ≡ optional_number (fields_of row.now) index) result }
+{
+    if field(row, index).is_empty() {
+        return Ok(None);
+    }
+    Ok(Some(number_in(row, index, bad)?))
 }

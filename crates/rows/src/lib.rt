@@ -6,10 +6,12 @@
 //! caller names for it.
 #![tactic(auto)]
 
+mod fault;
 mod fields;
 mod numbers;
 mod row_reader;
 
-pub use fields::{are_empty, field, is_passed_over, name_in, number_in};
+pub use fault::RowFault;
+pub use fields::{are_empty, field, is_passed_over, name_in, number_in, optional_number_in};
 pub use numbers::{contribution, flow_rate, heat, number_of, price, temperature};
 pub use row_reader::Rows;

@@ -4,6 +4,7 @@ use Rattle.std.proofs.lemmas.Bool.Decides.{nat_tests}
 use Rattle.std.proofs.lemmas.List.{append-nil, length-map, map-append}
 use Rattle.std.proofs.lemmas.List.Elements.{All-map, All-nil, All-push, All-weaker}
 use Rattle.std.proofs.lemmas.List.Quantifiers.{all_pairs_push}
+use Rattle.rows.specs.declared.fault.RowFault.{RowFault}
 use Rattle.rows.specs.Rows.{Row}
 use Rattle.first_fault.specs.Outcome.{given_by}
 use Rattle.first_fault.proofs.CheckLemmas.{Passes}
@@ -27,7 +28,7 @@ use Rattle.site.specs.Checks.{checks, contribution_checks, end_checks, is_among,
 use Rattle.site.specs.Given.{Given, entry_by, kind_of, main_in, nothing, plant_with, site_of, stream_in, with_contribution, with_entry}
 use Rattle.site.specs.Outcome.{IsOutcome, IsSite, end_fault, grammar}
 use Rattle.site.specs.declared.entry.Entry.TheVariants as entry
-use Rattle.site.specs.declared.fault.SiteFault.{SiteFault}
+use Rattle.site.specs.declared.fault.SiteWhy.{SiteWhy}
 use Rattle.site.specs.declared.kind.Kind.{Kind}
 use Rattle.site.specs.declared.kind.Kind.TheVariants as kind
 use Rattle.site.proofs.Plants.{count_on-with, few_with_stream, length-with_stream, named-with_stream, names-with_stream, plant_names-with, stream_names-with, streams_of-plant, streams_of-plant_with, streams_of-with_stream}
@@ -195,6 +196,6 @@ site-is_valid rows site is =
     let given = given_by grammar rows in
     rw is.value_is (site_valid given (given_has grammar Fits nothing_fits each_row_keeps rows is.sound) (whole_end (length rows) given is.complete))
 
-pub outcome_is_valid : (rows : List Row) (result : Result Site SiteFault) → IsOutcome rows result → IfOk result IsValidSite
+pub outcome_is_valid : (rows : List Row) (result : Result Site (RowFault SiteWhy)) → IsOutcome rows result → IfOk result IsValidSite
 outcome_is_valid rows (Ok site) is = site-is_valid rows site is
 outcome_is_valid rows (Err fault) is = tt

@@ -4,3 +4,4 @@ pub mod Accepted
 pub mod PrintedRows
 pub mod PrintedSite
 pub mod TargetLemmas
+pub mod PrintedText

@@ -23,7 +23,8 @@ use Rattle.plants.specs.declared.site.Plant.{Plant}
 use Rattle.site.specs.Checks.{checks, contribution_checks, kind_checks, main_checks, plant_checks, stream_checks, stream_number_checks}
 use Rattle.site.specs.Given.{Given, kind_of, nothing, with_contribution, with_entry}
 use Rattle.site.specs.Outcome.{grammar}
-use Rattle.site.specs.Printed.{contribution_row, main_row, plant_row, stream_kind, stream_row}
+use Rattle.rows.specs.Printed.{contribution_row, stream_kind, stream_row}
+use Rattle.site.specs.Printed.{main_row, plant_row}
 use Rattle.site.specs.declared.entry.Entry.TheVariants as entry
 use Rattle.site.specs.declared.kind.Kind.TheVariants as kind
 use Rattle.site.proofs.Tests.{Decides-is_among, Decides-is_reserved}

@@ -25,7 +25,8 @@ use Rattle.plants.proofs.SiteLemmas.{All-plants}
 use Rattle.site.specs.Checks.{end_checks}
 use Rattle.site.specs.Given.{Given, nothing, plant_with, site_of, with_contribution}
 use Rattle.site.specs.Outcome.{IsSite, end_fault, grammar}
-use Rattle.site.specs.Printed.{contribution_row, main_row, plant_row, plant_rows, printed_rows, stream_row}
+use Rattle.rows.specs.Printed.{contribution_row, stream_row}
+use Rattle.site.specs.Printed.{main_row, plant_row, plant_rows, printed_rows}
 use Rattle.site.proofs.Plants.{count_on-with, plant_names-with, stream_names-with, streams_of-plant, streams_of-plant_with, with_stream-last}
 use Rattle.site.proofs.PrintedRows.{contribution_follows, main_follows, plant_follows, stream_follows}
 

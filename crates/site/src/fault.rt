@@ -1,7 +1,6 @@
 //! Why a site file is refused.
 
-use std::alloc::AllocError;
-use thiserror::Error;
+use rows::RowFault;
 
 /// Why a row is at fault, or the end of the file.
 #[derive(Clone, Copy, Debug, PartialEq, Eq)]
@@ -34,24 +33,5 @@ pub enum SiteWhy {
     NoStream,
 }
 
-/// Why there is no site.
-#[derive(Debug, PartialEq, Eq, Drop, Error)]
-pub enum SiteFault {
-    /// The first row at fault, counted from 1, and the first of its checks that fails. For what
-    /// the end of the file lacks, the row is the number of rows plus 1.
-    #[error("row {row}: {why:?}")]
-    Row { row: u32, why: SiteWhy },
-    #[error("out of memory")]
-    OutOfMemory,
-}
-
-impl From<AllocError> for SiteFault {
-    ghost use Rattle.std.specs.Prelude.{◌≡◌};
-    ghost use Rattle.site.specs.declared.fault.SiteFault.TheVariants.{OutOfMemory};
-
-    ghost from_gives = { λ _ fault. fault ≡ OutOfMemory };
-
-    fn from(refused: AllocError) -> SiteFault {
-        SiteFault::OutOfMemory
-    }
-}
+/// Why there is no site: the first row at fault with its cause, or want of memory.
+pub type SiteFault = RowFault<SiteWhy>;

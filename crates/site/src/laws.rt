@@ -1,7 +1,8 @@
 //! Laws of the grammar.
 
 ghost use Rattle.std.specs.Prelude.{◌≡◌, ◌⊎◌, ℕ, List};
-ghost use Rattle.rows.specs.Rows.{Row};
+ghost use Rattle.rows.specs.Rows.{Row, rows_of};
+ghost use Rattle.rows.specs.Text.{rows_text};
 ghost use Rattle.plants.specs.Site.{IsValidSite};
 ghost use Rattle.plants.specs.declared.site.Site.{Site};
 ghost use Rattle.site.specs.Outcome.{IsFault, IsSite};
@@ -19,8 +20,8 @@ pub fn rows_have_one_outcome()
 {}
 
 /// The sites that the grammar gives are exactly the valid ones: what it gives is valid, and it gives
-/// each valid site for rows that print it.
+/// each valid site for the rows that are printed of it.
 pub fn valid_sites_are_those_of_the_grammar()
     ensures valid { (rows : List Row) (site : Site) → IsSite rows site → IsValidSite site }
-    ensures given { (site : Site) → IsValidSite site → IsSite (printed_rows site) site }
+    ensures given { (site : Site) → IsValidSite site → IsSite (rows_of (rows_text (printed_rows site))) site }
 {}

@@ -10,8 +10,8 @@ use crate::entry::Entry;
 use crate::fault::SiteWhy;
 use crate::found::Found;
 use csv::ByteRecord;
-use rows::{are_empty, name_in, number_in, temperature};
 use plants::Main;
+use rows::{are_empty, name_in, number_in, temperature};
 use stream_case::MOST_MAINS;
 
 /// What a row of that kind gives.

@@ -10,8 +10,8 @@ use crate::entry::Entry;
 use crate::fault::SiteWhy;
 use crate::found::Found;
 use csv::ByteRecord;
-use rows::{are_empty, name_in};
 use plants::MOST_PLANTS;
+use rows::{are_empty, name_in};
 
 /// What a row of that kind gives.
 #[tactic(auto, unfolding(crate::specs::Checks::plant_checks))]

@@ -20,8 +20,8 @@ use crate::main_row::main_entry;
 use crate::plant_row::plant_entry;
 use crate::stream_row::stream_entry;
 use csv::ByteRecord;
-use rows::Rows;
 use plants::Site;
+use rows::Rows;
 use std::alloc::Global;
 
 /// What a row gives, or the first of its checks that fails.

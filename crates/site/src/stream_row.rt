@@ -12,8 +12,8 @@ use crate::entry::Entry;
 use crate::fault::SiteWhy;
 use crate::found::Found;
 use csv::ByteRecord;
-use rows::{are_empty, flow_rate, name_in, number_in, temperature};
 use plants::MOST_SIDE_STREAMS;
+use rows::{are_empty, flow_rate, name_in, number_in, temperature};
 use stream_case::{Name, Side, Stream};
 
 /// Whether no stream may have this name.

@@ -26,7 +26,8 @@ use Rattle.rows.proofs.Seams.{All-seam, AllPairs-seam, length-seam}
 use Rattle.case_text.specs.Given.{Given, case_of, nothing, stream_of, utility_of}
 use Rattle.case_text.specs.Checks.{end_checks}
 use Rattle.case_text.specs.Outcome.{IsCase, end_fault, grammar}
-use Rattle.case_text.specs.Printed.{contribution_row, forbid_row, printed_rows, stream_row, utility_row}
+use Rattle.rows.specs.Printed.{contribution_row, stream_row}
+use Rattle.case_text.specs.Printed.{forbid_row, printed_rows, utility_row}
 use Rattle.case_text.specs.declared.entry.StreamData.{StreamData}
 use Rattle.case_text.specs.declared.entry.UtilityData.{UtilityData}
 use Rattle.case_text.proofs.ListLemmas.{count_by-map}

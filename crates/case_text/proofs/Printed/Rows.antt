@@ -26,7 +26,8 @@ use Rattle.case_text.specs.Rows.{kind_of}
 use Rattle.case_text.specs.Given.{Given, case_of, nothing, with_entry}
 use Rattle.case_text.specs.Checks.{checks, contribution_checks, forbid_checks, kind_checks, stream_checks, stream_number_checks, utility_checks, utility_number_checks}
 use Rattle.case_text.specs.Outcome.{grammar}
-use Rattle.case_text.specs.Printed.{contribution_row, forbid_row, stream_kind, stream_row, utility_kind, utility_row}
+use Rattle.rows.specs.Printed.{contribution_row, stream_kind, stream_row}
+use Rattle.case_text.specs.Printed.{forbid_row, utility_kind, utility_row}
 use Rattle.case_text.specs.declared.entry.Entry.TheVariants as entry
 use Rattle.case_text.specs.declared.entry.StreamData.{StreamData}
 use Rattle.case_text.specs.declared.entry.UtilityData.{UtilityData}

@@ -17,7 +17,7 @@ use Rattle.csv.specs.declared.parser.State.TheVariants as st
 use Rattle.csv.proofs.RoundTrip.{read-write-many}
 use Rattle.rows.specs.Rows.{Row, rows_of}
 use Rattle.stream_case.specs.Name.{IsName, is_name_byte}
-use Rattle.case_text.specs.Printed.{fields_text, row_text, rows_text}
+use Rattle.rows.specs.Text.{fields_text, row_text, rows_text}
 use Rattle.rows.proofs.PrintedNumbers.{IsPrintable}
 
 -- ---- fields
