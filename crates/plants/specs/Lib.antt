@@ -3,3 +3,4 @@ pub mod Table
 pub mod Reach
 pub mod Profiles
 pub mod Directions
+pub mod SiteTable

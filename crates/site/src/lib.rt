@@ -25,4 +25,4 @@ pub use plants::{
     source_profile,
 };
 pub use reader::read_site;
-pub use target::site_target;
+pub use target::{site_target, table_target};
