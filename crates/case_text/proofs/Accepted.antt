@@ -6,7 +6,8 @@ use Rattle.std.proofs.lemmas.Bool.Decides.{nat_tests}
 use Rattle.std.proofs.lemmas.List.{length-map, map-append}
 use Rattle.std.proofs.lemmas.List.Elements.{All-map, All-nil, All-push, All-weaker}
 use Rattle.std.proofs.lemmas.List.Quantifiers.{all_pairs_push}
-use Rattle.csv_rows.specs.Rows.{Row}
+use Rattle.rows.specs.declared.fault.RowFault.{RowFault}
+use Rattle.rows.specs.Rows.{Row}
 use Rattle.first_fault.proofs.CheckLemmas.{Passes}
 use Rattle.first_fault.proofs.Steps.{IsKept, given_has}
 use Rattle.stream_case.specs.Case.{IsRightlyNamed, IsUnreserved, IsValid, IsValidForbid}
@@ -24,16 +25,16 @@ use Rattle.stream_case.specs.declared.source.Source.TheVariants as source
 use Rattle.stream_case.specs.declared.stream.Stream.{Stream}
 use Rattle.stream_case.specs.declared.utility.Utility.{Utility}
 use Rattle.stream_case.proofs.NameTests.{passed-name}
-use Rattle.row_fields.specs.Fields.{field, number}
-use Rattle.row_fields.proofs.Seams.{All-back}
-use Rattle.row_fields.proofs.Streams.{range_of, stream-is_valid}
-use Rattle.row_fields.proofs.Tests.{Decides-int_le, passed-room, passed-within}
+use Rattle.rows.specs.Fields.{field, number}
+use Rattle.rows.proofs.Seams.{All-back}
+use Rattle.rows.proofs.Streams.{range_of, stream-is_valid}
+use Rattle.rows.proofs.Tests.{Decides-int_le, passed-room, passed-within}
 use Rattle.case_text.specs.Rows.{kind_of}
 use Rattle.case_text.specs.Given.{Given, case_of, entry_by, nothing, source_at, stream_data, stream_of, utility_data, utility_of, with_entry}
 use Rattle.case_text.specs.Checks.{checks, contribution_checks, end_checks, forbid_checks, is_reserved, is_reserved_from, is_taken, kind_checks, stream_checks, stream_number_checks, utility_checks, utility_number_checks}
 use Rattle.case_text.specs.Answers.{HasFewSources}
 use Rattle.case_text.specs.Outcome.{IsCase, IsOutcome, end_fault, grammar}
-use Rattle.case_text.specs.declared.fault.CaseFault.{CaseFault}
+use Rattle.case_text.specs.declared.fault.CaseWhy.{CaseWhy}
 use Rattle.case_text.specs.declared.entry.Entry.{Entry}
 use Rattle.case_text.specs.declared.entry.Entry.TheVariants as entry
 use Rattle.case_text.specs.declared.entry.StreamData.{StreamData}
@@ -263,6 +264,6 @@ case-is_valid rows case is =
     let given = given_by grammar rows in
     rw is.value_is (case_valid given (given_has grammar Fits nothing_fits each_row_keeps rows is.sound) (some_stream (length rows) given is.complete))
 
-pub outcome_is_valid : (rows : List Row) (result : Result Case CaseFault) → IsOutcome rows result → IfOk result IsValid
+pub outcome_is_valid : (rows : List Row) (result : Result Case (RowFault CaseWhy)) → IsOutcome rows result → IfOk result IsValid
 outcome_is_valid rows (Ok case) is = case-is_valid rows case is
 outcome_is_valid rows (Err fault) is = tt

@@ -1,4 +1,3 @@
-pub mod Plain
 pub mod Rows
 pub mod Case
 pub mod Text

@@ -1,5 +1,5 @@
 -- The sources of the case so far, by the entries of the two maps.
-use Rattle.std.proofs.Common.{◌≡◌, ◌∙◌, ◌∷◌, ◌++◌, ◌<◌, ◌≤◌, ◌+◌, ◌||◌, ℕ, ℤ, pos, false, cond, List, [], length, map, count_by, position, Option, None, is_some, option_map, unwrap_or, slice_get, sym, ap, arith}
+use Rattle.std.proofs.Common.{◌≡◌, ◌∙◌, ◌∷◌, ◌++◌, ◌<◌, ◌≤◌, ◌||◌, ℕ, ℤ, pos, false, cond, List, [], length, map, count_by, position, Option, None, is_some, option_map, unwrap_or, slice_get, sym, ap, arith}
 use Rattle.std.specs.Map.{keys_of, lookup}
 use Rattle.std.specs.Str.{bytes_eq}
 use Rattle.std.proofs.lemmas.Bool.{or_parts}
@@ -22,7 +22,7 @@ use Rattle.stream_case.specs.declared.stream.Stream.{Stream}
 use Rattle.stream_case.specs.declared.utility.Utility.{Utility}
 use Rattle.stream_case.proofs.CaseLemmas.{count_on-add}
 use Rattle.stream_case.proofs.ListLemmas.{none_there, position-map}
-use Rattle.row_fields.proofs.Streams.{one_more_on}
+use Rattle.rows.proofs.Streams.{one_more_on}
 use Rattle.case_text.specs.Given.{Given, case_of, stream_of, utility_of}
 use Rattle.case_text.specs.Answers.{HasFewSources}
 use Rattle.case_text.specs.Checks.{is_taken}

@@ -13,7 +13,7 @@ use Rattle.stream_case.specs.declared.source.Side.TheVariants as side
 use Rattle.stream_case.specs.declared.source.Source.{Source}
 use Rattle.stream_case.proofs.SourceLemmas.{own_side, same_side-true, same_source-same, same_source-true}
 use Rattle.case_text.specs.Given.{Given, case_of, source_at}
-use Rattle.row_fields.proofs.Tests.{Decides-none}
+use Rattle.rows.proofs.Tests.{Decides-none}
 use Rattle.case_text.specs.Checks.{is_on, is_reserved, is_reserved_from, is_source, is_taken}
 
 -- ---- names

@@ -2,7 +2,7 @@
 use Rattle.std.specs.Prelude.{ℕ, Bool, false, not, ◌==◌, ◌||◌, List, [], ◌∷◌, length, Option, Some, None, is_some, is_none, nat_lt, int_le, option_and_then, codes}
 use Rattle.std.specs.List.{list_any}
 use Rattle.std.specs.Str.{bytes_eq}
-use Rattle.csv_rows.specs.Rows.{Row}
+use Rattle.rows.specs.Rows.{Row}
 use Rattle.first_fault.specs.Checks.{Check}
 use Rattle.stream_case.specs.Case.{is_forbidden, names_of, side_of, source_named}
 use Rattle.stream_case.specs.Name.{is_name}
@@ -12,8 +12,8 @@ use Rattle.stream_case.specs.declared.case.Case.{Case}
 use Rattle.stream_case.specs.declared.limits.TheConstants.{MOST_FORBIDS, MOST_STREAMS, MOST_UTILITIES}
 use Rattle.stream_case.specs.declared.source.Side.{Side}
 use Rattle.stream_case.specs.declared.source.Side.TheVariants as side
-use Rattle.row_fields.specs.Fields.{are_empty, field, is_number, number}
-use Rattle.row_fields.specs.Numbers.{is_contribution, is_flow_rate, is_heat, is_price, is_temperature}
+use Rattle.rows.specs.Fields.{are_empty, field, is_number, number}
+use Rattle.rows.specs.Numbers.{is_contribution, is_flow_rate, is_heat, is_price, is_temperature}
 use Rattle.case_text.specs.Rows.{kind_of}
 use Rattle.case_text.specs.Given.{Given, case_of, source_at}
 use Rattle.case_text.specs.declared.fault.CaseWhy.{CaseWhy}

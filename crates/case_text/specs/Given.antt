@@ -1,6 +1,6 @@
 -- What the rows of a case file give, one after the other, and the case that is made of it.
 use Rattle.std.specs.Prelude.{ℕ, ℤ, pos, List, [], ◌∷◌, ◌++◌, map, Option, Some, None, unwrap_or}
-use Rattle.csv_rows.specs.Rows.{Row}
+use Rattle.rows.specs.Rows.{Row}
 use Rattle.stream_case.specs.Case.{source_named}
 use Rattle.stream_case.specs.declared.case.Case.{Case}
 use Rattle.stream_case.specs.declared.case.Forbid.{Forbid}
@@ -9,7 +9,7 @@ use Rattle.stream_case.specs.declared.source.Source.{Source}
 use Rattle.stream_case.specs.declared.source.Source.TheVariants as source
 use Rattle.stream_case.specs.declared.stream.Stream.{Stream}
 use Rattle.stream_case.specs.declared.utility.Utility.{Utility}
-use Rattle.row_fields.specs.Fields.{field, number}
+use Rattle.rows.specs.Fields.{field, number}
 use Rattle.case_text.specs.Rows.{kind_of}
 use Rattle.case_text.specs.declared.entry.Entry.{Entry}
 use Rattle.case_text.specs.declared.entry.Entry.TheVariants as entry

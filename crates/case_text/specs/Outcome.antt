@@ -1,19 +1,18 @@
 -- The outcome of a case file: the first row at fault, else the fault of the end, else the case.
-use Rattle.std.specs.Prelude.{ℕ, ◌+◌, List, Option, option_map, Result, Ok, Err}
-use Rattle.csv_rows.specs.Rows.{Row}
-use Rattle.first_fault.specs.Checks.{first_failing}
+use Rattle.std.specs.Prelude.{ℕ, List, Option, Result}
 use Rattle.first_fault.specs.Outcome.{Grammar}
 use Rattle.first_fault.specs.Outcome as outcome
 use Rattle.stream_case.specs.declared.case.Case.{Case}
+use Rattle.rows.specs.Outcome.{IsRowOutcome}
+use Rattle.rows.specs.Outcome as of_rows
+use Rattle.rows.specs.Rows.{Row}
+use Rattle.rows.specs.declared.fault.RowFault.{RowFault}
 use Rattle.case_text.specs.Given.{Given, case_of, next, nothing}
 use Rattle.case_text.specs.Checks.{checks, end_checks}
-use Rattle.case_text.specs.declared.fault.CaseFault.{CaseFault}
-use Rattle.case_text.specs.declared.fault.CaseFault.TheVariants as fault
 use Rattle.case_text.specs.declared.fault.CaseWhy.{CaseWhy}
 
--- what the end of a file lacks is at fault as the row behind the last
 abbrev pub end_fault : ℕ → Given → Option (ℕ × CaseWhy)
-end_fault rows all = option_map (λ why. (rows + 1, why)) (first_failing (end_checks all))
+end_fault rows all = of_rows.end_fault end_checks rows all
 
 abbrev pub grammar : Grammar Row Given Case CaseWhy
 grammar = record { start = nothing; checks = checks; next = next; end_fault = end_fault; value = case_of }
@@ -27,7 +26,5 @@ abbrev pub IsCase : List Row → Case → Type 0
 IsCase rows case = outcome.IsValue grammar rows case
 
 -- the outcome of rows; want of memory is none
-abbrev pub IsOutcome : List Row → Result Case CaseFault → Type 0
-IsOutcome rows (Ok case) = IsCase rows case
-IsOutcome rows (Err (fault.Row row why)) = IsFault rows row why
-IsOutcome rows (Err fault.OutOfMemory) = Unit {0}
+abbrev pub IsOutcome : List Row → Result Case (RowFault CaseWhy) → Type 0
+IsOutcome rows outcome = IsRowOutcome grammar rows outcome

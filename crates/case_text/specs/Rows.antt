@@ -1,9 +1,9 @@
 -- The kind of a row.
 use Rattle.std.specs.Prelude.{ℕ, List, Option, Some, None, if◌then◌else◌, codes}
 use Rattle.std.specs.Str.{bytes_eq}
-use Rattle.csv_rows.specs.Rows.{Row}
+use Rattle.rows.specs.Rows.{Row}
 use Rattle.stream_case.specs.declared.source.Side.TheVariants as side
-use Rattle.row_fields.specs.Fields.{field, is_passed_over}
+use Rattle.rows.specs.Fields.{field, is_passed_over}
 use Rattle.case_text.specs.declared.kind.Kind.{Kind}
 use Rattle.case_text.specs.declared.kind.Kind.TheVariants as kind
 

@@ -3,14 +3,14 @@
 ghost use Rattle.std.specs.Prelude.{◌≡◌};
 ghost use Rattle.csv.specs.Records.{fields_of};
 ghost use Rattle.first_fault.specs.Checks.{Checked};
-ghost use Rattle.row_fields.specs.Fields.{number};
+ghost use Rattle.rows.specs.Fields.{number};
 ghost use Rattle.case_text.specs.Checks.{contribution_checks};
 
 use crate::entry::Entry;
 use crate::fault::CaseWhy;
 use crate::found::Found;
 use csv::ByteRecord;
-use row_fields::{are_empty, contribution, number_in};
+use rows::{are_empty, contribution, number_in};
 
 /// What a row of that kind gives.
 #[tactic(auto, unfolding(crate::specs::Checks::contribution_checks))]

@@ -1,7 +1,6 @@
 //! Why a case file is refused.
 
-use std::alloc::AllocError;
-use thiserror::Error;
+use rows::RowFault;
 
 /// Why a row is at fault, or the end of the file.
 #[derive(Clone, Copy, Debug, PartialEq, Eq)]
@@ -34,24 +33,5 @@ pub enum CaseWhy {
     BadRange,
 }
 
-/// Why there is no case.
-#[derive(Debug, PartialEq, Eq, Drop, Error)]
-pub enum CaseFault {
-    /// The first row at fault, counted from 1, and the first of its checks that fails. For what
-    /// the end of the file lacks, the row is the number of rows plus 1.
-    #[error("row {row}: {why:?}")]
-    Row { row: u32, why: CaseWhy },
-    #[error("out of memory")]
-    OutOfMemory,
-}
-
-impl From<AllocError> for CaseFault {
-    ghost use Rattle.std.specs.Prelude.{◌≡◌};
-    ghost use Rattle.case_text.specs.declared.fault.CaseFault.TheVariants.{OutOfMemory};
-
-    ghost from_gives = { λ _ fault. fault ≡ OutOfMemory };
-
-    fn from(refused: AllocError) -> CaseFault {
-        CaseFault::OutOfMemory
-    }
-}
+/// Why there is no case: the first row at fault with its cause, or want of memory.
+pub type CaseFault = RowFault<CaseWhy>;

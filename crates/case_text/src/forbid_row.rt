@@ -10,7 +10,7 @@ use crate::entry::Entry;
 use crate::fault::CaseWhy;
 use crate::found::Found;
 use csv::ByteRecord;
-use row_fields::{are_empty, name_in};
+use rows::{are_empty, name_in};
 use stream_case::{Forbid, MOST_FORBIDS, Side};
 
 /// What a row of that kind gives.

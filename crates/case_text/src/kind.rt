@@ -5,7 +5,7 @@ ghost use Rattle.csv.specs.Records.{fields_of};
 ghost use Rattle.case_text.specs.Rows.{kind_in, kind_of};
 
 use csv::ByteRecord;
-use row_fields::{field, is_passed_over};
+use rows::{field, is_passed_over};
 use stream_case::Side;
 
 /// What a row describes.

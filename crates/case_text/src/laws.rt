@@ -1,11 +1,12 @@
 //! Laws of the grammar.
 
 ghost use Rattle.std.specs.Prelude.{◌≡◌, ◌⊎◌, ℕ, List};
-ghost use Rattle.csv_rows.specs.Rows.{Row, rows_of};
+ghost use Rattle.rows.specs.Rows.{Row, rows_of};
 ghost use Rattle.stream_case.specs.Case.{IsValid};
 ghost use Rattle.stream_case.specs.declared.case.Case.{Case};
 ghost use Rattle.case_text.specs.Outcome.{IsCase, IsFault};
-ghost use Rattle.case_text.specs.Printed.{printed_rows, rows_text};
+ghost use Rattle.rows.specs.Text.{rows_text};
+ghost use Rattle.case_text.specs.Printed.{printed_rows};
 
 use crate::fault::CaseWhy;
 

@@ -21,4 +21,4 @@ pub use fault::{CaseFault, CaseWhy};
 pub use laws::{rows_have_one_outcome, valid_cases_are_those_of_the_grammar};
 pub use printer::print_case;
 pub use reader::read_case;
-pub use row_fields::number_of;
+pub use rows::number_of;

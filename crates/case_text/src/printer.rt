@@ -2,16 +2,18 @@
 
 ghost use Rattle.std.specs.Prelude.{◌≡◌, ◌≤◌, ◌++◌, All, IfOk, OnOk, length, string_bytes};
 ghost use Rattle.std.specs.List.{flat_map};
-ghost use Rattle.csv_rows.specs.Rows.{rows_of};
+ghost use Rattle.rows.specs.Rows.{rows_of};
 ghost use Rattle.stream_case.specs.Case.{IsValid, IsValidForbid};
 ghost use Rattle.case_text.specs.Outcome.{IsCase};
-ghost use Rattle.case_text.specs.Printed.{contribution_row, forbid_row, printed_rows, row_text, rows_text, stream_row, utility_row};
+ghost use Rattle.rows.specs.Printed.{contribution_row, stream_row};
+ghost use Rattle.rows.specs.Text.{row_text, rows_text};
+ghost use Rattle.case_text.specs.Printed.{forbid_row, printed_rows, utility_row};
 
 use std::alloc::{AllocError, Global};
 use stream_case::{Case, Forbid, Side, Stream, Utility};
 
 /// The line of the contribution.
-#[tactic(auto, unfolding(crate::specs::Printed::fields_text))]
+#[tactic(auto, unfolding(rows::specs::Text::fields_text))]
 fn contribution_line(alloc: Global, case: &Case) -> Result<String, AllocError>
     ensures { IfOk result (λ line. string_bytes line ≡ row_text (contribution_row case.now.contribution)) }
 {
@@ -19,7 +21,7 @@ fn contribution_line(alloc: Global, case: &Case) -> Result<String, AllocError>
 }
 
 /// The line of a stream.
-#[tactic(auto, unfolding(crate::specs::Printed::fields_text))]
+#[tactic(auto, unfolding(rows::specs::Text::fields_text))]
 fn stream_line(alloc: Global, stream: &Stream) -> Result<String, AllocError>
     ensures { IfOk result (λ line. string_bytes line ≡ row_text (stream_row stream.now)) }
 {
@@ -34,7 +36,7 @@ fn stream_line(alloc: Global, stream: &Stream) -> Result<String, AllocError>
 }
 
 /// The line of a utility.
-#[tactic(auto, unfolding(crate::specs::Printed::fields_text))]
+#[tactic(auto, unfolding(rows::specs::Text::fields_text))]
 fn utility_line(alloc: Global, utility: &Utility) -> Result<String, AllocError>
     ensures { IfOk result (λ line. string_bytes line ≡ row_text (utility_row utility.now)) }
 {
@@ -49,7 +51,7 @@ fn utility_line(alloc: Global, utility: &Utility) -> Result<String, AllocError>
 }
 
 /// The line of a forbidden match.
-#[tactic(auto, unfolding(crate::specs::Printed::fields_text))]
+#[tactic(auto, unfolding(rows::specs::Text::fields_text))]
 fn forbid_line(alloc: Global, case: &Case, forbid: &Forbid) -> Result<String, AllocError>
     requires { IsValidForbid case.now forbid.now }
     ensures { IfOk result (λ line. string_bytes line ≡ row_text (forbid_row case.now forbid.now)) }

@@ -2,7 +2,7 @@
 
 ghost use Rattle.std.specs.Prelude.{◌≡◌, ◌≤◌, Err, length, IfErr, IfOk, OnOk};
 ghost use Rattle.csv.specs.Records.{fields_of};
-ghost use Rattle.csv_rows.specs.Rows.{rows_of};
+ghost use Rattle.rows.specs.Rows.{rows_of};
 ghost use Rattle.first_fault.specs.Checks.{Checked};
 ghost use Rattle.first_fault.specs.Outcome.{SoundBefore, given_by};
 ghost use Rattle.stream_case.specs.Case.{IsValid};
@@ -20,7 +20,7 @@ use crate::kind::{Kind, kind_of};
 use crate::stream_row::stream_entry;
 use crate::utility_row::utility_entry;
 use csv::ByteRecord;
-use csv_rows::Rows;
+use rows::Rows;
 use std::alloc::Global;
 use stream_case::Case;
 

@@ -3,7 +3,7 @@
 ghost use Rattle.std.specs.Prelude.{◌≡◌, IfOk};
 ghost use Rattle.csv.specs.Records.{fields_of};
 ghost use Rattle.first_fault.specs.Checks.{Checked};
-ghost use Rattle.row_fields.specs.Fields.{field};
+ghost use Rattle.rows.specs.Fields.{field};
 ghost use Rattle.case_text.specs.Given.{stream_data};
 ghost use Rattle.case_text.specs.Checks.{is_reserved, stream_checks, stream_number_checks};
 ghost use Rattle.case_text.specs.Answers.{IsFresh};
@@ -12,7 +12,7 @@ use crate::entry::{Entry, StreamData};
 use crate::fault::CaseWhy;
 use crate::found::Found;
 use csv::ByteRecord;
-use row_fields::{are_empty, flow_rate, name_in, number_in, temperature};
+use rows::{are_empty, flow_rate, name_in, number_in, temperature};
 use stream_case::{MOST_STREAMS, Side};
 
 /// Whether no stream may have this name.

@@ -3,7 +3,7 @@
 ghost use Rattle.std.specs.Prelude.{◌≡◌, IfOk};
 ghost use Rattle.csv.specs.Records.{fields_of};
 ghost use Rattle.first_fault.specs.Checks.{Checked};
-ghost use Rattle.row_fields.specs.Fields.{field};
+ghost use Rattle.rows.specs.Fields.{field};
 ghost use Rattle.case_text.specs.Given.{utility_data};
 ghost use Rattle.case_text.specs.Checks.{is_reserved_from, utility_checks, utility_number_checks};
 ghost use Rattle.case_text.specs.Answers.{IsFresh};
@@ -12,7 +12,7 @@ use crate::entry::{Entry, UtilityData};
 use crate::fault::CaseWhy;
 use crate::found::Found;
 use csv::ByteRecord;
-use row_fields::{are_empty, heat, name_in, number_in, price, temperature};
+use rows::{are_empty, heat, name_in, number_in, price, temperature};
 use stream_case::{MOST_UTILITIES, Side};
 
 /// Whether no utility of this side may have this name.

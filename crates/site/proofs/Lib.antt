@@ -1,5 +1,7 @@
-pub mod SiteLemmas
-pub mod PlaceLemmas
-pub mod ReachLemmas
-pub mod ProfileLemmas
+pub mod Plants
+pub mod Tests
+pub mod Accepted
+pub mod PrintedRows
+pub mod PrintedSite
 pub mod TargetLemmas
+pub mod PrintedText

@@ -13,13 +13,20 @@ use Rattle.grid.specs.Making.{made_parts}
 use Rattle.grid.specs.Part.{AreParts}
 use Rattle.grid.proofs.MakingLemmas.{AreParts-made}
 use Rattle.grid.proofs.SizeLemmas.{length-made}
+use Rattle.heat_flow.specs.Cuts.{HasNoFlow}
+use Rattle.heat_flow.specs.Flow.{IsLeastCost}
+use Rattle.heat_flow.specs.Table.{reaches}
+use Rattle.transport.specs.Answer.{IfLeast, IfStuck, IsCertified, IsCutOf}
+use Rattle.transport.specs.declared.answer.Answer.{Answer}
 use Rattle.transport.specs.declared.least_cost.TheConstants.{MOST_PAIRS}
-use Rattle.site.specs.Reach.{reach_between}
-use Rattle.site.specs.Site.{IsValidSite, streams_of}
-use Rattle.site.specs.Table.{IsSiteGrid, site_places, site_utilities}
-use Rattle.site.specs.Target.{AreSiteParts}
-use Rattle.site.specs.declared.plants.Site.{Site}
-use Rattle.site.proofs.PlaceLemmas.{HoldsPlaces-grid, length-site_places}
+use Rattle.plants.specs.Reach.{reach_between}
+use Rattle.plants.specs.Site.{IsValidSite, streams_of}
+use Rattle.plants.specs.Table.{IsSiteGrid, site_places, site_utilities}
+use Rattle.site.specs.Target.{AreSiteParts, IsSiteTarget}
+use Rattle.plants.specs.SiteTable.{IsSiteTable}
+use Rattle.plants.specs.declared.site.Site.{Site}
+use Rattle.plants.specs.declared.table.SiteTable.{SiteTable}
+use Rattle.plants.proofs.PlaceLemmas.{HoldsPlaces-grid, length-site_places}
 
 module _ (site : Site) (valid : IsValidSite site) where
   -- there are at most 24 streams and 4 mains
@@ -52,16 +59,38 @@ module _ (site : Site) (valid : IsValidSite site) where
   same_parts : (hot cold others more : List Part) → AreSiteParts site hot cold → AreSiteParts site others more → (hot ≡ others) × (cold ≡ more)
   same_parts hot cold others more parts other = (same_side_parts parts.grid other.grid Hot hot others parts.is_grid other.is_grid parts.hot_parts other.hot_parts, same_side_parts parts.grid other.grid Cold cold more parts.is_grid other.is_grid parts.cold_parts other.cold_parts)
 
-IfOk-weaker : {A E : Type 0} (P Q : A → Type 0) (r : Result A E) → ((a : A) → P a → Q a) → IfOk r P → IfOk r Q
+pub IfOk-weaker : {A E : Type 0} (P Q : A → Type 0) (r : Result A E) → ((a : A) → P a → Q a) → IfOk r P → IfOk r Q
 IfOk-weaker P Q (Ok a) weaker h = weaker a h
 IfOk-weaker P Q (Err e) weaker h = tt
 
--- what is answered of the parts in a table of a site is answered of the site's parts
-pub of_site_parts : {A E : Type 0} (site : Site) → IsValidSite site → (P : (ℕ → ℕ → Bool) → List Part → List Part → A → Type 0) (reach : ℕ → ℕ → Bool) (hot cold : List Part) (r : Result A E) → AreSiteParts site hot cold → ((a b : ℕ) → reach a b ≡ reach_between site hot cold a b)
-    → IfOk r (P reach hot cold) → IfOk r (λ x. (others more : List Part) → AreSiteParts site others more → P (reach_between site others more) others more x)
-of_site_parts {A = A} site valid P reach hot cold r parts same =
-    IfOk-weaker (P reach hot cold) (λ x. (others more : List Part) → AreSiteParts site others more → P (reach_between site others more) others more x) r
-    (λ x answered others more other.
+-- what is answered of the parts in a table by its reach is answered by the site's
+pub of_table : {E : Type 0} (site : Site) (table : SiteTable) → IsSiteTable site table → (r : Result Answer E)
+    → IfOk r (λ a. IfLeast a (λ flow prices cost. IsCertified (reaches table.reach) table.parts.hot table.parts.cold flow.transfers prices.hot prices.cold cost))
+    → IfOk r (λ a. IfLeast a (λ flow prices cost. IsLeastCost (reaches table.reach) table.parts.hot table.parts.cold cost))
+    → IfOk r (λ a. IfStuck a (λ cut. IsCutOf (reaches table.reach) table.parts.hot table.parts.cold cut))
+    → IfOk r (λ a. IfStuck a (λ cut. HasNoFlow (reaches table.reach) table.parts.hot table.parts.cold))
+    → IfOk r (IsSiteTarget site table.parts.hot table.parts.cold)
+of_table site table is (Err e) certified least cut stuck_only = tt
+of_table site table is (Ok a) certified least cut stuck_only =
+    let hot = table.parts.hot in
+    let cold = table.parts.cold in
+    let same : reaches table.reach ≡ reach_between site hot cold = fun_ext (λ a. fun_ext (λ b. is.reach a b)) in
+    record {
+      certified = subst (λ reach. IfLeast a (λ flow prices cost. IsCertified reach hot cold flow.transfers prices.hot prices.cold cost)) same certified;
+      least = subst (λ reach. IfLeast a (λ flow prices cost. IsLeastCost reach hot cold cost)) same least;
+      cut = subst (λ reach. IfStuck a (λ cut. IsCutOf reach hot cold cut)) same cut;
+      stuck_only = subst (λ reach. IfStuck a (λ cut. HasNoFlow reach hot cold)) same stuck_only;
+    }
+
+-- the parts in the table of a site
+pub parts_of : (site : Site) (table : SiteTable) → IsSiteTable site table → AreSiteParts site table.parts.hot table.parts.cold
+parts_of site table is = record { grid = table.places; is_grid = is.grid; hot_parts = is.hot_parts; cold_parts = is.cold_parts }
+
+-- what is answered of some parts of a site is answered of all, since it has no others
+pub of_all_parts : {E : Type 0} (site : Site) → IsValidSite site → (hot cold : List Part) (r : Result Answer E) → AreSiteParts site hot cold → IfOk r (IsSiteTarget site hot cold)
+    → IfOk r (λ a. (others more : List Part) → AreSiteParts site others more → IsSiteTarget site others more a)
+of_all_parts site valid hot cold r parts answered =
+    IfOk-weaker (IsSiteTarget site hot cold) (λ a. (others more : List Part) → AreSiteParts site others more → IsSiteTarget site others more a) r
+    (λ a target others more other.
     let (hots, colds) = same_parts site valid hot cold others more parts other in
-    let table : reach ≡ reach_between site hot cold = fun_ext (λ a. fun_ext (λ b. same a b)) in
-    subst₂ (λ h k. P (reach_between site h k) h k x) hots colds (subst (λ t. P t hot cold x) table answered))
+    subst₂ (λ h k. IsSiteTarget site h k a) hots colds target) answered

@@ -1,6 +1,6 @@
-pub mod Site
-pub mod Table
-pub mod Reach
-pub mod Profiles
-pub mod Directions
+pub mod Given
+pub mod Checks
+pub mod Outcome
+pub mod Answers
+pub mod Printed
 pub mod Target

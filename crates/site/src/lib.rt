@@ -1,23 +1,28 @@
-//! A site: plants that exchange heat with each other through steam mains.
+//! Sites: the site file, its grammar and reading it, and the target of a site.
 //!
-//! The streams of a site cut the shifted scale as those of a case do, and each main adds the place
-//! where it takes heat and the place where it gives it. The parts are those of a case, with a
-//! boiler at the highest main and cooling at the lowest place; but heat passes from one plant to
-//! another only through a main. The profiles say what the plants can take and give at each
-//! temperature, and the target is the least boiler heat, certified as that of a case.
+//! A site file is a CSV text with a contribution, steam mains, plants, and below each plant the
+//! hot and cold streams of it, one a row. The grammar says of the rows of a text either which site
+//! they give, or which row is at fault and why. The target of a site is the least boiler heat,
+//! certified as that of a case.
 #![tactic(auto)]
 
-mod limits;
-mod places;
-mod plants;
-mod profiles;
-mod reach;
-mod table;
+mod contribution_row;
+mod entry;
+mod fault;
+mod found;
+mod kind;
+mod laws;
+mod main_row;
+mod plant_row;
+mod reader;
+mod stream_row;
 mod target;
-mod utilities;
 
-pub use limits::{MOST_PLANTS, MOST_SIDE_STREAMS};
-pub use plants::{Main, Plant, Site};
-pub use profiles::{sink_profile, source_profile};
-pub use table::{SiteTable, site_parts};
-pub use target::site_target;
+pub use fault::{SiteFault, SiteWhy};
+pub use laws::{rows_have_one_outcome, valid_sites_are_those_of_the_grammar};
+pub use plants::{
+    MOST_PLANTS, MOST_SIDE_STREAMS, Main, Plant, Site, SiteTable, sink_profile, site_parts,
+    source_profile,
+};
+pub use reader::read_site;
+pub use target::{site_target, table_target};

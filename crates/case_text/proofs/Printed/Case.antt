@@ -22,11 +22,12 @@ use Rattle.stream_case.specs.declared.stream.Stream.{Stream}
 use Rattle.stream_case.specs.declared.utility.Utility.{Utility}
 use Rattle.stream_case.proofs.CaseLemmas.{IsName-source_name, IsSourceOf-side, source_named-source_name}
 use Rattle.stream_case.proofs.SourceLemmas.{own_side}
-use Rattle.row_fields.proofs.Seams.{All-seam, AllPairs-seam, length-seam}
+use Rattle.rows.proofs.Seams.{All-seam, AllPairs-seam, length-seam}
 use Rattle.case_text.specs.Given.{Given, case_of, nothing, stream_of, utility_of}
 use Rattle.case_text.specs.Checks.{end_checks}
 use Rattle.case_text.specs.Outcome.{IsCase, end_fault, grammar}
-use Rattle.case_text.specs.Printed.{contribution_row, forbid_row, printed_rows, stream_row, utility_row}
+use Rattle.rows.specs.Printed.{contribution_row, stream_row}
+use Rattle.case_text.specs.Printed.{forbid_row, printed_rows, utility_row}
 use Rattle.case_text.specs.declared.entry.StreamData.{StreamData}
 use Rattle.case_text.specs.declared.entry.UtilityData.{UtilityData}
 use Rattle.case_text.proofs.ListLemmas.{count_by-map}

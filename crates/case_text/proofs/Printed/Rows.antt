@@ -2,7 +2,7 @@
 use Rattle.std.proofs.Common.{◌≡◌, ◌≢◌, ◌∷◌, ◌++◌, ◌<◌, ℕ, ℤ, pos, List, All, Some, unwrap_or, length, refl, arith}
 use Rattle.std.specs.Map.{keys_of}
 use Rattle.std.proofs.lemmas.Int.{ints}
-use Rattle.csv_rows.specs.Rows.{Row}
+use Rattle.rows.specs.Rows.{Row}
 use Rattle.first_fault.proofs.CheckLemmas.{Passes, none_fails}
 use Rattle.first_fault.proofs.Steps.{Follows}
 use Rattle.stream_case.specs.Case.{IsRightlyNamed, IsUnreserved, side_of, source_name, source_named}
@@ -20,18 +20,19 @@ use Rattle.stream_case.specs.declared.stream.Stream.{Stream}
 use Rattle.stream_case.specs.declared.utility.Utility.{Utility}
 use Rattle.stream_case.proofs.NameTests.{name-passes}
 use Rattle.stream_case.proofs.SourceLemmas.{Decides-is_right_way}
-use Rattle.row_fields.specs.Fields.{are_empty, is_number, is_passed_over, number}
-use Rattle.row_fields.proofs.Tests.{Decides-int_le, room-passes, within-passes}
+use Rattle.rows.specs.Fields.{are_empty, is_number, is_passed_over, number}
+use Rattle.rows.proofs.Tests.{Decides-int_le, room-passes, within-passes}
 use Rattle.case_text.specs.Rows.{kind_of}
 use Rattle.case_text.specs.Given.{Given, case_of, nothing, with_entry}
 use Rattle.case_text.specs.Checks.{checks, contribution_checks, forbid_checks, kind_checks, stream_checks, stream_number_checks, utility_checks, utility_number_checks}
 use Rattle.case_text.specs.Outcome.{grammar}
-use Rattle.case_text.specs.Printed.{contribution_row, forbid_row, stream_kind, stream_row, utility_kind, utility_row}
+use Rattle.rows.specs.Printed.{contribution_row, stream_kind, stream_row}
+use Rattle.case_text.specs.Printed.{forbid_row, utility_kind, utility_row}
 use Rattle.case_text.specs.declared.entry.Entry.TheVariants as entry
 use Rattle.case_text.specs.declared.entry.StreamData.{StreamData}
 use Rattle.case_text.specs.declared.entry.UtilityData.{UtilityData}
 use Rattle.case_text.specs.declared.kind.Kind.TheVariants as kind
-use Rattle.row_fields.proofs.PrintedNumbers.{contribution, flow_rate, heat, number_read, price, temperature}
+use Rattle.rows.proofs.PrintedNumbers.{contribution, flow_rate, heat, number_read, price, temperature}
 use Rattle.case_text.proofs.Sources.{count_of, count_on-case, names_of-case}
 use Rattle.case_text.proofs.Tests.{Decides-is_forbidden, Decides-is_reserved, Decides-is_reserved_from, Decides-is_taken, is_source-named}
 

@@ -2,10 +2,12 @@ use Rattle.std.proofs.Common.{◌≡◌, ◌≤◌, ◌++◌, ℕ, List, length,
 use Rattle.std.specs.List.{flat_map}
 use Rattle.std.proofs.lemmas.List.Concat.{flat_map-append}
 use Rattle.std.proofs.lemmas.List.Folds.{flat_map-map}
-use Rattle.csv_rows.specs.Rows.{rows_of}
+use Rattle.rows.specs.Rows.{rows_of}
 use Rattle.stream_case.specs.declared.case.Case.{Case}
 use Rattle.case_text.specs.Outcome.{IsCase}
-use Rattle.case_text.specs.Printed.{contribution_row, forbid_row, printed_rows, row_text, rows_text, stream_row, utility_row}
+use Rattle.rows.specs.Printed.{contribution_row, stream_row}
+use Rattle.rows.specs.Text.{row_text, rows_text}
+use Rattle.case_text.specs.Printed.{forbid_row, printed_rows, utility_row}
 use Rattle.case_text.proofs.Printed.Text.{text_back, text_short}
 use Rattle.case_text.proofs.printer.print_case.Goals as goal
 use Rattle.case_text.proofs.printer.print_case.Goals.{In_ok-push_forbids}

@@ -1,6 +1,7 @@
 use Rattle.std.proofs.Common.{◌≡◌, ◌++◌, take}
 use Rattle.std.specs.List.{flat_map}
-use Rattle.case_text.specs.Printed.{row_text, forbid_row}
+use Rattle.rows.specs.Text.{row_text}
+use Rattle.case_text.specs.Printed.{forbid_row}
 use Rattle.case_text.proofs.printer.push_forbids.Given as goal
 
 abbrev pub invariant-loop-forbid : goal.invariant-loop-forbid

@@ -1,38 +1,32 @@
--- The table has the parts of the site and their reach.
-use Rattle.heat_flow.specs.Cuts.{HasNoFlow}
-use Rattle.heat_flow.specs.Flow.{IsLeastCost}
-use Rattle.heat_flow.specs.Table.{reaches}
-use Rattle.transport.specs.Answer.{IfLeast, IfStuck, IsCertified, IsCutOf}
-use Rattle.site.specs.Target.{AreSiteParts}
-use Rattle.site.proofs.TargetLemmas.{few_pairs, of_site_parts}
+-- The table is the site's, and the site has no other parts.
+use Rattle.std.proofs.Common.{List, IfOk, Result}
+use Rattle.grid.specs.declared.part.Part.{Part}
+use Rattle.transport.specs.declared.answer.Answer.{Answer}
+use Rattle.plants.specs.SiteTable.{IsSiteTable}
+use Rattle.plants.specs.declared.site.Site.{Site}
+use Rattle.site.specs.Target.{AreSiteParts, IsSiteTarget}
+use Rattle.site.proofs.TargetLemmas.{IfOk-weaker, of_all_parts, parts_of}
 use Rattle.site.proofs.target.site_target.Goals as goal
 
-pub least-requires-clause-few : goal.least-requires-clause-few
-least-requires-clause-few c =
-    let table = c.in_ok-table.table in
-    let parts : AreSiteParts c.args.site.now table.parts.hot table.parts.cold = record { grid = table.places; is_grid = c.in_ok-table.ensures.places; hot_parts = c.in_ok-table.ensures.hot; cold_parts = c.in_ok-table.ensures.cold } in
-    rw (c.in_ok-table.ensures.sizes.hots, c.in_ok-table.ensures.sizes.colds) (few_pairs c.args.site.now c.requires table.parts.hot table.parts.cold parts)
+pub table_target-requires-clause-table : goal.table_target-requires-clause-table
+table_target-requires-clause-table c =
+    let is = c.in_ok-table.ensures in
+    record { grid = is.places; hot_parts = is.hot; cold_parts = is.cold; sizes = is.sizes; reach = is.reach }
 
-pub returns-clause-certified : goal.returns-clause-certified
-returns-clause-certified c =
-    let table = c.in_ok-table.table in
-    let parts : AreSiteParts c.args.site.now table.parts.hot table.parts.cold = record { grid = table.places; is_grid = c.in_ok-table.ensures.places; hot_parts = c.in_ok-table.ensures.hot; cold_parts = c.in_ok-table.ensures.cold } in
-    of_site_parts c.args.site.now c.requires (λ reach hot cold a. IfLeast a (λ flow prices cost. IsCertified reach hot cold flow.transfers prices.hot prices.cold cost)) (reaches table.reach) table.parts.hot table.parts.cold c.least.result parts c.in_ok-table.ensures.reach c.least.ensures.certified
+-- what is answered of all parts of a site
+abbrev OfAll : Site → Answer → Type 0
+OfAll site a = (hot cold : List Part) → AreSiteParts site hot cold → IsSiteTarget site hot cold a
 
-pub returns-clause-least : goal.returns-clause-least
-returns-clause-least c =
+pub returns : goal.returns
+returns c =
+    let site = c.args.site.now in
     let table = c.in_ok-table.table in
-    let parts : AreSiteParts c.args.site.now table.parts.hot table.parts.cold = record { grid = table.places; is_grid = c.in_ok-table.ensures.places; hot_parts = c.in_ok-table.ensures.hot; cold_parts = c.in_ok-table.ensures.cold } in
-    of_site_parts c.args.site.now c.requires (λ reach hot cold a. IfLeast a (λ flow prices cost. IsLeastCost reach hot cold cost)) (reaches table.reach) table.parts.hot table.parts.cold c.least.result parts c.in_ok-table.ensures.reach c.least.ensures.least
-
-pub returns-clause-cut : goal.returns-clause-cut
-returns-clause-cut c =
-    let table = c.in_ok-table.table in
-    let parts : AreSiteParts c.args.site.now table.parts.hot table.parts.cold = record { grid = table.places; is_grid = c.in_ok-table.ensures.places; hot_parts = c.in_ok-table.ensures.hot; cold_parts = c.in_ok-table.ensures.cold } in
-    of_site_parts c.args.site.now c.requires (λ reach hot cold a. IfStuck a (λ cut. IsCutOf reach hot cold cut)) (reaches table.reach) table.parts.hot table.parts.cold c.least.result parts c.in_ok-table.ensures.reach c.least.ensures.cut
-
-pub returns-clause-stuck_only : goal.returns-clause-stuck_only
-returns-clause-stuck_only c =
-    let table = c.in_ok-table.table in
-    let parts : AreSiteParts c.args.site.now table.parts.hot table.parts.cold = record { grid = table.places; is_grid = c.in_ok-table.ensures.places; hot_parts = c.in_ok-table.ensures.hot; cold_parts = c.in_ok-table.ensures.cold } in
-    of_site_parts c.args.site.now c.requires (λ reach hot cold a. IfStuck a (λ cut. HasNoFlow reach hot cold)) (reaches table.reach) table.parts.hot table.parts.cold c.least.result parts c.in_ok-table.ensures.reach c.least.ensures.stuck_only
+    let made = c.in_ok-table.ensures in
+    let is : IsSiteTable site table = record { grid = made.places; hot_parts = made.hot; cold_parts = made.cold; sizes = made.sizes; reach = made.reach } in
+    let all : IfOk c.table_target.result (OfAll site) = of_all_parts site c.requires table.parts.hot table.parts.cold c.table_target.result (parts_of site table is) c.table_target.ensures in
+    record {
+      certified = IfOk-weaker (OfAll site) _ c.table_target.result (λ a all hot cold parts. (all hot cold parts).certified) all;
+      least = IfOk-weaker (OfAll site) _ c.table_target.result (λ a all hot cold parts. (all hot cold parts).least) all;
+      cut = IfOk-weaker (OfAll site) _ c.table_target.result (λ a all hot cold parts. (all hot cold parts).cut) all;
+      stuck_only = IfOk-weaker (OfAll site) _ c.table_target.result (λ a all hot cold parts. (all hot cold parts).stuck_only) all;
+    }

@@ -1,0 +1,4 @@
+pub mod SiteLemmas
+pub mod PlaceLemmas
+pub mod ReachLemmas
+pub mod ProfileLemmas

@@ -1,0 +1,6 @@
+use Rattle.std.proofs.Common.{◌≡◌, take}
+use Rattle.plants.specs.Site.{streams_of}
+use Rattle.plants.proofs.places.streams_of.Given as goal
+
+abbrev pub invariant-loop-plant : goal.invariant-loop-plant
+invariant-loop-plant l = l.streams.items ≡ streams_of (take l.plant-index l.plants)

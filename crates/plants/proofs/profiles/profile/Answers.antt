@@ -1,0 +1,34 @@
+-- A plant more.
+use Rattle.std.proofs.Common.{◌≡◌, ◌∙◌, ◌+◌, ◌*◌, List, ap, arith, length, of_z, pos, subst, sym, take, to_z, w32, w64}
+use Rattle.std.specs.Prelude.{All, ◌+ℤ◌, ◌≤ℤ◌}
+use Rattle.std.proofs.lemmas.Int.{ints}
+use Rattle.stream_case.specs.Stream.{AreStreams}
+use Rattle.sums.specs.Sum.{int_sum_by}
+use Rattle.sums.proofs.SumLemmas.{int_sum_by-more}
+use Rattle.plants.specs.Directions.{plant_profile}
+use Rattle.plants.specs.Table.{site_places}
+use Rattle.plants.specs.declared.site.Plant.{Plant}
+use Rattle.plants.proofs.SiteLemmas.{AreStreams-plants, AreStreams-site}
+use Rattle.plants.proofs.profiles.profile.Goals as goal
+
+pub plant_profile-heat-requires-clause-streams : goal.plant_profile-heat-requires-clause-streams
+plant_profile-heat-requires-clause-streams c =
+    let each = subst (All (λ (p : Plant). AreStreams p.streams)) (sym c.as_slice-plants.ensures) (AreStreams-plants c.args.site.now.plants (AreStreams-site c.args.site.now c.requires)) in
+    subst (λ (p : Plant). AreStreams p.streams) (sym c.plant-item.is) (each c.loop-plant.plant-index c.plant-item.result c.loop-plant-test.true)
+
+pub loop-plant-preserved : goal.loop-plant-preserved
+loop-plant-preserved c =
+    let of_plant = plant_profile c.args.direction (site_places c.args.site.now) (to_z w32 (of_z w32 c.args.t)) in
+    let plants = c.as_slice-plants.result.now in
+    let i = c.loop-plant.plant-index in
+    let heat = to_z w64 (of_z w64 (to_z w64 c.loop-plant.heat-bits +ℤ to_z w64 (of_z w64 c.plant_profile-heat.result))) in
+    let step = int_sum_by-more of_plant plants i c.plant-item.result c.loop-plant-test.true in
+    let term = c.plant_profile-heat.ensures.value ∙ ap of_plant c.plant-item.is in
+    let range = c.plant_profile-heat.ensures.range in
+    let few = ap (λ (ps : List Plant). length ps) c.as_slice-plants.ensures in
+    let most = c.requires.plants.few in
+    let so_far = c.loop-plant.invariant in
+    let value : heat ≡ int_sum_by of_plant (take (i + 1) plants) = omega (arith, ints, range, few, most, so_far.value, so_far.from, so_far.upto) in
+    let from : pos 0 ≤ℤ heat = omega (arith, ints, range, few, most, so_far.from, so_far.upto) in
+    let upto : heat ≤ℤ pos ((i + 1) * 1000000000000) = omega (arith, ints, range, few, most, so_far.from, so_far.upto) in
+    record { value = value; from = from; upto = upto }

@@ -1,4 +1,0 @@
-pub mod PrintedNumbers
-pub mod Tests
-pub mod Streams
-pub mod Seams

@@ -1,0 +1,7 @@
+pub mod Records
+pub mod PrintedNumbers
+pub mod PlainRows
+pub mod PrintedRows
+pub mod Tests
+pub mod Streams
+pub mod Seams

@@ -1,0 +1,51 @@
+-- Numbers as they are printed.
+use Rattle.std.proofs.Common.{◌≡◌, ◌<◌, ◌≤◌, ◌+◌, ◌==◌, ℤ, pos, negsuc, neg_ℤ, ◌^◌, ◌-◌, suc, false, get_or, option_map, Some, length, ap, arith}
+use Rattle.std.specs.Fmt.{decimal, signed_decimal}
+use Rattle.std.proofs.lemmas.Bool.Decides.{nat_tests}
+use Rattle.std.proofs.lemmas.Fmt.{decimal_is_IsNumeral, length-decimal-le}
+use Rattle.std.proofs.lemmas.Int.{ints}
+use Rattle.std.proofs.lemmas.Str.Parse.{digit_at}
+use Rattle.stream_case.specs.Limits.{IsBetween, IsContribution, IsFlowRate, IsHeat, IsPrice, IsTemperature}
+use Rattle.stream_case.proofs.DigitLemmas.{natural_read}
+use Rattle.rows.specs.Numbers.{negative, number_in}
+use Rattle.rows.specs.declared.numbers.TheConstants.{MOST_DIGITS}
+
+-- numbers of a number text
+abbrev pub IsPrintable : ℤ → Type 0
+IsPrintable z = IsBetween (neg_ℤ (pos (10 ^ MOST_DIGITS - 1))) (pos (10 ^ MOST_DIGITS - 1)) z
+
+-- each number of a case is one
+pub temperature : (z : ℤ) → IsTemperature z → IsPrintable z
+temperature z range = record { from = omega (arith, ints, range.from); upto = omega (arith, ints, range.upto) }
+
+pub contribution : (z : ℤ) → IsContribution z → IsPrintable z
+contribution z range = record { from = omega (arith, ints, range.from); upto = omega (arith, ints, range.upto) }
+
+pub flow_rate : (z : ℤ) → IsFlowRate z → IsPrintable z
+flow_rate z range = record { from = omega (arith, ints, range.from); upto = omega (arith, ints, range.upto) }
+
+pub heat : (z : ℤ) → IsHeat z → IsPrintable z
+heat z range = record { from = omega (arith, ints, range.from); upto = omega (arith, ints, range.upto) }
+
+pub price : (z : ℤ) → IsPrice z → IsPrintable z
+price z range = record { from = omega (arith, ints, range.from); upto = omega (arith, ints, range.upto) }
+
+pub number_short : (z : ℤ) → IsPrintable z → length (signed_decimal z) ≤ MOST_DIGITS + 1
+number_short (pos n) small =
+    let least : n < 10 ^ MOST_DIGITS = omega (arith, ints, small.upto) in
+    omega (arith, length-decimal-le MOST_DIGITS n (omega arith) least (omega (arith, least)))
+number_short (negsuc n) small =
+    let least : suc n < 10 ^ MOST_DIGITS = omega (arith, ints, small.from) in
+    omega (arith, length-decimal-le MOST_DIGITS (suc n) (omega arith) least (omega (arith, least)))
+
+pub number_read : (z : ℤ) → IsPrintable z → number_in (signed_decimal z) ≡ Some z
+unfolding number_in
+number_read (pos n) small =
+    let least : n < 10 ^ MOST_DIGITS = omega (arith, ints, small.upto) in
+    let numeral = decimal_is_IsNumeral n (omega (arith, least)) in
+    let digit = digit_at (decimal n) 0 numeral.0.1 numeral.0.0 in
+    let plain : (get_or (decimal n) 0 0 == 45) ≡ false = grind (arith, nat_tests, digit) in
+    rw plain (ap (option_map pos) (natural_read MOST_DIGITS n (omega arith) least (omega (arith, least))))
+number_read (negsuc n) small =
+    let least : suc n < 10 ^ MOST_DIGITS = omega (arith, ints, small.from) in
+    ap (option_map negative) (natural_read MOST_DIGITS (suc n) (omega arith) least (omega (arith, least)))

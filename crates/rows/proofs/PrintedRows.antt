@@ -1,0 +1,92 @@
+-- Rows of seven printed fields, as lines of text, are read as themselves and are short.
+use Rattle.std.proofs.Common.{◌≡◌, ◌∷◌, ◌≤◌, ◌+◌, ◌*◌, ℕ, ℤ, List, [], All, length, refl, arith, length-append}
+use Rattle.std.specs.Prelude.{codes}
+use Rattle.std.specs.Fmt.{signed_decimal}
+use Rattle.std.proofs.lemmas.List.Concat.{length-flat_map}
+use Rattle.std.proofs.lemmas.List.Elements.{All-from_recursion, All-head, All-tail, All-weaker}
+use Rattle.std.proofs.lemmas.List.Sums.{sum_by-le}
+use Rattle.stream_case.specs.Limits.{IsContribution}
+use Rattle.stream_case.specs.Name.{IsName}
+use Rattle.stream_case.specs.Stream.{IsValidStream}
+use Rattle.stream_case.specs.declared.source.Side.{Side}
+use Rattle.stream_case.specs.declared.source.Side.TheVariants as side
+use Rattle.stream_case.specs.declared.stream.Stream.{Stream}
+use Rattle.stream_case.proofs.NameLemmas.{length-IsName}
+use Rattle.rows.specs.Printed.{contribution_row, stream_kind, stream_row}
+use Rattle.rows.specs.Rows.{Row, rows_of}
+use Rattle.rows.specs.Text.{fields_text, row_text, rows_text}
+use Rattle.rows.proofs.PlainRows.{IsPlain, IsPlainRow, name_plain, number_plain, rows_same}
+use Rattle.rows.proofs.PrintedNumbers.{IsPrintable, contribution, flow_rate, number_short, temperature}
+
+-- a field that is printed: plain, and at most 16 bytes long
+pub record IsPrintedField (text : List ℕ) : Type 0 where
+  pub plain : IsPlain text
+  pub short : length text ≤ 16
+
+pub record IsPrintedRow (row : Row) : Type 0 where
+  pub seven : length row ≡ 7
+  pub each : All IsPrintedField row
+
+pub seven_fields : (a b c d e f g : List ℕ) → IsPrintedField a → IsPrintedField b → IsPrintedField c → IsPrintedField d → IsPrintedField e → IsPrintedField f
+    → IsPrintedField g → IsPrintedRow (a ∷ b ∷ c ∷ d ∷ e ∷ f ∷ g ∷ [])
+seven_fields a b c d e f g pa pb pc pd pe pf pg = record {
+  seven = refl;
+  each = All-from_recursion IsPrintedField (a ∷ b ∷ c ∷ d ∷ e ∷ f ∷ g ∷ []) (pa, (pb, (pc, (pd, (pe, (pf, (pg, tt)))))));
+}
+
+-- ---- the fields
+
+pub no_field : IsPrintedField []
+no_field = record { plain = refl; short = omega arith }
+
+pub number_field : (z : ℤ) → IsPrintable z → IsPrintedField (signed_decimal z)
+number_field z small = record { plain = number_plain z small; short = omega (arith, number_short z small) }
+
+pub name_field : (name : List ℕ) → IsName name → IsPrintedField name
+name_field name is = record { plain = name_plain name is; short = length-IsName name is }
+
+stream_kind_field : (of : Side) → IsPrintedField (stream_kind of)
+stream_kind_field side.Hot = record { plain = refl; short = omega arith }
+stream_kind_field side.Cold = record { plain = refl; short = omega arith }
+
+-- ---- the rows
+
+pub contribution_printed : (c : ℤ) → IsContribution c → IsPrintedRow (contribution_row c)
+contribution_printed c range =
+    let kind : IsPrintedField (codes "contribution") = record { plain = refl; short = omega arith } in
+    seven_fields _ _ _ _ _ _ _ kind no_field (number_field c (contribution c range)) no_field no_field no_field no_field
+
+pub stream_printed : (s : Stream) → IsValidStream s → IsPrintedRow (stream_row s)
+stream_printed s valid =
+    let supply = number_field s.supply (temperature s.supply valid.supply) in
+    let target = number_field s.target (temperature s.target valid.target) in
+    let cp = number_field s.cp (flow_rate s.cp valid.cp) in
+    seven_fields _ _ _ _ _ _ _ (stream_kind_field s.side) (name_field s.name valid.name) supply target cp no_field no_field
+
+-- ---- the text
+
+plain_row : (row : Row) → IsPrintedRow row → IsPlainRow row
+plain_row row printed = record { long = omega (arith, printed.seven); each = All-weaker IsPrintedField IsPlain (λ f field. field.plain) row printed.each }
+
+-- the text of printed rows, of which the first begins with `c` (99), no byte order mark, is read as those rows
+pub rows_back : (rows : List Row) (text : List ℕ) → All IsPrintedRow rows → rows_text rows ≡ 99 ∷ text → rows_of (rows_text rows) ≡ rows
+rows_back rows text printed starts = rows_same rows text (All-weaker IsPrintedRow IsPlainRow plain_row rows printed) starts
+
+fields_short : (fields : Row) → All IsPrintedField fields → length (fields_text fields) ≤ 17 * length fields + 1
+unfolding fields_text
+fields_short [] printed = omega arith
+fields_short (f ∷ fs) printed =
+    let here = All-head IsPrintedField f fs printed in
+    omega (arith, length-append f (fields_text fs), here.short, fields_short fs (All-tail IsPrintedField f fs printed))
+
+row_short : (row : Row) → IsPrintedRow row → length (row_text row) ≤ 119
+row_short [] printed = omega arith
+row_short (f ∷ fs) printed =
+    let here = All-head IsPrintedField f fs printed.each in
+    omega (arith, length-append f (fields_text fs), here.short, fields_short fs (All-tail IsPrintedField f fs printed.each), printed.seven)
+
+-- a line of seven fields has at most 119 bytes
+pub rows_short : (rows : List Row) → All IsPrintedRow rows → length (rows_text rows) ≤ 119 * length rows
+rows_short rows printed =
+    let each = All-weaker IsPrintedRow (λ row. length (row_text row) ≤ 119) row_short rows printed in
+    omega (arith, length-flat_map row_text rows, sum_by-le (λ row. length (row_text row)) 119 rows each)

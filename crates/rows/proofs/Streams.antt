@@ -1,0 +1,36 @@
+-- What is kept of the contribution and of the streams that rows give.
+use Rattle.std.proofs.Common.{◌≡◌, ◌+◌, ◌<◌, ◌≤◌, ℕ, ℤ, pos, true, cond, Option, Some, None, IfSome, unwrap_or, arith}
+use Rattle.stream_case.specs.Limits.{IsContribution}
+use Rattle.stream_case.specs.Name.{is_name}
+use Rattle.stream_case.specs.Source.{is_right_way, same_side}
+use Rattle.stream_case.specs.Stream.{IsValidStream}
+use Rattle.stream_case.specs.declared.source.Side.{Side}
+use Rattle.stream_case.specs.declared.source.Side.TheVariants as side
+use Rattle.stream_case.specs.declared.stream.Stream.{Stream}
+use Rattle.stream_case.proofs.NameTests.{passed-name}
+use Rattle.stream_case.proofs.SourceLemmas.{Decides-is_right_way}
+use Rattle.rows.specs.Numbers.{is_flow_rate, is_temperature}
+use Rattle.rows.proofs.Tests.{passed-within}
+
+-- the contribution so far, 0 where none was given yet
+pub range_of : (o : Option ℤ) → IfSome o IsContribution → IsContribution (unwrap_or o (pos 0))
+range_of None fits = record { from = omega arith; upto = omega arith }
+range_of (Some c) fits = fits
+
+-- a stream whose row passes the checks
+pub stream-is_valid : (s : Stream) → is_name s.name ≡ true → is_temperature s.supply ≡ true → is_temperature s.target ≡ true → is_flow_rate s.cp ≡ true → is_right_way s.side s.supply s.target ≡ true → IsContribution s.contribution → IsValidStream s
+stream-is_valid s name supply target cp way contribution = record {
+  name = passed-name s.name name;
+  supply = passed-within _ _ _ supply;
+  target = passed-within _ _ _ target;
+  way = (Decides-is_right_way s.side s.supply s.target).0 way;
+  cp = passed-within _ _ _ cp;
+  contribution = contribution;
+}
+
+-- one stream more on a side that has room
+pub one_more_on : (own : Side) (count : Side → ℕ) (most : ℕ) → ((of : Side) → count of ≤ most) → count own < most → (of : Side) → count of + cond (same_side own of) 1 0 ≤ most
+one_more_on side.Hot count most few room side.Hot = omega (arith, room)
+one_more_on side.Hot count most few room side.Cold = omega (arith, few side.Cold)
+one_more_on side.Cold count most few room side.Hot = omega (arith, few side.Hot)
+one_more_on side.Cold count most few room side.Cold = omega (arith, room)

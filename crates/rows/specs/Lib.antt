@@ -1,0 +1,7 @@
+pub mod Rows
+pub mod Left
+pub mod Numbers
+pub mod Fields
+pub mod Outcome
+pub mod Text
+pub mod Printed

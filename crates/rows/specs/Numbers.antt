@@ -1,0 +1,37 @@
+-- The number texts of the files: an optional `-`, and then 1 to 13 digits; and numbers within their limits.
+use Rattle.std.specs.Prelude.{ℕ, ℤ, pos, List, drop, Option, option_map, Bool, ◌==◌, ◌&&◌, if◌then◌else◌, int_le, slice_index, neg_ℤ}
+use Rattle.stream_case.specs.Digits.{natural_in}
+use Rattle.stream_case.specs.declared.limits.TheConstants.{HIGHEST_TEMPERATURE, LOWEST_TEMPERATURE, MOST_CONTRIBUTION, MOST_CP, MOST_HEAT, MOST_PRICE}
+use Rattle.rows.specs.declared.numbers.TheConstants.{MOST_DIGITS}
+
+abbrev pub negative : ℕ → ℤ
+negative n = neg_ℤ (pos n)
+
+-- the number that a text spells, if it is a number text: 45 is `-`
+unfoldable pub number_in : List ℕ → Option ℤ
+number_in text = if slice_index text 0 == 45 then option_map negative (natural_in MOST_DIGITS (drop 1 text)) else option_map pos (natural_in MOST_DIGITS text)
+
+-- ---- limits
+
+unfoldable pub is_within : ℤ → ℤ → ℤ → Bool
+is_within low high n = int_le low n && int_le n high
+
+-- in tenths of °C
+abbrev pub is_temperature : ℤ → Bool
+is_temperature n = is_within LOWEST_TEMPERATURE HIGHEST_TEMPERATURE n
+
+-- in tenths of °C
+abbrev pub is_contribution : ℤ → Bool
+is_contribution n = is_within (pos 0) MOST_CONTRIBUTION n
+
+-- in 10 W/K
+abbrev pub is_flow_rate : ℤ → Bool
+is_flow_rate n = is_within (pos 1) MOST_CP n
+
+-- in W
+abbrev pub is_heat : ℤ → Bool
+is_heat n = is_within (pos 0) MOST_HEAT n
+
+-- of one W
+abbrev pub is_price : ℤ → Bool
+is_price n = is_within (neg_ℤ MOST_PRICE) MOST_PRICE n

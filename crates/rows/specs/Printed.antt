@@ -1,0 +1,17 @@
+-- How the rows that every file may have are printed: the contribution and the streams.
+use Rattle.std.specs.Prelude.{ℕ, ℤ, List, [], ◌∷◌, codes}
+use Rattle.std.specs.Fmt.{signed_decimal}
+use Rattle.stream_case.specs.declared.source.Side.{Side}
+use Rattle.stream_case.specs.declared.source.Side.TheVariants as side
+use Rattle.stream_case.specs.declared.stream.Stream.{Stream}
+use Rattle.rows.specs.Rows.{Row}
+
+abbrev pub stream_kind : Side → List ℕ
+stream_kind side.Hot = codes "hot"
+stream_kind side.Cold = codes "cold"
+
+abbrev pub contribution_row : ℤ → Row
+contribution_row contribution = codes "contribution" ∷ [] ∷ signed_decimal contribution ∷ [] ∷ [] ∷ [] ∷ [] ∷ []
+
+abbrev pub stream_row : Stream → Row
+stream_row s = stream_kind s.side ∷ s.name ∷ signed_decimal s.supply ∷ signed_decimal s.target ∷ signed_decimal s.cp ∷ [] ∷ [] ∷ []

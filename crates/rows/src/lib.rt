@@ -1,0 +1,17 @@
+//! The rows of CSV files and what stands in their fields: which fields are empty, the names and
+//! the numbers in them, and the limits of the numbers. The readers of cases and of sites are made
+//! of these.
+//!
+//! A row of this project's files has seven fields. A check that fails answers the cause that the
+//! caller names for it.
+#![tactic(auto)]
+
+mod fault;
+mod fields;
+mod numbers;
+mod row_reader;
+
+pub use fault::RowFault;
+pub use fields::{are_empty, field, is_passed_over, name_in, number_in, optional_number_in};
+pub use numbers::{contribution, flow_rate, heat, number_of, price, temperature};
+pub use row_reader::Rows;

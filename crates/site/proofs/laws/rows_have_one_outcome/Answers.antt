@@ -1,0 +1,6 @@
+use Rattle.first_fault.proofs.OneOutcome.{fault_or_value, no_value, one_fault, one_value}
+use Rattle.site.specs.Outcome.{grammar}
+use Rattle.site.proofs.laws.rows_have_one_outcome.Goals as goal
+
+pub returns : goal.returns
+returns c = record { some = fault_or_value grammar; fault = one_fault grammar; apart = no_value grammar; site = one_value grammar }

@@ -1,8 +1,0 @@
-use Rattle.std.proofs.Common.{◌≡◌, ◌*◌, ◌≤ℤ◌, pos, take}
-use Rattle.sums.specs.Sum.{int_sum_by}
-use Rattle.site.specs.Directions.{plant_profile}
-use Rattle.site.specs.Table.{site_places}
-use Rattle.site.proofs.profiles.profile.Given as goal
-
-abbrev pub invariant-loop-plant : goal.invariant-loop-plant
-invariant-loop-plant l = record { value : l.heat ≡ int_sum_by (plant_profile l.direction (site_places l.site) l.t) (take l.plant-index l.plants); from : pos 0 ≤ℤ l.heat; upto : l.heat ≤ℤ pos (l.plant-index * 1000000000000) }

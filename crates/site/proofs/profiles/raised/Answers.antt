@@ -1,6 +1,0 @@
-use Rattle.std.proofs.Common.{arith}
-use Rattle.std.proofs.lemmas.Int.{clamps, ints}
-use Rattle.site.proofs.profiles.raised.Goals as goal
-
-pub returns-then-is_beyond-clause-range : goal.returns-then-is_beyond-clause-range
-returns-then-is_beyond-clause-range c = record { from = omega (arith, ints, clamps); upto = omega (arith, ints, clamps) }

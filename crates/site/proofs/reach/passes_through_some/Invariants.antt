@@ -1,7 +1,0 @@
-use Rattle.std.proofs.Common.{◌≡◌, false, take}
-use Rattle.std.specs.List.{list_any}
-use Rattle.site.specs.Reach.{passes_through}
-use Rattle.site.proofs.reach.passes_through_some.Given as goal
-
-abbrev pub invariant-loop-main : goal.invariant-loop-main
-invariant-loop-main l = list_any (passes_through l.contribution l.fn.hot l.fn.cold) (take l.main-index l.mains) ≡ false

@@ -1,0 +1,10 @@
+use Rattle.std.proofs.Common.{length}
+use Rattle.first_fault.proofs.Reading.{Reads}
+use Rattle.site.specs.Outcome.{grammar}
+use Rattle.site.proofs.reader.take_rows.Given as goal
+
+abbrev pub invariant-loop-row : goal.invariant-loop-row
+invariant-loop-row l = Reads grammar l.initial.rows l.rows l.found l.number
+
+abbrev pub decreases-loop-row : goal.decreases-loop-row
+decreases-loop-row l = length l.rows

@@ -1,5 +1,0 @@
-pub mod Plants
-pub mod Tests
-pub mod Accepted
-pub mod PrintedRows
-pub mod PrintedSite

@@ -1,6 +1,0 @@
-use Rattle.first_fault.proofs.OneOutcome.{fault_or_value, no_value, one_fault, one_value}
-use Rattle.site_text.specs.Outcome.{grammar}
-use Rattle.site_text.proofs.laws.rows_have_one_outcome.Goals as goal
-
-pub returns : goal.returns
-returns c = record { some = fault_or_value grammar; fault = one_fault grammar; apart = no_value grammar; site = one_value grammar }

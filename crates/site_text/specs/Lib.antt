@@ -1,5 +1,0 @@
-pub mod Given
-pub mod Checks
-pub mod Outcome
-pub mod Answers
-pub mod Printed
