@@ -7,11 +7,11 @@ use Rattle.std.proofs.lemmas.List.Folds.{find_at}
 use Rattle.std.proofs.lemmas.List.FromFn.{get_or-range_with_len, length-range_with_len}
 use Rattle.std.proofs.lemmas.List.Sums.{position_or_len_is}
 use Rattle.std.proofs.lemmas.Option.{slice_get_past, slice_get-get_or, slice_get_read}
-use Rattle.network_text.specs.Lines.{Exchanger, exchanger_of, exchangers_of}
+use Rattle.networks.specs.Lines.{Exchanger, exchanger_of, exchangers_of}
 use Rattle.network_text.specs.Checks.{first_missing, misses_pass, misses_side}
-use Rattle.network_text.specs.declared.network.Line.{Line}
-use Rattle.network_text.specs.declared.network.Network.{Network}
-use Rattle.network_text.proofs.LineLaws.{exchangers_of-push, few_exchangers}
+use Rattle.networks.specs.declared.network.Line.{Line}
+use Rattle.networks.specs.declared.network.Network.{Network}
+use Rattle.networks.proofs.LineLaws.{exchangers_of-push, few_exchangers}
 
 -- what the line at a index misses
 pub missing-at : (n : Network) (index count : ℕ) (l : Line) → index < length n.lines → l ≡ get_or n.lines index l → count ≡ length (exchangers_of (take index n.lines)) → misses_pass n index ≡ misses_side n count (exchanger_of l)

@@ -16,10 +16,10 @@ use Rattle.stream_case.specs.declared.utility.Utility.{Utility}
 use Rattle.stream_case.proofs.CaseLemmas.{length-AreStreams}
 use Rattle.stream_case.proofs.CompleteLemmas.{StaysValid}
 use Rattle.stream_case.proofs.DistinctLemmas.{AllPairs-before, other_name}
-use Rattle.network_text.specs.Lines.{exchangers_of, own_branches, passages_of, used_by}
+use Rattle.networks.specs.Lines.{exchangers_of, own_branches, passages_of, used_by}
 use Rattle.network_text.specs.Given.{start}
 use Rattle.network_text.specs.Building.{IsTracked, named_branch, own_entries, own_entry}
-use Rattle.network_text.proofs.Lists.{All-front, enumerate_from-push}
+use Rattle.networks.proofs.Lists.{All-front, enumerate_from-push}
 use Rattle.network_text.proofs.Tables.{so_far}
 
 own_keys : (streams : List Stream) → keys_of (own_entries streams) ≡ map (λ (s : Stream). s.name) streams

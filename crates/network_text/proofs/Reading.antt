@@ -10,7 +10,7 @@ use Rattle.first_fault.proofs.Reading.{Reads}
 use Rattle.stream_case.specs.Case.{IsComplete}
 use Rattle.stream_case.specs.declared.case.Case.{Case}
 use Rattle.stream_case.proofs.CompleteLemmas.{StaysValid-IsComplete}
-use Rattle.network_text.specs.Statements.{Statement, fields_of, is_statement, statements_of}
+use Rattle.statements.specs.Statements.{Statement, fields_of, is_statement, statements_of}
 use Rattle.network_text.specs.Given.{entry_in, start, with_entry}
 use Rattle.network_text.specs.Checks.{checks}
 use Rattle.network_text.specs.Building.{IsFresh}
@@ -18,8 +18,8 @@ use Rattle.network_text.specs.Outcome.{IsOutcome, grammar}
 use Rattle.network_text.specs.declared.entry.Entry.{Entry}
 use Rattle.network_text.specs.declared.fault.NetFault.{NetFault}
 use Rattle.network_text.specs.declared.fault.NetFault.TheVariants as fault
-use Rattle.network_text.specs.declared.limits.TheConstants.{MOST_STATEMENTS}
-use Rattle.network_text.specs.declared.network.Network.{Network}
+use Rattle.networks.specs.declared.limits.TheConstants.{MOST_STATEMENTS}
+use Rattle.networks.specs.declared.network.Network.{Network}
 use Rattle.network_text.proofs.shape.Counts.{has_room}
 use Rattle.network_text.proofs.shape.Kept.{adds_next, shape_so_far}
 

@@ -14,16 +14,16 @@ use Rattle.fractions.specs.Rationals.{is_below, rational_zero}
 use Rattle.first_fault.specs.Checks.{Check, in_turn}
 use Rattle.network_text.specs.Names.{is_branch_name}
 use Rattle.network_text.specs.Fractions.{fraction, fraction_in}
-use Rattle.network_text.specs.Lines.{Exchanger, exchanger_of, exchangers_of, passages_of, same_passage, stream_at, used_by}
-use Rattle.network_text.specs.Statements.{Statement, field}
+use Rattle.networks.specs.Lines.{Exchanger, exchanger_of, exchangers_of, passages_of, same_passage, stream_at, used_by}
+use Rattle.statements.specs.Statements.{Statement, field}
 use Rattle.network_text.specs.Given.{branch_at, branch_named, exchanger_at, exchanger_named, kind_of, source_at}
 use Rattle.network_text.specs.declared.fault.NetWhy.{NetWhy}
 use Rattle.network_text.specs.declared.fault.NetWhy.TheVariants as why
 use Rattle.network_text.specs.declared.kind.Kind.{Kind}
 use Rattle.network_text.specs.declared.kind.Kind.TheVariants as kind
-use Rattle.network_text.specs.declared.limits.TheConstants.{MOST_EXCHANGERS, MOST_STATEMENTS}
-use Rattle.network_text.specs.declared.network.Line.{Line}
-use Rattle.network_text.specs.declared.network.Network.{Network}
+use Rattle.networks.specs.declared.limits.TheConstants.{MOST_EXCHANGERS, MOST_STATEMENTS}
+use Rattle.networks.specs.declared.network.Line.{Line}
+use Rattle.networks.specs.declared.network.Network.{Network}
 
 -- ---- a branch that is used
 

@@ -2,14 +2,14 @@
 use Rattle.std.specs.Prelude.{ℕ, ◌+◌, List, option_map, Result, Ok, Err}
 use Rattle.stream_case.specs.declared.case.Case.{Case}
 use Rattle.first_fault.specs.Outcome.{Grammar, IsFault as IsFaultOf, IsValue}
-use Rattle.network_text.specs.Statements.{Statement}
+use Rattle.statements.specs.Statements.{Statement}
 use Rattle.network_text.specs.Given.{next, start}
 use Rattle.network_text.specs.Checks.{checks, first_missing}
 use Rattle.network_text.specs.declared.fault.NetFault.{NetFault}
 use Rattle.network_text.specs.declared.fault.NetFault.TheVariants as fault
 use Rattle.network_text.specs.declared.fault.NetWhy.{NetWhy}
 use Rattle.network_text.specs.declared.fault.NetWhy.TheVariants as why
-use Rattle.network_text.specs.declared.network.Network.{Network}
+use Rattle.networks.specs.declared.network.Network.{Network}
 
 -- how statements are read for a case. Behind the last of them it is a fault that a pass is missing, of the statement that declares the exchanger
 abbrev pub grammar : Case → Grammar Statement Network Network NetWhy

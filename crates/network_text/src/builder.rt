@@ -6,17 +6,15 @@ ghost use Rattle.std.specs.Map.{keys_of};
 ghost use Rattle.std.specs.Option.{ForSome, option_to_list};
 ghost use Rattle.std.specs.Str.{bytes_eq};
 ghost use Rattle.stream_case.specs.Case.{IsComplete};
-ghost use Rattle.network_text.specs.Lines.{exchanger_of, exchangers_of, members, passage_of, same_passage, stream_at, uses};
+ghost use Rattle.networks.specs.Lines.{exchanger_of, exchangers_of, members, passage_of, same_passage, stream_at, uses};
 ghost use Rattle.network_text.specs.Given.{branch_named, exchanger_named, first_stream, start, with_entry};
 ghost use Rattle.network_text.specs.Checks.{first_missing, is_free_side, is_missed, is_passed, is_stream, is_used, joins_stream, misses_side};
 ghost use Rattle.network_text.specs.Building.{IsFresh, named_branch, named_sides, own_entries};
 
 use crate::entry::Entry;
-use crate::few::AtMostTwo;
-use crate::limits::MOST_STATEMENTS;
 use crate::names::branch_name;
-use crate::network::{Branch, Line, Network, Passage};
 use indexmap::{IndexMap, IndexSet};
+use networks::{AtMostTwo, Branch, Line, MOST_STATEMENTS, Network, Passage};
 use std::alloc::{AllocError, Global};
 use std::marker::Model;
 use stream_case::{ALL_STREAMS, Case, Items, Name, Source, Stream};
@@ -183,7 +181,7 @@ pub struct NetworkBuilder {
 
 impl Model for NetworkBuilder {
     ghost use Rattle.std.specs.Prelude.{map};
-    ghost use Rattle.network_text.specs.declared.network.Network.{Network};
+    ghost use Rattle.networks.specs.declared.network.Network.{Network};
     ghost use Rattle.network_text.specs.Building.{IsTracked, named_branch};
 
     ghost Value = { Network };

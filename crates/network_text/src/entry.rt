@@ -9,13 +9,11 @@ ghost use Rattle.network_text.specs.Checks.{checks, end_checks, exchanger_checks
 use crate::branch_fields::{check_mixed, new_branch, new_exchanger, passed_exchanger, used_branch};
 use crate::builder::NetworkBuilder;
 use crate::fault::NetWhy;
-use crate::few::AtMostTwo;
 use crate::fraction_text::positive_fraction;
 use crate::kind::{Kind, kind_of};
-use crate::limits::{MOST_EXCHANGERS, MOST_STATEMENTS};
-use crate::network::Line;
 use crate::sources::hot_and_cold;
-use crate::statement::Statement;
+use networks::{AtMostTwo, Line, MOST_EXCHANGERS, MOST_STATEMENTS};
+use statements::Statement;
 use stream_case::{Case, Name};
 
 /// What a statement gives: its line, whose new branches have the next numbers, and their names.

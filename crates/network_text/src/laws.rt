@@ -3,12 +3,12 @@
 ghost use Rattle.std.specs.Prelude.{◌≡◌, ℕ, List};
 ghost use Rattle.stream_case.specs.Case.{IsComplete};
 ghost use Rattle.stream_case.specs.declared.case.Case.{Case};
-ghost use Rattle.network_text.specs.Statements.{Statement};
+ghost use Rattle.statements.specs.Statements.{Statement};
 ghost use Rattle.network_text.specs.Outcome.{IsFault, IsNetwork};
-ghost use Rattle.network_text.specs.Shape.{HasShape, KeepsCounts};
+ghost use Rattle.networks.specs.Shape.{HasShape, KeepsCounts};
 
 use crate::fault::NetWhy;
-use crate::network::Network;
+use networks::Network;
 
 /// Statements have one outcome: never two faults, two causes of one fault, two networks, or a fault
 /// and a network.

@@ -13,17 +13,17 @@ use Rattle.stream_case.specs.declared.stream.Stream.{Stream}
 use Rattle.stream_case.specs.declared.utility.Utility.{Utility}
 use Rattle.stream_case.proofs.CompleteLemmas.{StaysValid}
 use Rattle.stream_case.proofs.DistinctLemmas.{AllPairs-front}
-use Rattle.network_text.specs.Lines.{made_by, makes, members, names_of, own_branch, own_branches, stream_at, uses}
+use Rattle.networks.specs.Lines.{made_by, makes, members, names_of, own_branch, own_branches, stream_at, uses}
 use Rattle.network_text.specs.Given.{branch_of, branches_in, first_stream, start, with_entry}
-use Rattle.network_text.specs.Shape.{AreMadeBeforeUse, AreMadeInOrder, AreNamed, AreUsedOnce, IsOfOneStream, made_before}
+use Rattle.networks.specs.Shape.{AreMadeBeforeUse, AreMadeInOrder, AreNamed, AreUsedOnce, IsOfOneStream, made_before}
 use Rattle.network_text.specs.declared.entry.Entry.{Entry}
-use Rattle.network_text.specs.declared.network.Branch.{Branch}
-use Rattle.network_text.specs.declared.network.Line.{Line}
-use Rattle.network_text.specs.declared.network.Line.TheVariants as line
-use Rattle.network_text.specs.declared.network.Network.{Network}
-use Rattle.network_text.proofs.LineLaws.{made_by-push, names_of-append, stream_at-front, used_by-push}
-use Rattle.network_text.proofs.Lists.{All-front, range_with_len-append, slice_get_push}
-use Rattle.network_text.proofs.OfShape.{all_made, made_there, many_own, stream_at-get_or, streams_first, used_there}
+use Rattle.networks.specs.declared.network.Branch.{Branch}
+use Rattle.networks.specs.declared.network.Line.{Line}
+use Rattle.networks.specs.declared.network.Line.TheVariants as line
+use Rattle.networks.specs.declared.network.Network.{Network}
+use Rattle.networks.proofs.LineLaws.{made_by-push, names_of-append, stream_at-front, used_by-push}
+use Rattle.networks.proofs.Lists.{All-front, range_with_len-append, slice_get_push}
+use Rattle.networks.proofs.OfShape.{all_made, made_there, many_own, stream_at-get_or, streams_first, used_there}
 use Rattle.network_text.proofs.shape.Adding.{Adds, HasShapeSoFar}
 
 -- ---- the branches of an entry

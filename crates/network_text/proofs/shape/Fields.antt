@@ -17,13 +17,13 @@ use Rattle.fractions.specs.Rationals.{IsWithinLimits, Rational, is_below, is_wit
 use Rattle.fractions.proofs.Comparisons.{Decides-is_below, positive_num}
 use Rattle.fractions.proofs.Limits.{Decides-is_within_limits}
 use Rattle.network_text.specs.Fractions.{bounded_ratio, fraction, fraction_in, ratio_of}
-use Rattle.network_text.specs.Lines.{Exchanger, exchangers_of, names_of, used_by}
+use Rattle.networks.specs.Lines.{Exchanger, exchangers_of, names_of, used_by}
 use Rattle.network_text.specs.Given.{branch_at, branch_named, exchanger_named}
 use Rattle.network_text.specs.Checks.{has_stream, is_on, is_side, is_stream, is_used, joins_stream}
-use Rattle.network_text.specs.Shape.{IsPositive, Joins}
-use Rattle.network_text.specs.declared.network.Branch.{Branch}
-use Rattle.network_text.specs.declared.network.Network.{Network}
-use Rattle.network_text.proofs.Counts.{index_within, is_some-position, none_any}
+use Rattle.networks.specs.Shape.{IsPositive, Joins}
+use Rattle.networks.specs.declared.network.Branch.{Branch}
+use Rattle.networks.specs.declared.network.Network.{Network}
+use Rattle.statements.proofs.Positions.{index_within, is_some-position, none_any}
 
 -- ---- branches
 

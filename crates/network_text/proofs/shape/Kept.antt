@@ -8,15 +8,15 @@ use Rattle.first_fault.proofs.CheckLemmas.{Passes}
 use Rattle.first_fault.proofs.Steps.{Give, given_has}
 use Rattle.stream_case.specs.declared.case.Case.{Case}
 use Rattle.stream_case.proofs.CompleteLemmas.{StaysValid}
-use Rattle.network_text.specs.Lines.{Exchanger, exchanger_of, exchangers_of, own_branches, passages_of, used_by}
-use Rattle.network_text.specs.Statements.{Statement}
+use Rattle.networks.specs.Lines.{Exchanger, exchanger_of, exchangers_of, own_branches, passages_of, used_by}
+use Rattle.statements.specs.Statements.{Statement}
 use Rattle.network_text.specs.Given.{entry_in, next, start, with_any, with_entry}
 use Rattle.network_text.specs.Checks.{checks}
 use Rattle.network_text.specs.Outcome.{grammar}
-use Rattle.network_text.specs.Shape.{AreExchangers, HasPositiveFlow, IsExchanger, IsOfOneStream}
+use Rattle.networks.specs.Shape.{AreExchangers, HasPositiveFlow, IsExchanger, IsOfOneStream}
 use Rattle.network_text.specs.declared.entry.Entry.{Entry}
-use Rattle.network_text.specs.declared.network.Network.{Network}
-use Rattle.network_text.proofs.LineLaws.{exchangers_of-push}
+use Rattle.networks.specs.declared.network.Network.{Network}
+use Rattle.networks.proofs.LineLaws.{exchangers_of-push}
 use Rattle.network_text.proofs.shape.Adding.{Adds, HasShapeSoFar}
 use Rattle.network_text.proofs.shape.Entries.{added}
 use Rattle.network_text.proofs.shape.Branches as branches

@@ -10,14 +10,14 @@ use Rattle.stream_case.specs.declared.case.Case.{Case}
 use Rattle.stream_case.specs.declared.source.Source.{Source}
 use Rattle.stream_case.specs.declared.source.Source.TheVariants as source
 use Rattle.stream_case.proofs.CompleteLemmas.{StaysValid-IsComplete}
-use Rattle.network_text.specs.Lines.{Exchanger, exchanger_of, exchangers_of, passages_of, same_passage}
-use Rattle.network_text.specs.Statements.{Statement}
+use Rattle.networks.specs.Lines.{Exchanger, exchanger_of, exchangers_of, passages_of, same_passage}
+use Rattle.statements.specs.Statements.{Statement}
 use Rattle.network_text.specs.Checks.{first_missing, is_missed, is_passed, misses_pass, misses_side}
 use Rattle.network_text.specs.Outcome.{IsNetwork, grammar}
-use Rattle.network_text.specs.Shape.{ArePassedOnce, HasShape, Joins, passes}
-use Rattle.network_text.specs.declared.network.Line.{Line}
-use Rattle.network_text.specs.declared.network.Network.{Network}
-use Rattle.network_text.proofs.Counts.{StandsBefore, counted, none_found, stands_before}
+use Rattle.networks.specs.Shape.{ArePassedOnce, HasShape, Joins, passes}
+use Rattle.networks.specs.declared.network.Line.{Line}
+use Rattle.networks.specs.declared.network.Network.{Network}
+use Rattle.networks.proofs.Counts.{StandsBefore, counted, none_found, stands_before}
 use Rattle.network_text.proofs.Missing.{missing-at}
 use Rattle.network_text.proofs.shape.Counts.{network-keeps_counts}
 use Rattle.network_text.proofs.shape.Kept.{shape_so_far}

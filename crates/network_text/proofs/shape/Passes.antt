@@ -8,20 +8,20 @@ use Rattle.std.proofs.lemmas.List.{take-append-le, take_at}
 use Rattle.std.proofs.lemmas.List.Sums.{sum_by-append}
 use Rattle.std.proofs.lemmas.Option.{slice_get_within}
 use Rattle.stream_case.specs.declared.case.Case.{Case}
-use Rattle.network_text.specs.Lines.{Exchanger, exchangers_of, passage_of, passages_of, same_passage, uses}
+use Rattle.networks.specs.Lines.{Exchanger, exchangers_of, passage_of, passages_of, same_passage, uses}
 use Rattle.network_text.specs.Given.{branches_in, with_entry}
 use Rattle.network_text.specs.Checks.{is_passed}
-use Rattle.network_text.specs.Shape.{ArePassedWhenDeclared, Joins, PassesDeclared, passes}
+use Rattle.networks.specs.Shape.{ArePassedWhenDeclared, Joins, PassesDeclared, passes}
 use Rattle.network_text.specs.declared.entry.Entry.{Entry}
-use Rattle.network_text.specs.declared.network.Branch.{Branch}
-use Rattle.network_text.specs.declared.network.Line.{Line}
-use Rattle.network_text.specs.declared.network.Line.TheVariants as line
-use Rattle.network_text.specs.declared.network.Network.{Network}
-use Rattle.network_text.specs.declared.network.Passage.{Passage}
-use Rattle.network_text.proofs.Counts.{uncounted}
-use Rattle.network_text.proofs.LineLaws.{passage_of-front, passages_of-front, passages_of-push, stream_at-front}
-use Rattle.network_text.proofs.Lists.{all_at, slice_get_push}
-use Rattle.network_text.proofs.OfShape.{used_there, used_within}
+use Rattle.networks.specs.declared.network.Branch.{Branch}
+use Rattle.networks.specs.declared.network.Line.{Line}
+use Rattle.networks.specs.declared.network.Line.TheVariants as line
+use Rattle.networks.specs.declared.network.Network.{Network}
+use Rattle.networks.specs.declared.network.Passage.{Passage}
+use Rattle.networks.proofs.Counts.{uncounted}
+use Rattle.networks.proofs.LineLaws.{passage_of-front, passages_of-front, passages_of-push, stream_at-front}
+use Rattle.networks.proofs.Lists.{all_at, slice_get_push}
+use Rattle.networks.proofs.OfShape.{used_there, used_within}
 use Rattle.network_text.proofs.shape.Adding.{Adds, HasShapeSoFar}
 
 -- with more branches

@@ -3,7 +3,7 @@ use Rattle.std.proofs.lemmas.List.{map-append}
 use Rattle.std.specs.Map.{keys_of}
 use Rattle.std.specs.Str.{bytes_eq}
 use Rattle.std.specs.Cmp.Lexicographic.{bytes_decides}
-use Rattle.network_text.specs.Lines.{members}
+use Rattle.networks.specs.Lines.{members}
 use Rattle.network_text.proofs.Tables.{first_new, second_new}
 use Rattle.network_text.proofs.builder.add_branches.Goals as goal
 

@@ -3,7 +3,7 @@ use Rattle.std.specs.Map.{keys_of}
 use Rattle.std.specs.Str.{bytes_eq}
 use Rattle.std.specs.Cmp.Lexicographic.{bytes_decides}
 use Rattle.network_text.specs.declared.builder.Sides.{Sides}
-use Rattle.network_text.specs.declared.few.AtMostTwo.TheVariants as few
+use Rattle.networks.specs.declared.few.AtMostTwo.TheVariants as few
 use Rattle.network_text.proofs.Tables.{first_new, new_entry}
 use Rattle.network_text.proofs.builder.add_declared.Goals as goal
 
