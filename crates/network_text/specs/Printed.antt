@@ -1,5 +1,5 @@
 -- How a network is printed.
-use Rattle.std.specs.Prelude.{ℕ, List, [], ◌∷◌, ◌++◌, map, slice_index_or, codes}
+use Rattle.std.specs.Prelude.{ℕ, List, [], ◌∷◌, map, slice_index_or, codes}
 use Rattle.std.specs.List.{flat_map}
 use Rattle.stream_case.specs.Case.{source_name}
 use Rattle.stream_case.specs.declared.case.Case.{Case}

@@ -8,22 +8,7 @@ use Rattle.std.proofs.lemmas.List.{append-nil}
 use Rattle.std.proofs.lemmas.List.Elements.{All-append, All-cons, All-from_recursion, All-head, All-nil, All-tail, All-weaker}
 use Rattle.std.proofs.lemmas.List.Sums.{AllPass-from_list_all}
 use Rattle.std.proofs.lemmas.List.Splits.{length-slice_split, slice_split_at, slice_split_none}
-use Rattle.statements.specs.Statements.{Statement, field, fields_of, fields_text, is_blank, is_empty, is_statement, statement_text, statements_of}
-
--- a byte that is neither a space nor a mark of a line's end
-abbrev pub IsVisible : ℕ → Type 0
-IsVisible b = 32 < b
-
--- a field that is printed
-pub record IsPlainField (text : List ℕ) : Type 0 where
-  pub some : 0 < length text
-  pub visible : All IsVisible text
-
--- a statement of such fields, of which the first does not begin with `#`
-pub record IsPlainStatement (s : Statement) : Type 0 where
-  pub some : 0 < length s
-  pub each : All IsPlainField s
-  pub counts : (get_or (field s 0) 0 0 == 35) ≡ false
+use Rattle.statements.specs.Statements.{IsPlainField, IsPlainStatement, IsVisible, Statement, fields_of, fields_text, is_blank, is_empty, is_statement, statement_text, statements_of}
 
 -- a word without blanks and marks
 pub word_plain : (word : List ℕ) → 0 < length word → list_all (nat_lt 32) word ≡ true → IsPlainField word

@@ -1,5 +1,5 @@
 -- Whether some item of a list passes a test, and the index of the first that does.
-use Rattle.std.proofs.Common.{◌≡◌, ◌∙◌, ◌<◌, ◌+◌, ◌∷◌, ℕ, suc, Bool, true, false, cond, List, [], All, Option, Some, None, is_some, nat_lt, unwrap_or, position, length, refl, sym, ap, arith}
+use Rattle.std.proofs.Common.{◌≡◌, ◌∙◌, ◌<◌, ◌+◌, ◌∷◌, ℕ, suc, Bool, true, false, cond, List, [], All, Option, Some, None, is_some, nat_lt, unwrap_or, position, length, refl, sym, arith}
 use Rattle.std.specs.List.{list_any, position_or_len}
 use Rattle.std.proofs.lemmas.Bool.Decides.{nat_tests}
 use Rattle.std.proofs.lemmas.Bool.{false≢true, false_from_ne_true}

@@ -1,5 +1,5 @@
 -- The statements of a text.
-use Rattle.std.specs.Prelude.{ℕ, Bool, not, ◌==◌, ◌||◌, ◌&&◌, List, [], ◌∷◌, ◌++◌, length, filter, map, slice_index, slice_index_or}
+use Rattle.std.specs.Prelude.{◌≡◌, ℕ, ◌<◌, Bool, false, not, ◌==◌, ◌||◌, ◌&&◌, List, [], ◌∷◌, ◌++◌, All, length, filter, map, slice_index, slice_index_or}
 use Rattle.std.specs.List.{slice_split}
 use Rattle.std.specs.Str.Lines.{lines}
 
@@ -44,3 +44,18 @@ fields_text (field ∷ fields) = 32 ∷ (field ++ fields_text fields)
 abbrev pub statement_text : Statement → List ℕ
 statement_text [] = 10 ∷ []
 statement_text (field ∷ fields) = field ++ fields_text fields
+
+-- a byte that is neither a space nor a mark of a line's end
+abbrev pub IsVisible : ℕ → Type 0
+IsVisible b = 32 < b
+
+-- a field that is printed
+pub record IsPlainField (text : List ℕ) : Type 0 where
+  pub some : 0 < length text
+  pub visible : All IsVisible text
+
+-- a statement of such fields, of which the first does not begin with `#`
+pub record IsPlainStatement (s : Statement) : Type 0 where
+  pub some : 0 < length s
+  pub each : All IsPlainField s
+  pub counts : (slice_index (field s 0) 0 == 35) ≡ false

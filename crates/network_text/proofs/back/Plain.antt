@@ -1,5 +1,5 @@
 -- The statements of a printed network are of plain fields.
-use Rattle.std.proofs.Common.{◌≡◌, ◌<◌, ℕ, [], All, get_or, length, map, refl, arith}
+use Rattle.std.proofs.Common.{◌<◌, ℕ, [], All, get_or, length, map, refl, arith}
 use Rattle.std.specs.Prelude.{codes}
 use Rattle.std.proofs.lemmas.List.Elements.{All-map}
 use Rattle.stream_case.specs.Case.{IsSourceOf, source_name}
@@ -17,7 +17,8 @@ use Rattle.networks.proofs.OfShape.{IsLineOf, line_at, line_of, own_exchanger}
 use Rattle.network_text.specs.Printed.{branch_name, exchanger_name, exchanger_names, statement_of}
 use Rattle.network_text.proofs.print.Fields.{any_name_plain, fraction_plain, name_plain}
 use Rattle.network_text.proofs.print.Names.{many_exchangers, many_names}
-use Rattle.statements.proofs.PlainStatements.{IsPlainField, IsPlainStatement, plain_statement, word_plain}
+use Rattle.statements.specs.Statements.{IsPlainField, IsPlainStatement}
+use Rattle.statements.proofs.PlainStatements.{plain_statement, word_plain}
 
 module _ {case : Case} {network : Network} (valid : StaysValid case) (shape : HasShape case network) where
   branch_plain : (b : ℕ) → b < length network.branches → IsPlainField (branch_name network b)

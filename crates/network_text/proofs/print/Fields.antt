@@ -1,25 +1,25 @@
 -- Names, words and fractions are plain fields, and a printed fraction is read as itself.
-use Rattle.std.proofs.Common.{◌≡◌, ◌≢◌, ◌∙◌, ◌<◌, ◌≤◌, ◌+◌, ◌∷◌, ◌++◌, ◌==◌, ◌^◌, ℕ, ℤ, pos, negsuc, suc, zero, Bool, true, false, List, [], All, Some, get_or, option_map, length, drop, take, append_assoc, refl, sym, ap, subst, arith, inl, inr, length-append}
+use Rattle.std.proofs.Common.{◌≡◌, ◌∙◌, ◌<◌, ◌+◌, ◌∷◌, ◌++◌, ◌==◌, ◌^◌, ℕ, suc, zero, Bool, true, false, List, [], All, Some, length, drop, take, append_assoc, refl, sym, ap, arith, inl, inr, length-append}
 use Rattle.std.specs.Prelude.{unsigned_abs, if◌then◌else◌}
 use Rattle.std.specs.Fmt.{decimal, signed_decimal}
 use Rattle.std.specs.List.{after_first, before_first, list_any, position_or_len}
 use Rattle.std.proofs.Math.Bool.{or-true}
 use Rattle.std.proofs.lemmas.Bool.Decides.{nat_tests}
-use Rattle.std.proofs.lemmas.Fmt.{decimal_is_IsNumeral_wide}
-use Rattle.std.proofs.lemmas.List.{get_or_append_left, get_or_at, get_or_default, take_at, take_all, drop_at}
+use Rattle.std.proofs.lemmas.List.{get_or_append_left, get_or_at, take_at, take_all, drop_at}
 use Rattle.std.proofs.lemmas.List.Elements.{All-append, All-cons, All-weaker}
 use Rattle.std.proofs.lemmas.List.Folds.{list_any-append, list_any_none}
 use Rattle.std.proofs.lemmas.List.Sums.{position_or_len_is}
-use Rattle.std.proofs.lemmas.Str.Parse.{digit_at}
 use Rattle.stream_case.specs.Name.{IsAnyName, IsName, is_name_byte}
 use Rattle.fractions.specs.LowestForms.{ratio-self}
 use Rattle.fractions.specs.Rationals.{IsWithinLimits, Rational, fraction_text, ratio}
 use Rattle.stream_case.specs.Digits.{natural_in}
 use Rattle.stream_case.proofs.DigitLemmas.{natural_read}
-use Rattle.network_text.specs.Fractions.{bounded_ratio, denominator_in, fraction_in, is_slash, negative, numerator_in}
+use Rattle.network_text.specs.Fractions.{bounded_ratio, denominator_in, fraction_in, is_slash}
 use Rattle.fractions.proofs.Limits.{Decides-is_within_limits}
 use Rattle.network_text.specs.declared.limits.TheConstants.{MOST_DIGITS}
-use Rattle.statements.proofs.PlainStatements.{IsPlainField, IsVisible}
+use Rattle.statements.specs.Numbers.{number_in}
+use Rattle.statements.specs.Statements.{IsPlainField, IsVisible}
+use Rattle.statements.proofs.PlainNumbers.{IsNumberByte, bytes_visible, decimal_bytes, number-back, signed_bytes, signed_some}
 
 -- ---- names
 
@@ -39,58 +39,14 @@ any_name_plain name (inl is) = name_plain name is
 any_name_plain [] (inr is) = absurd is
 any_name_plain (b ∷ bs) (inr is) = record { some = omega arith; visible = All-cons IsVisible b bs (omega (arith, is.0)) (name_plain bs is.1).visible }
 
--- ---- digits
-
--- a byte of a number without a sign
-abbrev IsDigit : ℕ → Type 0
-IsDigit b = (48 ≤ b) × (b < 58)
-
-decimal_digits : (n : ℕ) → n < 10 ^ MOST_DIGITS → All IsDigit (decimal n)
-decimal_digits n small k d within =
-    let numeral = decimal_is_IsNumeral_wide n (omega (arith, small)) in
-    let digit = digit_at (decimal n) k numeral.0.1 within in
-    subst IsDigit (get_or_default (decimal n) k 0 d within) (digit.0, omega (arith, digit))
-
-decimal_some : (n : ℕ) → n < 10 ^ MOST_DIGITS → 0 < length (decimal n)
-decimal_some n small = (decimal_is_IsNumeral_wide n (omega (arith, small))).0.0
-
--- ---- numbers
-
--- a byte of a number: a digit or the sign
-abbrev IsNumberByte : ℕ → Type 0
-IsNumberByte b = (45 ≤ b) × (b ≢ 47)
-
-decimal_bytes : (n : ℕ) → n < 10 ^ MOST_DIGITS → All IsNumberByte (decimal n)
-decimal_bytes n small = All-weaker IsDigit IsNumberByte (λ b digit. (omega (arith, digit), λ e. omega (arith, e, digit))) (decimal n) (decimal_digits n small)
-
--- a whole number of few enough digits
-abbrev IsShort : ℤ → Type 0
-IsShort z = unsigned_abs z < 10 ^ MOST_DIGITS
-
-sign_byte : IsNumberByte 45
-sign_byte = (omega arith, λ e. omega (arith, e))
-
-signed_bytes : (z : ℤ) → IsShort z → All IsNumberByte (signed_decimal z)
-signed_bytes (pos n) short = decimal_bytes n (omega (arith, short))
-signed_bytes (negsuc n) short = All-cons IsNumberByte 45 (decimal (suc n)) sign_byte (decimal_bytes (suc n) (omega (arith, short)))
-
-signed_some : (z : ℤ) → IsShort z → 0 < length (signed_decimal z)
-signed_some (pos n) short = decimal_some n (omega (arith, short))
-signed_some (negsuc n) short = omega arith
-
-numerator_read : (z : ℤ) → IsShort z → numerator_in (signed_decimal z) ≡ Some z
-unfolding numerator_in
-numerator_read (pos n) short =
-    let least : n < 10 ^ MOST_DIGITS = omega (arith, short) in
-    let digit = decimal_digits n least 0 0 (decimal_some n least) in
-    let plain : (get_or (decimal n) 0 0 == 45) ≡ false = grind (arith, nat_tests, digit) in
-    rw plain (ap (option_map pos) (natural_read MOST_DIGITS n (omega arith) least (omega (arith, least))))
-numerator_read (negsuc n) short = ap (option_map negative) (natural_read MOST_DIGITS (suc n) (omega arith) (omega (arith, short)) (omega (arith, short)))
-
 -- ---- fractions
 
-short : (a : Rational) → IsWithinLimits a → IsShort a.num
+-- the two numbers are of few enough digits
+short : (a : Rational) → IsWithinLimits a → unsigned_abs a.num < 10 ^ 64
 short a within = omega (arith, within.num)
+
+numerator_read : (a : Rational) → IsWithinLimits a → number_in MOST_DIGITS (signed_decimal a.num) ≡ Some a.num
+numerator_read a within = number-back MOST_DIGITS a.num (omega arith) (omega (arith, within.num)) (short a within)
 
 no_slash : (text : List ℕ) → All IsNumberByte text → All (λ b. is_slash b ≡ false) text
 no_slash text bytes = All-weaker IsNumberByte (λ b. is_slash b ≡ false) (λ b byte. let other = byte.1 in grind (arith, nat_tests)) text bytes
@@ -138,23 +94,20 @@ fraction-back a within = by (a.den == 1) refl
         let none = no_slash (signed_decimal a.num) (signed_bytes a.num (short a within)) in
         let den : a.den ≡ 1 = grind (arith, nat_tests) in
         let whole : list_any is_slash (signed_decimal a.num) ≡ false = list_any_none is_slash (signed_decimal a.num) none in
-        rw (all_before (signed_decimal a.num) none, whole, numerator_read a.num (short a within)) (bounded_back a within 1 den)
+        rw (all_before (signed_decimal a.num) none, whole, numerator_read a within) (bounded_back a within 1 den)
     by false other =
         let none = no_slash (signed_decimal a.num) (signed_bytes a.num (short a within)) in
-        rw (before_slash (signed_decimal a.num) (decimal a.den) none, numerator_read a.num (short a within), denominator_read (signed_decimal a.num) a.den none (omega (arith, within.den))) (bounded_back a within a.den refl)
+        rw (before_slash (signed_decimal a.num) (decimal a.den) none, numerator_read a within, denominator_read (signed_decimal a.num) a.den none (omega (arith, within.den))) (bounded_back a within a.den refl)
 
 -- and a plain field
 pub fraction_plain : (a : Rational) → IsWithinLimits a → IsPlainField (fraction_text a)
 fraction_plain a within = by (a.den == 1)
   where
-    visible : (text : List ℕ) → All IsNumberByte text → All IsVisible text
-    visible text bytes = All-weaker IsNumberByte IsVisible (λ b byte. omega (arith, byte.0)) text bytes
-
     by : (b : Bool) → IsPlainField (if b then signed_decimal a.num else (signed_decimal a.num ++ 47 ∷ decimal a.den))
-    by true = record { some = signed_some a.num (short a within); visible = visible (signed_decimal a.num) (signed_bytes a.num (short a within)) }
+    by true = record { some = signed_some a.num (short a within); visible = bytes_visible (signed_decimal a.num) (signed_bytes a.num (short a within)) }
     by false =
-        let under = visible (decimal a.den) (decimal_bytes a.den (omega (arith, within.den))) in
-        let num = visible (signed_decimal a.num) (signed_bytes a.num (short a within)) in record {
+        let under = bytes_visible (decimal a.den) (decimal_bytes a.den (omega (arith, within.den))) in
+        let num = bytes_visible (signed_decimal a.num) (signed_bytes a.num (short a within)) in record {
           some = omega (arith, length-append (signed_decimal a.num) (47 ∷ decimal a.den));
           visible = All-append IsVisible (signed_decimal a.num) (47 ∷ decimal a.den) num (All-cons IsVisible 47 (decimal a.den) (omega arith) under);
         }
