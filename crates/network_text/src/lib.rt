@@ -26,7 +26,7 @@ mod sources;
 
 pub use fault::{NetFault, NetWhy};
 pub use laws::{networks_have_the_shape, statements_have_one_outcome};
-pub use limits::MOST_DIGITS;
+pub use limits::{LONGEST_LINE, MOST_DIGITS};
 pub use networks::{
     AtMostTwo, Branch, Line, MOST_EXCHANGERS, MOST_LINES, MOST_STATEMENTS, Network, Passage,
 };

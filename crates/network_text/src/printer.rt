@@ -1,6 +1,6 @@
 //! Printing a network.
 
-ghost use Rattle.std.specs.Prelude.{◌≡◌, ◌<◌, ◌∷◌, [], IfOk, codes, length, option_map, string_bytes};
+ghost use Rattle.std.specs.Prelude.{◌≡◌, ◌<◌, ◌≤◌, ◌*◌, ◌∷◌, [], IfOk, codes, length, option_map, string_bytes};
 ghost use Rattle.std.specs.List.{filter_map};
 ghost use Rattle.stream_case.specs.Case.{IsComplete, IsSourceOf, source_name};
 ghost use Rattle.fractions.specs.Rationals.{fraction_text};
@@ -11,6 +11,7 @@ ghost use Rattle.networks.specs.Shape.{HasShape, KeepsCounts, NamesKnown};
 ghost use Rattle.statements.specs.Statements.{statement_text};
 ghost use Rattle.network_text.specs.Printed.{branch_name, exchanger_names, statement_of, text_of};
 
+use crate::limits::LONGEST_LINE;
 use fractions::Frac;
 use networks::{Line, Network};
 use std::alloc::{AllocError, Global};
@@ -182,6 +183,7 @@ pub fn print_network(alloc: Global, case: &Case, network: &Network) -> Result<Ve
     requires complete { IsComplete case.now }
     requires shape { HasShape case.now network.now }
     ensures text { IfOk result (λ text. text.items ≡ text_of case.now network.now) }
+    ensures short { IfOk result (λ text. length text.items ≤ LONGEST_LINE * length network.now.lines) }
     ensures read_back { KeepsCounts network.now → IfOk result (λ text. IsNetwork case.now (statements_of text.items) network.now) }
 {
     let lines = network.lines.as_slice();

@@ -1,35 +1,30 @@
 -- The statements of a printed network are of plain fields.
-use Rattle.std.proofs.Common.{◌<◌, ℕ, [], All, get_or, length, map, refl, arith}
+use Rattle.std.proofs.Common.{◌<◌, ℕ, All, get_or, length, map, refl, arith}
 use Rattle.std.specs.Prelude.{codes}
 use Rattle.std.proofs.lemmas.List.Elements.{All-map}
 use Rattle.stream_case.specs.Case.{IsSourceOf, source_name}
-use Rattle.stream_case.specs.Name.{IsName}
 use Rattle.stream_case.specs.declared.case.Case.{Case}
 use Rattle.stream_case.specs.declared.source.Source.{Source}
 use Rattle.stream_case.proofs.CaseLemmas.{IsName-source_name}
 use Rattle.stream_case.proofs.CompleteLemmas.{StaysValid}
-use Rattle.networks.specs.Lines.{Exchanger, exchangers_of}
+use Rattle.networks.specs.Lines.{exchangers_of}
 use Rattle.networks.specs.Shape.{HasShape}
 use Rattle.networks.specs.declared.network.Line.{Line}
 use Rattle.networks.specs.declared.network.Line.TheVariants as line
 use Rattle.networks.specs.declared.network.Network.{Network}
 use Rattle.networks.proofs.OfShape.{IsLineOf, line_at, line_of, own_exchanger}
-use Rattle.network_text.specs.Printed.{branch_name, exchanger_name, exchanger_names, statement_of}
+use Rattle.network_text.specs.Printed.{branch_name, exchanger_name, statement_of}
 use Rattle.network_text.proofs.print.Fields.{any_name_plain, fraction_plain, name_plain}
-use Rattle.network_text.proofs.print.Names.{many_exchangers, many_names}
+use Rattle.network_text.proofs.print.Names.{branch_named, exchanger_named}
 use Rattle.statements.specs.Statements.{IsPlainField, IsPlainStatement}
 use Rattle.statements.proofs.PlainStatements.{plain_statement, word_plain}
 
 module _ {case : Case} {network : Network} (valid : StaysValid case) (shape : HasShape case network) where
   branch_plain : (b : ℕ) → b < length network.branches → IsPlainField (branch_name network b)
-  unfolding branch_name
-  branch_plain b within = any_name_plain (branch_name network b) (shape.named.names b [] (omega (arith, within, many_names network)))
+  branch_plain b within = any_name_plain (branch_name network b) (branch_named shape b within)
 
   exchanger_plain : (number : ℕ) → number < length (exchangers_of network.lines) → IsPlainField (exchanger_name network number)
-  unfolding exchanger_names
-  exchanger_plain number within =
-      let names = All-map IsName (λ (e : Exchanger). e.name) (exchangers_of network.lines) (λ k d inside. (shape.exchangers.each k d inside).name) in
-      name_plain (exchanger_name network number) (names number [] (omega (arith, within, many_exchangers network)))
+  exchanger_plain number within = name_plain (exchanger_name network number) (exchanger_named shape number within)
 
   source_plain : (s : Source) → IsSourceOf case s → IsPlainField (source_name case s)
   source_plain s is = name_plain (source_name case s) (IsName-source_name case valid.names s is)

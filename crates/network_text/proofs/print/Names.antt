@@ -3,13 +3,17 @@ use Rattle.std.proofs.Common.{◌≡◌, ◌≢◌, ◌∙◌, ◌<◌, ◌≤�
 use Rattle.std.specs.List.{cons_option, filter_map}
 use Rattle.std.specs.Str.{bytes_eq}
 use Rattle.std.proofs.lemmas.List.{get_or-map, get_or-take, get_or_default, length-map, length-take-le}
+use Rattle.std.proofs.lemmas.List.Elements.{All-map}
 use Rattle.stream_case.proofs.DistinctLemmas.{no_place_of, place_of}
+use Rattle.stream_case.specs.Name.{IsAnyName, IsName}
+use Rattle.stream_case.specs.declared.case.Case.{Case}
+use Rattle.networks.specs.Shape.{HasShape}
 use Rattle.networks.specs.Lines.{Exchanger, exchanger_of, exchangers_of, names_of}
 use Rattle.networks.specs.declared.network.Branch.{Branch}
 use Rattle.networks.specs.declared.network.Line.{Line}
 use Rattle.networks.specs.declared.network.Network.{Network}
 use Rattle.networks.proofs.Lists.{AllPairs-take}
-use Rattle.network_text.specs.Printed.{branch_name, exchanger_names}
+use Rattle.network_text.specs.Printed.{branch_name, exchanger_name, exchanger_names}
 
 pub found_in_front : (names : List (List ℕ)) (m i : ℕ) → AllPairs (λ a b. a ≢ b) names → i < m → m ≤ length names → position (bytes_eq (get_or names i [])) (take m names) ≡ Some i
 found_in_front names m i distinct early within =
@@ -51,3 +55,14 @@ declared (l ∷ lines) = by (exchanger_of l) (declared lines)
 pub exchanger_names-declared : (network : Network) → filter_map (λ l. option_map (λ e. e.name) (exchanger_of l)) network.lines ≡ exchanger_names network
 unfolding exchanger_names exchangers_of
 exchanger_names-declared network = declared network.lines
+
+-- in a network of the shape they are names
+pub branch_named : {case : Case} {network : Network} → HasShape case network → (b : ℕ) → b < length network.branches → IsAnyName (branch_name network b)
+unfolding branch_name
+branch_named {network = network} shape b within = shape.named.names b [] (omega (arith, within, many_names network))
+
+pub exchanger_named : {case : Case} {network : Network} → HasShape case network → (number : ℕ) → number < length (exchangers_of network.lines) → IsName (exchanger_name network number)
+unfolding exchanger_names
+exchanger_named {network = network} shape number within =
+    let names = All-map IsName (λ (e : Exchanger). e.name) (exchangers_of network.lines) (λ k d inside. (shape.exchangers.each k d inside).name) in
+    names number [] (omega (arith, within, many_exchangers network))
