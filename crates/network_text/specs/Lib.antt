@@ -5,3 +5,4 @@ pub mod Checks
 pub mod Outcome
 pub mod Building
 pub mod Printed
+pub mod Laws

@@ -2,7 +2,7 @@
 use Rattle.std.specs.Prelude.{ℕ, ◌+◌, List, option_map, Result, Ok, Err}
 use Rattle.stream_case.specs.declared.case.Case.{Case}
 use Rattle.first_fault.specs.Outcome.{Grammar, IsFault as IsFaultOf, IsValue}
-use Rattle.statements.specs.Statements.{Statement}
+use Rattle.statements.specs.Statements.{Statement, statements_of}
 use Rattle.network_text.specs.Given.{next, start}
 use Rattle.network_text.specs.Checks.{checks, first_missing}
 use Rattle.network_text.specs.declared.fault.NetFault.{NetFault}
@@ -28,6 +28,10 @@ IsFault case statements number cause = IsFaultOf (grammar case) statements numbe
 -- nothing is at fault, and the network is what the statements give
 abbrev pub IsNetwork : Case → List Statement → Network → Type 0
 IsNetwork case statements network = IsValue (grammar case) statements network
+
+-- the statements of a text give the network
+abbrev pub IsNetworkOf : Case → List ℕ → Network → Type 0
+IsNetworkOf case text network = IsNetwork case (statements_of text) network
 
 -- the outcome of statements for a completed case; want of memory is none
 abbrev pub IsOutcome : Case → List Statement → Result Network NetFault → Type 0

@@ -100,7 +100,8 @@ fn add_branches(
     stream: u32,
 ) -> Result<(), AllocError>
     requires { AllPairs (λ a b. a ≢ b) (keys_of branches.old.entries ++ members names) }
-    ensures { OnOk result (branches.new.entries ≡ branches.old.entries ++ map (λ name. (name, stream)) (members names)) }
+    ensures { OnOk result (branches.new.entries ≡ branches.old.entries ++
+        map (λ name. (name, stream)) (members names)) }
 {
     match names {
         AtMostTwo::Nothing => Ok(()),
@@ -127,8 +128,10 @@ fn own_branches(alloc: Global, streams: &[Stream]) -> Result<IndexMap<Name, u32>
 
 /// Adds the exchanger that a line declares, if it declares one.
 fn add_declared(exchangers: &mut IndexMap<Name, Sides>, line: &Line) -> Result<(), AllocError>
-    requires { AllPairs (λ a b. a ≢ b) (keys_of exchangers.old.entries ++ map (λ e. e.name) (option_to_list (exchanger_of line.now))) }
-    ensures { OnOk result (exchangers.new.entries ≡ exchangers.old.entries ++ map named_sides (option_to_list (exchanger_of line.now))) }
+    requires { AllPairs (λ a b. a ≢ b) (keys_of exchangers.old.entries ++
+        map (λ e. e.name) (option_to_list (exchanger_of line.now))) }
+    ensures { OnOk result (exchangers.new.entries ≡ exchangers.old.entries ++
+        map named_sides (option_to_list (exchanger_of line.now))) }
 {
     if let Line::Exchanger {
         name,

@@ -1,17 +1,13 @@
 //! Printing a network.
 
-ghost use Rattle.std.specs.Prelude.{◌≡◌, ◌<◌, ◌≤◌, ◌*◌, ◌∷◌, [], IfOk, codes, length, option_map, string_bytes};
+ghost use Rattle.std.specs.Prelude.{◌≡◌, ◌<◌, IfOk, length, string_bytes};
 ghost use Rattle.std.specs.List.{filter_map};
-ghost use Rattle.stream_case.specs.Case.{IsComplete, IsSourceOf, source_name};
-ghost use Rattle.fractions.specs.Rationals.{fraction_text};
-ghost use Rattle.networks.specs.Lines.{exchanger_of};
-ghost use Rattle.statements.specs.Statements.{statements_of};
-ghost use Rattle.network_text.specs.Outcome.{IsNetwork};
+ghost use Rattle.stream_case.specs.Case.{IsComplete, IsSourceOf};
+ghost use Rattle.network_text.specs.Outcome.{IsNetworkOf};
 ghost use Rattle.networks.specs.Shape.{HasShape, KeepsCounts, NamesKnown};
 ghost use Rattle.statements.specs.Statements.{statement_text};
-ghost use Rattle.network_text.specs.Printed.{branch_name, exchanger_names, statement_of, text_of};
+ghost use Rattle.network_text.specs.Printed.{HasShortLines, branch_name, declared_name, end_statement, exchanger_names, exchanger_statement, mix_statement, pass_statement, split_statement, statement_of, text_of};
 
-use crate::limits::LONGEST_LINE;
 use fractions::Frac;
 use networks::{Line, Network};
 use std::alloc::{AllocError, Global};
@@ -28,7 +24,7 @@ fn branch_name(network: &Network, number: u32) -> Name
 
 /// The name of the exchanger that a line declares, if it declares one.
 fn declared_name(line: &Line) -> Option<Name>
-    ensures { result ≡ option_map (λ e. e.name) (exchanger_of line.now) }
+    ensures { result ≡ declared_name line.now }
 {
     match *line {
         Line::Exchanger { name, .. } => Some(name),
@@ -38,7 +34,7 @@ fn declared_name(line: &Line) -> Option<Name>
 
 /// The names of the exchangers that lines declare, in their order.
 fn declared_names(alloc: Global, lines: &[Line]) -> Result<Vec<Name>, AllocError>
-    ensures { IfOk result (λ names. names.items ≡ filter_map (λ l. option_map (λ e. e.name) (exchanger_of l)) lines.now) }
+    ensures { IfOk result (λ names. names.items ≡ filter_map declared_name lines.now) }
 {
     lines
         .iter()
@@ -65,7 +61,8 @@ fn exchanger_line(
 ) -> Result<String, AllocError>
     requires hot { IsSourceOf case.now hot }
     requires cold { IsSourceOf case.now cold }
-    ensures { IfOk result (λ line. string_bytes line ≡ statement_text (codes "exchanger" ∷ name ∷ source_name case.now hot ∷ source_name case.now cold ∷ fraction_text duty ∷ [])) }
+    ensures { IfOk result (λ line.
+        string_bytes line ≡ statement_text (exchanger_statement case.now name hot cold duty)) }
 {
     let hot = case.name_of(hot);
     let cold = case.name_of(cold);
@@ -85,7 +82,8 @@ fn split_line(
     requires from { from < length network.now.branches }
     requires first { first < length network.now.branches }
     requires second { second < length network.now.branches }
-    ensures { IfOk result (λ line. string_bytes line ≡ statement_text (codes "split" ∷ branch_name network.now from ∷ branch_name network.now first ∷ fraction_text cp ∷ branch_name network.now second ∷ [])) }
+    ensures { IfOk result (λ line.
+        string_bytes line ≡ statement_text (split_statement network.now from first cp second)) }
 {
     let from = branch_name(network, from);
     let first = branch_name(network, first);
@@ -104,7 +102,8 @@ fn pass_line(
 ) -> Result<String, AllocError>
     requires from { from < length network.now.branches }
     requires to { to < length network.now.branches }
-    ensures { IfOk result (λ line. string_bytes line ≡ statement_text (codes "pass" ∷ branch_name network.now from ∷ exchanger ∷ branch_name network.now to ∷ [])) }
+    ensures { IfOk result (λ line.
+        string_bytes line ≡ statement_text (pass_statement network.now from exchanger to)) }
 {
     let from = branch_name(network, from);
     let to = branch_name(network, to);
@@ -123,7 +122,8 @@ fn mix_line(
     requires first { first < length network.now.branches }
     requires second { second < length network.now.branches }
     requires to { to < length network.now.branches }
-    ensures { IfOk result (λ line. string_bytes line ≡ statement_text (codes "mix" ∷ branch_name network.now first ∷ branch_name network.now second ∷ branch_name network.now to ∷ [])) }
+    ensures { IfOk result (λ line.
+        string_bytes line ≡ statement_text (mix_statement network.now first second to)) }
 {
     let first = branch_name(network, first);
     let second = branch_name(network, second);
@@ -135,7 +135,8 @@ fn mix_line(
 #[tactic(auto, unfolding(statements::specs::Statements::fields_text))]
 fn end_line(alloc: Global, network: &Network, branch: u32) -> Result<String, AllocError>
     requires { branch < length network.now.branches }
-    ensures { IfOk result (λ line. string_bytes line ≡ statement_text (codes "end" ∷ branch_name network.now branch ∷ [])) }
+    ensures { IfOk result (λ line.
+        string_bytes line ≡ statement_text (end_statement network.now branch)) }
 {
     let branch = branch_name(network, branch);
     format!(in alloc; "end {branch}\n")
@@ -151,7 +152,8 @@ fn statement_line(
 ) -> Result<String, AllocError>
     requires exchangers { exchangers.now ≡ exchanger_names network.now }
     requires known { NamesKnown case.now network.now line.now }
-    ensures { IfOk result (λ text. string_bytes text ≡ statement_text (statement_of case.now network.now line.now)) }
+    ensures { IfOk result (λ text.
+        string_bytes text ≡ statement_text (statement_of case.now network.now line.now)) }
 {
     match *line {
         Line::Exchanger {
@@ -183,8 +185,9 @@ pub fn print_network(alloc: Global, case: &Case, network: &Network) -> Result<Ve
     requires complete { IsComplete case.now }
     requires shape { HasShape case.now network.now }
     ensures text { IfOk result (λ text. text.items ≡ text_of case.now network.now) }
-    ensures short { IfOk result (λ text. length text.items ≤ LONGEST_LINE * length network.now.lines) }
-    ensures read_back { KeepsCounts network.now → IfOk result (λ text. IsNetwork case.now (statements_of text.items) network.now) }
+    ensures short { IfOk result (λ text. HasShortLines network.now text.items) }
+    ensures read_back { KeepsCounts network.now → IfOk result (λ text.
+        IsNetworkOf case.now text.items network.now) }
 {
     let lines = network.lines.as_slice();
     let exchangers = exchanger_names(alloc, network)?;

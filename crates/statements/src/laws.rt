@@ -8,11 +8,13 @@ ghost use Rattle.statements.specs.Statements.{IsPlainField, IsPlainStatement, St
 
 /// Statements of plain fields are read from their lines as themselves.
 pub fn plain_statements_are_read_again()
-    ensures { (ss : List Statement) → All IsPlainStatement ss → statements_of (flat_map statement_text ss) ≡ ss }
+    ensures { (ss : List Statement) → All IsPlainStatement ss →
+        statements_of (flat_map statement_text ss) ≡ ss }
 {}
 
 /// A whole number of few enough digits is printed as a plain field, and read from it as itself.
 pub fn printed_numbers_are_read_again()
     ensures plain { (most : ℕ) (z : ℤ) → IsOfDigits most z → IsPlainField (signed_decimal z) }
-    ensures again { (most : ℕ) (z : ℤ) → IsOfDigits most z → number_in most (signed_decimal z) ≡ Some z }
+    ensures again { (most : ℕ) (z : ℤ) → IsOfDigits most z →
+        number_in most (signed_decimal z) ≡ Some z }
 {}

@@ -1,22 +1,20 @@
 -- The text of a network is read as the network.
 use Rattle.std.proofs.Common.{◌≡◌, ◌∙◌, ◌<◌, ◌+◌, ℕ, false, not, List, [], Some, None, get_or, slice_get, length, map, option_map, take, refl, sym, ap, subst, arith, inl, inr}
-use Rattle.std.specs.Prelude.{◌⊎◌, Result, Ok, Err}
+use Rattle.std.specs.Prelude.{Ok, Err}
 use Rattle.std.specs.List.{range_with_len}
 use Rattle.std.proofs.lemmas.List.FromFn.{get_or-range_with_len, length-range_with_len}
 use Rattle.first_fault.proofs.OneOutcome.{no_value, one_value}
 use Rattle.first_fault.proofs.Steps.{Give, all_give_at, nothing_gives}
-use Rattle.stream_case.specs.Case.{IsComplete}
 use Rattle.stream_case.specs.declared.case.Case.{Case}
 use Rattle.stream_case.specs.declared.source.Source.{Source}
 use Rattle.stream_case.specs.declared.source.Source.TheVariants as source
 use Rattle.stream_case.proofs.CompleteLemmas.{StaysValid-IsComplete}
 use Rattle.networks.specs.Lines.{Exchanger, exchangers_of, passages_of, same_passage}
-use Rattle.statements.specs.Statements.{Statement, statements_of}
+use Rattle.statements.specs.Statements.{statements_of}
 use Rattle.network_text.specs.Given.{start}
 use Rattle.network_text.specs.Checks.{first_missing, is_missed, is_passed, misses_pass}
-use Rattle.network_text.specs.Outcome.{IsNetwork, IsOutcome, grammar}
-use Rattle.networks.specs.Shape.{HasShape, Joins, KeepsCounts}
-use Rattle.network_text.specs.declared.fault.NetFault.{NetFault}
+use Rattle.network_text.specs.Outcome.{IsNetwork, IsNetworkOf, grammar}
+use Rattle.networks.specs.Shape.{HasShape, Joins}
 use Rattle.network_text.specs.declared.fault.NetFault.TheVariants as fault
 use Rattle.network_text.specs.declared.fault.NetWhy.TheVariants as why
 use Rattle.networks.specs.declared.network.Line.{Line}
@@ -26,6 +24,7 @@ use Rattle.networks.proofs.Counts.{find_none, some_counted}
 use Rattle.networks.proofs.OfShape.{exchanger_at, line_at, line_of}
 use Rattle.network_text.proofs.shape.Counts.{network-keeps_counts}
 use Rattle.network_text.proofs.shape.Law.{network-has_shape}
+use Rattle.network_text.specs.Laws.{GivenNetworksAreReadAgain, GivenNetworksAreTheOneOutcome, IsOneOutcomeOf, TextsGiveNoOther, TextsGiveTheirNetworks}
 use Rattle.network_text.specs.Printed.{statement_of, text_of}
 use Rattle.statements.proofs.PlainStatements.{statements-back}
 use Rattle.network_text.proofs.back.Branches.{IsReadable}
@@ -78,7 +77,7 @@ none-missing {network = network} shape = find_none (misses_pass network) (range_
 -- ---- the text
 
 -- a network of the shape is what the grammar gives for its text, where the text is not too long
-pub shape-is_network : (case : Case) (network : Network) → IsComplete case → HasShape case network → KeepsCounts network → IsNetwork case (statements_of (text_of case network)) network
+pub shape-is_network : TextsGiveTheirNetworks
 unfolding text_of
 shape-is_network case network complete shape counts =
     let valid = StaysValid-IsComplete case complete in
@@ -94,18 +93,18 @@ shape-is_network case network complete shape counts =
 -- ---- what is printed is read again
 
 -- where there is a network, it is the one outcome
-one_network : (case : Case) (statements : List Statement) (network : Network) (outcome : Result Network NetFault) → IsNetwork case statements network → IsOutcome case statements outcome → (outcome ≡ Ok network) ⊎ (outcome ≡ Err fault.OutOfMemory)
-one_network case statements network (Ok other) is outcome = inl (ap Ok (one_value (grammar case) statements other network outcome is))
-one_network case statements network (Err (fault.At number cause)) is outcome = absurd (no_value (grammar case) statements number cause network outcome is)
-one_network case statements network (Err fault.OutOfMemory) is outcome = inr refl
+one_network : (case : Case) (text : List ℕ) (network : Network) → IsNetworkOf case text network → IsOneOutcomeOf case text network
+one_network case text network is (Ok other) outcome = inl (ap Ok (one_value (grammar case) (statements_of text) other network outcome is))
+one_network case text network is (Err (fault.At number cause)) outcome = absurd (no_value (grammar case) (statements_of text) number cause network outcome is)
+one_network case text network is (Err fault.OutOfMemory) outcome = inr refl
 
-pub shape-once : (case : Case) (network : Network) (outcome : Result Network NetFault) → IsComplete case → HasShape case network → KeepsCounts network → IsOutcome case (statements_of (text_of case network)) outcome → (outcome ≡ Ok network) ⊎ (outcome ≡ Err fault.OutOfMemory)
-shape-once case network outcome complete shape counts = one_network case (statements_of (text_of case network)) network outcome (shape-is_network case network complete shape counts)
+pub shape-once : TextsGiveNoOther
+shape-once case network complete shape counts = one_network case (text_of case network) network (shape-is_network case network complete shape counts)
 
-pub printed-again : (case : Case) (statements : List Statement) (network : Network) → IsComplete case → IsNetwork case statements network → IsNetwork case (statements_of (text_of case network)) network
+pub printed-again : GivenNetworksAreReadAgain
 printed-again case statements network complete is =
-    shape-is_network case network complete (network-has_shape case statements network complete is) (network-keeps_counts case statements network is)
+    let shape = network-has_shape case statements network complete is in
+    shape-is_network case network complete shape (network-keeps_counts case statements network is)
 
-pub printed-once : (case : Case) (statements : List Statement) (network : Network) (outcome : Result Network NetFault) → IsComplete case → IsNetwork case statements network → IsOutcome case (statements_of (text_of case network)) outcome
-    → (outcome ≡ Ok network) ⊎ (outcome ≡ Err fault.OutOfMemory)
-printed-once case statements network outcome complete is = shape-once case network outcome complete (network-has_shape case statements network complete is) (network-keeps_counts case statements network is)
+pub printed-once : GivenNetworksAreTheOneOutcome
+printed-once case statements network complete is = one_network case (text_of case network) network (printed-again case statements network complete is)

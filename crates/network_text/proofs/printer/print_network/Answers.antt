@@ -1,11 +1,10 @@
-use Rattle.std.proofs.Common.{◌∙◌, ◌≤◌, ◌*◌, List, ℕ, length, sym, subst}
-use Rattle.statements.specs.Statements.{statements_of}
-use Rattle.network_text.specs.Outcome.{IsNetwork}
+use Rattle.std.proofs.Common.{◌∙◌, List, ℕ, sym, subst}
+use Rattle.network_text.specs.Outcome.{IsNetworkOf}
+use Rattle.network_text.specs.Printed.{HasShortLines}
 use Rattle.networks.proofs.OfShape.{line_read}
 use Rattle.network_text.proofs.back.Law.{shape-is_network}
 use Rattle.network_text.proofs.print.Lines.{text_all}
 use Rattle.network_text.proofs.print.Lengths.{text-short}
-use Rattle.network_text.specs.declared.limits.TheConstants.{LONGEST_LINE}
 use Rattle.stream_case.proofs.CompleteLemmas.{StaysValid-IsComplete}
 use Rattle.network_text.proofs.printer.print_network.Goals as goal
 
@@ -25,9 +24,10 @@ returns-clause-text c =
 
 pub returns-clause-read_back : goal.returns-clause-read_back
 returns-clause-read_back c = λ counts.
-    subst (λ (text : List ℕ). IsNetwork c.args.case.now (statements_of text) c.args.network.now) (sym (returns-clause-text c)) (shape-is_network c.args.case.now c.args.network.now c.requires.complete c.requires.shape counts)
+    subst (λ (text : List ℕ). IsNetworkOf c.args.case.now text c.args.network.now) (sym (returns-clause-text c))
+    (shape-is_network c.args.case.now c.args.network.now c.requires.complete c.requires.shape counts)
 
 pub returns-clause-short : goal.returns-clause-short
 returns-clause-short c =
     let few = text-short (StaysValid-IsComplete c.args.case.now c.requires.complete) c.requires.shape in
-    subst (λ (text : List ℕ). length text ≤ LONGEST_LINE * length c.args.network.now.lines) (sym (returns-clause-text c)) few
+    subst (λ (text : List ℕ). HasShortLines c.args.network.now text) (sym (returns-clause-text c)) few
