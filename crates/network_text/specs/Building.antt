@@ -45,7 +45,8 @@ abbrev pub named_sides : Exchanger → List ℕ × Sides
 named_sides exchanger = (exchanger.name, record { hot = exchanger.hot; cold = exchanger.cold })
 
 -- the tables tell what the lines use, declare and pass
-pub record IsTracked (branches : List (List ℕ × ℕ)) (used : List ℕ) (exchangers : List (List ℕ × Sides)) (passed : List Passage) (lines : List Line) : Type 0 where
+pub record IsTracked (branches : List (List ℕ × ℕ)) (used : List ℕ) (exchangers : List (List ℕ × Sides)) (passed : List Passage)
+    (lines : List Line) : Type 0 where
   pub used_are : used ≡ used_by lines
   pub exchangers_are : exchangers ≡ map named_sides (exchangers_of lines)
   pub passed_are : passed ≡ passages_of (map named_branch branches) lines

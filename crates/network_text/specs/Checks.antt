@@ -115,7 +115,8 @@ mixed_checks given first second =
 -- ---- the checks of each kind of statement: the number of fields, and then the fields from left to right
 
 unfoldable pub exchanger_field_checks : Case → Network → Statement → List (Check NetWhy)
-exchanger_field_checks case given s = in_turn (new_exchanger_checks given (field s 1) ∷ source_checks case (field s 2) (field s 3) ∷ fraction_checks (field s 4) ∷ [])
+exchanger_field_checks case given s = in_turn
+    (new_exchanger_checks given (field s 1) ∷ source_checks case (field s 2) (field s 3) ∷ fraction_checks (field s 4) ∷ [])
 
 unfoldable pub exchanger_checks : Case → Network → Statement → List (Check NetWhy)
 exchanger_checks case given s =
@@ -127,7 +128,8 @@ exchanger_checks case given s =
 unfoldable pub split_checks : Network → Statement → List (Check NetWhy)
 split_checks given s =
     (length s == 5, why.FieldCount)
-    ∷ in_turn (used_branch_checks given (field s 1) ∷ new_branch_checks given (field s 2) ∷ fraction_checks (field s 3) ∷ new_branch_checks given (field s 4) ∷ ((not (bytes_eq (field s 4) (field s 2)), why.SameName) ∷ []) ∷ [])
+    ∷ in_turn (used_branch_checks given (field s 1) ∷ new_branch_checks given (field s 2) ∷ fraction_checks (field s 3) ∷ new_branch_checks given
+    (field s 4) ∷ ((not (bytes_eq (field s 4) (field s 2)), why.SameName) ∷ []) ∷ [])
 
 unfoldable pub pass_checks : Network → Statement → List (Check NetWhy)
 pass_checks given s =
@@ -137,7 +139,8 @@ pass_checks given s =
 unfoldable pub mix_checks : Network → Statement → List (Check NetWhy)
 mix_checks given s =
     (length s == 4, why.FieldCount)
-    ∷ in_turn (used_branch_checks given (field s 1) ∷ used_branch_checks given (field s 2) ∷ mixed_checks given (branch_at given (field s 1)) (branch_at given (field s 2)) ∷ new_branch_checks given (field s 3) ∷ [])
+    ∷ in_turn (used_branch_checks given (field s 1) ∷ used_branch_checks given (field s 2) ∷ mixed_checks given (branch_at given (field s 1))
+    (branch_at given (field s 2)) ∷ new_branch_checks given (field s 3) ∷ [])
 
 unfoldable pub end_checks : Network → Statement → List (Check NetWhy)
 end_checks given s = (length s == 2, why.FieldCount) ∷ in_turn (used_branch_checks given (field s 1) ∷ [])

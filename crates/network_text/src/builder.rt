@@ -189,9 +189,13 @@ impl Model for NetworkBuilder {
 
     ghost Value = { Network };
 
-    ghost view = { λ b. record { branches = map named_branch b.branches.entries; lines = b.lines.items } };
+    ghost view = { λ b. record {
+      branches = map named_branch b.branches.entries;
+      lines = b.lines.items;
+    } };
 
-    ghost invariant = { λ b. IsTracked b.branches.entries b.used.keys b.exchangers.entries b.passed.keys b.lines.items };
+    ghost invariant = { λ b.
+        IsTracked b.branches.entries b.used.keys b.exchangers.entries b.passed.keys b.lines.items };
 }
 
 impl NetworkBuilder {

@@ -1,13 +1,11 @@
 -- Tests of the items of a list: none that passes, some, and just one; the items of a filtered list before the filter.
-use Rattle.std.proofs.Common.{◌≡◌, ◌∙◌, ◌<◌, ◌≤◌, ◌+◌, ◌∷◌, ◌⊎◌, inl, inr, ℕ, zero, suc, Bool, true, false, cond, List, [], All, Option, Some, None, slice_get, is_some, nat_lt, unwrap_or, position, length, take, refl, sym, ap, arith}
+use Rattle.std.proofs.Common.{◌≡◌, ◌∙◌, ◌<◌, ◌≤◌, ◌∷◌, ◌⊎◌, inl, inr, ℕ, zero, suc, Bool, true, false, cond, List, [], All, Option, Some, None, slice_get, length, take, refl, sym, ap, arith}
 use Rattle.std.specs.Prelude.{count_by, find}
-use Rattle.std.specs.List.{cons_option, filter_map, list_any, position_or_len}
-use Rattle.std.proofs.lemmas.Bool.Decides.{nat_tests}
-use Rattle.std.proofs.lemmas.Bool.{cases_lt, cases_order, false≢true, false_from_ne_true}
+use Rattle.std.specs.List.{cons_option, filter_map, list_any}
+use Rattle.std.proofs.lemmas.Bool.{cases_lt, cases_order, false≢true}
 use Rattle.std.proofs.lemmas.List.Elements.{All-cons, All-head, All-nil, All-tail}
 use Rattle.std.proofs.lemmas.List.Folds.{list_any_at}
-use Rattle.std.proofs.lemmas.List.Quantifiers.{position-Some}
-use Rattle.std.proofs.lemmas.Option.{cond_some, get_or_from_slice_get, slice_get_within}
+use Rattle.std.proofs.lemmas.Option.{get_or_from_slice_get, slice_get_within}
 use Rattle.sums.proofs.CountLemmas.{count_by-cons}
 
 -- ---- none passes
@@ -68,12 +66,14 @@ pub record IsOnly {X : Type 0} (p : X → Bool) (xs : List X) (index : ℕ) (x :
   pub found : find p xs ≡ Some x
   pub only : (other : ℕ) (y : X) → slice_get xs other ≡ Some y → p y ≡ true → other ≡ index
 
-only_first : {X : Type 0} (p : X → Bool) (a : X) (xs : List X) → list_any p xs ≡ false → (other : ℕ) (y : X) → slice_get (a ∷ xs) other ≡ Some y → p y ≡ true → other ≡ 0
+only_first : {X : Type 0} (p : X → Bool) (a : X) (xs : List X) → list_any p xs ≡ false → (other : ℕ) (y : X) → slice_get (a ∷ xs) other ≡ Some y → p y ≡ true
+    → other ≡ 0
 only_first p a xs none zero y at passes = refl
 only_first p a xs none (suc other) y at passes =
     absurd (false≢true (sym none ∙ list_any_at p xs other y (slice_get_within xs other y at) (ap p (get_or_from_slice_get xs other y y at) ∙ passes)))
 
-only_later : {X : Type 0} (p : X → Bool) (a : X) (xs : List X) (index : ℕ) → p a ≡ false → ((other : ℕ) (y : X) → slice_get xs other ≡ Some y → p y ≡ true → other ≡ index)
+only_later : {X : Type 0} (p : X → Bool) (a : X) (xs : List X) (index : ℕ) → p a ≡ false
+    → ((other : ℕ) (y : X) → slice_get xs other ≡ Some y → p y ≡ true → other ≡ index)
     → (other : ℕ) (y : X) → slice_get (a ∷ xs) other ≡ Some y → p y ≡ true → other ≡ suc index
 only_later p a xs index fails only zero y at passes = let same : a ≡ y = cc at in absurd (false≢true (sym fails ∙ ap p same ∙ passes))
 only_later p a xs index fails only (suc other) y at passes = ap suc (only other y at passes)
@@ -89,8 +89,16 @@ found_once {X} p (a ∷ xs) once = by (p a) refl (found_once p xs)
         (0, a, record { here = refl; passes = is; found = ap (λ b. cond b (Some a) (find p xs)) is; only = only_first p a xs none })
     by false is rest =
         let no = ap {B = ℕ} (λ b. cond b 1 0) is in
-        let (index, x, it) = rest (omega (arith, once, count_by-cons p a xs, no)) in
-        (suc index, x, record { here = it.here; passes = it.passes; found = ap (λ b. cond b (Some a) (find p xs)) is ∙ it.found; only = only_later p a xs index is it.only })
+        let (index, x, it) = rest (omega (arith, once, count_by-cons p a xs, no)) in (
+          suc index,
+          x,
+          record {
+            here = it.here;
+            passes = it.passes;
+            found = ap (λ b. cond b (Some a) (find p xs)) is ∙ it.found;
+            only = only_later p a xs index is it.only;
+          },
+        )
 
 -- ---- filters
 
@@ -100,16 +108,32 @@ pub record StandsBefore {X Y : Type 0} (f : X → Option Y) (xs : List X) (numbe
   pub gives : f x ≡ Some y
   pub earlier : length (filter_map f (take index xs)) ≡ number
 
-pub stands_before : {X Y : Type 0} (f : X → Option Y) (xs : List X) (number : ℕ) (y : Y) → slice_get (filter_map f xs) number ≡ Some y → (index : ℕ) × (x : X) × StandsBefore f xs number y index x
+pub stands_before : {X Y : Type 0} (f : X → Option Y) (xs : List X) (number : ℕ) (y : Y) → slice_get (filter_map f xs) number ≡ Some y → (index : ℕ) × (x : X)
+    × StandsBefore f xs number y index x
 stands_before f [] number y at = cc at
 stands_before {X} {Y} f (a ∷ xs) number y at = by (f a) refl number at (stands_before f xs)
   where
-    by : (o : Option Y) → f a ≡ o → (n : ℕ) → slice_get (cons_option o (filter_map f xs)) n ≡ Some y → ((m : ℕ) (z : Y) → slice_get (filter_map f xs) m ≡ Some z → (index : ℕ) × (x : X) × StandsBefore f xs m z index x)
+    by : (o : Option Y) → f a ≡ o → (n : ℕ) → slice_get (cons_option o (filter_map f xs)) n ≡ Some y
+        → ((m : ℕ) (z : Y) → slice_get (filter_map f xs) m ≡ Some z → (index : ℕ) × (x : X) × StandsBefore f xs m z index x)
         → (index : ℕ) × (x : X) × StandsBefore f (a ∷ xs) n y index x
     by None is n at rest =
-        let (index, x, stands) = rest n y at in
-        (suc index, x, record { here = stands.here; gives = stands.gives; earlier = ap (λ o. length (cons_option o (filter_map f (take index xs)))) is ∙ stands.earlier })
+        let (index, x, stands) = rest n y at in (
+          suc index,
+          x,
+          record {
+            here = stands.here;
+            gives = stands.gives;
+            earlier = ap (λ o. length (cons_option o (filter_map f (take index xs)))) is ∙ stands.earlier;
+          },
+        )
     by (Some b) is zero at rest = (0, a, record { here = refl; gives = is ∙ at; earlier = refl })
     by (Some b) is (suc n) at rest =
-        let (index, x, stands) = rest n y at in
-        (suc index, x, record { here = stands.here; gives = stands.gives; earlier = ap (λ o. length (cons_option o (filter_map f (take index xs)))) is ∙ ap suc stands.earlier })
+        let (index, x, stands) = rest n y at in (
+          suc index,
+          x,
+          record {
+            here = stands.here;
+            gives = stands.gives;
+            earlier = ap (λ o. length (cons_option o (filter_map f (take index xs)))) is ∙ ap suc stands.earlier;
+          },
+        )

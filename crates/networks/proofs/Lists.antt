@@ -23,7 +23,8 @@ slice_get-take (suc m) (x ∷ xs) zero early = refl
 slice_get-take (suc m) (x ∷ xs) (suc i) early = slice_get-take m xs i (omega (arith, early))
 
 -- an item of a list with one more is an old one or the new one
-pub slice_get_push : {X : Type 0} (xs : List X) (y : X) (i : ℕ) (x : X) → slice_get (xs ++ y ∷ []) i ≡ Some x → (slice_get xs i ≡ Some x) ⊎ ((i ≡ length xs) × (x ≡ y))
+pub slice_get_push : {X : Type 0} (xs : List X) (y : X) (i : ℕ) (x : X) → slice_get (xs ++ y ∷ []) i ≡ Some x
+    → (slice_get xs i ≡ Some x) ⊎ ((i ≡ length xs) × (x ≡ y))
 slice_get_push [] y zero x at = inr (refl, cc at)
 slice_get_push [] y (suc i) x at = cc at
 slice_get_push (a ∷ xs) y zero x at = inl at
@@ -68,7 +69,8 @@ AllPairs-map R f (x ∷ xs) pairs i j d before within =
 pub AllPairs-take : {X : Type 0} (R : X → X → Type 0) (m : ℕ) (xs : List X) → AllPairs R xs → AllPairs R (take m xs)
 AllPairs-take R m xs pairs = AllPairs-front R (take m xs) (drop m xs) (subst (AllPairs R) (sym (take-append-drop m xs)) pairs)
 
-pub two_pushed : {X : Type 0} (R : X → X → Type 0) (xs : List X) (y z : X) → AllPairs R xs → All (λ x. R x y) xs → All (λ x. R x z) xs → R y z → AllPairs R (xs ++ y ∷ z ∷ [])
+pub two_pushed : {X : Type 0} (R : X → X → Type 0) (xs : List X) (y z : X) → AllPairs R xs → All (λ x. R x y) xs → All (λ x. R x z) xs → R y z
+    → AllPairs R (xs ++ y ∷ z ∷ [])
 two_pushed R xs y z pairs first second last =
     let one = all_pairs_push R xs y pairs first in
     let all = all_pairs_push R (xs ++ y ∷ []) z one (All-push (λ x. R x z) xs y second last) in
@@ -81,4 +83,5 @@ range_with_len-append a zero n = let same : a + 0 ≡ a = omega arith in let lon
 range_with_len-append a (suc m) n =
     let same : a + suc m ≡ a + 1 + m = omega arith in
     let long : suc m + n ≡ suc (m + n) = omega arith in
-    ap (λ b. a ∷ (range_with_len (a + 1) m ++ range_with_len b n)) same ∙ ap (λ ns. a ∷ ns) (range_with_len-append (a + 1) m n) ∙ ap (range_with_len a) (sym long)
+    ap (λ b. a ∷ (range_with_len (a + 1) m ++ range_with_len b n)) same ∙ ap (λ ns. a ∷ ns) (range_with_len-append (a + 1) m n)
+    ∙ ap (range_with_len a) (sym long)

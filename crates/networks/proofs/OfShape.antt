@@ -50,24 +50,30 @@ pub line_at : (lines : List Line) (index : ℕ) (d : Line) → index < length li
 line_at lines index d within = stands_at lines index (get_or lines index d) (slice_get-get_or lines index d within)
 
 -- what lines make, use, declare and pass: those before a line, the line, and those behind it
-pub made_parts : {lines : List Line} {index : ℕ} {l : Line} → StandsAt lines index l → made_by lines ≡ made_by (take index lines) ++ (makes l ++ made_by (drop (suc index) lines))
+pub made_parts : {lines : List Line} {index : ℕ} {l : Line} → StandsAt lines index l
+    → made_by lines ≡ made_by (take index lines) ++ (makes l ++ made_by (drop (suc index) lines))
 unfolding made_by
 made_parts {lines} {index} {l} at = ap (flat_map makes) at.all ∙ flat_map-append makes (take index lines) (l ∷ drop (suc index) lines)
 
-pub used_parts : {lines : List Line} {index : ℕ} {l : Line} → StandsAt lines index l → used_by lines ≡ used_by (take index lines) ++ (uses l ++ used_by (drop (suc index) lines))
+pub used_parts : {lines : List Line} {index : ℕ} {l : Line} → StandsAt lines index l
+    → used_by lines ≡ used_by (take index lines) ++ (uses l ++ used_by (drop (suc index) lines))
 unfolding used_by
 used_parts {lines} {index} {l} at = ap (flat_map uses) at.all ∙ flat_map-append uses (take index lines) (l ∷ drop (suc index) lines)
 
-pub declared_parts : {lines : List Line} {index : ℕ} {l : Line} → StandsAt lines index l → exchangers_of lines ≡ exchangers_of (take index lines) ++ exchangers_of (l ∷ drop (suc index) lines)
+pub declared_parts : {lines : List Line} {index : ℕ} {l : Line} → StandsAt lines index l
+    → exchangers_of lines ≡ exchangers_of (take index lines) ++ exchangers_of (l ∷ drop (suc index) lines)
 unfolding exchangers_of
 declared_parts {lines} {index} {l} at = ap (filter_map exchanger_of) at.all ∙ filter_map-append exchanger_of (take index lines) (l ∷ drop (suc index) lines)
 
-pub passed_parts : (branches : List Branch) {lines : List Line} {index : ℕ} {l : Line} → StandsAt lines index l → passages_of branches lines ≡ passages_of branches (take index lines) ++ passages_of branches (l ∷ drop (suc index) lines)
+pub passed_parts : (branches : List Branch) {lines : List Line} {index : ℕ} {l : Line} → StandsAt lines index l
+    → passages_of branches lines ≡ passages_of branches (take index lines) ++ passages_of branches (l ∷ drop (suc index) lines)
 unfolding passages_of
-passed_parts branches {lines} {index} {l} at = ap (filter_map (passage_of branches)) at.all ∙ filter_map-append (passage_of branches) (take index lines) (l ∷ drop (suc index) lines)
+passed_parts branches {lines} {index} {l} at = ap (filter_map (passage_of branches)) at.all
+    ∙ filter_map-append (passage_of branches) (take index lines) (l ∷ drop (suc index) lines)
 
 -- the exchanger that a line declares has the number of those before it
-pub exchanger_at : (lines : List Line) (index : ℕ) (name : List ℕ) (hot cold : Source) (duty : Rational) → slice_get lines index ≡ Some (line.Exchanger name hot cold duty)
+pub exchanger_at : (lines : List Line) (index : ℕ) (name : List ℕ) (hot cold : Source) (duty : Rational)
+    → slice_get lines index ≡ Some (line.Exchanger name hot cold duty)
     → slice_get (exchangers_of lines) (length (exchangers_of (take index lines))) ≡ Some (record { name = name; hot = hot; cold = cold; duty = duty })
 unfolding exchangers_of
 exchanger_at lines index name hot cold duty here =
@@ -77,7 +83,8 @@ exchanger_at lines index name hot cold duty here =
     let later = exchangers_of (drop (suc index) lines) in
     let parts : exchangers_of lines ≡ before ++ e ∷ later = declared_parts (stands_at lines index l here) in
     let within : length before < length (exchangers_of lines) = omega (arith, ap length parts, length-append before (e ∷ later)) in
-    let own : get_or (exchangers_of lines) (length before) e ≡ e = ap (λ es. get_or es (length before) e) parts ∙ get_or_at before e later e (length before) refl in
+    let own : get_or (exchangers_of lines) (length before) e ≡ e = ap (λ es. get_or es (length before) e) parts
+    ∙ get_or_at before e later e (length before) refl in
     slice_get-get_or (exchangers_of lines) (length before) e within ∙ ap Some own
 
 -- ---- the numbers of branches
@@ -96,7 +103,8 @@ all_made {case} {network} made =
     omega (arith, long, streams_first made)
 
 -- a line makes the next branches
-pub made_next : (case : Case) (network : Network) {index : ℕ} {l : Line} → StandsAt network.lines index l → made_before case network (suc index) ≡ made_before case network index + length (makes l)
+pub made_next : (case : Case) (network : Network) {index : ℕ} {l : Line} → StandsAt network.lines index l
+    → made_before case network (suc index) ≡ made_before case network index + length (makes l)
 unfolding made_by
 made_next case network {index} {l} at =
     let before = flat_map makes (take index network.lines) in
@@ -106,7 +114,8 @@ made_next case network {index} {l} at =
     omega (arith, long, one)
 
 -- they are there
-pub made_within : {case : Case} {network : Network} {index : ℕ} {l : Line} → AreMadeInOrder case network → StandsAt network.lines index l → made_before case network index + length (makes l) ≤ length network.branches
+pub made_within : {case : Case} {network : Network} {index : ℕ} {l : Line} → AreMadeInOrder case network → StandsAt network.lines index l
+    → made_before case network index + length (makes l) ≤ length network.branches
 made_within {case} {network} {index} {l} made at =
     let before = made_by (take index network.lines) in
     let later = made_by (drop (suc index) network.lines) in
@@ -114,16 +123,19 @@ made_within {case} {network} {index} {l} made at =
     omega (arith, parts, length-append (makes l) later, all_made made)
 
 -- and have the next numbers
-pub made_at : {case : Case} {network : Network} {index : ℕ} {l : Line} → AreMadeInOrder case network → StandsAt network.lines index l → (j : ℕ) → j < length (makes l) → get_or (makes l) j 0 ≡ made_before case network index + j
+pub made_at : {case : Case} {network : Network} {index : ℕ} {l : Line} → AreMadeInOrder case network → StandsAt network.lines index l → (j : ℕ)
+    → j < length (makes l) → get_or (makes l) j 0 ≡ made_before case network index + j
 made_at {case} {network} {index} {l} made at j within =
     let before = made_by (take index network.lines) in
     let later = made_by (drop (suc index) network.lines) in
     let n = length before in
-    let here = ap (λ ns. get_or ns (n + j) 0) (made_parts at) ∙ get_or-append-add before (makes l ++ later) j 0 ∙ get_or_append_left (makes l) later 0 j within in
+    let here = ap (λ ns. get_or ns (n + j) 0) (made_parts at) ∙ get_or-append-add before (makes l ++ later) j 0
+    ∙ get_or_append_left (makes l) later 0 j within in
     let all = ap length (made_parts at) ∙ length-append before (makes l ++ later) in
     let range = ap length made.made ∙ length-range_with_len (length case.streams) (length network.branches - length case.streams) in
     let inside : n + j < length network.branches - length case.streams = omega (arith, all, range, length-append (makes l) later, within) in
-    let number = ap (λ ns. get_or ns (n + j) 0) made.made ∙ get_or-range_with_len (length case.streams) (length network.branches - length case.streams) (n + j) 0 inside in
+    let number = ap (λ ns. get_or ns (n + j) 0) made.made
+    ∙ get_or-range_with_len (length case.streams) (length network.branches - length case.streams) (n + j) 0 inside in
     omega (arith, here, number)
 
 -- earlier lines make no more branches
@@ -140,7 +152,8 @@ made_fewer case network k index early =
 pub made_no_more : {case : Case} {network : Network} → AreMadeInOrder case network → (index : ℕ) → made_before case network index ≤ length network.branches
 unfolding made_by
 made_no_more {case} {network} made index =
-    let parts = ap (flat_map makes) (sym (take-append-drop index network.lines)) ∙ flat_map-append makes (take index network.lines) (drop index network.lines) in
+    let parts = ap (flat_map makes) (sym (take-append-drop index network.lines))
+    ∙ flat_map-append makes (take index network.lines) (drop index network.lines) in
     let long = ap length parts ∙ length-append (flat_map makes (take index network.lines)) (flat_map makes (drop index network.lines)) in
     omega (arith, long, all_made made)
 
@@ -151,7 +164,8 @@ pub record HasNumbers (case : Case) (network : Network) (index : ℕ) (l : Line)
   pub next : made_before case network (suc index) ≡ made_before case network index + length (makes l)
   pub within : made_before case network (suc index) ≤ length network.branches
 
-pub numbers_at : {case : Case} {network : Network} {index : ℕ} {l : Line} → HasShape case network → StandsAt network.lines index l → HasNumbers case network index l
+pub numbers_at : {case : Case} {network : Network} {index : ℕ} {l : Line} → HasShape case network → StandsAt network.lines index l
+    → HasNumbers case network index l
 numbers_at {case} {network} {index} {l} shape at = record {
   used = shape.made_first index l at.here;
   made = made_at shape.made_once at;
@@ -161,7 +175,8 @@ numbers_at {case} {network} {index} {l} shape at = record {
 
 -- ---- the branches that lines use and make are there
 
-pub used_there : {case : Case} {network : Network} → AreMadeInOrder case network → AreMadeBeforeUse case network → All (λ l. All (λ b. b < length network.branches) (uses l)) network.lines
+pub used_there : {case : Case} {network : Network} → AreMadeInOrder case network → AreMadeBeforeUse case network
+    → All (λ l. All (λ b. b < length network.branches) (uses l)) network.lines
 used_there {case} {network} made first k d within j e inside =
     let early = first k (get_or network.lines k d) (slice_get-get_or network.lines k d within) j e inside in
     omega (arith, early, made_no_more made k)
@@ -173,12 +188,14 @@ made_there {case} {network} made k d within j e inside =
     let number = get_or_default (makes l) j e 0 inside ∙ made_at made at j inside in
     omega (arith, number, made_within made at, inside)
 
-pub used_within : {case : Case} {network : Network} → AreMadeInOrder case network → AreMadeBeforeUse case network → All (λ b. b < length network.branches) (used_by network.lines)
+pub used_within : {case : Case} {network : Network} → AreMadeInOrder case network → AreMadeBeforeUse case network
+    → All (λ b. b < length network.branches) (used_by network.lines)
 unfolding used_by
 used_within {case} {network} made first = All-flat_map (λ b. b < length network.branches) uses network.lines (used_there made first)
 
 -- the branches that the lines before an index use were made before it
-pub used_before : (case : Case) (network : Network) → AreMadeBeforeUse case network → (index : ℕ) → All (λ b. b < made_before case network index) (used_by (take index network.lines))
+pub used_before : (case : Case) (network : Network) → AreMadeBeforeUse case network → (index : ℕ)
+    → All (λ b. b < made_before case network index) (used_by (take index network.lines))
 unfolding used_by
 used_before case network first index =
     All-flat_map (λ b. b < made_before case network index) uses (take index network.lines) (λ k d inside.
@@ -207,9 +224,11 @@ own_streams n (s ∷ streams) (suc i) within = own_streams (n + 1) streams i (om
 pub own_stream : {case : Case} {network : Network} → AreMadeInOrder case network → (i : ℕ) → i < length case.streams → stream_at network.branches i ≡ i
 unfolding own_branches
 own_stream {case} {network} made i within =
-    sym (stream_at-take network.branches (length case.streams) i within) ∙ ap (λ bs. stream_at bs i) made.own ∙ own_streams 0 case.streams i within ∙ omega arith
+    sym (stream_at-take network.branches (length case.streams) i within) ∙ ap (λ bs. stream_at bs i) made.own ∙ own_streams 0 case.streams i within
+    ∙ omega arith
 
-pub stream_within : {case : Case} {network : Network} → HasShape case network → (b : ℕ) → b < length network.branches → stream_at network.branches b < length case.streams
+pub stream_within : {case : Case} {network : Network} → HasShape case network → (b : ℕ) → b < length network.branches
+    → stream_at network.branches b < length case.streams
 stream_within {case} {network} shape b within =
     let d : Branch = record { name = []; stream = 0 } in
     omega (arith, shape.streams b d within, stream_at-get_or network.branches b d within)
@@ -217,25 +236,36 @@ stream_within {case} {network} shape b within =
 -- ---- what a line names is there
 
 -- the exchanger that a line declares
-pub own_exchanger : {case : Case} {network : Network} → HasShape case network → (index : ℕ) (name : List ℕ) (hot cold : Source) (duty : Rational) → slice_get network.lines index ≡ Some (line.Exchanger name hot cold duty)
+pub own_exchanger : {case : Case} {network : Network} → HasShape case network → (index : ℕ) (name : List ℕ) (hot cold : Source) (duty : Rational)
+    → slice_get network.lines index ≡ Some (line.Exchanger name hot cold duty)
     → IsExchanger case (record { name = name; hot = hot; cold = cold; duty = duty })
 own_exchanger {case} {network} shape index name hot cold duty here =
-    all_at (IsExchanger case) (exchangers_of network.lines) (length (exchangers_of (take index network.lines))) (record { name = name; hot = hot; cold = cold; duty = duty }) shape.exchangers.each (exchanger_at network.lines index name hot cold duty here)
+    all_at (IsExchanger case) (exchangers_of network.lines) (length (exchangers_of (take index network.lines)))
+    (record { name = name; hot = hot; cold = cold; duty = duty }) shape.exchangers.each (exchanger_at network.lines index name hot cold duty here)
 
-used_known : {case : Case} {network : Network} {index : ℕ} {l : Line} → HasShape case network → StandsAt network.lines index l → (j : ℕ) → j < length (uses l) → get_or (uses l) j 0 < length network.branches
+used_known : {case : Case} {network : Network} {index : ℕ} {l : Line} → HasShape case network → StandsAt network.lines index l → (j : ℕ) → j < length (uses l)
+    → get_or (uses l) j 0 < length network.branches
 used_known {case} {network} {index} {l} shape at j within = omega (arith, shape.made_first index l at.here j 0 within, made_no_more shape.made_once index)
 
-made_known : {case : Case} {network : Network} {index : ℕ} {l : Line} → HasShape case network → StandsAt network.lines index l → (j : ℕ) → j < length (makes l) → get_or (makes l) j 0 < length network.branches
+made_known : {case : Case} {network : Network} {index : ℕ} {l : Line} → HasShape case network → StandsAt network.lines index l → (j : ℕ)
+    → j < length (makes l) → get_or (makes l) j 0 < length network.branches
 made_known shape at j within = omega (arith, made_at shape.made_once at j within, made_within shape.made_once at, within)
 
-exchanger_known : {case : Case} {network : Network} {index from exchanger to : ℕ} → HasShape case network → StandsAt network.lines index (line.Pass from exchanger to) → exchanger < length (exchangers_of network.lines)
+exchanger_known : {case : Case} {network : Network} {index from exchanger to : ℕ} → HasShape case network
+    → StandsAt network.lines index (line.Pass from exchanger to) → exchanger < length (exchangers_of network.lines)
 exchanger_known {case} {network} {index} {from} {exchanger} {to} shape at =
     let l = line.Pass from exchanger to in
     let before = exchangers_of (take index network.lines) in
     let (e, declared, joins) = shape.declared_first index l at.here in
-    omega (arith, slice_get_within before exchanger e declared, ap length (declared_parts at), length-append before (exchangers_of (l ∷ drop (suc index) network.lines)))
+    omega (
+      arith,
+      slice_get_within before exchanger e declared,
+      ap length (declared_parts at),
+      length-append before (exchangers_of (l ∷ drop (suc index) network.lines)),
+    )
 
-pub names-known : (case : Case) (network : Network) → HasShape case network → (index : ℕ) (l : Line) → slice_get network.lines index ≡ Some l → NamesKnown case network l
+pub names-known : (case : Case) (network : Network) → HasShape case network → (index : ℕ) (l : Line) → slice_get network.lines index ≡ Some l
+    → NamesKnown case network l
 names-known case network shape index (line.Exchanger name hot cold duty) here =
     let e = own_exchanger shape index name hot cold duty here in
     (IsSourceOf-side case hot (ap is_some e.hot), IsSourceOf-side case cold (ap is_some e.cold))
@@ -260,7 +290,8 @@ pub record IsLineOf (case : Case) (network : Network) (index : ℕ) (l : Line) :
   pub flow : HasPositiveFlow l
   pub declared : PassesDeclared network.branches (exchangers_of (take index network.lines)) l
 
-pub line_of : {case : Case} {network : Network} → HasShape case network → (index : ℕ) (l : Line) → slice_get network.lines index ≡ Some l → IsLineOf case network index l
+pub line_of : {case : Case} {network : Network} → HasShape case network → (index : ℕ) (l : Line) → slice_get network.lines index ≡ Some l
+    → IsLineOf case network index l
 line_of {case} {network} shape index l here =
     let at = stands_at network.lines index l here in record {
       at = at;
@@ -272,7 +303,8 @@ line_of {case} {network} shape index l here =
     }
 
 -- the line that code reads at an index
-pub line_read : {case : Case} {network : Network} → HasShape case network → (index : ℕ) (l : Line) → index < length network.lines → l ≡ get_or network.lines index l → IsLineOf case network index l
+pub line_read : {case : Case} {network : Network} → HasShape case network → (index : ℕ) (l : Line) → index < length network.lines
+    → l ≡ get_or network.lines index l → IsLineOf case network index l
 line_read {case} {network} shape index l within read = line_of shape index l (slice_get_read network.lines (length network.lines) index l refl within read)
 
 -- ---- the pass of a side
@@ -287,7 +319,9 @@ passage-counts branches exchanger stream (line.Pass from through to) rest = coun
 passage-counts branches exchanger stream (line.Mix first second to) rest = omega arith
 passage-counts branches exchanger stream (line.End branch) rest = omega arith
 
-pub count-passages : (branches : List Branch) (exchanger stream : ℕ) (lines : List Line) → count_by (same_passage (record { exchanger = exchanger; stream = stream })) (passages_of branches lines) ≡ count_by (is_pass_of branches exchanger stream) lines
+pub count-passages : (branches : List Branch) (exchanger stream : ℕ) (lines : List Line)
+    → count_by (same_passage (record { exchanger = exchanger; stream = stream })) (passages_of branches lines)
+    ≡ count_by (is_pass_of branches exchanger stream) lines
 unfolding passages_of
 count-passages branches exchanger stream [] = refl
 count-passages branches exchanger stream (l ∷ lines) =
@@ -302,19 +336,30 @@ pub record IsPassOf (network : Network) (exchanger stream from to index : ℕ) :
   pub found : pass_of network exchanger stream ≡ Some (line.Pass from exchanger to)
   pub only : (other : ℕ) (l : Line) → slice_get network.lines other ≡ Some l → is_pass_of network.branches exchanger stream l ≡ true → other ≡ index
 
-the_pass : (network : Network) (exchanger stream index : ℕ) (l : Line) → IsOnly (is_pass_of network.branches exchanger stream) network.lines index l → (from : ℕ) × (to : ℕ) × IsPassOf network exchanger stream from to index
+the_pass : (network : Network) (exchanger stream index : ℕ) (l : Line) → IsOnly (is_pass_of network.branches exchanger stream) network.lines index l
+    → (from : ℕ) × (to : ℕ) × IsPassOf network exchanger stream from to index
 unfolding pass_of
 the_pass network exchanger stream index (line.Exchanger name hot cold duty) it = cc it.passes
 the_pass network exchanger stream index (line.Split from first cp second) it = cc it.passes
 the_pass network exchanger stream index (line.Pass from through to) it =
     let parts = and_parts (exchanger == through) (stream == stream_at network.branches from) it.passes in
     let same : through ≡ exchanger = grind (arith, nat_tests, parts.0) in
-    let of_stream : stream_at network.branches from ≡ stream = grind (arith, nat_tests, parts.1) in
-    (from, to, record { here = it.here ∙ ap (λ n. Some (line.Pass from n to)) same; of_stream = of_stream; found = it.found ∙ ap (λ n. Some (line.Pass from n to)) same; only = it.only })
+    let of_stream : stream_at network.branches from ≡ stream = grind (arith, nat_tests, parts.1) in (
+      from,
+      to,
+      record {
+        here = it.here ∙ ap (λ n. Some (line.Pass from n to)) same;
+        of_stream = of_stream;
+        found = it.found ∙ ap (λ n. Some (line.Pass from n to)) same;
+        only = it.only;
+      },
+    )
 the_pass network exchanger stream index (line.Mix first second to) it = cc it.passes
 the_pass network exchanger stream index (line.End branch) it = cc it.passes
 
-pub the_pass_of : {case : Case} {network : Network} → HasShape case network → (number stream : ℕ) (e : Exchanger) → slice_get (exchangers_of network.lines) number ≡ Some e → Joins e stream → (from : ℕ) × (to : ℕ) × (index : ℕ) × IsPassOf network number stream from to index
+pub the_pass_of : {case : Case} {network : Network} → HasShape case network → (number stream : ℕ) (e : Exchanger)
+    → slice_get (exchangers_of network.lines) number ≡ Some e → Joins e stream → (from : ℕ) × (to : ℕ) × (index : ℕ)
+    × IsPassOf network number stream from to index
 the_pass_of {case} {network} shape number stream e at joins =
     let once = sym (count-passages network.branches number stream network.lines) ∙ shape.passed_once number stream e at joins in
     let (index, l, it) = found_once (is_pass_of network.branches number stream) network.lines once in

@@ -41,7 +41,8 @@ pub record AreNamed (network : Network) : Type 0 where
 -- the branches of one line are branches of one stream
 abbrev pub IsOfOneStream : List Branch → Line → Type 0
 IsOfOneStream branches (line.Exchanger name hot cold duty) = Unit {0}
-IsOfOneStream branches (line.Split from first cp second) = (stream_at branches first ≡ stream_at branches from) × (stream_at branches second ≡ stream_at branches from)
+IsOfOneStream branches (line.Split from first cp second) = (stream_at branches first ≡ stream_at branches from)
+    × (stream_at branches second ≡ stream_at branches from)
 IsOfOneStream branches (line.Pass from exchanger to) = stream_at branches to ≡ stream_at branches from
 IsOfOneStream branches (line.Mix first second to) = (stream_at branches second ≡ stream_at branches first) × (stream_at branches to ≡ stream_at branches first)
 IsOfOneStream branches (line.End branch) = Unit {0}
@@ -86,7 +87,8 @@ PassesDeclared branches declared (line.Mix first second to) = Unit {0}
 PassesDeclared branches declared (line.End branch) = Unit {0}
 
 abbrev pub ArePassedWhenDeclared : Network → Type 0
-ArePassedWhenDeclared network = (index : ℕ) (l : Line) → slice_get network.lines index ≡ Some l → PassesDeclared network.branches (exchangers_of (take index network.lines)) l
+ArePassedWhenDeclared network = (index : ℕ) (l : Line) → slice_get network.lines index ≡ Some l
+    → PassesDeclared network.branches (exchangers_of (take index network.lines)) l
 
 -- how many lines lead a branch of the stream through the exchanger with this number
 abbrev pub passes : Network → ℕ → ℕ → ℕ
@@ -94,15 +96,18 @@ passes network exchanger stream = count_by (same_passage (record { exchanger = e
 
 -- each side of an exchanger that is a stream is passed exactly once
 abbrev pub ArePassedOnce : Network → Type 0
-ArePassedOnce network = (number stream : ℕ) (e : Exchanger) → slice_get (exchangers_of network.lines) number ≡ Some e → Joins e stream → passes network number stream ≡ 1
+ArePassedOnce network = (number stream : ℕ) (e : Exchanger) → slice_get (exchangers_of network.lines) number ≡ Some e → Joins e stream
+    → passes network number stream ≡ 1
 
 -- ---- what lines name
 
 -- the sources, branches and exchangers of a line are there
 abbrev pub NamesKnown : Case → Network → Line → Type 0
 NamesKnown case network (line.Exchanger name hot cold duty) = IsSourceOf case hot × IsSourceOf case cold
-NamesKnown case network (line.Split from first cp second) = (from < length network.branches) × (first < length network.branches) × (second < length network.branches)
-NamesKnown case network (line.Pass from exchanger to) = (from < length network.branches) × (exchanger < length (exchangers_of network.lines)) × (to < length network.branches)
+NamesKnown case network (line.Split from first cp second) = (from < length network.branches) × (first < length network.branches)
+    × (second < length network.branches)
+NamesKnown case network (line.Pass from exchanger to) = (from < length network.branches) × (exchanger < length (exchangers_of network.lines))
+    × (to < length network.branches)
 NamesKnown case network (line.Mix first second to) = (first < length network.branches) × (second < length network.branches) × (to < length network.branches)
 NamesKnown case network (line.End branch) = branch < length network.branches
 

@@ -17,8 +17,13 @@ word_plain word some passes = record {
   visible = All-weaker (λ b. nat_lt 32 b ≡ true) IsVisible (λ b test. grind (arith, nat_tests, test)) word (AllPass-from_list_all (nat_lt 32) word passes);
 }
 
-pub plain_statement : (word : List ℕ) (fields : Statement) → IsPlainField word → (get_or word 0 0 == 35) ≡ false → AllByRecursion IsPlainField fields → IsPlainStatement (word ∷ fields)
-plain_statement word fields first counts further = record { some = omega arith; each = All-cons IsPlainField word fields first (All-from_recursion IsPlainField fields further); counts = counts }
+pub plain_statement : (word : List ℕ) (fields : Statement) → IsPlainField word → (get_or word 0 0 == 35) ≡ false → AllByRecursion IsPlainField fields
+    → IsPlainStatement (word ∷ fields)
+plain_statement word fields first counts further = record {
+  some = omega arith;
+  each = All-cons IsPlainField word fields first (All-from_recursion IsPlainField fields further);
+  counts = counts;
+}
 
 -- ---- fields
 
@@ -30,7 +35,8 @@ blanks_text (f ∷ fs) = 32 ∷ (f ++ blanks_text fs)
 fields_end : (fs : Statement) (rest : List ℕ) → fields_text fs ++ rest ≡ blanks_text fs ++ 10 ∷ rest
 unfolding fields_text blanks_text
 fields_end [] rest = refl
-fields_end (f ∷ fs) rest = ap (λ t. 32 ∷ t) (append_assoc f (fields_text fs) rest ∙ ap (λ t. f ++ t) (fields_end fs rest) ∙ sym (append_assoc f (blanks_text fs) (10 ∷ rest)))
+fields_end (f ∷ fs) rest = ap (λ t. 32 ∷ t)
+    (append_assoc f (fields_text fs) rest ∙ ap (λ t. f ++ t) (fields_end fs rest) ∙ sym (append_assoc f (blanks_text fs) (10 ∷ rest)))
 
 -- a byte that is visible is no blank
 not_blank : (b : ℕ) → IsVisible b → is_blank b ≡ false
@@ -108,18 +114,22 @@ unfolding is_statement
 counts_statement f fs plain = let counts = plain.counts in grind (arith, nat_tests)
 
 -- a line comes before those of the rest
-one_line : (f : List ℕ) (fs : Statement) (rest : List ℕ) → All IsPlainField (f ∷ fs) → map fields_of (lines (statement_text (f ∷ fs) ++ rest)) ≡ (f ∷ fs) ∷ map fields_of (lines rest)
+one_line : (f : List ℕ) (fs : Statement) (rest : List ℕ) → All IsPlainField (f ∷ fs)
+    → map fields_of (lines (statement_text (f ∷ fs) ++ rest)) ≡ (f ∷ fs) ∷ map fields_of (lines rest)
 one_line f fs rest plain =
-    let text : statement_text (f ∷ fs) ++ rest ≡ (f ++ blanks_text fs) ++ 10 ∷ rest = append_assoc f (fields_text fs) rest ∙ ap (λ t. f ++ t) (fields_end fs rest) ∙ sym (append_assoc f (blanks_text fs) (10 ∷ rest)) in
+    let text : statement_text (f ∷ fs) ++ rest ≡ (f ++ blanks_text fs) ++ 10 ∷ rest = append_assoc f (fields_text fs) rest
+    ∙ ap (λ t. f ++ t) (fields_end fs rest) ∙ sym (append_assoc f (blanks_text fs) (10 ∷ rest)) in
     let line = All-append IsOfLine f (blanks_text fs) (of_line f (All-head IsPlainField f fs plain)) (blanks_line fs (All-tail IsPlainField f fs plain)) in
     ap (map fields_of) (ap lines text ∙ first_line (f ++ blanks_text fs) rest line) ∙ ap (λ s. s ∷ map fields_of (lines rest)) (fields_back f fs plain)
 
-one_more : (f : List ℕ) (fs : Statement) (rest : List ℕ) → IsPlainStatement (f ∷ fs) → statements_of (statement_text (f ∷ fs) ++ rest) ≡ (f ∷ fs) ∷ statements_of rest
+one_more : (f : List ℕ) (fs : Statement) (rest : List ℕ) → IsPlainStatement (f ∷ fs)
+    → statements_of (statement_text (f ∷ fs) ++ rest) ≡ (f ∷ fs) ∷ statements_of rest
 unfolding statements_of
 one_more f fs rest plain = ap (filter is_statement) (one_line f fs rest plain.each) ∙ rw (counts_statement f fs plain) refl
 
 -- a line whose first field begins with `#` is passed over
-pub comment-back : (f : List ℕ) (fs : Statement) (rest : List ℕ) → All IsPlainField (f ∷ fs) → is_statement (f ∷ fs) ≡ false → statements_of (statement_text (f ∷ fs) ++ rest) ≡ statements_of rest
+pub comment-back : (f : List ℕ) (fs : Statement) (rest : List ℕ) → All IsPlainField (f ∷ fs) → is_statement (f ∷ fs) ≡ false
+    → statements_of (statement_text (f ∷ fs) ++ rest) ≡ statements_of rest
 unfolding statements_of
 comment-back f fs rest plain comment = ap (filter is_statement) (one_line f fs rest plain) ∙ rw comment refl
 

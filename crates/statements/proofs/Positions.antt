@@ -22,7 +22,8 @@ lt-list_any : {X : Type 0} (p : X → Bool) (xs : List X) → nat_lt (position_o
 lt-list_any p [] = refl
 lt-list_any p (x ∷ xs) = by (p x) refl (lt-list_any p xs)
   where
-    by : (b : Bool) → p x ≡ b → nat_lt (position_or_len p xs) (length xs) ≡ list_any p xs → nat_lt (position_or_len p (x ∷ xs)) (length (x ∷ xs)) ≡ list_any p (x ∷ xs)
+    by : (b : Bool) → p x ≡ b → nat_lt (position_or_len p xs) (length xs) ≡ list_any p xs
+        → nat_lt (position_or_len p (x ∷ xs)) (length (x ∷ xs)) ≡ list_any p (x ∷ xs)
     by true e rest = let some : nat_lt 0 (suc (length xs)) ≡ true = grind (arith, nat_tests) in rw (e, some) refl
     by false e rest = rw (e, shifted (position_or_len p xs) (length xs)) rest
 

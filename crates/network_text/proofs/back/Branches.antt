@@ -58,7 +58,8 @@ module _ {case : Case} {network : Network} (readable : IsReadable case network) 
   unfolding branch_named branch_name
   used_named b early =
       let m = made_before case network index in
-      let found = found_in_front (names_of network.branches) m b readable.shape.named.distinct early (omega (arith, made_no_more readable.shape.made_once index, many_names network)) in
+      let found = found_in_front (names_of network.branches) m b readable.shape.named.distinct early
+      (omega (arith, made_no_more readable.shape.made_once index, many_names network)) in
       ap (position (bytes_eq (branch_name network b))) front_names ∙ found
 
   not_used : (j : ℕ) → j < length (uses l) → is_used (front case network index) (get_or (uses l) j 0) ≡ false

@@ -42,18 +42,22 @@ statements_give : {case : Case} {network : Network} → IsReadable case network 
 statements_give {case} {network} readable =
     let follows = λ (i : ℕ) (l : Line) (at : slice_get network.lines i ≡ Some l). line_follows readable l (line_of readable.shape i l at) in
     let first = nothing_gives (grammar case) (front case network 0) (front-start readable) in
-    subst (Give (grammar case) (map (statement_of case network) network.lines)) (front-last readable.shape.made_once) (all_give_at (grammar case) (statement_of case network) (front case network) [] network.lines follows first)
+    subst (Give (grammar case) (map (statement_of case network) network.lines)) (front-last readable.shape.made_once)
+    (all_give_at (grammar case) (statement_of case network) (front case network) [] network.lines follows first)
 
 -- ---- no pass is missing
 
-none_missed : {case : Case} {network : Network} → HasShape case network → (number : ℕ) (e : Exchanger) → slice_get (exchangers_of network.lines) number ≡ Some e → (s : Source) → ((stream : ℕ) → s ≡ source.Stream stream → Joins e stream) → is_missed network number s ≡ false
+none_missed : {case : Case} {network : Network} → HasShape case network → (number : ℕ) (e : Exchanger)
+    → slice_get (exchangers_of network.lines) number ≡ Some e → (s : Source) → ((stream : ℕ) → s ≡ source.Stream stream → Joins e stream)
+    → is_missed network number s ≡ false
 unfolding is_passed
 none_missed shape number e at (source.Utility i) joins = refl
 none_missed {network = network} shape number e at (source.Stream i) joins =
     let once = shape.passed_once number i e at (joins i refl) in
     ap not (some_counted (same_passage (record { exchanger = number; stream = i })) (passages_of network.branches network.lines) (omega (arith, once)))
 
-no_side_missed : {case : Case} {network : Network} → HasShape case network → (index : ℕ) (l : Line) → slice_get network.lines index ≡ Some l → misses_pass network index ≡ false
+no_side_missed : {case : Case} {network : Network} → HasShape case network → (index : ℕ) (l : Line) → slice_get network.lines index ≡ Some l
+    → misses_pass network index ≡ false
 unfolding misses_pass
 no_side_missed {network = network} shape index (line.Exchanger name hot cold duty) here =
     let e : Exchanger = record { name = name; hot = hot; cold = cold; duty = duty } in
@@ -84,7 +88,8 @@ shape-is_network case network complete shape counts =
     let give = statements_give (let readable : IsReadable case network = record { valid = valid; shape = shape; counts = counts } in readable) in
     let is : IsNetwork case (map (statement_of case network) network.lines) network = record {
       sound = give.sound;
-      complete = ap (λ n. option_map (λ index. (index + 1, why.MissingPass)) (first_missing n)) (sym give.given_is) ∙ ap (option_map (λ index. (index + 1, why.MissingPass))) (none-missing shape);
+      complete = ap (λ n. option_map (λ index. (index + 1, why.MissingPass)) (first_missing n)) (sym give.given_is)
+          ∙ ap (option_map (λ index. (index + 1, why.MissingPass))) (none-missing shape);
       value_is = give.given_is;
     } in
     let back = statements-back (map (statement_of case network) network.lines) (statements_plain valid shape) in

@@ -45,7 +45,8 @@ record Says (case : Case) (given : Network) (s : Statement) (e : Entry) : Type 0
   passes : first_failing (checks case given s) ≡ None
   gives : entry_in case given s ≡ Some e
 
-passes_of : (case : Case) (given : Network) (s : Statement) (k : Kind) → length given.lines < MOST_STATEMENTS → kind_of s ≡ Some k → Passes (kind_checks (Some k) case given s) → first_failing (checks case given s) ≡ None
+passes_of : (case : Case) (given : Network) (s : Statement) (k : Kind) → length given.lines < MOST_STATEMENTS → kind_of s ≡ Some k
+    → Passes (kind_checks (Some k) case given s) → first_failing (checks case given s) ≡ None
 unfolding checks
 passes_of case given s k room is passes =
     let few : nat_lt (length given.lines) MOST_STATEMENTS ≡ true = grind (arith, nat_tests, room) in
@@ -65,7 +66,11 @@ unfolding fraction
 is_read a positive =
     let back = fraction-back a positive.within in
     let value = ap (λ o. unwrap_or o rational_zero) back in
-    record { some = ap is_some back; value = value; above = ap (is_below rational_zero) value ∙ (Decides-is_below rational_zero a).1 (positive-is a positive.above) }
+    record {
+      some = ap is_some back;
+      value = value;
+      above = ap (is_below rational_zero) value ∙ (Decides-is_below rational_zero a).1 (positive-is a positive.above);
+    }
 
 -- a source on a side
 record IsFoundOn (case : Case) (of : Side) (s : Source) : Type 0 where
@@ -83,7 +88,9 @@ found_on {case} readable of s on =
 -- ---- each kind
 
 module _ {case : Case} {network : Network} (readable : IsReadable case network) {index : ℕ} where
-  exchanger_says : (name : List ℕ) (hot cold : Source) (duty : Rational) → IsLineOf case network index (line.Exchanger name hot cold duty) → Says case (front case network index) (statement_of case network (line.Exchanger name hot cold duty)) (entry_of network (line.Exchanger name hot cold duty))
+  exchanger_says : (name : List ℕ) (hot cold : Source) (duty : Rational) → IsLineOf case network index (line.Exchanger name hot cold duty)
+      → Says case (front case network index) (statement_of case network (line.Exchanger name hot cold duty))
+      (entry_of network (line.Exchanger name hot cold duty))
   unfolding entry_in kind_checks exchanger_checks exchanger_field_checks new_exchanger_checks source_checks fraction_checks
   exchanger_says name hot cold duty of =
       let given = front case network index in
@@ -94,12 +101,21 @@ module _ {case : Case} {network : Network} (readable : IsReadable case network) 
       let heat = is_read duty e.sound.duty in
       let count : nat_lt (length (exchangers_of given.lines)) MOST_EXCHANGERS ≡ true = let few = e.few in grind (arith, nat_tests) in
       record {
-        passes = passes_of case given s kind.Exchanger (room readable of) refl
-            (refl, (count, (name-passes name e.sound.name, (e.free, (and_from _ _ given_hot.known given_cold.known, (and_from _ _ given_hot.on given_cold.on, (heat.some, (heat.above, tt))))))));
+        passes = passes_of case given s kind.Exchanger (room readable of) refl (
+          refl,
+          (
+            count,
+            (
+              name-passes name e.sound.name,
+              (e.free, (and_from _ _ given_hot.known given_cold.known, (and_from _ _ given_hot.on given_cold.on, (heat.some, (heat.above, tt))))),
+            ),
+          ),
+        );
         gives = λ i. Some (record { line = line.Exchanger name (given_hot.at i) (given_cold.at i) (heat.value i); names = few.Nothing });
       }
 
-  split_says : (from first : ℕ) (cp : Rational) (second : ℕ) → IsLineOf case network index (line.Split from first cp second) → Says case (front case network index) (statement_of case network (line.Split from first cp second)) (entry_of network (line.Split from first cp second))
+  split_says : (from first : ℕ) (cp : Rational) (second : ℕ) → IsLineOf case network index (line.Split from first cp second)
+      → Says case (front case network index) (statement_of case network (line.Split from first cp second)) (entry_of network (line.Split from first cp second))
   unfolding entry_in kind_checks split_checks used_branch_checks new_branch_checks fraction_checks branch_name
   split_says from first cp second of =
       let given = front case network index in
@@ -115,12 +131,25 @@ module _ {case : Case} {network : Network} (readable : IsReadable case network) 
       let apart = other_name (branch_name network second) (branch_name network first) (readable.shape.named.distinct first second [] before within) in
       let first_is : length given.branches ≡ first = omega (arith, number) in
       record {
-        passes = passes_of case given s kind.Split (room readable of) refl
-            (refl, (from_used.known, (ap (λ b. not (is_used given b)) from_used.at ∙ from_used.unused, (one.is, (one.free, (flow.some, (flow.above, (two.is, (two.free, (ap not apart, tt))))))))));
-        gives = λ i. Some (record { line = line.Split (from_used.at i) (first_is i) (flow.value i) (number_two i); names = few.Two (branch_name network first) (branch_name network second) });
+        passes = passes_of case given s kind.Split (room readable of) refl (
+          refl,
+          (
+            from_used.known,
+            (
+              ap (λ b. not (is_used given b)) from_used.at
+                  ∙ from_used.unused,
+              (one.is, (one.free, (flow.some, (flow.above, (two.is, (two.free, (ap not apart, tt))))))),
+            ),
+          ),
+        );
+        gives = λ i. Some (record {
+          line = line.Split (from_used.at i) (first_is i) (flow.value i) (number_two i);
+          names = few.Two (branch_name network first) (branch_name network second);
+        });
       }
 
-  pass_says : (from exchanger to : ℕ) → IsLineOf case network index (line.Pass from exchanger to) → Says case (front case network index) (statement_of case network (line.Pass from exchanger to)) (entry_of network (line.Pass from exchanger to))
+  pass_says : (from exchanger to : ℕ) → IsLineOf case network index (line.Pass from exchanger to)
+      → Says case (front case network index) (statement_of case network (line.Pass from exchanger to)) (entry_of network (line.Pass from exchanger to))
   unfolding entry_in kind_checks pass_checks used_branch_checks passed_checks new_branch_checks
   pass_says from exchanger to of =
       let given = front case network index in
@@ -136,7 +165,8 @@ module _ {case : Case} {network : Network} (readable : IsReadable case network) 
         gives = λ i. Some (record { line = line.Pass (from_used.at i) (through.at i) (number i); names = few.One (branch_name network to) });
       }
 
-  mix_says : (first second to : ℕ) → IsLineOf case network index (line.Mix first second to) → Says case (front case network index) (statement_of case network (line.Mix first second to)) (entry_of network (line.Mix first second to))
+  mix_says : (first second to : ℕ) → IsLineOf case network index (line.Mix first second to)
+      → Says case (front case network index) (statement_of case network (line.Mix first second to)) (entry_of network (line.Mix first second to))
   unfolding entry_in kind_checks mix_checks used_branch_checks mixed_checks new_branch_checks
   mix_says first second to of =
       let given = front case network index in
@@ -149,16 +179,27 @@ module _ {case : Case} {network : Network} (readable : IsReadable case network) 
       let differ = two_used readable of first second refl in
       let other : (second == first) ≡ false = grind (arith, nat_tests, differ) in
       let apart = (λ i. not (two.at i == one.at i)) ∙ ap not other in
-      let same : stream_at given.branches first ≡ stream_at given.branches second = stream_at-take network.branches m first (of.numbers.used 0 0 (omega arith)) ∙ sym of.one_stream.0 ∙ sym (stream_at-take network.branches m second (of.numbers.used 1 0 (omega arith))) in
+      let same : stream_at given.branches first ≡ stream_at given.branches second = stream_at-take network.branches m first
+      (of.numbers.used 0 0 (omega arith)) ∙ sym of.one_stream.0 ∙ sym (stream_at-take network.branches m second (of.numbers.used 1 0 (omega arith))) in
       let one_stream : (stream_at given.branches first == stream_at given.branches second) ≡ true = grind (arith, nat_tests, same) in
       let mixed = (λ i. stream_at given.branches (one.at i) == stream_at given.branches (two.at i)) ∙ one_stream in
       record {
-        passes = passes_of case given s kind.Mix (room readable of) refl
-            (refl, (one.known, (ap (λ b. not (is_used given b)) one.at ∙ one.unused, (two.known, (ap (λ b. not (is_used given b)) two.at ∙ two.unused, (apart, (mixed, (result.is, (result.free, tt)))))))));
+        passes = passes_of case given s kind.Mix (room readable of) refl (
+          refl,
+          (
+            one.known,
+            (
+              ap (λ b. not (is_used given b)) one.at
+                  ∙ one.unused,
+              (two.known, (ap (λ b. not (is_used given b)) two.at ∙ two.unused, (apart, (mixed, (result.is, (result.free, tt)))))),
+            ),
+          ),
+        );
         gives = λ i. Some (record { line = line.Mix (one.at i) (two.at i) (number i); names = few.One (branch_name network to) });
       }
 
-  end_says : (branch : ℕ) → IsLineOf case network index (line.End branch) → Says case (front case network index) (statement_of case network (line.End branch)) (entry_of network (line.End branch))
+  end_says : (branch : ℕ) → IsLineOf case network index (line.End branch)
+      → Says case (front case network index) (statement_of case network (line.End branch)) (entry_of network (line.End branch))
   unfolding entry_in kind_checks end_checks used_branch_checks
   end_says branch of =
       let given = front case network index in
@@ -176,5 +217,7 @@ module _ {case : Case} {network : Network} (readable : IsReadable case network) 
   says (line.Mix first second to) of = mix_says first second to of
   says (line.End branch) of = end_says branch of
 
-  pub line_follows : (l : Line) → IsLineOf case network index l → Follows (grammar case) (front case network index) (statement_of case network l) (front case network (suc index))
-  line_follows l of = let is = says l of in record { passes = is.passes; next_is = sym (front-next of) ∙ sym (ap (with_any (front case network index)) is.gives) }
+  pub line_follows : (l : Line) → IsLineOf case network index l
+      → Follows (grammar case) (front case network index) (statement_of case network l) (front case network (suc index))
+  line_follows l of = let is = says l of in
+      record { passes = is.passes; next_is = sym (front-next of) ∙ sym (ap (with_any (front case network index)) is.gives) }

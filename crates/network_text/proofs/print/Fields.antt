@@ -54,7 +54,8 @@ no_slash text bytes = All-weaker IsNumberByte (λ b. is_slash b ≡ false) (λ b
 slash_place : (front back : List ℕ) → All (λ b. is_slash b ≡ false) front → position_or_len is_slash (front ++ 47 ∷ back) ≡ length front
 slash_place front back none =
     let long = length-append front (47 ∷ back) in
-    position_or_len_is is_slash (front ++ 47 ∷ back) (length front) 0 (omega (arith, long)) (λ k early. rw (get_or_append_left front (47 ∷ back) 0 k early) (none k 0 early)) (λ within. rw (get_or_at front 47 back 0 (length front) refl) refl)
+    position_or_len_is is_slash (front ++ 47 ∷ back) (length front) 0 (omega (arith, long))
+    (λ k early. rw (get_or_append_left front (47 ∷ back) 0 k early) (none k 0 early)) (λ within. rw (get_or_at front 47 back 0 (length front) refl) refl)
 
 before_slash : (front back : List ℕ) → All (λ b. is_slash b ≡ false) front → before_first is_slash (front ++ 47 ∷ back) ≡ front
 before_slash front back none = ap (λ n. take n (front ++ 47 ∷ back)) (slash_place front back none) ∙ take_at front (47 ∷ back) (length front) refl
@@ -97,7 +98,11 @@ fraction-back a within = by (a.den == 1) refl
         rw (all_before (signed_decimal a.num) none, whole, numerator_read a within) (bounded_back a within 1 den)
     by false other =
         let none = no_slash (signed_decimal a.num) (signed_bytes a.num (short a within)) in
-        rw (before_slash (signed_decimal a.num) (decimal a.den) none, numerator_read a within, denominator_read (signed_decimal a.num) a.den none (omega (arith, within.den))) (bounded_back a within a.den refl)
+        rw (
+          before_slash (signed_decimal a.num) (decimal a.den) none,
+          numerator_read a within,
+          denominator_read (signed_decimal a.num) a.den none (omega (arith, within.den)),
+        ) (bounded_back a within a.den refl)
 
 -- and a plain field
 pub fraction_plain : (a : Rational) → IsWithinLimits a → IsPlainField (fraction_text a)

@@ -91,13 +91,40 @@ module _ {case : Case} {network : Network} (valid : StaysValid case) (shape : Ha
   line_short : {index : ℕ} (l : Line) → IsLineOf case network index l → length (statement_text (statement_of case network l)) ≤ LONGEST_LINE
   line_short {index} (line.Exchanger name hot cold duty) of =
       let e = own_exchanger shape index name hot cold duty of.at.here in
-      omega (arith, statement_length (codes "exchanger") (name ∷ source_name case hot ∷ source_name case cold ∷ fraction_text duty ∷ []), name_short name e.name, source_short hot of.known.0, source_short cold of.known.1, fraction_short duty e.duty)
+      omega (
+        arith,
+        statement_length (codes "exchanger") (name ∷ source_name case hot ∷ source_name case cold ∷ fraction_text duty ∷ []),
+        name_short name e.name,
+        source_short hot of.known.0,
+        source_short cold of.known.1,
+        fraction_short duty e.duty,
+      )
   line_short (line.Split from first cp second) of =
-      omega (arith, statement_length (codes "split") (branch_name network from ∷ branch_name network first ∷ fraction_text cp ∷ branch_name network second ∷ []), branch_short from of.known.0, branch_short first of.known.1, fraction_short cp of.flow, branch_short second of.known.2)
+      omega (
+        arith,
+        statement_length (codes "split")
+            (branch_name network from ∷ branch_name network first ∷ fraction_text cp ∷ branch_name network second ∷ []),
+        branch_short from of.known.0,
+        branch_short first of.known.1,
+        fraction_short cp of.flow,
+        branch_short second of.known.2,
+      )
   line_short (line.Pass from exchanger to) of =
-      omega (arith, statement_length (codes "pass") (branch_name network from ∷ exchanger_name network exchanger ∷ branch_name network to ∷ []), branch_short from of.known.0, exchanger_short exchanger of.known.1, branch_short to of.known.2)
+      omega (
+        arith,
+        statement_length (codes "pass") (branch_name network from ∷ exchanger_name network exchanger ∷ branch_name network to ∷ []),
+        branch_short from of.known.0,
+        exchanger_short exchanger of.known.1,
+        branch_short to of.known.2,
+      )
   line_short (line.Mix first second to) of =
-      omega (arith, statement_length (codes "mix") (branch_name network first ∷ branch_name network second ∷ branch_name network to ∷ []), branch_short first of.known.0, branch_short second of.known.1, branch_short to of.known.2)
+      omega (
+        arith,
+        statement_length (codes "mix") (branch_name network first ∷ branch_name network second ∷ branch_name network to ∷ []),
+        branch_short first of.known.0,
+        branch_short second of.known.1,
+        branch_short to of.known.2,
+      )
   line_short (line.End branch) of = omega (arith, statement_length (codes "end") (branch_name network branch ∷ []), branch_short branch of.known)
 
   pub text-short : length (text_of case network) ≤ LONGEST_LINE * length network.lines

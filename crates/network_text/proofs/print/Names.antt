@@ -15,18 +15,21 @@ use Rattle.networks.specs.declared.network.Network.{Network}
 use Rattle.networks.proofs.Lists.{AllPairs-take}
 use Rattle.network_text.specs.Printed.{branch_name, exchanger_name, exchanger_names}
 
-pub found_in_front : (names : List (List ℕ)) (m i : ℕ) → AllPairs (λ a b. a ≢ b) names → i < m → m ≤ length names → position (bytes_eq (get_or names i [])) (take m names) ≡ Some i
+pub found_in_front : (names : List (List ℕ)) (m i : ℕ) → AllPairs (λ a b. a ≢ b) names → i < m → m ≤ length names
+    → position (bytes_eq (get_or names i [])) (take m names) ≡ Some i
 found_in_front names m i distinct early within =
     let front = AllPairs-take (λ (a b : List ℕ). a ≢ b) m names distinct in
     let short = length-take-le m names within in
     ap (λ name. position (bytes_eq name) (take m names)) (sym (get_or-take m names i [] early)) ∙ place_of (take m names) i front (omega (arith, short, early))
 
-pub none_in_front : (names : List (List ℕ)) (m i : ℕ) → AllPairs (λ a b. a ≢ b) names → m ≤ i → i < length names → position (bytes_eq (get_or names i [])) (take m names) ≡ None
+pub none_in_front : (names : List (List ℕ)) (m i : ℕ) → AllPairs (λ a b. a ≢ b) names → m ≤ i → i < length names
+    → position (bytes_eq (get_or names i [])) (take m names) ≡ None
 none_in_front names m i distinct late within =
     no_place_of (take m names) (get_or names i []) (λ k d inside.
     let short = length-take-le m names (omega (arith, late, within)) in
     let early : k < m = omega (arith, inside, short) in
-    λ same. distinct k i [] (omega (arith, early, late)) within (get_or_default names k [] d (omega (arith, early, late, within)) ∙ sym (get_or-take m names k d early) ∙ same))
+    λ same. distinct k i [] (omega (arith, early, late)) within
+    (get_or_default names k [] d (omega (arith, early, late, within)) ∙ sym (get_or-take m names k d early) ∙ same))
 
 -- ---- the names of branches and of exchangers
 
@@ -34,7 +37,8 @@ pub many_names : (network : Network) → length (names_of network.branches) ≡ 
 unfolding names_of
 many_names network = length-map network.branches (λ (b : Branch). b.name)
 
-pub branch_name-at : (network : Network) (number : ℕ) (b : Branch) → number < length network.branches → b ≡ get_or network.branches number b → b.name ≡ branch_name network number
+pub branch_name-at : (network : Network) (number : ℕ) (b : Branch) → number < length network.branches → b ≡ get_or network.branches number b
+    → b.name ≡ branch_name network number
 unfolding branch_name names_of
 branch_name-at network number b within here = ap (λ (x : Branch). x.name) here ∙ sym (get_or-map (λ (x : Branch). x.name) network.branches number b [] within)
 
@@ -48,7 +52,8 @@ declared [] = refl
 declared (l ∷ lines) = by (exchanger_of l) (declared lines)
   where
     by : (o : Option Exchanger) → filter_map (λ l. option_map (λ e. e.name) (exchanger_of l)) lines ≡ map (λ e. e.name) (filter_map exchanger_of lines)
-        → cons_option (option_map (λ e. e.name) o) (filter_map (λ l. option_map (λ e. e.name) (exchanger_of l)) lines) ≡ map (λ e. e.name) (cons_option o (filter_map exchanger_of lines))
+        → cons_option (option_map (λ e. e.name) o) (filter_map (λ l. option_map (λ e. e.name) (exchanger_of l)) lines) ≡ map (λ e. e.name)
+        (cons_option o (filter_map exchanger_of lines))
     by None rest = rest
     by (Some e) rest = ap (λ names. e.name ∷ names) rest
 
@@ -61,7 +66,8 @@ pub branch_named : {case : Case} {network : Network} → HasShape case network �
 unfolding branch_name
 branch_named {network = network} shape b within = shape.named.names b [] (omega (arith, within, many_names network))
 
-pub exchanger_named : {case : Case} {network : Network} → HasShape case network → (number : ℕ) → number < length (exchangers_of network.lines) → IsName (exchanger_name network number)
+pub exchanger_named : {case : Case} {network : Network} → HasShape case network → (number : ℕ) → number < length (exchangers_of network.lines)
+    → IsName (exchanger_name network number)
 unfolding exchanger_names
 exchanger_named {network = network} shape number within =
     let names = All-map IsName (λ (e : Exchanger). e.name) (exchangers_of network.lines) (λ k d inside. (shape.exchangers.each k d inside).name) in

@@ -24,7 +24,8 @@ pub record HasShapeSoFar (case : Case) (network : Network) : Type 0 where
   pub declared_first : ArePassedWhenDeclared network
   pub at_most_once : (exchanger stream : ℕ) → passes network exchanger stream ≤ 1
 
--- a fresh entry whose branches take the next numbers, of branches of one stream, with an exchanger of the case, a flow above 0, and a side of a declared exchanger
+-- a fresh entry whose branches take the next numbers, of branches of one stream,
+-- with an exchanger of the case, a flow above 0, and a side of a declared exchanger
 pub record Adds (case : Case) (given : Network) (entry : Entry) : Type 0 where
   pub fresh : IsFresh given entry
   pub numbers : makes entry.line ≡ range_with_len (length given.branches) (length (members entry.names))

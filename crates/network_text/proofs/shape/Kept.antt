@@ -30,7 +30,9 @@ exchangers_kept : {case : Case} {given : Network} {e : Entry} → HasShapeSoFar 
 unfolding with_entry
 exchangers_kept {case} {given} {e} shape adds =
     let all = sym (exchangers_of-push given.lines e.line) in record {
-      each = subst (All (IsExchanger case)) all (All-append (IsExchanger case) (exchangers_of given.lines) (option_to_list (exchanger_of e.line)) shape.exchangers.each (each_of case (exchanger_of e.line) adds.exchanger));
+      each = subst (All (IsExchanger case)) all
+          (All-append (IsExchanger case) (exchangers_of given.lines) (option_to_list (exchanger_of e.line)) shape.exchangers.each
+          (each_of case (exchanger_of e.line) adds.exchanger));
       distinct = subst (AllPairs (λ (a b : Exchanger). a.name ≢ b.name)) all adds.fresh.new_exchanger;
     }
 
@@ -73,12 +75,15 @@ shape_next case given s shape passes =
     subst (λ o. HasShapeSoFar case (with_any given o)) (sym is) (kept shape adds)
 
 -- so what sound statements give has it
-pub shape_so_far : {case : Case} {statements : List Statement} {given : Network} → StaysValid case → Give (grammar case) statements given → HasShapeSoFar case given
+pub shape_so_far : {case : Case} {statements : List Statement} {given : Network} → StaysValid case → Give (grammar case) statements given
+    → HasShapeSoFar case given
 shape_so_far {case} {statements} {given} valid give =
-    subst (HasShapeSoFar case) (sym give.given_is) (given_has (grammar case) (HasShapeSoFar case) (shape_first case valid) (shape_next case) statements give.sound)
+    subst (HasShapeSoFar case) (sym give.given_is)
+    (given_has (grammar case) (HasShapeSoFar case) (shape_first case valid) (shape_next case) statements give.sound)
 
 -- what a sound statement gives may be added
-pub adds_next : {case : Case} {given : Network} {e : Entry} → HasShapeSoFar case given → (s : Statement) → Passes (checks case given s) → entry_in case given s ≡ Some e → Adds case given e
+pub adds_next : {case : Case} {given : Network} {e : Entry} → HasShapeSoFar case given → (s : Statement) → Passes (checks case given s)
+    → entry_in case given s ≡ Some e → Adds case given e
 adds_next {case} {given} {e} shape s passes gives =
     let (other, is, adds) = added case given s shape passes in
     subst (Adds case given) (same_Some other e (sym is ∙ gives)) adds

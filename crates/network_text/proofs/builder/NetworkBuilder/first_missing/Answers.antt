@@ -34,7 +34,8 @@ loop-index-preserved c =
     let within = rw lines at c.loop-index-test.true in
     let here = rw lines at c.line-item.is in
     let missing = missing-at n c.loop-index.index c.loop-index.exchanger l within here c.loop-index.invariant.count in
-    let none = below_more (λ k. misses_pass n k ≡ false) c.loop-index.index c.loop-index.invariant.none (missing ∙ sym c.misses_side.ensures ∙ c.if-misses_side.false) in
+    let none = below_more (λ k. misses_pass n k ≡ false) c.loop-index.index c.loop-index.invariant.none
+    (missing ∙ sym c.misses_side.ensures ∙ c.if-misses_side.false) in
     elim c.if-is_exchanger.branch [
       | then-is_exchanger w ↦
           let more = count-more n.lines c.loop-index.index l true within here (sym c.is_exchanger.ensures ∙ w.if-is_exchanger.true) in
