@@ -1,12 +1,9 @@
-pub mod Lists
-pub mod Counts
-pub mod OfShape
 pub mod NameTests
 pub mod Bounds
-pub mod LineCuts
-pub mod LineLaws
 pub mod Missing
 pub mod Tables
 pub mod OwnBranches
 pub mod shape
 pub mod Reading
+pub mod print
+pub mod back

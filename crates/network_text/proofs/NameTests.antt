@@ -50,6 +50,7 @@ name_made None text h = sym (no_name-fails text h)
 name_made (Some name) text h = sym (branch_name-passes text h.0)
 
 -- an undotted name that was made may also name a branch
-pub name_given : (o : Option (List ℕ)) (text : List ℕ) → is_some o ≡ is_name text → IfSome o (λ name. name ≡ text) → IfSome o (λ name. is_branch_name name ≡ true)
+pub name_given : (o : Option (List ℕ)) (text : List ℕ) → is_some o ≡ is_name text → IfSome o (λ name. name ≡ text)
+    → IfSome o (λ name. is_branch_name name ≡ true)
 name_given None text some is = is
 name_given (Some name) text some is = ap is_branch_name is ∙ name-branch_name text (sym some)

@@ -16,10 +16,10 @@ use Rattle.stream_case.specs.declared.utility.Utility.{Utility}
 use Rattle.stream_case.proofs.CaseLemmas.{length-AreStreams}
 use Rattle.stream_case.proofs.CompleteLemmas.{StaysValid}
 use Rattle.stream_case.proofs.DistinctLemmas.{AllPairs-before, other_name}
-use Rattle.network_text.specs.Lines.{exchangers_of, own_branches, passages_of, used_by}
+use Rattle.networks.specs.Lines.{exchangers_of, own_branches, passages_of, used_by}
 use Rattle.network_text.specs.Given.{start}
 use Rattle.network_text.specs.Building.{IsTracked, named_branch, own_entries, own_entry}
-use Rattle.network_text.proofs.Lists.{All-front, enumerate_from-push}
+use Rattle.networks.proofs.Lists.{All-front, enumerate_from-push}
 use Rattle.network_text.proofs.Tables.{so_far}
 
 own_keys : (streams : List Stream) → keys_of (own_entries streams) ≡ map (λ (s : Stream). s.name) streams
@@ -30,7 +30,8 @@ own_keys streams =
     ∙ ap (map (λ (s : Stream). s.name)) (map-enumerate_from_item 0 streams)
 
 -- one stream more
-pub own_entries-more : (streams : List Stream) (i : ℕ) (s : Stream) → i < length streams → get_or streams i s ≡ s → own_entries (take (i + 1) streams) ≡ own_entries (take i streams) ++ (s.name, i) ∷ []
+pub own_entries-more : (streams : List Stream) (i : ℕ) (s : Stream) → i < length streams → get_or streams i s ≡ s
+    → own_entries (take (i + 1) streams) ≡ own_entries (take i streams) ++ (s.name, i) ∷ []
 unfolding own_entries
 own_entries-more streams i s within here =
     let more = take_more streams i s within ∙ ap (λ x. take i streams ++ x ∷ []) here in
@@ -40,14 +41,16 @@ own_entries-more streams i s within here =
     ∙ map-append own_entry (enumerate_from 0 (take i streams)) ((i, s) ∷ [])
 
 -- its name is none of those before it
-pub own_entries-new : (streams : List Stream) (i : ℕ) (s : Stream) → i < length streams → get_or streams i s ≡ s → AllPairs (λ a b. a ≢ b) (map (λ (s : Stream). s.name) streams) → list_any (bytes_eq s.name) (keys_of (own_entries (take i streams))) ≡ false
+pub own_entries-new : (streams : List Stream) (i : ℕ) (s : Stream) → i < length streams → get_or streams i s ≡ s
+    → AllPairs (λ a b. a ≢ b) (map (λ (s : Stream). s.name) streams) → list_any (bytes_eq s.name) (keys_of (own_entries (take i streams))) ≡ false
 own_entries-new streams i s within here distinct =
     let names = map (λ (t : Stream). t.name) streams in
     let inside : i < length names = omega (arith, within, length-map streams (λ (t : Stream). t.name)) in
     let name : get_or names i [] ≡ s.name = get_or-map (λ (t : Stream). t.name) streams i s [] within ∙ ap (λ (t : Stream). t.name) here in
     let earlier = subst (λ n. All (λ m. m ≢ n) (take i names)) name (AllPairs-before (λ (a b : List ℕ). a ≢ b) names i [] distinct inside) in
     ap (list_any (bytes_eq s.name)) (own_keys (take i streams) ∙ sym (take-map (λ (t : Stream). t.name) i streams))
-    ∙ list_any_none (bytes_eq s.name) (take i names) (All-weaker (λ m. m ≢ s.name) (λ m. bytes_eq s.name m ≡ false) (λ m other. other_name s.name m other) (take i names) earlier)
+    ∙ list_any_none (bytes_eq s.name) (take i names)
+    (All-weaker (λ m. m ≢ s.name) (λ m. bytes_eq s.name m ≡ false) (λ m other. other_name s.name m other) (take i names) earlier)
 
 -- ---- before the first statement
 

@@ -10,7 +10,7 @@ use Rattle.first_fault.proofs.Reading.{Reads}
 use Rattle.stream_case.specs.Case.{IsComplete}
 use Rattle.stream_case.specs.declared.case.Case.{Case}
 use Rattle.stream_case.proofs.CompleteLemmas.{StaysValid-IsComplete}
-use Rattle.network_text.specs.Statements.{Statement, fields_of, is_statement, statements_of}
+use Rattle.statements.specs.Statements.{Statement, fields_of, is_statement, statements_of}
 use Rattle.network_text.specs.Given.{entry_in, start, with_entry}
 use Rattle.network_text.specs.Checks.{checks}
 use Rattle.network_text.specs.Building.{IsFresh}
@@ -18,25 +18,28 @@ use Rattle.network_text.specs.Outcome.{IsOutcome, grammar}
 use Rattle.network_text.specs.declared.entry.Entry.{Entry}
 use Rattle.network_text.specs.declared.fault.NetFault.{NetFault}
 use Rattle.network_text.specs.declared.fault.NetFault.TheVariants as fault
-use Rattle.network_text.specs.declared.limits.TheConstants.{MOST_STATEMENTS}
-use Rattle.network_text.specs.declared.network.Network.{Network}
+use Rattle.networks.specs.declared.limits.TheConstants.{MOST_STATEMENTS}
+use Rattle.networks.specs.declared.network.Network.{Network}
 use Rattle.network_text.proofs.shape.Counts.{has_room}
 use Rattle.network_text.proofs.shape.Kept.{adds_next, shape_so_far}
 
 -- ---- the next line of a text
 
-next-line : (text line rest : List ℕ) → lines text ≡ line ∷ lines rest → statements_of text ≡ cond (is_statement (fields_of line)) (fields_of line ∷ statements_of rest) (statements_of rest)
+next-line : (text line rest : List ℕ) → lines text ≡ line ∷ lines rest
+    → statements_of text ≡ cond (is_statement (fields_of line)) (fields_of line ∷ statements_of rest) (statements_of rest)
 unfolding statements_of
 next-line text line rest cut = ap (λ l. filter is_statement (map fields_of l)) cut
 
 -- it is passed over
-pub passed_over : (text line rest : List ℕ) {s : Statement} → lines text ≡ line ∷ lines rest → s ≡ fields_of line → not (is_statement s) ≡ true → statements_of text ≡ statements_of rest
+pub passed_over : (text line rest : List ℕ) {s : Statement} → lines text ≡ line ∷ lines rest → s ≡ fields_of line → not (is_statement s) ≡ true
+    → statements_of text ≡ statements_of rest
 passed_over text line rest {s} cut is over =
     let none = not-true (is_statement (fields_of line)) (ap (λ f. not (is_statement f)) (sym is) ∙ over) in
     next-line text line rest cut ∙ rw none refl
 
 -- or a statement
-pub statement_next : (text line rest : List ℕ) {s : Statement} → lines text ≡ line ∷ lines rest → s ≡ fields_of line → not (is_statement s) ≡ false → statements_of text ≡ s ∷ statements_of rest
+pub statement_next : (text line rest : List ℕ) {s : Statement} → lines text ≡ line ∷ lines rest → s ≡ fields_of line → not (is_statement s) ≡ false
+    → statements_of text ≡ s ∷ statements_of rest
 statement_next text line rest {s} cut is counts =
     let some = not-false (is_statement (fields_of line)) (ap (λ f. not (is_statement f)) (sym is) ∙ counts) in
     next-line text line rest cut ∙ rw some (ap (λ f. f ∷ statements_of rest) (sym is))
@@ -61,14 +64,17 @@ lines-with_entry given e = length-append given.lines (e.line ∷ [])
 pub room_next : (case : Case) (given : Network) (s : Statement) → first_failing (checks case given s) ≡ None → length given.lines < MOST_STATEMENTS
 room_next case given s passes = has_room case given s (each_passes (checks case given s) passes)
 
-pub fresh_next : {case : Case} {statements left : List Statement} {given : Network} {number : ℕ} {e : Entry} → IsComplete case → Reads (grammar case) statements left given number → (s : Statement) → first_failing (checks case given s) ≡ None → entry_in case given s ≡ Some e → IsFresh given e
+pub fresh_next : {case : Case} {statements left : List Statement} {given : Network} {number : ℕ} {e : Entry} → IsComplete case
+    → Reads (grammar case) statements left given number → (s : Statement) → first_failing (checks case given s) ≡ None → entry_in case given s ≡ Some e
+    → IsFresh given e
 fresh_next {case} {given = given} complete reads s passes gives =
     let shape = shape_so_far (StaysValid-IsComplete case complete) reads.give in
     (adds_next shape s (each_passes (checks case given s) passes) gives).fresh
 
 -- ---- want of memory is no outcome, and gives no network
 
-pub no_outcome : (case : Case) (statements : List Statement) (r : Result Network NetFault) → IsErrAnd r (λ f. f ≡ fault.OutOfMemory) → IsOutcome case statements r
+pub no_outcome : (case : Case) (statements : List Statement) (r : Result Network NetFault) → IsErrAnd r (λ f. f ≡ fault.OutOfMemory)
+    → IsOutcome case statements r
 no_outcome case statements (Ok network) h = absurd h
 no_outcome case statements (Err f) h = subst (λ (g : NetFault). IsOutcome case statements (Err g)) (sym h) tt
 

@@ -18,23 +18,23 @@ use Rattle.indexmap.proofs.CallerLemmas.{insert_entry-new}
 use Rattle.stream_case.specs.Name.{IsAnyName}
 use Rattle.stream_case.proofs.DistinctLemmas.{AllPairs-across}
 use Rattle.stream_case.proofs.ListLemmas.{none_there}
-use Rattle.network_text.specs.Lines.{Exchanger, exchanger_of, exchangers_of, members, names_of, passage_of, passages_of, same_passage, stream_at, used_by, uses}
+use Rattle.networks.specs.Lines.{Exchanger, exchanger_of, exchangers_of, members, names_of, passage_of, passages_of, same_passage, stream_at, used_by, uses}
 use Rattle.network_text.specs.Given.{branch_named, exchanger_named, first_stream, with_entry}
 use Rattle.network_text.specs.Checks.{is_passed}
 use Rattle.network_text.specs.Building.{IsFresh, IsTracked, named_branch, named_sides}
 use Rattle.network_text.specs.Names.{is_branch_name}
 use Rattle.network_text.specs.declared.builder.Sides.{Sides}
 use Rattle.network_text.specs.declared.entry.Entry.{Entry}
-use Rattle.network_text.specs.declared.few.AtMostTwo.{AtMostTwo}
-use Rattle.network_text.specs.declared.few.AtMostTwo.TheVariants as few
-use Rattle.network_text.specs.declared.limits.TheConstants.{MOST_STATEMENTS}
-use Rattle.network_text.specs.declared.network.Branch.{Branch}
-use Rattle.network_text.specs.declared.network.Line.{Line}
-use Rattle.network_text.specs.declared.network.Network.{Network}
-use Rattle.network_text.specs.declared.network.Passage.{Passage}
-use Rattle.network_text.proofs.Counts.{is_some-position}
-use Rattle.network_text.proofs.Lists.{AllPairs-map}
-use Rattle.network_text.proofs.LineLaws.{exchangers_of-push, passages_of-front, passages_of-push, used_by-push}
+use Rattle.networks.specs.declared.few.AtMostTwo.{AtMostTwo}
+use Rattle.networks.specs.declared.few.AtMostTwo.TheVariants as few
+use Rattle.networks.specs.declared.limits.TheConstants.{MOST_STATEMENTS}
+use Rattle.networks.specs.declared.network.Branch.{Branch}
+use Rattle.networks.specs.declared.network.Line.{Line}
+use Rattle.networks.specs.declared.network.Network.{Network}
+use Rattle.networks.specs.declared.network.Passage.{Passage}
+use Rattle.statements.proofs.Positions.{is_some-position}
+use Rattle.networks.proofs.Lists.{AllPairs-map}
+use Rattle.networks.proofs.LineLaws.{exchangers_of-push, passages_of-front, passages_of-push, used_by-push}
 use Rattle.network_text.proofs.NameTests.{branch_name-passes}
 
 -- the network that the tables tell of
@@ -64,7 +64,8 @@ pub branch_named-keys : (es : List (List ℕ × ℕ)) (ls : List Line) (name : L
 unfolding branch_named
 branch_named-keys es ls name = ap (position (bytes_eq name)) (names-keys es)
 
-pub exchanger_named-keys : (es : List (List ℕ × Sides)) (bs : List Branch) (ls : List Line) (name : List ℕ) → es ≡ map named_sides (exchangers_of ls) → exchanger_named (record { branches = bs; lines = ls }) name ≡ position (bytes_eq name) (keys_of es)
+pub exchanger_named-keys : (es : List (List ℕ × Sides)) (bs : List Branch) (ls : List Line) (name : List ℕ) → es ≡ map named_sides (exchangers_of ls)
+    → exchanger_named (record { branches = bs; lines = ls }) name ≡ position (bytes_eq name) (keys_of es)
 unfolding exchanger_named
 exchanger_named-keys es bs ls name is = ap (position (bytes_eq name)) (sym (ap keys_of is ∙ exchanger_names-keys (exchangers_of ls)))
 
@@ -82,18 +83,22 @@ stream_at-none es k at = rw (slice_get-map named_branch es k, at) refl
 
 -- one that differs from each before it is not found among them
 module _ {X : Type 0} (eq : X → X → Bool) (same : (a b : X) → eq a b ≡ true → a ≡ b) where
-  pub first_new : (xs : List X) (new : AtMostTwo X) (x : X) (later : List X) → members new ≡ x ∷ later → AllPairs (λ a b. a ≢ b) (xs ++ members new) → list_any (eq x) xs ≡ false
+  pub first_new : (xs : List X) (new : AtMostTwo X) (x : X) (later : List X) → members new ≡ x ∷ later → AllPairs (λ a b. a ≢ b) (xs ++ members new)
+      → list_any (eq x) xs ≡ false
   first_new xs new x later is pairs =
       let all = subst (λ (ys : List X). AllPairs (λ (a b : X). a ≢ b) (xs ++ ys)) is pairs in
-      list_any_none (eq x) xs (λ k d early. false_from_ne_true _ (λ e. AllPairs-across (λ (a b : X). a ≢ b) xs (x ∷ later) k d all early 0 x (omega arith) (sym (same x (get_or xs k d) e))))
+      list_any_none (eq x) xs (λ k d early.
+      false_from_ne_true _ (λ e. AllPairs-across (λ (a b : X). a ≢ b) xs (x ∷ later) k d all early 0 x (omega arith) (sym (same x (get_or xs k d) e))))
 
-  pub second_new : (xs ys : List X) (new : AtMostTwo X) (x y : X) → members new ≡ x ∷ y ∷ [] → AllPairs (λ a b. a ≢ b) (xs ++ members new) → ys ≡ xs ++ x ∷ [] → list_any (eq y) ys ≡ false
+  pub second_new : (xs ys : List X) (new : AtMostTwo X) (x y : X) → members new ≡ x ∷ y ∷ [] → AllPairs (λ a b. a ≢ b) (xs ++ members new) → ys ≡ xs ++ x ∷ []
+      → list_any (eq y) ys ≡ false
   second_new xs ys new x y is pairs one =
       let all = ap (λ zs. xs ++ zs) is ∙ sym (append_assoc xs (x ∷ []) (y ∷ [])) ∙ ap (λ zs. zs ++ y ∷ []) (sym one) in
       first_new ys (few.One y) y [] refl (subst (AllPairs (λ (a b : X). a ≢ b)) all pairs)
 
 -- a new name goes last
-pub new_entry : {V S : Type 0} (m : IndexMap (List ℕ) V S) (name : List ℕ) (v : V) → list_any (bytes_eq name) (keys_of m.entries) ≡ false → insert_entry bytes_eq m.entries name v ≡ m.entries ++ (name, v) ∷ []
+pub new_entry : {V S : Type 0} (m : IndexMap (List ℕ) V S) (name : List ℕ) (v : V) → list_any (bytes_eq name) (keys_of m.entries) ≡ false
+    → insert_entry bytes_eq m.entries name v ≡ m.entries ++ (name, v) ∷ []
 new_entry m name v none = insert_entry-new bytes_eq m name v (none_there _ (is_some-lookup (bytes_eq name) m.entries ∙ none))
 
 -- ---- one entry more
@@ -107,13 +112,15 @@ named_exchanger : (o : Option Exchanger) → ForSome o (λ x. IsAnyName x.name) 
 named_exchanger None named = All-nil IsAnyName
 named_exchanger (Some x) named = All-cons IsAnyName x.name [] (named x refl) (All-nil IsAnyName)
 
-module _ {es : List (List ℕ × ℕ)} {used : List ℕ} {xs : List (List ℕ × Sides)} {passed : List Passage} {ls : List Line} (is : IsTracked es used xs passed ls) (e : Entry) (fresh : IsFresh (so_far es ls) e) where
+module _ {es : List (List ℕ × ℕ)} {used : List ℕ} {xs : List (List ℕ × Sides)} {passed : List Passage} {ls : List Line} (is : IsTracked es used xs passed ls)
+    (e : Entry) (fresh : IsFresh (so_far es ls) e) where
   pub new_exchanger : AllPairs (λ a b. a ≢ b) (keys_of xs ++ map (λ x. x.name) (option_to_list (exchanger_of e.line)))
   new_exchanger =
       let own = option_to_list (exchanger_of e.line) in
       let all = AllPairs-map (λ (a b : List ℕ). a ≢ b) (λ (x : Exchanger). x.name) (exchangers_of ls ++ own) fresh.new_exchanger in
       let keys = ap keys_of is.exchangers_are ∙ exchanger_names-keys (exchangers_of ls) in
-      subst (AllPairs (λ (a b : List ℕ). a ≢ b)) (map-append (λ (x : Exchanger). x.name) (exchangers_of ls) own ∙ ap (λ ns. ns ++ map (λ (x : Exchanger). x.name) own) (sym keys)) all
+      subst (AllPairs (λ (a b : List ℕ). a ≢ b))
+      (map-append (λ (x : Exchanger). x.name) (exchangers_of ls) own ∙ ap (λ ns. ns ++ map (λ (x : Exchanger). x.name) own) (sym keys)) all
 
   pub new_names : AllPairs (λ a b. a ≢ b) (keys_of es ++ members e.names)
   new_names = subst (λ ns. AllPairs (λ (a b : List ℕ). a ≢ b) (ns ++ members e.names)) (names-keys es) fresh.new_names
@@ -126,14 +133,17 @@ module _ {es : List (List ℕ × ℕ)} {used : List ℕ} {xs : List (List ℕ ×
   abbrev pub made_entries : ℕ → List (List ℕ × ℕ)
   made_entries stream = map (λ name. (name, stream)) (members e.names)
 
-  pub view-with : (stream : ℕ) → stream ≡ first_stream (map named_branch es) (uses e.line) → so_far (es ++ made_entries stream) (ls ++ e.line ∷ []) ≡ with_entry (so_far es ls) e
+  pub view-with : (stream : ℕ) → stream ≡ first_stream (map named_branch es) (uses e.line)
+      → so_far (es ++ made_entries stream) (ls ++ e.line ∷ []) ≡ with_entry (so_far es ls) e
   unfolding with_entry
   view-with stream own =
-      let branches = map-append named_branch es (made_entries stream) ∙ (λ i. map named_branch es ++ map-map named_branch (λ (name : List ℕ). (name, own i)) (members e.names) i) in
+      let branches = map-append named_branch es (made_entries stream)
+      ∙ (λ i. map named_branch es ++ map-map named_branch (λ (name : List ℕ). (name, own i)) (members e.names) i) in
       λ i. record { branches = branches i; lines = ls ++ e.line ∷ [] }
 
   pub tracked-with : (stream : ℕ) → length ls < MOST_STATEMENTS
-      → IsTracked (es ++ made_entries stream) (used ++ uses e.line) (xs ++ map named_sides (option_to_list (exchanger_of e.line))) (passed ++ option_to_list (passage_of (map named_branch es) e.line)) (ls ++ e.line ∷ [])
+      → IsTracked (es ++ made_entries stream) (used ++ uses e.line) (xs ++ map named_sides (option_to_list (exchanger_of e.line)))
+      (passed ++ option_to_list (passage_of (map named_branch es) e.line)) (ls ++ e.line ∷ [])
   tracked-with stream room =
       let l = e.line in
       let bs = map named_branch es in
@@ -142,16 +152,22 @@ module _ {es : List (List ℕ × ℕ)} {used : List ℕ} {xs : List (List ℕ ×
       let all : map named_branch (es ++ more) ≡ bs ++ map named_branch more = map-append named_branch es more in
       let wide : length bs ≡ length es = length-map es named_branch in
       let before : All (λ k. k < length bs) (used_by ls) = rw wide is.made in
-      let made : All (λ k. k < length bs) (used_by (ls ++ l ∷ [])) = rw (used_by-push ls l) (All-append (λ k. k < length bs) (used_by ls) (uses l) before fresh.known) in
-      let long : length (es ++ more) ≡ length es + length (members e.names) = length-append es more ∙ ap (λ n. length es + n) (length-map (members e.names) (λ (name : List ℕ). (name, stream))) in
-      let names : keys_of (es ++ more) ≡ keys_of es ++ members e.names = map-append (λ (x : List ℕ × ℕ). x.0) es more ∙ ap (λ ns. keys_of es ++ ns) (map-map (λ (x : List ℕ × ℕ). x.0) (λ (name : List ℕ). (name, stream)) (members e.names) ∙ map-id (members e.names)) in
+      let made : All (λ k. k < length bs) (used_by (ls ++ l ∷ [])) = rw (used_by-push ls l)
+      (All-append (λ k. k < length bs) (used_by ls) (uses l) before fresh.known) in
+      let long : length (es ++ more) ≡ length es + length (members e.names) = length-append es more
+      ∙ ap (λ n. length es + n) (length-map (members e.names) (λ (name : List ℕ). (name, stream))) in
+      let names : keys_of (es ++ more) ≡ keys_of es ++ members e.names = map-append (λ (x : List ℕ × ℕ). x.0) es more
+      ∙ ap (λ ns. keys_of es ++ ns) (map-map (λ (x : List ℕ × ℕ). x.0) (λ (name : List ℕ). (name, stream)) (members e.names) ∙ map-id (members e.names)) in
       record {
         used_are = ap (λ u. u ++ uses l) is.used_are ∙ sym (used_by-push ls l);
-        exchangers_are = ap (λ ys. ys ++ own) is.exchangers_are ∙ sym (ap (map named_sides) (exchangers_of-push ls l) ∙ map-append named_sides (exchangers_of ls) (option_to_list (exchanger_of l)));
-        passed_are = ap (λ p. p ++ option_to_list (passage_of bs l)) is.passed_are ∙ sym (ap (λ b. passages_of b (ls ++ l ∷ [])) all ∙ passages_of-front bs (map named_branch more) (ls ++ l ∷ []) made ∙ passages_of-push bs ls l);
+        exchangers_are = ap (λ ys. ys ++ own) is.exchangers_are
+            ∙ sym (ap (map named_sides) (exchangers_of-push ls l) ∙ map-append named_sides (exchangers_of ls) (option_to_list (exchanger_of l)));
+        passed_are = ap (λ p. p ++ option_to_list (passage_of bs l)) is.passed_are
+            ∙ sym (ap (λ b. passages_of b (ls ++ l ∷ [])) all ∙ passages_of-front bs (map named_branch more) (ls ++ l ∷ []) made ∙ passages_of-push bs ls l);
         made = All-weaker (λ k. k < length bs) (λ k. k < length (es ++ more)) (λ k within. omega (arith, within, long, wide)) (used_by (ls ++ l ∷ [])) made;
         branch_names = rw names (All-append IsAnyName (keys_of es) (members e.names) is.branch_names fresh.names);
-        exchanger_names = rw (map-append (λ (x : List ℕ × Sides). x.0) xs own) (All-append IsAnyName (keys_of xs) (keys_of own) is.exchanger_names (named_exchanger (exchanger_of l) fresh.exchanger));
+        exchanger_names = rw (map-append (λ (x : List ℕ × Sides). x.0) xs own)
+            (All-append IsAnyName (keys_of xs) (keys_of own) is.exchanger_names (named_exchanger (exchanger_of l) fresh.exchanger));
         few_lines = omega (arith, room, length-append ls (l ∷ []));
         few_branches = omega (arith, is.few_branches, long, few_members e.names, length-append ls (l ∷ []));
       }

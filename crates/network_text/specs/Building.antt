@@ -6,16 +6,16 @@ use Rattle.std.specs.Option.{ForSome, option_to_list}
 use Rattle.stream_case.specs.Name.{IsAnyName}
 use Rattle.stream_case.specs.declared.limits.TheConstants.{ALL_STREAMS}
 use Rattle.stream_case.specs.declared.stream.Stream.{Stream}
-use Rattle.network_text.specs.Lines.{Exchanger, exchanger_of, exchangers_of, members, names_of, passage_of, passages_of, used_by, uses}
+use Rattle.networks.specs.Lines.{Exchanger, exchanger_of, exchangers_of, members, names_of, passage_of, passages_of, used_by, uses}
 use Rattle.network_text.specs.Given.{branch_of}
 use Rattle.network_text.specs.Checks.{is_passed}
 use Rattle.network_text.specs.declared.builder.Sides.{Sides}
 use Rattle.network_text.specs.declared.entry.Entry.{Entry}
-use Rattle.network_text.specs.declared.limits.TheConstants.{MOST_STATEMENTS}
-use Rattle.network_text.specs.declared.network.Branch.{Branch}
-use Rattle.network_text.specs.declared.network.Line.{Line}
-use Rattle.network_text.specs.declared.network.Network.{Network}
-use Rattle.network_text.specs.declared.network.Passage.{Passage}
+use Rattle.networks.specs.declared.limits.TheConstants.{MOST_STATEMENTS}
+use Rattle.networks.specs.declared.network.Branch.{Branch}
+use Rattle.networks.specs.declared.network.Line.{Line}
+use Rattle.networks.specs.declared.network.Network.{Network}
+use Rattle.networks.specs.declared.network.Passage.{Passage}
 
 -- the branches that an entry uses are there and free, the names that it makes are new, and so is that of its exchanger; the side that it passes is free
 pub record IsFresh (given : Network) (entry : Entry) : Type 0 where
@@ -45,7 +45,8 @@ abbrev pub named_sides : Exchanger → List ℕ × Sides
 named_sides exchanger = (exchanger.name, record { hot = exchanger.hot; cold = exchanger.cold })
 
 -- the tables tell what the lines use, declare and pass
-pub record IsTracked (branches : List (List ℕ × ℕ)) (used : List ℕ) (exchangers : List (List ℕ × Sides)) (passed : List Passage) (lines : List Line) : Type 0 where
+pub record IsTracked (branches : List (List ℕ × ℕ)) (used : List ℕ) (exchangers : List (List ℕ × Sides)) (passed : List Passage)
+    (lines : List Line) : Type 0 where
   pub used_are : used ≡ used_by lines
   pub exchangers_are : exchangers ≡ map named_sides (exchangers_of lines)
   pub passed_are : passed ≡ passages_of (map named_branch branches) lines

@@ -14,16 +14,16 @@ use Rattle.fractions.specs.Rationals.{is_below, rational_zero}
 use Rattle.first_fault.specs.Checks.{Check, in_turn}
 use Rattle.network_text.specs.Names.{is_branch_name}
 use Rattle.network_text.specs.Fractions.{fraction, fraction_in}
-use Rattle.network_text.specs.Lines.{Exchanger, exchanger_of, exchangers_of, passages_of, same_passage, stream_at, used_by}
-use Rattle.network_text.specs.Statements.{Statement, field}
+use Rattle.networks.specs.Lines.{Exchanger, exchanger_of, exchangers_of, passages_of, same_passage, stream_at, used_by}
+use Rattle.statements.specs.Statements.{Statement, field}
 use Rattle.network_text.specs.Given.{branch_at, branch_named, exchanger_at, exchanger_named, kind_of, source_at}
 use Rattle.network_text.specs.declared.fault.NetWhy.{NetWhy}
 use Rattle.network_text.specs.declared.fault.NetWhy.TheVariants as why
 use Rattle.network_text.specs.declared.kind.Kind.{Kind}
 use Rattle.network_text.specs.declared.kind.Kind.TheVariants as kind
-use Rattle.network_text.specs.declared.limits.TheConstants.{MOST_EXCHANGERS, MOST_STATEMENTS}
-use Rattle.network_text.specs.declared.network.Line.{Line}
-use Rattle.network_text.specs.declared.network.Network.{Network}
+use Rattle.networks.specs.declared.limits.TheConstants.{MOST_EXCHANGERS, MOST_STATEMENTS}
+use Rattle.networks.specs.declared.network.Line.{Line}
+use Rattle.networks.specs.declared.network.Network.{Network}
 
 -- ---- a branch that is used
 
@@ -115,7 +115,8 @@ mixed_checks given first second =
 -- ---- the checks of each kind of statement: the number of fields, and then the fields from left to right
 
 unfoldable pub exchanger_field_checks : Case → Network → Statement → List (Check NetWhy)
-exchanger_field_checks case given s = in_turn (new_exchanger_checks given (field s 1) ∷ source_checks case (field s 2) (field s 3) ∷ fraction_checks (field s 4) ∷ [])
+exchanger_field_checks case given s = in_turn
+    (new_exchanger_checks given (field s 1) ∷ source_checks case (field s 2) (field s 3) ∷ fraction_checks (field s 4) ∷ [])
 
 unfoldable pub exchanger_checks : Case → Network → Statement → List (Check NetWhy)
 exchanger_checks case given s =
@@ -127,7 +128,8 @@ exchanger_checks case given s =
 unfoldable pub split_checks : Network → Statement → List (Check NetWhy)
 split_checks given s =
     (length s == 5, why.FieldCount)
-    ∷ in_turn (used_branch_checks given (field s 1) ∷ new_branch_checks given (field s 2) ∷ fraction_checks (field s 3) ∷ new_branch_checks given (field s 4) ∷ ((not (bytes_eq (field s 4) (field s 2)), why.SameName) ∷ []) ∷ [])
+    ∷ in_turn (used_branch_checks given (field s 1) ∷ new_branch_checks given (field s 2) ∷ fraction_checks (field s 3) ∷ new_branch_checks given
+    (field s 4) ∷ ((not (bytes_eq (field s 4) (field s 2)), why.SameName) ∷ []) ∷ [])
 
 unfoldable pub pass_checks : Network → Statement → List (Check NetWhy)
 pass_checks given s =
@@ -137,7 +139,8 @@ pass_checks given s =
 unfoldable pub mix_checks : Network → Statement → List (Check NetWhy)
 mix_checks given s =
     (length s == 4, why.FieldCount)
-    ∷ in_turn (used_branch_checks given (field s 1) ∷ used_branch_checks given (field s 2) ∷ mixed_checks given (branch_at given (field s 1)) (branch_at given (field s 2)) ∷ new_branch_checks given (field s 3) ∷ [])
+    ∷ in_turn (used_branch_checks given (field s 1) ∷ used_branch_checks given (field s 2) ∷ mixed_checks given (branch_at given (field s 1))
+    (branch_at given (field s 2)) ∷ new_branch_checks given (field s 3) ∷ [])
 
 unfoldable pub end_checks : Network → Statement → List (Check NetWhy)
 end_checks given s = (length s == 2, why.FieldCount) ∷ in_turn (used_branch_checks given (field s 1) ∷ [])

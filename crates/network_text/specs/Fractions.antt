@@ -1,17 +1,10 @@
 -- Fraction texts: an optional `-`, a number, and optionally `/` and a number. A number has 1 to MOST_DIGITS digits.
-use Rattle.std.specs.Prelude.{ℕ, zero, suc, ℤ, pos, Bool, List, drop, Option, Some, None, option_map, unwrap_or, ◌==◌, if◌then◌else◌, slice_index}
+use Rattle.std.specs.Prelude.{ℕ, zero, suc, ℤ, Bool, List, Option, Some, None, unwrap_or, ◌==◌, if◌then◌else◌}
 use Rattle.std.specs.List.{after_first, before_first, list_any}
-use Rattle.std.proofs.Common.{neg_ℤ}
 use Rattle.stream_case.specs.Digits.{natural_in}
+use Rattle.statements.specs.Numbers.{number_in}
 use Rattle.fractions.specs.Rationals.{Rational, is_within_limits, ratio, rational_zero}
 use Rattle.network_text.specs.declared.limits.TheConstants.{MOST_DIGITS}
-
-abbrev pub negative : ℕ → ℤ
-negative n = neg_ℤ (pos n)
-
--- the whole number of an optional `-` (45) and digits
-unfoldable pub numerator_in : List ℕ → Option ℤ
-numerator_in text = if slice_index text 0 == 45 then option_map negative (natural_in MOST_DIGITS (drop 1 text)) else option_map pos (natural_in MOST_DIGITS text)
 
 -- `/`
 abbrev pub is_slash : ℕ → Bool
@@ -33,7 +26,7 @@ ratio_of None d = None
 
 -- the fraction that a text spells, if it is a fraction text of a fraction
 unfoldable pub fraction_in : List ℕ → Option Rational
-fraction_in text = ratio_of (numerator_in (before_first is_slash text)) (denominator_in text)
+fraction_in text = ratio_of (number_in MOST_DIGITS (before_first is_slash text)) (denominator_in text)
 
 -- the same, or 0 where there is none
 unfoldable pub fraction : List ℕ → Rational

@@ -6,15 +6,15 @@ use Rattle.stream_case.specs.declared.case.Case.{Case}
 use Rattle.stream_case.specs.declared.source.Source.{Source}
 use Rattle.stream_case.specs.declared.source.Source.TheVariants as source
 use Rattle.network_text.specs.Fractions.{fraction}
-use Rattle.network_text.specs.Lines.{exchangers_of, members, names_of, own_branches, stream_at, uses}
-use Rattle.network_text.specs.Statements.{Statement, field}
+use Rattle.networks.specs.Lines.{exchangers_of, members, names_of, own_branches, stream_at, uses}
+use Rattle.statements.specs.Statements.{Statement, field}
 use Rattle.network_text.specs.declared.entry.Entry.{Entry}
-use Rattle.network_text.specs.declared.few.AtMostTwo.TheVariants as few
+use Rattle.networks.specs.declared.few.AtMostTwo.TheVariants as few
 use Rattle.network_text.specs.declared.kind.Kind.{Kind}
 use Rattle.network_text.specs.declared.kind.Kind.TheVariants as kind
-use Rattle.network_text.specs.declared.network.Branch.{Branch}
-use Rattle.network_text.specs.declared.network.Line.TheVariants as line
-use Rattle.network_text.specs.declared.network.Network.{Network}
+use Rattle.networks.specs.declared.network.Branch.{Branch}
+use Rattle.networks.specs.declared.network.Line.TheVariants as line
+use Rattle.networks.specs.declared.network.Network.{Network}
 
 -- ---- words and names
 

@@ -1,9 +1,8 @@
 pub mod Names
 pub mod Fractions
-pub mod Statements
-pub mod Lines
 pub mod Given
 pub mod Checks
 pub mod Outcome
-pub mod Shape
 pub mod Building
+pub mod Printed
+pub mod Laws

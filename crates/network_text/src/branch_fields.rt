@@ -31,7 +31,8 @@ fn known_exchanger(builder: &NetworkBuilder, name: &[u8]) -> Option<u32>
 /// The number of a branch that is used.
 #[tactic(auto, unfolding(crate::specs::Checks::used_branch_checks))]
 pub fn used_branch(builder: &NetworkBuilder, field: &[u8]) -> Result<u32, NetWhy>
-    ensures { Checked (used_branch_checks builder.now field.now) (λ number. number ≡ branch_at builder.now field.now) result }
+    ensures { Checked (used_branch_checks builder.now field.now) (λ number.
+        number ≡ branch_at builder.now field.now) result }
 {
     let Some(number) = known_branch(builder, field) else {
         return Err(NetWhy::UnknownBranch);
@@ -59,7 +60,8 @@ pub fn new_branch(builder: &NetworkBuilder, field: &[u8]) -> Result<Name, NetWhy
 /// The name of an exchanger that is declared.
 #[tactic(auto, unfolding(crate::specs::Checks::new_exchanger_checks))]
 pub fn new_exchanger(builder: &NetworkBuilder, field: &[u8]) -> Result<Name, NetWhy>
-    ensures { Checked (new_exchanger_checks builder.now field.now) (λ name. name ≡ field.now) result }
+    ensures { Checked (new_exchanger_checks builder.now field.now) (λ name.
+        name ≡ field.now) result }
 {
     let Some(name) = exchanger_name(field) else {
         return Err(NetWhy::BadName);
@@ -73,7 +75,8 @@ pub fn new_exchanger(builder: &NetworkBuilder, field: &[u8]) -> Result<Name, Net
 /// The number of an exchanger that a branch passes.
 #[tactic(auto, unfolding(crate::specs::Checks::passed_checks))]
 pub fn passed_exchanger(builder: &NetworkBuilder, branch: u32, field: &[u8]) -> Result<u32, NetWhy>
-    ensures { Checked (passed_checks builder.now branch field.now) (λ exchanger. exchanger ≡ exchanger_at builder.now field.now) result }
+    ensures { Checked (passed_checks builder.now branch field.now) (λ exchanger.
+        exchanger ≡ exchanger_at builder.now field.now) result }
 {
     let Some(exchanger) = known_exchanger(builder, field) else {
         return Err(NetWhy::UnknownName);

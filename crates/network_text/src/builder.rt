@@ -6,17 +6,15 @@ ghost use Rattle.std.specs.Map.{keys_of};
 ghost use Rattle.std.specs.Option.{ForSome, option_to_list};
 ghost use Rattle.std.specs.Str.{bytes_eq};
 ghost use Rattle.stream_case.specs.Case.{IsComplete};
-ghost use Rattle.network_text.specs.Lines.{exchanger_of, exchangers_of, members, passage_of, same_passage, stream_at, uses};
+ghost use Rattle.networks.specs.Lines.{exchanger_of, exchangers_of, members, passage_of, same_passage, stream_at, uses};
 ghost use Rattle.network_text.specs.Given.{branch_named, exchanger_named, first_stream, start, with_entry};
 ghost use Rattle.network_text.specs.Checks.{first_missing, is_free_side, is_missed, is_passed, is_stream, is_used, joins_stream, misses_side};
 ghost use Rattle.network_text.specs.Building.{IsFresh, named_branch, named_sides, own_entries};
 
 use crate::entry::Entry;
-use crate::few::AtMostTwo;
-use crate::limits::MOST_STATEMENTS;
 use crate::names::branch_name;
-use crate::network::{Branch, Line, Network, Passage};
 use indexmap::{IndexMap, IndexSet};
+use networks::{AtMostTwo, Branch, Line, MOST_STATEMENTS, Network, Passage};
 use std::alloc::{AllocError, Global};
 use std::marker::Model;
 use stream_case::{ALL_STREAMS, Case, Items, Name, Source, Stream};
@@ -102,7 +100,8 @@ fn add_branches(
     stream: u32,
 ) -> Result<(), AllocError>
     requires { AllPairs (λ a b. a ≢ b) (keys_of branches.old.entries ++ members names) }
-    ensures { OnOk result (branches.new.entries ≡ branches.old.entries ++ map (λ name. (name, stream)) (members names)) }
+    ensures { OnOk result (branches.new.entries ≡ branches.old.entries ++
+        map (λ name. (name, stream)) (members names)) }
 {
     match names {
         AtMostTwo::Nothing => Ok(()),
@@ -129,8 +128,10 @@ fn own_branches(alloc: Global, streams: &[Stream]) -> Result<IndexMap<Name, u32>
 
 /// Adds the exchanger that a line declares, if it declares one.
 fn add_declared(exchangers: &mut IndexMap<Name, Sides>, line: &Line) -> Result<(), AllocError>
-    requires { AllPairs (λ a b. a ≢ b) (keys_of exchangers.old.entries ++ map (λ e. e.name) (option_to_list (exchanger_of line.now))) }
-    ensures { OnOk result (exchangers.new.entries ≡ exchangers.old.entries ++ map named_sides (option_to_list (exchanger_of line.now))) }
+    requires { AllPairs (λ a b. a ≢ b) (keys_of exchangers.old.entries ++
+        map (λ e. e.name) (option_to_list (exchanger_of line.now))) }
+    ensures { OnOk result (exchangers.new.entries ≡ exchangers.old.entries ++
+        map named_sides (option_to_list (exchanger_of line.now))) }
 {
     if let Line::Exchanger {
         name,
@@ -183,14 +184,18 @@ pub struct NetworkBuilder {
 
 impl Model for NetworkBuilder {
     ghost use Rattle.std.specs.Prelude.{map};
-    ghost use Rattle.network_text.specs.declared.network.Network.{Network};
+    ghost use Rattle.networks.specs.declared.network.Network.{Network};
     ghost use Rattle.network_text.specs.Building.{IsTracked, named_branch};
 
     ghost Value = { Network };
 
-    ghost view = { λ b. record { branches = map named_branch b.branches.entries; lines = b.lines.items } };
+    ghost view = { λ b. record {
+      branches = map named_branch b.branches.entries;
+      lines = b.lines.items;
+    } };
 
-    ghost invariant = { λ b. IsTracked b.branches.entries b.used.keys b.exchangers.entries b.passed.keys b.lines.items };
+    ghost invariant = { λ b.
+        IsTracked b.branches.entries b.used.keys b.exchangers.entries b.passed.keys b.lines.items };
 }
 
 impl NetworkBuilder {

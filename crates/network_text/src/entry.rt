@@ -9,13 +9,11 @@ ghost use Rattle.network_text.specs.Checks.{checks, end_checks, exchanger_checks
 use crate::branch_fields::{check_mixed, new_branch, new_exchanger, passed_exchanger, used_branch};
 use crate::builder::NetworkBuilder;
 use crate::fault::NetWhy;
-use crate::few::AtMostTwo;
 use crate::fraction_text::positive_fraction;
 use crate::kind::{Kind, kind_of};
-use crate::limits::{MOST_EXCHANGERS, MOST_STATEMENTS};
-use crate::network::Line;
 use crate::sources::hot_and_cold;
-use crate::statement::Statement;
+use networks::{AtMostTwo, Line, MOST_EXCHANGERS, MOST_STATEMENTS};
+use statements::Statement;
 use stream_case::{Case, Name};
 
 /// What a statement gives: its line, whose new branches have the next numbers, and their names.
@@ -33,7 +31,8 @@ fn exchanger_fields(
     s: &Statement<'_>,
 ) -> Result<Entry, NetWhy>
     requires { IsComplete case.now }
-    ensures { Checked (exchanger_field_checks case.now builder.now s.now) (λ e. e ≡ exchanger_entry case.now s.now) result }
+    ensures { Checked (exchanger_field_checks case.now builder.now s.now) (λ e.
+        e ≡ exchanger_entry case.now s.now) result }
 {
     let name = new_exchanger(builder, s.field(1))?;
     let sides = hot_and_cold(case, s.field(2), s.field(3))?;
@@ -57,7 +56,8 @@ fn exchanger_entry(
     s: &Statement<'_>,
 ) -> Result<Entry, NetWhy>
     requires { IsComplete case.now }
-    ensures { Checked (exchanger_checks case.now builder.now s.now) (λ e. e ≡ exchanger_entry case.now s.now) result }
+    ensures { Checked (exchanger_checks case.now builder.now s.now) (λ e.
+        e ≡ exchanger_entry case.now s.now) result }
 {
     if s.len() != 5 {
         return Err(NetWhy::FieldCount);
@@ -71,7 +71,8 @@ fn exchanger_entry(
 /// What the statement of a split gives.
 #[tactic(auto, using(first_fault::proofs::CheckLemmas::then_others), unfolding(crate::specs::Checks::split_checks))]
 fn split_entry(builder: &NetworkBuilder, s: &Statement<'_>) -> Result<Entry, NetWhy>
-    ensures { Checked (split_checks builder.now s.now) (λ e. e ≡ split_entry builder.now s.now) result }
+    ensures { Checked (split_checks builder.now s.now) (λ e.
+        e ≡ split_entry builder.now s.now) result }
 {
     if s.len() != 5 {
         return Err(NetWhy::FieldCount);
@@ -98,7 +99,8 @@ fn split_entry(builder: &NetworkBuilder, s: &Statement<'_>) -> Result<Entry, Net
 /// What the statement of a pass gives.
 #[tactic(auto, using(first_fault::proofs::CheckLemmas::then_others), unfolding(crate::specs::Checks::pass_checks))]
 fn pass_entry(builder: &NetworkBuilder, s: &Statement<'_>) -> Result<Entry, NetWhy>
-    ensures { Checked (pass_checks builder.now s.now) (λ e. e ≡ pass_entry builder.now s.now) result }
+    ensures { Checked (pass_checks builder.now s.now) (λ e.
+        e ≡ pass_entry builder.now s.now) result }
 {
     if s.len() != 4 {
         return Err(NetWhy::FieldCount);
@@ -157,7 +159,8 @@ fn end_entry(builder: &NetworkBuilder, s: &Statement<'_>) -> Result<Entry, NetWh
 #[tactic(auto, unfolding(crate::specs::Checks::checks, crate::specs::Checks::kind_checks, crate::specs::Given::entry_in))]
 pub fn entry_of(case: &Case, builder: &NetworkBuilder, s: &Statement<'_>) -> Result<Entry, NetWhy>
     requires { IsComplete case.now }
-    ensures { Checked (checks case.now builder.now s.now) (λ e. entry_in case.now builder.now s.now ≡ Some e) result }
+    ensures { Checked (checks case.now builder.now s.now) (λ e.
+        entry_in case.now builder.now s.now ≡ Some e) result }
 {
     if builder.count_lines() >= MOST_STATEMENTS {
         return Err(NetWhy::TooMany);

@@ -16,7 +16,8 @@ pub enum NetWhy {
     UnknownName,
     /// The hot source of an exchanger is cold, or the cold one hot.
     WrongSide,
-    /// An earlier exchanger, or an earlier branch, has the name, or the first new branch of this split.
+    /// An earlier exchanger, or an earlier branch, has the name, or the first new branch of this
+    /// split.
     SameName,
     /// No earlier statement made this branch.
     UnknownBranch,

@@ -3,25 +3,14 @@
 ghost use Rattle.std.specs.Prelude.{◌≡◌, position};
 ghost use Rattle.std.specs.List.{before_first};
 ghost use Rattle.first_fault.specs.Checks.{Checked};
-ghost use Rattle.network_text.specs.Fractions.{bounded_ratio, denominator_in, fraction, fraction_in, is_slash, numerator_in};
+ghost use Rattle.network_text.specs.Fractions.{bounded_ratio, denominator_in, fraction, fraction_in, is_slash};
 ghost use Rattle.network_text.specs.Checks.{fraction_checks};
 
 use crate::fault::NetWhy;
 use crate::limits::MOST_DIGITS;
 use fractions::Frac;
+use statements::number_of;
 use stream_case::natural_of;
-
-/// The whole number of an optional `-` and 1 to `MOST_DIGITS` digits.
-#[tactic(auto, unfolding(crate::specs::Fractions::numerator_in))]
-fn numerator_of(text: &[u8]) -> Option<i128>
-    ensures { result ≡ numerator_in text.now }
-{
-    if !text.is_empty() && text[0] == b'-' {
-        natural_of(&text[1..], MOST_DIGITS).map(|n| -(n as i128))
-    } else {
-        natural_of(text, MOST_DIGITS).map(|n| n as i128)
-    }
-}
 
 /// The index of the first `/`.
 fn slash_in(text: &[u8]) -> Option<usize>
@@ -57,7 +46,7 @@ fn denominator_of(text: &[u8]) -> Option<u128>
 pub fn fraction_of(text: &[u8]) -> Option<Frac>
     ensures { result ≡ fraction_in text.now }
 {
-    let numerator = numerator_of(before_slash(text))?;
+    let numerator = number_of(before_slash(text), MOST_DIGITS)?;
     let denominator = denominator_of(text)?;
     bounded(numerator, denominator)
 }

@@ -1,16 +1,8 @@
-//! The limits of network texts and of networks (this project's rule).
-//!
-//! Each limit stands here once; the definitions read these constants too.
-
-/// The most statements of a text.
-pub const MOST_STATEMENTS: usize = 100_000;
-
-/// The most exchangers of a text.
-pub const MOST_EXCHANGERS: usize = 20_000;
+//! The limits of what a network text is written with (this project's rule).
 
 /// The most digits of a number in a fraction text.
 pub const MOST_DIGITS: usize = 24;
 
-/// The most statements of a network of any origin, so that the numbers of its branches and
-/// exchangers fit in 32 bits.
-pub const MOST_LINES: usize = 2_000_000_000;
+/// The most bytes of a printed line with its end: an exchanger, with three names of 16 bytes and a
+/// duty of 23 digits over 15.
+pub const LONGEST_LINE: usize = 101;

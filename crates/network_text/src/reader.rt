@@ -2,15 +2,15 @@
 
 ghost use Rattle.std.specs.Prelude.{IfOk};
 ghost use Rattle.stream_case.specs.Case.{IsComplete};
-ghost use Rattle.network_text.specs.Statements.{statements_of};
+ghost use Rattle.statements.specs.Statements.{statements_of};
 ghost use Rattle.network_text.specs.Outcome.{IsOutcome};
-ghost use Rattle.network_text.specs.Shape.{HasShape, KeepsCounts};
+ghost use Rattle.networks.specs.Shape.{HasShape, KeepsCounts};
 
 use crate::builder::NetworkBuilder;
 use crate::entry::entry_of;
 use crate::fault::{NetFault, NetWhy};
-use crate::network::Network;
-use crate::statement::{Statement, first_line};
+use networks::Network;
+use statements::{Statement, first_line};
 use std::alloc::Global;
 use stream_case::Case;
 

@@ -32,7 +32,9 @@ fn is_on(case: &Case, side: Side, source: Source) -> bool
 #[tactic(auto, unfolding(crate::specs::Checks::source_checks))]
 pub fn hot_and_cold(case: &Case, hot: &[u8], cold: &[u8]) -> Result<Sides, NetWhy>
     requires { IsComplete case.now }
-    ensures { Checked (source_checks case.now hot.now cold.now) (λ sides. (sides.hot ≡ source_at case.now hot.now) × (sides.cold ≡ source_at case.now cold.now)) result }
+    ensures { Checked (source_checks case.now hot.now cold.now) (λ sides.
+        (sides.hot ≡ source_at case.now hot.now) ×
+        (sides.cold ≡ source_at case.now cold.now)) result }
 {
     let Some(hot) = known_source(case, hot) else {
         return Err(NetWhy::UnknownName);

@@ -4,12 +4,12 @@ use Rattle.std.specs.Prelude.{All}
 use Rattle.std.specs.List.{range_with_len}
 use Rattle.std.specs.Option.{ForSome}
 use Rattle.stream_case.specs.declared.case.Case.{Case}
-use Rattle.network_text.specs.Lines.{exchanger_of, exchangers_of, makes, members, stream_at, uses}
+use Rattle.networks.specs.Lines.{exchanger_of, exchangers_of, makes, members, stream_at, uses}
 use Rattle.network_text.specs.Given.{first_stream}
 use Rattle.network_text.specs.Building.{IsFresh}
-use Rattle.network_text.specs.Shape.{AreExchangers, AreMadeBeforeUse, AreMadeInOrder, AreNamed, ArePassedWhenDeclared, AreUsedOnce, HasPositiveFlow, IsExchanger, IsOfOneStream, PassesDeclared, passes}
+use Rattle.networks.specs.Shape.{AreExchangers, AreMadeBeforeUse, AreMadeInOrder, AreNamed, ArePassedWhenDeclared, AreUsedOnce, HasPositiveFlow, IsExchanger, IsOfOneStream, PassesDeclared, passes}
 use Rattle.network_text.specs.declared.entry.Entry.{Entry}
-use Rattle.network_text.specs.declared.network.Network.{Network}
+use Rattle.networks.specs.declared.network.Network.{Network}
 
 -- the shape, but that a pass may still be missing
 pub record HasShapeSoFar (case : Case) (network : Network) : Type 0 where
@@ -24,7 +24,8 @@ pub record HasShapeSoFar (case : Case) (network : Network) : Type 0 where
   pub declared_first : ArePassedWhenDeclared network
   pub at_most_once : (exchanger stream : ℕ) → passes network exchanger stream ≤ 1
 
--- a fresh entry whose branches take the next numbers, of branches of one stream, with an exchanger of the case, a flow above 0, and a side of a declared exchanger
+-- a fresh entry whose branches take the next numbers, of branches of one stream,
+-- with an exchanger of the case, a flow above 0, and a side of a declared exchanger
 pub record Adds (case : Case) (given : Network) (entry : Entry) : Type 0 where
   pub fresh : IsFresh given entry
   pub numbers : makes entry.line ≡ range_with_len (length given.branches) (length (members entry.names))

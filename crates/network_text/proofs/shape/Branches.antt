@@ -13,17 +13,17 @@ use Rattle.stream_case.specs.declared.stream.Stream.{Stream}
 use Rattle.stream_case.specs.declared.utility.Utility.{Utility}
 use Rattle.stream_case.proofs.CompleteLemmas.{StaysValid}
 use Rattle.stream_case.proofs.DistinctLemmas.{AllPairs-front}
-use Rattle.network_text.specs.Lines.{made_by, makes, members, names_of, own_branch, own_branches, stream_at, uses}
+use Rattle.networks.specs.Lines.{made_by, makes, members, names_of, own_branch, own_branches, stream_at, uses}
 use Rattle.network_text.specs.Given.{branch_of, branches_in, first_stream, start, with_entry}
-use Rattle.network_text.specs.Shape.{AreMadeBeforeUse, AreMadeInOrder, AreNamed, AreUsedOnce, IsOfOneStream, made_before}
+use Rattle.networks.specs.Shape.{AreMadeBeforeUse, AreMadeInOrder, AreNamed, AreUsedOnce, IsOfOneStream, made_before}
 use Rattle.network_text.specs.declared.entry.Entry.{Entry}
-use Rattle.network_text.specs.declared.network.Branch.{Branch}
-use Rattle.network_text.specs.declared.network.Line.{Line}
-use Rattle.network_text.specs.declared.network.Line.TheVariants as line
-use Rattle.network_text.specs.declared.network.Network.{Network}
-use Rattle.network_text.proofs.LineLaws.{made_by-push, names_of-append, stream_at-front, used_by-push}
-use Rattle.network_text.proofs.Lists.{All-front, range_with_len-append, slice_get_push}
-use Rattle.network_text.proofs.OfShape.{all_made, made_there, many_own, stream_at-get_or, streams_first, used_there}
+use Rattle.networks.specs.declared.network.Branch.{Branch}
+use Rattle.networks.specs.declared.network.Line.{Line}
+use Rattle.networks.specs.declared.network.Line.TheVariants as line
+use Rattle.networks.specs.declared.network.Network.{Network}
+use Rattle.networks.proofs.LineLaws.{made_by-push, names_of-append, stream_at-front, used_by-push}
+use Rattle.networks.proofs.Lists.{All-front, range_with_len-append, slice_get_push}
+use Rattle.networks.proofs.OfShape.{all_made, made_there, many_own, stream_at-get_or, streams_first, used_there}
 use Rattle.network_text.proofs.shape.Adding.{Adds, HasShapeSoFar}
 
 -- ---- the branches of an entry
@@ -43,7 +43,8 @@ uses_some (line.Pass from exchanger to) some = omega arith
 uses_some (line.Mix first second to) some = omega arith
 uses_some (line.End branch) some = omega arith
 
-first_stream-within : (branches : List Branch) (n : ℕ) (numbers : List ℕ) → All (λ b. b.stream < n) branches → All (λ b. b < length branches) numbers → 0 < length numbers → first_stream branches numbers < n
+first_stream-within : (branches : List Branch) (n : ℕ) (numbers : List ℕ) → All (λ b. b.stream < n) branches → All (λ b. b < length branches) numbers
+    → 0 < length numbers → first_stream branches numbers < n
 first_stream-within branches n [] streams there some = absurd (omega (arith, some))
 first_stream-within branches n (b ∷ numbers) streams there some =
     let d : Branch = record { name = []; stream = 0 } in
@@ -69,19 +70,22 @@ one_stream_from branches (line.Mix first second to) stream are =
 one_stream_from branches (line.End branch) stream are = tt
 
 -- with more branches the streams of a line stay
-still_one : (branches new : List Branch) (l : Line) → All (λ b. b < length branches) (uses l) → All (λ b. b < length branches) (makes l) → IsOfOneStream branches l → IsOfOneStream (branches ++ new) l
+still_one : (branches new : List Branch) (l : Line) → All (λ b. b < length branches) (uses l) → All (λ b. b < length branches) (makes l)
+    → IsOfOneStream branches l → IsOfOneStream (branches ++ new) l
 still_one branches new (line.Exchanger name hot cold duty) used made one = tt
 still_one branches new (line.Split from first cp second) used made one =
     let own = sym (stream_at-front branches new from (used 0 0 (omega arith))) in
     (stream_at-front branches new first (made 0 0 (omega arith)) ∙ one.0 ∙ own, stream_at-front branches new second (made 1 0 (omega arith)) ∙ one.1 ∙ own)
-still_one branches new (line.Pass from exchanger to) used made one = stream_at-front branches new to (made 0 0 (omega arith)) ∙ one ∙ sym (stream_at-front branches new from (used 0 0 (omega arith)))
+still_one branches new (line.Pass from exchanger to) used made one = stream_at-front branches new to (made 0 0 (omega arith)) ∙ one
+    ∙ sym (stream_at-front branches new from (used 0 0 (omega arith)))
 still_one branches new (line.Mix first second to) used made one =
     let own = sym (stream_at-front branches new first (used 0 0 (omega arith))) in
     (stream_at-front branches new second (used 1 0 (omega arith)) ∙ one.0 ∙ own, stream_at-front branches new to (made 0 0 (omega arith)) ∙ one.1 ∙ own)
 still_one branches new (line.End branch) used made one = tt
 
 -- the new branches are of the stream that they are given
-stream_made : (branches : List Branch) (stream : ℕ) (names : List (List ℕ)) → All (λ b. stream_at (branches ++ map (branch_of stream) names) b ≡ stream) (range_with_len (length branches) (length names))
+stream_made : (branches : List Branch) (stream : ℕ) (names : List (List ℕ))
+    → All (λ b. stream_at (branches ++ map (branch_of stream) names) b ≡ stream) (range_with_len (length branches) (length names))
 stream_made branches stream names k d within =
     let new = map (branch_of stream) names in
     let inside : k < length names = omega (arith, within, length-range_with_len (length branches) (length names)) in
@@ -95,8 +99,10 @@ one_stream_next : {case : Case} {given : Network} {e : Entry} → Adds case give
 one_stream_next {case} {given} {e} adds =
     let stream = first_stream given.branches (uses e.line) in
     one_stream_from (given.branches ++ branches_in given e) e.line stream (record {
-      used = λ k d within. stream_at-front given.branches (branches_in given e) (get_or (uses e.line) k d) (adds.fresh.known k d within) ∙ adds.one_stream k d within;
-      made = subst (All (λ b. stream_at (given.branches ++ branches_in given e) b ≡ stream)) (sym adds.numbers) (stream_made given.branches stream (members e.names));
+      used = λ k d within. stream_at-front given.branches (branches_in given e) (get_or (uses e.line) k d) (adds.fresh.known k d within)
+          ∙ adds.one_stream k d within;
+      made = subst (All (λ b. stream_at (given.branches ++ branches_in given e) b ≡ stream)) (sym adds.numbers)
+          (stream_made given.branches stream (members e.names));
     })
 
 -- ---- one entry more
@@ -111,7 +117,8 @@ module _ {case : Case} {given : Network} (shape : HasShapeSoFar case given) {e :
       let some = streams_first are in
       let count = length given.branches - n in
       let next : length given.branches ≡ n + count = omega (arith, some) in
-      let all : count + length (members e.names) ≡ length (given.branches ++ new) - n = omega (arith, some, length-append given.branches new, many_made given e) in
+      let all : count + length (members e.names) ≡ length (given.branches ++ new) - n = omega
+      (arith, some, length-append given.branches new, many_made given e) in
       record {
         own = take-append-le n given.branches new some ∙ are.own;
         made = made_by-push given.lines e.line
@@ -130,14 +137,16 @@ module _ {case : Case} {given : Network} (shape : HasShapeSoFar case given) {e :
   unfolding with_entry
   made_first index k at = by (slice_get_push given.lines e.line index k at)
     where
-      by : (slice_get given.lines index ≡ Some k) ⊎ ((index ≡ length given.lines) × (k ≡ e.line)) → All (λ b. b < made_before case (with_entry given e) index) (uses k)
+      by : (slice_get given.lines index ≡ Some k) ⊎ ((index ≡ length given.lines) × (k ≡ e.line))
+          → All (λ b. b < made_before case (with_entry given e) index) (uses k)
       by (inl here) =
           let same = made_before_still index (omega (arith, slice_get_within given.lines index k here)) in
           λ j d inside. omega (arith, same, shape.made_first index k here j d inside)
       by (inr (last, is)) =
           let same = made_before_still index (omega (arith, last)) in
           let count = ap (λ ls. length (made_by ls)) (take_all index given.lines (omega (arith, last))) in
-          subst (λ (m : Line). All (λ b. b < made_before case (with_entry given e) index) (uses m)) (sym is) (λ j d inside. omega (arith, same, all_made shape.made_once, count, adds.fresh.known j d inside))
+          subst (λ (m : Line). All (λ b. b < made_before case (with_entry given e) index) (uses m)) (sym is)
+          (λ j d inside. omega (arith, same, all_made shape.made_once, count, adds.fresh.known j d inside))
 
   pub used_once : AreUsedOnce (with_entry given e)
   unfolding with_entry
@@ -156,7 +165,9 @@ module _ {case : Case} {given : Network} (shape : HasShapeSoFar case given) {e :
   streams =
       let stream = first_stream given.branches (uses e.line) in
       let made = ap length adds.numbers ∙ length-range_with_len (length given.branches) (length (members e.names)) in
-      let within : 0 < length (members e.names) → stream < length case.streams = λ some. first_stream-within given.branches (length case.streams) (uses e.line) shape.streams adds.fresh.known (uses_some e.line (omega (arith, some, made))) in
+      let within : 0 < length (members e.names)
+      → stream < length case.streams = λ some. first_stream-within given.branches (length case.streams) (uses e.line) shape.streams adds.fresh.known
+      (uses_some e.line (omega (arith, some, made))) in
       All-append (λ (b : Branch). b.stream < length case.streams) given.branches (branches_in given e) shape.streams
       (All-map (λ (b : Branch). b.stream < length case.streams) (branch_of stream) (members e.names) (λ k d inside. within (omega (arith, inside))))
 

@@ -5,32 +5,39 @@ use Rattle.std.proofs.lemmas.Bool.Decides.{nat_tests}
 use Rattle.first_fault.proofs.CheckLemmas.{Passes}
 use Rattle.first_fault.proofs.Steps.{given_has}
 use Rattle.stream_case.specs.declared.case.Case.{Case}
-use Rattle.network_text.specs.Lines.{exchanger_of, exchangers_of}
-use Rattle.network_text.specs.Statements.{Statement}
+use Rattle.networks.specs.Lines.{exchanger_of, exchangers_of}
+use Rattle.statements.specs.Statements.{Statement}
 use Rattle.network_text.specs.Given.{entry_by, entry_in, kind_of, next, start, with_any, with_entry}
 use Rattle.network_text.specs.Checks.{checks, exchanger_checks, kind_checks}
 use Rattle.network_text.specs.Outcome.{IsNetwork, grammar}
-use Rattle.network_text.specs.Shape.{KeepsCounts}
+use Rattle.networks.specs.Shape.{KeepsCounts}
 use Rattle.network_text.specs.declared.entry.Entry.{Entry}
 use Rattle.network_text.specs.declared.kind.Kind.{Kind}
 use Rattle.network_text.specs.declared.kind.Kind.TheVariants as kind
-use Rattle.network_text.specs.declared.limits.TheConstants.{MOST_EXCHANGERS, MOST_STATEMENTS}
-use Rattle.network_text.specs.declared.network.Network.{Network}
-use Rattle.network_text.proofs.LineLaws.{exchangers_of-push}
+use Rattle.networks.specs.declared.limits.TheConstants.{MOST_EXCHANGERS, MOST_STATEMENTS}
+use Rattle.networks.specs.declared.network.Network.{Network}
+use Rattle.networks.proofs.LineLaws.{exchangers_of-push}
 
 -- there is room for a statement that is not at fault
 pub has_room : (case : Case) (given : Network) (s : Statement) → Passes (checks case given s) → length given.lines < MOST_STATEMENTS
 unfolding checks
 has_room case given s passes = let room = passes.0 in grind (arith, nat_tests)
 
-one_more : (given : Network) (e : Entry) → length given.lines < MOST_STATEMENTS → length (exchangers_of given.lines) + length (option_to_list (exchanger_of e.line)) ≤ MOST_EXCHANGERS → KeepsCounts (with_entry given e)
+one_more : (given : Network) (e : Entry) → length given.lines < MOST_STATEMENTS
+    → length (exchangers_of given.lines) + length (option_to_list (exchanger_of e.line)) ≤ MOST_EXCHANGERS → KeepsCounts (with_entry given e)
 unfolding with_entry
 one_more given e room few = record {
   lines = omega (arith, room, length-append given.lines (e.line ∷ []));
-  exchangers = omega (arith, few, ap length (exchangers_of-push given.lines e.line), length-append (exchangers_of given.lines) (option_to_list (exchanger_of e.line)));
+  exchangers = omega (
+    arith,
+    few,
+    ap length (exchangers_of-push given.lines e.line),
+    length-append (exchangers_of given.lines) (option_to_list (exchanger_of e.line)),
+  );
 }
 
-few_by : (case : Case) (given : Network) (s : Statement) (k : Option Kind) → KeepsCounts given → length given.lines < MOST_STATEMENTS → Passes (kind_checks k case given s) → KeepsCounts (with_any given (entry_by k case given s))
+few_by : (case : Case) (given : Network) (s : Statement) (k : Option Kind) → KeepsCounts given → length given.lines < MOST_STATEMENTS
+    → Passes (kind_checks k case given s) → KeepsCounts (with_any given (entry_by k case given s))
 unfolding kind_checks exchanger_checks
 few_by case given s None few room passes = few
 few_by case given s (Some kind.Exchanger) few room passes =
@@ -51,4 +58,5 @@ unfolding start exchangers_of
 few_first case = record { lines = omega arith; exchangers = omega arith }
 
 pub network-keeps_counts : (case : Case) (statements : List Statement) (network : Network) → IsNetwork case statements network → KeepsCounts network
-network-keeps_counts case statements network is = subst KeepsCounts (sym is.value_is) (given_has (grammar case) KeepsCounts (few_first case) (few_next case) statements is.sound)
+network-keeps_counts case statements network is = subst KeepsCounts (sym is.value_is)
+    (given_has (grammar case) KeepsCounts (few_first case) (few_next case) statements is.sound)

@@ -13,17 +13,17 @@ use Rattle.stream_case.specs.declared.case.Case.{Case}
 use Rattle.stream_case.specs.declared.source.Side.TheVariants as side
 use Rattle.stream_case.proofs.NameTests.{passed-name}
 use Rattle.network_text.specs.Fractions.{fraction}
-use Rattle.network_text.specs.Lines.{Exchanger, exchangers_of, names_of, stream_at, used_by}
-use Rattle.network_text.specs.Statements.{Statement, field}
+use Rattle.networks.specs.Lines.{Exchanger, exchangers_of, names_of, stream_at, used_by}
+use Rattle.statements.specs.Statements.{Statement, field}
 use Rattle.network_text.specs.Given.{branch_at, end_entry, entry_by, entry_in, exchanger_at, exchanger_entry, kind_of, mix_entry, pass_entry, source_at, split_entry}
 use Rattle.network_text.specs.Checks.{checks, end_checks, exchanger_checks, exchanger_field_checks, fraction_checks, is_on, is_passed, joins_stream, kind_checks, mix_checks, mixed_checks, new_branch_checks, new_exchanger_checks, pass_checks, passed_checks, source_checks, split_checks, used_branch_checks}
-use Rattle.network_text.specs.Shape.{IsExchanger}
+use Rattle.networks.specs.Shape.{IsExchanger}
 use Rattle.network_text.specs.declared.entry.Entry.{Entry}
 use Rattle.network_text.specs.declared.kind.Kind.{Kind}
 use Rattle.network_text.specs.declared.kind.Kind.TheVariants as kind
-use Rattle.network_text.specs.declared.network.Network.{Network}
-use Rattle.network_text.specs.declared.network.Passage.{Passage}
-use Rattle.network_text.proofs.Lists.{two_pushed}
+use Rattle.networks.specs.declared.network.Network.{Network}
+use Rattle.networks.specs.declared.network.Passage.{Passage}
+use Rattle.networks.proofs.Lists.{two_pushed}
 use Rattle.network_text.proofs.NameTests.{passed-branch_name}
 use Rattle.network_text.proofs.shape.Adding.{Adds, HasShapeSoFar}
 use Rattle.network_text.proofs.shape.Fields.{branch_within, fraction_sound, joined, new_each, on_side, undeclared_each, unused_each}
@@ -41,7 +41,8 @@ DifferentNames a b = a ≢ b
 abbrev HaveDifferentNames : Exchanger → Exchanger → Type 0
 HaveDifferentNames a b = a.name ≢ b.name
 
-exchanger_adds : (case : Case) (given : Network) (s : Statement) → HasShapeSoFar case given → Passes (exchanger_checks case given s) → Adds case given (exchanger_entry case s)
+exchanger_adds : (case : Case) (given : Network) (s : Statement) → HasShapeSoFar case given → Passes (exchanger_checks case given s)
+    → Adds case given (exchanger_entry case s)
 unfolding exchanger_checks exchanger_field_checks new_exchanger_checks source_checks fraction_checks
 exchanger_adds case given s shape passes =
     let checks = passes.1.1 in
@@ -63,7 +64,8 @@ exchanger_adds case given s shape passes =
         names = All-nil IsAnyName;
         new_names = nothing_more DifferentNames (names_of given.branches) shape.named.distinct;
         exchanger = λ x at. subst (λ (y : Exchanger). IsAnyName y.name) (same_Some e x at) (inl name);
-        new_exchanger = all_pairs_push HaveDifferentNames (exchangers_of given.lines) e shape.exchangers.distinct (undeclared_each given (field s 1) checks.1.0);
+        new_exchanger = all_pairs_push HaveDifferentNames (exchangers_of given.lines) e shape.exchangers.distinct
+            (undeclared_each given (field s 1) checks.1.0);
         unpassed = λ p at. cc at;
       };
       numbers = refl;
@@ -88,7 +90,8 @@ split_adds case given s shape passes =
         known = All-from_recursion (λ b. b < length given.branches) (from ∷ []) (branch_within given (field s 1) used.0, tt);
         unused = all_pairs_push Differ (used_by given.lines) from shape.used_once (unused_each given from used.1.0);
         names = All-from_recursion IsAnyName (field s 2 ∷ field s 4 ∷ []) (passed-branch_name (field s 2) made.0, (passed-branch_name (field s 4) last.0, tt));
-        new_names = two_pushed DifferentNames (names_of given.branches) (field s 2) (field s 4) shape.named.distinct (new_each given (field s 2) made.1.0) (new_each given (field s 4) last.1.0) differ;
+        new_names = two_pushed DifferentNames (names_of given.branches) (field s 2) (field s 4) shape.named.distinct (new_each given (field s 2) made.1.0)
+            (new_each given (field s 4) last.1.0) differ;
         exchanger = λ x at. cc at;
         new_exchanger = nothing_more HaveDifferentNames (exchangers_of given.lines) shape.exchangers.distinct;
         unpassed = λ p at. cc at;
@@ -118,7 +121,8 @@ pass_adds case given s shape passes =
         new_names = all_pairs_push DifferentNames (names_of given.branches) (field s 3) shape.named.distinct (new_each given (field s 3) made.1.0);
         exchanger = λ x at. cc at;
         new_exchanger = nothing_more HaveDifferentNames (exchangers_of given.lines) shape.exchangers.distinct;
-        unpassed = λ p at. subst (λ (q : Passage). is_passed given q.exchanger q.stream ≡ false) (same_Some _ p at) (not-true (is_passed given exchanger stream) side.1);
+        unpassed = λ p at. subst (λ (q : Passage). is_passed given q.exchanger q.stream ≡ false) (same_Some _ p at)
+            (not-true (is_passed given exchanger stream) side.1);
       };
       numbers = refl;
       one_stream = All-from_recursion (λ b. stream_at given.branches b ≡ stream) (from ∷ []) (refl, tt);
@@ -140,8 +144,10 @@ mix_adds case given s shape passes =
     let same = sym (eqb-true (stream_at given.branches first) (stream_at given.branches second) mixed.1.0) in
     record {
       fresh = record {
-        known = All-from_recursion (λ b. b < length given.branches) (first ∷ second ∷ []) (branch_within given (field s 1) used.0, (branch_within given (field s 2) used_next.0, tt));
-        unused = two_pushed Differ (used_by given.lines) first second shape.used_once (unused_each given first used.1.0) (unused_each given second used_next.1.0) differ;
+        known = All-from_recursion (λ b. b < length given.branches) (first ∷ second ∷ [])
+            (branch_within given (field s 1) used.0, (branch_within given (field s 2) used_next.0, tt));
+        unused = two_pushed Differ (used_by given.lines) first second shape.used_once (unused_each given first used.1.0)
+            (unused_each given second used_next.1.0) differ;
         names = All-from_recursion IsAnyName (field s 3 ∷ []) (passed-branch_name (field s 3) made.0, tt);
         new_names = all_pairs_push DifferentNames (names_of given.branches) (field s 3) shape.named.distinct (new_each given (field s 3) made.1.0);
         exchanger = λ x at. cc at;
@@ -179,7 +185,8 @@ end_adds case given s shape passes =
 
 -- ---- each kind
 
-added_by : (case : Case) (given : Network) (s : Statement) (k : Kind) → HasShapeSoFar case given → Passes (kind_checks (Some k) case given s) → (e : Entry) × (entry_by (Some k) case given s ≡ Some e) × Adds case given e
+added_by : (case : Case) (given : Network) (s : Statement) (k : Kind) → HasShapeSoFar case given → Passes (kind_checks (Some k) case given s) → (e : Entry)
+    × (entry_by (Some k) case given s ≡ Some e) × Adds case given e
 unfolding kind_checks
 added_by case given s kind.Exchanger shape passes = (exchanger_entry case s, refl, exchanger_adds case given s shape passes)
 added_by case given s kind.Split shape passes = (split_entry given s, refl, split_adds case given s shape passes)
@@ -188,10 +195,12 @@ added_by case given s kind.Mix shape passes = (mix_entry given s, refl, mix_adds
 added_by case given s kind.End shape passes = (end_entry given s, refl, end_adds case given s shape passes)
 
 -- what a statement that is not at fault adds
-pub added : (case : Case) (given : Network) (s : Statement) → HasShapeSoFar case given → Passes (checks case given s) → (e : Entry) × (entry_in case given s ≡ Some e) × Adds case given e
+pub added : (case : Case) (given : Network) (s : Statement) → HasShapeSoFar case given → Passes (checks case given s) → (e : Entry)
+    × (entry_in case given s ≡ Some e) × Adds case given e
 unfolding checks entry_in
 added case given s shape passes = by (kind_of s) refl passes.1
   where
-    by : (o : Option Kind) → kind_of s ≡ o → (is_some o ≡ true) × Passes (kind_checks o case given s) → (e : Entry) × (entry_by o case given s ≡ Some e) × Adds case given e
+    by : (o : Option Kind) → kind_of s ≡ o → (is_some o ≡ true) × Passes (kind_checks o case given s) → (e : Entry) × (entry_by o case given s ≡ Some e)
+        × Adds case given e
     by None is passes = cc passes.0
     by (Some k) is passes = added_by case given s k shape passes.1

@@ -17,13 +17,13 @@ use Rattle.fractions.specs.Rationals.{IsWithinLimits, Rational, is_below, is_wit
 use Rattle.fractions.proofs.Comparisons.{Decides-is_below, positive_num}
 use Rattle.fractions.proofs.Limits.{Decides-is_within_limits}
 use Rattle.network_text.specs.Fractions.{bounded_ratio, fraction, fraction_in, ratio_of}
-use Rattle.network_text.specs.Lines.{Exchanger, exchangers_of, names_of, used_by}
+use Rattle.networks.specs.Lines.{Exchanger, exchangers_of, names_of, used_by}
 use Rattle.network_text.specs.Given.{branch_at, branch_named, exchanger_named}
 use Rattle.network_text.specs.Checks.{has_stream, is_on, is_side, is_stream, is_used, joins_stream}
-use Rattle.network_text.specs.Shape.{IsPositive, Joins}
-use Rattle.network_text.specs.declared.network.Branch.{Branch}
-use Rattle.network_text.specs.declared.network.Network.{Network}
-use Rattle.network_text.proofs.Counts.{index_within, is_some-position, none_any}
+use Rattle.networks.specs.Shape.{IsPositive, Joins}
+use Rattle.networks.specs.declared.network.Branch.{Branch}
+use Rattle.networks.specs.declared.network.Network.{Network}
+use Rattle.statements.proofs.Positions.{index_within, is_some-position, none_any}
 
 -- ---- branches
 
@@ -69,7 +69,10 @@ unfolding fraction_in fraction
 fraction_within text some = value_within _ (ratio_within _ _) some
 
 pub fraction_sound : (text : List ℕ) → is_some (fraction_in text) ≡ true → is_below rational_zero (fraction text) ≡ true → IsPositive (fraction text)
-fraction_sound text some positive = record { above = positive_num (fraction text) ((Decides-is_below rational_zero (fraction text)).0 positive); within = fraction_within text some }
+fraction_sound text some positive = record {
+  above = positive_num (fraction text) ((Decides-is_below rational_zero (fraction text)).0 positive);
+  within = fraction_within text some;
+}
 
 -- ---- sources
 
@@ -83,7 +86,8 @@ on_side case of s on = sided of (side_of case s) on
 
 -- ---- exchangers
 
-pub undeclared_each : (given : Network) (name : List ℕ) → not (is_some (exchanger_named given name)) ≡ true → All (λ e. e.name ≢ name) (exchangers_of given.lines)
+pub undeclared_each : (given : Network) (name : List ℕ) → not (is_some (exchanger_named given name)) ≡ true
+    → All (λ e. e.name ≢ name) (exchangers_of given.lines)
 unfolding exchanger_named
 undeclared_each given name none k d within same =
     let all = exchangers_of given.lines in
@@ -103,6 +107,7 @@ joined_by stream (Some e) has = (e, refl, by (or_cases (is_stream stream e.hot) 
     by (inr cold) = inr (stream_is stream e.cold cold)
 
 -- an exchanger that a branch of the stream may pass
-pub joined : (given : Network) (exchanger stream : ℕ) → joins_stream given exchanger stream ≡ true → (e : Exchanger) × (slice_get (exchangers_of given.lines) exchanger ≡ Some e) × Joins e stream
+pub joined : (given : Network) (exchanger stream : ℕ) → joins_stream given exchanger stream ≡ true → (e : Exchanger)
+    × (slice_get (exchangers_of given.lines) exchanger ≡ Some e) × Joins e stream
 unfolding joins_stream
 joined given exchanger stream joins = joined_by stream (slice_get (exchangers_of given.lines) exchanger) joins

@@ -8,15 +8,15 @@ use Rattle.first_fault.proofs.CheckLemmas.{Passes}
 use Rattle.first_fault.proofs.Steps.{Give, given_has}
 use Rattle.stream_case.specs.declared.case.Case.{Case}
 use Rattle.stream_case.proofs.CompleteLemmas.{StaysValid}
-use Rattle.network_text.specs.Lines.{Exchanger, exchanger_of, exchangers_of, own_branches, passages_of, used_by}
-use Rattle.network_text.specs.Statements.{Statement}
+use Rattle.networks.specs.Lines.{Exchanger, exchanger_of, exchangers_of, own_branches, passages_of, used_by}
+use Rattle.statements.specs.Statements.{Statement}
 use Rattle.network_text.specs.Given.{entry_in, next, start, with_any, with_entry}
 use Rattle.network_text.specs.Checks.{checks}
 use Rattle.network_text.specs.Outcome.{grammar}
-use Rattle.network_text.specs.Shape.{AreExchangers, HasPositiveFlow, IsExchanger, IsOfOneStream}
+use Rattle.networks.specs.Shape.{AreExchangers, HasPositiveFlow, IsExchanger, IsOfOneStream}
 use Rattle.network_text.specs.declared.entry.Entry.{Entry}
-use Rattle.network_text.specs.declared.network.Network.{Network}
-use Rattle.network_text.proofs.LineLaws.{exchangers_of-push}
+use Rattle.networks.specs.declared.network.Network.{Network}
+use Rattle.networks.proofs.LineLaws.{exchangers_of-push}
 use Rattle.network_text.proofs.shape.Adding.{Adds, HasShapeSoFar}
 use Rattle.network_text.proofs.shape.Entries.{added}
 use Rattle.network_text.proofs.shape.Branches as branches
@@ -30,7 +30,9 @@ exchangers_kept : {case : Case} {given : Network} {e : Entry} → HasShapeSoFar 
 unfolding with_entry
 exchangers_kept {case} {given} {e} shape adds =
     let all = sym (exchangers_of-push given.lines e.line) in record {
-      each = subst (All (IsExchanger case)) all (All-append (IsExchanger case) (exchangers_of given.lines) (option_to_list (exchanger_of e.line)) shape.exchangers.each (each_of case (exchanger_of e.line) adds.exchanger));
+      each = subst (All (IsExchanger case)) all
+          (All-append (IsExchanger case) (exchangers_of given.lines) (option_to_list (exchanger_of e.line)) shape.exchangers.each
+          (each_of case (exchanger_of e.line) adds.exchanger));
       distinct = subst (AllPairs (λ (a b : Exchanger). a.name ≢ b.name)) all adds.fresh.new_exchanger;
     }
 
@@ -73,12 +75,15 @@ shape_next case given s shape passes =
     subst (λ o. HasShapeSoFar case (with_any given o)) (sym is) (kept shape adds)
 
 -- so what sound statements give has it
-pub shape_so_far : {case : Case} {statements : List Statement} {given : Network} → StaysValid case → Give (grammar case) statements given → HasShapeSoFar case given
+pub shape_so_far : {case : Case} {statements : List Statement} {given : Network} → StaysValid case → Give (grammar case) statements given
+    → HasShapeSoFar case given
 shape_so_far {case} {statements} {given} valid give =
-    subst (HasShapeSoFar case) (sym give.given_is) (given_has (grammar case) (HasShapeSoFar case) (shape_first case valid) (shape_next case) statements give.sound)
+    subst (HasShapeSoFar case) (sym give.given_is)
+    (given_has (grammar case) (HasShapeSoFar case) (shape_first case valid) (shape_next case) statements give.sound)
 
 -- what a sound statement gives may be added
-pub adds_next : {case : Case} {given : Network} {e : Entry} → HasShapeSoFar case given → (s : Statement) → Passes (checks case given s) → entry_in case given s ≡ Some e → Adds case given e
+pub adds_next : {case : Case} {given : Network} {e : Entry} → HasShapeSoFar case given → (s : Statement) → Passes (checks case given s)
+    → entry_in case given s ≡ Some e → Adds case given e
 adds_next {case} {given} {e} shape s passes gives =
     let (other, is, adds) = added case given s shape passes in
     subst (Adds case given) (same_Some other e (sym is ∙ gives)) adds

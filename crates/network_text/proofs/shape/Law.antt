@@ -10,14 +10,14 @@ use Rattle.stream_case.specs.declared.case.Case.{Case}
 use Rattle.stream_case.specs.declared.source.Source.{Source}
 use Rattle.stream_case.specs.declared.source.Source.TheVariants as source
 use Rattle.stream_case.proofs.CompleteLemmas.{StaysValid-IsComplete}
-use Rattle.network_text.specs.Lines.{Exchanger, exchanger_of, exchangers_of, passages_of, same_passage}
-use Rattle.network_text.specs.Statements.{Statement}
+use Rattle.networks.specs.Lines.{Exchanger, exchanger_of, exchangers_of, passages_of, same_passage}
+use Rattle.statements.specs.Statements.{Statement}
 use Rattle.network_text.specs.Checks.{first_missing, is_missed, is_passed, misses_pass, misses_side}
 use Rattle.network_text.specs.Outcome.{IsNetwork, grammar}
-use Rattle.network_text.specs.Shape.{ArePassedOnce, HasShape, Joins, passes}
-use Rattle.network_text.specs.declared.network.Line.{Line}
-use Rattle.network_text.specs.declared.network.Network.{Network}
-use Rattle.network_text.proofs.Counts.{StandsBefore, counted, none_found, stands_before}
+use Rattle.networks.specs.Shape.{ArePassedOnce, HasShape, Joins, passes}
+use Rattle.networks.specs.declared.network.Line.{Line}
+use Rattle.networks.specs.declared.network.Network.{Network}
+use Rattle.networks.proofs.Counts.{StandsBefore, counted, none_found, stands_before}
 use Rattle.network_text.proofs.Missing.{missing-at}
 use Rattle.network_text.proofs.shape.Counts.{network-keeps_counts}
 use Rattle.network_text.proofs.shape.Kept.{shape_so_far}
@@ -34,7 +34,8 @@ none_misses network none index within =
     let number : index ≡ get_or indexes index 0 = omega (arith, get_or-range_with_len 0 (length network.lines) index 0 within) in
     ap (misses_pass network) number ∙ here
 
-no_side_missed : (network : Network) (number : ℕ) (e : Exchanger) (index : ℕ) (l : Line) → StandsBefore exchanger_of network.lines number e index l → misses_pass network index ≡ false → misses_side network number (Some e) ≡ false
+no_side_missed : (network : Network) (number : ℕ) (e : Exchanger) (index : ℕ) (l : Line) → StandsBefore exchanger_of network.lines number e index l
+    → misses_pass network index ≡ false → misses_side network number (Some e) ≡ false
 unfolding exchangers_of
 no_side_missed network number e index l stands none =
     let within = slice_get_within network.lines index l stands.here in
@@ -52,8 +53,10 @@ unfolding exchangers_of
 passed_once network few none number stream e at joins =
     let (index, l, stands) = stands_before exchanger_of network.lines number e at in
     let within = slice_get_within network.lines index l stands.here in
-    let sides = or_parts (is_missed network number e.hot) (is_missed network number e.cold) (no_side_missed network number e index l stands (none_misses network none index within)) in
-    let some : Joins e stream → 0 < passes network number stream = λ j. elim j [ inl hot ↦ passed network number stream e.hot hot sides.0 | inr cold ↦ passed network number stream e.cold cold sides.1 ] in
+    let sides = or_parts (is_missed network number e.hot) (is_missed network number e.cold)
+    (no_side_missed network number e index l stands (none_misses network none index within)) in
+    let some : Joins e stream → 0 < passes network number stream =
+    λ j. elim j [ inl hot ↦ passed network number stream e.hot hot sides.0 | inr cold ↦ passed network number stream e.cold cold sides.1 ] in
     omega (arith, some joins, few number stream)
 
 none_from_map : {X Y : Type 0} (f : X → Y) (o : Option X) → option_map f o ≡ None → o ≡ None
@@ -62,7 +65,8 @@ none_from_map f (Some x) e = cc e
 
 -- ---- the shape
 
-pub network-has_shape : (case : Case) (statements : List Statement) (network : Network) → IsComplete case → IsNetwork case statements network → HasShape case network
+pub network-has_shape : (case : Case) (statements : List Statement) (network : Network) → IsComplete case → IsNetwork case statements network
+    → HasShape case network
 network-has_shape case statements network complete is =
     let give : Give (grammar case) statements network = record { sound = is.sound; given_is = is.value_is } in
     let shape = shape_so_far (StaysValid-IsComplete case complete) give in

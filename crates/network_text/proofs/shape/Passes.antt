@@ -8,36 +8,40 @@ use Rattle.std.proofs.lemmas.List.{take-append-le, take_at}
 use Rattle.std.proofs.lemmas.List.Sums.{sum_by-append}
 use Rattle.std.proofs.lemmas.Option.{slice_get_within}
 use Rattle.stream_case.specs.declared.case.Case.{Case}
-use Rattle.network_text.specs.Lines.{Exchanger, exchangers_of, passage_of, passages_of, same_passage, uses}
+use Rattle.networks.specs.Lines.{Exchanger, exchangers_of, passage_of, passages_of, same_passage, uses}
 use Rattle.network_text.specs.Given.{branches_in, with_entry}
 use Rattle.network_text.specs.Checks.{is_passed}
-use Rattle.network_text.specs.Shape.{ArePassedWhenDeclared, Joins, PassesDeclared, passes}
+use Rattle.networks.specs.Shape.{ArePassedWhenDeclared, Joins, PassesDeclared, passes}
 use Rattle.network_text.specs.declared.entry.Entry.{Entry}
-use Rattle.network_text.specs.declared.network.Branch.{Branch}
-use Rattle.network_text.specs.declared.network.Line.{Line}
-use Rattle.network_text.specs.declared.network.Line.TheVariants as line
-use Rattle.network_text.specs.declared.network.Network.{Network}
-use Rattle.network_text.specs.declared.network.Passage.{Passage}
-use Rattle.network_text.proofs.Counts.{uncounted}
-use Rattle.network_text.proofs.LineLaws.{passage_of-front, passages_of-front, passages_of-push, stream_at-front}
-use Rattle.network_text.proofs.Lists.{all_at, slice_get_push}
-use Rattle.network_text.proofs.OfShape.{used_there, used_within}
+use Rattle.networks.specs.declared.network.Branch.{Branch}
+use Rattle.networks.specs.declared.network.Line.{Line}
+use Rattle.networks.specs.declared.network.Line.TheVariants as line
+use Rattle.networks.specs.declared.network.Network.{Network}
+use Rattle.networks.specs.declared.network.Passage.{Passage}
+use Rattle.networks.proofs.Counts.{uncounted}
+use Rattle.networks.proofs.LineLaws.{passage_of-front, passages_of-front, passages_of-push, stream_at-front}
+use Rattle.networks.proofs.Lists.{all_at, slice_get_push}
+use Rattle.networks.proofs.OfShape.{used_there, used_within}
 use Rattle.network_text.proofs.shape.Adding.{Adds, HasShapeSoFar}
 
 -- with more branches
-still_declared : (branches new : List Branch) (declared : List Exchanger) (l : Line) → All (λ b. b < length branches) (uses l) → PassesDeclared branches declared l → PassesDeclared (branches ++ new) declared l
+still_declared : (branches new : List Branch) (declared : List Exchanger) (l : Line) → All (λ b. b < length branches) (uses l)
+    → PassesDeclared branches declared l → PassesDeclared (branches ++ new) declared l
 still_declared branches new declared (line.Exchanger name hot cold duty) there passes = tt
 still_declared branches new declared (line.Split from first cp second) there passes = tt
-still_declared branches new declared (line.Pass from exchanger to) there (e, at, joins) = (e, at, subst (Joins e) (sym (stream_at-front branches new from (there 0 0 (omega arith)))) joins)
+still_declared branches new declared (line.Pass from exchanger to) there
+    (e, at, joins) = (e, at, subst (Joins e) (sym (stream_at-front branches new from (there 0 0 (omega arith)))) joins)
 still_declared branches new declared (line.Mix first second to) there passes = tt
 still_declared branches new declared (line.End branch) there passes = tt
 
 -- a side that is free was not passed
 none_so_far : (given : Network) (exchanger stream : ℕ) → is_passed given exchanger stream ≡ false → passes given exchanger stream ≡ 0
 unfolding is_passed
-none_so_far given exchanger stream free = uncounted (same_passage (record { exchanger = exchanger; stream = stream })) (passages_of given.branches given.lines) free
+none_so_far given exchanger stream free = uncounted (same_passage (record { exchanger = exchanger; stream = stream }))
+    (passages_of given.branches given.lines) free
 
-one_more : (given : Network) (exchanger stream : ℕ) (o : Option Passage) → passes given exchanger stream ≤ 1 → ForSome o (λ p. is_passed given p.exchanger p.stream ≡ false)
+one_more : (given : Network) (exchanger stream : ℕ) (o : Option Passage) → passes given exchanger stream ≤ 1
+    → ForSome o (λ p. is_passed given p.exchanger p.stream ≡ false)
     → passes given exchanger stream + count_by (same_passage (record { exchanger = exchanger; stream = stream })) (option_to_list o) ≤ 1
 one_more given exchanger stream None few free = omega (arith, few)
 one_more given exchanger stream (Some p) few free = by (same_passage (record { exchanger = exchanger; stream = stream }) p) refl
@@ -56,26 +60,33 @@ module _ {case : Case} {given : Network} (shape : HasShapeSoFar case given) {e :
   unfolding with_entry
   declared_first index k at = by (slice_get_push given.lines e.line index k at)
     where
-      by : (slice_get given.lines index ≡ Some k) ⊎ ((index ≡ length given.lines) × (k ≡ e.line)) → PassesDeclared (given.branches ++ branches_in given e) (exchangers_of (take index (given.lines ++ e.line ∷ []))) k
+      by : (slice_get given.lines index ≡ Some k) ⊎ ((index ≡ length given.lines) × (k ≡ e.line))
+          → PassesDeclared (given.branches ++ branches_in given e) (exchangers_of (take index (given.lines ++ e.line ∷ []))) k
       by (inl here) =
           let within = slice_get_within given.lines index k here in
-          let there = all_at (λ (m : Line). All (λ b. b < length given.branches) (uses m)) given.lines index k (used_there shape.made_once shape.made_first) here in
+          let there = all_at (λ (m : Line). All (λ b. b < length given.branches) (uses m)) given.lines index k
+          (used_there shape.made_once shape.made_first) here in
           let same = sym (take-append-le index given.lines (e.line ∷ []) (omega (arith, within))) in
-          subst (λ ls. PassesDeclared (given.branches ++ branches_in given e) (exchangers_of ls) k) same (still_declared given.branches (branches_in given e) (exchangers_of (take index given.lines)) k there (shape.declared_first index k here))
+          subst (λ ls. PassesDeclared (given.branches ++ branches_in given e) (exchangers_of ls) k) same
+          (still_declared given.branches (branches_in given e) (exchangers_of (take index given.lines)) k there (shape.declared_first index k here))
       by (inr (last, is)) =
           let all = sym (take_at given.lines (e.line ∷ []) index (sym last)) in
           let own = still_declared given.branches (branches_in given e) (exchangers_of given.lines) e.line adds.fresh.known adds.declared in
-          subst (λ ls. PassesDeclared (given.branches ++ branches_in given e) (exchangers_of ls) k) all (subst (PassesDeclared (given.branches ++ branches_in given e) (exchangers_of given.lines)) (sym is) own)
+          subst (λ ls. PassesDeclared (given.branches ++ branches_in given e) (exchangers_of ls) k) all
+          (subst (PassesDeclared (given.branches ++ branches_in given e) (exchangers_of given.lines)) (sym is) own)
 
   -- the passages so far stay
-  passages-more : passages_of (given.branches ++ branches_in given e) (given.lines ++ e.line ∷ []) ≡ passages_of given.branches given.lines ++ option_to_list (passage_of given.branches e.line)
+  passages-more : passages_of (given.branches ++ branches_in given e) (given.lines ++ e.line ∷ [])
+      ≡ passages_of given.branches given.lines ++ option_to_list (passage_of given.branches e.line)
   passages-more =
       passages_of-push (given.branches ++ branches_in given e) given.lines e.line
-      ∙ (λ i. passages_of-front given.branches (branches_in given e) given.lines (used_within shape.made_once shape.made_first) i ++ option_to_list (passage_of-front given.branches (branches_in given e) e.line adds.fresh.known i))
+      ∙ (λ i. passages_of-front given.branches (branches_in given e) given.lines (used_within shape.made_once shape.made_first) i ++ option_to_list
+      (passage_of-front given.branches (branches_in given e) e.line adds.fresh.known i))
 
   pub at_most_once : (exchanger stream : ℕ) → passes (with_entry given e) exchanger stream ≤ 1
   unfolding with_entry
   at_most_once exchanger stream =
       let this = same_passage (record { exchanger = exchanger; stream = stream }) in
-      let more = ap (count_by this) passages-more ∙ sum_by-append (λ p. cond (this p) 1 0) (passages_of given.branches given.lines) (option_to_list (passage_of given.branches e.line)) in
+      let more = ap (count_by this) passages-more
+      ∙ sum_by-append (λ p. cond (this p) 1 0) (passages_of given.branches given.lines) (option_to_list (passage_of given.branches e.line)) in
       omega (arith, more, one_more given exchanger stream (passage_of given.branches e.line) (shape.at_most_once exchanger stream) adds.fresh.unpassed)

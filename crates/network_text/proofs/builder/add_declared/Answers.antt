@@ -3,13 +3,14 @@ use Rattle.std.specs.Map.{keys_of}
 use Rattle.std.specs.Str.{bytes_eq}
 use Rattle.std.specs.Cmp.Lexicographic.{bytes_decides}
 use Rattle.network_text.specs.declared.builder.Sides.{Sides}
-use Rattle.network_text.specs.declared.few.AtMostTwo.TheVariants as few
+use Rattle.networks.specs.declared.few.AtMostTwo.TheVariants as few
 use Rattle.network_text.proofs.Tables.{first_new, new_entry}
 use Rattle.network_text.proofs.builder.add_declared.Goals as goal
 
 pub returns-in_ok-insert : goal.returns-in_ok-insert
 returns-in_ok-insert c =
     let pairs = rw c.in-Exchanger.is at c.requires in
-    let new = first_new bytes_eq (λ a b. (bytes_decides a b).0) (keys_of c.args.exchangers.now.entries) (few.One c.in-Exchanger.name) c.in-Exchanger.name [] refl pairs in
+    let new = first_new bytes_eq (λ a b. (bytes_decides a b).0) (keys_of c.args.exchangers.now.entries)
+    (few.One c.in-Exchanger.name) c.in-Exchanger.name [] refl pairs in
     let sides : Sides = record { hot = c.in-Exchanger.hot; cold = c.in-Exchanger.cold } in
     rw c.in-Exchanger.is (c.in_ok-insert.ensures.entries ∙ new_entry c.args.exchangers.now c.in-Exchanger.name sides new)

@@ -10,7 +10,8 @@ loop-index-init c = c.new-branches.ensures.empty
 
 pub add_branch-requires : goal.add_branch-requires
 add_branch-requires c =
-    rw c.loop-index.invariant (own_entries-new c.args.streams.now c.loop-index.index c.index-streams-index.result c.loop-index-test.true (sym c.index-streams-index.is) c.requires.distinct)
+    rw c.loop-index.invariant (own_entries-new c.args.streams.now c.loop-index.index c.index-streams-index.result c.loop-index-test.true
+    (sym c.index-streams-index.is) c.requires.distinct)
 
 pub loop-index-preserved : goal.loop-index-preserved
 loop-index-preserved c =

@@ -3,7 +3,7 @@ use Rattle.network_text.specs.Fractions.{denominator_in, is_slash}
 use Rattle.network_text.specs.declared.limits.TheConstants.{MOST_DIGITS}
 use Rattle.stream_case.specs.Digits.{natural_in}
 use Rattle.std.proofs.lemmas.List.{take_rest}
-use Rattle.network_text.proofs.Counts.{is_some-position, position-some}
+use Rattle.statements.proofs.Positions.{is_some-position, position-some}
 use Rattle.network_text.proofs.fraction_text.denominator_of.Goals as goal
 
 pub returns-in_default : goal.returns-in_default

@@ -1,11 +1,11 @@
 use Rattle.std.proofs.Common.{◌∙◌, ◌+◌, ◌<◌, length, sym, ap, subst, arith}
 use Rattle.std.specs.Prelude.{option_map}
 use Rattle.first_fault.proofs.Reading.{Reads, end_here, fault_here, none_read, one_more, value_here}
-use Rattle.network_text.specs.Statements.{statements_of}
+use Rattle.statements.specs.Statements.{statements_of}
 use Rattle.network_text.specs.Given.{with_any}
 use Rattle.network_text.specs.Outcome.{grammar}
-use Rattle.network_text.specs.declared.limits.TheConstants.{MOST_STATEMENTS}
-use Rattle.network_text.specs.declared.network.Network.{Network}
+use Rattle.networks.specs.declared.limits.TheConstants.{MOST_STATEMENTS}
+use Rattle.networks.specs.declared.network.Network.{Network}
 use Rattle.network_text.proofs.shape.Counts.{network-keeps_counts}
 use Rattle.network_text.proofs.shape.Law.{network-has_shape}
 use Rattle.network_text.proofs.Reading.{fresh_next, lines-with_entry, lines-start, no_outcome, nothing_left, passed_over, room_next, statement_next}
@@ -19,14 +19,16 @@ loop-rest-init c = record {
 }
 
 pub returns-in_err-statement-clause-outcome : goal.returns-in_err-statement-clause-outcome
-returns-in_err-statement-clause-outcome c = no_outcome c.args.case.now (statements_of c.args.bytes.now) c.from_residual-in_err-statement.result c.from_residual-in_err-statement.ensures.1
+returns-in_err-statement-clause-outcome c = no_outcome c.args.case.now
+    (statements_of c.args.bytes.now) c.from_residual-in_err-statement.result c.from_residual-in_err-statement.ensures.1
 
 pub loop-rest-preserved-then-is_passed_over : goal.loop-rest-preserved-then-is_passed_over
 loop-rest-preserved-then-is_passed_over c =
     let over = sym c.is_passed_over.ensures ∙ c.if-is_passed_over.true in
     let same = passed_over c.loop-rest.rest.now c.first_line.result.0.now c.first_line.result.1.now c.first_line.ensures.line c.in_ok-statement.ensures over in
     record {
-      reads = subst (λ left. Reads (grammar c.args.case.now) (statements_of c.args.bytes.now) left c.loop-rest.builder c.loop-rest.number) same c.loop-rest.invariant.reads;
+      reads = subst (λ left. Reads (grammar c.args.case.now)
+          (statements_of c.args.bytes.now) left c.loop-rest.builder c.loop-rest.number) same c.loop-rest.invariant.reads;
       count = c.loop-rest.invariant.count;
       few = c.loop-rest.invariant.few;
     }
@@ -40,14 +42,17 @@ with-requires-clause-fresh c = fresh_next c.requires c.loop-rest.invariant.reads
 pub returns-in-Err-clause-outcome : goal.returns-in-Err-clause-outcome
 returns-in-Err-clause-outcome c =
     let counts = sym c.is_passed_over.ensures ∙ c.if-is_passed_over.false in
-    fault_here c.loop-rest.invariant.reads (statement_next c.loop-rest.rest.now c.first_line.result.0.now c.first_line.result.1.now c.first_line.ensures.line c.in_ok-statement.ensures counts) c.in-Err.ensures
+    fault_here c.loop-rest.invariant.reads
+    (statement_next c.loop-rest.rest.now c.first_line.result.0.now c.first_line.result.1.now c.first_line.ensures.line c.in_ok-statement.ensures counts)
+    c.in-Err.ensures
 
 pub loop-rest-preserved : goal.loop-rest-preserved
 loop-rest-preserved c =
     let case = c.args.case.now in
     let given = c.loop-rest.builder in
     let counts = sym c.is_passed_over.ensures ∙ c.if-is_passed_over.false in
-    let at = statement_next c.loop-rest.rest.now c.first_line.result.0.now c.first_line.result.1.now c.first_line.ensures.line c.in_ok-statement.ensures counts in
+    let at = statement_next c.loop-rest.rest.now c.first_line.result.0.now c.first_line.result.1.now c.first_line.ensures.line
+    c.in_ok-statement.ensures counts in
     let next = c.in_ok-builder-in-Ok.ensures ∙ sym (ap (with_any given) c.in-Ok.ensures.1) in
     let room : length given.lines < MOST_STATEMENTS = room_next case given c.in_ok-statement.statement c.in-Ok.ensures.0 in
     let lines = ap (λ (n : Network). length n.lines) c.in_ok-builder-in-Ok.ensures ∙ lines-with_entry given c.in-Ok.entry in
@@ -65,11 +70,13 @@ returns-in_ok-into_network-in-None-clause-outcome c =
 
 pub returns-in_ok-into_network-in-None-clause-shape : goal.returns-in_ok-into_network-in-None-clause-shape
 returns-in_ok-into_network-in-None-clause-shape c =
-    network-has_shape c.args.case.now (statements_of c.args.bytes.now) c.in_ok-into_network-in-None.field-0 c.requires (returns-in_ok-into_network-in-None-clause-outcome c)
+    network-has_shape c.args.case.now (statements_of c.args.bytes.now) c.in_ok-into_network-in-None.field-0 c.requires
+    (returns-in_ok-into_network-in-None-clause-outcome c)
 
 pub returns-in_ok-into_network-in-None-clause-counts : goal.returns-in_ok-into_network-in-None-clause-counts
 returns-in_ok-into_network-in-None-clause-counts c =
-    network-keeps_counts c.args.case.now (statements_of c.args.bytes.now) c.in_ok-into_network-in-None.field-0 (returns-in_ok-into_network-in-None-clause-outcome c)
+    network-keeps_counts c.args.case.now (statements_of c.args.bytes.now) c.in_ok-into_network-in-None.field-0
+    (returns-in_ok-into_network-in-None-clause-outcome c)
 
 pub returns-in-Some-clause-outcome : goal.returns-in-Some-clause-outcome
 returns-in-Some-clause-outcome c =

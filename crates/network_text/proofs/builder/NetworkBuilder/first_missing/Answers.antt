@@ -1,7 +1,7 @@
 use Rattle.std.proofs.Common.{◌≡◌, ◌∙◌, false, true, length, arith, sym, ap, refl, below_more}
-use Rattle.network_text.specs.Lines.{exchangers_of}
+use Rattle.networks.specs.Lines.{exchangers_of}
 use Rattle.network_text.specs.Checks.{misses_pass}
-use Rattle.network_text.specs.declared.network.Network.{Network}
+use Rattle.networks.specs.declared.network.Network.{Network}
 use Rattle.network_text.proofs.Missing.{count-more, few_before, first-found, missing-at, none-found}
 use Rattle.network_text.proofs.builder.NetworkBuilder.first_missing.Goals as goal
 use Rattle.network_text.proofs.builder.NetworkBuilder.first_missing.Goals.{then-is_exchanger, else-is_exchanger}
@@ -34,7 +34,8 @@ loop-index-preserved c =
     let within = rw lines at c.loop-index-test.true in
     let here = rw lines at c.line-item.is in
     let missing = missing-at n c.loop-index.index c.loop-index.exchanger l within here c.loop-index.invariant.count in
-    let none = below_more (λ k. misses_pass n k ≡ false) c.loop-index.index c.loop-index.invariant.none (missing ∙ sym c.misses_side.ensures ∙ c.if-misses_side.false) in
+    let none = below_more (λ k. misses_pass n k ≡ false) c.loop-index.index c.loop-index.invariant.none
+    (missing ∙ sym c.misses_side.ensures ∙ c.if-misses_side.false) in
     elim c.if-is_exchanger.branch [
       | then-is_exchanger w ↦
           let more = count-more n.lines c.loop-index.index l true within here (sym c.is_exchanger.ensures ∙ w.if-is_exchanger.true) in

@@ -13,12 +13,14 @@ own_branches-requires c =
     let valid = StaysValid-IsComplete case c.requires in
     rw c.as_slice.ensures (record {
       few = length-AreStreams case.streams valid.streams.are_streams;
-      distinct = AllPairs-front (λ (a b : List ℕ). a ≢ b) (map (λ (s : Stream). s.name) case.streams) (map (λ (u : Utility). u.name) case.utilities) valid.distinct_names;
+      distinct = AllPairs-front (λ (a b : List ℕ). a ≢ b) (map (λ (s : Stream). s.name) case.streams)
+          (map (λ (u : Utility). u.name) case.utilities) valid.distinct_names;
     })
 
 pub invariant_of-result : goal.invariant_of-result
 invariant_of-result c =
-    rw (c.in_ok-own_branches.ensures, c.as_slice.ensures, c.new.ensures.empty, c.new-2.ensures.empty, c.new-3.ensures.empty, c.new-4.ensures.items) (own-tracked c.args.case.now (StaysValid-IsComplete c.args.case.now c.requires))
+    rw (c.in_ok-own_branches.ensures, c.as_slice.ensures, c.new.ensures.empty, c.new-2.ensures.empty, c.new-3.ensures.empty, c.new-4.ensures.items)
+    (own-tracked c.args.case.now (StaysValid-IsComplete c.args.case.now c.requires))
 
 pub returns : goal.returns
 returns c = rw (c.in_ok-own_branches.ensures, c.as_slice.ensures, c.new-4.ensures.items) (own-view c.args.case.now)

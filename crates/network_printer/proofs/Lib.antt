@@ -1,2 +1,0 @@
-pub mod print
-pub mod back

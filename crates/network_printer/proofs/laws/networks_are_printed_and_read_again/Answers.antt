@@ -1,8 +1,0 @@
-use Rattle.network_printer.proofs.back.Law.{printed-again, printed-once}
-use Rattle.network_printer.proofs.laws.networks_are_printed_and_read_again.Goals as goal
-
-pub returns-clause-again : goal.returns-clause-again
-returns-clause-again c = printed-again
-
-pub returns-clause-once : goal.returns-clause-once
-returns-clause-once c = printed-once

@@ -1,8 +1,0 @@
-use Rattle.network_printer.proofs.back.Law.{shape-is_network, shape-once}
-use Rattle.network_printer.proofs.laws.networks_are_what_their_texts_give.Goals as goal
-
-pub returns-clause-given : goal.returns-clause-given
-returns-clause-given c = shape-is_network
-
-pub returns-clause-once : goal.returns-clause-once
-returns-clause-once c = shape-once

@@ -1,5 +1,0 @@
-use Rattle.network_printer.proofs.print.Names.{exchanger_names-declared}
-use Rattle.network_printer.proofs.printer.exchanger_names.Goals as goal
-
-pub returns : goal.returns
-returns c = rw (← exchanger_names-declared c.args.network.now, ← c.as_slice.ensures) c.declared_names.ensures

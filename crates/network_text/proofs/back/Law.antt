@@ -1,0 +1,115 @@
+-- The text of a network is read as the network.
+use Rattle.std.proofs.Common.{◌≡◌, ◌∙◌, ◌<◌, ◌+◌, ℕ, false, not, List, [], Some, None, get_or, slice_get, length, map, option_map, take, refl, sym, ap, subst, arith, inl, inr}
+use Rattle.std.specs.Prelude.{Ok, Err}
+use Rattle.std.specs.List.{range_with_len}
+use Rattle.std.proofs.lemmas.List.FromFn.{get_or-range_with_len, length-range_with_len}
+use Rattle.first_fault.proofs.OneOutcome.{no_value, one_value}
+use Rattle.first_fault.proofs.Steps.{Give, all_give_at, nothing_gives}
+use Rattle.stream_case.specs.declared.case.Case.{Case}
+use Rattle.stream_case.specs.declared.source.Source.{Source}
+use Rattle.stream_case.specs.declared.source.Source.TheVariants as source
+use Rattle.stream_case.proofs.CompleteLemmas.{StaysValid-IsComplete}
+use Rattle.networks.specs.Lines.{Exchanger, exchangers_of, passages_of, same_passage}
+use Rattle.statements.specs.Statements.{statements_of}
+use Rattle.network_text.specs.Given.{start}
+use Rattle.network_text.specs.Checks.{first_missing, is_missed, is_passed, misses_pass}
+use Rattle.network_text.specs.Outcome.{IsNetwork, IsNetworkOf, grammar}
+use Rattle.networks.specs.Shape.{HasShape, Joins}
+use Rattle.network_text.specs.declared.fault.NetFault.TheVariants as fault
+use Rattle.network_text.specs.declared.fault.NetWhy.TheVariants as why
+use Rattle.networks.specs.declared.network.Line.{Line}
+use Rattle.networks.specs.declared.network.Line.TheVariants as line
+use Rattle.networks.specs.declared.network.Network.{Network}
+use Rattle.networks.proofs.Counts.{find_none, some_counted}
+use Rattle.networks.proofs.OfShape.{exchanger_at, line_at, line_of}
+use Rattle.network_text.proofs.shape.Counts.{network-keeps_counts}
+use Rattle.network_text.proofs.shape.Law.{network-has_shape}
+use Rattle.network_text.specs.Laws.{GivenNetworksAreReadAgain, GivenNetworksAreTheOneOutcome, IsOneOutcomeOf, TextsGiveNoOther, TextsGiveTheirNetworks}
+use Rattle.network_text.specs.Printed.{statement_of, text_of}
+use Rattle.statements.proofs.PlainStatements.{statements-back}
+use Rattle.network_text.proofs.back.Branches.{IsReadable}
+use Rattle.network_text.proofs.back.Front.{front, front-first, front-last}
+use Rattle.network_text.proofs.back.Plain.{statements_plain}
+use Rattle.network_text.proofs.back.Steps.{line_follows}
+
+-- ---- the statements, one after the other
+
+front-start : {case : Case} {network : Network} → IsReadable case network → front case network 0 ≡ start case
+unfolding start
+front-start readable = let branches = front-first readable.shape.made_once in λ i. record { branches = branches i; lines = [] }
+
+statements_give : {case : Case} {network : Network} → IsReadable case network → Give (grammar case) (map (statement_of case network) network.lines) network
+statements_give {case} {network} readable =
+    let follows = λ (i : ℕ) (l : Line) (at : slice_get network.lines i ≡ Some l). line_follows readable l (line_of readable.shape i l at) in
+    let first = nothing_gives (grammar case) (front case network 0) (front-start readable) in
+    subst (Give (grammar case) (map (statement_of case network) network.lines)) (front-last readable.shape.made_once)
+    (all_give_at (grammar case) (statement_of case network) (front case network) [] network.lines follows first)
+
+-- ---- no pass is missing
+
+none_missed : {case : Case} {network : Network} → HasShape case network → (number : ℕ) (e : Exchanger)
+    → slice_get (exchangers_of network.lines) number ≡ Some e → (s : Source) → ((stream : ℕ) → s ≡ source.Stream stream → Joins e stream)
+    → is_missed network number s ≡ false
+unfolding is_passed
+none_missed shape number e at (source.Utility i) joins = refl
+none_missed {network = network} shape number e at (source.Stream i) joins =
+    let once = shape.passed_once number i e at (joins i refl) in
+    ap not (some_counted (same_passage (record { exchanger = number; stream = i })) (passages_of network.branches network.lines) (omega (arith, once)))
+
+no_side_missed : {case : Case} {network : Network} → HasShape case network → (index : ℕ) (l : Line) → slice_get network.lines index ≡ Some l
+    → misses_pass network index ≡ false
+unfolding misses_pass
+no_side_missed {network = network} shape index (line.Exchanger name hot cold duty) here =
+    let e : Exchanger = record { name = name; hot = hot; cold = cold; duty = duty } in
+    let number = length (exchangers_of (take index network.lines)) in
+    let at = exchanger_at network.lines index name hot cold duty here in
+    let no_hot = none_missed shape number e at hot (λ stream is. inl is) in
+    let no_cold = none_missed shape number e at cold (λ stream is. inr is) in
+    rw (here, no_hot, no_cold) refl
+no_side_missed shape index (line.Split from first cp second) here = rw here refl
+no_side_missed shape index (line.Pass from exchanger to) here = rw here refl
+no_side_missed shape index (line.Mix first second to) here = rw here refl
+no_side_missed shape index (line.End branch) here = rw here refl
+
+none-missing : {case : Case} {network : Network} → HasShape case network → first_missing network ≡ None
+unfolding first_missing
+none-missing {network = network} shape = find_none (misses_pass network) (range_with_len 0 (length network.lines)) (λ k d within.
+    let inside : k < length network.lines = omega (arith, within, length-range_with_len 0 (length network.lines)) in
+    let number : get_or (range_with_len 0 (length network.lines)) k d ≡ k = get_or-range_with_len 0 (length network.lines) k d inside ∙ omega arith in
+    ap (misses_pass network) number ∙ no_side_missed shape k (get_or network.lines k (line.End 0)) (line_at network.lines k (line.End 0) inside).here)
+
+-- ---- the text
+
+-- a network of the shape is what the grammar gives for its text, where the text is not too long
+pub shape-is_network : TextsGiveTheirNetworks
+unfolding text_of
+shape-is_network case network complete shape counts =
+    let valid = StaysValid-IsComplete case complete in
+    let give = statements_give (let readable : IsReadable case network = record { valid = valid; shape = shape; counts = counts } in readable) in
+    let is : IsNetwork case (map (statement_of case network) network.lines) network = record {
+      sound = give.sound;
+      complete = ap (λ n. option_map (λ index. (index + 1, why.MissingPass)) (first_missing n)) (sym give.given_is)
+          ∙ ap (option_map (λ index. (index + 1, why.MissingPass))) (none-missing shape);
+      value_is = give.given_is;
+    } in
+    let back = statements-back (map (statement_of case network) network.lines) (statements_plain valid shape) in
+    subst (λ statements. IsNetwork case statements network) (sym back) is
+
+-- ---- what is printed is read again
+
+-- where there is a network, it is the one outcome
+one_network : (case : Case) (text : List ℕ) (network : Network) → IsNetworkOf case text network → IsOneOutcomeOf case text network
+one_network case text network is (Ok other) outcome = inl (ap Ok (one_value (grammar case) (statements_of text) other network outcome is))
+one_network case text network is (Err (fault.At number cause)) outcome = absurd (no_value (grammar case) (statements_of text) number cause network outcome is)
+one_network case text network is (Err fault.OutOfMemory) outcome = inr refl
+
+pub shape-once : TextsGiveNoOther
+shape-once case network complete shape counts = one_network case (text_of case network) network (shape-is_network case network complete shape counts)
+
+pub printed-again : GivenNetworksAreReadAgain
+printed-again case statements network complete is =
+    let shape = network-has_shape case statements network complete is in
+    shape-is_network case network complete shape (network-keeps_counts case statements network is)
+
+pub printed-once : GivenNetworksAreTheOneOutcome
+printed-once case statements network complete is = one_network case (text_of case network) network (printed-again case statements network complete is)

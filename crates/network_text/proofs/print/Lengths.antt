@@ -1,0 +1,135 @@
+-- How long the fields and the lines of a printed network are.
+use Rattle.std.proofs.Common.{◌≡◌, ◌∙◌, ◌<◌, ◌≤◌, ◌+◌, ◌*◌, ◌∷◌, ◌++◌, ◌==◌, ◌^◌, ℕ, ℤ, pos, negsuc, Bool, true, false, List, [], All, get_or, inl, inr, length, map, refl, sym, ap, subst, arith, length-append}
+use Rattle.std.specs.Prelude.{codes, if◌then◌else◌, unsigned_abs}
+use Rattle.std.specs.Fmt.{decimal, signed_decimal}
+use Rattle.std.specs.List.{flat_map, sum_by}
+use Rattle.std.proofs.lemmas.Fmt.{length-decimal-le_wide}
+use Rattle.std.proofs.lemmas.Int.{ints}
+use Rattle.std.proofs.lemmas.List.{length-map}
+use Rattle.std.proofs.lemmas.List.Elements.{All-head, All-map, All-tail}
+use Rattle.std.proofs.lemmas.List.Sums.{sum_by-cons}
+use Rattle.stream_case.specs.Case.{IsSourceOf, source_name}
+use Rattle.stream_case.specs.Name.{IsAnyName, IsName}
+use Rattle.stream_case.specs.declared.case.Case.{Case}
+use Rattle.stream_case.specs.declared.source.Source.{Source}
+use Rattle.stream_case.proofs.CaseLemmas.{IsName-source_name}
+use Rattle.stream_case.proofs.CompleteLemmas.{StaysValid}
+use Rattle.fractions.specs.Rationals.{Rational, fraction_text}
+use Rattle.statements.specs.Statements.{Statement, fields_text, statement_text}
+use Rattle.networks.specs.Lines.{exchangers_of}
+use Rattle.networks.specs.Shape.{HasShape, IsPositive}
+use Rattle.networks.specs.declared.network.Line.{Line}
+use Rattle.networks.specs.declared.network.Line.TheVariants as line
+use Rattle.networks.specs.declared.network.Network.{Network}
+use Rattle.networks.proofs.OfShape.{IsLineOf, line_at, line_of, own_exchanger}
+use Rattle.network_text.specs.Printed.{branch_name, exchanger_name, statement_of, text_of}
+use Rattle.network_text.specs.declared.limits.TheConstants.{LONGEST_LINE}
+use Rattle.network_text.proofs.print.Names.{branch_named, exchanger_named}
+
+-- ---- fields
+
+name_short : (name : List ℕ) → IsName name → length name ≤ 16
+name_short [] is = absurd is
+name_short (b ∷ bs) is = omega (arith, is.2)
+
+any_name_short : (name : List ℕ) → IsAnyName name → length name ≤ 17
+any_name_short name (inl is) = omega (arith, name_short name is)
+any_name_short [] (inr is) = absurd is
+any_name_short (b ∷ bs) (inr is) = omega (arith, name_short bs is.1)
+
+number_short : (z : ℤ) → (most : ℕ) → (n : ℕ) → z ≡ pos n → 0 < most → n < 10 ^ most → n < 10 ^ 64 → length (signed_decimal z) ≤ most
+number_short z most n is some small bound = subst (λ x. length (signed_decimal x) ≤ most) (sym is) (length-decimal-le_wide most n some small bound)
+
+-- a numerator has at most 23 digits, and a denominator at most 15
+fraction_short : (a : Rational) → IsPositive a → length (fraction_text a) ≤ 39
+fraction_short a positive = by a.num refl
+  where
+    by : (z : ℤ) → a.num ≡ z → length (fraction_text a) ≤ 39
+    by (negsuc n) e = absurd (omega (arith, ints, positive.above, e))
+    by (pos n) e = or (a.den == 1)
+      where
+        den : length (decimal a.den) ≤ 15
+        den = length-decimal-le_wide 15 a.den (omega arith) (omega (arith, positive.within.den)) (omega (arith, positive.within.den))
+
+        num : length (signed_decimal a.num) ≤ 23
+        num =
+            let small : n ≤ 2 ^ 76 = subst (λ x. unsigned_abs x ≤ 2 ^ 76) e positive.within.num in
+            number_short a.num 23 n e (omega arith) (omega (arith, small)) (omega (arith, small))
+
+        or : (b : Bool) → length (if b then signed_decimal a.num else (signed_decimal a.num ++ 47 ∷ decimal a.den)) ≤ 39
+        or true = omega (arith, num)
+        or false = omega (arith, num, den, length-append (signed_decimal a.num) (47 ∷ decimal a.den))
+
+-- ---- lines
+
+-- each field behind the first one has a space before it, and the line has an end
+fields_length : (fs : Statement) → length (fields_text fs) ≡ sum_by (λ f. length f + 1) fs + 1
+unfolding fields_text
+fields_length [] = refl
+fields_length (f ∷ fs) = omega (arith, length-append f (fields_text fs), fields_length fs, sum_by-cons (λ (g : List ℕ). length g + 1) f fs)
+
+statement_length : (f : List ℕ) (fs : Statement) → length (statement_text (f ∷ fs)) ≡ length f + (sum_by (λ g. length g + 1) fs + 1)
+statement_length f fs = length-append f (fields_text fs) ∙ ap (λ n. length f + n) (fields_length fs)
+
+-- a text of short lines is short
+lines_short : (most : ℕ) (ss : List Statement) → All (λ s. length (statement_text s) ≤ most) ss → length (flat_map statement_text ss) ≤ most * length ss
+lines_short most [] short = omega arith
+lines_short most (s ∷ ss) short =
+    let IsShort : Statement → Type 0 = λ t. length (statement_text t) ≤ most in
+    omega (arith, length-append (statement_text s) (flat_map statement_text ss), All-head IsShort s ss short, lines_short most ss (All-tail IsShort s ss short))
+
+module _ {case : Case} {network : Network} (valid : StaysValid case) (shape : HasShape case network) where
+  branch_short : (b : ℕ) → b < length network.branches → length (branch_name network b) ≤ 17
+  branch_short b within = any_name_short (branch_name network b) (branch_named shape b within)
+
+  exchanger_short : (number : ℕ) → number < length (exchangers_of network.lines) → length (exchanger_name network number) ≤ 16
+  exchanger_short number within = name_short (exchanger_name network number) (exchanger_named shape number within)
+
+  source_short : (s : Source) → IsSourceOf case s → length (source_name case s) ≤ 16
+  source_short s is = name_short (source_name case s) (IsName-source_name case valid.names s is)
+
+  line_short : {index : ℕ} (l : Line) → IsLineOf case network index l → length (statement_text (statement_of case network l)) ≤ LONGEST_LINE
+  line_short {index} (line.Exchanger name hot cold duty) of =
+      let e = own_exchanger shape index name hot cold duty of.at.here in
+      omega (
+        arith,
+        statement_length (codes "exchanger") (name ∷ source_name case hot ∷ source_name case cold ∷ fraction_text duty ∷ []),
+        name_short name e.name,
+        source_short hot of.known.0,
+        source_short cold of.known.1,
+        fraction_short duty e.duty,
+      )
+  line_short (line.Split from first cp second) of =
+      omega (
+        arith,
+        statement_length (codes "split")
+            (branch_name network from ∷ branch_name network first ∷ fraction_text cp ∷ branch_name network second ∷ []),
+        branch_short from of.known.0,
+        branch_short first of.known.1,
+        fraction_short cp of.flow,
+        branch_short second of.known.2,
+      )
+  line_short (line.Pass from exchanger to) of =
+      omega (
+        arith,
+        statement_length (codes "pass") (branch_name network from ∷ exchanger_name network exchanger ∷ branch_name network to ∷ []),
+        branch_short from of.known.0,
+        exchanger_short exchanger of.known.1,
+        branch_short to of.known.2,
+      )
+  line_short (line.Mix first second to) of =
+      omega (
+        arith,
+        statement_length (codes "mix") (branch_name network first ∷ branch_name network second ∷ branch_name network to ∷ []),
+        branch_short first of.known.0,
+        branch_short second of.known.1,
+        branch_short to of.known.2,
+      )
+  line_short (line.End branch) of = omega (arith, statement_length (codes "end") (branch_name network branch ∷ []), branch_short branch of.known)
+
+  pub text-short : length (text_of case network) ≤ LONGEST_LINE * length network.lines
+  unfolding text_of
+  text-short =
+      let each = All-map (λ s. length (statement_text s) ≤ LONGEST_LINE) (statement_of case network) network.lines (λ k d within.
+      line_short (get_or network.lines k d) (line_of shape k (get_or network.lines k d) (line_at network.lines k d within).here)) in
+      omega (arith, lines_short LONGEST_LINE (map (statement_of case network) network.lines) each, length-map network.lines (statement_of case network))

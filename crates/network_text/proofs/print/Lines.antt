@@ -1,0 +1,16 @@
+-- The text of a network, line by line.
+use Rattle.std.proofs.Common.{◌≡◌, ◌≤◌, ℕ, List, length, map, take, ap}
+use Rattle.std.specs.List.{flat_map}
+use Rattle.std.proofs.lemmas.List.{take_all}
+use Rattle.stream_case.specs.declared.case.Case.{Case}
+use Rattle.networks.specs.declared.network.Network.{Network}
+use Rattle.statements.specs.Statements.{statement_text}
+use Rattle.network_text.specs.Printed.{statement_of, text_of}
+
+-- the text of the first lines
+abbrev pub text_before : Case → Network → ℕ → List ℕ
+text_before case network index = flat_map statement_text (map (statement_of case network) (take index network.lines))
+
+pub text_all : (case : Case) (network : Network) (i : ℕ) → length network.lines ≤ i → text_before case network i ≡ text_of case network
+unfolding text_of
+text_all case network i past = ap (λ ls. flat_map statement_text (map (statement_of case network) ls)) (take_all i network.lines past)

@@ -1,0 +1,4 @@
+pub mod Lists
+pub mod Counts
+pub mod OfShape
+pub mod LineLaws

@@ -1,0 +1,4 @@
+pub mod Positions
+pub mod LineCuts
+pub mod PlainStatements
+pub mod PlainNumbers
