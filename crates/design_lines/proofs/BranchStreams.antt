@@ -7,10 +7,10 @@ use Rattle.std.proofs.lemmas.List.FromFn.{length-enumerate_from, length-range_wi
 use Rattle.std.proofs.lemmas.Option.{slice_get_within}
 use Rattle.stream_case.specs.declared.case.Case.{Case}
 use Rattle.stream_case.specs.declared.stream.Stream.{Stream}
-use Rattle.network_text.specs.Lines.{own_branch, own_branches, stream_at}
-use Rattle.network_text.specs.declared.network.Branch.{Branch}
-use Rattle.network_text.specs.declared.network.Network.{Network}
-use Rattle.network_text.proofs.OfShape.{stream_at-get_or}
+use Rattle.networks.specs.Lines.{own_branch, own_branches, stream_at}
+use Rattle.networks.specs.declared.network.Branch.{Branch}
+use Rattle.networks.specs.declared.network.Network.{Network}
+use Rattle.networks.proofs.OfShape.{stream_at-get_or}
 use Rattle.design_lines.specs.Drawn.{course_branches, made_branches, numbered}
 use Rattle.design_lines.specs.Names.{branch_name}
 use Rattle.design_lines.specs.Values.{AreLed, AreOfStream, IsLedStream, LedStage, courses_along, shares_along}

@@ -9,9 +9,9 @@ use Rattle.stream_case.specs.declared.source.Side.TheVariants as side
 use Rattle.stream_case.specs.declared.source.Source.TheVariants as source
 use Rattle.stream_case.specs.declared.stream.Stream.{Stream}
 use Rattle.fractions.specs.Rationals.{Rational}
-use Rattle.network_text.specs.Lines.{stream_at}
-use Rattle.network_text.specs.declared.network.Line.TheVariants as line
-use Rattle.network_text.specs.declared.network.Network.{Network}
+use Rattle.networks.specs.Lines.{stream_at}
+use Rattle.networks.specs.declared.network.Line.TheVariants as line
+use Rattle.networks.specs.declared.network.Network.{Network}
 use Rattle.network_values.specs.Values.{IsFullEnd, Valuation, branch_side, first_state, first_value, full_size, last_state, last_value}
 use Rattle.design_lines.specs.Drawn.{course_branches, course_lines, courses_lines}
 use Rattle.design_lines.specs.Stages.{stage_end, stage_lines}

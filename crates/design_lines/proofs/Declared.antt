@@ -4,12 +4,12 @@ use Rattle.std.specs.List.{filter_map}
 use Rattle.std.proofs.lemmas.List.{append-nil}
 use Rattle.std.proofs.lemmas.List.Elements.{filter_map-append}
 use Rattle.stream_case.specs.declared.case.Case.{Case}
-use Rattle.network_text.specs.Lines.{Exchanger, exchanger_of, exchangers_of}
-use Rattle.network_text.specs.Shape.{ArePassedWhenDeclared, PassesDeclared}
-use Rattle.network_text.specs.declared.network.Branch.{Branch}
-use Rattle.network_text.specs.declared.network.Line.{Line}
-use Rattle.network_text.specs.declared.network.Line.TheVariants as line
-use Rattle.network_text.proofs.Lists.{all_at}
+use Rattle.networks.specs.Lines.{Exchanger, exchanger_of, exchangers_of}
+use Rattle.networks.specs.Shape.{ArePassedWhenDeclared, PassesDeclared}
+use Rattle.networks.specs.declared.network.Branch.{Branch}
+use Rattle.networks.specs.declared.network.Line.{Line}
+use Rattle.networks.specs.declared.network.Line.TheVariants as line
+use Rattle.networks.proofs.Lists.{all_at}
 use Rattle.design_lines.specs.Drawn.{Course, course_branches, course_lines, courses_lines, declared_line, drawn}
 use Rattle.design_lines.specs.Stages.{behind_splits, mixes, passes, rest_branch, share_branches, splits, stage_end, stage_lines}
 use Rattle.design_lines.specs.declared.stage.Share.{Share}

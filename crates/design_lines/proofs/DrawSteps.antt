@@ -2,8 +2,8 @@
 use Rattle.std.proofs.Common.{◌≡◌, ◌∙◌, ◌<◌, ◌≤◌, ◌+◌, ◌-◌, ◌∷◌, ◌++◌, ℕ, suc, List, get_or, length, drop, sym, ap, arith, append_assoc, length-append}
 use Rattle.std.proofs.Math.Seq.{drop-cons}
 use Rattle.std.proofs.lemmas.List.{append-nil, drop_all}
-use Rattle.network_text.specs.declared.network.Branch.{Branch}
-use Rattle.network_text.specs.declared.network.Line.{Line}
+use Rattle.networks.specs.declared.network.Branch.{Branch}
+use Rattle.networks.specs.declared.network.Line.{Line}
 use Rattle.design_lines.specs.Drawn.{Course, all_branches, course_branches, course_lines, courses_lines, made_branches, numbered}
 use Rattle.design_lines.proofs.BranchStreams.{length-numbered}
 

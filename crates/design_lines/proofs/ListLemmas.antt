@@ -8,8 +8,8 @@ use Rattle.std.proofs.lemmas.List.Elements.{All-cons, All-nil}
 use Rattle.std.proofs.lemmas.List.Sums.{sum_by-append, sum_by-cons}
 use Rattle.sums.proofs.EnumerationLemmas.{range_with_len-append}
 use Rattle.stream_case.proofs.ListLemmas.{filter_map-push}
-use Rattle.network_text.proofs.Lists.{enumerate_from-push}
-use Rattle.network_text.specs.declared.network.Branch.{Branch}
+use Rattle.networks.proofs.Lists.{enumerate_from-push}
+use Rattle.networks.specs.declared.network.Branch.{Branch}
 use Rattle.design_lines.specs.Drawn.{numbered}
 use Rattle.design_lines.specs.Names.{branch_name}
 

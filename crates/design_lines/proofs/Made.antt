@@ -7,10 +7,10 @@ use Rattle.std.proofs.lemmas.List.Elements.{All-head, All-tail}
 use Rattle.std.proofs.lemmas.List.FromFn.{length-map-range_with_len}
 use Rattle.sums.proofs.EnumerationLemmas.{range_with_len-append}
 use Rattle.stream_case.specs.declared.case.Case.{Case}
-use Rattle.network_text.specs.Lines.{Exchanger, made_by, makes, own_branches}
-use Rattle.network_text.specs.Shape.{AreMadeInOrder}
-use Rattle.network_text.specs.declared.network.Branch.{Branch}
-use Rattle.network_text.proofs.OfShape.{many_own}
+use Rattle.networks.specs.Lines.{Exchanger, made_by, makes, own_branches}
+use Rattle.networks.specs.Shape.{AreMadeInOrder}
+use Rattle.networks.specs.declared.network.Branch.{Branch}
+use Rattle.networks.proofs.OfShape.{many_own}
 use Rattle.design_lines.specs.Drawn.{Course, all_branches, course_branches, course_lines, courses_lines, declared_line, drawn, made_branches, numbered, stage_branches}
 use Rattle.design_lines.specs.Led.{AreStages}
 use Rattle.design_lines.specs.Names.{branch_name}

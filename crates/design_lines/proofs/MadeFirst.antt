@@ -4,9 +4,9 @@ use Rattle.std.specs.List.{flat_map}
 use Rattle.std.proofs.lemmas.List.Elements.{All-cons, All-head, All-nil, All-tail}
 use Rattle.std.proofs.lemmas.List.FromFn.{length-range_with_len}
 use Rattle.stream_case.specs.declared.case.Case.{Case}
-use Rattle.network_text.specs.Lines.{Exchanger, made_by, makes, uses}
-use Rattle.network_text.specs.Shape.{AreMadeBeforeUse}
-use Rattle.network_text.specs.declared.network.Line.{Line}
+use Rattle.networks.specs.Lines.{Exchanger, made_by, makes, uses}
+use Rattle.networks.specs.Shape.{AreMadeBeforeUse}
+use Rattle.networks.specs.declared.network.Line.{Line}
 use Rattle.design_lines.specs.Drawn.{Course, course_branches, course_lines, courses_lines, declared_line, drawn, stage_branches}
 use Rattle.design_lines.specs.Led.{AreStages}
 use Rattle.design_lines.specs.Stages.{behind_splits, mixes, passes, rest_branch, share_branches, splits, stage_end, stage_lines}

@@ -18,10 +18,10 @@ use Rattle.stream_case.specs.declared.stream.Stream.{Stream}
 use Rattle.stream_case.specs.declared.utility.Utility.{Utility}
 use Rattle.stream_case.proofs.CompleteLemmas.{StaysValid-IsComplete}
 use Rattle.stream_case.proofs.DistinctLemmas.{AllPairs-front}
-use Rattle.network_text.specs.Lines.{Exchanger, names_of, own_branch, own_branches}
-use Rattle.network_text.specs.Shape.{AreNamed}
-use Rattle.network_text.specs.declared.network.Branch.{Branch}
-use Rattle.network_text.proofs.Lists.{All-front, AllPairs-map}
+use Rattle.networks.specs.Lines.{Exchanger, names_of, own_branch, own_branches}
+use Rattle.networks.specs.Shape.{AreNamed}
+use Rattle.networks.specs.declared.network.Branch.{Branch}
+use Rattle.networks.proofs.Lists.{All-front, AllPairs-map}
 use Rattle.design_lines.specs.Drawn.{Course, all_branches, course_branches, drawn, made_branches, numbered}
 use Rattle.design_lines.specs.Names.{branch_name}
 use Rattle.design_lines.proofs.NameLemmas.{IsDottedName-branch_name}

@@ -4,8 +4,8 @@ use Rattle.std.specs.Fmt.{decimal}
 use Rattle.std.specs.List.{enumerate_from}
 use Rattle.std.proofs.lemmas.Fmt.{decimal_injective}
 use Rattle.std.proofs.lemmas.List.FromFn.{get_or-enumerate_from, length-enumerate_from}
-use Rattle.network_text.specs.Lines.{Exchanger}
-use Rattle.network_text.proofs.Lists.{AllPairs-map}
+use Rattle.networks.specs.Lines.{Exchanger}
+use Rattle.networks.proofs.Lists.{AllPairs-map}
 use Rattle.design_lines.specs.Names.{exchanger_name}
 
 -- the item at an index comes from the one there

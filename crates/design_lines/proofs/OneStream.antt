@@ -4,11 +4,11 @@ use Rattle.std.proofs.lemmas.List.{get_or-append-add, get_or_append_left}
 use Rattle.std.proofs.lemmas.List.Elements.{All-append, All-nil}
 use Rattle.std.proofs.lemmas.List.FromFn.{get_or-map-range_with_len, length-map-range_with_len}
 use Rattle.stream_case.specs.declared.case.Case.{Case}
-use Rattle.network_text.specs.Lines.{Exchanger, own_branches, stream_at}
-use Rattle.network_text.specs.Shape.{HasPositiveFlow, IsOfOneStream, Joins, PassesDeclared}
-use Rattle.network_text.specs.declared.network.Branch.{Branch}
-use Rattle.network_text.specs.declared.network.Line.{Line}
-use Rattle.network_text.proofs.OfShape.{many_own, own_stream, stream_at-get_or}
+use Rattle.networks.specs.Lines.{Exchanger, own_branches, stream_at}
+use Rattle.networks.specs.Shape.{HasPositiveFlow, IsOfOneStream, Joins, PassesDeclared}
+use Rattle.networks.specs.declared.network.Branch.{Branch}
+use Rattle.networks.specs.declared.network.Line.{Line}
+use Rattle.networks.proofs.OfShape.{many_own, own_stream, stream_at-get_or}
 use Rattle.design_lines.specs.Drawn.{Course, course_branches, course_lines, courses_lines, drawn, made_branches, numbered}
 use Rattle.design_lines.specs.Led.{AreStages, IsCourseOf, IsShareOf}
 use Rattle.design_lines.specs.Names.{branch_name}

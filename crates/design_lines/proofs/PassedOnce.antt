@@ -6,9 +6,9 @@ use Rattle.std.proofs.lemmas.List.Elements.{All-head, All-tail}
 use Rattle.std.proofs.lemmas.List.Sums.{sum_by-append, sum_by-cons}
 use Rattle.sums.proofs.CountLemmas.{count_by-cons}
 use Rattle.stream_case.specs.declared.case.Case.{Case}
-use Rattle.network_text.specs.Lines.{Exchanger, is_pass_of, stream_at}
-use Rattle.network_text.specs.declared.network.Branch.{Branch}
-use Rattle.network_text.specs.declared.network.Line.TheVariants as line
+use Rattle.networks.specs.Lines.{Exchanger, is_pass_of, stream_at}
+use Rattle.networks.specs.declared.network.Branch.{Branch}
+use Rattle.networks.specs.declared.network.Line.TheVariants as line
 use Rattle.design_lines.specs.Drawn.{Course, course_branches, course_lines, courses_lines, declared_line, drawn, stage_branches}
 use Rattle.design_lines.specs.Led.{AreStages, turns}
 use Rattle.design_lines.specs.Stages.{behind_splits, mixes, passes, rest_branch, share_branches, splits, stage_end, stage_lines}

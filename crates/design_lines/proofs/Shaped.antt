@@ -9,13 +9,13 @@ use Rattle.stream_case.specs.Case.{IsComplete, IsSourceOf}
 use Rattle.stream_case.specs.declared.case.Case.{Case}
 use Rattle.stream_case.specs.declared.stream.Stream.{Stream}
 use Rattle.stream_case.proofs.CaseLemmas.{IsSourceOf-side}
-use Rattle.network_text.specs.Lines.{Exchanger, made_by, makes, own_branch, own_branches}
-use Rattle.network_text.specs.Shape.{ArePassedOnce, HasPositiveFlow, HasShape, IsExchanger, IsOfOneStream, Joins}
-use Rattle.network_text.specs.declared.network.Branch.{Branch}
-use Rattle.network_text.specs.declared.network.Line.{Line}
-use Rattle.network_text.specs.declared.network.Line.TheVariants as line
-use Rattle.network_text.proofs.Lists.{all_at}
-use Rattle.network_text.proofs.OfShape.{count-passages}
+use Rattle.networks.specs.Lines.{Exchanger, made_by, makes, own_branch, own_branches}
+use Rattle.networks.specs.Shape.{ArePassedOnce, HasPositiveFlow, HasShape, IsExchanger, IsOfOneStream, Joins}
+use Rattle.networks.specs.declared.network.Branch.{Branch}
+use Rattle.networks.specs.declared.network.Line.{Line}
+use Rattle.networks.specs.declared.network.Line.TheVariants as line
+use Rattle.networks.proofs.Lists.{all_at}
+use Rattle.networks.proofs.OfShape.{count-passages}
 use Rattle.design_lines.specs.Drawn.{Course, all_branches, course_branches, courses_lines, declared_line, drawn, made_branches, numbered}
 use Rattle.design_lines.specs.Led.{AreLed, AreStages}
 use Rattle.design_lines.specs.Names.{branch_name}

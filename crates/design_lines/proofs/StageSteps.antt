@@ -3,8 +3,8 @@ use Rattle.std.proofs.Common.{◌≡◌, ◌∙◌, ◌<◌, ◌≤◌, ◌+◌,
 use Rattle.std.proofs.Math.Seq.{drop-cons}
 use Rattle.std.proofs.lemmas.List.{append_assoc, drop_all}
 use Rattle.fractions.specs.Rationals.{rational_zero}
-use Rattle.network_text.specs.declared.network.Line.{Line}
-use Rattle.network_text.specs.declared.network.Line.TheVariants as line
+use Rattle.networks.specs.declared.network.Line.{Line}
+use Rattle.networks.specs.declared.network.Line.TheVariants as line
 use Rattle.design_lines.specs.Stages.{behind_splits, mixes, passes, rest_branch, share_branches, splits, stage_lines}
 use Rattle.design_lines.specs.declared.stage.Share.{Share}
 

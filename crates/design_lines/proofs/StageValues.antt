@@ -6,7 +6,7 @@ use Rattle.stream_case.specs.declared.case.Case.{Case}
 use Rattle.stream_case.specs.declared.source.Side.{Side}
 use Rattle.fractions.specs.Rationals.{Rational, plus, rational_zero}
 use Rattle.fractions.proofs.Sums.{plus-zero, plus_assoc}
-use Rattle.network_text.specs.declared.network.Network.{Network}
+use Rattle.networks.specs.declared.network.Network.{Network}
 use Rattle.network_values.specs.Values.{Valuation, branch_side}
 use Rattle.network_values.specs.declared.values.BranchValue.{BranchValue}
 use Rattle.design_lines.specs.Stages.{behind_splits, mixes, passes, rest_branch, share_branches, splits, stage_end, stage_lines}

@@ -6,9 +6,9 @@ use Rattle.std.proofs.lemmas.List.Concat.{flat_map-append}
 use Rattle.std.proofs.lemmas.List.Elements.{All-head, All-tail}
 use Rattle.sums.proofs.EnumerationLemmas.{range_with_len-append}
 use Rattle.stream_case.specs.declared.case.Case.{Case}
-use Rattle.network_text.specs.Lines.{Exchanger, makes, used_by, uses}
-use Rattle.network_text.specs.Shape.{AreUsedOnce}
-use Rattle.network_text.specs.declared.network.Line.{Line}
+use Rattle.networks.specs.Lines.{Exchanger, makes, used_by, uses}
+use Rattle.networks.specs.Shape.{AreUsedOnce}
+use Rattle.networks.specs.declared.network.Line.{Line}
 use Rattle.design_lines.specs.Drawn.{Course, all_branches, course_branches, course_lines, courses_lines, declared_line, drawn}
 use Rattle.design_lines.specs.Led.{AreStages}
 use Rattle.design_lines.specs.Stages.{behind_splits, mixes, passes, rest_branch, share_branches, splits, stage_end, stage_lines}

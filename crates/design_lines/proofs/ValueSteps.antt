@@ -8,9 +8,9 @@ use Rattle.fractions.specs.Rationals.{IsAtMost, IsBelow, Rational, minus, plus, 
 use Rattle.fractions.proofs.Comparisons.{at_most_from_below, at_most_refl, below-plus, not_negative-plus, positive-plus}
 use Rattle.fractions.proofs.Products.{plus-times}
 use Rattle.fractions.proofs.Sums.{minus-plus, plus_comm, zero-plus}
-use Rattle.network_text.specs.declared.network.Line.{Line}
-use Rattle.network_text.specs.declared.network.Line.TheVariants as line
-use Rattle.network_text.specs.declared.network.Network.{Network}
+use Rattle.networks.specs.declared.network.Line.{Line}
+use Rattle.networks.specs.declared.network.Line.TheVariants as line
+use Rattle.networks.specs.declared.network.Network.{Network}
 use Rattle.network_values.specs.Made.{first_part, made_values, mixed_value, passed_value, second_part}
 use Rattle.network_values.specs.Values.{IsMix, IsPass, Valuation, branch_side, change, duty_at, no_value, value_at}
 use Rattle.network_values.specs.declared.values.BranchValue.{BranchValue}

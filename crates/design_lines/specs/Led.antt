@@ -1,9 +1,9 @@
 -- What is asked of courses, so that the network that they draw has the shape of a network.
 use Rattle.std.specs.Prelude.{◌≡◌, ◌≢◌, ◌<◌, ◌≤◌, ◌==◌, ℕ, List, length, All, AllPairs, Some, slice_get, count_by, sum_by}
 use Rattle.stream_case.specs.declared.case.Case.{Case}
-use Rattle.network_text.specs.Lines.{Exchanger}
-use Rattle.network_text.specs.Shape.{IsExchanger, IsPositive, Joins}
-use Rattle.network_text.specs.declared.limits.TheConstants.{MOST_LINES}
+use Rattle.networks.specs.Lines.{Exchanger}
+use Rattle.networks.specs.Shape.{IsExchanger, IsPositive, Joins}
+use Rattle.networks.specs.declared.limits.TheConstants.{MOST_LINES}
 use Rattle.design_lines.specs.Drawn.{Course, drawn}
 use Rattle.design_lines.specs.declared.stage.Share.{Share}
 

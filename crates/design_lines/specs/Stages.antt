@@ -1,7 +1,7 @@
 -- A stage of a stream: the stream is divided, its shares pass one exchanger each, and are joined again.
 use Rattle.std.specs.Prelude.{ℕ, zero, suc, ◌+◌, ◌-◌, ◌*◌, List, [], ◌∷◌, ◌++◌, length}
-use Rattle.network_text.specs.declared.network.Line.{Line}
-use Rattle.network_text.specs.declared.network.Line.TheVariants as line
+use Rattle.networks.specs.declared.network.Line.{Line}
+use Rattle.networks.specs.declared.network.Line.TheVariants as line
 use Rattle.design_lines.specs.declared.stage.Share.{Share}
 
 -- each share but the last is split off what is left of the branch `from`; new branches are numbered from `next` on

@@ -4,10 +4,10 @@ use Rattle.stream_case.specs.declared.case.Case.{Case}
 use Rattle.stream_case.specs.declared.source.Side.{Side}
 use Rattle.stream_case.specs.declared.stream.Stream.{Stream}
 use Rattle.fractions.specs.Rationals.{IsBelow, Rational, plus, rational_sum_by, rational_zero, times}
-use Rattle.network_text.specs.Lines.{stream_at}
-use Rattle.network_text.specs.declared.network.Line.{Line}
-use Rattle.network_text.specs.declared.network.Line.TheVariants as line
-use Rattle.network_text.specs.declared.network.Network.{Network}
+use Rattle.networks.specs.Lines.{stream_at}
+use Rattle.networks.specs.declared.network.Line.{Line}
+use Rattle.networks.specs.declared.network.Line.TheVariants as line
+use Rattle.networks.specs.declared.network.Network.{Network}
 use Rattle.network_values.specs.Made.{made_values}
 use Rattle.network_values.specs.Values.{IsFullEnd, Valuation, change, duty_at, first_state, full_size, last_state, value_at}
 use Rattle.network_values.specs.declared.values.BranchValue.{BranchValue}

@@ -1,11 +1,11 @@
 //! The branches of a design.
 
 ghost use Rattle.std.specs.Prelude.{◌≡◌, ◌+◌, ◌<◌, ◌≤◌, ◌^◌, ◌++◌, length, IfOk, OnOk};
-ghost use Rattle.network_text.specs.Lines.{own_branches};
+ghost use Rattle.networks.specs.Lines.{own_branches};
 ghost use Rattle.design_lines.specs.Drawn.{numbered};
 
 use crate::names::branch_name;
-use network_text::Branch;
+use networks::Branch;
 use std::alloc::{AllocError, Global};
 use stream_case::Case;
 

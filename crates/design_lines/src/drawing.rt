@@ -1,13 +1,13 @@
 //! Drawing a network.
 
 ghost use Rattle.std.specs.Prelude.{◌≡◌, ◌+◌, ◌<◌, ◌^◌, ◌++◌, length, All, IfOk, OnOk};
-ghost use Rattle.network_text.specs.Lines.{own_branches};
+ghost use Rattle.networks.specs.Lines.{own_branches};
 ghost use Rattle.design_lines.specs.Drawn.{all_branches, course_branches, course_lines, courses_lines, made_branches};
 ghost use Rattle.design_lines.specs.Led.{AreStages};
 
 use crate::branches::{own_branches, push_branches};
 use crate::stage::{Share, push_stage};
-use network_text::{Line, Network};
+use networks::{Line, Network};
 use std::alloc::{AllocError, Global};
 use stream_case::{Case, Items};
 

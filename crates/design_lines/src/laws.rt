@@ -3,8 +3,8 @@
 ghost use Rattle.std.specs.Prelude.{List};
 ghost use Rattle.stream_case.specs.Case.{IsComplete};
 ghost use Rattle.stream_case.specs.declared.case.Case.{Case};
-ghost use Rattle.network_text.specs.Lines.{Exchanger};
-ghost use Rattle.network_text.specs.Shape.{HasShape};
+ghost use Rattle.networks.specs.Lines.{Exchanger};
+ghost use Rattle.networks.specs.Shape.{HasShape};
 ghost use Rattle.design_lines.specs.Drawn.{Course, drawn};
 ghost use Rattle.design_lines.specs.Led.{AreLed};
 

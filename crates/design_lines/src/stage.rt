@@ -4,7 +4,7 @@ ghost use Rattle.std.specs.Prelude.{◌≡◌, ◌+◌, ◌-◌, ◌*◌, ◌<�
 ghost use Rattle.design_lines.specs.Stages.{behind_splits, mixes, passes, rest_branch, share_branches, splits, stage_end, stage_lines};
 
 use fractions::Frac;
-use network_text::Line;
+use networks::Line;
 use std::alloc::AllocError;
 
 /// A share of a stream, and the exchanger that it passes.

@@ -19,11 +19,11 @@ use Rattle.stream_case.specs.declared.utility.Utility.{Utility}
 use Rattle.fractions.specs.Rationals.{IsAtMost, Rational, plus, whole}
 use Rattle.fractions.proofs.Comparisons.{at_most-whole}
 use Rattle.fractions.proofs.Wholes.{whole-plus}
-use Rattle.network_text.specs.Lines.{Exchanger, exchangers_of}
-use Rattle.network_text.specs.Shape.{HasShape, Joins}
-use Rattle.network_text.specs.declared.network.Line.TheVariants as line
-use Rattle.network_text.proofs.Lists.{all_at}
-use Rattle.network_text.proofs.OfShape.{the_pass_of}
+use Rattle.networks.specs.Lines.{Exchanger, exchangers_of}
+use Rattle.networks.specs.Shape.{HasShape, Joins}
+use Rattle.networks.specs.declared.network.Line.TheVariants as line
+use Rattle.networks.proofs.Lists.{all_at}
+use Rattle.networks.proofs.OfShape.{the_pass_of}
 use Rattle.network_values.specs.Sides.{KeepApproaches, Level, SideRun, contribution_of, enters, leaves, pass_run, run_between, side_run}
 use Rattle.network_values.specs.Values.{Valuation, branch_side, first_value, value_at}
 use Rattle.network_audit.proofs.HeatLemmas.{source_on}

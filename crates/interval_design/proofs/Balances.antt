@@ -15,12 +15,12 @@ use Rattle.problem_table.specs.Deficit.{hot_target}
 use Rattle.fractions.specs.Rationals.{minus, rational_zero, whole}
 use Rattle.fractions.proofs.Wholes.{whole-minus}
 use Rattle.network_audit.specs.Balance.{balance_of}
-use Rattle.network_text.proofs.Lists.{all_at}
+use Rattle.networks.proofs.Lists.{all_at}
 use Rattle.grid.specs.Part.{AreCaseParts, AreParts, IsPartOf}
 use Rattle.grid.specs.declared.part.Part.{Part}
 use Rattle.heat_flow.specs.Flow.{HaveParts, cost_of, heat_at, side_cost}
 use Rattle.heat_flow.specs.declared.flow.Transfer.{Transfer}
-use Rattle.corner_flow.proofs.StandardLemmas.{own_utility}
+use Rattle.grid.proofs.StandardUtilities.{own_utility}
 use Rattle.interval_design.specs.Balance.{flow_balance, utilities_heat}
 use Rattle.interval_design.specs.Courses.{network_of}
 use Rattle.interval_design.proofs.Cost.{cost-network}

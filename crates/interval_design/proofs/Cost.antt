@@ -22,7 +22,7 @@ use Rattle.fractions.specs.Rationals.{times, whole}
 use Rattle.fractions.proofs.RationalSums.{rational_sum_by-same, rational_sum_by-whole}
 use Rattle.fractions.proofs.Wholes.{whole-times}
 use Rattle.network_audit.specs.Balance.{cost_of as network_cost, heat_price}
-use Rattle.network_text.proofs.Lists.{all_at}
+use Rattle.networks.proofs.Lists.{all_at}
 use Rattle.grid.specs.Part.{AreCaseParts, AreParts, IsPartOf}
 use Rattle.grid.specs.declared.part.Part.{Part}
 use Rattle.heat_flow.specs.Flow.{HaveParts, cost_of}

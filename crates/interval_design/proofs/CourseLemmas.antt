@@ -11,8 +11,8 @@ use Rattle.stream_case.specs.Source.{same_source}
 use Rattle.stream_case.specs.declared.source.Side.{Side}
 use Rattle.stream_case.specs.declared.source.Side.TheVariants as side
 use Rattle.stream_case.specs.declared.source.Source.TheVariants as source
-use Rattle.network_text.specs.declared.network.Line.{Line}
-use Rattle.network_text.specs.declared.network.Line.TheVariants as line
+use Rattle.networks.specs.declared.network.Line.{Line}
+use Rattle.networks.specs.declared.network.Line.TheVariants as line
 use Rattle.design_lines.specs.Drawn.{Course, course_branches, course_lines}
 use Rattle.design_lines.specs.Stages.{stage_end, stage_lines}
 use Rattle.design_lines.specs.declared.stage.Share.{Share}

@@ -15,7 +15,7 @@ use Rattle.stream_case.specs.declared.source.Side.{Side}
 use Rattle.stream_case.specs.declared.source.Side.TheVariants as side
 use Rattle.stream_case.specs.declared.source.Source.TheVariants as source
 use Rattle.stream_case.proofs.CompleteLemmas.{HasValidStreams-IsComplete}
-use Rattle.network_text.proofs.Lists.{all_at}
+use Rattle.networks.proofs.Lists.{all_at}
 use Rattle.design_lines.specs.Led.{IsCourseOf, IsShareOf}
 use Rattle.design_lines.specs.Drawn.{Course}
 use Rattle.design_lines.specs.declared.stage.Share.{Share}

@@ -8,9 +8,9 @@ use Rattle.stream_case.specs.Limits.{IsHeat}
 use Rattle.stream_case.specs.declared.case.Case.{Case}
 use Rattle.stream_case.specs.declared.limits.TheConstants.{ALL_STREAMS}
 use Rattle.stream_case.specs.declared.source.Side.TheVariants as side
-use Rattle.network_text.specs.Shape.{HasShape, KeepsCounts}
-use Rattle.network_text.specs.declared.limits.TheConstants.{MOST_EXCHANGERS, MOST_STATEMENTS}
-use Rattle.network_text.specs.declared.network.Network.{Network}
+use Rattle.networks.specs.Shape.{HasShape, KeepsCounts}
+use Rattle.networks.specs.declared.limits.TheConstants.{MOST_EXCHANGERS, MOST_STATEMENTS}
+use Rattle.networks.specs.declared.network.Network.{Network}
 use Rattle.design_lines.specs.Drawn.{courses_lines, declared_line, drawn}
 use Rattle.design_lines.specs.Led.{AreLed}
 use Rattle.design_lines.proofs.FewLines.{few-courses}

@@ -3,9 +3,9 @@ use Rattle.std.proofs.Common.{◌≡◌, ◌∙◌, ◌++◌, List, length, map,
 use Rattle.std.specs.List.{enumerate_from}
 use Rattle.std.proofs.lemmas.Simd.{map-map}
 use Rattle.stream_case.specs.declared.case.Case.{Case}
-use Rattle.network_text.specs.Lines.{exchangers_of, own_branches}
-use Rattle.network_text.specs.declared.network.Line.{Line}
-use Rattle.network_text.specs.declared.network.Network.{Network}
+use Rattle.networks.specs.Lines.{exchangers_of, own_branches}
+use Rattle.networks.specs.declared.network.Line.{Line}
+use Rattle.networks.specs.declared.network.Network.{Network}
 use Rattle.design_lines.specs.Drawn.{courses_lines, declared_line, drawn, made_branches}
 use Rattle.design_lines.proofs.Declared.{exchangers_of-drawn}
 use Rattle.grid.specs.declared.part.Part.{Part}

@@ -7,7 +7,7 @@ use Rattle.std.proofs.lemmas.List.FromFn.{length-enumerate_from}
 use Rattle.std.proofs.lemmas.Simd.{map-map}
 use Rattle.stream_case.specs.Case.{IsComplete}
 use Rattle.stream_case.specs.declared.case.Case.{Case}
-use Rattle.network_text.specs.Shape.{HasShape}
+use Rattle.networks.specs.Shape.{HasShape}
 use Rattle.network_values.specs.Values.{ended_streams, first_value}
 use Rattle.network_audit.specs.Valid.{IsValidNetwork}
 use Rattle.design_lines.specs.Drawn.{courses_lines, declared_line}

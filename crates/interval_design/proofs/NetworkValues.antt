@@ -8,9 +8,9 @@ use Rattle.std.proofs.lemmas.Option.{same_Some, slice_get-map, slice_get_cases, 
 use Rattle.stream_case.specs.Case.{IsComplete}
 use Rattle.stream_case.specs.declared.case.Case.{Case}
 use Rattle.stream_case.specs.declared.stream.Stream.{Stream}
-use Rattle.network_text.specs.Lines.{own_branches}
-use Rattle.network_text.specs.Shape.{HasShape}
-use Rattle.network_text.specs.declared.network.Network.{Network}
+use Rattle.networks.specs.Lines.{own_branches}
+use Rattle.networks.specs.Shape.{HasShape}
+use Rattle.networks.specs.declared.network.Network.{Network}
 use Rattle.network_values.specs.Values.{Valuation, first_value}
 use Rattle.design_lines.specs.Drawn.{Course, courses_lines, declared_line, made_branches}
 use Rattle.design_lines.specs.Values.{AreLed, IsLedStream, Make, courses_along, courses_values}

@@ -14,7 +14,7 @@ use Rattle.fractions.specs.Rationals.{IsBelow, plus, ratio, rational_zero, times
 use Rattle.fractions.proofs.Comparisons.{positive-ratio}
 use Rattle.fractions.proofs.Ratios.{plus-ratio_same_den, ratio-zero}
 use Rattle.fractions.proofs.Wholes.{ratio-multiple, ratio-times_den, whole-minus}
-use Rattle.network_text.proofs.Lists.{all_at}
+use Rattle.networks.proofs.Lists.{all_at}
 use Rattle.network_values.specs.Values.{change, duty_at, duty_of, full_size}
 use Rattle.design_lines.specs.Values.{IsLedStage, size_of}
 use Rattle.design_lines.specs.declared.stage.Share.{Share}

@@ -9,7 +9,7 @@ use Rattle.sums.proofs.EnumerationLemmas.{All-enumerated}
 use Rattle.stream_case.specs.Case.{is_forbidden}
 use Rattle.stream_case.specs.declared.case.Case.{Case}
 use Rattle.stream_case.specs.declared.source.Source.TheVariants as source
-use Rattle.network_text.specs.Lines.{exchangers_of}
+use Rattle.networks.specs.Lines.{exchangers_of}
 use Rattle.network_audit.specs.Valid.{IsPermitted}
 use Rattle.grid.specs.declared.part.Part.{Part}
 use Rattle.heat_flow.specs.Flow.{IsHeatFlow}

@@ -22,7 +22,7 @@ use Rattle.fractions.proofs.Comparisons.{at_most-whole}
 use Rattle.fractions.proofs.Wholes.{whole-plus}
 use Rattle.network_audit.specs.Balance.{duties_with, duty_with, heat_with}
 use Rattle.network_audit.specs.Valid.{IsInRange}
-use Rattle.network_text.proofs.Lists.{all_at}
+use Rattle.networks.proofs.Lists.{all_at}
 use Rattle.grid.specs.Part.{AreCaseParts, AreParts, IsPartOf, comes_before, comes_before_source, utility_part}
 use Rattle.grid.specs.declared.part.Part.{Part}
 use Rattle.heat_flow.specs.Cuts.{parts_of}

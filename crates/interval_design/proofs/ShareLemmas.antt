@@ -13,8 +13,8 @@ use Rattle.stream_case.proofs.SourceLemmas.{same_source-true}
 use Rattle.fractions.specs.Rationals.{ratio}
 use Rattle.fractions.proofs.Comparisons.{positive-ratio, positive_num}
 use Rattle.fractions.proofs.Limits.{within-ratio}
-use Rattle.network_text.specs.Shape.{IsPositive, Joins}
-use Rattle.network_text.proofs.Lists.{all_at}
+use Rattle.networks.specs.Shape.{IsPositive, Joins}
+use Rattle.networks.proofs.Lists.{all_at}
 use Rattle.design_lines.specs.Led.{IsShareOf}
 use Rattle.design_lines.specs.declared.stage.Share.{Share}
 use Rattle.design_lines.proofs.ListLemmas.{kept_hold}

@@ -16,8 +16,8 @@ use Rattle.stream_case.specs.declared.stream.Stream.{Stream}
 use Rattle.stream_case.specs.declared.utility.Utility.{Utility}
 use Rattle.fractions.specs.Rationals.{whole}
 use Rattle.fractions.proofs.Limits.{within-whole}
-use Rattle.network_text.specs.Shape.{IsExchanger, IsPositive}
-use Rattle.network_text.proofs.Lists.{all_at}
+use Rattle.networks.specs.Shape.{IsExchanger, IsPositive}
+use Rattle.networks.proofs.Lists.{all_at}
 use Rattle.design_lines.proofs.NameLemmas.{IsName-exchanger_name}
 use Rattle.grid.specs.Part.{AreCaseParts, AreParts, IsPartOf}
 use Rattle.grid.specs.declared.part.Part.{Part}

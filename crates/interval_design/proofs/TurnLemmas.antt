@@ -16,9 +16,9 @@ use Rattle.stream_case.specs.declared.source.Source.TheVariants as source
 use Rattle.stream_case.specs.declared.stream.Stream.{Stream}
 use Rattle.stream_case.proofs.SourceLemmas.{same_source-same}
 use Rattle.fractions.specs.Rationals.{ratio}
-use Rattle.network_text.specs.Lines.{Exchanger}
-use Rattle.network_text.specs.Shape.{Joins}
-use Rattle.network_text.proofs.Lists.{all_at}
+use Rattle.networks.specs.Lines.{Exchanger}
+use Rattle.networks.specs.Shape.{Joins}
+use Rattle.networks.proofs.Lists.{all_at}
 use Rattle.design_lines.specs.Drawn.{Course}
 use Rattle.design_lines.specs.Led.{turns}
 use Rattle.design_lines.specs.declared.stage.Share.{Share}

@@ -13,7 +13,7 @@ use Rattle.stream_case.specs.declared.source.Source.{Source}
 use Rattle.stream_case.specs.declared.source.Source.TheVariants as source
 use Rattle.fractions.specs.Rationals.{plus, rational_sum_by, whole}
 use Rattle.fractions.proofs.Wholes.{whole-plus}
-use Rattle.network_text.specs.Lines.{exchangers_of}
+use Rattle.networks.specs.Lines.{exchangers_of}
 use Rattle.network_values.specs.Penalties.{utility_part}
 use Rattle.network_audit.proofs.HeatLemmas.{source_on}
 use Rattle.grid.specs.declared.part.Part.{Part}

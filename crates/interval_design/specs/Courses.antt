@@ -10,8 +10,8 @@ use Rattle.stream_case.specs.declared.source.Source.{Source}
 use Rattle.stream_case.specs.declared.source.Source.TheVariants as source
 use Rattle.stream_case.specs.declared.stream.Stream.{Stream}
 use Rattle.fractions.specs.Rationals.{ratio, whole}
-use Rattle.network_text.specs.Lines.{Exchanger, own_branches}
-use Rattle.network_text.specs.declared.network.Network.{Network}
+use Rattle.networks.specs.Lines.{Exchanger, own_branches}
+use Rattle.networks.specs.declared.network.Network.{Network}
 use Rattle.design_lines.specs.Drawn.{Course, courses_lines, declared_line, made_branches}
 use Rattle.design_lines.specs.Names.{exchanger_name}
 use Rattle.design_lines.specs.declared.stage.Share.{Share}

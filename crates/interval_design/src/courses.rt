@@ -12,7 +12,7 @@ use crate::shares::{shares_of, width_of};
 use design_lines::push_stage;
 use grid::Part;
 use heat_flow::Transfer;
-use network_text::Line;
+use networks::Line;
 use std::alloc::{AllocError, Global};
 use stream_case::{Side, Source};
 

@@ -13,7 +13,7 @@ use design_lines::exchanger_name;
 use fractions::Frac;
 use grid::Part;
 use heat_flow::Transfer;
-use network_text::Line;
+use networks::Line;
 use std::alloc::{AllocError, Global};
 
 /// The heat of a transfer as a duty, in W.

@@ -2,8 +2,8 @@
 use Rattle.std.proofs.Common.{Some, subst}
 use Rattle.stream_case.specs.Case.{IsComplete}
 use Rattle.stream_case.specs.declared.case.Case.{Case}
-use Rattle.network_text.specs.Shape.{HasShape}
-use Rattle.network_text.specs.declared.network.Network.{Network}
+use Rattle.networks.specs.Shape.{HasShape}
+use Rattle.networks.specs.declared.network.Network.{Network}
 use Rattle.network_audit.specs.Audit.{Audit, HasAccepted, IsFaultless, KnowsItsNetwork}
 use Rattle.network_audit.specs.Valid.{IsValidNetwork}
 use Rattle.network_audit.proofs.ValidLemmas.{valid_network}

@@ -3,8 +3,8 @@ use Rattle.std.proofs.Common.{◌≡◌, ◌∙◌, ◌++◌, List, None, length
 use Rattle.std.specs.List.{enumerate_from, flat_map}
 use Rattle.stream_case.specs.declared.case.Case.{Case}
 use Rattle.stream_case.specs.declared.utility.Utility.{Utility}
-use Rattle.network_text.specs.Shape.{HasShape}
-use Rattle.network_text.specs.declared.network.Network.{Network}
+use Rattle.networks.specs.Shape.{HasShape}
+use Rattle.networks.specs.declared.network.Network.{Network}
 use Rattle.network_values.specs.Values.{Valuation}
 use Rattle.network_audit.specs.AllItems.{balance_items, items, items_behind, utility_items}
 use Rattle.network_audit.specs.Items.{exchanger_items, first_finding, items_before, statement_items, stream_items}

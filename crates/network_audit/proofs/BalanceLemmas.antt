@@ -14,8 +14,8 @@ use Rattle.stream_case.specs.declared.utility.Utility.{Utility}
 use Rattle.problem_table.specs.Deficit.{hot_target}
 use Rattle.fractions.specs.Rationals.{Rational, minus, rational_sum, rational_zero, times, whole}
 use Rattle.fractions.proofs.RationalSums.{rational_sum_by-map}
-use Rattle.network_text.specs.Shape.{HasShape}
-use Rattle.network_text.specs.declared.network.Network.{Network}
+use Rattle.networks.specs.Shape.{HasShape}
+use Rattle.networks.specs.declared.network.Network.{Network}
 use Rattle.network_audit.specs.AllItems.{balance_items, cost_steps, heat_on, heats_on, sum_steps}
 use Rattle.network_audit.specs.Balance.{balance_of, cost_of, heat_price, heat_with}
 use Rattle.network_audit.specs.Items.{Item, Step}

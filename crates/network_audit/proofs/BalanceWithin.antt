@@ -6,8 +6,8 @@ use Rattle.stream_case.specs.declared.source.Side.TheVariants as side
 use Rattle.fractions.specs.Rationals.{IsWithinLimits, Rational, plus, rational_zero}
 use Rattle.fractions.proofs.Limits.{Decides-is_within_limits}
 use Rattle.fractions.proofs.RationalSums.{rational_sum_by-map}
-use Rattle.network_text.specs.Shape.{HasShape}
-use Rattle.network_text.specs.declared.network.Network.{Network}
+use Rattle.networks.specs.Shape.{HasShape}
+use Rattle.networks.specs.declared.network.Network.{Network}
 use Rattle.network_audit.specs.AllItems.{balance_items, cost_steps, heats_on, sum_steps}
 use Rattle.network_audit.specs.Balance.{balance_of, cost_of, excess_of, heat_price}
 use Rattle.network_audit.specs.Findings.{HasNoFinding}

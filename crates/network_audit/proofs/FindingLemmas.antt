@@ -7,8 +7,8 @@ use Rattle.std.proofs.lemmas.List.{append-nil, take-append-drop, take-take}
 use Rattle.std.proofs.lemmas.List.Concat.{flat_map-append}
 use Rattle.sums.proofs.EnumerationLemmas.{enumerate_from-append}
 use Rattle.stream_case.specs.declared.case.Case.{Case}
-use Rattle.network_text.specs.Shape.{HasShape, made_before}
-use Rattle.network_text.specs.declared.network.Network.{Network}
+use Rattle.networks.specs.Shape.{HasShape, made_before}
+use Rattle.networks.specs.declared.network.Network.{Network}
 use Rattle.network_values.specs.Made.{front}
 use Rattle.network_values.specs.Values.{IsValuation, IsWholeValuation, Valuation}
 use Rattle.network_values.proofs.ValuationLemmas.{agree-take, one_valuation, valuation_front}

@@ -7,10 +7,10 @@ use Rattle.stream_case.specs.declared.case.Case.{Case}
 use Rattle.stream_case.specs.declared.utility.Utility.{Utility}
 use Rattle.fractions.specs.Rationals.{IsWithinLimits, Rational, rational_zero}
 use Rattle.fractions.proofs.Limits.{Decides-is_within_limits}
-use Rattle.network_text.specs.Lines.{Exchanger, exchangers_of}
-use Rattle.network_text.specs.Shape.{HasShape}
-use Rattle.network_text.specs.declared.network.Line.{Line}
-use Rattle.network_text.specs.declared.network.Network.{Network}
+use Rattle.networks.specs.Lines.{Exchanger, exchangers_of}
+use Rattle.networks.specs.Shape.{HasShape}
+use Rattle.networks.specs.declared.network.Line.{Line}
+use Rattle.networks.specs.declared.network.Network.{Network}
 use Rattle.network_values.specs.Values.{IsWholeValuation, Valuation, full_size}
 use Rattle.network_audit.specs.AllItems.{balance_items, items, items_behind, utility_items, utility_items_at}
 use Rattle.network_audit.specs.Findings.{HasNoFinding}

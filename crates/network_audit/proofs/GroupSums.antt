@@ -10,7 +10,7 @@ use Rattle.fractions.specs.Integers.{pos_above}
 use Rattle.fractions.specs.Rationals.{Rational, rational_sum, rational_zero, whole}
 use Rattle.fractions.proofs.Ratios.{ratio-one, same_from_ratio}
 use Rattle.fractions.proofs.Wholes.{ratio-multiple}
-use Rattle.network_text.specs.declared.network.Network.{Network}
+use Rattle.networks.specs.declared.network.Network.{Network}
 use Rattle.network_audit.specs.AllItems.{sum_steps, utility_items_at}
 use Rattle.network_audit.specs.Balance.{duties_with}
 use Rattle.network_audit.specs.Items.{IsFormed}

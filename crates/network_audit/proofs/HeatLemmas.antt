@@ -15,9 +15,9 @@ use Rattle.stream_case.proofs.CaseLemmas.{IsSourceOf-side}
 use Rattle.fractions.specs.Rationals.{Rational, plus, rational_sum, rational_sum_by, rational_zero}
 use Rattle.fractions.proofs.RationalSums.{but_at, one_taken, rational_sum_by-same, rational_sum_by-swap, rational_sum_by-zero, sum-enumerate}
 use Rattle.fractions.proofs.Sums.{plus-zero, zero-plus}
-use Rattle.network_text.specs.Lines.{Exchanger, exchangers_of}
-use Rattle.network_text.specs.Shape.{HasShape, IsExchanger}
-use Rattle.network_text.specs.declared.network.Network.{Network}
+use Rattle.networks.specs.Lines.{Exchanger, exchangers_of}
+use Rattle.networks.specs.Shape.{HasShape, IsExchanger}
+use Rattle.networks.specs.declared.network.Network.{Network}
 use Rattle.network_audit.specs.AllItems.{heat_on, heats_on}
 use Rattle.network_values.specs.Penalties.{hot_heat, utility_part}
 use Rattle.network_audit.specs.Balance.{cold_heat, duties_with, duty_with, heat_with}

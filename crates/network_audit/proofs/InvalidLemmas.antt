@@ -13,13 +13,13 @@ use Rattle.stream_case.specs.declared.utility.Utility.{Utility}
 use Rattle.fractions.specs.Order.{Decides-rational_eq}
 use Rattle.fractions.specs.Rationals.{Rational, is_below, plus, rational_eq, rational_zero, whole}
 use Rattle.fractions.proofs.Comparisons.{Decides-is_below, Decides-not_below}
-use Rattle.network_text.specs.Lines.{Exchanger, exchangers_of, stream_at}
-use Rattle.network_text.specs.Shape.{HasShape, made_before}
-use Rattle.network_text.specs.declared.network.Line.{Line}
-use Rattle.network_text.specs.declared.network.Line.TheVariants as line
-use Rattle.network_text.specs.declared.network.Network.{Network}
-use Rattle.network_text.proofs.Lists.{all_at}
-use Rattle.network_text.proofs.OfShape.{line_of}
+use Rattle.networks.specs.Lines.{Exchanger, exchangers_of, stream_at}
+use Rattle.networks.specs.Shape.{HasShape, made_before}
+use Rattle.networks.specs.declared.network.Line.{Line}
+use Rattle.networks.specs.declared.network.Line.TheVariants as line
+use Rattle.networks.specs.declared.network.Network.{Network}
+use Rattle.networks.proofs.Lists.{all_at}
+use Rattle.networks.proofs.OfShape.{line_of}
 use Rattle.network_values.specs.Made.{front}
 use Rattle.network_values.specs.Sides.{KeepsApproach}
 use Rattle.network_values.specs.Values.{AreEnded, IsFullEnd, IsValuation, IsWholeValuation, Valuation, branch_side, duty_at, ended_by, ended_streams, full_size, last_state, last_value, value_at}

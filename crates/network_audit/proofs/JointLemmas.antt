@@ -14,13 +14,13 @@ use Rattle.stream_case.specs.declared.case.Case.{Case}
 use Rattle.stream_case.specs.declared.source.Source.{Source}
 use Rattle.stream_case.specs.declared.source.Source.TheVariants as source
 use Rattle.fractions.specs.Rationals.{Rational}
-use Rattle.network_text.specs.Lines.{Exchanger, exchanger_of, exchangers_of, is_pass_of, stream_at}
-use Rattle.network_text.specs.Shape.{HasShape, NamesKnown}
-use Rattle.network_text.specs.declared.network.Branch.{Branch}
-use Rattle.network_text.specs.declared.network.Line.{Line}
-use Rattle.network_text.specs.declared.network.Line.TheVariants as line
-use Rattle.network_text.specs.declared.network.Network.{Network}
-use Rattle.network_text.proofs.OfShape.{names-known}
+use Rattle.networks.specs.Lines.{Exchanger, exchanger_of, exchangers_of, is_pass_of, stream_at}
+use Rattle.networks.specs.Shape.{HasShape, NamesKnown}
+use Rattle.networks.specs.declared.network.Branch.{Branch}
+use Rattle.networks.specs.declared.network.Line.{Line}
+use Rattle.networks.specs.declared.network.Line.TheVariants as line
+use Rattle.networks.specs.declared.network.Network.{Network}
+use Rattle.networks.proofs.OfShape.{names-known}
 use Rattle.network_audit.specs.Joints.{PassesBelow, crossing_among, crossing_by, joint_among, joints_among, noted, passed_joint}
 use Rattle.network_audit.specs.declared.joints.Crossing.{Crossing}
 use Rattle.network_audit.specs.declared.joints.Joint.{Joint}

@@ -26,13 +26,13 @@ use Rattle.fractions.proofs.Limits.{within-whole}
 use Rattle.fractions.proofs.Products.{over_from_times, times-zero, times_comm}
 use Rattle.fractions.proofs.Sums.{zero-plus}
 use Rattle.fractions.proofs.Wholes.{whole-plus}
-use Rattle.network_text.specs.Lines.{Exchanger, pass_of, stream_at}
-use Rattle.network_text.specs.Shape.{HasShape}
-use Rattle.network_text.specs.declared.network.Line.{Line}
-use Rattle.network_text.specs.declared.network.Line.TheVariants as line
-use Rattle.network_text.specs.declared.network.Network.{Network}
-use Rattle.network_text.proofs.Lists.{all_at}
-use Rattle.network_text.proofs.OfShape.{names-known}
+use Rattle.networks.specs.Lines.{Exchanger, pass_of, stream_at}
+use Rattle.networks.specs.Shape.{HasShape}
+use Rattle.networks.specs.declared.network.Line.{Line}
+use Rattle.networks.specs.declared.network.Line.TheVariants as line
+use Rattle.networks.specs.declared.network.Network.{Network}
+use Rattle.networks.proofs.Lists.{all_at}
+use Rattle.networks.proofs.OfShape.{names-known}
 use Rattle.network_values.specs.Sides.{approach_of, contribution_of, fixed_level, high_of, low_of, pass_run, run_between, side_run}
 use Rattle.network_values.specs.Values.{IsMix, IsPass, IsSplit, IsWholeValuation, Solves, Valuation, branch_side, change, duty_at, no_value, value_at}
 use Rattle.network_values.specs.declared.values.BranchValue.{BranchValue}

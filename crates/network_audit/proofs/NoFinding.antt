@@ -5,11 +5,11 @@ use Rattle.stream_case.specs.Utility.{IsPlaced}
 use Rattle.stream_case.specs.declared.case.Case.{Case}
 use Rattle.stream_case.specs.declared.utility.Utility.{Utility}
 use Rattle.stream_case.proofs.CompleteLemmas.{IsPlaced-IsComplete}
-use Rattle.network_text.specs.Lines.{exchangers_of}
-use Rattle.network_text.specs.Shape.{HasShape}
-use Rattle.network_text.specs.declared.network.Network.{Network}
-use Rattle.network_text.proofs.LineLaws.{few_exchangers}
-use Rattle.network_text.proofs.Lists.{all_at}
+use Rattle.networks.specs.Lines.{exchangers_of}
+use Rattle.networks.specs.Shape.{HasShape}
+use Rattle.networks.specs.declared.network.Network.{Network}
+use Rattle.networks.proofs.LineLaws.{few_exchangers}
+use Rattle.networks.proofs.Lists.{all_at}
 use Rattle.network_values.specs.Values.{IsWholeValuation, Valuation}
 use Rattle.network_audit.specs.AllItems.{utility_items_at}
 use Rattle.network_audit.specs.Balance.{heat_with}

@@ -5,8 +5,8 @@ use Rattle.std.proofs.lemmas.Option.{slice_get-get_or}
 use Rattle.fractions.specs.Rationals.{IsBelow, over, plus, rational_zero, times}
 use Rattle.fractions.proofs.Comparisons.{positive-nonzero}
 use Rattle.fractions.proofs.Products.{over_from_times, times-plus, times_comm}
-use Rattle.network_text.specs.Lines.{Exchanger, exchangers_of}
-use Rattle.network_text.specs.declared.network.Network.{Network}
+use Rattle.networks.specs.Lines.{Exchanger, exchangers_of}
+use Rattle.networks.specs.declared.network.Network.{Network}
 use Rattle.network_values.specs.Made.{heat_of_both}
 use Rattle.network_values.specs.Values.{Valuation, duty_at, duty_of, no_value, value_at}
 use Rattle.network_values.specs.declared.values.BranchValue.{BranchValue}

@@ -20,10 +20,10 @@ use Rattle.stream_case.specs.declared.utility.Utility.{Utility}
 use Rattle.stream_case.proofs.CompleteLemmas.{AreStreams-IsComplete, IsPlaced-IsComplete, length-utilities}
 use Rattle.fractions.specs.Rationals.{Rational, plus, ratio, rational_sum, rational_zero, whole}
 use Rattle.fractions.proofs.Comparisons.{at_most-whole, at_most_trans}
-use Rattle.network_text.specs.Lines.{exchangers_of}
-use Rattle.network_text.specs.Shape.{HasShape}
-use Rattle.network_text.specs.declared.network.Network.{Network}
-use Rattle.network_text.proofs.Lists.{all_at}
+use Rattle.networks.specs.Lines.{exchangers_of}
+use Rattle.networks.specs.Shape.{HasShape}
+use Rattle.networks.specs.declared.network.Network.{Network}
+use Rattle.networks.proofs.Lists.{all_at}
 use Rattle.network_values.specs.Penalties.{hot_heat}
 use Rattle.problem_table.specs.Deficit.{hot_target}
 use Rattle.problem_table.proofs.DeficitLemmas.{hot_target-between}

@@ -12,12 +12,12 @@ use Rattle.stream_case.specs.declared.source.Source.{Source}
 use Rattle.stream_case.specs.declared.source.Source.TheVariants as source
 use Rattle.stream_case.specs.declared.utility.Utility.{Utility}
 use Rattle.fractions.specs.Rationals.{Rational, rational_sum, rational_zero}
-use Rattle.network_text.specs.Lines.{Exchanger, exchangers_of, pass_of, stream_at}
-use Rattle.network_text.specs.Shape.{HasShape, IsExchanger}
-use Rattle.network_text.specs.declared.network.Network.{Network}
-use Rattle.network_text.specs.declared.network.Line.TheVariants as line
-use Rattle.network_text.proofs.Lists.{all_at}
-use Rattle.network_text.proofs.OfShape.{the_pass_of}
+use Rattle.networks.specs.Lines.{Exchanger, exchangers_of, pass_of, stream_at}
+use Rattle.networks.specs.Shape.{HasShape, IsExchanger}
+use Rattle.networks.specs.declared.network.Network.{Network}
+use Rattle.networks.specs.declared.network.Line.TheVariants as line
+use Rattle.networks.proofs.Lists.{all_at}
+use Rattle.networks.proofs.OfShape.{the_pass_of}
 use Rattle.network_values.specs.Sides.{pass_run, run_between, side_run}
 use Rattle.network_values.specs.Values.{Valuation, branch_side, value_at}
 use Rattle.network_audit.specs.AllItems.{range_items, sum_steps, utility_items, utility_items_at}

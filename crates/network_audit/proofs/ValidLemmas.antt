@@ -14,12 +14,12 @@ use Rattle.stream_case.specs.declared.utility.Utility.{Utility}
 use Rattle.fractions.specs.Order.{Decides-rational_eq}
 use Rattle.fractions.specs.Rationals.{rational_zero, whole}
 use Rattle.fractions.proofs.Comparisons.{Decides-not_below}
-use Rattle.network_text.specs.Lines.{Exchanger, exchangers_of, stream_at}
-use Rattle.network_text.specs.declared.network.Branch.{Branch}
-use Rattle.network_text.specs.declared.network.Line.{Line}
-use Rattle.network_text.specs.declared.network.Line.TheVariants as line
-use Rattle.network_text.specs.declared.network.Network.{Network}
-use Rattle.network_text.proofs.Lists.{All-back, All-flat_map, All-front}
+use Rattle.networks.specs.Lines.{Exchanger, exchangers_of, stream_at}
+use Rattle.networks.specs.declared.network.Branch.{Branch}
+use Rattle.networks.specs.declared.network.Line.{Line}
+use Rattle.networks.specs.declared.network.Line.TheVariants as line
+use Rattle.networks.specs.declared.network.Network.{Network}
+use Rattle.networks.proofs.Lists.{All-back, All-flat_map, All-front}
 use Rattle.network_values.specs.Sides.{KeepsApproach}
 use Rattle.network_values.specs.Values.{IsFullEnd, IsWholeValuation, Valuation, ended_by, ended_streams, ends, full_size, last_state, last_value, value_at}
 use Rattle.network_values.proofs.LineLemmas.{same_value}

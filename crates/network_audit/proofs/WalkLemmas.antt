@@ -9,13 +9,13 @@ use Rattle.sums.proofs.EnumerationLemmas.{All-enumerated}
 use Rattle.stream_case.specs.Case.{IsComplete}
 use Rattle.stream_case.specs.declared.case.Case.{Case}
 use Rattle.fractions.proofs.Comparisons.{Decides-is_below}
-use Rattle.network_text.specs.Lines.{made_by, stream_at, uses}
-use Rattle.network_text.specs.Shape.{HasShape, made_before}
-use Rattle.network_text.specs.declared.network.Line.{Line}
-use Rattle.network_text.specs.declared.network.Line.TheVariants as line
-use Rattle.network_text.specs.declared.network.Network.{Network}
-use Rattle.network_text.proofs.Lists.{slice_get-take}
-use Rattle.network_text.proofs.OfShape.{IsLineOf, all_made, line_of, line_read, made_fewer, made_no_more}
+use Rattle.networks.specs.Lines.{made_by, stream_at, uses}
+use Rattle.networks.specs.Shape.{HasShape, made_before}
+use Rattle.networks.specs.declared.network.Line.{Line}
+use Rattle.networks.specs.declared.network.Line.TheVariants as line
+use Rattle.networks.specs.declared.network.Network.{Network}
+use Rattle.networks.proofs.Lists.{slice_get-take}
+use Rattle.networks.proofs.OfShape.{IsLineOf, all_made, line_of, line_read, made_fewer, made_no_more}
 use Rattle.network_values.specs.Made.{LeavesRoom, made_values}
 use Rattle.network_values.specs.Values.{IsValuation, IsWholeValuation, Valuation, branch_side, duty_at, first_value, value_at}
 use Rattle.network_values.specs.declared.values.BranchValue.{BranchValue}

@@ -7,7 +7,7 @@ use Rattle.stream_case.specs.declared.source.Side.{Side}
 use Rattle.stream_case.specs.declared.source.Side.TheVariants as side
 use Rattle.stream_case.specs.declared.utility.Utility.{Utility}
 use Rattle.fractions.specs.Rationals.{Rational, plus, rational_zero, whole}
-use Rattle.network_text.specs.declared.network.Network.{Network}
+use Rattle.networks.specs.declared.network.Network.{Network}
 use Rattle.network_values.specs.Values.{Valuation}
 use Rattle.network_audit.specs.Balance.{duties_with, excess_of, heat_price, heat_with}
 use Rattle.network_audit.specs.Items.{Item, Step, Test, exchanger_items, is_reached, items_before, stream_items}

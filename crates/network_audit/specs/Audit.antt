@@ -3,8 +3,8 @@ use Rattle.std.specs.Prelude.{◌≡◌, ◌⊎◌, ◌↔◌, IfSome, List, len
 use Rattle.stream_case.specs.Case.{IsComplete}
 use Rattle.stream_case.specs.declared.case.Case.{Case}
 use Rattle.fractions.specs.Rationals.{Rational}
-use Rattle.network_text.specs.Shape.{HasShape}
-use Rattle.network_text.specs.declared.network.Network.{Network}
+use Rattle.networks.specs.Shape.{HasShape}
+use Rattle.networks.specs.declared.network.Network.{Network}
 use Rattle.network_values.specs.Values.{IsWholeValuation, Valuation}
 use Rattle.network_audit.specs.AllItems.{items}
 use Rattle.network_audit.specs.Balance.{balance_of}

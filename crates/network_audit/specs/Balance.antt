@@ -7,8 +7,8 @@ use Rattle.stream_case.specs.declared.source.Source.TheVariants as source
 use Rattle.stream_case.specs.declared.utility.Utility.{Utility}
 use Rattle.problem_table.specs.Deficit.{hot_target}
 use Rattle.fractions.specs.Rationals.{Rational, minus, rational_sum, rational_sum_by, times, whole}
-use Rattle.network_text.specs.Lines.{Exchanger, exchangers_of}
-use Rattle.network_text.specs.declared.network.Network.{Network}
+use Rattle.networks.specs.Lines.{Exchanger, exchangers_of}
+use Rattle.networks.specs.declared.network.Network.{Network}
 use Rattle.network_values.specs.Penalties.{hot_heat, utility_part}
 use Rattle.network_audit.specs.declared.verdict.Balance.{Balance}
 

@@ -1,7 +1,7 @@
 -- The finding of an audit, and the verdict.
 use Rattle.std.specs.Prelude.{◌≡◌, ℕ, length, Some, None}
 use Rattle.stream_case.specs.declared.case.Case.{Case}
-use Rattle.network_text.specs.declared.network.Network.{Network}
+use Rattle.networks.specs.declared.network.Network.{Network}
 use Rattle.network_values.specs.Values.{IsValuation, IsWholeValuation, Valuation}
 use Rattle.network_audit.specs.AllItems.{items}
 use Rattle.network_audit.specs.Balance.{balance_of}

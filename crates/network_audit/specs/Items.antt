@@ -8,11 +8,11 @@ use Rattle.stream_case.specs.declared.source.Side.TheVariants as side
 use Rattle.stream_case.specs.declared.source.Source.{Source}
 use Rattle.stream_case.specs.declared.stream.Stream.{Stream}
 use Rattle.fractions.specs.Rationals.{IsWithinLimits, Rational, is_below, is_within_limits, minus, over, plus, rational_eq, rational_zero, times, whole}
-use Rattle.network_text.specs.Lines.{Exchanger, exchangers_of, stream_at}
-use Rattle.network_text.specs.declared.network.Branch.{Branch}
-use Rattle.network_text.specs.declared.network.Line.{Line}
-use Rattle.network_text.specs.declared.network.Line.TheVariants as line
-use Rattle.network_text.specs.declared.network.Network.{Network}
+use Rattle.networks.specs.Lines.{Exchanger, exchangers_of, stream_at}
+use Rattle.networks.specs.declared.network.Branch.{Branch}
+use Rattle.networks.specs.declared.network.Line.{Line}
+use Rattle.networks.specs.declared.network.Line.TheVariants as line
+use Rattle.networks.specs.declared.network.Network.{Network}
 use Rattle.network_values.specs.Made.{heat_of_both, moved}
 use Rattle.network_values.specs.Sides.{SideRun, approach_of, enters, leaves, side_run}
 use Rattle.network_values.specs.Values.{Valuation, branch_side, duty_at, full_size, last_state, value_at}

@@ -4,8 +4,8 @@ use Rattle.stream_case.specs.Case.{is_forbidden}
 use Rattle.stream_case.specs.declared.case.Case.{Case}
 use Rattle.stream_case.specs.declared.utility.Utility.{Utility}
 use Rattle.fractions.specs.Rationals.{IsAtMost, Rational, whole}
-use Rattle.network_text.specs.Lines.{Exchanger, exchangers_of}
-use Rattle.network_text.specs.declared.network.Network.{Network}
+use Rattle.networks.specs.Lines.{Exchanger, exchangers_of}
+use Rattle.networks.specs.declared.network.Network.{Network}
 use Rattle.network_values.specs.Sides.{KeepApproaches}
 use Rattle.network_values.specs.Values.{AreEnded, IsWholeValuation, Valuation}
 use Rattle.network_audit.specs.Balance.{heat_with}

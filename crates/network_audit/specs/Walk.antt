@@ -1,7 +1,7 @@
 -- What the walk over the statements answers.
 use Rattle.std.specs.Prelude.{◌≡◌, length, None, Result, Ok, Err}
 use Rattle.stream_case.specs.declared.case.Case.{Case}
-use Rattle.network_text.specs.declared.network.Network.{Network}
+use Rattle.networks.specs.declared.network.Network.{Network}
 use Rattle.network_values.specs.Values.{IsWholeValuation, Valuation}
 use Rattle.network_audit.specs.Findings.{IsFinding}
 use Rattle.network_audit.specs.Items.{first_finding, items_before}

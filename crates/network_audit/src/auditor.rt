@@ -2,7 +2,7 @@
 ghost use Rattle.std.specs.Prelude.{◌≡◌, None, Some, IfOk, MatchResult, slice_get, option_and_then, length};
 ghost use Rattle.stream_case.specs.Case.{IsComplete};
 ghost use Rattle.fractions.specs.Rationals.{IsAtMost, rational_zero};
-ghost use Rattle.network_text.specs.Shape.{HasShape};
+ghost use Rattle.networks.specs.Shape.{HasShape};
 ghost use Rattle.network_values.specs.Values.{IsWholeValuation, Valuation};
 ghost use Rattle.network_audit.specs.Audit.{Accepts, IfAccepted, IsReady};
 ghost use Rattle.network_audit.specs.Findings.{IsFinding, IsVerdict};
@@ -19,8 +19,8 @@ use crate::utilities::audit_utilities;
 use crate::verdict::{Balance, Verdict};
 use crate::walk::audit_statements;
 use fractions::Frac;
-use network_text::Network;
 use network_values::BranchValue;
+use networks::Network;
 use std::alloc::{AllocError, Global};
 use std::marker::Model;
 use stream_case::Case;

@@ -1,7 +1,7 @@
 //! Copies of a case and a network.
 ghost use Rattle.std.specs.Prelude.{◌≡◌, IfOk};
 
-use network_text::Network;
+use networks::Network;
 use std::alloc::{AllocError, Global};
 use stream_case::Case;
 

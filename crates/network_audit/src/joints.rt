@@ -1,10 +1,10 @@
 //! The exchangers of a network with the branches that pass them, in one table.
 ghost use Rattle.std.specs.Prelude.{◌≡◌, ℕ, ◌<◌, [], List, length, All, IfOk};
-ghost use Rattle.network_text.specs.Lines.{Exchanger, exchangers_of, stream_at};
+ghost use Rattle.networks.specs.Lines.{Exchanger, exchangers_of, stream_at};
 ghost use Rattle.network_audit.specs.Joints.{PassesBelow, joints_among, joints_of, noted, passed_joint};
 
 use fractions::Frac;
-use network_text::{Branch, Line, Network};
+use networks::{Branch, Line, Network};
 use std::alloc::{AllocError, Global};
 use stream_case::Source;
 
@@ -120,7 +120,7 @@ fn noted(
 }
 
 /// The stream of the branch with a number; the first, of which no rule speaks, where there is none.
-#[tactic(auto, unfolding(network_text::specs::Lines::stream_at))]
+#[tactic(auto, unfolding(networks::specs::Lines::stream_at))]
 pub fn stream_at(branches: &[Branch], number: u32) -> u32
     ensures { result ≡ stream_at branches.now number }
 {

@@ -2,8 +2,8 @@
 
 ghost use Rattle.std.specs.Prelude.{◌≡◌, length, All};
 ghost use Rattle.stream_case.specs.declared.case.Case.{Case};
-ghost use Rattle.network_text.specs.Shape.{HasShape};
-ghost use Rattle.network_text.specs.declared.network.Network.{Network};
+ghost use Rattle.networks.specs.Shape.{HasShape};
+ghost use Rattle.networks.specs.declared.network.Network.{Network};
 ghost use Rattle.network_values.specs.Values.{IsWholeValuation, Valuation};
 ghost use Rattle.network_audit.specs.AllItems.{items};
 ghost use Rattle.network_audit.specs.Items.{IsFormed};

@@ -1,21 +1,21 @@
 //! The audit of the statements: what each makes of what the branches carry before it.
 ghost use Rattle.std.specs.Prelude.{◌≡◌, ◌<◌, length, All};
 ghost use Rattle.fractions.specs.Rationals.{Gives, IsBelow, over, rational_zero};
-ghost use Rattle.network_text.specs.Lines.{members, uses};
-ghost use Rattle.network_text.specs.Shape.{NamesKnown};
+ghost use Rattle.networks.specs.Lines.{members, uses};
+ghost use Rattle.networks.specs.Shape.{NamesKnown};
 ghost use Rattle.network_values.specs.Made.{heat_of_both, made_values, mixed_value, moved, passed_value, second_part};
 ghost use Rattle.network_values.specs.Values.{branch_side};
 ghost use Rattle.network_audit.specs.Answers.{Formed, Judged, Tested};
 ghost use Rattle.network_audit.specs.Items.{end_items, line_items, mean_items, mix_items, pass_items, split_items};
 ghost use Rattle.network_audit.specs.Joints.{joints_of};
-ghost use Rattle.network_text.specs.declared.network.Network.{Network};
+ghost use Rattle.networks.specs.declared.network.Network.{Network};
 
 use crate::findings::{Finding, Place, Reason};
 use crate::joints::{Joint, stream_at};
 use crate::streams::{full_size, last_state};
 use fractions::Frac;
-use network_text::{AtMostTwo, Branch, Line, Network};
 use network_values::BranchValue;
+use networks::{AtMostTwo, Branch, Line, Network};
 use stream_case::{Case, Side, Source, Stream};
 
 /// The second part of a branch that is split, where the first has this heat-capacity flow in

@@ -8,8 +8,8 @@ ghost use Rattle.network_audit.specs.Items.{ends_stream, stream_items};
 use crate::findings::{Finding, Place, Reason};
 use crate::joints::stream_at;
 use fractions::Frac;
-use network_text::{Branch, Line, Network};
 use network_values::BranchValue;
+use networks::{Branch, Line, Network};
 use stream_case::{Case, Stream};
 
 /// The size of a whole stream: its heat-capacity flow, in 10 W/K.

@@ -1,8 +1,8 @@
 //! The walk over the statements, from the streams' own branches to the last that is made.
 ghost use Rattle.std.specs.Prelude.{◌≡◌, ◌+◌, ◌<◌, ◌≤◌, ◌^◌, ◌++◌, length, take};
-ghost use Rattle.network_text.specs.Lines.{members};
+ghost use Rattle.networks.specs.Lines.{members};
 ghost use Rattle.stream_case.specs.Case.{IsComplete};
-ghost use Rattle.network_text.specs.Shape.{HasShape};
+ghost use Rattle.networks.specs.Shape.{HasShape};
 ghost use Rattle.network_audit.specs.Walk.{WalkedAll};
 ghost use Rattle.network_audit.specs.Joints.{joints_of};
 
@@ -10,8 +10,8 @@ use crate::findings::{Finding, Place};
 use crate::joints::Joint;
 use crate::statements::made_by;
 use crate::streams::start;
-use network_text::{AtMostTwo, Network};
 use network_values::BranchValue;
+use networks::{AtMostTwo, Network};
 use stream_case::Case;
 
 /// Keeps what the next branches carry, of which so many were made before; answers how many are

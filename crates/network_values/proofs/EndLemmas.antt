@@ -14,13 +14,13 @@ use Rattle.fractions.specs.Rationals.{IsAtMost, IsBelow, Rational, minus, plus, 
 use Rattle.fractions.proofs.Comparisons.{at_most-plus_left, at_most-plus_right, at_most_from_below, at_most_from_plus, at_most_refl, at_most_trans, below_not_at_most}
 use Rattle.fractions.proofs.RationalSums.{but_at, left_of, left_of-unused, not_negative-rational_sum_by, one_taken, rational_sum_by-zero, term-at_most}
 use Rattle.fractions.proofs.Sums.{minus-self, plus-zero, plus_comm, zero-plus}
-use Rattle.network_text.specs.Lines.{stream_at, used_by, uses}
-use Rattle.network_text.specs.Shape.{HasShape, IsOfOneStream}
-use Rattle.network_text.specs.declared.network.Line.{Line}
-use Rattle.network_text.specs.declared.network.Line.TheVariants as line
-use Rattle.network_text.specs.declared.network.Network.{Network}
-use Rattle.network_text.proofs.Lists.{All-flat_map}
-use Rattle.network_text.proofs.OfShape.{own_stream, stream_within, streams_first, used_there}
+use Rattle.networks.specs.Lines.{stream_at, used_by, uses}
+use Rattle.networks.specs.Shape.{HasShape, IsOfOneStream}
+use Rattle.networks.specs.declared.network.Line.{Line}
+use Rattle.networks.specs.declared.network.Line.TheVariants as line
+use Rattle.networks.specs.declared.network.Network.{Network}
+use Rattle.networks.proofs.Lists.{All-flat_map}
+use Rattle.networks.proofs.OfShape.{own_stream, stream_within, streams_first, used_there}
 use Rattle.network_values.specs.Values.{AreEnded, IsWholeValuation, Solves, Valuation, ended_by, ended_streams, ends, last_value, value_at}
 use Rattle.network_values.specs.Weights.{EndOnce, IsAdditive, StreamsEndOnce, Weight, mix_loss, pass_loss, weight_at}
 use Rattle.network_values.specs.declared.values.BranchValue.{BranchValue}

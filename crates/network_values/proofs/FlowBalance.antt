@@ -8,12 +8,12 @@ use Rattle.sums.proofs.EnumerationLemmas.{range_with_len-append}
 use Rattle.fractions.specs.Rationals.{Rational, minus, plus, rational_sum_by}
 use Rattle.fractions.proofs.RationalSums.{left_of, rational_sum_by-append, rational_sum_by-flat_map, rational_sum_by-plus, rational_sum_by-same, sum_over_used}
 use Rattle.fractions.proofs.Sums.{plus-minus, plus-zero, plus_assoc, plus_cancel_left, plus_comm, zero-plus}
-use Rattle.network_text.specs.Lines.{made_by, makes, used_by, uses}
-use Rattle.network_text.specs.Shape.{AreMadeInOrder, HasShape}
-use Rattle.network_text.specs.declared.network.Line.{Line}
-use Rattle.network_text.specs.declared.network.Line.TheVariants as line
-use Rattle.network_text.specs.declared.network.Network.{Network}
-use Rattle.network_text.proofs.OfShape.{streams_first, used_within}
+use Rattle.networks.specs.Lines.{made_by, makes, used_by, uses}
+use Rattle.networks.specs.Shape.{AreMadeInOrder, HasShape}
+use Rattle.networks.specs.declared.network.Line.{Line}
+use Rattle.networks.specs.declared.network.Line.TheVariants as line
+use Rattle.networks.specs.declared.network.Network.{Network}
+use Rattle.networks.proofs.OfShape.{streams_first, used_within}
 use Rattle.network_values.specs.Values.{ended_by, ends}
 use Rattle.network_values.specs.Weights.{mix_loss, pass_loss}
 

@@ -15,11 +15,11 @@ use Rattle.fractions.specs.Lowest.{gcd, last_remainder}
 use Rattle.fractions.specs.Rationals.{IsAtMost, IsBelow, Rational, lowest_form, minus, plus, ratio, rational_cmp, rational_zero, times, whole}
 use Rattle.fractions.specs.LowestForms.{same_from_fields}
 use Rattle.fractions.proofs.Comparisons.{Decides-is_le, below-whole}
-use Rattle.network_text.specs.Lines.{exchangers_of, made_by, pass_of, stream_at}
-use Rattle.network_text.specs.declared.network.Branch.{Branch}
-use Rattle.network_text.specs.declared.network.Line.{Line}
-use Rattle.network_text.specs.declared.network.Line.TheVariants as line
-use Rattle.network_text.specs.declared.network.Network.{Network}
+use Rattle.networks.specs.Lines.{exchangers_of, made_by, pass_of, stream_at}
+use Rattle.networks.specs.declared.network.Branch.{Branch}
+use Rattle.networks.specs.declared.network.Line.{Line}
+use Rattle.networks.specs.declared.network.Line.TheVariants as line
+use Rattle.networks.specs.declared.network.Network.{Network}
 use Rattle.network_values.specs.Heights.{positive_part, view_above}
 use Rattle.network_values.specs.Penalties.{height_at, heights, hot_heat, mix_penalties, penalty}
 use Rattle.network_values.specs.Sides.{KeepApproaches, KeepsApproach, side_run}

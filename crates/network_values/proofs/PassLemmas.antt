@@ -15,13 +15,13 @@ use Rattle.stream_case.specs.Case.{side_of}
 use Rattle.fractions.specs.Rationals.{Rational, minus, plus, rational_sum_by, rational_zero}
 use Rattle.fractions.proofs.RationalSums.{but_at, one_taken, only, rational_sum_by-plus, rational_sum_by-same, rational_sum_by-swap, rational_sum_by-zero, sum-enumerate, sum-enumerated, sum-once}
 use Rattle.fractions.proofs.Sums.{minus-self, plus-zero, zero-plus}
-use Rattle.network_text.specs.Lines.{Exchanger, exchangers_of, is_pass_of, pass_of, stream_at}
-use Rattle.network_text.specs.Shape.{HasShape, IsExchanger, Joins}
-use Rattle.network_text.specs.declared.network.Line.{Line}
-use Rattle.network_text.specs.declared.network.Line.TheVariants as line
-use Rattle.network_text.specs.declared.network.Network.{Network}
-use Rattle.network_text.proofs.Lists.{all_at}
-use Rattle.network_text.proofs.OfShape.{count-passages, declared_parts, stands_at}
+use Rattle.networks.specs.Lines.{Exchanger, exchangers_of, is_pass_of, pass_of, stream_at}
+use Rattle.networks.specs.Shape.{HasShape, IsExchanger, Joins}
+use Rattle.networks.specs.declared.network.Line.{Line}
+use Rattle.networks.specs.declared.network.Line.TheVariants as line
+use Rattle.networks.specs.declared.network.Network.{Network}
+use Rattle.networks.proofs.Lists.{all_at}
+use Rattle.networks.proofs.OfShape.{count-passages, declared_parts, stands_at}
 use Rattle.network_values.specs.Penalties.{inlet_height, outlet_height}
 use Rattle.network_values.specs.Weights.{pass_loss}
 use Rattle.network_values.proofs.WholeLemmas.{All-range}

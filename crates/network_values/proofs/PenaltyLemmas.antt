@@ -21,9 +21,9 @@ use Rattle.fractions.proofs.RationalSums.{rational_sum_by-plus, rational_sum_by-
 use Rattle.fractions.proofs.Ratios.{by_three, one_denominator}
 use Rattle.fractions.proofs.Sums.{minus-zero, plus-zero, plus_assoc, zero-plus}
 use Rattle.fractions.proofs.Wholes.{whole-minus, whole-times}
-use Rattle.network_text.specs.Lines.{Exchanger, exchangers_of, pass_of}
-use Rattle.network_text.specs.Shape.{HasShape}
-use Rattle.network_text.specs.declared.network.Network.{Network}
+use Rattle.networks.specs.Lines.{Exchanger, exchangers_of, pass_of}
+use Rattle.networks.specs.Shape.{HasShape}
+use Rattle.networks.specs.declared.network.Network.{Network}
 use Rattle.problem_table.specs.Sides.{sum_side}
 use Rattle.network_values.specs.Heights.{View, height, positive_part}
 use Rattle.network_values.specs.Penalties.{PenaltiesAddUp, PenaltiesAreTheExcess, StreamsGiveTheirHeat, absorbed_heat, course_of, given_by, height_at, height_in, heights, hot_duty, hot_heat, inlet_height, mix_penalties, outlet_height, penalty, released_heat, stream_height, utility_part}

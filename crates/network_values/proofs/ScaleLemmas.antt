@@ -17,12 +17,12 @@ use Rattle.fractions.proofs.Comparisons.{at_most-minus_right, at_most-minus_swap
 use Rattle.fractions.proofs.Ratios.{by_three, one_denominator}
 use Rattle.fractions.proofs.Sums.{plus_comm}
 use Rattle.fractions.proofs.Wholes.{whole-minus, whole-plus}
-use Rattle.network_text.specs.Lines.{Exchanger, exchangers_of, pass_of, stream_at, uses}
-use Rattle.network_text.specs.Shape.{HasShape, IsExchanger, IsOfOneStream, Joins}
-use Rattle.network_text.specs.declared.network.Line.TheVariants as line
-use Rattle.network_text.specs.declared.network.Network.{Network}
-use Rattle.network_text.proofs.Lists.{all_at}
-use Rattle.network_text.proofs.OfShape.{the_pass_of, used_there}
+use Rattle.networks.specs.Lines.{Exchanger, exchangers_of, pass_of, stream_at, uses}
+use Rattle.networks.specs.Shape.{HasShape, IsExchanger, IsOfOneStream, Joins}
+use Rattle.networks.specs.declared.network.Line.TheVariants as line
+use Rattle.networks.specs.declared.network.Network.{Network}
+use Rattle.networks.proofs.Lists.{all_at}
+use Rattle.networks.proofs.OfShape.{the_pass_of, used_there}
 use Rattle.network_values.specs.Courses.{IsBetweenValues, Sensible}
 use Rattle.network_values.specs.Heights.{HasDuty, View, share, share_in}
 use Rattle.network_values.specs.OneScale.{ExchangersRunOnOneScale, RunsOnOneScale, shifted_run}

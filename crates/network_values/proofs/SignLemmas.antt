@@ -12,12 +12,12 @@ use Rattle.stream_case.specs.declared.source.Source.TheVariants as source
 use Rattle.fractions.specs.Rationals.{IsAtMost, IsBelow, Rational, plus, rational_zero, whole}
 use Rattle.fractions.proofs.Comparisons.{at_most_from_below, at_most_from_not_negative, at_most_from_same, at_most_refl, at_most_trans, not_negative-minus, not_negative-plus, positive-is}
 use Rattle.fractions.proofs.RationalSums.{not_negative-enumerated, not_negative-rational_sum_by}
-use Rattle.network_text.specs.Lines.{Exchanger, exchangers_of, stream_at, uses}
-use Rattle.network_text.specs.Shape.{HasShape, IsExchanger, IsOfOneStream}
-use Rattle.network_text.specs.declared.network.Line.{Line}
-use Rattle.network_text.specs.declared.network.Line.TheVariants as line
-use Rattle.network_text.specs.declared.network.Network.{Network}
-use Rattle.network_text.proofs.OfShape.{stream_within, used_there}
+use Rattle.networks.specs.Lines.{Exchanger, exchangers_of, stream_at, uses}
+use Rattle.networks.specs.Shape.{HasShape, IsExchanger, IsOfOneStream}
+use Rattle.networks.specs.declared.network.Line.{Line}
+use Rattle.networks.specs.declared.network.Line.TheVariants as line
+use Rattle.networks.specs.declared.network.Network.{Network}
+use Rattle.networks.proofs.OfShape.{stream_within, used_there}
 use Rattle.problem_table.specs.Deficit.{deficit_above, hot_target}
 use Rattle.network_values.specs.Heights.{View, share_in, view_above}
 use Rattle.network_values.specs.OneScale.{RunsOnOneScale, shifted_run}

@@ -11,13 +11,13 @@ use Rattle.stream_case.specs.declared.stream.Stream.{Stream}
 use Rattle.stream_case.proofs.CompleteLemmas.{HasValidStreams-IsComplete}
 use Rattle.fractions.specs.Rationals.{IsBelow, rational_zero, whole}
 use Rattle.fractions.proofs.Comparisons.{below-whole, positive-is, positive-minus}
-use Rattle.network_text.specs.Lines.{made_by, makes, uses}
-use Rattle.network_text.specs.Shape.{HasPositiveFlow, HasShape, made_before}
-use Rattle.network_text.specs.declared.network.Line.{Line}
-use Rattle.network_text.specs.declared.network.Line.TheVariants as line
-use Rattle.network_text.specs.declared.network.Network.{Network}
-use Rattle.network_text.proofs.Lists.{all_at, slice_get-take}
-use Rattle.network_text.proofs.OfShape.{HasNumbers, line_at, line_of, made_fewer}
+use Rattle.networks.specs.Lines.{made_by, makes, uses}
+use Rattle.networks.specs.Shape.{HasPositiveFlow, HasShape, made_before}
+use Rattle.networks.specs.declared.network.Line.{Line}
+use Rattle.networks.specs.declared.network.Line.TheVariants as line
+use Rattle.networks.specs.declared.network.Network.{Network}
+use Rattle.networks.proofs.Lists.{all_at, slice_get-take}
+use Rattle.networks.proofs.OfShape.{HasNumbers, line_at, line_of, made_fewer}
 use Rattle.network_values.specs.Made.{LeaveRoom, LeavesRoom, first_part, front, made_values, mixed_value, passed_value, second_part}
 use Rattle.network_values.specs.Values.{IsMix, IsPass, IsSplit, IsValuation, Solves, Valuation, branch_side, duty_at, first_value, no_value, value_at}
 use Rattle.network_values.specs.declared.values.BranchValue.{BranchValue}

@@ -9,10 +9,10 @@ use Rattle.stream_case.specs.declared.stream.Stream.{Stream}
 use Rattle.fractions.specs.Rationals.{Rational, minus, plus, rational_sum_by, rational_zero}
 use Rattle.fractions.proofs.RationalSums.{left_of, left_of-used, rational_sum_by-map, rational_sum_by-minus, rational_sum_by-same, rational_sum_by-zero, sum-enumerate, sum_over_used}
 use Rattle.fractions.proofs.Sums.{minus-plus, plus-zero}
-use Rattle.network_text.specs.Lines.{stream_at, used_by}
-use Rattle.network_text.specs.Shape.{HasShape}
-use Rattle.network_text.specs.declared.network.Network.{Network}
-use Rattle.network_text.proofs.OfShape.{own_stream, stream_within}
+use Rattle.networks.specs.Lines.{stream_at, used_by}
+use Rattle.networks.specs.Shape.{HasShape}
+use Rattle.networks.specs.declared.network.Network.{Network}
+use Rattle.networks.proofs.OfShape.{own_stream, stream_within}
 use Rattle.network_values.specs.Values.{AreEnded, IsWholeValuation, Valuation, ended_by, ended_streams, first_value, last_value, value_at}
 use Rattle.network_values.specs.Weights.{IsAdditive, Weight, WeightsBalance, stream_loss, mix_loss, pass_loss, weight_at}
 use Rattle.network_values.proofs.EndLemmas.{all_even, end_once, ended_within}

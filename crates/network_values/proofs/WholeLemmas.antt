@@ -9,10 +9,10 @@ use Rattle.std.proofs.lemmas.Option.{get_or_from_slice_get, slice_get_within}
 use Rattle.stream_case.specs.declared.case.Case.{Case}
 use Rattle.stream_case.specs.declared.stream.Stream.{Stream}
 use Rattle.fractions.specs.Rationals.{IsBelow, rational_zero}
-use Rattle.network_text.specs.Lines.{made_by}
-use Rattle.network_text.specs.Shape.{HasShape}
-use Rattle.network_text.specs.declared.network.Network.{Network}
-use Rattle.network_text.proofs.OfShape.{all_made}
+use Rattle.networks.specs.Lines.{made_by}
+use Rattle.networks.specs.Shape.{HasShape}
+use Rattle.networks.specs.declared.network.Network.{Network}
+use Rattle.networks.proofs.OfShape.{all_made}
 use Rattle.network_values.specs.Values.{IsWholeValuation, Solves, Valuation, first_value, no_value, value_at}
 use Rattle.network_values.proofs.ValuationLemmas.{branch_positive}
 

@@ -4,10 +4,10 @@ use Rattle.stream_case.specs.declared.case.Case.{Case}
 use Rattle.stream_case.specs.declared.source.Side.{Side}
 use Rattle.stream_case.specs.declared.source.Side.TheVariants as side
 use Rattle.fractions.specs.Rationals.{IsBelow, Rational, minus, over, plus, times}
-use Rattle.network_text.specs.Shape.{made_before}
-use Rattle.network_text.specs.declared.network.Line.{Line}
-use Rattle.network_text.specs.declared.network.Line.TheVariants as line
-use Rattle.network_text.specs.declared.network.Network.{Network}
+use Rattle.networks.specs.Shape.{made_before}
+use Rattle.networks.specs.declared.network.Line.{Line}
+use Rattle.networks.specs.declared.network.Line.TheVariants as line
+use Rattle.networks.specs.declared.network.Network.{Network}
 use Rattle.network_values.specs.Values.{IsValuation, Valuation, branch_side, duty_at, value_at}
 use Rattle.network_values.specs.declared.values.BranchValue.{BranchValue}
 

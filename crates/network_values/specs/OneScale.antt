@@ -6,9 +6,9 @@ use Rattle.stream_case.specs.declared.source.Side.TheVariants as side
 use Rattle.stream_case.specs.declared.source.Source.{Source}
 use Rattle.stream_case.specs.declared.source.Source.TheVariants as source
 use Rattle.fractions.specs.Rationals.{IsBelow, rational_zero, whole}
-use Rattle.network_text.specs.Lines.{Exchanger, exchangers_of}
-use Rattle.network_text.specs.Shape.{HasShape}
-use Rattle.network_text.specs.declared.network.Network.{Network}
+use Rattle.networks.specs.Lines.{Exchanger, exchangers_of}
+use Rattle.networks.specs.Shape.{HasShape}
+use Rattle.networks.specs.declared.network.Network.{Network}
 use Rattle.network_values.specs.Heights.{HasDuty, IsNowhereBelow, View, share_in}
 use Rattle.network_values.specs.Penalties.{absorbed_heat, height_at, released_heat, unshifted}
 use Rattle.network_values.specs.Sides.{KeepsApproach, SideRun, contribution_of, seen_from, side_run}

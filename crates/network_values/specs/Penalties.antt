@@ -9,11 +9,11 @@ use Rattle.stream_case.specs.declared.source.Source.{Source}
 use Rattle.stream_case.specs.declared.source.Source.TheVariants as source
 use Rattle.stream_case.specs.declared.stream.Stream.{Stream}
 use Rattle.fractions.specs.Rationals.{IsAtMost, Rational, minus, plus, rational_sum_by, rational_zero, whole}
-use Rattle.network_text.specs.Lines.{Exchanger, exchangers_of, pass_of}
-use Rattle.network_text.specs.Shape.{HasShape}
-use Rattle.network_text.specs.declared.network.Line.{Line}
-use Rattle.network_text.specs.declared.network.Line.TheVariants as line
-use Rattle.network_text.specs.declared.network.Network.{Network}
+use Rattle.networks.specs.Lines.{Exchanger, exchangers_of, pass_of}
+use Rattle.networks.specs.Shape.{HasShape}
+use Rattle.networks.specs.declared.network.Line.{Line}
+use Rattle.networks.specs.declared.network.Line.TheVariants as line
+use Rattle.networks.specs.declared.network.Network.{Network}
 use Rattle.problem_table.specs.Deficit.{IsReferencePlace, deficit_above, hot_target}
 use Rattle.network_values.specs.Courses.{Course, Sensible, height_on}
 use Rattle.network_values.specs.Heights.{View}

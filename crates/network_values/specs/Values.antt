@@ -8,11 +8,11 @@ use Rattle.stream_case.specs.declared.source.Side.TheVariants as side
 use Rattle.stream_case.specs.declared.source.Source.TheVariants as source
 use Rattle.stream_case.specs.declared.stream.Stream.{Stream}
 use Rattle.fractions.specs.Rationals.{IsBelow, Rational, minus, plus, rational_zero, times, whole}
-use Rattle.network_text.specs.Lines.{Exchanger, exchangers_of, stream_at}
-use Rattle.network_text.specs.Shape.{made_before}
-use Rattle.network_text.specs.declared.network.Line.{Line}
-use Rattle.network_text.specs.declared.network.Line.TheVariants as line
-use Rattle.network_text.specs.declared.network.Network.{Network}
+use Rattle.networks.specs.Lines.{Exchanger, exchangers_of, stream_at}
+use Rattle.networks.specs.Shape.{made_before}
+use Rattle.networks.specs.declared.network.Line.{Line}
+use Rattle.networks.specs.declared.network.Line.TheVariants as line
+use Rattle.networks.specs.declared.network.Network.{Network}
 use Rattle.network_values.specs.declared.values.BranchValue.{BranchValue}
 
 -- ---- streams

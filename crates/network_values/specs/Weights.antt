@@ -4,11 +4,11 @@ use Rattle.std.specs.List.{enumerate_from}
 use Rattle.stream_case.specs.declared.case.Case.{Case}
 use Rattle.stream_case.specs.declared.stream.Stream.{Stream}
 use Rattle.fractions.specs.Rationals.{Rational, minus, plus, rational_sum_by, rational_zero}
-use Rattle.network_text.specs.Lines.{stream_at, used_by}
-use Rattle.network_text.specs.Shape.{HasShape}
-use Rattle.network_text.specs.declared.network.Line.{Line}
-use Rattle.network_text.specs.declared.network.Line.TheVariants as line
-use Rattle.network_text.specs.declared.network.Network.{Network}
+use Rattle.networks.specs.Lines.{stream_at, used_by}
+use Rattle.networks.specs.Shape.{HasShape}
+use Rattle.networks.specs.declared.network.Line.{Line}
+use Rattle.networks.specs.declared.network.Line.TheVariants as line
+use Rattle.networks.specs.declared.network.Network.{Network}
 use Rattle.network_values.specs.Values.{AreEnded, IsWholeValuation, Valuation, ended_streams, first_value, last_value, value_at}
 use Rattle.network_values.specs.declared.values.BranchValue.{BranchValue}
 

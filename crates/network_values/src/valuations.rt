@@ -3,9 +3,9 @@
 ghost use Rattle.std.specs.Prelude.{◌≡◌, ◌↔◌, ◌≤◌, ◌+◌, ◌++◌, ℕ, length, map, slice_get};
 ghost use Rattle.stream_case.specs.Case.{IsComplete};
 ghost use Rattle.stream_case.specs.declared.case.Case.{Case};
-ghost use Rattle.network_text.specs.Shape.{HasShape};
-ghost use Rattle.network_text.specs.declared.network.Line.{Line};
-ghost use Rattle.network_text.specs.declared.network.Network.{Network};
+ghost use Rattle.networks.specs.Shape.{HasShape};
+ghost use Rattle.networks.specs.declared.network.Line.{Line};
+ghost use Rattle.networks.specs.declared.network.Network.{Network};
 ghost use Rattle.network_values.specs.Made.{LeaveRoom, LeavesRoom, front, made_values};
 ghost use Rattle.network_values.specs.Values.{IsValuation, Valuation, first_value};
 

@@ -7,11 +7,11 @@ use Rattle.stream_case.specs.declared.case.Case.{Case}
 use Rattle.fractions.specs.Rationals.{IsAtMost, Rational, plus, rational_sum_by, rational_zero}
 use Rattle.fractions.proofs.RationalSums.{rational_sum_by-append, rational_sum_by-map}
 use Rattle.fractions.proofs.Sums.{zero-plus}
-use Rattle.network_text.specs.Lines.{exchangers_of}
-use Rattle.network_text.specs.Shape.{HasShape}
-use Rattle.network_text.specs.declared.network.Line.{Line}
-use Rattle.network_text.specs.declared.network.Line.TheVariants as line
-use Rattle.network_text.specs.declared.network.Network.{Network}
+use Rattle.networks.specs.Lines.{exchangers_of}
+use Rattle.networks.specs.Shape.{HasShape}
+use Rattle.networks.specs.declared.network.Line.{Line}
+use Rattle.networks.specs.declared.network.Line.TheVariants as line
+use Rattle.networks.specs.declared.network.Network.{Network}
 use Rattle.problem_table.specs.Deficit.{IsReferencePlace}
 use Rattle.network_values.specs.Heights.{View, view_above}
 use Rattle.network_values.specs.Penalties.{HasNoNegativePenalty, height_at}

@@ -2,8 +2,8 @@
 use Rattle.std.proofs.Common.{◌≡◌, ◌∙◌, ◌++◌, ℕ, ℤ, List, [], Option, Some, None, refl, sym, ap, ap₂, subst}
 use Rattle.stream_case.specs.declared.case.Case.{Case}
 use Rattle.fractions.specs.Rationals.{Rational}
-use Rattle.network_text.specs.declared.network.Line.{Line}
-use Rattle.network_text.specs.declared.network.Network.{Network}
+use Rattle.networks.specs.declared.network.Line.{Line}
+use Rattle.networks.specs.declared.network.Network.{Network}
 use Rattle.problem_table.specs.Deficit.{IsReferencePlace}
 use Rattle.network_values.specs.Heights.{view_above}
 use Rattle.network_values.specs.Penalties.{height_at}

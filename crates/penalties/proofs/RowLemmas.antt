@@ -5,8 +5,8 @@ use Rattle.std.proofs.lemmas.List.{map-append}
 use Rattle.std.proofs.lemmas.List.Elements.{filter_map-append}
 use Rattle.fractions.specs.Rationals.{Rational}
 use Rattle.network_audit.specs.declared.findings.Place.{Place}
-use Rattle.network_text.specs.declared.network.Line.{Line}
-use Rattle.network_text.specs.declared.network.Line.TheVariants as line
+use Rattle.networks.specs.declared.network.Line.{Line}
+use Rattle.networks.specs.declared.network.Line.TheVariants as line
 use Rattle.penalties.specs.Rows.{mix_row}
 use Rattle.penalties.specs.Steps.{Step, line_steps}
 use Rattle.penalties.proofs.StepLemmas.{enumerated-more}

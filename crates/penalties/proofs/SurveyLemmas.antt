@@ -4,7 +4,7 @@ use Rattle.std.specs.Prelude.{if◌then◌else◌, option_and_then}
 use Rattle.stream_case.specs.declared.stream.Stream.{Stream}
 use Rattle.fractions.specs.Rationals.{Rational, is_below, rational_zero, times}
 use Rattle.fractions.proofs.Products.{times-zero}
-use Rattle.network_text.specs.Lines.{stream_at}
+use Rattle.networks.specs.Lines.{stream_at}
 use Rattle.network_values.specs.Heights.{height, positive_part, view_above}
 use Rattle.network_values.specs.Penalties.{heights, stream_height}
 use Rattle.network_values.specs.Values.{Valuation, no_value, value_at}

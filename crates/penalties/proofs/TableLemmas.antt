@@ -5,10 +5,10 @@ use Rattle.stream_case.specs.declared.source.Source.{Source}
 use Rattle.stream_case.specs.declared.source.Source.TheVariants as source
 use Rattle.fractions.specs.Rationals.{Rational, minus, rational_zero}
 use Rattle.fractions.proofs.Sums.{minus-self}
-use Rattle.network_text.specs.Lines.{Exchanger, exchangers_of, pass_of}
-use Rattle.network_text.specs.declared.network.Line.{Line}
-use Rattle.network_text.specs.declared.network.Line.TheVariants as line
-use Rattle.network_text.specs.declared.network.Network.{Network}
+use Rattle.networks.specs.Lines.{Exchanger, exchangers_of, pass_of}
+use Rattle.networks.specs.declared.network.Line.{Line}
+use Rattle.networks.specs.declared.network.Line.TheVariants as line
+use Rattle.networks.specs.declared.network.Network.{Network}
 use Rattle.network_values.specs.Penalties.{absorbed_heat, inlet_height, outlet_height, penalty, released_heat}
 use Rattle.network_audit.specs.Joints.{crossing_by, joint_among, joints_among, joints_of}
 use Rattle.network_audit.specs.declared.findings.Place.{Place}

@@ -2,7 +2,7 @@
 use Rattle.std.specs.Prelude.{◌≡◌, ℤ, List, Option, Some, None, Result, Ok, Err}
 use Rattle.stream_case.specs.declared.case.Case.{Case}
 use Rattle.fractions.specs.Rationals.{IsAtMost, Rational, rational_sum_by, rational_zero}
-use Rattle.network_text.specs.declared.network.Network.{Network}
+use Rattle.networks.specs.declared.network.Network.{Network}
 use Rattle.network_values.specs.Heights.{view_above}
 use Rattle.network_values.specs.Values.{IsWholeValuation, Valuation}
 use Rattle.problem_table.specs.Deficit.{IsReferencePlace}

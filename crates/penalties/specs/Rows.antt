@@ -3,10 +3,10 @@ use Rattle.std.specs.Prelude.{ℕ, ◌+◌, List, ◌++◌, map, Option, Some, N
 use Rattle.std.specs.List.{enumerate_from, filter_map}
 use Rattle.stream_case.specs.declared.case.Case.{Case}
 use Rattle.fractions.specs.Rationals.{Rational}
-use Rattle.network_text.specs.Lines.{Exchanger, exchangers_of}
-use Rattle.network_text.specs.declared.network.Line.{Line}
-use Rattle.network_text.specs.declared.network.Line.TheVariants as line
-use Rattle.network_text.specs.declared.network.Network.{Network}
+use Rattle.networks.specs.Lines.{Exchanger, exchangers_of}
+use Rattle.networks.specs.declared.network.Line.{Line}
+use Rattle.networks.specs.declared.network.Line.TheVariants as line
+use Rattle.networks.specs.declared.network.Network.{Network}
 use Rattle.network_values.specs.Heights.{View}
 use Rattle.network_values.specs.Penalties.{height_at, penalty}
 use Rattle.network_values.specs.Values.{Valuation}

@@ -6,10 +6,10 @@ use Rattle.stream_case.specs.declared.source.Source.{Source}
 use Rattle.stream_case.specs.declared.source.Source.TheVariants as source
 use Rattle.stream_case.specs.declared.stream.Stream.{Stream}
 use Rattle.fractions.specs.Rationals.{Rational, is_below, is_within_limits, minus, plus, rational_zero, times}
-use Rattle.network_text.specs.Lines.{Exchanger, exchangers_of, stream_at}
-use Rattle.network_text.specs.declared.network.Line.{Line}
-use Rattle.network_text.specs.declared.network.Line.TheVariants as line
-use Rattle.network_text.specs.declared.network.Network.{Network}
+use Rattle.networks.specs.Lines.{Exchanger, exchangers_of, stream_at}
+use Rattle.networks.specs.declared.network.Line.{Line}
+use Rattle.networks.specs.declared.network.Line.TheVariants as line
+use Rattle.networks.specs.declared.network.Network.{Network}
 use Rattle.network_values.specs.Heights.{View}
 use Rattle.network_values.specs.Penalties.{base_of, height_at, penalty}
 use Rattle.network_values.specs.Values.{Valuation, value_at}

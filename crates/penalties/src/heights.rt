@@ -9,8 +9,8 @@ ghost use Rattle.penalties.specs.Steps.{height_steps};
 use crate::list::TooFine;
 use fractions::Frac;
 use network_audit::{Auditor, Place, stream_at};
-use network_text::Network;
 use network_values::BranchValue;
+use networks::Network;
 use stream_case::{Case, Side, Stream};
 
 /// A network with what an audit knows of it, seen from the reference place.

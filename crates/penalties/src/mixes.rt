@@ -9,7 +9,7 @@ use crate::heights::Survey;
 use crate::list::{Penalty, TooFine};
 use fractions::Frac;
 use network_audit::Place;
-use network_text::Line;
+use networks::Line;
 use std::alloc::AllocError;
 
 impl<'a> Survey<'a> {

@@ -7,7 +7,7 @@ ghost use Rattle.penalties.specs.Answers.{IfListed, IsNotNegative, ListsPenaltie
 use crate::heights::Survey;
 use crate::list::{PenaltyList, TooFine};
 use network_audit::Auditor;
-use network_text::Network;
+use networks::Network;
 use problem_table::reference_place;
 use std::alloc::{AllocError, Global};
 use stream_case::{Case, Items};

@@ -6,10 +6,10 @@ use Rattle.pinch_outside.specs.Shelf.{ShelfState, NamedFile, IsFile, IsFileAbove
 use Rattle.pinch_outside.specs.declared.limits.TheConstants.{MAX_FILE}
 use Rattle.stream_case.specs.declared.case.Case.{Case}
 use Rattle.stream_case.specs.Case.{completed, IsStandard}
-use Rattle.site.specs.declared.plants.Site.{Site}
+use Rattle.plants.specs.declared.site.Site.{Site}
 use Rattle.transport.specs.declared.answer.Answer.{Answer}
 use Rattle.transport.specs.declared.answer.Answer.TheVariants as answer
-use Rattle.network_text.specs.declared.network.Network.{Network}
+use Rattle.networks.specs.declared.network.Network.{Network}
 use Rattle.network_audit.specs.declared.verdict.Verdict.{Verdict}
 use Rattle.network_audit.specs.declared.verdict.Verdict.TheVariants as verdict
 use Rattle.reports.specs.declared.shown.FileRole.{FileRole}

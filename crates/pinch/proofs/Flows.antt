@@ -7,7 +7,8 @@ use Rattle.grid.specs.Part.{AreCaseParts}
 use Rattle.heat_flow.specs.Cuts.{HasNoFlow}
 use Rattle.heat_flow.specs.Flow.{IsLeastCost}
 use Rattle.heat_flow.specs.Reach.{reach_between}
-use Rattle.transport.specs.Answer.{IfLeast, IfStuck, IsCertified, IsCutOf}
+use Rattle.transport.specs.Answer.{IfLeast, IfStuck}
+use Rattle.heat_flow.specs.Certificate.{IsCertified, IsCutOf}
 use Rattle.transport.specs.declared.answer.Answer.{Answer}
 use Rattle.transport.specs.declared.answer.Answer.TheVariants.{Least, Stuck}
 use Rattle.reports.specs.declared.shown.Shown.{Shown}

@@ -1,11 +1,11 @@
 -- Bytes of a format have one outcome: they say one thing, or are refused in one way.
 use Rattle.std.proofs.Common.{◌≡◌, ◌∙◌, true, List, ℕ, Result, Ok, Err, refl, sym, ap}
-use Rattle.csv_rows.specs.Rows.{rows_of}
+use Rattle.rows.specs.Rows.{rows_of}
 use Rattle.first_fault.proofs.OneOutcome.{one_outcome}
 use Rattle.case_text.specs.Outcome.{grammar}
 use Rattle.network_text.specs.Outcome as network
-use Rattle.network_text.specs.Statements.{statements_of}
-use Rattle.site_text.specs.Outcome as site
+use Rattle.statements.specs.Statements.{statements_of}
+use Rattle.site.specs.Outcome as site
 use Rattle.stream_case.specs.declared.case.Case.{Case}
 use Rattle.reports.specs.declared.shown.Shown.{Shown}
 use Rattle.pinch.specs.Case.{case_file}

@@ -2,7 +2,7 @@
 use Rattle.std.proofs.Common.{◌≡◌, ◌⊎◌, inl, inr, ℕ, List, Option, Some, None, sym, subst}
 use Rattle.stream_case.specs.declared.case.Case.{Case}
 use Rattle.stream_case.specs.Case.{completed}
-use Rattle.network_text.specs.declared.network.Network.{Network}
+use Rattle.networks.specs.declared.network.Network.{Network}
 use Rattle.network_audit.specs.declared.verdict.Verdict.{Verdict}
 use Rattle.network_audit.specs.declared.verdict.Verdict.TheVariants as verdict
 use Rattle.pinch_outside.specs.Shelf.{ShelfState}

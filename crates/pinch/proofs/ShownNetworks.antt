@@ -3,14 +3,14 @@ use Rattle.std.proofs.Common.{◌≡◌, refl, sym, subst}
 use Rattle.stream_case.specs.declared.case.Case.{Case}
 use Rattle.stream_case.specs.Case.{IsComplete}
 use Rattle.network_text.specs.Outcome.{IsNetwork}
-use Rattle.network_text.specs.Shape.{HasShape}
-use Rattle.network_text.specs.declared.network.Network.{Network}
+use Rattle.networks.specs.Shape.{HasShape}
+use Rattle.networks.specs.declared.network.Network.{Network}
 use Rattle.network_audit.specs.Balance.{balance_of}
 use Rattle.network_audit.specs.Findings.{HasNoFinding}
 use Rattle.network_audit.specs.Valid.{IsValidNetwork}
 use Rattle.network_audit.specs.declared.verdict.Balance.{Balance}
 use Rattle.network_audit.proofs.BalanceWithin.{HasFractions, balance-within}
-use Rattle.network_printer.proofs.back.Law.{shape-is_network}
+use Rattle.network_text.proofs.back.Law.{shape-is_network}
 use Rattle.reports.specs.declared.shown.Shown.TheVariants as show
 use Rattle.reports.proofs.DesignText.{design-statements}
 use Rattle.pinch.specs.Design.{IsShownNetwork}

@@ -17,15 +17,15 @@ use Rattle.heat_flow.specs.declared.flow.Transfer.{Transfer}
 use Rattle.heat_flow.specs.Flow.{HaveParts, IsHeatFlow, IsLeastCost, cost_of}
 use Rattle.heat_flow.proofs.Blanks.{blank}
 use Rattle.heat_flow.proofs.CostLemmas.{part_price, side_cost-transfers}
-use Rattle.transport.specs.Answer.{IfLeast, IsCertified}
+use Rattle.transport.specs.Answer.{IfLeast}
+use Rattle.heat_flow.specs.Certificate.{IsCertified, heat_of_utility, utility_heat}
 use Rattle.transport.specs.declared.answer.Answer.{Answer}
 use Rattle.transport.specs.declared.answer.Answer.TheVariants.{Least, Stuck}
-use Rattle.site.specs.Reach.{reach_between}
-use Rattle.site.specs.Site.{streams_of}
-use Rattle.site.specs.Table.{boiler, cooling, site_utilities}
+use Rattle.plants.specs.Reach.{reach_between}
+use Rattle.plants.specs.Site.{streams_of}
+use Rattle.plants.specs.Table.{boiler, cooling, site_utilities}
 use Rattle.site.specs.Target.{AreSiteParts}
-use Rattle.site.specs.declared.plants.Site.{Site}
-use Rattle.reports.specs.Flow.{heat_of_utility, utility_heat}
+use Rattle.plants.specs.declared.site.Site.{Site}
 use Rattle.reports.specs.Site.{boiler_heat}
 use Rattle.pinch.specs.Site.{IsLeastBoiler}
 

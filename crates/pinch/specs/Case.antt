@@ -1,6 +1,6 @@
 -- What a case file says, and what is shown of a case.
 use Rattle.std.specs.Prelude.{◌≡◌, List, ℤ}
-use Rattle.csv_rows.specs.Rows.{rows_of}
+use Rattle.rows.specs.Rows.{rows_of}
 use Rattle.first_fault.specs.Outcome.{IsOutcome}
 use Rattle.stream_case.specs.declared.case.Case.{Case}
 use Rattle.stream_case.specs.declared.source.Side.TheVariants.{Hot, Cold}

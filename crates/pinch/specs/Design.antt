@@ -9,11 +9,11 @@ use Rattle.grid.specs.declared.parts.Parts.{Parts}
 use Rattle.heat_flow.specs.Flow.{cost_of}
 use Rattle.heat_flow.specs.declared.flow.Flow.{Flow}
 use Rattle.heat_flow.specs.declared.prices.Prices.{Prices}
-use Rattle.network_text.specs.Lines.{exchangers_of}
+use Rattle.networks.specs.Lines.{exchangers_of}
 use Rattle.network_text.specs.Outcome.{IsNetwork}
-use Rattle.network_text.specs.Shape.{HasShape, KeepsCounts}
-use Rattle.network_text.specs.Statements.{statements_of}
-use Rattle.network_text.specs.declared.network.Network.{Network}
+use Rattle.networks.specs.Shape.{HasShape, KeepsCounts}
+use Rattle.statements.specs.Statements.{statements_of}
+use Rattle.networks.specs.declared.network.Network.{Network}
 use Rattle.network_audit.specs.Balance.{balance_of}
 use Rattle.network_audit.specs.Findings.{HasNoFinding}
 use Rattle.network_audit.specs.Valid.{IsValidNetwork}

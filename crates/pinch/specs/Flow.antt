@@ -13,7 +13,7 @@ use Rattle.heat_flow.specs.declared.prices.Prices.{Prices}
 use Rattle.heat_flow.specs.Cuts.{HasNoFlow}
 use Rattle.heat_flow.specs.Flow.{IsLeastCost}
 use Rattle.heat_flow.specs.Reach.{reach_between}
-use Rattle.transport.specs.Answer.{IsCertified, IsCutOf}
+use Rattle.heat_flow.specs.Certificate.{IsCertified, IsCutOf}
 use Rattle.transport.specs.declared.answer.Answer.{Answer}
 use Rattle.transport.specs.declared.answer.Answer.TheVariants as answer
 use Rattle.corner_flow.specs.Corner.{IsCornerFlow, UtilityHeat, NeedsHeat, corner_price}

@@ -5,9 +5,9 @@ use Rattle.stream_case.specs.declared.case.Case.{Case}
 use Rattle.fractions.specs.Rationals.{IsAtMost, rational_zero}
 use Rattle.problem_table.specs.Deficit.{IsReferencePlace}
 use Rattle.network_text.specs.Outcome.{grammar}
-use Rattle.network_text.specs.Statements.{statements_of}
+use Rattle.statements.specs.Statements.{statements_of}
 use Rattle.network_text.specs.declared.fault.NetWhy.{NetWhy}
-use Rattle.network_text.specs.declared.network.Network.{Network}
+use Rattle.networks.specs.declared.network.Network.{Network}
 use Rattle.network_audit.specs.Audit.{IfAccepted, Says}
 use Rattle.network_audit.specs.Findings.{IsVerdict}
 use Rattle.network_audit.specs.Valid.{IsValidNetwork}

@@ -1,7 +1,7 @@
 -- What `sample` shows.
 use Rattle.std.specs.Prelude.{◌≡◌, ℕ, ℤ}
 use Rattle.problem_table.specs.Deficit.{hot_target, cold_target}
-use Rattle.corner_flow.specs.Corner.{IsLeastCostOf}
+use Rattle.heat_flow.specs.Certificate.{IsLeastCostOf}
 use Rattle.study.specs.SampleRow.{completed_sample}
 use Rattle.reports.specs.declared.shown.Shown.{Shown}
 use Rattle.reports.specs.declared.shown.Shown.TheVariants.{Sample}

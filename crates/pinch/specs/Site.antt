@@ -1,6 +1,6 @@
 -- What a site file says, and what is shown of a site.
 use Rattle.std.specs.Prelude.{◌≡◌, ℕ, ℤ, ◌≤ℤ◌, List, length, map}
-use Rattle.csv_rows.specs.Rows.{rows_of}
+use Rattle.rows.specs.Rows.{rows_of}
 use Rattle.first_fault.specs.Outcome.{IsOutcome}
 use Rattle.stream_case.specs.declared.source.Side.TheVariants.{Hot, Cold}
 use Rattle.grid.specs.declared.parts.Parts.{Parts}
@@ -9,16 +9,17 @@ use Rattle.heat_flow.specs.declared.flow.Transfer.{Transfer}
 use Rattle.heat_flow.specs.Cuts.{HasNoFlow}
 use Rattle.heat_flow.specs.Flow.{IsHeatFlow, IsLeastCost}
 use Rattle.heat_flow.specs.Table.{HasSizes, reaches}
-use Rattle.transport.specs.Answer.{IfLeast, IfStuck, IsCertified, IsCutOf}
+use Rattle.transport.specs.Answer.{IfLeast, IfStuck}
+use Rattle.heat_flow.specs.Certificate.{IsCertified, IsCutOf}
 use Rattle.transport.specs.declared.answer.Answer.{Answer}
-use Rattle.site.specs.Profiles.{sink_profile, source_profile}
-use Rattle.site.specs.Reach.{reach_between}
-use Rattle.site.specs.Site.{streams_of}
-use Rattle.site.specs.Table.{IsSiteGrid, site_utilities}
-use Rattle.site.specs.declared.plants.Site.{Site}
-use Rattle.site.specs.declared.table.SiteTable.{SiteTable}
-use Rattle.site_text.specs.Outcome.{grammar}
-use Rattle.site_text.specs.declared.fault.SiteWhy.{SiteWhy}
+use Rattle.plants.specs.Profiles.{sink_profile, source_profile}
+use Rattle.plants.specs.Reach.{reach_between}
+use Rattle.plants.specs.Site.{streams_of}
+use Rattle.plants.specs.Table.{IsSiteGrid, site_utilities}
+use Rattle.plants.specs.declared.site.Site.{Site}
+use Rattle.plants.specs.declared.table.SiteTable.{SiteTable}
+use Rattle.site.specs.Outcome.{grammar}
+use Rattle.site.specs.declared.fault.SiteWhy.{SiteWhy}
 use Rattle.reports.specs.Site.{boiler_heat}
 use Rattle.reports.specs.declared.shown.FileRole.TheVariants.{Site as SiteFile}
 use Rattle.reports.specs.declared.shown.Shown.{Shown}

@@ -4,8 +4,8 @@ use Rattle.stream_case.specs.declared.case.Case.{Case}
 use Rattle.stream_case.specs.Case.{IsStandard, completed}
 use Rattle.fractions.specs.Rationals.{rational_zero, whole}
 use Rattle.problem_table.specs.Deficit.{hot_target}
-use Rattle.network_text.specs.Shape.{KeepsCounts}
-use Rattle.network_text.specs.declared.network.Network.{Network}
+use Rattle.networks.specs.Shape.{KeepsCounts}
+use Rattle.networks.specs.declared.network.Network.{Network}
 use Rattle.network_audit.specs.declared.verdict.Balance.{Balance}
 use Rattle.vertical_design.specs.Courses.{IsVerticalDesign}
 use Rattle.vertical_design.specs.Vertical.{IsVertical}

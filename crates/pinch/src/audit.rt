@@ -1,7 +1,7 @@
 //! The audit of a network.
 ghost use Rattle.std.specs.Prelude.{IfOk};
 ghost use Rattle.stream_case.specs.Case.{IsComplete};
-ghost use Rattle.network_text.specs.Shape.{HasShape};
+ghost use Rattle.networks.specs.Shape.{HasShape};
 ghost use Rattle.pinch.specs.Network.{IsAuditOf};
 
 use network_audit::{Auditor, Verdict};

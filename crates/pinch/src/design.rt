@@ -4,7 +4,7 @@ ghost use Rattle.stream_case.specs.Case.{IsComplete, IsStandard, IsValid};
 ghost use Rattle.heat_flow.specs.Flow.{cost_of};
 ghost use Rattle.heat_flow.specs.declared.prices.Prices.{Prices};
 ghost use Rattle.problem_table.specs.Deficit.{hot_target};
-ghost use Rattle.network_text.specs.Shape.{HasShape};
+ghost use Rattle.networks.specs.Shape.{HasShape};
 ghost use Rattle.network_audit.specs.Balance.{balance_of};
 ghost use Rattle.network_audit.specs.Findings.{HasNoFinding};
 ghost use Rattle.pinch.specs.Design.{IsDesignOf, IsTightDesign, ShowsDesign};

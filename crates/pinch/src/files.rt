@@ -1,14 +1,14 @@
 //! Files: each is taken whole from the shelf, and read by the grammar of its role.
 ghost use Rattle.std.specs.Prelude.{IfOk, IfErr};
 ghost use Rattle.stream_case.specs.Case.{IsComplete, IsValid};
-ghost use Rattle.network_text.specs.Shape.{HasShape};
+ghost use Rattle.networks.specs.Shape.{HasShape};
 ghost use Rattle.pinch_outside.specs.Shelf.{KeepsFiles, IsWhole};
 ghost use Rattle.pinch.specs.Case.{case_file};
 ghost use Rattle.pinch.specs.Files.{NoFile, NoText, ReadsText};
 ghost use Rattle.pinch.specs.Network.{network_file};
 ghost use Rattle.pinch.specs.Site.{site_file};
 ghost use Rattle.pinch.specs.Stop.{IfEarly};
-ghost use Rattle.site.specs.Site.{IsValidSite};
+ghost use Rattle.plants.specs.Site.{IsValidSite};
 
 use crate::stop::Stop;
 use crate::word::Word;
@@ -16,8 +16,7 @@ use case_text::{CaseFault, read_case};
 use network_text::{NetFault, Network, read_network};
 use pinch_outside::{Shelf, TakeFault, take_all};
 use reports::{FileRole, Shown};
-use site::Site;
-use site_text::{SiteFault, read_site};
+use site::{Site, SiteFault, read_site};
 use std::alloc::Global;
 use stream_case::Case;
 

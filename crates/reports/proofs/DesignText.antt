@@ -5,12 +5,14 @@ use Rattle.std.specs.List.{list_all}
 use Rattle.std.proofs.lemmas.List.Elements.{All-cons, All-nil}
 use Rattle.stream_case.specs.declared.case.Case.{Case}
 use Rattle.fractions.specs.Rationals.{IsWithinLimits, Rational, fraction_text}
-use Rattle.network_text.specs.Statements.{Statement, is_statement, statements_of}
-use Rattle.network_text.specs.declared.network.Network.{Network}
-use Rattle.network_printer.specs.Printed.{fields_text, statement_text, text_of}
-use Rattle.network_printer.proofs.back.Plain.{word_plain}
-use Rattle.network_printer.proofs.print.Fields.{fraction_plain}
-use Rattle.network_printer.proofs.print.Text.{IsPlainField, comment-back}
+use Rattle.statements.specs.Statements.{Statement, is_statement, statements_of}
+use Rattle.networks.specs.declared.network.Network.{Network}
+use Rattle.statements.specs.Statements.{fields_text, statement_text}
+use Rattle.network_text.specs.Printed.{text_of}
+use Rattle.statements.proofs.PlainStatements.{word_plain}
+use Rattle.network_text.proofs.print.Fields.{fraction_plain}
+use Rattle.statements.specs.Statements.{IsPlainField}
+use Rattle.statements.proofs.PlainStatements.{comment-back}
 use Rattle.network_audit.specs.declared.verdict.Balance.{Balance}
 use Rattle.network_audit.proofs.BalanceWithin.{HasFractions}
 use Rattle.reports.specs.Design.{balance_comment, design_text}

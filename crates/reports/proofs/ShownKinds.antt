@@ -10,12 +10,12 @@ use Rattle.heat_flow.specs.declared.cut.Cut.{Cut}
 use Rattle.heat_flow.specs.declared.flow.Flow.{Flow as HeatFlow}
 use Rattle.heat_flow.specs.declared.prices.Prices.{Prices}
 use Rattle.transport.specs.declared.answer.Answer.{Answer}
-use Rattle.site.specs.declared.plants.Site.{Site}
-use Rattle.site.specs.declared.table.SiteTable.{SiteTable}
-use Rattle.site_text.specs.declared.fault.SiteWhy.{SiteWhy}
+use Rattle.plants.specs.declared.site.Site.{Site}
+use Rattle.plants.specs.declared.table.SiteTable.{SiteTable}
+use Rattle.site.specs.declared.fault.SiteWhy.{SiteWhy}
 use Rattle.study.specs.declared.row.SweepRow.{SweepRow}
 use Rattle.network_text.specs.declared.fault.NetWhy.{NetWhy}
-use Rattle.network_text.specs.declared.network.Network.{Network}
+use Rattle.networks.specs.declared.network.Network.{Network}
 use Rattle.network_audit.specs.declared.findings.Place.{Place}
 use Rattle.network_audit.specs.declared.findings.Reason.{Reason}
 use Rattle.network_audit.specs.declared.verdict.Balance.{Balance}

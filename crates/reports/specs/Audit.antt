@@ -6,8 +6,8 @@ use Rattle.stream_case.specs.declared.case.Case.{Case}
 use Rattle.stream_case.specs.declared.source.Source.TheVariants.{Stream as of_stream, Utility as of_utility}
 use Rattle.stream_case.specs.Case.{source_name}
 use Rattle.fractions.specs.Rationals.{Rational, fraction_text}
-use Rattle.network_text.specs.declared.network.Network.{Network}
-use Rattle.network_printer.specs.Printed.{exchanger_name, exchanger_names}
+use Rattle.networks.specs.declared.network.Network.{Network}
+use Rattle.network_text.specs.Printed.{exchanger_name, exchanger_names}
 use Rattle.network_audit.specs.declared.findings.Place.{Place}
 use Rattle.network_audit.specs.declared.findings.Place.TheVariants as place
 use Rattle.network_audit.specs.declared.findings.Reason.{Reason}

@@ -2,8 +2,8 @@
 use Rattle.std.specs.Prelude.{ℕ, List, [], ◌∷◌, ◌++◌, codes}
 use Rattle.stream_case.specs.declared.case.Case.{Case}
 use Rattle.fractions.specs.Rationals.{fraction_text}
-use Rattle.network_text.specs.declared.network.Network.{Network}
-use Rattle.network_printer.specs.Printed as printed
+use Rattle.networks.specs.declared.network.Network.{Network}
+use Rattle.network_text.specs.Printed as printed
 use Rattle.network_audit.specs.declared.verdict.Balance.{Balance}
 
 -- # hot HOT cold COLD excess EXCESS cost COST

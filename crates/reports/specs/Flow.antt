@@ -1,21 +1,18 @@
 -- The text of a heat flow with its prices.
-use Rattle.std.specs.Prelude.{ℕ, ℤ, pos, Bool, false, List, [], ◌∷◌, ◌++◌, codes, slice_get, if◌then◌else◌}
+use Rattle.std.specs.Prelude.{ℕ, ℤ, List, [], ◌∷◌, ◌++◌, codes, slice_get}
 use Rattle.std.specs.Option.{option_map_or}
 use Rattle.std.specs.List.{flat_map}
 use Rattle.std.specs.Fmt.{signed_decimal}
 use Rattle.stream_case.specs.declared.source.Side.{Side}
 use Rattle.stream_case.specs.declared.source.Side.TheVariants.{Hot, Cold}
-use Rattle.stream_case.specs.declared.source.Source.TheVariants.{Utility as of_utility}
 use Rattle.stream_case.specs.declared.case.Case.{Case}
 use Rattle.stream_case.specs.declared.utility.Utility.{Utility}
-use Rattle.sums.specs.Sum.{int_sum_by}
 use Rattle.grid.specs.declared.part.Part.{Part}
 use Rattle.grid.specs.declared.parts.Parts.{Parts}
 use Rattle.heat_flow.specs.declared.flow.Transfer.{Transfer}
 use Rattle.heat_flow.specs.declared.prices.Prices.{Prices}
-use Rattle.heat_flow.specs.Flow.{part_index}
+use Rattle.heat_flow.specs.Certificate.{utility_heat}
 use Rattle.heat_flow.specs.Prices.{price_at}
-use Rattle.stream_case.specs.Source.{same_source}
 use Rattle.reports.specs.Lines.{line, texts_from}
 use Rattle.reports.specs.Names.{case_names, source_name}
 use Rattle.reports.specs.declared.names.SourceNames.{SourceNames}
@@ -27,18 +24,6 @@ part_text names p = source_name names p.source ++ 32 ∷ (signed_decimal p.high 
 -- the part at an index of a list
 abbrev pub part_at : SourceNames → List Part → ℕ → List ℕ
 part_at names parts index = option_map_or (part_text names) (slice_get parts index) []
-
--- the part at an index is that of utility i
-abbrev pub is_of_utility : ℕ → List Part → ℕ → Bool
-is_of_utility i parts index = option_map_or (λ p. same_source p.source (of_utility i)) (slice_get parts index) false
-
--- the heat of a transfer, if its part of this side is that of utility i
-abbrev pub heat_of_utility : ℕ → Side → List Part → Transfer → ℤ
-heat_of_utility i side parts t = if is_of_utility i parts (part_index side t) then t.heat else pos 0
-
--- what utility i gives or takes in all
-abbrev pub utility_heat : ℕ → Side → List Part → List Transfer → ℤ
-utility_heat i side parts transfers = int_sum_by (heat_of_utility i side parts) transfers
 
 abbrev pub side_parts : Side → Parts → List Part
 side_parts Hot parts = parts.hot

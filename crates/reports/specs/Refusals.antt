@@ -5,8 +5,8 @@ use Rattle.case_text.specs.declared.fault.CaseWhy.{CaseWhy}
 use Rattle.case_text.specs.declared.fault.CaseWhy.TheVariants as why
 use Rattle.network_text.specs.declared.fault.NetWhy.{NetWhy}
 use Rattle.network_text.specs.declared.fault.NetWhy.TheVariants as net
-use Rattle.site_text.specs.declared.fault.SiteWhy.{SiteWhy}
-use Rattle.site_text.specs.declared.fault.SiteWhy.TheVariants as site
+use Rattle.site.specs.declared.fault.SiteWhy.{SiteWhy}
+use Rattle.site.specs.declared.fault.SiteWhy.TheVariants as site
 use Rattle.reports.specs.declared.shown.FileRole.{FileRole}
 use Rattle.reports.specs.declared.shown.FileRole.TheVariants.{Case, Network, Site}
 

@@ -5,12 +5,13 @@ use Rattle.stream_case.specs.declared.source.Side.TheVariants.{Hot, Cold}
 use Rattle.grid.specs.declared.parts.Parts.{Parts}
 use Rattle.heat_flow.specs.declared.flow.Transfer.{Transfer}
 use Rattle.heat_flow.specs.declared.prices.Prices.{Prices}
-use Rattle.site.specs.declared.plants.Site.{Site}
-use Rattle.site.specs.declared.table.SiteTable.{SiteTable}
+use Rattle.plants.specs.declared.site.Site.{Site}
+use Rattle.plants.specs.declared.table.SiteTable.{SiteTable}
 use Rattle.transport.specs.declared.answer.Answer.{Answer}
 use Rattle.transport.specs.declared.answer.Answer.TheVariants.{Least, Stuck}
 use Rattle.reports.specs.Cut.{stuck_text}
-use Rattle.reports.specs.Flow.{utility_heat, certificate_lines}
+use Rattle.reports.specs.Flow.{certificate_lines}
+use Rattle.heat_flow.specs.Certificate.{utility_heat}
 use Rattle.reports.specs.Lines.{line, texts_from}
 use Rattle.reports.specs.Names.{site_names}
 use Rattle.reports.specs.declared.names.SourceNames.{SourceNames}

@@ -1,7 +1,7 @@
 -- The text of what is shown.
 use Rattle.std.specs.Prelude.{ℕ, Bool, true, false, List, ⊤, codes}
 use Rattle.stream_case.specs.Case.{IsComplete}
-use Rattle.network_text.specs.Shape.{HasShape}
+use Rattle.networks.specs.Shape.{HasShape}
 use Rattle.reports.specs.Audit.{accepted_text, rejected_text, too_fine_text}
 use Rattle.reports.specs.Curves.{curves_text}
 use Rattle.reports.specs.Cut.{stuck_text}

@@ -1,15 +1,14 @@
 //! The texts of what an audit says of a network.
 ghost use Rattle.std.specs.Prelude.{◌≡◌, [], IfOk, slice_index_or, string_bytes};
 ghost use Rattle.std.specs.List.{flat_map};
-ghost use Rattle.network_printer.specs.Printed.{exchanger_name};
+ghost use Rattle.network_text.specs.Printed.{exchanger_name};
 ghost use Rattle.reports.specs.Audit.{accepted_text, balance_lines, fraction_line, loss_text, measured_text, penalty_line, penalty_lines, place_text, reason_text, rejected_text, too_fine_text};
 
 use crate::line::line;
 use crate::source::source_name;
 use fractions::Frac;
 use network_audit::{Balance, Place, Reason};
-use network_printer::exchanger_names;
-use network_text::Network;
+use network_text::{Network, exchanger_names};
 use penalties::{Penalty, PenaltyList};
 use std::alloc::{AllocError, Global};
 use stream_case::{Case, Name, Source};

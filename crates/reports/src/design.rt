@@ -1,12 +1,11 @@
 //! The text of a design.
 ghost use Rattle.std.specs.Prelude.{◌≡◌, IfOk, string_bytes};
 ghost use Rattle.stream_case.specs.Case.{IsComplete};
-ghost use Rattle.network_text.specs.Shape.{HasShape};
+ghost use Rattle.networks.specs.Shape.{HasShape};
 ghost use Rattle.reports.specs.Design.{balance_comment, design_text};
 
 use network_audit::Balance;
-use network_printer::print_network;
-use network_text::Network;
+use network_text::{Network, print_network};
 use std::alloc::{AllocError, Global};
 use stream_case::Case;
 

@@ -3,7 +3,8 @@ ghost use Rattle.std.specs.Prelude.{◌≡◌, ◌++◌, IfOk, codes, string_byt
 ghost use Rattle.std.specs.List.{flat_map};
 ghost use Rattle.stream_case.specs.Source.{same_source};
 ghost use Rattle.reports.specs.Lines.{line, texts_from};
-ghost use Rattle.reports.specs.Flow.{part_text, part_at, is_of_utility, heat_of_utility, utility_heat, side_parts, side_prices, use_line, move_line, price_word, price_line, price_lines, certificate_lines, flow_text};
+ghost use Rattle.reports.specs.Flow.{part_text, part_at, side_parts, side_prices, use_line, move_line, price_word, price_line, price_lines, certificate_lines, flow_text};
+ghost use Rattle.heat_flow.specs.Certificate.{is_of_utility, heat_of_utility, utility_heat};
 
 use crate::line::{line, number_at};
 use crate::names::{SourceNames, case_names};

@@ -5,7 +5,7 @@ ghost use Rattle.reports.specs.Refusals.{bad_case_text, bad_network_text, bad_si
 use crate::shown::FileRole;
 use case_text::CaseWhy;
 use network_text::NetWhy;
-use site_text::SiteWhy;
+use site::SiteWhy;
 use std::alloc::{AllocError, Global};
 
 /// What is printed where the words are no command.

@@ -7,7 +7,8 @@ ghost use Rattle.plants.specs.Reach.{reach_between};
 ghost use Rattle.plants.specs.Site.{IsValidSite};
 ghost use Rattle.plants.specs.SiteTable.{IsSiteTable};
 ghost use Rattle.site.specs.Target.{AreSiteParts, IsSiteTarget};
-ghost use Rattle.transport.specs.Answer.{IfLeast, IfStuck, IsCertified, IsCutOf};
+ghost use Rattle.transport.specs.Answer.{IfLeast, IfStuck};
+ghost use Rattle.heat_flow.specs.Certificate.{IsCertified, IsCutOf};
 
 use plants::{Site, SiteTable, site_parts};
 use std::alloc::{AllocError, Global};

@@ -11,8 +11,8 @@ use Rattle.fractions.specs.Rationals.{minus, plus, rational_sum, rational_sum_by
 use Rattle.fractions.proofs.Sums.{minus-self, plus-zero}
 use Rattle.fractions.proofs.Wholes.{whole-plus, whole-times}
 use Rattle.problem_table.specs.Deficit.{cold_target, hot_target}
-use Rattle.network_text.specs.Shape.{HasShape}
-use Rattle.network_text.specs.declared.network.Network.{Network}
+use Rattle.networks.specs.Shape.{HasShape}
+use Rattle.networks.specs.declared.network.Network.{Network}
 use Rattle.network_audit.specs.AllItems.{heat_on, heats_on}
 use Rattle.network_audit.specs.Balance.{balance_of, cost_of, excess_of, heat_price, heat_with}
 use Rattle.network_audit.proofs.HeatLemmas.{cold_heat-is, hot_heat-is}

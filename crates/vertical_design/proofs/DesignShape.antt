@@ -18,10 +18,10 @@ use Rattle.stream_case.specs.declared.source.Source.{Source}
 use Rattle.stream_case.specs.declared.source.Source.TheVariants as source
 use Rattle.stream_case.specs.declared.stream.Stream.{Stream}
 use Rattle.stream_case.proofs.SourceLemmas.{same_source-same, same_source-true}
-use Rattle.network_text.specs.Lines.{Exchanger}
-use Rattle.network_text.specs.Shape.{HasShape, IsExchanger, IsPositive, Joins, KeepsCounts}
-use Rattle.network_text.specs.declared.limits.TheConstants.{MOST_STATEMENTS}
-use Rattle.network_text.proofs.Lists.{all_at}
+use Rattle.networks.specs.Lines.{Exchanger}
+use Rattle.networks.specs.Shape.{HasShape, IsExchanger, IsPositive, Joins, KeepsCounts}
+use Rattle.networks.specs.declared.limits.TheConstants.{MOST_STATEMENTS}
+use Rattle.networks.proofs.Lists.{all_at}
 use Rattle.design_lines.specs.Drawn.{Course, courses_lines, declared_line, drawn}
 use Rattle.design_lines.specs.Led.{AreLed, IsCourseOf, IsShareOf, turns}
 use Rattle.design_lines.specs.Ways.{on_the_way}

@@ -26,7 +26,7 @@ use Rattle.stream_case.proofs.SourceLemmas.{own_side, same_source-true}
 use Rattle.fractions.specs.Rationals.{plus, ratio, whole}
 use Rattle.fractions.proofs.Ratios.{plus-ratio_same_den, ratio-zero}
 use Rattle.fractions.proofs.Wholes.{ratio-multiple}
-use Rattle.network_text.proofs.Lists.{all_at}
+use Rattle.networks.proofs.Lists.{all_at}
 use Rattle.design_lines.specs.Values.{size_of}
 use Rattle.design_lines.specs.declared.stage.Share.{Share}
 use Rattle.vertical_design.specs.Axis.{spans_of, utility_from, utility_to}

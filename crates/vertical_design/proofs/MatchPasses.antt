@@ -16,12 +16,12 @@ use Rattle.stream_case.specs.declared.source.Source.TheVariants as source
 use Rattle.stream_case.specs.declared.stream.Stream.{Stream}
 use Rattle.stream_case.proofs.CompleteLemmas.{AreStreams-IsComplete}
 use Rattle.fractions.specs.Rationals.{Rational}
-use Rattle.network_text.specs.Lines.{Exchanger, exchangers_of}
-use Rattle.network_text.specs.Shape.{HasShape, IsExchanger, Joins}
-use Rattle.network_text.specs.declared.network.Line.TheVariants as line
-use Rattle.network_text.specs.declared.network.Network.{Network}
-use Rattle.network_text.proofs.Lists.{all_at}
-use Rattle.network_text.proofs.OfShape.{the_pass_of}
+use Rattle.networks.specs.Lines.{Exchanger, exchangers_of}
+use Rattle.networks.specs.Shape.{HasShape, IsExchanger, Joins}
+use Rattle.networks.specs.declared.network.Line.TheVariants as line
+use Rattle.networks.specs.declared.network.Network.{Network}
+use Rattle.networks.proofs.Lists.{all_at}
+use Rattle.networks.proofs.OfShape.{the_pass_of}
 use Rattle.network_values.specs.Sides.{contribution_of, enters, leaves, pass_run, run_between, side_run}
 use Rattle.network_values.specs.Values.{Valuation, branch_side, first_value, value_at}
 use Rattle.design_lines.specs.Drawn.{Course, courses_lines, declared_line}

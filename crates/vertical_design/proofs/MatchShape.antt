@@ -17,7 +17,7 @@ use Rattle.stream_case.specs.declared.utility.Utility.{Utility}
 use Rattle.fractions.specs.Rationals.{ratio}
 use Rattle.fractions.proofs.Comparisons.{positive-ratio, positive_num}
 use Rattle.fractions.proofs.Limits.{within-ratio}
-use Rattle.network_text.specs.Shape.{IsPositive}
+use Rattle.networks.specs.Shape.{IsPositive}
 use Rattle.vertical_design.specs.Axis.{spans_of}
 use Rattle.vertical_design.specs.Limits.{AreSpans, IsGap}
 use Rattle.vertical_design.specs.Matches.{amounts_in, match_of, matches_in, pairs_of, side_flow, source_at}

@@ -10,9 +10,9 @@ use Rattle.stream_case.specs.declared.case.Case.{Case}
 use Rattle.stream_case.specs.declared.source.Side.TheVariants as side
 use Rattle.stream_case.specs.declared.stream.Stream.{Stream}
 use Rattle.stream_case.proofs.CompleteLemmas.{AreStreams-IsComplete}
-use Rattle.network_text.specs.Lines.{own_branches}
-use Rattle.network_text.specs.Shape.{HasShape}
-use Rattle.network_text.specs.declared.network.Network.{Network}
+use Rattle.networks.specs.Lines.{own_branches}
+use Rattle.networks.specs.Shape.{HasShape}
+use Rattle.networks.specs.declared.network.Network.{Network}
 use Rattle.network_values.specs.Values.{Valuation, ended_streams, first_value}
 use Rattle.design_lines.specs.Drawn.{Course, courses_lines, declared_line, made_branches}
 use Rattle.design_lines.specs.Values.{AreLed, LedStage, Make, courses_along, courses_values, shares_along}

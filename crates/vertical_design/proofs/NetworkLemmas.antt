@@ -8,7 +8,7 @@ use Rattle.stream_case.specs.declared.case.Case.{Case}
 use Rattle.stream_case.specs.declared.source.Side.TheVariants as side
 use Rattle.stream_case.proofs.CaseLemmas.{length-AreStreams}
 use Rattle.stream_case.proofs.CompleteLemmas.{AreStreams-IsComplete}
-use Rattle.network_text.specs.Shape.{HasShape, KeepsCounts}
+use Rattle.networks.specs.Shape.{HasShape, KeepsCounts}
 use Rattle.design_lines.specs.Drawn.{all_branches}
 use Rattle.vertical_design.specs.Axis.{AreCuts, spans_of}
 use Rattle.vertical_design.specs.Courses.{AreIntervals, courses_of, network_of}

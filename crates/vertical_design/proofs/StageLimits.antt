@@ -25,7 +25,7 @@ use Rattle.network_audit.proofs.Sized.{IsSized, sized-between, sized-minus, size
 use Rattle.design_lines.specs.Values.{IsLedStage, LedStage, stage_values}
 use Rattle.design_lines.specs.declared.stage.Share.{Share}
 use Rattle.design_lines.proofs.StageSizes.{AreOver, IsOver, IsStageBranch, StageHolds, stage_sized}
-use Rattle.network_text.specs.declared.network.Network.{Network}
+use Rattle.networks.specs.declared.network.Network.{Network}
 use Rattle.vertical_design.specs.Axis.{AreCuts, spans_of}
 use Rattle.vertical_design.specs.Courses.{cp_on}
 use Rattle.vertical_design.specs.Matches.{amounts_in, match_of, matches_in, side_flow}

@@ -11,7 +11,7 @@ use Rattle.stream_case.specs.declared.source.Side.{Side}
 use Rattle.stream_case.specs.declared.source.Side.TheVariants as side
 use Rattle.stream_case.specs.declared.source.Source.TheVariants as source
 use Rattle.stream_case.specs.declared.stream.Stream.{Stream}
-use Rattle.network_text.proofs.Lists.{All-back, All-front}
+use Rattle.networks.proofs.Lists.{All-back, All-front}
 use Rattle.design_lines.specs.Drawn.{Course}
 use Rattle.design_lines.specs.Led.{turns}
 use Rattle.design_lines.specs.Ways.{on_the_way}

@@ -33,7 +33,7 @@ use Rattle.fractions.proofs.RationalSums.{rational_sum_by-append}
 use Rattle.fractions.proofs.Ratios.{plus-ratio_same_den, ratio-zero}
 use Rattle.fractions.proofs.Wholes.{ratio-multiple, whole-plus}
 use Rattle.problem_table.proofs.DeficitLemmas.{cold_target-between, hot_target-between}
-use Rattle.network_text.specs.declared.network.Network.{Network}
+use Rattle.networks.specs.declared.network.Network.{Network}
 use Rattle.network_audit.specs.Balance.{duties_with, duty_with, heat_with}
 use Rattle.network_audit.specs.Valid.{IsInRange}
 use Rattle.network_audit.proofs.GroupSums.{IsWholeGroup, count_of, numbers_of}

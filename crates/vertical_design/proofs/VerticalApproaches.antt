@@ -24,10 +24,10 @@ use Rattle.fractions.proofs.Comparisons.{at_most-whole, at_most_below_trans, at_
 use Rattle.fractions.proofs.Sums.{plus_assoc, plus_comm}
 use Rattle.fractions.proofs.Wholes.{whole-minus, whole-plus}
 use Rattle.problem_table.proofs.EndLemmas.{IsOutermost, IsOutermost-outermost}
-use Rattle.network_text.specs.Lines.{Exchanger, exchangers_of}
-use Rattle.network_text.specs.Shape.{IsExchanger}
-use Rattle.network_text.specs.declared.network.Network.{Network}
-use Rattle.network_text.proofs.Lists.{all_at}
+use Rattle.networks.specs.Lines.{Exchanger, exchangers_of}
+use Rattle.networks.specs.Shape.{IsExchanger}
+use Rattle.networks.specs.declared.network.Network.{Network}
+use Rattle.networks.proofs.Lists.{all_at}
 use Rattle.network_values.specs.Sides.{KeepApproaches, contribution_of, side_run}
 use Rattle.network_values.specs.Values.{Valuation}
 use Rattle.vertical_design.specs.Vertical.{AreFacing, AreVertical, curve_heat, entry, exit}

@@ -9,8 +9,8 @@ use Rattle.stream_case.specs.declared.source.Source.{Source}
 use Rattle.stream_case.specs.declared.source.Source.TheVariants as source
 use Rattle.stream_case.specs.declared.stream.Stream.{Stream}
 use Rattle.fractions.specs.Rationals.{IsAtMost, Rational, minus, plus, rational_sum_by, rational_zero, times, whole}
-use Rattle.network_text.specs.Lines.{Exchanger, exchangers_of}
-use Rattle.network_text.specs.declared.network.Network.{Network}
+use Rattle.networks.specs.Lines.{Exchanger, exchangers_of}
+use Rattle.networks.specs.declared.network.Network.{Network}
 use Rattle.network_values.specs.Heights.{positive_part}
 use Rattle.network_values.specs.Sides.{contribution_of, enters, leaves, side_run}
 use Rattle.network_values.specs.Values.{IsWholeValuation, Valuation, full_size}

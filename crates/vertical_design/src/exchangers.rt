@@ -9,7 +9,7 @@ ghost use Rattle.vertical_design.specs.Matches.{matches_of};
 use crate::interval::Interval;
 use crate::matches::Match;
 use design_lines::exchanger_name;
-use network_text::Line;
+use networks::Line;
 use std::alloc::{AllocError, Global};
 
 /// Appends the lines that declare an exchanger for each match, in their order. They are numbered

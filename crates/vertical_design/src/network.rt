@@ -2,7 +2,7 @@
 
 ghost use Rattle.std.specs.Prelude.{◌≡◌, IfOk};
 ghost use Rattle.stream_case.specs.Case.{IsComplete, IsStandard};
-ghost use Rattle.network_text.specs.Shape.{HasShape, KeepsCounts};
+ghost use Rattle.networks.specs.Shape.{HasShape, KeepsCounts};
 ghost use Rattle.network_audit.specs.Balance.{balance_of};
 ghost use Rattle.network_audit.specs.Findings.{HasNoFinding};
 ghost use Rattle.network_audit.specs.Valid.{IsValidNetwork};
@@ -16,7 +16,7 @@ use crate::exchangers::exchanger_lines;
 use crate::interval::{Interval, intervals_of};
 use crate::span::spans_of;
 use design_lines::draw;
-use network_text::Network;
+use networks::Network;
 use std::alloc::{AllocError, Global};
 use stream_case::{Case, Side};
 

@@ -1,6 +1,6 @@
 use crate::compare::assert_same;
 use csv::ByteRecord;
-use csv_rows::Rows;
+use rows::Rows;
 use std::test::Fail;
 
 /// A text as spreadsheets write it.

@@ -1,8 +1,7 @@
 use crate::compare::assert_lists;
 use crate::network_text_tests::SIX_EXCHANGERS;
 use crate::tables::{FOUR_STREAMS, completed_case, name};
-use network_printer::{exchanger_names, print_network};
-use network_text::read_network;
+use network_text::{exchanger_names, print_network, read_network};
 use std::test::Fail;
 
 /// Networks for the four streams, and how they are printed: duties in lowest terms.

@@ -5,7 +5,7 @@ use case_text::CaseWhy;
 use network_text::NetWhy;
 use problem_table::Target;
 use reports::{FileRole, Shown, text_of};
-use site_text::SiteWhy;
+use site::SiteWhy;
 use std::process::Abort;
 use std::test::Fail;
 use stream_case::Items;

@@ -1,12 +1,11 @@
 //! The table and the profiles of sites that were worked by hand.
-ghost use Rattle.site.specs.Site.{IsValidSite};
+ghost use Rattle.plants.specs.Site.{IsValidSite};
 
 use crate::compare::{assert_lists, assert_same};
 use crate::grid_tests::{PartRow, rows_of};
 use crate::tables::MOST_HEAT;
 use heat_flow::{Cut, CutKind};
-use site::{Site, sink_profile, site_parts, site_target, source_profile};
-use site_text::read_site;
+use site::{Site, read_site, sink_profile, site_parts, site_target, source_profile};
 use std::alloc::{AllocError, Global};
 use std::process::Abort;
 use std::test::Fail;

@@ -1,7 +1,6 @@
 //! Site files that are read and refused.
 use crate::compare::assert_same;
-use site::Site;
-use site_text::{SiteFault, SiteWhy, read_site};
+use site::{Site, SiteFault, SiteWhy, read_site};
 use std::process::Abort;
 use std::test::Fail;
 

@@ -2,7 +2,7 @@
 
 use crate::compare::assert_lists;
 use crate::tables::{Table, completed_case};
-use network_printer::print_network;
+use network_text::print_network;
 use std::alloc::Global;
 use std::test::Fail;
 use stream_case::Side::{Cold, Hot};

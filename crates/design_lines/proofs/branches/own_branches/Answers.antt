@@ -1,8 +1,8 @@
 use Rattle.std.proofs.Common.{◌≡◌, ◌∙◌, ◌∷◌, ◌++◌, [], ap, map, sym}
 use Rattle.std.specs.List.{enumerate_from}
 use Rattle.std.proofs.lemmas.List.{take_all}
-use Rattle.network_text.specs.Lines.{own_branch, own_branches}
-use Rattle.network_text.specs.declared.network.Branch.{Branch}
+use Rattle.networks.specs.Lines.{own_branch, own_branches}
+use Rattle.networks.specs.declared.network.Branch.{Branch}
 use Rattle.design_lines.proofs.ListLemmas.{map-enumerate_more}
 use Rattle.design_lines.proofs.branches.own_branches.Goals as goal
 

@@ -1,5 +1,5 @@
 use Rattle.std.proofs.Common.{◌≡◌, ◌∙◌, ◌+◌, ◌-◌, ◌∷◌, ◌++◌, [], ap, append_assoc, sym, arith}
-use Rattle.network_text.specs.declared.network.Branch.{Branch}
+use Rattle.networks.specs.declared.network.Branch.{Branch}
 use Rattle.design_lines.specs.Drawn.{numbered}
 use Rattle.design_lines.specs.Names.{branch_name}
 use Rattle.design_lines.proofs.ListLemmas.{numbered_more}

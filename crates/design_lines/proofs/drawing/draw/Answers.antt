@@ -1,5 +1,5 @@
 use Rattle.std.proofs.Common.{◌≡◌, ◌∙◌, ◌+◌, ◌-◌, ◌∷◌, ◌++◌, length, drop, ap, subst, sym, arith}
-use Rattle.network_text.specs.Lines.{own_branches}
+use Rattle.networks.specs.Lines.{own_branches}
 use Rattle.design_lines.specs.Drawn.{course_branches, course_lines, numbered}
 use Rattle.design_lines.proofs.BranchStreams.{length-own_branches}
 use Rattle.design_lines.proofs.DrawSteps.{AreCoursesLed, courses_next, courses_start, next_item}

@@ -1,5 +1,5 @@
 use Rattle.std.proofs.Common.{length}
-use Rattle.network_text.specs.Lines.{own_branches}
+use Rattle.networks.specs.Lines.{own_branches}
 use Rattle.design_lines.proofs.DrawSteps.{AreCoursesLed}
 use Rattle.design_lines.proofs.drawing.draw.Given as goal
 

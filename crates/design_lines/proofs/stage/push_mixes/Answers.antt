@@ -1,5 +1,5 @@
 use Rattle.std.proofs.Common.{◌≡◌, ◌∙◌, ◌+◌, ◌-◌, ◌∷◌, ◌++◌, [], ap, sym, append_assoc, arith}
-use Rattle.network_text.specs.declared.network.Line.TheVariants as line
+use Rattle.networks.specs.declared.network.Line.TheVariants as line
 use Rattle.design_lines.specs.Stages.{mixes}
 use Rattle.design_lines.proofs.StageSteps.{mixes_more}
 use Rattle.design_lines.proofs.stage.push_mixes.Goals as goal

@@ -1,8 +1,8 @@
 use Rattle.std.proofs.Common.{◌≡◌, ◌∙◌, ◌<◌, ◌∷◌, ◌++◌, [], true, ap, refl, sym, arith}
 use Rattle.stream_case.specs.Source.{same_source}
 use Rattle.stream_case.specs.declared.source.Source.TheVariants as source
-use Rattle.network_text.proofs.Lists.{all_at}
-use Rattle.network_text.specs.declared.network.Line.TheVariants as line
+use Rattle.networks.proofs.Lists.{all_at}
+use Rattle.networks.specs.declared.network.Line.TheVariants as line
 use Rattle.design_lines.specs.Stages.{stage_end}
 use Rattle.grid.specs.declared.part.Part.{Part}
 use Rattle.interval_design.specs.Courses.{shares_of, width_of}

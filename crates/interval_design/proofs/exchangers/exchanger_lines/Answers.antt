@@ -1,8 +1,8 @@
 use Rattle.std.proofs.Common.{◌≡◌, ◌∙◌, ◌<◌, ◌∷◌, ◌++◌, [], ℕ, length, ap, sym}
 use Rattle.stream_case.specs.declared.source.Side.TheVariants.{Hot, Cold}
-use Rattle.network_text.proofs.Lists.{all_at}
-use Rattle.network_text.specs.declared.network.Line.{Line}
-use Rattle.network_text.specs.declared.network.Line.TheVariants as line
+use Rattle.networks.proofs.Lists.{all_at}
+use Rattle.networks.specs.declared.network.Line.{Line}
+use Rattle.networks.specs.declared.network.Line.TheVariants as line
 use Rattle.design_lines.specs.Drawn.{declared_line}
 use Rattle.heat_flow.specs.Flow.{part_index}
 use Rattle.heat_flow.specs.declared.flow.Transfer.{Transfer}

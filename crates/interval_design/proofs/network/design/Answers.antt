@@ -6,9 +6,9 @@ use Rattle.network_audit.specs.Balance.{balance_of}
 use Rattle.network_audit.specs.Findings.{HasNoFinding}
 use Rattle.network_audit.specs.Valid.{IsValidNetwork}
 use Rattle.network_audit.specs.declared.verdict.Balance.{Balance}
-use Rattle.network_text.specs.Lines.{exchangers_of}
-use Rattle.network_text.specs.Shape.{HasShape, KeepsCounts}
-use Rattle.network_text.specs.declared.network.Network.{Network}
+use Rattle.networks.specs.Lines.{exchangers_of}
+use Rattle.networks.specs.Shape.{HasShape, KeepsCounts}
+use Rattle.networks.specs.declared.network.Network.{Network}
 use Rattle.design_lines.specs.Drawn.{courses_lines, declared_line, made_branches}
 use Rattle.interval_design.specs.Balance.{flow_balance}
 use Rattle.interval_design.specs.Courses.{courses_of, exchanger_of, network_of}
@@ -21,7 +21,7 @@ use Rattle.stream_case.proofs.CaseLemmas.{length-AreStreams}
 use Rattle.stream_case.proofs.CompleteLemmas.{AreStreams-IsComplete}
 use Rattle.heat_flow.proofs.CostLemmas.{HasCost-flow, heats_within}
 use Rattle.heat_flow.specs.Reach.{reach_between}
-use Rattle.network_text.proofs.OfShape.{many_own}
+use Rattle.networks.proofs.OfShape.{many_own}
 use Rattle.interval_design.proofs.FlowLemmas.{all-fit, all_led, few_flow}
 use Rattle.interval_design.proofs.network.design.Goals as goal
 

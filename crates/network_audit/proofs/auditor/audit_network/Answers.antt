@@ -1,7 +1,7 @@
 use Rattle.std.proofs.Common.{◌≡◌, ◌∙◌, ◌<◌, ◌^◌, ◌++◌, List, Some, length, sym, ap, arith}
 use Rattle.stream_case.proofs.CaseLemmas.{length-AreStreams}
 use Rattle.stream_case.proofs.CompleteLemmas.{AreStreams-IsComplete}
-use Rattle.network_text.specs.Lines.{exchanger_of, exchangers_of}
+use Rattle.networks.specs.Lines.{exchanger_of, exchangers_of}
 use Rattle.network_audit.specs.AllItems.{balance_items, items}
 use Rattle.network_audit.specs.Balance.{balance_of}
 use Rattle.network_audit.specs.Findings.{IsFinding}

@@ -1,5 +1,5 @@
 use Rattle.std.proofs.Common.{◌∙◌, ◌∷◌, ◌++◌, [], None, ap, sym}
-use Rattle.network_text.specs.Lines.{exchangers_of}
+use Rattle.networks.specs.Lines.{exchangers_of}
 use Rattle.network_audit.specs.declared.joints.Joint.{Joint}
 use Rattle.network_audit.proofs.JointLemmas.{declared-other, declared-some, joints-none}
 use Rattle.network_audit.proofs.joints.declared.Goals as goal

@@ -1,6 +1,6 @@
 use Rattle.std.proofs.Common.{◌≡◌, [], List, take}
-use Rattle.network_text.specs.Lines.{exchangers_of}
-use Rattle.network_text.specs.declared.network.Branch.{Branch}
+use Rattle.networks.specs.Lines.{exchangers_of}
+use Rattle.networks.specs.declared.network.Branch.{Branch}
 use Rattle.network_audit.specs.Joints.{joints_among}
 use Rattle.network_audit.proofs.joints.declared.Given as goal
 

@@ -1,5 +1,5 @@
 use Rattle.std.proofs.Common.{◌≡◌, [], List, take}
-use Rattle.network_text.specs.Lines.{Exchanger}
+use Rattle.networks.specs.Lines.{Exchanger}
 use Rattle.network_audit.specs.Joints.{joints_among}
 use Rattle.network_audit.proofs.joints.note_passes.Given as goal
 

@@ -3,7 +3,7 @@ use Rattle.std.specs.Prelude.{unwrap_or}
 use Rattle.stream_case.specs.Case.{side_of}
 use Rattle.stream_case.specs.declared.source.Side.TheVariants as side
 use Rattle.stream_case.specs.declared.source.Source.TheVariants as source
-use Rattle.network_text.specs.Lines.{stream_at}
+use Rattle.networks.specs.Lines.{stream_at}
 use Rattle.network_values.specs.Values.{branch_side}
 use Rattle.network_audit.proofs.statements.branch_side.Goals as goal
 

@@ -3,8 +3,8 @@ use Rattle.std.specs.Option.{option_copied}
 use Rattle.std.proofs.lemmas.List.Elements.{All-head, All-tail}
 use Rattle.stream_case.specs.declared.source.Side.{Side}
 use Rattle.fractions.specs.Rationals.{Rational}
-use Rattle.network_text.specs.Lines.{exchangers_of, stream_at, uses}
-use Rattle.network_text.specs.Shape.{NamesKnown}
+use Rattle.networks.specs.Lines.{exchangers_of, stream_at, uses}
+use Rattle.networks.specs.Shape.{NamesKnown}
 use Rattle.network_values.specs.Made.{passed_value}
 use Rattle.network_values.specs.Values.{branch_side, duty_at, value_at}
 use Rattle.network_values.specs.declared.values.BranchValue.{BranchValue}

@@ -1,5 +1,5 @@
 use Rattle.std.proofs.Common.{◌≡◌, ◌∙◌, ◌+◌, ◌++◌, length, map, take, sym, ap, subst, arith}
-use Rattle.network_text.proofs.OfShape.{streams_first}
+use Rattle.networks.proofs.OfShape.{streams_first}
 use Rattle.network_values.specs.Values.{first_value}
 use Rattle.network_audit.proofs.WalkLemmas.{IsWalked, line_here, walked-all, walked-found, walked-more, walked-room, walked-start, walked-wide}
 use Rattle.network_audit.proofs.walk.audit_statements.Goals as goal

@@ -1,8 +1,8 @@
 use Rattle.std.proofs.Common.{rules, of_z, to_z, w32, ◌≡◌, ◌∙◌, length, sym, ap, subst, arith}
 use Rattle.std.proofs.lemmas.Int.{to_z-of_z}
 use Rattle.stream_case.specs.Case.{IsComplete}
-use Rattle.network_text.specs.Lines.{exchangers_of}
-use Rattle.network_text.proofs.LineLaws.{few_exchangers}
+use Rattle.networks.specs.Lines.{exchangers_of}
+use Rattle.networks.proofs.LineLaws.{few_exchangers}
 use Rattle.problem_table.specs.Deficit.{IsReferencePlace}
 use Rattle.network_audit.specs.Audit.{Audit}
 use Rattle.network_audit.specs.Joints.{joints_of}

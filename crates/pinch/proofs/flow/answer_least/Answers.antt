@@ -1,4 +1,4 @@
-use Rattle.chains.proofs.OnGridLemmas.{parts_on_grid}
+use Rattle.grid.proofs.OnGridLemmas.{parts_on_grid}
 use Rattle.pinch.proofs.Flows.{of_answer}
 use Rattle.pinch.proofs.flow.answer_least.Goals as goal
 

@@ -1,6 +1,6 @@
 use Rattle.std.proofs.Common.{◌∙◌, ap, ap₂, map}
-use Rattle.site.specs.Profiles.{sink_profile, source_profile}
-use Rattle.site.specs.declared.table.SiteTable.{SiteTable}
+use Rattle.plants.specs.Profiles.{sink_profile, source_profile}
+use Rattle.plants.specs.declared.table.SiteTable.{SiteTable}
 use Rattle.site.specs.Target.{AreSiteParts}
 use Rattle.reports.specs.declared.shown.Shown.TheVariants.{SiteShown}
 use Rattle.pinch.proofs.SiteCosts.{least_boiler}

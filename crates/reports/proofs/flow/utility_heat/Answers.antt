@@ -4,7 +4,7 @@ use Rattle.std.specs.Int.{w128}
 use Rattle.std.proofs.lemmas.Int.{ints, to_z-of_z}
 use Rattle.sums.proofs.SumLemmas.{int_sum_by-more}
 use Rattle.heat_flow.specs.declared.flow.Transfer.{Transfer}
-use Rattle.reports.specs.Flow.{heat_of_utility}
+use Rattle.heat_flow.specs.Certificate.{heat_of_utility}
 use Rattle.reports.proofs.flow.utility_heat.Goals as goal
 
 abbrev no_transfer : Transfer

@@ -1,7 +1,7 @@
 use Rattle.std.proofs.Common.{◌≡◌, ◌*◌, ◌^◌, take}
 use Rattle.std.specs.Prelude.{pos, neg_ℤ, ◌≤ℤ◌}
 use Rattle.sums.specs.Sum.{int_sum_by}
-use Rattle.reports.specs.Flow.{heat_of_utility}
+use Rattle.heat_flow.specs.Certificate.{heat_of_utility}
 use Rattle.reports.proofs.flow.utility_heat.Given as goal
 
 abbrev pub invariant-loop-transfer : goal.invariant-loop-transfer

@@ -9,6 +9,4 @@ least-requires-clause-few c =
     rw (is.sizes.hots, is.sizes.colds) (few_pairs c.args.site.now c.requires.valid table.parts.hot table.parts.cold (parts_of c.args.site.now table is))
 
 pub returns : goal.returns
-returns c =
-    let answered = c.least.ensures in
-    of_table c.args.site.now c.args.table.now c.requires.table c.least.result answered.certified answered.least answered.cut answered.stuck_only
+returns c = of_table c.args.site.now c.args.table.now c.requires.table c.least.result c.least.ensures

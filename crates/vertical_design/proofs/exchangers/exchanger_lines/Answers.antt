@@ -1,6 +1,6 @@
 use Rattle.std.proofs.Common.{◌∙◌, ◌++◌, List, ℕ, length, map, take, ap, sym, arith}
 use Rattle.std.specs.List.{enumerate_from}
-use Rattle.network_text.specs.declared.network.Line.{Line}
+use Rattle.networks.specs.declared.network.Line.{Line}
 use Rattle.design_lines.specs.Drawn.{declared_line}
 use Rattle.vertical_design.specs.Courses.{exchanger_of}
 use Rattle.vertical_design.specs.Matches.{matches_of}

@@ -1,7 +1,7 @@
 use Rattle.std.proofs.Common.{◌≡◌, ◌∙◌, ◌+◌, ◌∷◌, ◌++◌, List, ℕ, [], length, map, take, ap, sym, append_assoc, length-append, arith}
 use Rattle.std.specs.List.{enumerate_from}
-use Rattle.network_text.specs.declared.network.Line.{Line}
-use Rattle.network_text.specs.declared.network.Line.TheVariants as line
+use Rattle.networks.specs.declared.network.Line.{Line}
+use Rattle.networks.specs.declared.network.Line.TheVariants as line
 use Rattle.design_lines.specs.Drawn.{declared_line}
 use Rattle.design_lines.specs.Names.{exchanger_name}
 use Rattle.vertical_design.specs.Courses.{exchanger_of}

@@ -1,6 +1,6 @@
 use Rattle.std.proofs.Common.{◌≡◌, ◌∙◌, ◌<◌, ◌+◌, ◌^◌, ◌++◌, List, All, length, map, ap, sym, subst}
-use Rattle.network_text.specs.Lines.{own_branches}
-use Rattle.network_text.specs.Shape.{HasShape, KeepsCounts}
+use Rattle.networks.specs.Lines.{own_branches}
+use Rattle.networks.specs.Shape.{HasShape, KeepsCounts}
 use Rattle.network_audit.specs.Balance.{balance_of}
 use Rattle.network_audit.specs.Findings.{HasNoFinding}
 use Rattle.network_audit.specs.Valid.{IsValidNetwork}

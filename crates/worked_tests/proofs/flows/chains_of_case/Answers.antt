@@ -1,4 +1,4 @@
-use Rattle.chains.proofs.OnGridLemmas.{parts_on_grid}
+use Rattle.grid.proofs.OnGridLemmas.{parts_on_grid}
 use Rattle.worked_tests.proofs.flows.chains_of_case.Goals as goal
 
 pub chains_of-requires-clause-parts : goal.chains_of-requires-clause-parts

@@ -1,4 +1,4 @@
-use Rattle.chains.proofs.OnGridLemmas.{parts_on_grid}
+use Rattle.grid.proofs.OnGridLemmas.{parts_on_grid}
 use Rattle.worked_tests.proofs.transport_tests.answer_of.Goals as goal
 
 pub least_case-requires-clause-parts : goal.least_case-requires-clause-parts

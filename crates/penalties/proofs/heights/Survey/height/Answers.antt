@@ -2,7 +2,7 @@ use Rattle.std.proofs.Common.{rules, w32, ◌≡◌, ◌∙◌, List, None, Some
 use Rattle.std.specs.Option.{option_copied}
 use Rattle.std.proofs.lemmas.Int.{to_z-of_z}
 use Rattle.fractions.specs.Rationals.{Rational, minus}
-use Rattle.network_text.specs.Lines.{stream_at}
+use Rattle.networks.specs.Lines.{stream_at}
 use Rattle.network_values.specs.Heights.{height}
 use Rattle.network_values.specs.Penalties.{base_of}
 use Rattle.network_values.specs.Values.{value_at}
