@@ -6,8 +6,7 @@ use Rattle.std.proofs.lemmas.Int.{ints}
 use Rattle.std.proofs.lemmas.List.Elements.{All-head, All-nil, All-tail}
 use Rattle.sums.proofs.ProductLemmas.{product_positive}
 use Rattle.stream_case.specs.Case.{IsComplete}
-use Rattle.stream_case.specs.Shift.{shifted}
-use Rattle.stream_case.specs.Source.{is_hot, same_source}
+use Rattle.stream_case.specs.Source.{same_source}
 use Rattle.stream_case.specs.Stream.{IsValidStream, high_end, low_end}
 use Rattle.stream_case.specs.declared.case.Case.{Case}
 use Rattle.stream_case.specs.declared.source.Side.{Side}
@@ -122,9 +121,10 @@ module _ (case : Case) (hot cold : List Part) (ts : List Transfer) (complete : I
       let way = side_falls side.Hot hot same parts.hot_parts in
       let meets = way_meets side.Hot c ts items (high_end s) (low_end s) way in
       let start : whole (high_end s +ℤ c) ≡ first_state s = first_state-unshifted side.Hot s same in
-      let end : whole (low_end s +ℤ c) ≡ last_state s = last_state-unshifted side.Hot s same in
-      (subst (λ t. Meet t (map (led_at side.Hot c ts) items)) start meets.0,
-      subst (λ t. state_behind t (map (led_at side.Hot c ts) items) ≡ last_state s) start (meets.1 ∙ end))
+      let end : whole (low_end s +ℤ c) ≡ last_state s = last_state-unshifted side.Hot s same in (
+        subst (λ t. Meet t (map (led_at side.Hot c ts) items)) start meets.0,
+        subst (λ t. state_behind t (map (led_at side.Hot c ts) items) ≡ last_state s) start (meets.1 ∙ end),
+      )
   joined_on side.Cold same =
       let c = s.contribution in
       let items = items_of side.Cold hot cold number in
@@ -133,9 +133,10 @@ module _ (case : Case) (hot cold : List Part) (ts : List Transfer) (complete : I
       subst (λ es. WayTo side.Cold (low_end s) es (high_end s)) (sym (filter_map-reverse (own_item number) (enumerate_from 0 cold))) (rise_reverse (high_end s) (filter_map (own_item number) (enumerate_from 0 cold)) (low_end s) down) in
       let meets = way_meets side.Cold c ts items (low_end s) (high_end s) way in
       let start : whole (low_end s -ℤ c) ≡ first_state s = first_state-unshifted side.Cold s same in
-      let end : whole (high_end s -ℤ c) ≡ last_state s = last_state-unshifted side.Cold s same in
-      (subst (λ t. Meet t (map (led_at side.Cold c ts) items)) start meets.0,
-      subst (λ t. state_behind t (map (led_at side.Cold c ts) items) ≡ last_state s) start (meets.1 ∙ end))
+      let end : whole (high_end s -ℤ c) ≡ last_state s = last_state-unshifted side.Cold s same in (
+        subst (λ t. Meet t (map (led_at side.Cold c ts) items)) start meets.0,
+        subst (λ t. state_behind t (map (led_at side.Cold c ts) items) ≡ last_state s) start (meets.1 ∙ end),
+      )
 
   -- ---- the parts
 
