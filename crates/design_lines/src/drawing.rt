@@ -25,7 +25,8 @@ fn push_course(
 ) -> Result<u32, AllocError>
     requires stages { AreStages course.now }
     requires fits { next + course_branches course.now + 3 < 2 ^ 32 }
-    ensures lines { OnOk result (lines.new.items ≡ lines.old.items ++ course_lines next stream course.now) }
+    ensures lines { OnOk result (lines.new.items ≡ lines.old.items
+        ++ course_lines next stream course.now) }
     ensures free { IfOk result (λ free. free ≡ next + course_branches course.now) }
 {
     let mut free = next;
@@ -49,8 +50,10 @@ pub fn draw(
     requires stages { All AreStages courses.now }
     requires all { length courses.now ≡ length case.now.streams }
     requires fits { length case.now.streams + all_branches courses.now + 3 < 2 ^ 32 }
-    ensures branches { IfOk result (λ network. network.branches ≡ own_branches case.now ++ made_branches 0 0 courses.now) }
-    ensures lines { IfOk result (λ network. network.lines ≡ declarations.items ++ courses_lines (length case.now.streams) 0 courses.now) }
+    ensures branches { IfOk result (λ network. network.branches ≡ own_branches case.now
+        ++ made_branches 0 0 courses.now) }
+    ensures lines { IfOk result (λ network. network.lines ≡ declarations.items
+        ++ courses_lines (length case.now.streams) 0 courses.now) }
 {
     let own = case.streams.len() as u32;
     let mut lines = declarations;

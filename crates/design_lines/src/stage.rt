@@ -54,7 +54,8 @@ fn push_passes(
 ) -> Result<(), AllocError>
     requires some { 0 < length shares.now }
     requires fits { next + 4 * length shares.now < 2 ^ 32 }
-    ensures { OnOk result (lines.new.items ≡ lines.old.items ++ passes (behind_splits next shares.now) (share_branches next rest shares.now) shares.now) }
+    ensures { OnOk result (lines.new.items ≡ lines.old.items ++ passes
+        (behind_splits next shares.now) (share_branches next rest shares.now) shares.now) }
 {
     let mut branch = next;
     let mut to = next + 2 * (shares.len() as u32 - 1);
@@ -79,7 +80,8 @@ fn push_passes(
 /// branch that follows.
 fn push_mixes(lines: &mut Vec<Line>, behind: u32, count: u32) -> Result<(), AllocError>
     requires { behind + 2 * count + 1 < 2 ^ 32 }
-    ensures { OnOk result (lines.new.items ≡ lines.old.items ++ mixes count (behind + count + 1) behind (behind + 1)) }
+    ensures { OnOk result (lines.new.items ≡ lines.old.items
+        ++ mixes count (behind + count + 1) behind (behind + 1)) }
 {
     let mut first = behind;
     for index in 0..count {
@@ -105,7 +107,8 @@ pub fn push_stage(
 ) -> Result<u32, AllocError>
     requires some { 0 < length shares.now }
     requires fits { next + 4 * length shares.now < 2 ^ 32 }
-    ensures lines { OnOk result (lines.new.items ≡ lines.old.items ++ stage_lines next from shares.now) }
+    ensures lines { OnOk result (lines.new.items ≡ lines.old.items
+        ++ stage_lines next from shares.now) }
     ensures end { IfOk result (λ end. end ≡ stage_end next shares.now) }
 {
     let more = shares.len() as u32 - 1;

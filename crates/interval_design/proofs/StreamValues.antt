@@ -6,8 +6,7 @@ use Rattle.std.proofs.lemmas.Int.{ints}
 use Rattle.std.proofs.lemmas.List.Elements.{All-head, All-nil, All-tail}
 use Rattle.sums.proofs.ProductLemmas.{product_positive}
 use Rattle.stream_case.specs.Case.{IsComplete}
-use Rattle.stream_case.specs.Shift.{shifted}
-use Rattle.stream_case.specs.Source.{is_hot, same_source}
+use Rattle.stream_case.specs.Source.{same_source}
 use Rattle.stream_case.specs.Stream.{IsValidStream, high_end, low_end}
 use Rattle.stream_case.specs.declared.case.Case.{Case}
 use Rattle.stream_case.specs.declared.source.Side.{Side}

@@ -53,9 +53,12 @@ pub(crate) fn push_course(
     requires few_transfers { length transfers.now < 2 ^ 32 }
     requires few_parts { length parts.now < 2 ^ 32 }
     requires led { CanBeLed side parts.now transfers.now stream }
-    requires fits { next + course_branches (course_of side parts.now transfers.now stream) + 3 < 2 ^ 32 }
-    ensures lines { OnOk result (lines.new.items ≡ lines.old.items ++ course_lines next stream (course_of side parts.now transfers.now stream)) }
-    ensures free { IfOk result (λ free. free ≡ next + course_branches (course_of side parts.now transfers.now stream)) }
+    requires fits { next + course_branches
+        (course_of side parts.now transfers.now stream) + 3 < 2 ^ 32 }
+    ensures lines { OnOk result (lines.new.items ≡ lines.old.items
+        ++ course_lines next stream (course_of side parts.now transfers.now stream)) }
+    ensures free { IfOk result
+        (λ free. free ≡ next + course_branches (course_of side parts.now transfers.now stream)) }
 {
     let mut free = next;
     let mut at = stream;

@@ -33,7 +33,9 @@ pub(crate) fn exchanger_lines(
     requires hot { HaveParts Hot hot.now transfers.now }
     requires cold { HaveParts Cold cold.now transfers.now }
     requires few { length transfers.now < 2 ^ 32 }
-    ensures { IfOk result (λ lines. lines.items ≡ map (λ e. declared_line (exchanger_of hot.now cold.now e)) (enumerate_from 0 transfers.now)) }
+    ensures { IfOk result (λ lines. lines.items
+        ≡ map (λ e. declared_line (exchanger_of hot.now cold.now e))
+        (enumerate_from 0 transfers.now)) }
 {
     let mut lines = Vec::new(alloc);
     for number in 0..transfers.len() {

@@ -59,9 +59,13 @@ fn push_courses(
     requires few_transfers { length flow.now.transfers < 2 ^ 32 }
     requires led { AllCanBeLed case.now parts.now.hot parts.now.cold flow.now.transfers }
     requires own { length branches.old.items ≡ length case.now.streams }
-    requires fits { length case.now.streams + all_branches (courses_of case.now parts.now.hot parts.now.cold flow.now.transfers) + 3 < 2 ^ 32 }
-    ensures lines { OnOk result (lines.new.items ≡ lines.old.items ++ courses_lines (length case.now.streams) 0 (courses_of case.now parts.now.hot parts.now.cold flow.now.transfers)) }
-    ensures branches { OnOk result (branches.new.items ≡ branches.old.items ++ made_branches 0 0 (courses_of case.now parts.now.hot parts.now.cold flow.now.transfers)) }
+    requires fits { length case.now.streams + all_branches
+        (courses_of case.now parts.now.hot parts.now.cold flow.now.transfers) + 3 < 2 ^ 32 }
+    ensures lines { OnOk result (lines.new.items ≡ lines.old.items
+        ++ courses_lines (length case.now.streams) 0
+        (courses_of case.now parts.now.hot parts.now.cold flow.now.transfers)) }
+    ensures branches { OnOk result (branches.new.items ≡ branches.old.items ++ made_branches 0 0
+        (courses_of case.now parts.now.hot parts.now.cold flow.now.transfers)) }
 {
     let own = case.streams.len() as u32;
     let transfers = flow.transfers.as_slice();
@@ -94,15 +98,26 @@ fn push_courses(
 pub fn design(alloc: Global, case: &Case, parts: &Parts, flow: &Flow) -> Result<Network, AllocError>
     requires complete { IsComplete case.now }
     requires parts { AreCaseParts case.now parts.now.hot parts.now.cold }
-    requires flow { IsHeatFlow (reach_between case.now parts.now.hot parts.now.cold) parts.now.hot parts.now.cold flow.now.transfers }
-    ensures drawn { IfOk result (λ network. network ≡ network_of case.now parts.now.hot parts.now.cold flow.now.transfers) }
-    ensures exchangers { IfOk result (λ network. exchangers_of network.lines ≡ map (exchanger_of parts.now.hot parts.now.cold) (enumerate_from 0 flow.now.transfers)) }
+    requires flow { IsHeatFlow
+        (reach_between case.now parts.now.hot parts.now.cold) parts.now.hot parts.now.cold
+        flow.now.transfers }
+    ensures drawn { IfOk result
+        (λ network. network ≡ network_of case.now parts.now.hot parts.now.cold flow.now.transfers) }
+    ensures exchangers { IfOk result
+        (λ network. exchangers_of network.lines
+        ≡ map (exchanger_of parts.now.hot parts.now.cold) (enumerate_from 0 flow.now.transfers)) }
     ensures shape { IfOk result (λ network. HasShape case.now network) }
-    ensures counts { IfOk result (λ network. length flow.now.transfers ≤ length parts.now.hot + length parts.now.cold - 1 → KeepsCounts network) }
+    ensures counts { IfOk result
+        (λ network. length flow.now.transfers ≤ length parts.now.hot + length parts.now.cold - 1
+        → KeepsCounts network) }
     ensures valid { IfOk result (λ network. IsValidNetwork case.now network) }
     ensures accepted { IfOk result (λ network. HasNoFinding case.now network) }
-    ensures balance { IfOk result (λ network. balance_of case.now network ≡ flow_balance case.now parts.now.hot parts.now.cold flow.now.transfers) }
-    ensures excess { IfOk result (λ network. IsStandard case.now → cost_of parts.now.hot parts.now.cold flow.now.transfers ≡ hot_target case.now.streams → (balance_of case.now network).excess ≡ rational_zero) }
+    ensures balance { IfOk result
+        (λ network. balance_of case.now network
+        ≡ flow_balance case.now parts.now.hot parts.now.cold flow.now.transfers) }
+    ensures excess { IfOk result (λ network. IsStandard case.now
+        → cost_of parts.now.hot parts.now.cold flow.now.transfers ≡ hot_target case.now.streams
+        → (balance_of case.now network).excess ≡ rational_zero) }
 {
     let transfers = flow.transfers.as_slice();
     let mut lines = exchanger_lines(
