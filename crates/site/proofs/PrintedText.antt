@@ -40,11 +40,14 @@ plant_printed plant named valid =
     let each = All-weaker IsValidStream (λ (s : Stream). IsPrintedRow (stream_row s)) stream_printed plant.streams valid in
     All-cons IsPrintedRow (plant_row plant) (map stream_row plant.streams) first (All-map IsPrintedRow stream_row plant.streams each)
 
-plants_printed : (plants : List Plant) → All (λ p. IsName p.name) plants → All (λ p. All IsValidStream p.streams) plants → All IsPrintedRow (flat_map plant_rows plants)
+plants_printed : (plants : List Plant) → All (λ p. IsName p.name) plants → All (λ p. All IsValidStream p.streams) plants
+    → All IsPrintedRow (flat_map plant_rows plants)
 plants_printed [] names valid = All-nil IsPrintedRow
 plants_printed (p ∷ ps) names valid =
-    let own = plant_printed p (All-head (λ (p : Plant). IsName p.name) p ps names) (All-head (λ (p : Plant). All IsValidStream p.streams) p ps valid) in
-    let rest = plants_printed ps (All-tail (λ (p : Plant). IsName p.name) p ps names) (All-tail (λ (p : Plant). All IsValidStream p.streams) p ps valid) in
+    let Named : Plant → Type 0 = λ p. IsName p.name in
+    let Valid : Plant → Type 0 = λ p. All IsValidStream p.streams in
+    let own = plant_printed p (All-head Named p ps names) (All-head Valid p ps valid) in
+    let rest = plants_printed ps (All-tail Named p ps names) (All-tail Valid p ps valid) in
     All-append IsPrintedRow (plant_rows p) (flat_map plant_rows ps) own rest
 
 rows_printed : (site : Site) → IsValidSite site → All IsPrintedRow (printed_rows site)

@@ -1,6 +1,6 @@
 -- The parts of a site are fixed, and make few pairs.
 use mathlib.Core.Path.{fun_ext}
-use Rattle.std.proofs.Common.{◌≡◌, ◌∙◌, ap, sym, subst, subst₂, Bool, ℕ, ◌*◌, ◌≤◌, List, length, arith, Result, Ok, Err, IfOk}
+use Rattle.std.proofs.Common.{◌≡◌, ◌∙◌, ap, sym, subst, subst₂, ◌*◌, ◌≤◌, List, length, arith, Result, Ok, Err, IfOk}
 use Rattle.std.specs.Prelude.{ℤ, Contains}
 use Rattle.std.proofs.Math.Nat.{mul-le-mul}
 use Rattle.stream_case.specs.declared.source.Side.{Side}
@@ -13,8 +13,10 @@ use Rattle.grid.specs.Making.{made_parts}
 use Rattle.grid.specs.Part.{AreParts}
 use Rattle.grid.proofs.MakingLemmas.{AreParts-made}
 use Rattle.grid.proofs.SizeLemmas.{length-made}
+use Rattle.heat_flow.specs.Cuts.{HasNoFlow}
+use Rattle.heat_flow.specs.Flow.{IsLeastCost}
 use Rattle.heat_flow.specs.Table.{reaches}
-use Rattle.transport.specs.Answer.{IsAnswer}
+use Rattle.transport.specs.Answer.{IfLeast, IfStuck, IsCertified, IsCutOf}
 use Rattle.transport.specs.declared.answer.Answer.{Answer}
 use Rattle.transport.specs.declared.least_cost.TheConstants.{MOST_PAIRS}
 use Rattle.plants.specs.Reach.{reach_between}
@@ -27,15 +29,20 @@ use Rattle.plants.specs.declared.table.SiteTable.{SiteTable}
 use Rattle.plants.proofs.PlaceLemmas.{HoldsPlaces-grid, length-site_places}
 
 module _ (site : Site) (valid : IsValidSite site) where
+  -- the parts of a side on these places
+  abbrev AreSideParts : Side → List ℤ → List Part → Type 0
+  AreSideParts side places parts = AreParts (streams_of site.plants) (site_utilities site) places side parts
+
   -- there are at most 24 streams and 4 mains
   few_places : (places : List ℤ) → IsSiteGrid site places → length places ≤ 56
   few_places places grid =
       let falling = length-le_falling places (site_places site) grid.ordered grid.each in
-      omega (arith, falling, length-site_places site, count_on-add (streams_of site.plants), valid.streams.few Hot, valid.streams.few Cold, valid.mains.few)
+      let streams = count_on-add (streams_of site.plants) in
+      omega (arith, falling, length-site_places site, streams, valid.streams.few Hot, valid.streams.few Cold, valid.mains.few)
 
   -- each stream of the side has at most one part at each place, and each utility one
-  few_of_side : (places : List ℤ) (side : Side) (parts : List Part) → IsSiteGrid site places → AreParts (streams_of site.plants) (site_utilities site) places side parts → length parts ≤ 700
-  few_of_side places side parts grid are =
+  few_of_side : (side : Side) (places : List ℤ) (parts : List Part) → IsSiteGrid site places → AreSideParts side places parts → length parts ≤ 700
+  few_of_side side places parts grid are =
       let holds = HoldsPlaces-grid site places valid grid in
       let made = ap length (AreParts-made (streams_of site.plants) (site_utilities site) side places parts holds are) in
       let most = length-made (streams_of site.plants) (site_utilities site) side places holds in
@@ -44,36 +51,55 @@ module _ (site : Site) (valid : IsValidSite site) where
 
   pub few_pairs : (hot cold : List Part) → AreSiteParts site hot cold → length hot * length cold ≤ MOST_PAIRS
   few_pairs hot cold parts =
-      let product = mul-le-mul (few_of_side parts.grid Hot hot parts.is_grid parts.hot_parts) (few_of_side parts.grid Cold cold parts.is_grid parts.cold_parts) in
+      let hots = few_of_side Hot parts.grid hot parts.is_grid parts.hot_parts in
+      let colds = few_of_side Cold parts.grid cold parts.is_grid parts.cold_parts in
+      let product = mul-le-mul hots colds in
       omega (arith, product)
 
-  same_side_parts : (places others : List ℤ) (side : Side) (parts more : List Part) → IsSiteGrid site places → IsSiteGrid site others → AreParts (streams_of site.plants) (site_utilities site) places side parts → AreParts (streams_of site.plants) (site_utilities site) others side more → parts ≡ more
-  same_side_parts places others side parts more grid other are are_more =
+  same_side_parts : (side : Side) (places others : List ℤ) (parts more : List Part) → IsSiteGrid site places → IsSiteGrid site others
+      → AreSideParts side places parts → AreSideParts side others more → parts ≡ more
+  same_side_parts side places others parts more grid other are are_more =
       let same = ListsFalling-unique (Contains (site_places site)) places others grid other in
       AreParts-made (streams_of site.plants) (site_utilities site) side places parts (HoldsPlaces-grid site places valid grid) are
       ∙ ap (made_parts (streams_of site.plants) (site_utilities site) side) same
       ∙ sym (AreParts-made (streams_of site.plants) (site_utilities site) side others more (HoldsPlaces-grid site others valid other) are_more)
 
   same_parts : (hot cold others more : List Part) → AreSiteParts site hot cold → AreSiteParts site others more → (hot ≡ others) × (cold ≡ more)
-  same_parts hot cold others more parts other = (same_side_parts parts.grid other.grid Hot hot others parts.is_grid other.is_grid parts.hot_parts other.hot_parts, same_side_parts parts.grid other.grid Cold cold more parts.is_grid other.is_grid parts.cold_parts other.cold_parts)
+  same_parts hot cold others more parts other =
+      let hots = same_side_parts Hot parts.grid other.grid hot others parts.is_grid other.is_grid parts.hot_parts other.hot_parts in
+      let colds = same_side_parts Cold parts.grid other.grid cold more parts.is_grid other.is_grid parts.cold_parts other.cold_parts in
+      (hots, colds)
 
 pub IfOk-weaker : {A E : Type 0} (P Q : A → Type 0) (r : Result A E) → ((a : A) → P a → Q a) → IfOk r P → IfOk r Q
 IfOk-weaker P Q (Ok a) weaker h = weaker a h
 IfOk-weaker P Q (Err e) weaker h = tt
 
 -- what is answered of the parts in a table by its reach is answered by the site's
-pub of_table : {E : Type 0} (site : Site) (table : SiteTable) → IsSiteTable site table → (r : Result Answer E) → IfOk r (IsAnswer (reaches table.reach) table.parts.hot table.parts.cold) → IfOk r (IsSiteTarget site table.parts.hot table.parts.cold)
-of_table site table is r =
-    let same : reaches table.reach ≡ reach_between site table.parts.hot table.parts.cold = fun_ext (λ a. fun_ext (λ b. is.reach a b)) in
-    IfOk-weaker (IsAnswer (reaches table.reach) table.parts.hot table.parts.cold) (IsSiteTarget site table.parts.hot table.parts.cold) r (λ a. subst (λ reach. IsAnswer reach table.parts.hot table.parts.cold a) same)
+pub of_table : {E : Type 0} (site : Site) (table : SiteTable) → IsSiteTable site table → (r : Result Answer E)
+    → IfOk r (λ a. IfLeast a (λ flow p cost. IsCertified (reaches table.reach) table.parts.hot table.parts.cold flow.transfers p.hot p.cold cost))
+    → IfOk r (λ a. IfLeast a (λ flow prices cost. IsLeastCost (reaches table.reach) table.parts.hot table.parts.cold cost))
+    → IfOk r (λ a. IfStuck a (λ cut. IsCutOf (reaches table.reach) table.parts.hot table.parts.cold cut))
+    → IfOk r (λ a. IfStuck a (λ cut. HasNoFlow (reaches table.reach) table.parts.hot table.parts.cold))
+    → IfOk r (IsSiteTarget site table.parts.hot table.parts.cold)
+of_table site table is (Err e) certified least cut stuck_only = tt
+of_table site table is (Ok a) certified least cut stuck_only =
+    let hot = table.parts.hot in
+    let cold = table.parts.cold in
+    let same : reaches table.reach ≡ reach_between site hot cold = fun_ext (λ a. fun_ext (λ b. is.reach a b)) in
+    record {
+      certified = subst (λ reach. IfLeast a (λ flow prices cost. IsCertified reach hot cold flow.transfers prices.hot prices.cold cost)) same certified;
+      least = subst (λ reach. IfLeast a (λ flow prices cost. IsLeastCost reach hot cold cost)) same least;
+      cut = subst (λ reach. IfStuck a (λ cut. IsCutOf reach hot cold cut)) same cut;
+      stuck_only = subst (λ reach. IfStuck a (λ cut. HasNoFlow reach hot cold)) same stuck_only;
+    }
 
 -- the parts in the table of a site
 pub parts_of : (site : Site) (table : SiteTable) → IsSiteTable site table → AreSiteParts site table.parts.hot table.parts.cold
 parts_of site table is = record { grid = table.places; is_grid = is.grid; hot_parts = is.hot_parts; cold_parts = is.cold_parts }
 
 -- what is answered of some parts of a site is answered of all, since it has no others
-pub of_all_parts : {E : Type 0} (site : Site) → IsValidSite site → (hot cold : List Part) (r : Result Answer E) → AreSiteParts site hot cold → IfOk r (IsSiteTarget site hot cold)
-    → IfOk r (λ a. (others more : List Part) → AreSiteParts site others more → IsSiteTarget site others more a)
+pub of_all_parts : {E : Type 0} (site : Site) → IsValidSite site → (hot cold : List Part) (r : Result Answer E) → AreSiteParts site hot cold
+    → IfOk r (IsSiteTarget site hot cold) → IfOk r (λ a. (others more : List Part) → AreSiteParts site others more → IsSiteTarget site others more a)
 of_all_parts site valid hot cold r parts answered =
     IfOk-weaker (IsSiteTarget site hot cold) (λ a. (others more : List Part) → AreSiteParts site others more → IsSiteTarget site others more a) r
     (λ a target others more other.

@@ -25,7 +25,8 @@ pub fn table_target(alloc: Global, site: &Site, table: &SiteTable) -> Result<Ans
     least(alloc, &table.parts, &table.reach)
 }
 
-/// The same for a site whose table is not at hand.
+/// The target of a site, as `table_target` has it, where its table is not at hand: said of all
+/// parts of the site, since it has no others.
 pub fn site_target(alloc: Global, site: &Site) -> Result<Answer, AllocError>
     requires { IsValidSite site.now }
     ensures certified { IfOk result (λ a. (hot cold : List Part) → AreSiteParts site.now hot cold → IfLeast a (λ flow prices cost. IsCertified (reach_between site.now hot cold) hot cold flow.transfers prices.hot prices.cold cost)) }

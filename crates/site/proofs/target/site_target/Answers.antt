@@ -1,5 +1,5 @@
 -- The table is the site's, and the site has no other parts.
-use Rattle.std.proofs.Common.{List, IfOk, Result}
+use Rattle.std.proofs.Common.{List, IfOk}
 use Rattle.grid.specs.declared.part.Part.{Part}
 use Rattle.transport.specs.declared.answer.Answer.{Answer}
 use Rattle.plants.specs.SiteTable.{IsSiteTable}
@@ -23,10 +23,11 @@ returns c =
     let table = c.in_ok-table.table in
     let made = c.in_ok-table.ensures in
     let is : IsSiteTable site table = record { grid = made.places; hot_parts = made.hot; cold_parts = made.cold; sizes = made.sizes; reach = made.reach } in
-    let all : IfOk c.table_target.result (OfAll site) = of_all_parts site c.requires table.parts.hot table.parts.cold c.table_target.result (parts_of site table is) c.table_target.ensures in
+    let r = c.table_target.result in
+    let all : IfOk r (OfAll site) = of_all_parts site c.requires table.parts.hot table.parts.cold r (parts_of site table is) c.table_target.ensures in
     record {
-      certified = IfOk-weaker (OfAll site) _ c.table_target.result (λ a all hot cold parts. (all hot cold parts).certified) all;
-      least = IfOk-weaker (OfAll site) _ c.table_target.result (λ a all hot cold parts. (all hot cold parts).least) all;
-      cut = IfOk-weaker (OfAll site) _ c.table_target.result (λ a all hot cold parts. (all hot cold parts).cut) all;
-      stuck_only = IfOk-weaker (OfAll site) _ c.table_target.result (λ a all hot cold parts. (all hot cold parts).stuck_only) all;
+      certified = IfOk-weaker (OfAll site) _ r (λ a all hot cold parts. (all hot cold parts).certified) all;
+      least = IfOk-weaker (OfAll site) _ r (λ a all hot cold parts. (all hot cold parts).least) all;
+      cut = IfOk-weaker (OfAll site) _ r (λ a all hot cold parts. (all hot cold parts).cut) all;
+      stuck_only = IfOk-weaker (OfAll site) _ r (λ a all hot cold parts. (all hot cold parts).stuck_only) all;
     }
