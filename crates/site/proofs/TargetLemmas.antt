@@ -13,10 +13,8 @@ use Rattle.grid.specs.Making.{made_parts}
 use Rattle.grid.specs.Part.{AreParts}
 use Rattle.grid.proofs.MakingLemmas.{AreParts-made}
 use Rattle.grid.proofs.SizeLemmas.{length-made}
-use Rattle.heat_flow.specs.Cuts.{HasNoFlow}
-use Rattle.heat_flow.specs.Flow.{IsLeastCost}
 use Rattle.heat_flow.specs.Table.{reaches}
-use Rattle.transport.specs.Answer.{IfLeast, IfStuck, IsCertified, IsCutOf}
+use Rattle.transport.specs.Answer.{IsAnswer}
 use Rattle.transport.specs.declared.answer.Answer.{Answer}
 use Rattle.transport.specs.declared.least_cost.TheConstants.{MOST_PAIRS}
 use Rattle.plants.specs.Reach.{reach_between}
@@ -76,22 +74,12 @@ IfOk-weaker P Q (Err e) weaker h = tt
 
 -- what is answered of the parts in a table by its reach is answered by the site's
 pub of_table : {E : Type 0} (site : Site) (table : SiteTable) → IsSiteTable site table → (r : Result Answer E)
-    → IfOk r (λ a. IfLeast a (λ flow p cost. IsCertified (reaches table.reach) table.parts.hot table.parts.cold flow.transfers p.hot p.cold cost))
-    → IfOk r (λ a. IfLeast a (λ flow prices cost. IsLeastCost (reaches table.reach) table.parts.hot table.parts.cold cost))
-    → IfOk r (λ a. IfStuck a (λ cut. IsCutOf (reaches table.reach) table.parts.hot table.parts.cold cut))
-    → IfOk r (λ a. IfStuck a (λ cut. HasNoFlow (reaches table.reach) table.parts.hot table.parts.cold))
-    → IfOk r (IsSiteTarget site table.parts.hot table.parts.cold)
-of_table site table is (Err e) certified least cut stuck_only = tt
-of_table site table is (Ok a) certified least cut stuck_only =
+    → IfOk r (IsAnswer (reaches table.reach) table.parts.hot table.parts.cold) → IfOk r (IsSiteTarget site table.parts.hot table.parts.cold)
+of_table site table is r =
     let hot = table.parts.hot in
     let cold = table.parts.cold in
     let same : reaches table.reach ≡ reach_between site hot cold = fun_ext (λ a. fun_ext (λ b. is.reach a b)) in
-    record {
-      certified = subst (λ reach. IfLeast a (λ flow prices cost. IsCertified reach hot cold flow.transfers prices.hot prices.cold cost)) same certified;
-      least = subst (λ reach. IfLeast a (λ flow prices cost. IsLeastCost reach hot cold cost)) same least;
-      cut = subst (λ reach. IfStuck a (λ cut. IsCutOf reach hot cold cut)) same cut;
-      stuck_only = subst (λ reach. IfStuck a (λ cut. HasNoFlow reach hot cold)) same stuck_only;
-    }
+    IfOk-weaker (IsAnswer (reaches table.reach) hot cold) (IsSiteTarget site hot cold) r (λ a. subst (λ reach. IsAnswer reach hot cold a) same)
 
 -- the parts in the table of a site
 pub parts_of : (site : Site) (table : SiteTable) → IsSiteTable site table → AreSiteParts site table.parts.hot table.parts.cold
