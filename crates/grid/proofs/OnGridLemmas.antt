@@ -1,5 +1,5 @@
 -- The parts of a case stand on its grid.
-use Rattle.std.proofs.Common.{◌≡◌, inl, inr, ◌∙◌, sym, ap, subst, ℕ, ℤ, List, Some, Contains, option_map}
+use Rattle.std.proofs.Common.{◌≡◌, inl, inr, ◌∙◌, sym, ap, subst, ℤ, List, Some, Contains, option_map}
 use Rattle.std.proofs.lemmas.List.Elements.{All-weaker}
 use Rattle.sums.proofs.ListLemmas.{All-slice_get}
 use Rattle.stream_case.specs.declared.source.Side.{Side}
@@ -11,34 +11,28 @@ use Rattle.stream_case.specs.Case.{side_of}
 use Rattle.stream_case.specs.Utility.{shifted_level}
 use Rattle.grid.specs.declared.part.Part.{Part}
 use Rattle.grid.specs.Grid.{IsGrid}
-use Rattle.grid.specs.Part.{AreCaseParts, IsPartOf, IsStreamPart, IsUtilityPart}
+use Rattle.grid.specs.Part.{AreCaseParts, IsPartOf}
 use Rattle.grid.proofs.MakingLemmas.{HoldsPlaces-IsGrid, holds_levels}
 use Rattle.grid.specs.OnGrid.{AreOnGrid, IsOnPlaces}
 
-module _ (c : Case) (places : List ℤ) (grid : IsGrid c places) (side : Side) where
-  stream_on_places : (i : ℕ) (s : Stream) (p : Part) → IsStreamPart c.streams places side i s p → IsOnPlaces c places side p
-  stream_on_places i s p h = record {
-    source = ap (λ (q : Part). side_of c q.source) h.is ∙ ap (option_map (λ (r : Stream). r.side)) h.stream ∙ ap Some h.side_is;
-    ends = inr h.interval;
-  }
+module _ (c : Case) (places : List ℤ) (side : Side) where
+  -- the source of a part is one of its side
+  pub side_of_part : (p : Part) → IsPartOf c.streams c.utilities places side p → side_of c p.source ≡ Some side
+  side_of_part p (inl (i, s, h)) = ap (λ (q : Part). side_of c q.source) h.is ∙ ap (option_map (λ (r : Stream). r.side)) h.stream ∙ ap Some h.side_is
+  side_of_part p (inr (i, u, h)) = ap (λ (q : Part). side_of c q.source) h.is ∙ ap (option_map (λ (v : Utility). v.side)) h.utility ∙ ap Some h.side_is
 
-  utility_on_places : (i : ℕ) (u : Utility) (p : Part) → IsUtilityPart c.utilities side i u p → IsOnPlaces c places side p
-  utility_on_places i u p h =
+  part_on_places : IsGrid c places → (p : Part) → IsPartOf c.streams c.utilities places side p → IsOnPlaces c places side p
+  part_on_places grid p (inl (i, s, h)) = record { source = side_of_part p (inl (i, s, h)); ends = inr h.interval }
+  part_on_places grid p (inr (i, u, h)) =
       let high : p.high ≡ shifted_level u = ap (λ (q : Part). q.high) h.is in
       let low : p.low ≡ shifted_level u = ap (λ (q : Part). q.low) h.is in
-      let level = All-slice_get (λ (v : Utility). Contains places (shifted_level v)) c.utilities i u (holds_levels c.streams c.utilities places (HoldsPlaces-IsGrid c places grid)) h.utility in record {
-        source = ap (λ (q : Part). side_of c q.source) h.is ∙ ap (option_map (λ (v : Utility). v.side)) h.utility ∙ ap Some h.side_is;
-        ends = inl (high ∙ sym low, subst (Contains places) (sym high) level);
-      }
-
-  pub part_on_places : (p : Part) → IsPartOf c.streams c.utilities places side p → IsOnPlaces c places side p
-  part_on_places p (inl (i, s, h)) = stream_on_places i s p h
-  part_on_places p (inr (i, u, h)) = utility_on_places i u p h
+      let level = All-slice_get (λ (v : Utility). Contains places (shifted_level v)) c.utilities i u (holds_levels c.streams c.utilities places (HoldsPlaces-IsGrid c places grid)) h.utility in
+      record { source = side_of_part p (inr (i, u, h)); ends = inl (high ∙ sym low, subst (Contains places) (sym high) level) }
 
 pub parts_on_grid : (c : Case) (hot cold : List Part) → AreCaseParts c hot cold → AreOnGrid c hot cold
 parts_on_grid c hot cold h = record {
   grid = h.grid;
   is_grid = h.is_grid;
-  hot_parts = All-weaker (IsPartOf c.streams c.utilities h.grid Hot) (IsOnPlaces c h.grid Hot) (part_on_places c h.grid h.is_grid Hot) hot h.hot_parts.each;
-  cold_parts = All-weaker (IsPartOf c.streams c.utilities h.grid Cold) (IsOnPlaces c h.grid Cold) (part_on_places c h.grid h.is_grid Cold) cold h.cold_parts.each;
+  hot_parts = All-weaker (IsPartOf c.streams c.utilities h.grid Hot) (IsOnPlaces c h.grid Hot) (part_on_places c h.grid Hot h.is_grid) hot h.hot_parts.each;
+  cold_parts = All-weaker (IsPartOf c.streams c.utilities h.grid Cold) (IsOnPlaces c h.grid Cold) (part_on_places c h.grid Cold h.is_grid) cold h.cold_parts.each;
 }

@@ -1,12 +1,12 @@
 -- The table of the pairs of a case's parts.
-use Rattle.std.proofs.Common.{◌≡◌, ⊎_elim, inl, inr, ◌∙◌, sym, ap, subst, ℕ, ◌+◌, ◌*◌, ◌<◌, false, ◌&&◌, List, [], ◌∷◌, length, get_or, take, map, arith, length-append}
+use Rattle.std.proofs.Common.{◌≡◌, ⊎_elim, ◌∙◌, sym, ap, ℕ, ◌+◌, ◌*◌, ◌<◌, false, ◌&&◌, List, [], ◌∷◌, length, get_or, take, map, arith, length-append}
 use Rattle.std.specs.Prelude.{ℤ, nat_lt, All, is_some}
 use Rattle.std.proofs.lemmas.Bool.Decides.{nat_tests}
 use Rattle.std.proofs.lemmas.Bool.{cases_lt}
 use Rattle.std.proofs.lemmas.List.{length-take-le, get_or-map, length-map}
 use Rattle.std.proofs.lemmas.List.Concat.{get_or-flat_map}
 use Rattle.std.proofs.lemmas.List.Elements.{All-weaker}
-use Rattle.std.proofs.lemmas.Option.{slice_get-get_or, slice_get_past, slice_get_within}
+use Rattle.std.proofs.lemmas.Option.{slice_get-get_or, slice_get_past}
 use Rattle.stream_case.specs.declared.source.Side.{Side}
 use Rattle.stream_case.specs.declared.case.Case.{Case}
 use Rattle.stream_case.specs.Case.{IsSourceOf, IsValidForbid, IsComplete}
@@ -14,6 +14,7 @@ use Rattle.stream_case.proofs.CaseLemmas.{IsSourceOf-side}
 use Rattle.stream_case.proofs.CompleteLemmas.{StaysValid-IsComplete}
 use Rattle.grid.specs.declared.part.Part.{Part}
 use Rattle.grid.specs.Part.{IsPartOf, AreParts}
+use Rattle.grid.proofs.OnGridLemmas.{side_of_part}
 use Rattle.heat_flow.specs.Reach.{part_reaches, reach_between}
 use Rattle.heat_flow.specs.Cells.{cell_rows}
 use Rattle.heat_flow.proofs.Blanks.{blank}
@@ -54,9 +55,5 @@ cell_rows-reach c hot cold a b =
 
 -- ---- the sources of a case's parts
 
-source_of_part : (c : Case) (grid : List ℤ) (side : Side) (p : Part) → IsPartOf c.streams c.utilities grid side p → IsSourceOf c p.source
-source_of_part c grid side p (inl (i, s, h)) = subst (λ q. IsSourceOf c q.source) (sym h.is) (slice_get_within c.streams i s h.stream)
-source_of_part c grid side p (inr (i, u, h)) = subst (λ q. IsSourceOf c q.source) (sym h.is) (slice_get_within c.utilities i u h.utility)
-
 pub sources_of_parts : (c : Case) (grid : List ℤ) (side : Side) (parts : List Part) → AreParts c.streams c.utilities grid side parts → All (λ p. IsSourceOf c p.source) parts
-sources_of_parts c grid side parts h = All-weaker (IsPartOf c.streams c.utilities grid side) (λ p. IsSourceOf c p.source) (source_of_part c grid side) parts h.each
+sources_of_parts c grid side parts h = All-weaker (IsPartOf c.streams c.utilities grid side) (λ p. IsSourceOf c p.source) (λ p h. IsSourceOf-side c p.source (ap is_some (side_of_part c grid side p h))) parts h.each

@@ -1,5 +1,5 @@
 -- Cuts: parts of one side that need more heat than the other side has on offer for them.
-use Rattle.std.specs.Prelude.{◌≡◌, Bool, ℕ, ◌<◌, if◌then◌else◌, ℤ, pos, ◌<ℤ◌, List, length, slice_get, All, AllPairs}
+use Rattle.std.specs.Prelude.{Bool, ℕ, ◌<◌, if◌then◌else◌, ℤ, pos, ◌<ℤ◌, List, slice_get, All, AllPairs}
 use Rattle.std.specs.List.{list_any}
 use Rattle.std.specs.Option.{option_map_or}
 use Rattle.stream_case.specs.declared.source.Side.{Side}

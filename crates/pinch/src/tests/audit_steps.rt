@@ -111,3 +111,74 @@ fn a_step_of_the_balance_is_too_fine(rt: HostRuntime) -> Result<(), Fail> {
     }
     Ok(())
 }
+
+/// Answers that a model of its own gave.
+#[test]
+fn networks_are_answered_as_by_an_independent_model(rt: HostRuntime) -> Result<(), Fail> {
+    let two = "contribution,,50,,,,\nhot,H,1000,500,10,,\ncold,C,300,700,10,,\n";
+    let fine = "contribution,,50,,,,\nhot,H,1000,500,2,,\n";
+    let rows = [
+        (
+            two,
+            "split H a 11 b\n",
+            1,
+            "rejected line 1 Overdrawn found 11 wanted 10\n",
+        ),
+        (
+            two,
+            "split H a 1/281474976710656 b\nsplit b c 1/281474976710655 d\n",
+            9,
+            "too fine line 2 step 1\n",
+        ),
+        (
+            fine,
+            "exchanger E1 H COLD 2/3\nexchanger E2 H COLD 93824992236885/70368744177664\n\
+             pass H E1 a\nsplit a b 1/140737488355328 d\npass d E2 e\nmix b e f\n",
+            9,
+            "too fine line 6 step 2\n",
+        ),
+        (
+            fine,
+            "exchanger E1 H COLD 2/3\nexchanger E2 H COLD 93824992236885/70368744177664\n\
+             pass H E1 a\nsplit a b 1/140737488355328 d\npass d E2 e\nmix e b f\n",
+            9,
+            "too fine line 6 step 3\n",
+        ),
+        (
+            "contribution,,50,,,,\ncold,C,300,700,10,,\nheater,S,790,0,1000000,1,\n",
+            "exchanger Q S C 4000\npass C Q a\nend a\n",
+            1,
+            "rejected exchanger Q HotEndApproach found 790 wanted 800\n",
+        ),
+        // Heat from the hot to the cold utility.
+        (
+            "contribution,,50,,,,\nhot,H,1000,500,10,,\n",
+            "exchanger Q1 H COLD 5000\nexchanger Q2 HOT COLD 7\npass H Q1 a\nend a\n",
+            0,
+            "accepted\nhot 7\ncold 5007\nexcess 7\ncost 7\nplace 950\n\
+             penalty exchanger Q1 0\npenalty exchanger Q2 7\n",
+        ),
+        // All temperatures below zero.
+        (
+            "contribution,,50,,,,\nhot,H,-900,-1000,10,,\ncold,C,-1100,-950,10,,\n",
+            "exchanger E H C 1000\nexchanger Q HOT C 500\npass H E a\nend a\n\
+             pass C E b\npass b Q c\nend c\n",
+            0,
+            "accepted\nhot 500\ncold 0\nexcess 0\ncost 500\nplace -950\n\
+             penalty exchanger E 0\npenalty exchanger Q 0\n",
+        ),
+        // More than the most of a cooler.
+        (
+            "contribution,,50,,,,\nhot,H,1000,500,10,,\ncold,C,300,400,10,,\n\
+             cooler,CW,200,0,1000,0,\n",
+            "exchanger E1 H C 1000\nexchanger Q1 H CW 4000\npass H E1 a\npass a Q1 b\nend b\n\
+             pass C E1 d\nend d\n",
+            1,
+            "rejected utility CW UtilityRange found 4000 wanted 1000\n",
+        ),
+    ];
+    for (case, network, status, text) in rows {
+        check_audit(&rt, case, network, status, text)?;
+    }
+    Ok(())
+}

@@ -51,6 +51,18 @@ fn any_workers_print_the_same_rows(rt: HostRuntime) -> Result<(), Fail> {
 }
 
 #[test]
+fn an_open_gate_changes_no_row(rt: HostRuntime) -> Result<(), Fail> {
+    let files = [("plant.csv", FOUR_STREAM.as_bytes())];
+    for workers in ["1", "4"] {
+        let words = ["sweep", "plant.csv", "0", "100", "10", workers];
+        let outcome = outcome_by(&rt, &OpenGate, &words, &files)?;
+        assert_eq!(rt; outcome.status, 0);
+        assert_eq!(rt; outcome.written.as_slice(), FOUR_STREAM_ROWS.as_bytes());
+    }
+    Ok(())
+}
+
+#[test]
 fn a_sweep_has_the_rows_of_its_plan(rt: HostRuntime) -> Result<(), Fail> {
     let rows = [
         // The step does not divide: the last row is below the end.

@@ -146,6 +146,13 @@ fn vertical_designs_are_drawn_and_accepted(rt: HostRuntime) -> Result<(), Fail> 
             "# hot 4000 cold 0 excess 0 cost 4000\nexchanger E1 HOT C 4000\npass C E1 .1\nend .1\n",
             "accepted\nhot 4000\ncold 0\nexcess 0\ncost 4000\nplace 350\npenalty exchanger E1 0\n",
         ),
+        // The standard utilities, the cold one first.
+        (
+            "contribution,,50,,,,\ncooler,COLD,300,0,1000000000000,0,\n\
+             heater,HOT,800,0,1000000000000,1,\ncold,C,300,700,10,,\n",
+            "# hot 4000 cold 0 excess 0 cost 4000\nexchanger E1 HOT C 4000\npass C E1 .1\nend .1\n",
+            "accepted\nhot 4000\ncold 0\nexcess 0\ncost 4000\nplace 350\npenalty exchanger E1 0\n",
+        ),
         // A gap between the hot streams, and no utility at all.
         (
             "contribution,,50,,,,\nhot,H,1000,900,10,,\nhot,K,500,400,10,,\ncold,C,200,400,10,,\n",
