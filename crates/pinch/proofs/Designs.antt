@@ -1,6 +1,5 @@
--- What is shown of a heat flow is turned into a design.
-use Rattle.std.proofs.Common.{◌≡◌, ◌∙◌, ◌⊎◌, inl, inr, ◌≤◌, ◌+◌, ◌-◌, ℤ, Result, Ok, Err, IfOk, length, sym, subst}
-use Rattle.std.specs.Prelude.{⊤}
+-- What answers a case is shown as a design.
+use Rattle.std.proofs.Common.{◌≡◌, ◌∙◌, ◌≤◌, ◌+◌, ◌-◌, ℤ, Result, Ok, Err, IfOk, length, subst}
 use Rattle.stream_case.specs.declared.case.Case.{Case}
 use Rattle.stream_case.specs.Case.{IsStandard}
 use Rattle.problem_table.specs.Deficit.{hot_target}
@@ -8,51 +7,38 @@ use Rattle.grid.specs.declared.parts.Parts.{Parts}
 use Rattle.heat_flow.specs.Flow.{cost_of}
 use Rattle.heat_flow.specs.declared.flow.Flow.{Flow}
 use Rattle.heat_flow.specs.declared.prices.Prices.{Prices}
+use Rattle.transport.specs.declared.answer.Answer.TheVariants.{Least}
 use Rattle.reports.specs.declared.shown.Shown.{Shown}
-use Rattle.reports.specs.declared.shown.Shown.TheVariants as show
-use Rattle.pinch.specs.Design.{AnswersDesign, IsCornerDesign, IsDesignAnswer, IsDesignOf, IsTightDesign}
-use Rattle.pinch.specs.Flow.{AnswersFlow, IsCornerAnswer, IsCutAnswer, IsFlowAnswer}
+use Rattle.pinch.specs.Design.{AnswersDesign, IsDesignOf, IsTightDesign}
+use Rattle.pinch.specs.Flow.{IsCaseAnswer}
 
--- the design of the heat flow that is shown
-abbrev DesignOf : Shown → Shown → Type 0
-DesignOf (show.Flow c parts flow prices cost) shown = IsDesignOf c parts flow shown
-DesignOf other shown = ⊤
+-- the heat flow costs the hot target and is that of fewer transfers than parts
+abbrev IsTightFlow : Case → Parts → Flow → Type 0
+IsTightFlow c parts flow =
+    (cost_of parts.hot parts.cold flow.transfers ≡ hot_target c.streams) × (length flow.transfers ≤ length parts.hot + length parts.cold - 1)
 
--- which is tight where the heat flow is that of a standard case
-abbrev TightOf : Shown → Shown → Type 0
-TightOf (show.Flow c parts flow prices cost) shown =
-    IsStandard c → cost_of parts.hot parts.cold flow.transfers ≡ hot_target c.streams → length flow.transfers ≤ length parts.hot + length parts.cold - 1 → IsTightDesign shown
-TightOf other shown = ⊤
+module _ (c : Case) (parts : Parts) (flow : Flow) (prices : Prices) (cost : ℤ) (answer : IsCaseAnswer c parts (Least flow prices cost)) where
+  corner_is_tight : IsStandard c → IsTightFlow c parts flow
+  corner_is_tight standard =
+      let corner = answer.standard standard in
+      let same : corner.flow ≡ flow = cc (corner.is) in
+      let costs : cost ≡ hot_target c.streams = cc (corner.is) in
+      (answer.answers.certified.costs ∙ costs, subst (λ (f : Flow). length f.transfers ≤ length parts.hot + length parts.cold - 1) same corner.few)
 
-module _ (c : Case) (found shown : Shown) (case : Case) (parts : Parts) (flow : Flow) (prices : Prices) (cost : ℤ) (is : found ≡ show.Flow case parts flow prices cost)
-    (design : IsDesignOf case parts flow shown) (tight : TightOf (show.Flow case parts flow prices cost) shown) where
-  of_answer : IsFlowAnswer c found ⊎ IsCutAnswer c found → IsDesignAnswer c shown ⊎ IsCutAnswer c shown
-  of_answer (inl answer) =
-      inl (record {
-        parts = answer.parts;
-        flow = answer.flow;
-        prices = answer.prices;
-        cost = answer.cost;
-        least = answer.least;
-        design = subst (λ f. DesignOf f shown) (sym is ∙ answer.is) design;
-      })
-  of_answer (inr cut) = let other = sym is ∙ cut.is in cc
+  of_shown : (shown : Shown) → IsDesignOf c parts flow shown
+      → (IsStandard c → cost_of parts.hot parts.cold flow.transfers ≡ hot_target c.streams
+      → length flow.transfers ≤ length parts.hot + length parts.cold - 1 → IsTightDesign shown)
+      → AnswersDesign c shown
+  of_shown shown design tight = record {
+    parts = parts;
+    answer = Least flow prices cost;
+    is_answer = answer;
+    shows = (design, λ standard. let is = corner_is_tight standard in tight standard is.0 is.1);
+  }
 
-  of_corner : IsStandard c → IsCornerAnswer c found → IsCornerDesign c shown
-  of_corner standard answer =
-      record {
-        parts = answer.parts;
-        flow = answer.flow;
-        prices = answer.prices;
-        corner = subst (IsCornerAnswer c) answer.is answer;
-        design = subst (λ f. DesignOf f shown) (sym is ∙ answer.is) design;
-        tight = subst (λ f. TightOf f shown) (sym is ∙ answer.is) tight standard answer.least.certified.costs answer.few;
-      }
-
-pub of_flow : {E : Type 0} (c : Case) (found : Shown) (result : Result Shown E) (case : Case) (parts : Parts) (flow : Flow) (prices : Prices) (cost : ℤ) → found ≡ show.Flow case parts flow prices cost
-    → AnswersFlow c found → IfOk result (IsDesignOf case parts flow) → IfOk result (λ shown. TightOf (show.Flow case parts flow prices cost) shown) → IfOk result (AnswersDesign c)
-of_flow c found (Ok shown) case parts flow prices cost is answers design tight = record {
-  answer = of_answer c found shown case parts flow prices cost is design tight answers.answer;
-  standard = λ standard. of_corner c found shown case parts flow prices cost is design tight standard (answers.standard standard);
-}
-of_flow c found (Err e) case parts flow prices cost is answers design tight = tt
+  pub of_least : {E : Type 0} (result : Result Shown E) → IfOk result (IsDesignOf c parts flow)
+      → IfOk result (λ shown. IsStandard c → cost_of parts.hot parts.cold flow.transfers ≡ hot_target c.streams
+      → length flow.transfers ≤ length parts.hot + length parts.cold - 1 → IsTightDesign shown)
+      → IfOk result (AnswersDesign c)
+  of_least (Ok shown) design tight = of_shown shown design tight
+  of_least (Err e) design tight = tt

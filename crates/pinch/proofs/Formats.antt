@@ -7,6 +7,7 @@ use Rattle.network_text.specs.Outcome as network
 use Rattle.statements.specs.Statements.{statements_of}
 use Rattle.site.specs.Outcome as site
 use Rattle.stream_case.specs.declared.case.Case.{Case}
+use Rattle.reports.specs.Text.{IsPrintable}
 use Rattle.reports.specs.declared.shown.Shown.{Shown}
 use Rattle.pinch.specs.Case.{case_file}
 use Rattle.pinch.specs.Files.{IsRefused}
@@ -18,15 +19,19 @@ use Rattle.pinch.proofs.Plain.{is_plain}
 pub record IsLawful {Value Cause : Type 0} (format : Format Value Cause) : Type 0 where
   pub one_outcome : (bytes : List ℕ) (a b : Result Value (ℕ × Cause)) → format.Gives bytes a → format.Gives bytes b → a ≡ b
   pub plain : (at : ℕ) (why : Cause) → is_plain (format.bad at why) ≡ true
+  pub printable : (at : ℕ) (why : Cause) → IsPrintable (format.bad at why)
 
 pub lawful_case : IsLawful case_file
-lawful_case = record { one_outcome = λ bytes. one_outcome grammar (rows_of bytes); plain = λ at why. refl }
+unfolding IsPrintable
+lawful_case = record { one_outcome = λ bytes. one_outcome grammar (rows_of bytes); plain = λ at why. refl; printable = λ at why. tt }
 
 pub lawful_network : (case : Case) → IsLawful (network_file case)
-lawful_network case = record { one_outcome = λ bytes. one_outcome (network.grammar case) (statements_of bytes); plain = λ at why. refl }
+unfolding IsPrintable
+lawful_network case = record { one_outcome = λ bytes. one_outcome (network.grammar case) (statements_of bytes); plain = λ at why. refl; printable = λ at why. tt }
 
 pub lawful_site : IsLawful site_file
-lawful_site = record { one_outcome = λ bytes. one_outcome site.grammar (rows_of bytes); plain = λ at why. refl }
+unfolding IsPrintable
+lawful_site = record { one_outcome = λ bytes. one_outcome site.grammar (rows_of bytes); plain = λ at why. refl; printable = λ at why. tt }
 
 module _ {Value Cause : Type 0} (format : Format Value Cause) (lawful : IsLawful format) (bytes : List ℕ) where
   pub one_value : (a b : Value) → format.Gives bytes (Ok a) → format.Gives bytes (Ok b) → a ≡ b

@@ -3,11 +3,13 @@ mod Complete
 mod Designs
 mod Early
 mod Ends
-mod Flows
 mod Formats
 mod Plain
 mod Printable
 mod Profiles
+mod Readings
+mod Results
 mod Runnable
+mod Runs
 mod ShownNetworks
 mod SiteCosts

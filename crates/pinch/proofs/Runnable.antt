@@ -11,9 +11,9 @@ use Rattle.study.specs.declared.plan.SweepPlan.{SweepPlan}
 use Rattle.pinch.specs.declared.numbers.TheConstants.{MOST_DIGITS, MOST_END, MOST_STEP}
 use Rattle.pinch.specs.Command.{audit_of, command_of, command_of_word, one_file, sample_of, sample_with, sweep_of, sweep_with, IsRunnable}
 use Rattle.pinch.specs.Numbers.{limited, number_within, plan_of, plan_with, sample_count_of, sample_number_of, workers_of}
-use Rattle.pinch.specs.declared.command.CaseTask.TheVariants.{Targets, Flow, Design, Vertical, Curves}
+use Rattle.pinch.specs.declared.command.CaseTask.TheVariants.{Targets, Flow, Design, Curves}
 use Rattle.pinch.specs.declared.command.Command.{Command}
-use Rattle.pinch.specs.declared.command.Command.TheVariants.{OfCase, Site}
+use Rattle.pinch.specs.declared.command.Command.TheVariants.{OfCase, Vertical, Site}
 
 -- what is there only where a test holds
 where_true : {X : Type 0} (b : Bool) (x : X) (P : X → Type 0) → (b ≡ true → P x) → IfSome (if b then Some x else None) P
@@ -89,7 +89,7 @@ of_word word rest =
     either (bytes_eq word (codes "targets")) _ _ (of_file (λ n. OfCase n Targets) (λ n. tt) (one_file rest))
     (either (bytes_eq word (codes "flow")) _ _ (of_file (λ n. OfCase n Flow) (λ n. tt) (one_file rest))
     (either (bytes_eq word (codes "design")) _ _ (of_file (λ n. OfCase n Design) (λ n. tt) (one_file rest))
-    (either (bytes_eq word (codes "vertical")) _ _ (of_file (λ n. OfCase n Vertical) (λ n. tt) (one_file rest))
+    (either (bytes_eq word (codes "vertical")) _ _ (of_file Vertical (λ n. tt) (one_file rest))
     (either (bytes_eq word (codes "curves")) _ _ (of_file (λ n. OfCase n Curves) (λ n. tt) (one_file rest))
     (either (bytes_eq word (codes "audit")) _ _ (of_audit rest)
     (either (bytes_eq word (codes "site")) _ _ (of_file Site (λ n. tt) (one_file rest))

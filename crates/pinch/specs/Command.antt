@@ -1,16 +1,14 @@
 -- The forms of a command.
 use Rattle.std.specs.Prelude.{ℕ, ◌≤◌, List, [], ◌∷◌, Option, Some, None, option_map, codes, if◌then◌else◌, ⊤}
 use Rattle.std.specs.Str.{bytes_eq}
-use Rattle.reports.specs.declared.shown.FileRole.{FileRole}
-use Rattle.reports.specs.declared.shown.FileRole.TheVariants.{Case, Network, Site as SiteFile}
 use Rattle.study.specs.Plan.{IsSweepPlan}
 use Rattle.study.specs.declared.limits.TheConstants.{MOST_SAMPLE_NUMBER, MOST_SAMPLE_STREAMS, MOST_WORKERS}
 use Rattle.study.specs.declared.plan.SweepPlan.{SweepPlan}
 use Rattle.pinch.specs.Numbers.{plan_of, sample_count_of, sample_number_of, workers_of}
 use Rattle.pinch.specs.declared.command.CaseTask.{CaseTask}
-use Rattle.pinch.specs.declared.command.CaseTask.TheVariants.{Targets, Flow, Design, Vertical, Curves, Sweep}
+use Rattle.pinch.specs.declared.command.CaseTask.TheVariants.{Targets, Flow, Design, Curves, Sweep}
 use Rattle.pinch.specs.declared.command.Command.{Command}
-use Rattle.pinch.specs.declared.command.Command.TheVariants.{OfCase, Audit, Site, Sample}
+use Rattle.pinch.specs.declared.command.Command.TheVariants.{OfCase, Vertical, Audit, Site, Sample}
 
 -- the name of a file, where the words are just that; it is not empty
 abbrev pub one_file : List (List ℕ) → Option (List ℕ)
@@ -52,7 +50,7 @@ command_of_word word rest =
     if bytes_eq word (codes "targets") then of_case Targets rest
     else if bytes_eq word (codes "flow") then of_case Flow rest
     else if bytes_eq word (codes "design") then of_case Design rest
-    else if bytes_eq word (codes "vertical") then of_case Vertical rest
+    else if bytes_eq word (codes "vertical") then option_map Vertical (one_file rest)
     else if bytes_eq word (codes "curves") then of_case Curves rest
     else if bytes_eq word (codes "audit") then audit_of rest
     else if bytes_eq word (codes "site") then option_map Site (one_file rest)
@@ -71,15 +69,10 @@ CanDo (Sweep plan workers) = IsSweepPlan plan × (1 ≤ workers) × (workers ≤
 CanDo other = ⊤
 
 -- and a sample a number and a count
+abbrev pub IsSampleOf : ℕ → ℕ → Type 0
+IsSampleOf number count = (1 ≤ number) × (number ≤ MOST_SAMPLE_NUMBER) × (1 ≤ count) × (count ≤ MOST_SAMPLE_STREAMS)
+
 abbrev pub IsRunnable : Command → Type 0
 IsRunnable (OfCase case task) = CanDo task
-IsRunnable (Sample number count) = (1 ≤ number) × (number ≤ MOST_SAMPLE_NUMBER) × (1 ≤ count) × (count ≤ MOST_SAMPLE_STREAMS)
+IsRunnable (Sample number count) = IsSampleOf number count
 IsRunnable other = ⊤
-
--- the file that a command reads in this role, by its name
-abbrev pub file_of : Command → FileRole → Option (List ℕ)
-file_of (OfCase case task) Case = Some case
-file_of (Audit case network) Case = Some case
-file_of (Audit case network) Network = Some network
-file_of (Site site) SiteFile = Some site
-file_of command role = None

@@ -1,17 +1,11 @@
 -- Which files answer a command, and which are refused.
-use Rattle.std.specs.Prelude.{◌≡◌, ◌⊎◌, ◌≤◌, ℕ, List, length, ⊤, Option, Some, None, Ok}
+use Rattle.std.specs.Prelude.{◌≡◌, ◌⊎◌, ◌≤◌, ℕ, List, length, ⊤, Option, Some, Ok}
 use Rattle.pinch_outside.specs.Shelf.{NamedFile, find_file}
 use Rattle.pinch_outside.specs.declared.limits.TheConstants.{MAX_FILE}
-use Rattle.stream_case.specs.Case.{completed}
 use Rattle.reports.specs.declared.shown.Shown.{Shown}
-use Rattle.pinch.specs.Case.{case_file}
 use Rattle.pinch.specs.Files.{IsRefused}
 use Rattle.pinch.specs.Format.{Format}
-use Rattle.pinch.specs.Network.{network_file}
-use Rattle.pinch.specs.Site.{site_file}
-use Rattle.pinch.specs.Tasks.{HasAnswer}
-use Rattle.pinch.specs.declared.command.Command.{Command}
-use Rattle.pinch.specs.declared.command.Command.TheVariants.{OfCase, Audit, Site, Sample}
+use Rattle.pinch.specs.Reading.{Reading, ready, stop, wanted, file as reads}
 
 -- the files are told, and the first of that name is within the limit, with these bytes
 pub record Holds (files : Option (List NamedFile)) (name bytes : List ℕ) : Type 0 where
@@ -34,19 +28,18 @@ pub record HoldsFault {Value Cause : Type 0} (format : Format Value Cause) (file
   pub file : Holds files name bytes
   pub refused : IsRefused format bytes shown
 
--- the files of a command are there, and are what it wants
-unfoldable pub CanAnswer : Option Command → Option (List NamedFile) → Type 0
-CanAnswer None files = ⊥
-CanAnswer (Some (OfCase case task)) files = HoldsText case_file files case (HasAnswer task)
-CanAnswer (Some (Audit case network)) files = HoldsText case_file files case (λ c. HoldsText (network_file (completed c)) files network (λ n. ⊤))
-CanAnswer (Some (Site site)) files = HoldsText site_file files site (λ s. ⊤)
-CanAnswer (Some (Sample number count)) files = ⊤
+-- the files that are to be read are there, and are what is wanted
+unfoldable pub CanAnswer : Reading → Option (List NamedFile) → Type 0
+CanAnswer (ready request) files = ⊤
+CanAnswer (stop refusal) files = ⊥
+CanAnswer (wanted P refusal next) files = P × CanAnswer next files
+CanAnswer (reads format name next) files = HoldsText format files name (λ value. CanAnswer (next value) files)
 
--- a file of a command is there, those before it are what they should be, and its grammar refuses it, which is to be shown
-unfoldable pub HasBadFile : Option Command → Option (List NamedFile) → Shown → Type 0
-HasBadFile None files shown = ⊥
-HasBadFile (Some (OfCase case task)) files shown = HoldsFault case_file files case shown
-HasBadFile (Some (Audit case network)) files shown =
-    HoldsFault case_file files case shown ⊎ HoldsText case_file files case (λ c. HoldsFault (network_file (completed c)) files network shown)
-HasBadFile (Some (Site site)) files shown = HoldsFault site_file files site shown
-HasBadFile (Some (Sample number count)) files shown = ⊥
+-- a file that is to be read is there, those before it are what they should be, and its grammar refuses it, or what it says is not what is wanted,
+-- which is to be shown
+unfoldable pub HasBadFile : Reading → Option (List NamedFile) → Shown → Type 0
+HasBadFile (ready request) files shown = ⊥
+HasBadFile (stop refusal) files shown = ⊥
+HasBadFile (wanted P refusal next) files shown = ((P → ⊥) × (shown ≡ refusal)) ⊎ (P × HasBadFile next files shown)
+HasBadFile (reads format name next) files shown =
+    HoldsFault format files name shown ⊎ HoldsText format files name (λ value. HasBadFile (next value) files shown)

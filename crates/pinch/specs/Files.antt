@@ -1,10 +1,12 @@
--- What is shown where the text of a file is wanted.
-use Rattle.std.specs.Prelude.{◌≡◌, ℕ, List, Ok, Err}
+-- What becomes of files that are read.
+use Rattle.std.specs.Prelude.{◌≡◌, ◌⊎◌, ℕ, List, Result, Ok, Err}
 use Rattle.pinch_outside.specs.Shelf.{ShelfState, KeepsFiles, IsWhole, IsTooLong, HasFailed}
 use Rattle.reports.specs.declared.shown.FileRole.{FileRole}
 use Rattle.reports.specs.declared.shown.Shown.{Shown}
 use Rattle.reports.specs.declared.shown.Shown.TheVariants.{ReadFault, TooLong}
 use Rattle.pinch.specs.Format.{Format}
+use Rattle.pinch.specs.Reading.{Reading, ready, stop, wanted, file}
+use Rattle.pinch.specs.declared.request.Request.{Request}
 
 -- the file of that role and name was not taken, which is shown
 pub data NoFile (role : FileRole) (name : List ℕ) (old new : ShelfState) (shown : Shown) : Type 0 where
@@ -30,7 +32,14 @@ pub data NoText {Value Cause : Type 0} (format : Format Value Cause) (name : Lis
   no_file : NoFile format.role name old new shown → NoText format name old new shown
   refused : (bytes : List ℕ) → IsWhole name old new bytes → IsRefused format bytes shown → NoText format name old new shown
 
--- its text is wanted; `work` tells what is shown of what it says, from the state of the shelf after it was read
-pub data FromText {Value Cause : Type 0} (format : Format Value Cause) (name : List ℕ) (old new : ShelfState) (shown : Shown) (work : ShelfState → Value → Type 0) : Type 0 where
-  no_text : NoText format name old new shown → FromText format name old new shown work
-  by_text : (mid : ShelfState) (value : Value) → ReadsText format name old mid value → work mid value → FromText format name old new shown work
+-- its text is wanted; `work` tells what comes of what it says, from the state of the shelf after it was read
+pub data FromText {Value Cause : Type 0} (format : Format Value Cause) (name : List ℕ) (old new : ShelfState) (end : Result Request Shown) (work : ShelfState → Value → Type 0) : Type 0 where
+  no_text : (shown : Shown) → end ≡ Err shown → NoText format name old new shown → FromText format name old new end work
+  by_text : (mid : ShelfState) (value : Value) → ReadsText format name old mid value → work mid value → FromText format name old new end work
+
+-- reading ends with a request, or with something to show in its place
+unfoldable pub EndsIn : Reading → ShelfState → ShelfState → Result Request Shown → Type 0
+EndsIn (ready request) old new end = (end ≡ Ok request) × (new ≡ old)
+EndsIn (stop shown) old new end = (end ≡ Err shown) × (new ≡ old)
+EndsIn (wanted P refusal next) old new end = (P × EndsIn next old new end) ⊎ ((P → ⊥) × (end ≡ Err refusal) × (new ≡ old))
+EndsIn (file format name next) old new end = FromText format name old new end (λ mid value. EndsIn (next value) mid new end)

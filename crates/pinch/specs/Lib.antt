@@ -10,6 +10,8 @@ pub mod Flow
 pub mod Format
 pub mod Network
 pub mod Numbers
+pub mod Reading
+pub mod Run
 pub mod Sample
 pub mod Site
 pub mod Status

@@ -1,6 +1,7 @@
--- What is shown in the end or early.
+-- What is shown in the end or early, and how reading ends.
 use Rattle.std.specs.Prelude.{⊤, Result, Ok, Err}
 use Rattle.reports.specs.declared.shown.Shown.{Shown}
+use Rattle.pinch.specs.declared.request.Request.{Request}
 use Rattle.pinch.specs.declared.stop.Stop.{Stop}
 use Rattle.pinch.specs.declared.stop.Stop.TheVariants.{Early, OutOfMemory}
 
@@ -13,3 +14,8 @@ IfEarly OutOfMemory P = ⊤
 abbrev pub IfShown : Result Shown Stop → (Shown → Type 0) → Type 0
 IfShown (Ok shown) P = P shown
 IfShown (Err stop) P = IfEarly stop P
+
+-- how reading ends, if memory was found: with a request, or with what is shown in its place
+abbrev pub IfEnd : Result Request Stop → (Result Request Shown → Type 0) → Type 0
+IfEnd (Ok request) P = P (Ok request)
+IfEnd (Err stop) P = IfEarly stop (λ shown. P (Err shown))

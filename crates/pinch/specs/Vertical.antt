@@ -1,7 +1,6 @@
--- What `vertical` shows of a completed case.
-use Rattle.std.specs.Prelude.{◌≡◌, ◌⊎◌}
+-- What `vertical` shows of a completed standard case.
+use Rattle.std.specs.Prelude.{◌≡◌}
 use Rattle.stream_case.specs.declared.case.Case.{Case}
-use Rattle.stream_case.specs.Case.{IsStandard, completed}
 use Rattle.fractions.specs.Rationals.{rational_zero, whole}
 use Rattle.problem_table.specs.Deficit.{hot_target}
 use Rattle.networks.specs.Shape.{KeepsCounts}
@@ -10,7 +9,6 @@ use Rattle.network_audit.specs.declared.verdict.Balance.{Balance}
 use Rattle.vertical_design.specs.Courses.{IsVerticalDesign}
 use Rattle.vertical_design.specs.Vertical.{IsVertical}
 use Rattle.reports.specs.declared.shown.Shown.{Shown}
-use Rattle.reports.specs.declared.shown.Shown.TheVariants as show
 use Rattle.pinch.specs.Design.{IsShownNetwork}
 
 -- the network that the composite curves draw is shown, and keeps the counts of a text. Each exchanger joins the two curves at one heat. It needs no
@@ -24,15 +22,3 @@ pub record IsVerticalAnswer (c : Case) (shown : Shown) : Type 0 where
   pub vertical : IsVertical c network
   pub tight : balance.excess ≡ rational_zero
   pub costs : balance.cost ≡ whole (hot_target c.streams)
-
--- a case that is not standard is refused
-pub record IsNotStandard (c : Case) (shown : Shown) : Type 0 where
-  pub other : IsStandard c → ⊥
-  pub is : shown ≡ show.NotStandard
-
-abbrev pub AnswersVertical : Case → Shown → Type 0
-AnswersVertical c shown = (IsStandard c × IsVerticalAnswer c shown) ⊎ IsNotStandard c shown
-
--- what `vertical` shows of a case
-abbrev pub ShowsVertical : Case → Shown → Type 0
-ShowsVertical case shown = AnswersVertical (completed case) shown

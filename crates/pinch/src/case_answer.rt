@@ -1,22 +1,20 @@
 //! What a task shows of a case.
 ghost use Rattle.std.specs.Prelude.{IfOk};
-ghost use Rattle.stream_case.specs.Case.{IsValid, completed};
+ghost use Rattle.stream_case.specs.Case.{IsValid};
 ghost use Rattle.pinch.specs.Case.{AreTargetsOf, AreCurvesOf};
 ghost use Rattle.pinch.specs.Command.{CanDo};
-ghost use Rattle.pinch.specs.Flow.{AnswersFlow};
 ghost use Rattle.pinch.specs.Tasks.{ShowsTask};
 
 use crate::command::CaseTask;
 use crate::design::show_design;
-use crate::flow::answer_completed;
+use crate::flow::show_flow;
 use crate::sweep_answer::show_sweep;
-use crate::vertical_answer::show_vertical;
 use curves::{cold_curve, grand_curve, hot_curve};
 use problem_table::{pinches, targets};
 use reports::Shown;
 use std::alloc::{AllocError, Global};
 use std::thread::Threads;
-use stream_case::{Case, complete};
+use stream_case::Case;
 use study::Gate;
 
 /// What a task shows of a case. Workers pass the gate, which has no influence on it.
@@ -35,7 +33,6 @@ pub fn show_task<R: Threads + Sync, G: Gate + Sync>(
         CaseTask::Targets => show_targets(alloc, case),
         CaseTask::Flow => show_flow(alloc, case),
         CaseTask::Design => show_design(alloc, case),
-        CaseTask::Vertical => show_vertical(alloc, case),
         CaseTask::Curves => show_curves(alloc, case),
         CaseTask::Sweep { plan, workers } => show_sweep(rt, alloc, gate, case, plan, workers),
     }
@@ -50,14 +47,6 @@ pub fn show_targets(alloc: Global, case: &Case) -> Result<Shown, AllocError>
         targets: targets(case),
         pinches: pinches(alloc, case)?,
     })
-}
-
-/// A heat flow of least cost of the completed case, or a cut where it has no heat flow.
-pub fn show_flow(alloc: Global, case: &Case) -> Result<Shown, AllocError>
-    requires { IsValid case.now }
-    ensures { IfOk result (AnswersFlow (completed case.now)) }
-{
-    answer_completed(alloc, complete(alloc, case)?)
 }
 
 /// The three curves of a case.

@@ -17,8 +17,6 @@ pub enum CaseTask {
     Flow,
     /// `design CASE`: a network that realises a heat flow of least cost.
     Design,
-    /// `vertical CASE`: a network of a standard case by its composite curves.
-    Vertical,
     /// `curves CASE`: the composite curves and the grand composite curve.
     Curves,
     /// `sweep CASE FROM TO STEP WORKERS`: the targets and the least cost for each contribution of
@@ -31,6 +29,8 @@ pub enum CaseTask {
 pub enum Command {
     /// A task on the case of a file.
     OfCase { case: Word, task: CaseTask },
+    /// `vertical CASE`: a network of a standard case by its composite curves.
+    Vertical { case: Word },
     /// `audit CASE NETWORK`: whether the network is valid for the completed case.
     Audit { case: Word, network: Word },
     /// `site SITE`: the profiles of a site, and its least boiler heat with a certificate.
@@ -57,7 +57,7 @@ fn command_of_word(alloc: Global, word: &str, rest: &[Word]) -> Result<Option<Co
         "targets" => of_case(alloc, rest, CaseTask::Targets),
         "flow" => of_case(alloc, rest, CaseTask::Flow),
         "design" => of_case(alloc, rest, CaseTask::Design),
-        "vertical" => of_case(alloc, rest, CaseTask::Vertical),
+        "vertical" => Ok(one_file(alloc, rest)?.map(|case| Command::Vertical { case })),
         "curves" => of_case(alloc, rest, CaseTask::Curves),
         "audit" => audit_of(alloc, rest),
         "site" => Ok(one_file(alloc, rest)?.map(|site| Command::Site { site })),

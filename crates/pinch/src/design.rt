@@ -1,48 +1,51 @@
 //! The design of a case.
-ghost use Rattle.std.specs.Prelude.{◌≡◌, ◌≤◌, ◌+◌, ◌-◌, ℤ, IfOk, length};
+ghost use Rattle.std.specs.Prelude.{◌≡◌, ◌≤◌, ◌+◌, ◌-◌, IfOk, length};
 ghost use Rattle.stream_case.specs.Case.{IsComplete, IsStandard, IsValid};
+ghost use Rattle.grid.specs.Part.{AreCaseParts};
+ghost use Rattle.heat_flow.specs.Certificate.{IsFlowOf};
 ghost use Rattle.heat_flow.specs.Flow.{cost_of};
-ghost use Rattle.heat_flow.specs.declared.prices.Prices.{Prices};
 ghost use Rattle.problem_table.specs.Deficit.{hot_target};
 ghost use Rattle.networks.specs.Shape.{HasShape};
 ghost use Rattle.network_audit.specs.Balance.{balance_of};
 ghost use Rattle.network_audit.specs.Findings.{HasNoFinding};
 ghost use Rattle.pinch.specs.Design.{IsDesignOf, IsTightDesign, ShowsDesign};
-ghost use Rattle.pinch.specs.Flow.{IsLeastFlow};
 
-use crate::case_answer::show_flow;
-use grid::Parts;
+use grid::{Parts, case_parts};
 use heat_flow::Flow;
 use interval_design::design;
 use network_audit::{Auditor, Balance, Verdict};
-use network_text::Network;
+use networks::Network;
 use reports::Shown;
 use std::alloc::{AllocError, Global};
-use stream_case::Case;
+use stream_case::{Case, complete};
+use study::case_answer;
+use transport::Answer;
 
-/// A network of the completed case that realises what `flow` shows of it, a heat flow of least
-/// cost or a cut.
+/// A network of the completed case that realises a heat flow of least cost, or a cut where there
+/// is no heat flow.
 pub fn show_design(alloc: Global, case: &Case) -> Result<Shown, AllocError>
     requires { IsValid case.now }
     ensures { IfOk result (ShowsDesign case.now) }
 {
-    match show_flow(alloc, case)? {
-        Shown::Flow {
-            case,
-            parts,
-            flow,
-            ..
-        } => design_flow(alloc, case, &parts, &flow),
-        cut => Ok(cut),
+    let case = complete(alloc, case)?;
+    let parts = case_parts(alloc, &case)?;
+    match case_answer(alloc, &case, &parts)? {
+        Answer::Least { flow, .. } => design_flow(alloc, case, &parts, &flow),
+        Answer::Stuck(cut) => Ok(Shown::Stuck { case, parts, cut }),
     }
 }
 
-/// The network of a heat flow of least cost, with the balance that its audit gives.
+/// The network of a heat flow, with the balance that its audit gives. In a standard case one that
+/// costs the hot target and has fewer transfers than parts has no excess.
 fn design_flow(alloc: Global, case: Case, parts: &Parts, flow: &Flow) -> Result<Shown, AllocError>
     requires complete { IsComplete case }
-    requires least { (prices : Prices) × (cost : ℤ) × IsLeastFlow case parts.now flow.now prices cost }
+    requires parts { AreCaseParts case parts.now.hot parts.now.cold }
+    requires flow { IsFlowOf case parts.now.hot parts.now.cold flow.now.transfers }
     ensures design { IfOk result (IsDesignOf case parts.now flow.now) }
-    ensures tight { IfOk result (λ shown. IsStandard case → cost_of parts.now.hot parts.now.cold flow.now.transfers ≡ hot_target case.streams → length flow.now.transfers ≤ length parts.now.hot + length parts.now.cold - 1 → IsTightDesign shown) }
+    ensures tight { IfOk result (λ shown. IsStandard case
+        → cost_of parts.now.hot parts.now.cold flow.now.transfers ≡ hot_target case.streams
+        → length flow.now.transfers ≤ length parts.now.hot + length parts.now.cold - 1
+        → IsTightDesign shown) }
 {
     let network = design(alloc, &case, parts, flow)?;
     let balance = audited(alloc, &case, &network)?;

@@ -11,6 +11,7 @@ mod files;
 mod flow;
 mod numbers;
 mod program;
+mod request;
 mod sample_answer;
 mod site_answer;
 mod status;

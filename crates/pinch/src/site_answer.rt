@@ -5,7 +5,7 @@ ghost use Rattle.plants.specs.Site.{IsValidSite};
 ghost use Rattle.pinch.specs.Site.{ShowsSite};
 
 use reports::Shown;
-use site::{Site, sink_profile, site_parts, site_target, source_profile};
+use site::{Site, sink_profile, site_parts, source_profile, table_target};
 use std::alloc::{AllocError, Global};
 use stream_case::Items;
 
@@ -15,13 +15,13 @@ pub fn show_site(alloc: Global, site: Site) -> Result<Shown, AllocError>
     requires { IsValidSite site }
     ensures { IfOk result (ShowsSite site) }
 {
-    let parts = site_parts(alloc, &site)?;
-    let sinks = sinks_at(alloc, &site, parts.places.as_slice())?;
-    let sources = sources_at(alloc, &site, parts.places.as_slice())?;
-    let answer = site_target(alloc, &site)?;
+    let table = site_parts(alloc, &site)?;
+    let sinks = sinks_at(alloc, &site, table.places.as_slice())?;
+    let sources = sources_at(alloc, &site, table.places.as_slice())?;
+    let answer = table_target(alloc, &site, &table)?;
     Ok(Shown::SiteShown {
         site,
-        parts,
+        parts: table,
         sinks,
         sources,
         answer,

@@ -1,7 +1,7 @@
 use Rattle.std.proofs.Common.{◌∙◌, ap}
 use Rattle.network_audit.specs.declared.verdict.Balance.{Balance}
 use Rattle.pinch.proofs.ShownNetworks.{shown_network}
-use Rattle.pinch.proofs.vertical_answer.design_vertical.Goals as goal
+use Rattle.pinch.proofs.vertical_answer.show_vertical.Goals as goal
 
 pub returns : goal.returns
 returns c =

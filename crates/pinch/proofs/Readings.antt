@@ -1,0 +1,51 @@
+-- What all commands read.
+use Rattle.std.proofs.Common.{◌≡◌, true, refl, List, Option, Some, None}
+use Rattle.std.specs.Prelude.{⊤}
+use Rattle.stream_case.specs.Case.{completed}
+use Rattle.pinch_outside.specs.Shelf.{NamedFile}
+use Rattle.reports.specs.Text.{IsPrintable}
+use Rattle.reports.specs.declared.shown.Shown.{Shown}
+use Rattle.pinch.specs.Complete.{CanAnswer, HasBadFile}
+use Rattle.pinch.specs.Reading.{Reading, reading_of, ready, stop, wanted, file}
+use Rattle.pinch.specs.declared.command.Command.{Command}
+use Rattle.pinch.specs.declared.command.Command.TheVariants.{OfCase, Vertical, Audit, Site, Sample}
+use Rattle.pinch.specs.declared.request.Request.{Request}
+use Rattle.pinch.proofs.Formats.{IsLawful, lawful_case, lawful_network, lawful_site}
+use Rattle.pinch.proofs.Plain.{is_plain}
+
+-- its formats are lawful, and what it shows in place of a request is plain and can be printed
+pub IsFurther : Reading → Type 0
+IsFurther (ready request) = ⊤
+IsFurther (stop shown) = ⊥
+IsFurther (wanted P refusal next) = (is_plain refusal ≡ true) × IsPrintable refusal × IsFurther next
+IsFurther (file {Value} format name next) = IsLawful format × ((value : Value) → IsFurther (next value))
+
+-- the same of a whole reading, which may ask nothing
+pub IsLawfulReading : Reading → Type 0
+IsLawfulReading (stop shown) = IsPrintable shown
+IsLawfulReading other = IsFurther other
+
+pub lawful : (command : Option Command) → IsLawfulReading (reading_of command)
+unfolding reading_of IsPrintable IsFurther IsLawfulReading
+lawful None = tt
+lawful (Some (OfCase case task)) = (lawful_case, λ c. tt)
+lawful (Some (Vertical case)) = (lawful_case, λ c. (refl, tt, tt))
+lawful (Some (Audit case network)) = (lawful_case, λ c. (lawful_network (completed c), λ n. tt))
+lawful (Some (Site site)) = (lawful_site, λ s. tt)
+lawful (Some (Sample number count)) = tt
+
+-- what can be answered asks something
+pub of_answerable : (reading : Reading) (files : Option (List NamedFile)) → IsLawfulReading reading → CanAnswer reading files → IsFurther reading
+unfolding IsLawfulReading CanAnswer
+of_answerable (stop shown) files is can = absurd can
+of_answerable (ready request) files is can = is
+of_answerable (wanted P refusal next) files is can = is
+of_answerable (file format name next) files is can = is
+
+-- and so does what is refused
+pub of_refusable : (reading : Reading) (files : Option (List NamedFile)) (refusal : Shown) → IsLawfulReading reading → HasBadFile reading files refusal → IsFurther reading
+unfolding IsLawfulReading HasBadFile
+of_refusable (stop shown) files refusal is bad = absurd bad
+of_refusable (ready request) files refusal is bad = is
+of_refusable (wanted P other next) files refusal is bad = is
+of_refusable (file format name next) files refusal is bad = is

@@ -1,0 +1,84 @@
+-- A run keeps what it is to keep.
+use Rattle.std.proofs.Common.{◌≡◌, ◌∙◌, inl, inr, ℕ, List, Option, Some, None, refl, sym, ap, subst, arith}
+use Rattle.std.specs.Prelude.{⊤, IsNone}
+use Rattle.transport.specs.declared.answer.Answer.TheVariants as answer
+use Rattle.pinch_outside.specs.Shelf.{ShelfState}
+use Rattle.reports.specs.declared.shown.Shown.{Shown}
+use Rattle.reports.specs.declared.shown.Shown.TheVariants.{SiteShown}
+use Rattle.pinch.specs.Answers.{ShowsCommand}
+use Rattle.pinch.specs.Run.{Prints, Runs, whole, cut}
+use Rattle.pinch.specs.Status.{number_of, status_of}
+use Rattle.pinch.specs.declared.command.Command.{Command}
+use Rattle.pinch.specs.declared.program.Done.{Done}
+use Rattle.pinch.specs.declared.status.Status.{Status}
+use Rattle.pinch.specs.declared.status.Status.TheVariants.{WriteFault, OutOfMemory}
+use Rattle.pinch.proofs.Causes.{causes}
+use Rattle.pinch.proofs.Complete.{complete, bad_file}
+
+-- what is shown blames neither the sink nor memory
+abbrev IsOfShown : Status → Type 0
+IsOfShown WriteFault = ⊥
+IsOfShown OutOfMemory = ⊥
+IsOfShown other = ⊤
+
+of_shown : (shown : Shown) → IsOfShown (status_of shown)
+of_shown (SiteShown site parts sinks sources (answer.Least flow prices cost)) = tt
+of_shown (SiteShown site parts sinks sources (answer.Stuck cut)) = tt
+of_shown other = tt
+
+not_write_fault : (status : Status) → IsOfShown status → number_of status ≡ number_of WriteFault → ⊥
+not_write_fault WriteFault is e = absurd is
+not_write_fault other is e = absurd (omega (arith, e))
+
+not_out_of_memory : (status : Status) → IsOfShown status → number_of status ≡ number_of OutOfMemory → ⊥
+not_out_of_memory OutOfMemory is e = absurd is
+not_out_of_memory other is e = absurd (omega (arith, e))
+
+module _ {Sink : Type 0} (text_on : Sink → Option (List ℕ)) (faults_of : Sink → ℕ) (command : Option Command) (old new : ShelfState) (before now : Sink) where
+  -- where memory is wanted
+  pub of_none : (done : Done) → IsNone done.shown → done.status ≡ number_of OutOfMemory → now ≡ before → Runs text_on faults_of command old new before now done
+  of_none done none is same = subst (λ s. Runs text_on faults_of command old new before now (record { status = done.status; shown = s })) (sym none)
+      (record {
+        shown = tt;
+        causes = tt;
+        status = tt;
+        memory = (λ e. is, λ e. refl);
+        untouched = λ e. same;
+        written = tt;
+        front = tt;
+        write_fault = λ e. absurd (omega (arith, is, e));
+        complete = λ can no_fault no_write_fault. tt;
+        refused = λ refusal bad no_fault. tt;
+      })
+
+  pub of_print : (shown : Shown) (status : Status) (number : ℕ) → number ≡ number_of status → ShowsCommand command old new shown
+      → Prints (text_on before) (text_on now) (faults_of before) (faults_of now) shown status
+      → Runs text_on faults_of command old new before now (record { status = number; shown = Some shown })
+  of_print shown status number numbered shows (whole is wrote front) =
+      let number_is = numbered ∙ ap number_of is in
+      record {
+        shown = shows;
+        causes = causes command old new shown shows;
+        status = inl number_is;
+        memory = (λ none. cc, λ e. absurd (not_out_of_memory (status_of shown) (of_shown shown) (sym number_is ∙ e)));
+        untouched = λ e. absurd (not_out_of_memory (status_of shown) (of_shown shown) (sym number_is ∙ e));
+        written = inr wrote;
+        front = front;
+        write_fault = λ e. absurd (not_write_fault (status_of shown) (of_shown shown) (sym number_is ∙ e));
+        complete = λ can no_fault no_write_fault. (number_is, complete command old new shown shows can no_fault);
+        refused = λ refusal bad no_fault. bad_file command old new shown shows refusal bad no_fault;
+      }
+  of_print shown status number numbered shows (cut is front rose) =
+      let number_is = numbered ∙ ap number_of is in
+      record {
+        shown = shows;
+        causes = causes command old new shown shows;
+        status = inr number_is;
+        memory = (λ none. cc, λ e. absurd (omega (arith, number_is, e)));
+        untouched = λ e. absurd (omega (arith, number_is, e));
+        written = inl number_is;
+        front = front;
+        write_fault = λ e. rose;
+        complete = λ can no_fault no_write_fault. absurd (no_write_fault rose);
+        refused = λ refusal bad no_fault. bad_file command old new shown shows refusal bad no_fault;
+      }

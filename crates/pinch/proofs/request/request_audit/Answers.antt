@@ -1,0 +1,18 @@
+use Rattle.std.proofs.Common.{refl}
+use Rattle.pinch.specs.Case.{case_file}
+use Rattle.pinch.specs.Files.{EndsIn, by_text}
+use Rattle.pinch.specs.Reading.{reading_of}
+use Rattle.pinch.proofs.Early.{without_text, without_network}
+use Rattle.pinch.proofs.request.request_audit.Goals as goal
+
+pub returns-in_err-given-clause-reads : goal.returns-in_err-given-clause-reads
+unfolding reading_of
+returns-in_err-given-clause-reads g c = without_text case_file _ _ _ _ _ _ c.from_residual.ensures.1 c.in_err-given.ensures.stop
+
+pub returns-in_err-network-clause-reads : goal.returns-in_err-network-clause-reads
+returns-in_err-network-clause-reads g c =
+    without_network _ _ _ _ _ _ _ _ c.from_residual-in_err-network.ensures.1 c.in_ok-given.ensures.case (rw c.in_ok-case.ensures at c.in_err-network.ensures.stop)
+
+pub returns-clause-reads : goal.returns-clause-reads
+unfolding EndsIn reading_of
+returns-clause-reads g c = by_text _ _ c.in_ok-given.ensures.case (by_text _ _ (rw c.in_ok-case.ensures at c.in_ok-network.ensures.network) (rw c.in_ok-case.ensures refl, refl))

@@ -1,0 +1,23 @@
+use Rattle.std.proofs.Common.{inl, inr, refl, sym, subst}
+use Rattle.stream_case.specs.Case.{IsStandard}
+use Rattle.pinch.specs.Case.{case_file}
+use Rattle.pinch.specs.Files.{EndsIn, by_text}
+use Rattle.pinch.specs.Reading.{reading_of}
+use Rattle.pinch.proofs.Early.{without_text}
+use Rattle.pinch.proofs.request.request_vertical.Goals as goal
+
+pub returns-in_err-given-clause-reads : goal.returns-in_err-given-clause-reads
+unfolding reading_of
+returns-in_err-given-clause-reads g c = without_text case_file _ _ _ _ _ _ c.from_residual.ensures.1 c.in_err-given.ensures.stop
+
+pub returns-then-is_standard-clause-reads : goal.returns-then-is_standard-clause-reads
+unfolding EndsIn reading_of
+returns-then-is_standard-clause-reads g c =
+    let standard = c.is_standard.ensures.0 c.if-is_standard.true in
+    by_text _ _ c.in_ok-given.ensures.case (inl (subst IsStandard c.in_ok-case.ensures standard, (rw c.in_ok-case.ensures refl, refl)))
+
+pub returns-clause-reads : goal.returns-clause-reads
+unfolding EndsIn reading_of
+returns-clause-reads g c =
+    by_text _ _ c.in_ok-given.ensures.case
+    (inr (λ standard. let test = c.is_standard.ensures.1 (subst IsStandard (sym c.in_ok-case.ensures) standard) in cc (test, c.if-is_standard.false), refl, refl))

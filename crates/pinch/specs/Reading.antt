@@ -1,0 +1,35 @@
+-- What the words ask to be read, before anything is answered.
+use Rattle.std.specs.Prelude.{ℕ, List, Option, Some, None}
+use Rattle.stream_case.specs.Case.{completed, IsStandard}
+use Rattle.reports.specs.declared.shown.Shown.{Shown}
+use Rattle.reports.specs.declared.shown.Shown.TheVariants.{BadWords, NotStandard}
+use Rattle.pinch.specs.Case.{case_file}
+use Rattle.pinch.specs.Format.{Format}
+use Rattle.pinch.specs.Network.{network_file}
+use Rattle.pinch.specs.Site.{site_file}
+use Rattle.pinch.specs.declared.command.Command.{Command}
+use Rattle.pinch.specs.declared.command.Command.TheVariants as command
+use Rattle.pinch.specs.declared.request.Request.{Request}
+use Rattle.pinch.specs.declared.request.Request.TheVariants as request
+
+-- what is read, one file after another, up to a request
+pub data Reading : Type 1 where
+  -- all is read, and this is asked
+  ready : Request → Reading
+  -- nothing is asked, and this is shown
+  stop : Shown → Reading
+  -- this is wanted of what was read; where it does not hold, that is shown
+  wanted : Type 0 → Shown → Reading → Reading
+  -- the file of that name is read by the format, and then what its value asks for
+  file : {Value Cause : Type 0} → Format Value Cause → List ℕ → (Value → Reading) → Reading
+
+-- what the words of a command ask to be read, and what is asked then
+unfoldable pub reading_of : Option Command → Reading
+reading_of None = stop BadWords
+reading_of (Some (command.OfCase case task)) = file case_file case (λ c. ready (request.OfCase c task))
+reading_of (Some (command.Vertical case)) =
+    file case_file case (λ c. wanted (IsStandard (completed c)) NotStandard (ready (request.Vertical (completed c))))
+reading_of (Some (command.Audit case network)) =
+    file case_file case (λ c. file (network_file (completed c)) network (λ n. ready (request.Audit (completed c) n)))
+reading_of (Some (command.Site site)) = file site_file site (λ s. ready (request.OfSite s))
+reading_of (Some (command.Sample number count)) = ready (request.Sample number count)

@@ -1,0 +1,110 @@
+//! What is asked: all files are read here, and all that is refused is refused here.
+ghost use Rattle.std.specs.Prelude.{IfOk, Some};
+ghost use Rattle.pinch.specs.Answers.{IsRequest};
+ghost use Rattle.pinch.specs.Command.{command_of, IsRunnable};
+ghost use Rattle.pinch.specs.Files.{EndsIn};
+ghost use Rattle.pinch.specs.Reading.{reading_of};
+ghost use Rattle.pinch.specs.Stop.{IfEnd};
+ghost use Rattle.pinch.specs.declared.command.Command.TheVariants.{Audit, Vertical};
+
+use crate::command::{CaseTask, Command, read_command};
+use crate::files::{take_case, take_network, take_site};
+use crate::stop::Stop;
+use crate::word::Word;
+use network_text::Network;
+use pinch_outside::Shelf;
+use reports::Shown;
+use site::Site;
+use std::alloc::Global;
+use stream_case::{Case, Items, complete, is_standard};
+
+/// What is asked, with what its files say.
+#[derive(Debug, Drop)]
+pub enum Request {
+    /// A task on a case.
+    OfCase { case: Case, task: CaseTask },
+    /// The network of a completed standard case by its composite curves.
+    Vertical { case: Case },
+    /// Whether a network is valid for a completed case.
+    Audit { case: Case, network: Network },
+    /// The profiles of a site, and its least boiler heat.
+    OfSite { site: Site },
+    /// The sample of a number, with so many streams on each side.
+    Sample { number: u32, count: u32 },
+}
+
+/// What the words and the files ask.
+pub fn request_of<S: Shelf>(
+    alloc: Global,
+    shelf: &mut S,
+    words: &Items<Word>,
+) -> Result<Request, Stop>
+    ensures request { IfOk result IsRequest }
+    ensures reads { IfEnd result
+        (EndsIn (reading_of (command_of words.now)) (S.state shelf.old) (S.state shelf.new)) }
+{
+    match read_command(alloc, words)? {
+        None => Err(Stop::Early(Shown::BadWords)),
+        Some(command) => request_of_command(alloc, shelf, &command),
+    }
+}
+
+fn request_of_command<S: Shelf>(
+    alloc: Global,
+    shelf: &mut S,
+    command: &Command,
+) -> Result<Request, Stop>
+    requires { IsRunnable command.now }
+    ensures request { IfOk result IsRequest }
+    ensures reads { IfEnd result
+        (EndsIn (reading_of (Some command.now)) (S.state shelf.old) (S.state shelf.new)) }
+{
+    match command {
+        Command::OfCase { case, task } => {
+            let case = take_case(alloc, shelf, case)?;
+            Ok(Request::OfCase { case, task: *task })
+        }
+        Command::Vertical { case } => request_vertical(alloc, shelf, case),
+        Command::Audit { case, network } => request_audit(alloc, shelf, case, network),
+        Command::Site { site } => {
+            let site = take_site(alloc, shelf, site)?;
+            Ok(Request::OfSite { site })
+        }
+        Command::Sample { number, count } => Ok(Request::Sample {
+            number: *number,
+            count: *count,
+        }),
+    }
+}
+
+/// A case that is not standard is refused.
+fn request_vertical<S: Shelf>(alloc: Global, shelf: &mut S, case: &Word) -> Result<Request, Stop>
+    ensures request { IfOk result IsRequest }
+    ensures reads { IfEnd result
+        (EndsIn (reading_of (Some (Vertical case.now))) (S.state shelf.old) (S.state shelf.new)) }
+{
+    let given = take_case(alloc, shelf, case)?;
+    let case = complete(alloc, &given)?;
+    if is_standard(&case) {
+        Ok(Request::Vertical { case })
+    } else {
+        Err(Stop::Early(Shown::NotStandard))
+    }
+}
+
+/// The network is read for the completed case, and only after it.
+fn request_audit<S: Shelf>(
+    alloc: Global,
+    shelf: &mut S,
+    case: &Word,
+    network: &Word,
+) -> Result<Request, Stop>
+    ensures request { IfOk result IsRequest }
+    ensures reads { IfEnd result
+        (EndsIn (reading_of (Some (Audit case.now network.now))) (S.state shelf.old) (S.state shelf.new)) }
+{
+    let given = take_case(alloc, shelf, case)?;
+    let case = complete(alloc, &given)?;
+    let network = take_network(alloc, shelf, &case, network)?;
+    Ok(Request::Audit { case, network })
+}
