@@ -249,6 +249,16 @@ def targets_text(case):
     return 'hot %d\ncold %d\n' % (hot, cold) + (''.join('pinch %d\n' % each for each in pinches) or 'pinch none\n')
 
 
+def curves_text(case):
+    lines = []
+    for word, hot in (('hot', True), ('cold', False)):
+        streams = [each for each in case.streams if each.hot is hot]
+        for place in sorted({end for each in streams for end in (each.supply, each.target)}):
+            lines.append('%s %d %d\n' % (word, sum(each.cp * within(each.span(0), -FAR, place) for each in streams), place))
+    target = targets_of(case)[0]
+    return ''.join(lines + ['net %d %d\n' % (target - deficit(case.streams, case.share, end), end) for end in case.ends()])
+
+
 def profile_text(site):
     places = sorted(set(site.ends()) | {level + shift for _, level in site.mains for shift in (site.share, -site.share)}, reverse=True)
     lines = []
@@ -583,19 +593,22 @@ def wanted_of(command, files):
         status, answer = audit_text(case, statements)
         return Wanted((status,), answer, True)
     if command == 'curves':
-        return Wanted((0,), ['hot ', 'cold '], False)
+        return Wanted((0,), curves_text(case), True)
+    hot, cold, _, _ = targets_of(case)
+    if is_standard(case):
+        # The least cost of a standard case is its hot target.
+        return Wanted((0,), ['cost %d\nuse ' % hot] if command == 'flow' else ['# hot %d cold %d excess 0 cost %d\n' % (hot, cold, hot)]
+                      if command in ('design', 'vertical') else ['row '], False)
     if command == 'vertical':
-        return wanted_of_vertical(case)
+        return Wanted((3,), 'case not standard\n', True)
     return Wanted((0, 1), {'flow': ['cost ', 'infeasible\ncut '], 'design': ['# hot ', 'infeasible\ncut '], 'sweep': ['row ']}[command], False)
 
 
-def wanted_of_vertical(case):
+def is_standard(case):
+    """Whether the utilities of the completed case are just the two standard ones, and no match is forbidden."""
     given = [(each.name, each.supply, each.least, each.most, each.price) for each in case.utilities]
     plain = Case()
     plain.share, plain.streams = case.share, case.streams
     plain.completed()
     standard = {each.name: (each.name, each.supply, each.least, each.most, each.price) for each in plain.utilities}
-    if case.forbidden or any(each[0] not in standard or standard[each[0]] != each for each in given):
-        return Wanted((3,), 'case not standard\n', True)
-    hot, cold, _, _ = targets_of(case)
-    return Wanted((0,), ['# hot %d cold %d excess 0 cost %d\n' % (hot, cold, hot)], False)
+    return not case.forbidden and all(standard.get(each[0]) == each for each in given)
