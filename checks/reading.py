@@ -1,6 +1,6 @@
-"""A second reading of what `pinch` reads, written from docs/FORMATS.md and docs/DECISIONS.md alone: the rows of a CSV text, the
-grammars of cases, sites and networks, the words; and of what it answers, as far as that is one text: `targets`, `audit` whole, the
-profiles of `site`, and how each other answer begins. Exact fractions are those of Python."""
+"""A second reading of what `pinch` reads, by the rules of docs/FORMATS.md and docs/DECISIONS.md, which shares nothing with the
+program: the rows of a CSV text, the grammars of cases, sites and networks, the words; and of what it answers, as far as that is one
+text: `targets`, `curves` and `audit` whole, the profiles of `site`, and how each other answer begins. Fractions are Python's."""
 from fractions import Fraction
 import re
 
