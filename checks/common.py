@@ -1,0 +1,117 @@
+"""What the scripts of this folder share: the files, the commands with their answers, and one plain run of a program."""
+import os
+import subprocess
+import sys
+
+HERE = os.path.dirname(os.path.abspath(__file__))
+ROOT = os.path.dirname(HERE)
+
+# A program that `rt try` built has the address sanitizer in it: refused memory is to reach the program, and no leak is looked
+# for. Any other program takes no notice.
+ENVIRONMENT = dict(os.environ, ASAN_OPTIONS='allocator_may_return_null=1:detect_leaks=0')
+
+TABLE = 'words: targets flow curves design vertical audit site sweep sample certify prices\n'
+
+
+def example(name):
+    with open(os.path.join(ROOT, 'examples', name), 'rb') as handle:
+        return handle.read()
+
+
+def text(*rows):
+    return ''.join(row + '\n' for row in rows).encode()
+
+
+FOUR = example('four-stream.csv')
+FOUR_NETWORK = example('four-stream-network.txt')
+FORBIDDEN = text('contribution,,50,,,,', 'hot,H,1000,500,10,,', 'cold,C,300,700,10,,', 'forbid,H,C,,,,')
+THREE = text('contribution,,50,,,,', 'hot,H,1000,500,10,,', 'cold,C,300,500,5,,', 'cold,D,300,500,10,,')
+SMALL = text('contribution,,50,,,,', 'hot,H,1000,500,2,,')
+TWO_PLANTS = text('contribution,,50,,,,', 'main,MP,1500,,,,', 'plant,A,,,,,', 'hot,H,2000,1000,10,,', 'plant,B,,,,,',
+                  'cold,C,500,1300,10,,')
+LOW_MAIN = text('contribution,,50,,,,', 'main,MP,1350,,,,', 'plant,B,,,,,', 'cold,C,500,1300,10,,')
+SPLIT_NETWORK = text('exchanger Q1 H COLD 4000', 'exchanger Q2 H COLD 1000', 'split H a 8 b', 'pass a Q1 c', 'pass b Q2 d',
+                     'mix c d e', 'end e')
+# 50 W more at E2, taken from Q1 and Q2: an approach is kept no longer.
+TOO_COLD = FOUR_NETWORK.replace(b'E2 H4 C1 90000', b'E2 H4 C1 90050').replace(b'C1 20000', b'C1 19950').replace(b'COLD 60000', b'COLD 59950')
+ONE_HOT = text('contribution,,50,,,,', 'hot,H,1000,500,10,,')
+
+# A command: its words, its files by name, the role of each file in the order in which it is read, the status, and how its text
+# begins. The first four are the ones that matter most.
+COMMANDS = [
+    (['flow', 'case'], {'case': example('two-steam-levels.csv')}, ['case'], 0, 'cost 57000\nuse HP 18500\n'),
+    (['audit', 'case', 'net'], {'case': FOUR, 'net': FOUR_NETWORK}, ['case', 'network'], 0, 'accepted\nhot 20000\n'),
+    (['vertical', 'case'], {'case': THREE}, ['case'], 0, '# hot 0 cold 2000 excess 0 cost 0\n'),
+    (['sweep', 'case', '0', '100', '10', '2'], {'case': FOUR}, ['case'], 0, 'row 0 0 40000 0\n'),
+    (['targets', 'case'], {'case': FOUR}, ['case'], 0, 'hot 20000\ncold 60000\npinch 850\n'),
+    (['flow', 'case'], {'case': FOUR}, ['case'], 0, 'cost 20000\nuse HOT 20000\n'),
+    (['flow', 'case'], {'case': FORBIDDEN}, ['case'], 0, 'cost 4000\nuse HOT 4000\n'),
+    (['flow', 'case'], {'case': example('too-little-cooling.csv')}, ['case'], 1, 'infeasible\ncut supply 5000 2000\n'),
+    (['curves', 'case'], {'case': FOUR}, ['case'], 0, 'hot 0 300\n'),
+    (['design', 'case'], {'case': FOUR}, ['case'], 0, '# hot 20000 cold 60000 excess 0 cost 20000\n'),
+    (['design', 'case'], {'case': FORBIDDEN}, ['case'], 0, '# hot 4000 cold 5000 excess 4000 cost 4000\n'),
+    (['design', 'case'], {'case': example('too-little-cooling.csv')}, ['case'], 1, 'infeasible\n'),
+    (['vertical', 'case'], {'case': FORBIDDEN}, ['case'], 3, 'case not standard\n'),
+    (['audit', 'case', 'net'], {'case': example('preheater.csv'), 'net': example('preheater-network.txt')},
+     ['case', 'network'], 0, 'accepted\nhot 3500\n'),
+    (['audit', 'case', 'net'], {'case': FOUR, 'net': TOO_COLD},
+     ['case', 'network'], 1, 'rejected exchanger E2 ColdEndApproach found 2699/3 wanted 900\n'),
+    (['audit', 'case', 'net'],
+     {'case': SMALL, 'net': text('exchanger E1 H COLD 1/281474976710655', 'pass H E1 a', 'end a')}, ['case', 'network'], 9,
+     'too fine line 2 step 1\n'),
+    (['audit', 'case', 'net'], {'case': FOUR, 'net': text('end')}, ['case', 'network'], 4, 'network line 1 FieldCount\n'),
+    (['site', 'site'], {'site': example('three-plants.csv')}, ['site'], 0, 'profile 2550 0 120000\n'),
+    (['site', 'site'], {'site': LOW_MAIN}, ['site'], 1, 'profile 1400 0 0\n'),
+    (['sweep', 'case', '50', '50', '1', '2'], {'case': example('too-little-cooling.csv')}, ['case'], 0,
+     'row 50 0 4000 infeasible\n'),
+    (['sweep', 'case', '0', '100', '50', '2'], {'case': example('two-steam-levels.csv')}, ['case'], 0, 'row 0 '),
+    (['sample', '1', '1'], {}, [], 0, 'hot 25163\ncold 0\ncost 117663\n'),
+    (['sample', '7', '3'], {}, [], 0, 'hot '),
+    (['targets', 'case'], {'case': text('hot,H')}, ['case'], 3, 'case row 1 FieldCount\n'),
+    (['site', 'site'], {'site': text('plant,A,,,,,')}, ['site'], 3, 'site row 2 NoContribution\n'),
+    (['targets'], {}, [], 2, TABLE),
+]
+
+
+def program_of(arguments, usage):
+    """The path of the program, which is the first argument of each script."""
+    if not arguments or arguments[0].startswith('-') or not os.access(arguments[0], os.X_OK):
+        sys.exit(usage)
+    return os.path.abspath(arguments[0])
+
+
+def lay_out(folder, files):
+    for name, content in files.items():
+        with open(os.path.join(folder, name), 'wb') as handle:
+            handle.write(content)
+
+
+def run(program, words, folder, timeout=120):
+    """The status and the text of a run in the folder. A run that a signal ended has the signal's number, negative."""
+    done = subprocess.run([program] + words, cwd=folder, env=ENVIRONMENT, stdin=subprocess.DEVNULL, stdout=subprocess.PIPE,
+                          stderr=subprocess.DEVNULL, timeout=timeout)
+    return done.returncode, done.stdout
+
+
+class Report:
+    """Counts runs, and tells each one that was not as it should be."""
+
+    def __init__(self):
+        self.runs = 0
+        self.wrong = 0
+
+    def count(self, right, what, got, wanted):
+        self.runs += 1
+        if not right:
+            self.wrong += 1
+            print('WRONG %s\n  got    %s\n  wanted %s' % (what, shown(got), wanted))
+            sys.stdout.flush()
+
+    def end(self):
+        print('%d runs, %d wrong' % (self.runs, self.wrong))
+        sys.exit(1 if self.wrong or not self.runs else 0)
+
+
+def shown(answer):
+    status, written = answer
+    return 'status %s, %d bytes: %r' % (status, len(written), written[:120])

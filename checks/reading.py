@@ -1,0 +1,614 @@
+"""A second reading of what `pinch` reads, by the rules of docs/FORMATS.md and docs/DECISIONS.md, which shares nothing with the
+program: the rows of a CSV text, the grammars of cases, sites and networks, the words; and of what it answers, as far as that is one
+text: `targets`, `curves` and `audit` whole, the profiles of `site`, and how each other answer begins. Fractions are Python's."""
+from fractions import Fraction
+import re
+
+LIMIT = 8388608
+NAME = re.compile(rb'[A-Za-z0-9][A-Za-z0-9_-]{0,15}\Z')
+DOTTED = re.compile(rb'\.?[A-Za-z0-9][A-Za-z0-9_-]{0,15}\Z')
+NUMBER = re.compile(rb'-?[0-9]{1,13}\Z')
+RATIO = re.compile(rb'(-?[0-9]{1,24})(?:/([0-9]{1,24}))?\Z')
+TRILLION = 10 ** 12
+TEMPERATURE, FLOW, SHARE, HEAT, PRICE = (-2731, 30000), (1, 100000), (0, 1000), (0, TRILLION), (-10 ** 6, 10 ** 6)
+
+
+class Refused(Exception):
+    """A fault of a file: its row or statement, and its cause."""
+
+    def __init__(self, at, why):
+        super().__init__(at, why)
+        self.at, self.why = at, why
+
+
+class Fine(Exception):
+    """A number that is outside the limits of fractions, at a step of a place."""
+
+    def __init__(self, place, step):
+        super().__init__(place, step)
+        self.place, self.step = place, step
+
+
+class Rejected(Exception):
+    def __init__(self, place, reason, found=None, wanted=None):
+        super().__init__(place, reason)
+        self.line = 'rejected %s %s' % (place, reason) + ('' if found is None else ' found %s wanted %s' % (found, wanted))
+
+
+# The rows of a CSV text: a machine over bytes.
+
+def rows_of(data):
+    if data.startswith(b'\xef\xbb\xbf'):
+        data = data[3:]
+    rows, row, field, state = [], [], bytearray(), 'row'
+    for byte in data:
+        if state == 'row':
+            if byte in b'\r\n':
+                continue
+            state = 'field'
+        if state == 'quoted':
+            if byte == 34:
+                state = 'closed'
+            else:
+                field.append(byte)
+            continue
+        if state == 'field' and byte == 34:
+            state = 'quoted'
+        elif state == 'closed' and byte == 34:
+            field.append(byte)
+            state = 'quoted'
+        elif byte == 44:
+            row.append(bytes(field))
+            field, state = bytearray(), 'field'
+        elif byte in b'\r\n':
+            row.append(bytes(field))
+            rows.append(row)
+            row, field, state = [], bytearray(), 'row'
+        else:
+            field.append(byte)
+            state = 'plain'
+    if state != 'row':
+        row.append(bytes(field))
+        rows.append(row)
+    return rows
+
+
+# Streams, utilities and the rows that are common to cases and sites.
+
+class Source:
+    def __init__(self, name, hot, stream, supply, target, cp=0, least=0, most=0, price=0, plant=None):
+        self.name, self.hot, self.stream, self.supply, self.target, self.cp = name, hot, stream, supply, target, cp
+        self.least, self.most, self.price, self.plant = least, most, price, plant
+
+    def span(self, share):
+        """The shifted range, as (low, high)."""
+        shift = -share if self.hot else share
+        return min(self.supply, self.target) + shift, max(self.supply, self.target) + shift
+
+
+class Case:
+    def __init__(self):
+        self.share, self.streams, self.utilities, self.forbidden, self.mains, self.plants = None, [], [], [], [], []
+
+    def ends(self):
+        return sorted({end for each in self.streams for end in each.span(self.share)}, reverse=True)
+
+    def completed(self):
+        ends = self.ends()
+        self.utilities = list(self.utilities)
+        if not any(each.hot for each in self.utilities):
+            self.utilities.append(Source(b'HOT', True, False, ends[0] + self.share, ends[0] + self.share, 0, 0, TRILLION, 1))
+        if not any(not each.hot for each in self.utilities):
+            self.utilities.append(Source(b'COLD', False, False, ends[-1] - self.share, ends[-1] - self.share, 0, 0, TRILLION, 0))
+        return self
+
+    def source(self, name):
+        return next((each for each in self.streams + self.utilities if each.name == name), None)
+
+
+def numbers(row, fields, ranges, at):
+    if not all(NUMBER.match(row[field]) for field in fields):
+        raise Refused(at, 'BadNumber')
+    values = [int(row[field]) for field in fields]
+    if not all(low <= value <= high for value, (low, high) in zip(values, ranges)):
+        raise Refused(at, 'OutOfRange')
+    return values
+
+
+def kind_of(row, at, kinds):
+    """The kind of a row, or None for one that is passed over."""
+    if len(row) != 7:
+        raise Refused(at, 'FieldCount')
+    if not any(row) or row[0].startswith(b'#'):
+        return None
+    kind = row[0].decode('latin-1')
+    if kind not in kinds:
+        raise Refused(at, 'UnknownKind')
+    if any(row[field] for field in range(1, 7) if field not in kinds[kind]):
+        raise Refused(at, 'FieldCount')
+    return kind
+
+
+def stream_of(row, at, kind, plant=None):
+    supply, target, cp = numbers(row, (2, 3, 4), (TEMPERATURE, TEMPERATURE, FLOW), at)
+    if supply <= target if kind == 'hot' else supply >= target:
+        raise Refused(at, 'WrongWay')
+    return Source(row[1], kind == 'hot', True, supply, target, cp, plant=plant)
+
+
+CASE_KINDS = {'contribution': {2}, 'hot': {1, 2, 3, 4}, 'cold': {1, 2, 3, 4}, 'heater': {1, 2, 3, 4, 5}, 'cooler': {1, 2, 3, 4, 5}, 'forbid': {1, 2}}
+SITE_KINDS = {'contribution': {2}, 'hot': {1, 2, 3, 4}, 'cold': {1, 2, 3, 4}, 'plant': {1}, 'main': {1, 2}}
+
+
+def case_of(data):
+    case, rows = Case(), rows_of(data)
+    for at, row in enumerate(rows, 1):
+        kind = kind_of(row, at, CASE_KINDS)
+        if kind is None:
+            continue
+        count = {'hot': sum(each.hot for each in case.streams) + 1, 'cold': sum(not each.hot for each in case.streams) + 1,
+                 'forbid': len(case.forbidden) + 1}.get(kind, len(case.utilities) + 1)
+        if kind != 'contribution' and count > {'hot': 12, 'cold': 12, 'forbid': 400}.get(kind, 6):
+            raise Refused(at, 'TooMany')
+        if kind == 'contribution':
+            if case.share is not None:
+                raise Refused(at, 'Repeated')
+            case.share = numbers(row, (2,), (SHARE,), at)[0]
+            continue
+        for field in (1, 2) if kind == 'forbid' else (1,):
+            if not NAME.match(row[field]):
+                raise Refused(at, 'BadName')
+        if kind == 'forbid':
+            hot, cold = case.source(row[1]), case.source(row[2])
+            if hot is None or cold is None or not hot.hot or cold.hot:
+                raise Refused(at, 'UnknownName')
+            if (row[1], row[2]) in case.forbidden:
+                raise Refused(at, 'Repeated')
+            case.forbidden.append((row[1], row[2]))
+            continue
+        if row[1] == b'HOT' and kind != 'heater' or row[1] == b'COLD' and kind != 'cooler':
+            raise Refused(at, 'BadName')
+        if case.source(row[1]):
+            raise Refused(at, 'SameName')
+        if kind in ('hot', 'cold'):
+            case.streams.append(stream_of(row, at, kind))
+            continue
+        level, least, most, price = numbers(row, (2, 3, 4, 5), (TEMPERATURE, HEAT, HEAT, PRICE), at)
+        if least > most:
+            raise Refused(at, 'BadRange')
+        case.utilities.append(Source(row[1], kind == 'heater', False, level, level, 0, least, most, price))
+    if case.share is None:
+        raise Refused(len(rows) + 1, 'NoContribution')
+    if not case.streams:
+        raise Refused(len(rows) + 1, 'NoStream')
+    return case
+
+
+def site_of(data):
+    site, rows = Case(), rows_of(data)
+    for at, row in enumerate(rows, 1):
+        kind = kind_of(row, at, SITE_KINDS)
+        if kind is None:
+            continue
+        count = {'hot': sum(each.hot for each in site.streams) + 1, 'cold': sum(not each.hot for each in site.streams) + 1,
+                 'plant': len(site.plants) + 1, 'main': len(site.mains) + 1}
+        if kind != 'contribution' and count[kind] > {'hot': 12, 'cold': 12, 'plant': 6, 'main': 4}[kind]:
+            raise Refused(at, 'TooMany')
+        if kind == 'contribution':
+            if site.share is not None:
+                raise Refused(at, 'Repeated')
+            site.share = numbers(row, (2,), (SHARE,), at)[0]
+            continue
+        stream = kind in ('hot', 'cold')
+        if stream and not site.plants:
+            raise Refused(at, 'NoPlant')
+        if not NAME.match(row[1]) or stream and row[1] in (b'BOILER', b'COOLING'):
+            raise Refused(at, 'BadName')
+        taken = [each.name for each in site.streams] if stream else site.plants if kind == 'plant' else [name for name, _ in site.mains]
+        if row[1] in taken:
+            raise Refused(at, 'SameName')
+        if stream:
+            site.streams.append(stream_of(row, at, kind, len(site.plants) - 1))
+        elif kind == 'plant':
+            site.plants.append(row[1])
+        else:
+            site.mains.append((row[1], numbers(row, (2,), (TEMPERATURE,), at)[0]))
+    for missing, why in ((site.share is None, 'NoContribution'), (not site.mains, 'NoMain'), (not site.streams, 'NoStream')):
+        if missing:
+            raise Refused(len(rows) + 1, why)
+    return site
+
+
+# Targets and profiles.
+
+def within(span, low, high):
+    return max(0, min(span[1], high) - max(span[0], low))
+
+
+FAR = 10 ** 9
+
+
+def deficit(streams, share, place, above=True):
+    """What the cold streams take above (or below) a shifted temperature, less what the hot ones give there."""
+    low, high = (place, FAR) if above else (-FAR, place)
+    return sum((-1 if each.hot else 1) * each.cp * within(each.span(share), low, high) for each in streams)
+
+
+def targets_of(case):
+    """The hot and the cold target, the pinches from the highest down, and the reference place."""
+    ends = case.ends()
+    deficits = [deficit(case.streams, case.share, end) for end in ends]
+    hot = max(0, max(deficits))
+    cold = hot - deficit(case.streams, case.share, -FAR)
+    pinches = [end for end, each in zip(ends, deficits) if each == hot and ends[-1] < end < ends[0]]
+    return hot, cold, pinches, next(end for end, each in zip(ends, deficits) if each == hot)
+
+
+def targets_text(case):
+    hot, cold, pinches, _ = targets_of(case)
+    return 'hot %d\ncold %d\n' % (hot, cold) + (''.join('pinch %d\n' % each for each in pinches) or 'pinch none\n')
+
+
+def curves_text(case):
+    lines = []
+    for word, hot in (('hot', True), ('cold', False)):
+        streams = [each for each in case.streams if each.hot is hot]
+        for place in sorted({end for each in streams for end in (each.supply, each.target)}):
+            lines.append('%s %d %d\n' % (word, sum(each.cp * within(each.span(0), -FAR, place) for each in streams), place))
+    target = targets_of(case)[0]
+    return ''.join(lines + ['net %d %d\n' % (target - deficit(case.streams, case.share, end), end) for end in case.ends()])
+
+
+def profile_text(site):
+    places = sorted(set(site.ends()) | {level + shift for _, level in site.mains for shift in (site.share, -site.share)}, reverse=True)
+    lines = []
+    for place in places:
+        sink = source = 0
+        for plant in range(len(site.plants)):
+            streams = [each for each in site.streams if each.plant == plant]
+            sink += max([0] + [deficit(streams, site.share, other) for other in places if other >= place])
+            source += max([0] + [-deficit(streams, site.share, other, False) for other in places if other <= place])
+        lines.append('profile %d %d %d\n' % (place, sink, source))
+    return ''.join(lines)
+
+
+# Networks.
+
+class Statement:
+    def __init__(self, word, **fields):
+        self.word = word
+        self.__dict__.update(fields)
+
+
+class Branch:
+    def __init__(self, stream):
+        self.stream, self.spent, self.cp, self.heat = stream, False, None, None
+
+
+def ratio_of(field, at):
+    parts = RATIO.match(field)
+    if not parts or parts.group(2) is not None and int(parts.group(2)) == 0:
+        raise Refused(at, 'BadNumber')
+    value = Fraction(int(parts.group(1)), int(parts.group(2) or 1))
+    if not is_within(value):
+        raise Refused(at, 'BadNumber')
+    if value <= 0:
+        raise Refused(at, 'NotPositive')
+    return value
+
+
+def is_within(value):
+    return value.denominator <= 1 << 48 and abs(value.numerator) <= 1 << 76
+
+
+def fields_of(line):
+    return [field for field in re.split(rb'[ \t]+', line) if field]
+
+
+def network_of(data, case):
+    """The statements of a network for a completed case."""
+    lines = data.split(b'\n')
+    lines = [line[:-1] if line.endswith(b'\r') and number < len(lines) - 1 else line for number, line in enumerate(lines)]
+    statements, exchangers, at = [], {}, 0
+    branches = {each.name: Branch(each) for each in case.streams}
+    counts = {b'exchanger': 5, b'split': 5, b'pass': 4, b'mix': 4, b'end': 2}
+
+    def used(name):
+        if name not in branches:
+            raise Refused(at, 'UnknownBranch')
+        if branches[name].spent:
+            raise Refused(at, 'SpentBranch')
+        branches[name].spent = True
+        return branches[name]
+
+    def made(name, stream):
+        if not DOTTED.match(name):
+            raise Refused(at, 'BadName')
+        if name in branches:
+            raise Refused(at, 'SameName')
+        branches[name] = Branch(stream)
+        return branches[name]
+
+    for line in lines:
+        fields = fields_of(line)
+        if not fields or fields[0].startswith(b'#'):
+            continue
+        at += 1
+        word = fields[0]
+        if at > 100000:
+            raise Refused(at, 'TooMany')
+        if word not in counts:
+            raise Refused(at, 'UnknownWord')
+        if len(fields) != counts[word]:
+            raise Refused(at, 'FieldCount')
+        if word == b'exchanger':
+            if len(exchangers) >= 20000:
+                raise Refused(at, 'TooMany')
+            if not NAME.match(fields[1]):
+                raise Refused(at, 'BadName')
+            if fields[1] in exchangers:
+                raise Refused(at, 'SameName')
+            hot, cold = case.source(fields[2]), case.source(fields[3])
+            if hot is None or cold is None:
+                raise Refused(at, 'UnknownName')
+            if not hot.hot or cold.hot:
+                raise Refused(at, 'WrongSide')
+            statement = Statement('exchanger', name=fields[1], hot=hot, cold=cold, duty=ratio_of(fields[4], at), passed={})
+            exchangers[fields[1]] = statement
+        elif word == b'split':
+            source = used(fields[1])
+            first = made(fields[2], source.stream)
+            cp = ratio_of(fields[3], at)
+            statement = Statement('split', source=source, first=first, cp=cp, second=made(fields[4], source.stream))
+        elif word == b'pass':
+            source = used(fields[1])
+            if fields[2] not in exchangers:
+                raise Refused(at, 'UnknownName')
+            exchanger = exchangers[fields[2]]
+            side = source.stream.hot
+            if (exchanger.hot if side else exchanger.cold) is not source.stream or side in exchanger.passed:
+                raise Refused(at, 'WrongPass')
+            statement = Statement('pass', source=source, exchanger=exchanger, to=made(fields[3], source.stream))
+            exchanger.passed[side] = (source, statement.to)
+        elif word == b'mix':
+            first, second = used(fields[1]), used(fields[2])
+            if first.stream is not second.stream:
+                raise Refused(at, 'OtherStream')
+            statement = Statement('mix', first=first, second=second, to=made(fields[3], first.stream))
+        else:
+            statement = Statement('end', source=used(fields[1]))
+        statement.line = at
+        statements.append(statement)
+    for each in statements:
+        if each.word == 'exchanger' and any(side.stream and side.hot not in each.passed for side in (each.hot, each.cold)):
+            raise Refused(each.line, 'MissingPass')
+    return statements
+
+
+class Steps:
+    """Numbers that are formed one after the other at a place; the first outside the limits ends all."""
+
+    def __init__(self, place):
+        self.place, self.count = place, 0
+
+    def formed(self, value, step=None):
+        self.count = step if step is not None else self.count + 1
+        value = Fraction(value)
+        if not is_within(value):
+            raise Fine(self.place, self.count)
+        return value
+
+
+def audit_text(case, statements):
+    """The status and the text of an audit of a network of a completed case."""
+    try:
+        return 0, accepted_text(case, statements)
+    except Rejected as finding:
+        return 1, finding.line + '\n'
+    except Fine as finding:
+        return 9, 'too fine %s step %d\n' % (finding.place, finding.step)
+
+
+def accepted_text(case, statements):
+    share, ended = case.share, set()
+    exchangers = [each for each in statements if each.word == 'exchanger']
+    for each in statements:
+        for name in ('source', 'first', 'second'):
+            branch = getattr(each, name, None)
+            if branch is not None and branch.cp is None and branch.stream is not None and branch.heat is None:
+                branch.cp, branch.heat = Fraction(branch.stream.cp), Fraction(branch.stream.supply)
+        audit_statement(each, ended)
+    for each in case.streams:
+        if each not in ended:
+            raise Rejected('stream %s' % each.name.decode(), 'Unfinished', 0, each.cp)
+    for each in exchangers:
+        place = 'exchanger %s' % each.name.decode()
+        if (each.hot.name, each.cold.name) in case.forbidden:
+            raise Rejected(place, 'Forbidden')
+        steps = Steps(place)
+        hot_in, hot_out = heats_of(each, True)
+        cold_in, cold_out = heats_of(each, False)
+        wanted = steps.formed(cold_out + 2 * share)
+        if hot_in < wanted:
+            raise Rejected(place, 'HotEndApproach', hot_in, wanted)
+        wanted = steps.formed(cold_in + 2 * share)
+        if hot_out < wanted:
+            raise Rejected(place, 'ColdEndApproach', hot_out, wanted)
+    sums = []
+    for utility in case.utilities:
+        place = 'utility %s' % utility.name.decode()
+        steps, total = Steps(place), Fraction(0)
+        for each in exchangers:
+            if utility in (each.hot, each.cold):
+                total = steps.formed(total + each.duty)
+        if total < utility.least:
+            raise Rejected(place, 'UtilityRange', total, utility.least)
+        if total > utility.most:
+            raise Rejected(place, 'UtilityRange', total, utility.most)
+        sums.append(total)
+    steps, hot, cold, cost = Steps('balance'), Fraction(0), Fraction(0), Fraction(0)
+    for side in (True, False):
+        for utility, total in zip(case.utilities, sums):
+            if utility.hot is side and side:
+                hot = steps.formed(hot + total)
+            elif utility.hot is side:
+                cold = steps.formed(cold + total)
+    target, _, _, place = targets_of(case)
+    excess = steps.formed(hot - target)
+    for utility, total in zip(case.utilities, sums):
+        part = steps.formed(utility.price * total)
+        cost = steps.formed(cost + part)
+    head = 'accepted\nhot %s\ncold %s\nexcess %s\ncost %s\nplace %d\n' % (hot, cold, excess, cost, place)
+    try:
+        return head + penalty_text(statements, exchangers, share, place)
+    except Fine as finding:
+        return head + 'penalties too fine %s step %d\n' % (finding.place, finding.step)
+
+
+def audit_statement(each, ended):
+    place = 'line %d' % each.line
+    steps = Steps(place)
+    if each.word == 'split':
+        if each.cp >= each.source.cp:
+            raise Rejected(place, 'Overdrawn', each.cp, each.source.cp)
+        each.first.cp, each.second.cp = each.cp, steps.formed(each.source.cp - each.cp)
+        each.first.heat = each.second.heat = each.source.heat
+    elif each.word == 'pass':
+        change = steps.formed(each.exchanger.duty / each.source.cp)
+        each.to.cp = each.source.cp
+        each.to.heat = steps.formed(each.source.heat - change if each.source.stream.hot else each.source.heat + change)
+    elif each.word == 'mix':
+        each.to.cp = steps.formed(each.first.cp + each.second.cp)
+        if each.first.heat == each.second.heat:
+            each.to.heat = each.first.heat
+        else:
+            first, second = steps.formed(each.first.cp * each.first.heat), steps.formed(each.second.cp * each.second.heat)
+            both = steps.formed(first + second)
+            each.to.heat = steps.formed(both / each.to.cp)
+    elif each.word == 'end':
+        stream = each.source.stream
+        if each.source.cp != stream.cp:
+            raise Rejected(place, 'Unfinished', each.source.cp, stream.cp)
+        if each.source.heat != stream.target:
+            raise Rejected(place, 'MissedTarget', each.source.heat, stream.target)
+        ended.add(stream)
+
+
+def heats_of(exchanger, hot):
+    """The temperatures of one side before and behind an exchanger."""
+    side = exchanger.hot if hot else exchanger.cold
+    if not side.stream:
+        return Fraction(side.supply), Fraction(side.supply)
+    before, behind = exchanger.passed[hot]
+    return before.heat, behind.heat
+
+
+def penalty_text(statements, exchangers, share, place):
+    lines = []
+
+    def height(steps, branch, first):
+        distance = steps.formed(branch.heat - (place + share if branch.stream.hot else place - share), first)
+        return steps.formed(branch.cp * distance, first + 1) if distance > 0 else Fraction(0)
+
+    for each in exchangers:
+        steps = Steps('exchanger %s' % each.name.decode())
+        released, absorbed = each.duty, Fraction(0)
+        if each.hot.stream:
+            before, behind = each.passed[True]
+            above = height(steps, before, 1)
+            released = steps.formed(above - height(steps, behind, 3), 5)
+        if each.cold.stream:
+            before, behind = each.passed[False]
+            above = height(steps, behind, 6)
+            absorbed = steps.formed(above - height(steps, before, 8), 10)
+        lines.append('penalty exchanger %s %s\n' % (each.name.decode(), steps.formed(released - absorbed, 11)))
+    for each in statements:
+        if each.word != 'mix':
+            continue
+        steps = Steps('line %d' % each.line)
+        first = height(steps, each.first, 1)
+        second = height(steps, each.second, 3)
+        result = height(steps, each.to, 5)
+        both = steps.formed(first + second, 7)
+        lines.append('penalty mix %d %s\n' % (each.line, steps.formed(both - result, 8)))
+    return ''.join(lines)
+
+
+# Words.
+
+WHOLE = re.compile(r'[0-9]{1,10}\Z')
+
+
+def is_command(words):
+    """Whether the words are a command form."""
+    if any(word == '' for word in words):
+        return False
+    form = words[0] if words else ''
+    if form in ('targets', 'flow', 'curves', 'design', 'vertical', 'site'):
+        return len(words) == 2
+    if form == 'audit':
+        return len(words) == 3
+    if form == 'sweep' and len(words) == 6 and all(WHOLE.match(word) for word in words[2:]):
+        first, last, step, workers = [int(word) for word in words[2:]]
+        return first <= last <= 1000 and 1 <= step <= 1000 and 1 <= workers <= 16 and (last - first) // step + 1 <= 1000
+    if form == 'sample' and len(words) == 3 and all(WHOLE.match(word) for word in words[1:]):
+        return 1 <= int(words[1]) <= 2147483646 and 1 <= int(words[2]) <= 12
+    return False
+
+
+# What is wanted of a command: its status (or several) and the front of its text, whole where `whole`.
+
+class Wanted:
+    def __init__(self, statuses, front, whole):
+        self.statuses, self.front, self.whole = statuses, front, whole
+
+    def fits(self, status, written):
+        written = written.decode('latin-1')
+        return status in self.statuses and (written == self.front if self.whole else any(written.startswith(each) for each in self.front))
+
+    def __str__(self):
+        return 'status %s, %s %r' % ('/'.join(map(str, self.statuses)), 'the text' if self.whole else 'a text that begins', self.front)
+
+
+def wanted_of(command, files):
+    """What is wanted of a command over the bytes of its files, in the order of its words."""
+    role = 'site' if command == 'site' else 'case'
+    if len(files[0]) > LIMIT:
+        return Wanted((5,), 'too long %s\n' % role, True)
+    try:
+        case = site_of(files[0]) if command == 'site' else case_of(files[0])
+    except Refused as fault:
+        return Wanted((3,), '%s row %d %s\n' % (role, fault.at, fault.why), True)
+    if command == 'targets':
+        return Wanted((0,), targets_text(case), True)
+    if command == 'site':
+        return Wanted((0, 1), [profile_text(case) + line for line in ('boiler ', 'infeasible\ncut ')], False)
+    if command == 'audit':
+        if len(files[1]) > LIMIT:
+            return Wanted((5,), 'too long network\n', True)
+        try:
+            statements = network_of(files[1], case.completed())
+        except Refused as fault:
+            return Wanted((4,), 'network line %d %s\n' % (fault.at, fault.why), True)
+        status, answer = audit_text(case, statements)
+        return Wanted((status,), answer, True)
+    if command == 'curves':
+        return Wanted((0,), curves_text(case), True)
+    hot, cold, _, _ = targets_of(case)
+    if is_standard(case):
+        # The least cost of a standard case is its hot target.
+        return Wanted((0,), ['cost %d\nuse ' % hot] if command == 'flow' else ['# hot %d cold %d excess 0 cost %d\n' % (hot, cold, hot)]
+                      if command in ('design', 'vertical') else ['row '], False)
+    if command == 'vertical':
+        return Wanted((3,), 'case not standard\n', True)
+    return Wanted((0, 1), {'flow': ['cost ', 'infeasible\ncut '], 'design': ['# hot ', 'infeasible\ncut '], 'sweep': ['row ']}[command], False)
+
+
+def is_standard(case):
+    """Whether the utilities of the completed case are just the two standard ones, and no match is forbidden."""
+    given = [(each.name, each.supply, each.least, each.most, each.price) for each in case.utilities]
+    plain = Case()
+    plain.share, plain.streams = case.share, case.streams
+    plain.completed()
+    standard = {each.name: (each.name, each.supply, each.least, each.most, each.price) for each in plain.utilities}
+    return not case.forbidden and all(standard.get(each[0]) == each for each in given)

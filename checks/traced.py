@@ -1,0 +1,275 @@
+"""Runs a program under the system's own tracing (Linux, x86-64), so that a request for memory, a read or a write can be refused.
+
+Nothing but Python is needed. The program is the built one, unchanged: what is refused is refused by the C library, which is
+asked for more than there is, or by the system, whose call is not made.
+"""
+import ctypes
+import errno
+import os
+import signal
+import struct
+import tempfile
+
+from common import ENVIRONMENT
+
+TRACEME, PEEK, POKE, CONT, GETREGS, SETREGS, SYSCALL, SETOPTIONS = 0, 1, 4, 7, 12, 13, 24, 0x4200
+SYSCALL_STOPS, FOLLOW_THREADS, END_WITH_TRACER = 0x01, 0x08, 0x100000
+ANY_THREAD = 0x40000000
+READ, WRITE, OPEN, OPENAT, CLONE, CLONE3 = 0, 1, 2, 257, 56, 435
+HUGE = 1 << 63
+ENDBR64, PUSH_RBP, BREAKPOINT = b'\xf3\x0f\x1e\xfa', b'\x55', 0xcc
+
+
+class Registers(ctypes.Structure):
+    _fields_ = [(name, ctypes.c_ulonglong) for name in
+                'r15 r14 r13 r12 rbp rbx r11 r10 r9 r8 rax rcx rdx rsi rdi orig_rax rip cs eflags rsp ss fs_base gs_base ds es fs gs'.split()]
+
+
+library = ctypes.CDLL(None, use_errno=True)
+library.ptrace.restype = ctypes.c_long
+library.ptrace.argtypes = [ctypes.c_long, ctypes.c_long, ctypes.c_void_p, ctypes.c_void_p]
+
+
+def ptrace(request, thread, address=0, data=0):
+    ctypes.set_errno(0)
+    answer = library.ptrace(request, thread, address, data)
+    if answer == -1 and ctypes.get_errno():
+        raise OSError(ctypes.get_errno(), os.strerror(ctypes.get_errno()))
+    return answer & 0xffffffffffffffff
+
+
+def registers_of(thread):
+    registers = Registers()
+    ptrace(GETREGS, thread, 0, ctypes.addressof(registers))
+    return registers
+
+
+def set_registers(thread, registers):
+    ptrace(SETREGS, thread, 0, ctypes.addressof(registers))
+
+
+def symbols_of(program, wanted):
+    """The addresses of the named functions in the program's file, and whether the system moves it as a whole."""
+    with open(program, 'rb') as handle:
+        image = handle.read()
+    kind, sections, size, count = struct.unpack_from('<H', image, 16)[0], *struct.unpack_from('<Q', image, 40), *struct.unpack_from('<HH', image, 58)
+    found = {}
+    for number in range(count):
+        _, sort, _, _, offset, length, link, _, _, each = struct.unpack_from('<IIQQQQIIQQ', image, sections + number * size)
+        if sort != 2:
+            continue
+        names = struct.unpack_from('<IIQQQQ', image, sections + link * size)[4]
+        for entry in range(offset, offset + length, each):
+            name, _, _, _, value, _ = struct.unpack_from('<IBBHQQ', image, entry)
+            end = image.index(b'\0', names + name)
+            called = image[names + name:end].decode('latin-1')
+            if called in wanted:
+                found[called] = value
+    return found, kind == 3
+
+
+def base_of(process, program):
+    real = os.path.realpath(program)
+    with open('/proc/%d/maps' % process) as handle:
+        return min(int(line.split('-')[0], 16) for line in handle if line.rstrip('\n').endswith(real))
+
+
+def text_at(process, address):
+    with open('/proc/%d/mem' % process, 'rb', 0) as memory:
+        memory.seek(address)
+        read = memory.read(4096 - address % 4096)
+        return read.split(b'\0')[0]
+
+
+def started(program, words, folder, output):
+    """A new process of the program that stands before its first instruction."""
+    process = os.fork()
+    if process == 0:
+        try:
+            os.chdir(folder)
+            os.dup2(output.fileno(), 1)
+            null = os.open('/dev/null', os.O_RDWR)
+            os.dup2(null, 0)
+            os.dup2(null, 2)
+            os.closerange(3, 256)
+            library.ptrace(TRACEME, 0, 0, 0)
+            os.execve(program, [program] + words, ENVIRONMENT)
+        finally:
+            os._exit(127)
+    os.waitpid(process, 0)
+    ptrace(SETOPTIONS, process, 0, SYSCALL_STOPS | FOLLOW_THREADS | END_WITH_TRACER)
+    return process
+
+
+def follow(process, go_on, stopped, seconds=120):
+    """Lets the process run to its end; `stopped` is told of each stop that is one of ours. Gives the exit status."""
+    known = set([process])
+    signal.alarm(seconds)
+    ptrace(go_on, process)
+    while True:
+        thread, state = os.waitpid(-1, ANY_THREAD)
+        if os.WIFEXITED(state) or os.WIFSIGNALED(state):
+            if thread == process:
+                signal.alarm(0)
+                return os.WEXITSTATUS(state) if os.WIFEXITED(state) else -os.WTERMSIG(state)
+            continue
+        sort, event = os.WSTOPSIG(state), state >> 16
+        pass_on = 0
+        if event:
+            pass
+        elif thread not in known and sort == signal.SIGSTOP:
+            known.add(thread)
+        elif sort == signal.SIGTRAP or sort == signal.SIGTRAP | 0x80:
+            if not stopped(thread, sort == signal.SIGTRAP | 0x80):
+                pass_on = signal.SIGTRAP
+        else:
+            pass_on = sort
+        known.add(thread)
+        try:
+            ptrace(go_on, thread, 0, pass_on)
+        except ProcessLookupError:
+            pass
+
+
+def with_memory_refused(program, words, folder, number, lasting=False):
+    """A run whose request for memory of this number is refused (with `lasting`, each one from there on).
+
+    Gives the status, the text, and how many requests the run made.
+    """
+    found, moved = symbols_of_once(program)
+    with tempfile.TemporaryFile() as output:
+        process = started(program, words, folder, output)
+        base = base_of(process, program) if moved else 0
+        places = {}
+        for name, address in found.items():
+            word = ptrace_word(process, base + address)
+            first = word.to_bytes(8, 'little')
+            if not (first.startswith(ENDBR64) or first.startswith(PUSH_RBP)):
+                os.kill(process, signal.SIGKILL)
+                os.waitpid(process, 0)
+                raise SystemExit('the function %s begins as none that can be stopped at: %r' % (name, first))
+            places[base + address] = (name, first.startswith(ENDBR64))
+            ptrace(POKE, process, base + address, word & ~0xff | BREAKPOINT)
+        count = 0
+
+        def stopped(thread, at_call):
+            nonlocal count
+            registers = registers_of(thread)
+            place = places.get(registers.rip - 1)
+            if place is None or at_call:
+                return False
+            count += 1
+            name, marked = place
+            if count == number or lasting and count >= number:
+                if name == 'rattle_realloc':
+                    registers.rdx = HUGE
+                else:
+                    registers.rdi = HUGE
+            # The breakpoint stands in place of the first byte; what that instruction does is done here.
+            if marked:
+                registers.rip += 3
+            else:
+                registers.rsp -= 8
+                ptrace(POKE, thread, registers.rsp, registers.rbp)
+            set_registers(thread, registers)
+            return True
+
+        status = follow(process, CONT, stopped)
+        output.seek(0)
+        return status, output.read(), count
+
+
+KEPT = {}
+
+
+def symbols_of_once(program):
+    if program not in KEPT:
+        KEPT[program] = symbols_of(program, ('rattle_alloc', 'rattle_realloc'))
+        if len(KEPT[program][0]) != 2:
+            raise SystemExit('%s has no symbols rattle_alloc and rattle_realloc, by which memory is asked for' % program)
+    return KEPT[program]
+
+
+def ptrace_word(process, address):
+    word = ctypes.c_ulonglong()
+    with open('/proc/%d/mem' % process, 'rb', 0) as memory:
+        memory.seek(address)
+        word = int.from_bytes(memory.read(8), 'little')
+    return word
+
+
+class Calls:
+    """Which calls of the system are the program's own: opening a file that a word names, reading it, writing the output, and
+    making a thread."""
+
+    def __init__(self, names):
+        self.names = [os.fsencode(name) for name in names]
+        self.files = {}
+        self.opening = None
+
+    def of(self, process, registers):
+        """What a call is that begins, as (sort, file's number), or None."""
+        if registers.orig_rax in (OPEN, OPENAT):
+            name = text_at(process, registers.rdi if registers.orig_rax == OPEN else registers.rsi)
+            return ('open', self.names.index(name)) if name in self.names else None
+        if registers.orig_rax == READ and registers.rdi in self.files:
+            return 'read', self.files[registers.rdi]
+        if registers.orig_rax == WRITE and registers.rdi == 1:
+            return 'write', None
+        if registers.orig_rax in (CLONE, CLONE3):
+            return 'thread', None
+        return None
+
+
+def with_calls_changed(program, words, names, folder, change):
+    """A run in which `change(number, sort, file, length)` is asked at each call of the program's own, counted from 1.
+
+    It answers None (let it be), an error's number (the call fails with it), or ('short', n), a read or write of n bytes at most.
+    Gives the status, the text, and the list of the calls, each (sort, file, length).
+    """
+    with tempfile.TemporaryFile() as output:
+        process = started(program, words, folder, output)
+        calls = Calls(names)
+        made, inside, answers, opened = [], {}, {}, {}
+
+        def stopped(thread, at_call):
+            if not at_call:
+                return False
+            registers = registers_of(thread)
+            if not inside.get(thread):
+                inside[thread] = True
+                call = calls.of(process, registers)
+                if call is None:
+                    return True
+                sort, file = call
+                length = registers.rdx if sort in ('read', 'write') else 0
+                made.append((sort, file, length))
+                answer = change(len(made), sort, file, length)
+                if sort == 'open':
+                    opened[thread] = file
+                if isinstance(answer, tuple):
+                    registers.rdx = min(length, answer[1])
+                    set_registers(thread, registers)
+                elif answer:
+                    answers[thread] = answer
+                    registers.orig_rax = 0xffffffffffffffff
+                    set_registers(thread, registers)
+            else:
+                inside[thread] = False
+                if thread in answers:
+                    registers.rax = (1 << 64) - answers.pop(thread)
+                    opened.pop(thread, None)
+                    set_registers(thread, registers)
+                elif thread in opened:
+                    file = opened.pop(thread)
+                    if registers.rax < 1 << 31:
+                        calls.files[registers.rax] = file
+            return True
+
+        status = follow(process, SYSCALL, stopped)
+        output.seek(0)
+        return status, output.read(), made
+
+
+REFUSALS = {'open': [errno.EIO, errno.EACCES, errno.EMFILE], 'read': [errno.EIO, errno.EINTR], 'write': [errno.EIO, errno.ENOSPC, errno.EINTR],
+            'thread': [errno.EAGAIN]}
