@@ -89,8 +89,11 @@ fn refusal_of<R: Abort + AllocGlobal>(
 }
 
 /// The statuses with which a command can end over files that its grammars accept.
-fn statuses_of(command: &str) -> &'static [u8] {
-    match command {
+fn statuses_of(words: &[&str]) -> &'static [u8] {
+    let [command, ..] = words else {
+        return &[];
+    };
+    match *command {
         "flow" | "design" | "site" => &[0, 1],
         "vertical" => &[0, 3],
         "audit" => &[0, 1, 9],
@@ -124,7 +127,7 @@ fn check_cut<R: Abort + Threads + Sync + AllocGlobal>(
             );
         }
         None => {
-            let statuses = statuses_of(words[0]);
+            let statuses = statuses_of(words);
             assert!(rt;
                 statuses.contains(&ending.status),
                 "{words:?}, {length} bytes of file {index}"
