@@ -1,0 +1,170 @@
+//! Over every command: each file is cut at every byte. How the command ends is compared with what
+//! the grammars say of the bytes that are left.
+
+use super::hostile_orders::{ROWS, Row};
+use super::hostile_runs::{ending_over, shelf_of};
+use case_text::{CaseFault, read_case};
+use network_text::{NetFault, read_network};
+use pinch_outside::MemoryFile;
+use site_text::{SiteFault, read_site};
+use std::alloc::AllocError;
+use std::process::Abort;
+use std::test::Fail;
+use std::thread::Threads;
+use stream_case::{Case, complete};
+
+/// The most bytes of a file.
+const LONGEST_FILE: usize = 8_388_608;
+
+/// A status and a text with which files are refused.
+type Refusal = (u8, String);
+
+/// How the grammar of cases refuses these bytes, if it does.
+fn refusal_of_case<R: Abort + AllocGlobal>(
+    rt: &R,
+    bytes: &[u8],
+) -> Result<Option<Refusal>, AllocError> {
+    let alloc = rt.alloc();
+    assert!(rt; bytes.len() <= LONGEST_FILE);
+    match read_case(alloc, bytes) {
+        Ok(_) => Ok(None),
+        Err(CaseFault::Row { row, why }) => {
+            Ok(Some((3, format!(in alloc; "case row {row} {why:?}\n")?)))
+        }
+        Err(CaseFault::OutOfMemory) => Err(AllocError),
+    }
+}
+
+/// How the grammar of sites refuses these bytes, if it does.
+fn refusal_of_site<R: Abort + AllocGlobal>(
+    rt: &R,
+    bytes: &[u8],
+) -> Result<Option<Refusal>, AllocError> {
+    let alloc = rt.alloc();
+    assert!(rt; bytes.len() <= LONGEST_FILE);
+    match read_site(alloc, bytes) {
+        Ok(_) => Ok(None),
+        Err(SiteFault::Row { row, why }) => {
+            Ok(Some((3, format!(in alloc; "site row {row} {why:?}\n")?)))
+        }
+        Err(SiteFault::OutOfMemory) => Err(AllocError),
+    }
+}
+
+/// How the grammar of networks refuses these bytes, if it does, where it accepts the case.
+fn refusal_of_network<R: Abort + AllocGlobal>(
+    rt: &R,
+    case: &[u8],
+    bytes: &[u8],
+) -> Result<Option<Refusal>, AllocError> {
+    let alloc = rt.alloc();
+    assert!(rt; case.len() <= LONGEST_FILE);
+    let Ok(case) = read_case(alloc, case) else {
+        return Err(AllocError);
+    };
+    let case = complete(alloc, &case)?;
+    match read_network(alloc, &case, bytes) {
+        Ok(_) => Ok(None),
+        Err(NetFault::At { line, why }) => {
+            Ok(Some((4, format!(in alloc; "network line {line} {why:?}\n")?)))
+        }
+        Err(NetFault::OutOfMemory) => Err(AllocError),
+    }
+}
+
+/// How the grammars refuse these files, the first that is refused, if one is.
+fn refusal_of<R: Abort + AllocGlobal>(
+    rt: &R,
+    files: &[MemoryFile],
+) -> Result<Option<Refusal>, AllocError> {
+    match files {
+        [site] if site.name.as_str() == "site" => refusal_of_site(rt, &site.bytes),
+        [case] => refusal_of_case(rt, &case.bytes),
+        [case, network] => match refusal_of_case(rt, &case.bytes)? {
+            Some(refusal) => Ok(Some(refusal)),
+            None => refusal_of_network(rt, &case.bytes, &network.bytes),
+        },
+        _ => Ok(None),
+    }
+}
+
+/// The statuses with which a command can end over files that its grammars accept.
+fn statuses_of(words: &[&str]) -> &'static [u8] {
+    let [command, ..] = words else {
+        return &[];
+    };
+    match *command {
+        "flow" | "design" | "site" => &[0, 1],
+        "vertical" => &[0, 3],
+        "audit" => &[0, 1, 9],
+        _ => &[0],
+    }
+}
+
+/// The command ends as the grammars say of its files, one of which ends behind so many bytes.
+fn check_cut<R: Abort + Threads + Sync + AllocGlobal>(
+    rt: &R,
+    (words, files, ..): Row,
+    (index, length): (usize, usize),
+) -> Result<(), Fail> {
+    let mut shelf = shelf_of(rt.alloc(), files, &[])?;
+    if let Some(file) = shelf.files.get_mut(index) {
+        file.bytes.truncate(length);
+    }
+    let refusal = refusal_of(rt, &shelf.files)?;
+    let ending = ending_over(rt, words, &mut shelf, (4096, &[]))?;
+    match refusal {
+        Some((status, text)) => {
+            assert_eq!(rt;
+                ending.status,
+                status,
+                "{words:?}, {length} bytes of file {index}"
+            );
+            assert_eq!(rt;
+                ending.written.as_slice(),
+                text.as_bytes(),
+                "{words:?}, {length} bytes of file {index}"
+            );
+        }
+        None => {
+            let statuses = statuses_of(words);
+            assert!(rt;
+                statuses.contains(&ending.status),
+                "{words:?}, {length} bytes of file {index}"
+            );
+        }
+    }
+    Ok(())
+}
+
+/// The files of a command are cut, each at every byte. The answer is how many cuts there are.
+fn check_cuts<R: Abort + Threads + Sync + AllocGlobal>(rt: &R, row: Row) -> Result<u64, Fail> {
+    let mut cuts: u64 = 0;
+    for (index, (_, bytes)) in row.1.iter().enumerate() {
+        cuts = cuts.saturating_add(check_cuts_of(rt, row, (index, bytes.len()))?);
+    }
+    Ok(cuts)
+}
+
+/// The file with this index, which has so many bytes, is cut at every byte.
+fn check_cuts_of<R: Abort + Threads + Sync + AllocGlobal>(
+    rt: &R,
+    row: Row,
+    (index, length): (usize, usize),
+) -> Result<u64, Fail> {
+    for end in 0..length {
+        check_cut(rt, row, (index, end))?;
+    }
+    Ok(length as u64)
+}
+
+#[test]
+fn each_file_is_cut_at_every_byte(rt: HostRuntime) -> Result<(), Fail> {
+    let mut cuts: u64 = 0;
+    for row in ROWS {
+        cuts = cuts.saturating_add(check_cuts(&rt, row)?);
+    }
+    println!(rt; "files cut at every byte over every command: {cuts} runs")?;
+    assert!(rt; cuts >= 1000);
+    Ok(())
+}

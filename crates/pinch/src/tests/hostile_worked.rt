@@ -1,0 +1,214 @@
+//! Four tables of hostile use over worked cases: refused calls of the shelf, refused writes, cut
+//! files, and numbers at their ends.
+
+use super::hostile_runs::{ending_of, ending_over, shelf_of};
+use super::support::{FOUR_STREAM, FOUR_STREAM_TARGETS};
+use std::process::Abort;
+use std::test::Fail;
+use std::thread::Threads;
+
+/// A network of the four-stream table at its target.
+const NETWORK: &str = "exchanger E1 H2 C3 240000
+exchanger E2 H4 C1 90000
+exchanger E3 H2 C1 90000
+exchanger E4 H4 C1 30000
+exchanger Q1 HOT C1 20000
+exchanger Q2 H4 COLD 60000
+pass H2 E1 h2a
+pass h2a E3 h2b
+end h2b
+pass H4 E2 h4a
+pass h4a E4 h4b
+pass h4b Q2 h4c
+end h4c
+pass C1 E4 c1a
+pass c1a E3 c1b
+pass c1b E2 c1c
+pass c1c Q1 c1d
+end c1d
+pass C3 E1 c3a
+end c3a
+";
+
+const NETWORK_AUDIT: &str = "accepted
+hot 20000
+cold 60000
+excess 0
+cost 20000
+place 850
+penalty exchanger E1 0
+penalty exchanger E2 0
+penalty exchanger E3 0
+penalty exchanger E4 0
+penalty exchanger Q1 0
+penalty exchanger Q2 0
+";
+
+/// The most bytes of a file.
+const LONGEST_FILE: usize = 8_388_608;
+
+/// An audit of a shelf that refuses one call ends with the fault of the file of that call, and the
+/// next one over the same shelf, which refuses no later call, is answered.
+fn check_refused_call<R: Abort + Threads + Sync + AllocGlobal>(
+    rt: &R,
+    number: u64,
+    text: &str,
+) -> Result<(), Fail> {
+    let words = ["audit", "case", "network"];
+    let files = [
+        ("case", FOUR_STREAM.as_bytes()),
+        ("network", NETWORK.as_bytes()),
+    ];
+    let mut shelf = shelf_of(rt.alloc(), &files, &[number])?;
+    let refused = ending_over(rt, &words, &mut shelf, (5, &[]))?;
+    assert_eq!(rt; refused.status, 6, "call {number}");
+    assert_eq!(rt;
+        refused.written.as_slice(),
+        text.as_bytes(),
+        "call {number}"
+    );
+    assert_eq!(rt; shelf.calls, number);
+    let again = ending_over(rt, &words, &mut shelf, (5, &[]))?;
+    assert_eq!(rt; again.status, 0, "call {number}");
+    assert_eq!(rt;
+        again.written.as_slice(),
+        NETWORK_AUDIT.as_bytes(),
+        "call {number}"
+    );
+    assert_eq!(rt; shelf.calls, number.saturating_add(6));
+    Ok(())
+}
+
+#[test]
+fn each_call_of_the_shelf_is_refused(rt: HostRuntime) -> Result<(), Fail> {
+    // Of each file the start, the one take that brings bytes, and the take that brings its end.
+    let rows = [
+        (1, "read fault case\n"),
+        (2, "read fault case\n"),
+        (3, "read fault case\n"),
+        (4, "read fault network\n"),
+        (5, "read fault network\n"),
+        (6, "read fault network\n"),
+    ];
+    for (number, text) in rows {
+        check_refused_call(&rt, number, text)?;
+    }
+    println!(rt;
+        "calls of the shelf refused in turn: {} runs",
+        rows.len() * 2
+    )?;
+    Ok(())
+}
+
+#[test]
+fn each_write_is_refused(rt: HostRuntime) -> Result<(), Fail> {
+    let words = ["targets", "case"];
+    let files = [("case", FOUR_STREAM.as_bytes())];
+    let rows = [
+        "",
+        "hot 2",
+        "hot 20000\n",
+        "hot 20000\ncold ",
+        "hot 20000\ncold 60000",
+        "hot 20000\ncold 60000\npinc",
+        "hot 20000\ncold 60000\npinch 850",
+    ];
+    for (number, front) in (1..).zip(rows) {
+        let refused = ending_of(&rt, &words, &files, (5, &[number]))?;
+        assert_eq!(rt; refused.status, 7, "write {number}");
+        assert_eq!(rt;
+            refused.written.as_slice(),
+            front.as_bytes(),
+            "write {number}"
+        );
+    }
+    let whole = ending_of(&rt, &words, &files, (5, &[8]))?;
+    assert_eq!(rt; whole.status, 0);
+    assert_eq!(rt; whole.written.as_slice(), FOUR_STREAM_TARGETS.as_bytes());
+    assert_eq!(rt; whole.writes, 7);
+    println!(rt; "writes refused in turn: {} runs", rows.len() + 1)?;
+    Ok(())
+}
+
+/// The first bytes of a text, which may be cut anywhere.
+fn front(text: &str, length: usize) -> &[u8] {
+    text.as_bytes().get(..length).unwrap_or(&[])
+}
+
+/// A command of these files ends with this status and this text.
+fn check_ending<R: Abort + Threads + Sync + AllocGlobal>(
+    rt: &R,
+    (words, files): (&[&str], &[(&str, &[u8])]),
+    status: u8,
+    text: &str,
+) -> Result<(), Fail> {
+    let ending = ending_of(rt, words, files, (5, &[]))?;
+    assert_eq!(rt; ending.status, status, "{text}");
+    assert_eq!(rt; ending.written.as_slice(), text.as_bytes(), "{text}");
+    Ok(())
+}
+
+fn check_targets<R: Abort + Threads + Sync + AllocGlobal>(
+    rt: &R,
+    case: &[u8],
+    status: u8,
+    text: &str,
+) -> Result<(), Fail> {
+    let files = [("case", case)];
+    check_ending(rt, (&["targets", "case"], &files), status, text)
+}
+
+fn check_audit<R: Abort + Threads + Sync + AllocGlobal>(
+    rt: &R,
+    (case, network): (&[u8], &[u8]),
+    status: u8,
+    text: &str,
+) -> Result<(), Fail> {
+    let files = [("case", case), ("network", network)];
+    check_ending(rt, (&["audit", "case", "network"], &files), status, text)
+}
+
+#[test]
+fn cut_files_are_told(rt: HostRuntime) -> Result<(), Fail> {
+    // The row of the contribution alone; the next row too, up to its last comma; all but the end
+    // of the last line.
+    let rows = [
+        (21, 3, "case row 2 NoStream\n"),
+        (42, 3, "case row 2 FieldCount\n"),
+        (FOUR_STREAM.len().saturating_sub(1), 0, FOUR_STREAM_TARGETS),
+    ];
+    for (length, status, text) in rows {
+        check_targets(&rt, front(FOUR_STREAM, length), status, text)?;
+    }
+    // The last two lines pass the cold side of `E1`, and end it.
+    let lines = "pass C3 E1 c3a\nend c3a\n";
+    assert!(rt; NETWORK.ends_with(lines));
+    let network = front(NETWORK, NETWORK.len().saturating_sub(lines.len()));
+    let files = (FOUR_STREAM.as_bytes(), network);
+    check_audit(&rt, files, 4, "network line 1 MissingPass\n")?;
+    println!(rt; "cut files: {} runs", rows.len() + 1)?;
+    Ok(())
+}
+
+#[test]
+fn numbers_at_their_ends_are_answered(rt: HostRuntime) -> Result<(), Fail> {
+    // The longest and steepest streams.
+    let case = "contribution,,1000,,,,\nhot,H,30000,-2731,100000,,\ncold,C,-2731,30000,100000,,\n";
+    let text = "hot 200000000\ncold 200000000\npinch 29000\npinch -1731\n";
+    check_targets(&rt, case.as_bytes(), 0, text)?;
+    // A stream that is cooled by all but nothing: its end has the greatest denominator, and with a
+    // little less heat a greater one.
+    let case = "contribution,,50,,,,\nhot,H,1000,500,2,,\n";
+    let network = "exchanger E1 H COLD 1/140737488355328\npass H E1 a\nend a\n";
+    let text = "rejected line 3 MissedTarget found 281474976710655999/281474976710656 wanted 500\n";
+    check_audit(&rt, (case.as_bytes(), network.as_bytes()), 1, text)?;
+    let network = "exchanger E1 H COLD 1/140737488355329\npass H E1 a\nend a\n";
+    let text = "too fine line 2 step 1\n";
+    check_audit(&rt, (case.as_bytes(), network.as_bytes()), 9, text)?;
+    // One byte above the longest file.
+    let network = vec![in rt.alloc(); b'#'; LONGEST_FILE + 1]?;
+    let files = (FOUR_STREAM.as_bytes(), network.as_slice());
+    check_audit(&rt, files, 5, "too long network\n")?;
+    println!(rt; "numbers at their ends: 4 runs")?;
+    Ok(())
+}
