@@ -6,7 +6,7 @@ use super::hostile_runs::{ending_over, shelf_of};
 use case_text::{CaseFault, read_case};
 use network_text::{NetFault, read_network};
 use pinch_outside::MemoryFile;
-use site_text::{SiteFault, read_site};
+use site::{SiteFault, read_site};
 use std::alloc::AllocError;
 use std::process::Abort;
 use std::test::Fail;
