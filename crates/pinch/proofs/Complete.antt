@@ -26,8 +26,8 @@ not_above files name bytes holds above =
 
 -- the bytes that were taken are those of the file
 same_bytes : (files : Option (List NamedFile)) (name bytes taken : List ℕ) → Holds files name bytes → IsFile files name (Some taken) → taken ≡ bytes
-same_bytes files name bytes taken holds file =
-    let told : IsFile (Some holds.told) name (Some taken) = subst (λ f. IsFile f name (Some taken)) holds.are file in
+same_bytes files name bytes taken holds is =
+    let told : IsFile (Some holds.told) name (Some taken) = subst (λ f. IsFile f name (Some taken)) holds.are is in
     cc (told, holds.found)
 
 taken : (role : FileRole) (name bytes : List ℕ) (old new : ShelfState) (shown : Shown) → Holds old.files name bytes → (Rose old.faults new.faults → ⊥) → NoFile role name old new shown → ⊥

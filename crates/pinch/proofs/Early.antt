@@ -1,18 +1,16 @@
 -- The early ends of reading.
-use Rattle.std.proofs.Common.{◌≡◌, ℕ, List, Option, Some, Result, Ok, Err, refl, subst, sym}
+use Rattle.std.proofs.Common.{◌≡◌, ℕ, List, Some, Result, Ok, Err, refl, subst, sym}
 use Rattle.std.specs.Result.{IsErrAnd}
 use Rattle.stream_case.specs.declared.case.Case.{Case}
 use Rattle.stream_case.specs.Case.{completed}
 use Rattle.pinch_outside.specs.Shelf.{ShelfState}
 use Rattle.reports.specs.declared.shown.Shown.{Shown}
-use Rattle.pinch.specs.Answers.{ShowsCommand}
 use Rattle.pinch.specs.Case.{case_file}
 use Rattle.pinch.specs.Files.{EndsIn, NoText, ReadsText, no_text, by_text}
 use Rattle.pinch.specs.Format.{Format}
 use Rattle.pinch.specs.Network.{network_file}
 use Rattle.pinch.specs.Reading.{Reading, reading_of, file}
-use Rattle.pinch.specs.Stop.{IfEarly, IfEnd, IfShown}
-use Rattle.pinch.specs.declared.command.Command.{Command}
+use Rattle.pinch.specs.Stop.{IfEarly, IfEnd}
 use Rattle.pinch.specs.declared.command.Command.TheVariants.{Audit}
 use Rattle.pinch.specs.declared.request.Request.{Request}
 use Rattle.pinch.specs.declared.stop.Stop.{Stop}
@@ -36,11 +34,3 @@ pub without_network : (result : Result Request Stop) (stop : Stop) (case_name na
     → ReadsText case_file case_name old mid case → IfEarly stop (NoText (network_file (completed case)) name mid new) → IfEnd result (EndsIn (reading_of (Some (Audit case_name name))) old new)
 unfolding EndsIn reading_of
 without_network result stop case_name name old mid new case same reads early = stopped result stop _ _ same (λ shown none. by_text mid case reads (no_text shown refl none)) early
-
--- what is shown early is shown for the command
-pub shown_early : (result : Result Shown Stop) (stop : Stop) (command : Option Command) (old new : ShelfState) → IsErrAnd result (λ e. e ≡ stop)
-    → IfEarly stop (λ shown. EndsIn (reading_of command) old new (Err shown)) → IfShown result (ShowsCommand command old new)
-shown_early (Ok shown) stop command old new same early = absurd same
-shown_early (Err (Early shown)) stop command old new same early =
-    record { end = Err shown; reads = subst (λ s. IfEarly s (λ e. EndsIn (reading_of command) old new (Err e))) (sym same) early; shows = refl }
-shown_early (Err OutOfMemory) stop command old new same early = tt

@@ -14,14 +14,14 @@ use Rattle.pinch.proofs.Formats.{IsLawful, lawful_case, lawful_network, lawful_s
 use Rattle.pinch.proofs.Plain.{is_plain}
 
 -- its formats are lawful, and what it shows in place of a request is plain and can be printed
-pub IsFurther : Reading → Type 0
+unfoldable pub IsFurther : Reading → Type 0
 IsFurther (ready request) = ⊤
 IsFurther (stop shown) = ⊥
 IsFurther (wanted P refusal next) = (is_plain refusal ≡ true) × IsPrintable refusal × IsFurther next
 IsFurther (file {Value} format name next) = IsLawful format × ((value : Value) → IsFurther (next value))
 
 -- the same of a whole reading, which may ask nothing
-pub IsLawfulReading : Reading → Type 0
+unfoldable pub IsLawfulReading : Reading → Type 0
 IsLawfulReading (stop shown) = IsPrintable shown
 IsLawfulReading other = IsFurther other
 

@@ -1,6 +1,6 @@
 -- A run keeps what it is to keep.
 use Rattle.std.proofs.Common.{◌≡◌, ◌∙◌, inl, inr, ℕ, List, Option, Some, None, refl, sym, ap, subst, arith}
-use Rattle.std.specs.Prelude.{⊤, IsNone}
+use Rattle.std.specs.Prelude.{⊤}
 use Rattle.transport.specs.declared.answer.Answer.TheVariants as answer
 use Rattle.pinch_outside.specs.Shelf.{ShelfState}
 use Rattle.reports.specs.declared.shown.Shown.{Shown}
@@ -23,7 +23,7 @@ IsOfShown other = ⊤
 
 of_shown : (shown : Shown) → IsOfShown (status_of shown)
 of_shown (SiteShown site parts sinks sources (answer.Least flow prices cost)) = tt
-of_shown (SiteShown site parts sinks sources (answer.Stuck cut)) = tt
+of_shown (SiteShown site parts sinks sources (answer.Stuck parts_cut)) = tt
 of_shown other = tt
 
 not_write_fault : (status : Status) → IsOfShown status → number_of status ≡ number_of WriteFault → ⊥
@@ -35,22 +35,6 @@ not_out_of_memory OutOfMemory is e = absurd is
 not_out_of_memory other is e = absurd (omega (arith, e))
 
 module _ {Sink : Type 0} (text_on : Sink → Option (List ℕ)) (faults_of : Sink → ℕ) (command : Option Command) (old new : ShelfState) (before now : Sink) where
-  -- where memory is wanted
-  pub of_none : (done : Done) → IsNone done.shown → done.status ≡ number_of OutOfMemory → now ≡ before → Runs text_on faults_of command old new before now done
-  of_none done none is same = subst (λ s. Runs text_on faults_of command old new before now (record { status = done.status; shown = s })) (sym none)
-      (record {
-        shown = tt;
-        causes = tt;
-        status = tt;
-        memory = (λ e. is, λ e. refl);
-        untouched = λ e. same;
-        written = tt;
-        front = tt;
-        write_fault = λ e. absurd (omega (arith, is, e));
-        complete = λ can no_fault no_write_fault. tt;
-        refused = λ refusal bad no_fault. tt;
-      })
-
   pub of_print : (shown : Shown) (status : Status) (number : ℕ) → number ≡ number_of status → ShowsCommand command old new shown
       → Prints (text_on before) (text_on now) (faults_of before) (faults_of now) shown status
       → Runs text_on faults_of command old new before now (record { status = number; shown = Some shown })

@@ -10,11 +10,6 @@ abbrev pub IfEarly : Stop → (Shown → Type 0) → Type 0
 IfEarly (Early shown) P = P shown
 IfEarly OutOfMemory P = ⊤
 
--- what is shown in the end or early, if memory was found
-abbrev pub IfShown : Result Shown Stop → (Shown → Type 0) → Type 0
-IfShown (Ok shown) P = P shown
-IfShown (Err stop) P = IfEarly stop P
-
 -- how reading ends, if memory was found: with a request, or with what is shown in its place
 abbrev pub IfEnd : Result Request Stop → (Result Request Shown → Type 0) → Type 0
 IfEnd (Ok request) P = P (Ok request)

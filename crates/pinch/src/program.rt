@@ -5,7 +5,6 @@ ghost use Rattle.pinch.specs.Answers.{ShowsCommand};
 ghost use Rattle.pinch.specs.Command.{command_of};
 ghost use Rattle.pinch.specs.Run.{Prints, Runs};
 ghost use Rattle.pinch.specs.Status.{number_of};
-ghost use Rattle.pinch.specs.Stop.{IfShown};
 ghost use Rattle.pinch.specs.declared.status.Status.TheVariants.{OutOfMemory};
 
 use crate::answer::answer;
@@ -56,9 +55,8 @@ pub fn run_gated<R: Threads + Sync, G: Gate + Sync, S: Shelf, K: Sink>(
     ensures { Runs K.written K.faults (command_of words.now) (S.state shelf.old) (S.state shelf.new)
         sink.old sink.new result }
 {
-    let shown = match show(rt, alloc, gate, words, shelf) {
-        Ok(shown) | Err(Stop::Early(shown)) => shown,
-        Err(Stop::OutOfMemory) => return out_of_memory(),
+    let Ok(shown) = show(rt, alloc, gate, words, shelf) else {
+        return out_of_memory();
     };
     match print(alloc, sink, &shown) {
         Ok(status) => Done {
@@ -77,12 +75,15 @@ fn show<R: Threads + Sync, G: Gate + Sync, S: Shelf>(
     gate: &G,
     words: &Items<Word>,
     shelf: &mut S,
-) -> Result<Shown, Stop>
-    ensures { IfShown result
+) -> Result<Shown, AllocError>
+    ensures { IfOk result
         (ShowsCommand (command_of words.now) (S.state shelf.old) (S.state shelf.new)) }
 {
-    let request = request_of(alloc, shelf, words)?;
-    Ok(answer(rt, alloc, gate, request)?)
+    match request_of(alloc, shelf, words) {
+        Ok(request) => Ok(answer(rt, alloc, gate, request)?),
+        Err(Stop::Early(shown)) => Ok(shown),
+        Err(Stop::OutOfMemory) => Err(AllocError),
+    }
 }
 
 /// Writes the text of what is shown, and gives the status of the program.

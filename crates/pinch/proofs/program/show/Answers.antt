@@ -1,9 +1,8 @@
-use Rattle.std.proofs.Common.{Ok}
-use Rattle.pinch.proofs.Early.{shown_early}
+use Rattle.std.proofs.Common.{Ok, Err, refl}
 use Rattle.pinch.proofs.program.show.Goals as goal
 
-pub returns-in_err-request : goal.returns-in_err-request
-returns-in_err-request g c = shown_early _ _ _ _ _ c.from_residual.ensures.1 c.in_err-request.ensures.reads
+pub returns-in_ok-answer-in-Ok : goal.returns-in_ok-answer-in-Ok
+returns-in_ok-answer-in-Ok g c = record { end = Ok c.in-Ok.request; reads = c.in-Ok.ensures.reads; shows = c.in_ok-answer-in-Ok.ensures }
 
-pub returns : goal.returns
-returns g c = record { end = Ok c.in_ok-request.request; reads = c.in_ok-request.ensures.reads; shows = c.in_ok-answer.ensures }
+pub returns-in-Err-Early : goal.returns-in-Err-Early
+returns-in-Err-Early g c = record { end = Err c.in-Err-Early.shown; reads = c.in-Err-Early.ensures.reads; shows = refl }
