@@ -8,7 +8,7 @@ use Rattle.network_text.specs.Outcome.{grammar}
 use Rattle.statements.specs.Statements.{statements_of}
 use Rattle.network_text.specs.declared.fault.NetWhy.{NetWhy}
 use Rattle.networks.specs.declared.network.Network.{Network}
-use Rattle.network_audit.specs.Audit.{IfAccepted, Says}
+use Rattle.network_audit.specs.Audit.{IfAccepted, SaysExactly}
 use Rattle.network_audit.specs.Findings.{IsVerdict}
 use Rattle.network_audit.specs.Valid.{IsValidNetwork}
 use Rattle.network_audit.specs.declared.verdict.Balance.{Balance}
@@ -42,11 +42,11 @@ ShowsVerdict case network (verdict.Accepted balance) shown = IsAccepted case net
 ShowsVerdict case network (verdict.Rejected place reason) shown = shown ≡ Rejected case network place reason
 ShowsVerdict case network (verdict.TooFine place step) shown = shown ≡ TooFine case network place step
 
--- the verdict on a network of a completed case: its finding, or its balance where it has none. One that is accepted is valid, and needs no less
--- hot utility than the hot target; one that is rejected is not valid
+-- the verdict on a network of a completed case: its finding, or its balance where it has none. It is too fine, or the network is accepted exactly
+-- where it is valid; and one that is accepted needs no less hot utility than the hot target
 pub record IsAuditOf (case : Case) (network : Network) (shown : Shown) : Type 0 where
   pub verdict : Verdict
   pub is_verdict : IsVerdict case network verdict
-  pub valid : Says verdict (IsValidNetwork case network)
+  pub valid : SaysExactly verdict (IsValidNetwork case network)
   pub excess : IfAccepted verdict (λ balance. IsAtMost rational_zero balance.excess)
   pub shows : ShowsVerdict case network verdict shown

@@ -1,6 +1,7 @@
 use Rattle.std.proofs.Common.{◌≡◌, ap, subst, sym, rules, FitsSigned, w32}
 use Rattle.std.proofs.lemmas.Int.{to_z-of_z}
 use Rattle.fractions.specs.Rationals.{Rational}
+use Rattle.network_audit.specs.Audit.{SaysExactly}
 use Rattle.network_audit.specs.Findings.{IsVerdict}
 use Rattle.network_audit.specs.Valid.{IsValidNetwork}
 use Rattle.network_audit.specs.declared.verdict.Balance.{Balance}
@@ -22,7 +23,7 @@ returns-in-Accepted c =
     record {
       verdict = verdict.Accepted balance;
       is_verdict = is_verdict;
-      valid = subst (λ a. IsValidNetwork a.case a.network) c.in_ok-auditor.ensures c.in-Accepted.ensures.valid;
+      valid = subst (λ a. SaysExactly (verdict.Accepted balance) (IsValidNetwork a.case a.network)) c.in_ok-auditor.ensures c.in-Accepted.ensures.valid_exactly;
       excess = c.in-Accepted.ensures.excess;
       shows = record {
         reference = reference;
