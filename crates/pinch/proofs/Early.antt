@@ -1,16 +1,18 @@
 -- The early ends of reading.
-use Rattle.std.proofs.Common.{◌≡◌, ℕ, List, Some, Result, Ok, Err, refl, subst, sym}
+use Rattle.std.proofs.Common.{◌≡◌, ℕ, List, Option, Some, Result, Ok, Err, IfOk, refl, subst, sym}
 use Rattle.std.specs.Result.{IsErrAnd}
 use Rattle.stream_case.specs.declared.case.Case.{Case}
 use Rattle.stream_case.specs.Case.{completed}
 use Rattle.pinch_outside.specs.Shelf.{ShelfState}
 use Rattle.reports.specs.declared.shown.Shown.{Shown}
+use Rattle.pinch.specs.Answers.{ShowsCommand}
 use Rattle.pinch.specs.Case.{case_file}
 use Rattle.pinch.specs.Files.{EndsIn, NoText, ReadsText, no_text, by_text}
 use Rattle.pinch.specs.Format.{Format}
 use Rattle.pinch.specs.Network.{network_file}
 use Rattle.pinch.specs.Reading.{Reading, reading_of, file}
 use Rattle.pinch.specs.Stop.{IfEarly, IfEnd}
+use Rattle.pinch.specs.declared.command.Command.{Command}
 use Rattle.pinch.specs.declared.command.Command.TheVariants.{Audit}
 use Rattle.pinch.specs.declared.request.Request.{Request}
 use Rattle.pinch.specs.declared.stop.Stop.{Stop}
@@ -34,3 +36,10 @@ pub without_network : (result : Result Request Stop) (stop : Stop) (case_name na
     → ReadsText case_file case_name old mid case → IfEarly stop (NoText (network_file (completed case)) name mid new) → IfEnd result (EndsIn (reading_of (Some (Audit case_name name))) old new)
 unfolding EndsIn reading_of
 without_network result stop case_name name old mid new case same reads early = stopped result stop _ _ same (λ shown none. by_text mid case reads (no_text shown refl none)) early
+
+-- what is shown early is shown for the command
+pub early_shown : {E : Type 0} (stop : Stop) (result : Result Shown E) (command : Option Command) (old new : ShelfState) → IfOk result (λ shown. stop ≡ Early shown)
+    → IfEarly stop (λ shown. EndsIn (reading_of command) old new (Err shown)) → IfOk result (ShowsCommand command old new)
+early_shown stop (Ok shown) command old new is early =
+    record { end = Err shown; reads = subst (λ s. IfEarly s (λ e. EndsIn (reading_of command) old new (Err e))) is early; shows = refl }
+early_shown stop (Err e) command old new is early = tt

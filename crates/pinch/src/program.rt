@@ -10,7 +10,6 @@ ghost use Rattle.pinch.specs.declared.status.Status.TheVariants.{OutOfMemory};
 use crate::answer::answer;
 use crate::request::request_of;
 use crate::status::{Status, status_of};
-use crate::stop::Stop;
 use crate::word::Word;
 use pinch_outside::{Shelf, Sink, write_all_of};
 use reports::{Shown, text_of};
@@ -81,8 +80,7 @@ fn show<R: Threads + Sync, G: Gate + Sync, S: Shelf>(
 {
     match request_of(alloc, shelf, words) {
         Ok(request) => Ok(answer(rt, alloc, gate, request)?),
-        Err(Stop::Early(shown)) => Ok(shown),
-        Err(Stop::OutOfMemory) => Err(AllocError),
+        Err(stop) => stop.into_shown(),
     }
 }
 

@@ -10,6 +10,21 @@ pub enum Stop {
     OutOfMemory,
 }
 
+impl Stop {
+    ghost use Rattle.std.specs.Prelude.{◌≡◌, IfOk};
+    ghost use Rattle.pinch.specs.declared.stop.Stop.TheVariants.{Early};
+
+    /// What is shown early.
+    pub fn into_shown(self) -> Result<Shown, AllocError>
+        ensures { IfOk result (λ shown. self ≡ Early shown) }
+    {
+        match self {
+            Stop::Early(shown) => Ok(shown),
+            Stop::OutOfMemory => Err(AllocError),
+        }
+    }
+}
+
 impl From<AllocError> for Stop {
     ghost use Rattle.std.specs.Prelude.{◌≡◌};
     ghost use Rattle.pinch.specs.declared.stop.Stop.TheVariants.{OutOfMemory};
