@@ -1,8 +1,6 @@
-use super::support::{FOUR_STREAM, FOUR_STREAM_TARGETS, answer_of, check_answer, outcome_of};
+use super::support::{FOUR_STREAM, FOUR_STREAM_TARGETS, answer_of, check_answer};
 use std::alloc::{AllocError, Global};
-use std::process::Abort;
 use std::test::Fail;
-use std::thread::Threads;
 
 /// The most utilities of a file.
 const UTILITIES: &str = "heater,Furnace,30000,0,1000000000000,3,
@@ -68,54 +66,6 @@ fn the_largest_case_is_answered(rt: HostRuntime) -> Result<(), Fail> {
         assert_eq!(rt; answer.status, 0, "{command}");
         assert_eq!(rt; line_count(text), lines, "{command}");
         assert!(rt; text.starts_with(front.as_bytes()), "{command}");
-    }
-    Ok(())
-}
-
-/// A heater and a cooler that meet at one level, and a stream above both.
-const OWN_UTILITIES: &str = "contribution,,50,,,,
-hot,H,1000,500,10,,
-heater,S,450,100,1000,2,
-cooler,W,350,0,1000000000000,0,
-";
-
-/// What is designed for a case begins with this balance, and an audit of it with this verdict.
-fn check_designed<R: Abort + Threads + Sync + AllocGlobal>(
-    rt: &R,
-    command: &str,
-    case: &str,
-    balance: &str,
-    verdict: &str,
-) -> Result<(), Fail> {
-    let design = answer_of(rt, command, case)?;
-    assert_eq!(rt; design.status, 0, "{command}");
-    assert!(rt;
-        design.written.as_slice().starts_with(balance.as_bytes()),
-        "{command}"
-    );
-    let files = [
-        ("plant.csv", case.as_bytes()),
-        ("network.txt", design.written.as_slice()),
-    ];
-    let audit = outcome_of(rt, &["audit", "plant.csv", "network.txt"], &files)?;
-    assert_eq!(rt; audit.status, 0, "{command}");
-    assert!(rt;
-        audit.written.as_slice().starts_with(verdict.as_bytes()),
-        "{command}"
-    );
-    Ok(())
-}
-
-#[test]
-fn the_largest_designs_are_accepted(rt: HostRuntime) -> Result<(), Fail> {
-    let own = "# hot 100 cold 5100 excess 100 cost 200\n";
-    let accepted = "accepted\nhot 100\ncold 5100\nexcess 100\ncost 200\nplace 950\n";
-    check_designed(&rt, "design", OWN_UTILITIES, own, accepted)?;
-    let largest = largest_case(rt.alloc(), "")?;
-    let balance = "# hot 270000 cold 3565044990 excess 0 cost 270000\n";
-    let accepted = "accepted\nhot 270000\ncold 3565044990\nexcess 0\ncost 270000\n";
-    for command in ["design", "vertical"] {
-        check_designed(&rt, command, largest.as_str(), balance, accepted)?;
     }
     Ok(())
 }
