@@ -80,8 +80,6 @@ pub record IsValid (c : Case) : Type 0 where
   pub streams : HasValidStreams c.streams
   pub utilities : All IsValidUtility c.utilities
   pub few_utilities : length c.utilities ≤ MOST_UTILITIES
-  pub stream_contributions : All (λ s. s.contribution ≡ c.contribution) c.streams
-  pub utility_contributions : All (λ u. u.contribution ≡ c.contribution) c.utilities
   pub distinct_names : AllPairs (λ a b. a ≢ b) (names_of c)
   pub stream_names : All (λ s. IsUnreserved s.name) c.streams
   pub utility_names : All IsRightlyNamed c.utilities

@@ -22,10 +22,10 @@ pub const MOST_HEAT: i64 = 1_000_000_000_000;
 pub const MOST_PRICE: i64 = 1_000_000;
 
 /// The most streams on one side of a case.
-pub const MOST_STREAMS: usize = 12;
+pub const MOST_STREAMS: usize = 30;
 
 /// The most utilities of a case that is not completed, those of both sides together.
-pub const MOST_UTILITIES: usize = 6;
+pub const MOST_UTILITIES: usize = 12;
 
 /// The most forbidden matches of a case.
 pub const MOST_FORBIDS: usize = 400;

@@ -161,25 +161,6 @@ fn are_valid_utilities(utilities: &[Utility]) -> bool
     utilities.iter().all(|utility| is_valid_utility(utility))
 }
 
-fn streams_share_contribution(case: &Case) -> bool
-    ensures { IsTrue result
-        ↔ All (λ s. s.contribution ≡ case.now.contribution) case.now.streams }
-{
-    case.streams
-        .as_slice()
-        .iter()
-        .all(|stream| stream.contribution == case.contribution)
-}
-
-fn utilities_share_contribution(case: &Case, utilities: &[Utility]) -> bool
-    ensures { IsTrue result
-        ↔ All (λ u. u.contribution ≡ case.now.contribution) utilities.now }
-{
-    utilities
-        .iter()
-        .all(|utility| utility.contribution == case.contribution)
-}
-
 /// The name at an index of the list of names, in which the streams come first.
 fn name_at(case: &Case, utilities: &[Utility], index: usize) -> Name
     requires { index < length (names_of (with_utilities case.now utilities.now)) }
@@ -258,22 +239,6 @@ fn are_distinct_forbids(forbids: &[Forbid]) -> bool
     true
 }
 
-fn shares_contribution(case: &Case, utilities: &[Utility]) -> bool
-    ensures { let k = with_utilities case.now utilities.now in
-        IsTrue result
-        ↔ (IsContribution k.contribution
-        × All (λ s. s.contribution ≡ k.contribution) k.streams
-        × All (λ u. u.contribution ≡ k.contribution) k.utilities) }
-{
-    if !is_contribution(case.contribution) {
-        return false;
-    }
-    if !streams_share_contribution(case) {
-        return false;
-    }
-    utilities_share_contribution(case, utilities)
-}
-
 fn has_valid_sources(case: &Case, utilities: &[Utility]) -> bool
     ensures { let k = with_utilities case.now utilities.now in
         IsTrue result
@@ -326,7 +291,7 @@ fn has_valid_forbids(case: &Case, utilities: &[Utility]) -> bool
 pub(crate) fn is_valid_with(case: &Case, utilities: &[Utility]) -> bool
     ensures { IsTrue result ↔ IsValid (with_utilities case.now utilities.now) }
 {
-    if !shares_contribution(case, utilities) {
+    if !is_contribution(case.contribution) {
         return false;
     }
     if !has_valid_sources(case, utilities) {
@@ -339,10 +304,9 @@ pub(crate) fn is_valid_with(case: &Case, utilities: &[Utility]) -> bool
 }
 
 /// Whether the case is one that a case file can give: every number is in its range, there is a
-/// stream and no more streams, utilities and forbidden matches than the limits, each source has
-/// the contribution of the case, the names are undotted and differ, `HOT` names only a hot
-/// utility and `COLD` only a cold one, and each forbidden match joins a hot source with a cold
-/// one, no pair twice (this project's rule).
+/// stream and no more streams, utilities and forbidden matches than the limits, the names are
+/// undotted and differ, `HOT` names only a hot utility and `COLD` only a cold one, and each
+/// forbidden match joins a hot source with a cold one, no pair twice (this project's rule).
 pub fn is_valid(case: &Case) -> bool
     ensures { IsTrue result ↔ IsValid case.now }
 {
