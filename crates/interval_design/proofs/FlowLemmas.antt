@@ -105,19 +105,6 @@ abbrev total : Course → ℕ
 total [] = 0
 total (shares ∷ stages) = length shares + total stages
 
-stage_total : (b : Bool) (shares : List Share) (rest : Course) (m more all : ℕ) → length shares + m ≤ more → total rest + more ≤ all → total (cons_option (if b then Some shares else None) rest) + m ≤ all
-stage_total true shares rest m more all one two = omega (arith, one, two)
-stage_total false shares rest m more all one two = omega (arith, one, two)
-
-total-stages : (of : Side) (ts : List Transfer) (stream n : ℕ) (parts : List Part) → total (filter_map (stage_of of ts stream) (enumerate_from n parts)) + before of ts n ≤ length ts
-unfolding before shares_of
-total-stages of ts stream n [] = omega (arith, count_by-le-length (λ t. nat_lt (part_index of t) n) ts)
-total-stages of ts stream n (p ∷ parts) =
-    let size = length-shares of n (width_of p) 0 ts in
-    let more = before_more of ts n in
-    stage_total (same_source p.source (source.Stream stream)) (shares_of of n (width_of p) ts) (filter_map (stage_of of ts stream) (enumerate_from (n + 1) parts)) (before of ts n) (before of ts (n + 1)) (length ts)
-    (omega (arith, size, more)) (total-stages of ts stream (n + 1) parts)
-
 total-is : (course : Course) → total course ≡ sum_by (λ ss. length ss) course
 total-is [] = refl
 total-is (shares ∷ stages) = omega (arith, sum_by-cons (λ (ss : List Share). length ss) shares stages, total-is stages)
@@ -126,27 +113,6 @@ total-reverse : (h : ℕ × Part → Option (List Share)) (xs : List (ℕ × Par
 total-reverse h xs =
     let stages = filter_map h xs in
     ap total (filter_map-reverse h xs) ∙ total-is (reverse stages) ∙ sum_by-reverse (λ (ss : List Share). length ss) stages ∙ sym (total-is stages)
-
-total-course : (of : Side) (parts : List Part) (ts : List Transfer) (stream : ℕ) → total (course_of of parts ts stream) ≤ length ts
-total-course side.Hot parts ts stream = let all = total-stages side.Hot ts stream 0 parts in omega (arith, all)
-total-course side.Cold parts ts stream =
-    let all = total-stages side.Cold ts stream 0 parts in
-    let turned = total-reverse (stage_of side.Cold ts stream) (enumerate_from 0 parts) in
-    omega (arith, all, turned)
-
-branches-total : (course : Course) → All (λ shares. 0 < length shares) course → course_branches course ≤ 4 * total course
-branches-total [] used = omega arith
-branches-total (shares ∷ stages) used =
-    let some = All-head (λ (ss : List Share). 0 < length ss) shares stages used in
-    let rest = branches-total stages (All-tail (λ (ss : List Share). 0 < length ss) shares stages used) in
-    omega (arith, some, rest)
-
-all-small : (most : ℕ) (courses : List Course) → All (λ course. course_branches course ≤ most) courses → all_branches courses ≤ length courses * most
-all-small most [] small = omega arith
-all-small most (course ∷ courses) small =
-    let one = All-head (λ (c : Course). course_branches c ≤ most) course courses small in
-    let rest = all-small most courses (All-tail (λ (c : Course). course_branches c ≤ most) course courses small) in
-    omega (arith, one, rest)
 
 -- ---- each part of a stream has a transfer
 
@@ -234,7 +200,7 @@ all_led case hot cold ts complete parts hots colds number s here = by s.side
     by side.Hot = side_led case parts.grid side.Hot hot ts number complete parts.is_grid parts.hot_parts hots
     by side.Cold = side_led case parts.grid side.Cold cold ts number complete parts.is_grid parts.cold_parts colds
 
--- ---- the branches have numbers of 32 bits
+-- ---- few transfers and few shares
 
 -- a transfer for each pair of parts, which is the most that a flow can have
 abbrev pub most_transfers : ℕ
@@ -245,22 +211,6 @@ few_flow {reach} {hot} {cold} {ts} flow rows columns =
     let pairs = few_transfers hot cold ts flow.ordered flow.hot_indexes flow.cold_indexes in
     let product : length hot * length cold ≤ most_transfers = mul-le-mul rows columns in
     omega (arith, pairs, product)
-
-course-small : (most : ℕ) (of : Side) (parts : List Part) (ts : List Transfer) (stream : ℕ) → length ts ≤ most → CanBeLed of parts ts stream → course_branches (course_of of parts ts stream) ≤ 4 * most
-course-small most of parts ts stream few led =
-    let one = branches-total (course_of of parts ts stream) led.used in
-    let all = total-course of parts ts stream in
-    omega (arith, one, all, few)
-
-pub all-fit : (case : Case) (hot cold : List Part) (ts : List Transfer) → length case.streams ≤ ALL_STREAMS → length ts ≤ most_transfers → AllCanBeLed case hot cold ts → length case.streams + all_branches (courses_of case hot cold ts) + 3 < 2 ^ 32
-all-fit case hot cold ts few_streams few led =
-    let most = 4 * most_transfers in
-    let small = All-map (λ (c : Course). course_branches c ≤ most) (stream_course hot cold ts) (enumerate_from 0 case.streams)
-    (All-numbered (λ ((number, s) : ℕ × Stream). course_branches (stream_course hot cold ts (number, s)) ≤ most) case.streams
-    (λ i s here. course-small most_transfers s.side (parts_of s.side hot cold) ts i few (led i s here))) in
-    let all = all-small most (courses_of case hot cold ts) small in
-    let long = length-courses_of case hot cold ts in
-    omega (arith, all, long, few_streams)
 
 -- ---- the shares of all courses together
 
@@ -336,3 +286,26 @@ all-total-is (course ∷ courses) = omega (arith, sum_by-cons (λ (c : Course). 
 pub few-shares : (case : Case) (hot cold : List Part) (ts : List Transfer) → sum_by (λ course. sum_by (λ ss. length ss) course) (courses_of case hot cold ts) ≤ 2 * length ts
 few-shares case hot cold ts =
     omega (arith, all-total-is (courses_of case hot cold ts), total-courses hot cold ts 0 case.streams, total-side side.Hot ts 0 (length case.streams) hot, total-side side.Cold ts 0 (length case.streams) cold)
+
+-- ---- the branches have numbers of 32 bits
+
+branches-total : (course : Course) → All (λ shares. 0 < length shares) course → course_branches course ≤ 4 * total course
+branches-total [] used = omega arith
+branches-total (shares ∷ stages) used =
+    let some = All-head (λ (ss : List Share). 0 < length ss) shares stages used in
+    let rest = branches-total stages (All-tail (λ (ss : List Share). 0 < length ss) shares stages used) in
+    omega (arith, some, rest)
+
+branches-all : (courses : List Course) → All (All (λ shares. 0 < length shares)) courses → all_branches courses ≤ 4 * all-total courses
+branches-all [] used = omega arith
+branches-all (course ∷ courses) used =
+    let one = branches-total course (All-head (All (λ (ss : List Share). 0 < length ss)) course courses used) in
+    let rest = branches-all courses (All-tail (All (λ (ss : List Share). 0 < length ss)) course courses used) in
+    omega (arith, one, rest)
+
+pub all-fit : (case : Case) (hot cold : List Part) (ts : List Transfer) → length case.streams ≤ ALL_STREAMS → length ts ≤ most_transfers → AllCanBeLed case hot cold ts → length case.streams + all_branches (courses_of case hot cold ts) + 3 < 2 ^ 32
+all-fit case hot cold ts few_streams few led =
+    let courses = courses_of case hot cold ts in
+    let used = All-map (All (λ (ss : List Share). 0 < length ss)) (stream_course hot cold ts) (enumerate_from 0 case.streams)
+    (All-numbered (λ ((number, s) : ℕ × Stream). All (λ (ss : List Share). 0 < length ss) (stream_course hot cold ts (number, s))) case.streams (λ i s here. (led i s here).used)) in
+    omega (arith, branches-all courses used, all-total-is courses, few-shares case hot cold ts, few_streams, few)

@@ -63,8 +63,6 @@ module _ (contribution : ℤ) where
       streams = HasValidStreams-with c.streams h.streams;
       utilities = All-map IsValidUtility (utility_with contribution) c.utilities (All-weaker IsValidUtility (λ u. IsValidUtility (utility_with contribution u)) IsValidUtility-with c.utilities h.utilities);
       few_utilities = let long = length-map c.utilities (utility_with contribution) in let few = h.few_utilities in omega (arith, long, few);
-      stream_contributions = All-map (λ s. s.contribution ≡ contribution) (stream_with contribution) c.streams (λ k d inside. refl);
-      utility_contributions = All-map (λ u. u.contribution ≡ contribution) (utility_with contribution) c.utilities (λ k d inside. refl);
       distinct_names = subst (AllPairs (λ a b. a ≢ b)) (sym (same_names c)) h.distinct_names;
       stream_names = All-map (λ s. IsUnreserved s.name) (stream_with contribution) c.streams h.stream_names;
       utility_names = All-map IsRightlyNamed (utility_with contribution) c.utilities h.utility_names;

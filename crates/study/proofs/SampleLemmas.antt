@@ -234,8 +234,6 @@ module _ (number count : ℕ) (some : 1 ≤ count) (small : count ≤ MOST_SAMPL
     streams = HasValidStreams-sample;
     utilities = All-nil _;
     few_utilities = omega arith;
-    stream_contributions = All-streams (λ s. s.contribution ≡ SAMPLE_CONTRIBUTION) (λ side y n _. contribution-drawn side y n);
-    utility_contributions = All-nil _;
     distinct_names = names-distinct;
     stream_names = All-streams (λ s. IsUnreserved s.name) (λ side y n less. subst IsUnreserved (sym (name-drawn side y n)) (IsUnreserved-stream_name side n less));
     utility_names = All-nil IsRightlyNamed;

@@ -52,7 +52,7 @@ IsAround-parts parts inner inner_net few_nodes few_links = record {
 
 pub most_within : (parts : List Part) → length parts ≤ MOST_PARTS → All IsBounded parts → IsBetween (pos 0) (pos MOST_PARTS *ℤ MOST_HEAT) (most_of parts)
 most_within parts few bounded =
-    let upto = int_sum_by-at_most (λ (p : Part). p.most) 1000000000000 parts (λ k d within. (bounded k d within).most.upto) in
+    let upto = int_sum_by-at_most (λ (p : Part). p.most) (unsigned_abs MOST_HEAT) parts (λ k d within. (bounded k d within).most.upto) in
     let from = int_sum_by-not_negative (λ (p : Part). p.most) parts (λ k d within. let b = bounded k d within in let least = b.least.from in let most = b.most.from in omega (arith, ints)) in
     record { from = from; upto = omega (arith, ints) }
 
@@ -236,15 +236,21 @@ module _ (hot cold : List Part) (inner : Net) (g : IsAround hot cold inner) wher
 
   -- ---- the size of the potentials
 
+  abbrev most_price : ℕ
+  most_price = unsigned_abs MOST_PRICE
+
+  abbrev most_nodes : ℕ
+  most_nodes = MOST_INNER_NODES + 4
+
   pub potentials_within : (potentials : List ℤ) → AreBounded (net_around hot cold inner) (start_of inner.nodes) potentials → All IsNodePotential potentials
   potentials_within potentials bounded k d within =
       let net = net_around hot cold inner in
       let node : k < net.nodes = (let e = bounded.one_each in omega (arith, e, within)) in
       let bound = bounded.bounded k node in
-      let starts = greatest-le (λ (s : ℤ). s) (start_of inner.nodes) 1000000 (pos 0) (λ j early. let h = start_within j (let e = start_around.one_each in omega (arith, e, early)) in omega (arith, sizes, h.from, h.upto)) in
-      let costs = greatest-le (λ (l : Link). l.cost) net.links 1000000 (record { from = 0; to = 0; room = pos 0; cost = pos 0 }) (λ j early. let h = (near_all j (record { from = 0; to = 0; room = pos 0; cost = pos 0 }) early).price in omega (arith, sizes, h.from, h.upto)) in
+      let starts = greatest-le (λ (s : ℤ). s) (start_of inner.nodes) most_price (pos 0) (λ j early. let h = start_within j (let e = start_around.one_each in omega (arith, e, early)) in omega (arith, sizes, h.from, h.upto)) in
+      let costs = greatest-le (λ (l : Link). l.cost) net.links most_price (record { from = 0; to = 0; room = pos 0; cost = pos 0 }) (λ j early. let h = (near_all j (record { from = 0; to = 0; room = pos 0; cost = pos 0 }) early).price in omega (arith, sizes, h.from, h.upto)) in
       let nodes = g.few_nodes in
-      let times : net.nodes * largest_cost net ≤ 25004 * 1000000 = mul-le net.nodes (largest_cost net) 25004 1000000 (omega (arith, nodes)) costs in
+      let times : net.nodes * largest_cost net ≤ most_nodes * most_price = mul-le net.nodes (largest_cost net) most_nodes most_price (omega (arith, nodes)) costs in
       let same = get_or_default potentials k d (pos 0) within in
-      let small : unsigned_abs (get_or potentials k d) ≤ 3 * 1000000 + 25004 * 1000000 = rw same (omega (arith, bound, starts, times)) in
+      let small : unsigned_abs (get_or potentials k d) ≤ 3 * most_price + most_nodes * most_price = rw same (omega (arith, bound, starts, times)) in
       record { from = omega (arith, sizes, small); upto = omega (arith, sizes, small) }
