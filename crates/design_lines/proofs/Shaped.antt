@@ -62,8 +62,7 @@ unfolding made_by
 few-branches case exchangers courses led used =
     let made = ap length (made-drawn case exchangers courses used) in
     let long = length-range_with_len (length case.streams) (all_branches courses) in
-    let most : length (drawn case exchangers courses).lines ≤ 2000000000 = led.few in
-    omega (arith, made, long, few_made (drawn case exchangers courses).lines, most)
+    omega (arith, made, long, few_made (drawn case exchangers courses).lines, led.few)
 
 -- ---- the sides of exchangers
 

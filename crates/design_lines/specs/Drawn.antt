@@ -1,5 +1,5 @@
 -- A network drawn from exchangers and from the stages that each stream is led through.
-use Rattle.std.specs.Prelude.{ℕ, ◌+◌, ◌-◌, ◌*◌, List, [], ◌∷◌, ◌++◌, length, map}
+use Rattle.std.specs.Prelude.{ℕ, ◌+◌, ◌-◌, ◌*◌, ◌≤◌, List, [], ◌∷◌, ◌++◌, length, map}
 use Rattle.std.specs.List.{range_with_len}
 use Rattle.stream_case.specs.declared.case.Case.{Case}
 use Rattle.networks.specs.Lines.{Exchanger, own_branches}
@@ -9,6 +9,7 @@ use Rattle.networks.specs.declared.network.Line.TheVariants as line
 use Rattle.networks.specs.declared.network.Network.{Network}
 use Rattle.design_lines.specs.Names.{branch_name}
 use Rattle.design_lines.specs.Stages.{stage_end, stage_lines}
+use Rattle.design_lines.specs.declared.limits.TheConstants.{MOST_DRAWN_LINES}
 use Rattle.design_lines.specs.declared.stage.Share.{Share}
 
 -- the stages that a stream is led through, from its supply to its target
@@ -58,3 +59,7 @@ drawn case exchangers courses = record {
   branches = own_branches case ++ made_branches 0 0 courses;
   lines = map declared_line exchangers ++ courses_lines (length case.streams) 0 courses;
 }
+
+-- few enough lines for a file
+abbrev pub HasFewLines : Network → Type 0
+HasFewLines network = length network.lines ≤ MOST_DRAWN_LINES

@@ -5,11 +5,13 @@
 mod branches;
 mod drawing;
 mod laws;
+mod limits;
 mod names;
 mod stage;
 
 pub use branches::{own_branches, push_branches};
 pub use drawing::{Course, draw};
 pub use laws::drawn_networks_have_the_shape;
+pub use limits::MOST_DRAWN_LINES;
 pub use names::{branch_name, exchanger_name};
 pub use stage::{Share, push_stage};

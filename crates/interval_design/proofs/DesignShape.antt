@@ -9,10 +9,11 @@ use Rattle.stream_case.specs.declared.case.Case.{Case}
 use Rattle.stream_case.specs.declared.limits.TheConstants.{ALL_STREAMS}
 use Rattle.stream_case.specs.declared.source.Side.TheVariants as side
 use Rattle.networks.specs.Shape.{HasShape, KeepsCounts}
-use Rattle.networks.specs.declared.limits.TheConstants.{MOST_EXCHANGERS, MOST_STATEMENTS}
+use Rattle.networks.specs.declared.limits.TheConstants.{MOST_EXCHANGERS}
 use Rattle.networks.specs.declared.network.Network.{Network}
-use Rattle.design_lines.specs.Drawn.{courses_lines, declared_line, drawn}
+use Rattle.design_lines.specs.Drawn.{courses_lines, declared_line, drawn, HasFewLines}
 use Rattle.design_lines.specs.Led.{AreLed}
+use Rattle.design_lines.specs.declared.limits.TheConstants.{MOST_DRAWN_LINES}
 use Rattle.design_lines.proofs.FewLines.{few-courses}
 use Rattle.design_lines.proofs.NumberedItems.{numbered_names-differ}
 use Rattle.design_lines.proofs.Shaped.{HasShape-drawn}
@@ -55,10 +56,13 @@ lines-upto case hot cold transfers =
       length-courses_of case hot cold transfers,
     )
 
--- a design of few transfers keeps the two counts of a text
-pub KeepsCounts-network_of : (case : Case) (hot cold : List Part) (transfers : List Transfer) → 7 * length transfers + length case.streams ≤ MOST_STATEMENTS → length transfers ≤ MOST_EXCHANGERS → KeepsCounts (network_of case hot cold transfers)
+-- a design of few transfers has few lines, and keeps the two counts of a text
+pub HasFewLines-network_of : (case : Case) (hot cold : List Part) (transfers : List Transfer) → 7 * length transfers + length case.streams ≤ MOST_DRAWN_LINES → HasFewLines (network_of case hot cold transfers)
+HasFewLines-network_of case hot cold transfers few = omega (arith, ap (λ (n : Network). length n.lines) (network_of-drawn case hot cold transfers), lines-upto case hot cold transfers, few)
+
+pub KeepsCounts-network_of : (case : Case) (hot cold : List Part) (transfers : List Transfer) → HasFewLines (network_of case hot cold transfers) → length transfers ≤ MOST_EXCHANGERS → KeepsCounts (network_of case hot cold transfers)
 KeepsCounts-network_of case hot cold transfers few_lines few = record {
-  lines = omega (arith, ap (λ (n : Network). length n.lines) (network_of-drawn case hot cold transfers), lines-upto case hot cold transfers, few_lines);
+  lines = omega (arith, few_lines);
   exchangers = omega (arith, ap length (exchangers_of-network_of case hot cold transfers), length-map (enumerate_from 0 transfers) (exchanger_of hot cold), length-enumerate_from 0 transfers, few);
 }
 

@@ -15,7 +15,7 @@ ghost use Rattle.networks.specs.Shape.{HasShape, KeepsCounts};
 ghost use Rattle.network_audit.specs.Balance.{balance_of};
 ghost use Rattle.network_audit.specs.Findings.{HasNoFinding};
 ghost use Rattle.network_audit.specs.Valid.{IsValidNetwork};
-ghost use Rattle.design_lines.specs.Drawn.{all_branches, courses_lines, made_branches};
+ghost use Rattle.design_lines.specs.Drawn.{all_branches, courses_lines, made_branches, HasFewLines};
 ghost use Rattle.interval_design.specs.Balance.{flow_balance};
 ghost use Rattle.interval_design.specs.Courses.{AllCanBeLed, courses_of, exchanger_of, network_of};
 
@@ -90,10 +90,11 @@ fn push_courses(
 /// The network of a heat flow of a completed case. Each transfer becomes one exchanger, between
 /// the sources of its two parts and with its heat as duty, in W, and each stream is led through its
 /// parts. The network has the shape that the grammar of networks asks for, and, where the flow has
-/// fewer transfers than parts, at most as many exchangers and lines as a text may have. It is valid:
-/// each stream is led to its target, each exchanger keeps its approach, no match is forbidden, and
-/// each utility is in its range; its audit has no finding. Its balance is that of the flow: it costs
-/// what the flow costs, and in a standard case a flow that costs the hot target has the excess 0.
+/// fewer transfers than parts, at most as many exchangers and lines as a text may have, and few
+/// lines. It is valid: each stream is led to its target, each exchanger keeps its approach, no match
+/// is forbidden, and each utility is in its range; its audit has no finding. Its balance is that of
+/// the flow: it costs what the flow costs, and in a standard case a flow that costs the hot target
+/// has the excess 0.
 #[tactic(auto, unfolding(crate::specs::Courses::network_of))]
 pub fn design(alloc: Global, case: &Case, parts: &Parts, flow: &Flow) -> Result<Network, AllocError>
     requires complete { IsComplete case.now }
@@ -110,6 +111,9 @@ pub fn design(alloc: Global, case: &Case, parts: &Parts, flow: &Flow) -> Result<
     ensures counts { IfOk result
         (λ network. length flow.now.transfers ≤ length parts.now.hot + length parts.now.cold - 1
         → KeepsCounts network) }
+    ensures few_lines { IfOk result
+        (λ network. length flow.now.transfers ≤ length parts.now.hot + length parts.now.cold - 1
+        → HasFewLines network) }
     ensures valid { IfOk result (λ network. IsValidNetwork case.now network) }
     ensures accepted { IfOk result (λ network. HasNoFinding case.now network) }
     ensures balance { IfOk result

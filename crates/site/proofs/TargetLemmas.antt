@@ -1,8 +1,9 @@
 -- The parts of a site are fixed, and make few pairs.
 use mathlib.Core.Path.{fun_ext}
-use Rattle.std.proofs.Common.{◌≡◌, ◌∙◌, ap, sym, subst, subst₂, ◌*◌, ◌≤◌, List, length, arith, Result, Ok, Err, IfOk}
+use Rattle.std.proofs.Common.{◌≡◌, ◌∙◌, ap, sym, subst, subst₂, ◌*◌, ◌≤◌, ◌+◌, ℕ, List, length, arith, Result, Ok, Err, IfOk}
 use Rattle.std.specs.Prelude.{ℤ, Contains}
 use Rattle.std.proofs.Math.Nat.{mul-le-mul}
+use Rattle.stream_case.specs.declared.limits.TheConstants.{MOST_MAINS}
 use Rattle.stream_case.specs.declared.source.Side.{Side}
 use Rattle.stream_case.specs.declared.source.Side.TheVariants.{Cold, Hot}
 use Rattle.stream_case.proofs.CaseLemmas.{count_on-add}
@@ -22,24 +23,28 @@ use Rattle.plants.specs.Site.{IsValidSite, streams_of}
 use Rattle.plants.specs.Table.{IsSiteGrid, site_places, site_utilities}
 use Rattle.site.specs.Target.{AreSiteParts, IsSiteTarget}
 use Rattle.plants.specs.SiteTable.{IsSiteTable}
+use Rattle.plants.specs.declared.limits.TheConstants.{MOST_SIDE_STREAMS}
 use Rattle.plants.specs.declared.site.Site.{Site}
 use Rattle.plants.specs.declared.table.SiteTable.{SiteTable}
 use Rattle.plants.proofs.PlaceLemmas.{HoldsPlaces-grid, length-site_places}
+
+abbrev most_places : ℕ
+most_places = 2 * (2 * MOST_SIDE_STREAMS) + 2 * MOST_MAINS
 
 module _ (site : Site) (valid : IsValidSite site) where
   -- the parts of a side on these places
   abbrev AreSideParts : Side → List ℤ → List Part → Type 0
   AreSideParts side places parts = AreParts (streams_of site.plants) (site_utilities site) places side parts
 
-  -- there are at most 24 streams and 4 mains
-  few_places : (places : List ℤ) → IsSiteGrid site places → length places ≤ 56
+  -- two places for each stream and each main
+  few_places : (places : List ℤ) → IsSiteGrid site places → length places ≤ most_places
   few_places places grid =
       let falling = length-le_falling places (site_places site) grid.ordered grid.each in
       let streams = count_on-add (streams_of site.plants) in
       omega (arith, falling, length-site_places site, streams, valid.streams.few Hot, valid.streams.few Cold, valid.mains.few)
 
   -- each stream of the side has at most one part at each place, and each utility one
-  few_of_side : (side : Side) (places : List ℤ) (parts : List Part) → IsSiteGrid site places → AreSideParts side places parts → length parts ≤ 700
+  few_of_side : (side : Side) (places : List ℤ) (parts : List Part) → IsSiteGrid site places → AreSideParts side places parts → length parts ≤ most_places * MOST_SIDE_STREAMS + 2
   few_of_side side places parts grid are =
       let holds = HoldsPlaces-grid site places valid grid in
       let made = ap length (AreParts-made (streams_of site.plants) (site_utilities site) side places parts holds are) in

@@ -20,11 +20,11 @@ use Rattle.stream_case.specs.declared.stream.Stream.{Stream}
 use Rattle.stream_case.proofs.SourceLemmas.{same_source-same, same_source-true}
 use Rattle.networks.specs.Lines.{Exchanger}
 use Rattle.networks.specs.Shape.{HasShape, IsExchanger, IsPositive, Joins, KeepsCounts}
-use Rattle.networks.specs.declared.limits.TheConstants.{MOST_STATEMENTS}
 use Rattle.networks.proofs.Lists.{all_at}
 use Rattle.design_lines.specs.Drawn.{Course, courses_lines, declared_line, drawn}
 use Rattle.design_lines.specs.Led.{AreLed, IsCourseOf, IsShareOf, turns}
 use Rattle.design_lines.specs.Ways.{on_the_way}
+use Rattle.design_lines.specs.declared.limits.TheConstants.{MOST_DRAWN_LINES}
 use Rattle.design_lines.specs.declared.stage.Share.{Share}
 use Rattle.design_lines.proofs.Declared.{exchangers_of-drawn}
 use Rattle.design_lines.proofs.FewLines.{few-courses}
@@ -149,8 +149,8 @@ module _ (case : Case) (intervals : List Interval) (can : CanBeDrawn case interv
       by m s at here is (inl from) = once-on side.Hot number stream m s at here (match_at number m at).hot (ap (λ (x : Exchanger). x.hot) is ∙ from)
       by m s at here is (inr from) = once-on side.Cold number stream m s at here (match_at number m at).cold (ap (λ (x : Exchanger). x.cold) is ∙ from)
 
-  few-statements : length (drawn case (exchangers_for intervals) (courses_of case intervals)).lines ≤ MOST_STATEMENTS
-  few-statements =
+  pub few-lines : length (drawn case (exchangers_for intervals) (courses_of case intervals)).lines ≤ MOST_DRAWN_LINES
+  few-lines =
       let courses = courses_of case intervals in
       let all = sizes-all intervals (enumerate_from 0 case.streams) in
       let shares : sum_by sizes courses ≤ 2 * length ms = omega (arith, all, two_for_each case.streams ms) in
@@ -174,7 +174,7 @@ module _ (case : Case) (intervals : List Interval) (can : CanBeDrawn case interv
     all = length-courses_of case intervals;
     each = courses-are;
     once = once-passed;
-    few = omega (arith, few-statements);
+    few = omega (arith, few-lines);
   }
 
   pub HasShape-matches : IsComplete case → HasShape case (drawn case (exchangers_for intervals) (courses_of case intervals))
@@ -184,4 +184,4 @@ module _ (case : Case) (intervals : List Interval) (can : CanBeDrawn case interv
   pub KeepsCounts-matches : KeepsCounts (drawn case (exchangers_for intervals) (courses_of case intervals))
   KeepsCounts-matches =
       let declared = ap length (exchangers_of-drawn case (exchangers_for intervals) (courses_of case intervals)) in
-      record { lines = few-statements; exchangers = omega (arith, declared, length-map (enumerate_from 0 ms) exchanger_of, length-enumerate_from 0 ms, can.few) }
+      record { lines = omega (arith, few-lines); exchangers = omega (arith, declared, length-map (enumerate_from 0 ms) exchanger_of, length-enumerate_from 0 ms, can.few) }

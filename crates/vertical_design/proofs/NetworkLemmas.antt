@@ -9,7 +9,7 @@ use Rattle.stream_case.specs.declared.source.Side.TheVariants as side
 use Rattle.stream_case.proofs.CaseLemmas.{length-AreStreams}
 use Rattle.stream_case.proofs.CompleteLemmas.{AreStreams-IsComplete}
 use Rattle.networks.specs.Shape.{HasShape, KeepsCounts}
-use Rattle.design_lines.specs.Drawn.{all_branches}
+use Rattle.design_lines.specs.Drawn.{all_branches, HasFewLines}
 use Rattle.vertical_design.specs.Axis.{AreCuts, spans_of}
 use Rattle.vertical_design.specs.Courses.{AreIntervals, courses_of, network_of}
 use Rattle.vertical_design.specs.Limits.{AreSpans, IsGap, IsPlace}
@@ -18,7 +18,7 @@ use Rattle.vertical_design.specs.declared.interval.Interval.{Interval}
 use Rattle.vertical_design.specs.declared.limits.TheConstants.{MOST_SPANS}
 use Rattle.vertical_design.specs.declared.span.Span.{Span}
 use Rattle.vertical_design.proofs.CourseLemmas.{few_all, few_intervals}
-use Rattle.vertical_design.proofs.DesignShape.{CanBeDrawn, HasShape-matches, KeepsCounts-matches}
+use Rattle.vertical_design.proofs.DesignShape.{CanBeDrawn, HasShape-matches, KeepsCounts-matches, few-lines}
 use Rattle.vertical_design.proofs.IntervalLemmas.{cuts-places, few_cuts}
 use Rattle.vertical_design.proofs.MatchShape.{IsMatch, IsOn, matches-are, spans_on}
 use Rattle.vertical_design.proofs.SpanLimits.{AreSpans-spans_of}
@@ -46,6 +46,7 @@ pub record IsBuilt (case : Case) (intervals : List Interval) : Type 0 where
   pub fits : length case.streams + all_branches (courses_of case intervals) + 3 < 2 ^ 32
   pub shape : HasShape case (network_of case intervals)
   pub counts : KeepsCounts (network_of case intervals)
+  pub few_lines : HasFewLines (network_of case intervals)
 
 built : (case : Case) (cuts : List ℤ) → IsComplete case → IsStandard case → AreCuts (spans_of side.Hot case) (spans_of side.Cold case) cuts → IsBuilt case (intervals_of (spans_of side.Hot case) (spans_of side.Cold case) cuts)
 unfolding network_of
@@ -75,6 +76,7 @@ built case cuts complete standard are =
       fits = omega (arith, branches, product, streams);
       shape = HasShape-matches case intervals can complete;
       counts = KeepsCounts-matches case intervals can;
+      few_lines = few-lines case intervals can;
     }
 
 pub is_built : (case : Case) (intervals : List Interval) → IsComplete case → IsStandard case → AreIntervals case intervals → IsBuilt case intervals

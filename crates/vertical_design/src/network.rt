@@ -3,6 +3,7 @@
 ghost use Rattle.std.specs.Prelude.{◌≡◌, IfOk};
 ghost use Rattle.stream_case.specs.Case.{IsComplete, IsStandard};
 ghost use Rattle.networks.specs.Shape.{HasShape, KeepsCounts};
+ghost use Rattle.design_lines.specs.Drawn.{HasFewLines};
 ghost use Rattle.network_audit.specs.Balance.{balance_of};
 ghost use Rattle.network_audit.specs.Findings.{HasNoFinding};
 ghost use Rattle.network_audit.specs.Valid.{IsValidNetwork};
@@ -37,9 +38,9 @@ fn intervals_for(alloc: Global, case: &Case) -> Result<Vec<Interval>, AllocError
 /// this project's rule). The heat axis is cut wherever a source begins or ends. Between two cuts
 /// each source of a side meets those of the other side in their order, until it has given or taken
 /// its part of the heat between the cuts. The network has the shape that the grammar of networks
-/// asks for and keeps the counts of a text, so that it is printed and read again. It is valid: each
-/// stream is led to its target, each exchanger keeps its approach, no match is forbidden, and each
-/// utility is in its range. And it is vertical: each exchanger joins the two curves at one heat, or
+/// asks for, keeps the counts of a text, so that it is printed and read again, and has few lines. It
+/// is valid: each stream is led to its target, each exchanger keeps its approach, no match is
+/// forbidden, and each utility is in its range. And it is vertical: each exchanger joins the two curves at one heat, or
 /// a curve with the utility that lies there. Its audit has no finding, and its balance is that of
 /// the targets: it has no excess, and costs the hot target.
 pub fn vertical(alloc: Global, case: &Case) -> Result<Network, AllocError>
@@ -48,6 +49,7 @@ pub fn vertical(alloc: Global, case: &Case) -> Result<Network, AllocError>
     ensures drawn { IfOk result (λ network. IsVerticalDesign case.now network) }
     ensures shape { IfOk result (λ network. HasShape case.now network) }
     ensures counts { IfOk result (λ network. KeepsCounts network) }
+    ensures few_lines { IfOk result (λ network. HasFewLines network) }
     ensures valid { IfOk result (λ network. IsValidNetwork case.now network) }
     ensures vertical { IfOk result (λ network. IsVertical case.now network) }
     ensures accepted { IfOk result (λ network. HasNoFinding case.now network) }

@@ -1,4 +1,4 @@
-use Rattle.std.proofs.Common.{◌∙◌, length, ap, arith, ◌≡◌, ◌≤◌, ◌++◌, All, map, subst, sym}
+use Rattle.std.proofs.Common.{◌∙◌, length, ap, arith, ◌≡◌, ◌≤◌, ◌+◌, ◌-◌, ◌++◌, All, map, subst, sym}
 use Rattle.std.specs.List.{enumerate_from}
 use Rattle.stream_case.specs.Limits.{IsHeat}
 use Rattle.stream_case.specs.declared.limits.TheConstants.{ALL_STREAMS}
@@ -9,11 +9,11 @@ use Rattle.network_audit.specs.declared.verdict.Balance.{Balance}
 use Rattle.networks.specs.Lines.{exchangers_of}
 use Rattle.networks.specs.Shape.{HasShape, KeepsCounts}
 use Rattle.networks.specs.declared.network.Network.{Network}
-use Rattle.design_lines.specs.Drawn.{courses_lines, declared_line, made_branches}
+use Rattle.design_lines.specs.Drawn.{courses_lines, declared_line, made_branches, HasFewLines}
 use Rattle.interval_design.specs.Balance.{flow_balance}
 use Rattle.interval_design.specs.Courses.{courses_of, exchanger_of, network_of}
 use Rattle.interval_design.proofs.Balances.{balance-network, no_excess}
-use Rattle.interval_design.proofs.DesignShape.{HasShape-network_of, KeepsCounts-network_of}
+use Rattle.interval_design.proofs.DesignShape.{HasFewLines-network_of, HasShape-network_of, KeepsCounts-network_of}
 use Rattle.interval_design.proofs.ExchangerLemmas.{exchangers_of-network_of}
 use Rattle.interval_design.proofs.NetworkValid.{valid_network}
 use Rattle.interval_design.proofs.NoFinding.{network_has_no_finding}
@@ -120,13 +120,20 @@ returns-clause-exchangers c =
 pub returns-clause-shape : goal.returns-clause-shape
 returns-clause-shape c = subst (HasShape c.args.case.now) (sym (network_is c)) (has_shape c)
 
+few_lines : (c : goal.After-from_vec-2) → length c.args.flow.now.transfers ≤ length c.args.parts.now.hot + length c.args.parts.now.cold - 1
+    → HasFewLines (network_of c.args.case.now c.args.parts.now.hot c.args.parts.now.cold c.args.flow.now.transfers)
+few_lines c few =
+    let parts = c.args.parts.now in
+    HasFewLines-network_of c.args.case.now parts.hot parts.cold c.args.flow.now.transfers (omega (arith, few, few_streams c, parts.few_hot, parts.few_cold))
+
+pub returns-clause-few_lines : goal.returns-clause-few_lines
+returns-clause-few_lines c few = subst HasFewLines (sym (network_is c)) (few_lines c few)
+
 pub returns-clause-counts : goal.returns-clause-counts
 returns-clause-counts c few =
-    let hot = c.args.parts.now.hot in
-    let cold = c.args.parts.now.cold in
-    let ts = c.args.flow.now.transfers in
+    let parts = c.args.parts.now in
     subst KeepsCounts (sym (network_is c))
-    (KeepsCounts-network_of c.args.case.now hot cold ts (omega (arith, few, few_streams c, c.args.parts.now.few_hot, c.args.parts.now.few_cold)) (omega (arith, few, c.args.parts.now.few_hot, c.args.parts.now.few_cold)))
+    (KeepsCounts-network_of c.args.case.now parts.hot parts.cold c.args.flow.now.transfers (few_lines c few) (omega (arith, few, parts.few_hot, parts.few_cold)))
 
 pub returns-clause-valid : goal.returns-clause-valid
 returns-clause-valid c = subst (IsValidNetwork c.args.case.now) (sym (network_is c)) (is_valid c)

@@ -1,7 +1,8 @@
 -- A plant more.
 use Rattle.std.proofs.Common.{◌≡◌, ◌∙◌, ◌+◌, ◌*◌, List, ap, arith, length, of_z, pos, subst, sym, take, to_z, w32, w64}
-use Rattle.std.specs.Prelude.{All, ◌+ℤ◌, ◌≤ℤ◌}
+use Rattle.std.specs.Prelude.{All, ◌+ℤ◌, ◌≤ℤ◌, unsigned_abs}
 use Rattle.std.proofs.lemmas.Int.{ints}
+use Rattle.stream_case.specs.declared.limits.TheConstants.{ALL_STREAMS_HEAT}
 use Rattle.stream_case.specs.Stream.{AreStreams}
 use Rattle.sums.specs.Sum.{int_sum_by}
 use Rattle.sums.proofs.SumLemmas.{int_sum_by-more}
@@ -30,5 +31,5 @@ loop-plant-preserved c =
     let so_far = c.loop-plant.invariant in
     let value : heat ≡ int_sum_by of_plant (take (i + 1) plants) = omega (arith, ints, range, few, most, so_far.value, so_far.from, so_far.upto) in
     let from : pos 0 ≤ℤ heat = omega (arith, ints, range, few, most, so_far.from, so_far.upto) in
-    let upto : heat ≤ℤ pos ((i + 1) * 1000000000000) = omega (arith, ints, range, few, most, so_far.from, so_far.upto) in
+    let upto : heat ≤ℤ pos ((i + 1) * (2 * unsigned_abs ALL_STREAMS_HEAT)) = omega (arith, ints, range, few, most, so_far.from, so_far.upto) in
     record { value = value; from = from; upto = upto }

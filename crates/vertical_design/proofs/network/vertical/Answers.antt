@@ -4,7 +4,7 @@ use Rattle.networks.specs.Shape.{HasShape, KeepsCounts}
 use Rattle.network_audit.specs.Balance.{balance_of}
 use Rattle.network_audit.specs.Findings.{HasNoFinding}
 use Rattle.network_audit.specs.Valid.{IsValidNetwork}
-use Rattle.design_lines.specs.Drawn.{Course, all_branches, courses_lines, declared_line, made_branches}
+use Rattle.design_lines.specs.Drawn.{Course, all_branches, courses_lines, declared_line, made_branches, HasFewLines}
 use Rattle.design_lines.specs.Led.{AreStages}
 use Rattle.vertical_design.specs.Courses.{courses_of, exchangers_for, network_of}
 use Rattle.vertical_design.specs.Matches.{matches_of}
@@ -73,6 +73,12 @@ returns-clause-counts c =
     let case = c.args.case.now in
     let (intervals, are, same) = returns-clause-drawn c in
     subst KeepsCounts (sym same) (is_built case intervals c.requires.complete c.requires.standard are).counts
+
+pub returns-clause-few_lines : goal.returns-clause-few_lines
+returns-clause-few_lines c =
+    let case = c.args.case.now in
+    let (intervals, are, same) = returns-clause-drawn c in
+    subst HasFewLines (sym same) (is_built case intervals c.requires.complete c.requires.standard are).few_lines
 
 pub returns-clause-valid : goal.returns-clause-valid
 returns-clause-valid c =
