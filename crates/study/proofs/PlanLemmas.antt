@@ -5,6 +5,7 @@ use Rattle.std.proofs.Math.Nat.{le-div_iff_mul-le}
 use Rattle.std.proofs.lemmas.Bool.{cases_lt}
 use Rattle.std.proofs.lemmas.Int.{ints, to_z-of_z}
 use Rattle.stream_case.specs.Limits.{IsContribution}
+use Rattle.stream_case.specs.declared.limits.TheConstants.{MOST_CONTRIBUTION}
 use Rattle.sums.proofs.ProductLemmas.{*ℤ-≤ℤ_left}
 use Rattle.study.specs.declared.limits.TheConstants.{MOST_ROWS}
 use Rattle.study.specs.declared.plan.SweepPlan.{SweepPlan}
@@ -29,7 +30,7 @@ few_rows p count plan rows =
 -- what a row adds to the first contribution
 pub record IsWithinPlan (p : SweepPlan) (k : ℕ) : Type 0 where
   pub number : pos k ≤ℤ (pos k *ℤ p.step)
-  pub most : (pos k *ℤ p.step) ≤ℤ pos 1000
+  pub most : (pos k *ℤ p.step) ≤ℤ MOST_CONTRIBUTION
 
 pub within_plan : (p : SweepPlan) (k : ℕ) → IsSweepPlan p → has_row p k → IsWithinPlan p k
 within_plan p k plan has =

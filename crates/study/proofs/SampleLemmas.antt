@@ -1,6 +1,6 @@
 -- A sample is a valid case.
 use Rattle.std.proofs.Common.{◌≡◌, ◌≢◌, ◌∙◌, refl, sym, ap, subst, Bool, true, false, cond, ℕ, ◌+◌, ◌*◌, ◌%◌, ◌<◌, ◌≤◌, List, [], ◌∷◌, ◌++◌, length, get_or, map, Some, arith}
-use Rattle.std.specs.Prelude.{pos, ◌==◌, All, AllPairs, count_by, filter, slice_get, option_map}
+use Rattle.std.specs.Prelude.{pos, ◌==◌, All, AllPairs, count_by, filter, slice_get, option_map, unsigned_abs}
 use Rattle.std.specs.List.{range_with_len}
 use Rattle.std.proofs.lemmas.Int.{ints}
 use Rattle.std.proofs.lemmas.List.{append-nil, append_assoc, get_or-append-add, length-append, length-map, map-append}
@@ -9,6 +9,7 @@ use Rattle.std.proofs.lemmas.List.FromFn.{get_or-map-range_with_len, length-map-
 use Rattle.std.proofs.lemmas.List.Kept.{AllPairs-filter}
 use Rattle.std.proofs.lemmas.List.Sums.{count_by-le-length, length-filter, sum_by-append}
 use Rattle.std.proofs.lemmas.Option.{slice_get-get_or}
+use Rattle.stream_case.specs.declared.limits.TheConstants.{HIGHEST_TEMPERATURE}
 use Rattle.stream_case.specs.declared.source.Side.{Side}
 use Rattle.stream_case.specs.declared.source.Side.TheVariants.{Hot, Cold}
 use Rattle.stream_case.specs.declared.source.Source.TheVariants.{Stream as of_stream}
@@ -21,7 +22,7 @@ use Rattle.stream_case.specs.Case.{IsRightlyNamed, IsUnreserved, IsValid, IsVali
 use Rattle.sums.proofs.CountLemmas.{count_by-map}
 use Rattle.sums.proofs.ListLemmas.{slice_get-append}
 use Rattle.sums.proofs.OrderLemmas.{AllPairs-append, AllPairs-map}
-use Rattle.study.specs.declared.limits.TheConstants.{FLOW_RATES, FORBID_CHANCE, MOST_SAMPLE_STREAMS, SAMPLE_CONTRIBUTION, TEMPERATURES}
+use Rattle.study.specs.declared.limits.TheConstants.{FLOW_RATES, FORBID_CHANCE, LEAST_HOT_TEMPERATURE, MOST_SAMPLE_STREAMS, TEMPERATURES}
 use Rattle.study.specs.Draws.{draw, state_after}
 use Rattle.study.specs.Sample.{drawn_high, drawn_low, drawn_stream, drawn_streams, least_temperature, pair_of, sample, stream_name}
 use Rattle.study.proofs.NumberLemmas.{each_below, one_more, rising}
@@ -29,14 +30,14 @@ use Rattle.study.proofs.NameLemmas.{IsName-stream_name, IsUnreserved-stream_name
 
 -- ---- a stream
 
-low_upto : (side : Side) (s : ℕ) → least_temperature side + s % TEMPERATURES < 1800
+low_upto : (side : Side) (s : ℕ) → least_temperature side + s % TEMPERATURES < LEAST_HOT_TEMPERATURE + TEMPERATURES
 low_upto Hot s = omega arith
 low_upto Cold s = omega arith
 
-drawn_upto : (s : ℕ) → s % TEMPERATURES < 1500
+drawn_upto : (s : ℕ) → s % TEMPERATURES < TEMPERATURES
 drawn_upto s = omega arith
 
-IsTemperature-below : (t : ℕ) → t < 4000 → IsTemperature (pos t)
+IsTemperature-below : (t : ℕ) → t ≤ unsigned_abs HIGHEST_TEMPERATURE → IsTemperature (pos t)
 IsTemperature-below t small = record { from = omega (arith, ints); upto = omega (arith, ints) }
 
 module _ (side : Side) (x : ℕ) where
@@ -50,7 +51,7 @@ module _ (side : Side) (x : ℕ) where
 below : (low more : ℕ) → low < low + 1 + more
 below low more = omega arith
 
-flow_rate_upto : (s : ℕ) → 1 + s % FLOW_RATES ≤ 500
+flow_rate_upto : (s : ℕ) → 1 + s % FLOW_RATES ≤ FLOW_RATES
 flow_rate_upto s = omega arith
 
 IsValidStream-drawn : (side : Side) (x number : ℕ) → number < 100 → IsValidStream (drawn_stream side x number)
@@ -78,10 +79,6 @@ side-drawn Cold x number = refl
 name-drawn : (side : Side) (x number : ℕ) → (drawn_stream side x number).name ≡ stream_name side number
 name-drawn Hot x number = refl
 name-drawn Cold x number = refl
-
-contribution-drawn : (side : Side) (x number : ℕ) → (drawn_stream side x number).contribution ≡ SAMPLE_CONTRIBUTION
-contribution-drawn Hot x number = refl
-contribution-drawn Cold x number = refl
 
 -- ---- the streams of a side
 
