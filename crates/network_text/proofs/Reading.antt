@@ -1,5 +1,5 @@
 -- The statements of a text, one line after the other, and the steps of their reading.
-use Rattle.std.proofs.Common.{◌≡◌, ◌∙◌, ◌<◌, ◌+◌, ◌∷◌, ◌==◌, ℕ, true, false, not, cond, Result, Ok, Err, IfOk, List, [], Some, None, length, map, filter, refl, sym, ap, subst, length-append}
+use Rattle.std.proofs.Common.{◌≡◌, ◌∙◌, ◌<◌, ◌+◌, ◌∷◌, ◌==◌, ℕ, true, false, not, cond, Result, Ok, Err, List, [], Some, None, length, map, filter, refl, sym, ap, subst, length-append}
 use Rattle.std.specs.Result.{IsErrAnd}
 use Rattle.std.specs.Str.Lines.{lines}
 use Rattle.std.proofs.lemmas.Bool.{eqb-true, not-false, not-true}
@@ -77,7 +77,3 @@ pub no_outcome : (case : Case) (statements : List Statement) (r : Result Network
     → IsOutcome case statements r
 no_outcome case statements (Ok network) h = absurd h
 no_outcome case statements (Err f) h = subst (λ (g : NetFault). IsOutcome case statements (Err g)) (sym h) tt
-
-pub no_network : (P : Network → Type 0) (r : Result Network NetFault) → IsErrAnd r (λ f. f ≡ fault.OutOfMemory) → IfOk r P
-no_network P (Ok network) h = absurd h
-no_network P (Err f) h = tt
