@@ -2,23 +2,10 @@
 use Rattle.std.proofs.Common.{◌≡◌, ℕ, ℤ, pos, List, [], ◌∷◌, map, refl}
 use Rattle.std.specs.Prelude.{codes}
 use Rattle.std.specs.List.{enumerate_from}
-use Rattle.stream_case.specs.declared.case.Case.{Case}
+use Rattle.network_values.proofs.Words.{Branch, BranchValue, Case, Line, Network, Rational, Stream, Utility, Valuation, exchangers_of, gcd, height_at, heights, hot_heat, hot_target, last_remainder, lowest_form, minus, mix_penalties, pass_of, penalty, plus, positive_part, ratio, rational_cmp, stream_at, times, view_above, whole}
 use Rattle.stream_case.specs.declared.source.Side.TheVariants as side
 use Rattle.stream_case.specs.declared.source.Source.TheVariants as source
-use Rattle.stream_case.specs.declared.stream.Stream.{Stream}
-use Rattle.stream_case.specs.declared.utility.Utility.{Utility}
-use Rattle.fractions.specs.Lowest.{gcd, last_remainder}
-use Rattle.fractions.specs.Rationals.{Rational, lowest_form, minus, plus, ratio, rational_cmp, times, whole}
-use Rattle.networks.specs.Lines.{exchangers_of, pass_of, stream_at}
-use Rattle.networks.specs.declared.network.Branch.{Branch}
-use Rattle.networks.specs.declared.network.Line.{Line}
 use Rattle.networks.specs.declared.network.Line.TheVariants as line
-use Rattle.networks.specs.declared.network.Network.{Network}
-use Rattle.network_values.specs.Heights.{positive_part, view_above}
-use Rattle.network_values.specs.Penalties.{height_at, heights, hot_heat, mix_penalties, penalty}
-use Rattle.network_values.specs.Values.{Valuation}
-use Rattle.network_values.specs.declared.values.BranchValue.{BranchValue}
-use Rattle.problem_table.specs.Deficit.{hot_target}
 
 -- the two numbers of a rational
 abbrev numbers : Rational → ℤ × ℕ

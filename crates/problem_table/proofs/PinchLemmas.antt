@@ -3,11 +3,8 @@ use Rattle.std.proofs.Common.{◌≡◌, ℕ, ◌+◌, ◌<◌, List, [], ◌∷
 use Rattle.std.specs.Prelude.{ℤ, All, Contains}
 use Rattle.std.proofs.lemmas.List.{take_more}
 use Rattle.std.proofs.lemmas.List.Elements.{All-push, All-contains, All-weaker, Contains-append_left, Contains-append_right, Contains-get_or}
-use Rattle.stream_case.specs.declared.stream.Stream.{Stream}
-use Rattle.stream_case.specs.Stream.{stream_ends}
-use Rattle.sums.specs.Order.{ListsFalling}
+use Rattle.problem_table.proofs.Words.{IsPinch, ListsFalling, Stream, stream_ends}
 use Rattle.sums.proofs.OrderLemmas.{Lists-same}
-use Rattle.problem_table.specs.Deficit.{IsPinch}
 
 -- each found place is a pinch, and each pinch among these ends was found
 pub record Finds (streams : List Stream) (some_ends found : List ℤ) : Type 0 where
