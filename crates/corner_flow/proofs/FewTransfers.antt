@@ -5,15 +5,8 @@ use Rattle.std.proofs.lemmas.Bool.{cases_lt}
 use Rattle.std.proofs.lemmas.Int.{ints, clamps}
 use Rattle.std.proofs.lemmas.List.{length-map, take-take}
 use Rattle.std.proofs.lemmas.List.Elements.{All-drop, All-take}
-use Rattle.sums.specs.Spans.{IsOverlap, ListsOverlaps, NotNegative, begin_of, pair_before}
-use Rattle.sums.specs.Sum.{int_sum_by}
-use Rattle.sums.specs.declared.pairs.Pair.{Pair}
+use Rattle.corner_flow.proofs.Words.{Case, IsCornerFlow, IsOverlap, ListsOverlaps, NotNegative, Pair, Part, Transfer, as_pair, begin_of, cold_target, heats_of, hot_target, int_sum_by, pair_before, part_heat}
 use Rattle.sums.proofs.SumLemmas.{int_sum_by-not_negative, int_sum_by-split}
-use Rattle.stream_case.specs.declared.case.Case.{Case}
-use Rattle.problem_table.specs.Deficit.{cold_target, hot_target}
-use Rattle.grid.specs.declared.part.Part.{Part}
-use Rattle.heat_flow.specs.declared.flow.Transfer.{Transfer}
-use Rattle.corner_flow.specs.Corner.{IsCornerFlow, as_pair, heats_of, part_heat}
 
 spans_rise : (xs : List ℤ) → NotNegative xs → (a b : ℕ) → a ≤ b → begin_of xs a ≤ℤ begin_of xs b
 spans_rise xs some a b order =

@@ -6,29 +6,11 @@ use Rattle.std.proofs.lemmas.Bool.{not-true}
 use Rattle.std.proofs.lemmas.List.{get_or-map, length-map}
 use Rattle.std.proofs.lemmas.List.Elements.{All-map}
 use Rattle.std.proofs.lemmas.Option.{slice_get-get_or, slice_get_within, get_or_from_slice_get}
-use Rattle.stream_case.specs.declared.source.Side.{Side}
-use Rattle.stream_case.specs.declared.source.Side.TheVariants.{Hot, Cold}
-use Rattle.stream_case.specs.declared.case.Case.{Case}
-use Rattle.stream_case.specs.Case.{is_forbidden}
-use Rattle.stream_case.specs.Limits.{IsBetween, IsHeat}
-use Rattle.stream_case.specs.Source.{is_stream}
-use Rattle.stream_case.specs.Stream.{heat_above}
-use Rattle.sums.specs.declared.pairs.Pair.{Pair}
-use Rattle.sums.specs.Sum.{int_sum_by}
-use Rattle.sums.specs.Spans.{NotNegative, IsOverlap, pair_before, ListsOverlaps}
+use Rattle.corner_flow.proofs.Words.{Case, Cold, Hot, IsBetween, IsCornerFlow, IsFlowOf, IsHeat, IsLeastCost, IsOverlap, KeepsRanges, ListsOverlaps, NotNegative, Pair, Part, Side, Transfer, UtilityHeat, as_pair, as_transfer, both_reach, cold_target, cost_of, heat_above, heat_at, heats_of, hot_target, int_sum_by, is_forbidden, is_stream, pair_before, part_heat, parts_of, reach_between, sum_side}
 use Rattle.sums.proofs.SumLemmas.{int_sum_by-map, int_sum_from-by}
 use Rattle.sums.proofs.WalkLemmas.{overlaps_first, overlaps_second, some_overlaps}
-use Rattle.problem_table.specs.Deficit.{hot_target, cold_target}
-use Rattle.problem_table.specs.Sides.{sum_side}
 use Rattle.problem_table.proofs.DeficitLemmas.{hot_target-between, cold_target-between}
-use Rattle.grid.specs.declared.part.Part.{Part}
-use Rattle.heat_flow.specs.declared.flow.Transfer.{Transfer}
-use Rattle.heat_flow.specs.Cuts.{parts_of}
-use Rattle.heat_flow.specs.Flow.{heat_at, KeepsRanges, cost_of, IsLeastCost}
-use Rattle.heat_flow.specs.Reach.{both_reach, reach_between}
 use Rattle.heat_flow.proofs.Blanks.{blank}
-use Rattle.corner_flow.specs.Corner.{part_heat, heats_of, as_pair, as_transfer, IsCornerFlow, UtilityHeat}
-use Rattle.heat_flow.specs.Certificate.{IsFlowOf}
 use Rattle.corner_flow.proofs.StandardLemmas.{end_of}
 use Rattle.corner_flow.proofs.SideLemmas.{IsStandardPart, AreStandardParts}
 use Rattle.corner_flow.proofs.HeatLemmas.{target_of, above, is_reached, one_times, from_stream, from_utility, sum_above, cost-hot_utility, cost-at_least}
@@ -83,10 +65,7 @@ module _ {c : Case} {hot cold : List Part} (s : AreStandardParts c hot cold) whe
       h.kind)
 
   same_total : int_sum_by (λ x. x) (heats Hot) ≡ int_sum_by (λ x. x) (heats Cold)
-  same_total =
-      let given = heats-sum Hot in
-      let taken = heats-sum Cold in
-      omega (arith, ints, s.lowest)
+  same_total = let given = heats-sum Hot in let taken = heats-sum Cold in omega (arith, ints, s.lowest)
 
   -- ---- the corner flow
 

@@ -8,31 +8,14 @@ use Rattle.std.proofs.lemmas.Bool.{and_parts, or_cases, not-true}
 use Rattle.std.proofs.lemmas.Bool.Decides.{Decides-int_eq}
 use Rattle.std.proofs.lemmas.List.{get_or-map}
 use Rattle.std.proofs.lemmas.Option.{slice_get_within, get_or_from_slice_get}
-use Rattle.stream_case.specs.declared.source.Side.{Side}
-use Rattle.stream_case.specs.declared.source.Side.TheVariants.{Hot, Cold}
-use Rattle.stream_case.specs.declared.stream.Stream.{Stream}
-use Rattle.stream_case.specs.declared.case.Case.{Case}
-use Rattle.stream_case.specs.Case.{is_forbidden}
-use Rattle.stream_case.specs.Source.{is_stream}
-use Rattle.stream_case.specs.Stream.{heat_above}
-use Rattle.sums.specs.Sum.{int_sum_by, int_sum_from}
+use Rattle.corner_flow.proofs.Words.{Case, Cold, HaveParts, Hot, IsFlowOf, IsSupporting, KeepsRanges, NeedsHeat, Part, Side, Stream, Transfer, UtilityHeat, both_reach, cold_target, cost_of, heat_above, heat_at, hot_target, int_sum_by, int_sum_from, is_forbidden, is_stream, part_index, part_reaches, parts_of, passes_heat, price_at, reach_between, side_cost, sum_side}
 use Rattle.sums.proofs.IntegerLemmas.{int_le-from, int_le-false}
 use Rattle.sums.proofs.ProductLemmas.{product_not_negative}
 use Rattle.sums.proofs.SumLemmas.{int_sum_by-le, int_sum_by-not_negative, int_sum_from-add, int_sum_from-by, int_sum_from-grouped, int_sum_from-same_each}
-use Rattle.problem_table.specs.Sides.{sum_side}
-use Rattle.problem_table.specs.Deficit.{hot_target, cold_target}
 use Rattle.problem_table.proofs.DeficitLemmas.{some_tight}
-use Rattle.grid.specs.declared.part.Part.{Part}
 use Rattle.grid.proofs.HeatLemmas.{heat_from}
-use Rattle.heat_flow.specs.declared.flow.Transfer.{Transfer}
-use Rattle.heat_flow.specs.Cuts.{parts_of}
-use Rattle.heat_flow.specs.Flow.{part_index, heat_at, HaveParts, KeepsRanges, side_cost, cost_of}
-use Rattle.heat_flow.specs.Prices.{price_at, IsSupporting}
-use Rattle.heat_flow.specs.Reach.{passes_heat, part_reaches, both_reach, reach_between}
 use Rattle.heat_flow.proofs.CostLemmas.{heats_at-not_negative}
 use Rattle.heat_flow.proofs.Duality.{side_worth, side_worth-parts, worth-le}
-use Rattle.corner_flow.specs.Corner.{UtilityHeat, NeedsHeat}
-use Rattle.heat_flow.specs.Certificate.{IsFlowOf}
 use Rattle.corner_flow.proofs.StandardLemmas.{end_of}
 use Rattle.corner_flow.proofs.SideLemmas.{unit_price, IsStandardPart, AreStandardParts}
 
@@ -194,18 +177,10 @@ module _ {c : Case} {hot cold : List Part} (s : AreStandardParts c hot cold) whe
     -- the utilities give and take at least the targets
     at_least : (side : Side) → target_of side c.streams ≤ℤ heat side ts
     at_least Hot = hot-at_least
-    at_least Cold =
-        let least = hot-at_least in
-        let hots = whole_heat Hot in
-        let colds = whole_heat Cold in
-        let targets = s.lowest in
-        omega (arith, ints)
+    at_least Cold = let least = hot-at_least in let hots = whole_heat Hot in let colds = whole_heat Cold in let targets = s.lowest in omega (arith, ints)
 
     pub cost-at_least : hot_target c.streams ≤ℤ cost_of hot cold ts
     cost-at_least = let least = hot-at_least in let cost = cost-hot_utility ts (heat Hot ts) (heat Cold ts) (utility_heat Hot ts) (utility_heat Cold ts) in omega (arith, ints)
 
   pub needs_heat : (side : Side) → NeedsHeat c hot cold side (target_of side c.streams)
-  needs_heat side ts flow a p at utility =
-      let least = at_least ts flow side in
-      let one = utility_heat side ts a p at utility in
-      omega (arith, ints)
+  needs_heat side ts flow a p at utility = let least = at_least ts flow side in let one = utility_heat side ts a p at utility in omega (arith, ints)

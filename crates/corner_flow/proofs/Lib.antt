@@ -6,3 +6,4 @@ pub mod ReachLemmas
 pub mod FlowLemmas
 pub mod PinchLaw
 pub mod FewTransfers
+pub mod Words

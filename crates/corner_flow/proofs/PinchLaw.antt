@@ -3,17 +3,9 @@ use Rattle.std.proofs.Common.{◌≡◌, ⊎_elim, ◌∙◌, List, [], ◌∷�
 use Rattle.std.specs.Prelude.{ℤ, ◌*ℤ◌, ◌≤ℤ◌, ◌<ℤ◌, All, Contains}
 use Rattle.std.proofs.lemmas.Int.{ints}
 use Rattle.std.proofs.lemmas.List.Elements.{All-nil, All-cons, All-head, All-tail}
-use Rattle.stream_case.specs.declared.source.Side.TheVariants.{Hot, Cold}
-use Rattle.stream_case.specs.declared.case.Case.{Case}
-use Rattle.sums.specs.Sum.{int_sum_by}
+use Rattle.corner_flow.proofs.Words.{Case, Cold, Hot, IsFlowOf, IsPinch, NoHeatCrosses, NoHeatCrossesPinch, Part, Transfer, UtilityHeat, hot_target, int_sum_by, price_at}
 use Rattle.sums.proofs.SumLemmas.{int_sum_by-le}
-use Rattle.problem_table.specs.Deficit.{hot_target, IsPinch}
-use Rattle.grid.specs.declared.part.Part.{Part}
 use Rattle.grid.proofs.PlaceLemmas.{interval_falls}
-use Rattle.heat_flow.specs.declared.flow.Transfer.{Transfer}
-use Rattle.heat_flow.specs.Prices.{price_at}
-use Rattle.corner_flow.specs.Corner.{UtilityHeat, NoHeatCrosses, NoHeatCrossesPinch}
-use Rattle.heat_flow.specs.Certificate.{IsFlowOf}
 use Rattle.corner_flow.proofs.StandardLemmas.{end_of}
 use Rattle.corner_flow.proofs.SideLemmas.{IsStandardPart, AreStandardParts}
 use Rattle.corner_flow.proofs.HeatLemmas.{above, reached, is_reached, is_missed, zero_times, one_times, price_at-map, taken-le, worth_above, heat, utility_heat}
@@ -31,10 +23,7 @@ equal_terms f g (x ∷ xs) le e =
 module _ {c : Case} {hot cold : List Part} (s : AreStandardParts c hot cold) (place : ℤ) (pinch : IsPinch c.streams place) (ts : List Transfer) (flow : IsFlowOf c hot cold ts) (given : UtilityHeat Hot hot ts (hot_target c.streams)) where
   -- the cold utility stands below the pinch
   bottom_below : end_of c Cold <ℤ place
-  bottom_below =
-      let (k, x, within, is, less) = pinch.inside.above_some in
-      let lowest = s.within Cold x (s.stream_end x (k, within, is)) in
-      omega (arith, ints)
+  bottom_below = let (k, x, within, is, less) = pinch.inside.above_some in let lowest = s.within Cold x (s.stream_end x (k, within, is)) in omega (arith, ints)
 
   -- a part that is not above it lies below it
   below_high : (q : Part) → q.high ≤ℤ place → IsStandardPart c s.grid Cold q → q.low <ℤ place

@@ -7,22 +7,11 @@ use Rattle.std.proofs.Math.IntN.{*ℤ-zero}
 use Rattle.std.proofs.lemmas.Int.{ints, clamps}
 use Rattle.std.proofs.lemmas.Bool.Decides.{Decides-int_eq}
 use Rattle.std.proofs.lemmas.List.Elements.{All-map}
-use Rattle.stream_case.specs.declared.source.Side.{Side}
-use Rattle.stream_case.specs.declared.source.Side.TheVariants.{Hot, Cold}
-use Rattle.stream_case.specs.declared.case.Case.{Case}
-use Rattle.stream_case.specs.Limits.{IsBetween, IsPartPrice}
-use Rattle.stream_case.specs.Source.{is_stream}
-use Rattle.sums.specs.Sum.{int_sum_by}
+use Rattle.corner_flow.proofs.Words.{Case, Cold, Hot, IsBetween, IsPartPrice, IsSupporting, IsTight, Part, Side, corner_price, excess_price, hot_target, int_sum_by, is_stream, least_product, parts_of, price_at, reach_between, side_value, value_of}
 use Rattle.sums.proofs.ProductLemmas.{product_not_negative}
 use Rattle.sums.proofs.SumLemmas.{int_sum_by-zero, int_sum_from-by, int_sum_from-zero, int_sum_from-same_each}
-use Rattle.problem_table.specs.Deficit.{hot_target, IsTight}
-use Rattle.grid.specs.declared.part.Part.{Part}
 use Rattle.grid.proofs.HeatLemmas.{heat_from}
-use Rattle.heat_flow.specs.Cuts.{parts_of}
-use Rattle.heat_flow.specs.Prices.{price_at, IsSupporting, least_product, excess_price, side_value, value_of}
-use Rattle.heat_flow.specs.Reach.{reach_between}
 use Rattle.heat_flow.proofs.Duality.{excess_price-*ℤ, int_sum_from-excess}
-use Rattle.corner_flow.specs.Corner.{corner_price}
 use Rattle.corner_flow.proofs.SideLemmas.{unit_price, IsStandardPart, AreStandardParts}
 use Rattle.corner_flow.proofs.HeatLemmas.{above, zero_times, from_stream, from_utility, price_at-map, supports_down}
 
@@ -47,10 +36,7 @@ fixed_product : (x low high : ℤ) → low ≡ high → least_product x low high
 fixed_product x low high e = ap (λ h. int_min (x *ℤ low) (x *ℤ h)) (sym e) ∙ omega (arith, ints, clamps)
 
 free_product : (x low high : ℤ) → pos 0 ≤ℤ x → low ≡ pos 0 → pos 0 ≤ℤ high → least_product x low high ≡ pos 0
-free_product x low high h e k =
-    let none = ap (λ z. x *ℤ z) e ∙ *ℤ-zero x in
-    let more = product_not_negative x high h k in
-    omega (arith, ints, clamps)
+free_product x low high h e k = let none = ap (λ z. x *ℤ z) e ∙ *ℤ-zero x in let more = product_not_negative x high h k in omega (arith, ints, clamps)
 
 free_excess : (side : Side) (price y : ℤ) → price ≡ unit_price side → IsBetween (pos 0) (pos 1) y → pos 0 ≤ℤ excess_price side price y
 free_excess Hot price y e h = omega (arith, ints, h.upto)

@@ -6,21 +6,11 @@ use Rattle.std.proofs.lemmas.Int.{ints, clamps, by_lt_z}
 use Rattle.std.proofs.lemmas.Bool.{or_parts, and_from, cases_Bool, cases_lt, both_ways, lt-ltb, le-ltb}
 use Rattle.std.proofs.lemmas.Bool.Decides.{Decides-int_eq}
 use Rattle.std.proofs.lemmas.List.{take-map}
-use Rattle.stream_case.specs.declared.source.Side.TheVariants.{Hot, Cold}
-use Rattle.stream_case.specs.declared.case.Case.{Case}
-use Rattle.stream_case.specs.Source.{is_stream}
-use Rattle.stream_case.specs.Stream.{heat_above}
-use Rattle.sums.specs.Spans.{begin_of, overlap}
-use Rattle.sums.specs.Sum.{int_sum_by, int_sum_from}
+use Rattle.corner_flow.proofs.Words.{Case, Cold, Hot, Part, begin_of, cold_target, heat_above, heats_of, hot_target, int_sum_by, int_sum_from, is_stream, overlap, part_heat, passes_heat, sum_side}
 use Rattle.sums.proofs.SumLemmas.{int_sum_by-map, int_sum_from-by, int_sum_from-zero, int_sum_from-le_each}
-use Rattle.problem_table.specs.Deficit.{hot_target, cold_target}
-use Rattle.problem_table.specs.Sides.{sum_side}
 use Rattle.problem_table.proofs.DeficitLemmas.{hot_target-bound, hot_target-between}
-use Rattle.grid.specs.declared.part.Part.{Part}
 use Rattle.grid.proofs.PlaceLemmas.{interval_falls, interval_ends, interval_below, interval_above}
 use Rattle.grid.proofs.HeatLemmas.{heat_from}
-use Rattle.heat_flow.specs.Reach.{passes_heat}
-use Rattle.corner_flow.specs.Corner.{part_heat, heats_of}
 use Rattle.corner_flow.proofs.StandardLemmas.{end_of}
 use Rattle.corner_flow.proofs.SideLemmas.{IsStreamHere, AreStandardParts}
 use Rattle.corner_flow.proofs.HeatLemmas.{above, is_reached, is_missed, zero_times, one_times, from_stream}

@@ -4,28 +4,14 @@ use Rattle.std.specs.Prelude.{ℤ, pos, ◌+ℤ◌, ◌-ℤ◌, ◌≤ℤ◌, �
 use Rattle.std.proofs.lemmas.Int.{ints}
 use Rattle.std.proofs.lemmas.Bool.{cases_eq, cases_order, both_ways}
 use Rattle.std.proofs.lemmas.Option.{same_Some, slice_get-get_or, slice_get_within, get_or_from_slice_get}
-use Rattle.stream_case.specs.declared.source.Side.{Side}
-use Rattle.stream_case.specs.declared.source.Side.TheVariants.{Hot, Cold}
-use Rattle.stream_case.specs.declared.case.Case.{Case}
-use Rattle.stream_case.specs.declared.limits.TheConstants.{MOST_HEAT}
-use Rattle.stream_case.specs.Case.{standard_utility, IsComplete, IsStandard}
-use Rattle.stream_case.specs.Source.{is_stream}
-use Rattle.stream_case.specs.Stream.{stream_ends, heat_above, HasValidStreams}
+use Rattle.corner_flow.proofs.Words.{AreCaseParts, AreParts, Case, Cold, HasValidStreams, HoldsPlaces, Hot, IsBounded, IsComplete, IsGrid, IsInterval, IsPartOf, IsStandard, MOST_HEAT, Part, Side, cold_target, comes_before, deficit_above, heat_above, hot_target, int_sum_by, is_stream, parts_of, standard_utility, stream_ends, sum_side, utility_part}
 use Rattle.stream_case.proofs.CompleteLemmas.{HasValidStreams-IsComplete, IsPlaced-IsComplete, shifted_level-standard}
 use Rattle.stream_case.proofs.SourceLemmas.{each_side}
-use Rattle.sums.specs.Sum.{int_sum_by}
-use Rattle.problem_table.specs.Deficit.{deficit_above, hot_target, cold_target}
-use Rattle.problem_table.specs.Sides.{sum_side}
 use Rattle.problem_table.proofs.EndLemmas.{IsOutside}
-use Rattle.grid.specs.declared.part.Part.{Part}
-use Rattle.grid.specs.Bounds.{IsBounded}
-use Rattle.grid.specs.Grid.{HoldsPlaces, IsGrid}
-use Rattle.grid.specs.Part.{IsInterval, utility_part, IsPartOf, comes_before, AreParts, AreCaseParts}
 use Rattle.grid.proofs.HeatLemmas.{heat_from, sum-heat_from}
 use Rattle.grid.proofs.MakingLemmas.{HoldsPlaces-IsGrid, AreParts-made}
 use Rattle.grid.proofs.PlaceLemmas.{interval_falls, interval_ends}
 use Rattle.grid.proofs.SizeLemmas.{IsBounded-part}
-use Rattle.heat_flow.specs.Cuts.{parts_of}
 use Rattle.grid.proofs.StandardUtilities.{own_utility, some_utility, one_utility, sum_utilities}
 use Rattle.corner_flow.proofs.StandardLemmas.{end_of, grid_is_ends, grid_within, stream_end_on_grid, end_on_grid, cold_target-lowest_end}
 

@@ -5,18 +5,11 @@ use Rattle.std.proofs.lemmas.Int.{ints}
 use Rattle.std.proofs.lemmas.List.{get_or-map, length-map}
 use Rattle.std.proofs.lemmas.List.Elements.{All-weaker, All-contains, Contains-append_left, Contains-append_cases}
 use Rattle.std.proofs.lemmas.Option.{slice_get-get_or}
-use Rattle.stream_case.specs.declared.source.Side.{Side}
-use Rattle.stream_case.specs.declared.source.Side.TheVariants.{Hot, Cold}
-use Rattle.stream_case.specs.declared.case.Case.{Case}
-use Rattle.stream_case.specs.Case.{outermost, standard_utility, IsStandard}
-use Rattle.stream_case.specs.Stream.{high_end, low_end, stream_ends, HasValidStreams}
-use Rattle.stream_case.specs.Utility.{shifted_level}
+use Rattle.corner_flow.proofs.Words.{Case, Cold, HasValidStreams, Hot, IsGrid, IsStandard, Side, cold_target, deficit_above, high_end, hot_target, low_end, outermost, places_of, shifted_level, standard_utility, stream_ends}
 use Rattle.stream_case.proofs.CompleteLemmas.{shifted_level-standard}
 use Rattle.stream_case.proofs.EndLemmas.{length-stream_ends, each_end}
-use Rattle.problem_table.specs.Deficit.{deficit_above, hot_target, cold_target}
 use Rattle.problem_table.proofs.DeficitLemmas.{deficit_above-lowest}
 use Rattle.problem_table.proofs.EndLemmas.{IsOutside, IsOutermost, IsOutermost-outermost}
-use Rattle.grid.specs.Grid.{places_of, IsGrid}
 use Rattle.grid.proofs.StandardUtilities.{own_utility}
 
 -- the place of the utility of a side: the outermost stream end

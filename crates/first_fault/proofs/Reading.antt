@@ -37,9 +37,7 @@ module _ {Item Given Value Cause : Type 0} {grammar : Grammar Item Given Value C
 
   -- no item is left
   all_read : left ≡ [] → Give grammar items given × (number ≡ length items)
-  all_read none =
-      let all = reads.items_are ∙ ap (λ l. reads.done ++ l) none ∙ append-nil reads.done in
-      rw all (reads.give, reads.number_is)
+  all_read none = let all = reads.items_are ∙ ap (λ l. reads.done ++ l) none ∙ append-nil reads.done in rw all (reads.give, reads.number_is)
 
   pub end_here : {at : ℕ} {cause : Cause} → left ≡ [] → grammar.end_fault number given ≡ Some (at, cause) → IsFault grammar items at cause
   end_here none fault =

@@ -1,7 +1,7 @@
 -- The laws of the order.
 use Rattle.std.proofs.Common.{◌≡◌, ◌≢◌, ◌∙◌, ◌*◌, ◌<◌, ◌⊎◌, ⊎_elim, inl, inr, ◌+ℤ◌, ◌-ℤ◌, ◌*ℤ◌, ◌<ℤ◌, ◌≤ℤ◌, ◌↔◌, ℕ, ℤ, pos, Bool, true, false, not, int_lt, refl, sym, ap, subst, arith}
 use Rattle.std.specs.Bool.{Decides, MatchBool}
-use Rattle.std.specs.Ordering.{int_cmp, is_ge, is_gt, is_le, is_lt}
+use Rattle.std.specs.Ordering.{int_cmp, is_le, is_lt}
 use Rattle.std.specs.Int.Signed.{≤ℤ_refl, clash_ℤ}
 use Rattle.std.proofs.lemmas.Bool.Decides.{Decides-like, Decides-not, same_from_decides}
 use Rattle.std.proofs.lemmas.Int.{by_lt_z, ints}
@@ -10,8 +10,8 @@ use Rattle.std.proofs.Math.Nat.{mul-pos}
 use Rattle.sums.proofs.ProductLemmas.{*ℤ-<ℤ_right, *ℤ-≤ℤ_right, <ℤ_from_*ℤ, ≤ℤ_from_*ℤ}
 use Rattle.fractions.specs.Integers.{pos_above}
 use Rattle.fractions.specs.LowestForms.{same_from_value}
-use Rattle.fractions.specs.Rationals.{IsAtMost, IsBelow, Rational, is_below, minus, over, plus, ratio, rational_cmp, rational_zero, times, whole}
-use Rattle.fractions.proofs.Products.{over-times, times-minus, times-over_assoc, times-zero, times_comm, zero-over, zero-times}
+use Rattle.fractions.specs.Rationals.{IsAtMost, IsBelow, Rational, is_below, minus, plus, ratio, rational_cmp, rational_zero, times, whole}
+use Rattle.fractions.proofs.Products.{times-minus, times-zero, times_comm, zero-times}
 use Rattle.fractions.proofs.Ratios.{by_four, by_three, by_two, one_denominator, ratio-one, ratio-zero, rational_cmp-ratio, times-ratio}
 use Rattle.fractions.proofs.Wholes.{ratio-multiple}
 
@@ -53,12 +53,6 @@ int_lt-decides x y = (λ e. grind (arith, ints), λ h. grind (arith, ints))
 int_le-decides : (x y : ℤ) → Decides (is_le (int_cmp x y)) (x ≤ℤ y)
 int_le-decides x y = (λ e. grind (arith, ints), λ h. grind (arith, ints))
 
-int_gt-decides : (x y : ℤ) → Decides (is_gt (int_cmp x y)) (y <ℤ x)
-int_gt-decides x y = (λ e. grind (arith, ints), λ h. grind (arith, ints))
-
-int_ge-decides : (x y : ℤ) → Decides (is_ge (int_cmp x y)) (y ≤ℤ x)
-int_ge-decides x y = (λ e. grind (arith, ints), λ h. grind (arith, ints))
-
 pub Decides-is_below : (a b : Rational) → Decides (is_below a b) (IsBelow a b)
 unfolding rational_cmp
 Decides-is_below a b = Decides-like _ (λ h. record { cross = h }) (λ h. h.cross) (int_lt-decides _ _)
@@ -66,14 +60,6 @@ Decides-is_below a b = Decides-like _ (λ h. record { cross = h }) (λ h. h.cros
 pub Decides-is_le : (a b : Rational) → Decides (is_le (rational_cmp a b)) (IsAtMost a b)
 unfolding rational_cmp
 Decides-is_le a b = Decides-like _ (λ h. record { cross = h }) (λ h. h.cross) (int_le-decides _ _)
-
-pub Decides-is_gt : (a b : Rational) → Decides (is_gt (rational_cmp a b)) (IsBelow b a)
-unfolding rational_cmp
-Decides-is_gt a b = Decides-like _ (λ h. record { cross = h }) (λ h. h.cross) (int_gt-decides _ _)
-
-pub Decides-is_ge : (a b : Rational) → Decides (is_ge (rational_cmp a b)) (IsAtMost b a)
-unfolding rational_cmp
-Decides-is_ge a b = Decides-like _ (λ h. record { cross = h }) (λ h. h.cross) (int_ge-decides _ _)
 
 -- of two, b is at most a exactly where a is not below b
 pub Decides-not_below : (a b : Rational) → Decides (not (is_below a b)) (IsAtMost b a)
@@ -121,13 +107,7 @@ below_at_most_trans = by_three _ (λ n m l d some h k. let x = below_from_ratio 
 pub at_most_below_trans : (a b c : Rational) → IsAtMost a b → IsBelow b c → IsBelow a c
 at_most_below_trans = by_three _ (λ n m l d some h k. let x = at_most_from_ratio n m d some h in let y = below_from_ratio m l d some k in below-ratio n l d some (omega (arith, ints, x, y)))
 
-pub below_trans : (a b c : Rational) → IsBelow a b → IsBelow b c → IsBelow a c
-below_trans a b c h k = below_at_most_trans a b c h (at_most_from_below b c k)
-
 -- ---- sums and differences
-
-pub at_most-plus : (a b c : Rational) → IsAtMost a b → IsAtMost (plus a c) (plus b c)
-at_most-plus = by_three _ (λ n m l d some h. let x = at_most_from_ratio n m d some h in simp one_denominator (at_most-ratio (n +ℤ l) (m +ℤ l) d some (omega (arith, ints, x))))
 
 pub at_most_from_plus : (a b c : Rational) → IsAtMost (plus a c) (plus b c) → IsAtMost a b
 at_most_from_plus = by_three _ (λ n m l d some h. let x = at_most_from_ratio (n +ℤ l) (m +ℤ l) d some (simp one_denominator at h) in at_most-ratio n m d some (omega (arith, ints, x)))
@@ -137,12 +117,6 @@ at_most-plus_plus = by_four _ (λ n m l k d some h g. let x = at_most_from_ratio
 
 pub below-plus : (a b c : Rational) → IsBelow a b → IsBelow (plus a c) (plus b c)
 below-plus = by_three _ (λ n m l d some h. let x = below_from_ratio n m d some h in simp one_denominator (below-ratio (n +ℤ l) (m +ℤ l) d some (omega (arith, ints, x))))
-
-pub below_from_plus : (a b c : Rational) → IsBelow (plus a c) (plus b c) → IsBelow a b
-below_from_plus = by_three _ (λ n m l d some h. let x = below_from_ratio (n +ℤ l) (m +ℤ l) d some (simp one_denominator at h) in below-ratio n m d some (omega (arith, ints, x)))
-
-pub below-plus_at_most : (a b c e : Rational) → IsBelow a b → IsAtMost c e → IsBelow (plus a c) (plus b e)
-below-plus_at_most = by_four _ (λ n m l k d some h g. let x = below_from_ratio n m d some h in let y = at_most_from_ratio l k d some g in simp one_denominator (below-ratio (n +ℤ l) (m +ℤ k) d some (omega (arith, ints, x, y))))
 
 -- a lesser value less a greater one
 pub at_most-minus_minus : (a b c e : Rational) → IsAtMost a b → IsAtMost c e → IsAtMost (minus a e) (minus b c)
@@ -154,24 +128,6 @@ at_most-minus_right = by_three _ (λ n m l d some h. let x = at_most_from_ratio 
 
 pub at_most_from_minus_right : (a b c : Rational) → IsAtMost a (minus b c) → IsAtMost (plus a c) b
 at_most_from_minus_right = by_three _ (λ n m l d some h. let x = at_most_from_ratio n (m -ℤ l) d some (simp one_denominator at h) in simp one_denominator (at_most-ratio (n +ℤ l) m d some (omega (arith, ints, x))))
-
-pub below-minus_right : (a b c : Rational) → IsBelow (plus a c) b → IsBelow a (minus b c)
-below-minus_right = by_three _ (λ n m l d some h. let x = below_from_ratio (n +ℤ l) m d some (simp one_denominator at h) in simp one_denominator (below-ratio n (m -ℤ l) d some (omega (arith, ints, x))))
-
-pub below_from_minus_right : (a b c : Rational) → IsBelow a (minus b c) → IsBelow (plus a c) b
-below_from_minus_right = by_three _ (λ n m l d some h. let x = below_from_ratio n (m -ℤ l) d some (simp one_denominator at h) in simp one_denominator (below-ratio (n +ℤ l) m d some (omega (arith, ints, x))))
-
-pub at_most-minus_left : (a b c : Rational) → IsAtMost a (plus b c) → IsAtMost (minus a c) b
-at_most-minus_left = by_three _ (λ n m l d some h. let x = at_most_from_ratio n (m +ℤ l) d some (simp one_denominator at h) in simp one_denominator (at_most-ratio (n -ℤ l) m d some (omega (arith, ints, x))))
-
-pub at_most_from_minus_left : (a b c : Rational) → IsAtMost (minus a c) b → IsAtMost a (plus b c)
-at_most_from_minus_left = by_three _ (λ n m l d some h. let x = at_most_from_ratio (n -ℤ l) m d some (simp one_denominator at h) in simp one_denominator (at_most-ratio n (m +ℤ l) d some (omega (arith, ints, x))))
-
-pub at_most-minus : (a b c : Rational) → IsAtMost a b → IsAtMost (minus a c) (minus b c)
-at_most-minus a b c h = at_most-minus_minus a b c c h (at_most_refl c)
-
-pub at_most_from_minus : (a b c : Rational) → IsAtMost (minus a c) (minus b c) → IsAtMost a b
-at_most_from_minus = by_three _ (λ n m l d some h. let x = at_most_from_ratio (n -ℤ l) (m -ℤ l) d some (simp one_denominator at h) in at_most-ratio n m d some (omega (arith, ints, x)))
 
 -- what is taken away turns the order
 pub at_most_from_minus_turned : (a b c : Rational) → IsAtMost (minus c b) (minus c a) → IsAtMost a b
@@ -244,21 +200,8 @@ at_most-times = by_three _ (λ n m l d some h k. let square = mul-pos some some 
 pub at_most-times_left : (c a b : Rational) → IsAtMost rational_zero c → IsAtMost a b → IsAtMost (times c a) (times c b)
 at_most-times_left c a b some h = subst₂ IsAtMost (times_comm a c) (times_comm b c) (at_most-times a b c some h)
 
-pub below-times : (a b c : Rational) → IsBelow rational_zero c → IsBelow a b → IsBelow (times a c) (times b c)
-below-times = by_three _ (λ n m l d some h k. let square = mul-pos some some in
-    simp times-ratio (below-ratio (n *ℤ l) (m *ℤ l) (d * d) square (*ℤ-<ℤ_right l n m (positive_from_ratio l d some h) (below_from_ratio n m d some k))))
-
-pub at_most_from_times : (a b c : Rational) → IsBelow rational_zero c → IsAtMost (times a c) (times b c) → IsAtMost a b
-at_most_from_times a b c some h = ⊎_elim (λ less. absurd (below_not_at_most (times b c) (times a c) (below-times b a c some less) h)) (λ more. more) (below_or_at_most b a)
-
-pub below_from_times : (a b c : Rational) → IsAtMost rational_zero c → IsBelow (times a c) (times b c) → IsBelow a b
-below_from_times a b c some h = ⊎_elim (λ less. less) (λ more. absurd (below_not_at_most (times a c) (times b c) h (at_most-times b a c some more))) (below_or_at_most a b)
-
 pub not_negative-times : (a b : Rational) → IsAtMost rational_zero a → IsAtMost rational_zero b → IsAtMost rational_zero (times a b)
 not_negative-times a b one two = subst (λ x. IsAtMost x (times a b)) (zero-times b) (at_most-times rational_zero a b two one)
-
-pub positive-times : (a b : Rational) → IsBelow rational_zero a → IsBelow rational_zero b → IsBelow rational_zero (times a b)
-positive-times a b one two = subst (λ x. IsBelow x (times a b)) (zero-times b) (below-times rational_zero a b two one)
 
 -- a factor that is not above 0 turns the order
 pub times-turned : (f h x : Rational) → IsAtMost f h → IsAtMost x rational_zero → IsAtMost (times h x) (times f x)
@@ -274,45 +217,13 @@ pub positive_factor : (f x : Rational) → IsAtMost rational_zero f → IsBelow 
 positive_factor f x some h =
     below_from_not_at_most rational_zero x (λ none. below_not_at_most rational_zero (times f x) h (subst (IsAtMost (times f x)) (times-zero f) (at_most-times_left f x rational_zero some none)))
 
--- a quotient by what is above 0, by the product
-pub at_most-over_right : (q a b : Rational) → IsBelow rational_zero b → IsAtMost (times q b) a → IsAtMost q (over a b)
-at_most-over_right q a b some h = at_most_from_times q (over a b) b some (rw (over-times a b (positive-nonzero b some)) h)
-
-pub at_most-over_left : (q a b : Rational) → IsBelow rational_zero b → IsAtMost a (times q b) → IsAtMost (over a b) q
-at_most-over_left q a b some h = at_most_from_times (over a b) q b some (rw (over-times a b (positive-nonzero b some)) h)
-
-pub at_most-over : (a b c : Rational) → IsBelow rational_zero c → IsAtMost a b → IsAtMost (over a c) (over b c)
-at_most-over a b c some h = at_most-over_right (over a c) b c some (rw (over-times a c (positive-nonzero c some)) h)
-
-pub below-over : (a b c : Rational) → IsBelow rational_zero c → IsBelow a b → IsBelow (over a c) (over b c)
-below-over a b c some h =
-    let nonzero = positive-nonzero c some in
-    below_from_times (over a c) (over b c) c (at_most_from_below rational_zero c some) (rw (over-times a c nonzero, over-times b c nonzero) h)
-
--- by the products crosswise
-pub at_most-over_over : (a b c e : Rational) → IsBelow rational_zero c → IsBelow rational_zero e → IsAtMost (times a e) (times b c) → IsAtMost (over a c) (over b e)
-at_most-over_over a b c e some other h =
-    at_most-over_left (over b e) a c some (subst (IsAtMost a) (sym (times_comm (over b e) c ∙ times-over_assoc c b e ∙ ap (λ x. over x e) (times_comm c b))) (at_most-over_right a (times b c) e other h))
-
-pub not_negative-over : (a b : Rational) → IsAtMost rational_zero a → IsBelow rational_zero b → IsAtMost rational_zero (over a b)
-not_negative-over a b one two = at_most-over_right rational_zero a b two (rw (zero-times b) one)
-
-pub positive-over : (a b : Rational) → IsBelow rational_zero a → IsBelow rational_zero b → IsBelow rational_zero (over a b)
-positive-over a b one two = subst (λ x. IsBelow x (over a b)) (zero-over b) (below-over rational_zero a b two one)
-
 -- ---- against whole numbers
 
 pub at_most-whole : (n m : ℤ) → n ≤ℤ m → IsAtMost (whole n) (whole m)
 at_most-whole n m h = rw (← ratio-one n, ← ratio-one m) (at_most-ratio n m 1 (omega arith) h)
 
-pub at_most_from_whole : (n m : ℤ) → IsAtMost (whole n) (whole m) → n ≤ℤ m
-at_most_from_whole n m h = at_most_from_ratio n m 1 (omega arith) (rw (ratio-one n, ratio-one m) h)
-
 pub below-whole : (n m : ℤ) → n <ℤ m → IsBelow (whole n) (whole m)
 below-whole n m h = rw (← ratio-one n, ← ratio-one m) (below-ratio n m 1 (omega arith) h)
-
-pub below_from_whole : (n m : ℤ) → IsBelow (whole n) (whole m) → n <ℤ m
-below_from_whole n m h = below_from_ratio n m 1 (omega arith) (rw (ratio-one n, ratio-one m) h)
 
 pub at_most-ratio_whole : (n m : ℤ) (d : ℕ) → 0 < d → n ≤ℤ (m *ℤ pos d) → IsAtMost (ratio n d) (whole m)
 at_most-ratio_whole n m d some h = rw (← ratio-multiple m d some) (at_most-ratio n (m *ℤ pos d) d some h)

@@ -44,11 +44,3 @@ halve x y some h =
 
 pub steps_left-decreases : (x y : ℕ) → 0 < y → steps_left y (x % y) < steps_left x y
 steps_left-decreases x y some = ⊎_elim (exchange x y) (halve x y some) (cases_lt x y)
-
--- two numbers of 128 bits take at most 257 steps
-pub steps_left-bound : (x y : ℕ) → x < 2 ^ 128 → y < 2 ^ 128 → steps_left x y ≤ 257
-unfolding steps_left binary_digits
-steps_left-bound x y hx hy =
-    let one = length-digits_of-le 2 128 x (omega arith) hx in
-    let other = length-digits_of-le 2 128 y (omega arith) hy in
-    grind (arith, nat_tests)

@@ -1,6 +1,5 @@
 -- The laws of products and quotients.
-use Rattle.std.proofs.Common.{◌≡◌, ◌≢◌, ◌∙◌, ◌*◌, ◌<◌, ◌*ℤ◌, ⊎_elim, ℕ, pos, int_lt, unsigned_abs, Bool, true, false, refl, sym, ap, ap₂, arith}
-use Rattle.std.proofs.lemmas.Int.{ints}
+use Rattle.std.proofs.Common.{◌≡◌, ◌≢◌, ◌∙◌, ◌*◌, ◌<◌, ◌*ℤ◌, ⊎_elim, ℕ, pos, int_lt, unsigned_abs, Bool, true, false, sym, ap, ap₂, arith}
 use Rattle.std.proofs.Math.IntN.{*ℤ-zero, *ℤ_comm}
 use Rattle.std.proofs.Math.Nat.{eq-zero-or-pos, mul-one, mul-pos}
 use Rattle.sums.proofs.ProductLemmas.{*ℤ-+ℤ, *ℤ--ℤ, *ℤ-pos_one, *ℤ_assoc}
@@ -23,9 +22,6 @@ times_assoc = by_three _ (λ n m l d some.
 pub times-one : (a : Rational) → times a rational_one ≡ a
 times-one = by_one _ (λ n d some. ap (times (ratio n d)) (sym (ratio-one (pos 1))) ∙ times-ratio n (pos 1) d 1 some (omega arith) ∙ ap₂ ratio (*ℤ-pos_one n) (mul-one d))
 
-pub one-times : (a : Rational) → times rational_one a ≡ a
-one-times a = times_comm rational_one a ∙ times-one a
-
 pub times-zero : (a : Rational) → times a rational_zero ≡ rational_zero
 times-zero = by_one _ (λ n d some. ap (times (ratio n d)) (sym (ratio-one (pos 0))) ∙ times-ratio n (pos 0) d 1 some (omega arith) ∙ ap (λ z. ratio z (d * 1)) (*ℤ-zero n) ∙ ratio-zero (d * 1))
 
@@ -41,14 +37,8 @@ times-minus = by_three _ (λ n m l d some. simp (one_denominator, times-ratio) (
 pub plus-times : (a b c : Rational) → times (plus a b) c ≡ plus (times a c) (times b c)
 plus-times a b c = times_comm (plus a b) c ∙ times-plus c a b ∙ ap₂ plus (times_comm c a) (times_comm c b)
 
-pub minus-times : (a b c : Rational) → times (minus a b) c ≡ minus (times a c) (times b c)
-minus-times a b c = times_comm (minus a b) c ∙ times-minus c a b ∙ ap₂ minus (times_comm c a) (times_comm c b)
-
 pub times_swap : (a b c : Rational) → times (times a b) c ≡ times (times a c) b
 times_swap a b c = times_assoc a b c ∙ ap (times a) (times_comm b c) ∙ sym (times_assoc a c b)
-
-pub times-interchange : (a b c e : Rational) → times (times a b) (times c e) ≡ times (times a c) (times b e)
-times-interchange a b c e = sym (times_assoc (times a b) c e) ∙ ap (λ x. times x e) (times_swap a b c) ∙ times_assoc (times a c) b e
 
 -- ---- reciprocals
 
@@ -72,9 +62,6 @@ times-reciprocal a some =
     ap (λ x. times x (reciprocal a)) (sym (ratio-self a)) ∙ times-ratio a.num (signed negative a.den) a.den size a.positive above ∙ ap (λ z. ratio z (a.den * size)) product
     ∙ ratio-same (pos (size * a.den)) (pos 1) (a.den * size) 1 (mul-pos a.positive above) (omega arith) (ap pos (omega arith)) ∙ ratio-one (pos 1)
 
-pub one≢zero : rational_one ≢ rational_zero
-one≢zero same = let nums : pos 1 ≡ pos 0 = ap (λ a. a.num) same in absurd (omega (arith, ints, nums))
-
 -- ---- cancelling
 
 pub times_cancel_right : (a b c : Rational) → c ≢ rational_zero → times a c ≡ times b c → a ≡ b
@@ -82,12 +69,6 @@ times_cancel_right a b c some same = sym (back a) ∙ ap (λ x. times x (recipro
   where
     back : (x : Rational) → times (times x c) (reciprocal c) ≡ x
     back x = times_assoc x c (reciprocal c) ∙ ap (times x) (times-reciprocal c some) ∙ times-one x
-
-pub times_cancel_left : (a b c : Rational) → c ≢ rational_zero → times c a ≡ times c b → a ≡ b
-times_cancel_left a b c some same = times_cancel_right a b c some (times_comm a c ∙ same ∙ times_comm c b)
-
-pub times-nonzero : (a b : Rational) → a ≢ rational_zero → b ≢ rational_zero → times a b ≢ rational_zero
-times-nonzero a b some other none = some (times_cancel_right a rational_zero b other (none ∙ sym (zero-times b)))
 
 -- ---- quotients
 
@@ -102,36 +83,3 @@ times-over a b some = times_comm b (over a b) ∙ over-times a b some
 -- what times the divisor is a, is the quotient
 pub over_from_times : (q a b : Rational) → b ≢ rational_zero → times q b ≡ a → q ≡ over a b
 over_from_times q a b some same = times_cancel_right q (over a b) b some (same ∙ sym (over-times a b some))
-
-pub over-cancel_factor : (a b : Rational) → b ≢ rational_zero → over (times a b) b ≡ a
-over-cancel_factor a b some = sym (over_from_times a (times a b) b some refl)
-
-pub over-cancel : (a b c : Rational) → b ≢ rational_zero → c ≢ rational_zero → over (times a c) (times b c) ≡ over a b
-over-cancel a b c some other =
-    sym (over_from_times (over a b) (times a c) (times b c) (times-nonzero b c some other) (sym (times_assoc (over a b) b c) ∙ ap (λ x. times x c) (over-times a b some)))
-
-pub over-plus : (a b c : Rational) → over (plus a b) c ≡ plus (over a c) (over b c)
-unfolding over
-over-plus a b c = plus-times a b (reciprocal c)
-
-pub over-minus : (a b c : Rational) → over (minus a b) c ≡ minus (over a c) (over b c)
-unfolding over
-over-minus a b c = minus-times a b (reciprocal c)
-
-pub times-over_assoc : (a b c : Rational) → times a (over b c) ≡ over (times a b) c
-unfolding over
-times-over_assoc a b c = sym (times_assoc a b (reciprocal c))
-
-pub zero-over : (b : Rational) → over rational_zero b ≡ rational_zero
-unfolding over
-zero-over b = zero-times (reciprocal b)
-
-pub over-self : (a : Rational) → a ≢ rational_zero → over a a ≡ rational_one
-over-self a some = sym (over_from_times rational_one a a some (one-times a))
-
-pub over-one : (a : Rational) → over a rational_one ≡ a
-over-one a = sym (over_from_times a a rational_one one≢zero (times-one a))
-
--- the mean of two equal values, with any weights
-pub over-same_values : (a b t : Rational) → plus a b ≢ rational_zero → over (plus (times a t) (times b t)) (plus a b) ≡ t
-over-same_values a b t some = ap (λ x. over x (plus a b)) (sym (plus-times a b t) ∙ times_comm (plus a b) t) ∙ over-cancel_factor t (plus a b) some

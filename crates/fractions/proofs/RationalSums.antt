@@ -1,37 +1,24 @@
 -- Sums of rationals over lists.
-use Rattle.std.proofs.Common.{◌≡◌, ◌≢◌, ◌∙◌, ◌⊎◌, inl, inr, ◌+◌, ◌<◌, ◌≤◌, ◌+ℤ◌, ℕ, ℤ, zero, suc, pos, Bool, true, false, cond, Some, List, [], ◌∷◌, ◌++◌, length, get_or, take, map, refl, sym, ap, ap₂, arith}
-use Rattle.std.specs.Prelude.{All, AllPairs, Contains, count_by, filter, slice_get, if◌then◌else◌, ◌==◌, ◌||◌}
+use Rattle.std.proofs.Common.{◌≡◌, ◌≢◌, ◌∙◌, ◌⊎◌, inl, inr, ◌+◌, ◌<◌, ◌≤◌, ◌+ℤ◌, ℕ, ℤ, zero, suc, pos, Bool, true, false, cond, Some, List, [], ◌∷◌, ◌++◌, length, get_or, map, refl, sym, ap, ap₂, arith}
+use Rattle.std.specs.Prelude.{All, AllPairs, Contains, count_by, slice_get, if◌then◌else◌, ◌==◌, ◌||◌}
 use Rattle.std.specs.List.{enumerate_from, find, flat_map, list_any, range_with_len}
 use Rattle.std.specs.Option.{option_map_or}
 use Rattle.std.proofs.lemmas.Bool.{cases_eq, eq-eqb, ne_eqb}
-use Rattle.std.proofs.lemmas.List.{take_more}
 use Rattle.std.proofs.lemmas.List.Elements.{All-head, All-tail, All-weaker}
 use Rattle.std.proofs.lemmas.List.Folds.{list_any_at, list_any_none}
 use Rattle.sums.proofs.CountLemmas.{count_by-cons}
 use Rattle.sums.proofs.EnumerationLemmas.{All-enumerated, map-enumerate_from_index, map-enumerate_from_item}
 use Rattle.sums.proofs.OrderLemmas.{AllPairs-head, AllPairs-tail, Contains-cons}
-use Rattle.fractions.specs.Rationals.{IsAtMost, Rational, minus, over, plus, ratio, rational_sum_by, rational_zero, times, whole}
+use Rattle.fractions.specs.Rationals.{IsAtMost, Rational, minus, plus, ratio, rational_sum_by, rational_zero, whole}
 use Rattle.fractions.proofs.Comparisons.{at_most-plus_left, at_most-plus_plus, at_most-plus_right, at_most_refl, at_most_trans, not_negative-plus}
-use Rattle.fractions.proofs.Products.{over-plus, times-plus, times-zero, zero-over}
 use Rattle.fractions.proofs.Ratios.{plus-ratio_same_den, ratio-zero}
 use Rattle.fractions.proofs.Sums.{minus-interchange, minus-self, plus-interchange, plus-zero, plus_assoc, plus_swap_left, zero-plus}
 use Rattle.fractions.proofs.Wholes.{whole-plus}
 
 module _ {X : Type 0} where
-  pub rational_sum_by-one : (f : X → Rational) (x : X) → rational_sum_by f (x ∷ []) ≡ f x
-  rational_sum_by-one f x = plus-zero (f x)
-
-  pub rational_sum_by-two : (f : X → Rational) (x y : X) → rational_sum_by f (x ∷ y ∷ []) ≡ plus (f x) (f y)
-  rational_sum_by-two f x y = ap (plus (f x)) (plus-zero (f y))
-
   pub rational_sum_by-append : (f : X → Rational) (xs ys : List X) → rational_sum_by f (xs ++ ys) ≡ plus (rational_sum_by f xs) (rational_sum_by f ys)
   rational_sum_by-append f [] ys = sym (zero-plus (rational_sum_by f ys))
   rational_sum_by-append f (x ∷ xs) ys = ap (plus (f x)) (rational_sum_by-append f xs ys) ∙ sym (plus_assoc (f x) (rational_sum_by f xs) (rational_sum_by f ys))
-
-  -- a loop's step
-  pub rational_sum_by-more : (f : X → Rational) (xs : List X) (i : ℕ) (d : X) → i < length xs → rational_sum_by f (take (i + 1) xs) ≡ plus (rational_sum_by f (take i xs)) (f (get_or xs i d))
-  rational_sum_by-more f xs i d within =
-      ap (rational_sum_by f) (take_more xs i d within) ∙ rational_sum_by-append f (take i xs) (get_or xs i d ∷ []) ∙ ap (plus (rational_sum_by f (take i xs))) (plus-zero (f (get_or xs i d)))
 
   pub rational_sum_by-same : (f g : X → Rational) (xs : List X) → All (λ x. f x ≡ g x) xs → rational_sum_by f xs ≡ rational_sum_by g xs
   rational_sum_by-same f g [] h = refl
@@ -53,15 +40,6 @@ module _ {X : Type 0} where
   rational_sum_by-minus f g [] = sym (minus-self rational_zero)
   rational_sum_by-minus f g (x ∷ xs) = ap (plus (minus (f x) (g x))) (rational_sum_by-minus f g xs) ∙ sym (minus-interchange (f x) (rational_sum_by f xs) (g x) (rational_sum_by g xs))
 
-  -- a factor goes into a sum, and a divisor
-  pub times-rational_sum_by : (a : Rational) (f : X → Rational) (xs : List X) → times a (rational_sum_by f xs) ≡ rational_sum_by (λ x. times a (f x)) xs
-  times-rational_sum_by a f [] = times-zero a
-  times-rational_sum_by a f (x ∷ xs) = times-plus a (f x) (rational_sum_by f xs) ∙ ap (plus (times a (f x))) (times-rational_sum_by a f xs)
-
-  pub over-rational_sum_by : (f : X → Rational) (b : Rational) (xs : List X) → over (rational_sum_by f xs) b ≡ rational_sum_by (λ x. over (f x) b) xs
-  over-rational_sum_by f b [] = zero-over b
-  over-rational_sum_by f b (x ∷ xs) = over-plus (f x) (rational_sum_by f xs) b ∙ ap (plus (over (f x) b)) (over-rational_sum_by f b xs)
-
   -- a sum of ratios over one denominator, and of whole numbers, where `total` sums the numerators
   pub rational_sum_by-ratio : (f : X → ℤ) (total : List X → ℤ) (d : ℕ) → total [] ≡ pos 0 → ((x : X) (xs : List X) → total (x ∷ xs) ≡ f x +ℤ total xs) → (xs : List X) → rational_sum_by (λ x. ratio (f x) d) xs ≡ ratio (total xs) d
   rational_sum_by-ratio f total d none more [] = sym (ratio-zero d) ∙ ap (λ n. ratio n d) (sym none)
@@ -71,15 +49,6 @@ module _ {X : Type 0} where
   pub rational_sum_by-whole : (f : X → ℤ) (total : List X → ℤ) → total [] ≡ pos 0 → ((x : X) (xs : List X) → total (x ∷ xs) ≡ f x +ℤ total xs) → (xs : List X) → rational_sum_by (λ x. whole (f x)) xs ≡ whole (total xs)
   rational_sum_by-whole f total none more [] = ap whole (sym none)
   rational_sum_by-whole f total none more (x ∷ xs) = ap (plus (whole (f x))) (rational_sum_by-whole f total none more xs) ∙ whole-plus (f x) (total xs) ∙ ap whole (sym (more x xs))
-
-  pub rational_sum_by-filter : (p : X → Bool) (f : X → Rational) (xs : List X) → rational_sum_by f (filter p xs) ≡ rational_sum_by (λ x. if p x then f x else rational_zero) xs
-  rational_sum_by-filter p f [] = refl
-  rational_sum_by-filter p f (x ∷ xs) = by (p x) (rational_sum_by-filter p f xs)
-    where
-      by : (b : Bool) → rational_sum_by f (filter p xs) ≡ rational_sum_by (λ y. if p y then f y else rational_zero) xs
-          → rational_sum_by f (cond b (x ∷ filter p xs) (filter p xs)) ≡ plus (if b then f x else rational_zero) (rational_sum_by (λ y. if p y then f y else rational_zero) xs)
-      by true rest = ap (plus (f x)) rest
-      by false rest = rest ∙ sym (zero-plus (rational_sum_by (λ y. if p y then f y else rational_zero) xs))
 
   -- ---- order
 
@@ -133,9 +102,6 @@ module _ {X : Type 0} where
   pub sum-items : (f : ℕ × X → Rational) (g : X → Rational) (xs : List X) → ((i : ℕ) (x : X) → slice_get xs i ≡ Some x → f (i, x) ≡ g x) → rational_sum_by f (enumerate_from 0 xs) ≡ rational_sum_by g xs
   sum-items f g xs h =
       sum-enumerated f (λ p. g p.1) xs h ∙ sym (rational_sum_by-map g (λ (p : ℕ × X). p.1) (enumerate_from 0 xs)) ∙ ap (rational_sum_by g) (map-enumerate_from_item 0 xs)
-
-  pub at_most-enumerated : (f g : ℕ × X → Rational) (xs : List X) → ((i : ℕ) (x : X) → slice_get xs i ≡ Some x → IsAtMost (f (i, x)) (g (i, x))) → IsAtMost (rational_sum_by f (enumerate_from 0 xs)) (rational_sum_by g (enumerate_from 0 xs))
-  at_most-enumerated f g xs h = at_most-rational_sum_by f g (enumerate_from 0 xs) (All-enumerated (λ p. IsAtMost (f p) (g p)) xs h)
 
   pub not_negative-enumerated : (f : ℕ × X → Rational) (xs : List X) → ((i : ℕ) (x : X) → slice_get xs i ≡ Some x → IsAtMost rational_zero (f (i, x))) → IsAtMost rational_zero (rational_sum_by f (enumerate_from 0 xs))
   not_negative-enumerated f xs h = not_negative-rational_sum_by f (enumerate_from 0 xs) (All-enumerated (λ p. IsAtMost rational_zero (f p)) xs h)

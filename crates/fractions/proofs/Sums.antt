@@ -18,9 +18,6 @@ plus-zero = by_one _ (λ n d some. ap (plus (ratio n d)) (sym (ratio-zero d)) �
 pub zero-plus : (a : Rational) → plus rational_zero a ≡ a
 zero-plus a = plus_comm rational_zero a ∙ plus-zero a
 
-pub plus_swap : (a b c : Rational) → plus (plus a b) c ≡ plus (plus a c) b
-plus_swap = by_three _ (λ n m l d some. simp one_denominator (ap (λ k. ratio k d) (omega (arith, ints))))
-
 pub plus_swap_left : (a b c : Rational) → plus a (plus b c) ≡ plus b (plus a c)
 plus_swap_left = by_three _ (λ n m l d some. simp one_denominator (ap (λ k. ratio k d) (omega (arith, ints))))
 
@@ -40,15 +37,6 @@ minus-plus = by_two _ (λ n m d some. simp one_denominator (ap (λ k. ratio k d)
 
 pub plus-minus : (a b : Rational) → plus (minus a b) b ≡ a
 plus-minus = by_two _ (λ n m d some. simp one_denominator (ap (λ k. ratio k d) (omega (arith, ints))))
-
-pub plus_minus_assoc : (a b c : Rational) → plus a (minus b c) ≡ minus (plus a b) c
-plus_minus_assoc = by_three _ (λ n m l d some. simp one_denominator (ap (λ k. ratio k d) (omega (arith, ints))))
-
-pub minus-minus : (a b c : Rational) → minus a (minus b c) ≡ plus (minus a b) c
-minus-minus = by_three _ (λ n m l d some. simp one_denominator (ap (λ k. ratio k d) (omega (arith, ints))))
-
-pub minus-plus_right : (a b c : Rational) → minus a (plus b c) ≡ minus (minus a b) c
-minus-plus_right = by_three _ (λ n m l d some. simp one_denominator (ap (λ k. ratio k d) (omega (arith, ints))))
 
 pub minus-minus_same : (a b c : Rational) → minus (minus a c) (minus b c) ≡ minus a b
 minus-minus_same = by_three _ (λ n m l d some. simp one_denominator (ap (λ k. ratio k d) (omega (arith, ints))))
@@ -73,6 +61,3 @@ plus_cancel_left a b c same = plus_cancel_right a b c (plus_comm a c ∙ same �
 -- what is left of a behind b is what b lacks of a
 pub minus_from_plus : (a b c : Rational) → plus c b ≡ a → c ≡ minus a b
 minus_from_plus a b c same = sym (minus-plus c b) ∙ ap (λ x. minus x b) same
-
-pub same_from_minus : (a b : Rational) → minus a b ≡ rational_zero → a ≡ b
-same_from_minus a b none = sym (plus-minus a b) ∙ ap (λ x. plus x b) none ∙ zero-plus b

@@ -1,8 +1,6 @@
 -- Whole numbers among the rationals, and ratios as quotients of them.
 use Rattle.std.proofs.Common.{◌≡◌, ◌≢◌, ◌∙◌, ◌<◌, ◌+ℤ◌, ◌-ℤ◌, ◌*ℤ◌, ℕ, ℤ, pos, sym, ap, arith}
-use Rattle.std.proofs.lemmas.Int.{ints}
-use Rattle.fractions.specs.Rationals.{minus, over, plus, ratio, rational_zero, times, whole}
-use Rattle.fractions.proofs.Products.{over_from_times, times_comm, zero-times}
+use Rattle.fractions.specs.Rationals.{minus, plus, ratio, rational_zero, times, whole}
 use Rattle.fractions.proofs.Ratios.{minus-ratio_same_den, plus-ratio_same_den, ratio-cancel, ratio-one, times-ratio}
 
 pub whole-plus : (n m : ℤ) → plus (whole n) (whole m) ≡ whole (n +ℤ m)
@@ -28,18 +26,3 @@ ratio-multiple n d some = ap (ratio (n *ℤ pos d)) (omega arith) ∙ ratio-canc
 pub ratio-times_den : (n : ℤ) (d : ℕ) → 0 < d → times (ratio n d) (whole (pos d)) ≡ whole n
 ratio-times_den n d some =
     ap (times (ratio n d)) (sym (ratio-one (pos d))) ∙ times-ratio n (pos d) d 1 some (omega arith) ∙ ap (ratio (n *ℤ pos d)) (omega arith) ∙ ratio-multiple n d some
-
-pos-nonzero : (d : ℕ) → 0 < d → whole (pos d) ≢ rational_zero
-pos-nonzero d some = whole-nonzero (pos d) (λ none. absurd (omega (arith, ints, none)))
-
--- a ratio is a quotient of whole numbers
-pub over-whole : (n : ℤ) (d : ℕ) → 0 < d → over (whole n) (whole (pos d)) ≡ ratio n d
-over-whole n d some = sym (over_from_times (ratio n d) (whole n) (whole (pos d)) (pos-nonzero d some) (ratio-times_den n d some))
-
--- its numerator over it is its denominator
-pub over-ratio_num : (n : ℤ) (d : ℕ) → n ≢ pos 0 → 0 < d → over (whole n) (ratio n d) ≡ whole (pos d)
-over-ratio_num n d some positive =
-    sym (over_from_times (whole (pos d)) (whole n) (ratio n d) nonzero (times_comm (whole (pos d)) (ratio n d) ∙ ratio-times_den n d positive))
-  where
-    nonzero : ratio n d ≢ rational_zero
-    nonzero none = some (same_from_whole n (pos 0) (sym (ratio-times_den n d positive) ∙ ap (λ x. times x (whole (pos d))) none ∙ zero-times (whole (pos d))))

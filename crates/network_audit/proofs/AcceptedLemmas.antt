@@ -1,11 +1,6 @@
 -- What is known of a network that an auditor has accepted.
 use Rattle.std.proofs.Common.{Some, subst}
-use Rattle.stream_case.specs.Case.{IsComplete}
-use Rattle.stream_case.specs.declared.case.Case.{Case}
-use Rattle.networks.specs.Shape.{HasShape}
-use Rattle.networks.specs.declared.network.Network.{Network}
-use Rattle.network_audit.specs.Audit.{Audit, HasAccepted, IsFaultless, KnowsItsNetwork}
-use Rattle.network_audit.specs.Valid.{IsValidNetwork}
+use Rattle.network_audit.proofs.Words.{Audit, Case, HasAccepted, HasShape, IsComplete, IsFaultless, IsValidNetwork, KnowsItsNetwork, Network}
 use Rattle.network_audit.proofs.ValidLemmas.{valid_network}
 
 pub record IsKnown (case : Case) (network : Network) : Type 0 where

@@ -1,16 +1,7 @@
 -- What follows the statements of an audit, read from the tables of the exchangers and the utilities.
 use Rattle.std.proofs.Common.{◌≡◌, ◌∙◌, ◌++◌, List, None, length, sym, ap, ap₂, arith}
 use Rattle.std.specs.List.{enumerate_from, flat_map}
-use Rattle.stream_case.specs.declared.case.Case.{Case}
-use Rattle.stream_case.specs.declared.utility.Utility.{Utility}
-use Rattle.networks.specs.Shape.{HasShape}
-use Rattle.networks.specs.declared.network.Network.{Network}
-use Rattle.network_values.specs.Values.{Valuation}
-use Rattle.network_audit.specs.AllItems.{balance_items, items, items_behind, utility_items}
-use Rattle.network_audit.specs.Items.{exchanger_items, first_finding, items_before, statement_items, stream_items}
-use Rattle.network_audit.specs.Joints.{joints_of}
-use Rattle.network_audit.specs.Table.{all_heat_items, joint_items}
-use Rattle.network_audit.specs.declared.joints.Joint.{Joint}
+use Rattle.network_audit.proofs.Words.{Case, HasShape, Joint, Network, Utility, Valuation, all_heat_items, balance_items, exchanger_items, first_finding, items, items_before, items_behind, joint_items, joints_of, statement_items, stream_items, utility_items}
 use Rattle.network_audit.proofs.FoundLemmas.{found-behind, passed-all}
 use Rattle.network_audit.proofs.TableLemmas.{heat_items-are, joint_items-are}
 use Rattle.network_audit.proofs.ValidLemmas.{items-whole}

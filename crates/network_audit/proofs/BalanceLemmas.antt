@@ -6,21 +6,9 @@ use Rattle.std.proofs.lemmas.List.{get_or_default}
 use Rattle.std.proofs.lemmas.List.FromFn.{get_or-enumerate_from}
 use Rattle.std.proofs.lemmas.List.Elements.{All-head, All-tail}
 use Rattle.sums.proofs.EnumerationLemmas.{All-enumerated}
-use Rattle.stream_case.specs.Source.{same_side}
-use Rattle.stream_case.specs.declared.case.Case.{Case}
-use Rattle.stream_case.specs.declared.source.Side.{Side}
+use Rattle.network_audit.proofs.Words.{Case, HasShape, Item, Network, Rational, Side, Step, Utility, balance_in, balance_items, balance_of, balance_steps_in, cost_of, cost_steps, duties_in, heat_at, heat_on, heat_on_in, heat_price, heat_with, heats_in, heats_on, heats_on_in, hot_target, joints_of, minus, price_in, prices_in, rational_sum, rational_zero, same_side, sum_steps, times, whole}
 use Rattle.stream_case.specs.declared.source.Side.TheVariants as side
-use Rattle.stream_case.specs.declared.utility.Utility.{Utility}
-use Rattle.problem_table.specs.Deficit.{hot_target}
-use Rattle.fractions.specs.Rationals.{Rational, minus, rational_sum, rational_zero, times, whole}
 use Rattle.fractions.proofs.RationalSums.{rational_sum_by-map}
-use Rattle.networks.specs.Shape.{HasShape}
-use Rattle.networks.specs.declared.network.Network.{Network}
-use Rattle.network_audit.specs.AllItems.{balance_items, cost_steps, heat_on, heats_on, sum_steps}
-use Rattle.network_audit.specs.Balance.{balance_of, cost_of, heat_price, heat_with}
-use Rattle.network_audit.specs.Items.{Item, Step}
-use Rattle.network_audit.specs.Joints.{joints_of}
-use Rattle.network_audit.specs.Table.{balance_in, balance_steps_in, duties_in, heat_at, heat_on_in, heats_in, heats_on_in, price_in, prices_in}
 use Rattle.network_audit.specs.declared.findings.Place.TheVariants as place
 use Rattle.network_audit.proofs.JointLemmas.{get_or-made}
 use Rattle.network_audit.proofs.HeatLemmas.{cold_heat-is, hot_heat-is}

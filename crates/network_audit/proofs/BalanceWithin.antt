@@ -1,20 +1,11 @@
 -- The numbers of the balance of a network without a finding are within the limits of fractions.
 use Rattle.std.proofs.Common.{◌≡◌, ◌∙◌, ◌+◌, ◌∷◌, ◌++◌, ℕ, List, [], None, length, map, subst}
 use Rattle.std.specs.List.{enumerate_from}
-use Rattle.stream_case.specs.declared.case.Case.{Case}
+use Rattle.network_audit.proofs.Words.{Balance, Case, HasNoFinding, HasShape, IsWithinLimits, Item, Network, Place, Rational, Step, balance_items, balance_of, cost_of, cost_steps, excess_of, first_finding, heat_price, heats_on, plus, rational_zero, sum_steps}
 use Rattle.stream_case.specs.declared.source.Side.TheVariants as side
-use Rattle.fractions.specs.Rationals.{IsWithinLimits, Rational, plus, rational_zero}
 use Rattle.fractions.proofs.Limits.{Decides-is_within_limits}
 use Rattle.fractions.proofs.RationalSums.{rational_sum_by-map}
-use Rattle.networks.specs.Shape.{HasShape}
-use Rattle.networks.specs.declared.network.Network.{Network}
-use Rattle.network_audit.specs.AllItems.{balance_items, cost_steps, heats_on, sum_steps}
-use Rattle.network_audit.specs.Balance.{balance_of, cost_of, excess_of, heat_price}
-use Rattle.network_audit.specs.Findings.{HasNoFinding}
-use Rattle.network_audit.specs.Items.{Item, Step, first_finding}
-use Rattle.network_audit.specs.declared.findings.Place.{Place}
 use Rattle.network_audit.specs.declared.findings.Place.TheVariants as place
-use Rattle.network_audit.specs.declared.verdict.Balance.{Balance}
 use Rattle.network_audit.proofs.FoundLemmas.{passed-back, passed-front, passed-item, passed-rest}
 use Rattle.network_audit.proofs.HeatLemmas.{cold_heat-is, hot_heat-is}
 use Rattle.network_audit.proofs.LineSteps.{within-zero}

@@ -1,11 +1,8 @@
 -- A cost that is formed step by step: each price, and its sum with those before it.
 use Rattle.std.proofs.Common.{◌≡◌, ◌∙◌, ◌<◌, ◌≤◌, ◌+◌, ◌*◌, ◌∷◌, ◌++◌, ℕ, List, [], Some, None, length, get_or, map, take, drop, refl, sym, ap, subst, arith, length-append}
 use Rattle.std.proofs.lemmas.List.{map-append, take-append-drop, take_all, take_more}
-use Rattle.fractions.specs.Rationals.{Rational, plus, rational_sum, rational_zero}
-use Rattle.network_audit.specs.AllItems.{cost_steps}
-use Rattle.network_audit.specs.Items.{Step, first_finding}
+use Rattle.network_audit.proofs.Words.{Place, Rational, Step, cost_steps, first_finding, plus, rational_sum, rational_zero}
 use Rattle.network_audit.specs.declared.findings.Finding.TheVariants as finding
-use Rattle.network_audit.specs.declared.findings.Place.{Place}
 use Rattle.network_audit.proofs.FoundLemmas.{found-behind, found-front, found-nothing}
 use Rattle.network_audit.proofs.SumSteps.{added, added-append, added-zero}
 

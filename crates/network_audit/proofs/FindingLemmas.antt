@@ -6,18 +6,9 @@ use Rattle.std.proofs.lemmas.Bool.{cases_lt, ne_eqb}
 use Rattle.std.proofs.lemmas.List.{append-nil, take-append-drop, take-take}
 use Rattle.std.proofs.lemmas.List.Concat.{flat_map-append}
 use Rattle.sums.proofs.EnumerationLemmas.{enumerate_from-append}
-use Rattle.stream_case.specs.declared.case.Case.{Case}
-use Rattle.networks.specs.Shape.{HasShape, made_before}
-use Rattle.networks.specs.declared.network.Network.{Network}
-use Rattle.network_values.specs.Made.{front}
-use Rattle.network_values.specs.Values.{IsValuation, IsWholeValuation, Valuation}
+use Rattle.network_audit.proofs.Words.{Case, Finding, HasNoFinding, HasShape, IsFinding, IsValuation, IsVerdict, IsWholeValuation, Item, Network, Valuation, Verdict, first_finding, front, items, items_before, items_behind, made_before, statement_items}
 use Rattle.network_values.proofs.ValuationLemmas.{agree-take, one_valuation, valuation_front}
-use Rattle.network_audit.specs.AllItems.{items, items_behind}
-use Rattle.network_audit.specs.Findings.{HasNoFinding, IsFinding, IsVerdict}
-use Rattle.network_audit.specs.Items.{Item, first_finding, items_before, statement_items}
-use Rattle.network_audit.specs.declared.findings.Finding.{Finding}
 use Rattle.network_audit.specs.declared.findings.Finding.TheVariants as finding
-use Rattle.network_audit.specs.declared.verdict.Verdict.{Verdict}
 use Rattle.network_audit.specs.declared.verdict.Verdict.TheVariants as verdict
 use Rattle.network_audit.proofs.FoundLemmas.{found-front}
 use Rattle.network_audit.proofs.WalkLemmas.{items_before-same, used_early}

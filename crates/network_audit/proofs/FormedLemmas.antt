@@ -3,24 +3,10 @@ use Rattle.std.proofs.Common.{◌≡◌, ◌∙◌, ◌+◌, ◌∷◌, ◌++◌
 use Rattle.std.specs.List.{enumerate_from, flat_map}
 use Rattle.std.proofs.lemmas.Bool.{false≢true}
 use Rattle.std.proofs.lemmas.List.Elements.{All-append, All-cons, All-nil}
-use Rattle.stream_case.specs.declared.case.Case.{Case}
-use Rattle.stream_case.specs.declared.utility.Utility.{Utility}
-use Rattle.fractions.specs.Rationals.{IsWithinLimits, Rational, rational_zero}
+use Rattle.network_audit.proofs.Words.{Case, Exchanger, Finding, HasNoFinding, HasShape, IsFormed, IsValidNetwork, IsWholeValuation, IsWithinLimits, Item, Line, Network, Place, Rational, Reason, Step, Test, Utility, Valuation, balance_items, exchanger_items, exchanger_items_at, exchangers_of, finding_of, first_finding, full_size, is_ended, is_passed, items, items_behind, line_items, rational_zero, statement_items, stream_items, stream_items_at, utility_items, utility_items_at}
 use Rattle.fractions.proofs.Limits.{Decides-is_within_limits}
-use Rattle.networks.specs.Lines.{Exchanger, exchangers_of}
-use Rattle.networks.specs.Shape.{HasShape}
-use Rattle.networks.specs.declared.network.Line.{Line}
-use Rattle.networks.specs.declared.network.Network.{Network}
-use Rattle.network_values.specs.Values.{IsWholeValuation, Valuation, full_size}
-use Rattle.network_audit.specs.AllItems.{balance_items, items, items_behind, utility_items, utility_items_at}
-use Rattle.network_audit.specs.Findings.{HasNoFinding}
-use Rattle.network_audit.specs.Items.{IsFormed, Item, Step, Test, exchanger_items, exchanger_items_at, finding_of, first_finding, is_ended, is_passed, line_items, statement_items, stream_items, stream_items_at}
-use Rattle.network_audit.specs.Valid.{IsValidNetwork}
-use Rattle.network_audit.specs.declared.findings.Finding.{Finding}
 use Rattle.network_audit.specs.declared.findings.Finding.TheVariants as finding
-use Rattle.network_audit.specs.declared.findings.Place.{Place}
 use Rattle.network_audit.specs.declared.findings.Place.TheVariants as place
-use Rattle.network_audit.specs.declared.findings.Reason.{Reason}
 use Rattle.network_audit.specs.declared.findings.Reason.TheVariants as reason
 use Rattle.network_audit.proofs.FoundLemmas.{each-items, found-item}
 use Rattle.network_audit.proofs.InvalidLemmas.{invalid_network}

@@ -9,12 +9,9 @@ use Rattle.std.proofs.lemmas.List.Folds.{find-append}
 use Rattle.std.proofs.lemmas.Option.{same_Some}
 use Rattle.sums.proofs.EnumerationLemmas.{All-enumerated, enumerate_from-append}
 use Rattle.sums.proofs.ListLemmas.{All-flat_map}
-use Rattle.fractions.specs.Rationals.{Gives, Rational}
+use Rattle.network_audit.proofs.Words.{Finding, Gives, Item, Place, Rational, Step, finding_of, first_finding, is_passed}
 use Rattle.fractions.proofs.Limits.{within_formed, within_not_formed}
-use Rattle.network_audit.specs.Items.{Item, Step, finding_of, first_finding, is_passed}
-use Rattle.network_audit.specs.declared.findings.Finding.{Finding}
 use Rattle.network_audit.specs.declared.findings.Finding.TheVariants as finding
-use Rattle.network_audit.specs.declared.findings.Place.{Place}
 
 -- ---- one item
 

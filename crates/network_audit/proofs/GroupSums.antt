@@ -5,16 +5,9 @@ use Rattle.std.proofs.Math.Nat.{le_of_mul-le-mul_right, mul-le-mul}
 use Rattle.std.proofs.lemmas.Int.{unsigned_abs-mul}
 use Rattle.std.proofs.lemmas.List.Elements.{All-append, All-head, All-tail}
 use Rattle.sums.proofs.ProductLemmas.{*ℤ_cancel_right}
-use Rattle.stream_case.specs.declared.utility.Utility.{Utility}
-use Rattle.fractions.specs.Integers.{pos_above}
-use Rattle.fractions.specs.Rationals.{Rational, rational_sum, rational_zero, whole}
+use Rattle.network_audit.proofs.Words.{IsFormed, Network, Place, Rational, Utility, duties_with, pos_above, rational_sum, rational_zero, sum_steps, utility_items_at, whole}
 use Rattle.fractions.proofs.Ratios.{ratio-one, same_from_ratio}
 use Rattle.fractions.proofs.Wholes.{ratio-multiple}
-use Rattle.networks.specs.declared.network.Network.{Network}
-use Rattle.network_audit.specs.AllItems.{sum_steps, utility_items_at}
-use Rattle.network_audit.specs.Balance.{duties_with}
-use Rattle.network_audit.specs.Items.{IsFormed}
-use Rattle.network_audit.specs.declared.findings.Place.{Place}
 use Rattle.network_audit.specs.declared.findings.Place.TheVariants as place
 use Rattle.network_audit.proofs.FormedLemmas.{AreFormed, formed-none}
 use Rattle.network_audit.proofs.Sized.{IsSized, most_den, most_num, sized-plus, sized-whole}

@@ -3,24 +3,12 @@ use Rattle.std.proofs.Common.{◌≡◌, ◌≢◌, ◌∙◌, ◌<◌, ◌∷�
 use Rattle.std.specs.Prelude.{if◌then◌else◌, is_some, option_map, unwrap_or}
 use Rattle.std.specs.List.{cons_option, enumerate_from, filter_map, range_with_len}
 use Rattle.std.proofs.lemmas.Bool.{cases_eq, eq-eqb, ne_eqb}
-use Rattle.stream_case.specs.Case.{IsSourceOf, side_of}
-use Rattle.stream_case.specs.Source.{same_side, same_source}
-use Rattle.stream_case.specs.declared.case.Case.{Case}
-use Rattle.stream_case.specs.declared.source.Side.{Side}
+use Rattle.network_audit.proofs.Words.{Case, Exchanger, HasShape, IsExchanger, IsSourceOf, Network, Rational, Side, Source, Utility, cold_heat, duties_with, duty_with, exchangers_of, heat_on, heat_with, heats_on, hot_heat, plus, rational_sum, rational_sum_by, rational_zero, same_side, same_source, side_of, utility_part}
 use Rattle.stream_case.specs.declared.source.Side.TheVariants as side
-use Rattle.stream_case.specs.declared.source.Source.{Source}
 use Rattle.stream_case.specs.declared.source.Source.TheVariants as source
-use Rattle.stream_case.specs.declared.utility.Utility.{Utility}
 use Rattle.stream_case.proofs.CaseLemmas.{IsSourceOf-side}
-use Rattle.fractions.specs.Rationals.{Rational, plus, rational_sum, rational_sum_by, rational_zero}
 use Rattle.fractions.proofs.RationalSums.{but_at, one_taken, rational_sum_by-same, rational_sum_by-swap, rational_sum_by-zero, sum-enumerate}
 use Rattle.fractions.proofs.Sums.{plus-zero, zero-plus}
-use Rattle.networks.specs.Lines.{Exchanger, exchangers_of}
-use Rattle.networks.specs.Shape.{HasShape, IsExchanger}
-use Rattle.networks.specs.declared.network.Network.{Network}
-use Rattle.network_audit.specs.AllItems.{heat_on, heats_on}
-use Rattle.network_values.specs.Penalties.{hot_heat, utility_part}
-use Rattle.network_audit.specs.Balance.{cold_heat, duties_with, duty_with, heat_with}
 
 -- ---- sums of what is there
 

@@ -5,35 +5,15 @@ use Rattle.std.specs.List.{enumerate_from, flat_map}
 use Rattle.std.proofs.lemmas.Bool.{false≢true}
 use Rattle.std.proofs.lemmas.List.Elements.{All-append, All-cons, All-from_recursion, All-head, All-nil}
 use Rattle.std.proofs.lemmas.Option.{slice_get_within}
-use Rattle.stream_case.specs.Case.{is_forbidden}
-use Rattle.stream_case.specs.declared.case.Case.{Case}
+use Rattle.network_audit.proofs.Words.{AreEnded, BranchValue, Case, Decides-rational_eq, Exchanger, HasShape, IsFinding, IsFullEnd, IsInRange, IsPermitted, IsValidNetwork, IsValuation, IsWholeValuation, Item, KeepsApproach, Line, Network, Place, Rational, Reason, Step, Stream, Test, Utility, Valuation, balance_items, branch_side, cost_steps, duties_with, duty_at, end_items, ended_by, ended_streams, excess_of, exchanger_items, exchanger_items_at, exchangers_of, finding_of, first_finding, front, full_size, heat_price, heat_with, heats_on, is_below, is_ended, is_forbidden, is_passed, items, items_behind, last_state, last_value, line_items, made_before, mean_items, pass_items, plus, range_items, rational_eq, rational_zero, split_items, statement_items, stream_at, stream_items, stream_items_at, sum_steps, utility_items, utility_items_at, value_at, whole}
 use Rattle.stream_case.specs.declared.source.Side.TheVariants as side
-use Rattle.stream_case.specs.declared.stream.Stream.{Stream}
-use Rattle.stream_case.specs.declared.utility.Utility.{Utility}
-use Rattle.fractions.specs.Order.{Decides-rational_eq}
-use Rattle.fractions.specs.Rationals.{Rational, is_below, plus, rational_eq, rational_zero, whole}
 use Rattle.fractions.proofs.Comparisons.{Decides-is_below, Decides-not_below}
-use Rattle.networks.specs.Lines.{Exchanger, exchangers_of, stream_at}
-use Rattle.networks.specs.Shape.{HasShape, made_before}
-use Rattle.networks.specs.declared.network.Line.{Line}
 use Rattle.networks.specs.declared.network.Line.TheVariants as line
-use Rattle.networks.specs.declared.network.Network.{Network}
 use Rattle.networks.proofs.Lists.{all_at}
 use Rattle.networks.proofs.OfShape.{line_of}
-use Rattle.network_values.specs.Made.{front}
-use Rattle.network_values.specs.Sides.{KeepsApproach}
-use Rattle.network_values.specs.Values.{AreEnded, IsFullEnd, IsValuation, IsWholeValuation, Valuation, branch_side, duty_at, ended_by, ended_streams, full_size, last_state, last_value, value_at}
-use Rattle.network_values.specs.declared.values.BranchValue.{BranchValue}
 use Rattle.network_values.proofs.ValuationLemmas.{agree-take, room_left, valuation_front}
-use Rattle.network_audit.specs.AllItems.{balance_items, cost_steps, heats_on, items, items_behind, range_items, sum_steps, utility_items, utility_items_at}
-use Rattle.network_audit.specs.Balance.{duties_with, excess_of, heat_price, heat_with}
-use Rattle.network_audit.specs.Findings.{IsFinding}
-use Rattle.network_audit.specs.Items.{Item, Step, Test, end_items, exchanger_items, exchanger_items_at, finding_of, first_finding, is_ended, is_passed, line_items, mean_items, pass_items, split_items, statement_items, stream_items, stream_items_at}
-use Rattle.network_audit.specs.Valid.{IsInRange, IsPermitted, IsValidNetwork}
 use Rattle.network_audit.specs.declared.findings.Finding.TheVariants as finding
-use Rattle.network_audit.specs.declared.findings.Place.{Place}
 use Rattle.network_audit.specs.declared.findings.Place.TheVariants as place
-use Rattle.network_audit.specs.declared.findings.Reason.{Reason}
 use Rattle.network_audit.proofs.FindingLemmas.{found-whole}
 use Rattle.network_audit.proofs.FoundLemmas.{each-items, found-item}
 use Rattle.network_audit.proofs.ValidLemmas.{contains-ended, each-ends, items-whole}

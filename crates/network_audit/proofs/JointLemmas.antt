@@ -10,20 +10,10 @@ use Rattle.std.proofs.lemmas.List.Folds.{find-append}
 use Rattle.std.proofs.lemmas.List.FromFn.{length-enumerate_from}
 use Rattle.std.proofs.lemmas.Option.{none-some, same_Some, slice_get-get_or}
 use Rattle.sums.proofs.EnumerationLemmas.{enumerate_from-append}
-use Rattle.stream_case.specs.declared.case.Case.{Case}
-use Rattle.stream_case.specs.declared.source.Source.{Source}
+use Rattle.network_audit.proofs.Words.{Branch, Case, Crossing, Exchanger, HasShape, Joint, Line, NamesKnown, Network, PassesBelow, Rational, Source, crossing_among, crossing_by, exchanger_of, exchangers_of, is_pass_of, joint_among, joints_among, noted, passed_joint, stream_at}
 use Rattle.stream_case.specs.declared.source.Source.TheVariants as source
-use Rattle.fractions.specs.Rationals.{Rational}
-use Rattle.networks.specs.Lines.{Exchanger, exchanger_of, exchangers_of, is_pass_of, stream_at}
-use Rattle.networks.specs.Shape.{HasShape, NamesKnown}
-use Rattle.networks.specs.declared.network.Branch.{Branch}
-use Rattle.networks.specs.declared.network.Line.{Line}
 use Rattle.networks.specs.declared.network.Line.TheVariants as line
-use Rattle.networks.specs.declared.network.Network.{Network}
 use Rattle.networks.proofs.OfShape.{names-known}
-use Rattle.network_audit.specs.Joints.{PassesBelow, crossing_among, crossing_by, joint_among, joints_among, noted, passed_joint}
-use Rattle.network_audit.specs.declared.joints.Crossing.{Crossing}
-use Rattle.network_audit.specs.declared.joints.Joint.{Joint}
 
 -- ---- lists made of members with their indices
 

@@ -21,3 +21,4 @@ pub mod GroupSums
 pub mod NoFinding
 pub mod BalanceWithin
 pub mod AcceptedLemmas
+pub mod Words

@@ -8,38 +8,20 @@ use Rattle.std.proofs.lemmas.Bool.{cases_lt}
 use Rattle.std.proofs.lemmas.Int.{ints}
 use Rattle.std.proofs.lemmas.List.{get_or_past}
 use Rattle.std.proofs.lemmas.List.Elements.{All-from_recursion}
-use Rattle.stream_case.specs.Case.{IsComplete}
-use Rattle.stream_case.specs.Limits.{IsBetween, IsContribution, IsLevel}
-use Rattle.stream_case.specs.Stream.{IsValidStream}
-use Rattle.stream_case.specs.declared.case.Case.{Case}
-use Rattle.stream_case.specs.declared.limits.TheConstants.{MOST_CONTRIBUTION}
-use Rattle.stream_case.specs.declared.source.Side.{Side}
+use Rattle.network_audit.proofs.Words.{BranchValue, Case, Exchanger, HasShape, IsBelow, IsBetween, IsComplete, IsContribution, IsFormed, IsLevel, IsMix, IsPass, IsSplit, IsValidStream, IsWholeValuation, IsWithinLimits, Item, Line, MOST_CONTRIBUTION, Network, Place, Rational, Side, Solves, Source, Stream, Utility, Valuation, approach_of, branch_side, change, contribution_of, duty_at, end_items, ends_of, exchanger_items_at, fixed_level, high_of, line_items, low_of, mean_items, minus, mix_items, no_value, pass_items, pass_of, pass_run, plus, rational_eq, rational_zero, run_between, side_items, side_run, split_items, stream_at, times, value_at, whole}
 use Rattle.stream_case.specs.declared.source.Side.TheVariants as side
-use Rattle.stream_case.specs.declared.source.Source.{Source}
 use Rattle.stream_case.specs.declared.source.Source.TheVariants as source
-use Rattle.stream_case.specs.declared.stream.Stream.{Stream}
-use Rattle.stream_case.specs.declared.utility.Utility.{Utility}
 use Rattle.stream_case.proofs.CompleteLemmas.{HasValidStreams-IsComplete, IsUtility, StaysValid-IsComplete}
-use Rattle.fractions.specs.Rationals.{IsBelow, IsWithinLimits, Rational, minus, plus, rational_eq, rational_zero, times, whole}
 use Rattle.fractions.proofs.Comparisons.{positive-nonzero}
 use Rattle.fractions.proofs.Limits.{within-whole}
 use Rattle.fractions.proofs.Products.{over_from_times, times-zero, times_comm}
 use Rattle.fractions.proofs.Sums.{zero-plus}
 use Rattle.fractions.proofs.Wholes.{whole-plus}
-use Rattle.networks.specs.Lines.{Exchanger, pass_of, stream_at}
-use Rattle.networks.specs.Shape.{HasShape}
-use Rattle.networks.specs.declared.network.Line.{Line}
 use Rattle.networks.specs.declared.network.Line.TheVariants as line
-use Rattle.networks.specs.declared.network.Network.{Network}
 use Rattle.networks.proofs.Lists.{all_at}
 use Rattle.networks.proofs.OfShape.{names-known}
-use Rattle.network_values.specs.Sides.{approach_of, contribution_of, fixed_level, high_of, low_of, pass_run, run_between, side_run}
-use Rattle.network_values.specs.Values.{IsMix, IsPass, IsSplit, IsWholeValuation, Solves, Valuation, branch_side, change, duty_at, no_value, value_at}
-use Rattle.network_values.specs.declared.values.BranchValue.{BranchValue}
 use Rattle.network_values.proofs.LineLemmas.{mix_determined, mixed_positive, pass_determined, split_determined}
 use Rattle.network_values.proofs.WholeLemmas.{all_solved, branch_above}
-use Rattle.network_audit.specs.Items.{IsFormed, Item, end_items, ends_of, exchanger_items_at, line_items, mean_items, mix_items, pass_items, side_items, split_items}
-use Rattle.network_audit.specs.declared.findings.Place.{Place}
 use Rattle.network_audit.specs.declared.findings.Place.TheVariants as place
 use Rattle.network_audit.proofs.FormedLemmas.{AreFormed, formed-none, formed-step}
 use Rattle.network_audit.proofs.Sized.{IsSized, most_den, most_num, sized-minus, sized-plus, sized-times, sized-whole, sized-within}

@@ -1,20 +1,9 @@
 -- A valid network has no finding where its branches leave room and its heats are whole.
 use Rattle.std.proofs.Common.{◌≡◌, ℕ, Some, All, slice_get, arith}
-use Rattle.stream_case.specs.Case.{IsComplete}
-use Rattle.stream_case.specs.Utility.{IsPlaced}
-use Rattle.stream_case.specs.declared.case.Case.{Case}
-use Rattle.stream_case.specs.declared.utility.Utility.{Utility}
+use Rattle.network_audit.proofs.Words.{Case, HasNoFinding, HasShape, IsComplete, IsPlaced, IsValidNetwork, IsWholeValuation, Network, Utility, Valuation, exchangers_of, heat_with, utility_items_at}
 use Rattle.stream_case.proofs.CompleteLemmas.{IsPlaced-IsComplete}
-use Rattle.networks.specs.Lines.{exchangers_of}
-use Rattle.networks.specs.Shape.{HasShape}
-use Rattle.networks.specs.declared.network.Network.{Network}
 use Rattle.networks.proofs.LineLaws.{few_exchangers}
 use Rattle.networks.proofs.Lists.{all_at}
-use Rattle.network_values.specs.Values.{IsWholeValuation, Valuation}
-use Rattle.network_audit.specs.AllItems.{utility_items_at}
-use Rattle.network_audit.specs.Balance.{heat_with}
-use Rattle.network_audit.specs.Findings.{HasNoFinding}
-use Rattle.network_audit.specs.Valid.{IsValidNetwork}
 use Rattle.network_audit.proofs.FormedLemmas.{AreFormed, all-formed, no_finding}
 use Rattle.network_audit.proofs.LineSteps.{HasRoom, exchanger_formed, lines_formed}
 use Rattle.network_audit.proofs.Sized.{IsSized}

@@ -2,16 +2,9 @@
 use Rattle.std.proofs.Common.{◌≡◌, ◌∙◌, ◌<◌, ℕ, List, [], length, get_or, sym, ap, ap₂}
 use Rattle.std.proofs.lemmas.List.{get_or_default}
 use Rattle.std.proofs.lemmas.Option.{slice_get-get_or}
-use Rattle.fractions.specs.Rationals.{IsBelow, over, plus, rational_zero, times}
+use Rattle.network_audit.proofs.Words.{BranchValue, Exchanger, IsBelow, Joint, Network, Valuation, duty_at, duty_of, exchangers_of, heat_of_both, joint_among, joints_among, joints_of, no_value, over, plus, rational_zero, times, value_at}
 use Rattle.fractions.proofs.Comparisons.{positive-nonzero}
 use Rattle.fractions.proofs.Products.{over_from_times, times-plus, times_comm}
-use Rattle.networks.specs.Lines.{Exchanger, exchangers_of}
-use Rattle.networks.specs.declared.network.Network.{Network}
-use Rattle.network_values.specs.Made.{heat_of_both}
-use Rattle.network_values.specs.Values.{Valuation, duty_at, duty_of, no_value, value_at}
-use Rattle.network_values.specs.declared.values.BranchValue.{BranchValue}
-use Rattle.network_audit.specs.Joints.{joint_among, joints_among, joints_of}
-use Rattle.network_audit.specs.declared.joints.Joint.{Joint}
 use Rattle.network_audit.proofs.JointLemmas.{get_or-made}
 
 -- two branches with one state have it together

@@ -1,12 +1,8 @@
 -- The full size of a stream of a case and its first state are whole numbers within the limits of a case.
 use Rattle.std.proofs.Common.{◌≤◌, ℕ, unsigned_abs, arith}
 use Rattle.std.proofs.lemmas.Int.{ints}
-use Rattle.stream_case.specs.Stream.{IsValidStream}
-use Rattle.stream_case.specs.declared.limits.TheConstants.{HIGHEST_LEVEL, MOST_CP}
-use Rattle.stream_case.specs.declared.stream.Stream.{Stream}
-use Rattle.fractions.specs.Rationals.{IsAtMost, whole}
+use Rattle.network_audit.proofs.Words.{HIGHEST_LEVEL, IsAtMost, IsValidStream, MOST_CP, Stream, first_state, full_size, whole}
 use Rattle.fractions.proofs.Comparisons.{at_most-whole}
-use Rattle.network_values.specs.Values.{first_state, full_size}
 use Rattle.network_audit.proofs.Sized.{IsSized, sized-whole}
 
 module _ (s : Stream) (valid : IsValidStream s) where

@@ -8,30 +8,13 @@ use Rattle.std.proofs.lemmas.List.{length-map}
 use Rattle.std.proofs.lemmas.List.Elements.{All-append, All-cons, All-from_recursion, All-head, All-map, All-nil, All-tail}
 use Rattle.std.proofs.lemmas.List.FromFn.{length-enumerate_from}
 use Rattle.sums.proofs.EnumerationLemmas.{All-enumerated}
-use Rattle.stream_case.specs.Case.{IsComplete}
-use Rattle.stream_case.specs.Source.{same_side, same_source}
-use Rattle.stream_case.specs.Utility.{IsPlaced}
-use Rattle.stream_case.specs.declared.case.Case.{Case}
-use Rattle.stream_case.specs.declared.limits.TheConstants.{ALL_STREAMS_HEAT, ALL_UTILITIES, MOST_HEAT, MOST_PRICE}
-use Rattle.stream_case.specs.declared.source.Side.{Side}
+use Rattle.network_audit.proofs.Words.{ALL_STREAMS_HEAT, ALL_UTILITIES, Case, HasShape, IsComplete, IsFormed, IsInRange, IsPlaced, Item, MOST_HEAT, MOST_PRICE, Network, Place, Rational, Side, Step, Utility, balance_items, cost_steps, duties_with, duty_with, excess_of, exchangers_of, heat_on, heat_price, heat_with, heats_on, hot_heat, hot_target, plus, range_items, ratio, rational_sum, rational_zero, same_side, same_source, sum_steps, utility_items_at, whole}
 use Rattle.stream_case.specs.declared.source.Side.TheVariants as side
 use Rattle.stream_case.specs.declared.source.Source.TheVariants as source
-use Rattle.stream_case.specs.declared.utility.Utility.{Utility}
 use Rattle.stream_case.proofs.CompleteLemmas.{AreStreams-IsComplete, IsPlaced-IsComplete, length-utilities}
-use Rattle.fractions.specs.Rationals.{Rational, plus, ratio, rational_sum, rational_zero, whole}
 use Rattle.fractions.proofs.Comparisons.{at_most-whole, at_most_trans}
-use Rattle.networks.specs.Lines.{exchangers_of}
-use Rattle.networks.specs.Shape.{HasShape}
-use Rattle.networks.specs.declared.network.Network.{Network}
 use Rattle.networks.proofs.Lists.{all_at}
-use Rattle.network_values.specs.Penalties.{hot_heat}
-use Rattle.problem_table.specs.Deficit.{hot_target}
 use Rattle.problem_table.proofs.DeficitLemmas.{hot_target-between}
-use Rattle.network_audit.specs.AllItems.{balance_items, cost_steps, heat_on, heats_on, range_items, sum_steps, utility_items_at}
-use Rattle.network_audit.specs.Balance.{duties_with, duty_with, excess_of, heat_price, heat_with}
-use Rattle.network_audit.specs.Items.{IsFormed, Item, Step}
-use Rattle.network_audit.specs.Valid.{IsInRange}
-use Rattle.network_audit.specs.declared.findings.Place.{Place}
 use Rattle.network_audit.specs.declared.findings.Place.TheVariants as place
 use Rattle.network_audit.proofs.FormedLemmas.{AreFormed, formed-none, formed-step}
 use Rattle.network_audit.proofs.HeatLemmas.{hot_heat-is}

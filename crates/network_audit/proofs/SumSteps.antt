@@ -3,12 +3,9 @@ use Rattle.std.proofs.Common.{◌≡◌, ◌∙◌, ◌<◌, ◌≤◌, ◌+◌,
 use Rattle.std.specs.List.{cons_option, filter_map}
 use Rattle.std.proofs.lemmas.List.{append-nil, take-append-drop, take_all, take_more}
 use Rattle.std.proofs.lemmas.List.Elements.{filter_map-append}
-use Rattle.fractions.specs.Rationals.{Rational, plus, rational_sum, rational_zero}
+use Rattle.network_audit.proofs.Words.{Place, Rational, Step, first_finding, plus, rational_sum, rational_zero, sum_steps}
 use Rattle.fractions.proofs.Sums.{plus-zero, plus_assoc, zero-plus}
-use Rattle.network_audit.specs.AllItems.{sum_steps}
-use Rattle.network_audit.specs.Items.{Step, first_finding}
 use Rattle.network_audit.specs.declared.findings.Finding.TheVariants as finding
-use Rattle.network_audit.specs.declared.findings.Place.{Place}
 use Rattle.network_audit.proofs.FoundLemmas.{found-behind, found-front, found-nothing}
 
 -- a total with more numbers

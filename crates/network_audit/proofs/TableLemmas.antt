@@ -4,28 +4,12 @@ use Rattle.std.specs.Prelude.{unwrap_or}
 use Rattle.std.specs.List.{cons_option, enumerate_from, filter_map, flat_map}
 use Rattle.std.proofs.lemmas.List.{length-take, map-append, take_more}
 use Rattle.sums.proofs.EnumerationLemmas.{All-enumerated, enumerate_from-append}
-use Rattle.stream_case.specs.Case.{side_of}
-use Rattle.stream_case.specs.declared.case.Case.{Case}
-use Rattle.stream_case.specs.declared.source.Side.{Side}
+use Rattle.network_audit.proofs.Words.{Case, Exchanger, HasShape, IsExchanger, Joint, Network, Rational, Side, Source, Utility, Valuation, all_heat_items, branch_side, crossing_among, crossing_by, duties_in, duties_with, duty_with, ends_at, ends_of, exchanger_items, exchanger_items_at, exchangers_of, heat_items, heats_in, joint_among, joint_duty, joint_items, joint_items_at, joints_among, joints_of, pass_of, pass_run, range_items, rational_sum, rational_zero, run_between, side_items, side_of, side_run, stream_at, sum_steps, utility_items, utility_items_at, value_at}
 use Rattle.stream_case.specs.declared.source.Side.TheVariants as side
-use Rattle.stream_case.specs.declared.source.Source.{Source}
 use Rattle.stream_case.specs.declared.source.Source.TheVariants as source
-use Rattle.stream_case.specs.declared.utility.Utility.{Utility}
-use Rattle.fractions.specs.Rationals.{Rational, rational_sum, rational_zero}
-use Rattle.networks.specs.Lines.{Exchanger, exchangers_of, pass_of, stream_at}
-use Rattle.networks.specs.Shape.{HasShape, IsExchanger}
-use Rattle.networks.specs.declared.network.Network.{Network}
 use Rattle.networks.specs.declared.network.Line.TheVariants as line
 use Rattle.networks.proofs.Lists.{all_at}
 use Rattle.networks.proofs.OfShape.{the_pass_of}
-use Rattle.network_values.specs.Sides.{pass_run, run_between, side_run}
-use Rattle.network_values.specs.Values.{Valuation, branch_side, value_at}
-use Rattle.network_audit.specs.AllItems.{range_items, sum_steps, utility_items, utility_items_at}
-use Rattle.network_audit.specs.Balance.{duties_with, duty_with}
-use Rattle.network_audit.specs.Items.{ends_of, exchanger_items, exchanger_items_at, side_items}
-use Rattle.network_audit.specs.Joints.{crossing_among, crossing_by, joint_among, joints_among, joints_of}
-use Rattle.network_audit.specs.Table.{all_heat_items, duties_in, ends_at, heat_items, heats_in, joint_duty, joint_items, joint_items_at}
-use Rattle.network_audit.specs.declared.joints.Joint.{Joint}
 use Rattle.network_audit.specs.declared.findings.Place.TheVariants as place
 use Rattle.network_audit.proofs.FoundLemmas.{flat_map-same}
 

@@ -7,28 +7,11 @@ use Rattle.std.proofs.lemmas.Bool.Decides.{nat_tests}
 use Rattle.std.proofs.lemmas.List.{take_all}
 use Rattle.std.proofs.lemmas.List.Elements.{All-cons, All-nil}
 use Rattle.std.proofs.lemmas.Option.{none-some, same_Some, slice_get-get_or}
-use Rattle.stream_case.specs.Case.{is_forbidden}
-use Rattle.stream_case.specs.declared.case.Case.{Case}
-use Rattle.stream_case.specs.declared.stream.Stream.{Stream}
-use Rattle.stream_case.specs.declared.utility.Utility.{Utility}
-use Rattle.fractions.specs.Order.{Decides-rational_eq}
-use Rattle.fractions.specs.Rationals.{rational_zero, whole}
+use Rattle.network_audit.proofs.Words.{Branch, Case, Decides-rational_eq, Exchanger, HasNoFinding, IsFullEnd, IsInRange, IsValidNetwork, IsWholeValuation, Item, KeepsApproach, Line, Network, Place, Stream, Utility, Valuation, balance_items, duties_with, end_items, ended_by, ended_streams, ends, ends_stream, exchanger_items, exchanger_items_at, exchangers_of, first_finding, full_size, heat_with, is_ended, is_forbidden, items, items_before, items_behind, last_state, last_value, line_items, range_items, rational_zero, statement_items, stream_at, stream_items, stream_items_at, sum_steps, utility_items, utility_items_at, value_at, whole}
 use Rattle.fractions.proofs.Comparisons.{Decides-not_below}
-use Rattle.networks.specs.Lines.{Exchanger, exchangers_of, stream_at}
-use Rattle.networks.specs.declared.network.Branch.{Branch}
-use Rattle.networks.specs.declared.network.Line.{Line}
 use Rattle.networks.specs.declared.network.Line.TheVariants as line
-use Rattle.networks.specs.declared.network.Network.{Network}
 use Rattle.networks.proofs.Lists.{All-back, All-flat_map, All-front}
-use Rattle.network_values.specs.Sides.{KeepsApproach}
-use Rattle.network_values.specs.Values.{IsFullEnd, IsWholeValuation, Valuation, ended_by, ended_streams, ends, full_size, last_state, last_value, value_at}
 use Rattle.network_values.proofs.LineLemmas.{same_value}
-use Rattle.network_audit.specs.AllItems.{balance_items, items, items_behind, range_items, sum_steps, utility_items, utility_items_at}
-use Rattle.network_audit.specs.Balance.{duties_with, heat_with}
-use Rattle.network_audit.specs.Findings.{HasNoFinding}
-use Rattle.network_audit.specs.Items.{Item, end_items, ends_stream, exchanger_items, exchanger_items_at, first_finding, is_ended, items_before, line_items, statement_items, stream_items, stream_items_at}
-use Rattle.network_audit.specs.Valid.{IsInRange, IsValidNetwork}
-use Rattle.network_audit.specs.declared.findings.Place.{Place}
 use Rattle.network_audit.specs.declared.findings.Place.TheVariants as place
 use Rattle.network_audit.proofs.FoundLemmas.{passed-back, passed-front, passed-item, passed-rest}
 

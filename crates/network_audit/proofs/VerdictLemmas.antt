@@ -1,17 +1,8 @@
 -- What follows from a verdict.
 use Rattle.std.proofs.Common.{◌≡◌, ◌∙◌, inl, inr, Some, length, sym, ap, subst}
-use Rattle.stream_case.specs.declared.case.Case.{Case}
-use Rattle.fractions.specs.Rationals.{IsAtMost, rational_zero}
-use Rattle.networks.specs.Shape.{HasShape}
-use Rattle.networks.specs.declared.network.Network.{Network}
-use Rattle.network_values.specs.Values.{IsWholeValuation, Valuation}
+use Rattle.network_audit.proofs.Words.{Audit, Balance, Case, HasShape, IfAccepted, IsAtMost, IsValidNetwork, IsVerdict, IsWholeValuation, Leaves, Network, Says, SaysExactly, Valuation, Verdict, rational_zero}
 use Rattle.network_values.proofs.SignLemmas.{targets_met}
 use Rattle.network_values.proofs.ValuationLemmas.{one_valuation}
-use Rattle.network_audit.specs.Audit.{Audit, IfAccepted, Leaves, Says, SaysExactly}
-use Rattle.network_audit.specs.Findings.{IsVerdict}
-use Rattle.network_audit.specs.Valid.{IsValidNetwork}
-use Rattle.network_audit.specs.declared.verdict.Balance.{Balance}
-use Rattle.network_audit.specs.declared.verdict.Verdict.{Verdict}
 use Rattle.network_audit.specs.declared.verdict.Verdict.TheVariants as verdict
 use Rattle.network_audit.proofs.InvalidLemmas.{invalid_network}
 use Rattle.network_audit.proofs.ValidLemmas.{valid_network}

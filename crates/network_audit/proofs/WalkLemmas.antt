@@ -6,25 +6,12 @@ use Rattle.std.proofs.lemmas.List.{length-take, take_all}
 use Rattle.std.proofs.lemmas.List.Elements.{All-head, All-tail}
 use Rattle.std.proofs.lemmas.Option.{get_or_from_slice_get, slice_get_within}
 use Rattle.sums.proofs.EnumerationLemmas.{All-enumerated}
-use Rattle.stream_case.specs.Case.{IsComplete}
-use Rattle.stream_case.specs.declared.case.Case.{Case}
+use Rattle.network_audit.proofs.Words.{BranchValue, Case, Finding, HasShape, IsComplete, IsFinding, IsValuation, IsWholeValuation, LeavesRoom, Line, Network, Place, Valuation, branch_side, duty_at, end_items, first_finding, first_value, items, items_before, items_behind, line_items, made_before, made_by, made_values, mix_items, pass_items, split_items, statement_items, stream_at, uses, value_at}
 use Rattle.fractions.proofs.Comparisons.{Decides-is_below}
-use Rattle.networks.specs.Lines.{made_by, stream_at, uses}
-use Rattle.networks.specs.Shape.{HasShape, made_before}
-use Rattle.networks.specs.declared.network.Line.{Line}
 use Rattle.networks.specs.declared.network.Line.TheVariants as line
-use Rattle.networks.specs.declared.network.Network.{Network}
 use Rattle.networks.proofs.Lists.{slice_get-take}
 use Rattle.networks.proofs.OfShape.{IsLineOf, all_made, line_of, line_read, made_fewer, made_no_more}
-use Rattle.network_values.specs.Made.{LeavesRoom, made_values}
-use Rattle.network_values.specs.Values.{IsValuation, IsWholeValuation, Valuation, branch_side, duty_at, first_value, value_at}
-use Rattle.network_values.specs.declared.values.BranchValue.{BranchValue}
 use Rattle.network_values.proofs.ValuationLemmas.{AgreeBelow, agree-append, length-made_values, valuation_more, valuation_start}
-use Rattle.network_audit.specs.AllItems.{items, items_behind}
-use Rattle.network_audit.specs.Findings.{IsFinding}
-use Rattle.network_audit.specs.Items.{end_items, first_finding, items_before, line_items, mix_items, pass_items, split_items, statement_items}
-use Rattle.network_audit.specs.declared.findings.Finding.{Finding}
-use Rattle.network_audit.specs.declared.findings.Place.{Place}
 use Rattle.network_audit.specs.declared.findings.Place.TheVariants as place
 use Rattle.network_audit.proofs.FoundLemmas.{flat_map-same, found-behind, found-front, found-nothing, items-more, passed-item}
 

@@ -1,8 +1,7 @@
 -- Fractions within the limits.
 use Rattle.std.proofs.Common.{◌≡◌, ◌<◌, ℕ, zero, suc, ℤ, Option, None, refl, arith}
-use Rattle.fractions.specs.Rationals.{Gives, Rational, ratio}
+use Rattle.network_text.proofs.Words.{Gives, Rational, bounded_ratio, ratio}
 use Rattle.fractions.proofs.Limits.{Gives-is}
-use Rattle.network_text.specs.Fractions.{bounded_ratio}
 
 -- what `Frac::from_parts` gives
 pub bounded-gives : (r : Option Rational) (n : ℤ) (d : ℕ) → (d ≡ 0 → r ≡ None) → (0 < d → Gives r (ratio n d)) → r ≡ bounded_ratio n d

@@ -7,3 +7,4 @@ pub mod shape
 pub mod Reading
 pub mod print
 pub mod back
+pub mod Words

@@ -7,19 +7,14 @@ use Rattle.std.proofs.lemmas.List.Folds.{find_at}
 use Rattle.std.proofs.lemmas.List.FromFn.{get_or-range_with_len, length-range_with_len}
 use Rattle.std.proofs.lemmas.List.Sums.{position_or_len_is}
 use Rattle.std.proofs.lemmas.Option.{slice_get_past, slice_get-get_or, slice_get_read}
-use Rattle.networks.specs.Lines.{Exchanger, exchanger_of, exchangers_of}
-use Rattle.network_text.specs.Checks.{first_missing, misses_pass, misses_side}
-use Rattle.networks.specs.declared.network.Line.{Line}
-use Rattle.networks.specs.declared.network.Network.{Network}
+use Rattle.network_text.proofs.Words.{Exchanger, Line, Network, exchanger_of, exchangers_of, first_missing, misses_pass, misses_side}
 use Rattle.networks.proofs.LineLaws.{exchangers_of-push, few_exchangers}
 
 -- what the line at a index misses
 pub missing-at : (n : Network) (index count : ℕ) (l : Line) → index < length n.lines → l ≡ get_or n.lines index l
     → count ≡ length (exchangers_of (take index n.lines)) → misses_pass n index ≡ misses_side n count (exchanger_of l)
 unfolding misses_pass
-missing-at n index count l within here is =
-    let at = slice_get_read n.lines (length n.lines) index l refl within here in
-    rw (at, ← is) refl
+missing-at n index count l within here is = let at = slice_get_read n.lines (length n.lines) index l refl within here in rw (at, ← is) refl
 
 -- one line more, which declares an exchanger or does not
 count-push : (o : Option Exchanger) (xs : List Exchanger) (b : Bool) → is_some o ≡ b → length (xs ++ option_to_list o) ≡ length xs + cond b 1 0

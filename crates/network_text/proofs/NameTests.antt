@@ -2,23 +2,18 @@
 use Rattle.std.proofs.Common.{◌≡◌, ℕ, Bool, true, false, List, [], ◌∷◌, refl, sym, ap, ◌∙◌, inl, inr, ◌||◌, ◌==◌}
 use Rattle.std.specs.Prelude.{Option, Some, None, SomeIff, IfSome, is_some}
 use Rattle.std.proofs.lemmas.Bool.{and_parts, eqb-true, false_from_ne_true, or_right}
-use Rattle.stream_case.specs.Name.{IsAnyName, IsDottedName, is_name}
+use Rattle.network_text.proofs.Words.{IsAnyName, IsDottedName, is_branch_name, is_dotted_name, is_name}
 use Rattle.stream_case.proofs.NameTests.{name-passes, passed-name}
-use Rattle.network_text.specs.Names.{is_branch_name, is_dotted_name}
 
 dotted-passes : (text : List ℕ) → IsDottedName text → is_dotted_name text ≡ true
 unfolding is_dotted_name
 dotted-passes [] h = absurd h
-dotted-passes (b ∷ bs) h =
-    let dot : (b == 46) ≡ true = ap (λ n. n == 46) h.0 in
-    rw (dot, name-passes bs h.1) refl
+dotted-passes (b ∷ bs) h = let dot : (b == 46) ≡ true = ap (λ n. n == 46) h.0 in rw (dot, name-passes bs h.1) refl
 
 passed-dotted : (text : List ℕ) → is_dotted_name text ≡ true → IsDottedName text
 unfolding is_dotted_name
 passed-dotted [] e = cc e
-passed-dotted (b ∷ bs) e =
-    let h = and_parts _ _ e in
-    (eqb-true _ _ h.0, passed-name bs h.1)
+passed-dotted (b ∷ bs) e = let h = and_parts _ _ e in (eqb-true _ _ h.0, passed-name bs h.1)
 
 -- ---- names of branches
 

@@ -9,16 +9,10 @@ use Rattle.std.proofs.lemmas.List.Folds.{list_any_none}
 use Rattle.std.proofs.lemmas.List.FromFn.{length-enumerate_from}
 use Rattle.std.proofs.lemmas.Simd.{map-map}
 use Rattle.sums.proofs.EnumerationLemmas.{map-enumerate_from_item}
-use Rattle.stream_case.specs.Name.{IsAnyName, IsName}
-use Rattle.stream_case.specs.declared.case.Case.{Case}
-use Rattle.stream_case.specs.declared.stream.Stream.{Stream}
-use Rattle.stream_case.specs.declared.utility.Utility.{Utility}
+use Rattle.network_text.proofs.Words.{Case, IsAnyName, IsName, IsTracked, Stream, Utility, exchangers_of, named_branch, own_branches, own_entries, own_entry, passages_of, start, used_by}
 use Rattle.stream_case.proofs.CaseLemmas.{length-AreStreams}
 use Rattle.stream_case.proofs.CompleteLemmas.{StaysValid}
 use Rattle.stream_case.proofs.DistinctLemmas.{AllPairs-before, other_name}
-use Rattle.networks.specs.Lines.{exchangers_of, own_branches, passages_of, used_by}
-use Rattle.network_text.specs.Given.{start}
-use Rattle.network_text.specs.Building.{IsTracked, named_branch, own_entries, own_entry}
 use Rattle.networks.proofs.Lists.{All-front, enumerate_from-push}
 use Rattle.network_text.proofs.Tables.{so_far}
 

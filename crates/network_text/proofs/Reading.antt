@@ -1,25 +1,14 @@
 -- The statements of a text, one line after the other, and the steps of their reading.
-use Rattle.std.proofs.Common.{◌≡◌, ◌∙◌, ◌<◌, ◌+◌, ◌∷◌, ◌==◌, ℕ, true, false, not, cond, Result, Ok, Err, IfOk, List, [], Some, None, length, map, filter, refl, sym, ap, subst, length-append}
+use Rattle.std.proofs.Common.{◌≡◌, ◌∙◌, ◌<◌, ◌+◌, ◌∷◌, ◌==◌, ℕ, true, false, not, cond, Result, Ok, Err, List, [], Some, None, length, map, filter, refl, sym, ap, subst, length-append}
 use Rattle.std.specs.Result.{IsErrAnd}
 use Rattle.std.specs.Str.Lines.{lines}
 use Rattle.std.proofs.lemmas.Bool.{eqb-true, not-false, not-true}
 use Rattle.std.proofs.lemmas.List.{nil_from_length}
-use Rattle.first_fault.specs.Checks.{first_failing}
+use Rattle.network_text.proofs.Words.{Case, Entry, IsComplete, IsFresh, IsOutcome, MOST_STATEMENTS, NetFault, Network, Statement, checks, entry_in, fields_of, first_failing, grammar, is_statement, start, statements_of, with_entry}
 use Rattle.first_fault.proofs.CheckLemmas.{each_passes}
 use Rattle.first_fault.proofs.Reading.{Reads}
-use Rattle.stream_case.specs.Case.{IsComplete}
-use Rattle.stream_case.specs.declared.case.Case.{Case}
 use Rattle.stream_case.proofs.CompleteLemmas.{StaysValid-IsComplete}
-use Rattle.statements.specs.Statements.{Statement, fields_of, is_statement, statements_of}
-use Rattle.network_text.specs.Given.{entry_in, start, with_entry}
-use Rattle.network_text.specs.Checks.{checks}
-use Rattle.network_text.specs.Building.{IsFresh}
-use Rattle.network_text.specs.Outcome.{IsOutcome, grammar}
-use Rattle.network_text.specs.declared.entry.Entry.{Entry}
-use Rattle.network_text.specs.declared.fault.NetFault.{NetFault}
 use Rattle.network_text.specs.declared.fault.NetFault.TheVariants as fault
-use Rattle.networks.specs.declared.limits.TheConstants.{MOST_STATEMENTS}
-use Rattle.networks.specs.declared.network.Network.{Network}
 use Rattle.network_text.proofs.shape.Counts.{has_room}
 use Rattle.network_text.proofs.shape.Kept.{adds_next, shape_so_far}
 
@@ -77,7 +66,3 @@ pub no_outcome : (case : Case) (statements : List Statement) (r : Result Network
     → IsOutcome case statements r
 no_outcome case statements (Ok network) h = absurd h
 no_outcome case statements (Err f) h = subst (λ (g : NetFault). IsOutcome case statements (Err g)) (sym h) tt
-
-pub no_network : (P : Network → Type 0) (r : Result Network NetFault) → IsErrAnd r (λ f. f ≡ fault.OutOfMemory) → IfOk r P
-no_network P (Ok network) h = absurd h
-no_network P (Err f) h = tt

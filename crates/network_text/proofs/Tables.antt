@@ -15,23 +15,10 @@ use Rattle.std.proofs.lemmas.Option.{slice_get-map}
 use Rattle.std.proofs.lemmas.Simd.{map-map}
 use Rattle.indexmap.specs.IndexMap.{IndexMap, insert_entry}
 use Rattle.indexmap.proofs.CallerLemmas.{insert_entry-new}
-use Rattle.stream_case.specs.Name.{IsAnyName}
+use Rattle.network_text.proofs.Words.{AtMostTwo, Branch, Entry, Exchanger, IsAnyName, IsFresh, IsTracked, Line, MOST_STATEMENTS, Network, Passage, Sides, branch_named, exchanger_named, exchanger_of, exchangers_of, first_stream, is_branch_name, is_passed, members, named_branch, named_sides, names_of, passage_of, passages_of, same_passage, stream_at, used_by, uses, with_entry}
 use Rattle.stream_case.proofs.DistinctLemmas.{AllPairs-across}
 use Rattle.stream_case.proofs.ListLemmas.{none_there}
-use Rattle.networks.specs.Lines.{Exchanger, exchanger_of, exchangers_of, members, names_of, passage_of, passages_of, same_passage, stream_at, used_by, uses}
-use Rattle.network_text.specs.Given.{branch_named, exchanger_named, first_stream, with_entry}
-use Rattle.network_text.specs.Checks.{is_passed}
-use Rattle.network_text.specs.Building.{IsFresh, IsTracked, named_branch, named_sides}
-use Rattle.network_text.specs.Names.{is_branch_name}
-use Rattle.network_text.specs.declared.builder.Sides.{Sides}
-use Rattle.network_text.specs.declared.entry.Entry.{Entry}
-use Rattle.networks.specs.declared.few.AtMostTwo.{AtMostTwo}
 use Rattle.networks.specs.declared.few.AtMostTwo.TheVariants as few
-use Rattle.networks.specs.declared.limits.TheConstants.{MOST_STATEMENTS}
-use Rattle.networks.specs.declared.network.Branch.{Branch}
-use Rattle.networks.specs.declared.network.Line.{Line}
-use Rattle.networks.specs.declared.network.Network.{Network}
-use Rattle.networks.specs.declared.network.Passage.{Passage}
 use Rattle.statements.proofs.Positions.{is_some-position}
 use Rattle.networks.proofs.Lists.{AllPairs-map}
 use Rattle.networks.proofs.LineLaws.{exchangers_of-push, passages_of-front, passages_of-push, used_by-push}

@@ -2,15 +2,10 @@
 use Rattle.std.proofs.Common.{◌≡◌, ◌∙◌, Bool, true, false, refl, sym, ap}
 use Rattle.std.specs.Prelude.{if◌then◌else◌}
 use mathlib.Core.Path.{subst₂}
-use Rattle.fractions.specs.Rationals.{IsAtMost, IsBelow, Rational, minus, plus, rational_zero, times}
+use Rattle.network_values.proofs.Words.{Between, BranchValue, Course, HasDuty, IsAtMost, IsBelow, IsBetweenValues, IsMix, Latent, Level, PassesTakeShares, Rational, Sensible, SharesRise, SideRun, height, height_on, high_of, is_above, low_of, minus, plus, positive_part, rational_zero, seen_from, share, side_on, times}
 use Rattle.fractions.proofs.Comparisons.{at_most-minus_minus, at_most_from_below, at_most_from_same, at_most_refl}
 use Rattle.fractions.proofs.Products.{plus-times, times-minus}
 use Rattle.fractions.proofs.Sums.{minus-minus_same, minus-self, plus-zero}
-use Rattle.network_values.specs.Courses.{Course, IsBetweenValues, Latent, PassesTakeShares, Sensible, SharesRise, height_on, side_on}
-use Rattle.network_values.specs.Heights.{HasDuty, is_above, height, positive_part, share}
-use Rattle.network_values.specs.Sides.{Between, Level, SideRun, high_of, low_of, seen_from}
-use Rattle.network_values.specs.Values.{IsMix}
-use Rattle.network_values.specs.declared.values.BranchValue.{BranchValue}
 use Rattle.network_values.proofs.MixLemmas.{mixes_lose}
 use Rattle.network_values.proofs.ShareLemmas.{HasDuty-seen, is_above-itself, high_of-seen, hot_share_at_least, low_of-seen}
 

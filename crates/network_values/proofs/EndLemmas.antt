@@ -9,21 +9,13 @@ use Rattle.std.proofs.lemmas.List.{get_or-map, length-map}
 use Rattle.std.proofs.lemmas.List.Elements.{All-head, All-nil, All-tail, All-weaker, Contains-get_or}
 use Rattle.sums.proofs.CountLemmas.{found, none_any}
 use Rattle.sums.proofs.ListLemmas.{Contains-slice_get}
-use Rattle.stream_case.specs.declared.case.Case.{Case}
-use Rattle.fractions.specs.Rationals.{IsAtMost, IsBelow, Rational, minus, plus, rational_sum_by, rational_zero}
+use Rattle.network_values.proofs.Words.{AreEnded, BranchValue, Case, EndOnce, HasShape, IsAdditive, IsAtMost, IsBelow, IsOfOneStream, IsWholeValuation, Line, Network, Rational, Solves, StreamsEndOnce, Valuation, Weight, ended_by, ended_streams, ends, last_value, minus, mix_loss, pass_loss, plus, rational_sum_by, rational_zero, stream_at, used_by, uses, value_at, weight_at}
 use Rattle.fractions.proofs.Comparisons.{at_most-plus_left, at_most-plus_right, at_most_from_below, at_most_from_plus, at_most_refl, at_most_trans, below_not_at_most}
 use Rattle.fractions.proofs.RationalSums.{but_at, left_of, left_of-unused, not_negative-rational_sum_by, one_taken, rational_sum_by-zero, term-at_most}
 use Rattle.fractions.proofs.Sums.{minus-self, plus-zero, plus_comm, zero-plus}
-use Rattle.networks.specs.Lines.{stream_at, used_by, uses}
-use Rattle.networks.specs.Shape.{HasShape, IsOfOneStream}
-use Rattle.networks.specs.declared.network.Line.{Line}
 use Rattle.networks.specs.declared.network.Line.TheVariants as line
-use Rattle.networks.specs.declared.network.Network.{Network}
 use Rattle.networks.proofs.Lists.{All-flat_map}
 use Rattle.networks.proofs.OfShape.{own_stream, stream_within, streams_first, used_there}
-use Rattle.network_values.specs.Values.{AreEnded, IsWholeValuation, Solves, Valuation, ended_by, ended_streams, ends, last_value, value_at}
-use Rattle.network_values.specs.Weights.{EndOnce, IsAdditive, StreamsEndOnce, Weight, mix_loss, pass_loss, weight_at}
-use Rattle.network_values.specs.declared.values.BranchValue.{BranchValue}
 use Rattle.network_values.proofs.FlowBalance.{IsEven, flow_balance}
 use Rattle.network_values.proofs.WholeLemmas.{All-range, Contains-range, all_solved, branch_above, item_at, own_value}
 

@@ -3,19 +3,12 @@ use Rattle.std.proofs.Common.{◌≡◌, ◌∙◌, ◌+◌, ◌-◌, ℕ, lengt
 use Rattle.std.specs.Prelude.{All}
 use Rattle.std.specs.List.{range_with_len}
 use Rattle.std.proofs.lemmas.List.Elements.{All-weaker}
-use Rattle.stream_case.specs.declared.case.Case.{Case}
+use Rattle.network_values.proofs.Words.{AreMadeInOrder, Case, HasShape, Line, Network, Rational, ended_by, ends, made_by, makes, minus, mix_loss, pass_loss, plus, rational_sum_by, used_by, uses}
 use Rattle.sums.proofs.EnumerationLemmas.{range_with_len-append}
-use Rattle.fractions.specs.Rationals.{Rational, minus, plus, rational_sum_by}
 use Rattle.fractions.proofs.RationalSums.{left_of, rational_sum_by-append, rational_sum_by-flat_map, rational_sum_by-plus, rational_sum_by-same, sum_over_used}
 use Rattle.fractions.proofs.Sums.{plus-minus, plus-zero, plus_assoc, plus_cancel_left, plus_comm, zero-plus}
-use Rattle.networks.specs.Lines.{made_by, makes, used_by, uses}
-use Rattle.networks.specs.Shape.{AreMadeInOrder, HasShape}
-use Rattle.networks.specs.declared.network.Line.{Line}
 use Rattle.networks.specs.declared.network.Line.TheVariants as line
-use Rattle.networks.specs.declared.network.Network.{Network}
 use Rattle.networks.proofs.OfShape.{streams_first, used_within}
-use Rattle.network_values.specs.Values.{ended_by, ends}
-use Rattle.network_values.specs.Weights.{mix_loss, pass_loss}
 
 module _ (weight : ℕ → Rational) where
   abbrev pub IsEven : Line → Type 0

@@ -2,10 +2,9 @@
 use Rattle.std.proofs.Common.{◌≡◌, ◌∙◌, ◌⊎◌, ⊎_elim, inl, inr, Bool, true, false, refl, sym, ap, subst}
 use Rattle.std.specs.Prelude.{if◌then◌else◌}
 use Rattle.std.specs.Bool.{MatchBool}
-use Rattle.fractions.specs.Rationals.{IsAtMost, IsBelow, Rational, is_below, rational_zero, times}
+use Rattle.network_values.proofs.Words.{IsAtMost, IsBelow, Rational, is_below, positive_part, rational_zero, times}
 use Rattle.fractions.proofs.Comparisons.{at_most-times_left, at_most_antisymm, at_most_from_below, at_most_refl, at_most_trans, below_or_at_most, is_below-ranks, not_negative-times}
 use Rattle.fractions.proofs.Products.{times-zero}
-use Rattle.network_values.specs.Heights.{positive_part}
 
 -- of what is above 0 it is all, and of what is below 0 nothing
 pub positive_part-above : (x : Rational) → IsAtMost rational_zero x → positive_part x ≡ x

@@ -14,3 +14,4 @@ pub mod StreamStates
 pub mod ScaleLemmas
 pub mod SignLemmas
 mod OnNetwork
+pub mod Words

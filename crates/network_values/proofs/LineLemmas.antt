@@ -1,14 +1,10 @@
 -- What a line makes solves its equations, and nothing else does.
 use Rattle.std.proofs.Common.{◌≡◌, ◌∙◌, sym, ap, subst, refl}
-use Rattle.stream_case.specs.declared.source.Side.{Side}
+use Rattle.network_values.proofs.Words.{BranchValue, IsBelow, IsMix, IsPass, IsSplit, Rational, Side, change, first_part, heat_of_both, minus, mixed_value, moved, over, passed_value, plus, rational_zero, second_part, times}
 use Rattle.stream_case.specs.declared.source.Side.TheVariants as side
-use Rattle.fractions.specs.Rationals.{IsBelow, Rational, minus, over, plus, rational_zero, times}
 use Rattle.fractions.proofs.Comparisons.{below_from_positive, positive-nonzero, positive-plus, at_most_from_below}
 use Rattle.fractions.proofs.Products.{over_from_times, times_comm, times-over}
 use Rattle.fractions.proofs.Sums.{minus-minus_self, minus-plus, minus_from_plus, plus-minus, plus_comm}
-use Rattle.network_values.specs.Made.{first_part, heat_of_both, mixed_value, moved, passed_value, second_part}
-use Rattle.network_values.specs.Values.{IsMix, IsPass, IsSplit, change}
-use Rattle.network_values.specs.declared.values.BranchValue.{BranchValue}
 
 -- ---- one split, one pass, one mix
 

@@ -1,13 +1,9 @@
 -- The height of a mix.
 use Rattle.std.proofs.Common.{◌≡◌, ◌∙◌, sym, ap, ap₂, subst}
-use Rattle.fractions.specs.Rationals.{IsAtMost, IsBelow, Rational, minus, plus, rational_zero, times}
+use Rattle.network_values.proofs.Words.{BranchValue, IsAtMost, IsBelow, IsMix, MixesLoseHeight, Rational, height, height_above, minus, plus, positive_part, rational_zero, times}
 use Rattle.fractions.proofs.Comparisons.{at_most-plus_plus, at_most-times_left, at_most_from_below, not_negative-plus, not_negative-times, positive-plus}
 use Rattle.fractions.proofs.Products.{plus-times, times-minus}
 use Rattle.fractions.proofs.Sums.{minus-interchange}
-use Rattle.network_values.specs.Heights.{height, positive_part}
-use Rattle.network_values.specs.Mixes.{MixesLoseHeight, height_above}
-use Rattle.network_values.specs.Values.{IsMix}
-use Rattle.network_values.specs.declared.values.BranchValue.{BranchValue}
 use Rattle.network_values.proofs.HeightLemmas.{at_most-positive_part, not_negative-positive_part, positive_part-least, times-positive_part}
 
 parts-lose : (f g u v : Rational) → IsAtMost rational_zero f → IsAtMost rational_zero g → IsAtMost (positive_part (plus (times f u) (times g v))) (plus (height f u) (height g v))

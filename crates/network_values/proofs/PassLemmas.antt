@@ -7,23 +7,14 @@ use Rattle.std.proofs.Math.Bool.{and-false}
 use Rattle.std.proofs.lemmas.Bool.{cases_eq, eq-eqb, ne_eqb}
 use Rattle.std.proofs.lemmas.Option.{same_Some, slice_get-get_or, slice_get_within}
 use Rattle.sums.proofs.ListLemmas.{slice_get-append}
-use Rattle.stream_case.specs.declared.case.Case.{Case}
+use Rattle.network_values.proofs.Words.{Case, Exchanger, HasShape, IsExchanger, Joins, Line, Network, Rational, Source, exchangers_of, inlet_height, is_pass_of, minus, outlet_height, pass_loss, pass_of, plus, rational_sum_by, rational_zero, side_of, stream_at}
 use Rattle.stream_case.specs.declared.source.Side.TheVariants as side
-use Rattle.stream_case.specs.declared.source.Source.{Source}
 use Rattle.stream_case.specs.declared.source.Source.TheVariants as source
-use Rattle.stream_case.specs.Case.{side_of}
-use Rattle.fractions.specs.Rationals.{Rational, minus, plus, rational_sum_by, rational_zero}
 use Rattle.fractions.proofs.RationalSums.{but_at, one_taken, only, rational_sum_by-plus, rational_sum_by-same, rational_sum_by-swap, rational_sum_by-zero, sum-enumerate, sum-enumerated, sum-once}
 use Rattle.fractions.proofs.Sums.{minus-self, plus-zero, zero-plus}
-use Rattle.networks.specs.Lines.{Exchanger, exchangers_of, is_pass_of, pass_of, stream_at}
-use Rattle.networks.specs.Shape.{HasShape, IsExchanger, Joins}
-use Rattle.networks.specs.declared.network.Line.{Line}
 use Rattle.networks.specs.declared.network.Line.TheVariants as line
-use Rattle.networks.specs.declared.network.Network.{Network}
 use Rattle.networks.proofs.Lists.{all_at}
 use Rattle.networks.proofs.OfShape.{count-passages, declared_parts, stands_at}
-use Rattle.network_values.specs.Penalties.{inlet_height, outlet_height}
-use Rattle.network_values.specs.Weights.{pass_loss}
 use Rattle.network_values.proofs.WholeLemmas.{All-range}
 
 -- a sum with one term that is not 0

@@ -4,31 +4,16 @@ use Rattle.std.specs.Prelude.{if◌then◌else◌}
 use Rattle.std.specs.Int.{int_max}
 use Rattle.std.specs.List.{enumerate_from}
 use Rattle.std.proofs.lemmas.Int.{by_lt_z, clamps, ints}
-use Rattle.sums.specs.Sum.{int_sum_by}
+use Rattle.network_values.proofs.Words.{Case, Exchanger, HasShape, IsAdditive, Network, PenaltiesAddUp, PenaltiesAreTheExcess, Rational, Side, Source, Stream, StreamsGiveTheirHeat, View, absorbed_heat, course_of, exchangers_of, first_value, given_by, heat_above, height, height_at, height_in, heights, hot_duty, hot_heat, inlet_height, int_sum_by, last_value, minus, mix_penalties, outlet_height, pass_loss, pass_of, penalty, plus, positive_part, ratio, rational_sum_by, rational_zero, released_heat, same_side, stream_height, stream_loss, sum_side, times, utility_part, whole}
 use Rattle.sums.proofs.ProductLemmas.{*ℤ--ℤ}
 use Rattle.sums.proofs.SumLemmas.{int_sum_by-sub}
-use Rattle.stream_case.specs.declared.case.Case.{Case}
-use Rattle.stream_case.specs.declared.source.Side.{Side}
 use Rattle.stream_case.specs.declared.source.Side.TheVariants as side
-use Rattle.stream_case.specs.declared.source.Source.{Source}
 use Rattle.stream_case.specs.declared.source.Source.TheVariants as source
-use Rattle.stream_case.specs.declared.stream.Stream.{Stream}
-use Rattle.stream_case.specs.Source.{same_side}
-use Rattle.stream_case.specs.Stream.{heat_above}
-use Rattle.fractions.specs.Rationals.{Rational, minus, plus, ratio, rational_sum_by, rational_zero, times, whole}
 use Rattle.fractions.proofs.Comparisons.{at_most-whole}
 use Rattle.fractions.proofs.RationalSums.{rational_sum_by-plus, rational_sum_by-whole, sum-enumerated, sum-items}
 use Rattle.fractions.proofs.Ratios.{by_three, one_denominator}
 use Rattle.fractions.proofs.Sums.{minus-zero, plus-zero, plus_assoc, zero-plus}
 use Rattle.fractions.proofs.Wholes.{whole-minus, whole-times}
-use Rattle.networks.specs.Lines.{Exchanger, exchangers_of, pass_of}
-use Rattle.networks.specs.Shape.{HasShape}
-use Rattle.networks.specs.declared.network.Network.{Network}
-use Rattle.problem_table.specs.Sides.{sum_side}
-use Rattle.network_values.specs.Heights.{View, height, positive_part}
-use Rattle.network_values.specs.Penalties.{PenaltiesAddUp, PenaltiesAreTheExcess, StreamsGiveTheirHeat, absorbed_heat, course_of, given_by, height_at, height_in, heights, hot_duty, hot_heat, inlet_height, mix_penalties, outlet_height, penalty, released_heat, stream_height, utility_part}
-use Rattle.network_values.specs.Values.{first_value, last_value}
-use Rattle.network_values.specs.Weights.{IsAdditive, stream_loss, pass_loss}
 use Rattle.network_values.proofs.CourseLemmas.{height_on-additive}
 use Rattle.network_values.proofs.HeightLemmas.{positive_part-above, positive_part-below}
 use Rattle.network_values.proofs.PassLemmas.{passes_by_side, side_taken, sides_taken}
@@ -83,8 +68,7 @@ stream_given view s = by s.side
 abbrev heat_beside : Side → ℤ → Stream → ℤ
 heat_beside on place s = if same_side s.side on then heat_above place s else pos 0
 
-given_by-sides : (on : Side) (heat : ℤ)
-    → given_by on heat ≡ (if same_side on side.Hot then heat else pos 0) -ℤ (if same_side on side.Cold then heat else pos 0)
+given_by-sides : (on : Side) (heat : ℤ) → given_by on heat ≡ (if same_side on side.Hot then heat else pos 0) -ℤ (if same_side on side.Cold then heat else pos 0)
 given_by-sides side.Hot heat = omega (arith, ints)
 given_by-sides side.Cold heat = refl
 

@@ -5,38 +5,23 @@ use Rattle.std.specs.Option.{option_map_or}
 use mathlib.Core.Path.{subst₂}
 use Rattle.std.proofs.lemmas.Int.{ints}
 use Rattle.std.proofs.lemmas.Option.{same_Some}
-use Rattle.stream_case.specs.Case.{side_of}
-use Rattle.stream_case.specs.declared.case.Case.{Case}
-use Rattle.stream_case.specs.declared.source.Side.{Side}
+use Rattle.network_values.proofs.Words.{Between, Case, Exchanger, ExchangersRunOnOneScale, HasDuty, HasShape, IsAtMost, IsBelow, IsBetweenValues, IsExchanger, IsOfOneStream, IsWholeValuation, Joins, Level, Network, Rational, RunsOnOneScale, Sensible, Side, SideRun, Solves, Source, Stream, Valuation, View, absorbed_heat, base_of, branch_side, change, contribution_of, course_of, duty_at, duty_of, exchangers_of, height_at, height_in, heights, inlet_height, minus, outlet_height, pass_of, pass_run, plus, ratio, rational_zero, released_heat, run_between, seen_from, share, share_in, shifted_run, side_of, side_run, stream_at, stream_height, times, unshifted, uses, value_at, whole}
 use Rattle.stream_case.specs.declared.source.Side.TheVariants as side
-use Rattle.stream_case.specs.declared.source.Source.{Source}
 use Rattle.stream_case.specs.declared.source.Source.TheVariants as source
-use Rattle.stream_case.specs.declared.stream.Stream.{Stream}
-use Rattle.fractions.specs.Rationals.{IsAtMost, IsBelow, Rational, minus, plus, ratio, rational_zero, times, whole}
 use Rattle.fractions.proofs.Comparisons.{at_most-minus_right, at_most-minus_swap, positive-is}
 use Rattle.fractions.proofs.Ratios.{by_three, one_denominator}
 use Rattle.fractions.proofs.Sums.{plus_comm}
 use Rattle.fractions.proofs.Wholes.{whole-minus, whole-plus}
-use Rattle.networks.specs.Lines.{Exchanger, exchangers_of, pass_of, stream_at, uses}
-use Rattle.networks.specs.Shape.{HasShape, IsExchanger, IsOfOneStream, Joins}
 use Rattle.networks.specs.declared.network.Line.TheVariants as line
-use Rattle.networks.specs.declared.network.Network.{Network}
 use Rattle.networks.proofs.Lists.{all_at}
 use Rattle.networks.proofs.OfShape.{the_pass_of, used_there}
-use Rattle.network_values.specs.Courses.{IsBetweenValues, Sensible}
-use Rattle.network_values.specs.Heights.{HasDuty, View, share, share_in}
-use Rattle.network_values.specs.OneScale.{ExchangersRunOnOneScale, RunsOnOneScale, shifted_run}
-use Rattle.network_values.specs.Penalties.{absorbed_heat, base_of, course_of, height_at, height_in, heights, inlet_height, outlet_height, released_heat, stream_height, unshifted}
-use Rattle.network_values.specs.Sides.{Between, Level, SideRun, contribution_of, pass_run, run_between, seen_from, side_run}
-use Rattle.network_values.specs.Values.{IsWholeValuation, Solves, Valuation, branch_side, change, duty_at, duty_of, value_at}
 use Rattle.network_values.proofs.CourseLemmas.{passes_take}
 use Rattle.network_values.proofs.ShareLemmas.{high_of-seen, low_of-seen}
 use Rattle.network_values.proofs.WholeLemmas.{all_solved, branch_above}
 
 -- ---- ends with the approach between them, as distances from a place
 
-approach_seen : (h c : Rational) (place a b : ℤ) → IsAtMost (plus c (whole (a +ℤ b))) h
-    → IsAtMost (minus c (whole (place -ℤ b))) (minus h (whole (place +ℤ a)))
+approach_seen : (h c : Rational) (place a b : ℤ) → IsAtMost (plus c (whole (a +ℤ b))) h → IsAtMost (minus c (whole (place -ℤ b))) (minus h (whole (place +ℤ a)))
 approach_seen h c place a b apart =
     let between : (place +ℤ a) -ℤ (place -ℤ b) ≡ a +ℤ b = omega (arith, ints) in
     at_most-minus_swap h c (whole (place -ℤ b)) (whole (place +ℤ a))
@@ -71,8 +56,7 @@ seen-again on place c run = by run
     at t = minus_twice t (whole (unshifted on (pos 0) c)) (whole place)
         ∙ ap (minus t) (whole-plus place (unshifted on (pos 0) c) ∙ ap whole (unshifted-once on place c))
 
-    by : (run : SideRun)
-        → seen_from (whole place) (seen_from (whole (unshifted on (pos 0) c)) run) ≡ seen_from (whole (unshifted on place c)) run
+    by : (run : SideRun) → seen_from (whole place) (seen_from (whole (unshifted on (pos 0) c)) run) ≡ seen_from (whole (unshifted on place c)) run
     by (Between size low high) = ap₂ (λ a b. Between size a b) (at low) (at high)
     by (Level t) = ap Level (at t)
 
@@ -81,8 +65,7 @@ module _ {case : Case} {network : Network} {values : Valuation} (shape : HasShap
       → slice_get case.streams i ≡ Some s → stream_at network.branches branch ≡ i
       → height_at case view network values branch ≡ height_in view s (value_at values branch)
   unfolding heights
-  branch_height view i s branch at of_stream =
-      ap (λ o. stream_height view o (value_at values branch)) (ap (slice_get case.streams) of_stream ∙ at)
+  branch_height view i s branch at of_stream = ap (λ o. stream_height view o (value_at values branch)) (ap (slice_get case.streams) of_stream ∙ at)
 
   -- the side of a stream: the one pass of its branches
   record IsRun (number i : ℕ) (on : Side) (duty : Rational) (s : Stream) (from to : ℕ) : Type 0 where

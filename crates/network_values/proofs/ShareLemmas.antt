@@ -4,13 +4,11 @@ use Rattle.std.specs.Prelude.{if◌then◌else◌}
 use Rattle.std.proofs.lemmas.Bool.{false≢true}
 use Rattle.std.proofs.lemmas.List.Elements.{All-weaker}
 use mathlib.Core.Path.{subst₂}
-use Rattle.fractions.specs.Rationals.{IsAtMost, IsBelow, Rational, is_below, minus, plus, rational_zero, times}
+use Rattle.network_values.proofs.Words.{Between, HasDuty, HotSharesAreAtLeastColdShares, IsAtMost, IsBelow, IsNowhereBelow, IsPart, Level, PricedSharesAreOrdered, Rational, SharesAreParts, SideRun, height, high_of, is_above, is_below, low_of, minus, plus, rational_zero, seen_from, share, times}
 use Rattle.fractions.proofs.Comparisons.{Decides-is_below, Decides-is_le, at_most-minus_minus, at_most-plus_plus, at_most-times, at_most-times_left, at_most_from_below, at_most_from_not_below, at_most_from_same, at_most_refl, at_most_trans, below_at_most_trans, below_from_positive, below_not_at_most, below_not_same, below_or_at_most, not_negative-minus, positive-minus, positive-nonzero, positive_factor, times-turned}
 use Rattle.fractions.proofs.Products.{over_from_times, times-minus, times-zero, times_swap}
 use Rattle.fractions.proofs.RationalSums.{at_most-rational_sum_by}
 use Rattle.fractions.proofs.Sums.{minus-minus_same, minus-self, minus-zero, plus-minus}
-use Rattle.network_values.specs.Heights.{HasDuty, HotSharesAreAtLeastColdShares, IsNowhereBelow, IsPart, PricedSharesAreOrdered, SharesAreParts, is_above, height, share}
-use Rattle.network_values.specs.Sides.{Between, Level, SideRun, high_of, low_of, seen_from}
 use Rattle.network_values.proofs.HeightLemmas.{positive_part-above, positive_part-at_most, positive_part-below}
 
 -- ---- flows: above the place, below it, and across it

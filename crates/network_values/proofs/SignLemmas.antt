@@ -4,27 +4,13 @@ use Rattle.std.specs.Prelude.{All}
 use mathlib.Core.Path.{subst₂}
 use Rattle.std.proofs.lemmas.Int.{fold-int_max_reached}
 use Rattle.std.proofs.lemmas.List.{get_or-map, length-map}
-use Rattle.stream_case.specs.Stream.{stream_ends}
-use Rattle.stream_case.specs.declared.case.Case.{Case}
+use Rattle.network_values.proofs.Words.{Case, DeficitsAreMet, Exchanger, HasNoNegativePenalty, HasShape, IsAtMost, IsBelow, IsExchanger, IsOfOneStream, IsWholeValuation, KeepApproaches, KeepsApproach, Line, Network, PenaltiesAreNotNegative, Rational, RunsOnOneScale, Solves, Source, TargetsAreMet, Valuation, View, absorbed_heat, course_of, deficit_above, exchanger_penalties, exchangers_of, height_at, hot_duty, hot_heat, hot_target, mix_loss, mix_penalties, penalty, plus, rational_zero, released_heat, share_in, shifted_run, stream_at, stream_ends, uses, utility_part, value_at, view_above, whole}
 use Rattle.stream_case.specs.declared.source.Side.TheVariants as side
-use Rattle.stream_case.specs.declared.source.Source.{Source}
 use Rattle.stream_case.specs.declared.source.Source.TheVariants as source
-use Rattle.fractions.specs.Rationals.{IsAtMost, IsBelow, Rational, plus, rational_zero, whole}
 use Rattle.fractions.proofs.Comparisons.{at_most_from_below, at_most_from_not_negative, at_most_from_same, at_most_refl, at_most_trans, not_negative-minus, not_negative-plus, positive-is}
 use Rattle.fractions.proofs.RationalSums.{not_negative-enumerated, not_negative-rational_sum_by}
-use Rattle.networks.specs.Lines.{Exchanger, exchangers_of, stream_at, uses}
-use Rattle.networks.specs.Shape.{HasShape, IsExchanger, IsOfOneStream}
-use Rattle.networks.specs.declared.network.Line.{Line}
 use Rattle.networks.specs.declared.network.Line.TheVariants as line
-use Rattle.networks.specs.declared.network.Network.{Network}
 use Rattle.networks.proofs.OfShape.{stream_within, used_there}
-use Rattle.problem_table.specs.Deficit.{deficit_above, hot_target}
-use Rattle.network_values.specs.Heights.{View, share_in, view_above}
-use Rattle.network_values.specs.OneScale.{RunsOnOneScale, shifted_run}
-use Rattle.network_values.specs.Penalties.{DeficitsAreMet, HasNoNegativePenalty, PenaltiesAreNotNegative, TargetsAreMet, absorbed_heat, course_of, exchanger_penalties, height_at, hot_duty, hot_heat, mix_penalties, penalty, released_heat, utility_part}
-use Rattle.network_values.specs.Sides.{KeepApproaches, KeepsApproach}
-use Rattle.network_values.specs.Values.{IsWholeValuation, Solves, Valuation, value_at}
-use Rattle.network_values.specs.Weights.{mix_loss}
 use Rattle.network_values.proofs.CourseLemmas.{height_on-mixed}
 use Rattle.network_values.proofs.PenaltyLemmas.{penalties_sum}
 use Rattle.network_values.proofs.ScaleLemmas.{branch_height, run_on_scale}

@@ -2,15 +2,8 @@
 use Rattle.std.proofs.Common.{◌≡◌, ◌∙◌, ℤ, ap, arith}
 use Rattle.std.specs.Prelude.{if◌then◌else◌}
 use Rattle.std.proofs.lemmas.Int.{ints}
-use Rattle.stream_case.specs.Shift.{shifted}
-use Rattle.stream_case.specs.Source.{is_hot}
-use Rattle.stream_case.specs.Stream.{high_end, low_end}
-use Rattle.stream_case.specs.declared.source.Side.{Side}
+use Rattle.network_values.proofs.Words.{Side, Stream, first_state, high_end, is_hot, last_state, low_end, shifted, unshifted, whole}
 use Rattle.stream_case.specs.declared.source.Side.TheVariants as side
-use Rattle.stream_case.specs.declared.stream.Stream.{Stream}
-use Rattle.fractions.specs.Rationals.{whole}
-use Rattle.network_values.specs.Penalties.{unshifted}
-use Rattle.network_values.specs.Values.{first_state, last_state}
 
 -- a hot stream begins at the high end of its range and ends at the low one, a cold one the other way round
 abbrev pub first_end : Side → Stream → ℤ

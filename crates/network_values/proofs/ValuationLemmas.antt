@@ -4,23 +4,12 @@ use Rattle.std.proofs.lemmas.Int.{ints}
 use Rattle.std.proofs.lemmas.List.{ext_get_or, get_or-append-add, get_or-drop, length-drop, get_or_append_left, get_or-take, length-map, length-take, take-append-drop, take-append-le, take-take, take_all}
 use Rattle.std.proofs.lemmas.List.Elements.{All-append, All-cons, All-map, All-nil, All-push, All-take, All-weaker}
 use Rattle.std.proofs.lemmas.Option.{slice_get-get_or}
-use Rattle.stream_case.specs.Case.{IsComplete}
-use Rattle.stream_case.specs.Stream.{IsValidStream}
-use Rattle.stream_case.specs.declared.case.Case.{Case}
-use Rattle.stream_case.specs.declared.stream.Stream.{Stream}
+use Rattle.network_values.proofs.Words.{BranchValue, Case, HasPositiveFlow, HasShape, IsBelow, IsComplete, IsMix, IsPass, IsSplit, IsValidStream, IsValuation, LeaveRoom, LeavesRoom, Line, Network, Solves, Stream, Valuation, branch_side, duty_at, first_part, first_value, front, made_before, made_by, made_values, makes, mixed_value, no_value, passed_value, rational_zero, second_part, uses, value_at, whole}
 use Rattle.stream_case.proofs.CompleteLemmas.{HasValidStreams-IsComplete}
-use Rattle.fractions.specs.Rationals.{IsBelow, rational_zero, whole}
 use Rattle.fractions.proofs.Comparisons.{below-whole, positive-is, positive-minus}
-use Rattle.networks.specs.Lines.{made_by, makes, uses}
-use Rattle.networks.specs.Shape.{HasPositiveFlow, HasShape, made_before}
-use Rattle.networks.specs.declared.network.Line.{Line}
 use Rattle.networks.specs.declared.network.Line.TheVariants as line
-use Rattle.networks.specs.declared.network.Network.{Network}
 use Rattle.networks.proofs.Lists.{all_at, slice_get-take}
 use Rattle.networks.proofs.OfShape.{HasNumbers, line_at, line_of, made_fewer}
-use Rattle.network_values.specs.Made.{LeaveRoom, LeavesRoom, first_part, front, made_values, mixed_value, passed_value, second_part}
-use Rattle.network_values.specs.Values.{IsMix, IsPass, IsSplit, IsValuation, Solves, Valuation, branch_side, duty_at, first_value, no_value, value_at}
-use Rattle.network_values.specs.declared.values.BranchValue.{BranchValue}
 use Rattle.network_values.proofs.LineLemmas.{mix_determined, mix_solved, mixed_positive, pass_determined, pass_solved, split_determined, split_solved}
 
 -- ---- lists

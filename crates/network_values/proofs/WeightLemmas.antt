@@ -4,17 +4,10 @@ use Rattle.std.specs.Prelude.{All, Contains}
 use Rattle.std.specs.List.{enumerate_from, range_with_len}
 use Rattle.std.specs.Option.{option_map_or}
 use Rattle.std.proofs.lemmas.List.Elements.{All-map}
-use Rattle.stream_case.specs.declared.case.Case.{Case}
-use Rattle.stream_case.specs.declared.stream.Stream.{Stream}
-use Rattle.fractions.specs.Rationals.{Rational, minus, plus, rational_sum_by, rational_zero}
+use Rattle.network_values.proofs.Words.{AreEnded, Case, HasShape, IsAdditive, IsWholeValuation, Network, Rational, Stream, Valuation, Weight, WeightsBalance, ended_by, ended_streams, first_value, last_value, minus, mix_loss, pass_loss, plus, rational_sum_by, rational_zero, stream_at, stream_loss, used_by, value_at, weight_at}
 use Rattle.fractions.proofs.RationalSums.{left_of, left_of-used, rational_sum_by-map, rational_sum_by-minus, rational_sum_by-same, rational_sum_by-zero, sum-enumerate, sum_over_used}
 use Rattle.fractions.proofs.Sums.{minus-plus, plus-zero}
-use Rattle.networks.specs.Lines.{stream_at, used_by}
-use Rattle.networks.specs.Shape.{HasShape}
-use Rattle.networks.specs.declared.network.Network.{Network}
 use Rattle.networks.proofs.OfShape.{own_stream, stream_within}
-use Rattle.network_values.specs.Values.{AreEnded, IsWholeValuation, Valuation, ended_by, ended_streams, first_value, last_value, value_at}
-use Rattle.network_values.specs.Weights.{IsAdditive, Weight, WeightsBalance, stream_loss, mix_loss, pass_loss, weight_at}
 use Rattle.network_values.proofs.EndLemmas.{all_even, end_once, ended_within}
 use Rattle.network_values.proofs.FlowBalance.{flow_balance}
 use Rattle.network_values.proofs.WholeLemmas.{All-range, item_at, own_value}

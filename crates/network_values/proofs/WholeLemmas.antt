@@ -6,14 +6,8 @@ use Rattle.std.proofs.Math.Seq.{take-length}
 use Rattle.std.proofs.lemmas.List.{get_or-map, get_or-take}
 use Rattle.std.proofs.lemmas.List.FromFn.{get_or-range_with_len, length-range_with_len}
 use Rattle.std.proofs.lemmas.Option.{get_or_from_slice_get, slice_get_within}
-use Rattle.stream_case.specs.declared.case.Case.{Case}
-use Rattle.stream_case.specs.declared.stream.Stream.{Stream}
-use Rattle.fractions.specs.Rationals.{IsBelow, rational_zero}
-use Rattle.networks.specs.Lines.{made_by}
-use Rattle.networks.specs.Shape.{HasShape}
-use Rattle.networks.specs.declared.network.Network.{Network}
+use Rattle.network_values.proofs.Words.{Case, HasShape, IsBelow, IsWholeValuation, Network, Solves, Stream, Valuation, first_value, made_by, no_value, rational_zero, value_at}
 use Rattle.networks.proofs.OfShape.{all_made}
-use Rattle.network_values.specs.Values.{IsWholeValuation, Solves, Valuation, first_value, no_value, value_at}
 use Rattle.network_values.proofs.ValuationLemmas.{branch_positive}
 
 -- ---- ranges

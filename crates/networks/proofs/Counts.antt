@@ -28,9 +28,7 @@ none_found p (x ∷ xs) none = by (p x) refl none (none_found p xs)
 
 pub find_none : {X : Type 0} (p : X → Bool) (xs : List X) → All (λ x. p x ≡ false) xs → find p xs ≡ None
 find_none p [] none = refl
-find_none p (x ∷ xs) none =
-    let here = All-head (λ y. p y ≡ false) x xs none in
-    rw here (find_none p xs (All-tail (λ y. p y ≡ false) x xs none))
+find_none p (x ∷ xs) none = let here = All-head (λ y. p y ≡ false) x xs none in rw here (find_none p xs (All-tail (λ y. p y ≡ false) x xs none))
 
 -- ---- some item passes
 

@@ -4,3 +4,4 @@ pub mod RowLemmas
 pub mod TableLemmas
 pub mod ListLaws
 pub mod Listing
+pub mod Words

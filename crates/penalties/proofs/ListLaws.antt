@@ -3,29 +3,13 @@ use Rattle.std.proofs.Common.{◌≡◌, ◌∙◌, ◌+◌, ◌∷◌, ℕ, Lis
 use Rattle.std.specs.List.{enumerate_from, filter_map}
 use Rattle.std.proofs.lemmas.List.Elements.{All-append, All-cons, All-head, All-map, All-nil, All-same, All-tail}
 use Rattle.sums.proofs.EnumerationLemmas.{All-enumerated}
-use Rattle.stream_case.specs.declared.case.Case.{Case}
-use Rattle.fractions.specs.Rationals.{IsAtMost, Rational, plus, rational_sum_by, rational_zero}
+use Rattle.penalties.proofs.Words.{AreEnded, Case, HasNoNegativePenalty, HasShape, IsAtMost, IsNotNegative, IsReferencePlace, IsValidNetwork, IsWholeValuation, KeepApproaches, Line, ListsPenalties, Network, Penalty, Rational, Valuation, View, excess_of, exchanger_row, exchanger_rows, exchangers_of, height_at, mix_loss, mix_row, mix_rows, penalties_of, plus, rational_sum_by, rational_zero, sum_of, view_above}
 use Rattle.fractions.proofs.RationalSums.{rational_sum_by-append, rational_sum_by-map}
 use Rattle.fractions.proofs.Sums.{zero-plus}
-use Rattle.networks.specs.Lines.{exchangers_of}
-use Rattle.networks.specs.Shape.{HasShape}
-use Rattle.networks.specs.declared.network.Line.{Line}
 use Rattle.networks.specs.declared.network.Line.TheVariants as line
-use Rattle.networks.specs.declared.network.Network.{Network}
-use Rattle.problem_table.specs.Deficit.{IsReferencePlace}
-use Rattle.network_values.specs.Heights.{View, view_above}
-use Rattle.network_values.specs.Penalties.{HasNoNegativePenalty, height_at}
-use Rattle.network_values.specs.Sides.{KeepApproaches}
-use Rattle.network_values.specs.Values.{AreEnded, IsWholeValuation, Valuation}
-use Rattle.network_values.specs.Weights.{mix_loss}
 use Rattle.network_values.proofs.PenaltyLemmas.{penalties_excess}
 use Rattle.network_values.proofs.SignLemmas.{penalties_sign}
 use Rattle.network_values.proofs.ValuationLemmas.{one_valuation}
-use Rattle.network_audit.specs.Balance.{excess_of}
-use Rattle.network_audit.specs.Valid.{IsValidNetwork}
-use Rattle.penalties.specs.Answers.{IsNotNegative, ListsPenalties, sum_of}
-use Rattle.penalties.specs.Rows.{exchanger_row, exchanger_rows, mix_row, mix_rows, penalties_of}
-use Rattle.penalties.specs.declared.list.Penalty.{Penalty}
 use Rattle.penalties.specs.declared.list.PenaltyList.TheVariants as list
 
 -- ---- the rows of mixes

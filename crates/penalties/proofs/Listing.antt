@@ -1,26 +1,8 @@
 -- What the two loops answer is what is answered for the network.
 use Rattle.std.proofs.Common.{◌≡◌, ◌∙◌, ◌++◌, ℕ, ℤ, List, [], Option, Some, None, refl, sym, ap, ap₂, subst}
-use Rattle.stream_case.specs.declared.case.Case.{Case}
-use Rattle.fractions.specs.Rationals.{Rational}
-use Rattle.networks.specs.declared.network.Line.{Line}
-use Rattle.networks.specs.declared.network.Network.{Network}
-use Rattle.problem_table.specs.Deficit.{IsReferencePlace}
-use Rattle.network_values.specs.Heights.{view_above}
-use Rattle.network_values.specs.Penalties.{height_at}
-use Rattle.network_values.specs.Values.{IsWholeValuation}
-use Rattle.network_audit.specs.Audit.{Audit, HasAccepted, KnowsItsNetwork}
-use Rattle.network_audit.specs.Joints.{joints_of}
-use Rattle.network_audit.specs.declared.findings.Place.{Place}
-use Rattle.network_audit.specs.declared.joints.Joint.{Joint}
+use Rattle.penalties.proofs.Words.{Audit, Case, Finds, HasAccepted, IsReferencePlace, IsWholeValuation, Joint, KnowsItsNetwork, Line, ListsPenalties, Network, Penalty, Place, Rational, Step, TooFine, all_exchanger_steps, all_joint_steps, all_mix_steps, branch_steps, first_too_fine, height_at, joint_rows, joints_of, mix_rows, values_of, view_above}
 use Rattle.network_audit.proofs.AcceptedLemmas.{faultless_values}
-use Rattle.penalties.specs.Answers.{Finds, ListsPenalties}
-use Rattle.penalties.specs.Rows.{mix_rows}
-use Rattle.penalties.specs.Steps.{Step, all_exchanger_steps, all_mix_steps, branch_steps, first_too_fine}
-use Rattle.penalties.specs.Survey.{values_of}
-use Rattle.penalties.specs.Tables.{all_joint_steps, joint_rows}
-use Rattle.penalties.specs.declared.list.Penalty.{Penalty}
 use Rattle.penalties.specs.declared.list.PenaltyList.TheVariants as list
-use Rattle.penalties.specs.declared.list.TooFine.{TooFine}
 use Rattle.penalties.proofs.StepLemmas.{first_behind, first_front}
 use Rattle.penalties.proofs.TableLemmas.{rows-joints, steps-joints}
 

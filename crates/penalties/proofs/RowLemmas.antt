@@ -3,12 +3,8 @@ use Rattle.std.proofs.Common.{◌≡◌, ◌∙◌, ◌<◌, ◌+◌, ◌∷◌,
 use Rattle.std.specs.List.{enumerate_from, filter_map}
 use Rattle.std.proofs.lemmas.List.{map-append}
 use Rattle.std.proofs.lemmas.List.Elements.{filter_map-append}
-use Rattle.fractions.specs.Rationals.{Rational}
-use Rattle.network_audit.specs.declared.findings.Place.{Place}
-use Rattle.networks.specs.declared.network.Line.{Line}
+use Rattle.penalties.proofs.Words.{Line, Place, Rational, Step, line_steps, mix_row}
 use Rattle.networks.specs.declared.network.Line.TheVariants as line
-use Rattle.penalties.specs.Rows.{mix_row}
-use Rattle.penalties.specs.Steps.{Step, line_steps}
 use Rattle.penalties.proofs.StepLemmas.{enumerated-more}
 
 module _ {X Y : Type 0} (xs : List X) (n : ℕ) (d : X) (within : n < length xs) where

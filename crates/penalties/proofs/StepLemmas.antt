@@ -7,12 +7,8 @@ use Rattle.std.proofs.lemmas.List.{append-nil, length-take, take-append-drop, ta
 use Rattle.std.proofs.lemmas.List.Concat.{flat_map-append}
 use Rattle.std.proofs.lemmas.List.Folds.{find-append}
 use Rattle.sums.proofs.EnumerationLemmas.{enumerate_from-append}
-use Rattle.fractions.specs.Rationals.{Gives, Rational, is_within_limits, minus}
+use Rattle.penalties.proofs.Words.{Formed, Gives, Place, Rational, Step, TooFine, first_too_fine, is_too_fine, is_within_limits, minus, spot_of, step}
 use Rattle.fractions.proofs.Limits.{value_formed, within_formed, within_not_formed}
-use Rattle.network_audit.specs.declared.findings.Place.{Place}
-use Rattle.penalties.specs.Answers.{Formed}
-use Rattle.penalties.specs.Steps.{Step, first_too_fine, is_too_fine, spot_of, step}
-use Rattle.penalties.specs.declared.list.TooFine.{TooFine}
 
 -- ---- one step
 

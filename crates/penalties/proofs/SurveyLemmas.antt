@@ -1,18 +1,8 @@
 -- What a survey reads is what its steps and heights speak of.
 use Rattle.std.proofs.Common.{◌≡◌, ◌∙◌, ◌+◌, ◌∷◌, ℕ, true, false, [], Option, Some, None, slice_get, unwrap_or, zero, suc, refl, ap}
 use Rattle.std.specs.Prelude.{if◌then◌else◌, option_and_then}
-use Rattle.stream_case.specs.declared.stream.Stream.{Stream}
-use Rattle.fractions.specs.Rationals.{Rational, is_below, rational_zero, times}
+use Rattle.penalties.proofs.Words.{Audit, Place, Rational, Stream, Survey, Valuation, height, height_steps, heights, is_below, no_value, positive_part, rational_zero, seen_height, seen_steps, step, stream_at, stream_height, stream_steps, times, value_at, values_of, view_above}
 use Rattle.fractions.proofs.Products.{times-zero}
-use Rattle.networks.specs.Lines.{stream_at}
-use Rattle.network_values.specs.Heights.{height, positive_part, view_above}
-use Rattle.network_values.specs.Penalties.{heights, stream_height}
-use Rattle.network_values.specs.Values.{Valuation, no_value, value_at}
-use Rattle.network_audit.specs.Audit.{Audit}
-use Rattle.network_audit.specs.declared.findings.Place.{Place}
-use Rattle.penalties.specs.Steps.{height_steps, step, stream_steps}
-use Rattle.penalties.specs.Survey.{seen_height, seen_steps, values_of}
-use Rattle.penalties.specs.declared.heights.Survey.{Survey}
 
 -- ---- heights
 

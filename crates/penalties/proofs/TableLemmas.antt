@@ -1,22 +1,11 @@
 -- The table of the exchangers has their penalties and the steps that form them.
 use Rattle.std.proofs.Common.{◌≡◌, ◌+◌, ◌∷◌, ◌++◌, ℕ, List, [], Option, Some, None, map, refl, sym, ap, ap₂}
 use Rattle.std.specs.List.{enumerate_from, flat_map}
-use Rattle.stream_case.specs.declared.source.Source.{Source}
+use Rattle.penalties.proofs.Words.{Exchanger, Joint, Line, Network, Place, Rational, Source, Step, absorbed_by, absorbed_heat, absorbed_steps, all_exchanger_steps, all_joint_steps, crossing_by, exchanger_row, exchanger_rows, exchanger_steps, exchangers_of, inlet_height, joint_among, joint_penalty, joint_row, joint_rows, joint_steps, joints_among, joints_of, minus, outlet_height, pass_of, penalty, rational_zero, released_by, released_heat, released_steps, side_pass, step}
 use Rattle.stream_case.specs.declared.source.Source.TheVariants as source
-use Rattle.fractions.specs.Rationals.{Rational, minus, rational_zero}
 use Rattle.fractions.proofs.Sums.{minus-self}
-use Rattle.networks.specs.Lines.{Exchanger, exchangers_of, pass_of}
-use Rattle.networks.specs.declared.network.Line.{Line}
 use Rattle.networks.specs.declared.network.Line.TheVariants as line
-use Rattle.networks.specs.declared.network.Network.{Network}
-use Rattle.network_values.specs.Penalties.{absorbed_heat, inlet_height, outlet_height, penalty, released_heat}
-use Rattle.network_audit.specs.Joints.{crossing_by, joint_among, joints_among, joints_of}
-use Rattle.network_audit.specs.declared.findings.Place.{Place}
 use Rattle.network_audit.specs.declared.findings.Place.TheVariants as place
-use Rattle.network_audit.specs.declared.joints.Joint.{Joint}
-use Rattle.penalties.specs.Rows.{exchanger_row, exchanger_rows}
-use Rattle.penalties.specs.Steps.{Step, absorbed_steps, all_exchanger_steps, exchanger_steps, released_steps, side_pass, step}
-use Rattle.penalties.specs.Tables.{absorbed_by, all_joint_steps, joint_penalty, joint_row, joint_rows, joint_steps, released_by}
 
 -- ---- lists made of members with their indices, and made again
 

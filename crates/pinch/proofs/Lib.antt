@@ -13,3 +13,4 @@ mod Runnable
 mod Runs
 mod ShownNetworks
 mod SiteCosts
+pub mod Words

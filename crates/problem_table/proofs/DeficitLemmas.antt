@@ -6,17 +6,10 @@ use Rattle.std.proofs.lemmas.Int.{ints, fold-int_max_bounds, fold-int_max_reache
 use Rattle.std.proofs.lemmas.List.{map-append, length-map, get_or-map}
 use Rattle.std.proofs.lemmas.List.Sums.{fold-append}
 use Rattle.std.proofs.lemmas.List.Elements.{All-weaker, Contains-get_or}
-use Rattle.stream_case.specs.declared.source.Side.TheVariants.{Hot, Cold}
-use Rattle.stream_case.specs.declared.stream.Stream.{Stream}
-use Rattle.stream_case.specs.declared.limits.TheConstants.{LOWEST_SHIFTED}
-use Rattle.stream_case.specs.Limits.{IsBetween, IsStreamsHeat}
-use Rattle.stream_case.specs.Case.{outermost}
-use Rattle.stream_case.specs.Stream.{high_end, low_end, heat_above, heat_of, stream_ends, AreStreams, HasValidStreams, IsValidStream}
+use Rattle.problem_table.proofs.Words.{AreStreams, Cold, HasValidStreams, Hot, IsBetween, IsStreamsHeat, IsTight, IsValidStream, LOWEST_SHIFTED, Stream, cold_target, deficit_above, heat_above, heat_of, high_end, hot_target, low_end, outermost, stream_ends, sum_side}
 use Rattle.stream_case.proofs.CaseLemmas.{length-AreStreams}
 use Rattle.stream_case.proofs.EndLemmas.{AreEnds-IsValidStream, each_end, length-stream_ends, stream_ends-more}
 use Rattle.stream_case.proofs.HeatLemmas.{heat_above-between, heat_of-between}
-use Rattle.problem_table.specs.Sides.{sum_side}
-use Rattle.problem_table.specs.Deficit.{deficit_above, hot_target, cold_target, IsTight}
 use Rattle.problem_table.proofs.EndLemmas.{IsOutermost-outermost}
 use Rattle.problem_table.proofs.HeatLemmas.{heat_above-le, heat_above-none, heat_above-all}
 use Rattle.problem_table.proofs.SideLemmas.{sum_side-heat, sum_side-le, sum_side-same, sum_side-zero}

@@ -3,9 +3,7 @@ use Rattle.std.proofs.Common.{◌≡◌, suc, ◌<◌, ◌⊎◌, inl, inr, List
 use Rattle.std.specs.Prelude.{ℤ, ◌≤ℤ◌, All, Contains}
 use Rattle.std.proofs.lemmas.Int.{fold-int_max_bounds, fold-int_max_reached, fold-int_min_bounds, fold-int_min_reached}
 use Rattle.std.proofs.lemmas.List.Elements.{All-cons}
-use Rattle.stream_case.specs.declared.source.Side.{Side}
-use Rattle.stream_case.specs.declared.source.Side.TheVariants.{Hot, Cold}
-use Rattle.stream_case.specs.Case.{outermost}
+use Rattle.problem_table.proofs.Words.{Cold, Hot, Side, outermost}
 
 -- x lies at y or outside of it: above it on the hot side, below it on the cold one
 abbrev pub IsOutside : Side → ℤ → ℤ → Type 0
@@ -22,9 +20,7 @@ made_of side x xs r bounds (inr (k, within, is)) = record { member = (suc k, ome
 
 pub IsOutermost-outermost : (side : Side) (xs : List ℤ) → 0 < length xs → IsOutermost side xs (outermost side xs)
 IsOutermost-outermost side [] h = absurd (omega arith)
-IsOutermost-outermost Hot (x ∷ xs) h =
-    let r = outermost Hot (x ∷ xs) in
-    made_of Hot x xs r (fold-int_max_bounds x xs r refl) (fold-int_max_reached x xs r refl)
+IsOutermost-outermost Hot (x ∷ xs) h = let r = outermost Hot (x ∷ xs) in made_of Hot x xs r (fold-int_max_bounds x xs r refl) (fold-int_max_reached x xs r refl)
 IsOutermost-outermost Cold (x ∷ xs) h =
     let r = outermost Cold (x ∷ xs) in
     made_of Cold x xs r (fold-int_min_bounds x xs r refl) (fold-int_min_reached x xs r refl)

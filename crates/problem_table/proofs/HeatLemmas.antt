@@ -4,8 +4,7 @@ use Rattle.std.specs.Prelude.{ℤ, pos, ◌-ℤ◌, ◌*ℤ◌, ◌≤ℤ◌}
 use Rattle.std.proofs.lemmas.Int.{ints, clamps}
 use Rattle.std.proofs.Math.IntN.{*ℤ-zero}
 use Rattle.sums.proofs.ProductLemmas.{*ℤ-≤ℤ_left}
-use Rattle.stream_case.specs.declared.stream.Stream.{Stream}
-use Rattle.stream_case.specs.Stream.{high_end, low_end, length_above, heat_above, heat_of, IsValidStream}
+use Rattle.problem_table.proofs.Words.{IsValidStream, Stream, heat_above, heat_of, high_end, length_above, low_end}
 use Rattle.stream_case.proofs.EndLemmas.{AreEnds-IsValidStream}
 
 pub heat_above-le : (t : ℤ) (s : Stream) → IsValidStream s → heat_above t s ≤ℤ heat_of s

@@ -4,3 +4,4 @@ pub mod HeatLemmas
 pub mod PinchLemmas
 pub mod PlaceLemmas
 pub mod SideLemmas
+pub mod Words

@@ -2,20 +2,14 @@
 use Rattle.std.proofs.Common.{◌≡◌, ℕ, ◌+◌, ◌<◌, List, [], ◌∷◌, ◌++◌, length, get_or, take, sym, subst, arith}
 use Rattle.std.specs.Prelude.{ℤ, All, Contains}
 use Rattle.std.proofs.lemmas.List.{take_more}
-use Rattle.std.proofs.lemmas.List.Elements.{All-nil, All-push, All-contains, All-weaker, Contains-append_left, Contains-append_right, Contains-get_or}
-use Rattle.stream_case.specs.declared.stream.Stream.{Stream}
-use Rattle.stream_case.specs.Stream.{stream_ends}
-use Rattle.sums.specs.Order.{ListsFalling}
+use Rattle.std.proofs.lemmas.List.Elements.{All-push, All-contains, All-weaker, Contains-append_left, Contains-append_right, Contains-get_or}
+use Rattle.problem_table.proofs.Words.{IsPinch, ListsFalling, Stream, stream_ends}
 use Rattle.sums.proofs.OrderLemmas.{Lists-same}
-use Rattle.problem_table.specs.Deficit.{IsPinch}
 
 -- each found place is a pinch, and each pinch among these ends was found
 pub record Finds (streams : List Stream) (some_ends found : List ℤ) : Type 0 where
   pub each : All (IsPinch streams) found
   pub every : All (λ t. IsPinch streams t → Contains found t) some_ends
-
-pub Finds-none : (streams : List Stream) → Finds streams [] []
-Finds-none streams = record { each = All-nil (IsPinch streams); every = All-nil (λ t. IsPinch streams t → Contains [] t) }
 
 module _ (streams : List Stream) (ends : List ℤ) (i : ℕ) (end d : ℤ) (within : i < length ends) (is : get_or ends i d ≡ end) (found : List ℤ) where
   one_more : (now : List ℤ) → All (λ t. IsPinch streams t → Contains now t) (take i ends) → (IsPinch streams end → Contains now end) → All (λ t. IsPinch streams t → Contains now t) (take (i + 1) ends)

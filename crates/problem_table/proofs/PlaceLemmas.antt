@@ -4,9 +4,7 @@ use Rattle.std.specs.Prelude.{ℤ, int_lt, ◌≢◌, ◌≤ℤ◌, All, Contain
 use Rattle.std.specs.Int.{int_max}
 use Rattle.std.proofs.lemmas.Int.{ints, clamps}
 use Rattle.std.proofs.lemmas.List.Elements.{All-push, All-weaker, All-contains, Contains-append_left, Contains-append_right}
-use Rattle.stream_case.specs.declared.stream.Stream.{Stream}
-use Rattle.stream_case.specs.Stream.{stream_ends, HasValidStreams}
-use Rattle.problem_table.specs.Deficit.{deficit_above, hot_target, FindsHighestTight}
+use Rattle.problem_table.proofs.Words.{FindsHighestTight, HasValidStreams, Stream, deficit_above, hot_target, stream_ends}
 use Rattle.problem_table.proofs.DeficitLemmas.{some_tight}
 
 chosen : (b : Bool) (z x y : ℤ) → z ≡ cond b x y → (z ≡ x) ⊎ (z ≡ y)

@@ -4,16 +4,9 @@ use Rattle.std.specs.Prelude.{ℤ, pos, ◌+ℤ◌, ◌≤ℤ◌, if◌then◌el
 use Rattle.std.proofs.lemmas.Int.{ints}
 use Rattle.std.proofs.lemmas.List.{length-take}
 use Rattle.std.proofs.lemmas.List.Elements.{All-take, All-weaker}
-use Rattle.sums.specs.Sum.{int_sum_by}
+use Rattle.problem_table.proofs.Words.{ALL_STREAMS, AreStreams, IsBetween, IsStreamHeat, IsStreamsHeat, IsValidStream, Side, Stream, int_sum_by, same_side, sum_side}
 use Rattle.sums.proofs.SumLemmas.{int_sum_by-more, int_sum_by-zero, int_sum_by-same, int_sum_by-le, int_sum_by-not_negative, int_sum_by-at_most}
-use Rattle.stream_case.specs.declared.source.Side.{Side}
-use Rattle.stream_case.specs.declared.stream.Stream.{Stream}
-use Rattle.stream_case.specs.declared.limits.TheConstants.{ALL_STREAMS}
-use Rattle.stream_case.specs.Limits.{IsBetween, IsStreamHeat, IsStreamsHeat}
-use Rattle.stream_case.specs.Source.{same_side}
-use Rattle.stream_case.specs.Stream.{AreStreams, IsValidStream}
 use Rattle.stream_case.proofs.CaseLemmas.{length-AreStreams}
-use Rattle.problem_table.specs.Sides.{sum_side}
 
 -- what a stream adds to the sum of a side
 abbrev term : Side → (Stream → ℤ) → Stream → ℤ
@@ -54,9 +47,7 @@ module _ (side : Side) (f : Stream → ℤ) where
 
   -- of heats of streams of a case, and of the first of them, as a loop goes over them
   pub sum_side-heat : ((s : Stream) → IsValidStream s → IsStreamHeat (f s)) → (streams : List Stream) → All IsValidStream streams → length streams ≤ ALL_STREAMS → IsStreamsHeat (sum_side side f streams)
-  sum_side-heat bounded streams valid few =
-      let sum = sum_side-between bounded streams valid in
-      record { from = sum.from; upto = omega (arith, ints, sum) }
+  sum_side-heat bounded streams valid few = let sum = sum_side-between bounded streams valid in record { from = sum.from; upto = omega (arith, ints, sum) }
 
   pub sum_side-so_far : ((s : Stream) → IsValidStream s → IsStreamHeat (f s)) → (streams : List Stream) (i : ℕ) → AreStreams streams → IsStreamsHeat (sum_side side f (take i streams))
   sum_side-so_far bounded streams i h =

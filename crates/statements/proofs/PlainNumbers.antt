@@ -36,8 +36,7 @@ abbrev pub IsNumberByte : ℕ → Type 0
 IsNumberByte b = (45 ≤ b) × (b ≢ 47)
 
 pub decimal_bytes : (n : ℕ) → n < 10 ^ 64 → All IsNumberByte (decimal n)
-decimal_bytes n small =
-    All-weaker IsDigit IsNumberByte (λ b digit. (omega (arith, digit), λ e. omega (arith, e, digit))) (decimal n) (decimal_digits n small)
+decimal_bytes n small = All-weaker IsDigit IsNumberByte (λ b digit. (omega (arith, digit), λ e. omega (arith, e, digit))) (decimal n) (decimal_digits n small)
 
 sign_byte : IsNumberByte 45
 sign_byte = (omega arith, λ e. omega (arith, e))
@@ -64,5 +63,4 @@ number-back most (pos n) some small short =
     let digit = decimal_digits n (omega (arith, short)) 0 0 (decimal_some n (omega (arith, short))) in
     let plain : (get_or (decimal n) 0 0 == 45) ≡ false = grind (arith, nat_tests, digit) in
     rw plain (ap (option_map pos) (natural_read most n some (omega (arith, small)) (omega (arith, short))))
-number-back most (negsuc n) some small short =
-    ap (option_map negative) (natural_read most (suc n) some (omega (arith, small)) (omega (arith, short)))
+number-back most (negsuc n) some small short = ap (option_map negative) (natural_read most (suc n) some (omega (arith, small)) (omega (arith, short)))

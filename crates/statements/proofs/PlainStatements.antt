@@ -57,9 +57,7 @@ split_fields f (g ∷ gs) plain =
 -- a filter that each item passes keeps all
 keep_all : {X : Type 0} (p : X → Bool) (xs : List X) → All (λ x. p x ≡ true) xs → filter p xs ≡ xs
 keep_all p [] pass = refl
-keep_all p (x ∷ xs) pass =
-    let here = All-head (λ y. p y ≡ true) x xs pass in
-    rw here (ap (λ ys. x ∷ ys) (keep_all p xs (All-tail (λ y. p y ≡ true) x xs pass)))
+keep_all p (x ∷ xs) pass = let here = All-head (λ y. p y ≡ true) x xs pass in rw here (ap (λ ys. x ∷ ys) (keep_all p xs (All-tail (λ y. p y ≡ true) x xs pass)))
 
 not_empty : (f : List ℕ) → IsPlainField f → not (is_empty f) ≡ true
 not_empty f plain = let some = plain.some in grind (arith, nat_tests)
@@ -92,9 +90,7 @@ no_end b of = grind (arith, nat_tests)
 
 last_byte : (line : List ℕ) → All IsOfLine line → (get_or line (length line - 1) 0 == 13) ≡ false
 last_byte [] of = refl
-last_byte (b ∷ bs) of =
-    let here = of (length (b ∷ bs) - 1) 0 (omega arith) in
-    grind (arith, nat_tests)
+last_byte (b ∷ bs) of = let here = of (length (b ∷ bs) - 1) 0 (omega arith) in grind (arith, nat_tests)
 
 no_return : (line : List ℕ) → All IsOfLine line → strip_carriage_return line ≡ line
 no_return line of = rw (last_byte line of) refl
@@ -137,9 +133,7 @@ comment-back f fs rest plain comment = ap (filter is_statement) (one_line f fs r
 pub statements-back : (ss : List Statement) → All IsPlainStatement ss → statements_of (flat_map statement_text ss) ≡ ss
 unfolding statements_of
 statements-back [] plain = refl
-statements-back ([] ∷ ss) plain =
-    let here = All-head IsPlainStatement [] ss plain in
-    absurd (omega (arith, here.some))
+statements-back ([] ∷ ss) plain = let here = All-head IsPlainStatement [] ss plain in absurd (omega (arith, here.some))
 statements-back ((f ∷ fs) ∷ ss) plain =
     one_more f fs (flat_map statement_text ss) (All-head IsPlainStatement (f ∷ fs) ss plain)
     ∙ ap (λ rest. (f ∷ fs) ∷ rest) (statements-back ss (All-tail IsPlainStatement (f ∷ fs) ss plain))

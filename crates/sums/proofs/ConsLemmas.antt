@@ -1,5 +1,5 @@
 -- Lists with one more element in front, if a test holds.
-use Rattle.std.proofs.Common.{◌≡◌, refl, Bool, true, false, List, [], ◌∷◌, ◌++◌, length, ◌+◌, cond, arith}
+use Rattle.std.proofs.Common.{◌≡◌, refl, Bool, true, false, List, [], ◌∷◌, ◌++◌, arith}
 use Rattle.std.specs.Prelude.{All, AllPairs, Contains}
 use Rattle.std.proofs.lemmas.List.Elements.{All-cons, Contains-append_right}
 use Rattle.std.proofs.lemmas.List.Kept.{AllPairs-cons}
@@ -21,10 +21,6 @@ module _ {X : Type 0} where
   pub Contains-cons_if_here : (b : Bool) (x : X) (xs : List X) → b ≡ true → Contains (cons_if b x xs) x
   Contains-cons_if_here true x xs h = (0, omega arith, refl)
   Contains-cons_if_here false x xs h = cc
-
-  pub length-cons_if : (b : Bool) (x : X) (xs : List X) → length (cons_if b x xs) ≡ cond b 1 0 + length xs
-  length-cons_if true x xs = omega arith
-  length-cons_if false x xs = omega arith
 
   pub cons_if-append : (b : Bool) (x : X) (xs ys : List X) → cons_if b x xs ++ ys ≡ cons_if b x (xs ++ ys)
   cons_if-append true x xs ys = refl

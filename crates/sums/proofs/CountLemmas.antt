@@ -1,5 +1,5 @@
 -- How many elements a list has.
-use Rattle.std.proofs.Common.{◌≡◌, ◌∙◌, ℕ, suc, ◌+◌, ◌<◌, ◌≤◌, ◌||◌, Bool, true, false, cond, not, nat_lt, List, [], ◌∷◌, length, map, Some, None, refl, sym, ap, zero-add, arith}
+use Rattle.std.proofs.Common.{◌≡◌, ◌∙◌, ℕ, suc, ◌+◌, ◌<◌, ◌≤◌, ◌||◌, Bool, true, false, cond, nat_lt, List, [], ◌∷◌, length, map, Some, None, refl, sym, ap, zero-add, arith}
 use Rattle.std.specs.Prelude.{ℤ, ◌<ℤ◌, All, AllPairs, Contains, count_by, slice_get}
 use Rattle.std.specs.List.{find, list_any}
 use Rattle.std.proofs.lemmas.Bool.{false_from_ne_true, false≢true, le-ltb, lt-ltb, ltb-false, ltb-true}
@@ -8,7 +8,7 @@ use Rattle.std.proofs.lemmas.Bool.Decides.{Decides-int_eq}
 use Rattle.std.proofs.lemmas.Cmp.{int_eq_equiv}
 use Rattle.std.proofs.lemmas.List.Elements.{All-contains}
 use Rattle.std.proofs.lemmas.List.Folds.{fold-map, list_any_at}
-use Rattle.std.proofs.lemmas.List.Sums.{sum_by-cons, sum_by-le-sum_by}
+use Rattle.std.proofs.lemmas.List.Sums.{sum_by-cons}
 use Rattle.std.proofs.lemmas.Map.Made.{IsDistinct-from_AllPairs, is_member-Decides, length-le_from_is_member}
 
 -- few members: a falling list whose members all stand in another list is no longer than that one
@@ -27,16 +27,9 @@ both_le : (a b c : Bool) → (a ≡ true → b ≡ false) → (a ≡ true → c 
 both_le true b c h k l = rw (h refl, k refl) (omega arith)
 both_le false b c h k l = rw zero-add (one_le b c l)
 
-one_not : (b : Bool) → cond b 1 0 + cond (not b) 1 0 ≡ 1
-one_not true = omega arith
-one_not false = omega arith
-
 module _ {X : Type 0} where
   pub count_by-cons : (p : X → Bool) (x : X) (xs : List X) → count_by p (x ∷ xs) ≡ cond (p x) 1 0 + count_by p xs
   count_by-cons p x xs = sum_by-cons (λ y. cond (p y) 1 0) x xs
-
-  pub count_by-le : (p q : X → Bool) (xs : List X) → ((x : X) → p x ≡ true → q x ≡ true) → count_by p xs ≤ count_by q xs
-  count_by-le p q xs h = sum_by-le-sum_by (λ x. cond (p x) 1 0) (λ x. cond (q x) 1 0) xs (λ x. one_le (p x) (q x) (h x))
 
   -- two tests that never hold together, and a third that holds where one of them does
   pub count_by-add-le : (p q r : X → Bool) (xs : List X) → ((x : X) → p x ≡ true → q x ≡ false) → ((x : X) → p x ≡ true → r x ≡ true) → ((x : X) → q x ≡ true → r x ≡ true) → count_by p xs + count_by q xs ≤ count_by r xs
@@ -45,14 +38,6 @@ module _ {X : Type 0} where
       let first = both_le (p x) (q x) (r x) (h x) (k x) (l x) in
       let rest = count_by-add-le p q r xs h k l in
       omega (arith, count_by-cons p x xs, count_by-cons q x xs, count_by-cons r x xs)
-
-  -- each element passes a test or its opposite
-  pub count_by-add-not : (p : X → Bool) (xs : List X) → count_by p xs + count_by (λ x. not (p x)) xs ≡ length xs
-  count_by-add-not p [] = omega arith
-  count_by-add-not p (x ∷ xs) =
-      let first = one_not (p x) in
-      let rest = count_by-add-not p xs in
-      omega (arith, count_by-cons p x xs, count_by-cons (λ y. not (p y)) x xs)
 
   -- ---- whether some element passes
 

@@ -1,11 +1,10 @@
 -- Tests and cases of integers.
 use Rattle.std.proofs.Common.{◌≡◌, ◌≢◌, ◌⊎◌, inl, inr, Bool, true, false, if◌then◌else◌, refl, arith}
 use Rattle.std.specs.Prelude.{ℤ, pos, ◌≤ℤ◌, ◌<ℤ◌, int_le, int_lt}
-use Rattle.std.specs.Int.{int_max}
 use Rattle.std.specs.Ordering.{int_eq}
 use Rattle.std.proofs.lemmas.Bool.{false_from_ne_true}
 use Rattle.std.proofs.lemmas.Bool.Decides.{Decides-int_eq}
-use Rattle.std.proofs.lemmas.Int.{by_lt_z, clamps, ints}
+use Rattle.std.proofs.lemmas.Int.{by_lt_z, ints}
 
 -- ---- tests
 
@@ -34,12 +33,6 @@ int_lt_cases a b = by_lt_z a b (λ less. inl less) (λ most. inr most)
 
 pub int_le_cases : (a b : ℤ) → ((int_le a b ≡ true) × (a ≤ℤ b)) ⊎ ((int_le a b ≡ false) × (b <ℤ a))
 int_le_cases a b = by_lt_z b a (λ less. inr (int_le-false a b less, less)) (λ most. inl (int_le-from a b most, most))
-
-pub int_eq_cases : (a b : ℤ) → (a ≡ b) ⊎ (a ≢ b)
-int_eq_cases a b = by_lt_z a b (λ less. inr (λ same. absurd (omega (arith, ints)))) (λ most. by_lt_z b a (λ less. inr (λ same. absurd (omega (arith, ints)))) (λ least. inl (omega (arith, ints))))
-
-pub int_max_cases : (a b : ℤ) → (int_max a b ≡ a) ⊎ (int_max a b ≡ b)
-int_max_cases a b = by_lt_z a b (λ less. inr (omega (arith, ints, clamps))) (λ most. inl (omega (arith, ints, clamps)))
 
 pub strictly : (a b : ℤ) → a ≤ℤ b → a ≢ b → a <ℤ b
 strictly a b h differ = by_lt_z a b (λ less. less) (λ most. absurd (differ (omega (arith, ints))))

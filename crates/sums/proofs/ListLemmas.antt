@@ -1,5 +1,5 @@
 -- Elements of lists by their indices, and options.
-use Rattle.std.proofs.Common.{◌≡◌, ◌∙◌, ◌⊎◌, ⊎_elim, inl, inr, ℕ, zero, suc, ◌<◌, true, false, List, [], ◌∷◌, ◌++◌, length, take, Option, Some, None, is_some, refl, sym, ap, subst, arith}
+use Rattle.std.proofs.Common.{◌≡◌, ◌∙◌, ◌⊎◌, ⊎_elim, inl, inr, ℕ, zero, suc, List, [], ◌∷◌, ◌++◌, length, Option, Some, None, refl, sym, ap, subst, arith}
 use Rattle.std.specs.Prelude.{All, Contains, slice_get}
 use Rattle.std.specs.List.{cons_option, filter_map, flat_map}
 use Rattle.std.specs.Option.{option_map, option_to_list}
@@ -8,25 +8,11 @@ use Rattle.std.proofs.lemmas.Option.{get_or_from_slice_get, slice_get_within}
 use Rattle.sums.proofs.OrderLemmas.{Contains-cons}
 
 module _ {X : Type 0} where
-  pub none_there : (o : Option X) → is_some o ≡ false → o ≡ None
-  none_there None e = refl
-  none_there (Some x) e = cc e
-
-  pub some_there : (o : Option X) → is_some o ≡ true → (x : X) × (o ≡ Some x)
-  some_there None e = cc e
-  some_there (Some x) e = (x, refl)
-
   -- what stands in a list stands there too with more behind it, and in a front that is long enough
   pub slice_get-append : (xs ys : List X) (i : ℕ) (x : X) → slice_get xs i ≡ Some x → slice_get (xs ++ ys) i ≡ Some x
   slice_get-append [] ys i x at = cc at
   slice_get-append (a ∷ xs) ys zero x at = at
   slice_get-append (a ∷ xs) ys (suc i) x at = slice_get-append xs ys i x at
-
-  pub slice_get-take : (n : ℕ) (xs : List X) (i : ℕ) → i < n → slice_get (take n xs) i ≡ slice_get xs i
-  slice_get-take zero xs i early = absurd (omega (arith, early))
-  slice_get-take (suc n) [] i early = refl
-  slice_get-take (suc n) (x ∷ xs) zero early = refl
-  slice_get-take (suc n) (x ∷ xs) (suc i) early = slice_get-take n xs i (omega (arith, early))
 
   pub slice_get_push : (xs : List X) (y : X) (i : ℕ) (x : X) → slice_get (xs ++ y ∷ []) i ≡ Some x → (slice_get xs i ≡ Some x) ⊎ ((i ≡ length xs) × (x ≡ y))
   slice_get_push [] y zero x at = inr (refl, cc at)

@@ -69,10 +69,6 @@ module _ {X : Type 0} (R : X → X → Type 0) where
   AllPairs-front xs ys pairs i j d before within =
       subst₂ R (get_or_append_left xs ys d i (omega (arith, before, within))) (get_or_append_left xs ys d j within) (pairs i j d before (omega (arith, within, length-append xs ys)))
 
-  pub AllPairs-back : (xs ys : List X) → AllPairs R (xs ++ ys) → AllPairs R ys
-  AllPairs-back xs ys pairs i j d before within =
-      subst₂ R (get_or-append-add xs ys i d) (get_or-append-add xs ys j d) (pairs (length xs + i) (length xs + j) d (omega (arith, before)) (omega (arith, within, length-append xs ys)))
-
   pub AllPairs-across : (xs ys : List X) (i : ℕ) (d : X) → AllPairs R (xs ++ ys) → i < length xs → All (R (get_or xs i d)) ys
   AllPairs-across xs ys i d pairs early j e within =
       subst₂ R (get_or_append_left xs ys e i early ∙ get_or_default xs i e d early) (get_or-append-add xs ys j e) (pairs i (length xs + j) e (omega (arith, early)) (omega (arith, within, length-append xs ys)))
@@ -125,9 +121,6 @@ module _ {X : Type 0} (before : X → X → Type 0) (one_way : (a b : X) → bef
 
 pub ListsFalling-unique : (P : ℤ → Type 0) (xs ys : List ℤ) → ListsFalling P xs → ListsFalling P ys → xs ≡ ys
 ListsFalling-unique = Lists-unique (λ a b. b <ℤ a) (λ a b h k. omega (arith, ints))
-
-pub ListsRising-unique : (P : ℤ → Type 0) (xs ys : List ℤ) → ListsRising P xs → ListsRising P ys → xs ≡ ys
-ListsRising-unique = Lists-unique (λ a b. a <ℤ b) (λ a b h k. omega (arith, ints))
 
 -- the same list for members that are said in another way
 pub Lists-same : {X : Type 0} (before : X → X → Type 0) (P Q : X → Type 0) (xs : List X) → ((x : X) → P x → Q x) → ((x : X) → Q x → P x) → Lists before P xs → Lists before Q xs

@@ -4,21 +4,11 @@ use Rattle.std.specs.Str.{bytes_eq}
 use Rattle.std.proofs.lemmas.Bool.Decides.{nat_tests}
 use Rattle.std.proofs.lemmas.List.{get_or_append_left, length-take-le, take-map}
 use Rattle.std.proofs.lemmas.List.Folds.{list_any_none}
-use Rattle.stream_case.specs.declared.case.Case.{Case}
+use Rattle.network_text.proofs.Words.{Branch, Case, HasShape, KeepsCounts, Line, MOST_STATEMENTS, Network, branch_at, branch_name, branch_named, is_branch_name, is_used, made_before, makes, names_of, used_by, uses}
 use Rattle.stream_case.proofs.CompleteLemmas.{StaysValid}
 use Rattle.stream_case.proofs.DistinctLemmas.{AllPairs-across, AllPairs-back, AllPairs-front}
-use Rattle.network_text.specs.Names.{is_branch_name}
-use Rattle.networks.specs.Lines.{makes, names_of, used_by, uses}
-use Rattle.network_text.specs.Given.{branch_at, branch_named}
-use Rattle.network_text.specs.Checks.{is_used}
-use Rattle.networks.specs.Shape.{HasShape, KeepsCounts, made_before}
-use Rattle.networks.specs.declared.limits.TheConstants.{MOST_STATEMENTS}
-use Rattle.networks.specs.declared.network.Branch.{Branch}
-use Rattle.networks.specs.declared.network.Line.{Line}
-use Rattle.networks.specs.declared.network.Network.{Network}
 use Rattle.network_text.proofs.NameTests.{branch_name-passes}
 use Rattle.networks.proofs.OfShape.{IsLineOf, made_no_more, used_parts}
-use Rattle.network_text.specs.Printed.{branch_name}
 use Rattle.network_text.proofs.print.Names.{found_in_front, many_names, none_in_front}
 use Rattle.network_text.proofs.back.Front.{front}
 

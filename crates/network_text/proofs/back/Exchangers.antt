@@ -9,24 +9,13 @@ use Rattle.std.proofs.lemmas.List.{get_or-map, length-take-le, take-append-drop,
 use Rattle.std.proofs.lemmas.List.Sums.{sum_by-append}
 use Rattle.std.proofs.lemmas.Option.{get_or_from_slice_get, slice_get_within}
 use Rattle.sums.proofs.CountLemmas.{count_by-cons}
-use Rattle.stream_case.specs.declared.case.Case.{Case}
-use Rattle.stream_case.specs.declared.source.Source.{Source}
+use Rattle.network_text.proofs.Words.{AreExchangers, Case, Exchanger, IsExchanger, Joins, Line, MOST_EXCHANGERS, Network, Passage, Rational, Source, exchanger_at, exchanger_name, exchanger_named, exchanger_names, exchangers_of, has_stream, is_free_side, is_passed, is_stream, joins_stream, made_before, passages_of, passes, same_passage, stream_at, used_by}
 use Rattle.stream_case.proofs.ListLemmas.{slice_get-append}
-use Rattle.fractions.specs.Rationals.{Rational}
-use Rattle.networks.specs.Lines.{Exchanger, exchangers_of, passages_of, same_passage, stream_at, used_by}
-use Rattle.network_text.specs.Given.{exchanger_at, exchanger_named}
-use Rattle.network_text.specs.Checks.{has_stream, is_free_side, is_passed, is_stream, joins_stream}
-use Rattle.networks.specs.Shape.{AreExchangers, IsExchanger, Joins, made_before, passes}
-use Rattle.networks.specs.declared.limits.TheConstants.{MOST_EXCHANGERS}
-use Rattle.networks.specs.declared.network.Line.{Line}
 use Rattle.networks.specs.declared.network.Line.TheVariants as line
-use Rattle.networks.specs.declared.network.Network.{Network}
-use Rattle.networks.specs.declared.network.Passage.{Passage}
 use Rattle.networks.proofs.Counts.{none_counted}
 use Rattle.networks.proofs.LineLaws.{passages_of-front}
 use Rattle.networks.proofs.Lists.{AllPairs-map}
 use Rattle.networks.proofs.OfShape.{IsLineOf, declared_parts, exchanger_at as declared_at, made_no_more, own_exchanger, passed_parts, stream_at-take, used_before}
-use Rattle.network_text.specs.Printed.{exchanger_name, exchanger_names}
 use Rattle.network_text.proofs.print.Names.{found_in_front, many_exchangers, none_in_front}
 use Rattle.network_text.proofs.back.Branches.{IsReadable}
 use Rattle.network_text.proofs.back.Front.{front}
@@ -122,8 +111,7 @@ module _ {case : Case} {network : Network} (readable : IsReadable case network) 
       (omega (
         arith,
         fewer,
-        length-append (exchangers_of (take index network.lines))
-            (exchangers_of (line.Pass from exchanger to ∷ drop (suc index) network.lines)),
+        length-append (exchangers_of (take index network.lines)) (exchangers_of (line.Pass from exchanger to ∷ drop (suc index) network.lines)),
         many_exchangers network,
       )) in
       let named = ap (position (bytes_eq (exchanger_name network exchanger))) (declared_names of) ∙ found in

@@ -4,18 +4,10 @@ use Rattle.std.proofs.Math.Seq.{take-suc}
 use Rattle.std.proofs.lemmas.List.{append-nil, append_assoc, get_or-map, get_or_default, take_all}
 use Rattle.std.proofs.lemmas.List.Elements.{All-from_recursion, All-nil}
 use Rattle.std.proofs.lemmas.Simd.{map-map}
-use Rattle.stream_case.specs.declared.case.Case.{Case}
-use Rattle.networks.specs.Lines.{made_by, makes, members, names_of, own_branches, stream_at, uses}
-use Rattle.network_text.specs.Given.{branch_of, first_stream, with_entry}
-use Rattle.networks.specs.Shape.{AreMadeInOrder, IsOfOneStream, made_before}
-use Rattle.network_text.specs.declared.entry.Entry.{Entry}
+use Rattle.network_text.proofs.Words.{AreMadeInOrder, Branch, Case, Entry, IsOfOneStream, Line, Network, branch_name, branch_of, first_stream, made_before, made_by, makes, members, names_of, own_branches, stream_at, uses, with_entry}
 use Rattle.networks.specs.declared.few.AtMostTwo.TheVariants as few
-use Rattle.networks.specs.declared.network.Branch.{Branch}
-use Rattle.networks.specs.declared.network.Line.{Line}
 use Rattle.networks.specs.declared.network.Line.TheVariants as line
-use Rattle.networks.specs.declared.network.Network.{Network}
 use Rattle.networks.proofs.OfShape.{IsLineOf, all_made, stream_at-get_or, stream_at-take}
-use Rattle.network_text.specs.Printed.{branch_name}
 
 -- the network before the line at an index
 abbrev pub front : Case → Network → ℕ → Network

@@ -5,27 +5,16 @@ use Rattle.std.specs.List.{range_with_len}
 use Rattle.std.proofs.lemmas.List.FromFn.{get_or-range_with_len, length-range_with_len}
 use Rattle.first_fault.proofs.OneOutcome.{no_value, one_value}
 use Rattle.first_fault.proofs.Steps.{Give, all_give_at, nothing_gives}
-use Rattle.stream_case.specs.declared.case.Case.{Case}
-use Rattle.stream_case.specs.declared.source.Source.{Source}
+use Rattle.network_text.proofs.Words.{Case, Exchanger, GivenNetworksAreReadAgain, GivenNetworksAreTheOneOutcome, HasShape, IsNetwork, IsNetworkOf, IsOneOutcomeOf, Joins, Line, Network, Source, TextsGiveNoOther, TextsGiveTheirNetworks, exchangers_of, first_missing, grammar, is_missed, is_passed, misses_pass, passages_of, same_passage, start, statement_of, statements_of, text_of}
 use Rattle.stream_case.specs.declared.source.Source.TheVariants as source
 use Rattle.stream_case.proofs.CompleteLemmas.{StaysValid-IsComplete}
-use Rattle.networks.specs.Lines.{Exchanger, exchangers_of, passages_of, same_passage}
-use Rattle.statements.specs.Statements.{statements_of}
-use Rattle.network_text.specs.Given.{start}
-use Rattle.network_text.specs.Checks.{first_missing, is_missed, is_passed, misses_pass}
-use Rattle.network_text.specs.Outcome.{IsNetwork, IsNetworkOf, grammar}
-use Rattle.networks.specs.Shape.{HasShape, Joins}
 use Rattle.network_text.specs.declared.fault.NetFault.TheVariants as fault
 use Rattle.network_text.specs.declared.fault.NetWhy.TheVariants as why
-use Rattle.networks.specs.declared.network.Line.{Line}
 use Rattle.networks.specs.declared.network.Line.TheVariants as line
-use Rattle.networks.specs.declared.network.Network.{Network}
 use Rattle.networks.proofs.Counts.{find_none, some_counted}
 use Rattle.networks.proofs.OfShape.{exchanger_at, line_at, line_of}
 use Rattle.network_text.proofs.shape.Counts.{network-keeps_counts}
 use Rattle.network_text.proofs.shape.Law.{network-has_shape}
-use Rattle.network_text.specs.Laws.{GivenNetworksAreReadAgain, GivenNetworksAreTheOneOutcome, IsOneOutcomeOf, TextsGiveNoOther, TextsGiveTheirNetworks}
-use Rattle.network_text.specs.Printed.{statement_of, text_of}
 use Rattle.statements.proofs.PlainStatements.{statements-back}
 use Rattle.network_text.proofs.back.Branches.{IsReadable}
 use Rattle.network_text.proofs.back.Front.{front, front-first, front-last}

@@ -2,21 +2,13 @@
 use Rattle.std.proofs.Common.{◌<◌, ℕ, All, get_or, length, map, refl, arith}
 use Rattle.std.specs.Prelude.{codes}
 use Rattle.std.proofs.lemmas.List.Elements.{All-map}
-use Rattle.stream_case.specs.Case.{IsSourceOf, source_name}
-use Rattle.stream_case.specs.declared.case.Case.{Case}
-use Rattle.stream_case.specs.declared.source.Source.{Source}
+use Rattle.network_text.proofs.Words.{Case, HasShape, IsPlainField, IsPlainStatement, IsSourceOf, Line, Network, Source, branch_name, exchanger_name, exchangers_of, source_name, statement_of}
 use Rattle.stream_case.proofs.CaseLemmas.{IsName-source_name}
 use Rattle.stream_case.proofs.CompleteLemmas.{StaysValid}
-use Rattle.networks.specs.Lines.{exchangers_of}
-use Rattle.networks.specs.Shape.{HasShape}
-use Rattle.networks.specs.declared.network.Line.{Line}
 use Rattle.networks.specs.declared.network.Line.TheVariants as line
-use Rattle.networks.specs.declared.network.Network.{Network}
 use Rattle.networks.proofs.OfShape.{IsLineOf, line_at, line_of, own_exchanger}
-use Rattle.network_text.specs.Printed.{branch_name, exchanger_name, statement_of}
 use Rattle.network_text.proofs.print.Fields.{any_name_plain, fraction_plain, name_plain}
 use Rattle.network_text.proofs.print.Names.{branch_named, exchanger_named}
-use Rattle.statements.specs.Statements.{IsPlainField, IsPlainStatement}
 use Rattle.statements.proofs.PlainStatements.{plain_statement, word_plain}
 
 module _ {case : Case} {network : Network} (valid : StaysValid case) (shape : HasShape case network) where

@@ -2,38 +2,20 @@
 use Rattle.std.proofs.Common.{◌≡◌, ◌∙◌, ◌<◌, ◌==◌, ℕ, suc, true, false, not, List, [], Some, None, is_some, unwrap_or, length, nat_lt, refl, sym, ap, arith}
 use Rattle.std.proofs.lemmas.Bool.{and_from}
 use Rattle.std.proofs.lemmas.Bool.Decides.{nat_tests}
-use Rattle.first_fault.specs.Checks.{first_failing}
+use Rattle.network_text.proofs.Words.{Case, Entry, IsPositive, Kind, Line, MOST_EXCHANGERS, MOST_STATEMENTS, Network, Rational, Side, Source, Statement, branch_name, checks, end_checks, entry_in, exchanger_checks, exchanger_field_checks, exchangers_of, first_failing, fraction, fraction_checks, fraction_in, fraction_text, grammar, is_below, is_free_side, is_on, is_used, kind_checks, kind_of, made_before, mix_checks, mixed_checks, names_of, new_branch_checks, new_exchanger_checks, pass_checks, passed_checks, rational_zero, side_of, source_at, source_checks, source_name, source_named, split_checks, statement_of, stream_at, used_branch_checks, with_any}
 use Rattle.first_fault.proofs.CheckLemmas.{Passes, none_fails}
 use Rattle.first_fault.proofs.Steps.{Follows}
-use Rattle.stream_case.specs.Case.{side_of, source_name, source_named}
-use Rattle.stream_case.specs.declared.case.Case.{Case}
-use Rattle.stream_case.specs.declared.source.Side.{Side}
 use Rattle.stream_case.specs.declared.source.Side.TheVariants as side
-use Rattle.stream_case.specs.declared.source.Source.{Source}
 use Rattle.stream_case.specs.declared.source.Source.TheVariants as source
 use Rattle.stream_case.proofs.CaseLemmas.{IsSourceOf-side, source_named-source_name}
 use Rattle.stream_case.proofs.DistinctLemmas.{other_name}
 use Rattle.stream_case.proofs.NameTests.{name-passes}
 use Rattle.stream_case.proofs.SourceLemmas.{own_side}
-use Rattle.fractions.specs.Rationals.{Rational, fraction_text, is_below, rational_zero}
 use Rattle.fractions.proofs.Comparisons.{Decides-is_below, positive-is}
-use Rattle.network_text.specs.Fractions.{fraction, fraction_in}
-use Rattle.networks.specs.Lines.{exchangers_of, names_of, stream_at}
-use Rattle.statements.specs.Statements.{Statement}
-use Rattle.network_text.specs.Given.{entry_in, kind_of, source_at, with_any}
-use Rattle.network_text.specs.Checks.{checks, end_checks, exchanger_checks, exchanger_field_checks, fraction_checks, is_free_side, is_on, is_used, kind_checks, mix_checks, mixed_checks, new_branch_checks, new_exchanger_checks, pass_checks, passed_checks, source_checks, split_checks, used_branch_checks}
-use Rattle.network_text.specs.Outcome.{grammar}
-use Rattle.networks.specs.Shape.{IsPositive, made_before}
-use Rattle.network_text.specs.declared.entry.Entry.{Entry}
 use Rattle.networks.specs.declared.few.AtMostTwo.TheVariants as few
-use Rattle.network_text.specs.declared.kind.Kind.{Kind}
 use Rattle.network_text.specs.declared.kind.Kind.TheVariants as kind
-use Rattle.networks.specs.declared.limits.TheConstants.{MOST_EXCHANGERS, MOST_STATEMENTS}
-use Rattle.networks.specs.declared.network.Line.{Line}
 use Rattle.networks.specs.declared.network.Line.TheVariants as line
-use Rattle.networks.specs.declared.network.Network.{Network}
 use Rattle.networks.proofs.OfShape.{IsLineOf, stream_at-take}
-use Rattle.network_text.specs.Printed.{branch_name, statement_of}
 use Rattle.network_text.proofs.print.Fields.{fraction-back}
 use Rattle.network_text.proofs.print.Names.{many_names}
 use Rattle.network_text.proofs.back.Branches.{IsReadable, made_known, made_number, new, room, two_used, used}
@@ -136,8 +118,7 @@ module _ {case : Case} {network : Network} (readable : IsReadable case network) 
           (
             from_used.known,
             (
-              ap (λ b. not (is_used given b)) from_used.at
-                  ∙ from_used.unused,
+              ap (λ b. not (is_used given b)) from_used.at ∙ from_used.unused,
               (one.is, (one.free, (flow.some, (flow.above, (two.is, (two.free, (ap not apart, tt))))))),
             ),
           ),
@@ -189,8 +170,7 @@ module _ {case : Case} {network : Network} (readable : IsReadable case network) 
           (
             one.known,
             (
-              ap (λ b. not (is_used given b)) one.at
-                  ∙ one.unused,
+              ap (λ b. not (is_used given b)) one.at ∙ one.unused,
               (two.known, (ap (λ b. not (is_used given b)) two.at ∙ two.unused, (apart, (mixed, (result.is, (result.free, tt)))))),
             ),
           ),

@@ -9,16 +9,9 @@ use Rattle.std.proofs.lemmas.List.{get_or_append_left, get_or_at, take_at, take_
 use Rattle.std.proofs.lemmas.List.Elements.{All-append, All-cons, All-weaker}
 use Rattle.std.proofs.lemmas.List.Folds.{list_any-append, list_any_none}
 use Rattle.std.proofs.lemmas.List.Sums.{position_or_len_is}
-use Rattle.stream_case.specs.Name.{IsAnyName, IsName, is_name_byte}
-use Rattle.fractions.specs.LowestForms.{ratio-self}
-use Rattle.fractions.specs.Rationals.{IsWithinLimits, Rational, fraction_text, ratio}
-use Rattle.stream_case.specs.Digits.{natural_in}
+use Rattle.network_text.proofs.Words.{IsAnyName, IsName, IsPlainField, IsVisible, IsWithinLimits, MOST_DIGITS, Rational, bounded_ratio, denominator_in, fraction_in, fraction_text, is_name_byte, is_slash, natural_in, number_in, ratio, ratio-self}
 use Rattle.stream_case.proofs.DigitLemmas.{natural_read}
-use Rattle.network_text.specs.Fractions.{bounded_ratio, denominator_in, fraction_in, is_slash}
 use Rattle.fractions.proofs.Limits.{Decides-is_within_limits}
-use Rattle.network_text.specs.declared.limits.TheConstants.{MOST_DIGITS}
-use Rattle.statements.specs.Numbers.{number_in}
-use Rattle.statements.specs.Statements.{IsPlainField, IsVisible}
 use Rattle.statements.proofs.PlainNumbers.{IsNumberByte, bytes_visible, decimal_bytes, number-back, signed_bytes, signed_some}
 
 -- ---- names

@@ -8,22 +8,11 @@ use Rattle.std.proofs.lemmas.Int.{ints}
 use Rattle.std.proofs.lemmas.List.{length-map}
 use Rattle.std.proofs.lemmas.List.Elements.{All-head, All-map, All-tail}
 use Rattle.std.proofs.lemmas.List.Sums.{sum_by-cons}
-use Rattle.stream_case.specs.Case.{IsSourceOf, source_name}
-use Rattle.stream_case.specs.Name.{IsAnyName, IsName}
-use Rattle.stream_case.specs.declared.case.Case.{Case}
-use Rattle.stream_case.specs.declared.source.Source.{Source}
+use Rattle.network_text.proofs.Words.{Case, HasShape, IsAnyName, IsName, IsPositive, IsSourceOf, LONGEST_LINE, Line, Network, Rational, Source, Statement, branch_name, exchanger_name, exchangers_of, fields_text, fraction_text, source_name, statement_of, statement_text, text_of}
 use Rattle.stream_case.proofs.CaseLemmas.{IsName-source_name}
 use Rattle.stream_case.proofs.CompleteLemmas.{StaysValid}
-use Rattle.fractions.specs.Rationals.{Rational, fraction_text}
-use Rattle.statements.specs.Statements.{Statement, fields_text, statement_text}
-use Rattle.networks.specs.Lines.{exchangers_of}
-use Rattle.networks.specs.Shape.{HasShape, IsPositive}
-use Rattle.networks.specs.declared.network.Line.{Line}
 use Rattle.networks.specs.declared.network.Line.TheVariants as line
-use Rattle.networks.specs.declared.network.Network.{Network}
 use Rattle.networks.proofs.OfShape.{IsLineOf, line_at, line_of, own_exchanger}
-use Rattle.network_text.specs.Printed.{branch_name, exchanger_name, statement_of, text_of}
-use Rattle.network_text.specs.declared.limits.TheConstants.{LONGEST_LINE}
 use Rattle.network_text.proofs.print.Names.{branch_named, exchanger_named}
 
 -- ---- fields
@@ -102,8 +91,7 @@ module _ {case : Case} {network : Network} (valid : StaysValid case) (shape : Ha
   line_short (line.Split from first cp second) of =
       omega (
         arith,
-        statement_length (codes "split")
-            (branch_name network from ∷ branch_name network first ∷ fraction_text cp ∷ branch_name network second ∷ []),
+        statement_length (codes "split") (branch_name network from ∷ branch_name network first ∷ fraction_text cp ∷ branch_name network second ∷ []),
         branch_short from of.known.0,
         branch_short first of.known.1,
         fraction_short cp of.flow,

@@ -2,10 +2,7 @@
 use Rattle.std.proofs.Common.{◌≡◌, ◌≤◌, ℕ, List, length, map, take, ap}
 use Rattle.std.specs.List.{flat_map}
 use Rattle.std.proofs.lemmas.List.{take_all}
-use Rattle.stream_case.specs.declared.case.Case.{Case}
-use Rattle.networks.specs.declared.network.Network.{Network}
-use Rattle.statements.specs.Statements.{statement_text}
-use Rattle.network_text.specs.Printed.{statement_of, text_of}
+use Rattle.network_text.proofs.Words.{Case, Network, statement_of, statement_text, text_of}
 
 -- the text of the first lines
 abbrev pub text_before : Case → Network → ℕ → List ℕ

@@ -5,15 +5,8 @@ use Rattle.std.specs.Str.{bytes_eq}
 use Rattle.std.proofs.lemmas.List.{get_or-map, get_or-take, get_or_default, length-map, length-take-le}
 use Rattle.std.proofs.lemmas.List.Elements.{All-map}
 use Rattle.stream_case.proofs.DistinctLemmas.{no_place_of, place_of}
-use Rattle.stream_case.specs.Name.{IsAnyName, IsName}
-use Rattle.stream_case.specs.declared.case.Case.{Case}
-use Rattle.networks.specs.Shape.{HasShape}
-use Rattle.networks.specs.Lines.{Exchanger, exchanger_of, exchangers_of, names_of}
-use Rattle.networks.specs.declared.network.Branch.{Branch}
-use Rattle.networks.specs.declared.network.Line.{Line}
-use Rattle.networks.specs.declared.network.Network.{Network}
+use Rattle.network_text.proofs.Words.{Branch, Case, Exchanger, HasShape, IsAnyName, IsName, Line, Network, branch_name, exchanger_name, exchanger_names, exchanger_of, exchangers_of, names_of}
 use Rattle.networks.proofs.Lists.{AllPairs-take}
-use Rattle.network_text.specs.Printed.{branch_name, exchanger_name, exchanger_names}
 
 pub found_in_front : (names : List (List ℕ)) (m i : ℕ) → AllPairs (λ a b. a ≢ b) names → i < m → m ≤ length names
     → position (bytes_eq (get_or names i [])) (take m names) ≡ Some i

@@ -3,13 +3,7 @@ use Rattle.std.proofs.Common.{◌≡◌, ◌<◌, ◌≤◌, ℕ, length}
 use Rattle.std.specs.Prelude.{All}
 use Rattle.std.specs.List.{range_with_len}
 use Rattle.std.specs.Option.{ForSome}
-use Rattle.stream_case.specs.declared.case.Case.{Case}
-use Rattle.networks.specs.Lines.{exchanger_of, exchangers_of, makes, members, stream_at, uses}
-use Rattle.network_text.specs.Given.{first_stream}
-use Rattle.network_text.specs.Building.{IsFresh}
-use Rattle.networks.specs.Shape.{AreExchangers, AreMadeBeforeUse, AreMadeInOrder, AreNamed, ArePassedWhenDeclared, AreUsedOnce, HasPositiveFlow, IsExchanger, IsOfOneStream, PassesDeclared, passes}
-use Rattle.network_text.specs.declared.entry.Entry.{Entry}
-use Rattle.networks.specs.declared.network.Network.{Network}
+use Rattle.network_text.proofs.Words.{AreExchangers, AreMadeBeforeUse, AreMadeInOrder, AreNamed, ArePassedWhenDeclared, AreUsedOnce, Case, Entry, HasPositiveFlow, IsExchanger, IsFresh, IsOfOneStream, Network, PassesDeclared, exchanger_of, exchangers_of, first_stream, makes, members, passes, stream_at, uses}
 
 -- the shape, but that a pass may still be missing
 pub record HasShapeSoFar (case : Case) (network : Network) : Type 0 where

@@ -7,20 +7,10 @@ use Rattle.std.proofs.lemmas.List.FromFn.{get_or-enumerate_from, get_or-range_wi
 use Rattle.std.proofs.lemmas.Option.{slice_get_within}
 use Rattle.std.proofs.lemmas.Simd.{map-map}
 use Rattle.sums.proofs.EnumerationLemmas.{map-enumerate_from_item}
-use Rattle.stream_case.specs.Name.{IsAnyName, IsName}
-use Rattle.stream_case.specs.declared.case.Case.{Case}
-use Rattle.stream_case.specs.declared.stream.Stream.{Stream}
-use Rattle.stream_case.specs.declared.utility.Utility.{Utility}
+use Rattle.network_text.proofs.Words.{AreMadeBeforeUse, AreMadeInOrder, AreNamed, AreUsedOnce, Branch, Case, Entry, IsAnyName, IsName, IsOfOneStream, Line, Network, Stream, Utility, branch_of, branches_in, first_stream, made_before, made_by, makes, members, names_of, own_branch, own_branches, start, stream_at, uses, with_entry}
 use Rattle.stream_case.proofs.CompleteLemmas.{StaysValid}
 use Rattle.stream_case.proofs.DistinctLemmas.{AllPairs-front}
-use Rattle.networks.specs.Lines.{made_by, makes, members, names_of, own_branch, own_branches, stream_at, uses}
-use Rattle.network_text.specs.Given.{branch_of, branches_in, first_stream, start, with_entry}
-use Rattle.networks.specs.Shape.{AreMadeBeforeUse, AreMadeInOrder, AreNamed, AreUsedOnce, IsOfOneStream, made_before}
-use Rattle.network_text.specs.declared.entry.Entry.{Entry}
-use Rattle.networks.specs.declared.network.Branch.{Branch}
-use Rattle.networks.specs.declared.network.Line.{Line}
 use Rattle.networks.specs.declared.network.Line.TheVariants as line
-use Rattle.networks.specs.declared.network.Network.{Network}
 use Rattle.networks.proofs.LineLaws.{made_by-push, names_of-append, stream_at-front, used_by-push}
 use Rattle.networks.proofs.Lists.{All-front, range_with_len-append, slice_get_push}
 use Rattle.networks.proofs.OfShape.{all_made, made_there, many_own, stream_at-get_or, streams_first, used_there}

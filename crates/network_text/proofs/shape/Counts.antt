@@ -4,18 +4,8 @@ use Rattle.std.specs.Option.{option_to_list}
 use Rattle.std.proofs.lemmas.Bool.Decides.{nat_tests}
 use Rattle.first_fault.proofs.CheckLemmas.{Passes}
 use Rattle.first_fault.proofs.Steps.{given_has}
-use Rattle.stream_case.specs.declared.case.Case.{Case}
-use Rattle.networks.specs.Lines.{exchanger_of, exchangers_of}
-use Rattle.statements.specs.Statements.{Statement}
-use Rattle.network_text.specs.Given.{entry_by, entry_in, kind_of, next, start, with_any, with_entry}
-use Rattle.network_text.specs.Checks.{checks, exchanger_checks, kind_checks}
-use Rattle.network_text.specs.Outcome.{IsNetwork, grammar}
-use Rattle.networks.specs.Shape.{KeepsCounts}
-use Rattle.network_text.specs.declared.entry.Entry.{Entry}
-use Rattle.network_text.specs.declared.kind.Kind.{Kind}
+use Rattle.network_text.proofs.Words.{Case, Entry, IsNetwork, KeepsCounts, Kind, MOST_EXCHANGERS, MOST_STATEMENTS, Network, Statement, checks, entry_by, entry_in, exchanger_checks, exchanger_of, exchangers_of, grammar, kind_checks, kind_of, next, start, with_any, with_entry}
 use Rattle.network_text.specs.declared.kind.Kind.TheVariants as kind
-use Rattle.networks.specs.declared.limits.TheConstants.{MOST_EXCHANGERS, MOST_STATEMENTS}
-use Rattle.networks.specs.declared.network.Network.{Network}
 use Rattle.networks.proofs.LineLaws.{exchangers_of-push}
 
 -- there is room for a statement that is not at fault

@@ -8,21 +8,10 @@ use Rattle.std.proofs.lemmas.List.Elements.{All-from_recursion, All-nil}
 use Rattle.std.proofs.lemmas.List.Quantifiers.{all_pairs_push}
 use Rattle.std.proofs.lemmas.Option.{same_Some}
 use Rattle.first_fault.proofs.CheckLemmas.{Passes}
-use Rattle.stream_case.specs.Name.{IsAnyName}
-use Rattle.stream_case.specs.declared.case.Case.{Case}
+use Rattle.network_text.proofs.Words.{Case, Entry, Exchanger, IsAnyName, IsExchanger, Kind, Network, Passage, Statement, branch_at, checks, end_checks, end_entry, entry_by, entry_in, exchanger_at, exchanger_checks, exchanger_entry, exchanger_field_checks, exchangers_of, field, fraction, fraction_checks, is_on, is_passed, joins_stream, kind_checks, kind_of, mix_checks, mix_entry, mixed_checks, names_of, new_branch_checks, new_exchanger_checks, pass_checks, pass_entry, passed_checks, source_at, source_checks, split_checks, split_entry, stream_at, used_branch_checks, used_by}
 use Rattle.stream_case.specs.declared.source.Side.TheVariants as side
 use Rattle.stream_case.proofs.NameTests.{passed-name}
-use Rattle.network_text.specs.Fractions.{fraction}
-use Rattle.networks.specs.Lines.{Exchanger, exchangers_of, names_of, stream_at, used_by}
-use Rattle.statements.specs.Statements.{Statement, field}
-use Rattle.network_text.specs.Given.{branch_at, end_entry, entry_by, entry_in, exchanger_at, exchanger_entry, kind_of, mix_entry, pass_entry, source_at, split_entry}
-use Rattle.network_text.specs.Checks.{checks, end_checks, exchanger_checks, exchanger_field_checks, fraction_checks, is_on, is_passed, joins_stream, kind_checks, mix_checks, mixed_checks, new_branch_checks, new_exchanger_checks, pass_checks, passed_checks, source_checks, split_checks, used_branch_checks}
-use Rattle.networks.specs.Shape.{IsExchanger}
-use Rattle.network_text.specs.declared.entry.Entry.{Entry}
-use Rattle.network_text.specs.declared.kind.Kind.{Kind}
 use Rattle.network_text.specs.declared.kind.Kind.TheVariants as kind
-use Rattle.networks.specs.declared.network.Network.{Network}
-use Rattle.networks.specs.declared.network.Passage.{Passage}
 use Rattle.networks.proofs.Lists.{two_pushed}
 use Rattle.network_text.proofs.NameTests.{passed-branch_name}
 use Rattle.network_text.proofs.shape.Adding.{Adds, HasShapeSoFar}

@@ -7,22 +7,11 @@ use Rattle.std.proofs.lemmas.Bool.{eqb-true, false≢true, not-true, or_cases}
 use Rattle.std.proofs.lemmas.Bool.Decides.{nat_tests}
 use Rattle.std.proofs.lemmas.List.{get_or-map, length-map}
 use Rattle.std.proofs.lemmas.Option.{cond_some}
-use Rattle.stream_case.specs.Case.{side_of}
-use Rattle.stream_case.specs.declared.case.Case.{Case}
-use Rattle.stream_case.specs.declared.source.Side.{Side}
-use Rattle.stream_case.specs.declared.source.Source.{Source}
+use Rattle.network_text.proofs.Words.{Branch, Case, Exchanger, IsPositive, IsWithinLimits, Joins, Network, Rational, Side, Source, bounded_ratio, branch_at, branch_named, exchanger_named, exchangers_of, fraction, fraction_in, has_stream, is_below, is_on, is_side, is_stream, is_used, is_within_limits, joins_stream, names_of, ratio, ratio_of, rational_zero, side_of, used_by}
 use Rattle.stream_case.specs.declared.source.Source.TheVariants as source
 use Rattle.stream_case.proofs.SourceLemmas.{same_side-true}
-use Rattle.fractions.specs.Rationals.{IsWithinLimits, Rational, is_below, is_within_limits, ratio, rational_zero}
 use Rattle.fractions.proofs.Comparisons.{Decides-is_below, positive_num}
 use Rattle.fractions.proofs.Limits.{Decides-is_within_limits}
-use Rattle.network_text.specs.Fractions.{bounded_ratio, fraction, fraction_in, ratio_of}
-use Rattle.networks.specs.Lines.{Exchanger, exchangers_of, names_of, used_by}
-use Rattle.network_text.specs.Given.{branch_at, branch_named, exchanger_named}
-use Rattle.network_text.specs.Checks.{has_stream, is_on, is_side, is_stream, is_used, joins_stream}
-use Rattle.networks.specs.Shape.{IsPositive, Joins}
-use Rattle.networks.specs.declared.network.Branch.{Branch}
-use Rattle.networks.specs.declared.network.Network.{Network}
 use Rattle.statements.proofs.Positions.{index_within, is_some-position, none_any}
 
 -- ---- branches

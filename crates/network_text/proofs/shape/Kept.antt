@@ -6,16 +6,8 @@ use Rattle.std.proofs.lemmas.Option.{same_Some}
 use Rattle.sums.proofs.OrderLemmas.{AllPairs-nil}
 use Rattle.first_fault.proofs.CheckLemmas.{Passes}
 use Rattle.first_fault.proofs.Steps.{Give, given_has}
-use Rattle.stream_case.specs.declared.case.Case.{Case}
+use Rattle.network_text.proofs.Words.{AreExchangers, Case, Entry, Exchanger, HasPositiveFlow, IsExchanger, IsOfOneStream, Network, Statement, checks, entry_in, exchanger_of, exchangers_of, grammar, next, own_branches, passages_of, start, used_by, with_any, with_entry}
 use Rattle.stream_case.proofs.CompleteLemmas.{StaysValid}
-use Rattle.networks.specs.Lines.{Exchanger, exchanger_of, exchangers_of, own_branches, passages_of, used_by}
-use Rattle.statements.specs.Statements.{Statement}
-use Rattle.network_text.specs.Given.{entry_in, next, start, with_any, with_entry}
-use Rattle.network_text.specs.Checks.{checks}
-use Rattle.network_text.specs.Outcome.{grammar}
-use Rattle.networks.specs.Shape.{AreExchangers, HasPositiveFlow, IsExchanger, IsOfOneStream}
-use Rattle.network_text.specs.declared.entry.Entry.{Entry}
-use Rattle.networks.specs.declared.network.Network.{Network}
 use Rattle.networks.proofs.LineLaws.{exchangers_of-push}
 use Rattle.network_text.proofs.shape.Adding.{Adds, HasShapeSoFar}
 use Rattle.network_text.proofs.shape.Entries.{added}

@@ -5,18 +5,9 @@ use Rattle.std.proofs.lemmas.Bool.{not-false, or_parts}
 use Rattle.std.proofs.lemmas.List.FromFn.{get_or-range_with_len, length-range_with_len}
 use Rattle.std.proofs.lemmas.Option.{get_or_from_slice_get, slice_get_within}
 use Rattle.first_fault.proofs.Steps.{Give}
-use Rattle.stream_case.specs.Case.{IsComplete}
-use Rattle.stream_case.specs.declared.case.Case.{Case}
-use Rattle.stream_case.specs.declared.source.Source.{Source}
+use Rattle.network_text.proofs.Words.{ArePassedOnce, Case, Exchanger, HasShape, IsComplete, IsNetwork, Joins, Line, Network, Source, Statement, exchanger_of, exchangers_of, first_missing, grammar, is_missed, is_passed, misses_pass, misses_side, passages_of, passes, same_passage}
 use Rattle.stream_case.specs.declared.source.Source.TheVariants as source
 use Rattle.stream_case.proofs.CompleteLemmas.{StaysValid-IsComplete}
-use Rattle.networks.specs.Lines.{Exchanger, exchanger_of, exchangers_of, passages_of, same_passage}
-use Rattle.statements.specs.Statements.{Statement}
-use Rattle.network_text.specs.Checks.{first_missing, is_missed, is_passed, misses_pass, misses_side}
-use Rattle.network_text.specs.Outcome.{IsNetwork, grammar}
-use Rattle.networks.specs.Shape.{ArePassedOnce, HasShape, Joins, passes}
-use Rattle.networks.specs.declared.network.Line.{Line}
-use Rattle.networks.specs.declared.network.Network.{Network}
 use Rattle.networks.proofs.Counts.{StandsBefore, counted, none_found, stands_before}
 use Rattle.network_text.proofs.Missing.{missing-at}
 use Rattle.network_text.proofs.shape.Counts.{network-keeps_counts}

@@ -7,17 +7,8 @@ use Rattle.std.proofs.lemmas.Bool.Decides.{nat_tests}
 use Rattle.std.proofs.lemmas.List.{take-append-le, take_at}
 use Rattle.std.proofs.lemmas.List.Sums.{sum_by-append}
 use Rattle.std.proofs.lemmas.Option.{slice_get_within}
-use Rattle.stream_case.specs.declared.case.Case.{Case}
-use Rattle.networks.specs.Lines.{Exchanger, exchangers_of, passage_of, passages_of, same_passage, uses}
-use Rattle.network_text.specs.Given.{branches_in, with_entry}
-use Rattle.network_text.specs.Checks.{is_passed}
-use Rattle.networks.specs.Shape.{ArePassedWhenDeclared, Joins, PassesDeclared, passes}
-use Rattle.network_text.specs.declared.entry.Entry.{Entry}
-use Rattle.networks.specs.declared.network.Branch.{Branch}
-use Rattle.networks.specs.declared.network.Line.{Line}
+use Rattle.network_text.proofs.Words.{ArePassedWhenDeclared, Branch, Case, Entry, Exchanger, Joins, Line, Network, Passage, PassesDeclared, branches_in, exchangers_of, is_passed, passage_of, passages_of, passes, same_passage, uses, with_entry}
 use Rattle.networks.specs.declared.network.Line.TheVariants as line
-use Rattle.networks.specs.declared.network.Network.{Network}
-use Rattle.networks.specs.declared.network.Passage.{Passage}
 use Rattle.networks.proofs.Counts.{uncounted}
 use Rattle.networks.proofs.LineLaws.{passage_of-front, passages_of-front, passages_of-push, stream_at-front}
 use Rattle.networks.proofs.Lists.{all_at, slice_get_push}

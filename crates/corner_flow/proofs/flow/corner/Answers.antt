@@ -1,7 +1,5 @@
 use Rattle.std.proofs.Common.{◌∙◌, sym, ap, subst, map}
-use Rattle.stream_case.specs.declared.source.Side.TheVariants.{Hot, Cold}
-use Rattle.sums.specs.Spans.{NotNegative}
-use Rattle.corner_flow.specs.Corner.{heats_of, as_pair, as_transfer, IsCornerFlow, UtilityHeat, NeedsHeat}
+use Rattle.corner_flow.proofs.Words.{Cold, Hot, IsCornerFlow, NeedsHeat, NotNegative, UtilityHeat, as_pair, as_transfer, heats_of}
 use Rattle.corner_flow.proofs.SideLemmas.{AreStandardParts, AreStandardParts-parts}
 use Rattle.corner_flow.proofs.HeatLemmas.{needs_heat}
 use Rattle.corner_flow.proofs.FewTransfers.{fewer_than_parts}

@@ -1,12 +1,7 @@
 use Rattle.std.proofs.Common.{◌≡◌, ◌∙◌, sym, subst, List, FitsSigned, w64, to_z, of_z, rules, arith}
 use Rattle.std.specs.Int.{w128}
 use Rattle.std.proofs.lemmas.Int.{ints}
-use Rattle.stream_case.specs.declared.source.Side.TheVariants.{Hot, Cold}
-use Rattle.grid.specs.declared.part.Part.{Part}
-use Rattle.grid.specs.Part.{AreCaseParts}
-use Rattle.heat_flow.specs.Flow.{IsLeastCost}
-use Rattle.heat_flow.specs.Reach.{reach_between}
-use Rattle.corner_flow.specs.Corner.{NeedsHeat}
+use Rattle.corner_flow.proofs.Words.{AreCaseParts, Cold, Hot, IsLeastCost, NeedsHeat, Part, reach_between}
 use Rattle.corner_flow.proofs.SideLemmas.{AreStandardParts, AreStandardParts-parts}
 use Rattle.corner_flow.proofs.HeatLemmas.{needs_heat}
 use Rattle.corner_flow.proofs.FlowLemmas.{least_cost}

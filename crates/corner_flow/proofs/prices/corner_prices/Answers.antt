@@ -1,11 +1,7 @@
 use Rattle.std.proofs.Common.{◌≡◌, ◌∙◌, sym, ap₂, subst, subst₂, map, FitsSigned, w32, w64, rules}
 use Rattle.std.specs.Prelude.{All}
 use Rattle.std.proofs.lemmas.Int.{to_z-of_z}
-use Rattle.stream_case.specs.Limits.{IsPartPrice}
-use Rattle.problem_table.specs.Deficit.{hot_target}
-use Rattle.heat_flow.specs.Prices.{IsSupporting, value_of}
-use Rattle.heat_flow.specs.Reach.{reach_between}
-use Rattle.corner_flow.specs.Corner.{corner_price}
+use Rattle.corner_flow.proofs.Words.{IsPartPrice, IsSupporting, corner_price, hot_target, reach_between, value_of}
 use Rattle.corner_flow.proofs.SideLemmas.{AreStandardParts, AreStandardParts-parts}
 use Rattle.corner_flow.proofs.PriceLemmas.{prices_within, corner-supports, corner-value}
 use Rattle.corner_flow.proofs.prices.corner_prices.Goals as goal

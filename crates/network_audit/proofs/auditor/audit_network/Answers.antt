@@ -1,13 +1,7 @@
 use Rattle.std.proofs.Common.{◌≡◌, ◌∙◌, ◌<◌, ◌^◌, ◌++◌, List, Some, length, sym, ap, arith}
 use Rattle.stream_case.proofs.CaseLemmas.{length-AreStreams}
 use Rattle.stream_case.proofs.CompleteLemmas.{AreStreams-IsComplete}
-use Rattle.networks.specs.Lines.{exchanger_of, exchangers_of}
-use Rattle.network_audit.specs.AllItems.{balance_items, items}
-use Rattle.network_audit.specs.Balance.{balance_of}
-use Rattle.network_audit.specs.Findings.{IsFinding}
-use Rattle.network_audit.specs.Items.{Item, first_finding, stream_items}
-use Rattle.network_audit.specs.Table.{all_heat_items, balance_in, balance_steps_in, heats_in, joint_items}
-use Rattle.network_audit.specs.declared.findings.Finding.{Finding}
+use Rattle.network_audit.proofs.Words.{Finding, IsFinding, Item, all_heat_items, balance_in, balance_items, balance_of, balance_steps_in, exchanger_of, exchangers_of, first_finding, heats_in, items, joint_items, stream_items}
 use Rattle.network_audit.specs.declared.findings.Finding.TheVariants as finding
 use Rattle.network_audit.specs.declared.findings.Place.TheVariants as place
 use Rattle.network_audit.proofs.AuditLemmas.{found-all}
@@ -39,8 +33,7 @@ is_finding c found some = record {
   n = length c.args.network.now.lines;
   values = c.audit_statements.new.values;
   valuation = c.in_default.ensures.0;
-  first =
-      all_found c ∙ some;
+  first = all_found c ∙ some;
 }
 
 pub returns-in-Err-audit_streams : goal.returns-in-Err-audit_streams
@@ -55,8 +48,7 @@ few_joints c =
     omega (
       arith,
       ap length c.requires.table,
-      length-joints n.branches n.lines
-          (exchangers_of n.lines),
+      length-joints n.branches n.lines (exchangers_of n.lines),
       length-numbers exchanger_of n.lines,
       c.requires.shape.few,
     )
@@ -105,8 +97,7 @@ returns-in-Ok c =
     record {
       faultless = record {
         valuation = c.in_default.ensures.0;
-        none =
-            all_found (goal.at.returns-in-Ok c).In_default ∙ b.found ∙ c.in-Ok.ensures.0 place.Balance;
+        none = all_found (goal.at.returns-in-Ok c).In_default ∙ b.found ∙ c.in-Ok.ensures.0 place.Balance;
       };
       sums = c.in-Ok.ensures.1 ∙ b.is;
     }

@@ -3,14 +3,9 @@ use Rattle.std.specs.List.{enumerate_from}
 use Rattle.std.proofs.lemmas.List.FromFn.{length-enumerate_from}
 use Rattle.std.proofs.lemmas.Result.{err_from_is_err_and}
 use Rattle.stream_case.specs.declared.source.Side.TheVariants as side
-use Rattle.fractions.specs.Rationals.{Gives, Rational, minus, rational_sum, rational_zero}
+use Rattle.network_audit.proofs.Words.{Gives, Item, Place, Rational, Sum, cost_steps, first_finding, heat_on_in, heats_on_in, minus, prices_in, rational_sum, rational_zero, sum_steps}
 use Rattle.fractions.proofs.Limits.{value_formed}
-use Rattle.network_audit.specs.AllItems.{cost_steps, sum_steps}
-use Rattle.network_audit.specs.Items.{Item, first_finding}
-use Rattle.network_audit.specs.Table.{heat_on_in, heats_on_in, prices_in}
 use Rattle.network_audit.specs.declared.findings.Finding.TheVariants as finding
-use Rattle.network_audit.specs.declared.findings.Place.{Place}
-use Rattle.network_audit.specs.declared.sum.Sum.{Sum}
 use Rattle.network_audit.proofs.FoundLemmas.{found-behind, found-formed, found-front, found-not_formed}
 use Rattle.network_audit.proofs.SumSteps.{length-numbers}
 use Rattle.network_audit.proofs.balance.balance_of.Goals as goal

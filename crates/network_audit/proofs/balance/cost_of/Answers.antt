@@ -2,11 +2,8 @@ use Rattle.std.proofs.Common.{◌≡◌, ◌∙◌, ◌<◌, ◌≤◌, ◌+◌,
 use Rattle.std.specs.List.{enumerate_from}
 use Rattle.std.proofs.lemmas.List.FromFn.{length-enumerate_from}
 use Rattle.std.proofs.lemmas.Result.{err_from_is_err_and}
-use Rattle.fractions.specs.Rationals.{Gives, plus, times, whole}
+use Rattle.network_audit.proofs.Words.{Gives, Step, Sum, first_finding, plus, price_in, prices_in, times, whole}
 use Rattle.fractions.proofs.Limits.{value_formed}
-use Rattle.network_audit.specs.Items.{Step, first_finding}
-use Rattle.network_audit.specs.Table.{price_in, prices_in}
-use Rattle.network_audit.specs.declared.sum.Sum.{Sum}
 use Rattle.network_audit.proofs.BalanceLemmas.{price-here}
 use Rattle.network_audit.proofs.CostSteps.{IsPriced, cost-all, cost-is, cost-more, cost-not, priced-none}
 use Rattle.network_audit.proofs.FoundLemmas.{found-formed, found-not_formed}

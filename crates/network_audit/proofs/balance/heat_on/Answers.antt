@@ -2,9 +2,7 @@ use Rattle.std.proofs.Common.{◌≡◌, ◌∙◌, ◌<◌, ◌≤◌, ◌+◌,
 use Rattle.std.specs.List.{enumerate_from, filter_map}
 use Rattle.std.proofs.lemmas.List.FromFn.{length-enumerate_from}
 use Rattle.std.proofs.lemmas.Result.{err_from_is_err_and}
-use Rattle.fractions.specs.Rationals.{plus}
-use Rattle.network_audit.specs.Table.{heat_on_in, heats_on_in}
-use Rattle.network_audit.specs.declared.sum.Sum.{Sum}
+use Rattle.network_audit.proofs.Words.{Sum, heat_on_in, heats_on_in, plus}
 use Rattle.network_audit.proofs.BalanceLemmas.{heat-here, heat-other}
 use Rattle.network_audit.proofs.SumSteps.{IsSummed, sum-all, sum-more, sum-not, sum-same, summed-none, total-is}
 use Rattle.network_audit.proofs.balance.heat_on.Goals as goal

@@ -1,7 +1,6 @@
 use Rattle.std.proofs.Common.{◌≡◌, ◌∙◌, ◌∷◌, [], Some, ap, not, subst, sym}
-use Rattle.fractions.specs.Rationals.{Gives, Rational, is_below, plus}
+use Rattle.network_audit.proofs.Words.{Gives, Rational, Step, Test, first_finding, is_below, is_reached, plus, side_items, wanted_above}
 use Rattle.fractions.proofs.Limits.{value_formed}
-use Rattle.network_audit.specs.Items.{Step, Test, first_finding, is_reached, side_items, wanted_above}
 use Rattle.network_audit.specs.declared.findings.Finding.TheVariants as finding
 use Rattle.network_audit.specs.declared.findings.Reason.TheVariants as reason
 use Rattle.network_audit.proofs.FoundLemmas.{found-failed, found-formed, found-not_formed, found-nothing, found-passed}

@@ -1,6 +1,5 @@
 use Rattle.std.proofs.Common.{◌≡◌, ◌∙◌, None, Some, sym, ap, subst, arith}
-use Rattle.network_audit.specs.Items.{first_finding, side_items}
-use Rattle.network_audit.specs.Table.{joint_items, joint_items_at}
+use Rattle.network_audit.proofs.Words.{first_finding, joint_items, joint_items_at, side_items}
 use Rattle.network_audit.specs.declared.findings.Place.TheVariants as place
 use Rattle.network_audit.proofs.FoundLemmas.{finds-here, found-nothing, passed-all, passes-more}
 use Rattle.network_audit.proofs.exchangers.audit_exchangers.Goals as goal

@@ -1,6 +1,5 @@
 use Rattle.std.proofs.Common.{◌≡◌, None}
-use Rattle.network_audit.specs.Items.{first_finding}
-use Rattle.network_audit.specs.Table.{joint_items_at}
+use Rattle.network_audit.proofs.Words.{first_finding, joint_items_at}
 use Rattle.network_audit.proofs.FoundLemmas.{items_of}
 use Rattle.network_audit.proofs.exchangers.audit_exchangers.Given as goal
 

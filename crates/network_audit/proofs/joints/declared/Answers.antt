@@ -1,6 +1,5 @@
 use Rattle.std.proofs.Common.{◌∙◌, ◌∷◌, ◌++◌, [], None, ap, sym}
-use Rattle.networks.specs.Lines.{exchangers_of}
-use Rattle.network_audit.specs.declared.joints.Joint.{Joint}
+use Rattle.network_audit.proofs.Words.{Joint, exchangers_of}
 use Rattle.network_audit.proofs.JointLemmas.{declared-other, declared-some, joints-none}
 use Rattle.network_audit.proofs.joints.declared.Goals as goal
 use Rattle.network_audit.proofs.joints.declared.Goals.{in-Exchanger+in_ok-push, in_default}

@@ -1,7 +1,5 @@
 use Rattle.std.proofs.Common.{◌≡◌, [], List, take}
-use Rattle.networks.specs.Lines.{exchangers_of}
-use Rattle.networks.specs.declared.network.Branch.{Branch}
-use Rattle.network_audit.specs.Joints.{joints_among}
+use Rattle.network_audit.proofs.Words.{Branch, exchangers_of, joints_among}
 use Rattle.network_audit.proofs.joints.declared.Given as goal
 
 abbrev pub invariant-loop-line : goal.invariant-loop-line

@@ -1,7 +1,6 @@
 use Rattle.std.proofs.Common.{◌≡◌, ◌∙◌, ◌<◌, ◌+◌, ◌∷◌, ◌++◌, [], get_or, length, set, take, sym, ap, subst, arith}
 use Rattle.std.proofs.lemmas.List.{take_more}
-use Rattle.networks.specs.Lines.{stream_at}
-use Rattle.network_audit.specs.Joints.{PassesBelow, joints_among, passed_joint}
+use Rattle.network_audit.proofs.Words.{PassesBelow, joints_among, passed_joint, stream_at}
 use Rattle.network_audit.proofs.JointLemmas.{joints-passed, joints-same, length-joints, no_pass}
 use Rattle.network_audit.proofs.joints.note_passes.Goals as goal
 use Rattle.network_audit.proofs.joints.note_passes.Goals.{in-Pass, in_default}

@@ -1,6 +1,5 @@
 use Rattle.std.proofs.Common.{◌≡◌, [], List, take}
-use Rattle.networks.specs.Lines.{Exchanger}
-use Rattle.network_audit.specs.Joints.{joints_among}
+use Rattle.network_audit.proofs.Words.{Exchanger, joints_among}
 use Rattle.network_audit.proofs.joints.note_passes.Given as goal
 
 abbrev pub invariant-loop-line : goal.invariant-loop-line

@@ -1,10 +1,8 @@
 use Rattle.std.proofs.Common.{◌∙◌, sym, ap}
 use Rattle.std.specs.Prelude.{unwrap_or}
-use Rattle.stream_case.specs.Case.{side_of}
+use Rattle.network_audit.proofs.Words.{branch_side, side_of, stream_at}
 use Rattle.stream_case.specs.declared.source.Side.TheVariants as side
 use Rattle.stream_case.specs.declared.source.Source.TheVariants as source
-use Rattle.networks.specs.Lines.{stream_at}
-use Rattle.network_values.specs.Values.{branch_side}
 use Rattle.network_audit.proofs.statements.branch_side.Goals as goal
 
 pub returns : goal.returns

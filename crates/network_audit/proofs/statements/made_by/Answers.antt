@@ -1,14 +1,7 @@
 use Rattle.std.proofs.Common.{◌≡◌, ◌∙◌, ◌<◌, ◌∷◌, [], All, None, Some, slice_get, length, get_or, sym, ap, subst, refl, arith}
 use Rattle.std.specs.Option.{option_copied}
 use Rattle.std.proofs.lemmas.List.Elements.{All-head, All-tail}
-use Rattle.stream_case.specs.declared.source.Side.{Side}
-use Rattle.fractions.specs.Rationals.{Rational}
-use Rattle.networks.specs.Lines.{exchangers_of, stream_at, uses}
-use Rattle.networks.specs.Shape.{NamesKnown}
-use Rattle.network_values.specs.Made.{passed_value}
-use Rattle.network_values.specs.Values.{branch_side, duty_at, value_at}
-use Rattle.network_values.specs.declared.values.BranchValue.{BranchValue}
-use Rattle.network_audit.specs.Items.{end_items, first_finding, mix_items, pass_items}
+use Rattle.network_audit.proofs.Words.{BranchValue, NamesKnown, Rational, Side, branch_side, duty_at, end_items, exchangers_of, first_finding, mix_items, pass_items, passed_value, stream_at, uses, value_at}
 use Rattle.network_audit.proofs.FoundLemmas.{found-nothing}
 use Rattle.network_audit.proofs.JointLemmas.{length-joints}
 use Rattle.network_audit.proofs.StatementLemmas.{duty-read, value-read}

@@ -1,8 +1,7 @@
 use Rattle.std.proofs.Common.{◌∙◌, ap₂, subst}
-use Rattle.fractions.specs.Rationals.{Gives, over, plus}
+use Rattle.network_audit.proofs.Words.{Gives, heat_of_both, over, plus}
 use Rattle.fractions.proofs.Comparisons.{positive-nonzero}
 use Rattle.fractions.proofs.Limits.{value_formed}
-use Rattle.network_values.specs.Made.{heat_of_both}
 use Rattle.network_audit.proofs.FoundLemmas.{found-formed, found-not_formed, found-nothing}
 use Rattle.network_audit.proofs.statements.mean.Goals as goal
 

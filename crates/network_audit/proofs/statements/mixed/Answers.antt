@@ -1,12 +1,9 @@
 use Rattle.std.proofs.Common.{◌≡◌, ◌∙◌, [], true, false, sym, ap, subst}
 use Rattle.std.specs.Prelude.{if◌then◌else◌}
 use Rattle.std.proofs.lemmas.Result.{err_from_is_err_and}
-use Rattle.fractions.specs.Order.{Decides-rational_eq}
-use Rattle.fractions.specs.Rationals.{IsBelow, over, plus, rational_eq, rational_zero}
+use Rattle.network_audit.proofs.Words.{Decides-rational_eq, IsBelow, first_finding, heat_of_both, mean_items, over, plus, rational_eq, rational_zero}
 use Rattle.fractions.proofs.Limits.{value_formed}
-use Rattle.network_values.specs.Made.{heat_of_both}
 use Rattle.network_values.proofs.LineLemmas.{mixed_positive}
-use Rattle.network_audit.specs.Items.{first_finding, mean_items}
 use Rattle.network_audit.proofs.FoundLemmas.{found-formed, found-not_formed, found-nothing}
 use Rattle.network_audit.proofs.StatementLemmas.{even_mix}
 use Rattle.network_audit.proofs.statements.mixed.Goals as goal

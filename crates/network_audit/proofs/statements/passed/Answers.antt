@@ -1,8 +1,7 @@
 use Rattle.std.proofs.Common.{◌≡◌, ◌∙◌, subst}
-use Rattle.fractions.specs.Rationals.{Gives, over}
+use Rattle.network_audit.proofs.Words.{Gives, moved, over}
 use Rattle.fractions.proofs.Comparisons.{positive-nonzero}
 use Rattle.fractions.proofs.Limits.{value_formed}
-use Rattle.network_values.specs.Made.{moved}
 use Rattle.network_audit.proofs.FoundLemmas.{found-formed, found-not_formed, found-nothing}
 use Rattle.network_audit.proofs.statements.passed.Goals as goal
 

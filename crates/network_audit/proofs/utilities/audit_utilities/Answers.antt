@@ -1,7 +1,6 @@
 use Rattle.std.proofs.Common.{◌≡◌, ◌∙◌, ◌≤◌, ◌∷◌, ◌++◌, [], None, Some, length, take, ap, refl, subst, sym, arith}
 use Rattle.std.proofs.lemmas.List.{take_all, take_more_set}
-use Rattle.network_audit.specs.Items.{first_finding}
-use Rattle.network_audit.specs.Table.{all_heat_items, heat_items, heats_in}
+use Rattle.network_audit.proofs.Words.{all_heat_items, first_finding, heat_items, heats_in}
 use Rattle.network_audit.proofs.FoundLemmas.{finds-here, found-nothing, passed-all, passes-more}
 use Rattle.network_audit.proofs.TableLemmas.{heats-more}
 use Rattle.network_audit.proofs.utilities.audit_utilities.Goals as goal

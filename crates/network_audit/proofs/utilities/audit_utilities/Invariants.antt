@@ -1,6 +1,5 @@
 use Rattle.std.proofs.Common.{◌≡◌, None, take}
-use Rattle.network_audit.specs.Items.{first_finding}
-use Rattle.network_audit.specs.Table.{heat_items, heats_in}
+use Rattle.network_audit.proofs.Words.{first_finding, heat_items, heats_in}
 use Rattle.network_audit.proofs.FoundLemmas.{items_of}
 use Rattle.network_audit.proofs.utilities.audit_utilities.Given as goal
 

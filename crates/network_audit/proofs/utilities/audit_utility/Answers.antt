@@ -1,6 +1,5 @@
 use Rattle.std.proofs.Common.{◌∙◌, ap, sym}
-use Rattle.network_audit.specs.AllItems.{range_items}
-use Rattle.network_audit.specs.Items.{first_finding}
+use Rattle.network_audit.proofs.Words.{first_finding, range_items}
 use Rattle.network_audit.specs.declared.findings.Place.TheVariants as place
 use Rattle.network_audit.proofs.FoundLemmas.{found-behind, found-front}
 use Rattle.network_audit.proofs.utilities.audit_utility.Goals as goal

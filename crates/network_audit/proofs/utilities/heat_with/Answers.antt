@@ -2,9 +2,7 @@ use Rattle.std.proofs.Common.{◌≡◌, ◌∙◌, ◌+◌, [], None, Some, get
 use Rattle.std.specs.Prelude.{if◌then◌else◌}
 use Rattle.std.specs.List.{filter_map}
 use Rattle.std.proofs.lemmas.Result.{err_from_is_err_and}
-use Rattle.fractions.specs.Rationals.{plus}
-use Rattle.network_audit.specs.Table.{duties_in, joint_duty}
-use Rattle.network_audit.specs.declared.sum.Sum.{Sum}
+use Rattle.network_audit.proofs.Words.{Sum, duties_in, joint_duty, plus}
 use Rattle.network_audit.proofs.SumSteps.{IsSummed, sum-all, sum-more, sum-not, sum-same, summed-none, total-is}
 use Rattle.network_audit.proofs.utilities.heat_with.Goals as goal
 use Rattle.network_audit.proofs.utilities.heat_with.Goals.{then-needs+in_ok-sum, else-needs}

@@ -1,16 +1,12 @@
 use Rattle.std.proofs.Common.{◌+◌, ◌∙◌, is_some, sym, refl, ap}
-use Rattle.network_text.specs.Fractions.{denominator_in, is_slash}
-use Rattle.network_text.specs.declared.limits.TheConstants.{MOST_DIGITS}
-use Rattle.stream_case.specs.Digits.{natural_in}
+use Rattle.network_text.proofs.Words.{MOST_DIGITS, denominator_in, is_slash, natural_in}
 use Rattle.std.proofs.lemmas.List.{take_rest}
 use Rattle.statements.proofs.Positions.{is_some-position, position-some}
 use Rattle.network_text.proofs.fraction_text.denominator_of.Goals as goal
 
 pub returns-in_default : goal.returns-in_default
 unfolding denominator_in
-returns-in_default c =
-    let none = sym (is_some-position is_slash c.args.text.now) ∙ ap is_some (sym c.in_default.ensures) in
-    rw none refl
+returns-in_default c = let none = sym (is_some-position is_slash c.args.text.now) ∙ ap is_some (sym c.in_default.ensures) in rw none refl
 
 pub returns : goal.returns
 unfolding denominator_in

@@ -1,6 +1,5 @@
 use Rattle.std.proofs.Common.{◌∙◌, List, ℕ, sym, subst}
-use Rattle.network_text.specs.Outcome.{IsNetworkOf}
-use Rattle.network_text.specs.Printed.{HasShortLines}
+use Rattle.network_text.proofs.Words.{HasShortLines, IsNetworkOf}
 use Rattle.networks.proofs.OfShape.{line_read}
 use Rattle.network_text.proofs.back.Law.{shape-is_network}
 use Rattle.network_text.proofs.print.Lines.{text_all}

@@ -1,11 +1,7 @@
 use Rattle.std.proofs.Common.{◌∙◌, ◌+◌, ◌<◌, length, sym, ap, subst, arith}
 use Rattle.std.specs.Prelude.{option_map}
 use Rattle.first_fault.proofs.Reading.{Reads, end_here, fault_here, none_read, one_more, value_here}
-use Rattle.statements.specs.Statements.{statements_of}
-use Rattle.network_text.specs.Given.{with_any}
-use Rattle.network_text.specs.Outcome.{grammar}
-use Rattle.networks.specs.declared.limits.TheConstants.{MOST_STATEMENTS}
-use Rattle.networks.specs.declared.network.Network.{Network}
+use Rattle.network_text.proofs.Words.{MOST_STATEMENTS, Network, grammar, statements_of, with_any}
 use Rattle.network_text.proofs.shape.Counts.{network-keeps_counts}
 use Rattle.network_text.proofs.shape.Law.{network-has_shape}
 use Rattle.network_text.proofs.Reading.{fresh_next, lines-with_entry, lines-start, no_outcome, nothing_left, passed_over, room_next, statement_next}

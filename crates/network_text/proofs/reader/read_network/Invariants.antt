@@ -1,8 +1,6 @@
 use Rattle.std.proofs.Common.{◌≡◌, ◌≤◌, length}
 use Rattle.first_fault.proofs.Reading.{Reads}
-use Rattle.statements.specs.Statements.{statements_of}
-use Rattle.network_text.specs.Outcome.{grammar}
-use Rattle.networks.specs.declared.limits.TheConstants.{MOST_STATEMENTS}
+use Rattle.network_text.proofs.Words.{MOST_STATEMENTS, grammar, statements_of}
 use Rattle.network_text.proofs.reader.read_network.Given as goal
 
 abbrev pub invariant-loop-rest : goal.invariant-loop-rest

@@ -1,7 +1,6 @@
 use Rattle.std.proofs.Common.{◌≡◌, ◌∙◌, true, false, sym, ap, subst}
-use Rattle.fractions.specs.Rationals.{Gives, is_below, minus, rational_zero, times}
+use Rattle.penalties.proofs.Words.{Gives, first_too_fine, is_below, minus, rational_zero, times}
 use Rattle.fractions.proofs.Limits.{value_formed}
-use Rattle.penalties.specs.Steps.{first_too_fine}
 use Rattle.penalties.proofs.StepLemmas.{after_formed, at_not_formed, none_of_nothing}
 use Rattle.penalties.proofs.SurveyLemmas.{height-above, height-below, steps-above, steps-below}
 use Rattle.penalties.proofs.heights.height.Goals as goal

@@ -1,11 +1,7 @@
 use Rattle.std.proofs.Common.{rules, of_z, to_z, w32, ◌≡◌, ◌∙◌, length, sym, ap, subst, arith}
 use Rattle.std.proofs.lemmas.Int.{to_z-of_z}
-use Rattle.stream_case.specs.Case.{IsComplete}
-use Rattle.networks.specs.Lines.{exchangers_of}
+use Rattle.penalties.proofs.Words.{Audit, IsComplete, IsReferencePlace, exchangers_of, joints_of}
 use Rattle.networks.proofs.LineLaws.{few_exchangers}
-use Rattle.problem_table.specs.Deficit.{IsReferencePlace}
-use Rattle.network_audit.specs.Audit.{Audit}
-use Rattle.network_audit.specs.Joints.{joints_of}
 use Rattle.network_audit.proofs.AcceptedLemmas.{known_network}
 use Rattle.network_audit.proofs.JointLemmas.{length-joints}
 use Rattle.penalties.proofs.ListLaws.{listed_not_negative, listed_sum}
@@ -13,9 +9,7 @@ use Rattle.penalties.proofs.Listing.{all_listed, found_none, found_some, too_fin
 use Rattle.penalties.proofs.survey.penalties.Goals as goal
 
 pub reference_place-requires : goal.reference_place-requires
-reference_place-requires c =
-    let complete : IsComplete c.args.case.now = (known_network _ _ _ c.requires c.joints-joints.ensures.known).complete in
-    search rules
+reference_place-requires c = let complete : IsComplete c.args.case.now = (known_network _ _ _ c.requires c.joints-joints.ensures.known).complete in search rules
 
 pub add_exchangers-requires : goal.add_exchangers-requires
 add_exchangers-requires c =
@@ -28,8 +22,7 @@ add_exchangers-requires c =
     omega (arith, many, fewer, few)
 
 pub add_mixes-requires : goal.add_mixes-requires
-add_mixes-requires c =
-    omega (arith, ap length c.as_slice.ensures, (known_network _ _ _ c.requires c.joints-joints.ensures.known).shape.few)
+add_mixes-requires c = omega (arith, ap length c.as_slice.ensures, (known_network _ _ _ c.requires c.joints-joints.ensures.known).shape.few)
 
 pub returns-in-Some-clause-lists : goal.returns-in-Some-clause-lists
 returns-in-Some-clause-lists c =

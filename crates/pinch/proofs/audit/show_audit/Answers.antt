@@ -1,13 +1,7 @@
 use Rattle.std.proofs.Common.{◌≡◌, ap, subst, sym, rules, FitsSigned, w32}
 use Rattle.std.proofs.lemmas.Int.{to_z-of_z}
-use Rattle.fractions.specs.Rationals.{Rational}
-use Rattle.network_audit.specs.Audit.{SaysExactly}
-use Rattle.network_audit.specs.Findings.{IsVerdict}
-use Rattle.network_audit.specs.Valid.{IsValidNetwork}
-use Rattle.network_audit.specs.declared.verdict.Balance.{Balance}
+use Rattle.pinch.proofs.Words.{Accepted, Balance, IfListed, IsValidNetwork, IsVerdict, Rational, SaysExactly, sum_of}
 use Rattle.network_audit.specs.declared.verdict.Verdict.TheVariants as verdict
-use Rattle.penalties.specs.Answers.{IfListed, sum_of}
-use Rattle.reports.specs.declared.shown.Shown.TheVariants.{Accepted}
 use Rattle.pinch.proofs.audit.show_audit.Goals as goal
 
 pub returns-in-Accepted : goal.returns-in-Accepted

@@ -1,10 +1,5 @@
 use Rattle.std.proofs.Common.{◌≡◌, ◌∙◌, ◌⊎◌, inl, inr, ℕ, refl, sym, subst}
-use Rattle.network_audit.specs.Balance.{balance_of}
-use Rattle.network_audit.specs.Findings.{IsVerdict}
-use Rattle.network_audit.specs.declared.findings.Place.{Place}
-use Rattle.network_audit.specs.declared.findings.Reason.{Reason}
-use Rattle.network_audit.specs.declared.verdict.Balance.{Balance}
-use Rattle.network_audit.specs.declared.verdict.Verdict.{Verdict}
+use Rattle.pinch.proofs.Words.{Balance, IsVerdict, Place, Reason, Verdict, balance_of}
 use Rattle.network_audit.specs.declared.verdict.Verdict.TheVariants as verdict
 use Rattle.pinch.proofs.design.audited.Goals as goal
 

@@ -1,7 +1,6 @@
 -- The heat of the side's streams so far.
 use Rattle.std.proofs.Common.{◌≡◌, take}
-use Rattle.stream_case.specs.Stream.{heat_above}
-use Rattle.problem_table.specs.Sides.{sum_side}
+use Rattle.problem_table.proofs.Words.{heat_above, sum_side}
 use Rattle.problem_table.proofs.deficit.side_heat_above.Given as goal
 
 abbrev pub invariant-loop-stream : goal.invariant-loop-stream

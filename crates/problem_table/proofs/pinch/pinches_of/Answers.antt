@@ -4,8 +4,7 @@ use Rattle.std.proofs.lemmas.Bool.{false≢true}
 use Rattle.std.proofs.lemmas.Int.{to_z-of_z}
 use Rattle.std.proofs.lemmas.List.{take_all}
 use Rattle.problem_table.proofs.PinchLemmas.{Finds, Finds-other, Finds-pinch, ListsFalling-pinches}
-use Rattle.sums.specs.Order.{ListsFalling}
-use Rattle.problem_table.specs.Deficit.{IsPinch}
+use Rattle.problem_table.proofs.Words.{IsPinch, ListsFalling}
 use Rattle.problem_table.proofs.pinch.pinches_of.Goals as goal
 use Rattle.problem_table.proofs.pinch.pinches_of.Goals.{then-is_pinch+in_ok-push, else-is_pinch}
 

@@ -2,10 +2,8 @@
 use Rattle.std.proofs.Common.{ℤ, w32, FitsSigned, List, [], ◌∷◌, ◌++◌, append_assoc, take, ap₂, sym, ◌∙◌, subst, rules}
 use Rattle.std.proofs.lemmas.Int.{to_z-of_z}
 use Rattle.std.proofs.lemmas.List.{take_all}
-use Rattle.stream_case.specs.declared.stream.Stream.{Stream}
-use Rattle.stream_case.specs.Stream.{high_end, low_end, stream_ends}
+use Rattle.problem_table.proofs.Words.{FindsHighestTight, Stream, high_end, low_end, stream_ends}
 use Rattle.stream_case.proofs.EndLemmas.{stream_ends-more}
-use Rattle.problem_table.specs.Deficit.{FindsHighestTight}
 use Rattle.problem_table.proofs.PlaceLemmas.{IsSome-highest}
 use Rattle.problem_table.proofs.reference.reference_place_of.Goals as goal
 

@@ -4,10 +4,7 @@ use Rattle.std.specs.List.{fold}
 use Rattle.std.specs.Int.{int_max}
 use Rattle.std.proofs.lemmas.Int.{to_z-of_z}
 use Rattle.std.proofs.lemmas.List.{take_all}
-use Rattle.stream_case.specs.declared.stream.Stream.{Stream}
-use Rattle.stream_case.specs.Limits.{IsStreamsHeat}
-use Rattle.stream_case.specs.Stream.{stream_ends}
-use Rattle.problem_table.specs.Deficit.{deficit_above}
+use Rattle.problem_table.proofs.Words.{IsStreamsHeat, Stream, deficit_above, stream_ends}
 use Rattle.problem_table.proofs.DeficitLemmas.{hot_target-more, hot_target-between}
 use Rattle.problem_table.proofs.target.hot_target.Goals as goal
 

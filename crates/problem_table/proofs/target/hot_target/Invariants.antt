@@ -2,8 +2,7 @@
 use Rattle.std.proofs.Common.{◌≡◌, pos, map, take}
 use Rattle.std.specs.List.{fold}
 use Rattle.std.specs.Int.{int_max}
-use Rattle.stream_case.specs.Stream.{stream_ends}
-use Rattle.problem_table.specs.Deficit.{deficit_above}
+use Rattle.problem_table.proofs.Words.{deficit_above, stream_ends}
 use Rattle.problem_table.proofs.target.hot_target.Given as goal
 
 abbrev pub invariant-loop-stream : goal.invariant-loop-stream

@@ -1,7 +1,5 @@
 use Rattle.std.proofs.Common.{◌≡◌, ◌∙◌, false, true, length, arith, sym, ap, refl, below_more}
-use Rattle.networks.specs.Lines.{exchangers_of}
-use Rattle.network_text.specs.Checks.{misses_pass}
-use Rattle.networks.specs.declared.network.Network.{Network}
+use Rattle.network_text.proofs.Words.{Network, exchangers_of, misses_pass}
 use Rattle.network_text.proofs.Missing.{count-more, few_before, first-found, missing-at, none-found}
 use Rattle.network_text.proofs.builder.NetworkBuilder.first_missing.Goals as goal
 use Rattle.network_text.proofs.builder.NetworkBuilder.first_missing.Goals.{then-is_exchanger, else-is_exchanger}

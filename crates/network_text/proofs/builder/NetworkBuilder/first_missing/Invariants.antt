@@ -1,6 +1,5 @@
 use Rattle.std.proofs.Common.{◌≡◌, ◌<◌, ℕ, false, length, take}
-use Rattle.networks.specs.Lines.{exchangers_of}
-use Rattle.network_text.specs.Checks.{misses_pass}
+use Rattle.network_text.proofs.Words.{exchangers_of, misses_pass}
 use Rattle.network_text.proofs.builder.NetworkBuilder.first_missing.Given as goal
 
 abbrev pub invariant-loop-index : goal.invariant-loop-index

@@ -1,6 +1,5 @@
 use Rattle.std.proofs.Common.{List, ℕ, ◌≢◌, map}
-use Rattle.stream_case.specs.declared.stream.Stream.{Stream}
-use Rattle.stream_case.specs.declared.utility.Utility.{Utility}
+use Rattle.network_text.proofs.Words.{Stream, Utility}
 use Rattle.stream_case.proofs.CaseLemmas.{length-AreStreams}
 use Rattle.stream_case.proofs.CompleteLemmas.{StaysValid-IsComplete}
 use Rattle.stream_case.proofs.DistinctLemmas.{AllPairs-front}

@@ -1,7 +1,5 @@
 use Rattle.std.proofs.Common.{◌∙◌, ap, ap₂, sym}
-use Rattle.penalties.specs.Steps.{absorbed_steps, first_too_fine}
-use Rattle.penalties.specs.Survey.{seen_height, seen_steps}
-use Rattle.penalties.specs.Tables.{absorbed_by}
+use Rattle.penalties.proofs.Words.{absorbed_by, absorbed_steps, first_too_fine, seen_height, seen_steps}
 use Rattle.penalties.proofs.StepLemmas.{none_of_nothing}
 use Rattle.penalties.proofs.heights.Survey.absorbed.Goals as goal
 

@@ -2,10 +2,7 @@ use Rattle.std.proofs.Common.{◌≡◌, ◌∙◌, ◌++◌, ◌∷◌, [], Non
 use Rattle.std.specs.List.{enumerate_from}
 use Rattle.std.proofs.lemmas.List.{append-nil, take_all}
 use Rattle.network_audit.specs.declared.findings.Place.TheVariants as place
-use Rattle.penalties.specs.Steps.{first_too_fine}
-use Rattle.penalties.specs.Survey.{seen_height, seen_steps}
-use Rattle.penalties.specs.Tables.{all_joint_steps, joint_row, joint_rows, joint_steps}
-use Rattle.penalties.specs.declared.list.Penalty.{Penalty}
+use Rattle.penalties.proofs.Words.{Penalty, all_joint_steps, first_too_fine, joint_row, joint_rows, joint_steps, seen_height, seen_steps}
 use Rattle.penalties.proofs.RowLemmas.{made-more}
 use Rattle.penalties.proofs.StepLemmas.{fine_all, fine_more, first_here, none_of_nothing}
 use Rattle.penalties.proofs.heights.Survey.add_exchangers.Goals as goal

@@ -1,8 +1,6 @@
 use Rattle.std.proofs.Common.{◌≡◌, ◌++◌, None, map, take}
 use Rattle.std.specs.List.{enumerate_from}
-use Rattle.penalties.specs.Steps.{first_too_fine}
-use Rattle.penalties.specs.Survey.{seen_height, seen_steps}
-use Rattle.penalties.specs.Tables.{joint_row, joint_steps}
+use Rattle.penalties.proofs.Words.{first_too_fine, joint_row, joint_steps, seen_height, seen_steps}
 use Rattle.penalties.proofs.StepLemmas.{steps_of}
 use Rattle.penalties.proofs.heights.Survey.add_exchangers.Given as goal
 

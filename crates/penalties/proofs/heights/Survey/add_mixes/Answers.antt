@@ -1,12 +1,8 @@
 use Rattle.std.proofs.Common.{◌≡◌, ◌∙◌, ◌+◌, ◌++◌, ◌∷◌, [], get_or, sym, ap}
 use Rattle.std.specs.List.{enumerate_from, filter_map}
 use Rattle.std.proofs.lemmas.List.{append-nil, take_all}
-use Rattle.fractions.specs.Rationals.{Rational}
+use Rattle.penalties.proofs.Words.{Penalty, Rational, all_mix_steps, first_too_fine, line_steps, mix_row, mix_rows, seen_height, seen_steps}
 use Rattle.network_audit.specs.declared.findings.Place.TheVariants as place
-use Rattle.penalties.specs.Rows.{mix_row, mix_rows}
-use Rattle.penalties.specs.Steps.{all_mix_steps, first_too_fine, line_steps}
-use Rattle.penalties.specs.Survey.{seen_height, seen_steps}
-use Rattle.penalties.specs.declared.list.Penalty.{Penalty}
 use Rattle.penalties.proofs.RowLemmas.{filtered-more, no_row, no_steps}
 use Rattle.penalties.proofs.StepLemmas.{fine_all, fine_more, first_here, none_of_nothing}
 use Rattle.penalties.proofs.heights.Survey.add_mixes.Goals as goal

@@ -1,8 +1,6 @@
 use Rattle.std.proofs.Common.{◌≡◌, ◌++◌, None, take}
 use Rattle.std.specs.List.{enumerate_from, filter_map}
-use Rattle.penalties.specs.Rows.{mix_row}
-use Rattle.penalties.specs.Steps.{first_too_fine, line_steps}
-use Rattle.penalties.specs.Survey.{seen_height, seen_steps}
+use Rattle.penalties.proofs.Words.{first_too_fine, line_steps, mix_row, seen_height, seen_steps}
 use Rattle.penalties.proofs.StepLemmas.{steps_of}
 use Rattle.penalties.proofs.heights.Survey.add_mixes.Given as goal
 

@@ -1,15 +1,7 @@
 use Rattle.std.proofs.Common.{rules, w32, ◌≡◌, ◌∙◌, List, None, Some, slice_get, sym, ap, subst}
 use Rattle.std.specs.Option.{option_copied}
 use Rattle.std.proofs.lemmas.Int.{to_z-of_z}
-use Rattle.fractions.specs.Rationals.{Rational, minus}
-use Rattle.networks.specs.Lines.{stream_at}
-use Rattle.network_values.specs.Heights.{height}
-use Rattle.network_values.specs.Penalties.{base_of}
-use Rattle.network_values.specs.Values.{value_at}
-use Rattle.network_values.specs.declared.values.BranchValue.{BranchValue}
-use Rattle.penalties.specs.Answers.{Formed}
-use Rattle.penalties.specs.Steps.{Step, first_too_fine, height_steps}
-use Rattle.penalties.specs.Survey.{seen_steps, values_of}
+use Rattle.penalties.proofs.Words.{BranchValue, Formed, Rational, Step, base_of, first_too_fine, height, height_steps, minus, seen_steps, stream_at, value_at, values_of}
 use Rattle.penalties.proofs.StepLemmas.{none_of_nothing}
 use Rattle.penalties.proofs.SurveyLemmas.{height-seen, steps-seen}
 use Rattle.penalties.proofs.heights.Survey.height.Goals as goal

@@ -1,8 +1,6 @@
 use Rattle.std.proofs.Common.{◌≡◌, ◌∙◌, ◌∷◌, [], subst, ap₂}
-use Rattle.fractions.specs.Rationals.{Gives, Rational, minus, plus}
+use Rattle.penalties.proofs.Words.{Gives, Rational, first_too_fine, minus, plus, seen_height, seen_steps, step, taken_steps}
 use Rattle.fractions.proofs.Limits.{value_formed}
-use Rattle.penalties.specs.Steps.{first_too_fine, step, taken_steps}
-use Rattle.penalties.specs.Survey.{seen_height, seen_steps}
 use Rattle.penalties.proofs.StepLemmas.{after_formed, at_not_formed, first_behind, first_front, handed_on, none_of_nothing}
 use Rattle.penalties.proofs.heights.Survey.mix_penalty.Goals as goal
 use Rattle.penalties.proofs.heights.Survey.mix_penalty.Goals.{After-minus, After-plus}

@@ -1,7 +1,5 @@
 use Rattle.std.proofs.Common.{◌∙◌, ap, ap₂, sym}
-use Rattle.penalties.specs.Steps.{first_too_fine, released_steps}
-use Rattle.penalties.specs.Survey.{seen_height, seen_steps}
-use Rattle.penalties.specs.Tables.{released_by}
+use Rattle.penalties.proofs.Words.{first_too_fine, released_by, released_steps, seen_height, seen_steps}
 use Rattle.penalties.proofs.StepLemmas.{none_of_nothing}
 use Rattle.penalties.proofs.heights.Survey.released.Goals as goal
 

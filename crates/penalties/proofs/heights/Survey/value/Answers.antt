@@ -1,6 +1,5 @@
 use Rattle.std.proofs.Common.{◌≡◌, ◌∙◌, ap₂, unwrap_or}
-use Rattle.network_values.specs.Values.{no_value}
-use Rattle.network_values.specs.declared.values.BranchValue.{BranchValue}
+use Rattle.penalties.proofs.Words.{BranchValue, no_value}
 use Rattle.penalties.proofs.SurveyLemmas.{value-read}
 use Rattle.penalties.proofs.heights.Survey.value.Goals as goal
 
