@@ -24,6 +24,8 @@ def text(*rows):
 
 FOUR = example('four-stream.csv')
 FOUR_NETWORK = example('four-stream-network.txt')
+OWN = example('own-contributions.csv')
+OWN_NETWORK = example('own-contributions-network.txt')
 FORBIDDEN = text('contribution,,50,,,,', 'hot,H,1000,500,10,,', 'cold,C,300,700,10,,', 'forbid,H,C,,,,')
 THREE = text('contribution,,50,,,,', 'hot,H,1000,500,10,,', 'cold,C,300,500,5,,', 'cold,D,300,500,10,,')
 SMALL = text('contribution,,50,,,,', 'hot,H,1000,500,2,,')
@@ -35,6 +37,9 @@ SPLIT_NETWORK = text('exchanger Q1 H COLD 4000', 'exchanger Q2 H COLD 1000', 'sp
 # 50 W more at E2, taken from Q1 and Q2: an approach is kept no longer.
 TOO_COLD = FOUR_NETWORK.replace(b'E2 H4 C1 90000', b'E2 H4 C1 90050').replace(b'C1 20000', b'C1 19950').replace(b'COLD 60000', b'COLD 59950')
 ONE_HOT = text('contribution,,50,,,,', 'hot,H,1000,500,10,,')
+# HOT as completion gives it for one hot stream, and the same with a contribution of its own.
+GIVEN_HOT = ONE_HOT + text('heater,HOT,1000,0,1000000000000,1,50')
+OTHER_HOT = ONE_HOT + text('heater,HOT,1050,0,1000000000000,1,100')
 
 # A command: its words, its files by name, the role of each file in the order in which it is read, the status, and how its text
 # begins. The first four are the ones that matter most.
@@ -60,6 +65,8 @@ COMMANDS = [
      {'case': SMALL, 'net': text('exchanger E1 H COLD 1/281474976710655', 'pass H E1 a', 'end a')}, ['case', 'network'], 9,
      'too fine line 2 step 1\n'),
     (['audit', 'case', 'net'], {'case': FOUR, 'net': text('end')}, ['case', 'network'], 4, 'network line 1 FieldCount\n'),
+    (['audit', 'case', 'net'], {'case': OWN, 'net': OWN_NETWORK}, ['case', 'network'], 0, 'accepted\nhot 93750\n'),
+    (['design', 'case'], {'case': OWN}, ['case'], 0, '# hot 93750 cold 28750 excess 0 cost 93750\n'),
     (['site', 'site'], {'site': example('three-plants.csv')}, ['site'], 0, 'profile 2550 0 120000\n'),
     (['site', 'site'], {'site': LOW_MAIN}, ['site'], 1, 'profile 1400 0 0\n'),
     (['sweep', 'case', '50', '50', '1', '2'], {'case': example('too-little-cooling.csv')}, ['case'], 0,

@@ -11,6 +11,10 @@ NUMBER = re.compile(rb'-?[0-9]{1,13}\Z')
 RATIO = re.compile(rb'(-?[0-9]{1,24})(?:/([0-9]{1,24}))?\Z')
 TRILLION = 10 ** 12
 TEMPERATURE, FLOW, SHARE, HEAT, PRICE = (-2731, 30000), (1, 100000), (0, 1000), (0, TRILLION), (-10 ** 6, 10 ** 6)
+# How many there may be: in a case (heaters and coolers together), in a site (streams of all plants together), in a network, in a sample.
+CASE_MOST = {'hot': 30, 'cold': 30, 'utility': 12, 'forbid': 400}
+SITE_MOST = {'hot': 12, 'cold': 12, 'plant': 6, 'main': 4}
+STATEMENTS, EXCHANGERS, SAMPLED = 100000, 20000, 12
 
 
 class Refused(Exception):
@@ -76,14 +80,19 @@ def rows_of(data):
 # Streams, utilities and the rows that are common to cases and sites.
 
 class Source:
-    def __init__(self, name, hot, stream, supply, target, cp=0, least=0, most=0, price=0, plant=None):
+    def __init__(self, name, hot, stream, supply, target, cp=0, least=0, most=0, price=0, plant=None, share=None):
         self.name, self.hot, self.stream, self.supply, self.target, self.cp = name, hot, stream, supply, target, cp
-        self.least, self.most, self.price, self.plant = least, most, price, plant
+        self.least, self.most, self.price, self.plant, self.share = least, most, price, plant, share
 
-    def span(self, share):
+    def actual(self):
+        """The range as it is, as (low, high)."""
+        return min(self.supply, self.target), max(self.supply, self.target)
+
+    def span(self):
         """The shifted range, as (low, high)."""
-        shift = -share if self.hot else share
-        return min(self.supply, self.target) + shift, max(self.supply, self.target) + shift
+        low, high = self.actual()
+        shift = -self.share if self.hot else self.share
+        return low + shift, high + shift
 
 
 class Case:
@@ -91,15 +100,21 @@ class Case:
         self.share, self.streams, self.utilities, self.forbidden, self.mains, self.plants = None, [], [], [], [], []
 
     def ends(self):
-        return sorted({end for each in self.streams for end in each.span(self.share)}, reverse=True)
+        return sorted({end for each in self.streams for end in each.span()}, reverse=True)
+
+    def shared_out(self):
+        """Each source without a contribution of its own has that of the contribution row, wherever this stands."""
+        for each in self.streams + self.utilities:
+            each.share = self.share if each.share is None else each.share
+        return self
 
     def completed(self):
         ends = self.ends()
         self.utilities = list(self.utilities)
         if not any(each.hot for each in self.utilities):
-            self.utilities.append(Source(b'HOT', True, False, ends[0] + self.share, ends[0] + self.share, 0, 0, TRILLION, 1))
+            self.utilities.append(Source(b'HOT', True, False, ends[0] + self.share, ends[0] + self.share, 0, 0, TRILLION, 1, share=self.share))
         if not any(not each.hot for each in self.utilities):
-            self.utilities.append(Source(b'COLD', False, False, ends[-1] - self.share, ends[-1] - self.share, 0, 0, TRILLION, 0))
+            self.utilities.append(Source(b'COLD', False, False, ends[-1] - self.share, ends[-1] - self.share, 0, 0, TRILLION, 0, share=self.share))
         return self
 
     def source(self, name):
@@ -107,6 +122,7 @@ class Case:
 
 
 def numbers(row, fields, ranges, at):
+    """The numbers of some fields, from left to right: first each is a number text, then each is in its range."""
     if not all(NUMBER.match(row[field]) for field in fields):
         raise Refused(at, 'BadNumber')
     values = [int(row[field]) for field in fields]
@@ -129,14 +145,23 @@ def kind_of(row, at, kinds):
     return kind
 
 
+def numbers_with_share(row, fields, ranges, at):
+    """These numbers, and behind them that of the last field, or None where it is empty."""
+    if row[6] == b'':
+        return numbers(row, fields, ranges, at) + [None]
+    return numbers(row, fields + (6,), ranges + (SHARE,), at)
+
+
 def stream_of(row, at, kind, plant=None):
-    supply, target, cp = numbers(row, (2, 3, 4), (TEMPERATURE, TEMPERATURE, FLOW), at)
+    supply, target, cp, share = numbers_with_share(row, (2, 3, 4), (TEMPERATURE, TEMPERATURE, FLOW), at)
     if supply <= target if kind == 'hot' else supply >= target:
         raise Refused(at, 'WrongWay')
-    return Source(row[1], kind == 'hot', True, supply, target, cp, plant=plant)
+    return Source(row[1], kind == 'hot', True, supply, target, cp, plant=plant, share=share)
 
 
-CASE_KINDS = {'contribution': {2}, 'hot': {1, 2, 3, 4}, 'cold': {1, 2, 3, 4}, 'heater': {1, 2, 3, 4, 5}, 'cooler': {1, 2, 3, 4, 5}, 'forbid': {1, 2}}
+# The fields that a kind may fill. Only a case has contributions of its sources' own, in the last field.
+CASE_KINDS = {'contribution': {2}, 'hot': {1, 2, 3, 4, 6}, 'cold': {1, 2, 3, 4, 6}, 'heater': {1, 2, 3, 4, 5, 6}, 'cooler': {1, 2, 3, 4, 5, 6},
+              'forbid': {1, 2}}
 SITE_KINDS = {'contribution': {2}, 'hot': {1, 2, 3, 4}, 'cold': {1, 2, 3, 4}, 'plant': {1}, 'main': {1, 2}}
 
 
@@ -148,7 +173,7 @@ def case_of(data):
             continue
         count = {'hot': sum(each.hot for each in case.streams) + 1, 'cold': sum(not each.hot for each in case.streams) + 1,
                  'forbid': len(case.forbidden) + 1}.get(kind, len(case.utilities) + 1)
-        if kind != 'contribution' and count > {'hot': 12, 'cold': 12, 'forbid': 400}.get(kind, 6):
+        if kind != 'contribution' and count > CASE_MOST.get(kind, CASE_MOST['utility']):
             raise Refused(at, 'TooMany')
         if kind == 'contribution':
             if case.share is not None:
@@ -173,15 +198,15 @@ def case_of(data):
         if kind in ('hot', 'cold'):
             case.streams.append(stream_of(row, at, kind))
             continue
-        level, least, most, price = numbers(row, (2, 3, 4, 5), (TEMPERATURE, HEAT, HEAT, PRICE), at)
+        level, least, most, price, share = numbers_with_share(row, (2, 3, 4, 5), (TEMPERATURE, HEAT, HEAT, PRICE), at)
         if least > most:
             raise Refused(at, 'BadRange')
-        case.utilities.append(Source(row[1], kind == 'heater', False, level, level, 0, least, most, price))
+        case.utilities.append(Source(row[1], kind == 'heater', False, level, level, 0, least, most, price, share=share))
     if case.share is None:
         raise Refused(len(rows) + 1, 'NoContribution')
     if not case.streams:
         raise Refused(len(rows) + 1, 'NoStream')
-    return case
+    return case.shared_out()
 
 
 def site_of(data):
@@ -192,7 +217,7 @@ def site_of(data):
             continue
         count = {'hot': sum(each.hot for each in site.streams) + 1, 'cold': sum(not each.hot for each in site.streams) + 1,
                  'plant': len(site.plants) + 1, 'main': len(site.mains) + 1}
-        if kind != 'contribution' and count[kind] > {'hot': 12, 'cold': 12, 'plant': 6, 'main': 4}[kind]:
+        if kind != 'contribution' and count[kind] > SITE_MOST[kind]:
             raise Refused(at, 'TooMany')
         if kind == 'contribution':
             if site.share is not None:
@@ -216,7 +241,7 @@ def site_of(data):
     for missing, why in ((site.share is None, 'NoContribution'), (not site.mains, 'NoMain'), (not site.streams, 'NoStream')):
         if missing:
             raise Refused(len(rows) + 1, why)
-    return site
+    return site.shared_out()
 
 
 # Targets and profiles.
@@ -228,18 +253,18 @@ def within(span, low, high):
 FAR = 10 ** 9
 
 
-def deficit(streams, share, place, above=True):
+def deficit(streams, place, above=True):
     """What the cold streams take above (or below) a shifted temperature, less what the hot ones give there."""
     low, high = (place, FAR) if above else (-FAR, place)
-    return sum((-1 if each.hot else 1) * each.cp * within(each.span(share), low, high) for each in streams)
+    return sum((-1 if each.hot else 1) * each.cp * within(each.span(), low, high) for each in streams)
 
 
 def targets_of(case):
     """The hot and the cold target, the pinches from the highest down, and the reference place."""
     ends = case.ends()
-    deficits = [deficit(case.streams, case.share, end) for end in ends]
+    deficits = [deficit(case.streams, end) for end in ends]
     hot = max(0, max(deficits))
-    cold = hot - deficit(case.streams, case.share, -FAR)
+    cold = hot - deficit(case.streams, -FAR)
     pinches = [end for end, each in zip(ends, deficits) if each == hot and ends[-1] < end < ends[0]]
     return hot, cold, pinches, next(end for end, each in zip(ends, deficits) if each == hot)
 
@@ -254,9 +279,9 @@ def curves_text(case):
     for word, hot in (('hot', True), ('cold', False)):
         streams = [each for each in case.streams if each.hot is hot]
         for place in sorted({end for each in streams for end in (each.supply, each.target)}):
-            lines.append('%s %d %d\n' % (word, sum(each.cp * within(each.span(0), -FAR, place) for each in streams), place))
+            lines.append('%s %d %d\n' % (word, sum(each.cp * within(each.actual(), -FAR, place) for each in streams), place))
     target = targets_of(case)[0]
-    return ''.join(lines + ['net %d %d\n' % (target - deficit(case.streams, case.share, end), end) for end in case.ends()])
+    return ''.join(lines + ['net %d %d\n' % (target - deficit(case.streams, end), end) for end in case.ends()])
 
 
 def profile_text(site):
@@ -266,8 +291,8 @@ def profile_text(site):
         sink = source = 0
         for plant in range(len(site.plants)):
             streams = [each for each in site.streams if each.plant == plant]
-            sink += max([0] + [deficit(streams, site.share, other) for other in places if other >= place])
-            source += max([0] + [-deficit(streams, site.share, other, False) for other in places if other <= place])
+            sink += max([0] + [deficit(streams, other) for other in places if other >= place])
+            source += max([0] + [-deficit(streams, other, False) for other in places if other <= place])
         lines.append('profile %d %d %d\n' % (place, sink, source))
     return ''.join(lines)
 
@@ -335,14 +360,14 @@ def network_of(data, case):
             continue
         at += 1
         word = fields[0]
-        if at > 100000:
+        if at > STATEMENTS:
             raise Refused(at, 'TooMany')
         if word not in counts:
             raise Refused(at, 'UnknownWord')
         if len(fields) != counts[word]:
             raise Refused(at, 'FieldCount')
         if word == b'exchanger':
-            if len(exchangers) >= 20000:
+            if len(exchangers) >= EXCHANGERS:
                 raise Refused(at, 'TooMany')
             if not NAME.match(fields[1]):
                 raise Refused(at, 'BadName')
@@ -410,7 +435,7 @@ def audit_text(case, statements):
 
 
 def accepted_text(case, statements):
-    share, ended = case.share, set()
+    ended = set()
     exchangers = [each for each in statements if each.word == 'exchanger']
     for each in statements:
         for name in ('source', 'first', 'second'):
@@ -428,10 +453,10 @@ def accepted_text(case, statements):
         steps = Steps(place)
         hot_in, hot_out = heats_of(each, True)
         cold_in, cold_out = heats_of(each, False)
-        wanted = steps.formed(cold_out + 2 * share)
+        wanted = steps.formed(cold_out + each.hot.share + each.cold.share)
         if hot_in < wanted:
             raise Rejected(place, 'HotEndApproach', hot_in, wanted)
-        wanted = steps.formed(cold_in + 2 * share)
+        wanted = steps.formed(cold_in + each.hot.share + each.cold.share)
         if hot_out < wanted:
             raise Rejected(place, 'ColdEndApproach', hot_out, wanted)
     sums = []
@@ -460,7 +485,7 @@ def accepted_text(case, statements):
         cost = steps.formed(cost + part)
     head = 'accepted\nhot %s\ncold %s\nexcess %s\ncost %s\nplace %d\n' % (hot, cold, excess, cost, place)
     try:
-        return head + penalty_text(statements, exchangers, share, place)
+        return head + penalty_text(statements, exchangers, place)
     except Fine as finding:
         return head + 'penalties too fine %s step %d\n' % (finding.place, finding.step)
 
@@ -503,11 +528,11 @@ def heats_of(exchanger, hot):
     return before.heat, behind.heat
 
 
-def penalty_text(statements, exchangers, share, place):
+def penalty_text(statements, exchangers, place):
     lines = []
 
     def height(steps, branch, first):
-        distance = steps.formed(branch.heat - (place + share if branch.stream.hot else place - share), first)
+        distance = steps.formed(branch.heat - (place + branch.stream.share if branch.stream.hot else place - branch.stream.share), first)
         return steps.formed(branch.cp * distance, first + 1) if distance > 0 else Fraction(0)
 
     for each in exchangers:
@@ -552,7 +577,7 @@ def is_command(words):
         first, last, step, workers = [int(word) for word in words[2:]]
         return first <= last <= 1000 and 1 <= step <= 1000 and 1 <= workers <= 16 and (last - first) // step + 1 <= 1000
     if form == 'sample' and len(words) == 3 and all(WHOLE.match(word) for word in words[1:]):
-        return 1 <= int(words[1]) <= 2147483646 and 1 <= int(words[2]) <= 12
+        return 1 <= int(words[1]) <= 2147483646 and 1 <= int(words[2]) <= SAMPLED
     return False
 
 
@@ -606,9 +631,10 @@ def wanted_of(command, files):
 
 def is_standard(case):
     """Whether the utilities of the completed case are just the two standard ones, and no match is forbidden."""
-    given = [(each.name, each.supply, each.least, each.most, each.price) for each in case.utilities]
+    def told(each):
+        return each.name, each.supply, each.least, each.most, each.price, each.share
+
     plain = Case()
     plain.share, plain.streams = case.share, case.streams
-    plain.completed()
-    standard = {each.name: (each.name, each.supply, each.least, each.most, each.price) for each in plain.utilities}
-    return not case.forbidden and all(standard.get(each[0]) == each for each in given)
+    standard = {each.name: told(each) for each in plain.completed().utilities}
+    return not case.forbidden and all(standard.get(each.name) == told(each) for each in case.utilities)
