@@ -65,11 +65,15 @@ const NUMBERS: [(&str, Option<i64>); 12] = [
 ];
 
 /// Rows behind the contribution and the stream H, and why they are refused.
-const FAULTY_ROWS: [(&str, CaseWhy); 20] = [
+const FAULTY_ROWS: [(&str, CaseWhy); 24] = [
     ("steam,S,1,2,3,4,", CaseWhy::UnknownKind),
     ("hot,K,900,400,10,", CaseWhy::FieldCount),
     ("hot,K,900,400,10,7,", CaseWhy::FieldCount),
-    ("hot,K,900,400,10,,7", CaseWhy::FieldCount),
+    ("hot,K,900,400,10,x,7", CaseWhy::FieldCount),
+    ("hot,K,900,400,10,,x", CaseWhy::BadNumber),
+    ("cold,K,400,900,10,,1001", CaseWhy::OutOfRange),
+    ("heater,S,1500,0,5,1,x", CaseWhy::BadNumber),
+    ("cooler,S,200,0,5,1,-1", CaseWhy::OutOfRange),
     ("hot,K,9x0,400,10,,", CaseWhy::BadNumber),
     ("hot,K,30001,400,10,,", CaseWhy::OutOfRange),
     ("hot,K L,900,400,10,,", CaseWhy::BadName),
@@ -166,10 +170,10 @@ fn numbered_rows(alloc: Global, kind: &str, rest: &str, rows: usize) -> Result<S
 
 #[test]
 fn rows_past_the_counts_are_refused(rt: HostRuntime) -> Result<(), Fail> {
-    let text = numbered_rows(rt.alloc(), "hot", "900,400,10,,", 13)?;
+    let text = numbered_rows(rt.alloc(), "hot", "900,400,10,,", 31)?;
+    assert_refused(&rt, text.as_bytes(), 31, CaseWhy::TooMany);
+    let text = numbered_rows(rt.alloc(), "cooler", "0,0,1,0,", 13)?;
     assert_refused(&rt, text.as_bytes(), 13, CaseWhy::TooMany);
-    let text = numbered_rows(rt.alloc(), "cooler", "0,0,1,0,", 7)?;
-    assert_refused(&rt, text.as_bytes(), 7, CaseWhy::TooMany);
     Ok(())
 }
 

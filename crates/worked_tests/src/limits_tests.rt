@@ -26,8 +26,8 @@ const LIMITS: [(&str, i128, i128); 34] = [
     ("heat-capacity flow", MOST_CP as i128, 100_000),
     ("heat of a utility", MOST_HEAT as i128, 1_000_000_000_000),
     ("price", MOST_PRICE as i128, 1_000_000),
-    ("streams of a side", MOST_STREAMS as i128, 12),
-    ("utilities", MOST_UTILITIES as i128, 6),
+    ("streams of a side", MOST_STREAMS as i128, 30),
+    ("utilities", MOST_UTILITIES as i128, 12),
     ("forbidden matches", MOST_FORBIDS as i128, 400),
     // of files
     ("bytes of a file", MAX_FILE as i128, 8_388_608),

@@ -1,4 +1,4 @@
-use super::support::{FOUR_STREAM, check_audit};
+use super::support::{FOUR_STREAM, OWN_CONTRIBUTION, check_audit};
 use std::test::Fail;
 
 /// A hot and a cold stream.
@@ -53,6 +53,14 @@ fn valid_networks_are_accepted(rt: HostRuntime) -> Result<(), Fail> {
              penalty exchanger E1 3000\npenalty exchanger E2 1000\n\
              penalty exchanger E3 0\npenalty exchanger E4 0\n",
         ),
+        // A hot stream with a contribution of its own.
+        (
+            OWN_CONTRIBUTION,
+            "exchanger E1 H C 1500\nexchanger Q2 HOT C 2500\nexchanger Q3 H COLD 2500\n\
+             pass H E1 a\npass a Q3 b\nend b\npass C E1 d\npass d Q2 e\nend e\n",
+            "accepted\nhot 2500\ncold 2500\nexcess 0\ncost 2500\nplace 500\n\
+             penalty exchanger E1 0\npenalty exchanger Q2 0\npenalty exchanger Q3 0\n",
+        ),
     ];
     for (case, network, text) in rows {
         check_audit(&rt, case, network, 0, text)?;
@@ -61,15 +69,29 @@ fn valid_networks_are_accepted(rt: HostRuntime) -> Result<(), Fail> {
 }
 
 #[test]
-fn an_approach_is_missed_by_a_third_of_a_tenth(rt: HostRuntime) -> Result<(), Fail> {
-    let network = "exchanger E1 H2 C3 240000\nexchanger E2 H4 C1 90050\nexchanger E3 H2 C1 90000\n\
-                   exchanger E4 H4 C1 30000\nexchanger Q1 HOT C1 19950\nexchanger Q2 H4 COLD 59950\n\
-                   pass H2 E1 h2a\npass h2a E3 h2b\nend h2b\n\
-                   pass H4 E2 h4a\npass h4a E4 h4b\npass h4b Q2 h4c\nend h4c\n\
-                   pass C1 E4 c1a\npass c1a E3 c1b\npass c1b E2 c1c\npass c1c Q1 c1d\nend c1d\n\
-                   pass C3 E1 c3a\nend c3a\n";
-    let text = "rejected exchanger E2 ColdEndApproach found 2699/3 wanted 900\n";
-    check_audit(&rt, FOUR_STREAM, network, 1, text)
+fn an_approach_is_missed_by_a_tenth_or_less(rt: HostRuntime) -> Result<(), Fail> {
+    let rows = [
+        (
+            FOUR_STREAM,
+            "exchanger E1 H2 C3 240000\nexchanger E2 H4 C1 90050\nexchanger E3 H2 C1 90000\n\
+             exchanger E4 H4 C1 30000\nexchanger Q1 HOT C1 19950\nexchanger Q2 H4 COLD 59950\n\
+             pass H2 E1 h2a\npass h2a E3 h2b\nend h2b\n\
+             pass H4 E2 h4a\npass h4a E4 h4b\npass h4b Q2 h4c\nend h4c\n\
+             pass C1 E4 c1a\npass c1a E3 c1b\npass c1b E2 c1c\npass c1c Q1 c1d\nend c1d\n\
+             pass C3 E1 c3a\nend c3a\n",
+            "rejected exchanger E2 ColdEndApproach found 2699/3 wanted 900\n",
+        ),
+        (
+            OWN_CONTRIBUTION,
+            "exchanger E1 H C 1510\nexchanger Q2 HOT C 2490\nexchanger Q3 H COLD 2490\n\
+             pass H E1 a\npass a Q3 b\nend b\npass C E1 d\npass d Q2 e\nend e\n",
+            "rejected exchanger E1 HotEndApproach found 600 wanted 601\n",
+        ),
+    ];
+    for (case, network, text) in rows {
+        check_audit(&rt, case, network, 1, text)?;
+    }
+    Ok(())
 }
 
 #[test]

@@ -1,4 +1,4 @@
-use super::support::{FOUR_STREAM, check_answer};
+use super::support::{FOUR_STREAM, OWN_CONTRIBUTION, check_answer};
 use std::test::Fail;
 
 #[test]
@@ -14,6 +14,11 @@ fn curves_of_worked_tables(rt: HostRuntime) -> Result<(), Fail> {
         (
             "contribution,,50,,,,\nhot,H,1000,500,10,,\n",
             "hot 0 500\nhot 5000 1000\nnet 0 950\nnet 5000 450\n",
+        ),
+        (
+            OWN_CONTRIBUTION,
+            "hot 0 400\nhot 4000 600\ncold 0 300\ncold 4000 700\n\
+             net 2500 750\nnet 0 500\nnet 1500 350\nnet 2500 300\n",
         ),
     ];
     for (case, text) in rows {

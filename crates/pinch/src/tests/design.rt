@@ -1,4 +1,4 @@
-use super::support::{FOUR_STREAM, check_answer, check_audit};
+use super::support::{FOUR_STREAM, OWN_CONTRIBUTION, check_answer, check_audit};
 use std::test::Fail;
 
 /// The design of the four-stream table.
@@ -105,11 +105,23 @@ pass .3 E1 .4
 end .4
 ";
 
+/// A hot stream, a heater that has to give, and a cooler that takes the heat of both.
+const OWN_UTILITIES: &str = "contribution,,50,,,,\nhot,H,1000,500,10,,\n\
+     heater,S,450,100,1000,2,\ncooler,W,350,0,1000000000000,0,\n";
+
+const OWN_UTILITIES_DESIGN: &str = "# hot 100 cold 5100 excess 100 cost 200
+exchanger E1 H W 5000
+exchanger E2 S W 100
+pass H E1 .1
+end .1
+";
+
 #[test]
 fn designs_of_worked_tables(rt: HostRuntime) -> Result<(), Fail> {
     let rows = [
         (FOUR_STREAM, FOUR_STREAM_DESIGN),
         (APART, APART_DESIGN),
+        (OWN_UTILITIES, OWN_UTILITIES_DESIGN),
         // Hot streams only.
         (
             "contribution,,50,,,,\nhot,H,1000,500,10,,\n",
@@ -125,6 +137,13 @@ fn designs_of_worked_tables(rt: HostRuntime) -> Result<(), Fail> {
             "contribution,,50,,,,\nhot,H,400,300,10,,\ncold,C,600,700,10,,\n",
             "# hot 1000 cold 1000 excess 0 cost 1000\nexchanger E1 HOT C 1000\n\
              exchanger E2 H COLD 1000\npass H E2 .1\nend .1\npass C E1 .2\nend .2\n",
+        ),
+        (
+            OWN_CONTRIBUTION,
+            "# hot 2500 cold 2500 excess 0 cost 2500\nexchanger E1 HOT C 2500\n\
+             exchanger E2 H C 1500\nexchanger E3 H COLD 1500\nexchanger E4 H COLD 1000\n\
+             split H .1 10 .2\npass .1 E2 .3\npass .2 E3 .4\nmix .3 .4 .5\n\
+             pass .5 E4 .6\nend .6\npass C E2 .7\npass .7 E1 .8\nend .8\n",
         ),
     ];
     for (case, text) in rows {
@@ -152,6 +171,13 @@ fn designs_are_accepted(rt: HostRuntime) -> Result<(), Fail> {
             "accepted\nhot 4000\ncold 5000\nexcess 4000\ncost 4000\nplace 950\n\
              penalty exchanger E1 3000\npenalty exchanger E2 1000\npenalty exchanger E3 0\n\
              penalty exchanger E4 0\n",
+        ),
+        // The heat of the heater is lost: the streams need none.
+        (
+            OWN_UTILITIES,
+            OWN_UTILITIES_DESIGN,
+            "accepted\nhot 100\ncold 5100\nexcess 100\ncost 200\nplace 950\n\
+             penalty exchanger E1 0\npenalty exchanger E2 100\n",
         ),
     ];
     for (case, network, text) in rows {

@@ -1,5 +1,6 @@
-use super::support::{FOUR_STREAM, FOUR_STREAM_TARGETS, Fails, Outcome, outcome_of, outcome_under};
-use std::alloc::AllocError;
+use super::support::{
+    FOUR_STREAM, FOUR_STREAM_TARGETS, Fails, audit_under, outcome_of, outcome_under,
+};
 use std::process::Abort;
 use std::test::Fail;
 use std::thread::Threads;
@@ -50,22 +51,6 @@ fn a_file_above_the_limit_is_too_long(rt: HostRuntime) -> Result<(), Fail> {
     Ok(())
 }
 
-/// How an audit of these files ends, where calls of the shelf with these numbers fail.
-fn outcome_of_two<R: Threads + Sync + AllocGlobal>(
-    rt: &R,
-    case: &str,
-    network: &[u8],
-    shelf: &[u64],
-) -> Result<Outcome, AllocError> {
-    let words = ["audit", "plant.csv", "network.txt"];
-    let files = [("plant.csv", case.as_bytes()), ("network.txt", network)];
-    let fails = Fails {
-        shelf,
-        sink: &shelf[..0],
-    };
-    outcome_under(rt, &words, &files, fails)
-}
-
 /// A command of two files, of which the second has so many bytes of `#`, ends so, over calls of the
 /// shelf with these numbers that fail; each file is started, taken, and taken to its end.
 fn check_two_files<R: Abort + Threads + Sync + AllocGlobal>(
@@ -74,7 +59,11 @@ fn check_two_files<R: Abort + Threads + Sync + AllocGlobal>(
     (calls, status, text): (u64, u8, &str),
 ) -> Result<(), Fail> {
     let network = vec![in rt.alloc(); b'#'; count]?;
-    let outcome = outcome_of_two(rt, case, &network, shelf)?;
+    let fails = Fails {
+        shelf,
+        sink: &shelf[..0],
+    };
+    let outcome = audit_under(rt, case, &network, fails)?;
     assert_eq!(rt; outcome.status, status, "{count}, {shelf:?}");
     assert_eq!(rt;
         outcome.written.as_slice(),

@@ -1,4 +1,4 @@
-use super::support::{FOUR_STREAM, check_answer};
+use super::support::{FOUR_STREAM, OWN_CONTRIBUTION, check_answer};
 use std::test::Fail;
 
 const FOUR_STREAM_FLOW: &str = "cost 20000
@@ -62,6 +62,13 @@ fn flows_of_worked_tables(rt: HostRuntime) -> Result<(), Fail> {
              cooler,COLD,400,0,1000000000000,0,\nheater,HOT,1000,0,1000000000000,1,\n",
             "cost 0\nuse COLD 5000\nuse HOT 0\nmove H 950 450 COLD 450 450 5000\n\
              give HOT 950 950 0\ngive H 950 450 0\ntake COLD 450 450 0\n",
+        ),
+        (
+            OWN_CONTRIBUTION,
+            "cost 2500\nuse HOT 2500\nuse COLD 2500\nmove HOT 750 750 C 750 500 2500\n\
+             move H 500 350 C 500 350 1500\nmove H 500 350 COLD 300 300 1500\n\
+             move H 350 300 COLD 300 300 1000\ngive HOT 750 750 1\ngive H 500 350 0\n\
+             give H 350 300 0\ntake C 750 500 1\ntake C 500 350 0\ntake COLD 300 300 0\n",
         ),
     ];
     for (case, text) in rows {

@@ -1,20 +1,28 @@
-use super::support::{FOUR_STREAM, FOUR_STREAM_TARGETS, answer_of, check_answer};
+use super::support::{
+    FOUR_STREAM, FOUR_STREAM_TARGETS, NONE, answer_of, audit_under, check_answer,
+};
 use std::alloc::{AllocError, Global};
 use std::test::Fail;
 
 /// The most utilities of a file.
-const UTILITIES: &str = "heater,Furnace,30000,0,1000000000000,3,
-heater,Oil,25000,0,1000000000000,2,
-heater,Steam,20000,0,1000000000000,1,
+const UTILITIES: &str = "heater,Furnace,30000,0,1000000000000,6,
+heater,Flue,28000,0,1000000000000,5,
+heater,Oil,25000,0,1000000000000,4,
+heater,Vapour,23000,0,1000000000000,3,
+heater,Steam,20000,0,1000000000000,2,
+heater,Water,18000,0,1000000000000,1,
 cooler,Brine,-2731,0,1000000000000,0,
-cooler,River,1000,0,1000000000000,-1,
-cooler,Tower,2000,0,1000000000000,-2,
+cooler,Sea,500,0,1000000000000,-1,
+cooler,River,1000,0,1000000000000,-2,
+cooler,Pond,1500,0,1000000000000,-3,
+cooler,Tower,2000,0,1000000000000,-4,
+cooler,Air,2500,0,1000000000000,-5,
 ";
 
 /// So many hot streams and so many cold ones as a file may have, no two of which share an end.
 fn largest_case(alloc: Global, more: &str) -> Result<String, AllocError> {
     let mut case = String::from_str(alloc, "contribution,,50,,,,\n")?;
-    for k in 0..12u32 {
+    for k in 0..30u32 {
         let supply = 30_000 - 100 * k;
         let target = 5 + 100 * k;
         let cp = 100_000 - 7 * k;
@@ -36,27 +44,33 @@ fn line_count(text: &[u8]) -> usize {
 #[test]
 fn the_largest_case_is_answered(rt: HostRuntime) -> Result<(), Fail> {
     let alloc = rt.alloc();
-    let targets = "hot 270000\ncold 3565044990\npinch 29950\n";
+    let targets = "hot 270000\ncold 8292669525\npinch 29950\n";
     let rows = [
         ("targets", UTILITIES, 3, targets),
         ("targets", "", 3, targets),
-        // 24 points of the hot curve and of the cold one, and 48 of the grand one.
-        ("curves", UTILITIES, 96, "hot 0 5\nhot 10000000 105\n"),
-        ("curves", "", 96, "hot 0 5\nhot 10000000 105\n"),
-        // 576 transfers, and 289 parts of each side.
+        // 60 points of the hot curve and of the cold one, and 120 of the grand one.
+        ("curves", UTILITIES, 240, "hot 0 5\nhot 10000000 105\n"),
+        ("curves", "", 240, "hot 0 5\nhot 10000000 105\n"),
+        // 3600 transfers, 1830 hot parts and 1772 cold ones.
         (
             "flow",
             "",
-            1157,
-            "cost 270000\nuse HOT 270000\nuse COLD 3565044990\n\
+            7205,
+            "cost 270000\nuse HOT 270000\nuse COLD 8292669525\n\
              move HOT 29953 29953 C0 29953 29950 270000\n",
         ),
-        // 542 exchangers.
+        (
+            "design",
+            "",
+            15_265,
+            "# hot 270000 cold 8292669525 excess 0 cost 270000\nexchanger E1 HOT C0 270000\n",
+        ),
+        // 3512 exchangers.
         (
             "vertical",
             "",
-            2430,
-            "# hot 270000 cold 3565044990 excess 0 cost 270000\nexchanger E1 HOT C0 270000\n",
+            16_047,
+            "# hot 270000 cold 8292669525 excess 0 cost 270000\nexchanger E1 HOT C0 270000\n",
         ),
     ];
     for (command, more, lines, front) in rows {
@@ -71,18 +85,33 @@ fn the_largest_case_is_answered(rt: HostRuntime) -> Result<(), Fail> {
 }
 
 #[test]
+fn the_largest_vertical_design_is_accepted(rt: HostRuntime) -> Result<(), Fail> {
+    let case = largest_case(rt.alloc(), "")?;
+    let design = answer_of(&rt, "vertical", case.as_str())?;
+    let audit = audit_under(&rt, case.as_str(), &design.written, NONE)?;
+    let front = "accepted\nhot 270000\ncold 8292669525\nexcess 0\ncost 270000\nplace 29950\n";
+    assert_eq!(rt; audit.status, 0);
+    assert!(rt; audit.written.starts_with(front.as_bytes()));
+    Ok(())
+}
+
+#[test]
 fn one_stream_or_utility_more_is_too_many(rt: HostRuntime) -> Result<(), Fail> {
     let alloc = rt.alloc();
+    let utility = format!(in alloc; "{UTILITIES}cooler,Lake,0,0,1,0,\n")?;
     let rows = [
-        ("hot,K,1000,500,10,,\n", "case row 26 TooMany\n"),
-        ("cold,K,500,1000,10,,\n", "case row 26 TooMany\n"),
+        ("hot,K,1000,500,10,,\n", "case row 62 TooMany\n"),
+        ("cold,K,500,1000,10,,\n", "case row 62 TooMany\n"),
+        (utility.as_str(), "case row 74 TooMany\n"),
     ];
     for (more, text) in rows {
         let case = largest_case(alloc, more)?;
         check_answer(&rt, "targets", case.as_str(), 3, text)?;
     }
-    let more = format!(in alloc; "{UTILITIES}cooler,Lake,0,0,1,0,\n")?;
-    let case = largest_case(alloc, more.as_str())?;
+    let mut case = String::from_str(alloc, "contribution,,50,,,,\nhot,H,1000,500,10,,\n")?;
+    for k in 1..=30u32 {
+        case.push_str(&format!(in alloc; "hot,K{k},900,400,10,,\n")?)?;
+    }
     check_answer(&rt, "targets", case.as_str(), 3, "case row 32 TooMany\n")
 }
 

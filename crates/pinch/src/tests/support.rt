@@ -17,11 +17,18 @@ cold,C3,800,1400,400,,
 hot,H4,1500,300,150,,
 ";
 
+/// A hot stream with a contribution of its own, and a cold one with that of the case.
+pub const OWN_CONTRIBUTION: &str =
+    "contribution,,50,,,,\nhot,H,600,400,20,,100\ncold,C,300,700,10,,\n";
+
 pub const FOUR_STREAM_TARGETS: &str = "hot 20000\ncold 60000\npinch 850\n";
 
 /// What is printed where the words are no command.
 pub const WORDS: &str =
     "words: targets flow curves design vertical audit site sweep sample certify prices\n";
+
+/// The room of a sink, in bytes: more than the text of any test.
+const ROOM: usize = 1_000_000;
 
 /// How the program ended.
 #[derive(Drop)]
@@ -39,6 +46,12 @@ pub struct Fails<'a> {
     pub shelf: &'a [u64],
     pub sink: &'a [u64],
 }
+
+/// No call fails.
+pub const NONE: Fails<'static> = Fails {
+    shelf: &[],
+    sink: &[],
+};
 
 fn words_of(alloc: Global, texts: &[&str]) -> Result<Items<Word>, AllocError> {
     let mut words = Items::new(alloc);
@@ -66,7 +79,7 @@ pub fn shelf_of(
 
 /// A sink that takes five bytes at a time, of which the writes with these numbers fail.
 pub fn sink_of(alloc: Global, fails: &[u64]) -> Result<MemorySink, AllocError> {
-    MemorySink::new(alloc, 100_000, 5, fails.to_vec(alloc)?)
+    MemorySink::new(alloc, ROOM, 5, fails.to_vec(alloc)?)
 }
 
 /// The status with which the program ends. This one call says nothing of what it answers, so that
@@ -137,11 +150,7 @@ pub fn outcome_of<R: Threads + Sync + AllocGlobal>(
     words: &[&str],
     files: &[(&str, &[u8])],
 ) -> Result<Outcome, AllocError> {
-    let none = Fails {
-        shelf: &[],
-        sink: &[],
-    };
-    outcome_under(rt, words, files, none)
+    outcome_under(rt, words, files, NONE)
 }
 
 /// How a command of one case file ends.
@@ -172,6 +181,18 @@ pub fn check_answer<R: Abort + Threads + Sync + AllocGlobal>(
     Ok(())
 }
 
+/// How an audit of these files ends, where some calls fail.
+pub fn audit_under<R: Threads + Sync + AllocGlobal>(
+    rt: &R,
+    case: &str,
+    network: &[u8],
+    fails: Fails<'_>,
+) -> Result<Outcome, AllocError> {
+    let words = ["audit", "plant.csv", "network.txt"];
+    let files = [("plant.csv", case.as_bytes()), ("network.txt", network)];
+    outcome_under(rt, &words, &files, fails)
+}
+
 /// The audit of a network for a case ends with this status and this text.
 pub fn check_audit<R: Abort + Threads + Sync + AllocGlobal>(
     rt: &R,
@@ -180,12 +201,7 @@ pub fn check_audit<R: Abort + Threads + Sync + AllocGlobal>(
     status: u8,
     text: &str,
 ) -> Result<(), Fail> {
-    let words = ["audit", "plant.csv", "network.txt"];
-    let files = [
-        ("plant.csv", case.as_bytes()),
-        ("network.txt", network.as_bytes()),
-    ];
-    let outcome = outcome_of(rt, &words, &files)?;
+    let outcome = audit_under(rt, case, network.as_bytes(), NONE)?;
     assert_eq!(rt; outcome.status, status, "audit of {network} for {case}");
     assert_eq!(rt;
         outcome.written.as_slice(),

@@ -1,7 +1,7 @@
 //! Sweeps of cases that were worked by hand, by one worker and by several.
 
 use super::meeting_gate::MeetingGate;
-use super::support::{FOUR_STREAM, WORDS, outcome_by, outcome_of};
+use super::support::{FOUR_STREAM, OWN_CONTRIBUTION, WORDS, outcome_by, outcome_of};
 use std::process::Abort;
 use std::test::Fail;
 use std::thread::Threads;
@@ -67,18 +67,30 @@ fn a_sweep_has_the_rows_of_its_plan(rt: HostRuntime) -> Result<(), Fail> {
     let rows = [
         // The step does not divide: the last row is below the end.
         (
+            FOUR_STREAM,
             ("40", "69", "10", "4"),
             "row 40 11000 51000 11000\nrow 50 20000 60000 20000\nrow 60 29000 69000 29000\n",
         ),
         // One row, and more workers than rows.
-        (("50", "50", "1", "16"), "row 50 20000 60000 20000\n"),
         (
+            FOUR_STREAM,
+            ("50", "50", "1", "16"),
+            "row 50 20000 60000 20000\n",
+        ),
+        (
+            FOUR_STREAM,
             ("0", "1000", "1000", "2"),
             "row 0 0 40000 0\nrow 1000 470000 510000 470000\n",
         ),
+        // A row has one contribution for all sources.
+        (
+            OWN_CONTRIBUTION,
+            ("50", "100", "50", "2"),
+            "row 50 2000 2000 2000\nrow 100 3000 3000 3000\n",
+        ),
     ];
-    for (numbers, text) in rows {
-        check_sweep(&rt, FOUR_STREAM, numbers, 0, text)?;
+    for (case, numbers, text) in rows {
+        check_sweep(&rt, case, numbers, 0, text)?;
     }
     Ok(())
 }

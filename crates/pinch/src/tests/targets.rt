@@ -28,6 +28,15 @@ fn targets_of_worked_tables(rt: HostRuntime) -> Result<(), Fail> {
              cold,Feed-2,1400,2300,30000,,\nhot,Product-2,2000,800,25000,,\n",
             "hot 7500000\ncold 10000000\npinch 1450\n",
         ),
+        // A hot stream with a contribution of its own, and those of the case, given last.
+        (
+            "hot,H,600,400,20,,100\ncold,C,300,700,10,,\ncontribution,,50,,,,\n",
+            "hot 2500\ncold 2500\npinch 500\n",
+        ),
+        (
+            "contribution,,50,,,,\nhot,H,1000,500,10,,\nhot,K,900,400,10,,7\n",
+            "hot 0\ncold 10000\npinch none\n",
+        ),
     ];
     for (case, text) in rows {
         check_answer(&rt, "targets", case, 0, text)?;

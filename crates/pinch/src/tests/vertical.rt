@@ -1,4 +1,4 @@
-use super::support::{FOUR_STREAM, check_answer, check_audit};
+use super::support::{FOUR_STREAM, OWN_CONTRIBUTION, check_answer, check_audit};
 use std::test::Fail;
 
 /// The vertical design of the four-stream table.
@@ -161,6 +161,14 @@ fn vertical_designs_are_drawn_and_accepted(rt: HostRuntime) -> Result<(), Fail> 
             "accepted\nhot 0\ncold 0\nexcess 0\ncost 0\nplace 950\n\
              penalty exchanger E1 0\npenalty exchanger E2 0\n",
         ),
+        (
+            OWN_CONTRIBUTION,
+            "# hot 2500 cold 2500 excess 0 cost 2500\nexchanger E1 HOT C 2500\n\
+             exchanger E2 H C 1500\nexchanger E3 H COLD 2500\npass H E2 .1\npass .1 E3 .2\n\
+             end .2\npass C E2 .3\npass .3 E1 .4\nend .4\n",
+            "accepted\nhot 2500\ncold 2500\nexcess 0\ncost 2500\nplace 500\n\
+             penalty exchanger E1 0\npenalty exchanger E2 0\npenalty exchanger E3 0\n",
+        ),
     ];
     for (case, network, audit) in rows {
         check_answer(&rt, "vertical", case, 0, network)?;
@@ -176,6 +184,8 @@ fn cases_that_are_not_standard_are_refused(rt: HostRuntime) -> Result<(), Fail> 
         "contribution,,50,,,,\nhot,H,1000,500,10,,\ncold,C,300,700,10,,\nforbid,H,C,,,,\n",
         // A heater at another price than that of `HOT`.
         "contribution,,50,,,,\ncold,C,300,700,10,,\nheater,HOT,800,0,1000000000000,2,\n",
+        // `HOT` as it is added, but for its contribution.
+        "contribution,,50,,,,\ncold,C,300,700,10,,\nheater,HOT,800,0,1000000000000,1,51\n",
     ];
     for case in rows {
         check_answer(&rt, "vertical", case, 3, "case not standard\n")?;
