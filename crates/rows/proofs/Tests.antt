@@ -22,6 +22,7 @@ pub within-passes : (low high n : ℤ) → IsBetween low high n → is_within lo
 within-passes low high n = (Decides-is_within low high n).1
 
 pub Decides-is_own_contribution : (o : Option ℤ) → Decides (is_own_contribution o) (IfSome o IsContribution)
+unfolding is_own_contribution
 Decides-is_own_contribution None = (λ e. tt, λ h. refl)
 Decides-is_own_contribution (Some c) = Decides-is_within (pos 0) MOST_CONTRIBUTION c
 

@@ -25,7 +25,7 @@ abbrev pub is_contribution : ℤ → Bool
 is_contribution n = is_within (pos 0) MOST_CONTRIBUTION n
 
 -- that of a source, which may give none
-abbrev pub is_own_contribution : Option ℤ → Bool
+unfoldable pub is_own_contribution : Option ℤ → Bool
 is_own_contribution None = true
 is_own_contribution (Some n) = is_contribution n
 

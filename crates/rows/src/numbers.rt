@@ -56,6 +56,7 @@ pub fn contribution<Cause: Drop>(n: i64, outside: Cause) -> Result<i32, Cause>
 
 /// The contribution that a source gives, in tenths of °C, or the cause for one outside the limits;
 /// it may give none.
+#[tactic(auto, unfolding(crate::specs::Numbers::is_own_contribution))]
 pub fn own_contribution<Cause: Drop>(n: Option<i64>, outside: Cause) -> Result<Option<i32>, Cause>
     ensures { Checked ((is_own_contribution n, outside) ∷ []) (λ c. c ≡ n) result }
 {
