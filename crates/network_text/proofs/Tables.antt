@@ -20,7 +20,7 @@ use Rattle.stream_case.proofs.DistinctLemmas.{AllPairs-across}
 use Rattle.stream_case.proofs.ListLemmas.{none_there}
 use Rattle.networks.specs.declared.few.AtMostTwo.TheVariants as few
 use Rattle.statements.proofs.Positions.{is_some-position}
-use Rattle.networks.proofs.Lists.{AllPairs-map}
+use Rattle.sums.proofs.OrderLemmas.{AllPairs-map}
 use Rattle.networks.proofs.LineLaws.{exchangers_of-push, passages_of-front, passages_of-push, used_by-push}
 use Rattle.network_text.proofs.NameTests.{branch_name-passes}
 

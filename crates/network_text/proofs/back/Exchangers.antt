@@ -14,7 +14,7 @@ use Rattle.stream_case.proofs.ListLemmas.{slice_get-append}
 use Rattle.networks.specs.declared.network.Line.TheVariants as line
 use Rattle.networks.proofs.Counts.{none_counted}
 use Rattle.networks.proofs.LineLaws.{passages_of-front}
-use Rattle.networks.proofs.Lists.{AllPairs-map}
+use Rattle.sums.proofs.OrderLemmas.{AllPairs-map}
 use Rattle.networks.proofs.OfShape.{IsLineOf, declared_parts, exchanger_at as declared_at, made_no_more, own_exchanger, passed_parts, stream_at-take, used_before}
 use Rattle.network_text.proofs.print.Names.{found_in_front, many_exchangers, none_in_front}
 use Rattle.network_text.proofs.back.Branches.{IsReadable}

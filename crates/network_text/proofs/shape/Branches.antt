@@ -12,7 +12,9 @@ use Rattle.stream_case.proofs.CompleteLemmas.{StaysValid}
 use Rattle.stream_case.proofs.DistinctLemmas.{AllPairs-front}
 use Rattle.networks.specs.declared.network.Line.TheVariants as line
 use Rattle.networks.proofs.LineLaws.{made_by-push, names_of-append, stream_at-front, used_by-push}
-use Rattle.networks.proofs.Lists.{All-front, range_with_len-append, slice_get_push}
+use Rattle.sums.proofs.EnumerationLemmas.{range_with_len-append}
+use Rattle.sums.proofs.ListLemmas.{slice_get_push}
+use Rattle.networks.proofs.Lists.{All-front}
 use Rattle.networks.proofs.OfShape.{all_made, made_there, many_own, stream_at-get_or, streams_first, used_there}
 use Rattle.network_text.proofs.shape.Adding.{Adds, HasShapeSoFar}
 

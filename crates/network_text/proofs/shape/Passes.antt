@@ -11,7 +11,8 @@ use Rattle.network_text.proofs.Words.{ArePassedWhenDeclared, Branch, Case, Entry
 use Rattle.networks.specs.declared.network.Line.TheVariants as line
 use Rattle.networks.proofs.Counts.{uncounted}
 use Rattle.networks.proofs.LineLaws.{passage_of-front, passages_of-front, passages_of-push, stream_at-front}
-use Rattle.networks.proofs.Lists.{all_at, slice_get_push}
+use Rattle.sums.proofs.ListLemmas.{slice_get_push}
+use Rattle.networks.proofs.Lists.{all_at}
 use Rattle.networks.proofs.OfShape.{used_there, used_within}
 use Rattle.network_text.proofs.shape.Adding.{Adds, HasShapeSoFar}
 
