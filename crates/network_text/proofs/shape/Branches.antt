@@ -103,11 +103,8 @@ module _ {case : Case} {given : Network} (shape : HasShapeSoFar case given) {e :
   pub made_in_order : AreMadeInOrder case (with_entry given e)
   unfolding with_entry
   made_in_order =
-      let n = length case.streams in
-      let new = branches_in given e in
-      let are = shape.made_once in
-      let some = streams_first are in
-      let count = length given.branches - n in
+      let n = length case.streams in let new = branches_in given e in let are = shape.made_once in
+      let some = streams_first are in let count = length given.branches - n in
       let next : length given.branches ≡ n + count = omega (arith, some) in
       let all : count + length (members e.names) ≡ length (given.branches ++ new) - n = omega
       (arith, some, length-append given.branches new, many_made given e) in
