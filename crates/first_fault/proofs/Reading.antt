@@ -1,6 +1,5 @@
 -- Reading items one after the other, as a loop does.
-use Rattle.std.proofs.Common.{◌≡◌, ◌∙◌, ℕ, ◌+◌, ◌∷◌, ◌++◌, List, [], length, Some, None, inl, inr, refl, sym, ap, append_assoc, length-append}
-use Rattle.std.proofs.lemmas.List.{append-nil}
+use Rattle.std.proofs.Common.{◌≡◌, ◌∙◌, ℕ, ◌+◌, ◌∷◌, ◌++◌, List, [], length, Some, None, inl, inr, refl, sym, ap, append_assoc, length-append, append-nil}
 use Rattle.first_fault.specs.Checks.{first_failing}
 use Rattle.first_fault.specs.Outcome.{Grammar, IsFault, IsValue}
 use Rattle.first_fault.proofs.Steps.{Give, fault_at-front, fault_at-seam, nothing_gives, one_more_gives}

@@ -1,7 +1,5 @@
 -- The laws of the order.
-use Rattle.std.proofs.Common.{◌≡◌, ◌≢◌, ◌∙◌, ◌*◌, ◌<◌, ◌⊎◌, ⊎_elim, inl, inr, ◌+ℤ◌, ◌-ℤ◌, ◌*ℤ◌, ◌<ℤ◌, ◌≤ℤ◌, ◌↔◌, ℕ, ℤ, pos, Bool, true, false, not, int_lt, refl, sym, ap, subst, arith}
-use Rattle.std.specs.Bool.{Decides, MatchBool}
-use Rattle.std.specs.Ordering.{int_cmp, is_le, is_lt}
+use Rattle.std.proofs.Common.{◌≡◌, ◌≢◌, ◌∙◌, ◌*◌, ◌<◌, ◌⊎◌, ⊎_elim, inl, inr, ◌+ℤ◌, ◌-ℤ◌, ◌*ℤ◌, ◌<ℤ◌, ◌≤ℤ◌, ◌↔◌, ℕ, ℤ, pos, Bool, true, false, not, int_lt, refl, sym, ap, subst, arith, Decides, MatchBool, int_cmp, is_le, is_lt}
 use Rattle.std.specs.Int.Signed.{≤ℤ_refl, clash_ℤ}
 use Rattle.std.proofs.lemmas.Bool.Decides.{Decides-like, Decides-not, same_from_decides}
 use Rattle.std.proofs.lemmas.Int.{by_lt_z, ints}

@@ -53,8 +53,7 @@ pub record IsReduced (n : ℤ) (d g : ℕ) : Type 0 where
 
 pub reduced_by : (n : ℤ) (d g : ℕ) → 0 < d → IsGcd (unsigned_abs n) d g → IsReduced n d g
 reduced_by n d g some is =
-    let negative = int_lt n (pos 0) in
-    let parts = divided (unsigned_abs n) d g some is in
+    let negative = int_lt n (pos 0) in let parts = divided (unsigned_abs n) d g some is in
     record {
       terms = record { positive = parts.positive; lowest = parts.lowest };
       same =
@@ -95,8 +94,7 @@ above_zero negative (suc a) b some = omega arith
 pub turned_over : (negative : Bool) (a b : ℕ) → IsInLowestTerms a b → ratio (signed negative a) b ≢ rational_zero → IsTurned negative a b
 unfolding reciprocal
 turned_over negative a b is some =
-    let above = above_zero negative a b some in
-    let x = ratio (signed negative a) b in
+    let above = above_zero negative a b some in let x = ratio (signed negative a) b in
     let sign : int_lt x.num (pos 0) ≡ negative = ap (λ z. int_lt z (pos 0)) (terms-num negative a b is) ∙ sign-above negative a above in
     record {
       terms = record { positive = above; lowest = λ k kb ka. is.lowest k ka kb };

@@ -1,9 +1,7 @@
 -- Rationals within the limits, and what a call gives.
-use Rattle.std.proofs.Common.{◌≡◌, ◌^◌, ◌<◌, ◌≤◌, ℕ, ℤ, pos, negsuc, unsigned_abs, SFits, true, false, Option, None, Some, if◌then◌else◌, ap, refl, arith}
-use Rattle.std.specs.Bool.{Decides}
+use Rattle.std.proofs.Common.{◌≡◌, ◌^◌, ◌<◌, ◌≤◌, ℕ, ℤ, pos, negsuc, unsigned_abs, SFits, true, false, Option, None, Some, if◌then◌else◌, ap, refl, arith, Decides, w64}
 use Rattle.std.proofs.lemmas.Bool.Decides.{nat_tests}
 use Rattle.std.proofs.lemmas.Bool.{false_from_ne_true}
-use Rattle.std.specs.Int.{w64}
 use Rattle.fractions.specs.LowestForms.{ratio-den_le, ratio-num_le}
 use Rattle.fractions.specs.Rationals.{Gives, IsWithinLimits, Rational, is_within_limits, ratio, whole}
 

@@ -55,9 +55,7 @@ square_of_sign true a b = signed-*ℤ-signed true true a b
 pub times-reciprocal : (a : Rational) → a ≢ rational_zero → times a (reciprocal a) ≡ rational_one
 unfolding reciprocal
 times-reciprocal a some =
-    let negative = int_lt a.num (pos 0) in
-    let size = unsigned_abs a.num in
-    let above = size-positive a some in
+    let negative = int_lt a.num (pos 0) in let size = unsigned_abs a.num in let above = size-positive a some in
     let product : a.num *ℤ signed negative a.den ≡ pos (size * a.den) = ap (λ z. z *ℤ signed negative a.den) (sym (signed-sign a.num)) ∙ square_of_sign negative size a.den in
     ap (λ x. times x (reciprocal a)) (sym (ratio-self a)) ∙ times-ratio a.num (signed negative a.den) a.den size a.positive above ∙ ap (λ z. ratio z (a.den * size)) product
     ∙ ratio-same (pos (size * a.den)) (pos 1) (a.den * size) 1 (mul-pos a.positive above) (omega arith) (ap pos (omega arith)) ∙ ratio-one (pos 1)

@@ -1,9 +1,8 @@
 -- Sums of rationals over lists.
-use Rattle.std.proofs.Common.{◌≡◌, ◌≢◌, ◌∙◌, ◌⊎◌, inl, inr, ◌+◌, ◌<◌, ◌≤◌, ◌+ℤ◌, ℕ, ℤ, zero, suc, pos, Bool, true, false, cond, Some, List, [], ◌∷◌, ◌++◌, length, get_or, map, refl, sym, ap, ap₂, arith}
-use Rattle.std.specs.Prelude.{All, AllPairs, Contains, count_by, slice_get, if◌then◌else◌, ◌==◌, ◌||◌}
-use Rattle.std.specs.List.{enumerate_from, find, flat_map, list_any, range_with_len}
+use Rattle.std.proofs.Common.{◌≡◌, ◌≢◌, ◌∙◌, ◌⊎◌, inl, inr, ◌+◌, ◌<◌, ◌≤◌, ◌+ℤ◌, ℕ, ℤ, zero, suc, pos, Bool, true, false, cond, Some, List, [], ◌∷◌, ◌++◌, length, get_or, map, refl, sym, ap, ap₂, arith, All, AllPairs, Contains, count_by, slice_get, if◌then◌else◌, ◌==◌, ◌||◌, find, flat_map, eq-eqb, ne_eqb}
+use Rattle.std.specs.List.{enumerate_from, list_any, range_with_len}
 use Rattle.std.specs.Option.{option_map_or}
-use Rattle.std.proofs.lemmas.Bool.{cases_eq, eq-eqb, ne_eqb}
+use Rattle.std.proofs.lemmas.Bool.{cases_eq}
 use Rattle.std.proofs.lemmas.List.Elements.{All-head, All-tail, All-weaker}
 use Rattle.std.proofs.lemmas.List.Folds.{list_any_at, list_any_none}
 use Rattle.sums.proofs.CountLemmas.{count_by-cons}
@@ -177,8 +176,7 @@ left_of-cons f u us k = by (k == u)
 pub sum_over_used : (f : ℕ → Rational) (us : List ℕ) (n : ℕ) → AllPairs (λ a b. a ≢ b) us → All (λ u. u < n) us → rational_sum_by f (range_with_len 0 n) ≡ plus (rational_sum_by f us) (rational_sum_by (left_of f us) (range_with_len 0 n))
 sum_over_used f [] n distinct within = sym (zero-plus (rational_sum_by f (range_with_len 0 n)))
 sum_over_used f (u ∷ us) n distinct within =
-    let numbers = range_with_len 0 n in
-    let small = All-head (λ v. v < n) u us within in
+    let numbers = range_with_len 0 n in let small = All-head (λ v. v < n) u us within in
     let rest = sum_over_used f us n (AllPairs-tail (λ a b. a ≢ b) u us distinct) (All-tail (λ v. v < n) u us within) in
     let taken = one_taken (left_of f us) u 0 n (omega arith) (omega (arith, small)) in
     let others = rational_sum_by-same (but_at (left_of f us) u) (left_of f (u ∷ us)) numbers (λ k d inside. left_of-cons f u us (get_or numbers k d)) in

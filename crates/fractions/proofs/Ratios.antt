@@ -1,6 +1,5 @@
 -- Ratios: two are one exactly where the cross products are equal; their order, sums, differences and products.
-use Rattle.std.proofs.Common.{◌≡◌, ◌∙◌, ◌*◌, ◌<◌, ◌+ℤ◌, ◌-ℤ◌, ◌*ℤ◌, ℕ, ℤ, zero, suc, pos, refl, sym, ap, ap₂, subst, arith}
-use Rattle.std.specs.Ordering.{int_cmp}
+use Rattle.std.proofs.Common.{◌≡◌, ◌∙◌, ◌*◌, ◌<◌, ◌+ℤ◌, ◌-ℤ◌, ◌*ℤ◌, ℕ, ℤ, zero, suc, pos, refl, sym, ap, ap₂, subst, arith, int_cmp}
 use Rattle.std.proofs.Math.Nat.{mul-pos, mul_comm}
 use mathlib.Core.Path.{subst₂}
 use Rattle.sums.proofs.ProductLemmas.{*ℤ-interchange, *ℤ_assoc, *ℤ_cancel_right, *ℤ_swap, +ℤ-*ℤ, -ℤ-*ℤ}
@@ -112,8 +111,7 @@ over_all a rest d some is = ap (ratio (a.num *ℤ pos rest)) (sym is) ∙ ratio-
 
 pub by_four : (P : Rational → Rational → Rational → Rational → Type 0) → ((n m l k : ℤ) (d : ℕ) → 0 < d → P (ratio n d) (ratio m d) (ratio l d) (ratio k d)) → (a b c e : Rational) → P a b c e
 by_four P h a b c e =
-    let ab = mul-pos a.positive b.positive in
-    let ce = mul-pos c.positive e.positive in
+    let ab = mul-pos a.positive b.positive in let ce = mul-pos c.positive e.positive in
     let d = a.den * b.den * (c.den * e.den) in
     subst₂ (λ x y. P x y c e) (over_all a (b.den * (c.den * e.den)) d (mul-pos b.positive ce) (omega arith)) (over_all b (a.den * (c.den * e.den)) d (mul-pos a.positive ce) (omega arith))
     (subst₂ (P _ _) (over_all c (a.den * b.den * e.den) d (mul-pos ab e.positive) (omega arith)) (over_all e (a.den * b.den * c.den) d (mul-pos ab c.positive) (omega arith)) (h _ _ _ _ d (mul-pos ab ce)))

@@ -2,7 +2,8 @@
 use Rattle.std.proofs.Common.{◌≡◌, ◌∙◌, ◌++◌, List, None, length, sym, ap, ap₂, arith}
 use Rattle.std.specs.List.{enumerate_from, flat_map}
 use Rattle.network_audit.proofs.Words.{Case, HasShape, Joint, Network, Utility, Valuation, all_heat_items, balance_items, exchanger_items, first_finding, items, items_before, items_behind, joint_items, joints_of, statement_items, stream_items, utility_items}
-use Rattle.network_audit.proofs.FoundLemmas.{found-behind, passed-all}
+use Rattle.sums.proofs.FirstLemmas.{first-none}
+use Rattle.network_audit.proofs.FoundLemmas.{found-append, found-behind}
 use Rattle.network_audit.proofs.TableLemmas.{heat_items-are, joint_items-are}
 use Rattle.network_audit.proofs.ValidLemmas.{items-whole}
 
@@ -15,5 +16,6 @@ found-all case network values joints utilities shape table same passed =
     let exchangers : exchanger_items case network values ≡ joint_items case values joints = sym (ap (joint_items case values) table ∙ joint_items-are case network values shape) in
     let heats : utility_items case network ≡ all_heat_items joints utilities = sym (ap₂ all_heat_items table same ∙ heat_items-are case network) in
     ap first_finding (items-whole case network values)
-    ∙ found-behind (flat_map (statement_items case network values) (enumerate_from 0 network.lines)) (items_behind case network values) (passed-all (statement_items case network values) network.lines (length network.lines) (omega arith) passed)
+    ∙ found-behind (flat_map (statement_items case network values) (enumerate_from 0 network.lines)) (items_behind case network values)
+    (first-none first_finding found-append (statement_items case network values) network.lines (length network.lines) (omega arith) passed)
     ∙ (λ i. first_finding (stream_items case network ++ (exchangers i ++ (heats i ++ balance_items case network))))

@@ -1,7 +1,6 @@
 -- The balance from the heats of the utilities is that of the network, and so are its steps.
-use Rattle.std.proofs.Common.{◌≡◌, ◌∙◌, ◌<◌, ◌+◌, ◌∷◌, ◌++◌, ℕ, true, false, List, [], Option, Some, None, All, slice_get, get_or, length, map, refl, sym, ap, ap₂, arith}
-use Rattle.std.specs.Prelude.{if◌then◌else◌}
-use Rattle.std.specs.List.{cons_option, enumerate_from, filter_map}
+use Rattle.std.proofs.Common.{◌≡◌, ◌∙◌, ◌<◌, ◌+◌, ◌∷◌, ◌++◌, ℕ, true, false, List, [], Option, Some, None, All, slice_get, get_or, length, map, refl, sym, ap, ap₂, arith, if◌then◌else◌, filter_map}
+use Rattle.std.specs.List.{cons_option, enumerate_from}
 use Rattle.std.proofs.lemmas.List.{get_or_default}
 use Rattle.std.proofs.lemmas.List.FromFn.{get_or-enumerate_from}
 use Rattle.std.proofs.lemmas.List.Elements.{All-head, All-tail}

@@ -1,9 +1,7 @@
 -- A network has one finding at most, and none beside a whole valuation whose items are passed.
-use Rattle.std.proofs.Common.{◌≡◌, ◌∙◌, ◌<◌, ◌≤◌, ◌+◌, ◌-◌, ◌++◌, ◌==◌, ◌⊎◌, inl, inr, ℕ, zero, suc, List, [], Some, length, take, drop, sym, ap, subst, arith}
-use Rattle.std.specs.Prelude.{if◌then◌else◌}
-use Rattle.std.specs.List.{enumerate_from, flat_map}
-use Rattle.std.proofs.lemmas.Bool.{cases_lt, ne_eqb}
-use Rattle.std.proofs.lemmas.List.{append-nil, take-append-drop, take-take}
+use Rattle.std.proofs.Common.{◌≡◌, ◌∙◌, ◌<◌, ◌≤◌, ◌+◌, ◌-◌, ◌++◌, ◌==◌, ◌⊎◌, inl, inr, ℕ, zero, suc, List, [], Some, length, take, drop, sym, ap, subst, arith, if◌then◌else◌, flat_map, ne_eqb, append-nil, take-append-drop, take-take}
+use Rattle.std.specs.List.{enumerate_from}
+use Rattle.std.proofs.lemmas.Bool.{cases_lt}
 use Rattle.std.proofs.lemmas.List.Concat.{flat_map-append}
 use Rattle.sums.proofs.EnumerationLemmas.{enumerate_from-append}
 use Rattle.network_audit.proofs.Words.{Case, Finding, HasNoFinding, HasShape, IsFinding, IsValuation, IsVerdict, IsWholeValuation, Item, Network, Valuation, Verdict, first_finding, front, items, items_before, items_behind, made_before, statement_items}
@@ -17,8 +15,7 @@ use Rattle.network_audit.proofs.WalkLemmas.{items_before-same, used_early}
 items_before-front : (case : Case) (network : Network) (values : Valuation) (n k : ℕ) → (more : List Item) × (items_before case network values (n + k) ≡ items_before case network values n ++ more)
 unfolding items_before
 items_before-front case network values n k =
-    let f = statement_items case network values in
-    let some = take (n + k) network.lines in
+    let f = statement_items case network values in let some = take (n + k) network.lines in
     let rest = enumerate_from (0 + length (take n some)) (drop n some) in (
       flat_map f rest,
       ap (λ ls. flat_map f (enumerate_from 0 ls)) (sym (take-append-drop n some))
@@ -43,8 +40,7 @@ found-later case network n zero values other found shape one two some =
     let same : values ≡ other = one_valuation case network n values other shape one (subst (λ m. IsValuation case network m other) at two) in
     ap (λ m. first_finding (items case network other m)) at ∙ ap (λ vs. first_finding (items case network vs n)) (sym same) ∙ some
 found-later case network n (suc j) values other found shape one two some =
-    let within = two.within in
-    let early = used_early case network n shape in
+    let within = two.within in let early = used_early case network n shape in
     let first : values ≡ front case network n other = one_valuation case network n values (front case network n other) shape one (valuation_front case network n (suc j) other shape two) in
     let same : items_before case network other (n + 1) ≡ items_before case network values (n + 1) =
     items_before-same case network other (front case network n other) (n + 1) (made_before case network n) shape early (agree-take other (made_before case network n))

@@ -1,13 +1,11 @@
 -- The first item that is not passed, of lists of items in a row and of the items of many members.
-use Rattle.std.proofs.Common.{◌≡◌, ◌∙◌, ◌<◌, ◌≤◌, ◌+◌, ◌∷◌, ◌++◌, ℕ, Bool, true, false, not, List, [], Option, Some, None, All, option_map, length, get_or, slice_get, take, drop, refl, sym, ap, arith}
-use Rattle.std.specs.List.{enumerate_from, find, flat_map}
+use Rattle.std.proofs.Common.{◌≡◌, ◌∙◌, ◌+◌, ◌∷◌, ◌++◌, ℕ, Bool, true, false, not, List, [], Option, Some, None, All, slice_get, refl, sym, ap}
+use Rattle.std.specs.List.{enumerate_from, flat_map}
 use Rattle.std.specs.Option.{option_or}
-use Rattle.std.proofs.lemmas.List.{append-nil, length-take, take-append-drop, take_all, take_more}
-use Rattle.std.proofs.lemmas.List.Concat.{flat_map-append}
 use Rattle.std.proofs.lemmas.List.Elements.{All-head, All-tail}
-use Rattle.std.proofs.lemmas.List.Folds.{find-append}
 use Rattle.std.proofs.lemmas.Option.{same_Some}
-use Rattle.sums.proofs.EnumerationLemmas.{All-enumerated, enumerate_from-append}
+use Rattle.sums.proofs.EnumerationLemmas.{All-enumerated}
+use Rattle.sums.proofs.FirstLemmas.{first-append, first-behind, first-front}
 use Rattle.sums.proofs.ListLemmas.{All-flat_map}
 use Rattle.network_audit.proofs.Words.{Finding, Gives, Item, Place, Rational, Step, finding_of, first_finding, is_passed}
 use Rattle.fractions.proofs.Limits.{within_formed, within_not_formed}
@@ -38,19 +36,15 @@ found-not_formed at k a r items none gives = found-failed (Step at k a) items (w
 
 pub found-append : (xs ys : List Item) → first_finding (xs ++ ys) ≡ option_or (first_finding xs) (first_finding ys)
 unfolding first_finding
-found-append xs ys = rw (find-append (λ item. not (is_passed item)) xs ys) (by (find (λ item. not (is_passed item)) xs))
-  where
-    by : (o : Option Item) → option_map finding_of (option_or o (find (λ item. not (is_passed item)) ys)) ≡ option_or (option_map finding_of o) (option_map finding_of (find (λ item. not (is_passed item)) ys))
-    by None = refl
-    by (Some item) = refl
+found-append = first-append finding_of (λ item. not (is_passed item))
 
 -- behind items that are passed
 pub found-behind : (xs ys : List Item) → first_finding xs ≡ None → first_finding (xs ++ ys) ≡ first_finding ys
-found-behind xs ys none = found-append xs ys ∙ ap (λ o. option_or o (first_finding ys)) none
+found-behind = first-behind first_finding found-append
 
 -- more items change no finding
 pub found-front : (xs ys : List Item) (found : Finding) → first_finding xs ≡ Some found → first_finding (xs ++ ys) ≡ Some found
-found-front xs ys found some = found-append xs ys ∙ ap (λ o. option_or o (first_finding ys)) some
+found-front = first-front first_finding found-append
 
 -- where all are passed, the first ones are
 pub passed-front : (xs ys : List Item) → first_finding (xs ++ ys) ≡ None → first_finding xs ≡ None
@@ -92,39 +86,3 @@ pub flat_map-same : {X Y : Type 0} (f g : X → List Y) (xs : List X) → All (�
 flat_map-same f g [] same = refl
 flat_map-same f g (x ∷ xs) same =
     ap (λ ys. ys ++ flat_map f xs) (All-head (λ y. f y ≡ g y) x xs same) ∙ ap (λ ys. g x ++ ys) (flat_map-same f g xs (All-tail (λ y. f y ≡ g y) x xs same))
-
-module _ {X : Type 0} (f : ℕ × X → List Item) where
-  -- those of the first n
-  abbrev pub items_of : List X → ℕ → List Item
-  items_of xs n = flat_map f (enumerate_from 0 (take n xs))
-
-  flat_map-single : (x : ℕ × X) → flat_map f (x ∷ []) ≡ f x
-  flat_map-single x = append-nil (f x)
-
-  pub items-more : (xs : List X) (n : ℕ) (d : X) → n < length xs → items_of xs (n + 1) ≡ items_of xs n ++ f (n, get_or xs n d)
-  items-more xs n d within =
-      ap (λ ys. flat_map f (enumerate_from 0 ys)) (take_more xs n d within)
-      ∙ ap (flat_map f) (enumerate_from-append 0 (take n xs) (get_or xs n d ∷ []))
-      ∙ flat_map-append f (enumerate_from 0 (take n xs)) (enumerate_from (0 + length (take n xs)) (get_or xs n d ∷ []))
-      ∙ ap (λ k. items_of xs n ++ flat_map f ((k, get_or xs n d) ∷ [])) (omega (arith, within, length-take n xs))
-      ∙ ap (λ ys. items_of xs n ++ ys) (flat_map-single (n, get_or xs n d))
-
-  -- the next member is passed
-  pub passes-more : (xs : List X) (n : ℕ) (d : X) → n < length xs → first_finding (items_of xs n) ≡ None → first_finding (f (n, get_or xs n d)) ≡ None → first_finding (items_of xs (n + 1)) ≡ None
-  passes-more xs n d within before here = ap first_finding (items-more xs n d within) ∙ found-behind (items_of xs n) (f (n, get_or xs n d)) before ∙ here
-
-  -- it is not, and so all members have its finding
-  pub finds-here : (xs : List X) (n : ℕ) (d : X) (found : Finding) → n < length xs → first_finding (items_of xs n) ≡ None → first_finding (f (n, get_or xs n d)) ≡ Some found → first_finding (flat_map f (enumerate_from 0 xs)) ≡ Some found
-  finds-here xs n d found within before here =
-      let later = enumerate_from (0 + length (take (n + 1) xs)) (drop (n + 1) xs) in
-      let all : flat_map f (enumerate_from 0 xs) ≡ items_of xs (n + 1) ++ flat_map f later =
-      ap (λ ys. flat_map f (enumerate_from 0 ys)) (sym (take-append-drop (n + 1) xs))
-      ∙ ap (flat_map f) (enumerate_from-append 0 (take (n + 1) xs) (drop (n + 1) xs))
-      ∙ flat_map-append f (enumerate_from 0 (take (n + 1) xs)) later in
-      let front : first_finding (items_of xs (n + 1)) ≡ Some found =
-      ap first_finding (items-more xs n d within) ∙ found-behind (items_of xs n) (f (n, get_or xs n d)) before ∙ here in
-      ap first_finding all ∙ found-front (items_of xs (n + 1)) (flat_map f later) found front
-
-  -- all members are passed
-  pub passed-all : (xs : List X) (n : ℕ) → length xs ≤ n → first_finding (items_of xs n) ≡ None → first_finding (flat_map f (enumerate_from 0 xs)) ≡ None
-  passed-all xs n end none = ap (λ ys. first_finding (flat_map f (enumerate_from 0 ys))) (sym (take_all n xs end)) ∙ none

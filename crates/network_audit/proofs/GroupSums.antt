@@ -1,6 +1,5 @@
 -- The sum of a utility whose duties come in groups, each over its own denominator and with a whole sum.
-use Rattle.std.proofs.Common.{◌≡◌, ◌∙◌, ◌<◌, ◌≤◌, ◌+◌, ◌*◌, ◌*ℤ◌, ◌∷◌, ℕ, ℤ, pos, unsigned_abs, List, [], All, length, sym, ap, subst, arith}
-use Rattle.std.specs.List.{flat_map}
+use Rattle.std.proofs.Common.{◌≡◌, ◌∙◌, ◌<◌, ◌≤◌, ◌+◌, ◌*◌, ◌*ℤ◌, ◌∷◌, ℕ, ℤ, pos, unsigned_abs, List, [], All, length, sym, ap, subst, arith, flat_map}
 use Rattle.std.proofs.Math.Nat.{le_of_mul-le-mul_right, mul-le-mul}
 use Rattle.std.proofs.lemmas.Int.{unsigned_abs-mul}
 use Rattle.std.proofs.lemmas.List.Elements.{All-append, All-head, All-tail}

@@ -1,8 +1,7 @@
 -- The heats of the utilities make up the hot and the cold heat, and the balance.
-use Rattle.std.proofs.Common.{◌≡◌, ◌≢◌, ◌∙◌, ◌<◌, ◌∷◌, ◌==◌, ◌||◌, ℕ, Bool, true, false, List, [], Option, Some, None, ◌⊎◌, inl, inr, slice_get, get_or, length, refl, sym, ap, ap₂, subst, arith}
-use Rattle.std.specs.Prelude.{if◌then◌else◌, is_some, option_map, unwrap_or}
-use Rattle.std.specs.List.{cons_option, enumerate_from, filter_map, range_with_len}
-use Rattle.std.proofs.lemmas.Bool.{cases_eq, eq-eqb, ne_eqb}
+use Rattle.std.proofs.Common.{◌≡◌, ◌≢◌, ◌∙◌, ◌<◌, ◌∷◌, ◌==◌, ◌||◌, ℕ, Bool, true, false, List, [], Option, Some, None, ◌⊎◌, inl, inr, slice_get, get_or, length, refl, sym, ap, ap₂, subst, arith, if◌then◌else◌, is_some, option_map, unwrap_or, filter_map, eq-eqb, ne_eqb}
+use Rattle.std.specs.List.{cons_option, enumerate_from, range_with_len}
+use Rattle.std.proofs.lemmas.Bool.{cases_eq}
 use Rattle.network_audit.proofs.Words.{Case, Exchanger, HasShape, IsExchanger, IsSourceOf, Network, Rational, Side, Source, Utility, cold_heat, duties_with, duty_with, exchangers_of, heat_on, heat_with, heats_on, hot_heat, plus, rational_sum, rational_sum_by, rational_zero, same_side, same_source, side_of, utility_part}
 use Rattle.stream_case.specs.declared.source.Side.TheVariants as side
 use Rattle.stream_case.specs.declared.source.Source.TheVariants as source
@@ -91,8 +90,7 @@ side_heat-is : (case : Case) (network : Network) (on : Side) → HasShape case n
     → rational_sum (heats_on on case network) ≡ rational_sum_by (λ e. utility_part e.duty (source_on on e)) (exchangers_of network.lines)
 unfolding heats_on duties_with
 side_heat-is case network on shape sides =
-    let es = exchangers_of network.lines in
-    let us = enumerate_from 0 case.utilities in
+    let es = exchangers_of network.lines in let us = enumerate_from 0 case.utilities in
     sum-filter_map (heat_on on network) us
     ∙ rational_sum_by-same (λ p. unwrap_or (heat_on on network p) rational_zero) (λ p. rational_sum_by (part_on on p) es) us (λ k d inside. heat (get_or us k d))
     ∙ rational_sum_by-swap (part_on on) us es

@@ -1,7 +1,6 @@
 -- No test of a valid network fails, and so what is rejected is not valid.
-use Rattle.std.proofs.Common.{◌≡◌, ◌∙◌, ◌<◌, ◌+◌, ◌-◌, ◌∷◌, ◌++◌, ℕ, Bool, true, false, not, List, [], Option, Some, None, All, slice_get, length, map, refl, sym, ap, subst, arith}
-use Rattle.std.specs.Prelude.{if◌then◌else◌}
-use Rattle.std.specs.List.{enumerate_from, flat_map}
+use Rattle.std.proofs.Common.{◌≡◌, ◌∙◌, ◌<◌, ◌+◌, ◌-◌, ◌∷◌, ◌++◌, ℕ, Bool, true, false, not, List, [], Option, Some, None, All, slice_get, length, map, refl, sym, ap, subst, arith, if◌then◌else◌, flat_map}
+use Rattle.std.specs.List.{enumerate_from}
 use Rattle.std.proofs.lemmas.Bool.{false≢true}
 use Rattle.std.proofs.lemmas.List.Elements.{All-append, All-cons, All-from_recursion, All-head, All-nil}
 use Rattle.std.proofs.lemmas.Option.{slice_get_within}
@@ -84,8 +83,7 @@ line_sound case network values k (line.Split from first cp second) shape valuati
 line_sound case network values k (line.Pass from exchanger to) shape valuation ended at =
     All-from_recursion IsSound (pass_items (place.Line (k + 1)) (branch_side case network from) (value_at values from) (duty_at network exchanger)) (tt, (tt, tt))
 line_sound case network values k (line.Mix first second to) shape valuation ended at =
-    let one = value_at values first in
-    let two = value_at values second in
+    let one = value_at values first in let two = value_at values second in
     let means = mean_items (place.Line (k + 1)) one two (plus one.cp two.cp) in
     sound-step (place.Line (k + 1)) 1 (plus one.cp two.cp) (if rational_eq one.t two.t then [] else means) (sound-if (rational_eq one.t two.t) means (All-from_recursion IsSound means (tt, (tt, (tt, (tt, tt))))))
 line_sound case network values k (line.End branch) shape valuation ended at =
@@ -109,8 +107,7 @@ utility_sound network index u range =
 balance_sound : (case : Case) (network : Network) → AreSound (balance_items case network)
 unfolding balance_items
 balance_sound case network =
-    let hot = heats_on side.Hot case network in
-    let cold = heats_on side.Cold case network in
+    let hot = heats_on side.Hot case network in let cold = heats_on side.Cold case network in
     let prices = map (heat_price network) (enumerate_from 0 case.utilities) in
     All-append IsSound (sum_steps place.Balance 0 rational_zero hot) (sum_steps place.Balance (length hot) rational_zero cold ++ Step place.Balance (length hot + length cold + 1) (excess_of case network) ∷ cost_steps place.Balance (length hot + length cold + 1) rational_zero prices)
     (sound-sums place.Balance 0 rational_zero hot)
@@ -121,8 +118,7 @@ balance_sound case network =
 all_sound : (case : Case) (network : Network) → HasShape case network → (valid : IsValidNetwork case network) → AreSound (items case network valid.values (length network.lines))
 unfolding items_behind stream_items exchanger_items utility_items
 all_sound case network shape valid =
-    let values = valid.values in
-    let es = exchangers_of network.lines in
+    let values = valid.values in let es = exchangers_of network.lines in
     subst AreSound (sym (items-whole case network values))
     (All-append IsSound (flat_map (statement_items case network values) (enumerate_from 0 network.lines)) (items_behind case network values)
     (each-items IsSound (statement_items case network values) network.lines (λ k l at. line_sound case network values k l shape valid.valuation valid.ended at))

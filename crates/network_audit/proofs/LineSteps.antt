@@ -1,6 +1,5 @@
 -- The numbers that statements and exchangers form are within the limits where what the branches carry leaves room.
-use Rattle.std.proofs.Common.{◌≡◌, ◌∙◌, ◌+◌, ◌*◌, ◌<◌, ◌≤◌, ◌+ℤ◌, ⊎_elim, ℕ, ℤ, pos, Bool, true, false, List, [], Option, Some, None, All, slice_get, length, unsigned_abs, refl, sym, ap, subst, arith}
-use Rattle.std.specs.Prelude.{if◌then◌else◌}
+use Rattle.std.proofs.Common.{◌≡◌, ◌∙◌, ◌+◌, ◌*◌, ◌<◌, ◌≤◌, ◌+ℤ◌, ⊎_elim, ℕ, ℤ, pos, Bool, true, false, List, [], Option, Some, None, All, slice_get, length, unsigned_abs, refl, sym, ap, subst, arith, if◌then◌else◌}
 use Rattle.std.specs.Option.{option_map_or}
 use Rattle.std.proofs.Math.Nat.{mul-le-mul, mul-pos}
 use Rattle.std.proofs.lemmas.Option.{same_Some}
@@ -81,8 +80,7 @@ sized_roomy d m e n v small size state =
       heat = sized-within (d * e) (m * n) (times v.cp v.t) (mul-pos small.size_den small.state_den) small.dens small.heat
           (sized-times d e m n v.cp v.t small.size_den small.state_den size state);
       wanted = λ approach asked.
-          let from = asked.from in
-          let upto = asked.upto in
+          let from = asked.from in let upto = asked.upto in
           let added = sized-plus e n most_approach v.t (whole approach) state
           (sized-whole e most_approach approach small.state_den (omega (arith, ints, from, upto))) in
           sized-within e (n + most_approach) (plus v.t (whole approach)) small.state_den dens.1 (omega (arith, most)) added;
@@ -141,8 +139,7 @@ formed-if false items formed = formed
 pub mix_formed : (at : Place) (first second to : BranchValue) → IsBelow rational_zero (plus first.cp second.cp) → IsMix first second to → IsRoomy first
     → IsRoomy second → IsRoomy to → AreFormed (mix_items at first second)
 mix_formed at first second to positive mix one two both =
-    let size = subst IsWithinLimits mix.size both.size in
-    let heat = subst IsWithinLimits mix.heat both.heat in
+    let size = subst IsWithinLimits mix.size both.size in let heat = subst IsWithinLimits mix.heat both.heat in
     let state = subst IsWithinLimits (ap (λ (v : BranchValue). v.t) (mix_determined first second to positive mix)) both.state in
     let means = mean_items at first second (plus first.cp second.cp) in
     let rest : AreFormed means = All-from_recursion IsFormed means (one.heat, (two.heat, (heat, (state, tt)))) in
@@ -192,12 +189,8 @@ contribution-within case complete (source.Utility number) = by (slice_get case.u
 
 pub approach-within : (case : Case) → IsComplete case → (hot cold : Source) → IsApproach (approach_of case hot cold)
 approach-within case complete hot cold =
-    let one = contribution-within case complete hot in
-    let two = contribution-within case complete cold in
-    let one_from = one.from in
-    let one_upto = one.upto in
-    let two_from = two.from in
-    let two_upto = two.upto in
+    let one = contribution-within case complete hot in let two = contribution-within case complete cold in
+    let one_from = one.from in let one_upto = one.upto in let two_from = two.from in let two_upto = two.upto in
     record { from = omega (arith, ints, one_from, two_from); upto = omega (arith, ints, one_upto, two_upto) }
 
 -- a level that a source has is one of a case
@@ -212,10 +205,7 @@ level-within case complete (source.Utility number) level is = subst IsLevel (sam
 -- a level with an approach added
 wanted-level : (level approach : ℤ) → IsLevel level → IsApproach approach → IsWithinLimits (plus (whole level) (whole approach))
 wanted-level level approach is asked =
-    let low = is.from in
-    let high = is.upto in
-    let from = asked.from in
-    let upto = asked.upto in
+    let low = is.from in let high = is.upto in let from = asked.from in let upto = asked.upto in
     subst IsWithinLimits (sym (whole-plus level approach)) (within-whole (level +ℤ approach) (omega (arith, ints, low, high, from, upto)))
 
 -- what holds of the states of all branches and of all levels holds of both ends of a side

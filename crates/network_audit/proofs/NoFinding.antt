@@ -24,8 +24,7 @@ module _ (case : Case) (network : Network) (values : Valuation) (complete : IsCo
   -- where each duty is whole, and at most the most heat of a utility
   pub no_finding_from_duties : All (λ e. IsSized 1 most_heat e.duty) (exchangers_of network.lines) → HasNoFinding case network
   no_finding_from_duties each =
-      let few = few_exchangers network.lines in
-      let few_lines = shape.few in
+      let few = few_exchangers network.lines in let few_lines = shape.few in
       no_finding_from_room
       (λ index u here.
       let heat = heat-over 1 most_heat (omega arith) (omega arith) network index each in

@@ -47,14 +47,12 @@ sized-between d m a n some is least most =
 
 pub sized-plus : (d m n : ℕ) (a b : Rational) → IsSized d m a → IsSized d n b → IsSized d (m + n) (plus a b)
 sized-plus d m n a b one two =
-    let x = one.small in
-    let y = two.small in
+    let x = one.small in let y = two.small in
     record { num = one.num +ℤ two.num; is = ap₂ plus one.is two.is ∙ plus-ratio_same_den one.num two.num d; small = omega (arith, ints, x, y) }
 
 pub sized-minus : (d m n : ℕ) (a b : Rational) → IsSized d m a → IsSized d n b → IsSized d (m + n) (minus a b)
 sized-minus d m n a b one two =
-    let x = one.small in
-    let y = two.small in
+    let x = one.small in let y = two.small in
     record { num = one.num -ℤ two.num; is = ap₂ minus one.is two.is ∙ minus-ratio_same_den one.num two.num d; small = omega (arith, ints, x, y) }
 
 pub sized-times : (d e m n : ℕ) (a b : Rational) → 0 < d → 0 < e → IsSized d m a → IsSized e n b → IsSized (d * e) (m * n) (times a b)

@@ -8,8 +8,7 @@ use Rattle.network_audit.proofs.Sized.{IsSized, sized-whole}
 module _ (s : Stream) (valid : IsValidStream s) where
   pub full_size-sized : (m : ℕ) → unsigned_abs MOST_CP ≤ m → IsSized 1 m (full_size s)
   full_size-sized m larger =
-      let least = valid.cp.from in
-      let most = valid.cp.upto in
+      let least = valid.cp.from in let most = valid.cp.upto in
       sized-whole 1 m s.cp (omega arith) (omega (arith, ints, least, most, larger))
 
   pub full_size-most : IsAtMost (full_size s) (whole MOST_CP)
@@ -17,6 +16,5 @@ module _ (s : Stream) (valid : IsValidStream s) where
 
   pub first_state-sized : (m : ℕ) → unsigned_abs HIGHEST_LEVEL ≤ m → IsSized 1 m (first_state s)
   first_state-sized m larger =
-      let low = valid.supply.from in
-      let high = valid.supply.upto in
+      let low = valid.supply.from in let high = valid.supply.upto in
       sized-whole 1 m s.supply (omega arith) (omega (arith, ints, low, high, larger))

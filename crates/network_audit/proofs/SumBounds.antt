@@ -1,7 +1,6 @@
 -- The sums of utilities and of the balance are within the limits where their numbers are few and small.
-use Rattle.std.proofs.Common.{◌≡◌, ◌<◌, ◌≤◌, ◌+◌, ◌*◌, ◌∷◌, ◌++◌, ◌||◌, ℕ, suc, ℤ, pos, unsigned_abs, Bool, true, false, List, [], Option, Some, None, All, get_or, slice_get, length, map, refl, subst, arith}
-use Rattle.std.specs.Prelude.{if◌then◌else◌}
-use Rattle.std.specs.List.{cons_option, enumerate_from, filter_map}
+use Rattle.std.proofs.Common.{◌≡◌, ◌<◌, ◌≤◌, ◌+◌, ◌*◌, ◌∷◌, ◌++◌, ◌||◌, ℕ, suc, ℤ, pos, unsigned_abs, Bool, true, false, List, [], Option, Some, None, All, get_or, slice_get, length, map, refl, subst, arith, if◌then◌else◌, filter_map}
+use Rattle.std.specs.List.{cons_option, enumerate_from}
 use Rattle.std.proofs.Math.Nat.{mul-le-mul}
 use Rattle.std.proofs.lemmas.Int.{ints}
 use Rattle.std.proofs.lemmas.List.{length-map}
@@ -75,8 +74,7 @@ module _ (d m : ℕ) (some : 0 < d) (den : d ≤ most_den) where
   costs_formed : (at : Place) (before k : ℕ) (cost : Rational) (prices : List Rational) → m * d ≤ most_num → (k + length prices * m) * d ≤ most_num → IsSized d k cost → All (IsSized d m) prices → AreFormed (cost_steps at before cost prices)
   costs_formed at before k cost [] one most sized each = formed-none
   costs_formed at before k cost (a ∷ prices) one most sized each =
-      let price = All-head (IsSized d m) a prices each in
-      let next = sized-plus d k m cost a sized price in
+      let price = All-head (IsSized d m) a prices each in let next = sized-plus d k m cost a sized price in
       let later : (k + m + length prices * m) * d ≤ most_num = omega (arith, most) in
       let now : (k + m) * d ≤ most_num = omega (arith, later) in
       formed-step at (before + 1) a (Step at (before + 2) (plus cost a) ∷ cost_steps at (before + 2) (plus cost a) prices) (sized-within d m a some den one price)
@@ -114,10 +112,7 @@ most_heat = unsigned_abs MOST_HEAT
 -- a heat in the range of a utility is at most the most that utilities have
 pub heat-sized : (d : ℕ) (u : Utility) (heat : Rational) (n : ℤ) → 0 < d → heat ≡ ratio n d → IsPlaced u → IsInRange u heat → IsSized d most_heat heat
 heat-sized d u heat n some is placed range =
-    let least = placed.least in
-    let most = placed.most in
-    let from = least.from in
-    let upto = most.upto in
+    let least = placed.least in let most = placed.most in let from = least.from in let upto = most.upto in
     sized-between d most_heat heat n some is (at_most_trans rational_zero (whole u.least) heat (at_most-whole (pos 0) u.least from) range.least) (at_most_trans heat (whole u.most) (whole (pos most_heat)) range.most (at_most-whole u.most (pos most_heat) upto))
 
 -- ---- the balance
@@ -143,9 +138,7 @@ prices-sized : (case : Case) (network : Network) → IsComplete case → HaveWho
 prices-sized case network complete heats =
     All-map (IsSized 1 most_price) (heat_price network) (enumerate_from 0 case.utilities) (All-enumerated (λ (e : ℕ × Utility). IsSized 1 most_price (heat_price network e)) case.utilities (λ index u at.
     let placed = all_at IsPlaced case.utilities index u (IsPlaced-IsComplete case complete) at in
-    let price = placed.price in
-    let from = price.from in
-    let upto = price.upto in
+    let price = placed.price in let from = price.from in let upto = price.upto in
     sized-times 1 1 (unsigned_abs MOST_PRICE) most_heat (whole u.price) (heat_with network index) (omega arith) (omega arith) (sized-whole 1 (unsigned_abs MOST_PRICE) u.price (omega arith) (omega (arith, ints, from, upto))) (heats index u at)))
 
 -- the excess
@@ -155,20 +148,16 @@ excess-sized case network complete shape heats =
     let sum = sized-sum 1 most_heat (omega arith) (omega arith) hot (heats-sized side.Hot case network heats) in
     let target = hot_target case.streams in
     let is = hot_target-between case.streams (AreStreams-IsComplete case complete) in
-    let from = is.from in
-    let upto = is.upto in
+    let from = is.from in let upto = is.upto in
     sized-minus 1 (length hot * most_heat) (unsigned_abs ALL_STREAMS_HEAT) (hot_heat network) (whole target) (subst (IsSized 1 (length hot * most_heat)) (hot_heat-is case network shape) sum) (sized-whole 1 (unsigned_abs ALL_STREAMS_HEAT) target (omega arith) (omega (arith, ints, from, upto)))
 
 pub balance_formed : (case : Case) (network : Network) → IsComplete case → HasShape case network → HaveWholeHeats case network → AreFormed (balance_items case network)
 unfolding balance_items
 balance_formed case network complete shape heats =
-    let hot = heats_on side.Hot case network in
-    let cold = heats_on side.Cold case network in
+    let hot = heats_on side.Hot case network in let cold = heats_on side.Cold case network in
     let prices = map (heat_price network) (enumerate_from 0 case.utilities) in
-    let before = length hot + length cold + 1 in
-    let few = length-utilities case complete in
-    let few_hot = few-heats side.Hot case network in
-    let few_cold = few-heats side.Cold case network in
+    let before = length hot + length cold + 1 in let few = length-utilities case complete in
+    let few_hot = few-heats side.Hot case network in let few_cold = few-heats side.Cold case network in
     let few_prices : length prices ≤ ALL_UTILITIES = omega (arith, few, length-map (enumerate_from 0 case.utilities) (heat_price network), length-enumerate_from 0 case.utilities) in
     let none = sized-whole 1 0 (pos 0) (omega arith) (omega arith) in
     let excess = sized-within 1 (length hot * most_heat + unsigned_abs ALL_STREAMS_HEAT) (excess_of case network) (omega arith) (omega arith) (omega (arith, few, few_hot)) (excess-sized case network complete shape heats) in

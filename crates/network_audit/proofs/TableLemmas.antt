@@ -1,8 +1,7 @@
 -- What the audit reads of the table of exchangers is what the items say: the ends of the sides, and the duties of the utilities.
-use Rattle.std.proofs.Common.{◌≡◌, ◌∙◌, ◌<◌, ◌+◌, ◌∷◌, ◌++◌, ℕ, List, [], Some, ◌⊎◌, inl, inr, slice_get, get_or, length, map, take, refl, sym, ap, ap₂, arith}
-use Rattle.std.specs.Prelude.{unwrap_or}
-use Rattle.std.specs.List.{cons_option, enumerate_from, filter_map, flat_map}
-use Rattle.std.proofs.lemmas.List.{length-take, map-append, take_more}
+use Rattle.std.proofs.Common.{◌≡◌, ◌∙◌, ◌<◌, ◌+◌, ◌∷◌, ◌++◌, ℕ, List, [], Some, ◌⊎◌, inl, inr, slice_get, get_or, length, map, take, refl, sym, ap, ap₂, arith, unwrap_or, filter_map, flat_map, length-take}
+use Rattle.std.specs.List.{cons_option, enumerate_from}
+use Rattle.std.proofs.lemmas.List.{map-append, take_more}
 use Rattle.sums.proofs.EnumerationLemmas.{All-enumerated, enumerate_from-append}
 use Rattle.network_audit.proofs.Words.{Case, Exchanger, HasShape, IsExchanger, Joint, Network, Rational, Side, Source, Utility, Valuation, all_heat_items, branch_side, crossing_among, crossing_by, duties_in, duties_with, duty_with, ends_at, ends_of, exchanger_items, exchanger_items_at, exchangers_of, heat_items, heats_in, joint_among, joint_duty, joint_items, joint_items_at, joints_among, joints_of, pass_of, pass_run, range_items, rational_sum, rational_zero, run_between, side_items, side_of, side_run, stream_at, sum_steps, utility_items, utility_items_at, value_at}
 use Rattle.stream_case.specs.declared.source.Side.TheVariants as side
@@ -67,8 +66,7 @@ pub joint_items-are : (case : Case) (network : Network) (values : Valuation) →
     → joint_items case values (joints_of network) ≡ exchanger_items case network values
 unfolding joint_items exchanger_items joints_among
 joint_items-are case network values shape =
-    let es = exchangers_of network.lines in
-    let make = joint_among network.branches network.lines in
+    let es = exchangers_of network.lines in let make = joint_among network.branches network.lines in
     flat_map-made (joint_items_at case values) make 0 es
     ∙ flat_map-same (λ (p : ℕ × Exchanger). joint_items_at case values (p.0, make p)) (exchanger_items_at case network values) (enumerate_from 0 es)
     (All-enumerated (λ p. joint_items_at case values (p.0, make p) ≡ exchanger_items_at case network values p) es each)

@@ -1,10 +1,7 @@
 -- A network without a finding is valid, and no test of a valid one fails.
-use Rattle.std.proofs.Common.{◌≡◌, ◌∙◌, ◌<◌, ◌+◌, ◌∷◌, ◌++◌, ◌==◌, ◌||◌, ℕ, zero, suc, Bool, true, false, not, List, [], Option, Some, None, All, slice_get, length, get_or, map, refl, sym, ap, subst, arith}
-use Rattle.std.specs.Prelude.{Contains, if◌then◌else◌}
-use Rattle.std.specs.List.{enumerate_from, flat_map, list_any}
-use Rattle.std.proofs.lemmas.Bool.{eq-eqb}
+use Rattle.std.proofs.Common.{◌≡◌, ◌∙◌, ◌<◌, ◌+◌, ◌∷◌, ◌++◌, ◌==◌, ◌||◌, ℕ, zero, suc, Bool, true, false, not, List, [], Option, Some, None, All, slice_get, length, get_or, map, refl, sym, ap, subst, arith, Contains, if◌then◌else◌, flat_map, eq-eqb, take_all}
+use Rattle.std.specs.List.{enumerate_from, list_any}
 use Rattle.std.proofs.lemmas.Bool.Decides.{nat_tests}
-use Rattle.std.proofs.lemmas.List.{take_all}
 use Rattle.std.proofs.lemmas.List.Elements.{All-cons, All-nil}
 use Rattle.std.proofs.lemmas.Option.{none-some, same_Some, slice_get-get_or}
 use Rattle.network_audit.proofs.Words.{Branch, Case, Decides-rational_eq, Exchanger, HasNoFinding, IsFullEnd, IsInRange, IsValidNetwork, IsWholeValuation, Item, KeepsApproach, Line, Network, Place, Stream, Utility, Valuation, balance_items, duties_with, end_items, ended_by, ended_streams, ends, ends_stream, exchanger_items, exchanger_items_at, exchangers_of, first_finding, full_size, heat_with, is_ended, is_forbidden, items, items_before, items_behind, last_state, last_value, line_items, range_items, rational_zero, statement_items, stream_at, stream_items, stream_items_at, sum_steps, utility_items, utility_items_at, value_at, whole}
@@ -140,10 +137,8 @@ record SidePassed (case : Case) (network : Network) (values : Valuation) (number
 
 side_passed : (case : Case) (network : Network) (values : Valuation) (number : ℕ) (e : Exchanger) → first_finding (exchanger_items_at case network values (number, e)) ≡ None → SidePassed case network values number e
 side_passed case network values number e none =
-    let after_pair = passed-rest _ _ none in
-    let after_first = passed-rest _ _ after_pair in
-    let after_hot = passed-rest _ _ after_first in
-    let after_second = passed-rest _ _ after_hot in
+    let after_pair = passed-rest _ _ none in let after_first = passed-rest _ _ after_pair in
+    let after_hot = passed-rest _ _ after_first in let after_second = passed-rest _ _ after_hot in
     record {
       permitted = false_from_not (is_forbidden case.forbids e.hot e.cold) (passed-item _ _ none);
       approach = record {

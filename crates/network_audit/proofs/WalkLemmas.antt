@@ -1,8 +1,6 @@
 -- The walk over the statements.
-use Rattle.std.proofs.Common.{◌≡◌, ◌∙◌, ◌<◌, ◌≤◌, ◌+◌, ◌∷◌, ◌++◌, ◌==◌, ℕ, suc, List, [], Some, None, All, slice_get, length, get_or, map, take, refl, sym, ap, subst, arith, add-one}
-use Rattle.std.specs.Prelude.{if◌then◌else◌}
+use Rattle.std.proofs.Common.{◌≡◌, ◌∙◌, ◌<◌, ◌≤◌, ◌+◌, ◌∷◌, ◌++◌, ◌==◌, ℕ, suc, List, [], Some, None, All, slice_get, length, get_or, map, take, refl, sym, ap, subst, arith, add-one, if◌then◌else◌, length-take, take_all}
 use Rattle.std.specs.List.{enumerate_from}
-use Rattle.std.proofs.lemmas.List.{length-take, take_all}
 use Rattle.std.proofs.lemmas.List.Elements.{All-head, All-tail}
 use Rattle.std.proofs.lemmas.Option.{get_or_from_slice_get, slice_get_within}
 use Rattle.sums.proofs.EnumerationLemmas.{All-enumerated}
@@ -13,7 +11,8 @@ use Rattle.networks.proofs.Lists.{slice_get-take}
 use Rattle.networks.proofs.OfShape.{IsLineOf, all_made, line_of, line_read, made_fewer, made_no_more}
 use Rattle.network_values.proofs.ValuationLemmas.{AgreeBelow, agree-append, length-made_values, valuation_more, valuation_start}
 use Rattle.network_audit.specs.declared.findings.Place.TheVariants as place
-use Rattle.network_audit.proofs.FoundLemmas.{flat_map-same, found-behind, found-front, found-nothing, items-more, passed-item}
+use Rattle.sums.proofs.FirstLemmas.{items-more}
+use Rattle.network_audit.proofs.FoundLemmas.{flat_map-same, found-behind, found-front, found-nothing, passed-item}
 
 -- ---- items depend on the branches that lines use
 
@@ -51,8 +50,7 @@ used_early case network n shape k l early at j d inside =
 pub items_before-more : (case : Case) (network : Network) (values : Valuation) (n : ℕ) (l : Line) → slice_get network.lines n ≡ Some l → items_before case network values (n + 1) ≡ items_before case network values n ++ line_items case network values (place.Line (n + 1)) l
 unfolding items_before
 items_before-more case network values n l at =
-    let within = slice_get_within network.lines n l at in
-    let is = get_or_from_slice_get network.lines n l l at in
+    let within = slice_get_within network.lines n l at in let is = get_or_from_slice_get network.lines n l l at in
     items-more (statement_items case network values) network.lines n l within ∙ ap (λ m. items_before case network values n ++ line_items case network values (place.Line (n + 1)) m) is
 
 pub items_before-none : (case : Case) (network : Network) (values : Valuation) → items_before case network values 0 ≡ []
@@ -92,9 +90,7 @@ pub walked-more : (case : Case) (network : Network) (n made : ℕ) (values next 
     → after ≡ made + length (made_values case network (take made values) l) → take after next ≡ take made values ++ made_values case network (take made values) l
     → IsWalked case network (n + 1) after next
 walked-more case network n made values next after l shape at walked none long after_is kept =
-    let old = take made values in
-    let new = old ++ made_values case network old l in
-    let is = line_of shape n l at in
+    let old = take made values in let new = old ++ made_values case network old l in let is = line_of shape n l at in
     let made_next = is.numbers.next in
     let wide : length old ≡ made = omega (arith, length-take made values, walked.room, walked.made_is, made_no_more shape.made_once n) in
     let agree : AgreeBelow old new made = subst (AgreeBelow old new) wide (agree-append old (made_values case network old l)) in

@@ -1,8 +1,7 @@
 -- The first exchanger with a side that is not passed.
-use Rattle.std.proofs.Common.{◌≡◌, ◌∙◌, ◌<◌, ◌≤◌, ◌+◌, ◌∷◌, ◌++◌, ℕ, Bool, true, false, cond, List, [], Option, Some, None, length, take, get_or, is_some, slice_get, refl, sym, ap, arith, length-append}
+use Rattle.std.proofs.Common.{◌≡◌, ◌∙◌, ◌<◌, ◌≤◌, ◌+◌, ◌∷◌, ◌++◌, ℕ, Bool, true, false, cond, List, [], Option, Some, None, length, take, get_or, is_some, slice_get, refl, sym, ap, arith, length-append, option_to_list, length-take-le}
 use Rattle.std.specs.List.{range_with_len}
-use Rattle.std.specs.Option.{option_to_list}
-use Rattle.std.proofs.lemmas.List.{length-take-le, take_more}
+use Rattle.std.proofs.lemmas.List.{take_more}
 use Rattle.std.proofs.lemmas.List.Folds.{find_at}
 use Rattle.std.proofs.lemmas.List.FromFn.{get_or-range_with_len, length-range_with_len}
 use Rattle.std.proofs.lemmas.List.Sums.{position_or_len_is}
@@ -46,8 +45,7 @@ pub first-found : (n : Network) (index : ℕ) → index < length n.lines → ((k
     → first_missing n ≡ Some index
 unfolding first_missing
 first-found n index within before here =
-    let all = range_with_len 0 (length n.lines) in
-    let wide = length-range_with_len 0 (length n.lines) in
+    let all = range_with_len 0 (length n.lines) in let wide = length-range_with_len 0 (length n.lines) in
     let at : get_or all index 0 ≡ index = get_or-range_with_len 0 (length n.lines) index 0 within ∙ omega arith in
     let first = position_or_len_is (misses_pass n) all index 0 (omega (arith, wide, within))
     (none_before n index (length n.lines) (omega (arith, within)) before) (λ inside. ap (misses_pass n) at ∙ here) in
@@ -56,8 +54,7 @@ first-found n index within before here =
 pub none-found : (n : Network) (index : ℕ) → length n.lines ≤ index → ((k : ℕ) → k < index → misses_pass n k ≡ false) → first_missing n ≡ None
 unfolding first_missing
 none-found n index past before =
-    let all = range_with_len 0 (length n.lines) in
-    let wide = length-range_with_len 0 (length n.lines) in
+    let all = range_with_len 0 (length n.lines) in let wide = length-range_with_len 0 (length n.lines) in
     let none : (k : ℕ) → k < length all
     → misses_pass n (get_or all k 0) ≡ false = none_before n (length all) (length n.lines) (omega (arith, wide))
     (λ k within. before k (omega (arith, within, wide, past))) in

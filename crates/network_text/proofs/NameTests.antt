@@ -1,7 +1,6 @@
 -- The tests of names of branches.
-use Rattle.std.proofs.Common.{◌≡◌, ℕ, Bool, true, false, List, [], ◌∷◌, refl, sym, ap, ◌∙◌, inl, inr, ◌||◌, ◌==◌}
-use Rattle.std.specs.Prelude.{Option, Some, None, SomeIff, IfSome, is_some}
-use Rattle.std.proofs.lemmas.Bool.{and_parts, eqb-true, false_from_ne_true, or_right}
+use Rattle.std.proofs.Common.{◌≡◌, ℕ, Bool, true, false, List, [], ◌∷◌, refl, sym, ap, ◌∙◌, inl, inr, ◌||◌, ◌==◌, Option, Some, None, SomeIff, IfSome, is_some, eqb-true}
+use Rattle.std.proofs.lemmas.Bool.{and_parts, false_from_ne_true, or_right}
 use Rattle.network_text.proofs.Words.{IsAnyName, IsDottedName, is_branch_name, is_dotted_name, is_name}
 use Rattle.stream_case.proofs.NameTests.{name-passes, passed-name}
 

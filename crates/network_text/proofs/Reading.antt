@@ -1,8 +1,7 @@
 -- The statements of a text, one line after the other, and the steps of their reading.
-use Rattle.std.proofs.Common.{◌≡◌, ◌∙◌, ◌<◌, ◌+◌, ◌∷◌, ◌==◌, ℕ, true, false, not, cond, Result, Ok, Err, List, [], Some, None, length, map, filter, refl, sym, ap, subst, length-append}
-use Rattle.std.specs.Result.{IsErrAnd}
+use Rattle.std.proofs.Common.{◌≡◌, ◌∙◌, ◌<◌, ◌+◌, ◌∷◌, ◌==◌, ℕ, true, false, not, cond, Result, Ok, Err, List, [], Some, None, length, map, filter, refl, sym, ap, subst, length-append, IsErrAnd, eqb-true}
 use Rattle.std.specs.Str.Lines.{lines}
-use Rattle.std.proofs.lemmas.Bool.{eqb-true, not-false, not-true}
+use Rattle.std.proofs.lemmas.Bool.{not-false, not-true}
 use Rattle.std.proofs.lemmas.List.{nil_from_length}
 use Rattle.network_text.proofs.Words.{Case, Entry, IsComplete, IsFresh, IsOutcome, MOST_STATEMENTS, NetFault, Network, Statement, checks, entry_in, fields_of, first_failing, grammar, is_statement, start, statements_of, with_entry}
 use Rattle.first_fault.proofs.CheckLemmas.{each_passes}

@@ -1,13 +1,11 @@
 -- The tables beside a network: look-ups in them, and what one entry more adds to each.
-use Rattle.std.proofs.Common.{◌≡◌, ◌≢◌, ◌∙◌, ◌<◌, ◌≤◌, ◌+◌, ◌∷◌, ◌++◌, ℕ, Bool, true, false, List, [], All, AllPairs, Option, Some, None, get_or, length, map, slice_get, refl, sym, ap, subst, arith, append_assoc, length-append}
-use Rattle.std.specs.Prelude.{position}
+use Rattle.std.proofs.Common.{◌≡◌, ◌≢◌, ◌∙◌, ◌<◌, ◌≤◌, ◌+◌, ◌∷◌, ◌++◌, ℕ, Bool, true, false, List, [], All, AllPairs, Option, Some, None, get_or, length, map, slice_get, refl, sym, ap, subst, arith, append_assoc, length-append, position, option_to_list, bytes_eq, map-id}
 use Rattle.std.specs.List.{list_any}
 use Rattle.std.specs.Map.{keys_of}
-use Rattle.std.specs.Option.{ForSome, option_to_list}
-use Rattle.std.specs.Str.{bytes_eq}
+use Rattle.std.specs.Option.{ForSome}
 use Rattle.std.specs.Cmp.Lexicographic.{bytes_decides}
 use Rattle.std.proofs.lemmas.Bool.{false_from_ne_true}
-use Rattle.std.proofs.lemmas.List.{length-map, map-append, map-id}
+use Rattle.std.proofs.lemmas.List.{length-map, map-append}
 use Rattle.std.proofs.lemmas.List.Elements.{All-append, All-cons, All-nil, All-weaker}
 use Rattle.std.proofs.lemmas.List.Folds.{list_any_none}
 use Rattle.std.proofs.lemmas.Map.Made.{is_some-lookup}
@@ -20,7 +18,7 @@ use Rattle.stream_case.proofs.DistinctLemmas.{AllPairs-across}
 use Rattle.stream_case.proofs.ListLemmas.{none_there}
 use Rattle.networks.specs.declared.few.AtMostTwo.TheVariants as few
 use Rattle.statements.proofs.Positions.{is_some-position}
-use Rattle.networks.proofs.Lists.{AllPairs-map}
+use Rattle.sums.proofs.OrderLemmas.{AllPairs-map}
 use Rattle.networks.proofs.LineLaws.{exchangers_of-push, passages_of-front, passages_of-push, used_by-push}
 use Rattle.network_text.proofs.NameTests.{branch_name-passes}
 
@@ -132,9 +130,7 @@ module _ {es : List (List ℕ × ℕ)} {used : List ℕ} {xs : List (List ℕ ×
       → IsTracked (es ++ made_entries stream) (used ++ uses e.line) (xs ++ map named_sides (option_to_list (exchanger_of e.line)))
       (passed ++ option_to_list (passage_of (map named_branch es) e.line)) (ls ++ e.line ∷ [])
   tracked-with stream room =
-      let l = e.line in
-      let bs = map named_branch es in
-      let more = made_entries stream in
+      let l = e.line in let bs = map named_branch es in let more = made_entries stream in
       let own = map named_sides (option_to_list (exchanger_of l)) in
       let all : map named_branch (es ++ more) ≡ bs ++ map named_branch more = map-append named_branch es more in
       let wide : length bs ≡ length es = length-map es named_branch in

@@ -1,6 +1,5 @@
 -- Heights and shares on the course of a stream.
-use Rattle.std.proofs.Common.{◌≡◌, ◌∙◌, Bool, true, false, refl, sym, ap}
-use Rattle.std.specs.Prelude.{if◌then◌else◌}
+use Rattle.std.proofs.Common.{◌≡◌, ◌∙◌, Bool, true, false, refl, sym, ap, if◌then◌else◌}
 use mathlib.Core.Path.{subst₂}
 use Rattle.network_values.proofs.Words.{Between, BranchValue, Course, HasDuty, IsAtMost, IsBelow, IsBetweenValues, IsMix, Latent, Level, PassesTakeShares, Rational, Sensible, SharesRise, SideRun, height, height_on, high_of, is_above, low_of, minus, plus, positive_part, rational_zero, seen_from, share, side_on, times}
 use Rattle.fractions.proofs.Comparisons.{at_most-minus_minus, at_most_from_below, at_most_from_same, at_most_refl}

@@ -1,9 +1,8 @@
 -- Each stream ends just once, and no branch is left over.
-use Rattle.std.proofs.Common.{◌≡◌, ◌≢◌, ◌∙◌, ◌<◌, ◌⊎◌, inl, inr, ℕ, zero, suc, Bool, true, false, List, [], ◌∷◌, get_or, slice_get, length, refl, sym, ap, ap₂, subst, arith}
-use Rattle.std.specs.Prelude.{All, AllPairs, Contains, if◌then◌else◌, ◌==◌}
+use Rattle.std.proofs.Common.{◌≡◌, ◌≢◌, ◌∙◌, ◌<◌, ◌⊎◌, inl, inr, ℕ, zero, suc, Bool, true, false, List, [], ◌∷◌, get_or, slice_get, length, refl, sym, ap, ap₂, subst, arith, All, AllPairs, Contains, if◌then◌else◌, ◌==◌, eq-eqb, ne_eqb}
 use Rattle.std.specs.List.{list_any, range_with_len}
 use mathlib.Core.Path.{subst₂}
-use Rattle.std.proofs.lemmas.Bool.{cases_eq, eq-eqb, false≢true, ne_eqb}
+use Rattle.std.proofs.lemmas.Bool.{cases_eq, false≢true}
 use Rattle.std.proofs.lemmas.Bool.Decides.{nat_tests}
 use Rattle.std.proofs.lemmas.List.{get_or-map, length-map}
 use Rattle.std.proofs.lemmas.List.Elements.{All-head, All-nil, All-tail, All-weaker, Contains-get_or}
@@ -24,8 +23,7 @@ use Rattle.network_values.proofs.WholeLemmas.{All-range, Contains-range, all_sol
 pub even : (weight : Weight) → IsAdditive weight → (case : Case) (network : Network) (values : Valuation) (l : Line) → IsOfOneStream network.branches l → Solves case network values l → IsEven (weight_at weight network values) l
 even weight additive case network values (line.Exchanger name hot cold duty) one solves = tt
 even weight additive case network values (line.Split from first cp second) one solves =
-    let i = stream_at network.branches from in
-    let whole = value_at values from in
+    let i = stream_at network.branches from in let whole = value_at values from in
     let part : (b : ℕ) → stream_at network.branches b ≡ i → (value_at values b).t ≡ whole.t → weight i (record { cp = (value_at values b).cp; t = whole.t }) ≡ weight_at weight network values b =
     λ b of_stream state. ap₂ (λ n t. weight n (record { cp = (value_at values b).cp; t = t })) (sym of_stream) (sym state) in
     ap (λ f. weight i (record { cp = f; t = whole.t })) (sym solves.sizes) ∙ additive i (value_at values first).cp (value_at values second).cp whole.t

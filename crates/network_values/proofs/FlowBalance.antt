@@ -1,6 +1,5 @@
 -- What the branches of a network weigh altogether: numbers of any kind, that add up where a branch is divided.
-use Rattle.std.proofs.Common.{◌≡◌, ◌∙◌, ◌+◌, ◌-◌, ℕ, length, refl, sym, ap, ap₂, arith}
-use Rattle.std.specs.Prelude.{All}
+use Rattle.std.proofs.Common.{◌≡◌, ◌∙◌, ◌+◌, ◌-◌, ℕ, length, refl, sym, ap, ap₂, arith, All}
 use Rattle.std.specs.List.{range_with_len}
 use Rattle.std.proofs.lemmas.List.Elements.{All-weaker}
 use Rattle.network_values.proofs.Words.{AreMadeInOrder, Case, HasShape, Line, Network, Rational, ended_by, ends, made_by, makes, minus, mix_loss, pass_loss, plus, rational_sum_by, used_by, uses}
@@ -53,8 +52,7 @@ module _ (weight : ℕ → Rational) where
   all_made_by : {case : Case} {network : Network} → AreMadeInOrder case network
       → rational_sum_by weight (range_with_len 0 (length network.branches)) ≡ plus (rational_sum_by weight (range_with_len 0 (length case.streams))) (rational_sum_by weight (made_by network.lines))
   all_made_by {case} {network} made =
-      let m = length case.streams in
-      let n = length network.branches - m in
+      let m = length case.streams in let n = length network.branches - m in
       let total : m + n ≡ length network.branches = omega (arith, streams_first made) in
       let own = rational_sum_by weight (range_with_len 0 m) in
       ap (λ k. rational_sum_by weight (range_with_len 0 k)) (sym total) ∙ ap (rational_sum_by weight) (sym (range_with_len-append 0 m n))

@@ -1,7 +1,5 @@
 -- The positive part of a number.
-use Rattle.std.proofs.Common.{◌≡◌, ◌∙◌, ◌⊎◌, ⊎_elim, inl, inr, Bool, true, false, refl, sym, ap, subst}
-use Rattle.std.specs.Prelude.{if◌then◌else◌}
-use Rattle.std.specs.Bool.{MatchBool}
+use Rattle.std.proofs.Common.{◌≡◌, ◌∙◌, ◌⊎◌, ⊎_elim, inl, inr, Bool, true, false, refl, sym, ap, subst, if◌then◌else◌, MatchBool}
 use Rattle.network_values.proofs.Words.{IsAtMost, IsBelow, Rational, is_below, positive_part, rational_zero, times}
 use Rattle.fractions.proofs.Comparisons.{at_most-times_left, at_most_antisymm, at_most_from_below, at_most_refl, at_most_trans, below_or_at_most, is_below-ranks, not_negative-times}
 use Rattle.fractions.proofs.Products.{times-zero}

@@ -1,6 +1,5 @@
 -- The definitions compute on a worked network: a cold stream is split, overheated beside an exchanger, and mixed again.
-use Rattle.std.proofs.Common.{◌≡◌, ℕ, ℤ, pos, List, [], ◌∷◌, map, refl}
-use Rattle.std.specs.Prelude.{codes}
+use Rattle.std.proofs.Common.{◌≡◌, ℕ, ℤ, pos, List, [], ◌∷◌, map, refl, codes}
 use Rattle.std.specs.List.{enumerate_from}
 use Rattle.network_values.proofs.Words.{Branch, BranchValue, Case, Line, Network, Rational, Stream, Utility, Valuation, exchangers_of, gcd, height_at, heights, hot_heat, hot_target, last_remainder, lowest_form, minus, mix_penalties, pass_of, penalty, plus, positive_part, ratio, rational_cmp, stream_at, times, view_above, whole}
 use Rattle.stream_case.specs.declared.source.Side.TheVariants as side

@@ -1,10 +1,9 @@
 -- What all passes take, by the sides of the exchangers.
-use Rattle.std.proofs.Common.{◌≡◌, ◌≢◌, ◌∙◌, ◌<◌, ◌⊎◌, inl, inr, ◌++◌, ◌∷◌, ℕ, suc, Bool, true, false, Option, Some, None, get_or, slice_get, length, take, drop, refl, sym, ap, ap₂, subst, arith}
-use Rattle.std.specs.Prelude.{count_by, find, if◌then◌else◌, ◌==◌, ◌&&◌}
+use Rattle.std.proofs.Common.{◌≡◌, ◌≢◌, ◌∙◌, ◌<◌, ◌⊎◌, inl, inr, ◌++◌, ◌∷◌, ℕ, suc, Bool, true, false, Option, Some, None, get_or, slice_get, length, take, drop, refl, sym, ap, ap₂, subst, arith, count_by, find, if◌then◌else◌, ◌==◌, ◌&&◌, eq-eqb, ne_eqb}
 use Rattle.std.specs.List.{enumerate_from, range_with_len}
 use Rattle.std.specs.Option.{option_map_or}
 use Rattle.std.proofs.Math.Bool.{and-false}
-use Rattle.std.proofs.lemmas.Bool.{cases_eq, eq-eqb, ne_eqb}
+use Rattle.std.proofs.lemmas.Bool.{cases_eq}
 use Rattle.std.proofs.lemmas.Option.{same_Some, slice_get-get_or, slice_get_within}
 use Rattle.sums.proofs.ListLemmas.{slice_get-append}
 use Rattle.network_values.proofs.Words.{Case, Exchanger, HasShape, IsExchanger, Joins, Line, Network, Rational, Source, exchangers_of, inlet_height, is_pass_of, minus, outlet_height, pass_loss, pass_of, plus, rational_sum_by, rational_zero, side_of, stream_at}
@@ -109,8 +108,7 @@ module _ (weight : ℕ → Rational) (case : Case) (network : Network) (shape : 
     pass_taken : (e : Exchanger) → slice_get (exchangers_of network.lines) exchanger ≡ Some e → Joins e (stream_at network.branches from)
         → pass_loss weight the_pass ≡ rational_sum_by (line_sides weight network the_pass) (enumerate_from 0 (exchangers_of network.lines))
     pass_taken e at joins =
-        let es = exchangers_of network.lines in
-        let c = pass_loss weight the_pass in
+        let es = exchangers_of network.lines in let c = pass_loss weight the_pass in
         sym (sum-enumerate (line_sides weight network the_pass) (λ i. if i == exchanger then c else rational_zero) es each ∙ sum-single c exchanger (length es) (slice_get_within es exchanger e at))
       where
         each : (number : ℕ) (other : Exchanger) → slice_get (exchangers_of network.lines) number ≡ Some other → line_sides weight network the_pass (number, other) ≡ (if number == exchanger then pass_loss weight the_pass else rational_zero)

@@ -1,6 +1,5 @@
 -- The sum of all penalties.
-use Rattle.std.proofs.Common.{◌≡◌, ◌∙◌, ◌+ℤ◌, ◌-ℤ◌, ◌*ℤ◌, ℕ, ℤ, pos, Option, Some, None, slice_get, refl, sym, ap, ap₂, arith}
-use Rattle.std.specs.Prelude.{if◌then◌else◌}
+use Rattle.std.proofs.Common.{◌≡◌, ◌∙◌, ◌+ℤ◌, ◌-ℤ◌, ◌*ℤ◌, ℕ, ℤ, pos, Option, Some, None, slice_get, refl, sym, ap, ap₂, arith, if◌then◌else◌}
 use Rattle.std.specs.Int.{int_max}
 use Rattle.std.specs.List.{enumerate_from}
 use Rattle.std.proofs.lemmas.Int.{by_lt_z, clamps, ints}
@@ -77,8 +76,7 @@ pub streams_given : (case : Case) (view : View)
     ≡ whole (sum_side side.Hot (heat_above view.place) case.streams -ℤ sum_side side.Cold (heat_above view.place) case.streams)
 unfolding heights
 streams_given case view =
-    let hot = heat_beside side.Hot view.place in
-    let cold = heat_beside side.Cold view.place in
+    let hot = heat_beside side.Hot view.place in let cold = heat_beside side.Cold view.place in
     let less = λ (s : Stream). hot s -ℤ cold s in
     sum-items (stream_loss (heights case view)) (λ s. whole (less s)) case.streams
     (λ i s at. ap₂ minus (ap (λ o. stream_height view o (first_value s)) at) (ap (λ o. stream_height view o (last_value s)) at)
@@ -125,8 +123,7 @@ module _ (weight : ℕ → Rational) (case : Case) (network : Network) (shape : 
   pub exchangers_add_up : rational_sum_by (penalty weight network) (enumerate_from 0 (exchangers_of network.lines))
       ≡ plus (hot_heat network) (rational_sum_by (pass_loss weight) network.lines)
   exchangers_add_up =
-      let es = exchangers_of network.lines in
-      let given = λ (p : ℕ × Exchanger). hot_duty p.1 in
+      let es = exchangers_of network.lines in let given = λ (p : ℕ × Exchanger). hot_duty p.1 in
       sum-enumerated (penalty weight network) (λ p. plus (given p) (sides_taken weight network p)) es (λ number e at. by_parts number e.duty e.hot e.cold)
       ∙ rational_sum_by-plus given (sides_taken weight network) (enumerate_from 0 es)
       ∙ ap₂ plus (sum-items given hot_duty es (λ number e at. refl)) (sym (passes_by_side weight case network shape))

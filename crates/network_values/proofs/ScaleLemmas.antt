@@ -1,6 +1,5 @@
 -- The two sides of an exchanger on the shifted scale, with the heights that streams lose and gain there.
-use Rattle.std.proofs.Common.{◌≡◌, ◌∙◌, inl, inr, ◌<◌, ◌+ℤ◌, ◌-ℤ◌, ℕ, ℤ, pos, Option, Some, None, slice_get, length, refl, sym, ap, ap₂, subst, arith}
-use Rattle.std.specs.Prelude.{All, option_map, unwrap_or}
+use Rattle.std.proofs.Common.{◌≡◌, ◌∙◌, inl, inr, ◌<◌, ◌+ℤ◌, ◌-ℤ◌, ℕ, ℤ, pos, Option, Some, None, slice_get, length, refl, sym, ap, ap₂, subst, arith, All, option_map, unwrap_or}
 use Rattle.std.specs.Option.{option_map_or}
 use mathlib.Core.Path.{subst₂}
 use Rattle.std.proofs.lemmas.Int.{ints}
@@ -133,8 +132,7 @@ module _ {case : Case} {network : Network} {values : Valuation} (shape : HasShap
   hot_side number e at (source.Stream i) is joins =
       let (s, from, to, r) = run_of number i e side.Hot at (joins i refl) is in
       let base = whole (unshifted side.Hot (pos 0) (contribution_of case (source.Stream i))) in
-      let before = value_at values from in
-      let behind = value_at values to in
+      let before = value_at values from in let behind = value_at values to in
       let between : IsBetweenValues e.duty behind before = record { some = r.some; size = r.size; gives = r.heat } in record {
         has_duty = subst (λ run. HasDuty e.duty (seen_from base run)) (sym r.run) (passes_take.has_duty (Sensible base) e.duty behind before between);
         is_share = λ view j same.
@@ -152,8 +150,7 @@ module _ {case : Case} {network : Network} {values : Valuation} (shape : HasShap
   cold_side number e at (source.Stream i) is joins =
       let (s, from, to, r) = run_of number i e side.Cold at (joins i refl) is in
       let base = whole (unshifted side.Cold (pos 0) (contribution_of case (source.Stream i))) in
-      let before = value_at values from in
-      let behind = value_at values to in
+      let before = value_at values from in let behind = value_at values to in
       let between : IsBetweenValues e.duty before behind = record {
         some = subst (IsBelow rational_zero) (sym r.size) r.some;
         size = sym r.size;

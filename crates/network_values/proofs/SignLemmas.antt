@@ -1,6 +1,5 @@
 -- No penalty is negative, and the targets are met.
-use Rattle.std.proofs.Common.{◌≡◌, ◌∙◌, ⊎_elim, ◌<◌, ℕ, pos, Some, get_or, slice_get, length, map, refl, sym, ap₂, subst, arith}
-use Rattle.std.specs.Prelude.{All}
+use Rattle.std.proofs.Common.{◌≡◌, ◌∙◌, ⊎_elim, ◌<◌, ℕ, pos, Some, get_or, slice_get, length, map, refl, sym, ap₂, subst, arith, All}
 use mathlib.Core.Path.{subst₂}
 use Rattle.std.proofs.lemmas.Int.{fold-int_max_reached}
 use Rattle.std.proofs.lemmas.List.{get_or-map, length-map}
@@ -53,8 +52,7 @@ module _ (case : Case) (network : Network) (values : Valuation) (view : View) (s
   mix_sign (line.Split from first cp second) within one solves = at_most_refl rational_zero
   mix_sign (line.Pass from exchanger to) within one solves = at_most_refl rational_zero
   mix_sign (line.Mix first second to) within one solves =
-      let first_within = within 0 0 (omega arith) in
-      let second_within = within 1 0 (omega arith) in
+      let first_within = within 0 0 (omega arith) in let second_within = within 1 0 (omega arith) in
       let i = stream_at network.branches first in
       let (s, at) = item_at case.streams i (stream_within shape first first_within) in
       let mixed = height_on-mixed view.from_itself (course_of view.place s) (value_at values first) (value_at values second) (value_at values to)
@@ -107,8 +105,7 @@ hot_heat-least case network shape =
 -- the hot target is 0, or the deficit above some end
 pub targets_met : TargetsAreMet
 targets_met case network values shape whole_values ended apart =
-    let deficit = deficit_above case.streams in
-    let ends = stream_ends case.streams in
+    let deficit = deficit_above case.streams in let ends = stream_ends case.streams in
     let target = hot_target case.streams in
     not_negative-minus (whole target) (hot_heat network)
     (⊎_elim (λ none. subst (λ t. IsAtMost (whole t) (hot_heat network)) (sym none) (hot_heat-least case network shape))

@@ -1,6 +1,5 @@
 -- The first and the last state of a stream are the ends of its shifted range, unshifted.
-use Rattle.std.proofs.Common.{◌≡◌, ◌∙◌, ℤ, ap, arith}
-use Rattle.std.specs.Prelude.{if◌then◌else◌}
+use Rattle.std.proofs.Common.{◌≡◌, ◌∙◌, ℤ, ap, arith, if◌then◌else◌}
 use Rattle.std.proofs.lemmas.Int.{ints}
 use Rattle.network_values.proofs.Words.{Side, Stream, first_state, high_end, is_hot, last_state, low_end, shifted, unshifted, whole}
 use Rattle.stream_case.specs.declared.source.Side.TheVariants as side

@@ -47,8 +47,7 @@ solves_same case network values other m (line.Split from first cp second) agree 
     let two = subst (λ v. IsSplit (value_at other from) v (value_at values second) cp) (agree.same first (below.made 0 0 (omega arith))) one in
     subst (λ v. IsSplit (value_at other from) (value_at other first) v cp) (agree.same second (below.made 1 0 (omega arith))) two
 solves_same case network values other m (line.Pass from exchanger to) agree below solved =
-    let of = branch_side case network from in
-    let duty = duty_at network exchanger in
+    let of = branch_side case network from in let duty = duty_at network exchanger in
     let one = subst (λ v. IsPass of duty v (value_at values to)) (agree.same from (below.used 0 0 (omega arith))) solved in
     subst (λ v. IsPass of duty (value_at other from) v) (agree.same to (below.made 0 0 (omega arith))) one
 solves_same case network values other m (line.Mix first second to) agree below solved =
@@ -136,20 +135,15 @@ made_solves case network n values (line.Split from first cp second) is numbers =
     (subst (λ a. IsSplit v a (value_at all second) cp) (sym one)
     (subst (λ a. IsSplit v (first_part v cp) a cp) (sym two) (split_solved v cp)))
 made_solves case network n values (line.Pass from exchanger to) is numbers =
-    let v = value_at values from in
-    let of = branch_side case network from in
-    let duty = duty_at network exchanger in
-    let behind = passed_value of v duty in
-    let all = values ++ behind ∷ [] in
+    let v = value_at values from in let of = branch_side case network from in let duty = duty_at network exchanger in
+    let behind = passed_value of v duty in let all = values ++ behind ∷ [] in
     let used : from < made_before case network n = numbers.used 0 0 (omega arith) in
     let before = (agree-append values (behind ∷ [])).same from (omega (arith, used, is.count)) in
     let one : value_at all to ≡ behind = ap (value_at all) (made_place case network n values (line.Pass from exchanger to) is numbers 0 (omega arith)) ∙ get_or-append-add values (behind ∷ []) 0 no_value in
     subst (λ a. IsPass of duty a (value_at all to)) before
     (subst (λ a. IsPass of duty v a) (sym one) (pass_solved of v duty (branch_positive case network n values is from used)))
 made_solves case network n values (line.Mix first second to) is numbers =
-    let a = value_at values first in
-    let b = value_at values second in
-    let both = mixed_value a b in
+    let a = value_at values first in let b = value_at values second in let both = mixed_value a b in
     let all = values ++ both ∷ [] in
     let first_used : first < made_before case network n = numbers.used 0 0 (omega arith) in
     let second_used : second < made_before case network n = numbers.used 1 0 (omega arith) in
@@ -164,11 +158,8 @@ made_solves case network n values (line.End branch) is numbers = tt
 pub valuation_more : (case : Case) (network : Network) (n : ℕ) (values : Valuation) (l : Line) → HasShape case network → slice_get network.lines n ≡ Some l → IsValuation case network n values → LeavesRoom values l
     → IsValuation case network (suc n) (values ++ made_values case network values l)
 valuation_more case network n values l shape here is room =
-    let of = line_of shape n l here in
-    let numbers = of.numbers in
-    let made = made_values case network values l in
-    let many = length-made_values case network values l in
-    let agree = agree-append values made in
+    let of = line_of shape n l here in let numbers = of.numbers in let made = made_values case network values l in
+    let many = length-made_values case network values l in let agree = agree-append values made in
     record {
       within = of.at.within;
       count = omega (arith, length-append values made, many, numbers.next, is.count);
@@ -216,15 +207,12 @@ line_determined case network values before (line.Split from first cp second) agr
       room = parts.room (positive second no_value (below.made 1 0 (omega arith)));
     }
 line_determined case network values before (line.Pass from exchanger to) agree used below early positive solved =
-    let v = value_at before from in
-    let of = branch_side case network from in
-    let duty = duty_at network exchanger in
+    let v = value_at before from in let of = branch_side case network from in let duty = duty_at network exchanger in
     let pass = subst (λ a. IsPass of duty a (value_at values to)) (agree.same from (used 0 0 (omega arith))) solved in
     let behind = pass_determined of v (value_at values to) duty (early from no_value (used 0 0 (omega arith))) pass in
     record { made = one_made values to (passed_value of v duty) behind; room = tt }
 line_determined case network values before (line.Mix first second to) agree used below early positive solved =
-    let a = value_at before first in
-    let b = value_at before second in
+    let a = value_at before first in let b = value_at before second in
     let one = subst (λ v. IsMix v (value_at values second) (value_at values to)) (agree.same first (used 0 0 (omega arith))) solved in
     let mix = subst (λ v. IsMix a v (value_at values to)) (agree.same second (used 1 0 (omega arith))) one in
     let some = mixed_positive a b (early first no_value (used 0 0 (omega arith))) (early second no_value (used 1 0 (omega arith))) in
@@ -233,8 +221,7 @@ line_determined case network values before (line.End branch) agree used below ea
 
 pub valuation_ends : (case : Case) (network : Network) (n : ℕ) (values : Valuation) (l : Line) → HasShape case network → slice_get network.lines n ≡ Some l → IsValuation case network (suc n) values → EndsIn case network n l values
 valuation_ends case network n values l shape here is =
-    let m = made_before case network n in
-    let before = take m values in
+    let m = made_before case network n in let before = take m values in
     let numbers = (line_of shape n l here).numbers in
     let less = valuation_less case network n values shape is in
     let agree = subst (AgreeBelow values before) (sym less.count) (agree-take values m) in

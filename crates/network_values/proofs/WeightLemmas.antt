@@ -1,6 +1,5 @@
 -- The balance of any additive weight.
-use Rattle.std.proofs.Common.{◌≡◌, ◌∙◌, ◌<◌, ℕ, List, Some, get_or, slice_get, length, sym, ap, ap₂}
-use Rattle.std.specs.Prelude.{All, Contains}
+use Rattle.std.proofs.Common.{◌≡◌, ◌∙◌, ◌<◌, ℕ, List, Some, get_or, slice_get, length, sym, ap, ap₂, All, Contains}
 use Rattle.std.specs.List.{enumerate_from, range_with_len}
 use Rattle.std.specs.Option.{option_map_or}
 use Rattle.std.proofs.lemmas.List.Elements.{All-map}
@@ -49,9 +48,7 @@ module _ (case : Case) (network : Network) (values : Valuation) (weight : Weight
   ends_weigh : rational_sum_by branch_weight (ended_by network.lines) ≡ rational_sum_by end_weight streams
   unfolding ended_streams streams
   ends_weigh =
-      let all = ended_by network.lines in
-      let once = end_once shape whole ended in
-      let within = ended_within shape in
+      let all = ended_by network.lines in let once = end_once shape whole ended in let within = ended_within shape in
       let streams_within : All (λ i. i < length case.streams) (ended_streams network) = All-map (λ i. i < length case.streams) (stream_at network.branches) all (λ k d inside. stream_within shape (get_or all k d) (within k d inside)) in
       rational_sum_by-same branch_weight (λ b. end_weight (stream_at network.branches b)) all (λ k d inside. ended_weight (get_or all k d) (within k d inside) (ended.full k d inside))
       ∙ sym (rational_sum_by-map end_weight (stream_at network.branches) all)

@@ -1,9 +1,8 @@
 -- A valuation of all lines, at a line, at a stream and at a branch; numbers of a range.
-use Rattle.std.proofs.Common.{◌≡◌, ◌∙◌, ◌<◌, ℕ, zero, suc, List, [], ◌∷◌, Some, get_or, slice_get, length, sym, refl, ap, subst, arith}
-use Rattle.std.specs.Prelude.{All, Contains}
+use Rattle.std.proofs.Common.{◌≡◌, ◌∙◌, ◌<◌, ℕ, zero, suc, List, [], ◌∷◌, Some, get_or, slice_get, length, sym, refl, ap, subst, arith, All, Contains, get_or-take}
 use Rattle.std.specs.List.{range_with_len}
 use Rattle.std.proofs.Math.Seq.{take-length}
-use Rattle.std.proofs.lemmas.List.{get_or-map, get_or-take}
+use Rattle.std.proofs.lemmas.List.{get_or-map}
 use Rattle.std.proofs.lemmas.List.FromFn.{get_or-range_with_len, length-range_with_len}
 use Rattle.std.proofs.lemmas.Option.{get_or_from_slice_get, slice_get_within}
 use Rattle.network_values.proofs.Words.{Case, HasShape, IsBelow, IsWholeValuation, Network, Solves, Stream, Valuation, first_value, made_by, no_value, rational_zero, value_at}

@@ -1,7 +1,6 @@
 -- Tests of the items of a list: none that passes, some, and just one; the items of a filtered list before the filter.
-use Rattle.std.proofs.Common.{◌≡◌, ◌∙◌, ◌<◌, ◌≤◌, ◌∷◌, ◌⊎◌, inl, inr, ℕ, zero, suc, Bool, true, false, cond, List, [], All, Option, Some, None, slice_get, length, take, refl, sym, ap, arith}
-use Rattle.std.specs.Prelude.{count_by, find}
-use Rattle.std.specs.List.{cons_option, filter_map, list_any}
+use Rattle.std.proofs.Common.{◌≡◌, ◌∙◌, ◌<◌, ◌≤◌, ◌∷◌, ◌⊎◌, inl, inr, ℕ, zero, suc, Bool, true, false, cond, List, [], All, Option, Some, None, slice_get, length, take, refl, sym, ap, arith, count_by, find, filter_map}
+use Rattle.std.specs.List.{cons_option, list_any}
 use Rattle.std.proofs.lemmas.Bool.{cases_lt, cases_order, false≢true}
 use Rattle.std.proofs.lemmas.List.Elements.{All-cons, All-head, All-nil, All-tail}
 use Rattle.std.proofs.lemmas.List.Folds.{list_any_at}

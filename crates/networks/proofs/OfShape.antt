@@ -1,11 +1,10 @@
 -- What the shape says of a network, for crates above: its lines, the numbers and streams of its branches, and its passes.
-use Rattle.std.proofs.Common.{◌≡◌, ◌∙◌, ◌<◌, ◌≤◌, ◌+◌, ◌-◌, ◌∷◌, ◌++◌, ◌==◌, ℕ, zero, suc, true, List, [], All, Some, cond, get_or, slice_get, is_some, option_map, unwrap_or, length, map, take, drop, refl, sym, ap, arith, length-append}
-use Rattle.std.specs.Prelude.{count_by}
-use Rattle.std.specs.List.{cons_option, enumerate_from, filter_map, flat_map}
+use Rattle.std.proofs.Common.{◌≡◌, ◌∙◌, ◌<◌, ◌≤◌, ◌+◌, ◌-◌, ◌∷◌, ◌++◌, ◌==◌, ℕ, zero, suc, true, List, [], All, Some, cond, get_or, slice_get, is_some, option_map, unwrap_or, length, map, take, drop, refl, sym, ap, arith, length-append, count_by, filter_map, flat_map, get_or-append-add, length-take, take-append-drop, take-take}
+use Rattle.std.specs.List.{cons_option, enumerate_from}
 use Rattle.std.proofs.Math.Seq.{drop-cons, take-suc}
 use Rattle.std.proofs.lemmas.Bool.{and_parts}
 use Rattle.std.proofs.lemmas.Bool.Decides.{nat_tests}
-use Rattle.std.proofs.lemmas.List.{get_or-append-add, get_or_append_left, get_or_at, get_or_default, length-map, length-take, take-append-drop, take-take}
+use Rattle.std.proofs.lemmas.List.{get_or_append_left, get_or_at, get_or_default, length-map}
 use Rattle.std.proofs.lemmas.List.Concat.{flat_map-append}
 use Rattle.std.proofs.lemmas.List.Elements.{filter_map-append}
 use Rattle.std.proofs.lemmas.List.FromFn.{get_or-range_with_len, length-enumerate_from, length-range_with_len}
@@ -36,8 +35,7 @@ pub record StandsAt (lines : List Line) (index : ℕ) (l : Line) : Type 0 where
 
 pub stands_at : (lines : List Line) (index : ℕ) (l : Line) → slice_get lines index ≡ Some l → StandsAt lines index l
 stands_at lines index l at =
-    let within = slice_get_within lines index l at in
-    let here = get_or_from_slice_get lines index l l at in
+    let within = slice_get_within lines index l at in let here = get_or_from_slice_get lines index l l at in
     record {
       here = at;
       within = within;
@@ -79,8 +77,7 @@ unfolding exchangers_of
 exchanger_at lines index name hot cold duty here =
     let l = line.Exchanger name hot cold duty in
     let e : Exchanger = record { name = name; hot = hot; cold = cold; duty = duty } in
-    let before = exchangers_of (take index lines) in
-    let later = exchangers_of (drop (suc index) lines) in
+    let before = exchangers_of (take index lines) in let later = exchangers_of (drop (suc index) lines) in
     let parts : exchangers_of lines ≡ before ++ e ∷ later = declared_parts (stands_at lines index l here) in
     let within : length before < length (exchangers_of lines) = omega (arith, ap length parts, length-append before (e ∷ later)) in
     let own : get_or (exchangers_of lines) (length before) e ≡ e = ap (λ es. get_or es (length before) e) parts
@@ -117,8 +114,7 @@ made_next case network {index} {l} at =
 pub made_within : {case : Case} {network : Network} {index : ℕ} {l : Line} → AreMadeInOrder case network → StandsAt network.lines index l
     → made_before case network index + length (makes l) ≤ length network.branches
 made_within {case} {network} {index} {l} made at =
-    let before = made_by (take index network.lines) in
-    let later = made_by (drop (suc index) network.lines) in
+    let before = made_by (take index network.lines) in let later = made_by (drop (suc index) network.lines) in
     let parts = ap length (made_parts at) ∙ length-append before (makes l ++ later) in
     omega (arith, parts, length-append (makes l) later, all_made made)
 
@@ -126,8 +122,7 @@ made_within {case} {network} {index} {l} made at =
 pub made_at : {case : Case} {network : Network} {index : ℕ} {l : Line} → AreMadeInOrder case network → StandsAt network.lines index l → (j : ℕ)
     → j < length (makes l) → get_or (makes l) j 0 ≡ made_before case network index + j
 made_at {case} {network} {index} {l} made at j within =
-    let before = made_by (take index network.lines) in
-    let later = made_by (drop (suc index) network.lines) in
+    let before = made_by (take index network.lines) in let later = made_by (drop (suc index) network.lines) in
     let n = length before in
     let here = ap (λ ns. get_or ns (n + j) 0) (made_parts at) ∙ get_or-append-add before (makes l ++ later) j 0
     ∙ get_or_append_left (makes l) later 0 j within in
@@ -142,8 +137,7 @@ made_at {case} {network} {index} {l} made at j within =
 pub made_fewer : (case : Case) (network : Network) (k index : ℕ) → k ≤ index → made_before case network k ≤ made_before case network index
 unfolding made_by
 made_fewer case network k index early =
-    let front = take index network.lines in
-    let first = take-take k index network.lines early in
+    let front = take index network.lines in let first = take-take k index network.lines early in
     let parts = ap (flat_map makes) (sym (take-append-drop k front)) ∙ flat_map-append makes (take k front) (drop k front) in
     let long = ap length parts ∙ length-append (flat_map makes (take k front)) (flat_map makes (drop k front)) in
     let same = ap (λ ls. length (flat_map makes ls)) first in
@@ -183,8 +177,7 @@ used_there {case} {network} made first k d within j e inside =
 
 pub made_there : {case : Case} {network : Network} → AreMadeInOrder case network → All (λ l. All (λ b. b < length network.branches) (makes l)) network.lines
 made_there {case} {network} made k d within j e inside =
-    let l = get_or network.lines k d in
-    let at = line_at network.lines k d within in
+    let l = get_or network.lines k d in let at = line_at network.lines k d within in
     let number = get_or_default (makes l) j e 0 inside ∙ made_at made at j inside in
     omega (arith, number, made_within made at, inside)
 
@@ -254,8 +247,7 @@ made_known shape at j within = omega (arith, made_at shape.made_once at j within
 exchanger_known : {case : Case} {network : Network} {index from exchanger to : ℕ} → HasShape case network
     → StandsAt network.lines index (line.Pass from exchanger to) → exchanger < length (exchangers_of network.lines)
 exchanger_known {case} {network} {index} {from} {exchanger} {to} shape at =
-    let l = line.Pass from exchanger to in
-    let before = exchangers_of (take index network.lines) in
+    let l = line.Pass from exchanger to in let before = exchangers_of (take index network.lines) in
     let (e, declared, joins) = shape.declared_first index l at.here in
     omega (
       arith,

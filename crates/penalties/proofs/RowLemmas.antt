@@ -5,7 +5,7 @@ use Rattle.std.proofs.lemmas.List.{map-append}
 use Rattle.std.proofs.lemmas.List.Elements.{filter_map-append}
 use Rattle.penalties.proofs.Words.{Line, Place, Rational, Step, line_steps, mix_row}
 use Rattle.networks.specs.declared.network.Line.TheVariants as line
-use Rattle.penalties.proofs.StepLemmas.{enumerated-more}
+use Rattle.sums.proofs.FirstLemmas.{enumerated-more}
 
 module _ {X Y : Type 0} (xs : List X) (n : ℕ) (d : X) (within : n < length xs) where
   -- one row more

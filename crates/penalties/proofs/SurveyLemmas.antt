@@ -1,6 +1,5 @@
 -- What a survey reads is what its steps and heights speak of.
-use Rattle.std.proofs.Common.{◌≡◌, ◌∙◌, ◌+◌, ◌∷◌, ℕ, true, false, [], Option, Some, None, slice_get, unwrap_or, zero, suc, refl, ap}
-use Rattle.std.specs.Prelude.{if◌then◌else◌, option_and_then}
+use Rattle.std.proofs.Common.{◌≡◌, ◌∙◌, ◌+◌, ◌∷◌, ℕ, true, false, [], Option, Some, None, slice_get, unwrap_or, zero, suc, refl, ap, if◌then◌else◌, option_and_then}
 use Rattle.penalties.proofs.Words.{Audit, Place, Rational, Stream, Survey, Valuation, height, height_steps, heights, is_below, no_value, positive_part, rational_zero, seen_height, seen_steps, step, stream_at, stream_height, stream_steps, times, value_at, values_of, view_above}
 use Rattle.fractions.proofs.Products.{times-zero}
 

@@ -1,6 +1,5 @@
 -- The early ends of reading.
-use Rattle.std.proofs.Common.{◌≡◌, ℕ, List, Option, Some, Result, Ok, Err, IfOk, refl, subst, sym}
-use Rattle.std.specs.Result.{IsErrAnd}
+use Rattle.std.proofs.Common.{◌≡◌, ℕ, List, Option, Some, Result, Ok, Err, IfOk, refl, subst, sym, IsErrAnd}
 use Rattle.pinch.proofs.Words.{Audit, Case, Command, Early, EndsIn, Format, IfEarly, IfEnd, NoText, Reading, ReadsText, Request, ShelfState, Shown, ShowsCommand, Stop, by_text, case_file, completed, file, network_file, no_text, reading_of}
 use Rattle.pinch.specs.declared.stop.Stop.TheVariants.{OutOfMemory}
 

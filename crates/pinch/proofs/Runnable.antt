@@ -1,7 +1,5 @@
 -- Words form only commands that can run.
-use Rattle.std.proofs.Common.{◌≡◌, ◌<◌, ◌≤◌, ◌+◌, ◌*◌, ℕ, Bool, true, false, List, [], ◌∷◌, Option, Some, None, option_map, IfSome, refl, subst, arith}
-use Rattle.std.specs.Prelude.{pos, ◌&&◌, nat_le, nat_lt, codes, if◌then◌else◌}
-use Rattle.std.specs.Str.{bytes_eq}
+use Rattle.std.proofs.Common.{◌≡◌, ◌<◌, ◌≤◌, ◌+◌, ◌*◌, ℕ, Bool, true, false, List, [], ◌∷◌, Option, Some, None, option_map, IfSome, refl, subst, arith, pos, ◌&&◌, nat_le, nat_lt, codes, if◌then◌else◌, bytes_eq}
 use Rattle.std.proofs.lemmas.Bool.Decides.{nat_tests}
 use Rattle.std.proofs.lemmas.Int.{ints}
 use Rattle.pinch.proofs.Words.{Command, Curves, Design, Flow, IsRunnable, IsSweepPlan, MOST_DIGITS, MOST_END, MOST_ROWS, MOST_SAMPLE_NUMBER, MOST_SAMPLE_STREAMS, MOST_STEP, MOST_WORKERS, OfCase, Site, SweepPlan, Targets, Vertical, audit_of, command_of, command_of_word, limited, natural_in, number_within, one_file, plan_of, plan_with, sample_count_of, sample_number_of, sample_of, sample_with, sweep_of, sweep_with, workers_of}

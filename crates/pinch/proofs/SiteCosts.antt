@@ -1,6 +1,5 @@
 -- A heat flow of a site costs what its boiler gives.
-use Rattle.std.proofs.Common.{◌≡◌, inl, inr, ◌∙◌, sym, ap, ap₂, zero, suc, ◌<◌, Bool, true, false, List, length, get_or, arith}
-use Rattle.std.specs.Prelude.{if◌then◌else◌, ℤ, pos, ◌+ℤ◌, ◌*ℤ◌}
+use Rattle.std.proofs.Common.{◌≡◌, inl, inr, ◌∙◌, sym, ap, ap₂, zero, suc, ◌<◌, Bool, true, false, List, length, get_or, arith, if◌then◌else◌, ℤ, pos, ◌+ℤ◌, ◌*ℤ◌}
 use Rattle.std.proofs.lemmas.Int.{ints}
 use Rattle.std.proofs.lemmas.Option.{none-some, same_Some, slice_get-get_or}
 use Rattle.std.specs.Option.{option_map_or}
@@ -36,8 +35,7 @@ module _ (site : Site) (hot cold : List Part) (parts : AreSiteParts site hot col
   -- what a transfer costs at its hot part
   hot_cost : (t : Transfer) → t.hot < length hot → part_price hot t.hot *ℤ t.heat ≡ heat_of_utility 0 Hot hot t
   hot_cost t within =
-      let p = get_or hot t.hot blank in
-      let at = slice_get-get_or hot t.hot blank within in
+      let p = get_or hot t.hot blank in let at = slice_get-get_or hot t.hot blank within in
       ap (λ price. price *ℤ t.heat) (hot_price p (parts.hot_parts.each t.hot blank within))
       ∙ times_price (same_source p.source (of_utility 0)) t.heat
       ∙ sym (ap (λ o. if option_map_or (λ (q : Part). same_source q.source (of_utility 0)) o false then t.heat else pos 0) at)

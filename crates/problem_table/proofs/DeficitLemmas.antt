@@ -1,6 +1,5 @@
 -- Deficits, and the targets, of lists of valid streams.
-use Rattle.std.proofs.Common.{◌≡◌, ℕ, ◌+◌, ◌<◌, ◌⊎◌, ⊎_elim, inl, inr, List, [], ◌∷◌, length, get_or, take, map, refl, ap, ap₂, sym, subst, ◌∙◌, arith}
-use Rattle.std.specs.Prelude.{ℤ, pos, ◌-ℤ◌, ◌≤ℤ◌, All, Contains, fold}
+use Rattle.std.proofs.Common.{◌≡◌, ℕ, ◌+◌, ◌<◌, ◌⊎◌, ⊎_elim, inl, inr, List, [], ◌∷◌, length, get_or, take, map, refl, ap, ap₂, sym, subst, ◌∙◌, arith, ℤ, pos, ◌-ℤ◌, ◌≤ℤ◌, All, Contains, fold}
 use Rattle.std.specs.Int.{int_max}
 use Rattle.std.proofs.lemmas.Int.{ints, fold-int_max_bounds, fold-int_max_reached}
 use Rattle.std.proofs.lemmas.List.{map-append, length-map, get_or-map}
@@ -58,8 +57,7 @@ module _ (f : ℤ → ℤ) where
 -- a loop's step
 pub hot_target-more : (streams : List Stream) (i : ℕ) (s : Stream) → i < length streams → s ≡ get_or streams i s → fold int_max (pos 0) (map (deficit_above streams) (stream_ends (take (i + 1) streams))) ≡ int_max (int_max (fold int_max (pos 0) (map (deficit_above streams) (stream_ends (take i streams)))) (deficit_above streams (high_end s))) (deficit_above streams (low_end s))
 hot_target-more streams i s within is =
-    let f = deficit_above streams in
-    let ends = stream_ends (take i streams) in
+    let f = deficit_above streams in let ends = stream_ends (take i streams) in
     ap (λ xs. fold int_max (pos 0) (map f xs)) (stream_ends-more streams i s within is)
     ∙ ap (fold int_max (pos 0)) (map-append f ends (high_end s ∷ low_end s ∷ []))
     ∙ fold-append int_max (pos 0) (map f ends) (f (high_end s) ∷ f (low_end s) ∷ [])
@@ -70,8 +68,7 @@ hot_target-bound streams = greatest_value-bound (deficit_above streams) (stream_
 -- the deficit at the highest end is 0, so the hot target is the deficit at some end
 pub some_tight : (streams : List Stream) → HasValidStreams streams → (t : ℤ) × IsTight streams t
 some_tight streams h =
-    let ends = stream_ends streams in
-    let t = outermost Hot ends in
+    let ends = stream_ends streams in let t = outermost Hot ends in
     let top = IsOutermost-outermost Hot ends (omega (arith, h.some, length-stream_ends streams)) in
     let below = All-weaker (λ s. (high_end s ≤ℤ t) × (low_end s ≤ℤ t)) (λ s. high_end s ≤ℤ t) (λ s e. e.0) streams (each_end (λ e. e ≤ℤ t) streams top.bound) in
     let none = deficit_above-highest t streams h.are_streams.each below in
@@ -99,26 +96,21 @@ hot_target-within streams h =
 pub cold_target-within : (streams : List Stream) → AreStreams streams → IsBetween (pos 0) (sum_side Hot heat_of streams) (cold_target streams)
 cold_target-within [] h = record { from = omega (arith, ints); upto = omega (arith, ints) }
 cold_target-within (s ∷ ss) h =
-    let streams = s ∷ ss in
-    let ends = stream_ends streams in
-    let t = outermost Cold ends in
+    let streams = s ∷ ss in let ends = stream_ends streams in let t = outermost Cold ends in
     let bottom = IsOutermost-outermost Cold ends (omega arith) in
     let above = All-weaker (λ x. (t ≤ℤ high_end x) × (t ≤ℤ low_end x)) (λ x. t ≤ℤ low_end x) (λ x e. e.1) streams (each_end (λ e. t ≤ℤ e) streams bottom.bound) in
     let lowest = deficit_above-lowest t streams h.each above in
-    let bound = hot_target-bound streams t bottom.member in
-    let hot = hot_target-within streams h in
+    let bound = hot_target-bound streams t bottom.member in let hot = hot_target-within streams h in
     record { from = omega (arith, ints, hot); upto = omega (arith, ints, hot) }
 
 pub hot_target-between : (streams : List Stream) → AreStreams streams → IsStreamsHeat (hot_target streams)
 hot_target-between streams h =
-    let target = hot_target-within streams h in
-    let all = (all_heat streams h).1 in
+    let target = hot_target-within streams h in let all = (all_heat streams h).1 in
     record { from = target.from; upto = omega (arith, ints, target, all) }
 
 pub cold_target-between : (streams : List Stream) → AreStreams streams → IsStreamsHeat (cold_target streams)
 cold_target-between streams h =
-    let target = cold_target-within streams h in
-    let all = (all_heat streams h).0 in
+    let target = cold_target-within streams h in let all = (all_heat streams h).0 in
     record { from = target.from; upto = omega (arith, ints, target, all) }
 
 -- the cold target is the hot target less the deficit above a place that is below all ends

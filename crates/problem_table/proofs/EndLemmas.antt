@@ -1,6 +1,5 @@
 -- The outermost of some temperatures: the greatest or the least.
-use Rattle.std.proofs.Common.{◌≡◌, suc, ◌<◌, ◌⊎◌, inl, inr, List, [], ◌∷◌, length, refl, sym, arith}
-use Rattle.std.specs.Prelude.{ℤ, ◌≤ℤ◌, All, Contains}
+use Rattle.std.proofs.Common.{◌≡◌, suc, ◌<◌, ◌⊎◌, inl, inr, List, [], ◌∷◌, length, refl, sym, arith, ℤ, ◌≤ℤ◌, All, Contains}
 use Rattle.std.proofs.lemmas.Int.{fold-int_max_bounds, fold-int_max_reached, fold-int_min_bounds, fold-int_min_reached}
 use Rattle.std.proofs.lemmas.List.Elements.{All-cons}
 use Rattle.problem_table.proofs.Words.{Cold, Hot, Side, outermost}

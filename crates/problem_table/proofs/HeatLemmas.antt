@@ -1,6 +1,5 @@
 -- The heat of a stream above a shifted temperature, against its whole heat.
-use Rattle.std.proofs.Common.{◌≡◌, ap, ◌∙◌, arith}
-use Rattle.std.specs.Prelude.{ℤ, pos, ◌-ℤ◌, ◌*ℤ◌, ◌≤ℤ◌}
+use Rattle.std.proofs.Common.{◌≡◌, ap, ◌∙◌, arith, ℤ, pos, ◌-ℤ◌, ◌*ℤ◌, ◌≤ℤ◌}
 use Rattle.std.proofs.lemmas.Int.{ints, clamps}
 use Rattle.std.proofs.Math.IntN.{*ℤ-zero}
 use Rattle.sums.proofs.ProductLemmas.{*ℤ-≤ℤ_left}
@@ -9,8 +8,7 @@ use Rattle.stream_case.proofs.EndLemmas.{AreEnds-IsValidStream}
 
 pub heat_above-le : (t : ℤ) (s : Stream) → IsValidStream s → heat_above t s ≤ℤ heat_of s
 heat_above-le t s h =
-    let cp = h.cp in
-    let ends = AreEnds-IsValidStream s h in
+    let cp = h.cp in let ends = AreEnds-IsValidStream s h in
     *ℤ-≤ℤ_left s.cp (length_above (low_end s) (high_end s) t) (high_end s -ℤ low_end s) (omega (arith, ints)) (omega (arith, ints, clamps))
 
 -- above the range there is none, and above a temperature below it there is all

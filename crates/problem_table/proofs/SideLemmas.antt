@@ -1,8 +1,6 @@
 -- Sums over the streams of one side.
-use Rattle.std.proofs.Common.{◌≡◌, ℕ, ◌+◌, ◌*◌, ◌<◌, ◌≤◌, Bool, true, false, List, length, get_or, take, ap, sym, ◌∙◌, refl, arith}
-use Rattle.std.specs.Prelude.{ℤ, pos, ◌+ℤ◌, ◌≤ℤ◌, if◌then◌else◌, All}
+use Rattle.std.proofs.Common.{◌≡◌, ℕ, ◌+◌, ◌*◌, ◌<◌, ◌≤◌, Bool, true, false, List, length, get_or, take, ap, sym, ◌∙◌, refl, arith, ℤ, pos, ◌+ℤ◌, ◌≤ℤ◌, if◌then◌else◌, All, length-take}
 use Rattle.std.proofs.lemmas.Int.{ints}
-use Rattle.std.proofs.lemmas.List.{length-take}
 use Rattle.std.proofs.lemmas.List.Elements.{All-take, All-weaker}
 use Rattle.problem_table.proofs.Words.{ALL_STREAMS, AreStreams, IsBetween, IsStreamHeat, IsStreamsHeat, IsValidStream, Side, Stream, int_sum_by, same_side, sum_side}
 use Rattle.sums.proofs.SumLemmas.{int_sum_by-more, int_sum_by-zero, int_sum_by-same, int_sum_by-le, int_sum_by-not_negative, int_sum_by-at_most}

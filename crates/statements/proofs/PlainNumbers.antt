@@ -1,7 +1,6 @@
 -- Printed whole numbers are plain fields, and are read as themselves.
-use Rattle.std.proofs.Common.{◌≡◌, ◌≢◌, ◌<◌, ◌≤◌, ◌==◌, ◌^◌, ℕ, ℤ, pos, negsuc, suc, false, List, All, Some, get_or, option_map, length, ap, subst, arith}
-use Rattle.std.specs.Prelude.{unsigned_abs}
-use Rattle.std.specs.Fmt.{decimal, signed_decimal}
+use Rattle.std.proofs.Common.{◌≡◌, ◌≢◌, ◌<◌, ◌≤◌, ◌==◌, ◌^◌, ℕ, ℤ, pos, negsuc, suc, false, List, All, Some, get_or, option_map, length, ap, subst, arith, unsigned_abs, decimal}
+use Rattle.std.specs.Fmt.{signed_decimal}
 use Rattle.std.proofs.Math.Nat.{pow-le-pow_right}
 use Rattle.std.proofs.lemmas.Bool.Decides.{nat_tests}
 use Rattle.std.proofs.lemmas.Fmt.{decimal_is_IsNumeral_wide}
@@ -24,8 +23,7 @@ IsDigit b = (48 ≤ b) × (b < 58)
 
 decimal_digits : (n : ℕ) → n < 10 ^ 64 → All IsDigit (decimal n)
 decimal_digits n small k d within =
-    let numeral = decimal_is_IsNumeral_wide n small in
-    let digit = digit_at (decimal n) k numeral.0.1 within in
+    let numeral = decimal_is_IsNumeral_wide n small in let digit = digit_at (decimal n) k numeral.0.1 within in
     subst IsDigit (get_or_default (decimal n) k 0 d within) (digit.0, omega (arith, digit))
 
 pub decimal_some : (n : ℕ) → n < 10 ^ 64 → 0 < length (decimal n)

@@ -1,10 +1,9 @@
 -- Statements of plain fields, as lines of text, are read as themselves.
-use Rattle.std.proofs.Common.{◌≡◌, ◌∙◌, ◌<◌, ◌≤◌, ◌-◌, ◌∷◌, ◌++◌, ◌==◌, ℕ, Bool, true, false, not, List, [], All, get_or, nat_lt, length, map, refl, sym, ap, arith, append_assoc}
-use Rattle.std.specs.List.{AllByRecursion, filter, flat_map, list_all, slice_split}
+use Rattle.std.proofs.Common.{◌≡◌, ◌∙◌, ◌<◌, ◌≤◌, ◌-◌, ◌∷◌, ◌++◌, ◌==◌, ℕ, Bool, true, false, not, List, [], All, get_or, nat_lt, length, map, refl, sym, ap, arith, append_assoc, filter, flat_map, append-nil}
+use Rattle.std.specs.List.{AllByRecursion, list_all, slice_split}
 use Rattle.std.specs.Str.Lines.{lines, lines_of_parts, strip_carriage_return}
 use Rattle.statements.proofs.LineCuts.{before_more}
 use Rattle.std.proofs.lemmas.Bool.Decides.{nat_tests}
-use Rattle.std.proofs.lemmas.List.{append-nil}
 use Rattle.std.proofs.lemmas.List.Elements.{All-append, All-cons, All-from_recursion, All-head, All-nil, All-tail, All-weaker}
 use Rattle.std.proofs.lemmas.List.Sums.{AllPass-from_list_all}
 use Rattle.std.proofs.lemmas.List.Splits.{length-slice_split, slice_split_at, slice_split_none}

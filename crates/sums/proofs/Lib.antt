@@ -7,3 +7,4 @@ pub mod OrderLemmas
 pub mod ProductLemmas
 pub mod SumLemmas
 pub mod WalkLemmas
+pub mod FirstLemmas

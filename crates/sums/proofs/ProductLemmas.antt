@@ -1,6 +1,5 @@
 -- Products of integers: the laws of `*ℤ` with `+ℤ`, `-ℤ`, `≤ℤ` and `<ℤ`, and bounds.
-use Rattle.std.proofs.Common.{◌≡◌, ◌∙◌, ℕ, ◌+◌, ◌*◌, sym, ap, ap₂, arith}
-use Rattle.std.specs.Prelude.{ℤ, pos, negsuc, neg_ℤ, ◌+ℤ◌, ◌-ℤ◌, ◌*ℤ◌, ◌≤ℤ◌, ◌<ℤ◌}
+use Rattle.std.proofs.Common.{◌≡◌, ◌∙◌, ℕ, ◌+◌, ◌*◌, sym, ap, ap₂, arith, ℤ, pos, negsuc, neg_ℤ, ◌+ℤ◌, ◌-ℤ◌, ◌*ℤ◌, ◌≤ℤ◌, ◌<ℤ◌}
 use Rattle.std.specs.Int.Signed.{clash_ℤ}
 use Rattle.std.proofs.Math.IntN.{*ℤ_comm}
 use Rattle.std.proofs.Math.Nat.{mul-pos}
@@ -11,8 +10,7 @@ use borrow.Author.Differences.{up, down}
 pub *ℤ-+ℤ : (a b c : ℤ) → a *ℤ (b +ℤ c) ≡ a *ℤ b +ℤ a *ℤ c
 *ℤ-+ℤ a b c =
     let e : up (b +ℤ c) + down b + down c ≡ down (b +ℤ c) + up b + up c = omega (arith, ints) in
-    let above = ap (λ x. up a * x) e in
-    let below = ap (λ x. down a * x) e in
+    let above = ap (λ x. up a * x) e in let below = ap (λ x. down a * x) e in
     omega (arith, ints)
 
 -- a factor that is a difference
@@ -88,8 +86,7 @@ pub *ℤ-<ℤ_right : (c a b : ℤ) → pos 0 <ℤ c → a <ℤ b → (a *ℤ c)
 pub *ℤ-≤ℤ_turned : (a b c : ℤ) → a ≤ℤ pos 0 → c ≤ℤ b → (a *ℤ b) ≤ℤ (a *ℤ c)
 *ℤ-≤ℤ_turned a b c h le =
     let more = product_not_negative (neg_ℤ a) (b -ℤ c) (omega (arith, ints)) (omega (arith, ints)) in
-    let split = *ℤ--ℤ a b c in
-    let turned = neg_ℤ-*ℤ a (b -ℤ c) in
+    let split = *ℤ--ℤ a b c in let turned = neg_ℤ-*ℤ a (b -ℤ c) in
     omega (arith, ints)
 
 -- a factor is taken away
@@ -110,8 +107,7 @@ pub *ℤ_cancel_right : (c a b : ℤ) → pos 0 <ℤ c → a *ℤ c ≡ b *ℤ c
 -- a product with a number that is not negative is within the product of the bounds
 pub product_within : (a b : ℤ) (m n : ℕ) → neg_ℤ (pos m) ≤ℤ a → a ≤ℤ pos m → pos 0 ≤ℤ b → b ≤ℤ pos n → (neg_ℤ (pos (m * n)) ≤ℤ (a *ℤ b)) × ((a *ℤ b) ≤ℤ pos (m * n))
 product_within a b m n a0 am b0 bn =
-    let low = *ℤ-≤ℤ_right b (neg_ℤ (pos m)) a b0 a0 in
-    let high = *ℤ-≤ℤ_right b a (pos m) b0 am in
+    let low = *ℤ-≤ℤ_right b (neg_ℤ (pos m)) a b0 a0 in let high = *ℤ-≤ℤ_right b a (pos m) b0 am in
     let both = *ℤ-≤ℤ_left (pos m) b (pos n) (omega (arith, ints)) bn in
     let turned = neg_ℤ-*ℤ (pos m) b in
     (omega (arith, ints), omega (arith, ints))

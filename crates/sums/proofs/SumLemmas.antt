@@ -1,9 +1,8 @@
 -- Sums of integers over lists.
-use Rattle.std.proofs.Common.{◌≡◌, ℕ, add-zero, length-take, suc, ◌≢◌, ◌+◌, ◌-◌, ◌*◌, ◌<◌, ◌≤◌, ⊎_elim, List, [], ◌∷◌, ◌++◌, length, get_or, take, drop, Bool, true, false, map, Some, refl, ap, ap₂, sym, ◌∙◌, arith, zero-add}
-use Rattle.std.specs.Prelude.{ℤ, pos, ◌+ℤ◌, ◌-ℤ◌, ◌*ℤ◌, ◌≤ℤ◌, All, slice_get, if◌then◌else◌, ◌==◌}
-use Rattle.std.proofs.lemmas.Bool.{cases_eq, eq-eqb, ne_eqb}
+use Rattle.std.proofs.Common.{◌≡◌, ℕ, add-zero, length-take, suc, ◌≢◌, ◌+◌, ◌-◌, ◌*◌, ◌<◌, ◌≤◌, ⊎_elim, List, [], ◌∷◌, ◌++◌, length, get_or, take, drop, Bool, true, false, map, Some, refl, ap, ap₂, sym, ◌∙◌, arith, zero-add, ℤ, pos, ◌+ℤ◌, ◌-ℤ◌, ◌*ℤ◌, ◌≤ℤ◌, All, slice_get, if◌then◌else◌, ◌==◌, eq-eqb, ne_eqb, take-append-drop}
+use Rattle.std.proofs.lemmas.Bool.{cases_eq}
 use Rattle.std.proofs.lemmas.Int.{ints}
-use Rattle.std.proofs.lemmas.List.{take_more, take-append-drop}
+use Rattle.std.proofs.lemmas.List.{take_more}
 use Rattle.std.proofs.lemmas.List.Elements.{All-cons, All-head, All-nil, All-tail}
 use Rattle.sums.specs.Pairing.{cons_if}
 use Rattle.sums.specs.Sum.{int_sum_by, int_sum_from}
@@ -54,8 +53,7 @@ module _ {X : Type 0} where
   pub int_sum_by-equal : (f g : X → ℤ) (xs : List X) → All (λ x. f x ≤ℤ g x) xs → int_sum_by f xs ≡ int_sum_by g xs → All (λ x. f x ≡ g x) xs
   int_sum_by-equal f g [] le e = All-nil (λ x. f x ≡ g x)
   int_sum_by-equal f g (x ∷ xs) le e =
-      let first = All-head (λ y. f y ≤ℤ g y) x xs le in
-      let others = All-tail (λ y. f y ≤ℤ g y) x xs le in
+      let first = All-head (λ y. f y ≤ℤ g y) x xs le in let others = All-tail (λ y. f y ≤ℤ g y) x xs le in
       let rest = int_sum_by-le f g xs others in
       All-cons (λ y. f y ≡ g y) x xs (omega (arith, ints)) (int_sum_by-equal f g xs others (omega (arith, ints)))
 

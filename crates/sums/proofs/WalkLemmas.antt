@@ -1,13 +1,9 @@
 -- A walk along two lists of amounts that are laid end to end on one axis: from each point where an amount ends to the next such point.
-use Rattle.std.proofs.Common.{◌≡◌, ◌≢◌, ◌⊎◌, ⊎_elim, inl, inr, ◌∙◌, refl, sym, ap, ap₂, subst, add-zero, ℕ, zero, suc, ◌+◌, ◌-◌, ◌<◌, ◌≤◌, Bool, true, false, List, [], ◌∷◌, ◌++◌, length, get_or, arith}
-use Rattle.std.specs.Prelude.{ℤ, pos, ◌+ℤ◌, ◌-ℤ◌, ◌≤ℤ◌, ◌<ℤ◌, int_lt, ◌==◌, if◌then◌else◌, All, AllPairs, Contains}
-use Rattle.std.specs.Bool.{Decides}
+use Rattle.std.proofs.Common.{◌≡◌, ◌≢◌, ◌⊎◌, ⊎_elim, inl, inr, ◌∙◌, refl, sym, ap, ap₂, subst, add-zero, ℕ, zero, suc, ◌+◌, ◌-◌, ◌<◌, ◌≤◌, Bool, true, false, List, [], ◌∷◌, ◌++◌, length, get_or, arith, ℤ, pos, ◌+ℤ◌, ◌-ℤ◌, ◌≤ℤ◌, ◌<ℤ◌, int_lt, ◌==◌, if◌then◌else◌, All, AllPairs, Contains, Decides, int_eq, eq-eqb, ne_eqb, take_all}
 use Rattle.std.specs.Int.{int_max, int_min}
-use Rattle.std.specs.Ordering.{int_eq}
 use Rattle.std.proofs.lemmas.Bool.Decides.{Decides-int_eq}
-use Rattle.std.proofs.lemmas.Bool.{cases_eq, cases_lt, eq-eqb, ne_eqb}
+use Rattle.std.proofs.lemmas.Bool.{cases_eq, cases_lt}
 use Rattle.std.proofs.lemmas.Int.{ints, clamps, by_lt_z}
-use Rattle.std.proofs.lemmas.List.{take_all}
 use Rattle.std.proofs.lemmas.List.Elements.{All-append, All-nil, All-tail, All-weaker, Contains-append_left, Contains-append_right}
 use Rattle.sums.specs.declared.pairs.Pair.{Pair}
 use Rattle.sums.specs.declared.pairs.Progress.{Progress}
@@ -81,18 +77,13 @@ goes_on xs p at next more h stands some upto gives = by (int_eq given amount) (D
 
     by : (b : Bool) → Decides b (given ≡ amount) → GoesOn xs p (if b then record { index = p.index + 1; given = pos 0 } else record { index = p.index; given = given }) next
     by true d =
-        let whole = d.0 refl in
-        let is = stands.given in
-        let end = begin_of-suc xs p.index in
+        let whole = d.0 refl in let is = stands.given in let end = begin_of-suc xs p.index in
         let count : p.index + 1 ≡ suc p.index = omega arith in
-        let begin = ap (begin_of xs) count in
-        let step = begin_of-next xs h (p.index + 1) in
+        let begin = ap (begin_of xs) count in let step = begin_of-next xs h (p.index + 1) in
         let span = begin_of-suc xs (p.index + 1) in
         record { stands = record { within = record { from = omega (arith, ints); upto = omega (arith, ints) }; given = omega (arith, ints) }; behind = omega arith; ends = λ e. count }
     by false d =
-        let is = stands.given in
-        let within = stands.within in
-        let end = begin_of-suc xs p.index in
+        let is = stands.given in let within = stands.within in let end = begin_of-suc xs p.index in
         record { stands = record { within = record { from = omega (arith, ints); upto = omega (arith, ints) }; given = omega (arith, ints) }; behind = omega arith; ends = λ e. let whole = d.1 (omega (arith, ints)) in cc whole }
 
 -- ---- the pairs of a walk
@@ -144,8 +135,7 @@ pub record IsWalk (us vs : List ℤ) (p q : Progress) (ps : List Pair) : Type 0 
 pub within_both : (us vs : List ℤ) (p q : Progress) (ps : List Pair) (more : ℤ) → more ≡ int_min (get_or us p.index (pos 0) -ℤ p.given) (get_or vs q.index (pos 0) -ℤ q.given) → IsWalk us vs p q ps
     → IsWithin us (record { index = p.index; given = p.given +ℤ more }) × IsWithin vs (record { index = q.index; given = q.given +ℤ more })
 within_both us vs p q ps more is walk =
-    let one = walk.first.within in
-    let other = walk.second.within in
+    let one = walk.first.within in let other = walk.second.within in
     (record { from = omega (arith, ints, clamps); upto = omega (arith, ints, clamps) }, record { from = omega (arith, ints, clamps); upto = omega (arith, ints, clamps) })
 
 -- how many amounts stand before the ends of the lists
@@ -198,13 +188,9 @@ module _ (us vs : List ℤ) (h : NotNegative us) (k : NotNegative vs) where
 
     knows : Knows
     knows =
-        let us_end = begin_of-suc us p.index in
-        let vs_end = begin_of-suc vs q.index in
-        let us_given = walk.first.given in
-        let vs_given = walk.second.given in
-        let us_within = walk.first.within in
-        let vs_within = walk.second.within in
-        let begins = walk.begins in
+        let us_end = begin_of-suc us p.index in let vs_end = begin_of-suc vs q.index in
+        let us_given = walk.first.given in let vs_given = walk.second.given in let us_within = walk.first.within in
+        let vs_within = walk.second.within in let begins = walk.begins in
         record {
           us_from = omega (arith, ints);
           vs_from = omega (arith, ints);
@@ -236,8 +222,7 @@ module _ (us vs : List ℤ) (h : NotNegative us) (k : NotNegative vs) where
         by (inr from) (inr behind) =
             let us_end = ap (λ a. begin_of us (suc a)) {x = r.first} {y = p.index} (omega (arith, firsts, from)) in
             let vs_end = ap (λ b. begin_of vs (suc b)) {x = r.second} {y = q.index} (omega (arith, seconds, behind)) in
-            let ends = e.ends in
-            let now = knows in
+            let ends = e.ends in let now = knows in
             absurd (omega (arith, ints, clamps))
 
     -- an overlap that begins between the two points is that of the two amounts
@@ -313,8 +298,7 @@ module _ (us vs : List ℤ) (h : NotNegative us) (k : NotNegative vs) where
     ordered = walk.ordered;
     each = All-weaker (EndsBy us vs walk.at) (IsOverlap us vs) (λ r e. e.overlaps) ps walk.each;
     every = λ r e.
-        let amount = e.amount in
-        let positive = e.positive in
+        let amount = e.amount in let positive = e.positive in
         let ends = past end r.first r.second e.first_within e.second_within in
         subst (Contains ps) (same_pair r.first r.second r.first r.second (overlap us vs r.first r.second) r.amount refl refl (sym amount)) (walk.every r.first r.second (omega (arith, ints)) (omega (arith, ints, clamps)));
   }
@@ -336,8 +320,7 @@ all_before xs ys h k total p q at stands other end a within = let before = past 
     past : (length xs ≤ p.index) ⊎ (length ys ≤ q.index) → begin_of xs (suc a) ≤ℤ at
     past (inl end) = let inside = stands.within in let given = stands.given in let rises = begin_of-rises xs h (suc a) p.index (omega (arith, within, end)) in omega (arith, ints)
     past (inr end) =
-        let inside = other.within in
-        let given = other.given in
+        let inside = other.within in let given = other.given in
         let all = ap (int_sum_by (λ x. x)) (take_all (length xs) xs (omega arith)) in
         let other_all = ap (int_sum_by (λ x. x)) (take_all (length ys) ys (omega arith)) in
         let rises = begin_of-rises xs h (suc a) (length xs) (omega (arith, within)) in

@@ -1,8 +1,7 @@
 -- The branches that a printed line uses and makes.
-use Rattle.std.proofs.Common.{◌≡◌, ◌≢◌, ◌∙◌, ◌<◌, ◌+◌, ◌∷◌, ◌++◌, ◌==◌, ℕ, suc, true, false, not, List, [], AllPairs, Some, get_or, is_some, position, length, take, drop, unwrap_or, sym, ap, subst, arith, length-append}
-use Rattle.std.specs.Str.{bytes_eq}
+use Rattle.std.proofs.Common.{◌≡◌, ◌≢◌, ◌∙◌, ◌<◌, ◌+◌, ◌∷◌, ◌++◌, ◌==◌, ℕ, suc, true, false, not, List, [], AllPairs, Some, get_or, is_some, position, length, take, drop, unwrap_or, sym, ap, subst, arith, length-append, bytes_eq, length-take-le}
 use Rattle.std.proofs.lemmas.Bool.Decides.{nat_tests}
-use Rattle.std.proofs.lemmas.List.{get_or_append_left, length-take-le, take-map}
+use Rattle.std.proofs.lemmas.List.{get_or_append_left, take-map}
 use Rattle.std.proofs.lemmas.List.Folds.{list_any_none}
 use Rattle.network_text.proofs.Words.{Branch, Case, HasShape, KeepsCounts, Line, MOST_STATEMENTS, Network, branch_at, branch_name, branch_named, is_branch_name, is_used, made_before, makes, names_of, used_by, uses}
 use Rattle.stream_case.proofs.CompleteLemmas.{StaysValid}
@@ -54,8 +53,7 @@ module _ {case : Case} {network : Network} (readable : IsReadable case network) 
 
   not_used : (j : ℕ) → j < length (uses l) → is_used (front case network index) (get_or (uses l) j 0) ≡ false
   not_used j within =
-      let before = used_by (take index network.lines) in
-      let later = used_by (drop (suc index) network.lines) in
+      let before = used_by (take index network.lines) in let later = used_by (drop (suc index) network.lines) in
       let b = get_or (uses l) j 0 in
       let pairs = subst (AllPairs Differ) (used_parts of.at) readable.shape.used_once in
       list_any_none (λ used. b == used) before (λ k d early.
@@ -77,8 +75,7 @@ module _ {case : Case} {network : Network} (readable : IsReadable case network) 
   -- two branches that the line uses are two
   pub two_used : (first second : ℕ) → uses l ≡ first ∷ second ∷ [] → second ≢ first
   two_used first second both same =
-      let before = used_by (take index network.lines) in
-      let later = used_by (drop (suc index) network.lines) in
+      let before = used_by (take index network.lines) in let later = used_by (drop (suc index) network.lines) in
       let pairs = subst (AllPairs Differ) (used_parts of.at) readable.shape.used_once in
       let own = subst (AllPairs Differ) both (AllPairs-front Differ (uses l) later (AllPairs-back Differ before (uses l ++ later) pairs)) in
       own 0 1 0 (omega arith) (omega arith) (sym same)
@@ -94,9 +91,7 @@ module _ {case : Case} {network : Network} (readable : IsReadable case network) 
   pub new : (j : ℕ) → j < length (makes l) → IsNewBranch (front case network index) (branch_name network (get_or (makes l) j 0))
   unfolding branch_named branch_name
   new j within =
-      let b = get_or (makes l) j 0 in
-      let names = names_of network.branches in
-      let named = readable.shape.named in
+      let b = get_or (makes l) j 0 in let names = names_of network.branches in let named = readable.shape.named in
       let inside : b < length names = omega (arith, made_known j within, many_names network) in
       let none = none_in_front names (made_before case network index) b named.distinct (omega (arith, of.numbers.made j within)) inside in
       record {

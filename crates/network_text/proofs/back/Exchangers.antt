@@ -1,11 +1,9 @@
 -- The exchangers that printed lines declare and pass.
-use Rattle.std.proofs.Common.{◌≡◌, ◌≢◌, ◌∙◌, ◌<◌, ◌∷◌, ◌==◌, ℕ, suc, true, false, not, cond, List, [], All, AllPairs, Some, is_some, slice_get, position, length, map, take, drop, unwrap_or, refl, sym, ap, subst, arith, inl, inr, length-append}
-use Rattle.std.specs.Prelude.{count_by}
+use Rattle.std.proofs.Common.{◌≡◌, ◌≢◌, ◌∙◌, ◌<◌, ◌∷◌, ◌==◌, ℕ, suc, true, false, not, cond, List, [], All, AllPairs, Some, is_some, slice_get, position, length, map, take, drop, unwrap_or, refl, sym, ap, subst, arith, inl, inr, length-append, count_by, bytes_eq, length-take-le, take-append-drop, take_at}
 use Rattle.std.specs.List.{list_any}
-use Rattle.std.specs.Str.{bytes_eq}
 use Rattle.std.proofs.lemmas.Bool.{and_from, or_right}
 use Rattle.std.proofs.lemmas.Bool.Decides.{nat_tests}
-use Rattle.std.proofs.lemmas.List.{get_or-map, length-take-le, take-append-drop, take-map, take_at}
+use Rattle.std.proofs.lemmas.List.{get_or-map, take-map}
 use Rattle.std.proofs.lemmas.List.Sums.{sum_by-append}
 use Rattle.std.proofs.lemmas.Option.{get_or_from_slice_get, slice_get_within}
 use Rattle.sums.proofs.CountLemmas.{count_by-cons}
@@ -14,7 +12,7 @@ use Rattle.stream_case.proofs.ListLemmas.{slice_get-append}
 use Rattle.networks.specs.declared.network.Line.TheVariants as line
 use Rattle.networks.proofs.Counts.{none_counted}
 use Rattle.networks.proofs.LineLaws.{passages_of-front}
-use Rattle.networks.proofs.Lists.{AllPairs-map}
+use Rattle.sums.proofs.OrderLemmas.{AllPairs-map}
 use Rattle.networks.proofs.OfShape.{IsLineOf, declared_parts, exchanger_at as declared_at, made_no_more, own_exchanger, passed_parts, stream_at-take, used_before}
 use Rattle.network_text.proofs.print.Names.{found_in_front, many_exchangers, none_in_front}
 use Rattle.network_text.proofs.back.Branches.{IsReadable}
@@ -82,8 +80,7 @@ module _ {case : Case} {network : Network} (readable : IsReadable case network) 
       → passes network exchanger stream ≡ 1 → is_passed (front case network index) exchanger stream ≡ false
   unfolding is_passed passages_of
   not_passed from exchanger to stream of own one =
-      let m = made_before case network index in
-      let before = take index network.lines in
+      let m = made_before case network index in let before = take index network.lines in
       let later = passages_of network.branches (drop (suc index) network.lines) in
       let this = same_passage (record { exchanger = exchanger; stream = stream }) in
       let passage : Passage = record { exchanger = exchanger; stream = stream_at network.branches from } in
@@ -121,8 +118,7 @@ module _ {case : Case} {network : Network} (readable : IsReadable case network) 
       → is_free_side (front case network index) exchanger (stream_at (front case network index).branches from) ≡ true
   unfolding joins_stream
   free_side from exchanger to of =
-      let stream = stream_at network.branches from in
-      let before = exchangers_of (take index network.lines) in
+      let stream = stream_at network.branches from in let before = exchangers_of (take index network.lines) in
       let (e, at, joins) = of.declared in
       let own = stream_at-take network.branches (made_before case network index) from (of.numbers.used 0 0 (omega arith)) in
       let there = ap (λ es. slice_get es exchanger) (declared_parts of.at)

@@ -112,8 +112,7 @@ branches-with : {case : Case} {network : Network} {index : ℕ} {l : Line} → I
     (branch_of (first_stream (take (made_before case network index) network.branches) (uses l))) (map (branch_name network) (makes l)) ≡ take
     (made_before case network (suc index)) network.branches
 branches-with {case} {network} {index} {l} of =
-    let m = made_before case network index in
-    let numbers = of.numbers in
+    let m = made_before case network index in let numbers = of.numbers in
     let stream = first_stream-take network.branches m (uses l) numbers.used in
     let made = (entry_is network l).one_stream of.one_stream in
     (λ i. take m network.branches ++ map-map (branch_of (stream i)) (branch_name network) (makes l) i)
@@ -129,8 +128,7 @@ pub front-next : {case : Case} {network : Network} {index : ℕ} {l : Line} → 
     → with_entry (front case network index) (entry_of network l) ≡ front case network (suc index)
 unfolding with_entry
 front-next {case} {network} {index} {l} of =
-    let is = entry_is network l in
-    let given = front case network index in
+    let is = entry_is network l in let given = front case network index in
     let branches = (λ i. given.branches ++ map (branch_of (first_stream given.branches (uses (is.line_is i)))) (is.names_are i)) ∙ branches-with of in
     let lines = (λ i. given.lines ++ is.line_is i ∷ []) ∙ sym of.at.more in
     λ i. record { branches = branches i; lines = lines i }

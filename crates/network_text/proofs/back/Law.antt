@@ -1,6 +1,5 @@
 -- The text of a network is read as the network.
-use Rattle.std.proofs.Common.{◌≡◌, ◌∙◌, ◌<◌, ◌+◌, ℕ, false, not, List, [], Some, None, get_or, slice_get, length, map, option_map, take, refl, sym, ap, subst, arith, inl, inr}
-use Rattle.std.specs.Prelude.{Ok, Err}
+use Rattle.std.proofs.Common.{◌≡◌, ◌∙◌, ◌<◌, ◌+◌, ℕ, false, not, List, [], Some, None, get_or, slice_get, length, map, option_map, take, refl, sym, ap, subst, arith, inl, inr, Ok, Err}
 use Rattle.std.specs.List.{range_with_len}
 use Rattle.std.proofs.lemmas.List.FromFn.{get_or-range_with_len, length-range_with_len}
 use Rattle.first_fault.proofs.OneOutcome.{no_value, one_value}

@@ -1,6 +1,5 @@
 -- The statements of a printed network are of plain fields.
-use Rattle.std.proofs.Common.{◌<◌, ℕ, All, get_or, length, map, refl, arith}
-use Rattle.std.specs.Prelude.{codes}
+use Rattle.std.proofs.Common.{◌<◌, ℕ, All, get_or, length, map, refl, arith, codes}
 use Rattle.std.proofs.lemmas.List.Elements.{All-map}
 use Rattle.network_text.proofs.Words.{Case, HasShape, IsPlainField, IsPlainStatement, IsSourceOf, Line, Network, Source, branch_name, exchanger_name, exchangers_of, source_name, statement_of}
 use Rattle.stream_case.proofs.CaseLemmas.{IsName-source_name}

@@ -46,8 +46,7 @@ record IsRead (a : Rational) : Type 0 where
 is_read : (a : Rational) → IsPositive a → IsRead a
 unfolding fraction
 is_read a positive =
-    let back = fraction-back a positive.within in
-    let value = ap (λ o. unwrap_or o rational_zero) back in
+    let back = fraction-back a positive.within in let value = ap (λ o. unwrap_or o rational_zero) back in
     record {
       some = ap is_some back;
       value = value;
@@ -102,10 +101,8 @@ module _ {case : Case} {network : Network} (readable : IsReadable case network) 
   split_says from first cp second of =
       let given = front case network index in
       let s = statement_of case network (line.Split from first cp second) in
-      let from_used = used readable of 0 (omega arith) in
-      let one = new readable of 0 (omega arith) in
-      let two = new readable of 1 (omega arith) in
-      let number = made_number readable of 0 (omega arith) in
+      let from_used = used readable of 0 (omega arith) in let one = new readable of 0 (omega arith) in
+      let two = new readable of 1 (omega arith) in let number = made_number readable of 0 (omega arith) in
       let number_two = made_number readable of 1 (omega arith) in
       let flow = is_read cp of.flow in
       let before : first < second = omega (arith, number, number_two) in
@@ -152,10 +149,8 @@ module _ {case : Case} {network : Network} (readable : IsReadable case network) 
   mix_says first second to of =
       let given = front case network index in
       let s = statement_of case network (line.Mix first second to) in
-      let m = made_before case network index in
-      let one = used readable of 0 (omega arith) in
-      let two = used readable of 1 (omega arith) in
-      let result = new readable of 0 (omega arith) in
+      let m = made_before case network index in let one = used readable of 0 (omega arith) in
+      let two = used readable of 1 (omega arith) in let result = new readable of 0 (omega arith) in
       let number : length given.branches ≡ to = omega (arith, made_number readable of 0 (omega arith)) in
       let differ = two_used readable of first second refl in
       let other : (second == first) ≡ false = grind (arith, nat_tests, differ) in
@@ -182,8 +177,7 @@ module _ {case : Case} {network : Network} (readable : IsReadable case network) 
       → Says case (front case network index) (statement_of case network (line.End branch)) (entry_of network (line.End branch))
   unfolding entry_in kind_checks end_checks used_branch_checks
   end_says branch of =
-      let given = front case network index in
-      let s = statement_of case network (line.End branch) in
+      let given = front case network index in let s = statement_of case network (line.End branch) in
       let own = used readable of 0 (omega arith) in
       record {
         passes = passes_of case given s kind.End (room readable of) refl (refl, (own.known, (ap (λ b. not (is_used given b)) own.at ∙ own.unused, tt)));

@@ -1,11 +1,10 @@
 -- Names, words and fractions are plain fields, and a printed fraction is read as itself.
-use Rattle.std.proofs.Common.{◌≡◌, ◌∙◌, ◌<◌, ◌+◌, ◌∷◌, ◌++◌, ◌==◌, ◌^◌, ℕ, suc, zero, Bool, true, false, List, [], All, Some, length, drop, take, append_assoc, refl, sym, ap, arith, inl, inr, length-append}
-use Rattle.std.specs.Prelude.{unsigned_abs, if◌then◌else◌}
-use Rattle.std.specs.Fmt.{decimal, signed_decimal}
+use Rattle.std.proofs.Common.{◌≡◌, ◌∙◌, ◌<◌, ◌+◌, ◌∷◌, ◌++◌, ◌==◌, ◌^◌, ℕ, suc, zero, Bool, true, false, List, [], All, Some, length, drop, take, append_assoc, refl, sym, ap, arith, inl, inr, length-append, unsigned_abs, if◌then◌else◌, decimal, take_at, take_all, drop_at}
+use Rattle.std.specs.Fmt.{signed_decimal}
 use Rattle.std.specs.List.{after_first, before_first, list_any, position_or_len}
 use Rattle.std.proofs.Math.Bool.{or-true}
 use Rattle.std.proofs.lemmas.Bool.Decides.{nat_tests}
-use Rattle.std.proofs.lemmas.List.{get_or_append_left, get_or_at, take_at, take_all, drop_at}
+use Rattle.std.proofs.lemmas.List.{get_or_append_left, get_or_at}
 use Rattle.std.proofs.lemmas.List.Elements.{All-append, All-cons, All-weaker}
 use Rattle.std.proofs.lemmas.List.Folds.{list_any-append, list_any_none}
 use Rattle.std.proofs.lemmas.List.Sums.{position_or_len_is}

@@ -1,8 +1,6 @@
 -- How long the fields and the lines of a printed network are.
-use Rattle.std.proofs.Common.{◌≡◌, ◌∙◌, ◌<◌, ◌≤◌, ◌+◌, ◌*◌, ◌∷◌, ◌++◌, ◌==◌, ◌^◌, ℕ, ℤ, pos, negsuc, Bool, true, false, List, [], All, get_or, inl, inr, length, map, refl, sym, ap, subst, arith, length-append}
-use Rattle.std.specs.Prelude.{codes, if◌then◌else◌, unsigned_abs}
-use Rattle.std.specs.Fmt.{decimal, signed_decimal}
-use Rattle.std.specs.List.{flat_map, sum_by}
+use Rattle.std.proofs.Common.{◌≡◌, ◌∙◌, ◌<◌, ◌≤◌, ◌+◌, ◌*◌, ◌∷◌, ◌++◌, ◌==◌, ◌^◌, ℕ, ℤ, pos, negsuc, Bool, true, false, List, [], All, get_or, inl, inr, length, map, refl, sym, ap, subst, arith, length-append, codes, if◌then◌else◌, unsigned_abs, decimal, flat_map, sum_by}
+use Rattle.std.specs.Fmt.{signed_decimal}
 use Rattle.std.proofs.lemmas.Fmt.{length-decimal-le_wide}
 use Rattle.std.proofs.lemmas.Int.{ints}
 use Rattle.std.proofs.lemmas.List.{length-map}

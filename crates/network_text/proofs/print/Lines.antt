@@ -1,7 +1,5 @@
 -- The text of a network, line by line.
-use Rattle.std.proofs.Common.{◌≡◌, ◌≤◌, ℕ, List, length, map, take, ap}
-use Rattle.std.specs.List.{flat_map}
-use Rattle.std.proofs.lemmas.List.{take_all}
+use Rattle.std.proofs.Common.{◌≡◌, ◌≤◌, ℕ, List, length, map, take, ap, flat_map, take_all}
 use Rattle.network_text.proofs.Words.{Case, Network, statement_of, statement_text, text_of}
 
 -- the text of the first lines

@@ -1,8 +1,7 @@
 -- What is named is found by its name, among the first of some names that differ.
-use Rattle.std.proofs.Common.{◌≡◌, ◌≢◌, ◌∙◌, ◌<◌, ◌≤◌, ◌∷◌, ℕ, List, [], AllPairs, Option, Some, None, get_or, length, map, option_map, position, take, refl, sym, ap, arith}
-use Rattle.std.specs.List.{cons_option, filter_map}
-use Rattle.std.specs.Str.{bytes_eq}
-use Rattle.std.proofs.lemmas.List.{get_or-map, get_or-take, get_or_default, length-map, length-take-le}
+use Rattle.std.proofs.Common.{◌≡◌, ◌≢◌, ◌∙◌, ◌<◌, ◌≤◌, ◌∷◌, ℕ, List, [], AllPairs, Option, Some, None, get_or, length, map, option_map, position, take, refl, sym, ap, arith, filter_map, bytes_eq, get_or-take, length-take-le}
+use Rattle.std.specs.List.{cons_option}
+use Rattle.std.proofs.lemmas.List.{get_or-map, get_or_default, length-map}
 use Rattle.std.proofs.lemmas.List.Elements.{All-map}
 use Rattle.stream_case.proofs.DistinctLemmas.{no_place_of, place_of}
 use Rattle.network_text.proofs.Words.{Branch, Case, Exchanger, HasShape, IsAnyName, IsName, Line, Network, branch_name, exchanger_name, exchanger_names, exchanger_of, exchangers_of, names_of}

@@ -1,6 +1,5 @@
 -- The shape of the network so far, and what an entry adds to it.
-use Rattle.std.proofs.Common.{◌≡◌, ◌<◌, ◌≤◌, ℕ, length}
-use Rattle.std.specs.Prelude.{All}
+use Rattle.std.proofs.Common.{◌≡◌, ◌<◌, ◌≤◌, ℕ, length, All}
 use Rattle.std.specs.List.{range_with_len}
 use Rattle.std.specs.Option.{ForSome}
 use Rattle.network_text.proofs.Words.{AreExchangers, AreMadeBeforeUse, AreMadeInOrder, AreNamed, ArePassedWhenDeclared, AreUsedOnce, Case, Entry, HasPositiveFlow, IsExchanger, IsFresh, IsOfOneStream, Network, PassesDeclared, exchanger_of, exchangers_of, first_stream, makes, members, passes, stream_at, uses}

@@ -12,7 +12,9 @@ use Rattle.stream_case.proofs.CompleteLemmas.{StaysValid}
 use Rattle.stream_case.proofs.DistinctLemmas.{AllPairs-front}
 use Rattle.networks.specs.declared.network.Line.TheVariants as line
 use Rattle.networks.proofs.LineLaws.{made_by-push, names_of-append, stream_at-front, used_by-push}
-use Rattle.networks.proofs.Lists.{All-front, range_with_len-append, slice_get_push}
+use Rattle.sums.proofs.EnumerationLemmas.{range_with_len-append}
+use Rattle.sums.proofs.ListLemmas.{slice_get_push}
+use Rattle.networks.proofs.Lists.{All-front}
 use Rattle.networks.proofs.OfShape.{all_made, made_there, many_own, stream_at-get_or, streams_first, used_there}
 use Rattle.network_text.proofs.shape.Adding.{Adds, HasShapeSoFar}
 
@@ -101,11 +103,8 @@ module _ {case : Case} {given : Network} (shape : HasShapeSoFar case given) {e :
   pub made_in_order : AreMadeInOrder case (with_entry given e)
   unfolding with_entry
   made_in_order =
-      let n = length case.streams in
-      let new = branches_in given e in
-      let are = shape.made_once in
-      let some = streams_first are in
-      let count = length given.branches - n in
+      let n = length case.streams in let new = branches_in given e in let are = shape.made_once in
+      let some = streams_first are in let count = length given.branches - n in
       let next : length given.branches ≡ n + count = omega (arith, some) in
       let all : count + length (members e.names) ≡ length (given.branches ++ new) - n = omega
       (arith, some, length-append given.branches new, many_made given e) in

@@ -1,6 +1,5 @@
 -- A network that the grammar gives has no more statements and exchangers than a text may have.
-use Rattle.std.proofs.Common.{◌<◌, ◌≤◌, ◌+◌, ◌∷◌, List, [], Option, Some, None, length, sym, ap, subst, arith, length-append}
-use Rattle.std.specs.Option.{option_to_list}
+use Rattle.std.proofs.Common.{◌<◌, ◌≤◌, ◌+◌, ◌∷◌, List, [], Option, Some, None, length, sym, ap, subst, arith, length-append, option_to_list}
 use Rattle.std.proofs.lemmas.Bool.Decides.{nat_tests}
 use Rattle.first_fault.proofs.CheckLemmas.{Passes}
 use Rattle.first_fault.proofs.Steps.{given_has}

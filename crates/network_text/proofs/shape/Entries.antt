@@ -1,9 +1,7 @@
 -- A statement that is not at fault adds an entry to the network so far, kind by kind.
-use Rattle.std.proofs.Common.{◌≡◌, ◌≢◌, ◌∙◌, ◌<◌, ◌∷◌, ◌++◌, ◌==◌, ℕ, true, false, not, List, [], AllPairs, Option, Some, None, is_some, length, refl, sym, subst, inl}
-use Rattle.std.specs.Str.{bytes_eq}
+use Rattle.std.proofs.Common.{◌≡◌, ◌≢◌, ◌∙◌, ◌<◌, ◌∷◌, ◌++◌, ◌==◌, ℕ, true, false, not, List, [], AllPairs, Option, Some, None, is_some, length, refl, sym, subst, inl, bytes_eq, eqb-true, append-nil}
 use Rattle.std.specs.Cmp.Lexicographic.{bytes_decides}
-use Rattle.std.proofs.lemmas.Bool.{and_parts, eqb-false, eqb-true, false≢true, not-true}
-use Rattle.std.proofs.lemmas.List.{append-nil}
+use Rattle.std.proofs.lemmas.Bool.{and_parts, eqb-false, false≢true, not-true}
 use Rattle.std.proofs.lemmas.List.Elements.{All-from_recursion, All-nil}
 use Rattle.std.proofs.lemmas.List.Quantifiers.{all_pairs_push}
 use Rattle.std.proofs.lemmas.Option.{same_Some}
@@ -34,9 +32,7 @@ exchanger_adds : (case : Case) (given : Network) (s : Statement) → HasShapeSoF
     → Adds case given (exchanger_entry case s)
 unfolding exchanger_checks exchanger_field_checks new_exchanger_checks source_checks fraction_checks
 exchanger_adds case given s shape passes =
-    let checks = passes.1.1 in
-    let hot = source_at case (field s 2) in
-    let cold = source_at case (field s 3) in
+    let checks = passes.1.1 in let hot = source_at case (field s 2) in let cold = source_at case (field s 3) in
     let e : Exchanger = record { name = field s 1; hot = hot; cold = cold; duty = fraction (field s 4) } in
     let sides = and_parts (is_on case side.Hot hot) (is_on case side.Cold cold) checks.1.1.1.0 in
     let name = passed-name (field s 1) checks.0 in
@@ -67,10 +63,7 @@ exchanger_adds case given s shape passes =
 split_adds : (case : Case) (given : Network) (s : Statement) → HasShapeSoFar case given → Passes (split_checks given s) → Adds case given (split_entry given s)
 unfolding split_checks used_branch_checks new_branch_checks fraction_checks
 split_adds case given s shape passes =
-    let from = branch_at given (field s 1) in
-    let used = passes.1 in
-    let made = used.1.1 in
-    let flow = made.1.1 in
+    let from = branch_at given (field s 1) in let used = passes.1 in let made = used.1.1 in let flow = made.1.1 in
     let last = flow.1.1 in
     let apart = not-true (bytes_eq (field s 4) (field s 2)) last.1.1.0 in
     let differ : field s 2 ≢ field s 4 = λ e. false≢true (sym apart ∙ (bytes_decides (field s 4) (field s 2)).1 (sym e)) in
@@ -95,11 +88,8 @@ split_adds case given s shape passes =
 pass_adds : (case : Case) (given : Network) (s : Statement) → HasShapeSoFar case given → Passes (pass_checks given s) → Adds case given (pass_entry given s)
 unfolding pass_checks used_branch_checks passed_checks new_branch_checks
 pass_adds case given s shape passes =
-    let from = branch_at given (field s 1) in
-    let exchanger = exchanger_at given (field s 2) in
-    let stream = stream_at given.branches from in
-    let used = passes.1 in
-    let passed = used.1.1 in
+    let from = branch_at given (field s 1) in let exchanger = exchanger_at given (field s 2) in
+    let stream = stream_at given.branches from in let used = passes.1 in let passed = used.1.1 in
     let made = passed.1.1 in
     let side = and_parts (joins_stream given exchanger stream) (not (is_passed given exchanger stream)) passed.1.0 in
     record {
@@ -123,12 +113,8 @@ pass_adds case given s shape passes =
 mix_adds : (case : Case) (given : Network) (s : Statement) → HasShapeSoFar case given → Passes (mix_checks given s) → Adds case given (mix_entry given s)
 unfolding mix_checks used_branch_checks mixed_checks new_branch_checks
 mix_adds case given s shape passes =
-    let first = branch_at given (field s 1) in
-    let second = branch_at given (field s 2) in
-    let used = passes.1 in
-    let used_next = used.1.1 in
-    let mixed = used_next.1.1 in
-    let made = mixed.1.1 in
+    let first = branch_at given (field s 1) in let second = branch_at given (field s 2) in let used = passes.1 in
+    let used_next = used.1.1 in let mixed = used_next.1.1 in let made = mixed.1.1 in
     let differ : first ≢ second = λ e. eqb-false second first (not-true (second == first) mixed.0) (sym e) in
     let same = sym (eqb-true (stream_at given.branches first) (stream_at given.branches second) mixed.1.0) in
     record {
@@ -153,8 +139,7 @@ mix_adds case given s shape passes =
 end_adds : (case : Case) (given : Network) (s : Statement) → HasShapeSoFar case given → Passes (end_checks given s) → Adds case given (end_entry given s)
 unfolding end_checks used_branch_checks
 end_adds case given s shape passes =
-    let branch = branch_at given (field s 1) in
-    let used = passes.1 in
+    let branch = branch_at given (field s 1) in let used = passes.1 in
     record {
       fresh = record {
         known = All-from_recursion (λ b. b < length given.branches) (branch ∷ []) (branch_within given (field s 1) used.0, tt);

@@ -1,9 +1,7 @@
 -- What the checks of fields say where they hold.
-use Rattle.std.proofs.Common.{◌≡◌, ◌≢◌, ◌∙◌, ◌<◌, ◌⊎◌, inl, inr, ℕ, zero, suc, ℤ, true, false, not, List, [], All, Option, Some, None, get_or, slice_get, is_some, unwrap_or, length, map, refl, sym, ap, subst, arith}
-use Rattle.std.specs.Prelude.{position}
-use Rattle.std.specs.Str.{bytes_eq}
+use Rattle.std.proofs.Common.{◌≡◌, ◌≢◌, ◌∙◌, ◌<◌, ◌⊎◌, inl, inr, ℕ, zero, suc, ℤ, true, false, not, List, [], All, Option, Some, None, get_or, slice_get, is_some, unwrap_or, length, map, refl, sym, ap, subst, arith, position, bytes_eq, eqb-true}
 use Rattle.std.specs.Cmp.Lexicographic.{bytes_decides}
-use Rattle.std.proofs.lemmas.Bool.{eqb-true, false≢true, not-true, or_cases}
+use Rattle.std.proofs.lemmas.Bool.{false≢true, not-true, or_cases}
 use Rattle.std.proofs.lemmas.Bool.Decides.{nat_tests}
 use Rattle.std.proofs.lemmas.List.{get_or-map, length-map}
 use Rattle.std.proofs.lemmas.Option.{cond_some}

@@ -1,17 +1,17 @@
 -- The passes of a network keep their shape with one entry more.
-use Rattle.std.proofs.Common.{◌≡◌, ◌∙◌, ◌<◌, ◌≤◌, ◌+◌, ◌∷◌, ◌++◌, ◌==◌, ◌⊎◌, inl, inr, ℕ, Bool, true, false, cond, List, [], All, Option, Some, None, slice_get, length, take, refl, sym, ap, subst, arith}
-use Rattle.std.specs.Prelude.{count_by}
-use Rattle.std.specs.Option.{ForSome, option_to_list}
+use Rattle.std.proofs.Common.{◌≡◌, ◌∙◌, ◌<◌, ◌≤◌, ◌+◌, ◌∷◌, ◌++◌, ◌==◌, ◌⊎◌, inl, inr, ℕ, Bool, true, false, cond, List, [], All, Option, Some, None, slice_get, length, take, refl, sym, ap, subst, arith, count_by, option_to_list, take_at}
+use Rattle.std.specs.Option.{ForSome}
 use Rattle.std.proofs.lemmas.Bool.{and_parts}
 use Rattle.std.proofs.lemmas.Bool.Decides.{nat_tests}
-use Rattle.std.proofs.lemmas.List.{take-append-le, take_at}
+use Rattle.std.proofs.lemmas.List.{take-append-le}
 use Rattle.std.proofs.lemmas.List.Sums.{sum_by-append}
 use Rattle.std.proofs.lemmas.Option.{slice_get_within}
 use Rattle.network_text.proofs.Words.{ArePassedWhenDeclared, Branch, Case, Entry, Exchanger, Joins, Line, Network, Passage, PassesDeclared, branches_in, exchangers_of, is_passed, passage_of, passages_of, passes, same_passage, uses, with_entry}
 use Rattle.networks.specs.declared.network.Line.TheVariants as line
 use Rattle.networks.proofs.Counts.{uncounted}
 use Rattle.networks.proofs.LineLaws.{passage_of-front, passages_of-front, passages_of-push, stream_at-front}
-use Rattle.networks.proofs.Lists.{all_at, slice_get_push}
+use Rattle.sums.proofs.ListLemmas.{slice_get_push}
+use Rattle.networks.proofs.Lists.{all_at}
 use Rattle.networks.proofs.OfShape.{used_there, used_within}
 use Rattle.network_text.proofs.shape.Adding.{Adds, HasShapeSoFar}
 

@@ -1,6 +1,5 @@
 -- The points at the places so far.
-use Rattle.std.proofs.Common.{◌≡◌, take}
-use Rattle.std.specs.List.{flat_map}
+use Rattle.std.proofs.Common.{◌≡◌, take, flat_map}
 use Rattle.curves.specs.Curve.{grand_points}
 use Rattle.curves.proofs.grand.grand_curve.Given as goal
 

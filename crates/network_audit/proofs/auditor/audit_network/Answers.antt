@@ -78,9 +78,7 @@ record IsBalanced (c : After-hot_target-target) : Type 0 where
 
 balanced : (c : After-hot_target-target) → IsBalanced c
 balanced c =
-    let case = c.args.case.now in
-    let n = c.args.network.now in
-    let heats = c.audit_utilities.new.heats in
+    let case = c.args.case.now in let n = c.args.network.now in let heats = c.audit_utilities.new.heats in
     let are = heats-are case n heats (c.in_default-audit_utilities.ensures.1 ∙ (λ i. heats_in (c.requires.table i) (c.as_slice-utilities.ensures i))) in
     let steps : balance_steps_in place.Balance c.hot_target-target.result c.as_slice-utilities.result.now heats ≡ balance_items case n =
     (λ i. balance_steps_in place.Balance (c.hot_target-target.ensures i) (c.as_slice-utilities.ensures i) heats)

@@ -18,12 +18,8 @@ loop-index-init c = record {
 pub returns-in_default : goal.returns-in_default
 unfolding prices_in
 returns-in_default c =
-    let n = c.loop-index.index in
-    let us = c.args.utilities.now in
-    let u = c.index-utilities-index.result in
-    let h = c.index-heats-index.result in
-    let total = c.loop-index.cost.total in
-    let steps = c.loop-index.cost.steps in
+    let n = c.loop-index.index in let us = c.args.utilities.now in let u = c.index-utilities-index.result in
+    let h = c.index-heats-index.result in let total = c.loop-index.cost.total in let steps = c.loop-index.cost.steps in
     let has = price-here c.args.heats.now us n u h c.loop-index-test.true c.requires.room c.index-utilities-index.is c.index-heats-index.is in
     let within : n < length (enumerate_from 0 us) = omega (arith, c.loop-index-test.true, length-enumerate_from 0 us) in
     let gives : Gives c.times.result (times (whole u.price) h) = subst (λ p. Gives c.times.result (times p h)) c.price.ensures c.times.ensures in
@@ -33,12 +29,8 @@ returns-in_default c =
 pub returns-in_err-cost : goal.returns-in_err-cost
 unfolding prices_in
 returns-in_err-cost c =
-    let n = c.loop-index.index in
-    let us = c.args.utilities.now in
-    let u = c.index-utilities-index.result in
-    let h = c.index-heats-index.result in
-    let total = c.loop-index.cost.total in
-    let steps = c.loop-index.cost.steps in
+    let n = c.loop-index.index in let us = c.args.utilities.now in let u = c.index-utilities-index.result in
+    let h = c.index-heats-index.result in let total = c.loop-index.cost.total in let steps = c.loop-index.cost.steps in
     let has = price-here c.args.heats.now us n u h c.loop-index-test.true c.requires.room c.index-utilities-index.is c.index-heats-index.is in
     let within : n < length (enumerate_from 0 us) = omega (arith, c.loop-index-test.true, length-enumerate_from 0 us) in
     let gives : Gives c.times.result (times (whole u.price) h) = subst (λ p. Gives c.times.result (times p h)) c.price.ensures c.times.ensures in
@@ -52,12 +44,8 @@ returns-in_err-cost c =
 
 pub loop-index-preserved : goal.loop-index-preserved
 loop-index-preserved c =
-    let n = c.loop-index.index in
-    let us = c.args.utilities.now in
-    let u = c.index-utilities-index.result in
-    let h = c.index-heats-index.result in
-    let total = c.loop-index.cost.total in
-    let steps = c.loop-index.cost.steps in
+    let n = c.loop-index.index in let us = c.args.utilities.now in let u = c.index-utilities-index.result in
+    let h = c.index-heats-index.result in let total = c.loop-index.cost.total in let steps = c.loop-index.cost.steps in
     let has = price-here c.args.heats.now us n u h c.loop-index-test.true c.requires.room c.index-utilities-index.is c.index-heats-index.is in
     let within : n < length (enumerate_from 0 us) = omega (arith, c.loop-index-test.true, length-enumerate_from 0 us) in
     let gives : Gives c.times.result (times (whole u.price) h) = subst (λ p. Gives c.times.result (times p h)) c.price.ensures c.times.ensures in
@@ -75,8 +63,7 @@ loop-index-preserved c =
 pub returns : goal.returns
 unfolding prices_in
 returns c =
-    let us = c.args.utilities.now in
-    let f = price_in c.args.heats.now in
+    let us = c.args.utilities.now in let f = price_in c.args.heats.now in
     let end : length (enumerate_from 0 us) ≤ c.loop-index.index = omega (arith, c.loop-index-test.false, length-enumerate_from 0 us) in
     let all = cost-all f c.args.before (enumerate_from 0 us) c.loop-index.index c.loop-index.cost.total c.loop-index.cost.steps end c.loop-index.invariant.priced in
     (all.passed, cost-is c.args.before (map f (enumerate_from 0 us)) c.loop-index.cost.total c.loop-index.cost.steps all)

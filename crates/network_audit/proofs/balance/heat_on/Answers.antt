@@ -17,9 +17,7 @@ loop-index-init c = record {
 pub returns-in_err-sum : goal.returns-in_err-sum
 unfolding heats_on_in
 returns-in_err-sum c =
-    let n = c.loop-index.index in
-    let us = c.args.utilities.now in
-    let u = c.index-utilities-index.result in
+    let n = c.loop-index.index in let us = c.args.utilities.now in let u = c.index-utilities-index.result in
     let h = c.index-heats-index.result in
     let has = heat-here c.args.side c.args.heats.now us n u h c.loop-index-test.true c.requires.room c.index-utilities-index.is c.index-heats-index.is (sym c.is_on.ensures ∙ c.if-is_on.true) in
     let within : n < length (enumerate_from 0 us) = omega (arith, c.loop-index-test.true, length-enumerate_from 0 us) in
@@ -28,9 +26,7 @@ returns-in_err-sum c =
 
 pub loop-index-preserved : goal.loop-index-preserved
 loop-index-preserved c =
-    let n = c.loop-index.index in
-    let us = c.args.utilities.now in
-    let u = c.index-utilities-index.result in
+    let n = c.loop-index.index in let us = c.args.utilities.now in let u = c.index-utilities-index.result in
     let numbers = filter_map (heat_on_in c.args.side c.args.heats.now) (take (n + 1) (enumerate_from 0 us)) in
     let within : n < length (enumerate_from 0 us) = omega (arith, c.loop-index-test.true, length-enumerate_from 0 us) in
     elim c.if-is_on.branch [
@@ -55,8 +51,7 @@ loop-index-preserved c =
 pub returns : goal.returns
 unfolding heats_on_in
 returns c =
-    let us = c.args.utilities.now in
-    let f = heat_on_in c.args.side c.args.heats.now in
+    let us = c.args.utilities.now in let f = heat_on_in c.args.side c.args.heats.now in
     let end : length (enumerate_from 0 us) ≤ c.loop-index.index = omega (arith, c.loop-index-test.false, length-enumerate_from 0 us) in
     let all = sum-all f c.args.before (enumerate_from 0 us) c.loop-index.index c.loop-index.sum.total c.loop-index.sum.steps end c.loop-index.invariant.summed in
     (all.passed, λ i. record { total = total-is c.args.before (filter_map f (enumerate_from 0 us)) c.loop-index.sum.total c.loop-index.sum.steps all i; steps = all.steps_is i })

@@ -10,8 +10,7 @@ loop-line-init c = λ branches. c.new-joints.ensures.items ∙ sym (joints-none 
 
 pub loop-line-preserved : goal.loop-line-preserved
 loop-line-preserved c =
-    let n = c.loop-line.line-index in
-    let l = c.line-item.result in
+    let n = c.loop-line.line-index in let l = c.line-item.result in
     elim c.match-line.branch [
       | in-Exchanger+in_ok-push w ↦ λ branches.
           let e = w.in-Exchanger in

@@ -1,5 +1,4 @@
-use Rattle.std.proofs.Common.{◌≡◌, ◌∙◌, [], length, sym, ap, subst}
-use Rattle.std.specs.Prelude.{All}
+use Rattle.std.proofs.Common.{◌≡◌, ◌∙◌, [], length, sym, ap, subst, All}
 use Rattle.network_audit.proofs.Words.{PassesBelow, exchangers_of}
 use Rattle.network_audit.proofs.JointLemmas.{length-joints}
 use Rattle.network_audit.proofs.joints.joints_of.Goals as goal

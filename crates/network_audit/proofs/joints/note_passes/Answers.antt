@@ -7,15 +7,12 @@ use Rattle.network_audit.proofs.joints.note_passes.Goals.{in-Pass, in_default}
 
 pub loop-line-preserved : goal.loop-line-preserved
 loop-line-preserved c =
-    let n = c.loop-line.line-index in
-    let l = c.line-item.result in
-    let branches = c.args.branches.now in
+    let n = c.loop-line.line-index in let l = c.line-item.result in let branches = c.args.branches.now in
     let before = take n c.args.lines.now in
     let more : take (n + 1) c.args.lines.now ≡ before ++ l ∷ [] = take_more c.args.lines.now n l c.loop-line-test.true ∙ ap (λ m. before ++ m ∷ []) (sym c.line-item.is) in
     elim c.match-line.branch [
       | in-Pass w ↦ λ es start.
-          let p = w.in-Pass in
-          let d = w.index-joints-exchanger.result in
+          let p = w.in-Pass in let d = w.index-joints-exchanger.result in
           let known : p.exchanger < length c.args.joints.now = subst (PassesBelow (length c.args.joints.now)) (sym c.line-item.is ∙ p.is) (c.requires n l c.loop-line-test.true) in
           let within : p.exchanger < length es = omega (arith, known, ap length start, length-joints branches [] es) in
           let table = c.loop-line.invariant es start in

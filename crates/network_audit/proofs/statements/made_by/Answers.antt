@@ -1,5 +1,4 @@
-use Rattle.std.proofs.Common.{◌≡◌, ◌∙◌, ◌<◌, ◌∷◌, [], All, None, Some, slice_get, length, get_or, sym, ap, subst, refl, arith}
-use Rattle.std.specs.Option.{option_copied}
+use Rattle.std.proofs.Common.{◌≡◌, ◌∙◌, ◌<◌, ◌∷◌, [], All, None, Some, slice_get, length, get_or, sym, ap, subst, refl, arith, option_copied}
 use Rattle.std.proofs.lemmas.List.Elements.{All-head, All-tail}
 use Rattle.network_audit.proofs.Words.{BranchValue, NamesKnown, Rational, Side, branch_side, duty_at, end_items, exchangers_of, first_finding, mix_items, pass_items, passed_value, stream_at, uses, value_at}
 use Rattle.network_audit.proofs.FoundLemmas.{found-nothing}
@@ -36,8 +35,7 @@ returns-in_default c =
 pass_read : {X : Type 0} (f : Side → BranchValue → Rational → X) (c : After-passed) → f c.branch_side-side.result c.index-values-from-in-Pass.result (get_or c.args.joints.now c.in-Pass.exchanger c.index-joints-exchanger.result).duty
     ≡ f (branch_side c.args.case.now c.args.network.now c.in-Pass.from) (value_at c.args.values.now c.in-Pass.from) (duty_at c.args.network.now c.in-Pass.exchanger)
 pass_read f c =
-    let n = c.args.network.now in
-    let values = c.args.values.now in
+    let n = c.args.network.now in let values = c.args.values.now in
     let known = subst (NamesKnown c.args.case.now n) c.in-Pass.is c.requires.known in
     let used = subst (λ l. All (λ b. b < length values) (uses l)) c.in-Pass.is c.requires.used in
     let on = c.branch_side-side.ensures n (sym c.as_slice.ensures) in

@@ -4,7 +4,8 @@ use Rattle.network_audit.specs.Items.{ends_stream, first_finding, is_ended, stre
 use Rattle.network_audit.specs.declared.findings.Finding.TheVariants as finding
 use Rattle.network_audit.specs.declared.findings.Place.TheVariants as place
 use Rattle.network_audit.specs.declared.findings.Reason.TheVariants as reason
-use Rattle.network_audit.proofs.FoundLemmas.{finds-here, found-failed, found-nothing, found-passed, passed-all, passes-more}
+use Rattle.sums.proofs.FirstLemmas.{first-here, first-more, first-none}
+use Rattle.network_audit.proofs.FoundLemmas.{found-append, found-failed, found-nothing, found-passed}
 use Rattle.network_audit.proofs.streams.audit_streams.Goals as goal
 
 pub loop-index-init : goal.loop-index-init
@@ -13,9 +14,7 @@ loop-index-init c = found-nothing
 pub returns-then-not-is_ended : goal.returns-then-not-is_ended
 unfolding is_ended stream_items
 returns-then-not-is_ended c =
-    let streams = c.args.case.now.streams in
-    let n = c.loop-index.index in
-    let d = c.stream-item.result in
+    let streams = c.args.case.now.streams in let n = c.loop-index.index in let d = c.stream-item.result in
     let ended : is_ended c.args.network.now n ≡ false =
     (λ i. list_any (ends_stream (sym c.as_slice-branches.ensures i) n) (sym c.as_slice-lines.ensures i)) ∙ sym c.is_ended.ensures ∙ c.if-not-is_ended.true in
     let within : n < length streams = omega (arith, ap length c.as_slice-stream-items.ensures, c.loop-index-test.true) in
@@ -23,23 +22,22 @@ returns-then-not-is_ended c =
     let found = finding.Failed (place.Stream n) (reason.Unfinished c.whole.result c.full_size.result) in
     let here : first_finding (stream_items_at c.args.network.now (n, d)) ≡ Some found =
     found-failed _ _ ended ∙ (λ i. Some (finding.Failed (place.Stream n) (reason.Unfinished (sym c.whole.ensures i) (sym c.full_size.ensures i)))) in
-    finds-here (stream_items_at c.args.network.now) streams n d found within c.loop-index.invariant (subst (λ s. first_finding (stream_items_at c.args.network.now (n, s)) ≡ Some found) read here)
+    first-here first_finding found-append (stream_items_at c.args.network.now) streams n d found within c.loop-index.invariant
+    (subst (λ s. first_finding (stream_items_at c.args.network.now (n, s)) ≡ Some found) read here)
 
 pub loop-index-preserved : goal.loop-index-preserved
 unfolding is_ended
 loop-index-preserved c =
-    let streams = c.args.case.now.streams in
-    let n = c.loop-index.index in
-    let d = c.stream-item.result in
+    let streams = c.args.case.now.streams in let n = c.loop-index.index in let d = c.stream-item.result in
     let ended : is_ended c.args.network.now n ≡ true =
     (λ i. list_any (ends_stream (sym c.as_slice-branches.ensures i) n) (sym c.as_slice-lines.ensures i)) ∙ sym c.is_ended.ensures ∙ c.if-not-is_ended.false in
     let within : n < length streams = omega (arith, ap length c.as_slice-stream-items.ensures, c.loop-index-test.true) in
     let here : first_finding (stream_items_at c.args.network.now (n, get_or streams n d)) ≡ None = found-passed _ _ ended ∙ found-nothing in
-    passes-more (stream_items_at c.args.network.now) streams n d within c.loop-index.invariant here
+    first-more first_finding found-append (stream_items_at c.args.network.now) streams n d within c.loop-index.invariant here
 
 pub returns : goal.returns
 unfolding stream_items
 returns c =
     let streams = c.args.case.now.streams in
     let long : length streams ≤ c.loop-index.index = omega (arith, ap length c.as_slice-stream-items.ensures) in
-    (passed-all (stream_items_at c.args.network.now) streams c.loop-index.index long c.loop-index.invariant, tt)
+    (first-none first_finding found-append (stream_items_at c.args.network.now) streams c.loop-index.index long c.loop-index.invariant, tt)

@@ -1,6 +1,4 @@
-use Rattle.std.proofs.Common.{◌≡◌, ◌∙◌, ◌+◌, [], None, Some, get_or, take, sym, ap, subst, arith}
-use Rattle.std.specs.Prelude.{if◌then◌else◌}
-use Rattle.std.specs.List.{filter_map}
+use Rattle.std.proofs.Common.{◌≡◌, ◌∙◌, ◌+◌, [], None, Some, get_or, take, sym, ap, subst, arith, if◌then◌else◌, filter_map}
 use Rattle.std.proofs.lemmas.Result.{err_from_is_err_and}
 use Rattle.network_audit.proofs.Words.{Sum, duties_in, joint_duty, plus}
 use Rattle.network_audit.proofs.SumSteps.{IsSummed, sum-all, sum-more, sum-not, sum-same, summed-none, total-is}
@@ -30,8 +28,7 @@ returns-in_err-sum c =
 pub loop-joint-preserved : goal.loop-joint-preserved
 unfolding duties_in
 loop-joint-preserved c =
-    let d = c.joint-item.result in
-    let n = c.loop-joint.joint-index in
+    let d = c.joint-item.result in let n = c.loop-joint.joint-index in
     elim c.if-needs.branch [
       | then-needs+in_ok-sum w ↦
           let has : joint_duty c.args.index (get_or c.args.joints.now n d) ≡ Some d.duty = ap (joint_duty c.args.index) (sym c.joint-item.is) ∙ ap (λ b. if b then Some d.duty else None) (sym c.needs.ensures ∙ w.if-needs.true) in

@@ -37,8 +37,7 @@ returns-in-Err c =
 pub loop-index-preserved : goal.loop-index-preserved
 loop-index-preserved c =
     let is = line_here c.args.case.now c.args.network.now c.as_slice-line-items.result.now c.loop-index.index c.line-item.result c.requires.shape c.as_slice-line-items.ensures c.loop-index-test.true c.line-item.is in
-    let old = take c.loop-index.made c.loop-index.values in
-    let made_are = c.in-Ok.ensures.1 in
+    let old = take c.loop-index.made c.loop-index.values in let made_are = c.in-Ok.ensures.1 in
     walked-more c.args.case.now c.args.network.now c.loop-index.index c.loop-index.made c.loop-index.values c.keep-made.new.values c.keep-made.result c.line-item.result c.requires.shape is.at.here c.loop-index.invariant
     c.in-Ok.ensures.0 c.keep-made.auto.values (c.keep-made.ensures.many ∙ ap (λ vs. c.loop-index.made + length vs) made_are) (c.keep-made.ensures.kept ∙ ap (λ vs. old ++ vs) made_are)
 

@@ -1,6 +1,5 @@
-use Rattle.std.proofs.Common.{◌∙◌, [], refl}
+use Rattle.std.proofs.Common.{◌∙◌, [], refl, bytes_eq}
 use Rattle.std.specs.Map.{keys_of}
-use Rattle.std.specs.Str.{bytes_eq}
 use Rattle.std.specs.Cmp.Lexicographic.{bytes_decides}
 use Rattle.network_text.specs.declared.builder.Sides.{Sides}
 use Rattle.networks.specs.declared.few.AtMostTwo.TheVariants as few

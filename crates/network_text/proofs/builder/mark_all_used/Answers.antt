@@ -1,6 +1,4 @@
-use Rattle.std.proofs.Common.{[], ◌∷◌, ap}
-use Rattle.std.proofs.lemmas.Bool.{eqb-true}
-use Rattle.std.specs.Prelude.{nat_eq}
+use Rattle.std.proofs.Common.{[], ◌∷◌, ap, eqb-true, nat_eq}
 use Rattle.networks.specs.Lines.{members}
 use Rattle.network_text.proofs.Tables.{first_new, second_new}
 use Rattle.network_text.proofs.builder.mark_all_used.Goals as goal

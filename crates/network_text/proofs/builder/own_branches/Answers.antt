@@ -1,5 +1,4 @@
-use Rattle.std.proofs.Common.{◌∙◌, ◌∷◌, ◌++◌, [], List, ℕ, sym, ap}
-use Rattle.std.proofs.lemmas.List.{take_all}
+use Rattle.std.proofs.Common.{◌∙◌, ◌∷◌, ◌++◌, [], List, ℕ, sym, ap, take_all}
 use Rattle.network_text.specs.Building.{own_entries}
 use Rattle.network_text.proofs.OwnBranches.{own_entries-more, own_entries-new}
 use Rattle.network_text.proofs.builder.own_branches.Goals as goal

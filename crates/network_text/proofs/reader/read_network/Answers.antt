@@ -1,5 +1,4 @@
-use Rattle.std.proofs.Common.{◌∙◌, ◌+◌, ◌<◌, length, sym, ap, subst, arith}
-use Rattle.std.specs.Prelude.{option_map}
+use Rattle.std.proofs.Common.{◌∙◌, ◌+◌, ◌<◌, length, sym, ap, subst, arith, option_map}
 use Rattle.first_fault.proofs.Reading.{Reads, end_here, fault_here, none_read, one_more, value_here}
 use Rattle.network_text.proofs.Words.{MOST_STATEMENTS, Network, grammar, statements_of, with_any}
 use Rattle.network_text.proofs.shape.Counts.{network-keeps_counts}
@@ -44,8 +43,7 @@ returns-in-Err-clause-outcome c =
 
 pub loop-rest-preserved : goal.loop-rest-preserved
 loop-rest-preserved c =
-    let case = c.args.case.now in
-    let given = c.loop-rest.builder in
+    let case = c.args.case.now in let given = c.loop-rest.builder in
     let counts = sym c.is_passed_over.ensures ∙ c.if-is_passed_over.false in
     let at = statement_next c.loop-rest.rest.now c.first_line.result.0.now c.first_line.result.1.now c.first_line.ensures.line
     c.in_ok-statement.ensures counts in

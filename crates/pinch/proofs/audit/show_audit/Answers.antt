@@ -6,11 +6,8 @@ use Rattle.pinch.proofs.audit.show_audit.Goals as goal
 
 pub returns-in-Accepted : goal.returns-in-Accepted
 returns-in-Accepted c =
-    let case = c.args.case in
-    let network = c.args.network in
-    let balance = c.in-Accepted.balance in
-    let penalties = c.in_ok-penalties-in-Accepted.field-0 in
-    let reference = c.reference_place.result in
+    let case = c.args.case in let network = c.args.network in let balance = c.in-Accepted.balance in
+    let penalties = c.in_ok-penalties-in-Accepted.field-0 in let reference = c.reference_place.result in
     let fits : FitsSigned w32 reference = search rules in
     let is_verdict : IsVerdict case network (verdict.Accepted balance) =
     subst (λ a. IsVerdict a.case a.network (verdict.Accepted balance)) c.in_ok-auditor.ensures c.in-Accepted.ensures.verdict in

@@ -5,11 +5,8 @@ use Rattle.pinch.proofs.site_answer.show_site.Goals as goal
 
 pub returns : goal.returns
 returns c =
-    let site = c.args.site in
-    let table = c.in_ok-table.table in
-    let is = c.in_ok-table.ensures in
-    let answer = c.in_ok-answer.answer in
-    let target = c.in_ok-answer.ensures in
+    let site = c.args.site in let table = c.in_ok-table.table in let is = c.in_ok-table.ensures in
+    let answer = c.in_ok-answer.answer in let target = c.in_ok-answer.ensures in
     let parts : AreSiteParts site table.parts.hot table.parts.cold = record { grid = table.places; is_grid = is.places; hot_parts = is.hot; cold_parts = is.cold } in
     -- as it is shown
     let shown : SiteTable = record { places = table.places; parts = table.parts; reach = table.reach } in

@@ -1,8 +1,7 @@
 -- An end that is a pinch is found, and the found ends in falling order are the pinches.
-use Rattle.std.proofs.Common.{◌+◌, ℤ, pos, w32, FitsSigned, List, [], ◌∷◌, ◌++◌, take, get_or, refl, ap, sym, ◌∙◌, subst, rules}
+use Rattle.std.proofs.Common.{◌+◌, ℤ, pos, w32, FitsSigned, List, [], ◌∷◌, ◌++◌, take, get_or, refl, ap, sym, ◌∙◌, subst, rules, take_all}
 use Rattle.std.proofs.lemmas.Bool.{false≢true}
 use Rattle.std.proofs.lemmas.Int.{to_z-of_z}
-use Rattle.std.proofs.lemmas.List.{take_all}
 use Rattle.problem_table.proofs.PinchLemmas.{Finds, Finds-other, Finds-pinch, ListsFalling-pinches}
 use Rattle.problem_table.proofs.Words.{IsPinch, ListsFalling}
 use Rattle.problem_table.proofs.pinch.pinches_of.Goals as goal
@@ -10,13 +9,10 @@ use Rattle.problem_table.proofs.pinch.pinches_of.Goals.{then-is_pinch+in_ok-push
 
 pub loop-end-preserved : goal.loop-end-preserved
 loop-end-preserved c =
-    let streams = c.args.streams.now in
-    let ends = c.as_slice-ends.result.now in
-    let i = c.loop-end.end-index in
+    let streams = c.args.streams.now in let ends = c.as_slice-ends.result.now in let i = c.loop-end.end-index in
     let end = get_or ends i (pos 0) in
     let fits : FitsSigned w32 end = search rules in
-    let back = to_z-of_z w32 end fits in
-    let is_pinch = simp back at c.is_pinch.ensures in
+    let back = to_z-of_z w32 end fits in let is_pinch = simp back at c.is_pinch.ensures in
     let within = c.loop-end-test.true in
     elim c.if-is_pinch.branch [
       | then-is_pinch+in_ok-push w ↦
@@ -28,8 +24,7 @@ loop-end-preserved c =
 
 pub returns : goal.returns
 returns c =
-    let streams = c.args.streams.now in
-    let ends = c.as_slice-ends.result.now in
+    let streams = c.args.streams.now in let ends = c.as_slice-ends.result.now in
     let whole = take_all c.loop-end.end-index ends c.loop-end-test.false in
     let all = c.as_slice-ends.ensures.value ∙ c.in_ok-all.ensures in
     let finds = subst (λ (xs : List ℤ). Finds streams xs c.loop-end.found.items) whole c.loop-end.invariant in

@@ -1,7 +1,6 @@
 -- Each stream brings its two ends, and one of all ends is tight.
-use Rattle.std.proofs.Common.{ℤ, w32, FitsSigned, List, [], ◌∷◌, ◌++◌, append_assoc, take, ap₂, sym, ◌∙◌, subst, rules}
+use Rattle.std.proofs.Common.{ℤ, w32, FitsSigned, List, [], ◌∷◌, ◌++◌, append_assoc, take, ap₂, sym, ◌∙◌, subst, rules, take_all}
 use Rattle.std.proofs.lemmas.Int.{to_z-of_z}
-use Rattle.std.proofs.lemmas.List.{take_all}
 use Rattle.problem_table.proofs.Words.{FindsHighestTight, Stream, high_end, low_end, stream_ends}
 use Rattle.stream_case.proofs.EndLemmas.{stream_ends-more}
 use Rattle.problem_table.proofs.PlaceLemmas.{IsSome-highest}
@@ -9,8 +8,7 @@ use Rattle.problem_table.proofs.reference.reference_place_of.Goals as goal
 
 pub loop-stream-preserved : goal.loop-stream-preserved
 loop-stream-preserved c =
-    let streams = c.args.streams.now in
-    let s = c.stream-item.result in
+    let streams = c.args.streams.now in let s = c.stream-item.result in
     let ends = stream_ends (take c.loop-stream.stream-index streams) in
     let high_fits : FitsSigned w32 c.high_end.result = search rules in
     let low_fits : FitsSigned w32 c.low_end.result = search rules in

@@ -1,17 +1,14 @@
 -- Each stream brings the deficits at its two ends.
-use Rattle.std.proofs.Common.{pos, List, w32, w64, FitsSigned, map, ap, sym, ◌∙◌, subst, rules}
-use Rattle.std.specs.List.{fold}
+use Rattle.std.proofs.Common.{pos, List, w32, w64, FitsSigned, map, ap, sym, ◌∙◌, subst, rules, fold, take_all}
 use Rattle.std.specs.Int.{int_max}
 use Rattle.std.proofs.lemmas.Int.{to_z-of_z}
-use Rattle.std.proofs.lemmas.List.{take_all}
 use Rattle.problem_table.proofs.Words.{IsStreamsHeat, Stream, deficit_above, stream_ends}
 use Rattle.problem_table.proofs.DeficitLemmas.{hot_target-more, hot_target-between}
 use Rattle.problem_table.proofs.target.hot_target.Goals as goal
 
 pub loop-stream-preserved : goal.loop-stream-preserved
 loop-stream-preserved c =
-    let streams = c.args.streams.now in
-    let deficit = deficit_above streams in
+    let streams = c.args.streams.now in let deficit = deficit_above streams in
     let high_fits : FitsSigned w32 c.high_end.result = search rules in
     let low_fits : FitsSigned w32 c.low_end.result = search rules in
     let first_fits : FitsSigned w64 c.deficit_of.result = search rules in

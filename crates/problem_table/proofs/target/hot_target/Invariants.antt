@@ -1,6 +1,5 @@
 -- The greatest of 0 and the deficits at the ends of the streams so far.
-use Rattle.std.proofs.Common.{◌≡◌, pos, map, take}
-use Rattle.std.specs.List.{fold}
+use Rattle.std.proofs.Common.{◌≡◌, pos, map, take, fold}
 use Rattle.std.specs.Int.{int_max}
 use Rattle.problem_table.proofs.Words.{deficit_above, stream_ends}
 use Rattle.problem_table.proofs.target.hot_target.Given as goal

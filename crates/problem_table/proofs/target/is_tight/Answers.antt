@@ -1,7 +1,6 @@
 -- The code compares the bits of the two numbers.
-use Rattle.std.proofs.Common.{w32, w64, FitsSigned, ap, sym, ◌∙◌, rules}
+use Rattle.std.proofs.Common.{w32, w64, FitsSigned, ap, sym, ◌∙◌, rules, eq-eqb, eqb-true}
 use Rattle.std.specs.Int.{cast_signed as to_z, cast_unsigned as of_z}
-use Rattle.std.proofs.lemmas.Bool.{eq-eqb, eqb-true}
 use Rattle.std.proofs.lemmas.Int.{to_z-of_z}
 use Rattle.problem_table.specs.Deficit.{deficit_above}
 use Rattle.problem_table.proofs.target.is_tight.Goals as goal

@@ -1,6 +1,5 @@
 -- Above the least number lie all heats.
-use Rattle.std.proofs.Common.{sym, subst, arith}
-use Rattle.std.specs.Prelude.{negsuc}
+use Rattle.std.proofs.Common.{sym, subst, arith, negsuc}
 use Rattle.std.proofs.lemmas.Int.{ints}
 use Rattle.stream_case.specs.Limits.{IsStreamsHeat}
 use Rattle.problem_table.proofs.DeficitLemmas.{cold_target-lowest, cold_target-between}

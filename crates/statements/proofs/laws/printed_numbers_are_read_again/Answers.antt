@@ -1,5 +1,4 @@
-use Rattle.std.proofs.Common.{◌<◌, ◌^◌, ℕ, ℤ, arith}
-use Rattle.std.specs.Prelude.{unsigned_abs}
+use Rattle.std.proofs.Common.{◌<◌, ◌^◌, ℕ, ℤ, arith, unsigned_abs}
 use Rattle.statements.specs.Numbers.{IsOfDigits}
 use Rattle.statements.proofs.PlainNumbers.{fewer_digits, number-back, number_plain}
 use Rattle.statements.proofs.laws.printed_numbers_are_read_again.Goals as goal

@@ -1,6 +1,5 @@
 -- The rising list, reversed.
-use Rattle.std.proofs.Common.{ℤ, Contains, sym, subst}
-use Rattle.std.specs.Prelude.{◌<ℤ◌}
+use Rattle.std.proofs.Common.{ℤ, Contains, sym, subst, ◌<ℤ◌}
 use Rattle.sums.specs.Order.{ListsFalling}
 use Rattle.sums.proofs.OrderLemmas.{Lists-reverse}
 use Rattle.sums.proofs.order.falling.Goals as goal

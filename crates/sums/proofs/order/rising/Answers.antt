@@ -7,6 +7,5 @@ use Rattle.sums.proofs.order.rising.Goals as goal
 
 pub returns : goal.returns
 returns c =
-    let values = c.args.values.items in
-    let is = dedup_is _ _ _ c.dedup.ensures.filtered in
+    let values = c.args.values.items in let is = dedup_is _ _ _ c.dedup.ensures.filtered in
     subst (ListsRising (Contains values)) (sym is) (ListsRising-sorted values c.sort_unstable.new.self.items c.sort_unstable.ensures.permutation c.sort_unstable.ensures.sorted)

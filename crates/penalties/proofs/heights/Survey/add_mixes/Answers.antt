@@ -1,10 +1,10 @@
-use Rattle.std.proofs.Common.{◌≡◌, ◌∙◌, ◌+◌, ◌++◌, ◌∷◌, [], get_or, sym, ap}
-use Rattle.std.specs.List.{enumerate_from, filter_map}
-use Rattle.std.proofs.lemmas.List.{append-nil, take_all}
+use Rattle.std.proofs.Common.{◌≡◌, ◌∙◌, ◌+◌, ◌++◌, ◌∷◌, [], get_or, sym, ap, filter_map, append-nil, take_all}
+use Rattle.std.specs.List.{enumerate_from}
 use Rattle.penalties.proofs.Words.{Penalty, Rational, all_mix_steps, first_too_fine, line_steps, mix_row, mix_rows, seen_height, seen_steps}
 use Rattle.network_audit.specs.declared.findings.Place.TheVariants as place
 use Rattle.penalties.proofs.RowLemmas.{filtered-more, no_row, no_steps}
-use Rattle.penalties.proofs.StepLemmas.{fine_all, fine_more, first_here, none_of_nothing}
+use Rattle.sums.proofs.FirstLemmas.{first-here, first-more, first-none}
+use Rattle.penalties.proofs.StepLemmas.{none_of_nothing, steps-append}
 use Rattle.penalties.proofs.heights.Survey.add_mixes.Goals as goal
 use Rattle.penalties.proofs.heights.Survey.add_mixes.Goals.{in-Mix+in-Ok+in_ok-push-in-Ok, in_default}
 
@@ -16,14 +16,12 @@ unfolding all_mix_steps
 returns-in-Err c =
     let d = c.index-lines-index.result in
     let steps = line_steps (seen_height c.args.self.now) (seen_steps c.args.self.now) in
-    first_here steps c.args.lines.now c.loop-index.index d _ c.loop-index-test.true c.loop-index.invariant.0
+    first-here first_too_fine steps-append steps c.args.lines.now c.loop-index.index d _ c.loop-index-test.true c.loop-index.invariant.0
     (ap (λ l. first_too_fine (steps (c.loop-index.index, l))) (sym c.index-lines-index.is ∙ c.in-Mix.is) ∙ c.in-Err.ensures)
 
 pub loop-index-preserved : goal.loop-index-preserved
 loop-index-preserved c =
-    let d = c.index-lines-index.result in
-    let n = c.loop-index.index in
-    let lines = c.args.lines.now in
+    let d = c.index-lines-index.result in let n = c.loop-index.index in let lines = c.args.lines.now in
     let height = seen_height c.args.self.now in
     let steps = line_steps height (seen_steps c.args.self.now) in
     let more = filtered-more lines n d c.loop-index-test.true (mix_row height) c.loop-index.list.items c.args.list.now.items c.loop-index.invariant.1 in
@@ -31,7 +29,8 @@ loop-index-preserved c =
       | in-Mix+in-Ok+in_ok-push-in-Ok w ↦
           let at = sym c.index-lines-index.is ∙ w.in-Mix.is in
           let same = ap (λ l. filter_map (mix_row height) ((n, l) ∷ [])) at in (
-            fine_more steps lines n d c.loop-index-test.true c.loop-index.invariant.0 (ap (λ l. first_too_fine (steps (n, l))) at ∙ w.in-Ok.ensures.0),
+            first-more first_too_fine steps-append steps lines n d c.loop-index-test.true c.loop-index.invariant.0
+                (ap (λ l. first_too_fine (steps (n, l))) at ∙ w.in-Ok.ensures.0),
             ap (λ v. v.items) w.list-is ∙ w.in_ok-push-in-Ok.ensures.items
                 ∙ ap (λ (value : Rational). c.loop-index.list.items ++ (let row : Penalty = record { place = place.Line (n + 1); value = value } in row) ∷ []) w.in-Ok.ensures.1
                 ∙ ap (λ rows. c.loop-index.list.items ++ rows) (sym same) ∙ more,
@@ -40,7 +39,9 @@ loop-index-preserved c =
           let at = c.index-lines-index.is in
           let none : filter_map (mix_row height) ((n, get_or lines n d) ∷ []) ≡ [] =
           ap (λ l. filter_map (mix_row height) ((n, l) ∷ [])) (sym at) ∙ no_row height n d w.in_default.not-Mix in (
-            fine_more steps lines n d c.loop-index-test.true c.loop-index.invariant.0 (ap (λ l. first_too_fine (steps (n, l))) (sym at) ∙ ap first_too_fine (no_steps height (seen_steps c.args.self.now) n d w.in_default.not-Mix) ∙ none_of_nothing),
+            first-more first_too_fine steps-append steps lines n d c.loop-index-test.true c.loop-index.invariant.0
+                (ap (λ l. first_too_fine (steps (n, l))) (sym at) ∙ ap first_too_fine (no_steps height (seen_steps c.args.self.now) n d w.in_default.not-Mix)
+                ∙ none_of_nothing),
             ap (λ v. v.items) w.list-is ∙ sym (append-nil c.loop-index.list.items) ∙ ap (λ rows. c.loop-index.list.items ++ rows) (sym none) ∙ more,
           )
     ]
@@ -49,6 +50,7 @@ pub returns : goal.returns
 unfolding all_mix_steps mix_rows
 returns c =
     let height = seen_height c.args.self.now in (
-      fine_all (line_steps height (seen_steps c.args.self.now)) c.args.lines.now c.loop-index.index c.loop-index-test.false c.loop-index.invariant.0,
+      first-none first_too_fine steps-append (line_steps height (seen_steps c.args.self.now))
+          c.args.lines.now c.loop-index.index c.loop-index-test.false c.loop-index.invariant.0,
       c.loop-index.invariant.1 ∙ ap (λ ls. c.args.list.now.items ++ filter_map (mix_row height) (enumerate_from 0 ls)) (take_all c.loop-index.index c.args.lines.now c.loop-index-test.false),
     )

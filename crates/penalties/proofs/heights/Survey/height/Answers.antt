@@ -1,5 +1,4 @@
-use Rattle.std.proofs.Common.{rules, w32, ◌≡◌, ◌∙◌, List, None, Some, slice_get, sym, ap, subst}
-use Rattle.std.specs.Option.{option_copied}
+use Rattle.std.proofs.Common.{rules, w32, ◌≡◌, ◌∙◌, List, None, Some, slice_get, sym, ap, subst, option_copied}
 use Rattle.std.proofs.lemmas.Int.{to_z-of_z}
 use Rattle.penalties.proofs.Words.{BranchValue, Formed, Rational, Step, base_of, first_too_fine, height, height_steps, minus, seen_steps, stream_at, value_at, values_of}
 use Rattle.penalties.proofs.StepLemmas.{none_of_nothing}
@@ -17,8 +16,7 @@ returns-in_default c =
 
 pub returns : goal.returns
 returns c =
-    let s = c.args.self.now in
-    let stream = c.in-Some.stream.now in
+    let s = c.args.self.now in let stream = c.in-Some.stream.now in
     let at : slice_get s.case.now.streams (stream_at s.network.now.branches c.args.branch) ≡ Some stream =
     ap (slice_get s.case.now.streams) (ap (λ bs. stream_at bs c.args.branch) (sym c.as_slice.ensures) ∙ sym c.stream_at-stream.ensures) ∙ sym c.get.ensures ∙ ap option_copied c.in-Some.is in
     let answers : List Step → Rational → Type 0 = λ steps x. Formed steps (λ h. h ≡ x) c.height.result in
