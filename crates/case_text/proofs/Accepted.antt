@@ -25,10 +25,11 @@ use Rattle.stream_case.specs.declared.source.Source.TheVariants as source
 use Rattle.stream_case.specs.declared.stream.Stream.{Stream}
 use Rattle.stream_case.specs.declared.utility.Utility.{Utility}
 use Rattle.stream_case.proofs.NameTests.{passed-name}
-use Rattle.rows.specs.Fields.{field, number}
+use Rattle.rows.specs.Numbers.{is_own_contribution}
+use Rattle.rows.specs.Fields.{field, number, optional_number}
 use Rattle.rows.proofs.Seams.{All-back}
-use Rattle.rows.proofs.Streams.{range_of, stream-is_valid}
-use Rattle.rows.proofs.Tests.{Decides-int_le, passed-room, passed-within}
+use Rattle.rows.proofs.Streams.{no_contribution, range_of, stream-is_valid}
+use Rattle.rows.proofs.Tests.{Decides-int_le, Decides-is_own_contribution, passed-room, passed-within}
 use Rattle.case_text.specs.Rows.{kind_of}
 use Rattle.case_text.specs.Given.{Given, case_of, entry_by, nothing, source_at, stream_data, stream_of, utility_data, utility_of, with_entry}
 use Rattle.case_text.specs.Checks.{checks, contribution_checks, end_checks, forbid_checks, is_reserved, is_reserved_from, is_taken, kind_checks, stream_checks, stream_number_checks, utility_checks, utility_number_checks}
@@ -109,10 +110,13 @@ contribution_kept given row fits (_, (_, (_, (range, _)))) = record {
   forbids = forbids_stay given (entry.Contribution (number row 2)) fits.forbids;
 }
 
+own_range : (row : Row) (contribution : ℤ) → is_own_contribution (optional_number row 6) ≡ true → IsContribution contribution → IsContribution (unwrap_or (optional_number row 6) contribution)
+own_range row contribution own range = range_of (optional_number row 6) contribution ((Decides-is_own_contribution (optional_number row 6)).0 own) range
+
 stream_fits : (of : Side) (row : Row) → is_name (field row 1) ≡ true → not (is_reserved (field row 1)) ≡ true → Passes (stream_number_checks of row) → StreamFits (field row 1, stream_data of row)
 unfolding stream_number_checks
-stream_fits of row name unreserved (_, (_, (_, (supply, (target, (cp, (way, _))))))) = record {
-  valid = λ contribution range. stream-is_valid (stream_of contribution (field row 1, stream_data of row)) name supply target cp way range;
+stream_fits of row name unreserved (_, (_, (_, (_, (supply, (target, (cp, (own, (way, _))))))))) = record {
+  valid = λ contribution range. stream-is_valid (stream_of contribution (field row 1, stream_data of row)) name supply target cp way (own_range row contribution own range);
   name = (Decides-is_reserved (field row 1)).0 unreserved;
 }
 
@@ -146,21 +150,21 @@ stream_kept given row of fits (_, (few, (name, (unreserved, (free, numbers))))) 
 
 utility_fits : (of : Side) (row : Row) → is_name (field row 1) ≡ true → not (is_reserved_from of (field row 1)) ≡ true → Passes (utility_number_checks row) → UtilityFits (field row 1, utility_data of row)
 unfolding utility_number_checks
-utility_fits of row name unreserved (_, (_, (_, (_, (level, (least, (most, (price, (order, _))))))))) = record {
+utility_fits of row name unreserved (_, (_, (_, (_, (_, (level, (least, (most, (price, (own, (order, _))))))))))) = record {
   valid = λ contribution range. record {
     name = passed-name (field row 1) name;
     level = passed-within _ _ _ level;
     least = passed-within _ _ _ least;
     most = record { from = (Decides-int_le (number row 3) (number row 4)).0 order; upto = (passed-within _ _ _ most).upto };
     price = passed-within _ _ _ price;
-    contribution = range;
+    contribution = own_range row contribution own range;
   };
   name = (Decides-is_reserved_from of (field row 1)).0 unreserved;
 }
 
 utility_kept : (given : Given) (row : Row) (of : Side) → Fits given → Passes (utility_checks of given row) → Fits (with_entry given (entry.Utility (field row 1) (utility_data of row)))
 unfolding utility_checks
-utility_kept given row of fits (_, (few, (name, (unreserved, (free, numbers))))) =
+utility_kept given row of fits (few, (name, (unreserved, (free, numbers)))) =
     let u : List ℕ × UtilityData = (field row 1, utility_data of row) in
     let names = all_pairs_push (λ (a b : List ℕ). a ≢ b) (keys_of given.streams ++ keys_of given.utilities) u.0 fits.sources.names (new_name given u.0 free) in
     record {
@@ -232,7 +236,7 @@ case_valid : (given : Given) → Fits given → 0 < length given.streams → IsV
 case_valid given fits some =
     let contribution = unwrap_or given.contribution (pos 0) in
     let sources = fits.sources in
-    let range = range_of given.contribution fits.contribution in
+    let range = range_of given.contribution (pos 0) fits.contribution no_contribution in
     record {
       contribution = range;
       streams = record {
@@ -244,8 +248,6 @@ case_valid given fits some =
       };
       utilities = All-map IsValidUtility (utility_of contribution) given.utilities (All-weaker UtilityFits (λ u. IsValidUtility (utility_of contribution u)) (λ u fit. fit.valid contribution range) given.utilities sources.utilities);
       few_utilities = rw (length-map given.utilities (utility_of contribution)) sources.few.few_utilities;
-      stream_contributions = All-map (λ (s : Stream). s.contribution ≡ contribution) (stream_of contribution) given.streams (λ k d inside. refl);
-      utility_contributions = All-map (λ (u : Utility). u.contribution ≡ contribution) (utility_of contribution) given.utilities (λ k d inside. refl);
       distinct_names = rw (names_of-case given) sources.names;
       stream_names = All-map (λ (s : Stream). IsUnreserved s.name) (stream_of contribution) given.streams (All-weaker StreamFits (λ s. IsUnreserved s.0) (λ s fit. fit.name) given.streams sources.streams);
       utility_names = All-map IsRightlyNamed (utility_of contribution) given.utilities (All-weaker UtilityFits (λ u. IsRightNameOf u.1.side u.0) (λ u fit. fit.name) given.utilities sources.utilities);

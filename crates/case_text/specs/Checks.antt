@@ -12,8 +12,8 @@ use Rattle.stream_case.specs.declared.case.Case.{Case}
 use Rattle.stream_case.specs.declared.limits.TheConstants.{MOST_FORBIDS, MOST_STREAMS, MOST_UTILITIES}
 use Rattle.stream_case.specs.declared.source.Side.{Side}
 use Rattle.stream_case.specs.declared.source.Side.TheVariants as side
-use Rattle.rows.specs.Fields.{are_empty, field, is_number, number}
-use Rattle.rows.specs.Numbers.{is_contribution, is_flow_rate, is_heat, is_price, is_temperature}
+use Rattle.rows.specs.Fields.{are_empty, field, is_number, is_number_or_empty, number, optional_number}
+use Rattle.rows.specs.Numbers.{is_contribution, is_flow_rate, is_heat, is_own_contribution, is_price, is_temperature}
 use Rattle.case_text.specs.Rows.{kind_of}
 use Rattle.case_text.specs.Given.{Given, case_of, source_at}
 use Rattle.case_text.specs.declared.fault.CaseWhy.{CaseWhy}
@@ -61,15 +61,17 @@ stream_number_checks of row =
     (is_number row 2, why.BadNumber)
     ∷ (is_number row 3, why.BadNumber)
     ∷ (is_number row 4, why.BadNumber)
+    ∷ (is_number_or_empty row 6, why.BadNumber)
     ∷ (is_temperature (number row 2), why.OutOfRange)
     ∷ (is_temperature (number row 3), why.OutOfRange)
     ∷ (is_flow_rate (number row 4), why.OutOfRange)
+    ∷ (is_own_contribution (optional_number row 6), why.OutOfRange)
     ∷ (is_right_way of (number row 2) (number row 3), why.WrongWay)
     ∷ []
 
 unfoldable pub stream_checks : Side → Given → Row → List (Check CaseWhy)
 stream_checks of earlier row =
-    (are_empty row (5 ∷ 6 ∷ []), why.FieldCount)
+    (are_empty row (5 ∷ []), why.FieldCount)
     ∷ (nat_lt (count_on of (case_of earlier).streams) MOST_STREAMS, why.TooMany)
     ∷ (is_name (field row 1), why.BadName)
     ∷ (not (is_reserved (field row 1)), why.BadName)
@@ -82,17 +84,18 @@ utility_number_checks row =
     ∷ (is_number row 3, why.BadNumber)
     ∷ (is_number row 4, why.BadNumber)
     ∷ (is_number row 5, why.BadNumber)
+    ∷ (is_number_or_empty row 6, why.BadNumber)
     ∷ (is_temperature (number row 2), why.OutOfRange)
     ∷ (is_heat (number row 3), why.OutOfRange)
     ∷ (is_heat (number row 4), why.OutOfRange)
     ∷ (is_price (number row 5), why.OutOfRange)
+    ∷ (is_own_contribution (optional_number row 6), why.OutOfRange)
     ∷ (int_le (number row 3) (number row 4), why.BadRange)
     ∷ []
 
 unfoldable pub utility_checks : Side → Given → Row → List (Check CaseWhy)
 utility_checks of earlier row =
-    (are_empty row (6 ∷ []), why.FieldCount)
-    ∷ (nat_lt (length earlier.utilities) MOST_UTILITIES, why.TooMany)
+    (nat_lt (length earlier.utilities) MOST_UTILITIES, why.TooMany)
     ∷ (is_name (field row 1), why.BadName)
     ∷ (not (is_reserved_from of (field row 1)), why.BadName)
     ∷ (not (is_taken (case_of earlier) (field row 1)), why.SameName)

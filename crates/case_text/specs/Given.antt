@@ -9,7 +9,7 @@ use Rattle.stream_case.specs.declared.source.Source.{Source}
 use Rattle.stream_case.specs.declared.source.Source.TheVariants as source
 use Rattle.stream_case.specs.declared.stream.Stream.{Stream}
 use Rattle.stream_case.specs.declared.utility.Utility.{Utility}
-use Rattle.rows.specs.Fields.{field, number}
+use Rattle.rows.specs.Fields.{field, number, optional_number}
 use Rattle.case_text.specs.Rows.{kind_of}
 use Rattle.case_text.specs.declared.entry.Entry.{Entry}
 use Rattle.case_text.specs.declared.entry.Entry.TheVariants as entry
@@ -30,6 +30,7 @@ nothing = record { contribution = None; streams = []; utilities = []; forbids = 
 
 -- ---- the case that is made of it
 
+-- a source has the contribution that it gives, else that of the case
 abbrev pub stream_of : ℤ → List ℕ × StreamData → Stream
 stream_of contribution (name, stream) = record {
   name = name;
@@ -37,7 +38,7 @@ stream_of contribution (name, stream) = record {
   supply = stream.supply;
   target = stream.target;
   cp = stream.cp;
-  contribution = contribution;
+  contribution = unwrap_or stream.contribution contribution;
 }
 
 abbrev pub utility_of : ℤ → List ℕ × UtilityData → Utility
@@ -48,10 +49,10 @@ utility_of contribution (name, utility) = record {
   least = utility.least;
   most = utility.most;
   price = utility.price;
-  contribution = contribution;
+  contribution = unwrap_or utility.contribution contribution;
 }
 
--- each source has the contribution
+-- with this contribution of the case
 abbrev pub case_with : ℤ → Given → Case
 case_with contribution given = record {
   contribution = contribution;
@@ -71,10 +72,10 @@ source_at given name = unwrap_or (source_named (case_of given) name) (source.Str
 -- ---- what a row gives, behind rows that gave this
 
 abbrev pub stream_data : Side → Row → StreamData
-stream_data of row = record { side = of; supply = number row 2; target = number row 3; cp = number row 4 }
+stream_data of row = record { side = of; supply = number row 2; target = number row 3; cp = number row 4; contribution = optional_number row 6 }
 
 abbrev pub utility_data : Side → Row → UtilityData
-utility_data of row = record { side = of; level = number row 2; least = number row 3; most = number row 4; price = number row 5 }
+utility_data of row = record { side = of; level = number row 2; least = number row 3; most = number row 4; price = number row 5; contribution = optional_number row 6 }
 
 -- the names of a forbidden match are those of sources of earlier rows
 abbrev pub forbid_in : Given → Row → Forbid

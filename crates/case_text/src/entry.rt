@@ -15,10 +15,12 @@ pub struct StreamData {
     pub target: i32,
     /// The heat-capacity flow, in 10 W/K.
     pub cp: i64,
+    /// In tenths of °C; that of the case where there is none.
+    pub contribution: Option<i32>,
 }
 
 impl StreamData {
-    /// The stream with this name and contribution.
+    /// The stream with this name, in a case with this contribution, in tenths of °C.
     pub fn named(&self, name: Name, contribution: i32) -> Stream
         ensures { result ≡ stream_of contribution (name, self.now) }
     {
@@ -28,7 +30,7 @@ impl StreamData {
             supply: self.supply,
             target: self.target,
             cp: self.cp,
-            contribution,
+            contribution: self.contribution.unwrap_or(contribution),
         }
     }
 }
@@ -45,10 +47,12 @@ pub struct UtilityData {
     pub most: i64,
     /// Of one W.
     pub price: i64,
+    /// In tenths of °C; that of the case where there is none.
+    pub contribution: Option<i32>,
 }
 
 impl UtilityData {
-    /// The utility with this name and contribution.
+    /// The utility with this name, in a case with this contribution, in tenths of °C.
     pub fn named(&self, name: Name, contribution: i32) -> Utility
         ensures { result ≡ utility_of contribution (name, self.now) }
     {
@@ -59,7 +63,7 @@ impl UtilityData {
             least: self.least,
             most: self.most,
             price: self.price,
-            contribution,
+            contribution: self.contribution.unwrap_or(contribution),
         }
     }
 }
@@ -68,7 +72,7 @@ impl UtilityData {
 pub enum Entry {
     /// The row is passed over.
     Nothing,
-    /// The contribution of each source, in tenths of °C.
+    /// The contribution of the case, in tenths of °C.
     Contribution(i32),
     Stream(Name, StreamData),
     Utility(Name, UtilityData),

@@ -160,7 +160,7 @@ impl Found {
         Ok(contribution)
     }
 
-    /// The streams, with this contribution in each.
+    /// The streams, in a case with this contribution.
     fn streams(&self, alloc: Global, contribution: i32) -> Result<Vec<Stream>, AllocError>
         ensures { IfOk result (λ streams. streams.items ≡ map (stream_of contribution) self.now.streams) }
     {
@@ -170,7 +170,7 @@ impl Found {
             .collect(alloc)
     }
 
-    /// The utilities, with this contribution in each.
+    /// The utilities, in a case with this contribution.
     fn utilities(&self, alloc: Global, contribution: i32) -> Result<Vec<Utility>, AllocError>
         ensures { IfOk result (λ utilities. utilities.items ≡ map (utility_of contribution) self.now.utilities) }
     {
@@ -180,7 +180,7 @@ impl Found {
             .collect(alloc)
     }
 
-    /// The case, with this contribution in each source.
+    /// The case with this contribution, in tenths of °C: each source that gave none of its own has it.
     pub fn case(&self, alloc: Global, contribution: i32) -> Result<Case, AllocError>
         ensures { IfOk result (λ case. case ≡ case_with contribution self.now) }
     {

@@ -1,13 +1,13 @@
 //! Printing a case.
 
-ghost use Rattle.std.specs.Prelude.{◌≡◌, ◌≤◌, ◌++◌, All, IfOk, OnOk, length, string_bytes};
+ghost use Rattle.std.specs.Prelude.{◌≡◌, ◌≤◌, ◌++◌, All, IfOk, OnOk, drop, length, string_bytes};
 ghost use Rattle.std.specs.List.{flat_map};
 ghost use Rattle.rows.specs.Rows.{rows_of};
 ghost use Rattle.stream_case.specs.Case.{IsValid, IsValidForbid};
 ghost use Rattle.case_text.specs.Outcome.{IsCase};
-ghost use Rattle.rows.specs.Printed.{contribution_row, stream_row};
-ghost use Rattle.rows.specs.Text.{row_text, rows_text};
-ghost use Rattle.case_text.specs.Printed.{forbid_row, printed_rows, utility_row};
+ghost use Rattle.rows.specs.Printed.{contribution_row};
+ghost use Rattle.rows.specs.Text.{fields_text, row_text, rows_text};
+ghost use Rattle.case_text.specs.Printed.{contribution_field, forbid_row, printed_rows, stream_row, utility_row};
 
 use std::alloc::{AllocError, Global};
 use stream_case::{Case, Forbid, Side, Stream, Utility};
@@ -20,34 +20,57 @@ fn contribution_line(alloc: Global, case: &Case) -> Result<String, AllocError>
     format!(in alloc; "contribution,,{},,,,\n", case.contribution)
 }
 
+/// The field of a source's contribution, in tenths of °C: it is empty where that is the case's.
+#[tactic(auto, unfolding(crate::specs::Printed::contribution_field))]
+fn contribution_field(
+    alloc: Global,
+    case: &Case,
+    contribution: i32,
+) -> Result<String, AllocError>
+    ensures { IfOk result (λ f. string_bytes f ≡ contribution_field case.now contribution) }
+{
+    if contribution == case.contribution {
+        return Ok(String::new(alloc));
+    }
+    format!(in alloc; "{contribution}")
+}
+
 /// The line of a stream.
 #[tactic(auto, unfolding(rows::specs::Text::fields_text))]
-fn stream_line(alloc: Global, stream: &Stream) -> Result<String, AllocError>
-    ensures { IfOk result (λ line. string_bytes line ≡ row_text (stream_row stream.now)) }
+fn stream_line(alloc: Global, case: &Case, stream: &Stream) -> Result<String, AllocError>
+    ensures { IfOk result (λ line. string_bytes line ≡ row_text (stream_row case.now stream.now)) }
 {
     let kind = match stream.side {
         Side::Hot => "hot",
         Side::Cold => "cold",
     };
+    let own = contribution_field(alloc, case, stream.contribution)?;
     format!(in alloc;
-        "{kind},{},{},{},{},,\n",
+        "{kind},{},{},{},{},,{own}\n",
         stream.name, stream.supply, stream.target, stream.cp
     )
 }
 
+/// The end of a utility's line, behind its level: the heats, the price and the contribution.
+#[tactic(auto, unfolding(rows::specs::Text::fields_text))]
+fn utility_end(alloc: Global, case: &Case, utility: &Utility) -> Result<String, AllocError>
+    ensures { IfOk result (λ end. string_bytes end ≡ fields_text (drop 3 (utility_row case.now utility.now))) }
+{
+    let own = contribution_field(alloc, case, utility.contribution)?;
+    format!(in alloc; ",{},{},{},{own}\n", utility.least, utility.most, utility.price)
+}
+
 /// The line of a utility.
 #[tactic(auto, unfolding(rows::specs::Text::fields_text))]
-fn utility_line(alloc: Global, utility: &Utility) -> Result<String, AllocError>
-    ensures { IfOk result (λ line. string_bytes line ≡ row_text (utility_row utility.now)) }
+fn utility_line(alloc: Global, case: &Case, utility: &Utility) -> Result<String, AllocError>
+    ensures { IfOk result (λ line. string_bytes line ≡ row_text (utility_row case.now utility.now)) }
 {
     let kind = match utility.side {
         Side::Hot => "heater",
         Side::Cold => "cooler",
     };
-    format!(in alloc;
-        "{kind},{},{},{},{},{},\n",
-        utility.name, utility.level, utility.least, utility.most, utility.price
-    )
+    let end = utility_end(alloc, case, utility)?;
+    format!(in alloc; "{kind},{},{}{end}", utility.name, utility.level)
 }
 
 /// The line of a forbidden match.
@@ -62,11 +85,16 @@ fn forbid_line(alloc: Global, case: &Case, forbid: &Forbid) -> Result<String, Al
 }
 
 /// Appends the lines of the streams.
-fn push_streams(alloc: Global, text: &mut Vec<u8>, streams: &[Stream]) -> Result<(), AllocError>
-    ensures { OnOk result (text.new.items ≡ text.old.items ++ flat_map (λ s. row_text (stream_row s)) streams.now) }
+fn push_streams(
+    alloc: Global,
+    text: &mut Vec<u8>,
+    case: &Case,
+    streams: &[Stream],
+) -> Result<(), AllocError>
+    ensures { OnOk result (text.new.items ≡ text.old.items ++ flat_map (λ s. row_text (stream_row case.now s)) streams.now) }
 {
     for stream in streams {
-        text.extend_from_slice(stream_line(alloc, stream)?.as_bytes())?;
+        text.extend_from_slice(stream_line(alloc, case, stream)?.as_bytes())?;
     }
     Ok(())
 }
@@ -75,12 +103,13 @@ fn push_streams(alloc: Global, text: &mut Vec<u8>, streams: &[Stream]) -> Result
 fn push_utilities(
     alloc: Global,
     text: &mut Vec<u8>,
+    case: &Case,
     utilities: &[Utility],
 ) -> Result<(), AllocError>
-    ensures { OnOk result (text.new.items ≡ text.old.items ++ flat_map (λ u. row_text (utility_row u)) utilities.now) }
+    ensures { OnOk result (text.new.items ≡ text.old.items ++ flat_map (λ u. row_text (utility_row case.now u)) utilities.now) }
 {
     for utility in utilities {
-        text.extend_from_slice(utility_line(alloc, utility)?.as_bytes())?;
+        text.extend_from_slice(utility_line(alloc, case, utility)?.as_bytes())?;
     }
     Ok(())
 }
@@ -102,8 +131,9 @@ fn push_forbids(
 }
 
 /// Prints a case as a case file: the contribution, the streams, the utilities and the forbidden
-/// matches in their order, one a row, with seven fields and without quotes. `read_case` gives
-/// the case back.
+/// matches in their order, one a row, with seven fields and without quotes. The contribution of
+/// a source stands in its row only where it is not that of the case. `read_case` gives the case
+/// back.
 pub fn print_case(alloc: Global, case: &Case) -> Result<Vec<u8>, AllocError>
     requires { IsValid case.now }
     ensures text { IfOk result (λ text. text.items ≡ rows_text (printed_rows case.now)) }
@@ -112,8 +142,8 @@ pub fn print_case(alloc: Global, case: &Case) -> Result<Vec<u8>, AllocError>
 {
     let mut text = Vec::new(alloc);
     text.extend_from_slice(contribution_line(alloc, case)?.as_bytes())?;
-    push_streams(alloc, &mut text, case.streams.as_slice())?;
-    push_utilities(alloc, &mut text, case.utilities.as_slice())?;
+    push_streams(alloc, &mut text, case, case.streams.as_slice())?;
+    push_utilities(alloc, &mut text, case, case.utilities.as_slice())?;
     push_forbids(alloc, &mut text, case, case.forbids.as_slice())?;
     Ok(text)
 }

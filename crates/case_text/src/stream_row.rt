@@ -12,7 +12,7 @@ use crate::entry::{Entry, StreamData};
 use crate::fault::CaseWhy;
 use crate::found::Found;
 use csv::ByteRecord;
-use rows::{are_empty, flow_rate, name_in, number_in, temperature};
+use rows::{are_empty, flow_rate, name_in, number_in, optional_number_in, own_contribution, temperature};
 use stream_case::{MOST_STREAMS, Side};
 
 /// Whether no stream may have this name.
@@ -31,9 +31,11 @@ fn stream_data(side: Side, row: &ByteRecord) -> Result<StreamData, CaseWhy>
     let supply = number_in(row, 2, CaseWhy::BadNumber)?;
     let target = number_in(row, 3, CaseWhy::BadNumber)?;
     let cp = number_in(row, 4, CaseWhy::BadNumber)?;
+    let own = optional_number_in(row, 6, CaseWhy::BadNumber)?;
     let supply = temperature(supply, CaseWhy::OutOfRange)?;
     let target = temperature(target, CaseWhy::OutOfRange)?;
     let cp = flow_rate(cp, CaseWhy::OutOfRange)?;
+    let contribution = own_contribution(own, CaseWhy::OutOfRange)?;
     if !side.is_right_way(supply, target) {
         return Err(CaseWhy::WrongWay);
     }
@@ -42,6 +44,7 @@ fn stream_data(side: Side, row: &ByteRecord) -> Result<StreamData, CaseWhy>
         supply,
         target,
         cp,
+        contribution,
     })
 }
 
@@ -51,7 +54,7 @@ pub fn stream_entry(found: &Found, side: Side, row: &ByteRecord) -> Result<Entry
     ensures fresh { IfOk result (IsFresh found.now) }
     ensures checked { Checked (stream_checks side found.now (fields_of row.now)) (λ e. e ≡ Entry.Stream (field (fields_of row.now) 1) (stream_data side (fields_of row.now))) result }
 {
-    if !are_empty(row, &[5, 6]) {
+    if !are_empty(row, &[5]) {
         return Err(CaseWhy::FieldCount);
     }
     if found.count_streams(side) >= MOST_STREAMS {

@@ -12,7 +12,7 @@ use crate::entry::{Entry, UtilityData};
 use crate::fault::CaseWhy;
 use crate::found::Found;
 use csv::ByteRecord;
-use rows::{are_empty, heat, name_in, number_in, price, temperature};
+use rows::{heat, name_in, number_in, optional_number_in, own_contribution, price, temperature};
 use stream_case::{MOST_UTILITIES, Side};
 
 /// Whether no utility of this side may have this name.
@@ -35,10 +35,12 @@ fn utility_data(side: Side, row: &ByteRecord) -> Result<UtilityData, CaseWhy>
     let least = number_in(row, 3, CaseWhy::BadNumber)?;
     let most = number_in(row, 4, CaseWhy::BadNumber)?;
     let each = number_in(row, 5, CaseWhy::BadNumber)?;
+    let own = optional_number_in(row, 6, CaseWhy::BadNumber)?;
     let level = temperature(level, CaseWhy::OutOfRange)?;
     let least = heat(least, CaseWhy::OutOfRange)?;
     let most = heat(most, CaseWhy::OutOfRange)?;
     let price = price(each, CaseWhy::OutOfRange)?;
+    let contribution = own_contribution(own, CaseWhy::OutOfRange)?;
     if least > most {
         return Err(CaseWhy::BadRange);
     }
@@ -48,6 +50,7 @@ fn utility_data(side: Side, row: &ByteRecord) -> Result<UtilityData, CaseWhy>
         least,
         most,
         price,
+        contribution,
     })
 }
 
@@ -57,9 +60,6 @@ pub fn utility_entry(found: &Found, side: Side, row: &ByteRecord) -> Result<Entr
     ensures fresh { IfOk result (IsFresh found.now) }
     ensures checked { Checked (utility_checks side found.now (fields_of row.now)) (λ e. e ≡ Entry.Utility (field (fields_of row.now) 1) (utility_data side (fields_of row.now))) result }
 {
-    if !are_empty(row, &[6]) {
-        return Err(CaseWhy::FieldCount);
-    }
     if found.count_utilities() >= MOST_UTILITIES {
         return Err(CaseWhy::TooMany);
     }

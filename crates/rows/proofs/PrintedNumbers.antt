@@ -1,13 +1,17 @@
 -- Numbers as they are printed.
-use Rattle.std.proofs.Common.{◌≡◌, ◌<◌, ◌≤◌, ◌+◌, ◌==◌, ℤ, pos, negsuc, neg_ℤ, ◌^◌, ◌-◌, suc, false, get_or, option_map, Some, length, ap, arith}
+use Rattle.std.proofs.Common.{◌≡◌, ◌<◌, ◌≤◌, ◌+◌, ◌==◌, ◌∷◌, ℕ, ℤ, pos, negsuc, neg_ℤ, ◌^◌, ◌-◌, suc, true, false, List, [], get_or, option_map, Option, Some, None, IfSome, length, refl, ap, arith}
 use Rattle.std.specs.Fmt.{decimal, signed_decimal}
 use Rattle.std.proofs.lemmas.Bool.Decides.{nat_tests}
 use Rattle.std.proofs.lemmas.Fmt.{decimal_is_IsNumeral, length-decimal-le}
 use Rattle.std.proofs.lemmas.Int.{ints}
 use Rattle.std.proofs.lemmas.Str.Parse.{digit_at}
 use Rattle.stream_case.specs.Limits.{IsBetween, IsContribution, IsFlowRate, IsHeat, IsPrice, IsTemperature}
+use Rattle.stream_case.specs.Digits.{natural_in}
 use Rattle.stream_case.proofs.DigitLemmas.{natural_read}
+use Rattle.rows.specs.Fields.{field, is_number, is_number_or_empty, number, optional_number}
 use Rattle.rows.specs.Numbers.{negative, number_in}
+use Rattle.rows.specs.Printed.{optional_field}
+use Rattle.rows.specs.Rows.{Row}
 use Rattle.rows.specs.declared.numbers.TheConstants.{MOST_DIGITS}
 
 -- numbers of a number text
@@ -49,3 +53,14 @@ number_read (pos n) small =
 number_read (negsuc n) small =
     let least : suc n < 10 ^ MOST_DIGITS = omega (arith, ints, small.from) in
     ap (option_map negative) (natural_read MOST_DIGITS (suc n) (omega arith) least (omega (arith, least)))
+
+number_long : (text : List ℕ) (z : ℤ) → number_in text ≡ Some z → (length text == 0) ≡ false
+unfolding number_in natural_in
+number_long [] z read = cc read
+number_long (b ∷ bs) z read = grind (arith, nat_tests)
+
+-- a number that may be left out is read as it is printed
+pub optional_read : (row : Row) (index : ℕ) (o : Option ℤ) → IfSome o IsPrintable → field row index ≡ optional_field o → (is_number_or_empty row index ≡ true) × (optional_number row index ≡ o)
+unfolding is_number_or_empty is_number optional_number number
+optional_read row index None small printed = rw printed (refl, refl)
+optional_read row index (Some z) small printed = rw (printed, number_long (signed_decimal z) z (number_read z small), number_read z small) (refl, refl)

@@ -1,5 +1,5 @@
 -- Rows of seven printed fields, as lines of text, are read as themselves and are short.
-use Rattle.std.proofs.Common.{◌≡◌, ◌∷◌, ◌≤◌, ◌+◌, ◌*◌, ℕ, ℤ, List, [], All, length, refl, arith, length-append}
+use Rattle.std.proofs.Common.{◌≡◌, ◌∷◌, ◌≤◌, ◌+◌, ◌*◌, ℕ, ℤ, List, [], All, Option, Some, None, IfSome, length, refl, arith, length-append}
 use Rattle.std.specs.Prelude.{codes}
 use Rattle.std.specs.Fmt.{signed_decimal}
 use Rattle.std.proofs.lemmas.List.Concat.{length-flat_map}
@@ -12,7 +12,7 @@ use Rattle.stream_case.specs.declared.source.Side.{Side}
 use Rattle.stream_case.specs.declared.source.Side.TheVariants as side
 use Rattle.stream_case.specs.declared.stream.Stream.{Stream}
 use Rattle.stream_case.proofs.NameLemmas.{length-IsName}
-use Rattle.rows.specs.Printed.{contribution_row, stream_kind, stream_row}
+use Rattle.rows.specs.Printed.{contribution_row, optional_field, stream_kind, stream_row}
 use Rattle.rows.specs.Rows.{Row, rows_of}
 use Rattle.rows.specs.Text.{fields_text, row_text, rows_text}
 use Rattle.rows.proofs.PlainRows.{IsPlain, IsPlainRow, name_plain, number_plain, rows_same}
@@ -42,6 +42,10 @@ no_field = record { plain = refl; short = omega arith }
 pub number_field : (z : ℤ) → IsPrintable z → IsPrintedField (signed_decimal z)
 number_field z small = record { plain = number_plain z small; short = omega (arith, number_short z small) }
 
+pub optional_number_field : (o : Option ℤ) → IfSome o IsPrintable → IsPrintedField (optional_field o)
+optional_number_field None small = no_field
+optional_number_field (Some z) small = number_field z small
+
 pub name_field : (name : List ℕ) → IsName name → IsPrintedField name
 name_field name is = record { plain = name_plain name is; short = length-IsName name is }
 
@@ -56,12 +60,12 @@ contribution_printed c range =
     let kind : IsPrintedField (codes "contribution") = record { plain = refl; short = omega arith } in
     seven_fields _ _ _ _ _ _ _ kind no_field (number_field c (contribution c range)) no_field no_field no_field no_field
 
-pub stream_printed : (s : Stream) → IsValidStream s → IsPrintedRow (stream_row s)
-stream_printed s valid =
+pub stream_printed : (last : List ℕ) → IsPrintedField last → (s : Stream) → IsValidStream s → IsPrintedRow (stream_row last s)
+stream_printed last printed s valid =
     let supply = number_field s.supply (temperature s.supply valid.supply) in
     let target = number_field s.target (temperature s.target valid.target) in
     let cp = number_field s.cp (flow_rate s.cp valid.cp) in
-    seven_fields _ _ _ _ _ _ _ (stream_kind_field s.side) (name_field s.name valid.name) supply target cp no_field no_field
+    seven_fields _ _ _ _ _ _ _ (stream_kind_field s.side) (name_field s.name valid.name) supply target cp no_field printed
 
 -- ---- the text
 

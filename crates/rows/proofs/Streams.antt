@@ -12,10 +12,13 @@ use Rattle.stream_case.proofs.SourceLemmas.{Decides-is_right_way}
 use Rattle.rows.specs.Numbers.{is_flow_rate, is_temperature}
 use Rattle.rows.proofs.Tests.{passed-within}
 
--- the contribution so far, 0 where none was given yet
-pub range_of : (o : Option ℤ) → IfSome o IsContribution → IsContribution (unwrap_or o (pos 0))
-range_of None fits = record { from = omega arith; upto = omega arith }
-range_of (Some c) fits = fits
+pub no_contribution : IsContribution (pos 0)
+no_contribution = record { from = omega arith; upto = omega arith }
+
+-- the contribution that is given, or the one that stands for it
+pub range_of : (o : Option ℤ) (otherwise : ℤ) → IfSome o IsContribution → IsContribution otherwise → IsContribution (unwrap_or o otherwise)
+range_of None otherwise fits range = range
+range_of (Some c) otherwise fits range = fits
 
 -- a stream whose row passes the checks
 pub stream-is_valid : (s : Stream) → is_name s.name ≡ true → is_temperature s.supply ≡ true → is_temperature s.target ≡ true → is_flow_rate s.cp ≡ true → is_right_way s.side s.supply s.target ≡ true → IsContribution s.contribution → IsValidStream s

@@ -1,11 +1,12 @@
 -- What the tests of numbers and of lists decide.
-use Rattle.std.proofs.Common.{◌≤ℤ◌, ◌<◌, ℕ, ℤ, Bool, true, false, not, ◌&&◌, ◌||◌, ◌≡◌, List, All, Decides, nat_lt, refl, arith}
+use Rattle.std.proofs.Common.{◌≤ℤ◌, ◌<◌, ℕ, ℤ, pos, Bool, true, false, not, ◌&&◌, ◌||◌, ◌≡◌, List, All, Decides, Option, Some, None, IfSome, nat_lt, refl, arith}
 use Rattle.std.specs.Prelude.{int_le}
 use Rattle.std.specs.List.{list_any}
 use Rattle.std.proofs.lemmas.Bool.Decides.{Decides-and, Decides-by_and, Decides-like, Decides-ltb, Decides-not}
 use Rattle.std.proofs.lemmas.Int.{ints}
-use Rattle.stream_case.specs.Limits.{IsBetween}
-use Rattle.rows.specs.Numbers.{is_within}
+use Rattle.stream_case.specs.Limits.{IsBetween, IsContribution}
+use Rattle.rows.specs.Numbers.{is_own_contribution, is_within}
+use Rattle.stream_case.specs.declared.limits.TheConstants.{MOST_CONTRIBUTION}
 
 pub Decides-int_le : (a b : ℤ) → Decides (int_le a b) (a ≤ℤ b)
 Decides-int_le a b = (λ e. grind (arith, ints, e), λ h. grind (arith, ints, h))
@@ -19,6 +20,11 @@ passed-within low high n = (Decides-is_within low high n).0
 
 pub within-passes : (low high n : ℤ) → IsBetween low high n → is_within low high n ≡ true
 within-passes low high n = (Decides-is_within low high n).1
+
+pub Decides-is_own_contribution : (o : Option ℤ) → Decides (is_own_contribution o) (IfSome o IsContribution)
+unfolding is_own_contribution
+Decides-is_own_contribution None = (λ e. tt, λ h. refl)
+Decides-is_own_contribution (Some c) = Decides-is_within (pos 0) MOST_CONTRIBUTION c
 
 -- a count with room for one more
 pub passed-room : (n most : ℕ) → nat_lt n most ≡ true → n < most

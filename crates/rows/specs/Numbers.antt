@@ -1,5 +1,5 @@
 -- The number texts of the files: an optional `-`, and then 1 to 13 digits; and numbers within their limits.
-use Rattle.std.specs.Prelude.{ℕ, ℤ, pos, List, drop, Option, option_map, Bool, ◌==◌, ◌&&◌, if◌then◌else◌, int_le, slice_index, neg_ℤ}
+use Rattle.std.specs.Prelude.{ℕ, ℤ, pos, List, drop, Option, Some, None, option_map, Bool, true, ◌==◌, ◌&&◌, if◌then◌else◌, int_le, slice_index, neg_ℤ}
 use Rattle.stream_case.specs.Digits.{natural_in}
 use Rattle.stream_case.specs.declared.limits.TheConstants.{HIGHEST_TEMPERATURE, LOWEST_TEMPERATURE, MOST_CONTRIBUTION, MOST_CP, MOST_HEAT, MOST_PRICE}
 use Rattle.rows.specs.declared.numbers.TheConstants.{MOST_DIGITS}
@@ -23,6 +23,11 @@ is_temperature n = is_within LOWEST_TEMPERATURE HIGHEST_TEMPERATURE n
 -- in tenths of °C
 abbrev pub is_contribution : ℤ → Bool
 is_contribution n = is_within (pos 0) MOST_CONTRIBUTION n
+
+-- that of a source, which may give none
+unfoldable pub is_own_contribution : Option ℤ → Bool
+is_own_contribution None = true
+is_own_contribution (Some n) = is_contribution n
 
 -- in 10 W/K
 abbrev pub is_flow_rate : ℤ → Bool

@@ -2,7 +2,7 @@
 
 ghost use Rattle.std.specs.Prelude.{◌≡◌, [], ◌∷◌};
 ghost use Rattle.first_fault.specs.Checks.{Checked};
-ghost use Rattle.rows.specs.Numbers.{is_contribution, is_flow_rate, is_heat, is_price, is_temperature, is_within, number_in};
+ghost use Rattle.rows.specs.Numbers.{is_contribution, is_flow_rate, is_heat, is_own_contribution, is_price, is_temperature, is_within, number_in};
 
 use stream_case::{
     HIGHEST_TEMPERATURE, LOWEST_TEMPERATURE, MOST_CONTRIBUTION, MOST_CP, MOST_HEAT, MOST_PRICE,
@@ -52,6 +52,18 @@ pub fn contribution<Cause: Drop>(n: i64, outside: Cause) -> Result<i32, Cause>
     ensures { Checked ((is_contribution n, outside) ∷ []) (λ c. c ≡ n) result }
 {
     Ok(within(0, MOST_CONTRIBUTION.into(), n, outside)? as i32)
+}
+
+/// The contribution that a source gives, in tenths of °C, or the cause for one outside the limits;
+/// it may give none.
+#[tactic(auto, unfolding(crate::specs::Numbers::is_own_contribution))]
+pub fn own_contribution<Cause: Drop>(n: Option<i64>, outside: Cause) -> Result<Option<i32>, Cause>
+    ensures { Checked ((is_own_contribution n, outside) ∷ []) (λ c. c ≡ n) result }
+{
+    let Some(n) = n else {
+        return Ok(None);
+    };
+    Ok(Some(contribution(n, outside)?))
 }
 
 /// A number that is a heat-capacity flow, in 10 W/K, or the cause for one outside the limits.

@@ -17,7 +17,7 @@ use Rattle.stream_case.specs.declared.source.Side.{Side}
 use Rattle.stream_case.specs.declared.stream.Stream.{Stream}
 use Rattle.stream_case.proofs.NameTests.{passed-name}
 use Rattle.rows.specs.Fields.{field, number}
-use Rattle.rows.proofs.Streams.{range_of, stream-is_valid}
+use Rattle.rows.proofs.Streams.{no_contribution, range_of, stream-is_valid}
 use Rattle.rows.proofs.Tests.{passed-room, passed-within}
 use Rattle.plants.specs.Site.{AreDistinct, ArePlants, IsUnreserved, IsValidSite, streams_of}
 use Rattle.plants.specs.declared.limits.TheConstants.{MOST_SIDE_STREAMS}
@@ -167,7 +167,7 @@ site_valid : (given : Given) → Fits given → IsWhole given → IsValidSite (s
 site_valid given fits whole =
     let c = unwrap_or given.contribution (pos 0) in
     let streams = streams_of given.plants in
-    let range = range_of given.contribution fits.contribution in
+    let range = range_of given.contribution (pos 0) fits.contribution no_contribution in
     record {
       contribution = range;
       plants = record {

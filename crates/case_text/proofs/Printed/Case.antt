@@ -1,7 +1,8 @@
 -- The printed rows of a valid case give the case.
-use Rattle.std.proofs.Common.{◌≡◌, ◌≢◌, ◌∙◌, ◌∷◌, ◌++◌, ◌<◌, ◌≤◌, ℕ, ℤ, cond, List, [], All, Some, None, is_some, true, length, map, refl, sym, ap, subst, arith, append_assoc}
+use Rattle.std.proofs.Common.{◌≡◌, ◌≢◌, ◌∙◌, ◌∷◌, ◌++◌, ◌<◌, ◌≤◌, ℕ, ℤ, Bool, cond, List, [], All, Some, None, is_some, true, false, if◌then◌else◌, unwrap_or, length, map, refl, sym, ap, subst, arith, append_assoc}
 use Rattle.std.specs.Map.{keys_of}
-use Rattle.std.proofs.lemmas.Bool.Decides.{nat_tests}
+use Rattle.std.specs.Ordering.{int_eq}
+use Rattle.std.proofs.lemmas.Bool.Decides.{Decides-int_eq, nat_tests}
 use Rattle.std.proofs.lemmas.List.{append-nil, length-map, map-append}
 use Rattle.std.proofs.lemmas.List.Elements.{All-append, All-head, All-map, All-tail, All-weaker}
 use Rattle.std.proofs.lemmas.List.Sums.{sum_by-append, sum_by-cons}
@@ -26,8 +27,8 @@ use Rattle.rows.proofs.Seams.{All-seam, AllPairs-seam, length-seam}
 use Rattle.case_text.specs.Given.{Given, case_of, nothing, stream_of, utility_of}
 use Rattle.case_text.specs.Checks.{end_checks}
 use Rattle.case_text.specs.Outcome.{IsCase, end_fault, grammar}
-use Rattle.rows.specs.Printed.{contribution_row, stream_row}
-use Rattle.case_text.specs.Printed.{forbid_row, printed_rows, utility_row}
+use Rattle.rows.specs.Printed.{contribution_row}
+use Rattle.case_text.specs.Printed.{forbid_row, own_contribution, printed_rows, stream_row, utility_row}
 use Rattle.case_text.specs.declared.entry.StreamData.{StreamData}
 use Rattle.case_text.specs.declared.entry.UtilityData.{UtilityData}
 use Rattle.case_text.proofs.ListLemmas.{count_by-map}
@@ -36,7 +37,7 @@ use Rattle.case_text.proofs.Sources.{count_of}
 
 -- the streams, the utilities and the forbidden matches that are given so far
 abbrev given_with : Case → List Stream → List Utility → List Forbid → Given
-given_with k streams utilities forbids = record { contribution = Some k.contribution; streams = map stream_entry streams; utilities = map utility_entry utilities; forbids = forbids }
+given_with k streams utilities forbids = record { contribution = Some k.contribution; streams = map (stream_entry k) streams; utilities = map (utility_entry k) utilities; forbids = forbids }
 
 -- an item more, where there are items before it
 entries-more : {X V : Type 0} (entry_of : X → V) (before : List X) (x : X) → map entry_of (before ++ x ∷ []) ≡ map entry_of before ++ entry_of x ∷ []
@@ -45,69 +46,68 @@ entries-more entry_of before x = map-append entry_of before (x ∷ [])
 abbrev Differ : List ℕ → List ℕ → Type 0
 Differ a b = a ≢ b
 
-stream_keys : (ss : List Stream) → keys_of (map stream_entry ss) ≡ map (λ s. s.name) ss
-stream_keys ss = map-map (λ (e : List ℕ × StreamData). e.0) stream_entry ss
+stream_keys : (k : Case) (ss : List Stream) → keys_of (map (stream_entry k) ss) ≡ map (λ s. s.name) ss
+stream_keys k ss = map-map (λ (e : List ℕ × StreamData). e.0) (stream_entry k) ss
 
-utility_keys : (us : List Utility) → keys_of (map utility_entry us) ≡ map (λ u. u.name) us
-utility_keys us = map-map (λ (e : List ℕ × UtilityData). e.0) utility_entry us
+utility_keys : (k : Case) (us : List Utility) → keys_of (map (utility_entry k) us) ≡ map (λ u. u.name) us
+utility_keys k us = map-map (λ (e : List ℕ × UtilityData). e.0) (utility_entry k) us
 
 -- ---- streams
 
 -- a side has room for a stream behind the ones before it
-room_before : (all before : List Stream) (s : Stream) (after : List Stream) → all ≡ before ++ s ∷ after → count_on s.side all ≤ MOST_STREAMS → count_of s.side (map stream_entry before) < MOST_STREAMS
-room_before all before s after is few =
+room_before : (k : Case) (all before : List Stream) (s : Stream) (after : List Stream) → all ≡ before ++ s ∷ after → count_on s.side all ≤ MOST_STREAMS → count_of s.side (map (stream_entry k) before) < MOST_STREAMS
+room_before k all before s after is few =
     let one : Stream → ℕ = λ t. cond (same_side t.side s.side) 1 0 in
     let own : one s ≡ 1 = ap (λ b. cond b 1 0) (own_side s.side) in
-    let before_is = count_by-map (λ (e : List ℕ × StreamData). same_side e.1.side s.side) stream_entry before in
+    let before_is = count_by-map (λ (e : List ℕ × StreamData). same_side e.1.side s.side) (stream_entry k) before in
     omega (arith, few, ap (count_on s.side) is, sum_by-append one before (s ∷ after), sum_by-cons one s after, own, before_is)
 
-stream_step : (k : Case) → IsValid k → (before : List Stream) (s : Stream) (after : List Stream) → k.streams ≡ before ++ s ∷ after → Follows grammar (given_with k before [] []) (stream_row s) (given_with k (before ++ s ∷ []) [] [])
+stream_step : (k : Case) → IsValid k → (before : List Stream) (s : Stream) (after : List Stream) → k.streams ≡ before ++ s ∷ after → Follows grammar (given_with k before [] []) (stream_row k s) (given_with k (before ++ s ∷ []) [] [])
 stream_step k valid before s after is =
     let names : names_of k ≡ map (λ s. s.name) before ++ s.name ∷ (map (λ s. s.name) after ++ map (λ u. u.name) k.utilities) =
     ap (λ (ss : List Stream). map (λ s. s.name) ss ++ map (λ u. u.name) k.utilities) is ∙ ap (λ (ns : List (List ℕ)). ns ++ map (λ u. u.name) k.utilities) (map-append (λ (t : Stream). t.name) before (s ∷ after))
     ∙ append_assoc (map (λ (t : Stream). t.name) before) (s.name ∷ map (λ (t : Stream). t.name) after) (map (λ (u : Utility). u.name) k.utilities) in
     let new = AllPairs-seam Differ (names_of k) _ s.name _ names valid.distinct_names in
-    let keys : keys_of (map stream_entry before) ++ [] ≡ map (λ s. s.name) before = append-nil _ ∙ stream_keys before in
-    let room = room_before k.streams before s after is (valid.streams.are_streams.few s.side) in
+    let keys : keys_of (map (stream_entry k) before) ++ [] ≡ map (λ s. s.name) before = append-nil _ ∙ stream_keys k before in
+    let room = room_before k k.streams before s after is (valid.streams.are_streams.few s.side) in
     let each = All-seam IsValidStream k.streams before s after is valid.streams.are_streams.each in
     let unreserved = All-seam (λ (s : Stream). IsUnreserved s.name) k.streams before s after is valid.stream_names in
-    rw (entries-more stream_entry before s) (stream_follows (given_with k before [] []) s each unreserved room (subst (All (λ (o : List ℕ). o ≢ s.name)) (sym keys) new))
+    rw (entries-more (stream_entry k) before s) (stream_follows (given_with k before [] []) k s each unreserved room (subst (All (λ (o : List ℕ). o ≢ s.name)) (sym keys) new))
 
 -- ---- utilities
 
-utility_step : (k : Case) → IsValid k → (before : List Utility) (u : Utility) (after : List Utility) → k.utilities ≡ before ++ u ∷ after → Follows grammar (given_with k k.streams before []) (utility_row u) (given_with k k.streams (before ++ u ∷ []) [])
+utility_step : (k : Case) → IsValid k → (before : List Utility) (u : Utility) (after : List Utility) → k.utilities ≡ before ++ u ∷ after → Follows grammar (given_with k k.streams before []) (utility_row k u) (given_with k k.streams (before ++ u ∷ []) [])
 utility_step k valid before u after is =
     let names : names_of k ≡ (map (λ s. s.name) k.streams ++ map (λ u. u.name) before) ++ u.name ∷ map (λ u. u.name) after =
     ap (λ (us : List Utility). map (λ s. s.name) k.streams ++ map (λ u. u.name) us) is ∙ ap (λ (ns : List (List ℕ)). map (λ s. s.name) k.streams ++ ns) (map-append (λ (t : Utility). t.name) before (u ∷ after))
     ∙ sym (append_assoc (map (λ (s : Stream). s.name) k.streams) (map (λ (t : Utility). t.name) before) (u.name ∷ map (λ (t : Utility). t.name) after)) in
     let new = AllPairs-seam Differ (names_of k) _ u.name _ names valid.distinct_names in
-    let keys : keys_of (map stream_entry k.streams) ++ keys_of (map utility_entry before) ≡ map (λ s. s.name) k.streams ++ map (λ u. u.name) before = λ i. stream_keys k.streams i ++ utility_keys before i in
-    let room : length (map utility_entry before) < MOST_UTILITIES = omega (arith, length-map before utility_entry, length-seam k.utilities before u after is, valid.few_utilities) in
+    let keys : keys_of (map (stream_entry k) k.streams) ++ keys_of (map (utility_entry k) before) ≡ map (λ s. s.name) k.streams ++ map (λ u. u.name) before = λ i. stream_keys k k.streams i ++ utility_keys k before i in
+    let room : length (map (utility_entry k) before) < MOST_UTILITIES = omega (arith, length-map before (utility_entry k), length-seam k.utilities before u after is, valid.few_utilities) in
     let each = All-seam IsValidUtility k.utilities before u after is valid.utilities in
     let named = All-seam IsRightlyNamed k.utilities before u after is valid.utility_names in
-    rw (entries-more utility_entry before u) (utility_follows (given_with k k.streams before []) u each named room (subst (All (λ (o : List ℕ). o ≢ u.name)) (sym keys) new))
+    rw (entries-more (utility_entry k) before u) (utility_follows (given_with k k.streams before []) k u each named room (subst (All (λ (o : List ℕ). o ≢ u.name)) (sym keys) new))
 
 -- ---- the case of what is given
 
-streams_back : (contribution : ℤ) (ss : List Stream) → All (λ s. s.contribution ≡ contribution) ss → map (stream_of contribution) (map stream_entry ss) ≡ ss
-streams_back contribution [] same = refl
-streams_back contribution (s ∷ ss) same =
-    let here = sym (All-head (λ (t : Stream). t.contribution ≡ contribution) s ss same) in
-    let rest = streams_back contribution ss (All-tail (λ (t : Stream). t.contribution ≡ contribution) s ss same) in
-    λ i. record s { contribution = here i } ∷ rest i
+-- the contribution that a source gives, or else that of the case
+own_back : (k : Case) (c : ℤ) → unwrap_or (own_contribution k c) k.contribution ≡ c
+own_back k c = by (int_eq c k.contribution) refl
+  where
+    by : (b : Bool) → int_eq c k.contribution ≡ b → unwrap_or (if b then None else Some c) k.contribution ≡ c
+    by true same = sym ((Decides-int_eq c k.contribution).0 same)
+    by false differs = refl
 
-utilities_back : (contribution : ℤ) (us : List Utility) → All (λ u. u.contribution ≡ contribution) us → map (utility_of contribution) (map utility_entry us) ≡ us
-utilities_back contribution [] same = refl
-utilities_back contribution (u ∷ us) same =
-    let here = sym (All-head (λ (t : Utility). t.contribution ≡ contribution) u us same) in
-    let rest = utilities_back contribution us (All-tail (λ (t : Utility). t.contribution ≡ contribution) u us same) in
-    λ i. record u { contribution = here i } ∷ rest i
+streams_back : (k : Case) (ss : List Stream) → map (stream_of k.contribution) (map (stream_entry k) ss) ≡ ss
+streams_back k [] = refl
+streams_back k (s ∷ ss) = λ i. record s { contribution = own_back k s.contribution i } ∷ streams_back k ss i
 
-case_back : (k : Case) → IsValid k → (forbids : List Forbid) → case_of (given_with k k.streams k.utilities forbids) ≡ record k { forbids = forbids }
-case_back k valid forbids =
-    let streams = streams_back k.contribution k.streams valid.stream_contributions in
-    let utilities = utilities_back k.contribution k.utilities valid.utility_contributions in
-    λ i. record { contribution = k.contribution; streams = streams i; utilities = utilities i; forbids = forbids }
+utilities_back : (k : Case) (us : List Utility) → map (utility_of k.contribution) (map (utility_entry k) us) ≡ us
+utilities_back k [] = refl
+utilities_back k (u ∷ us) = λ i. record u { contribution = own_back k u.contribution i } ∷ utilities_back k us i
+
+case_back : (k : Case) (forbids : List Forbid) → case_of (given_with k k.streams k.utilities forbids) ≡ record k { forbids = forbids }
+case_back k forbids = λ i. record { contribution = k.contribution; streams = streams_back k k.streams i; utilities = utilities_back k k.utilities i; forbids = forbids }
 
 -- ---- forbidden matches
 
@@ -123,7 +123,7 @@ name_of k valid of s on = IsName-source_name k (all_names k valid) s (IsSourceOf
 found : (k : Case) → IsValid k → (forbids : List Forbid) (of : Side) (s : Source) → side_of k s ≡ Some of → IsFound (given_with k k.streams k.utilities forbids) of s (source_name k s)
 unfolding source_named
 found k valid forbids of s on =
-    let back = sym (case_back k valid forbids) in
+    let back = sym (case_back k forbids) in
     let named : source_named (record k { forbids = forbids }) (source_name k s) ≡ Some s = source_named-source_name k valid.distinct_names s (IsSourceOf-side k s (ap is_some on)) in
     record {
       is_name = name_of k valid of s on;
@@ -145,9 +145,9 @@ rows_give : (k : Case) → IsValid k → Give grammar (printed_rows k) (given_wi
 unfolding printed_rows
 rows_give k valid =
     let first = one_more_gives grammar [] nothing (contribution_row k.contribution) (given_with k [] [] []) (nothing_gives grammar nothing refl) (contribution_follows k.contribution valid.contribution) in
-    let streams = all_give grammar stream_row (λ ss. given_with k ss [] []) (contribution_row k.contribution ∷ []) k.streams (stream_step k valid) first in
-    let utilities = all_give grammar utility_row (λ us. given_with k k.streams us []) (contribution_row k.contribution ∷ map stream_row k.streams) k.utilities (utility_step k valid) streams in
-    all_give grammar (forbid_row k) (given_with k k.streams k.utilities) (contribution_row k.contribution ∷ (map stream_row k.streams ++ map utility_row k.utilities)) k.forbids (forbid_step k valid) utilities
+    let streams = all_give grammar (stream_row k) (λ ss. given_with k ss [] []) (contribution_row k.contribution ∷ []) k.streams (stream_step k valid) first in
+    let utilities = all_give grammar (utility_row k) (λ us. given_with k k.streams us []) (contribution_row k.contribution ∷ map (stream_row k) k.streams) k.utilities (utility_step k valid) streams in
+    all_give grammar (forbid_row k) (given_with k k.streams k.utilities) (contribution_row k.contribution ∷ (map (stream_row k) k.streams ++ map (utility_row k) k.utilities)) k.forbids (forbid_step k valid) utilities
 
 -- the end is not at fault where there are a contribution and a stream
 lacks_nothing : (rows : ℕ) (given : Given) → is_some given.contribution ≡ true → 0 < length given.streams → end_fault rows given ≡ None
@@ -158,9 +158,9 @@ pub rows_back : (k : Case) → IsValid k → IsCase (printed_rows k) k
 rows_back k valid =
     let gives = rows_give k valid in
     let rows = length (printed_rows k) in
-    let complete : end_fault rows (given_with k k.streams k.utilities k.forbids) ≡ None = lacks_nothing rows (given_with k k.streams k.utilities k.forbids) refl (omega (arith, length-map k.streams stream_entry, valid.streams.some)) in
+    let complete : end_fault rows (given_with k k.streams k.utilities k.forbids) ≡ None = lacks_nothing rows (given_with k k.streams k.utilities k.forbids) refl (omega (arith, length-map k.streams (stream_entry k), valid.streams.some)) in
     record {
       sound = gives.sound;
       complete = ap (end_fault rows) (sym gives.given_is) ∙ complete;
-      value_is = sym (case_back k valid k.forbids) ∙ ap case_of gives.given_is;
+      value_is = sym (case_back k k.forbids) ∙ ap case_of gives.given_is;
     }

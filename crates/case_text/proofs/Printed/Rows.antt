@@ -1,6 +1,7 @@
 -- Each printed row follows on the rows before it.
-use Rattle.std.proofs.Common.{◌≡◌, ◌≢◌, ◌∷◌, ◌++◌, ◌<◌, ℕ, ℤ, pos, List, All, Some, unwrap_or, length, refl, arith}
+use Rattle.std.proofs.Common.{◌≡◌, ◌≢◌, ◌∷◌, ◌++◌, ◌<◌, ℕ, ℤ, pos, true, false, List, All, Some, None, IfSome, if◌then◌else◌, unwrap_or, length, refl, arith}
 use Rattle.std.specs.Map.{keys_of}
+use Rattle.std.specs.Ordering.{int_eq}
 use Rattle.std.proofs.lemmas.Int.{ints}
 use Rattle.rows.specs.Rows.{Row}
 use Rattle.first_fault.proofs.CheckLemmas.{Passes, none_fails}
@@ -20,19 +21,20 @@ use Rattle.stream_case.specs.declared.stream.Stream.{Stream}
 use Rattle.stream_case.specs.declared.utility.Utility.{Utility}
 use Rattle.stream_case.proofs.NameTests.{name-passes}
 use Rattle.stream_case.proofs.SourceLemmas.{Decides-is_right_way}
-use Rattle.rows.specs.Fields.{are_empty, is_number, is_passed_over, number}
-use Rattle.rows.proofs.Tests.{Decides-int_le, room-passes, within-passes}
+use Rattle.rows.specs.Fields.{are_empty, field, is_number, is_number_or_empty, is_passed_over, number, optional_number}
+use Rattle.rows.specs.Numbers.{is_own_contribution}
+use Rattle.rows.proofs.Tests.{Decides-int_le, Decides-is_own_contribution, room-passes, within-passes}
 use Rattle.case_text.specs.Rows.{kind_of}
 use Rattle.case_text.specs.Given.{Given, case_of, nothing, with_entry}
 use Rattle.case_text.specs.Checks.{checks, contribution_checks, forbid_checks, kind_checks, stream_checks, stream_number_checks, utility_checks, utility_number_checks}
 use Rattle.case_text.specs.Outcome.{grammar}
-use Rattle.rows.specs.Printed.{contribution_row, stream_kind, stream_row}
-use Rattle.case_text.specs.Printed.{forbid_row, utility_kind, utility_row}
+use Rattle.rows.specs.Printed.{contribution_row, stream_kind}
+use Rattle.case_text.specs.Printed.{contribution_field, forbid_row, own_contribution, stream_row, utility_kind, utility_row}
 use Rattle.case_text.specs.declared.entry.Entry.TheVariants as entry
 use Rattle.case_text.specs.declared.entry.StreamData.{StreamData}
 use Rattle.case_text.specs.declared.entry.UtilityData.{UtilityData}
 use Rattle.case_text.specs.declared.kind.Kind.TheVariants as kind
-use Rattle.rows.proofs.PrintedNumbers.{contribution, flow_rate, heat, number_read, price, temperature}
+use Rattle.rows.proofs.PrintedNumbers.{IsPrintable, contribution, flow_rate, heat, number_read, optional_read, price, temperature}
 use Rattle.case_text.proofs.Sources.{count_of, count_on-case, names_of-case}
 use Rattle.case_text.proofs.Tests.{Decides-is_forbidden, Decides-is_reserved, Decides-is_reserved_from, Decides-is_taken, is_source-named}
 
@@ -44,10 +46,27 @@ contribution_follows c range =
     let passes : Passes (checks nothing (contribution_row c)) = rw read (refl, (refl, (refl, (refl, (refl, (within-passes _ _ _ range, tt)))))) in
     record { passes = none_fails (checks nothing (contribution_row c)) passes; next_is = rw read refl }
 
+-- ---- contributions of sources
+
+pub own : (P : ℤ → Type 0) (k : Case) (c : ℤ) → P c → IfSome (own_contribution k c) P
+own P k c holds = elim (int_eq c k.contribution) as (λ b. IfSome (if b then None else Some c) P) [ true ↦ tt | false ↦ holds ]
+
+-- a row in whose seventh field a contribution is printed
+record ReadsOwn (k : Case) (c : ℤ) (row : Row) : Type 0 where
+  is_number : is_number_or_empty row 6 ≡ true
+  read : optional_number row 6 ≡ own_contribution k c
+  range : is_own_contribution (own_contribution k c) ≡ true
+
+reads_own : (k : Case) (c : ℤ) (row : Row) → IsContribution c → field row 6 ≡ contribution_field k c → ReadsOwn k c row
+unfolding contribution_field
+reads_own k c row range printed =
+    let (is, read) = optional_read row 6 (own_contribution k c) (own IsPrintable k c (contribution c range)) printed in
+    record { is_number = is; read = read; range = (Decides-is_own_contribution (own_contribution k c)).1 (own IsContribution k c range) }
+
 -- ---- streams
 
-abbrev pub stream_entry : Stream → List ℕ × StreamData
-stream_entry s = (s.name, record { side = s.side; supply = s.supply; target = s.target; cp = s.cp })
+abbrev pub stream_entry : Case → Stream → List ℕ × StreamData
+stream_entry k s = (s.name, record { side = s.side; supply = s.supply; target = s.target; cp = s.cp; contribution = own_contribution k s.contribution })
 
 stream_row_kind : (of : Side) (fields : Row) → kind_of (stream_kind of ∷ fields) ≡ Some (kind.Stream of)
 unfolding kind_of is_passed_over are_empty
@@ -55,46 +74,50 @@ stream_row_kind side.Hot fields = refl
 stream_row_kind side.Cold fields = refl
 
 -- a stream of which an earlier row gave neither the name nor too many of its side
-pub stream_follows : (given : Given) (s : Stream) → IsValidStream s → IsUnreserved s.name → count_of s.side given.streams < MOST_STREAMS → All (λ other. other ≢ s.name) (keys_of given.streams ++ keys_of given.utilities)
-    → Follows grammar given (stream_row s) (with_entry given (entry.Stream s.name (stream_entry s).1))
+pub stream_follows : (given : Given) (k : Case) (s : Stream) → IsValidStream s → IsUnreserved s.name → count_of s.side given.streams < MOST_STREAMS → All (λ other. other ≢ s.name) (keys_of given.streams ++ keys_of given.utilities)
+    → Follows grammar given (stream_row k s) (with_entry given (entry.Stream s.name (stream_entry k s).1))
 unfolding checks kind_checks stream_checks stream_number_checks are_empty is_number number
-stream_follows given s valid unreserved few new =
-    let is : kind_of (stream_row s) ≡ Some (kind.Stream s.side) = stream_row_kind s.side _ in
+stream_follows given k s valid unreserved few new =
+    let row = stream_row k s in
+    let is : kind_of row ≡ Some (kind.Stream s.side) = stream_row_kind s.side _ in
     let supply = number_read s.supply (temperature s.supply valid.supply) in
     let target = number_read s.target (temperature s.target valid.target) in
     let cp = number_read s.cp (flow_rate s.cp valid.cp) in
+    let own = reads_own k s.contribution row valid.contribution refl in
     let place = room-passes (count_on s.side (case_of given).streams) MOST_STREAMS (rw (count_on-case s.side (unwrap_or given.contribution (pos 0)) given.streams) few) in
     let free = (Decides-is_taken (case_of given) s.name).1 (rw (names_of-case given) new) in
-    let numbers : Passes (stream_number_checks s.side (stream_row s)) =
-    rw (supply, target, cp) (refl, (refl, (refl, (within-passes _ _ _ valid.supply, (within-passes _ _ _ valid.target, (within-passes _ _ _ valid.cp, ((Decides-is_right_way s.side s.supply s.target).1 valid.way, tt))))))) in
-    let passes : Passes (checks given (stream_row s)) = rw is (refl, (refl, (refl, (place, (name-passes s.name valid.name, ((Decides-is_reserved s.name).1 unreserved, (free, numbers))))))) in
-    record { passes = none_fails (checks given (stream_row s)) passes; next_is = rw (is, supply, target, cp) refl }
+    let numbers : Passes (stream_number_checks s.side row) =
+    rw (supply, target, cp, own.read) (refl, (refl, (refl, (own.is_number, (within-passes _ _ _ valid.supply, (within-passes _ _ _ valid.target, (within-passes _ _ _ valid.cp, (own.range, ((Decides-is_right_way s.side s.supply s.target).1 valid.way, tt))))))))) in
+    let passes : Passes (checks given row) = rw is (refl, (refl, (refl, (place, (name-passes s.name valid.name, ((Decides-is_reserved s.name).1 unreserved, (free, numbers))))))) in
+    record { passes = none_fails (checks given row) passes; next_is = rw (is, supply, target, cp, own.read) refl }
 
 -- ---- utilities
 
-abbrev pub utility_entry : Utility → List ℕ × UtilityData
-utility_entry u = (u.name, record { side = u.side; level = u.level; least = u.least; most = u.most; price = u.price })
+abbrev pub utility_entry : Case → Utility → List ℕ × UtilityData
+utility_entry k u = (u.name, record { side = u.side; level = u.level; least = u.least; most = u.most; price = u.price; contribution = own_contribution k u.contribution })
 
 utility_row_kind : (of : Side) (fields : Row) → kind_of (utility_kind of ∷ fields) ≡ Some (kind.Utility of)
 unfolding kind_of is_passed_over are_empty
 utility_row_kind side.Hot fields = refl
 utility_row_kind side.Cold fields = refl
 
-pub utility_follows : (given : Given) (u : Utility) → IsValidUtility u → IsRightlyNamed u → length given.utilities < MOST_UTILITIES → All (λ other. other ≢ u.name) (keys_of given.streams ++ keys_of given.utilities)
-    → Follows grammar given (utility_row u) (with_entry given (entry.Utility u.name (utility_entry u).1))
+pub utility_follows : (given : Given) (k : Case) (u : Utility) → IsValidUtility u → IsRightlyNamed u → length given.utilities < MOST_UTILITIES → All (λ other. other ≢ u.name) (keys_of given.streams ++ keys_of given.utilities)
+    → Follows grammar given (utility_row k u) (with_entry given (entry.Utility u.name (utility_entry k u).1))
 unfolding checks kind_checks utility_checks utility_number_checks are_empty is_number number
-utility_follows given u valid named few new =
-    let is : kind_of (utility_row u) ≡ Some (kind.Utility u.side) = utility_row_kind u.side _ in
+utility_follows given k u valid named few new =
+    let row = utility_row k u in
+    let is : kind_of row ≡ Some (kind.Utility u.side) = utility_row_kind u.side _ in
     let most_range : IsHeat u.most = record { from = omega (arith, ints, valid.least.from, valid.most.from); upto = valid.most.upto } in
     let level = number_read u.level (temperature u.level valid.level) in
     let least = number_read u.least (heat u.least valid.least) in
     let most = number_read u.most (heat u.most most_range) in
     let each = number_read u.price (price u.price valid.price) in
+    let own = reads_own k u.contribution row valid.contribution refl in
     let free = (Decides-is_taken (case_of given) u.name).1 (rw (names_of-case given) new) in
-    let numbers : Passes (utility_number_checks (utility_row u)) =
-    rw (level, least, most, each) (refl, (refl, (refl, (refl, (within-passes _ _ _ valid.level, (within-passes _ _ _ valid.least, (within-passes _ _ _ most_range, (within-passes _ _ _ valid.price, ((Decides-int_le u.least u.most).1 valid.most.from, tt))))))))) in
-    let passes : Passes (checks given (utility_row u)) = rw is (refl, (refl, (refl, (room-passes _ _ few, (name-passes u.name valid.name, ((Decides-is_reserved_from u.side u.name).1 named, (free, numbers))))))) in
-    record { passes = none_fails (checks given (utility_row u)) passes; next_is = rw (is, level, least, most, each) refl }
+    let numbers : Passes (utility_number_checks row) =
+    rw (level, least, most, each, own.read) (refl, (refl, (refl, (refl, (own.is_number, (within-passes _ _ _ valid.level, (within-passes _ _ _ valid.least, (within-passes _ _ _ most_range, (within-passes _ _ _ valid.price, (own.range, ((Decides-int_le u.least u.most).1 valid.most.from, tt))))))))))) in
+    let passes : Passes (checks given row) = rw is (refl, (refl, (room-passes _ _ few, (name-passes u.name valid.name, ((Decides-is_reserved_from u.side u.name).1 named, (free, numbers)))))) in
+    record { passes = none_fails (checks given row) passes; next_is = rw (is, level, least, most, each, own.read) refl }
 
 -- ---- forbidden matches
 

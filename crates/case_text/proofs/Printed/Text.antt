@@ -1,28 +1,30 @@
 -- The printed text of a valid case is read as the case, and is short.
-use Rattle.std.proofs.Common.{◌≡◌, ◌∷◌, ◌++◌, ◌≤◌, ◌+◌, ℕ, List, All, length, map, refl, sym, subst, arith, length-append}
+use Rattle.std.proofs.Common.{◌≡◌, ◌∷◌, ◌++◌, ◌≤◌, ◌+◌, ℕ, ℤ, List, All, length, map, refl, sym, subst, arith, length-append}
 use Rattle.std.specs.Prelude.{codes}
 use Rattle.std.proofs.lemmas.Int.{ints}
 use Rattle.std.proofs.lemmas.List.{length-map}
 use Rattle.std.proofs.lemmas.List.Elements.{All-append, All-cons, All-map, All-weaker}
 use Rattle.stream_case.specs.Case.{IsValid, IsValidForbid, source_name}
-use Rattle.stream_case.specs.Limits.{IsHeat}
+use Rattle.stream_case.specs.Limits.{IsContribution, IsHeat}
 use Rattle.stream_case.specs.Stream.{IsValidStream}
 use Rattle.stream_case.specs.Utility.{IsValidUtility}
 use Rattle.stream_case.specs.declared.case.Case.{Case}
 use Rattle.stream_case.specs.declared.case.Forbid.{Forbid}
 use Rattle.stream_case.specs.declared.source.Side.{Side}
 use Rattle.stream_case.specs.declared.source.Side.TheVariants as side
+use Rattle.stream_case.specs.declared.stream.Stream.{Stream}
 use Rattle.stream_case.specs.declared.utility.Utility.{Utility}
 use Rattle.stream_case.proofs.CaseLemmas.{length-AreStreams}
-use Rattle.rows.specs.Printed.{contribution_row, stream_row}
+use Rattle.rows.specs.Printed.{contribution_row}
 use Rattle.rows.specs.Rows.{rows_of}
 use Rattle.rows.specs.Text.{rows_text}
-use Rattle.rows.proofs.PrintedNumbers.{heat, price, temperature}
-use Rattle.rows.proofs.PrintedRows.{IsPrintedField, IsPrintedRow, contribution_printed, name_field, no_field, number_field, rows_short, seven_fields, stream_printed}
+use Rattle.rows.proofs.PrintedNumbers.{IsPrintable, contribution, heat, price, temperature}
+use Rattle.rows.proofs.PrintedRows.{IsPrintedField, IsPrintedRow, contribution_printed, name_field, no_field, number_field, optional_number_field, rows_short, seven_fields}
 use Rattle.rows.proofs.PrintedRows as printed
 use Rattle.case_text.specs.Outcome.{IsCase}
-use Rattle.case_text.specs.Printed.{forbid_row, printed_rows, utility_kind, utility_row}
+use Rattle.case_text.specs.Printed.{contribution_field, forbid_row, own_contribution, printed_rows, stream_row, utility_kind, utility_row}
 use Rattle.case_text.proofs.Printed.Case.{name_of, rows_back}
+use Rattle.case_text.proofs.Printed.Rows.{own}
 
 -- ---- the rows
 
@@ -30,13 +32,17 @@ utility_kind_field : (of : Side) → IsPrintedField (utility_kind of)
 utility_kind_field side.Hot = record { plain = refl; short = omega arith }
 utility_kind_field side.Cold = record { plain = refl; short = omega arith }
 
-utility_printed : (u : Utility) → IsValidUtility u → IsPrintedRow (utility_row u)
-utility_printed u valid =
+contribution_field_printed : (k : Case) (c : ℤ) → IsContribution c → IsPrintedField (contribution_field k c)
+unfolding contribution_field
+contribution_field_printed k c range = optional_number_field (own_contribution k c) (own IsPrintable k c (contribution c range))
+
+utility_printed : (k : Case) (u : Utility) → IsValidUtility u → IsPrintedRow (utility_row k u)
+utility_printed k u valid =
     let most : IsHeat u.most = record { from = omega (arith, ints, valid.least.from, valid.most.from); upto = valid.most.upto } in
     let level = number_field u.level (temperature u.level valid.level) in
     let least = number_field u.least (heat u.least valid.least) in
     let price = number_field u.price (price u.price valid.price) in
-    seven_fields _ _ _ _ _ _ _ (utility_kind_field u.side) (name_field u.name valid.name) level least (number_field u.most (heat u.most most)) price no_field
+    seven_fields _ _ _ _ _ _ _ (utility_kind_field u.side) (name_field u.name valid.name) level least (number_field u.most (heat u.most most)) price (contribution_field_printed k u.contribution valid.contribution)
 
 forbid_printed : (k : Case) → IsValid k → (f : Forbid) → IsValidForbid k f → IsPrintedRow (forbid_row k f)
 forbid_printed k valid f joins =
@@ -48,14 +54,15 @@ forbid_printed k valid f joins =
 rows_printed : (k : Case) → IsValid k → All IsPrintedRow (printed_rows k)
 unfolding printed_rows
 rows_printed k valid =
-    let each_stream = All-weaker IsValidStream (λ s. IsPrintedRow (stream_row s)) stream_printed k.streams valid.streams.are_streams.each in
-    let each_utility = All-weaker IsValidUtility (λ u. IsPrintedRow (utility_row u)) utility_printed k.utilities valid.utilities in
+    let stream = λ (s : Stream) (is : IsValidStream s). printed.stream_printed _ (contribution_field_printed k s.contribution is.contribution) s is in
+    let each_stream = All-weaker IsValidStream (λ s. IsPrintedRow (stream_row k s)) stream k.streams valid.streams.are_streams.each in
+    let each_utility = All-weaker IsValidUtility (λ u. IsPrintedRow (utility_row k u)) (utility_printed k) k.utilities valid.utilities in
     let each_forbid = All-weaker (IsValidForbid k) (λ f. IsPrintedRow (forbid_row k f)) (forbid_printed k valid) k.forbids valid.forbids in
-    let streams = All-map IsPrintedRow stream_row k.streams each_stream in
-    let utilities = All-map IsPrintedRow utility_row k.utilities each_utility in
+    let streams = All-map IsPrintedRow (stream_row k) k.streams each_stream in
+    let utilities = All-map IsPrintedRow (utility_row k) k.utilities each_utility in
     let forbids = All-map IsPrintedRow (forbid_row k) k.forbids each_forbid in
-    let sources = All-append IsPrintedRow (map stream_row k.streams) (map utility_row k.utilities) streams utilities in
-    let all = All-append IsPrintedRow (map stream_row k.streams ++ map utility_row k.utilities) (map (forbid_row k) k.forbids) sources forbids in
+    let sources = All-append IsPrintedRow (map (stream_row k) k.streams) (map (utility_row k) k.utilities) streams utilities in
+    let all = All-append IsPrintedRow (map (stream_row k) k.streams ++ map (utility_row k) k.utilities) (map (forbid_row k) k.forbids) sources forbids in
     All-cons IsPrintedRow (contribution_row k.contribution) _ (contribution_printed k.contribution valid.contribution) all
 
 -- ---- the text

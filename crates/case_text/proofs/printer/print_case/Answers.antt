@@ -5,15 +5,15 @@ use Rattle.std.proofs.lemmas.List.Folds.{flat_map-map}
 use Rattle.rows.specs.Rows.{rows_of}
 use Rattle.stream_case.specs.declared.case.Case.{Case}
 use Rattle.case_text.specs.Outcome.{IsCase}
-use Rattle.rows.specs.Printed.{contribution_row, stream_row}
+use Rattle.rows.specs.Printed.{contribution_row}
 use Rattle.rows.specs.Text.{row_text, rows_text}
-use Rattle.case_text.specs.Printed.{forbid_row, printed_rows, utility_row}
+use Rattle.case_text.specs.Printed.{forbid_row, printed_rows, stream_row, utility_row}
 use Rattle.case_text.proofs.Printed.Text.{text_back, text_short}
 use Rattle.case_text.proofs.printer.print_case.Goals as goal
 use Rattle.case_text.proofs.printer.print_case.Goals.{In_ok-push_forbids}
 
 -- the text of a case, part by part
-printed_text : (k : Case) → ((row_text (contribution_row k.contribution) ++ flat_map (λ s. row_text (stream_row s)) k.streams) ++ flat_map (λ u. row_text (utility_row u)) k.utilities) ++ flat_map (λ f. row_text (forbid_row k f)) k.forbids ≡ rows_text (printed_rows k)
+printed_text : (k : Case) → ((row_text (contribution_row k.contribution) ++ flat_map (λ s. row_text (stream_row k s)) k.streams) ++ flat_map (λ u. row_text (utility_row k u)) k.utilities) ++ flat_map (λ f. row_text (forbid_row k f)) k.forbids ≡ rows_text (printed_rows k)
 unfolding printed_rows
 printed_text k = simp (flat_map-append, flat_map-map, append_assoc)
 
