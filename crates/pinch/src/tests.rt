@@ -12,7 +12,6 @@ mod flow;
 mod hostile_cuts;
 mod hostile_orders;
 mod hostile_refused;
-mod hostile_runs;
 mod hostile_worked;
 mod least_cost;
 mod limits;

@@ -1,13 +1,14 @@
+ghost use Rattle.std.specs.Prelude.{IfOk};
 ghost use Rattle.stream_case.specs.Case.{IsValid};
 
 use crate::compare::{assert_lists, assert_same};
-use crate::tables::{FOUR_STREAMS, TWO_STREAMS, Table, case_of, repeated};
+use crate::tables::{FOUR_STREAMS, TWO_STREAMS, Table, case_of, repeated, stream, utility, valid};
 use case_text::{CaseFault, CaseWhy, number_of, print_case, read_case};
 use std::alloc::{AllocError, Global};
 use std::process::Abort;
 use std::test::Fail;
 use stream_case::Side::{Cold, Hot};
-use stream_case::{Case, Forbid, Source};
+use stream_case::{Case, Forbid, Items, Source};
 
 /// The most bytes of the tests' files.
 const LONGEST: usize = 2_000_000;
@@ -42,6 +43,14 @@ const SPREADSHEET_CASE: Table = Table {
     ],
     ..TWO_STREAMS
 };
+
+/// Sources with contributions of their own before that of the case.
+const OWN_CONTRIBUTIONS: &[u8] =
+    b"hot,H,600,400,20,,100\ncold,C,300,700,10,,\nheater,S,800,0,9000,1,0\ncooler,W,200,0,9000,0,0050\ncontribution,,50,,,,\n";
+
+/// The same as they are printed: the contribution of a source only where it is another one.
+const PRINTED_OWN_CONTRIBUTIONS: &[u8] =
+    b"contribution,,50,,,,\nhot,H,600,400,20,,100\ncold,C,300,700,10,,\nheater,S,800,0,9000,1,0\ncooler,W,200,0,9000,0,\n";
 
 /// Tables, how they are printed, and the cases that they give.
 const TABLES: [(&[u8], &[u8], Table); 2] = [
@@ -177,16 +186,45 @@ fn rows_past_the_counts_are_refused(rt: HostRuntime) -> Result<(), Fail> {
     Ok(())
 }
 
+/// The case that those sources give.
+fn own_contributions(alloc: Global) -> Result<Case, Fail>
+    ensures { IfOk result IsValid }
+{
+    let hot = stream("H", Hot, (600, 400), 20, 100)?;
+    let cold = stream("C", Cold, (300, 700), 10, 50)?;
+    let heater = utility("S", Hot, 800, (0, 9000), 1, 0)?;
+    let cooler = utility("W", Cold, 200, (0, 9000), 0, 50)?;
+    valid(Case {
+        contribution: 50,
+        streams: Items::from_vec(vec![in alloc; hot, cold]?),
+        utilities: Items::from_vec(vec![in alloc; heater, cooler]?),
+        forbids: Items::new(alloc),
+    })
+}
+
+/// A table gives this case, is printed so, and is then read as the same case.
+fn check_table(
+    rt: &(impl Abort + AllocGlobal),
+    table: &[u8],
+    wanted: &[u8],
+    case: &Case,
+) -> Result<(), Fail>
+    requires { IsValid case.now }
+{
+    assert_same(rt, "a table", &read(rt, table), case);
+    let text = print_case(rt.alloc(), case)?;
+    assert_lists(rt, "a printed table", &text, wanted);
+    assert_same(rt, "it read again", &read(rt, &text), case);
+    Ok(())
+}
+
 #[test]
 fn tables_give_their_cases_and_are_printed(rt: HostRuntime) -> Result<(), Fail> {
     for (table, wanted, given) in &TABLES {
-        let case = case_of(rt.alloc(), given)?;
-        assert_same(&rt, "a table", &read(&rt, table), &case);
-        let text = print_case(rt.alloc(), &case)?;
-        assert_lists(&rt, "a printed table", &text, wanted);
-        assert_same(&rt, "it read again", &read(&rt, &text), &case);
+        check_table(&rt, table, wanted, &case_of(rt.alloc(), given)?)?;
     }
-    Ok(())
+    let case = own_contributions(rt.alloc())?;
+    check_table(&rt, OWN_CONTRIBUTIONS, PRINTED_OWN_CONTRIBUTIONS, &case)
 }
 
 #[test]

@@ -170,15 +170,21 @@ pub fn any_case(alloc: Global, table: &Table) -> Result<Case, Fail> {
     })
 }
 
-/// The case of a table, if it is valid.
-pub fn case_of(alloc: Global, table: &Table) -> Result<Case, Fail>
+/// The case, if it is valid.
+pub fn valid(case: Case) -> Result<Case, Fail>
     ensures { IfOk result IsValid }
 {
-    let case = any_case(alloc, table)?;
     if !is_valid(&case) {
         return Err("the case is not valid".into());
     }
     Ok(case)
+}
+
+/// The case of a table, if it is valid.
+pub fn case_of(alloc: Global, table: &Table) -> Result<Case, Fail>
+    ensures { IfOk result IsValid }
+{
+    valid(any_case(alloc, table)?)
 }
 
 /// What a case is when it is completed, if it is valid.

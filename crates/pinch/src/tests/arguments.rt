@@ -83,7 +83,7 @@ fn end_of<R: Threads + Sync + AllocGlobal>(
     let alloc = rt.alloc();
     let texts = env::args(&(Arguments { line }, alloc));
     let mut shelf = shelf_of(alloc, &[("plant.csv", FOUR_STREAM.as_bytes())], &[])?;
-    let mut sink = sink_of(alloc, &[])?;
+    let mut sink = sink_of(alloc, 5, &[])?;
     let code = code_of(rt, alloc, texts, &mut shelf, &mut sink);
     Ok((format!(in alloc; "{code:?}")?, sink.written))
 }

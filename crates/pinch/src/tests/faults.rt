@@ -1,5 +1,6 @@
 use super::support::{
-    FOUR_STREAM, FOUR_STREAM_TARGETS, Fails, audit_under, outcome_of, outcome_under,
+    FOUR_STREAM, FOUR_STREAM_TARGETS, Fails, audit_under, check_count, check_end, outcome_of,
+    outcome_under,
 };
 use std::process::Abort;
 use std::test::Fail;
@@ -24,11 +25,12 @@ fn faults_of_shelf_and_sink_are_told(rt: HostRuntime) -> Result<(), Fail> {
     let files = [("plant.csv", FOUR_STREAM.as_bytes())];
     for (name, shelf, sink, status, written) in rows {
         let outcome = outcome_under(&rt, &["targets", name], &files, Fails { shelf, sink })?;
-        assert_eq!(rt; outcome.status, status, "{name}, {shelf:?}, {sink:?}");
-        assert_eq!(rt;
-            outcome.written.as_slice(),
+        check_end(
+            &rt,
+            &(name, shelf, sink),
+            &outcome,
+            status,
             written.as_bytes(),
-            "{name}, {shelf:?}, {sink:?}"
         );
     }
     Ok(())
@@ -45,8 +47,7 @@ fn a_file_above_the_limit_is_too_long(rt: HostRuntime) -> Result<(), Fail> {
         let bytes = vec![in alloc; b'#'; count]?;
         let files = [("long.csv", bytes.as_slice())];
         let outcome = outcome_of(&rt, &["targets", "long.csv"], &files)?;
-        assert_eq!(rt; outcome.status, status);
-        assert_eq!(rt; outcome.written.as_slice(), text.as_bytes());
+        check_end(&rt, &count, &outcome, status, text.as_bytes());
     }
     Ok(())
 }
@@ -64,13 +65,8 @@ fn check_two_files<R: Abort + Threads + Sync + AllocGlobal>(
         sink: &shelf[..0],
     };
     let outcome = audit_under(rt, case, &network, fails)?;
-    assert_eq!(rt; outcome.status, status, "{count}, {shelf:?}");
-    assert_eq!(rt;
-        outcome.written.as_slice(),
-        text.as_bytes(),
-        "{count}, {shelf:?}"
-    );
-    assert_eq!(rt; outcome.calls, calls, "{count}, {shelf:?}");
+    check_end(rt, &(count, shelf), &outcome, status, text.as_bytes());
+    check_count(rt, &(count, shelf), outcome.calls, calls);
     Ok(())
 }
 
@@ -101,7 +97,6 @@ fn refused_memory_leaves_nothing_written(rt: HostRuntime) {
     if outcome.status == 8 {
         assert!(rt; outcome.written.is_empty());
     } else {
-        assert_eq!(rt; outcome.status, 0);
-        assert_eq!(rt; outcome.written.as_slice(), FOUR_STREAM_TARGETS.as_bytes());
+        check_end(&rt, &"targets", &outcome, 0, FOUR_STREAM_TARGETS.as_bytes());
     }
 }

@@ -2,7 +2,7 @@
 //! the grammars say of the bytes that are left.
 
 use super::hostile_orders::{ROWS, Row};
-use super::hostile_runs::{ending_over, shelf_of};
+use super::support::{check_end, outcome_over, shelf_of};
 use case_text::{CaseFault, read_case};
 use network_text::{NetFault, read_network};
 use pinch_outside::MemoryFile;
@@ -112,24 +112,21 @@ fn check_cut<R: Abort + Threads + Sync + AllocGlobal>(
         file.bytes.truncate(length);
     }
     let refusal = refusal_of(rt, &shelf.files)?;
-    let ending = ending_over(rt, words, &mut shelf, (4096, &[]))?;
+    let outcome = outcome_over(rt, words, &mut shelf, (4096, &[]))?;
     match refusal {
         Some((status, text)) => {
-            assert_eq!(rt;
-                ending.status,
+            check_end(
+                rt,
+                &(words, index, length),
+                &outcome,
                 status,
-                "{words:?}, {length} bytes of file {index}"
-            );
-            assert_eq!(rt;
-                ending.written.as_slice(),
                 text.as_bytes(),
-                "{words:?}, {length} bytes of file {index}"
             );
         }
         None => {
             let statuses = statuses_of(words);
             assert!(rt;
-                statuses.contains(&ending.status),
+                statuses.contains(&outcome.status),
                 "{words:?}, {length} bytes of file {index}"
             );
         }

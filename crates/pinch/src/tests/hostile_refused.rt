@@ -1,7 +1,9 @@
 //! Over every command: each call of the shelf is refused in turn, and each write.
 
 use super::hostile_orders::{ROWS, Row};
-use super::hostile_runs::{Ending, ending_of, ending_over, shelf_of};
+use super::support::{
+    Outcome, check_count, check_end, check_front, outcome_over, outcome_to, shelf_of,
+};
 use std::process::Abort;
 use std::test::Fail;
 use std::thread::Threads;
@@ -12,7 +14,7 @@ const TAKE: usize = 4096;
 /// How many calls of a shelf it takes to read a file of so many bytes: its start, the takes that
 /// bring bytes, and the take that brings its end.
 fn call_count(length: usize) -> u64 {
-    length.div_ceil(TAKE) as u64 + 2
+    length.div_ceil(TAKE).saturating_add(2) as u64
 }
 
 /// How many calls of a shelf it takes to read all files.
@@ -42,31 +44,22 @@ fn check_refused_call<R: Abort + Threads + Sync + AllocGlobal>(
     rt: &R,
     (words, files): (&[&str], &[(&str, &[u8])]),
     number: u64,
-    whole: &Ending,
+    whole: &Outcome,
 ) -> Result<(), Fail> {
     let alloc = rt.alloc();
     let role = role_of(files, number).unwrap_or("nothing");
     let text = format!(in alloc; "read fault {role}\n")?;
     let mut shelf = shelf_of(alloc, files, &[number])?;
-    let refused = ending_over(rt, words, &mut shelf, (TAKE, &[]))?;
-    assert_eq!(rt; refused.status, 6, "{words:?}, call {number}");
-    assert_eq!(rt;
-        refused.written.as_slice(),
-        text.as_bytes(),
-        "{words:?}, call {number}"
-    );
-    assert_eq!(rt; shelf.calls, number, "{words:?}");
-    let again = ending_over(rt, words, &mut shelf, (TAKE, &[]))?;
-    assert_eq!(rt; again.status, whole.status, "{words:?}, call {number}");
-    assert_eq!(rt;
-        again.written.as_slice(),
-        whole.written.as_slice(),
-        "{words:?}, call {number}"
-    );
-    assert_eq!(rt;
+    let refused = outcome_over(rt, words, &mut shelf, (TAKE, &[]))?;
+    check_end(rt, &(words, number), &refused, 6, text.as_bytes());
+    check_count(rt, &words, shelf.calls, number);
+    let again = outcome_over(rt, words, &mut shelf, (TAKE, &[]))?;
+    check_end(rt, &(words, number), &again, whole.status, &whole.written);
+    check_count(
+        rt,
+        &words,
         shelf.calls,
         number.saturating_add(calls_of(files)),
-        "{words:?}"
     );
     Ok(())
 }
@@ -77,9 +70,8 @@ fn check_refused_calls<R: Abort + Threads + Sync + AllocGlobal>(
     rt: &R,
     (words, files, status, front): Row,
 ) -> Result<u64, Fail> {
-    let whole = ending_of(rt, words, files, (TAKE, &[]))?;
-    assert_eq!(rt; whole.status, status, "{words:?}");
-    assert!(rt; whole.written.starts_with(front.as_bytes()), "{words:?}");
+    let whole = outcome_to(rt, words, files, (TAKE, &[]))?;
+    check_front(rt, &words, &whole, status, front);
     let calls = calls_of(files);
     for number in 1..=calls {
         check_refused_call(rt, (words, files), number, &whole)?;
@@ -105,20 +97,14 @@ fn check_refused_writes<R: Abort + Threads + Sync + AllocGlobal>(
     (words, files, status, front): Row,
     piece: usize,
 ) -> Result<u64, Fail> {
-    let whole = ending_of(rt, words, files, (piece, &[]))?;
+    let whole = outcome_to(rt, words, files, (piece, &[]))?;
+    check_front(rt, &words, &whole, status, front);
     let text = whole.written.as_slice();
-    assert_eq!(rt; whole.status, status, "{words:?}");
-    assert!(rt; text.starts_with(front.as_bytes()), "{words:?}");
     let mut before: usize = 0;
     for number in 1..=whole.writes {
-        let refused = ending_of(rt, words, files, (piece, &[number]))?;
+        let refused = outcome_to(rt, words, files, (piece, &[number]))?;
         let taken = text.get(..before).unwrap_or(text);
-        assert_eq!(rt; refused.status, 7, "{words:?}, write {number} of {piece}");
-        assert_eq!(rt;
-            refused.written.as_slice(),
-            taken,
-            "{words:?}, write {number} of {piece}"
-        );
+        check_end(rt, &(words, number, piece), &refused, 7, taken);
         before = before.saturating_add(piece);
     }
     // The last write brings the last byte, and none is empty.

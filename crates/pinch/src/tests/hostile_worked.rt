@@ -1,8 +1,10 @@
 //! Four tables of hostile use over worked cases: refused calls of the shelf, refused writes, cut
 //! files, and numbers at their ends.
 
-use super::hostile_runs::{ending_of, ending_over, shelf_of};
-use super::support::{FOUR_STREAM, FOUR_STREAM_TARGETS};
+use super::support::{
+    FOUR_STREAM, FOUR_STREAM_TARGETS, check_count, check_end, outcome_of, outcome_over, outcome_to,
+    shelf_of,
+};
 use std::process::Abort;
 use std::test::Fail;
 use std::thread::Threads;
@@ -60,22 +62,12 @@ fn check_refused_call<R: Abort + Threads + Sync + AllocGlobal>(
         ("network", NETWORK.as_bytes()),
     ];
     let mut shelf = shelf_of(rt.alloc(), &files, &[number])?;
-    let refused = ending_over(rt, &words, &mut shelf, (5, &[]))?;
-    assert_eq!(rt; refused.status, 6, "call {number}");
-    assert_eq!(rt;
-        refused.written.as_slice(),
-        text.as_bytes(),
-        "call {number}"
-    );
-    assert_eq!(rt; shelf.calls, number);
-    let again = ending_over(rt, &words, &mut shelf, (5, &[]))?;
-    assert_eq!(rt; again.status, 0, "call {number}");
-    assert_eq!(rt;
-        again.written.as_slice(),
-        NETWORK_AUDIT.as_bytes(),
-        "call {number}"
-    );
-    assert_eq!(rt; shelf.calls, number.saturating_add(6));
+    let refused = outcome_over(rt, &words, &mut shelf, (5, &[]))?;
+    check_end(rt, &number, &refused, 6, text.as_bytes());
+    check_count(rt, &number, shelf.calls, number);
+    let again = outcome_over(rt, &words, &mut shelf, (5, &[]))?;
+    check_end(rt, &number, &again, 0, NETWORK_AUDIT.as_bytes());
+    check_count(rt, &number, shelf.calls, number.saturating_add(6));
     Ok(())
 }
 
@@ -105,27 +97,21 @@ fn each_write_is_refused(rt: HostRuntime) -> Result<(), Fail> {
     let words = ["targets", "case"];
     let files = [("case", FOUR_STREAM.as_bytes())];
     let rows = [
-        "",
-        "hot 2",
-        "hot 20000\n",
-        "hot 20000\ncold ",
-        "hot 20000\ncold 60000",
-        "hot 20000\ncold 60000\npinc",
-        "hot 20000\ncold 60000\npinch 850",
+        (1, ""),
+        (2, "hot 2"),
+        (3, "hot 20000\n"),
+        (4, "hot 20000\ncold "),
+        (5, "hot 20000\ncold 60000"),
+        (6, "hot 20000\ncold 60000\npinc"),
+        (7, "hot 20000\ncold 60000\npinch 850"),
     ];
-    for (number, front) in (1..).zip(rows) {
-        let refused = ending_of(&rt, &words, &files, (5, &[number]))?;
-        assert_eq!(rt; refused.status, 7, "write {number}");
-        assert_eq!(rt;
-            refused.written.as_slice(),
-            front.as_bytes(),
-            "write {number}"
-        );
+    for (number, front) in rows {
+        let refused = outcome_to(&rt, &words, &files, (5, &[number]))?;
+        check_end(&rt, &number, &refused, 7, front.as_bytes());
     }
-    let whole = ending_of(&rt, &words, &files, (5, &[8]))?;
-    assert_eq!(rt; whole.status, 0);
-    assert_eq!(rt; whole.written.as_slice(), FOUR_STREAM_TARGETS.as_bytes());
-    assert_eq!(rt; whole.writes, 7);
+    let whole = outcome_to(&rt, &words, &files, (5, &[8]))?;
+    check_end(&rt, &8, &whole, 0, FOUR_STREAM_TARGETS.as_bytes());
+    check_count(&rt, &8, whole.writes, 7);
     println!(rt; "writes refused in turn: {} runs", rows.len() + 1)?;
     Ok(())
 }
@@ -135,27 +121,15 @@ fn front(text: &str, length: usize) -> &[u8] {
     text.as_bytes().get(..length).unwrap_or(&[])
 }
 
-/// A command of these files ends with this status and this text.
-fn check_ending<R: Abort + Threads + Sync + AllocGlobal>(
-    rt: &R,
-    (words, files): (&[&str], &[(&str, &[u8])]),
-    status: u8,
-    text: &str,
-) -> Result<(), Fail> {
-    let ending = ending_of(rt, words, files, (5, &[]))?;
-    assert_eq!(rt; ending.status, status, "{text}");
-    assert_eq!(rt; ending.written.as_slice(), text.as_bytes(), "{text}");
-    Ok(())
-}
-
 fn check_targets<R: Abort + Threads + Sync + AllocGlobal>(
     rt: &R,
     case: &[u8],
     status: u8,
     text: &str,
 ) -> Result<(), Fail> {
-    let files = [("case", case)];
-    check_ending(rt, (&["targets", "case"], &files), status, text)
+    let outcome = outcome_of(rt, &["targets", "case"], &[("case", case)])?;
+    check_end(rt, &text, &outcome, status, text.as_bytes());
+    Ok(())
 }
 
 fn check_audit<R: Abort + Threads + Sync + AllocGlobal>(
@@ -165,7 +139,9 @@ fn check_audit<R: Abort + Threads + Sync + AllocGlobal>(
     text: &str,
 ) -> Result<(), Fail> {
     let files = [("case", case), ("network", network)];
-    check_ending(rt, (&["audit", "case", "network"], &files), status, text)
+    let outcome = outcome_of(rt, &["audit", "case", "network"], &files)?;
+    check_end(rt, &text, &outcome, status, text.as_bytes());
+    Ok(())
 }
 
 #[test]

@@ -1,4 +1,4 @@
-use super::support::{FOUR_STREAM, answer_of};
+use super::support::{FOUR_STREAM, answer_of, check_front};
 use std::process::Abort;
 use std::test::Fail;
 use std::thread::Threads;
@@ -11,10 +11,7 @@ fn check_first_lines<R: Abort + Threads + Sync + AllocGlobal>(
     lines: &str,
 ) -> Result<(), Fail> {
     let answer = answer_of(rt, "flow", case)?;
-    assert_eq!(rt; answer.status, 0, "flow of {case}");
-    let text = answer.written.as_slice();
-    let first = &text[..lines.len().min(text.len())];
-    assert_eq!(rt; first, lines.as_bytes(), "flow of {case}");
+    check_front(rt, &case, &answer, 0, lines);
     Ok(())
 }
 

@@ -1,5 +1,6 @@
 use super::support::{
-    FOUR_STREAM, FOUR_STREAM_TARGETS, NONE, answer_of, audit_under, check_answer,
+    FOUR_STREAM, FOUR_STREAM_TARGETS, NONE, answer_of, audit_under, check_answer, check_count,
+    check_front, line_count,
 };
 use std::alloc::{AllocError, Global};
 use std::test::Fail;
@@ -34,11 +35,6 @@ fn largest_case(alloc: Global, more: &str) -> Result<String, AllocError> {
     }
     case.push_str(more)?;
     Ok(case)
-}
-
-/// How many lines a text has.
-fn line_count(text: &[u8]) -> usize {
-    text.iter().filter(|byte| **byte == b'\n').count()
 }
 
 #[test]
@@ -76,10 +72,8 @@ fn the_largest_case_is_answered(rt: HostRuntime) -> Result<(), Fail> {
     for (command, more, lines, front) in rows {
         let case = largest_case(alloc, more)?;
         let answer = answer_of(&rt, command, case.as_str())?;
-        let text = answer.written.as_slice();
-        assert_eq!(rt; answer.status, 0, "{command}");
-        assert_eq!(rt; line_count(text), lines, "{command}");
-        assert!(rt; text.starts_with(front.as_bytes()), "{command}");
+        check_front(&rt, &command, &answer, 0, front);
+        check_count(&rt, &command, line_count(&answer.written), lines);
     }
     Ok(())
 }
@@ -90,8 +84,7 @@ fn the_largest_vertical_design_is_accepted(rt: HostRuntime) -> Result<(), Fail> 
     let design = answer_of(&rt, "vertical", case.as_str())?;
     let audit = audit_under(&rt, case.as_str(), &design.written, NONE)?;
     let front = "accepted\nhot 270000\ncold 8292669525\nexcess 0\ncost 270000\nplace 29950\n";
-    assert_eq!(rt; audit.status, 0);
-    assert!(rt; audit.written.starts_with(front.as_bytes()));
+    check_front(&rt, &"audit", &audit, 0, front);
     Ok(())
 }
 

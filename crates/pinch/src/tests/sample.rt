@@ -1,6 +1,6 @@
 //! Samples, of which one was worked by hand.
 
-use super::support::{WORDS, outcome_of};
+use super::support::{WORDS, check_count, check_end, outcome_of};
 use std::process::Abort;
 use std::test::Fail;
 use std::thread::Threads;
@@ -13,9 +13,8 @@ fn check_sample<R: Abort + Threads + Sync + AllocGlobal>(
     text: &str,
 ) -> Result<(), Fail> {
     let outcome = outcome_of(rt, words, &[])?;
-    assert_eq!(rt; outcome.status, status, "{words:?}");
-    assert_eq!(rt; outcome.written.as_slice(), text.as_bytes(), "{words:?}");
-    assert_eq!(rt; outcome.calls, 0, "{words:?}");
+    check_end(rt, &words, &outcome, status, text.as_bytes());
+    check_count(rt, &words, outcome.calls, 0);
     Ok(())
 }
 
@@ -33,14 +32,9 @@ fn a_sample_has_its_targets_and_its_cost(rt: HostRuntime) -> Result<(), Fail> {
 fn the_largest_sample_is_the_same_each_time(rt: HostRuntime) -> Result<(), Fail> {
     for words in [["sample", "1", "12"], ["sample", "2147483646", "12"]] {
         let first = outcome_of(&rt, &words, &[])?;
-        assert_eq!(rt; first.status, 0, "{words:?}");
         let second = outcome_of(&rt, &words, &[])?;
-        assert_eq!(rt; second.status, 0, "{words:?}");
-        assert_eq!(rt;
-            first.written.as_slice(),
-            second.written.as_slice(),
-            "{words:?}"
-        );
+        check_end(&rt, &words, &first, 0, &second.written);
+        check_end(&rt, &words, &second, 0, &first.written);
     }
     Ok(())
 }

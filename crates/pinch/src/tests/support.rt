@@ -3,6 +3,7 @@
 use crate::{Word, run, run_gated};
 use pinch_outside::{MemoryFile, MemoryShelf, MemorySink};
 use std::alloc::{AllocError, Global};
+use std::fmt::Debug;
 use std::process::Abort;
 use std::test::Fail;
 use std::thread::Threads;
@@ -30,12 +31,17 @@ pub const WORDS: &str =
 /// The room of a sink, in bytes: more than the text of any test.
 const ROOM: usize = 1_000_000;
 
+/// How many bytes a sink takes at a time, where a test does not say.
+const PIECE: usize = 5;
+
 /// How the program ended.
 #[derive(Drop)]
 pub struct Outcome {
     pub status: u8,
     /// What the sink got.
     pub written: Vec<u8>,
+    /// How many writes the sink had.
+    pub writes: u64,
     /// How many calls the shelf had.
     pub calls: u64,
 }
@@ -77,9 +83,9 @@ pub fn shelf_of(
     Ok(MemoryShelf::new(held, fails.to_vec(alloc)?))
 }
 
-/// A sink that takes five bytes at a time, of which the writes with these numbers fail.
-pub fn sink_of(alloc: Global, fails: &[u64]) -> Result<MemorySink, AllocError> {
-    MemorySink::new(alloc, ROOM, 5, fails.to_vec(alloc)?)
+/// A sink that takes so many bytes at a time, of which the writes with these numbers fail.
+pub fn sink_of(alloc: Global, piece: usize, fails: &[u64]) -> Result<MemorySink, AllocError> {
+    MemorySink::new(alloc, ROOM, piece.max(1), fails.to_vec(alloc)?)
 }
 
 /// The status with which the program ends. This one call says nothing of what it answers, so that
@@ -116,13 +122,45 @@ pub fn outcome_by<R: Threads + Sync + AllocGlobal, G: Gate + Sync>(
     let alloc = rt.alloc();
     let words = words_of(alloc, words)?;
     let mut shelf = shelf_of(alloc, files, &[])?;
-    let mut sink = sink_of(alloc, &[])?;
+    let mut sink = sink_of(alloc, PIECE, &[])?;
     let status = status_by(rt, alloc, gate, &words, &mut shelf, &mut sink);
     Ok(Outcome {
         status,
         written: sink.written,
+        writes: sink.calls,
         calls: shelf.calls,
     })
+}
+
+/// How the program ends over these words and this shelf, where the sink takes so many bytes at a
+/// time and the writes with these numbers fail.
+pub fn outcome_over<R: Threads + Sync + AllocGlobal>(
+    rt: &R,
+    words: &[&str],
+    shelf: &mut MemoryShelf,
+    (piece, fails): (usize, &[u64]),
+) -> Result<Outcome, AllocError> {
+    let alloc = rt.alloc();
+    let words = words_of(alloc, words)?;
+    let mut sink = sink_of(alloc, piece, fails)?;
+    let status = status_of(rt, alloc, &words, shelf, &mut sink);
+    Ok(Outcome {
+        status,
+        written: sink.written,
+        writes: sink.calls,
+        calls: shelf.calls,
+    })
+}
+
+/// How the program ends over these words and files, with such a sink.
+pub fn outcome_to<R: Threads + Sync + AllocGlobal>(
+    rt: &R,
+    words: &[&str],
+    files: &[(&str, &[u8])],
+    sink: (usize, &[u64]),
+) -> Result<Outcome, AllocError> {
+    let mut shelf = shelf_of(rt.alloc(), files, &[])?;
+    outcome_over(rt, words, &mut shelf, sink)
 }
 
 /// How the program ends over these words and files, where some calls fail.
@@ -132,16 +170,8 @@ pub fn outcome_under<R: Threads + Sync + AllocGlobal>(
     files: &[(&str, &[u8])],
     fails: Fails<'_>,
 ) -> Result<Outcome, AllocError> {
-    let alloc = rt.alloc();
-    let words = words_of(alloc, words)?;
-    let mut shelf = shelf_of(alloc, files, fails.shelf)?;
-    let mut sink = sink_of(alloc, fails.sink)?;
-    let status = status_of(rt, alloc, &words, &mut shelf, &mut sink);
-    Ok(Outcome {
-        status,
-        written: sink.written,
-        calls: shelf.calls,
-    })
+    let mut shelf = shelf_of(rt.alloc(), files, fails.shelf)?;
+    outcome_over(rt, words, &mut shelf, (PIECE, fails.sink))
 }
 
 /// How the program ends over these words and files.
@@ -150,7 +180,7 @@ pub fn outcome_of<R: Threads + Sync + AllocGlobal>(
     words: &[&str],
     files: &[(&str, &[u8])],
 ) -> Result<Outcome, AllocError> {
-    outcome_under(rt, words, files, NONE)
+    outcome_to(rt, words, files, (PIECE, &[]))
 }
 
 /// How a command of one case file ends.
@@ -163,6 +193,29 @@ pub fn answer_of<R: Threads + Sync + AllocGlobal>(
     outcome_of(rt, &[command, "plant.csv"], &files)
 }
 
+/// How many lines a text has.
+pub fn line_count(text: &[u8]) -> u64 {
+    text.iter().filter(|byte| **byte == b'\n').count() as u64
+}
+
+/// Ends the test where a run of the program did not end with this status and this text. The
+/// comparisons stand once, since each is proved anew wherever it stands.
+pub fn check_end<R: Abort, A: Debug>(rt: &R, at: &A, outcome: &Outcome, status: u8, text: &[u8]) {
+    assert_eq!(rt; outcome.status, status, "{at:?}");
+    assert_eq!(rt; outcome.written.as_slice(), text, "{at:?}");
+}
+
+/// Ends the test where a run of the program did not end with this status and a text that begins so.
+pub fn check_front<R: Abort, A: Debug>(rt: &R, at: &A, outcome: &Outcome, status: u8, front: &str) {
+    assert_eq!(rt; outcome.status, status, "{at:?}");
+    assert!(rt; outcome.written.starts_with(front.as_bytes()), "{at:?}");
+}
+
+/// Ends the test where a count is another one.
+pub fn check_count<R: Abort, A: Debug>(rt: &R, at: &A, found: u64, wanted: u64) {
+    assert_eq!(rt; found, wanted, "{at:?}");
+}
+
 /// A command of one case file ends with this status and this text.
 pub fn check_answer<R: Abort + Threads + Sync + AllocGlobal>(
     rt: &R,
@@ -172,12 +225,7 @@ pub fn check_answer<R: Abort + Threads + Sync + AllocGlobal>(
     text: &str,
 ) -> Result<(), Fail> {
     let outcome = answer_of(rt, command, case)?;
-    assert_eq!(rt; outcome.status, status, "{command} of {case}");
-    assert_eq!(rt;
-        outcome.written.as_slice(),
-        text.as_bytes(),
-        "{command} of {case}"
-    );
+    check_end(rt, &(command, case), &outcome, status, text.as_bytes());
     Ok(())
 }
 
@@ -202,11 +250,6 @@ pub fn check_audit<R: Abort + Threads + Sync + AllocGlobal>(
     text: &str,
 ) -> Result<(), Fail> {
     let outcome = audit_under(rt, case, network.as_bytes(), NONE)?;
-    assert_eq!(rt; outcome.status, status, "audit of {network} for {case}");
-    assert_eq!(rt;
-        outcome.written.as_slice(),
-        text.as_bytes(),
-        "audit of {network} for {case}"
-    );
+    check_end(rt, &(network, case), &outcome, status, text.as_bytes());
     Ok(())
 }

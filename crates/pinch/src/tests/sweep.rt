@@ -1,7 +1,10 @@
 //! Sweeps of cases that were worked by hand, by one worker and by several.
 
 use super::meeting_gate::MeetingGate;
-use super::support::{FOUR_STREAM, OWN_CONTRIBUTION, WORDS, outcome_by, outcome_of};
+use super::support::{
+    FOUR_STREAM, OWN_CONTRIBUTION, WORDS, check_count, check_end, check_front, line_count,
+    outcome_by, outcome_of,
+};
 use std::process::Abort;
 use std::test::Fail;
 use std::thread::Threads;
@@ -31,12 +34,7 @@ fn check_sweep<R: Abort + Threads + Sync + AllocGlobal>(
     let words = ["sweep", "plant.csv", from, to, step, workers];
     let files = [("plant.csv", case.as_bytes())];
     let outcome = outcome_of(rt, &words, &files)?;
-    assert_eq!(rt; outcome.status, status, "{words:?} of {case}");
-    assert_eq!(rt;
-        outcome.written.as_slice(),
-        text.as_bytes(),
-        "{words:?} of {case}"
-    );
+    check_end(rt, &(words, case), &outcome, status, text.as_bytes());
     Ok(())
 }
 
@@ -56,8 +54,7 @@ fn an_open_gate_changes_no_row(rt: HostRuntime) -> Result<(), Fail> {
     for workers in ["1", "4"] {
         let words = ["sweep", "plant.csv", "0", "100", "10", workers];
         let outcome = outcome_by(&rt, &OpenGate, &words, &files)?;
-        assert_eq!(rt; outcome.status, 0);
-        assert_eq!(rt; outcome.written.as_slice(), FOUR_STREAM_ROWS.as_bytes());
+        check_end(&rt, &words, &outcome, 0, FOUR_STREAM_ROWS.as_bytes());
     }
     Ok(())
 }
@@ -108,13 +105,8 @@ fn the_most_rows_are_printed(rt: HostRuntime) -> Result<(), Fail> {
     let words = ["sweep", "plant.csv", "0", "999", "1", "16"];
     let files = [("plant.csv", FOUR_STREAM.as_bytes())];
     let outcome = outcome_of(&rt, &words, &files)?;
-    let lines = outcome
-        .written
-        .iter()
-        .filter(|byte| **byte == b'\n')
-        .count();
-    assert_eq!(rt; outcome.status, 0);
-    assert_eq!(rt; lines, 1000);
+    check_front(&rt, &words, &outcome, 0, "row 0 0 40000 0\n");
+    check_count(&rt, &words, line_count(&outcome.written), 1000);
     Ok(())
 }
 
@@ -157,9 +149,8 @@ fn other_words_are_no_sweep(rt: HostRuntime) -> Result<(), Fail> {
     let files = [("plant.csv", FOUR_STREAM.as_bytes())];
     for row in rows {
         let outcome = outcome_of(&rt, row, &files)?;
-        assert_eq!(rt; outcome.status, 2, "{row:?}");
-        assert_eq!(rt; outcome.written.as_slice(), WORDS.as_bytes(), "{row:?}");
-        assert_eq!(rt; outcome.calls, 0, "{row:?}");
+        check_end(&rt, &row, &outcome, 2, WORDS.as_bytes());
+        check_count(&rt, &row, outcome.calls, 0);
     }
     Ok(())
 }
@@ -177,10 +168,9 @@ fn two_rows_meet(rt: HostRuntime) -> Result<(), Fail> {
     let text = "row 0 0 40000 0\nrow 10 0 40000 0\n";
     let gate = MeetingGate::new();
     let outcome = outcome_by(&rt, &gate, &words, &files)?;
-    assert_eq!(rt; outcome.status, 0);
-    assert_eq!(rt; outcome.written.as_slice(), text.as_bytes());
+    check_end(&rt, &words, &outcome, 0, text.as_bytes());
     assert_eq!(rt; gate.counts(), [1, 1, 1, 1, 0]);
     let outcome = outcome_by(&rt, &OpenGate, &words, &files)?;
-    assert_eq!(rt; outcome.written.as_slice(), text.as_bytes());
+    check_end(&rt, &words, &outcome, 0, text.as_bytes());
     Ok(())
 }

@@ -1,6 +1,6 @@
 //! Sites that were worked by hand, and site files that are refused.
 
-use super::support::{Fails, WORDS, check_answer, outcome_of, outcome_under};
+use super::support::{Fails, WORDS, check_answer, check_end, outcome_of, outcome_under};
 use std::alloc::{AllocError, Global};
 use std::process::Abort;
 use std::test::Fail;
@@ -237,12 +237,7 @@ fn a_site_file_that_is_not_had_is_told(rt: HostRuntime) -> Result<(), Fail> {
     for (name, shelf, status, text) in rows {
         let fails = Fails { shelf, sink: &[] };
         let outcome = outcome_under(&rt, &["site", name], &files, fails)?;
-        assert_eq!(rt; outcome.status, status, "{name}, {shelf:?}");
-        assert_eq!(rt;
-            outcome.written.as_slice(),
-            text.as_bytes(),
-            "{name}, {shelf:?}"
-        );
+        check_end(&rt, &(name, shelf), &outcome, status, text.as_bytes());
     }
     Ok(())
 }

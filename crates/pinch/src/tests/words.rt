@@ -1,4 +1,4 @@
-use super::support::{FOUR_STREAM, WORDS, outcome_of};
+use super::support::{FOUR_STREAM, WORDS, check_count, check_end, outcome_of};
 use std::test::Fail;
 
 #[test]
@@ -21,9 +21,8 @@ fn words_that_form_no_command_are_told(rt: HostRuntime) -> Result<(), Fail> {
     let files = [("plant.csv", FOUR_STREAM.as_bytes())];
     for row in rows {
         let outcome = outcome_of(&rt, row, &files)?;
-        assert_eq!(rt; outcome.status, 2, "{row:?}");
-        assert_eq!(rt; outcome.written.as_slice(), WORDS.as_bytes(), "{row:?}");
-        assert_eq!(rt; outcome.calls, 0, "{row:?}");
+        check_end(&rt, &row, &outcome, 2, WORDS.as_bytes());
+        check_count(&rt, &row, outcome.calls, 0);
     }
     Ok(())
 }
