@@ -14,21 +14,21 @@ augment-requires-clause-path c =
     subst (IsFreePath c.args.problem.now c.raise.new.routing) (sym c.deref.ensures.value)
     (IsFreePath-tree c.args.problem.now c.raise.new.routing c.args.search c.in_ok-path.path.items tree c.raise.ensures.free c.in_ok-path.ensures)
 
+pub loop-routing-init : goal.loop-routing-init
+loop-routing-init c =
+    let same = c.raise.ensures.routed in
+    let some = c.augment.ensures.amount.some in
+    record { standing = c.augment.ensures.standing; rises = omega (arith, ints, same, some) }
+
 pub loop-routing-smaller : goal.loop-routing-smaller
 loop-routing-smaller c =
-    let some = c.augment-in-Some.ensures.amount.some in
-    let upto = c.augment-in-Some.ensures.standing.routed_upto in
-    omega (arith, sizes, some, upto)
+    let no_less = c.in_ok-augment_by_levels.ensures.no_less in
+    let other = c.if-routing-before.false in
+    let upto = c.in_ok-augment_by_levels.ensures.standing.routed_upto in
+    omega (arith, sizes, no_less, other, upto)
 
 pub loop-routing-preserved : goal.loop-routing-preserved
 loop-routing-preserved c =
-    let some = c.augment-in-Some.ensures.amount.some in
+    let no_less = c.in_ok-augment_by_levels.ensures.no_less in
     let rises = c.loop-routing.invariant.rises in
-    record { standing = c.augment-in-Some.ensures.standing; graph = c.in_ok-path-2.ensures.graph; rises = omega (arith, ints, some, rises) }
-
-pub returns-in-None-clause-rises : goal.returns-in-None-clause-rises
-returns-in-None-clause-rises c =
-    let same = c.raise.ensures.routed in
-    let some = c.augment.ensures.amount.some in
-    let rises = c.loop-routing.invariant.rises in
-    omega (arith, ints, same, some, rises)
+    record { standing = c.in_ok-augment_by_levels.ensures.standing; rises = omega (arith, ints, no_less, rises) }
