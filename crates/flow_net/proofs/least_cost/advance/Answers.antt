@@ -1,7 +1,8 @@
-use Rattle.std.proofs.Common.{sym, subst, arith}
+use Rattle.std.proofs.Common.{of_z, w64, ap, sym, subst, arith}
 use Rattle.std.proofs.lemmas.Int.{ints}
+use Rattle.sums.proofs.IntegerLemmas.{strictly}
 use Rattle.flow_net.specs.Problem.{IsFreePath}
-use Rattle.flow_net.proofs.Sizes.{sizes}
+use Rattle.flow_net.proofs.Sizes.{less_left}
 use Rattle.flow_net.proofs.PathLemmas.{IsTree-arrived, IsFreePath-tree}
 use Rattle.flow_net.proofs.least_cost.advance.Goals as goal
 
@@ -14,21 +15,29 @@ augment-requires-clause-path c =
     subst (IsFreePath c.args.problem.now c.raise.new.routing) (sym c.deref.ensures.value)
     (IsFreePath-tree c.args.problem.now c.raise.new.routing c.args.search c.in_ok-path.path.items tree c.raise.ensures.free c.in_ok-path.ensures)
 
-pub loop-routing-init : goal.loop-routing-init
-loop-routing-init c =
-    let same = c.raise.ensures.routed in
-    let some = c.augment.ensures.amount.some in
-    record { standing = c.augment.ensures.standing; rises = omega (arith, ints, same, some) }
-
 pub loop-routing-smaller : goal.loop-routing-smaller
 loop-routing-smaller c =
-    let no_less = c.in_ok-augment_by_levels.ensures.no_less in
-    let other = c.if-routing-before.false in
-    let upto = c.in_ok-augment_by_levels.ensures.standing.routed_upto in
-    omega (arith, sizes, no_less, other, upto)
+    less_left c.args.problem.now.amount c.loop-routing.routing.routed c.augment_by_levels.new.routing.routed
+    (strictly c.loop-routing.routing.routed c.augment_by_levels.new.routing.routed c.in_ok-augment_by_levels.ensures.no_less (λ e. c.if-routing-before.false (ap (of_z w64) (sym e))))
+    c.in_ok-augment_by_levels.ensures.standing.routed_upto
 
 pub loop-routing-preserved : goal.loop-routing-preserved
 loop-routing-preserved c =
     let no_less = c.in_ok-augment_by_levels.ensures.no_less in
-    let rises = c.loop-routing.invariant.rises in
-    record { standing = c.in_ok-augment_by_levels.ensures.standing; rises = omega (arith, ints, no_less, rises) }
+    let before = c.loop-routing.invariant.no_less in
+    record { standing = c.in_ok-augment_by_levels.ensures.standing; no_less = omega (arith, ints, no_less, before) }
+
+pub returns-then-routing-before-clause-rises : goal.returns-then-routing-before-clause-rises
+returns-then-routing-before-clause-rises c =
+    let same = c.raise.ensures.routed in
+    let some = c.augment.ensures.amount.some in
+    let before = c.loop-routing.invariant.no_less in
+    let no_less = c.in_ok-augment_by_levels.ensures.no_less in
+    omega (arith, ints, same, some, before, no_less)
+
+pub returns-clause-rises : goal.returns-clause-rises
+returns-clause-rises c =
+    let same = c.raise.ensures.routed in
+    let some = c.augment.ensures.amount.some in
+    let before = c.loop-routing.invariant.no_less in
+    omega (arith, ints, same, some, before)
