@@ -1,7 +1,7 @@
 -- Paths through a level graph, found from the sink.
-use Rattle.std.proofs.Common.{◌≡◌, ◌≢◌, ℕ, ◌+◌, ◌<◌, ◌≤◌, Bool, true, false, cond, Option, Some, None, List, get_or, reverse, set, ap, ◌∙◌, refl, arith}
+use Rattle.std.proofs.Common.{◌≡◌, ◌≢◌, ℕ, ◌+◌, ◌<◌, ◌≤◌, Bool, true, false, cond, is_some, count_by, Option, Some, None, List, length, get_or, reverse, set, ap, ◌∙◌, sym, arith}
 use Rattle.std.specs.List.{All}
-use Rattle.std.proofs.lemmas.Option.{same_Some, none-some}
+use Rattle.std.proofs.lemmas.Bool.{false≢true}
 use Rattle.std.proofs.lemmas.List.{get_or-set_other}
 use Rattle.std.proofs.lemmas.List.Elements.{All-weaker}
 use Rattle.std.proofs.lemmas.List.Sorted.{All-permutation, IsPermutation-sym, IsPermutation-reverse}
@@ -9,52 +9,65 @@ use Rattle.std.proofs.lemmas.List.Sums.{sum_by-set}
 use Rattle.flow_net.specs.declared.arc.Arc.{Arc}
 use Rattle.flow_net.specs.declared.problem.Problem.{Problem}
 use Rattle.flow_net.specs.declared.routing.Routing.{Routing}
-use Rattle.flow_net.specs.declared.search.Label.{Label}
-use Rattle.flow_net.specs.declared.search.Search.{Search}
-use Rattle.flow_net.specs.Net.{is_in}
 use Rattle.flow_net.specs.Flow.{IsWalk}
 use Rattle.flow_net.specs.Problem.{IsFreeArc}
-use Rattle.flow_net.specs.Search.{label_at, depth_of_label, depth_at, reached_count}
-use Rattle.flow_net.specs.LevelGraph.{level_of, StepsUp}
+use Rattle.flow_net.specs.LevelGraph.{level_at, StepsUp}
+use Rattle.flow_net.proofs.Lists.{within_from}
 use Rattle.flow_net.proofs.PathLemmas.{rising_above}
-use Rattle.flow_net.proofs.SearchLemmas.{reached_within}
 
--- a free arc of a path, from a reached node to the next level
-pub record IsStep (p : Problem) (r : Routing) (labels : List (Option Label)) (reached : List Bool) (a : Arc) : Type 0 where
+-- the level of a node, and 0 where it has none
+abbrev pub height_of : Option ℕ → ℕ
+height_of (Some n) = n
+height_of None = 0
+
+abbrev pub height_at : List (Option ℕ) → ℕ → ℕ
+height_at levels v = height_of (level_at levels v)
+
+-- how many nodes have a level
+abbrev pub level_count : List (Option ℕ) → ℕ
+level_count levels = count_by (λ o. is_some o) levels
+
+-- a free arc of a path, from a node with a level to the next level
+pub record IsStep (p : Problem) (r : Routing) (levels : List (Option ℕ)) (a : Arc) : Type 0 where
   pub free : IsFreeArc p r a
-  pub up : depth_at labels a.head ≡ depth_at labels a.tail + 1
-  pub tail_reached : is_in reached a.tail ≡ true
+  pub up : height_at levels a.head ≡ height_at levels a.tail + 1
+  pub has_level : is_some (level_at levels a.tail) ≡ true
 
-level_of-some : (o : Option Label) (b : Bool) (n : ℕ) → level_of o b ≡ Some n → (depth_of_label o ≡ n) × (b ≡ true)
-level_of-some (Some l) true n e = (same_Some l.depth n e, refl)
-level_of-some (Some l) false n e = absurd (none-some n e)
-level_of-some None b n e = absurd (none-some n e)
-
-pub IsStep-up : (p : Problem) (r : Routing) (s : Search) (a : Arc) → IsFreeArc p r a → StepsUp s a → IsStep p r s.labels.items s.reached.items a
-IsStep-up p r s a free up =
-    let tail = level_of-some (label_at s.labels.items a.tail) (is_in s.reached.items a.tail) up.level up.tail in
-    let head = level_of-some (label_at s.labels.items a.head) (is_in s.reached.items a.head) (up.level + 1) up.head in
-    let from = tail.0 in
-    let to = head.0 in
-    record { free = free; up = omega arith; tail_reached = tail.1 }
+pub IsStep-up : (p : Problem) (r : Routing) (levels : List (Option ℕ)) (a : Arc) → IsFreeArc p r a → StepsUp levels a → IsStep p r levels a
+IsStep-up p r levels a free up =
+    let from = ap height_of up.tail in
+    let to = ap height_of up.head in
+    record { free = free; up = omega (arith, from, to); has_level = ap is_some up.tail }
 
 -- the first node of a path is closed: the other arcs begin at higher levels
-module _ (p : Problem) (r : Routing) (labels : List (Option Label)) (reached : List Bool) (path : List Arc) (a : Arc) (w : ℕ) (step : IsStep p r labels reached a) where
-  pub IsStep-closed : IsWalk (reverse path) a.head w → All (IsStep p r labels reached) path → All (IsStep p r labels (set reached a.tail false)) path
+module _ (p : Problem) (r : Routing) (levels : List (Option ℕ)) (path : List Arc) (a : Arc) (w : ℕ) (step : IsStep p r levels a) where
+  pub IsStep-closed : IsWalk (reverse path) a.head w → All (IsStep p r levels) path → All (IsStep p r (set levels a.tail None)) path
   IsStep-closed walk steps =
       let up = step.up in
-      let turned = All-permutation (IsStep p r labels reached) _ _ (IsPermutation-reverse path) steps in
-      let above = rising_above (depth_at labels) (reverse path) a.head w walk (All-weaker (IsStep p r labels reached) (λ b. depth_at labels b.tail < depth_at labels b.head) (λ b h. let e = h.up in omega arith) (reverse path) turned) in
-      let higher = All-permutation (λ b. depth_at labels a.head ≤ depth_at labels b.tail) _ _ (IsPermutation-sym _ _ (IsPermutation-reverse path)) above in
+      let turned = All-permutation (IsStep p r levels) _ _ (IsPermutation-reverse path) steps in
+      let above = rising_above (height_at levels) (reverse path) a.head w walk (All-weaker (IsStep p r levels) (λ b. height_at levels b.tail < height_at levels b.head) (λ b h. let e = h.up in omega arith) (reverse path) turned) in
+      let higher = All-permutation (λ b. height_at levels a.head ≤ height_at levels b.tail) _ _ (IsPermutation-sym _ _ (IsPermutation-reverse path)) above in
       λ k d l.
       let b = get_or path k d in
       let s = steps k d l in
       let over = higher k d l in
-      let other : b.tail ≢ a.tail = (λ e. let same = ap (depth_at labels) e in absurd (omega (arith, up, over, same))) in
-      record { free = s.free; up = s.up; tail_reached = get_or-set_other reached a.tail b.tail false false other ∙ s.tail_reached }
+      let next = s.up in
+      let tail = kept b.tail (λ e. let same = ap (height_at levels) e in absurd (omega (arith, up, over, same))) in
+      let head = kept b.head (λ e. let same = ap (height_at levels) e in absurd (omega (arith, up, over, next, same))) in
+      record { free = s.free; up = ap height_of head ∙ (next ∙ ap (λ o. height_of o + 1) (sym tail)); has_level = ap is_some tail ∙ s.has_level }
+    where
+      kept : (v : ℕ) → v ≢ a.tail → level_at (set levels a.tail None) v ≡ level_at levels v
+      kept v other = get_or-set_other levels a.tail v None None other
 
-  pub fewer_reached : reached_count (set reached a.tail false) + 1 ≡ reached_count reached
-  fewer_reached =
-      let change = sum_by-set (λ (b : Bool). cond b 1 0) reached a.tail false false (reached_within reached a.tail step.tail_reached) in
-      let was = ap {B = ℕ} (λ b. cond b 1 0) step.tail_reached in
+  -- one node fewer has a level, and the arc's head has its own
+  pub fewer_levels : level_count (set levels a.tail None) + 1 ≡ level_count levels
+  fewer_levels =
+      let within = within_from levels a.tail None (λ e. absurd (false≢true (sym (ap is_some e) ∙ step.has_level))) in
+      let change = sum_by-set (λ (o : Option ℕ). cond (is_some o) 1 0) levels a.tail None None within in
+      let was = ap {B = ℕ} (λ b. cond b 1 0) step.has_level in
       omega (arith, change, was)
+
+  pub height_kept : height_at (set levels a.tail None) a.head ≡ height_at levels a.head
+  height_kept =
+      let up = step.up in
+      ap height_of (get_or-set_other levels a.tail a.head None None (λ e. let same = ap (height_at levels) e in absurd (omega (arith, up, same))))

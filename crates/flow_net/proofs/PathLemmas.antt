@@ -1,5 +1,5 @@
 -- Walks whose arcs rise by a rank of their nodes, and the tree of a search.
-use Rattle.std.proofs.Common.{◌≡◌, ◌⊎◌, ℕ, ◌<◌, ◌≤◌, Bool, true, false, Option, List, [], ◌∷◌, ◌++◌, get_or, reverse, ap, ◌∙◌, sym, subst, inl, inr, refl, arith}
+use Rattle.std.proofs.Common.{◌≡◌, ◌⊎◌, ℕ, ◌<◌, ◌≤◌, Bool, true, false, List, [], ◌∷◌, ◌++◌, get_or, reverse, ap, ◌∙◌, sym, subst, inl, inr, refl, arith}
 use Rattle.std.specs.List.{All}
 use Rattle.std.proofs.lemmas.List.{reverse-append}
 use Rattle.std.proofs.lemmas.List.Elements.{All-head, All-tail, All-cons, All-nil, All-weaker}
@@ -7,7 +7,6 @@ use Rattle.flow_net.specs.declared.net.Link.{Link}
 use Rattle.flow_net.specs.declared.arc.Arc.{Arc}
 use Rattle.flow_net.specs.declared.problem.Problem.{Problem}
 use Rattle.flow_net.specs.declared.routing.Routing.{Routing}
-use Rattle.flow_net.specs.declared.search.Label.{Label}
 use Rattle.flow_net.specs.declared.search.Search.{Search}
 use Rattle.flow_net.specs.Net.{link_at}
 use Rattle.flow_net.specs.Arc.{arc_of, IsArc}
@@ -66,14 +65,14 @@ apart_by_rank links rank (a ∷ path) u w walk arcs rising =
       apart_by_rank links rank path a.head w walk.1 others rest,
     )
 
--- a walk from the source to the sink along free arcs that rise by the depth of their nodes
-pub IsFreePath-rising : (p : Problem) (r : Routing) (labels : List (Option Label)) (path : List Arc) → IsWalk path p.source p.sink → All (λ a. IsFreeArc p r a × (depth_at labels a.tail < depth_at labels a.head)) path → IsFreePath p r path
-IsFreePath-rising p r labels path walk arcs = record {
+-- a walk from the source to the sink along free arcs that rise by a rank of their nodes
+pub IsFreePath-rising : (p : Problem) (r : Routing) (rank : ℕ → ℕ) (path : List Arc) → IsWalk path p.source p.sink → All (λ a. IsFreeArc p r a × (rank a.tail < rank a.head)) path → IsFreePath p r path
+IsFreePath-rising p r rank path walk arcs = record {
   walk = walk;
-  arcs = All-weaker (λ a. IsFreeArc p r a × (depth_at labels a.tail < depth_at labels a.head)) (IsFreeArc p r) (λ a h. h.0) path arcs;
-  apart = apart_by_rank p.net.now.links (depth_at labels) path p.source p.sink walk
-      (All-weaker (λ a. IsFreeArc p r a × (depth_at labels a.tail < depth_at labels a.head)) (IsArc p.net.now.links) (λ a h. h.0.residual.arc) path arcs)
-      (All-weaker (λ a. IsFreeArc p r a × (depth_at labels a.tail < depth_at labels a.head)) (λ a. depth_at labels a.tail < depth_at labels a.head) (λ a h. h.1) path arcs);
+  arcs = All-weaker (λ a. IsFreeArc p r a × (rank a.tail < rank a.head)) (IsFreeArc p r) (λ a h. h.0) path arcs;
+  apart = apart_by_rank p.net.now.links rank path p.source p.sink walk
+      (All-weaker (λ a. IsFreeArc p r a × (rank a.tail < rank a.head)) (IsArc p.net.now.links) (λ a h. h.0.residual.arc) path arcs)
+      (All-weaker (λ a. IsFreeArc p r a × (rank a.tail < rank a.head)) (λ a. rank a.tail < rank a.head) (λ a h. h.1) path arcs);
 }
 
 -- the last arcs of a search that has arrived make a tree
@@ -92,5 +91,5 @@ IsTree-arrived p r s h =
 -- the path of the tree is a path along free arcs, where its arcs are free
 pub IsFreePath-tree : (p : Problem) (r : Routing) (s : Search) (path : List Arc) → IsTree p s → ((a : Arc) → IsTreeArc s a → IsFreeArc p r a) → IsTreePath p s path → IsFreePath p r path
 IsFreePath-tree p r s path tree free h =
-    IsFreePath-rising p r s.labels.items path h.walk
+    IsFreePath-rising p r (depth_at s.labels.items) path h.walk
     (All-weaker (IsTreeArc s) (λ a. IsFreeArc p r a × (depth_at s.labels.items a.tail < depth_at s.labels.items a.head)) (λ a is. (free a is, (let e = tree.depth a.head a is.is_last in omega (arith, e)))) path h.arcs)

@@ -1,5 +1,5 @@
 -- Absolute values.
-use Rattle.std.proofs.Common.{◌≡◌, ℕ, ◌+◌, ◌<◌, ◌≤◌, zero, suc, min, List, [], ◌∷◌, length, get_or, ℤ, pos, negsuc, arith}
+use Rattle.std.proofs.Common.{◌≡◌, ℕ, ◌+◌, ◌<◌, ◌≤◌, zero, suc, min, List, [], ◌∷◌, length, get_or, ℤ, ◌-ℤ◌, ◌<ℤ◌, ◌≤ℤ◌, pos, negsuc, arith}
 use Rattle.std.specs.Int.RustNames.{unsigned_abs}
 use Rattle.std.proofs.lemmas.Int.{ints}
 use borrow.Author.Differences.{up, down}
@@ -16,6 +16,10 @@ one_side (negsuc n) = omega arith
 
 -- integers and their absolute values, for `omega`
 pub ruleset sizes = (ints, abs_is, one_side)
+
+-- the more is routed, the less is left
+pub less_left : (amount before now : ℤ) → before <ℤ now → now ≤ℤ amount → unsigned_abs (amount -ℤ now) < unsigned_abs (amount -ℤ before)
+less_left amount before now more upto = omega (arith, sizes)
 
 pub size-le-greatest : {X : Type 0} (f : X → ℤ) (xs : List X) (k : ℕ) (d : X) → k < length xs → unsigned_abs (f (get_or xs k d)) ≤ greatest_size f xs
 size-le-greatest f [] k d l = absurd (omega arith)

@@ -67,8 +67,8 @@ pub fn solve(
     })
 }
 
-/// Raises the potentials after a search that has reached the sink, and augments along the paths that
-/// have no reduced cost then: the one that the search found, and those of its level graph.
+/// Raises the potentials after a search that has reached the sink, and augments along the path that it
+/// found, which has no reduced cost then, and along those of level graphs until the sink has no level.
 fn advance(
     alloc: Global,
     problem: &Problem,
@@ -84,7 +84,27 @@ fn advance(
     search.raise(problem, routing);
     let path = search.path(alloc, problem)?;
     routing.augment(problem, &path);
-    let mut graph = LevelGraph::new(alloc, search)?;
+    while routing.routed < problem.amount {
+        let before = routing.routed;
+        augment_by_levels(alloc, problem, routing)?;
+        if routing.routed == before {
+            return Ok(());
+        }
+    }
+    Ok(())
+}
+
+/// Augments along the paths of a level graph.
+fn augment_by_levels(
+    alloc: Global,
+    problem: &Problem,
+    routing: &mut Routing,
+) -> Result<(), AllocError>
+    requires { IsStanding problem.now routing.old }
+    ensures standing { OnOk result (IsStanding problem.now routing.new) }
+    ensures no_less { OnOk result (routing.old.routed ≤ℤ routing.new.routed) }
+{
+    let mut graph = LevelGraph::new(alloc, problem, routing)?;
     while routing.routed < problem.amount {
         match graph.find_path(alloc, problem, routing)? {
             Some(path) => routing.augment(problem, &path),

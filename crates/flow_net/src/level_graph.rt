@@ -1,30 +1,95 @@
 //! Paths without reduced cost, each of whose arcs leads from one level to the next (Dinic 1970).
-ghost use Rattle.std.specs.Prelude.{◌≡◌, ◌<◌, ◌+◌, ◌↔◌, length, IfSome, IfOk, OnOk, IsTrue};
+ghost use Rattle.std.specs.Prelude.{◌≡◌, ◌<◌, ◌+◌, ◌↔◌, length, All, IfSome, IfOk, OnOk, IsTrue};
 ghost use Rattle.flow_net.specs.Problem.{IsStanding, IsFreeArc, IsFreePath};
 ghost use Rattle.flow_net.specs.LevelGraph.{level_at, IsLevelGraph, StepsUp};
 
 use crate::arc::Arc;
 use crate::problem::Problem;
 use crate::routing::Routing;
-use crate::search::Search;
 use std::alloc::{AllocError, Global};
 
-/// The level graph of a search that has reached the sink: the level of a reached node is how many arcs
-/// lead to it. A node from which no free arc leads on to the source counts as reached no more.
+/// The free arcs by levels: the level of a node is how many free arcs lead to it from the source. A
+/// node from which no free arc leads on to the source has no level any more.
 #[derive(Drop)]
 pub(crate) struct LevelGraph {
-    pub search: Search,
+    pub levels: Vec<Option<u32>>,
     /// Which arc of each node is tried next.
     pub cursors: Vec<usize>,
 }
 
 impl LevelGraph {
-    pub fn new(alloc: Global, search: Search) -> Result<LevelGraph, AllocError>
-        ensures search { IfOk result (λ g. g.search ≡ search) }
-        ensures cursors { IfOk result (λ g. length g.cursors.items ≡ length search.labels.items) }
+    /// The levels up to the sink's.
+    pub fn new(
+        alloc: Global,
+        problem: &Problem,
+        routing: &Routing,
+    ) -> Result<LevelGraph, AllocError>
+        requires { IsStanding problem.now routing.now }
+        ensures { IfOk result (λ g. IsLevelGraph problem.now g) }
     {
-        let cursors = vec![in alloc; 0; search.labels.len()]?;
-        Ok(LevelGraph { search, cursors })
+        let nodes = problem.net.nodes;
+        let mut graph = LevelGraph {
+            levels: vec![in alloc; None; nodes as usize]?,
+            cursors: vec![in alloc; 0; nodes as usize]?,
+        };
+        graph.levels[problem.source as usize] = Some(0);
+        let mut last = Vec::new(alloc);
+        last.push(problem.source)?;
+        for level in 1..nodes {
+            if last.is_empty() || graph.levels[problem.sink as usize].is_some() {
+                return Ok(graph);
+            }
+            last = graph.add_level(alloc, problem, routing, &last, level)?;
+        }
+        Ok(graph)
+    }
+
+    /// Gives a level to the nodes to which free arcs lead from those of the level before, and answers
+    /// these nodes.
+    fn add_level(
+        &mut self,
+        alloc: Global,
+        problem: &Problem,
+        routing: &Routing,
+        last: &[u32],
+        level: u32,
+    ) -> Result<Vec<u32>, AllocError>
+        requires standing { IsStanding problem.now routing.now }
+        requires graph { IsLevelGraph problem.now self.old }
+        requires last { All (λ v. v < problem.now.net.now.nodes) last.now }
+        ensures graph { OnOk result (IsLevelGraph problem.now self.new) }
+        ensures nodes { IfOk result (λ next. All (λ v. v < problem.now.net.now.nodes) next.items) }
+    {
+        let mut next = Vec::new(alloc);
+        for node in last {
+            self.reach(problem, routing, *node, level, &mut next)?;
+        }
+        Ok(next)
+    }
+
+    /// Gives a level to the nodes without one to which free arcs lead from this node, and adds them.
+    fn reach(
+        &mut self,
+        problem: &Problem,
+        routing: &Routing,
+        node: u32,
+        level: u32,
+        next: &mut Vec<u32>,
+    ) -> Result<(), AllocError>
+        requires standing { IsStanding problem.now routing.now }
+        requires graph { IsLevelGraph problem.now self.old }
+        requires node { node < problem.now.net.now.nodes }
+        requires next { All (λ v. v < problem.now.net.now.nodes) next.old.items }
+        ensures graph { OnOk result (IsLevelGraph problem.now self.new) }
+        ensures next { OnOk result (All (λ v. v < problem.now.net.now.nodes) next.new.items) }
+    {
+        for arc in problem.arcs_from(node) {
+            if self.levels[arc.head as usize].is_none() && routing.is_free(problem, arc) {
+                self.levels[arc.head as usize] = Some(level);
+                next.push(arc.head)?;
+            }
+        }
+        Ok(())
     }
 
     /// A path from the source to the sink along free arcs, each to the next level, if there is one.
@@ -46,7 +111,7 @@ impl LevelGraph {
                 path.push(arc)?;
                 node = arc.tail;
             } else {
-                self.search.reached[node as usize] = false;
+                self.levels[node as usize] = None;
                 let Some(arc) = path.pop() else {
                     return Ok(None);
                 };
@@ -62,11 +127,11 @@ impl LevelGraph {
         requires standing { IsStanding problem.now routing.now }
         requires graph { IsLevelGraph problem.now self.old }
         requires node { node < problem.now.net.now.nodes }
-        ensures search { self.new.search ≡ self.old.search }
+        ensures levels { self.new.levels ≡ self.old.levels }
         ensures cursors { length self.new.cursors.items ≡ length self.old.cursors.items }
         ensures free { IfSome result (λ a. IsFreeArc problem.now routing.now a) }
         ensures head { IfSome result (λ a. a.head ≡ node) }
-        ensures steps_up { IfSome result (λ a. StepsUp self.old.search a) }
+        ensures steps_up { IfSome result (λ a. StepsUp self.old.levels.items a) }
     {
         let arcs = problem.arcs_from(node);
         for index in self.cursors[node as usize]..arcs.len() {
@@ -82,9 +147,9 @@ impl LevelGraph {
 
     /// Whether an arc leads from a level to the next.
     fn steps_up(&self, arc: &Arc) -> bool
-        requires tail { arc.now.tail < length self.now.search.labels.items }
-        requires head { arc.now.head < length self.now.search.labels.items }
-        ensures { IsTrue result ↔ StepsUp self.now.search arc.now }
+        requires tail { arc.now.tail < length self.now.levels.items }
+        requires head { arc.now.head < length self.now.levels.items }
+        ensures { IsTrue result ↔ StepsUp self.now.levels.items arc.now }
     {
         match (self.level(arc.tail), self.level(arc.head)) {
             (Some(tail), Some(head)) => head > 0 && head - 1 == tail,
@@ -92,14 +157,11 @@ impl LevelGraph {
         }
     }
 
-    /// The level of a node, where it is reached.
+    /// The level of a node, if it has one.
     fn level(&self, node: u32) -> Option<u32>
-        requires { node < length self.now.search.labels.items }
-        ensures { result ≡ level_at self.now.search node }
+        requires { node < length self.now.levels.items }
+        ensures { result ≡ level_at self.now.levels.items node }
     {
-        match self.search.labels[node as usize] {
-            Some(label) if self.search.reached[node as usize] => Some(label.depth),
-            _ => None,
-        }
+        self.levels[node as usize]
     }
 }

@@ -1,7 +1,8 @@
-use Rattle.std.proofs.Common.{sym, subst, arith}
+use Rattle.std.proofs.Common.{of_z, w64, ap, sym, subst, arith}
 use Rattle.std.proofs.lemmas.Int.{ints}
+use Rattle.sums.proofs.IntegerLemmas.{strictly}
 use Rattle.flow_net.specs.Problem.{IsFreePath}
-use Rattle.flow_net.proofs.Sizes.{sizes}
+use Rattle.flow_net.proofs.Sizes.{less_left}
 use Rattle.flow_net.proofs.PathLemmas.{IsTree-arrived, IsFreePath-tree}
 use Rattle.flow_net.proofs.least_cost.advance.Goals as goal
 
@@ -16,19 +17,27 @@ augment-requires-clause-path c =
 
 pub loop-routing-smaller : goal.loop-routing-smaller
 loop-routing-smaller c =
-    let some = c.augment-in-Some.ensures.amount.some in
-    let upto = c.augment-in-Some.ensures.standing.routed_upto in
-    omega (arith, sizes, some, upto)
+    less_left c.args.problem.now.amount c.loop-routing.routing.routed c.augment_by_levels.new.routing.routed
+    (strictly c.loop-routing.routing.routed c.augment_by_levels.new.routing.routed c.in_ok-augment_by_levels.ensures.no_less (λ e. c.if-routing-before.false (ap (of_z w64) (sym e))))
+    c.in_ok-augment_by_levels.ensures.standing.routed_upto
 
 pub loop-routing-preserved : goal.loop-routing-preserved
 loop-routing-preserved c =
-    let some = c.augment-in-Some.ensures.amount.some in
-    let rises = c.loop-routing.invariant.rises in
-    record { standing = c.augment-in-Some.ensures.standing; graph = c.in_ok-path-2.ensures.graph; rises = omega (arith, ints, some, rises) }
+    let no_less = c.in_ok-augment_by_levels.ensures.no_less in
+    let before = c.loop-routing.invariant.no_less in
+    record { standing = c.in_ok-augment_by_levels.ensures.standing; no_less = omega (arith, ints, no_less, before) }
 
-pub returns-in-None-clause-rises : goal.returns-in-None-clause-rises
-returns-in-None-clause-rises c =
+pub returns-then-routing-before-clause-rises : goal.returns-then-routing-before-clause-rises
+returns-then-routing-before-clause-rises c =
     let same = c.raise.ensures.routed in
     let some = c.augment.ensures.amount.some in
-    let rises = c.loop-routing.invariant.rises in
-    omega (arith, ints, same, some, rises)
+    let before = c.loop-routing.invariant.no_less in
+    let no_less = c.in_ok-augment_by_levels.ensures.no_less in
+    omega (arith, ints, same, some, before, no_less)
+
+pub returns-clause-rises : goal.returns-clause-rises
+returns-clause-rises c =
+    let same = c.raise.ensures.routed in
+    let some = c.augment.ensures.amount.some in
+    let before = c.loop-routing.invariant.no_less in
+    omega (arith, ints, same, some, before)

@@ -1,6 +1,5 @@
 use Rattle.std.proofs.Common.{◌-ℤ◌, ◌≤ℤ◌}
 use Rattle.std.specs.Int.RustNames.{unsigned_abs}
-use Rattle.flow_net.specs.LevelGraph.{IsLevelGraph}
 use Rattle.flow_net.specs.Problem.{IsStanding}
 use Rattle.flow_net.proofs.least_cost.advance.Given as goal
 
@@ -8,8 +7,4 @@ abbrev pub decreases-loop-routing : goal.decreases-loop-routing
 decreases-loop-routing l = unsigned_abs (l.problem.amount -ℤ l.routing.routed)
 
 abbrev pub invariant-loop-routing : goal.invariant-loop-routing
-invariant-loop-routing l = record {
-  standing : IsStanding l.problem l.routing;
-  graph : IsLevelGraph l.problem l.graph;
-  rises : l.initial.routing.routed ≤ℤ l.routing.routed;
-}
+invariant-loop-routing l = record { standing : IsStanding l.problem l.routing; no_less : l.initial.routing.routed ≤ℤ l.routing.routed }

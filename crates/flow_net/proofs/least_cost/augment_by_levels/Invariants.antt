@@ -1,0 +1,15 @@
+use Rattle.std.proofs.Common.{◌-ℤ◌, ◌≤ℤ◌}
+use Rattle.std.specs.Int.RustNames.{unsigned_abs}
+use Rattle.flow_net.specs.LevelGraph.{IsLevelGraph}
+use Rattle.flow_net.specs.Problem.{IsStanding}
+use Rattle.flow_net.proofs.least_cost.augment_by_levels.Given as goal
+
+abbrev pub decreases-loop-routing : goal.decreases-loop-routing
+decreases-loop-routing l = unsigned_abs (l.problem.amount -ℤ l.routing.routed)
+
+abbrev pub invariant-loop-routing : goal.invariant-loop-routing
+invariant-loop-routing l = record {
+  standing : IsStanding l.problem l.routing;
+  graph : IsLevelGraph l.problem l.graph;
+  no_less : l.initial.routing.routed ≤ℤ l.routing.routed;
+}

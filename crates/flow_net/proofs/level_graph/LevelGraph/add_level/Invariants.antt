@@ -1,0 +1,7 @@
+use Rattle.std.proofs.Common.{◌<◌}
+use Rattle.std.specs.List.{All}
+use Rattle.flow_net.specs.LevelGraph.{IsLevelGraph}
+use Rattle.flow_net.proofs.level_graph.LevelGraph.add_level.Given as goal
+
+abbrev pub invariant-loop-node : goal.invariant-loop-node
+invariant-loop-node l = record { graph : IsLevelGraph l.problem l.self; nodes : All (λ v. v < l.problem.net.now.nodes) l.next.items }

@@ -1,0 +1,7 @@
+use Rattle.std.proofs.Common.{◌<◌}
+use Rattle.std.specs.List.{All}
+use Rattle.flow_net.specs.LevelGraph.{IsLevelGraph}
+use Rattle.flow_net.proofs.level_graph.LevelGraph.reach.Given as goal
+
+abbrev pub invariant-loop-arc : goal.invariant-loop-arc
+invariant-loop-arc l = record { graph : IsLevelGraph l.problem l.self; next : All (λ v. v < l.problem.net.now.nodes) l.next.items }
