@@ -15,7 +15,6 @@ mod hostile_refused;
 mod hostile_worked;
 mod least_cost;
 mod limits;
-mod meeting_gate;
 mod network_lines;
 mod penalty_lines;
 mod sample;

@@ -27,4 +27,4 @@ pub use sample::sample_case;
 pub use sample_targets::{SampleRow, sample_row, sample_rows_are_one};
 pub use supplied::supplied_cost;
 pub use sweeps::{rows_are_one, sweep};
-pub use workers::{Gate, OpenGate};
+pub use workers::{Gate, MeetingGate, OpenGate};

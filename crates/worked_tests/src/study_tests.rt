@@ -8,12 +8,11 @@ use crate::tables::{FOUR_STREAMS, TOO_LITTLE_COOLING, Table, case_of, completed}
 use problem_table::{Target, targets};
 use std::alloc::{AllocError, Global};
 use std::process::Abort;
-use std::sync::atomic::{AtomicU64, Ordering};
 use std::test::Fail;
 use std::thread;
 use stream_case::Side::{Cold, Hot};
 use stream_case::{Case, Forbid, Side, Source, Stream};
-use study::{Gate, OpenGate, SweepPlan, SweepRow, least_cost, sample_case, sweep};
+use study::{MeetingGate, OpenGate, SweepPlan, SweepRow, least_cost, sample_case, sweep};
 
 /// A row: contribution, hot and cold target, and least cost.
 type Row = (i32, i64, i64, Option<i128>);
@@ -88,68 +87,6 @@ fn a_sweep_ends_at_or_before_its_end(rt: HostRuntime) -> Result<(), Fail> {
     };
     check_rows(&rt, &FOUR_STREAMS, plan, 3, &FOUR_STREAM_ROWS[5..6])?;
     check_rows(&rt, &TOO_LITTLE_COOLING, plan, 1, &[(50, 0, 4_000, None)])
-}
-
-/// The most turns that a row waits for another one.
-const MOST_TURNS: u32 = 10_000_000;
-
-/// A gate at which each of two rows waits for the other one. It counts how often each row is
-/// entered and left, and how often a row goes on alone.
-#[derive(Drop)]
-struct MeetingGate {
-    first_entered: AtomicU64,
-    second_entered: AtomicU64,
-    first_left: AtomicU64,
-    second_left: AtomicU64,
-    gave_up: AtomicU64,
-}
-
-impl Gate for MeetingGate {
-    fn enter(&self, row: u32) {
-        let (own, other) = match row {
-            0 => (&self.first_entered, &self.second_entered),
-            _ => (&self.second_entered, &self.first_entered),
-        };
-        own.fetch_add(1, Ordering::SeqCst);
-        for _ in 0..MOST_TURNS {
-            if other.load(Ordering::SeqCst) > 0 {
-                return;
-            }
-            thread::yield_now();
-        }
-        self.gave_up.fetch_add(1, Ordering::SeqCst);
-    }
-
-    fn leave(&self, row: u32) {
-        let left = match row {
-            0 => &self.first_left,
-            _ => &self.second_left,
-        };
-        left.fetch_add(1, Ordering::SeqCst);
-    }
-}
-
-impl MeetingGate {
-    fn new() -> MeetingGate {
-        MeetingGate {
-            first_entered: AtomicU64::new(0),
-            second_entered: AtomicU64::new(0),
-            first_left: AtomicU64::new(0),
-            second_left: AtomicU64::new(0),
-            gave_up: AtomicU64::new(0),
-        }
-    }
-
-    /// How often the first and the second row were entered, and left, and a row gave up.
-    fn counts(&self) -> [u64; 5] {
-        [
-            self.first_entered.load(Ordering::SeqCst),
-            self.second_entered.load(Ordering::SeqCst),
-            self.first_left.load(Ordering::SeqCst),
-            self.second_left.load(Ordering::SeqCst),
-            self.gave_up.load(Ordering::SeqCst),
-        ]
-    }
 }
 
 #[test]

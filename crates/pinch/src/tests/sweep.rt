@@ -1,6 +1,5 @@
 //! Sweeps of cases that were worked by hand, by one worker and by several.
 
-use super::meeting_gate::MeetingGate;
 use super::support::{
     FOUR_STREAM, OWN_CONTRIBUTION, WORDS, check_count, check_end, check_front, line_count,
     outcome_by, outcome_of,
@@ -8,7 +7,7 @@ use super::support::{
 use std::process::Abort;
 use std::test::Fail;
 use std::thread::Threads;
-use study::OpenGate;
+use study::{MeetingGate, OpenGate};
 
 const FOUR_STREAM_ROWS: &str = "row 0 0 40000 0
 row 10 0 40000 0

@@ -1,14 +1,14 @@
-//! A gate at which two rows of a sweep meet.
+//! A gate at which two items meet, by which a test sees that two workers work side by side.
 
+use crate::gate::Gate;
 use std::sync::atomic::{AtomicU64, Ordering};
 use std::thread;
-use study::Gate;
 
-/// The most turns that a row waits for the other one.
+/// The most turns that an item waits for the other one.
 const MOST_TURNS: u32 = 10_000_000;
 
-/// A gate at which each of two rows waits for the other one. It counts how often each row is
-/// entered and left, and how often a row goes on alone.
+/// A gate at which each of two items waits for the other one. It counts how often each item is
+/// entered and left, and how often an item goes on alone.
 #[derive(Drop)]
 pub struct MeetingGate {
     first_entered: AtomicU64,
@@ -19,8 +19,8 @@ pub struct MeetingGate {
 }
 
 impl Gate for MeetingGate {
-    fn enter(&self, row: u32) {
-        let (own, other) = match row {
+    fn enter(&self, number: u32) {
+        let (own, other) = match number {
             0 => (&self.first_entered, &self.second_entered),
             _ => (&self.second_entered, &self.first_entered),
         };
@@ -34,8 +34,8 @@ impl Gate for MeetingGate {
         self.gave_up.fetch_add(1, Ordering::SeqCst);
     }
 
-    fn leave(&self, row: u32) {
-        let left = match row {
+    fn leave(&self, number: u32) {
+        let left = match number {
             0 => &self.first_left,
             _ => &self.second_left,
         };
@@ -44,6 +44,7 @@ impl Gate for MeetingGate {
 }
 
 impl MeetingGate {
+    /// A gate that nothing has passed.
     pub fn new() -> MeetingGate {
         MeetingGate {
             first_entered: AtomicU64::new(0),
@@ -54,7 +55,7 @@ impl MeetingGate {
         }
     }
 
-    /// How often the first and the second row were entered, and left, and a row gave up.
+    /// How often the first and the second item were entered, and left, and an item gave up.
     pub fn counts(&self) -> [u64; 5] {
         [
             self.first_entered.load(Ordering::SeqCst),
