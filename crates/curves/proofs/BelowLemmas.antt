@@ -1,7 +1,5 @@
 -- The heat of streams below an actual temperature, and the ends of a side's streams.
-use Rattle.std.proofs.Common.{◌≡◌, ℕ, ◌+◌, ◌<◌, Bool, true, false, List, [], ◌∷◌, ◌++◌, length, get_or, take, refl, ap, sym, ◌∙◌, arith}
-use Rattle.std.specs.Prelude.{ℤ, if◌then◌else◌, filter}
-use Rattle.std.specs.List.{flat_map}
+use Rattle.std.proofs.Common.{◌≡◌, ℕ, ◌+◌, ◌<◌, Bool, true, false, List, [], ◌∷◌, ◌++◌, length, get_or, take, refl, ap, sym, ◌∙◌, arith, ℤ, if◌then◌else◌, filter, flat_map}
 use Rattle.std.proofs.lemmas.Int.{ints, clamps}
 use Rattle.std.proofs.lemmas.Grind.{flat_map-append}
 use Rattle.std.proofs.lemmas.List.{take_more}
@@ -30,8 +28,7 @@ picked false s = refl
 pub temperatures_of-more : (side : Side) (streams : List Stream) (i : ℕ) (s : Stream) → i < length streams → s ≡ get_or streams i s → temperatures_of side (take (i + 1) streams) ≡ temperatures_of side (take i streams) ++ (if same_side s.side side then s.supply ∷ s.target ∷ [] else [])
 unfolding ends_of
 temperatures_of-more side streams i s within is =
-    let on_side = λ (x : Stream). same_side x.side side in
-    let front = take i streams in
+    let on_side = λ (x : Stream). same_side x.side side in let front = take i streams in
     ap (λ ss. flat_map ends_of (filter on_side ss)) (take_more streams i s within ∙ ap (λ x. front ++ x ∷ []) (sym is))
     ∙ ap (flat_map ends_of) (filter-append on_side front (s ∷ []))
     ∙ flat_map-append ends_of (filter on_side front) (filter on_side (s ∷ []))

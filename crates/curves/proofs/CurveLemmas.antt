@@ -1,12 +1,8 @@
 -- Curves, point after point.
-use Rattle.std.proofs.Common.{◌≡◌, ℕ, ◌+◌, ◌<◌, List, [], ◌∷◌, ◌++◌, length, get_or, take, ap, ap₂, sym, ◌∙◌}
-use Rattle.std.specs.Prelude.{ℤ}
-use Rattle.std.specs.List.{flat_map}
+use Rattle.std.proofs.Common.{◌≡◌, ℕ, ◌+◌, ◌<◌, List, [], ◌∷◌, ◌++◌, length, get_or, take, ap, ap₂, sym, ◌∙◌, ℤ, flat_map, append-nil}
 use Rattle.std.proofs.lemmas.Grind.{flat_map-append}
-use Rattle.std.proofs.lemmas.List.{take_more, append-nil}
-use Rattle.sums.proofs.OrderLemmas.{Lists-unique}
+use Rattle.std.proofs.lemmas.List.{take_more}
 use Rattle.curves.specs.declared.point.Point.{Point}
-use Rattle.curves.specs.Curve.{IsCurve}
 
 -- a loop's step: the one point at the next temperature, as the code makes it
 pub points-more : (points_at : ℤ → List Point) (ts : List ℤ) (i : ℕ) (d heat t heat' : ℤ) (before now : List Point) → i < length ts → points_at (get_or ts i d) ≡ record { heat = heat'; temperature = get_or ts i d } ∷ [] → before ≡ flat_map points_at (take i ts) → now ≡ before ++ record { heat = heat; temperature = t } ∷ [] → heat ≡ heat' → t ≡ get_or ts i d → now ≡ flat_map points_at (take (i + 1) ts)
@@ -17,8 +13,3 @@ points-more points_at ts i d heat t heat' before now within one so_far pushed sa
     ∙ ap₂ (λ (ps : List Point) (p : Point). ps ++ p ∷ []) so_far same
     ∙ ap (λ ps. front ++ ps) (sym one ∙ sym (append-nil (points_at (get_or ts i d))))
     ∙ sym (ap (flat_map points_at) (take_more ts i d within) ∙ flat_map-append points_at (take i ts) (get_or ts i d ∷ []))
-
--- there is one curve only, where no two temperatures come before each other
-pub IsCurve-unique : (before : ℤ → ℤ → Type 0) → ((a b : ℤ) → before a b → before b a → ⊥) → (P : ℤ → Type 0) (points_at : ℤ → List Point) (one other : List Point) → IsCurve before P points_at one → IsCurve before P points_at other → one ≡ other
-IsCurve-unique before one_way P points_at one other h k =
-    h.points ∙ ap (flat_map points_at) (Lists-unique before one_way P h.temperatures k.temperatures h.listed k.listed) ∙ sym k.points

@@ -1,6 +1,5 @@
 -- The part of the range below `t` ends where `t` is held within the range.
-use Rattle.std.proofs.Common.{ap, ◌∙◌, w64, rules, arith}
-use Rattle.std.specs.Prelude.{◌*ℤ◌}
+use Rattle.std.proofs.Common.{ap, ◌∙◌, w64, rules, arith, ◌*ℤ◌}
 use Rattle.std.proofs.lemmas.Int.{ints, clamps, to_z-of_z}
 use Rattle.stream_case.proofs.HeatLemmas.{HasLength-IsValidStream}
 use Rattle.curves.proofs.below.heat_below.Goals as goal

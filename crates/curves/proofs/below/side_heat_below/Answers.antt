@@ -1,6 +1,5 @@
 -- A stream of the side adds its heat.
-use Rattle.std.proofs.Common.{Bool, pos, to_z, of_z, w32, ap, sym, ◌∙◌, arith}
-use Rattle.std.specs.Prelude.{if◌then◌else◌}
+use Rattle.std.proofs.Common.{Bool, pos, to_z, of_z, w32, ap, sym, ◌∙◌, arith, if◌then◌else◌}
 use Rattle.std.proofs.lemmas.Int.{ints}
 use Rattle.curves.specs.Below.{heat_below}
 use Rattle.curves.proofs.BelowLemmas.{heat_below-between}
@@ -16,8 +15,7 @@ overflow_add-heat c =
 
 pub loop-stream-preserved : goal.loop-stream-preserved
 loop-stream-preserved c =
-    let t = to_z w32 (of_z w32 c.args.t) in
-    let s = c.stream-item.result in
+    let t = to_z w32 (of_z w32 c.args.t) in let s = c.stream-item.result in
     let so_far = sum_side-so_far c.args.side (heat_below t) (heat_below-between t) c.args.streams.now c.loop-stream.stream-index c.requires in
     let step = sum_side-more c.args.side (heat_below t) c.args.streams.now c.loop-stream.stream-index s c.loop-stream-test.true c.stream-item.is in
     let term = λ (b : Bool). if b then heat_below t s else pos 0 in

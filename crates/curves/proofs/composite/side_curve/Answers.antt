@@ -9,11 +9,8 @@ use Rattle.curves.proofs.composite.side_curve.Goals as goal
 
 pub loop-t-preserved : goal.loop-t-preserved
 loop-t-preserved c =
-    let side = c.args.side in
-    let streams = c.args.streams.now in
-    let ts = c.as_slice-t-items.result.now in
-    let i = c.loop-t.t-index in
-    let t = get_or ts i (pos 0) in
+    let side = c.args.side in let streams = c.args.streams.now in let ts = c.as_slice-t-items.result.now in
+    let i = c.loop-t.t-index in let t = get_or ts i (pos 0) in
     let fits : FitsSigned w32 t = search rules in
     let back = to_z-of_z w32 t fits in
     let heat_fits : FitsSigned w64 c.side_heat_below.result = search rules in

@@ -1,9 +1,7 @@
 -- The points at the temperatures so far.
-use Rattle.std.proofs.Common.{◌≡◌, take}
-use Rattle.std.specs.List.{flat_map}
+use Rattle.std.proofs.Common.{◌≡◌, take, flat_map}
 use Rattle.curves.specs.Curve.{side_points}
 use Rattle.curves.proofs.composite.side_curve.Given as goal
 
 abbrev pub invariant-loop-t : goal.invariant-loop-t
-invariant-loop-t l =
-    l.points ≡ flat_map (side_points l.side l.streams) (take l.t-index l.t-items)
+invariant-loop-t l = l.points ≡ flat_map (side_points l.side l.streams) (take l.t-index l.t-items)

@@ -1,6 +1,5 @@
 -- Each place has one point.
-use Rattle.std.proofs.Common.{pos, w32, FitsSigned, get_or, refl, ap, ◌∙◌, rules, arith}
-use Rattle.std.specs.Prelude.{◌-ℤ◌}
+use Rattle.std.proofs.Common.{pos, w32, FitsSigned, get_or, refl, ap, ◌∙◌, rules, arith, ◌-ℤ◌}
 use Rattle.std.proofs.lemmas.Int.{to_z-of_z, ints}
 use Rattle.problem_table.specs.Deficit.{deficit_above, hot_target}
 use Rattle.curves.specs.Curve.{grand_points}
@@ -9,9 +8,7 @@ use Rattle.curves.proofs.grand.grand_curve.Goals as goal
 
 pub loop-t-preserved : goal.loop-t-preserved
 loop-t-preserved c =
-    let streams = c.args.case.now.streams in
-    let ts = c.as_slice-t-items.result.now in
-    let i = c.loop-t.t-index in
+    let streams = c.args.case.now.streams in let ts = c.as_slice-t-items.result.now in let i = c.loop-t.t-index in
     let t = get_or ts i (pos 0) in
     let fits : FitsSigned w32 t = search rules in
     let back = to_z-of_z w32 t fits in

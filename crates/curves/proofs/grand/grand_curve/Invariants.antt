@@ -1,9 +1,7 @@
 -- The points at the places so far.
-use Rattle.std.proofs.Common.{◌≡◌, take}
-use Rattle.std.specs.List.{flat_map}
+use Rattle.std.proofs.Common.{◌≡◌, take, flat_map}
 use Rattle.curves.specs.Curve.{grand_points}
 use Rattle.curves.proofs.grand.grand_curve.Given as goal
 
 abbrev pub invariant-loop-t : goal.invariant-loop-t
-invariant-loop-t l =
-    l.points ≡ flat_map (grand_points l.case.streams) (take l.t-index l.t-items)
+invariant-loop-t l = l.points ≡ flat_map (grand_points l.case.streams) (take l.t-index l.t-items)
