@@ -1,7 +1,5 @@
 -- The items of workers, and of all of them.
-use Rattle.std.proofs.Common.{◌≡◌, sym, subst, ⊎_elim, ℕ, ◌+◌, ◌*◌, ◌/◌, ◌%◌, ◌<◌, List, [], ◌∷◌, ◌++◌, length, Result, Ok, arith}
-use Rattle.std.proofs.lemmas.List.{length-append}
-use Rattle.std.proofs.lemmas.Nat.{div-add-mod'}
+use Rattle.std.proofs.Common.{◌≡◌, sym, subst, ⊎_elim, ℕ, ◌+◌, ◌*◌, ◌/◌, ◌%◌, ◌<◌, List, [], ◌∷◌, ◌++◌, length, Result, Ok, arith, length-append, div-add-mod'}
 use Rattle.sums.proofs.ListLemmas.{slice_get_push}
 use Rattle.workers.specs.Shares.{EachIsItem, AreItemsOfWorkers, StandsAt, HasItem}
 
