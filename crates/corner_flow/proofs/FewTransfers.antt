@@ -1,8 +1,9 @@
 -- There are fewer overlaps of two rows of spans than spans: from each one to the next at least one of the indices rises, and none falls.
-use Rattle.std.proofs.Common.{⊎_elim, inl, inr, ap, ℕ, zero, suc, ◌+◌, ◌-◌, ◌<◌, ◌≤◌, List, [], ◌∷◌, All, AllPairs, length, get_or, take, drop, map, arith, ℤ, pos, ◌≤ℤ◌, take-take}
+use Rattle.std.proofs.Common.{⊎_elim, inl, inr, ap, ℕ, zero, suc, ◌+◌, ◌-◌, ◌<◌, ◌≤◌, List, [], ◌∷◌, All, AllPairs, length, get_or, take, drop, map, arith}
+use Rattle.std.specs.Prelude.{ℤ, pos, ◌≤ℤ◌}
 use Rattle.std.proofs.lemmas.Bool.{cases_lt}
 use Rattle.std.proofs.lemmas.Int.{ints, clamps}
-use Rattle.std.proofs.lemmas.List.{length-map}
+use Rattle.std.proofs.lemmas.List.{length-map, take-take}
 use Rattle.std.proofs.lemmas.List.Elements.{All-drop, All-take}
 use Rattle.corner_flow.proofs.Words.{Case, IsCornerFlow, IsOverlap, ListsOverlaps, NotNegative, Pair, Part, Transfer, as_pair, begin_of, cold_target, heats_of, hot_target, int_sum_by, pair_before, part_heat}
 use Rattle.sums.proofs.SumLemmas.{int_sum_by-not_negative, int_sum_by-split}
@@ -20,7 +21,10 @@ module _ (us vs : List ℤ) (us_some : NotNegative us) (vs_some : NotNegative vs
   not_back p q one other rises falls =
       let firsts = spans_rise us us_some (suc p.first) q.first (omega (arith, rises)) in
       let seconds = spans_rise vs vs_some (suc q.second) p.second (omega (arith, falls)) in
-      let p_some = one.positive in let p_is = one.amount in let q_some = other.positive in let q_is = other.amount in
+      let p_some = one.positive in
+      let p_is = one.amount in
+      let q_some = other.positive in
+      let q_is = other.amount in
       omega (arith, ints, clamps, firsts, seconds, p_some, p_is, q_some, q_is)
 
   both_rise : (p q : Pair) → IsOverlap us vs p → IsOverlap us vs q → pair_before p q → p.first + p.second < q.first + q.second

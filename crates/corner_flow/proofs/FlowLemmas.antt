@@ -1,5 +1,6 @@
 -- The corner flow is a heat flow in which the utilities give and take the targets, and it is of least cost.
-use Rattle.std.proofs.Common.{◌≡◌, ⊎_elim, ◌∙◌, refl, sym, ap, ap₂, subst, subst₂, ℕ, ◌<◌, not, ◌&&◌, List, [], ◌∷◌, length, get_or, map, Some, arith, ◌==◌, ℤ, pos, ◌+ℤ◌, ◌≤ℤ◌, ◌<ℤ◌, if◌then◌else◌, slice_get}
+use Rattle.std.proofs.Common.{◌≡◌, ⊎_elim, ◌∙◌, refl, sym, ap, ap₂, subst, subst₂, ℕ, ◌<◌, not, ◌&&◌, List, [], ◌∷◌, length, get_or, map, Some, arith}
+use Rattle.std.specs.Prelude.{◌==◌, ℤ, pos, ◌+ℤ◌, ◌≤ℤ◌, ◌<ℤ◌, if◌then◌else◌, slice_get}
 use Rattle.std.proofs.lemmas.Int.{ints}
 use Rattle.std.proofs.lemmas.Bool.{not-true}
 use Rattle.std.proofs.lemmas.List.{get_or-map, length-map}
@@ -36,7 +37,8 @@ module _ {c : Case} {hot cold : List Part} (s : AreStandardParts c hot cold) whe
       ⊎_elim
       (λ k. let heat = heat_of_stream target p k.source_is in record { from = omega (arith, ints, k.fixed); upto = omega (arith, ints, k.fixed) })
       (λ k.
-      let heat = heat_of_utility target p k.source_is in let within = target_within side in
+      let heat = heat_of_utility target p k.source_is in
+      let within = target_within side in
       record { from = omega (arith, ints, within.from, k.least); upto = omega (arith, ints, within.upto, k.most) })
       h.kind
 
@@ -52,7 +54,9 @@ module _ {c : Case} {hot cold : List Part} (s : AreStandardParts c hot cold) whe
   -- they add up to the target and all heat of the streams
   heats-sum : (side : Side) → int_sum_by (λ x. x) (heats side) ≡ target_of side c.streams +ℤ sum_side side (heat_above (end_of c Cold)) c.streams
   heats-sum side =
-      let target = target_of side c.streams in let parts = parts_of side hot cold in let bottom = end_of c Cold in
+      let target = target_of side c.streams in
+      let parts = parts_of side hot cold in
+      let bottom = end_of c Cold in
       int_sum_by-map (λ x. x) (part_heat target) parts ∙ sym (int_sum_from-by (part_heat target) 0 parts)
       ∙ sum_above s side (λ a p. part_heat target p) bottom target (s.ends Cold)
       (λ a p at h. ⊎_elim
@@ -75,7 +79,8 @@ module _ {c : Case} {hot cold : List Part} (s : AreStandardParts c hot cold) whe
     -- each part gives or takes its heat
     gives : (side : Side) (a : ℕ) (p : Part) → slice_get (parts_of side hot cold) a ≡ Some p → heat_at side ts a ≡ part_heat (target_of side c.streams) p
     gives side a p at =
-        let parts = parts_of side hot cold in let within = slice_get_within parts a p at in
+        let parts = parts_of side hot cold in
+        let within = slice_get_within parts a p at in
         transfer_heat side a (rw length-map within) ∙ get_or-map (part_heat (target_of side c.streams)) parts a p (pos 0) within ∙ ap (part_heat (target_of side c.streams)) (get_or_from_slice_get parts a p p at)
 
     ranges : (side : Side) → KeepsRanges side (parts_of side hot cold) ts
@@ -92,10 +97,12 @@ module _ {c : Case} {hot cold : List Part} (s : AreStandardParts c hot cold) whe
           hot_indexes = λ k d within. rw length-map at (each k d within).first_within;
           cold_indexes = λ k d within. rw length-map at (each k d within).second_within;
           joined = λ k d within.
-              let t = get_or ts k d in let e = each k d within in
+              let t = get_or ts k d in
+              let e = each k d within in
               let from = slice_get-get_or hot t.hot blank (rw length-map at e.first_within) in
               let to = slice_get-get_or cold t.cold blank (rw length-map at e.second_within) in
-              let p = get_or hot t.hot blank in let q = get_or cold t.cold blank in
+              let p = get_or hot t.hot blank in
+              let q = get_or cold t.cold blank in
               let passes = overlap-passes s t.hot t.cold p q from to (subst (λ z. pos 0 <ℤ z) e.amount e.positive) in
               ap₂ (both_reach c) from to ∙ ap₂ (λ x y. x && not y) passes (ap (λ fs. is_forbidden fs p.source q.source) s.standard.free);
           ordered = λ i j d before within.

@@ -1,5 +1,7 @@
 -- Heat goes down: what the cold parts take above a place is at most what the hot parts give above it.
-use Rattle.std.proofs.Common.{◌≡◌, ⊎_elim, ◌∙◌, refl, sym, ap, ap₂, subst₂, ℕ, Bool, true, false, not, ◌&&◌, List, map, Option, Some, None, arith, ℤ, pos, ◌+ℤ◌, ◌*ℤ◌, ◌≤ℤ◌, ◌<ℤ◌, int_le, ◌==◌, if◌then◌else◌, All, Contains, slice_get, int_eq}
+use Rattle.std.proofs.Common.{◌≡◌, ⊎_elim, ◌∙◌, refl, sym, ap, ap₂, subst₂, ℕ, Bool, true, false, not, ◌&&◌, List, map, Option, Some, None, arith}
+use Rattle.std.specs.Prelude.{ℤ, pos, ◌+ℤ◌, ◌*ℤ◌, ◌≤ℤ◌, ◌<ℤ◌, int_le, ◌==◌, if◌then◌else◌, All, Contains, slice_get}
+use Rattle.std.specs.Ordering.{int_eq}
 use Rattle.std.proofs.Math.IntN.{*ℤ-zero, *ℤ_comm}
 use Rattle.std.proofs.lemmas.Int.{ints}
 use Rattle.std.proofs.lemmas.Bool.{and_parts, or_cases, not-true}
@@ -91,17 +93,20 @@ module _ {c : Case} {hot cold : List Part} (s : AreStandardParts c hot cold) whe
   -- what a side costs is what its utility costs
   side_cost-standard : (side : Side) (ts : List Transfer) (heat : ℤ) → UtilityHeat side (parts_of side hot cold) ts heat → side_cost side (parts_of side hot cold) ts ≡ unit_price side *ℤ heat
   side_cost-standard side ts heat utility =
-      let place = end_of c Cold in let each = unit_price side *ℤ heat in
+      let place = end_of c Cold in
+      let each = unit_price side *ℤ heat in
       let whole =
       sum_above side (λ a p. p.price *ℤ heat_at side ts a +ℤ heat_from place (pos 0) p) place each (s.ends Cold)
       (λ a p at h. ⊎_elim
       (λ k.
       let free = zero_times p.price (heat_at side ts a) k.price in
-      let none = from_stream place (pos 0) p k.source_is in let other = from_stream place each p k.source_is in
+      let none = from_stream place (pos 0) p k.source_is in
+      let other = from_stream place each p k.source_is in
       omega (arith, ints))
       (λ k.
       let priced = ap₂ ◌*ℤ◌ k.price (utility a p at (ap not k.source_is)) in
-      let none = from_utility place (pos 0) p k.source_is in let other = from_utility place each p k.source_is in
+      let none = from_utility place (pos 0) p k.source_is in
+      let other = from_utility place each p k.source_is in
       omega (arith, ints))
       h.kind) in
       let split = int_sum_from-add (λ a p. p.price *ℤ heat_at side ts a) (λ a p. heat_from place (pos 0) p) 0 (parts_of side hot cold) in

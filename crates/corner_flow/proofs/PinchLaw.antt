@@ -1,5 +1,6 @@
 -- No heat crosses a pinch: what is needed above it is all that the hot parts above it give.
-use Rattle.std.proofs.Common.{◌≡◌, ⊎_elim, ◌∙◌, List, [], ◌∷◌, get_or, map, arith, ℤ, ◌*ℤ◌, ◌≤ℤ◌, ◌<ℤ◌, All, Contains}
+use Rattle.std.proofs.Common.{◌≡◌, ⊎_elim, ◌∙◌, List, [], ◌∷◌, get_or, map, arith}
+use Rattle.std.specs.Prelude.{ℤ, ◌*ℤ◌, ◌≤ℤ◌, ◌<ℤ◌, All, Contains}
 use Rattle.std.proofs.lemmas.Int.{ints}
 use Rattle.std.proofs.lemmas.List.Elements.{All-nil, All-cons, All-head, All-tail}
 use Rattle.corner_flow.proofs.Words.{Case, Cold, Hot, IsFlowOf, IsPinch, NoHeatCrosses, NoHeatCrossesPinch, Part, Transfer, UtilityHeat, hot_target, int_sum_by, price_at}
@@ -13,7 +14,8 @@ use Rattle.corner_flow.proofs.HeatLemmas.{above, reached, is_reached, is_missed,
 equal_terms : {X : Type 0} (f g : X → ℤ) (xs : List X) → All (λ x. f x ≤ℤ g x) xs → int_sum_by f xs ≡ int_sum_by g xs → All (λ x. f x ≡ g x) xs
 equal_terms f g [] le e = All-nil (λ x. f x ≡ g x)
 equal_terms f g (x ∷ xs) le e =
-    let first = All-head (λ y. f y ≤ℤ g y) x xs le in let others = All-tail (λ y. f y ≤ℤ g y) x xs le in
+    let first = All-head (λ y. f y ≤ℤ g y) x xs le in
+    let others = All-tail (λ y. f y ≤ℤ g y) x xs le in
     let rest = int_sum_by-le f g xs others in
     let is : f x ≡ g x = omega (arith, ints) in
     All-cons (λ y. f y ≡ g y) x xs is (equal_terms f g xs others (omega (arith, ints)))
@@ -42,7 +44,9 @@ module _ {c : Case} {hot cold : List Part} (s : AreStandardParts c hot cold) (pl
   -- so nothing is left to give below it
   none_crosses : NoHeatCrosses hot cold place ts
   none_crosses k d within crossing =
-      let t = get_or ts k d in let p = crossing.hot_part in let q = crossing.cold_part in
+      let t = get_or ts k d in
+      let p = crossing.hot_part in
+      let q = crossing.cold_part in
       let low = below_high q crossing.below ((s.sides Cold).each t.cold q crossing.to) in
       let gives = one_times (price_at (map (above place) hot) t.hot) t.heat (price_at-map (above place) hot t.hot p crossing.from ∙ is_reached place p.low crossing.above) in
       let takes = zero_times (price_at (map (above place) cold) t.cold) t.heat (price_at-map (above place) cold t.cold q crossing.to ∙ is_missed place q.low low) in

@@ -1,6 +1,8 @@
 -- The prices of the corner flow support every heat flow, and their value is the hot target.
-use Rattle.std.proofs.Common.{◌≡◌, ⊎_elim, ◌∙◌, refl, sym, ap, ap₂, Bool, true, false, List, get_or, map, arith, ℤ, pos, ◌*ℤ◌, ◌≤ℤ◌, if◌then◌else◌, All, int_eq}
+use Rattle.std.proofs.Common.{◌≡◌, ⊎_elim, ◌∙◌, refl, sym, ap, ap₂, Bool, true, false, List, get_or, map, arith}
+use Rattle.std.specs.Prelude.{ℤ, pos, ◌*ℤ◌, ◌≤ℤ◌, if◌then◌else◌, All}
 use Rattle.std.specs.Int.{int_min}
+use Rattle.std.specs.Ordering.{int_eq}
 use Rattle.std.proofs.Math.IntN.{*ℤ-zero}
 use Rattle.std.proofs.lemmas.Int.{ints, clamps}
 use Rattle.std.proofs.lemmas.Bool.Decides.{Decides-int_eq}
@@ -71,7 +73,8 @@ module _ {c : Case} {hot cold : List Part} (s : AreStandardParts c hot cold) (pl
 
     side_value-priced : side_value side (parts_of side hot cold) (map (priced none place) (parts_of side hot cold)) ≡ excess_price side (pos 0) (int_sum_by (priced_heat none place) (parts_of side hot cold))
     side_value-priced =
-        let f = priced none place in let parts = parts_of side hot cold in
+        let f = priced none place in
+        let parts = parts_of side hot cold in
         int_sum_from-same_each (λ a p. least_product (excess_price side p.price (price_at (map f parts) a)) p.least p.most) (λ a p. excess_price side (pos 0) (priced_heat none place p)) parts
         (λ a p at. ap (λ y. least_product (excess_price side p.price y) p.least p.most) (price_at-map f parts a p at) ∙ worth p ((s.sides side).each a p at))
         ∙ int_sum_from-excess side (λ a p. pos 0) (λ a p. priced_heat none place p) parts

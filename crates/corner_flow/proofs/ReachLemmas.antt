@@ -1,7 +1,9 @@
 -- Two parts whose spans overlap reach.
-use Rattle.std.proofs.Common.{◌≡◌, ⊎_elim, ◌∙◌, refl, sym, ap, ap₂, ℕ, zero, suc, ◌+◌, true, false, ◌&&◌, List, [], ◌∷◌, take, Some, arith, zero-add, ℤ, pos, ◌+ℤ◌, ◌≤ℤ◌, ◌<ℤ◌, int_le, nat_lt, if◌then◌else◌, Contains, slice_get, int_eq, lt-ltb, le-ltb}
+use Rattle.std.proofs.Common.{◌≡◌, ⊎_elim, ◌∙◌, refl, sym, ap, ap₂, ℕ, zero, suc, ◌+◌, true, false, ◌&&◌, List, [], ◌∷◌, take, Some, arith, zero-add}
+use Rattle.std.specs.Prelude.{ℤ, pos, ◌+ℤ◌, ◌≤ℤ◌, ◌<ℤ◌, int_le, nat_lt, if◌then◌else◌, Contains, slice_get}
+use Rattle.std.specs.Ordering.{int_eq}
 use Rattle.std.proofs.lemmas.Int.{ints, clamps, by_lt_z}
-use Rattle.std.proofs.lemmas.Bool.{or_parts, and_from, cases_Bool, cases_lt, both_ways}
+use Rattle.std.proofs.lemmas.Bool.{or_parts, and_from, cases_Bool, cases_lt, both_ways, lt-ltb, le-ltb}
 use Rattle.std.proofs.lemmas.Bool.Decides.{Decides-int_eq}
 use Rattle.std.proofs.lemmas.List.{take-map}
 use Rattle.corner_flow.proofs.Words.{Case, Cold, Hot, Part, begin_of, cold_target, heat_above, heats_of, hot_target, int_sum_by, int_sum_from, is_stream, overlap, part_heat, passes_heat, sum_side}
@@ -78,7 +80,8 @@ module _ {c : Case} {hot cold : List Part} (s : AreStandardParts c hot cold) whe
       omega (arith, ints))
       (cases_lt k i)) in
       let plain = int_sum_from-by (heat_from place target) 0 hot in
-      let sum = (s.sides Hot).sum place target on in let begin = begin_of-heats target hot i in
+      let sum = (s.sides Hot).sum place target on in
+      let begin = begin_of-heats target hot i in
       omega (arith, ints)
 
   -- the cold heat up to a part lies above a place that the part is above
@@ -107,7 +110,8 @@ module _ {c : Case} {hot cold : List Part} (s : AreStandardParts c hot cold) whe
       omega (arith, ints))
       (cases_lt k (suc j))) in
       let plain = int_sum_from-by (heat_from place (pos 0)) 0 cold in
-      let sum = (s.sides Cold).sum place (pos 0) on in let begin = begin_of-heats target cold (suc j) in
+      let sum = (s.sides Cold).sum place (pos 0) on in
+      let begin = begin_of-heats target cold (suc j) in
       omega (arith, ints)
 
   -- two streams that do not reach: the hot one lies below the low of the cold one
@@ -131,7 +135,9 @@ module _ {c : Case} {hot cold : List Part} (s : AreStandardParts c hot cold) whe
       ⊎_elim (λ e. e)
       (λ missed.
       let (below, _) = apart p q missed in
-      let x = (s.sides Hot).each i p at in let y = (s.sides Cold).each j q other in let from = x.from in
+      let x = (s.sides Hot).each i p at in
+      let y = (s.sides Cold).each j q other in
+      let from = x.from in
       let upto = y.upto in
       absurd (⊎_elim
       (λ h. ⊎_elim

@@ -1,5 +1,6 @@
 -- The parts of a side of a standard case.
-use Rattle.std.proofs.Common.{◌≡◌, ◌⊎◌, inl, inr, ◌∙◌, refl, sym, ap, ap₂, subst, subst₂, ⊎_elim, ℕ, ◌<◌, ◌≤◌, true, false, List, arith, ℤ, pos, ◌+ℤ◌, ◌-ℤ◌, ◌≤ℤ◌, ◌<ℤ◌, AllPairs, Contains, Some, slice_get}
+use Rattle.std.proofs.Common.{◌≡◌, ◌⊎◌, inl, inr, ◌∙◌, refl, sym, ap, ap₂, subst, subst₂, ⊎_elim, ℕ, ◌<◌, ◌≤◌, true, false, List, arith}
+use Rattle.std.specs.Prelude.{ℤ, pos, ◌+ℤ◌, ◌-ℤ◌, ◌≤ℤ◌, ◌<ℤ◌, AllPairs, Contains, Some, slice_get}
 use Rattle.std.proofs.lemmas.Int.{ints}
 use Rattle.std.proofs.lemmas.Bool.{cases_eq, cases_order, both_ways}
 use Rattle.std.proofs.lemmas.Option.{same_Some, slice_get-get_or, slice_get_within, get_or_from_slice_get}
@@ -152,7 +153,8 @@ module _ (c : Case) (grid : List ℤ) (complete : IsComplete c) (standard : IsSt
       let (b, other) = own-at in
       record {
         each = λ a p at.
-            let here = on_side a p at in let between = lies p (kind p here) in
+            let here = on_side a p at in
+            let between = lies p (kind p here) in
             record { bounded = IsBounded-part c.streams c.utilities side grid valid.are_streams.each (IsPlaced-IsComplete c complete) holds p here; from = between.0; falls = between.1; upto = between.2; kind = kind p here };
         falls = λ a d p q at last le.
             ⊎_elim (λ e. let high = ap (λ r. r.high) (same_Some p q (sym at ∙ ap (slice_get parts) e ∙ last)) in omega (arith, ints))

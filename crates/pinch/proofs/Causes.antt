@@ -1,6 +1,16 @@
 -- Every command blames words, length and shelf only with cause.
-use Rattle.std.proofs.Common.{◌≡◌, ◌∙◌, inl, inr, ◌≤◌, ℕ, List, true, false, Option, Result, refl, sym, ap, subst, arith}
-use Rattle.pinch.proofs.Words.{Causes, Command, EndsIn, FileRole, Format, FromText, HasCause, IsWhole, KeepsFiles, MAX_FILE, NoFile, NoText, Reading, ReadsFile, Request, ShelfState, Shown, Shows, ShowsCommand, by_text, failed, file, no_file, no_text, reading_of, ready, refused, stop, too_long, wanted}
+use Rattle.std.proofs.Common.{◌≡◌, ◌∙◌, ◌⊎◌, inl, inr, ◌≤◌, ℕ, List, true, false, Option, Result, Ok, Err, refl, sym, ap, subst, arith}
+use Rattle.pinch_outside.specs.Shelf.{ShelfState, KeepsFiles, IsWhole, IsTooLong, HasFailed}
+use Rattle.pinch_outside.specs.declared.limits.TheConstants.{MAX_FILE}
+use Rattle.reports.specs.declared.shown.FileRole.{FileRole}
+use Rattle.reports.specs.declared.shown.Shown.{Shown}
+use Rattle.pinch.specs.Answers.{Shows, ShowsCommand}
+use Rattle.pinch.specs.Causes.{Causes, HasCause, ReadsFile}
+use Rattle.pinch.specs.Files.{EndsIn, NoFile, failed, too_long, NoText, no_file, refused, FromText, no_text, by_text}
+use Rattle.pinch.specs.Format.{Format}
+use Rattle.pinch.specs.Reading.{Reading, reading_of, ready, stop, wanted, file}
+use Rattle.pinch.specs.declared.command.Command.{Command}
+use Rattle.pinch.specs.declared.request.Request.{Request}
 use Rattle.pinch.proofs.Formats.{IsLawful}
 use Rattle.pinch.proofs.Plain.{is_plain, answered-plain}
 use Rattle.pinch.proofs.Readings.{IsFurther, IsLawfulReading, lawful}

@@ -1,6 +1,18 @@
 -- Files that answer a command are answered, and a file that is refused is told so, unless a call of the shelf is refused.
-use Rattle.std.proofs.Common.{◌≡◌, ◌∙◌, inl, inr, ℕ, List, sym, Option, Some, length, Result, Ok, Err, ap, subst, arith}
-use Rattle.pinch.proofs.Words.{CanAnswer, Command, EndsIn, FileRole, Format, FromText, HasBadFile, Holds, HoldsFault, HoldsText, IsAnswered, IsFile, IsFileAbove, IsRefused, KeepsFiles, MAX_FILE, NamedFile, NoFile, NoText, Reading, Request, Rose, ShelfState, Shown, Shows, ShowsCommand, by_text, failed, file, no_file, no_text, reading_of, ready, refused, status_of, stop, too_long, wanted}
+use Rattle.std.proofs.Common.{◌≡◌, ◌∙◌, ◌⊎◌, inl, inr, ℕ, List, sym, Option, Some, None, length, Result, Ok, Err, refl, ap, subst, arith}
+use Rattle.pinch_outside.specs.Faults.{Rose}
+use Rattle.pinch_outside.specs.Shelf.{ShelfState, NamedFile, IsFile, IsFileAbove, KeepsFiles}
+use Rattle.pinch_outside.specs.declared.limits.TheConstants.{MAX_FILE}
+use Rattle.reports.specs.declared.shown.FileRole.{FileRole}
+use Rattle.reports.specs.declared.shown.Shown.{Shown}
+use Rattle.pinch.specs.declared.command.Command.{Command}
+use Rattle.pinch.specs.declared.request.Request.{Request}
+use Rattle.pinch.specs.Answers.{Shows, ShowsCommand}
+use Rattle.pinch.specs.Complete.{Holds, HoldsText, HoldsFault, CanAnswer, HasBadFile}
+use Rattle.pinch.specs.Files.{EndsIn, NoFile, failed, too_long, NoText, no_file, refused, FromText, no_text, by_text, IsRefused}
+use Rattle.pinch.specs.Format.{Format}
+use Rattle.pinch.specs.Reading.{Reading, reading_of, ready, stop, wanted, file}
+use Rattle.pinch.specs.Status.{status_of, IsAnswered}
 use Rattle.pinch.proofs.Formats.{IsLawful, one_value, one_refusal, not_both}
 use Rattle.pinch.proofs.Readings.{IsFurther, lawful, of_answerable, of_refusable}
 use Rattle.pinch.proofs.Results.{is_result}

@@ -1,7 +1,22 @@
 -- The early ends of reading.
-use Rattle.std.proofs.Common.{◌≡◌, ℕ, List, Option, Some, Result, Ok, Err, IfOk, refl, subst, sym, IsErrAnd}
-use Rattle.pinch.proofs.Words.{Audit, Case, Command, Early, EndsIn, Format, IfEarly, IfEnd, NoText, Reading, ReadsText, Request, ShelfState, Shown, ShowsCommand, Stop, by_text, case_file, completed, file, network_file, no_text, reading_of}
-use Rattle.pinch.specs.declared.stop.Stop.TheVariants.{OutOfMemory}
+use Rattle.std.proofs.Common.{◌≡◌, ℕ, List, Option, Some, Result, Ok, Err, IfOk, refl, subst, sym}
+use Rattle.std.specs.Result.{IsErrAnd}
+use Rattle.stream_case.specs.declared.case.Case.{Case}
+use Rattle.stream_case.specs.Case.{completed}
+use Rattle.pinch_outside.specs.Shelf.{ShelfState}
+use Rattle.reports.specs.declared.shown.Shown.{Shown}
+use Rattle.pinch.specs.Answers.{ShowsCommand}
+use Rattle.pinch.specs.Case.{case_file}
+use Rattle.pinch.specs.Files.{EndsIn, NoText, ReadsText, no_text, by_text}
+use Rattle.pinch.specs.Format.{Format}
+use Rattle.pinch.specs.Network.{network_file}
+use Rattle.pinch.specs.Reading.{Reading, reading_of, file}
+use Rattle.pinch.specs.Stop.{IfEarly, IfEnd}
+use Rattle.pinch.specs.declared.command.Command.{Command}
+use Rattle.pinch.specs.declared.command.Command.TheVariants.{Audit}
+use Rattle.pinch.specs.declared.request.Request.{Request}
+use Rattle.pinch.specs.declared.stop.Stop.{Stop}
+use Rattle.pinch.specs.declared.stop.Stop.TheVariants.{Early, OutOfMemory}
 
 -- what a step stops with, reading ends with
 stopped : (result : Result Request Stop) (stop : Stop) (P : Shown → Type 0) (Q : Result Request Shown → Type 0) → IsErrAnd result (λ e. e ≡ stop)

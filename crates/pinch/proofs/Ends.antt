@@ -1,7 +1,15 @@
 -- The program ends as `run` does.
 use Rattle.std.proofs.Common.{◌≡◌, ◌⊎◌, inl, inr, ℕ, List, Option, Some, None, IsNone, IfSome, refl}
 use Rattle.std.specs.Io.KnownBytes.{Appends}
-use Rattle.pinch.proofs.Words.{AppendsFront, Command, Ends, OutOfMemory, ShelfState, Shown, ShowsCommand, WriteFault, front, nothing, number_of, status_of, text, whole}
+use Rattle.pinch_outside.specs.Shelf.{ShelfState}
+use Rattle.pinch_outside.specs.Sink.{AppendsFront}
+use Rattle.reports.specs.Text.{text}
+use Rattle.reports.specs.declared.shown.Shown.{Shown}
+use Rattle.pinch.specs.Answers.{ShowsCommand}
+use Rattle.pinch.specs.Arguments.{Ends, whole, front, nothing}
+use Rattle.pinch.specs.Status.{number_of, status_of}
+use Rattle.pinch.specs.declared.command.Command.{Command}
+use Rattle.pinch.specs.declared.status.Status.TheVariants.{WriteFault, OutOfMemory}
 
 pub ends : (command : Option Command) (old new : ShelfState) (before now : Option (List ℕ)) (status : ℕ) (o : Option Shown) → IfSome o (ShowsCommand command old new)
     → IfSome o (λ shown. (status ≡ number_of (status_of shown)) ⊎ (status ≡ number_of WriteFault))

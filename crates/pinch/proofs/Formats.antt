@@ -1,9 +1,19 @@
 -- Bytes of a format have one outcome: they say one thing, or are refused in one way.
 use Rattle.std.proofs.Common.{◌≡◌, ◌∙◌, true, List, ℕ, Result, Ok, Err, refl, sym, ap}
-use Rattle.pinch.proofs.Words.{Case, Format, IsPrintable, IsRefused, Shown, case_file, grammar, network_file, rows_of, site_file, statements_of}
+use Rattle.rows.specs.Rows.{rows_of}
 use Rattle.first_fault.proofs.OneOutcome.{one_outcome}
+use Rattle.case_text.specs.Outcome.{grammar}
 use Rattle.network_text.specs.Outcome as network
+use Rattle.statements.specs.Statements.{statements_of}
 use Rattle.site.specs.Outcome as site
+use Rattle.stream_case.specs.declared.case.Case.{Case}
+use Rattle.reports.specs.Text.{IsPrintable}
+use Rattle.reports.specs.declared.shown.Shown.{Shown}
+use Rattle.pinch.specs.Case.{case_file}
+use Rattle.pinch.specs.Files.{IsRefused}
+use Rattle.pinch.specs.Format.{Format}
+use Rattle.pinch.specs.Network.{network_file}
+use Rattle.pinch.specs.Site.{site_file}
 use Rattle.pinch.proofs.Plain.{is_plain}
 
 pub record IsLawful {Value Cause : Type 0} (format : Format Value Cause) : Type 0 where

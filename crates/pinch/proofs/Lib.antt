@@ -13,4 +13,3 @@ mod Runnable
 mod Runs
 mod ShownNetworks
 mod SiteCosts
-pub mod Words

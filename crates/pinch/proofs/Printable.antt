@@ -1,6 +1,15 @@
 -- All that a command shows can be printed.
-use Rattle.std.proofs.Common.{◌≡◌, inl, inr, ℕ, List, Option, Result, sym, subst}
-use Rattle.pinch.proofs.Words.{Command, EndsIn, FileRole, Format, FromText, IsPrintable, NoFile, NoText, Reading, Request, ShelfState, Shown, Shows, ShowsCommand, by_text, failed, file, no_file, no_text, reading_of, ready, refused, stop, too_long, wanted}
+use Rattle.std.proofs.Common.{◌≡◌, inl, inr, ℕ, List, Option, Result, Ok, Err, sym, subst}
+use Rattle.pinch_outside.specs.Shelf.{ShelfState}
+use Rattle.reports.specs.Text.{IsPrintable}
+use Rattle.reports.specs.declared.shown.FileRole.{FileRole}
+use Rattle.reports.specs.declared.shown.Shown.{Shown}
+use Rattle.pinch.specs.Answers.{Shows, ShowsCommand}
+use Rattle.pinch.specs.Files.{EndsIn, NoFile, failed, too_long, NoText, no_file, refused, FromText, no_text, by_text}
+use Rattle.pinch.specs.Format.{Format}
+use Rattle.pinch.specs.Reading.{Reading, reading_of, ready, stop, wanted, file}
+use Rattle.pinch.specs.declared.command.Command.{Command}
+use Rattle.pinch.specs.declared.request.Request.{Request}
 use Rattle.pinch.proofs.Formats.{IsLawful}
 use Rattle.pinch.proofs.Readings.{IsFurther, IsLawfulReading, lawful}
 use Rattle.pinch.proofs.Results.{is_result}

@@ -1,7 +1,15 @@
 -- What all commands read.
 use Rattle.std.proofs.Common.{◌≡◌, true, refl, List, Option, Some, None}
 use Rattle.std.specs.Prelude.{⊤}
-use Rattle.pinch.proofs.Words.{Audit, CanAnswer, Command, HasBadFile, IsPrintable, NamedFile, OfCase, Reading, Sample, Shown, Site, Vertical, completed, file, reading_of, ready, stop, wanted}
+use Rattle.stream_case.specs.Case.{completed}
+use Rattle.pinch_outside.specs.Shelf.{NamedFile}
+use Rattle.reports.specs.Text.{IsPrintable}
+use Rattle.reports.specs.declared.shown.Shown.{Shown}
+use Rattle.pinch.specs.Complete.{CanAnswer, HasBadFile}
+use Rattle.pinch.specs.Reading.{Reading, reading_of, ready, stop, wanted, file}
+use Rattle.pinch.specs.declared.command.Command.{Command}
+use Rattle.pinch.specs.declared.command.Command.TheVariants.{OfCase, Vertical, Audit, Site, Sample}
+use Rattle.pinch.specs.declared.request.Request.{Request}
 use Rattle.pinch.proofs.Formats.{IsLawful, lawful_case, lawful_network, lawful_site}
 use Rattle.pinch.proofs.Plain.{is_plain}
 

@@ -1,8 +1,19 @@
 -- Words form only commands that can run.
-use Rattle.std.proofs.Common.{◌≡◌, ◌<◌, ◌≤◌, ◌+◌, ◌*◌, ℕ, Bool, true, false, List, [], ◌∷◌, Option, Some, None, option_map, IfSome, refl, subst, arith, pos, ◌&&◌, nat_le, nat_lt, codes, if◌then◌else◌, bytes_eq}
+use Rattle.std.proofs.Common.{◌≡◌, ◌<◌, ◌≤◌, ◌+◌, ◌*◌, ℕ, Bool, true, false, List, [], ◌∷◌, Option, Some, None, option_map, IfSome, refl, subst, arith}
+use Rattle.std.specs.Prelude.{pos, ◌&&◌, nat_le, nat_lt, codes, if◌then◌else◌}
+use Rattle.std.specs.Str.{bytes_eq}
 use Rattle.std.proofs.lemmas.Bool.Decides.{nat_tests}
 use Rattle.std.proofs.lemmas.Int.{ints}
-use Rattle.pinch.proofs.Words.{Command, Curves, Design, Flow, IsRunnable, IsSweepPlan, MOST_DIGITS, MOST_END, MOST_ROWS, MOST_SAMPLE_NUMBER, MOST_SAMPLE_STREAMS, MOST_STEP, MOST_WORKERS, OfCase, Site, SweepPlan, Targets, Vertical, audit_of, command_of, command_of_word, limited, natural_in, number_within, one_file, plan_of, plan_with, sample_count_of, sample_number_of, sample_of, sample_with, sweep_of, sweep_with, workers_of}
+use Rattle.stream_case.specs.Digits.{natural_in}
+use Rattle.study.specs.Plan.{IsSweepPlan}
+use Rattle.study.specs.declared.limits.TheConstants.{MOST_ROWS, MOST_SAMPLE_NUMBER, MOST_SAMPLE_STREAMS, MOST_WORKERS}
+use Rattle.study.specs.declared.plan.SweepPlan.{SweepPlan}
+use Rattle.pinch.specs.declared.numbers.TheConstants.{MOST_DIGITS, MOST_END, MOST_STEP}
+use Rattle.pinch.specs.Command.{audit_of, command_of, command_of_word, one_file, sample_of, sample_with, sweep_of, sweep_with, IsRunnable}
+use Rattle.pinch.specs.Numbers.{limited, number_within, plan_of, plan_with, sample_count_of, sample_number_of, workers_of}
+use Rattle.pinch.specs.declared.command.CaseTask.TheVariants.{Targets, Flow, Design, Curves}
+use Rattle.pinch.specs.declared.command.Command.{Command}
+use Rattle.pinch.specs.declared.command.Command.TheVariants.{OfCase, Vertical, Site}
 
 -- what is there only where a test holds
 where_true : {X : Type 0} (b : Bool) (x : X) (P : X → Type 0) → (b ≡ true → P x) → IfSome (if b then Some x else None) P

@@ -1,14 +1,33 @@
 -- A heat flow of a site costs what its boiler gives.
-use Rattle.std.proofs.Common.{◌≡◌, inl, inr, ◌∙◌, sym, ap, ap₂, zero, suc, ◌<◌, Bool, true, false, List, length, get_or, arith, if◌then◌else◌, ℤ, pos, ◌+ℤ◌, ◌*ℤ◌}
+use Rattle.std.proofs.Common.{◌≡◌, inl, inr, ◌∙◌, sym, ap, ap₂, zero, suc, ◌<◌, Bool, true, false, List, length, get_or, arith}
+use Rattle.std.specs.Prelude.{if◌then◌else◌, ℤ, pos, ◌+ℤ◌, ◌*ℤ◌}
 use Rattle.std.proofs.lemmas.Int.{ints}
 use Rattle.std.proofs.lemmas.Option.{none-some, same_Some, slice_get-get_or}
 use Rattle.std.specs.Option.{option_map_or}
-use Rattle.pinch.proofs.Words.{Answer, AreSiteParts, Cold, HaveParts, Hot, IfLeast, IsCertified, IsHeatFlow, IsLeastBoiler, IsLeastCost, IsPartOf, Least, Part, Parts, Source, Stuck, Transfer, Utility, boiler, boiler_heat, cooling, cost_of, heat_of_utility, reach_between, same_source, site_utilities, streams_of, utility_heat}
+use Rattle.stream_case.specs.declared.source.Side.TheVariants.{Hot, Cold}
+use Rattle.stream_case.specs.declared.source.Source.{Source}
 use Rattle.stream_case.specs.declared.source.Source.TheVariants.{Utility as of_utility}
+use Rattle.stream_case.specs.Source.{same_source}
+use Rattle.stream_case.specs.declared.utility.Utility.{Utility}
 use Rattle.sums.proofs.SumLemmas.{int_sum_by-same, int_sum_by-zero}
+use Rattle.grid.specs.declared.part.Part.{Part}
+use Rattle.grid.specs.declared.parts.Parts.{Parts}
+use Rattle.grid.specs.Part.{IsPartOf}
+use Rattle.heat_flow.specs.declared.flow.Transfer.{Transfer}
+use Rattle.heat_flow.specs.Flow.{HaveParts, IsHeatFlow, IsLeastCost, cost_of}
 use Rattle.heat_flow.proofs.Blanks.{blank}
 use Rattle.heat_flow.proofs.CostLemmas.{part_price, side_cost-transfers}
+use Rattle.transport.specs.Answer.{IfLeast}
+use Rattle.heat_flow.specs.Certificate.{IsCertified, heat_of_utility, utility_heat}
+use Rattle.transport.specs.declared.answer.Answer.{Answer}
+use Rattle.transport.specs.declared.answer.Answer.TheVariants.{Least, Stuck}
+use Rattle.plants.specs.Reach.{reach_between}
+use Rattle.plants.specs.Site.{streams_of}
+use Rattle.plants.specs.Table.{boiler, cooling, site_utilities}
+use Rattle.site.specs.Target.{AreSiteParts}
 use Rattle.plants.specs.declared.site.Site.{Site}
+use Rattle.reports.specs.Site.{boiler_heat}
+use Rattle.pinch.specs.Site.{IsLeastBoiler}
 
 -- a watt of the boiler costs 1
 abbrev boiler_price : Source → ℤ
@@ -23,19 +42,24 @@ module _ (site : Site) (hot cold : List Part) (parts : AreSiteParts site hot col
   hot_price p (inl (i, s, h)) = ap (λ q. q.price) h.is ∙ sym (ap (λ q. boiler_price q.source) h.is)
   hot_price p (inr (zero, u, h)) =
       ap (λ q. q.price) h.is ∙ sym (ap (λ (v : Utility). v.price) (same_Some (boiler site) u h.utility)) ∙ sym (ap (λ q. boiler_price q.source) h.is)
-  hot_price p (inr (suc zero, u, h)) = let clash : Cold ≡ Hot = ap (λ (v : Utility). v.side) (same_Some (cooling site) u h.utility) ∙ h.side_is in cc
+  hot_price p (inr (suc zero, u, h)) =
+      let clash : Cold ≡ Hot = ap (λ (v : Utility). v.side) (same_Some (cooling site) u h.utility) ∙ h.side_is in
+      cc
   hot_price p (inr (suc (suc i), u, h)) = absurd (none-some u h.utility)
 
   cold_price : (p : Part) → IsPartOf (streams_of site.plants) (site_utilities site) parts.grid Cold p → p.price ≡ pos 0
   cold_price p (inl (i, s, h)) = ap (λ q. q.price) h.is
-  cold_price p (inr (zero, u, h)) = let clash : Hot ≡ Cold = ap (λ (v : Utility). v.side) (same_Some (boiler site) u h.utility) ∙ h.side_is in cc
+  cold_price p (inr (zero, u, h)) =
+      let clash : Hot ≡ Cold = ap (λ (v : Utility). v.side) (same_Some (boiler site) u h.utility) ∙ h.side_is in
+      cc
   cold_price p (inr (suc zero, u, h)) = ap (λ q. q.price) h.is ∙ sym (ap (λ (v : Utility). v.price) (same_Some (cooling site) u h.utility))
   cold_price p (inr (suc (suc i), u, h)) = absurd (none-some u h.utility)
 
   -- what a transfer costs at its hot part
   hot_cost : (t : Transfer) → t.hot < length hot → part_price hot t.hot *ℤ t.heat ≡ heat_of_utility 0 Hot hot t
   hot_cost t within =
-      let p = get_or hot t.hot blank in let at = slice_get-get_or hot t.hot blank within in
+      let p = get_or hot t.hot blank in
+      let at = slice_get-get_or hot t.hot blank within in
       ap (λ price. price *ℤ t.heat) (hot_price p (parts.hot_parts.each t.hot blank within))
       ∙ times_price (same_source p.source (of_utility 0)) t.heat
       ∙ sym (ap (λ o. if option_map_or (λ (q : Part). same_source q.source (of_utility 0)) o false then t.heat else pos 0) at)
@@ -58,5 +82,8 @@ pub least_boiler : (site : Site) (parts : Parts) (answer : Answer) → AreSitePa
 least_boiler site parts (Least flow prices cost) are certified least =
     let cost_of_flow = λ (ts : List Transfer) (is : IsHeatFlow (reach_between site parts.hot parts.cold) parts.hot parts.cold ts). cost_is site parts.hot parts.cold are ts is.hot_indexes is.cold_indexes in
     let own : boiler_heat parts flow.transfers ≡ cost = sym (cost_of_flow flow.transfers certified.flow) ∙ certified.costs in
-    record { gives = own; least = λ others is. let bound = least.least others is in let other = cost_of_flow others is in omega (arith, ints, bound, other) }
+    record {
+      gives = own;
+      least = λ others is. let bound = least.least others is in let other = cost_of_flow others is in omega (arith, ints, bound, other);
+    }
 least_boiler site parts (Stuck cut) are certified least = tt

@@ -1,5 +1,6 @@
 -- Readers of networks pass over the line of the balance above a design.
-use Rattle.std.proofs.Common.{◌≡◌, ◌∙◌, ◌<◌, ◌∷◌, ◌++◌, ℕ, true, false, List, [], All, length, nat_lt, refl, ap, arith, codes}
+use Rattle.std.proofs.Common.{◌≡◌, ◌∙◌, ◌<◌, ◌∷◌, ◌++◌, ℕ, true, false, List, [], All, length, nat_lt, refl, ap, arith}
+use Rattle.std.specs.Prelude.{codes}
 use Rattle.std.specs.List.{list_all}
 use Rattle.std.proofs.lemmas.List.Elements.{All-cons, All-nil}
 use Rattle.stream_case.specs.declared.case.Case.{Case}

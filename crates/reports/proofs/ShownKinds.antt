@@ -1,5 +1,6 @@
 -- The kinds of what is shown: what the one function prints, the other one does not.
-use Rattle.std.proofs.Common.{◌≡◌, ℕ, ℤ, List, refl, IsTrue}
+use Rattle.std.proofs.Common.{◌≡◌, ℕ, ℤ, List, refl}
+use Rattle.std.specs.Prelude.{IsTrue}
 use Rattle.stream_case.specs.declared.case.Case.{Case}
 use Rattle.problem_table.specs.declared.target.Target.{Target}
 use Rattle.case_text.specs.declared.fault.CaseWhy.{CaseWhy}

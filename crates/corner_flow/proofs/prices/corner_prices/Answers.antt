@@ -1,4 +1,5 @@
-use Rattle.std.proofs.Common.{◌≡◌, ◌∙◌, sym, ap₂, subst, subst₂, map, FitsSigned, w32, w64, rules, All}
+use Rattle.std.proofs.Common.{◌≡◌, ◌∙◌, sym, ap₂, subst, subst₂, map, FitsSigned, w32, w64, rules}
+use Rattle.std.specs.Prelude.{All}
 use Rattle.std.proofs.lemmas.Int.{to_z-of_z}
 use Rattle.corner_flow.proofs.Words.{IsPartPrice, IsSupporting, corner_price, hot_target, reach_between, value_of}
 use Rattle.corner_flow.proofs.SideLemmas.{AreStandardParts, AreStandardParts-parts}

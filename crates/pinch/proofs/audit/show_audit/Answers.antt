@@ -1,13 +1,22 @@
 use Rattle.std.proofs.Common.{◌≡◌, ap, subst, sym, rules, FitsSigned, w32}
 use Rattle.std.proofs.lemmas.Int.{to_z-of_z}
-use Rattle.pinch.proofs.Words.{Accepted, Balance, IfListed, IsValidNetwork, IsVerdict, Rational, SaysExactly, sum_of}
+use Rattle.fractions.specs.Rationals.{Rational}
+use Rattle.network_audit.specs.Audit.{SaysExactly}
+use Rattle.network_audit.specs.Findings.{IsVerdict}
+use Rattle.network_audit.specs.Valid.{IsValidNetwork}
+use Rattle.network_audit.specs.declared.verdict.Balance.{Balance}
 use Rattle.network_audit.specs.declared.verdict.Verdict.TheVariants as verdict
+use Rattle.penalties.specs.Answers.{IfListed, sum_of}
+use Rattle.reports.specs.declared.shown.Shown.TheVariants.{Accepted}
 use Rattle.pinch.proofs.audit.show_audit.Goals as goal
 
 pub returns-in-Accepted : goal.returns-in-Accepted
 returns-in-Accepted c =
-    let case = c.args.case in let network = c.args.network in let balance = c.in-Accepted.balance in
-    let penalties = c.in_ok-penalties-in-Accepted.field-0 in let reference = c.reference_place.result in
+    let case = c.args.case in
+    let network = c.args.network in
+    let balance = c.in-Accepted.balance in
+    let penalties = c.in_ok-penalties-in-Accepted.field-0 in
+    let reference = c.reference_place.result in
     let fits : FitsSigned w32 reference = search rules in
     let is_verdict : IsVerdict case network (verdict.Accepted balance) =
     subst (λ a. IsVerdict a.case a.network (verdict.Accepted balance)) c.in_ok-auditor.ensures c.in-Accepted.ensures.verdict in

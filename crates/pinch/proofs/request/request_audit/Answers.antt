@@ -1,5 +1,7 @@
 use Rattle.std.proofs.Common.{refl}
-use Rattle.pinch.proofs.Words.{EndsIn, by_text, case_file, reading_of}
+use Rattle.pinch.specs.Case.{case_file}
+use Rattle.pinch.specs.Files.{EndsIn, by_text}
+use Rattle.pinch.specs.Reading.{reading_of}
 use Rattle.pinch.proofs.Early.{without_text, without_network}
 use Rattle.pinch.proofs.request.request_audit.Goals as goal
 

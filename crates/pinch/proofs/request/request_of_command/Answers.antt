@@ -1,5 +1,8 @@
 use Rattle.std.proofs.Common.{refl}
-use Rattle.pinch.proofs.Words.{EndsIn, by_text, case_file, reading_of, site_file}
+use Rattle.pinch.specs.Case.{case_file}
+use Rattle.pinch.specs.Files.{EndsIn, by_text}
+use Rattle.pinch.specs.Reading.{reading_of}
+use Rattle.pinch.specs.Site.{site_file}
 use Rattle.pinch.proofs.Early.{without_text}
 use Rattle.pinch.proofs.request.request_of_command.Goals as goal
 

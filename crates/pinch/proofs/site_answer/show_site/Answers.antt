@@ -1,12 +1,19 @@
 use Rattle.std.proofs.Common.{◌∙◌, ap, ap₂, map}
-use Rattle.pinch.proofs.Words.{AreSiteParts, SiteShown, SiteTable, sink_profile, source_profile}
+use Rattle.plants.specs.Profiles.{sink_profile, source_profile}
+use Rattle.plants.specs.SiteTable.{IsSiteTable}
+use Rattle.plants.specs.declared.table.SiteTable.{SiteTable}
+use Rattle.site.specs.Target.{AreSiteParts}
+use Rattle.reports.specs.declared.shown.Shown.TheVariants.{SiteShown}
 use Rattle.pinch.proofs.SiteCosts.{least_boiler}
 use Rattle.pinch.proofs.site_answer.show_site.Goals as goal
 
 pub returns : goal.returns
 returns c =
-    let site = c.args.site in let table = c.in_ok-table.table in let is = c.in_ok-table.ensures in
-    let answer = c.in_ok-answer.answer in let target = c.in_ok-answer.ensures in
+    let site = c.args.site in
+    let table = c.in_ok-table.table in
+    let is = c.in_ok-table.ensures in
+    let answer = c.in_ok-answer.answer in
+    let target = c.in_ok-answer.ensures in
     let parts : AreSiteParts site table.parts.hot table.parts.cold = record { grid = table.places; is_grid = is.places; hot_parts = is.hot; cold_parts = is.cold } in
     -- as it is shown
     let shown : SiteTable = record { places = table.places; parts = table.parts; reach = table.reach } in

@@ -1,4 +1,5 @@
-use Rattle.std.proofs.Common.{◌≡◌, take, string_bytes, flat_map}
+use Rattle.std.proofs.Common.{◌≡◌, take, string_bytes}
+use Rattle.std.specs.List.{flat_map}
 use Rattle.reports.specs.Flow.{move_line}
 use Rattle.reports.proofs.flow.move_lines.Given as goal
 

@@ -1,4 +1,5 @@
-use Rattle.std.proofs.Common.{◌≡◌, ◌∙◌, arith, get_or, to_z, of_z, sym, ap₂, rules, FitsSigned, w64, pos, ◌+ℤ◌}
+use Rattle.std.proofs.Common.{◌≡◌, ◌∙◌, arith, get_or, to_z, of_z, sym, ap₂, rules, FitsSigned, w64}
+use Rattle.std.specs.Prelude.{pos, ◌+ℤ◌}
 use Rattle.std.specs.Int.{w128}
 use Rattle.std.proofs.lemmas.Int.{ints, to_z-of_z}
 use Rattle.sums.proofs.SumLemmas.{int_sum_by-more}
@@ -12,8 +13,10 @@ no_transfer = record { hot = 0; cold = 0; heat = pos 0 }
 pub loop-transfer-preserved : goal.loop-transfer-preserved
 loop-transfer-preserved c =
     let f = heat_of_utility c.args.index c.args.side c.args.parts.now in
-    let i = c.loop-transfer.transfer-index in let ts = c.args.transfers.now in
-    let total = to_z w128 c.loop-transfer.total-bits in let value = c.from-total.result in
+    let i = c.loop-transfer.transfer-index in
+    let ts = c.args.transfers.now in
+    let total = to_z w128 c.loop-transfer.total-bits in
+    let value = c.from-total.result in
     let heat_fits : FitsSigned w64 c.heat_of_utility.result = search rules in
     let heat : value ≡ c.heat_of_utility.result = c.from-total.ensures ∙ to_z-of_z w64 c.heat_of_utility.result heat_fits in
     let is : value ≡ f (get_or ts i no_transfer) = heat ∙ c.heat_of_utility.ensures in

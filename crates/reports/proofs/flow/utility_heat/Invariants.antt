@@ -1,4 +1,5 @@
-use Rattle.std.proofs.Common.{◌≡◌, ◌*◌, ◌^◌, take, pos, neg_ℤ, ◌≤ℤ◌}
+use Rattle.std.proofs.Common.{◌≡◌, ◌*◌, ◌^◌, take}
+use Rattle.std.specs.Prelude.{pos, neg_ℤ, ◌≤ℤ◌}
 use Rattle.sums.specs.Sum.{int_sum_by}
 use Rattle.heat_flow.specs.Certificate.{heat_of_utility}
 use Rattle.reports.proofs.flow.utility_heat.Given as goal

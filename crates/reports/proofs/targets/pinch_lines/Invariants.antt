@@ -1,4 +1,5 @@
-use Rattle.std.proofs.Common.{◌≡◌, take, codes, string_bytes, flat_map}
+use Rattle.std.proofs.Common.{◌≡◌, take, codes, string_bytes}
+use Rattle.std.specs.List.{flat_map}
 use Rattle.reports.specs.Lines.{line}
 use Rattle.reports.proofs.targets.pinch_lines.Given as goal
 

@@ -1,4 +1,5 @@
-use Rattle.std.proofs.Common.{◌≡◌, take, string_bytes, pos, slice_index_or}
+use Rattle.std.proofs.Common.{◌≡◌, take, string_bytes}
+use Rattle.std.specs.Prelude.{pos, slice_index_or}
 use Rattle.reports.specs.Lines.{texts_from}
 use Rattle.reports.specs.Site.{profile_line}
 use Rattle.reports.proofs.total_site.profile_lines.Given as goal
