@@ -1,6 +1,8 @@
 -- The definitions compute on worked values.
-use Rattle.std.proofs.Common.{◌≡◌, ℕ, ℤ, pos, negsuc, refl, codes, Less}
+use Rattle.std.proofs.Common.{◌≡◌, ℕ, ℤ, pos, negsuc, refl}
+use Rattle.std.specs.Prelude.{codes}
 use Rattle.std.specs.Fmt.{digits}
+use Rattle.std.specs.declared.cmp.Ordering.TheVariants.{Less}
 use Rattle.fractions.specs.Lowest.{gcd, last_remainder}
 use Rattle.fractions.specs.Rationals.{Rational, fraction_text, lowest_form, minus, over, plus, ratio, rational_cmp, reciprocal, times, whole}
 
@@ -28,6 +30,10 @@ difference : numbers (minus (ratio (pos 1) 3) (ratio (pos 1) 2)) ≡ (negsuc 0, 
 unfolding minus ratio lowest_form gcd last_remainder
 difference = refl
 
+fine_sum : numbers (plus (ratio (pos 1) 281474976710656) (ratio (pos 1) 281474976710655)) ≡ (pos 562949953421311, 79228162514264056118567239680)
+unfolding plus ratio lowest_form gcd last_remainder
+fine_sum = refl
+
 product : numbers (times (whole (pos 75557863725914323419136)) (ratio (pos 1) 2)) ≡ (pos 37778931862957161709568, 1)
 unfolding times ratio lowest_form gcd last_remainder
 product = refl
@@ -43,3 +49,7 @@ below = refl
 text : fraction_text (ratio (negsuc 2) 6) ≡ codes "-1/2"
 unfolding ratio lowest_form gcd last_remainder digits
 text = refl
+
+whole_text : fraction_text (ratio (negsuc 11) 6) ≡ codes "-2"
+unfolding ratio lowest_form gcd last_remainder digits
+whole_text = refl

@@ -1,10 +1,31 @@
 -- The definitions compute on a worked network: a cold stream is split, overheated beside an exchanger, and mixed again.
-use Rattle.std.proofs.Common.{◌≡◌, ℕ, ℤ, pos, List, [], ◌∷◌, map, refl, codes}
+use Rattle.std.proofs.Common.{◌≡◌, ◌<◌, ℕ, zero, suc, ℤ, pos, true, List, [], ◌∷◌, map, refl, ap, subst, arith}
+use Rattle.std.specs.Prelude.{All, Contains, codes}
 use Rattle.std.specs.List.{enumerate_from}
-use Rattle.network_values.proofs.Words.{Branch, BranchValue, Case, Line, Network, Rational, Stream, Utility, Valuation, exchangers_of, gcd, height_at, heights, hot_heat, hot_target, last_remainder, lowest_form, minus, mix_penalties, pass_of, penalty, plus, positive_part, ratio, rational_cmp, stream_at, times, view_above, whole}
+use Rattle.std.specs.Ordering.{is_le}
+use Rattle.std.proofs.lemmas.Int.{ints}
+use Rattle.std.proofs.lemmas.List.Elements.{All-from_recursion}
+use Rattle.std.proofs.lemmas.Option.{same_Some}
+use Rattle.stream_case.specs.declared.case.Case.{Case}
 use Rattle.stream_case.specs.declared.source.Side.TheVariants as side
 use Rattle.stream_case.specs.declared.source.Source.TheVariants as source
+use Rattle.stream_case.specs.declared.stream.Stream.{Stream}
+use Rattle.stream_case.specs.declared.utility.Utility.{Utility}
+use Rattle.fractions.specs.Lowest.{gcd, last_remainder}
+use Rattle.fractions.specs.Rationals.{IsAtMost, IsBelow, Rational, lowest_form, minus, plus, ratio, rational_cmp, rational_zero, times, whole}
+use Rattle.fractions.specs.LowestForms.{same_from_fields}
+use Rattle.fractions.proofs.Comparisons.{Decides-is_le, below-whole}
+use Rattle.networks.specs.Lines.{exchangers_of, made_by, pass_of, stream_at}
+use Rattle.networks.specs.declared.network.Branch.{Branch}
+use Rattle.networks.specs.declared.network.Line.{Line}
 use Rattle.networks.specs.declared.network.Line.TheVariants as line
+use Rattle.networks.specs.declared.network.Network.{Network}
+use Rattle.network_values.specs.Heights.{positive_part, view_above}
+use Rattle.network_values.specs.Penalties.{height_at, heights, hot_heat, mix_penalties, penalty}
+use Rattle.network_values.specs.Sides.{KeepApproaches, KeepsApproach, side_run}
+use Rattle.network_values.specs.Values.{AreEnded, IsFullEnd, IsWholeValuation, Solves, Valuation, branch_side, duty_at, ended_by, ended_streams, last_value}
+use Rattle.network_values.specs.declared.values.BranchValue.{BranchValue}
+use Rattle.problem_table.specs.Deficit.{hot_target}
 
 -- the two numbers of a rational
 abbrev numbers : Rational → ℤ × ℕ
@@ -59,6 +80,92 @@ worked_values =
     ∷ value (pos 5) (pos 300) ∷ value (pos 5) (pos 400) ∷ value (pos 5) (pos 800) ∷ value (pos 10) (pos 600) ∷ value (pos 10) (pos 700) ∷ []
 
 -- ---- the network is a valid one
+
+at_most_by_test : (a b : Rational) → is_le (rational_cmp a b) ≡ true → IsAtMost a b
+at_most_by_test a b passes = (Decides-is_le a b).0 passes
+
+values_positive : All (λ v. IsBelow rational_zero v.cp) worked_values
+values_positive = All-from_recursion (λ v. IsBelow rational_zero v.cp) worked_values
+    (full, (half_more, (full, (full, (half, (half, (half, (half, (half_more, (half_more, tt))))))))))
+  where
+    full : IsBelow rational_zero (whole (pos 20))
+    full = below-whole (pos 0) (pos 20) (omega (arith, ints))
+
+    half_more : IsBelow rational_zero (whole (pos 10))
+    half_more = below-whole (pos 0) (pos 10) (omega (arith, ints))
+
+    half : IsBelow rational_zero (whole (pos 5))
+    half = below-whole (pos 0) (pos 5) (omega (arith, ints))
+
+values_solve : All (Solves worked_case worked_network worked_values) lines
+unfolding exchangers_of stream_at branch_side duty_at plus minus times ratio lowest_form gcd last_remainder
+values_solve =
+    All-from_recursion (Solves worked_case worked_network worked_values) lines (
+      tt,
+      (
+        tt,
+        (
+          tt,
+          (
+            tt,
+            (
+              record { size = refl; heat = same_from_fields _ _ refl refl },
+              (
+                record { size = refl; heat = same_from_fields _ _ refl refl },
+                (
+                  tt,
+                  (
+                    record { first_size = refl; sizes = same_from_fields _ _ refl refl; first_state = refl; second_state = refl },
+                    (
+                      record { size = refl; heat = same_from_fields _ _ refl refl },
+                      (
+                        record { size = refl; heat = same_from_fields _ _ refl refl },
+                        (
+                          record { size = same_from_fields _ _ refl refl; heat = same_from_fields _ _ refl refl },
+                          (record { size = refl; heat = same_from_fields _ _ refl refl }, (tt, tt)),
+                        ),
+                      ),
+                    ),
+                  ),
+                ),
+              ),
+            ),
+          ),
+        ),
+      ),
+    )
+
+whole_valuation : IsWholeValuation worked_case worked_network worked_values
+unfolding made_by
+whole_valuation = record { within = omega arith; count = refl; own = refl; positive = values_positive; solved = values_solve }
+
+are_ended : AreEnded worked_case worked_network worked_values
+unfolding ended_by ended_streams stream_at
+are_ended = record {
+  full = All-from_recursion (IsFullEnd worked_case worked_network worked_values) (3 ∷ 9 ∷ [])
+      (λ s at. ap last_value (same_Some hot_stream s at), (λ s at. ap last_value (same_Some cold_stream s at), tt));
+  each = each;
+}
+  where
+    each : (stream : ℕ) → stream < 2 → Contains (0 ∷ 1 ∷ []) stream
+    each zero within = (0, omega arith, refl)
+    each (suc zero) within = (1, omega arith, refl)
+    each (suc (suc stream)) within = absurd (omega (arith, within))
+
+keep_approaches : KeepApproaches worked_case worked_network worked_values
+unfolding exchangers_of pass_of stream_at branch_side side_run plus ratio rational_cmp lowest_form gcd last_remainder
+keep_approaches zero e at = subst (KeepsApproach worked_case worked_network worked_values 0) (same_Some _ e at)
+    (record { hot_end = at_most_by_test _ _ refl; cold_end = at_most_by_test _ _ refl })
+keep_approaches (suc zero) e at =
+    subst (KeepsApproach worked_case worked_network worked_values 1) (same_Some _ e at)
+    (record { hot_end = at_most_by_test _ _ refl; cold_end = at_most_by_test _ _ refl })
+keep_approaches (suc (suc zero)) e at =
+    subst (KeepsApproach worked_case worked_network worked_values 2) (same_Some _ e at)
+    (record { hot_end = at_most_by_test _ _ refl; cold_end = at_most_by_test _ _ refl })
+keep_approaches (suc (suc (suc zero))) e at =
+    subst (KeepsApproach worked_case worked_network worked_values 3) (same_Some _ e at)
+    (record { hot_end = at_most_by_test _ _ refl; cold_end = at_most_by_test _ _ refl })
+keep_approaches (suc (suc (suc (suc number)))) e at = cc at
 
 -- ---- its heat and its penalties
 
