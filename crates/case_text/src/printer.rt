@@ -22,11 +22,7 @@ fn contribution_line(alloc: Global, case: &Case) -> Result<String, AllocError>
 
 /// The field of a source's contribution, in tenths of °C: it is empty where that is the case's.
 #[tactic(auto, unfolding(crate::specs::Printed::contribution_field))]
-fn contribution_field(
-    alloc: Global,
-    case: &Case,
-    contribution: i32,
-) -> Result<String, AllocError>
+fn contribution_field(alloc: Global, case: &Case, contribution: i32) -> Result<String, AllocError>
     ensures { IfOk result (λ f. string_bytes f ≡ contribution_field case.now contribution) }
 {
     if contribution == case.contribution {
@@ -57,7 +53,10 @@ fn utility_end(alloc: Global, case: &Case, utility: &Utility) -> Result<String, 
     ensures { IfOk result (λ end. string_bytes end ≡ fields_text (drop 3 (utility_row case.now utility.now))) }
 {
     let own = contribution_field(alloc, case, utility.contribution)?;
-    format!(in alloc; ",{},{},{},{own}\n", utility.least, utility.most, utility.price)
+    format!(in alloc;
+        ",{},{},{},{own}\n",
+        utility.least, utility.most, utility.price
+    )
 }
 
 /// The line of a utility.

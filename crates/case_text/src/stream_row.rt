@@ -12,7 +12,9 @@ use crate::entry::{Entry, StreamData};
 use crate::fault::CaseWhy;
 use crate::found::Found;
 use csv::ByteRecord;
-use rows::{are_empty, flow_rate, name_in, number_in, optional_number_in, own_contribution, temperature};
+use rows::{
+    are_empty, flow_rate, name_in, number_in, optional_number_in, own_contribution, temperature,
+};
 use stream_case::{MOST_STREAMS, Side};
 
 /// Whether no stream may have this name.
