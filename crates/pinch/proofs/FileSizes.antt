@@ -1,5 +1,5 @@
 -- The text of a design of few lines fits in a file.
-use Rattle.std.proofs.Common.{◌≡◌, ◌≤◌, ◌+◌, ◌∷◌, ◌++◌, ℕ, ℤ, pos, negsuc, Bool, true, false, List, [], length, refl, arith, length-append}
+use Rattle.std.proofs.Common.{◌≤◌, ◌+◌, ◌∷◌, ◌++◌, ◌^◌, ◌==◌, ℕ, ℤ, pos, negsuc, suc, Bool, true, false, List, [], length, arith, length-append}
 use Rattle.std.specs.Prelude.{codes, if◌then◌else◌, unsigned_abs}
 use Rattle.std.specs.Fmt.{decimal, signed_decimal}
 use Rattle.std.proofs.lemmas.Fmt.{length-decimal-le_wide}
