@@ -3,6 +3,7 @@ mod Complete
 mod Designs
 mod Early
 mod Ends
+mod FileSizes
 mod Formats
 mod Plain
 mod Printable

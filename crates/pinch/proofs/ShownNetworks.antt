@@ -14,6 +14,7 @@ use Rattle.network_text.proofs.back.Law.{shape-is_network}
 use Rattle.reports.specs.declared.shown.Shown.TheVariants as show
 use Rattle.reports.proofs.DesignText.{design-statements}
 use Rattle.pinch.specs.Design.{IsShownNetwork}
+use Rattle.pinch.proofs.FileSizes.{design_fits}
 
 pub shown_network : (c : Case) (network : Network) (balance : Balance) → IsComplete c → HasShape c network → IsValidNetwork c network → HasNoFinding c network → balance ≡ balance_of c network
     → IsShownNetwork c network balance (show.Design c network balance)
@@ -26,5 +27,6 @@ shown_network c network balance complete shape valid accepted sums =
       accepted = accepted;
       sums = sums;
       read_back = λ counts. subst (λ statements. IsNetwork c statements network) (sym (design-statements c network balance within)) (shape-is_network c network complete shape counts);
+      fits = design_fits c network balance complete shape within;
       is = refl;
     }

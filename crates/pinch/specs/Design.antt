@@ -1,6 +1,7 @@
 -- What `design` shows of a completed case.
-use Rattle.std.specs.Prelude.{◌≡◌, map}
+use Rattle.std.specs.Prelude.{◌≡◌, ◌≤◌, length, map}
 use Rattle.std.specs.List.{enumerate_from}
+use Rattle.pinch_outside.specs.declared.limits.TheConstants.{MAX_FILE}
 use Rattle.stream_case.specs.declared.case.Case.{Case}
 use Rattle.stream_case.specs.Case.{IsComplete, IsStandard, completed}
 use Rattle.fractions.specs.Rationals.{rational_zero, whole}
@@ -18,6 +19,7 @@ use Rattle.network_audit.specs.Balance.{balance_of}
 use Rattle.network_audit.specs.Findings.{HasNoFinding}
 use Rattle.network_audit.specs.Valid.{IsValidNetwork}
 use Rattle.network_audit.specs.declared.verdict.Balance.{Balance}
+use Rattle.design_lines.specs.Drawn.{HasFewLines}
 use Rattle.interval_design.specs.Courses.{exchanger_of}
 use Rattle.reports.specs.Design.{design_text}
 use Rattle.reports.specs.declared.shown.Shown.{Shown}
@@ -25,7 +27,7 @@ use Rattle.reports.specs.declared.shown.Shown.TheVariants as show
 use Rattle.pinch.specs.Flow.{IsCaseAnswer}
 
 -- a network of a completed case is shown with its balance: it is valid, and an audit finds nothing in it. Where it keeps the counts of a text, what is
--- printed is read as this network
+-- printed is read as this network; where it has few lines, what is printed fits in a file
 pub record IsShownNetwork (c : Case) (network : Network) (balance : Balance) (shown : Shown) : Type 0 where
   pub complete : IsComplete c
   pub shape : HasShape c network
@@ -33,6 +35,7 @@ pub record IsShownNetwork (c : Case) (network : Network) (balance : Balance) (sh
   pub accepted : HasNoFinding c network
   pub sums : balance ≡ balance_of c network
   pub read_back : KeepsCounts network → IsNetwork c (statements_of (design_text c network balance)) network
+  pub fits : HasFewLines network → length (design_text c network balance) ≤ MAX_FILE
   pub is : shown ≡ show.Design c network balance
 
 -- the network realises a heat flow: its exchangers are the transfers, between the sources of their parts and with their heat, and it costs what the
@@ -44,9 +47,9 @@ pub record IsDesignOf (c : Case) (parts : Parts) (flow : Flow) (shown : Shown) :
   pub exchangers : exchangers_of network.lines ≡ map (exchanger_of parts.hot parts.cold) (enumerate_from 0 flow.transfers)
   pub costs : balance.cost ≡ whole (cost_of parts.hot parts.cold flow.transfers)
 
--- a design that needs no more hot utility than the hot target, and keeps the counts of a text
+-- a design that needs no more hot utility than the hot target, keeps the counts of a text, and has few lines
 abbrev pub IsTightDesign : Shown → Type 0
-IsTightDesign (show.Design c network balance) = (balance.excess ≡ rational_zero) × KeepsCounts network
+IsTightDesign (show.Design c network balance) = (balance.excess ≡ rational_zero) × KeepsCounts network × HasFewLines network
 IsTightDesign other = ⊥
 
 -- what is shown of what answers a case: a network of the heat flow, which for a standard case needs no more hot utility than the hot target; or the cut

@@ -13,6 +13,7 @@ returns c =
       shows = shown_network c.args.case c.in_ok-network.network c.in_ok-balance.balance c.requires.complete made.shape made.valid made.accepted sums;
       drawn = made.drawn;
       counts = made.counts;
+      few_lines = made.few_lines;
       vertical = made.vertical;
       tight = ap (λ (b : Balance). b.excess) (sums ∙ made.balance);
       costs = ap (λ (b : Balance). b.cost) (sums ∙ made.balance);
