@@ -1,5 +1,5 @@
 -- The case of a file that is accepted is valid.
-use Rattle.std.proofs.Common.{◌≡◌, ◌≢◌, ◌∙◌, ◌∷◌, ◌++◌, ◌<◌, ◌≤◌, ℕ, zero, suc, ℤ, pos, true, not, List, [], All, AllPairs, Option, Some, None, Result, Ok, Err, IfOk, IfSome, option_map, unwrap_or, length, slice_get, refl, sym, arith, append_assoc, length-append}
+use Rattle.std.proofs.Common.{◌≡◌, ◌≢◌, ◌∙◌, ◌∷◌, ◌++◌, ◌<◌, ◌≤◌, ℕ, zero, suc, ℤ, pos, true, not, List, [], All, AllPairs, Option, Some, None, Result, Ok, Err, IfOk, IfSome, option_map, unwrap_or, length, slice_get, sym, arith, append_assoc, length-append}
 use Rattle.first_fault.specs.Outcome.{given_by}
 use Rattle.std.specs.Map.{keys_of}
 use Rattle.std.proofs.lemmas.Bool.Decides.{nat_tests}

@@ -1,13 +1,10 @@
 -- Appending exactly the links that meet a predicate: none, one more, and one part after another.
-use Rattle.std.proofs.Common.{◌≡◌, ◌∙◌, ◌⊎◌, ⊎_elim, sym, ap, subst, ℕ, ◌+◌, ◌≤◌, List, [], ◌∷◌, ◌++◌, length-append, append_assoc, append-nil, arith}
+use Rattle.std.proofs.Common.{◌≡◌, ◌∙◌, ◌⊎◌, ⊎_elim, sym, ap, subst, ℕ, ◌+◌, ◌≤◌, List, [], ◌∷◌, ◌++◌, length-append, append_assoc, arith}
 use Rattle.std.specs.Prelude.{Contains}
 use Rattle.std.proofs.lemmas.List.{length_push}
-use Rattle.std.proofs.lemmas.List.Elements.{All-append, All-nil, All-push, All-weaker, Contains-append_left, Contains-append_right, Contains-push}
+use Rattle.std.proofs.lemmas.List.Elements.{All-append, All-push, All-weaker, Contains-append_left, Contains-append_right, Contains-push}
 use Rattle.flow_net.specs.declared.net.Link.{Link}
 use Rattle.chains.specs.Making.{Appends}
-
-pub appends-none : (P : Link → Type 0) (links : List Link) → ((l : Link) → P l → ⊥) → Appends P 0 links links
-appends-none P links none = record { made = []; is = sym (append-nil links); each = All-nil P; every = λ l p. absurd (none l p); few = omega arith }
 
 -- the same links, said in another way
 pub appends-same : (P Q : Link → Type 0) (m n : ℕ) (before after : List Link) → ((l : Link) → P l → Q l) → ((l : Link) → Q l → P l) → m ≤ n → Appends P m before after → Appends Q n before after

@@ -9,7 +9,7 @@ use Rattle.std.proofs.lemmas.Bool.{cases_eq, eq-eqb, false≢true, ne_eqb}
 use Rattle.std.proofs.lemmas.Cmp.{by_ranked, ranked}
 use Rattle.std.proofs.lemmas.Int.{ints}
 use Rattle.std.proofs.lemmas.List.{get_or-take, get_or_default, length-set, length-take-le, take_all, take_more, take_more_set}
-use Rattle.std.proofs.lemmas.List.Elements.{All-contains, All-head, All-nil, All-pop, All-push, All-weaker, Contains-append_left, Contains-push}
+use Rattle.std.proofs.lemmas.List.Elements.{All-contains, All-head, All-pop, All-push, All-weaker, Contains-append_left, Contains-push}
 use Rattle.std.proofs.lemmas.List.Quantifiers.{all_pairs_push}
 use Rattle.std.specs.List.Sorted.{IsPermutation, IsSortedByKey}
 use denote.Param.Members.{Mut}
@@ -20,7 +20,7 @@ use Rattle.stream_case.specs.declared.source.Side.{Side}
 use Rattle.stream_case.specs.declared.source.Side.TheVariants.{Hot, Cold}
 use Rattle.sums.specs.Sum.{int_sum_by}
 use Rattle.sums.proofs.IntegerLemmas.{if_between}
-use Rattle.sums.proofs.OrderLemmas.{AllPairs-across, AllPairs-front, AllPairs-nil}
+use Rattle.sums.proofs.OrderLemmas.{AllPairs-across, AllPairs-front}
 use Rattle.sums.proofs.SumLemmas.{int_sum_by-append, int_sum_by-more}
 use Rattle.heat_flow.specs.declared.flow.Transfer.{Transfer}
 use Rattle.heat_flow.specs.Flow.{heat_at, part_index, precedes}
@@ -150,15 +150,6 @@ share_at hots most unsorted shares same next at_cold positive fits i d within =
     }
 
 module _ (hots : ℕ) where
-  pub AreGathered-none : AreGathered hots [] []
-  AreGathered-none = record {
-    positive = All-nil (λ t. pos 0 <ℤ t.heat);
-    ordered = AllPairs-nil precedes;
-    pairs = All-nil (λ t. (s : Share) × Contains [] s × (s.hot ≡ t.hot) × (s.node ≡ hots + t.cold));
-    given = λ a. refl;
-    taken = λ b. refl;
-  }
-
   -- one of the shares is of the transfer's pair
   abbrev HasShare : List Share → Transfer → Type 0
   HasShare shares t = (s : Share) × Contains shares s × (s.hot ≡ t.hot) × (s.node ≡ hots + t.cold)

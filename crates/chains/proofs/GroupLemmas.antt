@@ -14,7 +14,7 @@ use Rattle.stream_case.specs.declared.case.Case.{Case}
 use Rattle.stream_case.specs.Case.{side_of, is_forbidden, IsComplete}
 use Rattle.stream_case.proofs.CompleteLemmas.{AreStreams-IsComplete, length-utilities}
 use Rattle.sums.proofs.ListLemmas.{All-slice_get, slice_get_push}
-use Rattle.sums.proofs.OrderLemmas.{AllPairs-nil, Lists-same}
+use Rattle.sums.proofs.OrderLemmas.{Lists-same}
 use Rattle.chains.specs.declared.net.Group.{Group}
 use Rattle.chains.specs.declared.net.TheConstants.{MOST_INNER_NODES}
 use Rattle.chains.specs.ChainNet.{StandInLine}
@@ -39,9 +39,6 @@ module _ (c : Case) (m p q : Source) where
   both_as : HaveSamePartners c m p → HaveSamePartners c m q → HaveSamePartners c p q
   both_as of_p of_q cold side = sym (of_p cold side) ∙ of_q cold side
 
-  as_the_other : HaveSamePartners c m p → HaveSamePartners c p q → HaveSamePartners c m q
-  as_the_other of_p same cold side = of_p cold side ∙ same cold side
-
 -- ---- the groups so far
 
 -- the sources of a group are those to which the same is permitted as to one of these sources
@@ -64,15 +61,6 @@ pub record HoldsGroups (c : Case) (early : List Source) (first ranks : ℕ) (gro
   pub apart : AllPairs (AreApart c) groups
   pub in_line : StandInLine first ranks groups
   pub few : length groups ≤ length early
-
-pub groups-none : (c : Case) (first ranks : ℕ) → HoldsGroups c [] first ranks []
-groups-none c first ranks = record {
-  each = All-nil (IsGroupFrom c []);
-  every = All-nil (StandsInOne []);
-  apart = AllPairs-nil (AreApart c);
-  in_line = λ i g at. cc at;
-  few = omega arith;
-}
 
 module _ (c : Case) (early : List Source) (first ranks : ℕ) (groups : List Group) (h : HoldsGroups c early first ranks groups) (source : Source) where
   more_early : (g : Group) → IsGroupFrom c early g → IsGroupFrom c (early ++ source ∷ []) g

@@ -23,14 +23,3 @@ module _ (links : List Link) where
   pub IsPath-keeps : (P : ℕ → Type 0) → ((l : Link) → Contains links l → P l.from → P l.to) → (path : List Link) (u v : ℕ) → IsPath links path u v → P u → P v
   IsPath-keeps P step [] u v same here = subst P same here
   IsPath-keeps P step (l ∷ path) u v is here = IsPath-keeps P step path l.to v is.2 (step l is.0 (subst P (sym is.1) here))
-
-  pub LeadsTo-keeps : (P : ℕ → Type 0) → ((l : Link) → Contains links l → P l.from → P l.to) → (u v : ℕ) → LeadsTo links u v → P u → P v
-  LeadsTo-keeps P step u v leads here = IsPath-keeps P step leads.0 u v leads.1 here
-
-  -- a path of these links is one of more
-  IsPath-more : (more : List Link) → ((l : Link) → Contains links l → Contains more l) → (path : List Link) (u v : ℕ) → IsPath links path u v → IsPath more path u v
-  IsPath-more more in_more [] u v same = same
-  IsPath-more more in_more (l ∷ path) u v is = (in_more l is.0, is.1, IsPath-more more in_more path l.to v is.2)
-
-  pub LeadsTo-more : (more : List Link) → ((l : Link) → Contains links l → Contains more l) → (u v : ℕ) → LeadsTo links u v → LeadsTo more u v
-  LeadsTo-more more in_more u v leads = (leads.0, IsPath-more more in_more leads.0 u v leads.1)

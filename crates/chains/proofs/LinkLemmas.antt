@@ -16,7 +16,7 @@ use Rattle.chains.specs.ChainNet.{open_link, IsEntering, IsOnward, IsLeaving, Is
 use Rattle.chains.specs.Groups.{AreGroups}
 use Rattle.chains.specs.Making.{Appends, IsStep}
 use Rattle.chains.specs.Ranks.{rank_of, rank_count}
-use Rattle.chains.proofs.Appending.{appends-none, appends-push, appends-same, appends-then}
+use Rattle.chains.proofs.Appending.{appends-push, appends-same, appends-then}
 
 slice_get-end : {X : Type 0} (xs : List X) (x : X) → slice_get (xs ++ x ∷ []) (length xs) ≡ Some x
 slice_get-end [] x = refl
@@ -26,9 +26,6 @@ none_in_nil : {X : Type 0} (x : X) → Contains [] x → ⊥
 none_in_nil x (k, within, is) = omega (arith, within)
 
 -- ---- entering links
-
-pub entering-none : (c : Case) (places : List ℤ) (cold : List Part) (groups : List Group) (links : List Link) → Appends (IsEntering c places [] cold groups) 0 links links
-entering-none c places cold groups links = appends-none (IsEntering c places [] cold groups) links (λ l e. cc e.part_is)
 
 module _ (c : Case) (places : List ℤ) (hot cold : List Part) (groups : List Group) (p : Part) where
   entering_stays : (l : Link) → IsEntering c places hot cold groups l → IsEntering c places (hot ++ p ∷ []) cold groups l
@@ -76,13 +73,6 @@ node_at_most P groups node n most (k, g, within, is, (starts, stands)) = subst (
 
 -- ---- onward links
 
-pub steps-none : (first : ℕ) (links : List Link) → Appends (IsStep first 1) 0 links links
-steps-none first links = appends-none (IsStep first 1) links (λ l s. let within = s.within in omega (arith, within))
-
-pub steps-few : (first ranks : ℕ) (links : List Link) → ranks ≤ 1 → Appends (IsStep first ranks) (ranks - 1) links links
-steps-few first ranks links few =
-    appends-same (IsStep first 1) (IsStep first ranks) 0 (ranks - 1) links links (λ l s. let within = s.within in absurd (omega (arith, within))) (λ l s. let within = s.within in absurd (omega (arith, within, few))) (omega arith) (steps-none first links)
-
 -- one node more
 pub steps-push : (first rank : ℕ) (before after now : List Link) (l : Link) → 1 ≤ rank → Appends (IsStep first rank) (rank - 1) before after → now ≡ after ++ l ∷ [] → l ≡ open_link (first + (rank - 1)) (first + rank) → Appends (IsStep first (rank + 1)) (rank + 1 - 1) before now
 steps-push first rank before after now l some h is link_is =
@@ -104,9 +94,6 @@ steps-push first rank before after now l some h is link_is =
 
 abbrev pub IsFree : Case → Group → Source → Type 0
 IsFree c g cold = All (λ hot. is_forbidden c.forbids hot cold ≡ false) g.sources
-
-pub leaving-none : (c : Case) (places : List ℤ) (hot : List Part) (groups : List Group) (links : List Link) → Appends (IsLeaving c places hot [] groups) 0 links links
-leaving-none c places hot groups links = appends-none (IsLeaving c places hot [] groups) links (λ l e. cc e.part_is)
 
 module _ (c : Case) (places : List ℤ) (hot cold : List Part) (g : Group) (p : Part) (m : ℕ) (before after : List Link) (h : Appends (IsLeaving c places hot cold (g ∷ [])) m before after) where
   leaving_stays : (l : Link) → IsLeaving c places hot cold (g ∷ []) l → IsLeaving c places hot (cold ++ p ∷ []) (g ∷ []) l

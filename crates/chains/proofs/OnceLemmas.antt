@@ -1,5 +1,5 @@
 -- Lists of exactly the values that meet a predicate, each once: one value more, and what a loop over such a list keeps.
-use Rattle.std.proofs.Common.{◌≡◌, ◌≢◌, ◌⊎◌, ⊎_elim, inl, inr, sym, subst, ℕ, ◌+◌, ◌<◌, List, [], ◌∷◌, ◌++◌, length, get_or, take, arith}
+use Rattle.std.proofs.Common.{◌≡◌, ◌≢◌, ◌⊎◌, ⊎_elim, inl, inr, sym, subst, ℕ, ◌+◌, ◌<◌, List, [], ◌∷◌, ◌++◌, length, get_or, take}
 use Rattle.std.specs.Prelude.{All, AllPairs, Contains}
 use Rattle.std.proofs.lemmas.List.{take_more}
 use Rattle.std.proofs.lemmas.List.Elements.{All-append, All-cons, All-contains, All-nil, All-weaker, Contains-append_left, Contains-push, Contains-push_cases}
@@ -8,12 +8,6 @@ use Rattle.sums.proofs.OrderLemmas.{AllPairs-append, AllPairs-before, AllPairs-n
 use Rattle.chains.specs.Making.{ListsOnce}
 
 module _ {X : Type 0} where
-  not_in_nil : (x : X) → Contains [] x → ⊥
-  not_in_nil x (k, within, is) = omega (arith, within)
-
-  pub once-none : (P : X → Type 0) → ((x : X) → P x → ⊥) → ListsOnce P []
-  once-none P none = record { ordered = AllPairs-nil (λ a b. a ≢ b); each = All-nil P; every = λ x p. absurd (none x p) }
-
   -- one value more
   pub once-push : (P Q : X → Type 0) (xs : List X) (x : X) → ListsOnce P xs → (P x → ⊥) → Q x → ((y : X) → P y → Q y) → ((y : X) → Q y → P y ⊎ (y ≡ x)) → ListsOnce Q (xs ++ x ∷ [])
   once-push P Q xs x h new own there back = record {
@@ -28,9 +22,6 @@ module _ {X : Type 0} where
   -- of the first n values, those that meet P
   abbrev pub KeptSoFar : (X → Type 0) → List X → ℕ → List X → Type 0
   KeptSoFar P xs n kept = ListsOnce (λ x. Contains (take n xs) x × P x) kept
-
-  pub kept-none : (P : X → Type 0) (xs : List X) → KeptSoFar P xs 0 []
-  kept-none P xs = once-none (λ x. Contains [] x × P x) (λ x h. not_in_nil x h.0)
 
   module _ (P : X → Type 0) (xs : List X) (differ : AllPairs (λ a b. a ≢ b) xs) (i : ℕ) (within : i < length xs) (x : X) (is : x ≡ get_or xs i x) (kept : List X) (before : KeptSoFar P xs i kept) where
     new_here : Contains (take i xs) x → ⊥

@@ -28,16 +28,6 @@ sum_push : {X : Type 0} (f : X → ℤ) (xs : List X) (x : X) → int_sum_by f (
 sum_push f xs x = let both = int_sum_by-append f xs (x ∷ []) in omega (arith, ints)
 
 module _ (hots : ℕ) (links : List Link) (flow : List ℤ) where
-  pub HaveSetOut-none : HaveSetOut hots links flow 0 [] []
-  HaveSetOut-none = record {
-    first_shares = All-nil (IsFirstShare hots links);
-    ways_stand = All-nil (IsWay hots links);
-    some_left = All-nil (λ w. pos 0 <ℤ w.left);
-    given = λ a within. refl;
-    goes_on = λ v behind. refl;
-    enters = λ v. refl;
-  }
-
   module _ (n : ℕ) (shares : List Share) (ways : List Way) (before : HaveSetOut hots links flow n shares ways) where
     abbrev link : Link
     link = link_at links n

@@ -15,7 +15,7 @@ use Rattle.sums.proofs.CountLemmas.{count_by-cons}
 use Rattle.sums.proofs.ListLemmas.{option_map-slice_get-append}
 use Rattle.sums.proofs.OrderLemmas.{Lists-same}
 use Rattle.chains.specs.Making.{AreSources}
-use Rattle.chains.proofs.OnceLemmas.{once-none, once-push}
+use Rattle.chains.proofs.OnceLemmas.{once-push}
 
 -- ---- the side at an index, with one element more
 
@@ -51,13 +51,6 @@ count_push side (x ∷ streams) s =
     omega (arith, before, after, rest)
 
 -- ---- streams
-
-pub sources-none : (side : Side) → AreSources [] [] side []
-sources-none side = record { listed = once-none (λ source. side_among [] [] source ≡ Some side) none; few = omega arith }
-  where
-    none : (source : Source) → side_among [] [] source ≡ Some side → ⊥
-    none (of_stream i) e = cc e
-    none (of_utility i) e = cc e
 
 module _ (side : Side) (streams : List Stream) (s : Stream) (sources : List Source) (h : AreSources streams [] side sources) where
   abbrev Among : List Stream → Source → Type 0

@@ -1,5 +1,5 @@
 -- One split, one pass and one mix of a stage.
-use Rattle.std.proofs.Common.{◌≡◌, ◌∙◌, ◌<◌, ◌≤◌, ◌+◌, ◌-◌, ◌*◌, ◌∷◌, ◌++◌, ℕ, suc, List, [], get_or, length, drop, sym, ap, arith}
+use Rattle.std.proofs.Common.{◌≡◌, ◌∙◌, ◌<◌, ◌+◌, ◌-◌, ◌*◌, ◌∷◌, ◌++◌, ℕ, suc, List, [], get_or, length, drop, sym, ap, arith}
 use Rattle.std.proofs.Math.Seq.{drop-cons}
 use Rattle.std.proofs.lemmas.List.{append_assoc, drop_all}
 use Rattle.fractions.specs.Rationals.{rational_zero}
@@ -12,20 +12,8 @@ use Rattle.design_lines.specs.declared.stage.Share.{Share}
 no_share : Share
 no_share = record { exchanger = 0; cp = rational_zero }
 
-two_more : (shares : List Share) (i : ℕ) (d : Share) → suc i < length shares → drop i shares ≡ get_or shares i d ∷ get_or shares (suc i) d ∷ drop (suc (suc i)) shares
-two_more shares i d within = drop-cons shares i d (omega (arith, within)) ∙ ap (λ ss. get_or shares i d ∷ ss) (drop-cons shares (suc i) d within)
-
 one_left : (shares : List Share) (i : ℕ) (d : Share) → suc i ≡ length shares → drop i shares ≡ get_or shares i d ∷ []
 one_left shares i d last = drop-cons shares i d (omega (arith, last)) ∙ ap (λ ss. get_or shares i d ∷ ss) (drop_all (suc i) shares (omega (arith, last)))
-
-pub splits_more : (free rest : ℕ) (shares : List Share) (i : ℕ) (d : Share) → suc i < length shares
-    → splits free rest (drop i shares) ≡ line.Split rest free (get_or shares i d).cp (free + 1) ∷ splits (free + 2) (free + 1) (drop (suc i) shares)
-splits_more free rest shares i d within =
-    ap (splits free rest) (two_more shares i d within)
-    ∙ ap (λ ss. line.Split rest free (get_or shares i d).cp (free + 1) ∷ splits (free + 2) (free + 1) ss) (sym (drop-cons shares (suc i) d within))
-
-pub rest_more : (free rest : ℕ) (shares : List Share) (i : ℕ) (d : Share) → suc i < length shares → rest_branch free rest (drop i shares) ≡ rest_branch (free + 2) (free + 1) (drop (suc i) shares)
-rest_more free rest shares i d within = ap (rest_branch free rest) (two_more shares i d within) ∙ ap (rest_branch (free + 2) (free + 1)) (sym (drop-cons shares (suc i) d within))
 
 pub splits_all : (free rest : ℕ) (shares : List Share) (i : ℕ) → suc i ≡ length shares → splits free rest (drop i shares) ≡ []
 splits_all free rest shares i last = ap (splits free rest) (one_left shares i no_share last)
@@ -36,21 +24,6 @@ rest_all free rest shares i last = ap (rest_branch free rest) (one_left shares i
 -- the passes of the shares from an index on
 abbrev pub passes_from : ℕ → ℕ → ℕ → List Share → List Line
 passes_from to branch rest shares = passes to (share_branches branch rest shares) shares
-
-pub passes_more : (to branch rest : ℕ) (shares : List Share) (i : ℕ) (d : Share) → suc i < length shares
-    → passes_from to branch rest (drop i shares) ≡ line.Pass branch (get_or shares i d).exchanger to ∷ passes_from (to + 1) (branch + 2) rest (drop (suc i) shares)
-passes_more to branch rest shares i d within =
-    ap (passes_from to branch rest) (two_more shares i d within)
-    ∙ ap (λ ss. line.Pass branch (get_or shares i d).exchanger to ∷ passes_from (to + 1) (branch + 2) rest ss) (sym (drop-cons shares (suc i) d within))
-
-pub passes_last : (to branch rest : ℕ) (shares : List Share) (i : ℕ) (d : Share) → suc i ≡ length shares
-    → passes_from to branch rest (drop i shares) ≡ line.Pass rest (get_or shares i d).exchanger to ∷ passes_from (to + 1) (branch + 2) rest (drop (suc i) shares)
-passes_last to branch rest shares i d last =
-    ap (passes_from to branch rest) (one_left shares i d last)
-    ∙ ap (λ ss. line.Pass rest (get_or shares i d).exchanger to ∷ passes_from (to + 1) (branch + 2) rest ss) (sym (drop_all (suc i) shares (omega (arith, last))))
-
-pub passes_all : (to branch rest : ℕ) (shares : List Share) (i : ℕ) → length shares ≤ i → passes_from to branch rest (drop i shares) ≡ []
-passes_all to branch rest shares i upto = ap (passes_from to branch rest) (drop_all i shares upto)
 
 pub mixes_more : (n to first second m after beside : ℕ) → n ≡ suc m → after ≡ to + 1 → beside ≡ second + 1 → mixes n to first second ≡ line.Mix first second to ∷ mixes m after to beside
 mixes_more n to first second m after beside one two three =

@@ -37,7 +37,6 @@ use Rattle.heat_flow.specs.Cuts.{parts_of}
 use Rattle.heat_flow.specs.Flow.{HaveParts, IsHeatFlow, KeepsRanges, heat_at, part_index, precedes}
 use Rattle.heat_flow.specs.declared.flow.Transfer.{Transfer}
 use Rattle.interval_design.specs.Courses.{AllCanBeLed, CanBeLed, course_of, courses_of, on_the_way, share_of, shares_of, stage_of, stream_course, width_of}
-use Rattle.interval_design.proofs.NetworkLemmas.{length-courses_of}
 use Rattle.interval_design.proofs.WayLemmas.{filter_map-reverse}
 
 -- ---- few transfers

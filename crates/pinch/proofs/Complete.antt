@@ -1,5 +1,5 @@
 -- Files that answer a command are answered, and a file that is refused is told so, unless a call of the shelf is refused.
-use Rattle.std.proofs.Common.{◌≡◌, ◌∙◌, ◌⊎◌, inl, inr, ℕ, List, sym, Option, Some, None, length, Result, Ok, Err, refl, ap, subst, arith}
+use Rattle.std.proofs.Common.{◌≡◌, ◌∙◌, inl, inr, ℕ, List, sym, Option, Some, length, Result, Ok, Err, ap, subst, arith}
 use Rattle.pinch_outside.specs.Faults.{Rose}
 use Rattle.pinch_outside.specs.Shelf.{ShelfState, NamedFile, IsFile, IsFileAbove, KeepsFiles}
 use Rattle.pinch_outside.specs.declared.limits.TheConstants.{MAX_FILE}

@@ -1,5 +1,5 @@
 -- All that a command shows can be printed.
-use Rattle.std.proofs.Common.{◌≡◌, inl, inr, ℕ, List, Option, Result, Ok, Err, sym, subst}
+use Rattle.std.proofs.Common.{◌≡◌, inl, inr, ℕ, List, Option, Result, sym, subst}
 use Rattle.pinch_outside.specs.Shelf.{ShelfState}
 use Rattle.reports.specs.Text.{IsPrintable}
 use Rattle.reports.specs.declared.shown.FileRole.{FileRole}

@@ -9,7 +9,6 @@ use Rattle.pinch.specs.Complete.{CanAnswer, HasBadFile}
 use Rattle.pinch.specs.Reading.{Reading, reading_of, ready, stop, wanted, file}
 use Rattle.pinch.specs.declared.command.Command.{Command}
 use Rattle.pinch.specs.declared.command.Command.TheVariants.{OfCase, Vertical, Audit, Site, Sample}
-use Rattle.pinch.specs.declared.request.Request.{Request}
 use Rattle.pinch.proofs.Formats.{IsLawful, lawful_case, lawful_network, lawful_site}
 use Rattle.pinch.proofs.Plain.{is_plain}
 

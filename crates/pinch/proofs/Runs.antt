@@ -1,5 +1,5 @@
 -- A run keeps what it is to keep.
-use Rattle.std.proofs.Common.{◌≡◌, ◌∙◌, inl, inr, ℕ, List, Option, Some, None, refl, sym, ap, subst, arith}
+use Rattle.std.proofs.Common.{◌≡◌, ◌∙◌, inl, inr, ℕ, List, Option, Some, sym, ap, arith}
 use Rattle.std.specs.Prelude.{⊤}
 use Rattle.transport.specs.declared.answer.Answer.TheVariants as answer
 use Rattle.pinch_outside.specs.Shelf.{ShelfState}
@@ -9,7 +9,6 @@ use Rattle.pinch.specs.Answers.{ShowsCommand}
 use Rattle.pinch.specs.Run.{Prints, Runs, whole, cut}
 use Rattle.pinch.specs.Status.{number_of, status_of}
 use Rattle.pinch.specs.declared.command.Command.{Command}
-use Rattle.pinch.specs.declared.program.Done.{Done}
 use Rattle.pinch.specs.declared.status.Status.{Status}
 use Rattle.pinch.specs.declared.status.Status.TheVariants.{WriteFault, OutOfMemory}
 use Rattle.pinch.proofs.Causes.{causes}

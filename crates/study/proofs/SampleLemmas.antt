@@ -72,10 +72,6 @@ IsValidStream-drawn Cold x number small = record {
   contribution = record { from = omega (arith, ints); upto = omega (arith, ints) };
 }
 
-side-drawn : (side : Side) (x number : ℕ) → (drawn_stream side x number).side ≡ side
-side-drawn Hot x number = refl
-side-drawn Cold x number = refl
-
 name-drawn : (side : Side) (x number : ℕ) → (drawn_stream side x number).name ≡ stream_name side number
 name-drawn Hot x number = refl
 name-drawn Cold x number = refl

@@ -1,7 +1,5 @@
 -- The cut of parts that a cut of the net gives, wherever the paths of the inner net are the pairs that reach.
-use Rattle.std.proofs.Common.{◌≡◌, ◌∙◌, sym, ap₂, subst, subst₂, ℕ, ◌+◌, Bool, true, false, not, List, length, FitsSigned, w64, to_z, of_z, arith}
-use Rattle.std.specs.Int.{w128}
-use Rattle.std.specs.Prelude.{ℤ}
+use Rattle.std.proofs.Common.{◌≡◌, ◌∙◌, sym, ap₂, subst, subst₂, ℕ, ◌+◌, Bool, true, false, not, List, length, arith}
 use Rattle.std.proofs.lemmas.Int.{ints}
 use Rattle.stream_case.specs.declared.source.Side.{Side}
 use Rattle.stream_case.specs.declared.source.Side.TheVariants.{Hot, Cold}
@@ -64,10 +62,3 @@ IsCutOf-members reach hot cold kind members cut h kind_is parts_are need offer =
 -- a cut answers, since it proves that there is no heat flow
 pub IsAnswer-cut : (reach : ℕ → ℕ → Bool) (hot cold : List Part) (cut : Cut) → IsCutOf reach hot cold cut → IsAnswer reach hot cold (Stuck cut)
 IsAnswer-cut reach hot cold cut is = record { certified = tt; least = tt; cut = is; stuck_only = cuts_refuse_flows reach hot cold (cut_side cut.kind) cut.parts is.parts }
-
--- a number of a cut, formed in 128 bits, fits its field of 64
-pub number_fits : (x y : ℤ) → x ≡ y → IsSideHeat y → FitsSigned w64 (to_z w128 (of_z w128 x))
-number_fits x y same h = omega (arith, ints, same, h.from, h.upto)
-
-pub number_is : (x y : ℤ) → x ≡ y → IsSideHeat y → to_z w64 (of_z w64 (to_z w128 (of_z w128 x))) ≡ y
-number_is x y same h = omega (arith, ints, same, h.from, h.upto)

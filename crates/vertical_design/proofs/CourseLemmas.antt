@@ -6,7 +6,7 @@ use Rattle.std.specs.Option.{option_to_list}
 use Rattle.std.proofs.lemmas.Bool.{ltb-true}
 use Rattle.std.proofs.lemmas.Grind.{flat_map-append}
 use Rattle.std.proofs.lemmas.List.{append-nil, get_or-reverse, length-append, length-map, length-reverse, length-take, map-append, reverse-append, take-append-drop, take_more}
-use Rattle.std.proofs.lemmas.List.Elements.{All-cons, All-nil, filter-append}
+use Rattle.std.proofs.lemmas.List.Elements.{All-cons, All-nil}
 use Rattle.std.proofs.lemmas.List.FromFn.{length-enumerate_from}
 use Rattle.sums.proofs.EnumerationLemmas.{enumerate_from-append}
 use Rattle.sums.proofs.ListLemmas.{filter_map-push}
@@ -87,14 +87,6 @@ module _ (of : Side) (stream first : ℕ) (matches : List Match) (i : ℕ) (m : 
       ∙ ap (λ o. filter_map (share_of of stream) front ++ option_to_list o) some
 
 -- ---- stages
-
-pub stages_more : (of : Side) (stream : ℕ) (intervals : List Interval) (k : ℕ) (i : Interval) → k < length intervals → i ≡ get_or intervals k i
-    → stages_of of stream (take (k + 1) intervals) ≡ stages_of of stream (take k intervals) ++ (if nat_lt 0 (length (shares_in of stream i)) then shares_in of stream i ∷ [] else [])
-stages_more of stream intervals k i within is =
-    let some : List Share → Bool = λ ss. nat_lt 0 (length ss) in
-    let front = map (shares_in of stream) (take k intervals) in
-    ap (λ is. filter some (map (shares_in of stream) is)) (take_more intervals k i within ∙ ap (λ y. take k intervals ++ y ∷ []) (sym is))
-    ∙ ap (filter some) (map-append (shares_in of stream) (take k intervals) (i ∷ [])) ∙ filter-append some front (shares_in of stream i ∷ [])
 
 -- each stage has a share
 kept-stages : (xs : Course) → AreStages (filter (λ shares. nat_lt 0 (length shares)) xs)

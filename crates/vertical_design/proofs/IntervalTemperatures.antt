@@ -1,23 +1,18 @@
 -- The temperatures of a side between two neighbouring cuts of the heat axis, and how they join from interval to interval.
-use Rattle.std.proofs.Common.{◌≡◌, ◌∙◌, ◌<◌, ◌-◌, ◌+ℤ◌, ◌-ℤ◌, ◌*ℤ◌, ℕ, ℤ, pos, negsuc, ◌≤ℤ◌, ◌<ℤ◌, List, get_or, length, refl, sym, ap, subst, arith}
+use Rattle.std.proofs.Common.{◌≡◌, ◌∙◌, ◌<◌, ◌-◌, ◌+ℤ◌, ◌-ℤ◌, ◌*ℤ◌, ℕ, ℤ, pos, negsuc, ◌≤ℤ◌, ◌<ℤ◌, List, get_or, length, refl, sym, ap, arith}
 use Rattle.std.specs.Prelude.{unsigned_abs}
 use Rattle.std.proofs.lemmas.Int.{ints}
-use Rattle.std.proofs.lemmas.List.Elements.{All-contains}
-use Rattle.stream_case.specs.Stream.{AreStreams, IsValidStream, high_end, low_end}
+use Rattle.stream_case.specs.Stream.{AreStreams, high_end, low_end}
 use Rattle.stream_case.specs.declared.case.Case.{Case}
 use Rattle.stream_case.specs.declared.source.Side.{Side}
 use Rattle.stream_case.specs.declared.source.Side.TheVariants as side
 use Rattle.stream_case.specs.declared.stream.Stream.{Stream}
-use Rattle.stream_case.proofs.EndLemmas.{AreEnds-IsValidStream}
-use Rattle.stream_case.proofs.SourceLemmas.{same_side-true}
 use Rattle.fractions.specs.Rationals.{IsAtMost, IsBelow, Rational, minus, ratio, whole}
-use Rattle.fractions.proofs.Comparisons.{at_most-whole}
 use Rattle.fractions.proofs.Wholes.{ratio-multiple}
 use Rattle.design_lines.proofs.StageSizes.{IsOver}
 use Rattle.vertical_design.specs.Axis.{AreCuts, heat_at, spans_of}
 use Rattle.vertical_design.specs.Matches.{side_flow}
 use Rattle.vertical_design.specs.Vertical.{curve_heat}
-use Rattle.vertical_design.proofs.CurveApproach.{one_place}
 use Rattle.vertical_design.proofs.CurveSegments.{Runs, segment}
 use Rattle.vertical_design.proofs.ScaledCurve.{curve_heat-ratio, curve_parts-whole}
 use Rattle.vertical_design.proofs.SegmentTemperatures.{flow_positive, flow_running, temperature, temperature_change, temperature_heat, temperature_rises, within_range}
@@ -71,29 +66,3 @@ interval_scale case cuts are_cuts at later within are of r runs =
 -- ---- joints
 
 module _ (of : Side) (streams : List Stream) (are : AreStreams streams) (r : Stream) where
-  -- two temperatures of a stream's range with one heat
-  same_place : (low high : ℤ) → Runs of streams are low high r → (t u : Rational) → IsAtMost (whole (low_end r)) t × IsAtMost t (whole (high_end r)) → IsAtMost (whole (low_end r)) u × IsAtMost u (whole (high_end r)) → curve_heat of streams t ≡ curve_heat of streams u → t ≡ u
-  same_place low high runs t u t_in u_in same =
-      let own = same_side-true r.side of runs.side_is in
-      one_place streams are r runs.member t u t_in.0 t_in.1 u_in.0 u_in.1 (subst (λ d. curve_heat d streams t ≡ curve_heat d streams u) (sym own) same)
-
-  -- a stream that runs on both sides of a cut has one temperature there
-  pub scales_join : (low mid high flow other : ℤ) (below above : ℤ → Rational) → low ≤ℤ mid → mid ≤ℤ high → Runs of streams are low mid r → Runs of streams are mid high r → IsScale of streams are low mid flow below → IsScale of streams are mid high other above → below mid ≡ above mid
-  scales_join low mid high flow other below above under over runs_below runs_above lower upper =
-      same_place low mid runs_below (below mid) (above mid) (lower.range mid under (omega (arith, ints)) r runs_below) (upper.range mid (omega (arith, ints)) over r runs_above)
-      (lower.heat mid under (omega (arith, ints)) ∙ sym (upper.heat mid (omega (arith, ints)) over))
-
-  -- it is at its own end where its curve has the heat of that end
-  pub scale_begins : (low high flow : ℤ) (scale : ℤ → Rational) → low ≤ℤ high → Runs of streams are low high r → IsScale of streams are low high flow scale → heat_at of streams (low_end r) ≡ low → scale low ≡ whole (low_end r)
-  scale_begins low high flow scale order runs is own =
-      let ends = AreEnds-IsValidStream r (All-contains IsValidStream streams r are.each runs.member) in
-      same_place low high runs (scale low) (whole (low_end r)) (is.range low (omega (arith, ints)) order r runs)
-      (at_most-whole (low_end r) (low_end r) (omega (arith, ints)), at_most-whole (low_end r) (high_end r) (let less = ends.order in omega (arith, ints, less)))
-      (is.heat low (omega (arith, ints)) order ∙ sym (curve_heat-whole of streams (low_end r) ∙ ap whole own))
-
-  pub scale_ends : (low high flow : ℤ) (scale : ℤ → Rational) → low ≤ℤ high → Runs of streams are low high r → IsScale of streams are low high flow scale → heat_at of streams (high_end r) ≡ high → scale high ≡ whole (high_end r)
-  scale_ends low high flow scale order runs is own =
-      let ends = AreEnds-IsValidStream r (All-contains IsValidStream streams r are.each runs.member) in
-      same_place low high runs (scale high) (whole (high_end r)) (is.range high order (omega (arith, ints)) r runs)
-      (at_most-whole (low_end r) (high_end r) (let less = ends.order in omega (arith, ints, less)), at_most-whole (high_end r) (high_end r) (omega (arith, ints)))
-      (is.heat high order (omega (arith, ints)) ∙ sym (curve_heat-whole of streams (high_end r) ∙ ap whole own))

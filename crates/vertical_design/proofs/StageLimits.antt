@@ -18,7 +18,7 @@ use Rattle.stream_case.specs.declared.stream.Stream.{Stream}
 use Rattle.stream_case.proofs.EndLemmas.{AreEnds, AreEnds-IsValidStream}
 use Rattle.fractions.specs.Rationals.{IsAtMost, IsWithinLimits, Rational, ratio, whole}
 use Rattle.fractions.proofs.Comparisons.{at_most-whole, at_most_from_ratio_whole, at_most_from_whole_ratio, at_most_trans}
-use Rattle.network_values.specs.Values.{change, first_value, full_size, no_value}
+use Rattle.network_values.specs.Values.{change, first_value, full_size}
 use Rattle.network_values.specs.declared.values.BranchValue.{BranchValue}
 use Rattle.network_audit.proofs.LineSteps.{AreSmall, IsRoomy, sized_change, sized_roomy}
 use Rattle.network_audit.proofs.Sized.{IsSized, sized-between, sized-minus, sized-plus, sized-whole}
@@ -73,18 +73,6 @@ small d e some_d few_d some_e few_e =
       state = omega (arith, few_e);
       heat = omega (arith, dens);
     }
-
-pub fine_none : IsFine no_value
-fine_none = record {
-  size_den = 1;
-  size_some = omega arith;
-  size_few = omega arith;
-  size = sized-whole 1 most_cp (pos 0) (omega arith) (omega arith);
-  state_den = 1;
-  state_some = omega arith;
-  state_few = omega arith;
-  state = sized-whole 1 highest (pos 0) (omega arith) (omega arith);
-}
 
 -- such a branch leaves room
 pub fine_roomy : (v : BranchValue) → IsFine v → IsRoomy v

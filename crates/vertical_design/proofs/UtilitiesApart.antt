@@ -9,7 +9,7 @@ use Rattle.stream_case.specs.declared.case.Case.{Case}
 use Rattle.stream_case.specs.declared.source.Side.TheVariants as side
 use Rattle.stream_case.specs.declared.source.Source.TheVariants as source
 use Rattle.networks.proofs.Lists.{all_at}
-use Rattle.vertical_design.specs.Axis.{AreCuts, spans_of, utility_from, utility_to}
+use Rattle.vertical_design.specs.Axis.{AreCuts, spans_of}
 use Rattle.vertical_design.specs.Matches.{intervals_below, intervals_of, matches_in, matches_of}
 use Rattle.vertical_design.specs.declared.matches.Match.{Match}
 use Rattle.vertical_design.specs.declared.span.Span.{Span}

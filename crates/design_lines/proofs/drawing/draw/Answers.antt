@@ -1,4 +1,4 @@
-use Rattle.std.proofs.Common.{◌≡◌, ◌∙◌, ◌+◌, ◌-◌, ◌∷◌, ◌++◌, length, drop, ap, subst, sym, arith}
+use Rattle.std.proofs.Common.{◌≡◌, ◌∙◌, ◌+◌, ◌-◌, ◌++◌, length, ap, subst, sym, arith}
 use Rattle.networks.specs.Lines.{own_branches}
 use Rattle.design_lines.specs.Drawn.{course_branches, course_lines, numbered}
 use Rattle.design_lines.proofs.BranchStreams.{length-own_branches}

@@ -1,6 +1,5 @@
 use Rattle.std.proofs.Common.{◌∙◌, ap, ap₂, map}
 use Rattle.plants.specs.Profiles.{sink_profile, source_profile}
-use Rattle.plants.specs.SiteTable.{IsSiteTable}
 use Rattle.plants.specs.declared.table.SiteTable.{SiteTable}
 use Rattle.site.specs.Target.{AreSiteParts}
 use Rattle.reports.specs.declared.shown.Shown.TheVariants.{SiteShown}
