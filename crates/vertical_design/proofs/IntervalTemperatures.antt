@@ -1,4 +1,4 @@
--- The temperatures of a side between two neighbouring cuts of the heat axis, and how they join from interval to interval.
+-- The temperatures of a side between two neighbouring cuts of the heat axis.
 use Rattle.std.proofs.Common.{◌≡◌, ◌∙◌, ◌<◌, ◌-◌, ◌+ℤ◌, ◌-ℤ◌, ◌*ℤ◌, ℕ, ℤ, pos, negsuc, ◌≤ℤ◌, ◌<ℤ◌, List, get_or, length, refl, sym, ap, arith}
 use Rattle.std.specs.Prelude.{unsigned_abs}
 use Rattle.std.proofs.lemmas.Int.{ints}
@@ -62,7 +62,3 @@ interval_scale case cuts are_cuts at later within are of r runs =
         over = λ q. let num = begin *ℤ pos d +ℤ (q -ℤ heat_at of streams begin) in record { num = num; is = ap (λ f. ratio num (unsigned_abs f)) (sym same) };
       },
     )
-
--- ---- joints
-
-module _ (of : Side) (streams : List Stream) (are : AreStreams streams) (r : Stream) where
