@@ -1,5 +1,5 @@
 -- The shifted ends of valid streams, and the outermost of them.
-use Rattle.std.proofs.Common.{◌≡◌, ℕ, ◌+◌, ◌*◌, ◌<◌, ℤ, ◌≤ℤ◌, ◌<ℤ◌, List, [], ◌∷◌, ◌++◌, length, get_or, take, fold, All, if◌then◌else◌, sym, ap, ◌∙◌, refl, subst, arith}
+use Rattle.std.proofs.Common.{◌≡◌, ◌⊎◌, inl, inr, ℕ, ◌+◌, ◌*◌, ◌<◌, ℤ, ◌≤ℤ◌, ◌<ℤ◌, List, [], ◌∷◌, ◌++◌, length, get_or, take, fold, All, if◌then◌else◌, sym, ap, ◌∙◌, refl, subst, arith}
 use Rattle.std.proofs.lemmas.Int.{ints, clamps}
 use Rattle.std.proofs.lemmas.List.{take_more}
 use Rattle.std.proofs.lemmas.List.Sums.{fold-append}
@@ -9,23 +9,43 @@ use Rattle.stream_case.specs.declared.source.Side.TheVariants.{Hot, Cold}
 use Rattle.stream_case.specs.declared.stream.Stream.{Stream}
 use Rattle.stream_case.specs.Shift.{shifted}
 use Rattle.stream_case.specs.Source.{is_hot, IsRightWay}
-use Rattle.stream_case.specs.Stream.{high_end, low_end, stream_ends, IsValidStream}
+use Rattle.stream_case.specs.Stream.{high_end, low_end, stream_ends, IsSensible, IsLatent, IsValidStream}
 use Rattle.stream_case.specs.declared.limits.TheConstants.{LOWEST_SHIFTED, HIGHEST_SHIFTED}
 use Rattle.stream_case.specs.Limits.{IsBetween, IsTemperature, IsContribution, IsShifted}
 use Rattle.stream_case.specs.Case.{outer_of, outermost}
 
--- the ends of a shifted range: in order, and within bounds
+-- the ends of a shifted range: in order, one where the stream is latent, and within bounds
 pub record AreEnds (low high : ℤ) : Type 0 where
-  pub order : low <ℤ high
+  pub order : low ≤ℤ high
   pub from : LOWEST_SHIFTED ≤ℤ low
   pub upto : high ≤ℤ HIGHEST_SHIFTED
 
-AreEnds-shifted : (side : Side) (supply target contribution : ℤ) → IsRightWay side supply target → IsTemperature supply → IsTemperature target → IsContribution contribution → AreEnds (shifted side (if is_hot side then target else supply) contribution) (shifted side (if is_hot side then supply else target) contribution)
+AreEnds-shifted : (side : Side) (supply target contribution : ℤ) → IsRightWay side supply target ⊎ (supply ≡ target) → IsTemperature supply → IsTemperature target → IsContribution contribution → AreEnds (shifted side (if is_hot side then target else supply) contribution) (shifted side (if is_hot side then supply else target) contribution)
 AreEnds-shifted Hot supply target contribution way s t c = record { order = omega (arith, ints); from = omega (arith, ints); upto = omega (arith, ints) }
 AreEnds-shifted Cold supply target contribution way s t c = record { order = omega (arith, ints); from = omega (arith, ints); upto = omega (arith, ints) }
 
 pub AreEnds-IsValidStream : (s : Stream) → IsValidStream s → AreEnds (low_end s) (high_end s)
-AreEnds-IsValidStream s h = AreEnds-shifted s.side s.supply s.target s.contribution h.way h.supply h.target h.contribution
+AreEnds-IsValidStream s h = AreEnds-shifted s.side s.supply s.target s.contribution (way_or_level s h.heat) h.supply h.target h.contribution
+  where
+    way_or_level : (s : Stream) → IsSensible s ⊎ IsLatent s → IsRightWay s.side s.supply s.target ⊎ (s.supply ≡ s.target)
+    way_or_level s (inl sensible) = inl sensible.way
+    way_or_level s (inr latent) = inr latent.level
+
+-- those of a sensible stream differ
+pub order-sensible : (s : Stream) → IsSensible s → low_end s <ℤ high_end s
+order-sensible s h = by_side s.side s.supply s.target s.contribution h.way
+  where
+    by_side : (side : Side) (supply target contribution : ℤ) → IsRightWay side supply target → shifted side (if is_hot side then target else supply) contribution <ℤ shifted side (if is_hot side then supply else target) contribution
+    by_side Hot supply target contribution way = omega (arith, ints)
+    by_side Cold supply target contribution way = omega (arith, ints)
+
+-- those of a latent stream are its one level
+pub level-latent : (s : Stream) → IsLatent s → high_end s ≡ low_end s
+level-latent s h = by_side s.side s.supply s.target s.contribution h.level
+  where
+    by_side : (side : Side) (supply target contribution : ℤ) → supply ≡ target → shifted side (if is_hot side then supply else target) contribution ≡ shifted side (if is_hot side then target else supply) contribution
+    by_side Hot supply target contribution level = omega (arith, ints)
+    by_side Cold supply target contribution level = omega (arith, ints)
 
 -- ---- the ends of a list of streams
 

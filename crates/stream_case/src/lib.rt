@@ -1,7 +1,8 @@
 //! The streams and utilities of a pinch analysis, and the case that they make.
 //!
 //! A temperature is a whole number of tenths of a degree Celsius, a heat-capacity flow a whole
-//! number of 10 W/K. So a heat-capacity flow times a temperature difference is whole watts.
+//! number of 10 W/K. So a heat-capacity flow times a temperature difference is whole watts. A
+//! latent stream stays at one temperature and has a load in watts instead.
 #![tactic(auto)]
 
 mod case;
@@ -22,13 +23,14 @@ pub use digits::natural_of;
 pub use ends::stream_ends;
 pub use items::Items;
 pub use limits::{
-    ALL_STREAMS, ALL_STREAMS_HEAT, ALL_UTILITIES, HIGHEST_LEVEL, HIGHEST_SHIFTED,
-    HIGHEST_TEMPERATURE, LONGEST_RANGE, LOWEST_LEVEL, LOWEST_SHIFTED, LOWEST_TEMPERATURE,
-    MOST_CONTRIBUTION, MOST_CP, MOST_FORBIDS, MOST_HEAT, MOST_MAINS, MOST_PART_PRICE, MOST_PARTS,
-    MOST_PLACES, MOST_PRICE, MOST_STREAM_HEAT, MOST_STREAMS, MOST_UTILITIES,
+    ALL_SENSIBLE_HEAT, ALL_STREAMS, ALL_STREAMS_HEAT, ALL_UTILITIES, HIGHEST_LEVEL,
+    HIGHEST_SHIFTED, HIGHEST_TEMPERATURE, LONGEST_RANGE, LOWEST_LEVEL, LOWEST_SHIFTED,
+    LOWEST_TEMPERATURE, MOST_CONTRIBUTION, MOST_CP, MOST_FORBIDS, MOST_HEAT, MOST_LOAD, MOST_MAINS,
+    MOST_PART_PRICE, MOST_PARTS, MOST_PLACES, MOST_PRICE, MOST_SENSIBLE_HEAT, MOST_STREAM_HEAT,
+    MOST_STREAMS, MOST_UTILITIES,
 };
 pub use name::Name;
 pub use source::{Side, Source};
-pub use stream::{Stream, shifted};
+pub use stream::{Stream, counts_above, has_latent, shifted};
 pub use utility::Utility;
 pub use validity::is_valid;

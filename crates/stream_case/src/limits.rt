@@ -15,6 +15,9 @@ pub const MOST_CONTRIBUTION: i32 = 1000;
 /// The greatest heat-capacity flow of a stream, in 10 W/K.
 pub const MOST_CP: i64 = 100_000;
 
+/// The greatest load of a latent stream, in W.
+pub const MOST_LOAD: i64 = 10_000_000_000;
+
 /// The most heat of a utility, in W.
 pub const MOST_HEAT: i64 = 1_000_000_000_000;
 
@@ -62,8 +65,14 @@ pub const HIGHEST_LEVEL: i32 = HIGHEST_SHIFTED + MOST_CONTRIBUTION;
 /// The longest range of a stream, in tenths of °C.
 pub const LONGEST_RANGE: i64 = (HIGHEST_TEMPERATURE - LOWEST_TEMPERATURE) as i64;
 
-/// The most heat of a stream, in W.
-pub const MOST_STREAM_HEAT: i64 = MOST_CP * LONGEST_RANGE;
+/// The most heat of a sensible stream, in W.
+pub const MOST_SENSIBLE_HEAT: i64 = MOST_CP * LONGEST_RANGE;
+
+/// The most heat of the streams of a case that has no latent one, both sides together, in W.
+pub const ALL_SENSIBLE_HEAT: i64 = ALL_STREAMS as i64 * MOST_SENSIBLE_HEAT;
+
+/// The most heat of a stream, in W: a latent one may have more than any sensible one.
+pub const MOST_STREAM_HEAT: i64 = MOST_LOAD;
 
 /// The most heat of the streams of a case, both sides together, in W.
 pub const ALL_STREAMS_HEAT: i64 = ALL_STREAMS as i64 * MOST_STREAM_HEAT;

@@ -1,13 +1,16 @@
 //! Process streams, and shifted temperatures.
-ghost use Rattle.std.specs.Prelude.{◌≡◌, ◌≤ℤ◌, ◌-ℤ◌, ◌*ℤ◌};
-ghost use Rattle.stream_case.specs.Limits.{IsFlowRate, IsLength, IsShifted, IsStreamHeat};
+ghost use Rattle.std.specs.Prelude.{◌≡◌, ◌↔◌, ◌≤ℤ◌, ◌-ℤ◌, ◌*ℤ◌, pos, false, All, Any, IsTrue};
+ghost use Rattle.stream_case.specs.declared.limits.TheConstants.{MOST_CP};
+ghost use Rattle.stream_case.specs.Limits.{IsBetween, IsLength, IsSensibleHeat, IsShifted, IsStreamHeat};
 ghost use Rattle.stream_case.specs.Shift.{shifted};
+ghost use Rattle.stream_case.specs.Stream.{counts_above, AreSensible, IsLatent, IsValidStream};
 
 use crate::name::Name;
 use crate::source::Side;
 
-/// A process stream: a hot one falls from its supply to its target and gives heat, a cold one
-/// rises from its supply to its target and takes heat.
+/// A process stream: a hot one gives heat, a cold one takes it. A sensible one falls (hot) or
+/// rises (cold) from its supply to its target; a latent one condenses (hot) or evaporates (cold)
+/// at its one temperature, where supply and target are equal.
 #[derive(Clone, Copy, Debug, PartialEq, Eq, Hash)]
 pub struct Stream {
     pub name: Name,
@@ -16,15 +19,17 @@ pub struct Stream {
     pub supply: i32,
     /// Where the stream has to go, in tenths of °C.
     pub target: i32,
-    /// The heat-capacity flow, in 10 W/K.
+    /// The heat-capacity flow, in 10 W/K; 0 for a latent stream.
     pub cp: i64,
+    /// The heat of a latent stream, in W; 0 for a sensible one.
+    pub load: i64,
     /// The stream's share of the least approach, in tenths of °C.
     pub contribution: i32,
 }
 
 impl Stream {
     ghost use Rattle.stream_case.specs.Source.{same_side};
-    ghost use Rattle.stream_case.specs.Stream.{lower_temperature, higher_temperature, high_end, low_end, heat_between, heat_above, IsValidStream};
+    ghost use Rattle.stream_case.specs.Stream.{lower_temperature, higher_temperature, high_end, low_end, heat_between, sensible_above, load_over, heat_over, heat_above, heat_from, IsLatent, IsValidStream};
 
     /// Whether the stream is on this side.
     pub fn is_on(&self, side: Side) -> bool
@@ -71,15 +76,23 @@ impl Stream {
         shifted(self.side, self.lower_temperature(), self.contribution)
     }
 
-    /// The heat in watts that the stream gives or takes between two temperatures of its range,
-    /// in tenths of °C, both actual or both shifted.
+    /// Whether the stream condenses or evaporates at one temperature.
+    pub fn is_latent(&self) -> bool
+        requires { IsValidStream self.now }
+        ensures { IsTrue result ↔ IsLatent self.now }
+    {
+        self.load > 0
+    }
+
+    /// The sensible heat in watts that the stream gives or takes between two temperatures of its
+    /// range, in tenths of °C, both actual or both shifted.
     pub fn heat_between(&self, high: i32, low: i32) -> i64
         requires valid { IsValidStream self.now }
         requires within { IsLength (high -ℤ low) }
         ensures value { result ≡ heat_between high low self.now }
-        ensures range { IsStreamHeat result }
+        ensures range { IsSensibleHeat result }
     {
-        heat_over(self.cp, i64::from(high) - i64::from(low))
+        heat_of_flow(self.cp, i64::from(high) - i64::from(low))
     }
 
     /// The heat in watts that the stream gives or takes above the shifted temperature `t`, in
@@ -89,18 +102,76 @@ impl Stream {
         ensures value { result ≡ heat_above t self.now }
         ensures range { IsStreamHeat result }
     {
+        self.heat_over(false, t)
+    }
+
+    /// The same, with what a latent stream gives or takes at `t` itself.
+    pub fn heat_from(&self, t: i32) -> i64
+        requires { IsValidStream self.now }
+        ensures value { result ≡ heat_from t self.now }
+        ensures range { IsStreamHeat result }
+    {
+        self.heat_over(true, t)
+    }
+
+    /// The heat in watts that the stream gives or takes from the shifted temperature `t` on, or
+    /// above it only, in tenths of °C.
+    pub fn heat_over(&self, from: bool, t: i32) -> i64
+        requires { IsValidStream self.now }
+        ensures value { result ≡ heat_over from t self.now }
+        ensures range { IsStreamHeat result }
+    {
+        self.sensible_above(t) + self.load_over(from, t)
+    }
+
+    // The sensible heat above `t`.
+    fn sensible_above(&self, t: i32) -> i64
+        requires { IsValidStream self.now }
+        ensures value { result ≡ sensible_above t self.now }
+        ensures range { IsSensibleHeat result }
+    {
         let high = self.high_end();
         self.heat_between(high, t.clamp(self.low_end(), high))
     }
+
+    // The load, if the level counts as above `t`.
+    fn load_over(&self, from: bool, t: i32) -> i64
+        requires { IsValidStream self.now }
+        ensures value { result ≡ load_over from t self.now }
+        ensures range { IsStreamHeat result }
+    {
+        if counts_above(from, t, self.high_end()) {
+            self.load
+        } else {
+            0
+        }
+    }
+}
+
+/// Whether some stream is latent.
+pub fn has_latent(streams: &[Stream]) -> bool
+    requires { All IsValidStream streams.now }
+    ensures latent { IsTrue result ↔ Any IsLatent streams.now }
+    ensures sensible { result ≡ false → AreSensible streams.now }
+{
+    streams.iter().any(|stream| stream.is_latent())
+}
+
+/// Whether a level counts as above a place on the shifted scale, in tenths of °C: above a lower
+/// one, and above an equal one where the place counts from itself.
+pub fn counts_above(from: bool, place: i32, level: i32) -> bool
+    ensures { result ≡ counts_above from place level }
+{
+    if from { place <= level } else { place < level }
 }
 
 /// The heat in watts of a heat-capacity flow in 10 W/K over a temperature difference in tenths
 /// of °C.
-fn heat_over(cp: i64, length: i64) -> i64
-    requires cp { IsFlowRate cp }
+fn heat_of_flow(cp: i64, length: i64) -> i64
+    requires cp { IsBetween (pos 0) MOST_CP cp }
     requires length { IsLength length }
     ensures value { result ≡ cp *ℤ length }
-    ensures range { IsStreamHeat result }
+    ensures range { IsSensibleHeat result }
 {
     cp * length
 }

@@ -1,7 +1,7 @@
 //! Tests of a valid case.
-ghost use Rattle.std.specs.Prelude.{◌≡◌, ◌≢◌, ◌↔◌, ◌≤◌, ◌<◌, IsTrue, All, AllPairs, Contains, [], length, ℕ, slice_index_or};
+ghost use Rattle.std.specs.Prelude.{◌≡◌, ◌≢◌, ◌↔◌, ◌⊎◌, ◌≤◌, ◌<◌, IsTrue, All, AllPairs, Contains, [], length, ℕ, slice_index_or};
 ghost use Rattle.stream_case.specs.Name.{IsName};
-ghost use Rattle.stream_case.specs.Stream.{count_on, IsValidStream, AreStreams, HasValidStreams};
+ghost use Rattle.stream_case.specs.Stream.{count_on, IsSensible, IsLatent, IsValidStream, AreStreams, HasValidStreams};
 ghost use Rattle.stream_case.specs.Utility.{IsValidUtility};
 ghost use Rattle.stream_case.specs.Limits.{IsBetween, IsTemperature, IsContribution};
 ghost use Rattle.stream_case.specs.Case.{IsUnreserved, IsRightlyNamed, IsValidForbid, IsValid, with_utilities, names_of};
@@ -9,7 +9,7 @@ ghost use Rattle.stream_case.specs.Case.{IsUnreserved, IsRightlyNamed, IsValidFo
 use crate::case::{Case, Forbid, side_among};
 use crate::limits::{
     HIGHEST_TEMPERATURE, LOWEST_TEMPERATURE, MOST_CONTRIBUTION, MOST_CP, MOST_FORBIDS, MOST_HEAT,
-    MOST_PRICE, MOST_STREAMS, MOST_UTILITIES,
+    MOST_LOAD, MOST_PRICE, MOST_STREAMS, MOST_UTILITIES,
 };
 use crate::name::Name;
 use crate::source::Side;
@@ -45,6 +45,30 @@ fn is_undotted(name: &Name) -> bool
     !name.is_dotted()
 }
 
+fn is_sensible(stream: &Stream) -> bool
+    ensures { IsTrue result ↔ IsSensible stream.now }
+{
+    if !stream.side.is_right_way(stream.supply, stream.target) {
+        return false;
+    }
+    is_between(1, MOST_CP, stream.cp) && stream.load == 0
+}
+
+fn is_latent(stream: &Stream) -> bool
+    ensures { IsTrue result ↔ IsLatent stream.now }
+{
+    if stream.supply != stream.target || stream.cp != 0 {
+        return false;
+    }
+    is_between(1, MOST_LOAD, stream.load)
+}
+
+fn is_sensible_or_latent(stream: &Stream) -> bool
+    ensures { IsTrue result ↔ IsSensible stream.now ⊎ IsLatent stream.now }
+{
+    is_sensible(stream) || is_latent(stream)
+}
+
 fn is_valid_stream(stream: &Stream) -> bool
     ensures { IsTrue result ↔ IsValidStream stream.now }
 {
@@ -57,10 +81,7 @@ fn is_valid_stream(stream: &Stream) -> bool
     if !is_temperature(stream.target) {
         return false;
     }
-    if !stream.side.is_right_way(stream.supply, stream.target) {
-        return false;
-    }
-    if !is_between(1, MOST_CP, stream.cp) {
+    if !is_sensible_or_latent(stream) {
         return false;
     }
     is_contribution(stream.contribution)

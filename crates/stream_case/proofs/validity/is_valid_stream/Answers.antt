@@ -1,7 +1,6 @@
 -- The record of a valid stream from its parts.
-use Rattle.std.proofs.Common.{rules, arith, subst₂, w32, w64, FitsSigned}
+use Rattle.std.proofs.Common.{rules, arith, w32, FitsSigned}
 use Rattle.std.proofs.lemmas.Int.{ints, to_z-of_z}
-use Rattle.stream_case.specs.Source.{IsRightWay}
 use Rattle.stream_case.proofs.validity.is_valid_stream.Goals as goal
 
 pub returns : goal.returns
@@ -9,20 +8,16 @@ returns c =
     let s = c.args.stream.now in
     let supply_fits : FitsSigned w32 s.supply = search rules in
     let target_fits : FitsSigned w32 s.target = search rules in
-    let cp_fits : FitsSigned w64 s.cp = search rules in
     let contribution_fits : FitsSigned w32 s.contribution = search rules in
     let supply = c.is_temperature.ensures.0 c.if-not-is_temperature.false in
-    let target = c.is_temperature-2.ensures.0 c.if-not-is_temperature-2.false in
-    let way = c.is_right_way.ensures.way.0 c.if-not-is_right_way.false in
-    let cp = c.is_between.ensures.0 c.if-not-is_between.false in (
+    let target = c.is_temperature-2.ensures.0 c.if-not-is_temperature-2.false in (
       λ h.
           let contribution = c.is_contribution.ensures.0 h in
           record {
             name = c.is_undotted.ensures.0 c.if-not-is_undotted.false;
             supply = record { from = omega (arith, ints); upto = omega (arith, ints) };
             target = record { from = omega (arith, ints); upto = omega (arith, ints) };
-            way = subst₂ (IsRightWay s.side) (to_z-of_z w32 s.supply supply_fits) (to_z-of_z w32 s.target target_fits) way;
-            cp = record { from = omega (arith, ints); upto = omega (arith, ints) };
+            heat = c.is_sensible_or_latent.ensures.0 c.if-not-is_sensible_or_latent.false;
             contribution = record { from = omega (arith, ints); upto = omega (arith, ints) };
           },
       λ valid. c.is_contribution.ensures.1 (let k = valid.contribution in record { from = omega (arith, ints); upto = omega (arith, ints) }),

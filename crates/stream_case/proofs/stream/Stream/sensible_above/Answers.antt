@@ -2,12 +2,12 @@
 use Rattle.std.proofs.Common.{ap, ◌∙◌, w64, rules, arith}
 use Rattle.std.specs.Prelude.{◌*ℤ◌}
 use Rattle.std.proofs.lemmas.Int.{ints, clamps, to_z-of_z}
-use Rattle.stream_case.proofs.HeatLemmas.{HasLength-IsValidStream}
-use Rattle.stream_case.proofs.stream.Stream.heat_above.Goals as goal
+use Rattle.stream_case.proofs.HeatLemmas.{range-length}
+use Rattle.stream_case.proofs.stream.Stream.sensible_above.Goals as goal
 
 pub heat_between-requires-clause-within : goal.heat_between-requires-clause-within
 heat_between-requires-clause-within c =
-    let range = HasLength-IsValidStream c.args.self.now c.requires in
+    let range = range-length c.args.self.now c.requires in
     record { from = omega (arith, ints); upto = omega (arith, ints) }
 
 pub returns-clause-value : goal.returns-clause-value

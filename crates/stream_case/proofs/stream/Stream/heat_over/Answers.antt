@@ -1,0 +1,10 @@
+-- A sum of two heats of which one is 0.
+use Rattle.std.proofs.Common.{to_z, of_z, w32, arith}
+use Rattle.std.proofs.lemmas.Int.{ints}
+use Rattle.stream_case.proofs.HeatLemmas.{heat_over-between}
+use Rattle.stream_case.proofs.stream.Stream.heat_over.Goals as goal
+
+pub returns-clause-range : goal.returns-clause-range
+returns-clause-range c =
+    let range = heat_over-between c.args.from (to_z w32 (of_z w32 c.args.t)) c.args.self.now c.requires in
+    record { from = omega (arith, ints); upto = omega (arith, ints) }
