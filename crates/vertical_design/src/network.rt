@@ -37,14 +37,15 @@ fn intervals_for(alloc: Global, case: &Case) -> Result<Vec<Interval>, AllocError
 }
 
 /// The network of a standard case without latent streams, from its shifted composite curves (Kemp
-/// 2007; the shares are this project's rule). The heat axis is cut wherever a source begins or ends. Between two cuts
-/// each source of a side meets those of the other side in their order, until it has given or taken
-/// its part of the heat between the cuts. The network has the shape that the grammar of networks
-/// asks for, keeps the counts of a text, so that it is printed and read again, and has few lines. It
-/// is valid: each stream is led to its target, each exchanger keeps its approach, no match is
-/// forbidden, and each utility is in its range. And it is vertical: each exchanger joins the two curves at one heat, or
-/// a curve with the utility that lies there. Its audit has no finding, and its balance is that of
-/// the targets: it has no excess, and costs the hot target.
+/// 2007; the shares are this project's rule). The heat axis is cut wherever a source begins or
+/// ends. Between two cuts each source of a side meets those of the other side in their order, until
+/// it has given or taken its part of the heat between the cuts. The network has the shape that the
+/// grammar of networks asks for, keeps the counts of a text, so that it is printed and read again,
+/// and has few lines. It is valid: each stream is led to its target, each exchanger keeps its
+/// approach, no match is forbidden, and each utility is in its range. And it is vertical: each
+/// exchanger joins the two curves at one heat, or a curve with the utility that lies there. Its
+/// audit has no finding, and its balance is that of the targets: it has no excess, and costs the
+/// hot target.
 pub fn vertical(alloc: Global, case: &Case) -> Result<Network, AllocError>
     requires complete { IsComplete case.now }
     requires standard { IsStandard case.now }
