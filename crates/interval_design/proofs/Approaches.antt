@@ -84,7 +84,10 @@ joined_parts case hot cold ts flow number t at =
     (p, q, record { hot_part = hot_part; cold_part = cold_part; reach = subst IsTrue reached reach })
 
 part_order : (case : Case) (grid : List ℤ) (of : Side) (p : Part) → AllPairs (λ a b. b <ℤ a) grid → IsPartOf case.streams case.utilities grid of p → p.low ≤ℤ p.high
-part_order case grid of p falls (inl (i, s, is)) = ⊎_elim (λ interval. let less = interval_falls grid p.high p.low falls interval in omega (arith, ints, less)) (λ latent. let level = latent.1 in omega (arith, ints, level)) is.piece
+part_order case grid of p falls (inl (i, s, is)) =
+    ⊎_elim
+    (λ interval. let less = interval_falls grid p.high p.low falls interval in omega (arith, ints, less))
+    (λ latent. let level = latent.1 in omega (arith, ints, level)) is.piece
 part_order case grid of p falls (inr (i, u, is)) =
     let high = ap (λ (q : Part). q.high) is.is in
     let low = ap (λ (q : Part). q.low) is.is in
