@@ -22,7 +22,7 @@ actual-length s h = by_heat h.heat
     none Cold supply target level = record { from = omega (arith, ints); upto = omega (arith, ints) }
 
     by_heat : IsSensible s ⊎ IsLatent s → IsLength (higher_temperature s -ℤ lower_temperature s)
-    by_heat (inl sensible) = (HasLength-sensible s h sensible).length
+    by_heat (inl sensible) = let range = HasLength-sensible s h sensible in record { from = omega (arith, ints); upto = omega (arith, ints) }
     by_heat (inr latent) = none s.side s.supply s.target latent.level
 
 pub heat_below-between : (t : ℤ) (s : Stream) → IsValidStream s → IsStreamHeat (heat_below t s)
