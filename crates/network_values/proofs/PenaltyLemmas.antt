@@ -15,7 +15,7 @@ use Rattle.fractions.proofs.Ratios.{by_three, one_denominator}
 use Rattle.fractions.proofs.Sums.{minus-zero, plus-zero, plus_assoc, zero-plus}
 use Rattle.fractions.proofs.Wholes.{whole-minus, whole-times}
 use Rattle.networks.proofs.Lists.{all_at}
-use Rattle.problem_table.proofs.SensibleLemmas.{tight_above}
+use Rattle.problem_table.proofs.DeficitLemmas.{tight-sensible}
 use Rattle.network_values.proofs.CourseLemmas.{height_on-additive}
 use Rattle.network_values.proofs.HeightLemmas.{positive_part-above, positive_part-below}
 use Rattle.network_values.proofs.PassLemmas.{passes_by_side, side_taken, sides_taken}
@@ -146,4 +146,4 @@ penalties_sum case network values view sensible shape whole_values ended =
 pub penalties_excess : PenaltiesAreTheExcess
 penalties_excess case network values view sensible shape whole_values ended reference =
     penalties_sum case network values view sensible shape whole_values ended
-    ∙ ap (λ d. minus (hot_heat network) (whole d)) (tight_above case.streams view.place sensible reference.at).tight
+    ∙ ap (λ d. minus (hot_heat network) (whole d)) (tight-sensible case.streams view.place sensible reference.at)

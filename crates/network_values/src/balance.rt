@@ -21,9 +21,8 @@ pub fn streams_give_their_heat()
     ensures { StreamsGiveTheirHeat }
 {}
 
-/// In each view, the penalties of the exchangers and of the mixes add up to the heat of the hot
-/// utilities less the deficit above the place, all in W. Here and below no stream is latent, where
-/// a deficit or the hot target is spoken of.
+/// Without latent streams, in each view the penalties of the exchangers and of the mixes add up to
+/// the heat of the hot utilities less the deficit above the place, all in W.
 pub fn penalties_add_up()
     ensures { PenaltiesAddUp }
 {}
@@ -39,7 +38,7 @@ pub fn penalties_are_not_negative()
     ensures { PenaltiesAreNotNegative }
 {}
 
-/// So the hot utilities give at least the deficit above any place.
+/// So without latent streams the hot utilities give at least the deficit above any place.
 pub fn deficits_are_met()
     ensures { DeficitsAreMet }
 {}
