@@ -45,42 +45,36 @@ module _ (height : ℕ → Rational) where
 
 -- ---- all rows
 
-module _
-    (case : Case)
-    (network : Network)
-    (sensible : AreSensible case.streams)
-    (shape : HasShape case network)
-    (valid : IsValidNetwork case network)
-  where
-    -- a network has one valuation, and so the approaches are kept by any
-    same_values : (values : Valuation) → IsWholeValuation case network values → valid.values ≡ values
-    same_values values is = one_valuation case network (length network.lines) valid.values values shape valid.valuation is
+module _ (case : Case) (network : Network) (sensible : AreSensible case.streams) (shape : HasShape case network) (valid : IsValidNetwork case network) where
+  -- a network has one valuation, and so the approaches are kept by any
+  same_values : (values : Valuation) → IsWholeValuation case network values → valid.values ≡ values
+  same_values values is = one_valuation case network (length network.lines) valid.values values shape valid.valuation is
 
-    rows_not_negative : (view : View) (values : Valuation) → IsWholeValuation case network values → All IsNotNegative (penalties_of case view network values)
-    unfolding exchanger_rows mix_rows
-    rows_not_negative view values whole_values =
-        let height = height_at case view network values in
-        let signs : HasNoNegativePenalty case view network values =
-        penalties_sign case network values view shape whole_values
-        (subst (KeepApproaches case network) (same_values values whole_values) valid.approaches) in
-        All-append IsNotNegative (exchanger_rows height network) (mix_rows height network.lines)
-        (All-map IsNotNegative (exchanger_row height network) (enumerate_from 0 (exchangers_of network.lines))
-        (All-enumerated (λ p. IsNotNegative (exchanger_row height network p)) (exchangers_of network.lines) (λ number e at. signs.exchangers number e at)))
-        (mixes_not_negative height 0 network.lines signs.mixes)
+  rows_not_negative : (view : View) (values : Valuation) → IsWholeValuation case network values → All IsNotNegative (penalties_of case view network values)
+  unfolding exchanger_rows mix_rows
+  rows_not_negative view values whole_values =
+      let height = height_at case view network values in
+      let signs : HasNoNegativePenalty case view network values =
+      penalties_sign case network values view shape whole_values
+      (subst (KeepApproaches case network) (same_values values whole_values) valid.approaches) in
+      All-append IsNotNegative (exchanger_rows height network) (mix_rows height network.lines)
+      (All-map IsNotNegative (exchanger_row height network) (enumerate_from 0 (exchangers_of network.lines))
+      (All-enumerated (λ p. IsNotNegative (exchanger_row height network p)) (exchangers_of network.lines) (λ number e at. signs.exchangers number e at)))
+      (mixes_not_negative height 0 network.lines signs.mixes)
 
-    sum-rows : (view : View) (values : Valuation) → IsReferencePlace case.streams view.place → IsWholeValuation case network values
-        → sum_of (penalties_of case view network values) ≡ excess_of case network
-    unfolding exchanger_rows mix_rows
-    sum-rows view values is_reference whole_values =
-        let height = height_at case view network values in
-        rational_sum_by-append value_of (exchanger_rows height network) (mix_rows height network.lines)
-        ∙ ap₂ plus (rational_sum_by-map value_of (exchanger_row height network) (enumerate_from 0 (exchangers_of network.lines)))
-        (sum-mixes height 0 network.lines)
-        ∙ penalties_excess case network values view sensible shape whole_values
-        (subst (AreEnded case network) (same_values values whole_values) valid.ended) is_reference
+  sum-rows : (view : View) (values : Valuation) → IsReferencePlace case.streams view.place → IsWholeValuation case network values
+      → sum_of (penalties_of case view network values) ≡ excess_of case network
+  unfolding exchanger_rows mix_rows
+  sum-rows view values is_reference whole_values =
+      let height = height_at case view network values in
+      rational_sum_by-append value_of (exchanger_rows height network) (mix_rows height network.lines)
+      ∙ ap₂ plus (rational_sum_by-map value_of (exchanger_row height network) (enumerate_from 0 (exchangers_of network.lines)))
+      (sum-mixes height 0 network.lines)
+      ∙ penalties_excess case network values view sensible shape whole_values
+      (subst (AreEnded case network) (same_values values whole_values) valid.ended) is_reference
 
-    pub listed_not_negative : (listed : List Penalty) → ListsPenalties case network (list.Listed listed) → All IsNotNegative listed
-    listed_not_negative listed is = All-same IsNotNegative listed _ is.lists.1 (rows_not_negative (view_above is.reference) is.values is.valuation)
+  pub listed_not_negative : (listed : List Penalty) → ListsPenalties case network (list.Listed listed) → All IsNotNegative listed
+  listed_not_negative listed is = All-same IsNotNegative listed _ is.lists.1 (rows_not_negative (view_above is.reference) is.values is.valuation)
 
-    pub listed_sum : (listed : List Penalty) → ListsPenalties case network (list.Listed listed) → sum_of listed ≡ excess_of case network
-    listed_sum listed is = ap sum_of is.lists.1 ∙ sum-rows (view_above is.reference) is.values is.is_reference is.valuation
+  pub listed_sum : (listed : List Penalty) → ListsPenalties case network (list.Listed listed) → sum_of listed ≡ excess_of case network
+  listed_sum listed is = ap sum_of is.lists.1 ∙ sum-rows (view_above is.reference) is.values is.is_reference is.valuation
