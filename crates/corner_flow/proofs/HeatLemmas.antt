@@ -9,8 +9,7 @@ use Rattle.std.proofs.lemmas.Bool.Decides.{Decides-int_eq}
 use Rattle.std.proofs.lemmas.List.{get_or-map}
 use Rattle.std.proofs.lemmas.Option.{slice_get_within, get_or_from_slice_get}
 use Rattle.corner_flow.proofs.Words.{Case, Cold, HaveParts, Hot, IsFlowOf, IsSupporting, IsTightOver, KeepsRanges, NeedsHeat, Part, Side, Stream, Transfer, UtilityHeat, both_reach, cold_target, cost_of, counts_above, heat_at, heat_over, hot_target, int_sum_by, int_sum_from, is_forbidden, is_stream, part_index, part_reaches, parts_of, passes_heat, price_at, reach_between, side_cost, stands_above, sum_side}
-use Rattle.sums.proofs.IntegerLemmas.{int_le-from, int_lt-from}
-use Rattle.sums.proofs.ProductLemmas.{product_not_negative}
+use Rattle.sums.proofs.IntegerLemmas.{int_le-false, int_le-from, int_lt-from}
 use Rattle.sums.proofs.SumLemmas.{int_sum_by-le, int_sum_by-not_negative, int_sum_from-add, int_sum_from-by, int_sum_from-grouped, int_sum_from-same_each}
 use Rattle.problem_table.proofs.DeficitLemmas.{some_tight}
 use Rattle.grid.proofs.HeatLemmas.{part_over}
@@ -44,6 +43,18 @@ pub stands-level : (from : Bool) (place level : ℤ) (p : Part) → p.high ≡ l
 stands-level false place level p high low = ap (int_lt place) high
 stands-level true place level p high low = ap (int_le place) low
 
+pub int_lt-false : (a b : ℤ) → b ≤ℤ a → int_lt a b ≡ false
+int_lt-false a b h = grind (arith, ints)
+
+-- a level that is higher counts as above a place, and a lower one does not
+pub counts_higher : (from : Bool) (place level : ℤ) → place <ℤ level → counts_above from place level ≡ true
+counts_higher false place level less = int_lt-from place level less
+counts_higher true place level less = int_le-from place level (omega (arith, ints))
+
+pub counts_lower : (from : Bool) (place level : ℤ) → level <ℤ place → counts_above from place level ≡ false
+counts_lower false place level less = int_lt-false place level (omega (arith, ints))
+counts_lower true place level less = int_le-false place level less
+
 -- from a place on lies what is not below it
 pub from_place : (place level : ℤ) → place ≤ℤ level → counts_above true place level ≡ true
 from_place place level most = int_le-from place level most
@@ -65,7 +76,7 @@ pub from_utility : (from : Bool) (place each : ℤ) (p : Part) → is_stream p.s
 from_utility from place each p e = ap (λ b. if b then (if stands_above from place p then p.least else pos 0) else each) e
 
 -- a share of 0 or 1
-share : (b : Bool) (x : ℤ) → pos 0 ≤ℤ x → (pos 0 ≤ℤ (if b then pos 1 else pos 0) *ℤ x) × (((if b then pos 1 else pos 0) *ℤ x) ≤ℤ x)
+share : (b : Bool) (x : ℤ) → pos 0 ≤ℤ x → (pos 0 ≤ℤ ((if b then pos 1 else pos 0) *ℤ x)) × (((if b then pos 1 else pos 0) *ℤ x) ≤ℤ x)
 share true x h = let is = one_times (pos 1) x refl in (omega (arith, ints), omega (arith, ints))
 share false x h = let is = zero_times (pos 0) x refl in (omega (arith, ints), omega (arith, ints))
 

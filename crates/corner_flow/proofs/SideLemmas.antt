@@ -4,13 +4,14 @@ use Rattle.std.specs.Prelude.{ℤ, pos, ◌+ℤ◌, ◌-ℤ◌, ◌≤ℤ◌, �
 use Rattle.std.proofs.lemmas.Int.{ints}
 use Rattle.std.proofs.lemmas.Bool.{cases_eq, cases_order, both_ways}
 use Rattle.std.proofs.lemmas.Option.{same_Some, slice_get-get_or, slice_get_within, get_or_from_slice_get}
-use Rattle.corner_flow.proofs.Words.{AreCaseParts, AreParts, Case, Cold, HasValidStreams, HoldsPlaces, Hot, IsBounded, IsComplete, IsGrid, IsInterval, IsPartOf, IsStandard, MOST_HEAT, Part, Side, cold_target, comes_before, deficit_from, heat_over, hot_target, int_sum_by, is_stream, parts_of, standard_utility, stream_ends, sum_side, utility_part}
+use Rattle.corner_flow.proofs.Words.{AreCaseParts, AreParts, Case, Cold, HasValidStreams, HoldsPlaces, Hot, IsBounded, IsComplete, IsGrid, IsInterval, IsPartOf, IsPiece, IsStandard, MOST_HEAT, Part, Side, Stream, cold_target, comes_before, deficit_from, heat_over, high_end, hot_target, int_sum_by, is_stream, low_end, parts_of, standard_utility, stream_ends, sum_side, utility_part}
 use Rattle.stream_case.proofs.CompleteLemmas.{HasValidStreams-IsComplete, IsPlaced-IsComplete, shifted_level-standard}
+use Rattle.stream_case.proofs.EndLemmas.{level-latent}
 use Rattle.stream_case.proofs.SourceLemmas.{each_side}
+use Rattle.sums.proofs.ListLemmas.{All-slice_get}
 use Rattle.problem_table.proofs.EndLemmas.{IsOutside}
 use Rattle.grid.proofs.HeatLemmas.{part_over, sum-part_over}
-use Rattle.grid.proofs.OnGridLemmas.{part_on_places}
-use Rattle.grid.proofs.MakingLemmas.{HoldsPlaces-IsGrid, AreParts-made}
+use Rattle.grid.proofs.MakingLemmas.{HoldsPlaces-IsGrid, AreParts-made, holds_ends}
 use Rattle.grid.proofs.PlaceLemmas.{interval_below, interval_ends, interval_falls}
 use Rattle.grid.proofs.SizeLemmas.{IsBounded-part}
 use Rattle.grid.proofs.StandardUtilities.{own_utility, some_utility, one_utility, sum_utilities}
@@ -143,8 +144,22 @@ module _ (c : Case) (grid : List ℤ) (complete : IsComplete c) (standard : IsSt
   kind p (inr (i, u, h)) =
       inr (subst (IsUtilityHere c side) (sym (own-is p (inr (i, u, h)) (ap (λ q. is_stream q.source) h.is))) (IsUtilityHere-standard c side (some_utility c standard side).0))
 
+  -- a part of a stream is on an interval, or at its level, and one of a utility at its own
   on_places : (p : Part) → OnSide p → StandsOn grid p
-  on_places p h = (part_on_places c grid side on_grid p h).ends
+  on_places p (inl (i, s, h)) = of_piece h.piece
+    where
+      of_piece : IsPiece grid s p.high p.low → StandsOn grid p
+      of_piece (inl interval) = inr interval
+      of_piece (inr (latent, same)) =
+          let held = All-slice_get (λ (x : Stream). Contains grid (high_end x) × Contains grid (low_end x)) c.streams i s (holds_ends c.streams c.utilities grid holds) h.stream in
+          let level = level-latent s latent in
+          let is : high_end s ≡ p.high = omega (arith, ints, h.from, h.upto) in
+          inl (same, subst (Contains grid) is held.0)
+  on_places p (inr h) = at_level (kind p (inr h))
+    where
+      at_level : IsStreamHere p ⊎ IsUtilityHere c side p → StandsOn grid p
+      at_level (inl stream) = absurd (both_ways (is_stream p.source) (ap (λ q. is_stream q.source) h.2.is) stream.source_is)
+      at_level (inr utility) = inl (utility.high ∙ sym utility.low, subst (Contains grid) (sym utility.high) (end_on_grid c grid valid standard on_grid side))
 
   order : (p : Part) → StandsOn grid p → p.low ≤ℤ p.high
   order p (inl level) = let same = level.0 in omega (arith, ints)

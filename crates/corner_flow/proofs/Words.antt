@@ -2,7 +2,7 @@
 pub use Rattle.corner_flow.specs.Corner.{IsCornerFlow, NeedsHeat, NoHeatCrosses, NoHeatCrossesPinch, UtilityHeat, as_pair, as_transfer, corner_price, counts_low, has_level, is_level_at, heats_of, part_heat}
 pub use Rattle.grid.specs.Bounds.{IsBounded}
 pub use Rattle.grid.specs.Grid.{HoldsPlaces, IsGrid, places_of}
-pub use Rattle.grid.specs.Part.{AreCaseParts, AreParts, IsInterval, IsPartOf, comes_before, stands_above, utility_part}
+pub use Rattle.grid.specs.Part.{AreCaseParts, AreParts, IsInterval, IsPartOf, IsPiece, comes_before, stands_above, utility_part}
 pub use Rattle.grid.specs.declared.part.Part.{Part}
 pub use Rattle.heat_flow.specs.Certificate.{IsFlowOf}
 pub use Rattle.heat_flow.specs.Cuts.{parts_of}
@@ -15,7 +15,7 @@ pub use Rattle.problem_table.specs.Sides.{sum_side}
 pub use Rattle.stream_case.specs.Case.{IsComplete, IsStandard, is_forbidden, outermost, standard_utility}
 pub use Rattle.stream_case.specs.Limits.{IsBetween, IsHeat, IsPartPrice}
 pub use Rattle.stream_case.specs.Source.{is_stream}
-pub use Rattle.stream_case.specs.Stream.{HasValidStreams, IsLatent, IsSensible, IsValidStream, counts_above, heat_over, high_end, load_over, low_end, stream_ends}
+pub use Rattle.stream_case.specs.Stream.{HasValidStreams, IsLatent, IsSensible, IsValidStream, counts_above, heat_over, high_end, load_over, low_end, sensible_above, stream_ends}
 pub use Rattle.stream_case.specs.Utility.{shifted_level}
 pub use Rattle.stream_case.specs.declared.case.Case.{Case}
 pub use Rattle.stream_case.specs.declared.limits.TheConstants.{MOST_HEAT}

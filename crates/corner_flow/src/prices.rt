@@ -93,14 +93,10 @@ pub fn corner_prices(
     requires from { IsTrue from ↔ CountsFromItself case.now.streams place }
     requires hot_target { targets.hot ≡ hot_target case.now.streams }
     requires cold_target { targets.cold ≡ cold_target case.now.streams }
-    ensures hot {
-        let low = counts_low case.now.streams from place in
-        IfOk result (λ prices. prices.hot ≡ map (corner_price targets.hot low place) parts.now.hot)
-    }
-    ensures cold {
-        let low = counts_low case.now.streams from place in
-        IfOk result (λ prices. prices.cold ≡ map (corner_price targets.hot low place) parts.now.cold)
-    }
+    ensures hot { let low = counts_low case.now.streams from place in
+        IfOk result (λ prices. prices.hot ≡ map (corner_price targets.hot low place) parts.now.hot) }
+    ensures cold { let low = counts_low case.now.streams from place in
+        IfOk result (λ prices. prices.cold ≡ map (corner_price targets.hot low place) parts.now.cold) }
     ensures hot_range { IfOk result (λ prices. All IsPartPrice prices.hot) }
     ensures cold_range { IfOk result (λ prices. All IsPartPrice prices.cold) }
     ensures supporting { IfOk result (λ prices. IsSupporting (reach_between case.now parts.now.hot parts.now.cold) prices.hot prices.cold) }
