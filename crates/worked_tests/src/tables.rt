@@ -129,20 +129,6 @@ pub fn stream(
     })
 }
 
-/// A latent stream with this contribution, at its one temperature.
-pub fn latent(
-    text: &str,
-    side: Side,
-    level: i32,
-    load: i64,
-    contribution: i32,
-) -> Result<Stream, Fail> {
-    Ok(Stream {
-        load,
-        ..stream(text, side, (level, level), 0, contribution)?
-    })
-}
-
 /// A utility with this contribution, and with its least and its most heat.
 pub fn utility(
     text: &str,
