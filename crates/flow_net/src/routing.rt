@@ -117,7 +117,7 @@ impl Routing {
 
 /// The openings of the links of a net where nothing flows.
 fn openings_of(alloc: Global, net: &Net) -> Result<Vec<Opening>, AllocError>
-    ensures { IfOk result (λ openings. AreOpenings net.now.links (replicate (length net.now.links) (pos 0)) openings.items) }
+    ensures { IfOk result (λ o. AreOpenings net.now.links (replicate (length net.now.links) (pos 0)) o.items) }
 {
     let mut openings = Vec::with_capacity(alloc, net.links.len())?;
     for link in net.links.as_slice() {

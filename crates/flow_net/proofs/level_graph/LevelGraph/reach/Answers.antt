@@ -28,15 +28,17 @@ pub loop-index-preserved : goal.loop-index-preserved
 loop-index-preserved c =
     let p = c.args.problem.now in
     let inv = c.loop-index.invariant in
+    let levels = c.loop-index.self.levels.items in
+    let head = c.ways_from-ways.ensures.heads c.loop-index.index no_way c.loop-index-test.true in
     let v = (get_or c.ways_from-ways.result.now c.loop-index.index no_way).head in
     elim c.if-is_none.branch [
       | then-is_none+then-is_open+then-reduced_cost-eq0+in_ok-push w ↦ record {
         graph = record {
-          one_level_each = ap (λ g. length g.levels.items) w.self-is ∙ (length-set c.loop-index.self.levels.items v (Some c.args.level) ∙ inv.graph.one_level_each);
+          one_level_each = ap (λ g. length g.levels.items) w.self-is ∙ (length-set levels v (Some c.args.level) ∙ inv.graph.one_level_each);
           one_cursor_each = ap (λ g. length g.cursors.items) w.self-is ∙ inv.graph.one_cursor_each;
         };
         next = subst (All (λ u. u < p.net.now.nodes)) (sym (ap (λ x. x.items) w.next-is ∙ w.in_ok-push.ensures.items))
-            (All-push (λ u. u < p.net.now.nodes) c.loop-index.next.items v inv.next (c.ways_from-ways.ensures.heads c.loop-index.index no_way c.loop-index-test.true));
+            (All-push (λ u. u < p.net.now.nodes) c.loop-index.next.items v inv.next head);
       }
       | else-is_none w ↦ record {
         graph = subst (IsLevelGraph p) (sym w.self-is) inv.graph;

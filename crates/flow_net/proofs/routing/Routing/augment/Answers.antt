@@ -66,7 +66,9 @@ returns-clause-standing c =
     let limited = most.limited in
     let from = c.requires.standing.routed_from in
     let limit = c.requires.standing.problem.amount.upto in
-    Stands-same p _ _ _ _ _ _ _ flow (ap (λ v. v.items) inv.potentials) (omega (arith, ints)) (Stands-augmented p r c.requires.standing path c.requires.path m most _ (subst (λ f. AreOpenings p.net.now.links f c.loop-arc.self.openings.items) flow inv.openings))
+    let opened = subst (λ f. AreOpenings p.net.now.links f c.loop-arc.self.openings.items) flow inv.openings in
+    Stands-same p _ _ _ _ _ _ _ flow (ap (λ v. v.items) inv.potentials) (omega (arith, ints))
+    (Stands-augmented p r c.requires.standing path c.requires.path m most _ opened)
 
 pub returns-clause-amount : goal.returns-clause-amount
 returns-clause-amount c =
