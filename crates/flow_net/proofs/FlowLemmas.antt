@@ -1,5 +1,5 @@
 -- The arcs of a net, and what an amount sent along an arc, or along a path, keeps and changes.
-use Rattle.std.proofs.Common.{◌≡◌, ◌≢◌, ◌==◌, ℕ, ◌+◌, ◌<◌, ◌≤◌, Bool, true, false, List, [], ◌∷◌, length, get_or, set, take, drop, ℤ, pos, ◌+ℤ◌, ◌-ℤ◌, ◌≤ℤ◌, ◌<ℤ◌, ap, ◌∙◌, sym, subst, refl, inl, inr, arith}
+use Rattle.std.proofs.Common.{◌≡◌, ◌≢◌, ◌==◌, ◌↔◌, IsTrue, ℕ, ◌+◌, ◌<◌, ◌≤◌, Bool, true, false, List, [], ◌∷◌, length, get_or, set, take, drop, ℤ, pos, ◌+ℤ◌, ◌-ℤ◌, ◌≤ℤ◌, ◌<ℤ◌, ap, ◌∙◌, sym, subst, refl, inl, inr, arith}
 use Rattle.std.specs.List.{All}
 use Rattle.std.specs.Int.RustNames.{unsigned_abs}
 use Rattle.std.proofs.Math.IntN.{neg_ℤ-neg_ℤ}
@@ -11,10 +11,11 @@ use Rattle.std.proofs.lemmas.List.Elements.{All-head, All-tail}
 use Rattle.flow_net.specs.declared.net.Link.{Link}
 use Rattle.flow_net.specs.declared.net.Net.{Net}
 use Rattle.flow_net.specs.declared.arc.Arc.{Arc}
+use Rattle.flow_net.specs.declared.opening.Opening.{Opening}
 use Rattle.flow_net.specs.Sum.{sum_below}
 use Rattle.flow_net.specs.Net.{link_at, flow_on, IsWithinRooms, reduced_cost, AreProofOfLeast, IsCost, IsWithinLimits, largest_cost}
 use Rattle.flow_net.specs.Arc.{arc_of, turned, carry, IsArc}
-use Rattle.flow_net.specs.Flow.{residual_of, sent_along, sent_along_path, reduced_cost_of, IsWalk, CanCarry}
+use Rattle.flow_net.specs.Flow.{residual_of, is_open, opening_at, IsOpening, AreOpenings, sent_along, sent_along_path, reduced_cost_of, IsWalk, CanCarry}
 use Rattle.flow_net.proofs.Sizes.{sizes, size-le-greatest}
 use Rattle.flow_net.proofs.Sums.{sum_below-change}
 use Rattle.flow_net.proofs.Duality.{when, surplus}
@@ -57,6 +58,16 @@ reduced-not_negative links flow potentials proof = arc_cases links (λ a. pos 0 
     way k true below residual = proof.left_to_add k below (omega (arith, ints))
     way k false below residual = let h = proof.flowing k below residual in omega (arith, ints)
 
+-- an arc can carry more where its way is open
+pub open-residual : (links : List Link) (flow : List ℤ) (openings : List Opening) → AreOpenings links flow openings → (a : Arc) → IsArc links a → IsTrue (is_open (opening_at openings a.link) a.forward) ↔ (pos 0 <ℤ residual_of links flow a)
+open-residual links flow openings are = arc_cases links (λ a. IsTrue (is_open (opening_at openings a.link) a.forward) ↔ (pos 0 <ℤ residual_of links flow a)) way
+  where
+    way : (k : ℕ) (w : Bool) → k < length links → IsTrue (is_open (opening_at openings (arc_of (link_at links k) k w).link) (arc_of (link_at links k) k w).forward) ↔ (pos 0 <ℤ residual_of links flow (arc_of (link_at links k) k w))
+    way k true below =
+        let o = (are.each k below).forward in
+        (λ h. let left = o.0 h in omega (arith, ints, left), λ h. o.1 (omega (arith, ints, h)))
+    way k false below = (are.each k below).back
+
 -- one link's flow changed
 module _ (links : List Link) (flow : List ℤ) (k : ℕ) (below : k < length links) (one_each : length flow ≡ length links) (x : ℤ) where
   flow_here : flow_on (set flow k x) k ≡ x
@@ -95,6 +106,23 @@ module _ (links : List Link) (flow : List ℤ) (k : ℕ) (below : k < length lin
       let out = changed_sum (λ j. (link_at links j).from == v) in
       let into = changed_sum (λ j. (link_at links j).to == v) in
       omega (arith, ints, out, into)
+
+  changed_openings : (openings : List Opening) (o : Opening) → IsOpening (link_at links k) x o → AreOpenings links flow openings → AreOpenings links (set flow k x) (set openings k o)
+  changed_openings openings o here are =
+      let none : Opening = record { forward = false; back = false } in
+      let opening_here = get_or-set_same openings k o none (let e = are.one_each in omega arith) in
+      record {
+        one_each = length-set openings k o ∙ are.one_each;
+        each = λ j l. elim (cases_eq j k) [
+          | inl e ↦
+              subst (λ i. IsOpening (link_at links i) (flow_on (set flow k x) i) (opening_at (set openings k o) i)) (sym e)
+              (subst (λ z. IsOpening (link_at links k) z (opening_at (set openings k o) k)) (sym flow_here)
+              (subst (IsOpening (link_at links k) x) (sym opening_here) here))
+          | inr ne ↦
+              subst (λ z. IsOpening (link_at links j) z (opening_at (set openings k o) j)) (sym (flow_there j ne))
+              (subst (IsOpening (link_at links j) (flow_on flow j)) (sym (get_or-set_other openings k j o none ne)) (are.each j l))
+        ];
+      }
 
   changed_proof : (potentials : List ℤ) → AreProofOfLeast links flow potentials → reduced_cost (link_at links k) potentials ≡ pos 0 → AreProofOfLeast links (set flow k x) potentials
   changed_proof potentials proof none = record {
@@ -215,6 +243,11 @@ module _ (links : List Link) (flow : List ℤ) (path : List Arc) (m : ℤ) (i : 
 
   pub next_carries : CanCarry links (sent_along flow (get_or path i no_arc) m) (drop (i + 1) path) m
   next_carries = CanCarry-rest links flow (get_or path i no_arc) (drop (i + 1) path) m rooms next_can
+
+  pub next_openings : (openings : List Opening) (o : Opening) → IsOpening (link_at links (get_or path i no_arc).link) (carry (get_or path i no_arc) (flow_on flow (get_or path i no_arc).link) m) o → AreOpenings links flow openings → AreOpenings links (sent_along flow (get_or path i no_arc) m) (set openings (get_or path i no_arc).link o)
+  next_openings openings o here are =
+      let a = get_or path i no_arc in
+      changed_openings links flow a.link next_arc.below rooms.one_each (carry a (flow_on flow a.link) m) openings o here are
 
   pub next_sent : (first : List ℤ) → flow ≡ sent_along_path first (take i path) m → sent_along flow (get_or path i no_arc) m ≡ sent_along_path first (take (i + 1) path) m
   next_sent first e = ap (λ f. sent_along f (get_or path i no_arc) m) e ∙ sym (fold_more (λ f a. sent_along f a m) first path i no_arc within)

@@ -171,11 +171,12 @@ module _ (p : Problem) (r : Routing) (s : Search) (standing : IsStanding p r) (a
           omega (arith, sizes);
     }
 
-    pub Stands-raised : Stands p r.flow.items potentials r.routed
+    pub Stands-raised : Stands p r.flow.items potentials r.routed r.openings.items
     Stands-raised = record {
       problem = standing.problem;
       routed_from = standing.routed_from;
       routed_upto = standing.routed_upto;
+      opened = standing.opened;
       routes = standing.routes;
       proof = raised_proof;
       bounded = raised_bounded;

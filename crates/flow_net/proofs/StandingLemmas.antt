@@ -9,11 +9,12 @@ use Rattle.flow_net.specs.declared.limits.TheConstants.{MOST_NODES, MOST_COST, M
 use Rattle.flow_net.specs.declared.net.Link.{Link}
 use Rattle.flow_net.specs.declared.net.Net.{Net}
 use Rattle.flow_net.specs.declared.arc.Arc.{Arc}
+use Rattle.flow_net.specs.declared.opening.Opening.{Opening}
 use Rattle.flow_net.specs.declared.problem.Problem.{Problem}
 use Rattle.flow_net.specs.declared.routing.Routing.{Routing}
 use Rattle.flow_net.specs.Net.{link_at, flow_on, potential_at, outflow, inflow, largest_cost, IsWithinLimits}
 use Rattle.flow_net.specs.Arc.{IsArc}
-use Rattle.flow_net.specs.Flow.{reduced_cost_of, sent_along_path, CanCarry, IsPotential, IsPriced}
+use Rattle.flow_net.specs.Flow.{reduced_cost_of, sent_along_path, CanCarry, AreOpenings, IsPotential, IsPriced}
 use Rattle.flow_net.specs.Problem.{IsProblem, Stands, IsStanding, IsResidualArc, IsFreeArc, IsFreePath, IsBottleneck}
 use Rattle.flow_net.proofs.Sizes.{size-le-greatest, greatest-le}
 use Rattle.flow_net.proofs.Sums.{sum_below-zero}
@@ -25,9 +26,9 @@ pub largest_cost-small : (net : Net) → IsWithinLimits net → largest_cost net
 largest_cost-small net limits = greatest-le (λ (l : Link). l.cost) net.links MOST_COST (record { from = 0; to = 0; room = pos 0; cost = pos 0 }) (λ k l. (limits.links k l).cost)
 
 -- the same lists and the same amount stand alike
-pub Stands-same : (p : Problem) (flow flow' potentials potentials' : List ℤ) (routed routed' : ℤ) → flow' ≡ flow → potentials' ≡ potentials → routed' ≡ routed → Stands p flow potentials routed → Stands p flow' potentials' routed'
-Stands-same p flow flow' potentials potentials' routed routed' e f g h =
-    subst (λ x. Stands p x potentials' routed') (sym e) (subst (λ x. Stands p flow x routed') (sym f) (subst (Stands p flow potentials) (sym g) h))
+pub Stands-same : (p : Problem) (flow flow' potentials potentials' : List ℤ) (routed routed' : ℤ) (openings : List Opening) → flow' ≡ flow → potentials' ≡ potentials → routed' ≡ routed → Stands p flow potentials routed openings → Stands p flow' potentials' routed' openings
+Stands-same p flow flow' potentials potentials' routed routed' openings e f g h =
+    subst (λ x. Stands p x potentials' routed' openings) (sym e) (subst (λ x. Stands p flow x routed' openings) (sym f) (subst (λ x. Stands p flow potentials x openings) (sym g) h))
 
 module _ (p : Problem) (r : Routing) (standing : IsStanding p r) where
   pub IsPotential-standing : (v : ℕ) → v < p.net.now.nodes → IsPotential (potential_at r.potentials.items v)
@@ -63,8 +64,8 @@ module _ (p : Problem) (r : Routing) (standing : IsStanding p r) where
       residual = most.residual;
     }
 
-    pub Stands-augmented : Stands p (sent_along_path r.flow.items path m) r.potentials.items (r.routed +ℤ m)
-    Stands-augmented =
+    pub Stands-augmented : (openings : List Opening) → AreOpenings p.net.now.links (sent_along_path r.flow.items path m) openings → Stands p (sent_along_path r.flow.items path m) r.potentials.items (r.routed +ℤ m) openings
+    Stands-augmented openings are =
         let net = p.net.now in
         let some = most.some in
         let limited = most.limited in
@@ -75,6 +76,7 @@ module _ (p : Problem) (r : Routing) (standing : IsStanding p r) where
           problem = standing.problem;
           routed_from = omega (arith, ints);
           routed_upto = omega (arith, ints);
+          opened = are;
           routes = routing_from_surplus net standing.problem.net p.source p.sink standing.problem.ends (r.routed +ℤ m) (sent_along_path r.flow.items path m) (path-rooms net.links r.flow.items path m from rooms path_carries)
               (λ v within.
               let before = surplus_is net standing.problem.net p.source p.sink standing.problem.ends r.routed r.flow.items standing.routes v within in
@@ -94,13 +96,14 @@ module _ (p : Problem) (r : Routing) (standing : IsStanding p r) where
         when-sum false x = refl
 
 -- nothing is routed yet
-pub Stands-none : (p : Problem) → IsProblem p → Stands p (replicate (length p.net.now.links) (pos 0)) p.start.now (pos 0)
-Stands-none p h =
+pub Stands-none : (p : Problem) (openings : List Opening) → IsProblem p → AreOpenings p.net.now.links (replicate (length p.net.now.links) (pos 0)) openings → Stands p (replicate (length p.net.now.links) (pos 0)) p.start.now (pos 0) openings
+Stands-none p openings h are =
     let amount = h.amount.from in
     record {
       problem = h;
       routed_from = omega (arith, ints);
       routed_upto = amount;
+      opened = are;
       routes = record {
         rooms = record {
           one_each = length-replicate {A = ℤ} (length p.net.now.links) (pos 0);

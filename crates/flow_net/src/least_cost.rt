@@ -68,7 +68,8 @@ pub fn solve(
 }
 
 /// Raises the potentials after a search that has reached the sink, and augments along the path that it
-/// found, which has no reduced cost then, and along those of level graphs until the sink has no level.
+/// found, which has no reduced cost then. Where the sink's potential did not rise there may be more such
+/// paths: then also along those of level graphs, until the sink has no level.
 fn advance(
     alloc: Global,
     problem: &Problem,
@@ -81,9 +82,13 @@ fn advance(
     ensures standing { OnOk result (IsStanding problem.now routing.new) }
     ensures rises { OnOk result (routing.old.routed <ℤ routing.new.routed) }
 {
+    let rises = search.queue.level > 0;
     search.raise(problem, routing);
     let path = search.path(alloc, problem)?;
     routing.augment(problem, &path);
+    if rises {
+        return Ok(());
+    }
     while routing.routed < problem.amount {
         let before = routing.routed;
         augment_by_levels(alloc, problem, routing)?;

@@ -83,10 +83,15 @@ impl LevelGraph {
         ensures graph { OnOk result (IsLevelGraph problem.now self.new) }
         ensures next { OnOk result (All (λ v. v < problem.now.net.now.nodes) next.new.items) }
     {
-        for arc in problem.arcs_from(node) {
-            if self.levels[arc.head as usize].is_none() && routing.is_free(problem, arc) {
-                self.levels[arc.head as usize] = Some(level);
-                next.push(arc.head)?;
+        let arcs = problem.arcs_from(node);
+        let ways = problem.ways_from(node);
+        for (index, way) in ways.iter().enumerate() {
+            if self.levels[way.head as usize].is_none()
+                && routing.is_open(way.link, way.forward)
+                && routing.reduced_cost(&arcs[index]) == 0
+            {
+                self.levels[way.head as usize] = Some(level);
+                next.push(way.head)?;
             }
         }
         Ok(())

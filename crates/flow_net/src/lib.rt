@@ -9,6 +9,7 @@ mod least_cost;
 mod level_graph;
 mod limits;
 mod net;
+mod opening;
 mod problem;
 mod queue;
 mod routing;

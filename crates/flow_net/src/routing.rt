@@ -1,17 +1,21 @@
 //! A part of the amount routed at least cost, with potentials that prove it.
-ghost use Rattle.std.specs.Prelude.{◌≡◌, ◌↔◌, ◌-ℤ◌, ◌<ℤ◌, IfOk, IsTrue};
+ghost use Rattle.std.specs.Prelude.{◌≡◌, ◌↔◌, ◌<◌, ◌-ℤ◌, ◌<ℤ◌, pos, length, replicate, IfOk, IsTrue};
 ghost use Rattle.flow_net.specs.Arc.{IsArc};
-ghost use Rattle.flow_net.specs.Flow.{residual_of, reduced_cost_of, IsPriced};
+ghost use Rattle.flow_net.specs.Flow.{residual_of, reduced_cost_of, opening_at, is_open, AreOpenings, IsPriced};
 ghost use Rattle.flow_net.specs.Problem.{IsProblem, IsStanding, IsResidualArc, IsFreeArc, IsFreePath, IsBottleneck};
 
 use crate::arc::Arc;
+use crate::net::Net;
+use crate::opening::Opening;
 use crate::problem::Problem;
 use std::alloc::{AllocError, Global};
 
-/// The flow on each link, the potential of each node, and how much is routed.
+/// The flow on each link, which ways along it can carry more, the potential of each node, and how much
+/// is routed.
 #[derive(Drop)]
 pub(crate) struct Routing {
     pub flow: Vec<i64>,
+    pub openings: Vec<Opening>,
     pub potentials: Vec<i64>,
     pub routed: i64,
 }
@@ -24,6 +28,7 @@ impl Routing {
     {
         Ok(Routing {
             flow: vec![in alloc; 0; problem.net.links.len()]?,
+            openings: openings_of(alloc, problem.net)?,
             potentials: Vec::from_slice(alloc, problem.start)?,
             routed: 0,
         })
@@ -51,13 +56,21 @@ impl Routing {
         arc.cost + self.potentials[arc.tail as usize] - self.potentials[arc.head as usize]
     }
 
+    /// Whether a link can carry more forward, or back.
+    pub fn is_open(&self, link: u32, forward: bool) -> bool
+        requires { link < length self.now.openings.items }
+        ensures { result ≡ is_open (opening_at self.now.openings.items link) forward }
+    {
+        self.openings[link as usize].is_open(forward)
+    }
+
     /// Whether an arc can carry more.
     pub fn is_residual(&self, problem: &Problem, arc: &Arc) -> bool
         requires standing { IsStanding problem.now self.now }
         requires arc { IsArc problem.now.net.now.links arc.now }
         ensures { IsTrue result ↔ IsResidualArc problem.now self.now arc.now }
     {
-        self.residual(problem, arc) > 0
+        self.is_open(arc.link, arc.forward)
     }
 
     /// Whether an arc can carry more and has no reduced cost.
@@ -80,7 +93,9 @@ impl Routing {
         let amount = self.bottleneck(problem, path);
         for arc in path {
             let link = arc.link as usize;
-            self.flow[link] = arc.carry(self.flow[link], amount);
+            let carried = arc.carry(self.flow[link], amount);
+            self.flow[link] = carried;
+            self.openings[link] = Opening::at(&problem.net.links.as_slice()[link], carried);
         }
         self.routed += amount;
     }
@@ -98,4 +113,15 @@ impl Routing {
         }
         least
     }
+}
+
+/// The openings of the links of a net where nothing flows.
+fn openings_of(alloc: Global, net: &Net) -> Result<Vec<Opening>, AllocError>
+    ensures { IfOk result (λ o. AreOpenings net.now.links (replicate (length net.now.links) (pos 0)) o.items) }
+{
+    let mut openings = Vec::with_capacity(alloc, net.links.len())?;
+    for link in net.links.as_slice() {
+        openings.push(Opening::at(link, 0))?;
+    }
+    Ok(openings)
 }

@@ -15,6 +15,12 @@ augment-requires-clause-path c =
     subst (IsFreePath c.args.problem.now c.raise.new.routing) (sym c.deref.ensures.value)
     (IsFreePath-tree c.args.problem.now c.raise.new.routing c.args.search c.in_ok-path.path.items tree c.raise.ensures.free c.in_ok-path.ensures)
 
+pub returns-then-rises-clause-rises : goal.returns-then-rises-clause-rises
+returns-then-rises-clause-rises c =
+    let same = c.raise.ensures.routed in
+    let some = c.augment.ensures.amount.some in
+    omega (arith, ints, same, some)
+
 pub loop-routing-smaller : goal.loop-routing-smaller
 loop-routing-smaller c =
     less_left c.args.problem.now.amount c.loop-routing.routing.routed c.augment_by_levels.new.routing.routed

@@ -3,5 +3,5 @@ use Rattle.std.specs.List.{All}
 use Rattle.flow_net.specs.LevelGraph.{IsLevelGraph}
 use Rattle.flow_net.proofs.level_graph.LevelGraph.reach.Given as goal
 
-abbrev pub invariant-loop-arc : goal.invariant-loop-arc
-invariant-loop-arc l = record { graph : IsLevelGraph l.problem l.self; next : All (λ v. v < l.problem.net.now.nodes) l.next.items }
+abbrev pub invariant-loop-index : goal.invariant-loop-index
+invariant-loop-index l = record { graph : IsLevelGraph l.problem l.self; next : All (λ v. v < l.problem.net.now.nodes) l.next.items }

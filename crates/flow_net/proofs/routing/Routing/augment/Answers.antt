@@ -2,15 +2,15 @@ use Rattle.std.proofs.Common.{◌≡◌, ◌+◌, get_or, drop, set, pos, ◌+�
 use Rattle.std.proofs.lemmas.Int.{ints, to_z-of_z}
 use Rattle.std.proofs.lemmas.List.{take_all}
 use Rattle.flow_net.specs.Arc.{carry}
-use Rattle.flow_net.specs.Flow.{sent_along, sent_along_path, CanCarry}
-use Rattle.flow_net.specs.Net.{IsWithinRooms}
+use Rattle.flow_net.specs.Flow.{sent_along, sent_along_path, CanCarry, IsOpening, AreOpenings}
+use Rattle.flow_net.specs.Net.{link_at, IsWithinRooms}
 use Rattle.flow_net.specs.Problem.{IsBottleneck}
-use Rattle.flow_net.proofs.FlowLemmas.{no_arc, next_arc, next_carried, next_rooms, next_carries, next_sent}
+use Rattle.flow_net.proofs.FlowLemmas.{no_arc, next_arc, next_carried, next_rooms, next_carries, next_openings, next_sent}
 use Rattle.flow_net.proofs.StandingLemmas.{Stands-same, Stands-augmented}
 use Rattle.flow_net.proofs.routing.Routing.augment.Goals as goal
 
-pub carry-requires-clause-carried : goal.carry-requires-clause-carried
-carry-requires-clause-carried c =
+pub carry-carried-requires-clause-carried : goal.carry-carried-requires-clause-carried
+carry-carried-requires-clause-carried c =
     let links = c.args.problem.now.net.now.links in
     let inv = c.loop-arc.invariant in
     let path = c.args.path.now in
@@ -36,11 +36,15 @@ loop-arc-preserved c =
     let read = next_carried links flow path m i within inv.rooms inv.can_carry c.index.result.now c.index.ensures in
     let from : pos 0 ≤ℤ m = (let some = c.bottleneck-amount.ensures.some in omega (arith, ints)) in
     let kept_index = to_z-of_z w64 c.index.result.now (search rules) in
-    let kept = to_z-of_z w64 c.carry.result (search rules) in
-    let sent : set flow a.link (to_z w64 (of_z w64 c.carry.result)) ≡ sent_along flow a m =
-    ap (set flow a.link) (kept ∙ (c.carry.ensures ∙ ap (λ x. carry a x m) (kept_index ∙ read))) in
+    let kept = to_z-of_z w64 c.carry-carried.result (search rules) in
+    let value = kept ∙ (c.carry-carried.ensures ∙ ap (λ x. carry a x m) (kept_index ∙ read)) in
+    let sent : set flow a.link (to_z w64 (of_z w64 c.carry-carried.result)) ≡ sent_along flow a m = ap (set flow a.link) value in
+    let opened = subst (λ xs. IsOpening (link_at xs a.link) (to_z w64 (of_z w64 c.carry-carried.result)) c.at.result) c.as_slice.ensures c.at.ensures in
+    let opening = subst (λ z. IsOpening (link_at links a.link) z c.at.result) value opened in
     record {
       rooms = subst (IsWithinRooms links) (sym sent) (next_rooms links flow path m i within inv.rooms inv.can_carry from);
+      openings = subst (λ f. AreOpenings links f (set c.loop-arc.self.openings.items a.link c.at.result)) (sym sent)
+          (next_openings links flow path m i within inv.rooms inv.can_carry c.loop-arc.self.openings.items c.at.result opening inv.openings);
       can_carry = subst (λ f. CanCarry links f (drop (i + 1) path) m) (sym sent) (next_carries links flow path m i within inv.rooms inv.can_carry);
       sent = sent ∙ next_sent links flow path m i within inv.rooms inv.can_carry c.args.self.now.flow.items inv.sent;
       potentials = inv.potentials;
@@ -62,7 +66,9 @@ returns-clause-standing c =
     let limited = most.limited in
     let from = c.requires.standing.routed_from in
     let limit = c.requires.standing.problem.amount.upto in
-    Stands-same p _ _ _ _ _ _ flow (ap (λ v. v.items) inv.potentials) (omega (arith, ints)) (Stands-augmented p r c.requires.standing path c.requires.path m most)
+    let opened = subst (λ f. AreOpenings p.net.now.links f c.loop-arc.self.openings.items) flow inv.openings in
+    Stands-same p _ _ _ _ _ _ _ flow (ap (λ v. v.items) inv.potentials) (omega (arith, ints))
+    (Stands-augmented p r c.requires.standing path c.requires.path m most _ opened)
 
 pub returns-clause-amount : goal.returns-clause-amount
 returns-clause-amount c =

@@ -1,11 +1,12 @@
 use Rattle.std.proofs.Common.{◌≡◌, take, drop}
-use Rattle.flow_net.specs.Flow.{sent_along_path, CanCarry}
+use Rattle.flow_net.specs.Flow.{sent_along_path, CanCarry, AreOpenings}
 use Rattle.flow_net.specs.Net.{IsWithinRooms}
 use Rattle.flow_net.proofs.routing.Routing.augment.Given as goal
 
 abbrev pub invariant-loop-arc : goal.invariant-loop-arc
 invariant-loop-arc l = record {
   rooms : IsWithinRooms l.problem.net.now.links l.self.flow.items;
+  openings : AreOpenings l.problem.net.now.links l.self.flow.items l.self.openings.items;
   can_carry : CanCarry l.problem.net.now.links l.self.flow.items (drop l.arc-index l.path) l.amount;
   sent : l.self.flow.items ≡ sent_along_path l.initial.self.flow.items (take l.arc-index l.path) l.amount;
   potentials : l.self.potentials ≡ l.initial.self.potentials;

@@ -1,12 +1,15 @@
-use Rattle.std.proofs.Common.{ℤ, pos, ◌<ℤ◌, ◌↔◌, IsTrue, to_z, of_z, w64, FitsSigned, rules, arith}
-use Rattle.std.specs.Int.Signed.{lt_z}
-use Rattle.std.proofs.lemmas.Int.{ints}
+use Rattle.std.proofs.Common.{IsTrue, sym, subst, arith}
+use Rattle.flow_net.proofs.FlowLemmas.{open-residual}
 use Rattle.flow_net.proofs.routing.Routing.is_residual.Goals as goal
 
-above_zero : (x : ℤ) → FitsSigned w64 x → IsTrue (lt_z (pos 0) (to_z w64 (of_z w64 x))) ↔ (pos 0 <ℤ x)
-above_zero x fits = (λ h. grind (arith, ints), λ h. grind (arith, ints))
+pub is_open-requires : goal.is_open-requires
+is_open-requires c = let e = c.requires.standing.opened.one_each in let b = c.requires.arc.below in omega arith
 
 pub returns : goal.returns
 returns c =
-    let above = above_zero c.residual.result (search rules) in
-    (λ h. record { arc = c.requires.arc; residual = rw (← c.residual.ensures) (above.0 h) }, λ is. above.1 (rw c.residual.ensures is.residual))
+    let r = c.args.self.now in
+    let links = c.args.problem.now.net.now.links in
+    let opens = open-residual links r.flow.items r.openings.items c.requires.standing.opened c.args.arc.now c.requires.arc in (
+      λ h. record { arc = c.requires.arc; residual = opens.0 (subst IsTrue c.is_open.ensures h) },
+      λ is. subst IsTrue (sym c.is_open.ensures) (opens.1 is.residual),
+    )

@@ -3,6 +3,7 @@ use Rattle.std.proofs.lemmas.Int.{ints, to_z-of_z}
 use Rattle.std.proofs.lemmas.List.{get_or_read, length-set}
 use Rattle.flow_net.specs.Net.{potential_at}
 use Rattle.flow_net.specs.Flow.{residual_of}
+use Rattle.flow_net.specs.Problem.{Stands}
 use Rattle.flow_net.specs.Search.{rise_of}
 use Rattle.flow_net.proofs.Lists.{set_cases}
 use Rattle.flow_net.proofs.Sizes.{sizes}
@@ -52,6 +53,7 @@ loop-node-preserved c =
     let within : v < length potentials = (let w = at.within in let e = inv.one_each in omega arith) in
     record {
       flow = inv.flow;
+      openings = inv.openings;
       routed = inv.routed;
       one_each = length-set potentials v _ ∙ inv.one_each;
       raised = set_cases potentials v _ (pos 0) within (λ u z. u < v + 1 → z ≡ potential_at r.potentials.items u +ℤ rise_of s u) (λ _. value) (λ u ne l. inv.raised u (omega (arith, ne, l)));
@@ -62,8 +64,9 @@ pub returns-clause-standing : goal.returns-clause-standing
 returns-clause-standing c =
     let inv = c.loop-node.invariant in
     let all = c.loop-node-test.false in
-    Stands-same c.args.problem.now _ _ _ _ _ _ (ap (λ v. v.items) inv.flow) refl inv.routed
-    (Stands-raised c.args.problem.now c.args.routing.now c.args.self.now c.requires.standing c.requires.arrived c.loop-node.routing.potentials.items inv.one_each (λ v within. inv.raised v (let e = c.len-node-end.ensures in let ok = c.args.routing.now.potentials.ok.0 in omega arith)))
+    subst (λ v. Stands c.args.problem.now c.loop-node.routing.flow.items c.loop-node.routing.potentials.items c.loop-node.routing.routed v.items) (sym inv.openings)
+    (Stands-same c.args.problem.now _ _ _ _ _ _ _ (ap (λ v. v.items) inv.flow) refl inv.routed
+    (Stands-raised c.args.problem.now c.args.routing.now c.args.self.now c.requires.standing c.requires.arrived c.loop-node.routing.potentials.items inv.one_each (λ v within. inv.raised v (let e = c.len-node-end.ensures in let ok = c.args.routing.now.potentials.ok.0 in omega arith))))
 
 pub returns-clause-free : goal.returns-clause-free
 returns-clause-free c = λ a last.

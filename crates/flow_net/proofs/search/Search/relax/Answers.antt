@@ -1,4 +1,4 @@
-use Rattle.std.proofs.Common.{◌≡◌, true, false, pos, ◌<◌, ◌+ℤ◌, ◌≤ℤ◌, w64, to_z, of_z, FitsSigned, sym, subst, ◌∙◌, arith}
+use Rattle.std.proofs.Common.{◌≡◌, false, pos, ◌<◌, ◌+ℤ◌, ◌≤ℤ◌, w64, to_z, of_z, FitsSigned, sym, subst, ◌∙◌, arith}
 use Rattle.std.proofs.lemmas.Bool.{false≢true}
 use Rattle.std.proofs.lemmas.List.{get_or_read}
 use Rattle.std.proofs.lemmas.Result.{on_ok_weaker}
