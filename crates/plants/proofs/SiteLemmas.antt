@@ -8,7 +8,7 @@ use Rattle.std.proofs.lemmas.List.{append-nil}
 use Rattle.std.proofs.lemmas.List.Elements.{All-cons, All-drop, All-nil, All-take}
 use Rattle.std.proofs.lemmas.List.Sums.{sum_by-append}
 use Rattle.stream_case.specs.Source.{same_side}
-use Rattle.stream_case.specs.Stream.{AreSensible, AreStreams, IsSensible, IsValidStream, count_on, stream_ends}
+use Rattle.stream_case.specs.Stream.{AreStreams, IsSensible, IsValidStream, count_on, stream_ends}
 use Rattle.stream_case.specs.declared.source.Side.{Side}
 use Rattle.stream_case.specs.declared.stream.Stream.{Stream}
 use Rattle.stream_case.proofs.EndLemmas.{stream_ends-append}
