@@ -26,6 +26,8 @@ FOUR = example('four-stream.csv')
 FOUR_NETWORK = example('four-stream-network.txt')
 OWN = example('own-contributions.csv')
 OWN_NETWORK = example('own-contributions-network.txt')
+COLUMN = example('column.csv')
+EVAPORATING = text('contribution,,50,,,,', 'hot,H,1500,700,10,,', 'cold,B,900,900,0,8000,')
 FORBIDDEN = text('contribution,,50,,,,', 'hot,H,1000,500,10,,', 'cold,C,300,700,10,,', 'forbid,H,C,,,,')
 THREE = text('contribution,,50,,,,', 'hot,H,1000,500,10,,', 'cold,C,300,500,5,,', 'cold,D,300,500,10,,')
 SMALL = text('contribution,,50,,,,', 'hot,H,1000,500,2,,')
@@ -67,6 +69,10 @@ COMMANDS = [
     (['audit', 'case', 'net'], {'case': FOUR, 'net': text('end')}, ['case', 'network'], 4, 'network line 1 FieldCount\n'),
     (['audit', 'case', 'net'], {'case': OWN, 'net': OWN_NETWORK}, ['case', 'network'], 0, 'accepted\nhot 93750\n'),
     (['design', 'case'], {'case': OWN}, ['case'], 0, '# hot 93750 cold 28750 excess 0 cost 93750\n'),
+    (['flow', 'case'], {'case': COLUMN}, ['case'], 0, 'cost 2282000\nuse HOT 2282000\n'),
+    (['curves', 'case'], {'case': EVAPORATING}, ['case'], 3, 'case has latent streams\n'),
+    # The network is not read.
+    (['audit', 'case', 'net'], {'case': EVAPORATING}, ['case'], 3, 'case has latent streams\n'),
     (['site', 'site'], {'site': example('three-plants.csv')}, ['site'], 0, 'profile 2550 0 120000\n'),
     (['site', 'site'], {'site': LOW_MAIN}, ['site'], 1, 'profile 1400 0 0\n'),
     (['sweep', 'case', '50', '50', '1', '2'], {'case': example('too-little-cooling.csv')}, ['case'], 0,

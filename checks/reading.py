@@ -5,12 +5,15 @@ from fractions import Fraction
 import re
 
 LIMIT = 8388608
+LATENT = 'case has latent streams\n'
 NAME = re.compile(rb'[A-Za-z0-9][A-Za-z0-9_-]{0,15}\Z')
 DOTTED = re.compile(rb'\.?[A-Za-z0-9][A-Za-z0-9_-]{0,15}\Z')
 NUMBER = re.compile(rb'-?[0-9]{1,13}\Z')
 RATIO = re.compile(rb'(-?[0-9]{1,24})(?:/([0-9]{1,24}))?\Z')
 TRILLION = 10 ** 12
 TEMPERATURE, FLOW, SHARE, HEAT, PRICE = (-2731, 30000), (1, 100000), (0, 1000), (0, TRILLION), (-10 ** 6, 10 ** 6)
+# The load of a latent stream, and the CP where there is one.
+LOAD, LATENT_FLOW = (1, 10 ** 10), (0, 100000)
 # How many there may be: in a case (heaters and coolers together), in a site (streams of all plants together), in a network, in a sample.
 CASE_MOST = {'hot': 30, 'cold': 30, 'utility': 12, 'forbid': 400}
 SITE_MOST = {'hot': 12, 'cold': 12, 'plant': 6, 'main': 4}
@@ -80,9 +83,9 @@ def rows_of(data):
 # Streams, utilities and the rows that are common to cases and sites.
 
 class Source:
-    def __init__(self, name, hot, stream, supply, target, cp=0, least=0, most=0, price=0, plant=None, share=None):
+    def __init__(self, name, hot, stream, supply, target, cp=0, least=0, most=0, price=0, plant=None, share=None, load=0):
         self.name, self.hot, self.stream, self.supply, self.target, self.cp = name, hot, stream, supply, target, cp
-        self.least, self.most, self.price, self.plant, self.share = least, most, price, plant, share
+        self.least, self.most, self.price, self.plant, self.share, self.load = least, most, price, plant, share, load
 
     def actual(self):
         """The range as it is, as (low, high)."""
@@ -98,6 +101,9 @@ class Source:
 class Case:
     def __init__(self):
         self.share, self.streams, self.utilities, self.forbidden, self.mains, self.plants = None, [], [], [], [], []
+
+    def is_latent(self):
+        return any(each.load for each in self.streams)
 
     def ends(self):
         return sorted({end for each in self.streams for end in each.span()}, reverse=True)
@@ -145,22 +151,29 @@ def kind_of(row, at, kinds):
     return kind
 
 
-def numbers_with_share(row, fields, ranges, at):
-    """These numbers, and behind them that of the last field, or None where it is empty."""
-    if row[6] == b'':
-        return numbers(row, fields, ranges, at) + [None]
-    return numbers(row, fields + (6,), ranges + (SHARE,), at)
+def numbers_and_more(row, fields, ranges, more, at):
+    """These numbers, and behind them those of further fields with their ranges, each None where its field is empty."""
+    filled = [(field, limits) for field, limits in more if row[field] != b'']
+    values = numbers(row, fields + tuple(field for field, _ in filled), ranges + tuple(limits for _, limits in filled), at)
+    behind = iter(values[len(fields):])
+    return values[:len(fields)] + [next(behind) if row[field] != b'' else None for field, _ in more]
 
 
 def stream_of(row, at, kind, plant=None):
-    supply, target, cp, share = numbers_with_share(row, (2, 3, 4), (TEMPERATURE, TEMPERATURE, FLOW), at)
-    if supply <= target if kind == 'hot' else supply >= target:
+    """A stream of a case, or of a plant of a site, where none is latent."""
+    flow = LATENT_FLOW if row[5] != b'' else FLOW
+    supply, target, cp, load, share = numbers_and_more(row, (2, 3, 4), (TEMPERATURE, TEMPERATURE, flow), ((5, LOAD), (6, SHARE)), at)
+    if load is not None and (supply != target or cp != 0):
+        raise Refused(at, 'NotLatent')
+    if load is None and plant is None and supply == target:
+        raise Refused(at, 'NoLoad')
+    if load is None and (supply <= target if kind == 'hot' else supply >= target):
         raise Refused(at, 'WrongWay')
-    return Source(row[1], kind == 'hot', True, supply, target, cp, plant=plant, share=share)
+    return Source(row[1], kind == 'hot', True, supply, target, cp, plant=plant, share=share, load=load or 0)
 
 
-# The fields that a kind may fill. Only a case has contributions of its sources' own, in the last field.
-CASE_KINDS = {'contribution': {2}, 'hot': {1, 2, 3, 4, 6}, 'cold': {1, 2, 3, 4, 6}, 'heater': {1, 2, 3, 4, 5, 6}, 'cooler': {1, 2, 3, 4, 5, 6},
+# The fields that a kind may fill. Only a case has loads of latent streams and contributions of its sources' own, in the last two fields.
+CASE_KINDS = {'contribution': {2}, 'hot': {1, 2, 3, 4, 5, 6}, 'cold': {1, 2, 3, 4, 5, 6}, 'heater': {1, 2, 3, 4, 5, 6}, 'cooler': {1, 2, 3, 4, 5, 6},
               'forbid': {1, 2}}
 SITE_KINDS = {'contribution': {2}, 'hot': {1, 2, 3, 4}, 'cold': {1, 2, 3, 4}, 'plant': {1}, 'main': {1, 2}}
 
@@ -198,7 +211,7 @@ def case_of(data):
         if kind in ('hot', 'cold'):
             case.streams.append(stream_of(row, at, kind))
             continue
-        level, least, most, price, share = numbers_with_share(row, (2, 3, 4, 5), (TEMPERATURE, HEAT, HEAT, PRICE), at)
+        level, least, most, price, share = numbers_and_more(row, (2, 3, 4, 5), (TEMPERATURE, HEAT, HEAT, PRICE), ((6, SHARE),), at)
         if least > most:
             raise Refused(at, 'BadRange')
         case.utilities.append(Source(row[1], kind == 'heater', False, level, level, 0, least, most, price, share=share))
@@ -254,19 +267,24 @@ FAR = 10 ** 9
 
 
 def deficit(streams, place, above=True):
-    """What the cold streams take above (or below) a shifted temperature, less what the hot ones give there."""
+    """What the cold streams take above (or below) a shifted temperature, less what the hot ones give there. A load counts where its level is."""
     low, high = (place, FAR) if above else (-FAR, place)
-    return sum((-1 if each.hot else 1) * each.cp * within(each.span(), low, high) for each in streams)
+    return sum((-1 if each.hot else 1) * (each.cp * within(each.span(), low, high) + each.load * (low < each.span()[0] < high)) for each in streams)
+
+
+def deficit_from(streams, place):
+    """The deficit above a shifted temperature with the loads at it."""
+    return deficit(streams, place) + sum((-1 if each.hot else 1) * each.load for each in streams if each.span()[0] == place)
 
 
 def targets_of(case):
     """The hot and the cold target, the pinches from the highest down, and the reference place."""
     ends = case.ends()
-    deficits = [deficit(case.streams, end) for end in ends]
-    hot = max(0, max(deficits))
+    deficits = [(deficit(case.streams, end), deficit_from(case.streams, end)) for end in ends]
+    hot = max(0, max(map(max, deficits)))
     cold = hot - deficit(case.streams, -FAR)
-    pinches = [end for end, each in zip(ends, deficits) if each == hot and ends[-1] < end < ends[0]]
-    return hot, cold, pinches, next(end for end, each in zip(ends, deficits) if each == hot)
+    pinches = [end for end, both in zip(ends, deficits) if hot in both and ends[-1] < end < ends[0]]
+    return hot, cold, pinches, next(end for end, both in zip(ends, deficits) if hot in both)
 
 
 def targets_text(case):
@@ -608,6 +626,8 @@ def wanted_of(command, files):
         return Wanted((0,), targets_text(case), True)
     if command == 'site':
         return Wanted((0, 1), [profile_text(case) + line for line in ('boiler ', 'infeasible\ncut ')], False)
+    if command in ('curves', 'design', 'audit') and case.is_latent():
+        return Wanted((3,), LATENT, True)
     if command == 'audit':
         if len(files[1]) > LIMIT:
             return Wanted((5,), 'too long network\n', True)
@@ -620,12 +640,14 @@ def wanted_of(command, files):
     if command == 'curves':
         return Wanted((0,), curves_text(case), True)
     hot, cold, _, _ = targets_of(case)
+    if command == 'vertical' and not is_standard(case):
+        return Wanted((3,), 'case not standard\n', True)
+    if command == 'vertical' and case.is_latent():
+        return Wanted((3,), LATENT, True)
     if is_standard(case):
         # The least cost of a standard case is its hot target.
         return Wanted((0,), ['cost %d\nuse ' % hot] if command == 'flow' else ['# hot %d cold %d excess 0 cost %d\n' % (hot, cold, hot)]
                       if command in ('design', 'vertical') else ['row '], False)
-    if command == 'vertical':
-        return Wanted((3,), 'case not standard\n', True)
     return Wanted((0, 1), {'flow': ['cost ', 'infeasible\ncut '], 'design': ['# hot ', 'infeasible\ncut '], 'sweep': ['row ']}[command], False)
 
 
