@@ -5,8 +5,8 @@ use curves::{Point, cold_curve, grand_curve, hot_curve};
 use std::alloc::{AllocError, Global};
 use std::process::Abort;
 use std::test::Fail;
-use stream_case::Items;
 use stream_case::Side::Hot;
+use stream_case::{Items, has_latent};
 
 /// A heat and a temperature.
 type Corner = (i64, i32);
@@ -84,6 +84,9 @@ fn assert_curve(
 fn cases_have_these_curves(rt: HostRuntime) -> Result<(), Fail> {
     for worked in &CASES {
         let case = case_of(rt.alloc(), &worked.table)?;
+        if has_latent(case.streams.as_slice()) {
+            return Err("a stream is latent".into());
+        }
         assert_curve(&rt, "hot", hot_curve(rt.alloc(), &case), worked.hot);
         assert_curve(&rt, "cold", cold_curve(rt.alloc(), &case), worked.cold);
         assert_curve(&rt, "grand", grand_curve(rt.alloc(), &case), worked.grand);

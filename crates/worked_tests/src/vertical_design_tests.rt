@@ -6,7 +6,7 @@ use network_text::print_network;
 use std::alloc::Global;
 use std::test::Fail;
 use stream_case::Side::{Cold, Hot};
-use stream_case::is_standard;
+use stream_case::{has_latent, is_standard};
 use vertical_design::vertical;
 
 /// One hot stream and two cold ones, which need no hot utility.
@@ -54,6 +54,9 @@ fn design_of(alloc: Global, table: &Table) -> Result<Vec<u8>, Fail> {
     let case = completed_case(alloc, table)?;
     if !is_standard(&case) {
         return Err("the case is not standard".into());
+    }
+    if has_latent(case.streams.as_slice()) {
+        return Err("a stream is latent".into());
     }
     let network = vertical(alloc, &case)?;
     Ok(print_network(alloc, &case, &network)?)
