@@ -1,14 +1,15 @@
-//! The corner flow of the four-stream example and its certificate, worked by hand.
+//! The corner flows of two cases and their certificates, worked by hand.
 ghost use Rattle.stream_case.specs.Case.{IsComplete, IsStandard};
 ghost use Rattle.grid.specs.Part.{AreCaseParts};
 
 use crate::compare::{assert_lists, assert_same};
-use crate::flows::four_streams;
+use crate::flows::{Parted, four_streams, one_latent};
 use corner_flow::{corner, corner_prices, standard_cost};
 use grid::Parts;
 use heat_flow::{Flow, Prices, Reach, Transfer, cost_of, is_flow, is_supported, value_of};
-use problem_table::{reference_place, targets};
+use problem_table::{reference_from, reference_place, targets};
 use std::alloc::{AllocError, Global};
+use std::process::Abort;
 use std::test::Fail;
 use stream_case::Case;
 
@@ -31,6 +32,13 @@ const TRANSFERS: [(u32, u32, i64); 12] = [
 const HOT_PRICES: [i64; 9] = [1, 1, 1, 1, 1, 1, 0, 0, 0];
 
 const COLD_PRICES: [i64; 6] = [1, 1, 1, 0, 0, 0];
+
+/// The same where a cold stream evaporates at its level.
+const LATENT_TRANSFERS: [(u32, u32, i64); 3] = [(0, 0, 3000), (1, 0, 5000), (2, 1, 3000)];
+
+const LATENT_HOT_PRICES: [i64; 3] = [1, 1, 0];
+
+const LATENT_COLD_PRICES: [i64; 2] = [1, 0];
 
 fn rows_of(alloc: Global, transfers: &[Transfer]) -> Result<Vec<(u32, u32, i64)>, AllocError> {
     let mut rows = Vec::new(alloc);
@@ -55,36 +63,63 @@ fn certificate(alloc: Global, case: &Case, parts: &Parts) -> Result<(Prices, i12
     requires parts { AreCaseParts case.now parts.now.hot parts.now.cold }
 {
     let place = reference_place(case);
-    let prices = corner_prices(alloc, case, parts, place, targets(case))?;
+    let from = reference_from(case);
+    let prices = corner_prices(alloc, case, parts, place, from, targets(case))?;
     let value = value_of(parts, &prices);
     Ok((prices, value))
+}
+
+/// Compares the corner flow of a case and its cost.
+fn check_flow(
+    rt: &(impl Abort + AllocGlobal),
+    of: &Parted,
+    wanted: &[(u32, u32, i64)],
+    least: i128,
+) -> Result<(), Fail>
+    requires complete { IsComplete of.now.case }
+    requires standard { IsStandard of.now.case }
+    requires parts { AreCaseParts of.now.case of.now.parts.hot of.now.parts.cold }
+{
+    let flow = corner(rt.alloc(), &of.case, &of.parts, targets(&of.case))?;
+    let rows = rows_of(rt.alloc(), flow.transfers.as_slice())?;
+    assert_lists(rt, "the transfers", &rows, wanted);
+    let cost = cost_if_flow(&of.parts, &of.reach, &flow);
+    assert_same(rt, "the cost", &cost, &Some(least));
+    let found = standard_cost(&of.case, targets(&of.case));
+    assert_same(rt, "the least cost", &found, &least);
+    Ok(())
+}
+
+/// Compares the prices that certify it, and their value.
+fn check_prices(
+    rt: &(impl Abort + AllocGlobal),
+    of: &Parted,
+    hot: &[i64],
+    cold: &[i64],
+    least: i128,
+) -> Result<(), Fail>
+    requires complete { IsComplete of.now.case }
+    requires standard { IsStandard of.now.case }
+    requires parts { AreCaseParts of.now.case of.now.parts.hot of.now.parts.cold }
+{
+    let (prices, value) = certificate(rt.alloc(), &of.case, &of.parts)?;
+    assert_lists(rt, "hot prices", prices.hot.as_slice(), hot);
+    assert_lists(rt, "cold prices", prices.cold.as_slice(), cold);
+    let supported = is_supported(&of.reach, &prices);
+    assert_same(rt, "support and value", &(supported, value), &(true, least));
+    Ok(())
 }
 
 #[test]
 fn four_streams_have_this_corner_flow(rt: HostRuntime) -> Result<(), Fail> {
     let four = four_streams(rt.alloc())?;
-    let flow = corner(rt.alloc(), &four.case, &four.parts, targets(&four.case))?;
-    let rows = rows_of(rt.alloc(), flow.transfers.as_slice())?;
-    assert_lists(&rt, "the transfers", &rows, &TRANSFERS);
-    let cost = cost_if_flow(&four.parts, &four.reach, &flow);
-    assert_same(&rt, "the cost", &cost, &Some(20_000));
-    let least = standard_cost(&four.case, targets(&four.case));
-    assert_same(&rt, "the least cost", &least, &20_000);
-    Ok(())
+    check_flow(&rt, &four, &TRANSFERS, 20_000)?;
+    check_prices(&rt, &four, &HOT_PRICES, &COLD_PRICES, 20_000)
 }
 
 #[test]
-fn these_prices_certify_it(rt: HostRuntime) -> Result<(), Fail> {
-    let four = four_streams(rt.alloc())?;
-    let (prices, value) = certificate(rt.alloc(), &four.case, &four.parts)?;
-    assert_lists(&rt, "hot prices", prices.hot.as_slice(), &HOT_PRICES);
-    assert_lists(&rt, "cold prices", prices.cold.as_slice(), &COLD_PRICES);
-    let supported = is_supported(&four.reach, &prices);
-    assert_same(
-        &rt,
-        "support and value",
-        &(supported, value),
-        &(true, 20_000),
-    );
-    Ok(())
+fn a_latent_stream_is_heated_from_above(rt: HostRuntime) -> Result<(), Fail> {
+    let one = one_latent(rt.alloc())?;
+    check_flow(&rt, &one, &LATENT_TRANSFERS, 3000)?;
+    check_prices(&rt, &one, &LATENT_HOT_PRICES, &LATENT_COLD_PRICES, 3000)
 }

@@ -1,6 +1,6 @@
 //! The curves of cases that were worked by hand.
 use crate::compare::assert_lists;
-use crate::tables::{FOUR_STREAMS, Table, case_of};
+use crate::tables::{FOUR_STREAMS, Table, case_of, check_sensible};
 use curves::{Point, cold_curve, grand_curve, hot_curve};
 use std::alloc::{AllocError, Global};
 use std::process::Abort;
@@ -84,6 +84,7 @@ fn assert_curve(
 fn cases_have_these_curves(rt: HostRuntime) -> Result<(), Fail> {
     for worked in &CASES {
         let case = case_of(rt.alloc(), &worked.table)?;
+        check_sensible(&case)?;
         assert_curve(&rt, "hot", hot_curve(rt.alloc(), &case), worked.hot);
         assert_curve(&rt, "cold", cold_curve(rt.alloc(), &case), worked.cold);
         assert_curve(&rt, "grand", grand_curve(rt.alloc(), &case), worked.grand);

@@ -4,7 +4,7 @@ ghost use Rattle.stream_case.specs.Case.{IsComplete, IsStandard};
 ghost use Rattle.grid.specs.Part.{AreCaseParts};
 ghost use Rattle.heat_flow.specs.Table.{HasSizes};
 
-use crate::tables::{FOUR_STREAMS, completed_case};
+use crate::tables::{FOUR_STREAMS, completed, completed_case, latent_case};
 use chains::{Chains, chains_of};
 use grid::{Parts, grid_of, parts_of};
 use heat_flow::{Reach, reach_of};
@@ -49,7 +49,25 @@ pub fn four_streams(alloc: Global) -> Result<Parted, Fail>
     ensures standard { IfOk result (λ four. IsStandard four.case) }
     ensures parts { IfOk result (λ four. AreCaseParts four.case four.parts.hot four.parts.cold) }
 {
-    let case = completed_case(alloc, &FOUR_STREAMS)?;
+    standard_parts(alloc, completed_case(alloc, &FOUR_STREAMS)?)
+}
+
+/// The case with a latent stream, with `HOT` and `COLD`.
+pub fn one_latent(alloc: Global) -> Result<Parted, Fail>
+    ensures complete { IfOk result (λ one. IsComplete one.case) }
+    ensures standard { IfOk result (λ one. IsStandard one.case) }
+    ensures parts { IfOk result (λ one. AreCaseParts one.case one.parts.hot one.parts.cold) }
+{
+    standard_parts(alloc, completed(alloc, &latent_case(alloc)?)?)
+}
+
+/// The case with its parts, if it is standard.
+fn standard_parts(alloc: Global, case: Case) -> Result<Parted, Fail>
+    requires { IsComplete case }
+    ensures complete { IfOk result (λ parted. IsComplete parted.case) }
+    ensures standard { IfOk result (λ parted. IsStandard parted.case) }
+    ensures parts { IfOk result (λ parted. AreCaseParts parted.case parted.parts.hot parted.parts.cold) }
+{
     if !is_standard(&case) {
         return Err("the case is not standard".into());
     }

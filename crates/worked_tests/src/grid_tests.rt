@@ -2,7 +2,9 @@
 ghost use Rattle.stream_case.specs.Case.{IsComplete};
 
 use crate::compare::assert_lists;
-use crate::tables::{FOUR_STREAMS, MOST_HEAT, RESTRICTED, completed_case};
+use crate::tables::{
+    FOUR_STREAMS, MOST_HEAT, RESTRICTED, completed, completed_case, latent_case,
+};
 use grid::{Part, grid_of, parts_of};
 use std::alloc::{AllocError, Global};
 use std::process::Abort;
@@ -53,6 +55,17 @@ const RESTRICTED_COLD: [PartRow; 6] = [
     (Utility(5), Cold, 150, 150, 0, 9000, 4),
 ];
 
+const LATENT_HOT: [PartRow; 3] = [
+    (Utility(0), Hot, 1450, 1450, 0, MOST_HEAT, 1),
+    (Stream(0), Hot, 1450, 950, 5000, 5000, 0),
+    (Stream(0), Hot, 950, 650, 3000, 3000, 0),
+];
+
+const LATENT_COLD: [PartRow; 2] = [
+    (Stream(1), Cold, 950, 950, 8000, 8000, 0),
+    (Utility(1), Cold, 650, 650, 0, MOST_HEAT, 0),
+];
+
 pub fn rows_of(alloc: Global, parts: &[Part]) -> Result<Vec<PartRow>, AllocError> {
     let mut rows = Vec::new(alloc);
     for part in parts {
@@ -93,6 +106,12 @@ fn four_streams_have_their_grid_and_parts(rt: HostRuntime) -> Result<(), Fail> {
     let case = completed_case(rt.alloc(), &FOUR_STREAMS)?;
     let places = [1650, 1450, 1400, 850, 550, 250];
     compare_with(&rt, &case, &places, &FOUR_STREAMS_HOT, &FOUR_STREAMS_COLD)
+}
+
+#[test]
+fn a_latent_stream_has_one_part_at_its_level(rt: HostRuntime) -> Result<(), Fail> {
+    let case = completed(rt.alloc(), &latent_case(rt.alloc())?)?;
+    compare_with(&rt, &case, &[1450, 950, 650], &LATENT_HOT, &LATENT_COLD)
 }
 
 #[test]

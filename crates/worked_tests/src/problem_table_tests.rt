@@ -1,7 +1,9 @@
 //! The problem tables of cases that were worked by hand.
 use crate::compare::{assert_lists, assert_same};
-use crate::tables::{FOUR_STREAMS, Table, case_of};
-use problem_table::{Target, deficit_above, pinches, reference_place, targets};
+use crate::tables::{FOUR_STREAMS, Table, case_of, latent_case};
+use problem_table::{
+    Target, deficit_above, deficit_from, pinches, reference_from, reference_place, targets,
+};
 use std::test::Fail;
 use stream_case::Side::{Cold, Hot};
 use stream_case::stream_ends;
@@ -63,9 +65,27 @@ fn cases_have_these_targets_and_pinches(rt: HostRuntime) -> Result<(), Fail> {
         assert_same(&rt, "targets", &targets(&case), &worked.targets);
         let place = reference_place(&case);
         assert_same(&rt, "reference place", &place, &worked.reference_place);
+        assert_same(&rt, "from itself", &reference_from(&case), &false);
         let pinches = pinches(rt.alloc(), &case)?;
         assert_lists(&rt, "pinches", pinches.as_slice(), worked.pinches);
     }
+    Ok(())
+}
+
+#[test]
+fn a_latent_stream_has_its_load_at_its_level(rt: HostRuntime) -> Result<(), Fail> {
+    let case = latent_case(rt.alloc())?;
+    let wanted = Target {
+        hot: 3000,
+        cold: 3000,
+    };
+    assert_same(&rt, "targets", &targets(&case), &wanted);
+    assert_same(&rt, "deficit above", &deficit_above(&case, 950), &-5000);
+    assert_same(&rt, "deficit from", &deficit_from(&case, 950), &3000);
+    let place = (reference_place(&case), reference_from(&case));
+    assert_same(&rt, "reference place", &place, &(950, true));
+    let pinches = pinches(rt.alloc(), &case)?;
+    assert_lists(&rt, "pinches", pinches.as_slice(), &[950]);
     Ok(())
 }
 

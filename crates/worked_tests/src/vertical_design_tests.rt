@@ -1,7 +1,7 @@
 //! The vertical designs of small tables, worked by hand.
 
 use crate::compare::assert_lists;
-use crate::tables::{Table, completed_case};
+use crate::tables::{Table, check_sensible, completed_case};
 use network_text::print_network;
 use std::alloc::Global;
 use std::test::Fail;
@@ -55,6 +55,7 @@ fn design_of(alloc: Global, table: &Table) -> Result<Vec<u8>, Fail> {
     if !is_standard(&case) {
         return Err("the case is not standard".into());
     }
+    check_sensible(&case)?;
     let network = vertical(alloc, &case)?;
     Ok(print_network(alloc, &case, &network)?)
 }
