@@ -2,9 +2,7 @@ ghost use Rattle.std.specs.Prelude.{IfOk};
 ghost use Rattle.stream_case.specs.Case.{IsValid};
 
 use crate::compare::{assert_lists, assert_same};
-use crate::tables::{
-    FOUR_STREAMS, TWO_STREAMS, Table, case_of, latent, repeated, stream, utility, valid,
-};
+use crate::tables::{FOUR_STREAMS, TWO_STREAMS, Table, case_of, repeated, stream, utility, valid};
 use case_text::{CaseFault, CaseWhy, number_of, print_case, read_case};
 use std::alloc::{AllocError, Global};
 use std::process::Abort;
@@ -226,8 +224,8 @@ fn latent_streams(alloc: Global) -> Result<Case, Fail>
     ensures { IfOk result IsValid }
 {
     let sensible = stream("H", Hot, (1500, 700), 10, 50)?;
-    let evaporating = latent("B", Cold, 900, 8000, 50)?;
-    let condensing = latent("V", Hot, -20, 10_000_000_000, 0)?;
+    let evaporating = stream("B", Cold, (900, 900), 8000, 50)?;
+    let condensing = stream("V", Hot, (-20, -20), 10_000_000_000, 0)?;
     valid(Case {
         contribution: 50,
         streams: Items::from_vec(vec![in alloc; sensible, evaporating, condensing]?),

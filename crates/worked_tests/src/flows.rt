@@ -4,7 +4,7 @@ ghost use Rattle.stream_case.specs.Case.{IsComplete, IsStandard};
 ghost use Rattle.grid.specs.Part.{AreCaseParts};
 ghost use Rattle.heat_flow.specs.Table.{HasSizes};
 
-use crate::tables::{FOUR_STREAMS, completed, completed_case, latent_case};
+use crate::tables::{FOUR_STREAMS, ONE_LATENT, completed_case};
 use chains::{Chains, chains_of};
 use grid::{Parts, grid_of, parts_of};
 use heat_flow::{Reach, reach_of};
@@ -52,13 +52,13 @@ pub fn four_streams(alloc: Global) -> Result<Parted, Fail>
     standard_parts(alloc, completed_case(alloc, &FOUR_STREAMS)?)
 }
 
-/// The case with a latent stream, with `HOT` and `COLD`.
+/// The stream that evaporates amid the range of another one, with `HOT` and `COLD`.
 pub fn one_latent(alloc: Global) -> Result<Parted, Fail>
     ensures complete { IfOk result (λ one. IsComplete one.case) }
     ensures standard { IfOk result (λ one. IsStandard one.case) }
     ensures parts { IfOk result (λ one. AreCaseParts one.case one.parts.hot one.parts.cold) }
 {
-    standard_parts(alloc, completed(alloc, &latent_case(alloc)?)?)
+    standard_parts(alloc, completed_case(alloc, &ONE_LATENT)?)
 }
 
 /// The case with its parts, if it is standard.

@@ -1,6 +1,6 @@
 //! The problem tables of cases that were worked by hand.
 use crate::compare::{assert_lists, assert_same};
-use crate::tables::{FOUR_STREAMS, Table, case_of, latent_case};
+use crate::tables::{FOUR_STREAMS, ONE_LATENT, Table, case_of};
 use problem_table::{
     Target, deficit_above, deficit_from, pinches, reference_from, reference_place, targets,
 };
@@ -74,7 +74,7 @@ fn cases_have_these_targets_and_pinches(rt: HostRuntime) -> Result<(), Fail> {
 
 #[test]
 fn a_latent_stream_has_its_load_at_its_level(rt: HostRuntime) -> Result<(), Fail> {
-    let case = latent_case(rt.alloc())?;
+    let case = case_of(rt.alloc(), &ONE_LATENT)?;
     let wanted = Target {
         hot: 3000,
         cold: 3000,
