@@ -2,9 +2,7 @@ ghost use Rattle.std.specs.Prelude.{IfOk};
 ghost use Rattle.stream_case.specs.Case.{IsValid};
 
 use crate::compare::{assert_lists, assert_same};
-use crate::tables::{
-    FOUR_STREAMS, TWO_STREAMS, Table, case_of, latent, repeated, stream, utility, valid,
-};
+use crate::tables::{FOUR_STREAMS, TWO_STREAMS, Table, case_of, repeated, stream, utility, valid};
 use case_text::{CaseFault, CaseWhy, number_of, print_case, read_case};
 use std::alloc::{AllocError, Global};
 use std::process::Abort;

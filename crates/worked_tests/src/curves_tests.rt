@@ -1,12 +1,12 @@
 //! The curves of cases that were worked by hand.
 use crate::compare::assert_lists;
-use crate::tables::{FOUR_STREAMS, Table, case_of};
+use crate::tables::{FOUR_STREAMS, Table, case_of, check_sensible};
 use curves::{Point, cold_curve, grand_curve, hot_curve};
 use std::alloc::{AllocError, Global};
 use std::process::Abort;
 use std::test::Fail;
+use stream_case::Items;
 use stream_case::Side::Hot;
-use stream_case::{Items, has_latent};
 
 /// A heat and a temperature.
 type Corner = (i64, i32);
@@ -84,9 +84,7 @@ fn assert_curve(
 fn cases_have_these_curves(rt: HostRuntime) -> Result<(), Fail> {
     for worked in &CASES {
         let case = case_of(rt.alloc(), &worked.table)?;
-        if has_latent(case.streams.as_slice()) {
-            return Err("a stream is latent".into());
-        }
+        check_sensible(&case)?;
         assert_curve(&rt, "hot", hot_curve(rt.alloc(), &case), worked.hot);
         assert_curve(&rt, "cold", cold_curve(rt.alloc(), &case), worked.cold);
         assert_curve(&rt, "grand", grand_curve(rt.alloc(), &case), worked.grand);

@@ -9,7 +9,7 @@ use pinch_outside::MAX_FILE;
 use site::{MOST_PLANTS, MOST_SIDE_STREAMS};
 use stream_case::{
     HIGHEST_TEMPERATURE, LOWEST_TEMPERATURE, MOST_CONTRIBUTION, MOST_CP, MOST_FORBIDS, MOST_HEAT,
-    MOST_MAINS, MOST_PART_PRICE, MOST_PARTS, MOST_PRICE, MOST_STREAMS, MOST_UTILITIES,
+    MOST_LOAD, MOST_MAINS, MOST_PART_PRICE, MOST_PARTS, MOST_PRICE, MOST_STREAMS, MOST_UTILITIES,
 };
 use study::{
     FORBID_CHANCE, LONGEST_STEP, MOST_ROWS, MOST_SAMPLE_NUMBER, MOST_SAMPLE_STREAMS, MOST_WORKERS,
@@ -18,12 +18,13 @@ use study::{
 use transport::MOST_PAIRS;
 
 /// What is limited, the constant, and the limit.
-const LIMITS: [(&str, i128, i128); 34] = [
+const LIMITS: [(&str, i128, i128); 35] = [
     // of a case: tenths of °C, 10 W/K, W, and prices of a watt
     ("lowest temperature", LOWEST_TEMPERATURE as i128, -2731),
     ("highest temperature", HIGHEST_TEMPERATURE as i128, 30_000),
     ("contribution", MOST_CONTRIBUTION as i128, 1000),
     ("heat-capacity flow", MOST_CP as i128, 100_000),
+    ("load of a latent stream", MOST_LOAD as i128, 10_000_000_000),
     ("heat of a utility", MOST_HEAT as i128, 1_000_000_000_000),
     ("price", MOST_PRICE as i128, 1_000_000),
     ("streams of a side", MOST_STREAMS as i128, 30),

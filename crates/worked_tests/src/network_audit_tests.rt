@@ -3,7 +3,7 @@ ghost use Rattle.stream_case.specs.Case.{IsComplete};
 
 use crate::compare::assert_same;
 use crate::network_text_tests::SIX_EXCHANGERS;
-use crate::tables::{FOUR_STREAMS, TOO_LITTLE_COOLING, completed_case};
+use crate::tables::{FOUR_STREAMS, TOO_LITTLE_COOLING, check_sensible, completed_case};
 use fractions::Frac;
 use network_audit::{Auditor, Balance, Place, Reason, Verdict};
 use network_text::read_network;
@@ -33,6 +33,7 @@ pass a Q1 b\nend b\npass C E1 d\nend d\n";
 fn auditor_of(alloc: Global, case: &Case, text: &[u8]) -> Result<Auditor, Fail>
     requires { IsComplete case.now }
 {
+    check_sensible(case)?;
     let network = read_network(alloc, case, text)?;
     Ok(Auditor::new(alloc, case, &network)?)
 }

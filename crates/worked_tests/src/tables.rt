@@ -1,13 +1,15 @@
 //! Names, streams, utilities and cases of the tests. Temperatures are tenths of °C, heat-capacity
 //! flows 10 W/K, heats W.
-ghost use Rattle.std.specs.Prelude.{IfOk};
+ghost use Rattle.std.specs.Prelude.{IfOk, OnOk};
 ghost use Rattle.stream_case.specs.Case.{IsComplete, IsValid};
+ghost use Rattle.stream_case.specs.Stream.{AreSensible, HasValidStreams};
 
 use std::alloc::Global;
 use std::test::Fail;
 use stream_case::Side::{Cold, Hot};
 use stream_case::{
-    Case, Forbid, Items, Name, Side, Source, Stream, Utility, complete, is_complete, is_valid,
+    Case, Forbid, Items, Name, Side, Source, Stream, Utility, complete, has_latent, is_complete,
+    is_valid,
 };
 
 /// The most heat of a utility.
@@ -196,6 +198,17 @@ pub fn case_of(alloc: Global, table: &Table) -> Result<Case, Fail>
     ensures { IfOk result IsValid }
 {
     valid(any_case(alloc, table)?)
+}
+
+/// Nothing, if no stream of the case is latent.
+pub fn check_sensible(case: &Case) -> Result<(), Fail>
+    requires { HasValidStreams case.now.streams }
+    ensures { OnOk result (AreSensible case.now.streams) }
+{
+    if has_latent(case.streams.as_slice()) {
+        return Err("a stream is latent".into());
+    }
+    Ok(())
 }
 
 /// What a case is when it is completed, if it is valid.

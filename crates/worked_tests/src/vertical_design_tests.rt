@@ -1,12 +1,12 @@
 //! The vertical designs of small tables, worked by hand.
 
 use crate::compare::assert_lists;
-use crate::tables::{Table, completed_case};
+use crate::tables::{Table, check_sensible, completed_case};
 use network_text::print_network;
 use std::alloc::Global;
 use std::test::Fail;
 use stream_case::Side::{Cold, Hot};
-use stream_case::{has_latent, is_standard};
+use stream_case::is_standard;
 use vertical_design::vertical;
 
 /// One hot stream and two cold ones, which need no hot utility.
@@ -55,9 +55,7 @@ fn design_of(alloc: Global, table: &Table) -> Result<Vec<u8>, Fail> {
     if !is_standard(&case) {
         return Err("the case is not standard".into());
     }
-    if has_latent(case.streams.as_slice()) {
-        return Err("a stream is latent".into());
-    }
+    check_sensible(&case)?;
     let network = vertical(alloc, &case)?;
     Ok(print_network(alloc, &case, &network)?)
 }
