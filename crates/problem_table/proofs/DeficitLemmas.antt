@@ -1,41 +1,64 @@
 -- Deficits, and the targets, of lists of valid streams.
-use Rattle.std.proofs.Common.{◌≡◌, ℕ, ◌+◌, ◌<◌, ◌⊎◌, ⊎_elim, inl, inr, List, [], ◌∷◌, length, get_or, take, map, refl, ap, ap₂, sym, subst, ◌∙◌, arith, ℤ, pos, ◌-ℤ◌, ◌≤ℤ◌, All, Contains, fold}
+use Rattle.std.proofs.Common.{◌≡◌, ℕ, ◌+◌, ◌<◌, ◌⊎◌, ⊎_elim, inl, inr, Bool, true, false, List, [], ◌∷◌, length, get_or, take, map, refl, ap, ap₂, sym, subst, ◌∙◌, arith, ℤ, pos, ◌-ℤ◌, ◌≤ℤ◌, ◌<ℤ◌, All, Contains, fold}
 use Rattle.std.specs.Int.{int_max}
-use Rattle.std.proofs.lemmas.Int.{ints, fold-int_max_bounds, fold-int_max_reached}
+use Rattle.std.proofs.lemmas.Int.{by_lt_z, clamps, ints, fold-int_max_bounds, fold-int_max_reached}
 use Rattle.std.proofs.lemmas.List.{map-append, length-map, get_or-map}
 use Rattle.std.proofs.lemmas.List.Sums.{fold-append}
 use Rattle.std.proofs.lemmas.List.Elements.{All-weaker, Contains-get_or}
-use Rattle.problem_table.proofs.Words.{AreStreams, Cold, HasValidStreams, Hot, IsBetween, IsStreamsHeat, IsTight, IsValidStream, LOWEST_SHIFTED, Stream, cold_target, deficit_above, heat_above, heat_of, high_end, hot_target, low_end, outermost, stream_ends, sum_side}
+use Rattle.problem_table.proofs.Words.{AreSensible, AreStreams, Cold, CountsFromItself, HasTightDeficit, HasValidStreams, Hot, IsBetween, IsStreamsHeat, IsTight, IsTightOver, IsValidStream, LOWEST_SHIFTED, Stream, cold_target, counts_above, deficit_above, deficit_from, deficit_over, end_deficits, heat_of, heat_over, high_end, hot_target, low_end, outermost, stream_ends, sum_side}
 use Rattle.stream_case.proofs.CaseLemmas.{length-AreStreams}
 use Rattle.stream_case.proofs.EndLemmas.{AreEnds-IsValidStream, each_end, length-stream_ends, stream_ends-more}
-use Rattle.stream_case.proofs.HeatLemmas.{heat_above-between, heat_of-between}
+use Rattle.stream_case.proofs.HeatLemmas.{heat_of-between, heat_over-between, heat_over-sensible}
+use Rattle.sums.proofs.IntegerLemmas.{int_le-from, int_lt-from}
 use Rattle.problem_table.proofs.EndLemmas.{IsOutermost-outermost}
-use Rattle.problem_table.proofs.HeatLemmas.{heat_above-le, heat_above-none, heat_above-all}
+use Rattle.problem_table.proofs.HeatLemmas.{heat_over-le, heat_over-none, heat_over-all}
 use Rattle.problem_table.proofs.SideLemmas.{sum_side-heat, sum_side-le, sum_side-same, sum_side-zero}
 
--- ---- the deficit
+-- ---- the deficits
 
 -- no deficit exceeds all cold heat
-deficit_above-le : (t : ℤ) (streams : List Stream) → AreStreams streams → deficit_above streams t ≤ℤ sum_side Cold heat_of streams
-deficit_above-le t streams h =
-    let cold = sum_side-le Cold (heat_above t) heat_of streams (All-weaker IsValidStream (λ s. heat_above t s ≤ℤ heat_of s) (heat_above-le t) streams h.each) in
-    let hot = sum_side-heat Hot (heat_above t) (heat_above-between t) streams h.each (length-AreStreams streams h) in
+deficit_over-le : (from : Bool) (t : ℤ) (streams : List Stream) → AreStreams streams → deficit_over from streams t ≤ℤ sum_side Cold heat_of streams
+deficit_over-le from t streams h =
+    let cold = sum_side-le Cold (heat_over from t) heat_of streams (All-weaker IsValidStream (λ s. heat_over from t s ≤ℤ heat_of s) (heat_over-le from t) streams h.each) in
+    let hot = sum_side-heat Hot (heat_over from t) (heat_over-between from t) streams h.each (length-AreStreams streams h) in
     omega (arith, ints, hot)
 
--- above all ends there is no heat, and above a place that is below them there is all
+-- above all ends there is no heat, and over a place that all ends count as above there is all
+not_above : (t level : ℤ) → level ≤ℤ t → counts_above false t level ≡ false
+not_above t level h = grind (arith, ints)
+
 deficit_above-highest : (t : ℤ) (streams : List Stream) → All IsValidStream streams → All (λ s. high_end s ≤ℤ t) streams → deficit_above streams t ≡ pos 0
 deficit_above-highest t streams valid above =
-    let none = λ (k : ℕ) (d : Stream) (within : k < length streams). heat_above-none t (get_or streams k d) (valid k d within) (above k d within) in
-    let cold = sum_side-zero Cold (heat_above t) streams none in
-    let hot = sum_side-zero Hot (heat_above t) streams none in
+    let none = λ (k : ℕ) (d : Stream) (within : k < length streams). heat_over-none false t (get_or streams k d) (valid k d within) (not_above t (high_end (get_or streams k d)) (above k d within)) in
+    let cold = sum_side-zero Cold (heat_over false t) streams none in
+    let hot = sum_side-zero Hot (heat_over false t) streams none in
     omega (arith, ints)
 
-pub deficit_above-lowest : (t : ℤ) (streams : List Stream) → All IsValidStream streams → All (λ s. t ≤ℤ low_end s) streams → deficit_above streams t ≡ sum_side Cold heat_of streams -ℤ sum_side Hot heat_of streams
+deficit_over-lowest : (from : Bool) (t : ℤ) (streams : List Stream) → All IsValidStream streams → All (λ s. counts_above from t (low_end s) ≡ true) streams → deficit_over from streams t ≡ sum_side Cold heat_of streams -ℤ sum_side Hot heat_of streams
+deficit_over-lowest from t streams valid below =
+    let all = λ (k : ℕ) (d : Stream) (within : k < length streams). heat_over-all from t (get_or streams k d) (valid k d within) (below k d within) in
+    ap₂ ◌-ℤ◌ (sum_side-same Cold (heat_over from t) heat_of streams all) (sum_side-same Hot (heat_over from t) heat_of streams all)
+
+pub deficit_above-lowest : (t : ℤ) (streams : List Stream) → All IsValidStream streams → All (λ s. t <ℤ low_end s) streams → deficit_above streams t ≡ sum_side Cold heat_of streams -ℤ sum_side Hot heat_of streams
 deficit_above-lowest t streams valid below =
-    let all = λ (k : ℕ) (d : Stream) (within : k < length streams). heat_above-all t (get_or streams k d) (valid k d within) (below k d within) in
-    ap₂ ◌-ℤ◌ (sum_side-same Cold (heat_above t) heat_of streams all) (sum_side-same Hot (heat_above t) heat_of streams all)
+    deficit_over-lowest false t streams valid (All-weaker (λ s. t <ℤ low_end s) (λ s. counts_above false t (low_end s) ≡ true) (λ s less. int_lt-from t (low_end s) less) streams below)
+
+pub deficit_from-lowest : (t : ℤ) (streams : List Stream) → All IsValidStream streams → All (λ s. t ≤ℤ low_end s) streams → deficit_from streams t ≡ sum_side Cold heat_of streams -ℤ sum_side Hot heat_of streams
+deficit_from-lowest t streams valid below =
+    deficit_over-lowest true t streams valid (All-weaker (λ s. t ≤ℤ low_end s) (λ s. counts_above true t (low_end s) ≡ true) (λ s most. int_le-from t (low_end s) most) streams below)
 
 -- ---- the targets
+
+-- the greatest of some numbers and of one that is at least 0
+fold-from : (least : ℤ) (xs : List ℤ) → pos 0 ≤ℤ least → fold int_max least xs ≡ int_max least (fold int_max (pos 0) xs)
+fold-from least [] h = omega (arith, ints, clamps)
+fold-from least (x ∷ xs) h =
+    let here = fold-from (int_max least x) xs (omega (arith, ints, clamps)) in
+    let other = fold-from (int_max (pos 0) x) xs (omega (arith, ints, clamps)) in
+    here ∙ three least x (fold int_max (pos 0) xs) h ∙ ap (int_max least) (sym other)
+  where
+    three : (a b r : ℤ) → pos 0 ≤ℤ a → int_max (int_max a b) r ≡ int_max a (int_max (int_max (pos 0) b) r)
+    three a b r h = omega (arith, ints, clamps)
 
 -- the greatest of 0 and a function's values
 module _ (f : ℤ → ℤ) where
@@ -54,18 +77,65 @@ module _ (f : ℤ → ℤ) where
       inr (get_or xs k (pos 0), Contains-get_or xs k (pos 0) inside, sym (get_or-map f xs k (pos 0) r inside) ∙ is))
       (fold-int_max_reached (pos 0) (map f xs) r refl)
 
+-- the greatest of one of the deficits over the ends
+abbrev greatest_deficit : Bool → List Stream → ℤ
+greatest_deficit from streams = fold int_max (pos 0) (map (deficit_over from streams) (stream_ends streams))
+
 -- a loop's step
-pub hot_target-more : (streams : List Stream) (i : ℕ) (s : Stream) → i < length streams → s ≡ get_or streams i s → fold int_max (pos 0) (map (deficit_above streams) (stream_ends (take (i + 1) streams))) ≡ int_max (int_max (fold int_max (pos 0) (map (deficit_above streams) (stream_ends (take i streams)))) (deficit_above streams (high_end s))) (deficit_above streams (low_end s))
-hot_target-more streams i s within is =
-    let f = deficit_above streams in let ends = stream_ends (take i streams) in
+pub greatest_deficit-more : (from : Bool) (streams : List Stream) (i : ℕ) (s : Stream) → i < length streams → s ≡ get_or streams i s → fold int_max (pos 0) (map (deficit_over from streams) (stream_ends (take (i + 1) streams))) ≡ int_max (int_max (fold int_max (pos 0) (map (deficit_over from streams) (stream_ends (take i streams)))) (deficit_over from streams (high_end s))) (deficit_over from streams (low_end s))
+greatest_deficit-more from streams i s within is =
+    let f = deficit_over from streams in let ends = stream_ends (take i streams) in
     ap (λ xs. fold int_max (pos 0) (map f xs)) (stream_ends-more streams i s within is)
     ∙ ap (fold int_max (pos 0)) (map-append f ends (high_end s ∷ low_end s ∷ []))
     ∙ fold-append int_max (pos 0) (map f ends) (f (high_end s) ∷ f (low_end s) ∷ [])
 
-pub hot_target-bound : (streams : List Stream) (t : ℤ) → Contains (stream_ends streams) t → deficit_above streams t ≤ℤ hot_target streams
-hot_target-bound streams = greatest_value-bound (deficit_above streams) (stream_ends streams)
+-- the greater of both is the hot target
+pub hot_target-is : (streams : List Stream) → int_max (greatest_deficit false streams) (greatest_deficit true streams) ≡ hot_target streams
+hot_target-is streams =
+    let aboves = map (deficit_above streams) (stream_ends streams) in let froms = map (deficit_from streams) (stream_ends streams) in
+    sym (fold-append int_max (pos 0) aboves froms ∙ fold-from (fold int_max (pos 0) aboves) froms (fold-int_max_bounds (pos 0) aboves (fold int_max (pos 0) aboves) refl).0)
 
--- the deficit at the highest end is 0, so the hot target is the deficit at some end
+greatest_deficit-le : (from : Bool) (streams : List Stream) → greatest_deficit from streams ≤ℤ hot_target streams
+greatest_deficit-le false streams = subst (λ r. greatest_deficit false streams ≤ℤ r) (hot_target-is streams) (omega (arith, ints, clamps))
+greatest_deficit-le true streams = subst (λ r. greatest_deficit true streams ≤ℤ r) (hot_target-is streams) (omega (arith, ints, clamps))
+
+-- no deficit at an end exceeds it
+pub deficit_over-bound : (from : Bool) (streams : List Stream) (t : ℤ) → Contains (stream_ends streams) t → deficit_over from streams t ≤ℤ hot_target streams
+deficit_over-bound from streams t at =
+    let here = greatest_value-bound (deficit_over from streams) (stream_ends streams) t at in
+    let most = greatest_deficit-le from streams in
+    omega (arith, ints)
+
+pub hot_target-bound : (streams : List Stream) (t : ℤ) → Contains (stream_ends streams) t → deficit_above streams t ≤ℤ hot_target streams
+hot_target-bound = deficit_over-bound false
+
+-- and it is 0 or the deficit at some end
+record IsReached (streams : List Stream) : Type 0 where
+  from : Bool
+  end : ℤ
+  member : Contains (stream_ends streams) end
+  tight : IsTightOver from streams end
+
+hot_target-reached : (streams : List Stream) → (hot_target streams ≡ pos 0) ⊎ IsReached streams
+hot_target-reached streams = ⊎_elim (λ e. reached false (sym e ∙ is)) (λ e. reached true (sym e ∙ is)) (greater (greatest_deficit false streams) (greatest_deficit true streams))
+  where
+    is : int_max (greatest_deficit false streams) (greatest_deficit true streams) ≡ hot_target streams
+    is = hot_target-is streams
+
+    greater : (x y : ℤ) → (int_max x y ≡ x) ⊎ (int_max x y ≡ y)
+    greater x y = by_lt_z x y (λ less. inr (omega (arith, ints, clamps))) (λ most. inl (omega (arith, ints, clamps)))
+
+    reached : (from : Bool) → greatest_deficit from streams ≡ hot_target streams → (hot_target streams ≡ pos 0) ⊎ IsReached streams
+    reached from e =
+        ⊎_elim (λ none. inl (sym e ∙ none))
+        (λ at. inr (record { from = from; end = at.0; member = at.1; tight = at.2 ∙ e }))
+        (greatest_value-reached (deficit_over from streams) (stream_ends streams))
+
+pub tight_over : (from : Bool) (streams : List Stream) (t : ℤ) → IsTightOver from streams t → HasTightDeficit streams t
+tight_over false streams t e = inl e
+tight_over true streams t e = inr e
+
+-- the deficit above the highest end is 0, so the hot target is a deficit at some end
 pub some_tight : (streams : List Stream) → HasValidStreams streams → (t : ℤ) × IsTight streams t
 some_tight streams h =
     let ends = stream_ends streams in let t = outermost Hot ends in
@@ -73,9 +143,9 @@ some_tight streams h =
     let below = All-weaker (λ s. (high_end s ≤ℤ t) × (low_end s ≤ℤ t)) (λ s. high_end s ≤ℤ t) (λ s e. e.0) streams (each_end (λ e. e ≤ℤ t) streams top.bound) in
     let none = deficit_above-highest t streams h.are_streams.each below in
     ⊎_elim
-    (λ e. (t, record { end = top.member; tight = none ∙ sym e }))
-    (λ at. (at.0, record { end = at.1; tight = at.2 }))
-    (greatest_value-reached (deficit_above streams) ends)
+    (λ e. (t, record { end = top.member; tight = inl (none ∙ sym e) }))
+    (λ at. (at.end, record { end = at.member; tight = tight_over at.from streams at.end at.tight }))
+    (hot_target-reached streams)
 
 -- all heat of a side
 all_heat : (streams : List Stream) → AreStreams streams → IsStreamsHeat (sum_side Hot heat_of streams) × IsStreamsHeat (sum_side Cold heat_of streams)
@@ -87,10 +157,10 @@ all_heat streams h =
 pub hot_target-within : (streams : List Stream) → AreStreams streams → IsBetween (pos 0) (sum_side Cold heat_of streams) (hot_target streams)
 hot_target-within streams h =
     let cold = (all_heat streams h).1 in
-    let bounds = fold-int_max_bounds (pos 0) (map (deficit_above streams) (stream_ends streams)) (hot_target streams) refl in
+    let bounds = fold-int_max_bounds (pos 0) (end_deficits streams) (hot_target streams) refl in
     record {
       from = bounds.0;
-      upto = ⊎_elim (λ none. omega (arith, ints, cold)) (λ at. let le = deficit_above-le at.0 streams h in let tight = at.2 in omega (arith, ints)) (greatest_value-reached (deficit_above streams) (stream_ends streams));
+      upto = ⊎_elim (λ none. omega (arith, ints, cold)) (λ at. let le = deficit_over-le at.from at.end streams h in let tight = at.tight in omega (arith, ints)) (hot_target-reached streams);
     }
 
 pub cold_target-within : (streams : List Stream) → AreStreams streams → IsBetween (pos 0) (sum_side Hot heat_of streams) (cold_target streams)
@@ -99,8 +169,8 @@ cold_target-within (s ∷ ss) h =
     let streams = s ∷ ss in let ends = stream_ends streams in let t = outermost Cold ends in
     let bottom = IsOutermost-outermost Cold ends (omega arith) in
     let above = All-weaker (λ x. (t ≤ℤ high_end x) × (t ≤ℤ low_end x)) (λ x. t ≤ℤ low_end x) (λ x e. e.1) streams (each_end (λ e. t ≤ℤ e) streams bottom.bound) in
-    let lowest = deficit_above-lowest t streams h.each above in
-    let bound = hot_target-bound streams t bottom.member in let hot = hot_target-within streams h in
+    let lowest = deficit_from-lowest t streams h.each above in
+    let bound = deficit_over-bound true streams t bottom.member in let hot = hot_target-within streams h in
     record { from = omega (arith, ints, hot); upto = omega (arith, ints, hot) }
 
 pub hot_target-between : (streams : List Stream) → AreStreams streams → IsStreamsHeat (hot_target streams)
@@ -114,7 +184,25 @@ cold_target-between streams h =
     record { from = target.from; upto = omega (arith, ints, target, all) }
 
 -- the cold target is the hot target less the deficit above a place that is below all ends
-pub cold_target-lowest : (t : ℤ) (streams : List Stream) → AreStreams streams → t ≤ℤ LOWEST_SHIFTED → cold_target streams ≡ hot_target streams -ℤ deficit_above streams t
+pub cold_target-lowest : (t : ℤ) (streams : List Stream) → AreStreams streams → t <ℤ LOWEST_SHIFTED → cold_target streams ≡ hot_target streams -ℤ deficit_above streams t
 cold_target-lowest t streams h below =
-    let lowest = deficit_above-lowest t streams h.each (All-weaker IsValidStream (λ s. t ≤ℤ low_end s) (λ s valid. let ends = AreEnds-IsValidStream s valid in omega (arith, ints, ends)) streams h.each) in
+    let lowest = deficit_above-lowest t streams h.each (All-weaker IsValidStream (λ s. t <ℤ low_end s) (λ s valid. let ends = AreEnds-IsValidStream s valid in omega (arith, ints, ends)) streams h.each) in
     omega (arith, ints)
+
+-- ---- sensible streams
+
+-- nothing stands at a place itself
+pub deficit_over-sensible : (from : Bool) (t : ℤ) (streams : List Stream) → AreSensible streams → deficit_over from streams t ≡ deficit_above streams t
+deficit_over-sensible from t streams h =
+    let same = λ (k : ℕ) (d : Stream) (within : k < length streams). let s = get_or streams k d in let is = h k d within in heat_over-sensible from t s is ∙ sym (heat_over-sensible false t s is) in
+    ap₂ ◌-ℤ◌ (sum_side-same Cold (heat_over from t) (heat_over false t) streams same) (sum_side-same Hot (heat_over from t) (heat_over false t) streams same)
+
+pub deficit_from-sensible : (t : ℤ) (streams : List Stream) → AreSensible streams → deficit_from streams t ≡ deficit_above streams t
+deficit_from-sensible = deficit_over-sensible true
+
+-- so a tight place is tight above, and does not count from itself
+pub tight-sensible : (streams : List Stream) (p : ℤ) → AreSensible streams → IsTight streams p → deficit_above streams p ≡ hot_target streams
+tight-sensible streams p h tight = ⊎_elim (λ e. e) (λ e. sym (deficit_from-sensible p streams h) ∙ e) tight.tight
+
+pub not_from_itself-sensible : (streams : List Stream) (p : ℤ) → AreSensible streams → IsTight streams p → CountsFromItself streams p → ⊥
+not_from_itself-sensible streams p h tight from = from (tight-sensible streams p h tight)

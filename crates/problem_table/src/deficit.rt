@@ -1,9 +1,9 @@
-//! The deficit.
+//! The deficits.
 ghost use Rattle.std.specs.Prelude.{◌≡◌};
 ghost use Rattle.stream_case.specs.Limits.{IsStreamsHeat};
-ghost use Rattle.stream_case.specs.Stream.{heat_above, AreStreams};
+ghost use Rattle.stream_case.specs.Stream.{heat_over, AreStreams};
 ghost use Rattle.problem_table.specs.Sides.{sum_side};
-ghost use Rattle.problem_table.specs.Deficit.{deficit_above, IsDeficit};
+ghost use Rattle.problem_table.specs.Deficit.{deficit_over, deficit_above, deficit_from, IsDeficit};
 
 use stream_case::{Case, Side, Stream};
 
@@ -16,6 +16,16 @@ pub fn deficit_above(case: &Case, t: i32) -> i64
     deficit_of(case.streams.as_slice(), t)
 }
 
+/// The deficit of the streams of a case from `t` on: that above `t`, plus the loads of the latent
+/// cold streams at `t` and less those of the latent hot ones there.
+pub fn deficit_from(case: &Case, t: i32) -> i64
+    requires { AreStreams case.now.streams }
+    ensures value { result ≡ deficit_from case.now.streams t }
+    ensures range { IsDeficit result }
+{
+    deficit_over(case.streams.as_slice(), true, t)
+}
+
 /// The deficit of streams above the shifted temperature `t`, in tenths of °C: the heat that the
 /// cold ones take above it less the heat that the hot ones give above it, in watts.
 pub fn deficit_of(streams: &[Stream], t: i32) -> i64
@@ -23,19 +33,28 @@ pub fn deficit_of(streams: &[Stream], t: i32) -> i64
     ensures value { result ≡ deficit_above streams.now t }
     ensures range { IsDeficit result }
 {
-    side_heat_above(streams, Side::Cold, t) - side_heat_above(streams, Side::Hot, t)
+    deficit_over(streams, false, t)
 }
 
-// The heat of all streams of a side above `t`.
-fn side_heat_above(streams: &[Stream], side: Side, t: i32) -> i64
+/// The same, with the latent streams at `t` itself if `from`.
+pub fn deficit_over(streams: &[Stream], from: bool, t: i32) -> i64
     requires { AreStreams streams.now }
-    ensures value { result ≡ sum_side side (heat_above t) streams.now }
+    ensures value { result ≡ deficit_over from streams.now t }
+    ensures range { IsDeficit result }
+{
+    side_heat_over(streams, Side::Cold, from, t) - side_heat_over(streams, Side::Hot, from, t)
+}
+
+// The heat of all streams of a side above `t`, and of the latent ones at `t` itself if `from`.
+fn side_heat_over(streams: &[Stream], side: Side, from: bool, t: i32) -> i64
+    requires { AreStreams streams.now }
+    ensures value { result ≡ sum_side side (heat_over from t) streams.now }
     ensures range { IsStreamsHeat result }
 {
     let mut heat = 0;
     for stream in streams {
         if stream.is_on(side) {
-            heat += stream.heat_above(t);
+            heat += stream.heat_over(from, t);
         }
     }
     heat

@@ -1,9 +1,9 @@
 //! The reference place.
-ghost use Rattle.std.specs.Prelude.{◌≡◌, ◌∷◌, ◌++◌, [], List, ℤ};
+ghost use Rattle.std.specs.Prelude.{◌≡◌, ◌↔◌, ◌∷◌, ◌++◌, [], List, ℤ, IsTrue};
 ghost use Rattle.stream_case.specs.Stream.{AreStreams, HasValidStreams};
-ghost use Rattle.problem_table.specs.Deficit.{hot_target, IsReferencePlace, FindsHighestTight};
+ghost use Rattle.problem_table.specs.Deficit.{hot_target, IsReferencePlace, CountsFromItself, FindsHighestTight};
 
-use crate::target::{hot_target, is_tight};
+use crate::target::{hot_target, is_tight, is_tight_over};
 use stream_case::{Case, Stream};
 
 /// The reference place of the streams of a case: `reference_place_of` of these.
@@ -14,8 +14,29 @@ pub fn reference_place(case: &Case) -> i32
     reference_place_of(case.streams.as_slice())
 }
 
-/// The highest shifted stream end whose deficit is the hot target, in tenths of °C (this
-/// project's rule). There always is one.
+/// Whether the reference place of the streams of a case counts from itself: `reference_from_of` of
+/// these.
+pub fn reference_from(case: &Case) -> bool
+    requires { HasValidStreams case.now.streams }
+    ensures { (place : ℤ) → IsReferencePlace case.now.streams place
+        → (IsTrue result ↔ CountsFromItself case.now.streams place) }
+{
+    reference_from_of(case.streams.as_slice())
+}
+
+/// Whether the deficit above the reference place isn't the hot target, so that a latent stream at
+/// the place itself counts as above it.
+pub fn reference_from_of(streams: &[Stream]) -> bool
+    requires { HasValidStreams streams.now }
+    ensures { (place : ℤ) → IsReferencePlace streams.now place
+        → (IsTrue result ↔ CountsFromItself streams.now place) }
+{
+    let place = reference_place_of(streams);
+    !is_tight_over(streams, hot_target(streams), false, place)
+}
+
+/// The highest shifted stream end at which one of the deficits is the hot target, in tenths of °C
+/// (this project's rule). There always is one.
 pub fn reference_place_of(streams: &[Stream]) -> i32
     requires { HasValidStreams streams.now }
     ensures { IsReferencePlace streams.now result }
@@ -29,7 +50,7 @@ pub fn reference_place_of(streams: &[Stream]) -> i32
     place.unwrap()
 }
 
-// The end in place of `place`, if its deficit is the hot target and it is higher.
+// The end in place of `place`, if one of its deficits is the hot target and it is higher.
 fn higher_tight(streams: &[Stream], hot: i64, place: Option<i32>, end: i32) -> Option<i32>
     requires streams { AreStreams streams.now }
     requires hot { hot ≡ hot_target streams.now }

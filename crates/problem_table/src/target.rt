@@ -1,10 +1,11 @@
 //! The hot and the cold target.
-ghost use Rattle.std.specs.Prelude.{◌≡◌, ◌↔◌, IsTrue};
+ghost use Rattle.std.specs.Prelude.{◌≡◌, ◌↔◌, IsTrue, pos, fold, map};
+ghost use Rattle.std.specs.Int.{int_max};
 ghost use Rattle.stream_case.specs.Limits.{IsStreamsHeat};
-ghost use Rattle.stream_case.specs.Stream.{AreStreams};
-ghost use Rattle.problem_table.specs.Deficit.{deficit_above, hot_target, cold_target};
+ghost use Rattle.stream_case.specs.Stream.{stream_ends, AreStreams};
+ghost use Rattle.problem_table.specs.Deficit.{deficit_over, hot_target, cold_target, HasTightDeficit, IsTightOver};
 
-use crate::deficit::deficit_of;
+use crate::deficit::{deficit_of, deficit_over};
 use stream_case::{Case, Stream};
 
 /// The least hot and the least cold utility, in watts.
@@ -25,8 +26,8 @@ pub fn targets(case: &Case) -> Target
     targets_of(case.streams.as_slice())
 }
 
-/// The targets of streams. The hot target is the greatest deficit over the shifted stream ends,
-/// and at least 0. The cold target is the hot target plus all hot heat less all cold heat
+/// The targets of streams. The hot target is the greatest of both deficits over the shifted stream
+/// ends, and at least 0. The cold target is the hot target plus all hot heat less all cold heat
 /// (Linnhoff and Flower 1978).
 pub fn targets_of(streams: &[Stream]) -> Target
     requires { AreStreams streams.now }
@@ -41,26 +42,43 @@ pub fn targets_of(streams: &[Stream]) -> Target
     Target { hot, cold }
 }
 
-// The greatest deficit over the stream ends, and at least 0.
+// The greatest of both deficits over the stream ends, and at least 0.
 pub(crate) fn hot_target(streams: &[Stream]) -> i64
     requires { AreStreams streams.now }
     ensures value { result ≡ hot_target streams.now }
     ensures range { IsStreamsHeat result }
 {
+    greatest_deficit(streams, false).max(greatest_deficit(streams, true))
+}
+
+// The greatest of one of the deficits over the stream ends, and at least 0.
+fn greatest_deficit(streams: &[Stream], from: bool) -> i64
+    requires { AreStreams streams.now }
+    ensures { result ≡ fold int_max (pos 0) (map (deficit_over from streams.now) (stream_ends streams.now)) }
+{
     let mut greatest: i64 = 0;
     for stream in streams {
         greatest = greatest
-            .max(deficit_of(streams, stream.high_end()))
-            .max(deficit_of(streams, stream.low_end()));
+            .max(deficit_over(streams, from, stream.high_end()))
+            .max(deficit_over(streams, from, stream.low_end()));
     }
     greatest
 }
 
-// Whether the deficit above `t` is the hot target.
+// Whether one of the deficits at `t` is the hot target.
 pub(crate) fn is_tight(streams: &[Stream], hot: i64, t: i32) -> bool
     requires streams { AreStreams streams.now }
     requires hot { hot ≡ hot_target streams.now }
-    ensures { IsTrue result ↔ (deficit_above streams.now t ≡ hot_target streams.now) }
+    ensures { IsTrue result ↔ HasTightDeficit streams.now t }
 {
-    deficit_of(streams, t) == hot
+    is_tight_over(streams, hot, false, t) || is_tight_over(streams, hot, true, t)
+}
+
+// Whether the deficit over `t` is the hot target.
+pub(crate) fn is_tight_over(streams: &[Stream], hot: i64, from: bool, t: i32) -> bool
+    requires streams { AreStreams streams.now }
+    requires hot { hot ≡ hot_target streams.now }
+    ensures { IsTrue result ↔ IsTightOver from streams.now t }
+{
+    deficit_over(streams, from, t) == hot
 }

@@ -5,9 +5,12 @@ use Rattle.std.proofs.lemmas.Bool.Decides.{nat_tests}
 use Rattle.std.proofs.lemmas.Fmt.{decimal_is_IsNumeral, length-decimal-le}
 use Rattle.std.proofs.lemmas.Int.{ints}
 use Rattle.std.proofs.lemmas.Str.Parse.{digit_at}
-use Rattle.stream_case.specs.Limits.{IsBetween, IsContribution, IsFlowRate, IsHeat, IsPrice, IsTemperature}
+use Rattle.stream_case.specs.Limits.{IsBetween, IsContribution, IsFlowRate, IsHeat, IsLoad, IsPrice, IsTemperature}
+use Rattle.stream_case.specs.Stream.{IsValidStream}
+use Rattle.stream_case.specs.declared.stream.Stream.{Stream}
 use Rattle.stream_case.specs.Digits.{natural_in}
 use Rattle.stream_case.proofs.DigitLemmas.{natural_read}
+use Rattle.stream_case.proofs.HeatLemmas.{cp-between}
 use Rattle.rows.specs.Fields.{field, is_number, is_number_or_empty, number, optional_number}
 use Rattle.rows.specs.Numbers.{negative, number_in}
 use Rattle.rows.specs.Printed.{optional_field}
@@ -27,6 +30,13 @@ contribution z range = record { from = omega (arith, ints, range.from); upto = o
 
 pub flow_rate : (z : ℤ) → IsFlowRate z → IsPrintable z
 flow_rate z range = record { from = omega (arith, ints, range.from); upto = omega (arith, ints, range.upto) }
+
+-- that of a stream, which is 0 where it is latent
+pub stream_flow_rate : (s : Stream) → IsValidStream s → IsPrintable s.cp
+stream_flow_rate s valid = let range = cp-between s valid in record { from = omega (arith, ints, range.from); upto = omega (arith, ints, range.upto) }
+
+pub load : (z : ℤ) → IsLoad z → IsPrintable z
+load z range = record { from = omega (arith, ints, range.from); upto = omega (arith, ints, range.upto) }
 
 pub heat : (z : ℤ) → IsHeat z → IsPrintable z
 heat z range = record { from = omega (arith, ints, range.from); upto = omega (arith, ints, range.upto) }

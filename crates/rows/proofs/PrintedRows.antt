@@ -16,7 +16,7 @@ use Rattle.rows.specs.Printed.{contribution_row, optional_field, stream_kind, st
 use Rattle.rows.specs.Rows.{Row, rows_of}
 use Rattle.rows.specs.Text.{fields_text, row_text, rows_text}
 use Rattle.rows.proofs.PlainRows.{IsPlain, IsPlainRow, name_plain, number_plain, rows_same}
-use Rattle.rows.proofs.PrintedNumbers.{IsPrintable, contribution, flow_rate, number_short, temperature}
+use Rattle.rows.proofs.PrintedNumbers.{IsPrintable, contribution, number_short, stream_flow_rate, temperature}
 
 -- a field that is printed: plain, and at most 16 bytes long
 pub record IsPrintedField (text : List ℕ) : Type 0 where
@@ -60,12 +60,12 @@ contribution_printed c range =
     let kind : IsPrintedField (codes "contribution") = record { plain = refl; short = omega arith } in
     seven_fields _ _ _ _ _ _ _ kind no_field (number_field c (contribution c range)) no_field no_field no_field no_field
 
-pub stream_printed : (last : List ℕ) → IsPrintedField last → (s : Stream) → IsValidStream s → IsPrintedRow (stream_row last s)
-stream_printed last printed s valid =
+pub stream_printed : (load last : List ℕ) → IsPrintedField load → IsPrintedField last → (s : Stream) → IsValidStream s → IsPrintedRow (stream_row load last s)
+stream_printed load last load_printed printed s valid =
     let supply = number_field s.supply (temperature s.supply valid.supply) in
     let target = number_field s.target (temperature s.target valid.target) in
-    let cp = number_field s.cp (flow_rate s.cp valid.cp) in
-    seven_fields _ _ _ _ _ _ _ (stream_kind_field s.side) (name_field s.name valid.name) supply target cp no_field printed
+    let cp = number_field s.cp (stream_flow_rate s valid) in
+    seven_fields _ _ _ _ _ _ _ (stream_kind_field s.side) (name_field s.name valid.name) supply target cp load_printed printed
 
 -- ---- the text
 

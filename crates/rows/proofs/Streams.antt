@@ -1,15 +1,17 @@
 -- What is kept of the contribution and of the streams that rows give.
-use Rattle.std.proofs.Common.{◌≡◌, ◌+◌, ◌<◌, ◌≤◌, ℕ, ℤ, pos, true, cond, Option, Some, None, IfSome, unwrap_or, arith}
+use Rattle.std.proofs.Common.{◌≡◌, ◌⊎◌, ◌+◌, ◌<◌, ◌≤◌, ℕ, ℤ, pos, true, cond, Option, Some, None, IfSome, unwrap_or, arith}
+use Rattle.std.specs.Ordering.{int_eq}
+use Rattle.std.proofs.lemmas.Bool.Decides.{Decides-int_eq}
 use Rattle.stream_case.specs.Limits.{IsContribution}
 use Rattle.stream_case.specs.Name.{is_name}
 use Rattle.stream_case.specs.Source.{is_right_way, same_side}
-use Rattle.stream_case.specs.Stream.{IsValidStream}
+use Rattle.stream_case.specs.Stream.{IsLatent, IsSensible, IsValidStream}
 use Rattle.stream_case.specs.declared.source.Side.{Side}
 use Rattle.stream_case.specs.declared.source.Side.TheVariants as side
 use Rattle.stream_case.specs.declared.stream.Stream.{Stream}
 use Rattle.stream_case.proofs.NameTests.{passed-name}
 use Rattle.stream_case.proofs.SourceLemmas.{Decides-is_right_way}
-use Rattle.rows.specs.Numbers.{is_flow_rate, is_temperature}
+use Rattle.rows.specs.Numbers.{is_flow_rate, is_load, is_temperature}
 use Rattle.rows.proofs.Tests.{passed-within}
 
 pub no_contribution : IsContribution (pos 0)
@@ -20,14 +22,19 @@ pub range_of : (o : Option ℤ) (otherwise : ℤ) → IfSome o IsContribution �
 range_of None otherwise fits range = range
 range_of (Some c) otherwise fits range = fits
 
--- a stream whose row passes the checks
-pub stream-is_valid : (s : Stream) → is_name s.name ≡ true → is_temperature s.supply ≡ true → is_temperature s.target ≡ true → is_flow_rate s.cp ≡ true → is_right_way s.side s.supply s.target ≡ true → IsContribution s.contribution → IsValidStream s
-stream-is_valid s name supply target cp way contribution = record {
+-- what a stream is whose row passes the checks
+pub passed-sensible : (s : Stream) → is_flow_rate s.cp ≡ true → s.load ≡ pos 0 → is_right_way s.side s.supply s.target ≡ true → IsSensible s
+passed-sensible s cp load way = record { way = (Decides-is_right_way s.side s.supply s.target).0 way; cp = passed-within _ _ _ cp; load = load }
+
+pub passed-latent : (s : Stream) → s.cp ≡ pos 0 → is_load s.load ≡ true → int_eq s.supply s.target ≡ true → IsLatent s
+passed-latent s cp load level = record { level = (Decides-int_eq s.supply s.target).0 level; cp = cp; load = passed-within _ _ _ load }
+
+pub stream-is_valid : (s : Stream) → is_name s.name ≡ true → is_temperature s.supply ≡ true → is_temperature s.target ≡ true → IsSensible s ⊎ IsLatent s → IsContribution s.contribution → IsValidStream s
+stream-is_valid s name supply target heat contribution = record {
   name = passed-name s.name name;
   supply = passed-within _ _ _ supply;
   target = passed-within _ _ _ target;
-  way = (Decides-is_right_way s.side s.supply s.target).0 way;
-  cp = passed-within _ _ _ cp;
+  heat = heat;
   contribution = contribution;
 }
 

@@ -4,9 +4,9 @@ use Rattle.std.specs.Prelude.{int_le}
 use Rattle.std.specs.List.{list_any}
 use Rattle.std.proofs.lemmas.Bool.Decides.{Decides-and, Decides-by_and, Decides-like, Decides-ltb, Decides-not}
 use Rattle.std.proofs.lemmas.Int.{ints}
-use Rattle.stream_case.specs.Limits.{IsBetween, IsContribution}
-use Rattle.rows.specs.Numbers.{is_own_contribution, is_within}
-use Rattle.stream_case.specs.declared.limits.TheConstants.{MOST_CONTRIBUTION}
+use Rattle.stream_case.specs.Limits.{IsBetween, IsContribution, IsLoad}
+use Rattle.rows.specs.Numbers.{is_own_contribution, is_own_load, is_within}
+use Rattle.stream_case.specs.declared.limits.TheConstants.{MOST_CONTRIBUTION, MOST_LOAD}
 
 pub Decides-int_le : (a b : ℤ) → Decides (int_le a b) (a ≤ℤ b)
 Decides-int_le a b = (λ e. grind (arith, ints, e), λ h. grind (arith, ints, h))
@@ -25,6 +25,11 @@ pub Decides-is_own_contribution : (o : Option ℤ) → Decides (is_own_contribut
 unfolding is_own_contribution
 Decides-is_own_contribution None = (λ e. tt, λ h. refl)
 Decides-is_own_contribution (Some c) = Decides-is_within (pos 0) MOST_CONTRIBUTION c
+
+pub Decides-is_own_load : (o : Option ℤ) → Decides (is_own_load o) (IfSome o IsLoad)
+unfolding is_own_load
+Decides-is_own_load None = (λ e. tt, λ h. refl)
+Decides-is_own_load (Some load) = Decides-is_within (pos 1) MOST_LOAD load
 
 -- a count with room for one more
 pub passed-room : (n most : ℕ) → nat_lt n most ≡ true → n < most

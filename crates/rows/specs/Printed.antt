@@ -18,6 +18,6 @@ stream_kind side.Cold = codes "cold"
 abbrev pub contribution_row : ℤ → Row
 contribution_row contribution = codes "contribution" ∷ [] ∷ signed_decimal contribution ∷ [] ∷ [] ∷ [] ∷ [] ∷ []
 
--- with this seventh field
-abbrev pub stream_row : List ℕ → Stream → Row
-stream_row last s = stream_kind s.side ∷ s.name ∷ signed_decimal s.supply ∷ signed_decimal s.target ∷ signed_decimal s.cp ∷ [] ∷ last ∷ []
+-- with these as its sixth and its seventh field
+abbrev pub stream_row : List ℕ → List ℕ → Stream → Row
+stream_row load last s = stream_kind s.side ∷ s.name ∷ signed_decimal s.supply ∷ signed_decimal s.target ∷ signed_decimal s.cp ∷ load ∷ last ∷ []

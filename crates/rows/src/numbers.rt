@@ -2,11 +2,11 @@
 
 ghost use Rattle.std.specs.Prelude.{◌≡◌, [], ◌∷◌};
 ghost use Rattle.first_fault.specs.Checks.{Checked};
-ghost use Rattle.rows.specs.Numbers.{is_contribution, is_flow_rate, is_heat, is_own_contribution, is_price, is_temperature, is_within, number_in};
+ghost use Rattle.rows.specs.Numbers.{is_contribution, is_flow_rate, is_flow_rate_beside, is_heat, is_load, is_own_contribution, is_own_load, is_price, is_temperature, is_within, number_in};
 
 use stream_case::{
-    HIGHEST_TEMPERATURE, LOWEST_TEMPERATURE, MOST_CONTRIBUTION, MOST_CP, MOST_HEAT, MOST_PRICE,
-    natural_of,
+    HIGHEST_TEMPERATURE, LOWEST_TEMPERATURE, MOST_CONTRIBUTION, MOST_CP, MOST_HEAT, MOST_LOAD,
+    MOST_PRICE, natural_of,
 };
 
 /// The most digits of a number text.
@@ -71,6 +71,40 @@ pub fn flow_rate<Cause: Drop>(n: i64, outside: Cause) -> Result<i64, Cause>
     ensures { Checked ((is_flow_rate n, outside) ∷ []) (λ cp. cp ≡ n) result }
 {
     within(1, MOST_CP, n, outside)
+}
+
+/// The heat-capacity flow of a stream that may give a load, in 10 W/K, or the cause for one outside
+/// the limits: it may be 0 where there is a load.
+pub fn flow_rate_beside<Cause: Drop>(
+    load: Option<i64>,
+    n: i64,
+    outside: Cause,
+) -> Result<i64, Cause>
+    ensures { Checked ((is_flow_rate_beside load n, outside) ∷ []) (λ cp. cp ≡ n) result }
+{
+    let least = match load {
+        None => 1,
+        Some(_) => 0,
+    };
+    within(least, MOST_CP, n, outside)
+}
+
+/// A number that is the load of a latent stream, in W, or the cause for one outside the limits.
+pub fn load<Cause: Drop>(n: i64, outside: Cause) -> Result<i64, Cause>
+    ensures { Checked ((is_load n, outside) ∷ []) (λ load. load ≡ n) result }
+{
+    within(1, MOST_LOAD, n, outside)
+}
+
+/// The load that a stream gives, in W, or the cause for one outside the limits; it may give none.
+#[tactic(auto, unfolding(crate::specs::Numbers::is_own_load))]
+pub fn own_load<Cause: Drop>(n: Option<i64>, outside: Cause) -> Result<Option<i64>, Cause>
+    ensures { Checked ((is_own_load n, outside) ∷ []) (λ load. load ≡ n) result }
+{
+    let Some(n) = n else {
+        return Ok(None);
+    };
+    Ok(Some(load(n, outside)?))
 }
 
 /// A number that is a heat, in W, or the cause for one outside the limits.

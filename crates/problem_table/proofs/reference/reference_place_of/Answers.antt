@@ -3,7 +3,7 @@ use Rattle.std.proofs.Common.{ℤ, w32, FitsSigned, List, [], ◌∷◌, ◌++�
 use Rattle.std.proofs.lemmas.Int.{to_z-of_z}
 use Rattle.problem_table.proofs.Words.{FindsHighestTight, Stream, high_end, low_end, stream_ends}
 use Rattle.stream_case.proofs.EndLemmas.{stream_ends-more}
-use Rattle.problem_table.proofs.PlaceLemmas.{IsSome-highest}
+use Rattle.problem_table.proofs.PlaceLemmas.{IsReferencePlace-found, IsSome-highest}
 use Rattle.problem_table.proofs.reference.reference_place_of.Goals as goal
 
 pub loop-stream-preserved : goal.loop-stream-preserved
@@ -24,3 +24,11 @@ unwrap-requires c =
     let streams = c.args.streams.now in
     let whole = take_all c.loop-stream.stream-index streams c.loop-stream-test.false in
     IsSome-highest streams c.requires c.loop-stream.place (subst (λ (ss : List Stream). FindsHighestTight streams (stream_ends ss) c.loop-stream.place) whole c.loop-stream.invariant)
+
+pub returns : goal.returns
+returns c =
+    let streams = c.args.streams.now in
+    let whole = take_all c.loop-stream.stream-index streams c.loop-stream-test.false in
+    let fits : FitsSigned w32 c.unwrap.result = search rules in
+    let found = subst (λ (ss : List Stream). FindsHighestTight streams (stream_ends ss) c.loop-stream.place) whole c.loop-stream.invariant in
+    rw (to_z-of_z w32 c.unwrap.result fits) (IsReferencePlace-found streams c.unwrap.result (subst (FindsHighestTight streams (stream_ends streams)) c.unwrap.ensures found))

@@ -1,33 +1,19 @@
--- Each stream brings the deficits at its two ends.
-use Rattle.std.proofs.Common.{pos, List, w32, w64, FitsSigned, map, ap, sym, ◌∙◌, subst, rules, fold, take_all}
+-- The greater of the greatest of each of the two deficits.
+use Rattle.std.proofs.Common.{w64, FitsSigned, sym, ap₂, ◌∙◌, subst, rules}
 use Rattle.std.specs.Int.{int_max}
 use Rattle.std.proofs.lemmas.Int.{to_z-of_z}
-use Rattle.problem_table.proofs.Words.{IsStreamsHeat, Stream, deficit_above, stream_ends}
-use Rattle.problem_table.proofs.DeficitLemmas.{hot_target-more, hot_target-between}
+use Rattle.problem_table.proofs.Words.{IsStreamsHeat}
+use Rattle.problem_table.proofs.DeficitLemmas.{hot_target-is, hot_target-between}
 use Rattle.problem_table.proofs.target.hot_target.Goals as goal
-
-pub loop-stream-preserved : goal.loop-stream-preserved
-loop-stream-preserved c =
-    let streams = c.args.streams.now in let deficit = deficit_above streams in
-    let high_fits : FitsSigned w32 c.high_end.result = search rules in
-    let low_fits : FitsSigned w32 c.low_end.result = search rules in
-    let first_fits : FitsSigned w64 c.deficit_of.result = search rules in
-    let second_fits : FitsSigned w64 c.deficit_of-in-loop-stream.result = search rules in
-    let max_fits : FitsSigned w64 c.max.result = search rules in
-    let greatest_fits : FitsSigned w64 c.max-greatest.result = search rules in
-    let first = to_z-of_z w64 _ first_fits ∙ c.deficit_of.ensures.value ∙ ap deficit (to_z-of_z w32 _ high_fits ∙ c.high_end.ensures.value) in
-    let second = to_z-of_z w64 _ second_fits ∙ c.deficit_of-in-loop-stream.ensures.value ∙ ap deficit (to_z-of_z w32 _ low_fits ∙ c.low_end.ensures.value) in
-    let greater = to_z-of_z w64 _ max_fits ∙ c.max.ensures.value in
-    let greatest = to_z-of_z w64 _ greatest_fits ∙ c.max-greatest.ensures.value in
-    let so_far = c.loop-stream.invariant in
-    let step = hot_target-more streams c.loop-stream.stream-index c.stream-item.result c.loop-stream-test.true c.stream-item.is in
-    cc
 
 pub returns-clause-value : goal.returns-clause-value
 returns-clause-value c =
-    let streams = c.args.streams.now in
-    let whole = take_all c.loop-stream.stream-index streams c.loop-stream-test.false in
-    c.loop-stream.invariant ∙ ap (λ (ss : List Stream). fold int_max (pos 0) (map (deficit_above streams) (stream_ends ss))) whole
+    let above_fits : FitsSigned w64 c.greatest_deficit.result = search rules in
+    let from_fits : FitsSigned w64 c.greatest_deficit-2.result = search rules in
+    let max_fits : FitsSigned w64 c.max.result = search rules in
+    let above = to_z-of_z w64 _ above_fits ∙ c.greatest_deficit.ensures in
+    let from = to_z-of_z w64 _ from_fits ∙ c.greatest_deficit-2.ensures in
+    to_z-of_z w64 _ max_fits ∙ c.max.ensures.value ∙ ap₂ int_max above from ∙ hot_target-is c.args.streams.now
 
 pub returns-clause-range : goal.returns-clause-range
 returns-clause-range c = subst IsStreamsHeat (sym (returns-clause-value c)) (hot_target-between c.args.streams.now c.requires)

@@ -1,0 +1,7 @@
+-- The heat of the side's streams so far.
+use Rattle.std.proofs.Common.{◌≡◌, take}
+use Rattle.problem_table.proofs.Words.{heat_over, sum_side}
+use Rattle.problem_table.proofs.deficit.side_heat_over.Given as goal
+
+abbrev pub invariant-loop-stream : goal.invariant-loop-stream
+invariant-loop-stream l = l.heat ≡ sum_side l.side (heat_over l.from l.t) (take l.stream-index l.streams)

@@ -1,0 +1,12 @@
+-- The deficit above the one reference place is tested.
+use Rattle.std.proofs.Common.{w32, FitsSigned, rules}
+use Rattle.std.proofs.lemmas.Int.{to_z-of_z}
+use Rattle.problem_table.proofs.PlaceLemmas.{Decides-from_itself}
+use Rattle.problem_table.proofs.reference.reference_from_of.Goals as goal
+
+pub returns : goal.returns
+returns c =
+    let found = c.reference_place_of-place.result in
+    let fits : FitsSigned w32 found = search rules in
+    let tight = rw (to_z-of_z w32 found fits) at c.is_tight_over.ensures in
+    Decides-from_itself c.args.streams.now found c.is_tight_over.result c.reference_place_of-place.ensures tight

@@ -1,0 +1,8 @@
+-- The greatest of 0 and the deficits at the ends of the streams so far.
+use Rattle.std.proofs.Common.{◌≡◌, pos, map, take, fold}
+use Rattle.std.specs.Int.{int_max}
+use Rattle.problem_table.proofs.Words.{deficit_over, stream_ends}
+use Rattle.problem_table.proofs.target.greatest_deficit.Given as goal
+
+abbrev pub invariant-loop-stream : goal.invariant-loop-stream
+invariant-loop-stream l = l.greatest ≡ fold int_max (pos 0) (map (deficit_over l.from l.streams) (stream_ends (take l.stream-index l.streams)))
