@@ -1,21 +1,35 @@
 -- The heat of streams below an actual temperature, and the ends of a side's streams.
-use Rattle.std.proofs.Common.{◌≡◌, ℕ, ◌+◌, ◌<◌, Bool, true, false, List, [], ◌∷◌, ◌++◌, length, get_or, take, refl, ap, sym, ◌∙◌, arith, ℤ, if◌then◌else◌, filter, flat_map}
+use Rattle.std.proofs.Common.{◌≡◌, ◌⊎◌, inl, inr, ℕ, ◌+◌, ◌<◌, Bool, true, false, List, [], ◌∷◌, ◌++◌, length, get_or, take, refl, ap, sym, ◌∙◌, arith, ℤ, ◌-ℤ◌, if◌then◌else◌, filter, flat_map}
 use Rattle.std.proofs.lemmas.Int.{ints, clamps}
 use Rattle.std.proofs.lemmas.Grind.{flat_map-append}
 use Rattle.std.proofs.lemmas.List.{take_more}
 use Rattle.std.proofs.lemmas.List.Elements.{filter-append}
 use Rattle.stream_case.specs.declared.source.Side.{Side}
+use Rattle.stream_case.specs.declared.source.Side.TheVariants.{Hot, Cold}
 use Rattle.stream_case.specs.declared.stream.Stream.{Stream}
-use Rattle.stream_case.specs.Limits.{IsStreamHeat}
-use Rattle.stream_case.specs.Source.{same_side}
-use Rattle.stream_case.specs.Stream.{lower_temperature, higher_temperature, IsValidStream}
-use Rattle.stream_case.proofs.HeatLemmas.{HasLength-IsValidStream, heat-between}
+use Rattle.stream_case.specs.Limits.{IsLength, IsStreamHeat}
+use Rattle.stream_case.specs.Source.{is_hot, same_side}
+use Rattle.stream_case.specs.Stream.{lower_temperature, higher_temperature, IsSensible, IsLatent, IsValidStream}
+use Rattle.stream_case.proofs.HeatLemmas.{HasLength-sensible, heat-between}
 use Rattle.curves.specs.Below.{length_below, heat_below, temperatures_of}
+
+-- the length of the actual range: a latent stream has one temperature
+pub actual-length : (s : Stream) → IsValidStream s → IsLength (higher_temperature s -ℤ lower_temperature s)
+actual-length s h = by_heat h.heat
+  where
+    none : (side : Side) (supply target : ℤ) → supply ≡ target → IsLength ((if is_hot side then supply else target) -ℤ (if is_hot side then target else supply))
+    none Hot supply target level = record { from = omega (arith, ints); upto = omega (arith, ints) }
+    none Cold supply target level = record { from = omega (arith, ints); upto = omega (arith, ints) }
+
+    by_heat : IsSensible s ⊎ IsLatent s → IsLength (higher_temperature s -ℤ lower_temperature s)
+    by_heat (inl sensible) = let range = HasLength-sensible s h sensible in record { from = omega (arith, ints); upto = omega (arith, ints) }
+    by_heat (inr latent) = none s.side s.supply s.target latent.level
 
 pub heat_below-between : (t : ℤ) (s : Stream) → IsValidStream s → IsStreamHeat (heat_below t s)
 heat_below-between t s h =
-    let range = HasLength-IsValidStream s h in
-    heat-between s (length_below (lower_temperature s) (higher_temperature s) t) h (record { from = omega (arith, ints, clamps); upto = omega (arith, ints, clamps) })
+    let range = actual-length s h in
+    let heat = heat-between s (length_below (lower_temperature s) (higher_temperature s) t) h (record { from = omega (arith, ints, clamps); upto = omega (arith, ints, clamps) }) in
+    record { from = heat.from; upto = omega (arith, ints, heat.upto) }
 
 ends_of : Stream → List ℤ
 ends_of s = s.supply ∷ s.target ∷ []

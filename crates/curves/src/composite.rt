@@ -1,6 +1,6 @@
 //! The hot and the cold composite curve.
 ghost use Rattle.std.specs.Prelude.{◌≡◌, IfOk};
-ghost use Rattle.stream_case.specs.Stream.{AreStreams};
+ghost use Rattle.stream_case.specs.Stream.{AreSensible, AreStreams};
 ghost use Rattle.curves.specs.Below.{temperatures_of};
 ghost use Rattle.curves.specs.Curve.{IsSideCurve};
 
@@ -12,18 +12,21 @@ use sums::rising;
 
 /// The hot composite curve: for each actual temperature that is an end of a hot stream, rising
 /// and each once, the heat of all hot streams below it. It is empty where there is no hot
-/// stream.
+/// stream. No stream is latent.
 pub fn hot_curve(alloc: Global, case: &Case) -> Result<Items<Point>, AllocError>
-    requires { AreStreams case.now.streams }
+    requires streams { AreStreams case.now.streams }
+    requires sensible { AreSensible case.now.streams }
     ensures { IfOk result (λ curve. IsSideCurve Side.Hot case.now.streams curve) }
 {
     side_curve(alloc, case.streams.as_slice(), Side::Hot)
 }
 
 /// The cold composite curve, in the same way over the cold streams. A drawing begins it at the
-/// cold target; here its heats begin at 0.
+/// cold target; here its heats begin at 0. No stream is
+/// latent.
 pub fn cold_curve(alloc: Global, case: &Case) -> Result<Items<Point>, AllocError>
-    requires { AreStreams case.now.streams }
+    requires streams { AreStreams case.now.streams }
+    requires sensible { AreSensible case.now.streams }
     ensures { IfOk result (λ curve. IsSideCurve Side.Cold case.now.streams curve) }
 {
     side_curve(alloc, case.streams.as_slice(), Side::Cold)

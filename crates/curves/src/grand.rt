@@ -1,6 +1,6 @@
 //! The grand composite curve.
 ghost use Rattle.std.specs.Prelude.{IfOk};
-ghost use Rattle.stream_case.specs.Stream.{AreStreams};
+ghost use Rattle.stream_case.specs.Stream.{AreSensible, AreStreams};
 ghost use Rattle.curves.specs.Curve.{IsGrandCurve};
 
 use crate::point::Point;
@@ -10,9 +10,10 @@ use stream_case::{Case, Items, stream_ends};
 use sums::falling;
 
 /// The grand composite curve: for each shifted stream end, falling and each once, the hot
-/// target less the deficit above it.
+/// target less the deficit above it. No stream is latent.
 pub fn grand_curve(alloc: Global, case: &Case) -> Result<Items<Point>, AllocError>
-    requires { AreStreams case.now.streams }
+    requires streams { AreStreams case.now.streams }
+    requires sensible { AreSensible case.now.streams }
     ensures { IfOk result (λ curve. IsGrandCurve case.now.streams curve) }
 {
     let hot = targets(case).hot;

@@ -22,3 +22,4 @@ pub mod CourseEnds
 pub mod DrawSteps
 pub mod NumberedItems
 pub mod NumberedShares
+pub mod SensibleStreams

@@ -1,27 +1,29 @@
--- The parts of a side above a place add up to the heat of its streams above it.
+-- The parts of a side above a place add up to the heat of its streams above it; so do those from a place on.
 use Rattle.std.proofs.Common.{◌≡◌, ◌⊎◌, ⊎_elim, inl, inr, ◌∙◌, refl, sym, ap, ap₂, Bool, true, false, ◌&&◌, List, [], ◌∷◌, get_or, arith}
-use Rattle.std.specs.Prelude.{ℤ, pos, ◌+ℤ◌, ◌-ℤ◌, ◌*ℤ◌, ◌≤ℤ◌, ◌<ℤ◌, int_le, if◌then◌else◌, All, AllPairs, Contains}
+use Rattle.std.specs.Prelude.{ℤ, pos, ◌+ℤ◌, ◌-ℤ◌, ◌*ℤ◌, ◌≤ℤ◌, ◌<ℤ◌, int_le, int_lt, if◌then◌else◌, All, AllPairs, Contains}
 use Rattle.std.specs.Int.{int_max}
 use Rattle.std.proofs.Math.IntN.{*ℤ-zero}
 use Rattle.std.proofs.lemmas.Int.{ints, clamps}
-use Rattle.std.proofs.lemmas.Bool.{cases_Bool}
+use Rattle.std.proofs.lemmas.Bool.{cases_Bool, false_from_ne_true}
 use Rattle.std.proofs.lemmas.List.Elements.{All-contains}
 use Rattle.stream_case.specs.declared.source.Side.{Side}
 use Rattle.stream_case.specs.declared.stream.Stream.{Stream}
 use Rattle.stream_case.specs.declared.utility.Utility.{Utility}
 use Rattle.stream_case.specs.Source.{is_stream, same_side}
-use Rattle.stream_case.specs.Stream.{high_end, low_end, length_above, heat_above, heat_between, IsValidStream}
-use Rattle.stream_case.proofs.EndLemmas.{AreEnds-IsValidStream}
+use Rattle.stream_case.specs.Stream.{high_end, low_end, length_above, counts_above, sensible_above, heat_over, IsSensible, IsLatent, IsValidStream}
+use Rattle.stream_case.proofs.EndLemmas.{order-sensible}
+use Rattle.stream_case.proofs.HeatLemmas.{heat_over-latent, heat_over-sensible}
 use Rattle.sums.specs.Sum.{int_sum_by}
-use Rattle.sums.proofs.IntegerLemmas.{int_le-from, int_le-false}
+use Rattle.sums.proofs.IntegerLemmas.{int_le-from, int_le-false, int_lt-from, int_lt-true}
 use Rattle.sums.proofs.OrderLemmas.{AllPairs-head, AllPairs-tail, Contains-cons}
 use Rattle.sums.proofs.ProductLemmas.{*ℤ--ℤ}
 use Rattle.sums.proofs.SumLemmas.{int_sum_by-same}
 use Rattle.grid.specs.declared.part.Part.{Part}
 use Rattle.grid.specs.Grid.{HoldsPlaces}
-use Rattle.grid.specs.Making.{made_parts}
-use Rattle.grid.proofs.MakingLemmas.{holds_ends, holds_levels}
-use Rattle.grid.proofs.RunLemmas.{level_run, level_run-is, stream_run, stream_run-other, sum-made}
+use Rattle.grid.specs.Making.{is_latent, made_parts}
+use Rattle.grid.specs.Part.{piece_heat, stands_above}
+use Rattle.grid.proofs.MakingLemmas.{holds_ends, holds_levels, is_latent-true}
+use Rattle.grid.proofs.RunLemmas.{latent_run, latent_run-is, latent_run-none, latent_run-other, level_run, level_run-is, stream_run, stream_run-latent, stream_run-other, sum-made}
 
 -- ---- a stream's parts from the top down
 
@@ -49,21 +51,30 @@ length_in-is low high at g l step order (inl a) (inr b) (inr c) = rw (int_le-fro
 length_in-is low high at g l step order (inl a) (inl b) c = rw (int_le-from low l a, int_le-false g high (omega (arith, ints))) (⊎_elim (λ d. omega (arith, ints, clamps)) (λ d. omega (arith, ints, clamps)) c)
 length_in-is low high at g l step order (inr a) b c = rw (int_le-false low l (omega (arith, ints))) (⊎_elim (λ d. omega (arith, ints, clamps)) (λ d. omega (arith, ints, clamps)) c)
 
--- the heat of a stream's part that lies above a place
-abbrev pub part_above : ℤ → ℤ → ℤ → Stream → ℤ
-part_above place high low s = if int_le place low then heat_between high low s else pos 0
+-- the heat of a piece of a stream that stands above a place
+abbrev pub piece_above : Bool → ℤ → ℤ → ℤ → Stream → ℤ
+piece_above from place high low s = if counts_above from place (if from then low else high) then piece_heat high low s else pos 0
 
-module _ (at : ℤ) (side : Side) (s : Stream) (same : same_side s.side side ≡ true) (order : low_end s ≤ℤ high_end s) where
-  scaled : (b c : Bool) (x : ℤ) → (if b then (if c then s.cp *ℤ x else pos 0) else pos 0) ≡ s.cp *ℤ (if b then (if c then x else pos 0) else pos 0)
-  scaled true true x = refl
+int_lt-false : (a b : ℤ) → b ≤ℤ a → int_lt a b ≡ false
+int_lt-false a b h = false_from_ne_true (int_lt a b) (λ e. let less = int_lt-true a b e in omega (arith, ints))
+
+-- an interval stands above a place with both ends
+interval_above-is : (from : Bool) (at g l : ℤ) → l <ℤ g → (at ≤ℤ l) ⊎ (g ≤ℤ at) → counts_above from at (if from then l else g) ≡ int_le at l
+interval_above-is true at g l step place = refl
+interval_above-is false at g l step (inl below) = int_lt-from at g (omega (arith, ints)) ∙ sym (int_le-from at l below)
+interval_above-is false at g l step (inr above) = int_lt-false at g above ∙ sym (int_le-false at l (omega (arith, ints)))
+
+module _ (from : Bool) (at : ℤ) (side : Side) (s : Stream) (same : same_side s.side side ≡ true) (order : low_end s ≤ℤ high_end s) (no_load : s.load ≡ pos 0) where
+  scaled : (b c : Bool) (x : ℤ) → (if b then (if c then (s.cp *ℤ x +ℤ s.load) else pos 0) else pos 0) ≡ s.cp *ℤ (if b then (if c then x else pos 0) else pos 0)
+  scaled true true x = omega (arith, ints)
   scaled true false x = sym (*ℤ-zero s.cp)
   scaled false c x = sym (*ℤ-zero s.cp)
 
-  -- with the heat above the place where they begin they are the heat above the place
-  run-is : (g : ℤ) (places : List ℤ) → AllPairs (λ a b. b <ℤ a) (g ∷ places) → Meets g places (low_end s) → Meets g places (high_end s) → Meets g places at → stream_run (part_above at) side s (g ∷ places) +ℤ heat_above (int_max at g) s ≡ heat_above at s
+  -- with the heat above the place where they begin the parts on intervals are the sensible heat above the place
+  run-is : (g : ℤ) (places : List ℤ) → AllPairs (λ a b. b <ℤ a) (g ∷ places) → Meets g places (low_end s) → Meets g places (high_end s) → Meets g places at → stream_run (piece_above from at) side s (g ∷ places) +ℤ sensible_above (int_max at g) s ≡ sensible_above at s
   run-is g [] falls low high place =
       let here : int_max at g ≡ at = ⊎_elim (λ found. ⊎_elim (λ e. omega (arith, ints, clamps)) (λ (k, within, is). absurd (omega arith)) (Contains-cons g [] at found)) (λ le. omega (arith, ints, clamps)) place in
-      let heat = ap (λ t. heat_above t s) here in
+      let heat = ap (λ t. sensible_above t s) here in
       omega (arith, ints)
   run-is g (l ∷ places) falls low high place =
       let step = AllPairs-head (λ a b. b <ℤ a) g (l ∷ places) falls 0 g (omega arith) in
@@ -73,44 +84,78 @@ module _ (at : ℤ) (side : Side) (s : Stream) (same : same_side s.side side ≡
       let rest = run-is l places (AllPairs-tail (λ a b. b <ℤ a) g (l ∷ places) falls) low_next high_next place_next in
       let above = λ (t : ℤ). length_above (low_end s) (high_end s) t in
       let term =
-      ap (λ b. if (b && (int_le (low_end s) l && int_le g (high_end s))) then part_above at g l s else pos 0) same
+      ap (λ b. if (b && (int_le (low_end s) l && int_le g (high_end s))) then piece_above from at g l s else pos 0) same
+      ∙ ap (λ b. if (int_le (low_end s) l && int_le g (high_end s)) then (if b then piece_heat g l s else pos 0) else pos 0) (interval_above-is from at g l step place_out)
       ∙ scaled (int_le (low_end s) l && int_le g (high_end s)) (int_le at l) (g -ℤ l)
       ∙ ap (λ x. s.cp *ℤ x) (length_in-is (low_end s) (high_end s) at g l step order low_out high_out place_out)
       ∙ *ℤ--ℤ s.cp (above (int_max at l)) (above (int_max at g)) in
       omega (arith, ints)
 
--- on places that hold the ends of the stream and the place, the parts above the place add up to the heat above it
-pub stream_run-is : (place : ℤ) (side : Side) (s : Stream) (places : List ℤ) → AllPairs (λ a b. b <ℤ a) places → Contains places (low_end s) → Contains places (high_end s) → Contains places place → low_end s ≤ℤ high_end s → stream_run (part_above place) side s places ≡ (if same_side s.side side then heat_above place s else pos 0)
-stream_run-is place side s [] falls (k, within, is) high at order = absurd (omega arith)
-stream_run-is place side s (g ∷ places) falls low high at order =
-    ⊎_elim
-    (λ same.
+is_latent-sensible : (s : Stream) → IsSensible s → is_latent s ≡ false
+is_latent-sensible s h = false_from_ne_true (is_latent s) (λ e. let load = (is_latent-true s e).load in let none = h.load in omega (arith, ints))
+
+-- on places that hold the ends of a sensible stream and the place, the parts above the place add up to the heat above it
+stream_run-is : (from : Bool) (place : ℤ) (side : Side) (s : Stream) (places : List ℤ) → IsSensible s → same_side s.side side ≡ true → AllPairs (λ a b. b <ℤ a) places → Contains places (low_end s) → Contains places (high_end s) → Contains places place → stream_run (piece_above from place) side s places ≡ sensible_above place s
+stream_run-is from place side s [] sensible same falls (k, within, is) high at = absurd (omega arith)
+stream_run-is from place side s (g ∷ places) sensible same falls low high at =
+    let order = order-sensible s sensible in
     let top = greatest_first g places falls (high_end s) high in
     let none : length_above (low_end s) (high_end s) (int_max place g) ≡ pos 0 = omega (arith, ints, clamps) in
     let begins = ap (λ l. s.cp *ℤ l) none ∙ *ℤ-zero s.cp in
-    let run = run-is place side s same order g places falls (inl low) (inl high) (inl at) in
-    let whole : stream_run (part_above place) side s (g ∷ places) ≡ heat_above place s = omega (arith, ints) in
-    whole ∙ sym (ap (λ b. if b then heat_above place s else pos 0) same))
-    (λ other. stream_run-other (part_above place) side s (g ∷ places) other ∙ sym (ap (λ b. if b then heat_above place s else pos 0) other))
+    let run = run-is from place side s same (omega (arith, ints)) sensible.load g places falls (inl low) (inl high) (inl at) in
+    omega (arith, ints)
+
+-- the one part of a latent stream is its load, if that stands above the place
+level_above-is : (from : Bool) (place level : ℤ) (s : Stream) → s.cp ≡ pos 0 → piece_above from place level level s ≡ (if counts_above from place level then s.load else pos 0)
+level_above-is from place level s no_flow =
+    ap (λ heat. if counts_above from place (if from then level else level) then heat else pos 0) heat ∙ ap (λ end. if counts_above from place end then s.load else pos 0) (either from)
+  where
+    heat : piece_heat level level s ≡ s.load
+    heat = let width : level -ℤ level ≡ pos 0 = omega (arith, ints) in let none = ap (λ x. s.cp *ℤ x) width ∙ *ℤ-zero s.cp in omega (arith, ints)
+
+    either : (b : Bool) → (if b then level else level) ≡ level
+    either true = refl
+    either false = refl
+
+-- the parts of a stream above a place are its heat above it
+runs-are : (from : Bool) (place : ℤ) (side : Side) (s : Stream) (places : List ℤ) → IsSensible s ⊎ IsLatent s → AllPairs (λ a b. b <ℤ a) places → Contains places (low_end s) → Contains places (high_end s) → Contains places place → latent_run (piece_above from place) side s places +ℤ stream_run (piece_above from place) side s places ≡ (if same_side s.side side then heat_over from place s else pos 0)
+runs-are from place side s places heat falls low high at =
+    ⊎_elim (λ same. own same heat ∙ sym (ap (λ b. if b then heat_over from place s else pos 0) same))
+    (λ other.
+    let latent = latent_run-other (piece_above from place) side s places other in
+    let on_intervals = stream_run-other (piece_above from place) side s places other in
+    let none : latent_run (piece_above from place) side s places +ℤ stream_run (piece_above from place) side s places ≡ pos 0 = omega (arith, ints) in
+    none ∙ sym (ap (λ b. if b then heat_over from place s else pos 0) other))
     (cases_Bool (same_side s.side side))
+  where
+    own : same_side s.side side ≡ true → IsSensible s ⊎ IsLatent s → latent_run (piece_above from place) side s places +ℤ stream_run (piece_above from place) side s places ≡ heat_over from place s
+    own same (inl sensible) =
+        let none = latent_run-none (piece_above from place) side s places (is_latent-sensible s sensible) in
+        let run = stream_run-is from place side s places sensible same falls low high at in
+        let whole = heat_over-sensible from place s sensible in
+        omega (arith, ints)
+    own same (inr latent) =
+        let none = stream_run-latent (piece_above from place) side s places latent falls in
+        let run = latent_run-is (piece_above from place) side s places latent same falls high ∙ level_above-is from place (high_end s) s latent.cp in
+        let whole = heat_over-latent from place s latent in
+        omega (arith, ints)
 
 -- ---- the parts of a side
 
 -- the heat of a stream's part above a place, and this much for each utility's part
-abbrev pub heat_from : ℤ → ℤ → Part → ℤ
-heat_from place each p = if is_stream p.source then (if int_le place p.low then p.least else pos 0) else each
+abbrev pub part_over : Bool → ℤ → ℤ → Part → ℤ
+part_over from place each p = if is_stream p.source then (if stands_above from place p then p.least else pos 0) else each
 
-pub sum-heat_from : (streams : List Stream) (utilities : List Utility) (side : Side) (places : List ℤ) (place each : ℤ) → All IsValidStream streams → HoldsPlaces streams utilities places → Contains places place → int_sum_by (heat_from place each) (made_parts streams utilities side places) ≡ int_sum_by (λ u. if same_side u.side side then each else pos 0) utilities +ℤ int_sum_by (λ s. if same_side s.side side then heat_above place s else pos 0) streams
-sum-heat_from streams utilities side places place each valid holds at =
-    let exchanged = sum-made (heat_from place each) (part_above place) (λ u. each) (λ high low i s. refl) (λ i u. refl) streams utilities side places in
+pub sum-part_over : (streams : List Stream) (utilities : List Utility) (side : Side) (places : List ℤ) (from : Bool) (place each : ℤ) → All IsValidStream streams → HoldsPlaces streams utilities places → Contains places place → int_sum_by (part_over from place each) (made_parts streams utilities side places) ≡ int_sum_by (λ u. if same_side u.side side then each else pos 0) utilities +ℤ int_sum_by (λ s. if same_side s.side side then heat_over from place s else pos 0) streams
+sum-part_over streams utilities side places from place each valid holds at =
+    let exchanged = sum-made (part_over from place each) (piece_above from place) (λ u. each) (λ high low i s. refl) (λ i u. refl) streams utilities side places in
     let levels =
     int_sum_by-same (λ u. level_run (λ v. each) side u places) (λ u. if same_side u.side side then each else pos 0) utilities
     (λ k d within. level_run-is (λ v. each) side (get_or utilities k d) places holds.falls (holds_levels streams utilities places holds k d within)) in
     let runs =
-    int_sum_by-same (λ s. stream_run (part_above place) side s places) (λ s. if same_side s.side side then heat_above place s else pos 0) streams
+    int_sum_by-same (λ s. latent_run (piece_above from place) side s places +ℤ stream_run (piece_above from place) side s places) (λ s. if same_side s.side side then heat_over from place s else pos 0) streams
     (λ k d within.
     let s = get_or streams k d in
-    let ends = AreEnds-IsValidStream s (valid k d within) in
     let held = holds_ends streams utilities places holds k d within in
-    stream_run-is place side s places holds.falls held.1 held.0 at (omega (arith, ints))) in
+    runs-are from place side s places (valid k d within).heat holds.falls held.1 held.0 at) in
     exchanged ∙ ap₂ ◌+ℤ◌ levels runs

@@ -3,11 +3,12 @@ use Rattle.std.proofs.Common.{◌≡◌, inl, inr, ℕ, zero, suc, ◌+◌, ◌<
 use Rattle.std.specs.Prelude.{ℤ, pos, ◌≤ℤ◌, ◌<ℤ◌, All, AllPairs, Contains, slice_get, map, int_le}
 use Rattle.std.specs.Ordering.{int_eq}
 use Rattle.std.proofs.lemmas.Int.{ints}
-use Rattle.std.proofs.lemmas.Bool.{and_parts, and_from}
+use Rattle.std.proofs.lemmas.Bool.{and_parts, and_from, false_from_ne_true}
 use Rattle.std.proofs.lemmas.Bool.Decides.{Decides-int_eq}
 use Rattle.std.proofs.lemmas.Option.{none-some, same_Some, slice_get-get_or, slice_get_within, get_or_from_slice_get}
 use Rattle.std.proofs.lemmas.List.{length-map, get_or-map, take_more, append-nil, drop_more, drop_all}
 use Rattle.std.proofs.lemmas.List.Elements.{All-nil, All-head, All-tail, All-append, All-weaker, All-contains, All-contains_itself, Contains-get_or, Contains-append_left, Contains-append_right}
+use Rattle.stream_case.specs.declared.limits.TheConstants.{MOST_LOAD}
 use Rattle.stream_case.specs.declared.source.Side.{Side}
 use Rattle.stream_case.specs.declared.source.Source.{Source}
 use Rattle.stream_case.specs.declared.source.Source.TheVariants.{Stream as of_stream, Utility as of_utility}
@@ -15,9 +16,9 @@ use Rattle.stream_case.specs.declared.stream.Stream.{Stream}
 use Rattle.stream_case.specs.declared.utility.Utility.{Utility}
 use Rattle.stream_case.specs.declared.case.Case.{Case}
 use Rattle.stream_case.specs.Source.{same_side}
-use Rattle.stream_case.specs.Stream.{high_end, low_end, stream_ends}
+use Rattle.stream_case.specs.Stream.{high_end, low_end, stream_ends, IsLatent}
 use Rattle.stream_case.specs.Utility.{shifted_level}
-use Rattle.stream_case.proofs.EndLemmas.{each_end}
+use Rattle.stream_case.proofs.EndLemmas.{each_end, level-latent}
 use Rattle.stream_case.proofs.SourceLemmas.{own_side, same_side-true}
 use Rattle.sums.specs.Pairing.{cons_if}
 use Rattle.sums.specs.Order.{ListsFalling}
@@ -26,8 +27,8 @@ use Rattle.sums.proofs.IntegerLemmas.{int_le-true, int_le-from}
 use Rattle.sums.proofs.OrderLemmas.{AllPairs-nil, AllPairs-head, AllPairs-tail, AllPairs-append, Lists-unique}
 use Rattle.grid.specs.declared.part.Part.{Part}
 use Rattle.grid.specs.Grid.{HoldsPlaces, IsGrid, places_of}
-use Rattle.grid.specs.Part.{IsInterval, IsPartOf, comes_before_source, comes_before, AreParts, stream_part, utility_part}
-use Rattle.grid.specs.Making.{picked, is_here, covers, interval_parts, made_parts}
+use Rattle.grid.specs.Part.{IsInterval, IsPiece, IsPartOf, comes_before_source, comes_before, AreParts, stream_part, utility_part}
+use Rattle.grid.specs.Making.{picked, is_latent, stands_at, is_here, covers, level_parts, interval_parts, made_parts}
 
 -- ---- the parts of the sources that pass a test
 
@@ -87,6 +88,37 @@ module _ {X : Type 0} (test : X → Bool) (make : ℕ → X → Part) where
 
 -- ---- the tests
 
+pub is_latent-true : (s : Stream) → is_latent s ≡ true → IsLatent s
+is_latent-true s h =
+    let level = and_parts (int_eq s.supply s.target) (int_eq s.cp (pos 0) && (int_le (pos 1) s.load && int_le s.load MOST_LOAD)) h in
+    let cp = and_parts (int_eq s.cp (pos 0)) (int_le (pos 1) s.load && int_le s.load MOST_LOAD) level.1 in
+    let load = and_parts (int_le (pos 1) s.load) (int_le s.load MOST_LOAD) cp.1 in
+    record {
+      level = (Decides-int_eq s.supply s.target).0 level.0;
+      cp = (Decides-int_eq s.cp (pos 0)).0 cp.0;
+      load = record { from = int_le-true (pos 1) s.load load.0; upto = int_le-true s.load MOST_LOAD load.1 };
+    }
+
+pub is_latent-from : (s : Stream) → IsLatent s → is_latent s ≡ true
+is_latent-from s h =
+    and_from (int_eq s.supply s.target) (int_eq s.cp (pos 0) && (int_le (pos 1) s.load && int_le s.load MOST_LOAD)) ((Decides-int_eq s.supply s.target).1 h.level)
+    (and_from (int_eq s.cp (pos 0)) (int_le (pos 1) s.load && int_le s.load MOST_LOAD) ((Decides-int_eq s.cp (pos 0)).1 h.cp)
+    (and_from (int_le (pos 1) s.load) (int_le s.load MOST_LOAD) (int_le-from (pos 1) s.load h.load.from) (int_le-from s.load MOST_LOAD h.load.upto)))
+
+pub record StandsAt (side : Side) (place : ℤ) (s : Stream) : Type 0 where
+  pub side_is : s.side ≡ side
+  pub latent : IsLatent s
+  pub high : high_end s ≡ place
+  pub low : low_end s ≡ place
+
+pub stands_at-true : (side : Side) (place : ℤ) (s : Stream) → stands_at side place s ≡ true → StandsAt side place s
+stands_at-true side place s h =
+    let parts = and_parts (same_side s.side side) (is_latent s && int_eq (high_end s) place) h in
+    let level = and_parts (is_latent s) (int_eq (high_end s) place) parts.1 in
+    let latent = is_latent-true s level.0 in
+    let high = (Decides-int_eq (high_end s) place).0 level.1 in
+    record { side_is = same_side-true s.side side parts.0; latent = latent; high = high; low = sym (level-latent s latent) ∙ high }
+
 pub record IsHere (side : Side) (place : ℤ) (u : Utility) : Type 0 where
   pub side_is : u.side ≡ side
   pub level : shifted_level u ≡ place
@@ -98,6 +130,11 @@ is_here-true side place u h =
 
 pub same_side-from : (a b : Side) → a ≡ b → same_side a b ≡ true
 same_side-from a b e = ap (λ s. same_side s b) e ∙ own_side b
+
+pub stands_at-from : (side : Side) (place : ℤ) (s : Stream) → s.side ≡ side → IsLatent s → high_end s ≡ place → stands_at side place s ≡ true
+stands_at-from side place s h latent level =
+    and_from (same_side s.side side) (is_latent s && int_eq (high_end s) place) (same_side-from s.side side h)
+    (and_from (is_latent s) (int_eq (high_end s) place) (is_latent-from s latent) ((Decides-int_eq (high_end s) place).1 level))
 
 is_here-from : (side : Side) (place : ℤ) (u : Utility) → u.side ≡ side → shifted_level u ≡ place → is_here side place u ≡ true
 is_here-from side place u h k = and_from (same_side u.side side) (int_eq (shifted_level u) place) (same_side-from u.side side h) ((Decides-int_eq (shifted_level u) place).1 k)
@@ -117,6 +154,11 @@ covers-from : (side : Side) (high low : ℤ) (s : Stream) → s.side ≡ side �
 covers-from side high low s h from upto =
     and_from (same_side s.side side) (int_le (low_end s) low && int_le high (high_end s)) (same_side-from s.side side h)
     (and_from (int_le (low_end s) low) (int_le high (high_end s)) (int_le-from (low_end s) low from) (int_le-from high (high_end s) upto))
+
+-- no interval lies inside the range of a latent stream
+pub covers-latent : (side : Side) (high low : ℤ) (s : Stream) → IsLatent s → low <ℤ high → covers side high low s ≡ false
+covers-latent side high low s latent falls =
+    false_from_ne_true (covers side high low s) (λ e. let covered = covers-true side high low s e in let level = level-latent s latent in omega (arith, ints))
 
 -- ---- places
 
@@ -151,12 +193,22 @@ IsInterval-later g places high low h =
     let e : suc (h.index + 1) ≡ suc h.index + 1 = omega arith in
     record { index = suc h.index; from = h.from; to = subst (λ n. slice_get (g ∷ places) n ≡ Some low) e h.to }
 
+IsPiece-later : (g : ℤ) (places : List ℤ) (s : Stream) (high low : ℤ) → IsPiece places s high low → IsPiece (g ∷ places) s high low
+IsPiece-later g places s high low (inl h) = inl (IsInterval-later g places high low h)
+IsPiece-later g places s high low (inr level) = inr level
+
 module _ (streams : List Stream) (utilities : List Utility) (side : Side) where
   abbrev made : List ℤ → List Part
   made = made_parts streams utilities side
 
+  abbrev latent_here : ℤ → List Part
+  latent_here g = picked (stands_at side g) (stream_part g g) 0 streams
+
+  abbrev utilities_here : ℤ → List Part
+  utilities_here g = picked (is_here side g) utility_part 0 utilities
+
   abbrev here : ℤ → List Part
-  here g = picked (is_here side g) utility_part 0 utilities
+  here = level_parts streams utilities side
 
   abbrev inside : ℤ → List ℤ → List Part
   inside = interval_parts streams utilities side
@@ -167,10 +219,20 @@ module _ (streams : List Stream) (utilities : List Utility) (side : Side) where
   -- each part that is made is one of the side
   IsPart-later : (g : ℤ) (places : List ℤ) (p : Part) → IsPart places p → IsPart (g ∷ places) p
   IsPart-later g places p (inl (i, s, h)) =
-      inl (i, s, record { stream = h.stream; side_is = h.side_is; interval = IsInterval-later g places p.high p.low h.interval; from = h.from; upto = h.upto; is = h.is })
+      inl (i, s, record { stream = h.stream; side_is = h.side_is; piece = IsPiece-later g places s p.high p.low h.piece; from = h.from; upto = h.upto; is = h.is })
   IsPart-later g places p (inr h) = inr h
 
-  each_utility : (places : List ℤ) (g : ℤ) → All (IsPart places) (here g)
+  each_latent : (places : List ℤ) (g : ℤ) → All (IsPart places) (latent_here g)
+  each_latent places g =
+      All-picked (stands_at side g) (stream_part g g) (IsPart places) 0 streams
+      (λ i k s e at passes.
+      let stands = stands_at-true side g s passes in
+      let same : k ≡ i = omega (arith, e) in
+      let from = stands.low in
+      let upto = stands.high in
+      inl (i, s, record { stream = subst (λ n. slice_get streams n ≡ Some s) same at; side_is = stands.side_is; piece = inr (stands.latent, refl); from = omega (arith, ints); upto = omega (arith, ints); is = refl }))
+
+  each_utility : (places : List ℤ) (g : ℤ) → All (IsPart places) (utilities_here g)
   each_utility places g =
       All-picked (is_here side g) utility_part (IsPart places) 0 utilities
       (λ i k u e at passes.
@@ -184,13 +246,13 @@ module _ (streams : List Stream) (utilities : List Utility) (side : Side) where
       (λ i k s e at passes.
       let covered = covers-true side g low s passes in
       let same : k ≡ i = omega (arith, e) in
-      inl (i, s, record { stream = subst (λ n. slice_get streams n ≡ Some s) same at; side_is = covered.side_is; interval = record { index = 0; from = refl; to = refl }; from = covered.from; upto = covered.upto; is = refl }))
+      inl (i, s, record { stream = subst (λ n. slice_get streams n ≡ Some s) same at; side_is = covered.side_is; piece = inl (record { index = 0; from = refl; to = refl }); from = covered.from; upto = covered.upto; is = refl }))
 
   each_made : (places : List ℤ) → All (IsPart places) (made places)
   each_made [] = All-nil (IsPart [])
   each_made (g ∷ places) =
       let P = IsPart (g ∷ places) in
-      All-append P (here g) (inside g places ++ made places) (each_utility (g ∷ places) g)
+      All-append P (here g) (inside g places ++ made places) (All-append P (latent_here g) (utilities_here g) (each_latent (g ∷ places) g) (each_utility (g ∷ places) g))
       (All-append P (inside g places) (made places) (each_stream g places) (All-weaker (IsPart places) P (IsPart-later g places) (made places) (each_made places)))
 
   -- what is made at a later place is made
@@ -209,27 +271,48 @@ module _ (streams : List Stream) (utilities : List Utility) (side : Side) where
   Contains-stream (g ∷ places) (suc index) i s high low at passes from to =
       Contains-later g places (stream_part high low i s) (Contains-stream places index i s high low at passes from to)
 
+  Contains-latent : (places : List ℤ) (index i : ℕ) (s : Stream) → slice_get streams i ≡ Some s → s.side ≡ side → IsLatent s → slice_get places index ≡ Some (high_end s) → Contains (made places) (stream_part (high_end s) (high_end s) i s)
+  Contains-latent [] index i s at side_is latent from = absurd (none-some (high_end s) from)
+  Contains-latent (g ∷ places) zero i s at side_is latent from =
+      let level = high_end s in
+      let part = stream_part level level i s in
+      let found = Contains-picked (stands_at side level) (stream_part level level) 0 streams i i s (omega arith) at (stands_at-from side level s side_is latent refl) in
+      subst (λ h. Contains (made (h ∷ places)) part) (sym (same_Some g level from))
+      (Contains-append_left (here level) (inside level places ++ made places) part (Contains-append_left (latent_here level) (utilities_here level) part found))
+  Contains-latent (g ∷ places) (suc index) i s at side_is latent from =
+      Contains-later g places (stream_part (high_end s) (high_end s) i s) (Contains-latent places index i s at side_is latent from)
+
   Contains-utility : (places : List ℤ) (index i : ℕ) (u : Utility) → slice_get utilities i ≡ Some u → u.side ≡ side → slice_get places index ≡ Some (shifted_level u) → Contains (made places) (utility_part i u)
   Contains-utility [] index i u at side_is from = absurd (none-some (shifted_level u) from)
   Contains-utility (g ∷ places) zero i u at side_is from =
       Contains-append_left (here g) (inside g places ++ made places) (utility_part i u)
-      (Contains-picked (is_here side g) utility_part 0 utilities i i u (omega arith) at (is_here-from side g u side_is (sym (same_Some g (shifted_level u) from))))
+      (Contains-append_right (latent_here g) (utilities_here g) (utility_part i u) (Contains-picked (is_here side g) utility_part 0 utilities i i u (omega arith) at (is_here-from side g u side_is (sym (same_Some g (shifted_level u) from)))))
   Contains-utility (g ∷ places) (suc index) i u at side_is from = Contains-later g places (utility_part i u) (Contains-utility places index i u at side_is from)
 
-  every_made : (places : List ℤ) → All (λ u. Contains places (shifted_level u)) utilities → (p : Part) → IsPart places p → Contains (made places) p
-  every_made places levels p (inl (i, s, h)) =
-      let next : h.interval.index + 1 ≡ suc h.interval.index = omega arith in
-      subst (Contains (made places)) (sym h.is)
-      (Contains-stream places h.interval.index i s p.high p.low h.stream (covers-from side p.high p.low s h.side_is h.from h.upto) h.interval.from (subst (λ n. slice_get places n ≡ Some p.low) next h.interval.to))
-  every_made places levels p (inr (i, u, h)) =
-      let (index, within, is) = All-contains (λ v. Contains places (shifted_level v)) utilities u levels (Contains-from_slice_get utilities i u h.utility) in
+  Contains-piece : (places : List ℤ) → HoldsPlaces streams utilities places → (i : ℕ) (s : Stream) (high low : ℤ) → slice_get streams i ≡ Some s → s.side ≡ side → low_end s ≤ℤ low → high ≤ℤ high_end s → IsPiece places s high low → Contains (made places) (stream_part high low i s)
+  Contains-piece places holds i s high low at side_is from upto (inl h) =
+      let next : h.index + 1 ≡ suc h.index = omega arith in
+      Contains-stream places h.index i s high low at (covers-from side high low s side_is from upto) h.from (subst (λ n. slice_get places n ≡ Some low) next h.to)
+  Contains-piece places holds i s high low at side_is from upto (inr (latent, same)) =
+      let (index, within, is) = (All-contains (λ x. Contains places (high_end x) × Contains places (low_end x)) streams s (holds_ends streams utilities places holds) (Contains-from_slice_get streams i s at)).0 in
+      let level = level-latent s latent in
+      let is_high : high_end s ≡ high = omega (arith, ints) in
+      let is_low : high_end s ≡ low = omega (arith, ints) in
+      let found = Contains-latent places index i s at side_is latent (slice_get-get_or places index (high_end s) within ∙ ap Some is) in
+      subst (λ h. Contains (made places) (stream_part h low i s)) is_high (subst (λ l. Contains (made places) (stream_part (high_end s) l i s)) is_low found)
+
+  every_made : (places : List ℤ) → HoldsPlaces streams utilities places → (p : Part) → IsPart places p → Contains (made places) p
+  every_made places holds p (inl (i, s, h)) = subst (Contains (made places)) (sym h.is) (Contains-piece places holds i s p.high p.low h.stream h.side_is h.from h.upto h.piece)
+  every_made places holds p (inr (i, u, h)) =
+      let (index, within, is) = All-contains (λ v. Contains places (shifted_level v)) utilities u (holds_levels streams utilities places holds) (Contains-from_slice_get utilities i u h.utility) in
       subst (Contains (made places)) (sym h.is) (Contains-utility places index i u h.utility h.side_is (slice_get-get_or places index (shifted_level u) within ∙ ap Some is))
 
   -- where the parts stand that are made at a place and below it
   ends_here : (g : ℤ) → All (λ p. (p.high ≡ g) × (p.low ≡ g)) (here g)
   ends_here g =
-      All-picked (is_here side g) utility_part (λ p. (p.high ≡ g) × (p.low ≡ g)) 0 utilities
-      (λ i k u e at passes. let level = (is_here-true side g u passes).level in (level, level))
+      let P : Part → Type 0 = λ p. (p.high ≡ g) × (p.low ≡ g) in
+      All-append P (latent_here g) (utilities_here g) (All-picked (stands_at side g) (stream_part g g) P 0 streams (λ i k s e at passes. (refl, refl)))
+      (All-picked (is_here side g) utility_part P 0 utilities (λ i k u e at passes. let level = (is_here-true side g u passes).level in (level, level)))
 
   ends_below : (g : ℤ) (places : List ℤ) → All (λ place. place <ℤ g) places → All (λ p. (p.high ≡ g) × (p.low <ℤ g)) (inside g places)
   ends_below g [] falls = All-nil (λ p. (p.high ≡ g) × (p.low <ℤ g))
@@ -250,6 +333,20 @@ module _ (streams : List Stream) (utilities : List Utility) (side : Side) where
       (All-weaker (λ p. (p.high ≡ h) × (p.low <ℤ h)) P (λ p e. subst (λ z. z <ℤ g) (sym e.0) top) (inside h places) (ends_below h places lower))
       (below g places (AllPairs-tail (λ a b. b <ℤ a) h places falls) (All-tail (λ place. place <ℤ g) h places under)))
 
+  ordered_here : (g : ℤ) → AllPairs comes_before (here g)
+  ordered_here g =
+      AllPairs-append comes_before (latent_here g) (utilities_here g)
+      (AllPairs-picked (stands_at side g) (stream_part g g) comes_before 0 streams (λ i j s t before one other. inr (inr (refl, refl, before))))
+      (AllPairs-picked (is_here side g) utility_part comes_before 0 utilities
+      (λ i j u v before one other.
+      let p = is_here-true side g u one in
+      let q = is_here-true side g v other in
+      inr (inr (q.level ∙ sym p.level, q.level ∙ sym p.level, before))))
+      (All-picked (stands_at side g) (stream_part g g) (λ p. All (comes_before p) (utilities_here g)) 0 streams
+      (λ i k s e at passes.
+      All-picked (is_here side g) utility_part (comes_before (stream_part g g i s)) 0 utilities
+      (λ j l u f found here. let level = (is_here-true side g u here).level in inr (inr (level, level, tt)))))
+
   ordered_inside : (g : ℤ) (places : List ℤ) → AllPairs comes_before (inside g places)
   ordered_inside g [] = AllPairs-nil comes_before
   ordered_inside g (low ∷ places) = AllPairs-picked (covers side g low) (stream_part g low) comes_before 0 streams (λ i j s t before one other. inr (inr (refl, refl, before)))
@@ -263,12 +360,7 @@ module _ (streams : List Stream) (utilities : List Utility) (side : Side) where
       let at_place = ends_here g in
       let on_interval = ends_below g places lower in
       let under = below g places rest_falls lower in
-      AllPairs-append comes_before (here g) (inside g places ++ rest)
-      (AllPairs-picked (is_here side g) utility_part comes_before 0 utilities
-      (λ i j u v before one other.
-      let p = is_here-true side g u one in
-      let q = is_here-true side g v other in
-      inr (inr (q.level ∙ sym p.level, q.level ∙ sym p.level, before))))
+      AllPairs-append comes_before (here g) (inside g places ++ rest) (ordered_here g)
       (AllPairs-append comes_before (inside g places) rest (ordered_inside g places) (ordered_made places rest_falls)
       (All-weaker (λ p. (p.high ≡ g) × (p.low <ℤ g)) (λ p. All (comes_before p) rest)
       (λ p e. All-weaker (λ q. q.high <ℤ g) (comes_before p) (λ q h. inl (subst (λ z. q.high <ℤ z) (sym e.0) h)) rest under) (inside g places) on_interval))
@@ -279,7 +371,7 @@ module _ (streams : List Stream) (utilities : List Utility) (side : Side) where
       (All-weaker (λ q. q.high <ℤ g) (comes_before p) (λ q h. inl (subst (λ z. q.high <ℤ z) (sym e.0) h)) rest under)) (here g) at_place)
 
   pub made_parts-AreParts : (places : List ℤ) → HoldsPlaces streams utilities places → AreParts streams utilities places side (made_parts streams utilities side places)
-  made_parts-AreParts places h = record { ordered = ordered_made places h.falls; each = each_made places; every = every_made places (holds_levels streams utilities places h) }
+  made_parts-AreParts places h = record { ordered = ordered_made places h.falls; each = each_made places; every = every_made places h }
 
 -- ---- the parts of a side are one list
 
@@ -306,21 +398,27 @@ AreParts-made streams utilities side places ps h k =
 
 -- ---- one more place: a loop's step
 
-module _ (streams : List Stream) (utilities : List Utility) (side : Side) (places : List ℤ) (i : ℕ) (g : ℤ) (within : i < length places) (is : get_or places i (pos 0) ≡ g) (now : List Part) where
+module _ (streams : List Stream) (utilities : List Utility) (side : Side) (places : List ℤ) (i : ℕ) (g : ℤ) (within : i < length places) (is : get_or places i (pos 0) ≡ g) (now after_latent between : List Part) (latent : after_latent ≡ now ++ picked (stands_at side g) (stream_part g g) 0 streams) (level : between ≡ after_latent ++ picked (is_here side g) utility_part 0 utilities) where
+  -- what was made at the place
+  made-level : between ≡ now ++ level_parts streams utilities side g
+  made-level =
+      let latent_parts = picked (stands_at side g) (stream_part g g) 0 streams in
+      let utility_parts = picked (is_here side g) utility_part 0 utilities in
+      level ∙ ap (λ ps. ps ++ utility_parts) latent ∙ append_assoc now latent_parts utility_parts
+
   -- what is left from the next place on, after what was made at this one and below it
-  made-more : (more next whole : List Part) → interval_parts streams utilities side g (drop (i + 1) places) ≡ more → now ++ made_parts streams utilities side (drop i places) ≡ whole → next ≡ (now ++ picked (is_here side g) utility_part 0 utilities) ++ more → next ++ made_parts streams utilities side (drop (i + 1) places) ≡ whole
+  made-more : (more next whole : List Part) → interval_parts streams utilities side g (drop (i + 1) places) ≡ more → now ++ made_parts streams utilities side (drop i places) ≡ whole → next ≡ between ++ more → next ++ made_parts streams utilities side (drop (i + 1) places) ≡ whole
   made-more more next whole on_interval so_far pushed =
-      let here = picked (is_here side g) utility_part 0 utilities in
+      let here = level_parts streams utilities side g in
       let rest = made_parts streams utilities side (drop (i + 1) places) in
       let left = ap (made_parts streams utilities side) (drop_more places i (pos 0) within ∙ ap (λ z. z ∷ drop (i + 1) places) is) ∙ ap (λ ps. here ++ (ps ++ rest)) on_interval in
-      ap (λ ps. ps ++ rest) pushed ∙ append_assoc (now ++ here) more rest ∙ append_assoc now here (more ++ rest) ∙ ap (λ ps. now ++ ps) (sym left) ∙ so_far
+      ap (λ ps. ps ++ rest) (pushed ∙ ap (λ ps. ps ++ more) made-level) ∙ append_assoc (now ++ here) more rest ∙ append_assoc now here (more ++ rest) ∙ ap (λ ps. now ++ ps) (sym left) ∙ so_far
 
-  pub made-push : (low : ℤ) (between next whole : List Part) → i + 1 < length places → get_or places (i + 1) (pos 0) ≡ low → now ++ made_parts streams utilities side (drop i places) ≡ whole → between ≡ now ++ picked (is_here side g) utility_part 0 utilities → next ≡ between ++ picked (covers side g low) (stream_part g low) 0 streams → next ++ made_parts streams utilities side (drop (i + 1) places) ≡ whole
-  made-push low between next whole inside is_low so_far first second =
+  pub made-push : (low : ℤ) (next whole : List Part) → i + 1 < length places → get_or places (i + 1) (pos 0) ≡ low → now ++ made_parts streams utilities side (drop i places) ≡ whole → next ≡ between ++ picked (covers side g low) (stream_part g low) 0 streams → next ++ made_parts streams utilities side (drop (i + 1) places) ≡ whole
+  made-push low next whole inside is_low so_far pushed =
       made-more (picked (covers side g low) (stream_part g low) 0 streams) next whole
-      (ap (interval_parts streams utilities side g) (drop_more places (i + 1) (pos 0) inside ∙ ap (λ z. z ∷ drop (i + 1 + 1) places) is_low)) so_far
-      (second ∙ ap (λ ps. ps ++ picked (covers side g low) (stream_part g low) 0 streams) first)
+      (ap (interval_parts streams utilities side g) (drop_more places (i + 1) (pos 0) inside ∙ ap (λ z. z ∷ drop (i + 1 + 1) places) is_low)) so_far pushed
 
-  pub made-end : (next whole : List Part) → length places ≤ i + 1 → now ++ made_parts streams utilities side (drop i places) ≡ whole → next ≡ now ++ picked (is_here side g) utility_part 0 utilities → next ++ made_parts streams utilities side (drop (i + 1) places) ≡ whole
-  made-end next whole end so_far first =
-      made-more [] next whole (ap (interval_parts streams utilities side g) (drop_all (i + 1) places end)) so_far (first ∙ sym (append-nil (now ++ picked (is_here side g) utility_part 0 utilities)))
+  pub made-end : (next whole : List Part) → length places ≤ i + 1 → now ++ made_parts streams utilities side (drop i places) ≡ whole → next ≡ between → next ++ made_parts streams utilities side (drop (i + 1) places) ≡ whole
+  made-end next whole end so_far same =
+      made-more [] next whole (ap (interval_parts streams utilities side g) (drop_all (i + 1) places end)) so_far (same ∙ sym (append-nil between))

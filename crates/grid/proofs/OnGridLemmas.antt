@@ -1,5 +1,6 @@
 -- The parts of a case stand on its grid.
-use Rattle.std.proofs.Common.{◌≡◌, inl, inr, ◌∙◌, sym, ap, subst, ℤ, List, Some, Contains, option_map}
+use Rattle.std.proofs.Common.{◌≡◌, ◌⊎◌, inl, inr, arith, ◌∙◌, sym, ap, subst, ℤ, List, Some, Contains, option_map}
+use Rattle.std.proofs.lemmas.Int.{ints}
 use Rattle.std.proofs.lemmas.List.Elements.{All-weaker}
 use Rattle.sums.proofs.ListLemmas.{All-slice_get}
 use Rattle.stream_case.specs.declared.source.Side.{Side}
@@ -11,8 +12,10 @@ use Rattle.stream_case.specs.Case.{side_of}
 use Rattle.stream_case.specs.Utility.{shifted_level}
 use Rattle.grid.specs.declared.part.Part.{Part}
 use Rattle.grid.specs.Grid.{IsGrid}
-use Rattle.grid.specs.Part.{AreCaseParts, IsPartOf}
-use Rattle.grid.proofs.MakingLemmas.{HoldsPlaces-IsGrid, holds_levels}
+use Rattle.stream_case.specs.Stream.{high_end, low_end}
+use Rattle.stream_case.proofs.EndLemmas.{level-latent}
+use Rattle.grid.specs.Part.{AreCaseParts, IsInterval, IsPartOf, IsPiece}
+use Rattle.grid.proofs.MakingLemmas.{HoldsPlaces-IsGrid, holds_ends, holds_levels}
 use Rattle.grid.specs.OnGrid.{AreOnGrid, IsOnPlaces}
 
 module _ (c : Case) (places : List ℤ) (side : Side) where
@@ -22,7 +25,17 @@ module _ (c : Case) (places : List ℤ) (side : Side) where
   side_of_part p (inr (i, u, h)) = ap (λ (q : Part). side_of c q.source) h.is ∙ ap (option_map (λ (v : Utility). v.side)) h.utility ∙ ap Some h.side_is
 
   part_on_places : IsGrid c places → (p : Part) → IsPartOf c.streams c.utilities places side p → IsOnPlaces c places side p
-  part_on_places grid p (inl (i, s, h)) = record { source = side_of_part p (inl (i, s, h)); ends = inr h.interval }
+  part_on_places grid p (inl (i, s, h)) = record { source = side_of_part p (inl (i, s, h)); ends = ends_of h.piece }
+    where
+      ends_of : IsPiece places s p.high p.low → ((p.high ≡ p.low) × Contains places p.high) ⊎ IsInterval places p.high p.low
+      ends_of (inl interval) = inr interval
+      ends_of (inr (latent, same)) =
+          let held = (All-slice_get (λ (x : Stream). Contains places (high_end x) × Contains places (low_end x)) c.streams i s (holds_ends c.streams c.utilities places (HoldsPlaces-IsGrid c places grid)) h.stream).0 in
+          let level = level-latent s latent in
+          let from = h.from in
+          let upto = h.upto in
+          let is : high_end s ≡ p.high = omega (arith, ints) in
+          inl (same, subst (Contains places) is held)
   part_on_places grid p (inr (i, u, h)) =
       let high : p.high ≡ shifted_level u = ap (λ (q : Part). q.high) h.is in
       let low : p.low ≡ shifted_level u = ap (λ (q : Part). q.low) h.is in

@@ -1,6 +1,6 @@
 -- How many places a grid has, how many parts a side has, and what each part keeps.
-use Rattle.std.proofs.Common.{◌≡◌, ⊎_elim, inl, inr, ◌∙◌, refl, sym, ap, subst, ℕ, ◌+◌, ◌*◌, ◌≤◌, Bool, true, false, cond, List, [], ◌∷◌, length, get_or, arith}
-use Rattle.std.specs.Prelude.{ℤ, pos, ◌-ℤ◌, ◌≤ℤ◌, if◌then◌else◌, All, Contains, map}
+use Rattle.std.proofs.Common.{◌≡◌, ◌⊎◌, ⊎_elim, inl, inr, ◌∙◌, refl, sym, ap, subst, ℕ, ◌+◌, ◌*◌, ◌≤◌, Bool, true, false, cond, List, [], ◌∷◌, length, get_or, arith}
+use Rattle.std.specs.Prelude.{ℤ, pos, ◌+ℤ◌, ◌-ℤ◌, ◌≤ℤ◌, ◌<ℤ◌, if◌then◌else◌, All, AllPairs, Contains, map}
 use Rattle.std.proofs.Math.Nat.{mul-le-mul}
 use Rattle.std.proofs.lemmas.Bool.{cases_Bool}
 use Rattle.std.proofs.lemmas.Int.{ints}
@@ -13,25 +13,25 @@ use Rattle.stream_case.specs.declared.stream.Stream.{Stream}
 use Rattle.stream_case.specs.declared.utility.Utility.{Utility}
 use Rattle.stream_case.specs.declared.case.Case.{Case}
 use Rattle.stream_case.specs.Case.{IsComplete}
-use Rattle.stream_case.specs.Limits.{IsLength, IsStreamHeat}
+use Rattle.stream_case.specs.Limits.{IsHeat, IsLength, IsStreamHeat}
 use Rattle.stream_case.specs.Source.{same_side}
-use Rattle.stream_case.specs.Stream.{count_on, stream_ends, heat_between, high_end, low_end, AreStreams, IsValidStream}
+use Rattle.stream_case.specs.Stream.{count_on, stream_ends, high_end, low_end, AreStreams, IsSensible, IsLatent, IsValidStream}
 use Rattle.stream_case.specs.Utility.{shifted_level, IsPlaced}
 use Rattle.stream_case.proofs.CaseLemmas.{length-AreStreams}
 use Rattle.stream_case.proofs.CompleteLemmas.{AreStreams-IsComplete, length-utilities}
 use Rattle.stream_case.proofs.EndLemmas.{length-stream_ends}
-use Rattle.stream_case.proofs.HeatLemmas.{HasLength-IsValidStream, heat-between}
+use Rattle.stream_case.proofs.HeatLemmas.{heat-between, range-length}
 use Rattle.sums.specs.Sum.{int_sum_by}
 use Rattle.sums.proofs.CountLemmas.{length-le_falling, count_by-cons}
 use Rattle.sums.proofs.SumLemmas.{int_sum_by-at_most}
 use Rattle.grid.specs.declared.part.Part.{Part}
 use Rattle.grid.specs.Bounds.{IsBounded}
 use Rattle.grid.specs.Grid.{HoldsPlaces, IsGrid, places_of}
-use Rattle.grid.specs.Making.{covers, made_parts}
-use Rattle.grid.specs.Part.{IsPartOf, AreParts, stream_part, utility_part}
-use Rattle.grid.proofs.MakingLemmas.{holds_levels, made_parts-AreParts}
+use Rattle.grid.specs.Making.{is_latent, stands_at, covers, made_parts}
+use Rattle.grid.specs.Part.{IsPiece, IsPartOf, AreParts, piece_heat, stream_part, utility_part}
+use Rattle.grid.proofs.MakingLemmas.{holds_levels, is_latent-true, made_parts-AreParts}
 use Rattle.grid.proofs.PlaceLemmas.{interval_falls}
-use Rattle.grid.proofs.RunLemmas.{level_run, level_run-is, stream_run, stream_run-other, sum-made}
+use Rattle.grid.proofs.RunLemmas.{latent_run, latent_run-none, latent_run-other, level_run, level_run-is, stream_run, stream_run-latent, stream_run-other, sum-made}
 
 -- ---- counts
 
@@ -46,6 +46,10 @@ one_each : (ps : List Part) → int_sum_by (λ p. pos 1) ps ≡ pos (length ps)
 one_each [] = refl
 one_each (p ∷ ps) = let rest = one_each ps in omega (arith, ints)
 
+either : (b : Bool) → (if b then pos 1 else pos 0) ≤ℤ pos 1
+either true = omega (arith, ints)
+either false = omega (arith, ints)
+
 stream_run-at_most : (side : Side) (s : Stream) (places : List ℤ) → stream_run (λ high low x. pos 1) side s places ≤ℤ pos (length places)
 stream_run-at_most side s [] = omega (arith, ints)
 stream_run-at_most side s (g ∷ []) = omega (arith, ints)
@@ -53,10 +57,33 @@ stream_run-at_most side s (g ∷ low ∷ places) =
     let rest = stream_run-at_most side s (low ∷ places) in
     let one = either (covers side g low s) in
     omega (arith, ints)
-  where
-    either : (b : Bool) → (if b then pos 1 else pos 0) ≤ℤ pos 1
-    either true = omega (arith, ints)
-    either false = omega (arith, ints)
+
+latent_run-at_most : (side : Side) (s : Stream) (places : List ℤ) → latent_run (λ high low x. pos 1) side s places ≤ℤ pos (length places)
+latent_run-at_most side s [] = omega (arith, ints)
+latent_run-at_most side s (g ∷ places) =
+    let rest = latent_run-at_most side s places in
+    let one = either (stands_at side g s) in
+    omega (arith, ints)
+
+-- a stream has parts at places or on intervals
+runs-at_most : (side : Side) (places : List ℤ) → AllPairs (λ a b. b <ℤ a) places → (s : Stream) → (latent_run (λ high low x. pos 1) side s places +ℤ stream_run (λ high low x. pos 1) side s places) ≤ℤ pos (length places)
+runs-at_most side places falls s =
+    ⊎_elim
+    (λ latent.
+    let none = stream_run-latent (λ high low x. pos 1) side s places (is_latent-true s latent) falls in
+    let most = latent_run-at_most side s places in
+    omega (arith, ints))
+    (λ sensible.
+    let none = latent_run-none (λ high low x. pos 1) side s places sensible in
+    let most = stream_run-at_most side s places in
+    omega (arith, ints))
+    (cases_Bool (is_latent s))
+
+runs-other : (side : Side) (places : List ℤ) (s : Stream) → same_side s.side side ≡ false → latent_run (λ high low x. pos 1) side s places +ℤ stream_run (λ high low x. pos 1) side s places ≡ pos 0
+runs-other side places s other =
+    let latent = latent_run-other (λ high low x. pos 1) side s places other in
+    let on_intervals = stream_run-other (λ high low x. pos 1) side s places other in
+    omega (arith, ints)
 
 -- a sum over streams, of at most m for each of a side and nothing for the others
 sum-at_most : (side : Side) (f : Stream → ℤ) (m : ℕ) (streams : List Stream) → ((s : Stream) → f s ≤ℤ pos m) → ((s : Stream) → same_side s.side side ≡ false → f s ≡ pos 0) → int_sum_by f streams ≤ℤ pos (m * count_on side streams)
@@ -84,7 +111,9 @@ module _ (streams : List Stream) (utilities : List Utility) (side : Side) (place
       let count = one_each (made_parts streams utilities side places) in
       let exchanged = sum-made (λ p. pos 1) (λ high low s. pos 1) (λ u. pos 1) (λ high low i s. refl) (λ i u. refl) streams utilities side places in
       let levels = int_sum_by-at_most (λ u. level_run (λ v. pos 1) side u places) 1 utilities (λ k d within. one_level (get_or utilities k d) (holds_levels streams utilities places holds k d within)) in
-      let runs = sum-at_most side (λ s. stream_run (λ high low x. pos 1) side s places) (length places) streams (λ s. stream_run-at_most side s places) (λ s other. stream_run-other (λ high low x. pos 1) side s places other) in
+      let runs =
+      sum-at_most side (λ s. latent_run (λ high low x. pos 1) side s places +ℤ stream_run (λ high low x. pos 1) side s places) (length places) streams
+      (runs-at_most side places holds.falls) (runs-other side places) in
       omega (arith, ints)
     where
       one_level : (u : Utility) → Contains places (shifted_level u) → level_run (λ v. pos 1) side u places ≤ℤ pos 1
@@ -102,11 +131,21 @@ module _ (streams : List Stream) (utilities : List Utility) (side : Side) (place
 
 pub IsLength-covered : (s : Stream) (high low : ℤ) → IsValidStream s → low ≤ℤ high → low_end s ≤ℤ low → high ≤ℤ high_end s → IsLength (high -ℤ low)
 IsLength-covered s high low valid order from upto =
-    let range = HasLength-IsValidStream s valid in
-    let length = range.length in
+    let range = range-length s valid in
     record { from = omega (arith, ints); upto = omega (arith, ints) }
 
-IsBounded-stream : (high low : ℤ) (i : ℕ) (s : Stream) → IsStreamHeat (heat_between high low s) → IsBounded (stream_part high low i s)
+pub load-between : (s : Stream) → IsSensible s ⊎ IsLatent s → IsStreamHeat s.load
+load-between s (inl sensible) = let none = sensible.load in record { from = omega (arith, ints); upto = omega (arith, ints) }
+load-between s (inr latent) = record { from = omega (arith, ints, latent.load.from); upto = latent.load.upto }
+
+-- one summand of the heat of a piece is 0, but both together are little already
+piece_heat-between : (high low : ℤ) (s : Stream) → IsValidStream s → IsLength (high -ℤ low) → IsHeat (piece_heat high low s)
+piece_heat-between high low s valid length =
+    let product = heat-between s (high -ℤ low) valid length in
+    let load = load-between s valid.heat in
+    record { from = omega (arith, ints); upto = omega (arith, ints) }
+
+IsBounded-stream : (high low : ℤ) (i : ℕ) (s : Stream) → IsHeat (piece_heat high low s) → IsBounded (stream_part high low i s)
 IsBounded-stream high low i s heat = record {
   least = record { from = heat.from; upto = omega (arith, ints) };
   most = record { from = omega (arith, ints); upto = omega (arith, ints) };
@@ -126,9 +165,12 @@ module _ (streams : List Stream) (utilities : List Utility) (side : Side) (place
   pub IsBounded-part : (p : Part) → IsPartOf streams utilities places side p → IsBounded p
   IsBounded-part p (inl (i, s, h)) =
       let own = All-contains IsValidStream streams s valid (i, slice_get_within streams i s h.stream, get_or_from_slice_get streams i s s h.stream) in
-      let falls = interval_falls places p.high p.low holds.falls h.interval in
-      let length = IsLength-covered s p.high p.low own (omega (arith, ints)) h.from h.upto in
-      subst IsBounded (sym h.is) (IsBounded-stream p.high p.low i s (heat-between s (p.high -ℤ p.low) own length))
+      let length = IsLength-covered s p.high p.low own (order h.piece) h.from h.upto in
+      subst IsBounded (sym h.is) (IsBounded-stream p.high p.low i s (piece_heat-between p.high p.low s own length))
+    where
+      order : IsPiece places s p.high p.low → p.low ≤ℤ p.high
+      order (inl interval) = let falls = interval_falls places p.high p.low holds.falls interval in omega (arith, ints)
+      order (inr (latent, same)) = omega (arith, ints)
   IsBounded-part p (inr (i, u, h)) =
       let own = All-contains IsPlaced utilities u placed (i, slice_get_within utilities i u h.utility, get_or_from_slice_get utilities i u u h.utility) in
       subst IsBounded (sym h.is) (IsBounded-utility i u own)

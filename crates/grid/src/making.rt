@@ -6,14 +6,22 @@ ghost use Rattle.stream_case.specs.Case.{IsComplete};
 ghost use Rattle.stream_case.specs.Stream.{high_end, low_end, AreStreams, IsValidStream};
 ghost use Rattle.stream_case.specs.Utility.{IsPlaced};
 ghost use Rattle.grid.specs.Grid.{HoldsPlaces, IsGrid};
-ghost use Rattle.grid.specs.Part.{stream_part, utility_part, AreParts, AreCaseParts};
-ghost use Rattle.grid.specs.Making.{picked, is_here, covers, made_parts};
+ghost use Rattle.grid.specs.Part.{piece_heat, stream_part, utility_part, AreParts, AreCaseParts};
+ghost use Rattle.grid.specs.Making.{picked, stands_at, is_here, covers, made_parts};
 
 use crate::part::Part;
 use crate::parts::Parts;
 use crate::places::{Grid, grid_of};
 use std::alloc::{AllocError, Global};
 use stream_case::{Case, Items, Side, Source, Stream, Utility};
+
+/// Whether a stream is latent, of this side and at this place.
+fn stands_at(stream: &Stream, side: Side, place: i32) -> bool
+    requires { IsValidStream stream.now }
+    ensures { result ≡ stands_at side place stream.now }
+{
+    stream.side == side && stream.is_latent() && stream.high_end() == place
+}
 
 /// Whether a utility is of this side and at this place.
 fn is_here(utility: &Utility, side: Side, place: i32) -> bool
@@ -48,7 +56,18 @@ fn utility_part(index: u32, utility: &Utility) -> Part
     }
 }
 
-/// The part of a stream on an interval inside its range.
+/// The heat in watts of a stream on an interval inside its range, or of a latent one at its level.
+fn piece_heat(stream: &Stream, high: i32, low: i32) -> i64
+    requires valid { IsValidStream stream.now }
+    requires order { low ≤ℤ high }
+    requires from { low_end stream.now ≤ℤ low }
+    requires upto { high ≤ℤ high_end stream.now }
+    ensures { result ≡ piece_heat high low stream.now }
+{
+    stream.heat_between(high, low) + stream.load
+}
+
+/// The part of a stream on an interval inside its range, or of a latent one at its level.
 fn stream_part(index: u32, stream: &Stream, high: i32, low: i32) -> Part
     requires valid { IsValidStream stream.now }
     requires order { low ≤ℤ high }
@@ -56,7 +75,7 @@ fn stream_part(index: u32, stream: &Stream, high: i32, low: i32) -> Part
     requires upto { high ≤ℤ high_end stream.now }
     ensures { result ≡ stream_part high low index stream.now }
 {
-    let heat = stream.heat_between(high, low);
+    let heat = piece_heat(stream, high, low);
     Part {
         source: Source::Stream(index),
         side: stream.side,
@@ -66,6 +85,26 @@ fn stream_part(index: u32, stream: &Stream, high: i32, low: i32) -> Part
         most: heat,
         price: 0,
     }
+}
+
+/// Appends the parts of the latent streams at a place.
+fn push_latent(
+    parts: &mut Vec<Part>,
+    streams: &[Stream],
+    side: Side,
+    place: i32,
+) -> Result<(), AllocError>
+    requires valid { All IsValidStream streams.now }
+    requires few { length streams.now < 2 ^ 32 }
+    ensures { OnOk result (parts.new.items ≡ parts.old.items
+        ++ picked (stands_at side place) (stream_part place place) 0 streams.now) }
+{
+    for (index, stream) in streams.iter().enumerate() {
+        if stands_at(stream, side, place) {
+            parts.push(stream_part(index as u32, stream, place, place))?;
+        }
+    }
+    Ok(())
 }
 
 /// Appends the parts of the utilities at a place.
@@ -124,6 +163,7 @@ fn side_parts(
 {
     let mut parts = Vec::new(alloc);
     for (index, place) in places.iter().enumerate() {
+        push_latent(&mut parts, streams, side, *place)?;
         push_utilities(&mut parts, utilities, side, *place)?;
         if index + 1 < places.len() {
             push_streams(&mut parts, streams, side, *place, places[index + 1])?;
@@ -134,9 +174,10 @@ fn side_parts(
 
 /// The parts of streams and utilities on strictly falling places, in tenths of °C on the shifted
 /// scale, that hold all shifted stream ends and utility levels. A stream has a part on each
-/// interval inside its range, with its heat there as least and most; a utility has one part at
-/// its level, with its own range and price. Each side goes by falling high, then by falling low,
-/// then streams before utilities in their order (this project's own order).
+/// interval inside its range, with its heat there as least and most; a latent stream has one part
+/// at its level, with its load as least and most; a utility has one part at its level, with its
+/// own range and price. Each side goes by falling high, then by falling low, then streams before
+/// utilities in their order (this project's own order).
 pub fn parts_on(
     alloc: Global,
     streams: &[Stream],

@@ -7,7 +7,7 @@ use Rattle.std.proofs.lemmas.Bool.{and_parts, or_cases}
 use Rattle.std.proofs.lemmas.Bool.Decides.{Decides-int_eq}
 use Rattle.std.proofs.lemmas.Int.{ints}
 use Rattle.sums.proofs.IntegerLemmas.{int_le-true}
-use Rattle.stream_case.specs.Case.{IsComplete, is_forbidden, side_of}
+use Rattle.stream_case.specs.Case.{is_forbidden, side_of}
 use Rattle.stream_case.specs.Shift.{shifted}
 use Rattle.stream_case.specs.declared.case.Case.{Case}
 use Rattle.stream_case.specs.declared.source.Side.{Side}
@@ -16,6 +16,7 @@ use Rattle.stream_case.specs.declared.source.Source.{Source}
 use Rattle.stream_case.specs.declared.source.Source.TheVariants as source
 use Rattle.stream_case.specs.declared.stream.Stream.{Stream}
 use Rattle.stream_case.specs.declared.utility.Utility.{Utility}
+use Rattle.design_lines.proofs.SensibleStreams.{IsSensibleCase}
 use Rattle.fractions.specs.Rationals.{IsAtMost, Rational, plus, whole}
 use Rattle.fractions.proofs.Comparisons.{at_most-whole}
 use Rattle.fractions.proofs.Wholes.{whole-plus}
@@ -83,7 +84,10 @@ joined_parts case hot cold ts flow number t at =
     (p, q, record { hot_part = hot_part; cold_part = cold_part; reach = subst IsTrue reached reach })
 
 part_order : (case : Case) (grid : List ℤ) (of : Side) (p : Part) → AllPairs (λ a b. b <ℤ a) grid → IsPartOf case.streams case.utilities grid of p → p.low ≤ℤ p.high
-part_order case grid of p falls (inl (i, s, is)) = let less = interval_falls grid p.high p.low falls is.interval in omega (arith, ints, less)
+part_order case grid of p falls (inl (i, s, is)) =
+    ⊎_elim
+    (λ interval. let less = interval_falls grid p.high p.low falls interval in omega (arith, ints, less))
+    (λ latent. let level = latent.1 in omega (arith, ints, level)) is.piece
 part_order case grid of p falls (inr (i, u, is)) =
     let high = ap (λ (q : Part). q.high) is.is in
     let low = ap (λ (q : Part). q.low) is.is in
@@ -121,7 +125,7 @@ pub record GoesThrough (case : Case) (of : Side) (run : SideRun) (a : Source) (p
   pub enters_at : enters of run ≡ whole (actual of (entered_at of p) (contribution_of case a))
   pub leaves_at : leaves of run ≡ whole (actual of (left_at of p) (contribution_of case a))
 
-module _ (case : Case) (hot cold : List Part) (ts : List Transfer) (complete : IsComplete case) (parts : AreCaseParts case hot cold) (flow : IsHeatFlow (reach_between case hot cold) hot cold ts) (shape : HasShape case (network_of case hot cold ts)) where
+module _ (case : Case) (hot cold : List Part) (ts : List Transfer) (complete : IsSensibleCase case) (parts : AreCaseParts case hot cold) (flow : IsHeatFlow (reach_between case hot cold) hot cold ts) (shape : HasShape case (network_of case hot cold ts)) where
   abbrev values_here : Valuation
   values_here = map first_value case.streams ++ courses_values (led_courses case hot cold ts)
 

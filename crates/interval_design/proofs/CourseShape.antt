@@ -5,16 +5,15 @@ use Rattle.std.specs.List.{enumerate_from, filter_map}
 use Rattle.std.proofs.lemmas.Bool.{false≢true}
 use Rattle.std.proofs.lemmas.Int.{ints}
 use Rattle.std.proofs.lemmas.List.Elements.{All-head, All-nil, All-tail}
-use Rattle.stream_case.specs.Case.{IsComplete}
 use Rattle.stream_case.specs.Limits.{IsHeat, IsTemperature}
 use Rattle.stream_case.specs.Shift.{shifted}
 use Rattle.stream_case.specs.Source.{same_source}
-use Rattle.stream_case.specs.Stream.{IsValidStream, higher_temperature, lower_temperature}
+use Rattle.stream_case.specs.Stream.{higher_temperature, lower_temperature}
 use Rattle.stream_case.specs.declared.case.Case.{Case}
 use Rattle.stream_case.specs.declared.source.Side.{Side}
 use Rattle.stream_case.specs.declared.source.Side.TheVariants as side
 use Rattle.stream_case.specs.declared.source.Source.TheVariants as source
-use Rattle.stream_case.proofs.CompleteLemmas.{HasValidStreams-IsComplete}
+use Rattle.design_lines.proofs.SensibleStreams.{AreSensibleStreams-case, IsSensibleCase, IsSensibleStream}
 use Rattle.networks.proofs.Lists.{all_at}
 use Rattle.design_lines.specs.Led.{IsCourseOf, IsShareOf}
 use Rattle.design_lines.specs.Drawn.{Course}
@@ -29,6 +28,7 @@ use Rattle.heat_flow.specs.Cuts.{parts_of}
 use Rattle.heat_flow.specs.Flow.{ArePositive}
 use Rattle.heat_flow.specs.declared.flow.Transfer.{Transfer}
 use Rattle.interval_design.specs.Courses.{AllCanBeLed, CanBeLed, course_of, courses_of, exchanger_of, on_the_way, shares_of, stage_of, stream_course, width_of}
+use Rattle.interval_design.proofs.SensibleParts.{sensible_interval}
 use Rattle.interval_design.proofs.FlowLemmas.{All-way}
 use Rattle.interval_design.proofs.ShareLemmas.{shares-joined}
 
@@ -42,11 +42,11 @@ either : (b : Bool) (one other : ℤ) → IsTemperature one → IsTemperature ot
 either true one other is_one is_other = is_one
 either false one other is_one is_other = is_other
 
-part_narrow : (case : Case) (grid : List ℤ) (of : Side) (p : Part) (stream : ℕ) → IsComplete case → IsGrid case grid → IsPartOf case.streams case.utilities grid of p → same_source p.source (source.Stream stream) ≡ true → width_of p < 2 ^ 32
+part_narrow : (case : Case) (grid : List ℤ) (of : Side) (p : Part) (stream : ℕ) → IsSensibleCase case → IsGrid case grid → IsPartOf case.streams case.utilities grid of p → same_source p.source (source.Stream stream) ≡ true → width_of p < 2 ^ 32
 part_narrow case grid of p stream complete is_grid (inl (i, s, is)) own =
-    let falls = interval_falls grid p.high p.low is_grid.ordered is.interval in
-    let valid = all_at IsValidStream case.streams i s (HasValidStreams-IsComplete case complete).are_streams.each is.stream in
-    narrow-range s.side (higher_temperature s) (lower_temperature s) s.contribution p.high p.low (either _ s.supply s.target valid.supply valid.target) (either _ s.target s.supply valid.target valid.supply) is.from is.upto falls
+    let valid = all_at IsSensibleStream case.streams i s (AreSensibleStreams-case case complete).each is.stream in
+    let falls = interval_falls grid p.high p.low is_grid.ordered (sensible_interval grid s p.high p.low valid.sensible is.piece) in
+    narrow-range s.side (higher_temperature s) (lower_temperature s) s.contribution p.high p.low (either _ s.supply s.target valid.valid.supply valid.valid.target) (either _ s.target s.supply valid.valid.target valid.valid.supply) is.from is.upto falls
 part_narrow case grid of p stream complete is_grid (inr (i, u, is)) own =
     let other : same_source p.source (source.Stream stream) ≡ false = ap (λ (q : Part). same_source q.source (source.Stream stream)) is.is in
     absurd (false≢true (sym other ∙ own))
@@ -63,7 +63,7 @@ each-stage Q of ts stream ((index, p) ∷ xs) each =
     All-kept Q (same_source p.source (source.Stream stream)) (shares_of of index (width_of p) ts) (filter_map (stage_of of ts stream) xs) (All-head (HoldsOf Q of ts stream) (index, p) xs each)
     (each-stage Q of ts stream xs (All-tail (HoldsOf Q of ts stream) (index, p) xs each))
 
-course-shares : (case : Case) (grid : List ℤ) (of : Side) (hot cold : List Part) (ts : List Transfer) (stream : ℕ) → IsComplete case → IsGrid case grid → AreParts case.streams case.utilities grid of (parts_of of hot cold)
+course-shares : (case : Case) (grid : List ℤ) (of : Side) (hot cold : List Part) (ts : List Transfer) (stream : ℕ) → IsSensibleCase case → IsGrid case grid → AreParts case.streams case.utilities grid of (parts_of of hot cold)
     → ArePositive ts → All (λ t. IsHeat t.heat) ts → CanBeLed of (parts_of of hot cold) ts stream
     → IsCourseOf (map (exchanger_of hot cold) (enumerate_from 0 ts)) stream (course_of of (parts_of of hot cold) ts stream)
 course-shares case grid of hot cold ts stream complete is_grid are positive heats led =
@@ -77,7 +77,7 @@ course-shares case grid of hot cold ts stream complete is_grid are positive heat
           shares-joined of hot cold ts stream i (width_of p) p positive heats here own wide narrow));
     }
 
-pub courses-are : (case : Case) (hot cold : List Part) (ts : List Transfer) → IsComplete case → AreCaseParts case hot cold → ArePositive ts → All (λ t. IsHeat t.heat) ts → AllCanBeLed case hot cold ts
+pub courses-are : (case : Case) (hot cold : List Part) (ts : List Transfer) → IsSensibleCase case → AreCaseParts case hot cold → ArePositive ts → All (λ t. IsHeat t.heat) ts → AllCanBeLed case hot cold ts
     → (stream : ℕ) (course : Course) → slice_get (courses_of case hot cold ts) stream ≡ Some course → IsCourseOf (map (exchanger_of hot cold) (enumerate_from 0 ts)) stream course
 courses-are case hot cold ts complete parts positive heats led stream course at =
     let (s, here, is) = numbered-item (stream_course hot cold ts) 0 case.streams stream course at in

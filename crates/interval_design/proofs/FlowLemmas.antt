@@ -13,17 +13,15 @@ use Rattle.std.proofs.lemmas.List.Sums.{count_by-le-length, sum_by-cons}
 use Rattle.std.proofs.lemmas.Option.{slice_get-get_or}
 use Rattle.sums.proofs.CountLemmas.{count_by-add-le, count_by-cons}
 use Rattle.sums.proofs.ProductLemmas.{product_positive}
-use Rattle.stream_case.specs.Case.{IsComplete}
 use Rattle.stream_case.specs.Source.{same_source}
-use Rattle.stream_case.specs.Stream.{IsValidStream}
 use Rattle.stream_case.specs.declared.case.Case.{Case}
 use Rattle.stream_case.specs.declared.limits.TheConstants.{ALL_STREAMS, MOST_PARTS}
 use Rattle.stream_case.specs.declared.source.Side.{Side}
 use Rattle.stream_case.specs.declared.source.Side.TheVariants as side
 use Rattle.stream_case.specs.declared.source.Source.TheVariants as source
 use Rattle.stream_case.specs.declared.stream.Stream.{Stream}
-use Rattle.stream_case.proofs.CompleteLemmas.{HasValidStreams-IsComplete}
 use Rattle.stream_case.proofs.SourceLemmas.{same_source-true}
+use Rattle.design_lines.proofs.SensibleStreams.{AreSensibleStreams-case, IsSensibleCase, IsSensibleStream}
 use Rattle.fractions.specs.Rationals.{ratio}
 use Rattle.networks.proofs.Lists.{all_at}
 use Rattle.design_lines.specs.Drawn.{Course, all_branches, course_branches}
@@ -36,6 +34,7 @@ use Rattle.grid.proofs.PlaceLemmas.{interval_falls}
 use Rattle.heat_flow.specs.Cuts.{parts_of}
 use Rattle.heat_flow.specs.Flow.{HaveParts, IsHeatFlow, KeepsRanges, heat_at, part_index, precedes}
 use Rattle.heat_flow.specs.declared.flow.Transfer.{Transfer}
+use Rattle.interval_design.proofs.SensibleParts.{sensible_heat, sensible_interval}
 use Rattle.interval_design.specs.Courses.{AllCanBeLed, CanBeLed, course_of, courses_of, on_the_way, share_of, shares_of, stage_of, stream_course, width_of}
 use Rattle.interval_design.proofs.WayLemmas.{filter_map-reverse}
 
@@ -167,20 +166,20 @@ record IsWide (p : Part) : Type 0 where
   wide : 0 < width_of p
   heat : pos 0 <ℤ p.least
 
-part_wide : (case : Case) (grid : List ℤ) (of : Side) (p : Part) (stream : ℕ) → IsComplete case → IsGrid case grid → IsPartOf case.streams case.utilities grid of p → same_source p.source (source.Stream stream) ≡ true → IsWide p
+part_wide : (case : Case) (grid : List ℤ) (of : Side) (p : Part) (stream : ℕ) → IsSensibleCase case → IsGrid case grid → IsPartOf case.streams case.utilities grid of p → same_source p.source (source.Stream stream) ≡ true → IsWide p
 part_wide case grid of p stream complete is_grid (inl (i, s, is)) own =
-    let falls = interval_falls grid p.high p.low is_grid.ordered is.interval in
-    let valid = all_at IsValidStream case.streams i s (HasValidStreams-IsComplete case complete).are_streams.each is.stream in
-    let flow = valid.cp in
+    let valid = all_at IsSensibleStream case.streams i s (AreSensibleStreams-case case complete).each is.stream in
+    let falls = interval_falls grid p.high p.low is_grid.ordered (sensible_interval grid s p.high p.low valid.sensible is.piece) in
+    let flow = valid.sensible.cp in
     let length_positive : pos 0 <ℤ (p.high -ℤ p.low) = omega (arith, ints, falls) in
     let cp_positive : pos 0 <ℤ s.cp = omega (arith, ints, flow.from) in
-    let least : p.least ≡ s.cp *ℤ (p.high -ℤ p.low) = ap (λ (q : Part). q.least) is.is in
+    let least : p.least ≡ s.cp *ℤ (p.high -ℤ p.low) = ap (λ (q : Part). q.least) is.is ∙ sensible_heat s p.high p.low valid.sensible in
     record { wide = omega (arith, ints, falls); heat = subst (λ h. pos 0 <ℤ h) (sym least) (product_positive s.cp (p.high -ℤ p.low) cp_positive length_positive) }
 part_wide case grid of p stream complete is_grid (inr (i, u, is)) own =
     let other : same_source p.source (source.Stream stream) ≡ false = ap (λ (q : Part). same_source q.source (source.Stream stream)) is.is in
     absurd (false≢true (sym other ∙ own))
 
-side_led : (case : Case) (grid : List ℤ) (of : Side) (parts : List Part) (ts : List Transfer) (stream : ℕ) → IsComplete case → IsGrid case grid → AreParts case.streams case.utilities grid of parts → KeepsRanges of parts ts → CanBeLed of parts ts stream
+side_led : (case : Case) (grid : List ℤ) (of : Side) (parts : List Part) (ts : List Transfer) (stream : ℕ) → IsSensibleCase case → IsGrid case grid → AreParts case.streams case.utilities grid of parts → KeepsRanges of parts ts → CanBeLed of parts ts stream
 side_led case grid of parts ts stream complete is_grid are ranges =
     let wide : (i : ℕ) (p : Part) → slice_get parts i ≡ Some p → same_source p.source (source.Stream stream) ≡ true → IsWide p =
     λ i p here own. part_wide case grid of p stream complete is_grid (all_at (IsPartOf case.streams case.utilities grid of) parts i p are.each here) own in
@@ -192,7 +191,7 @@ side_led case grid of parts ts stream complete is_grid are ranges =
           omega (arith, ints, least, range.from)));
     }
 
-pub all_led : (case : Case) (hot cold : List Part) (ts : List Transfer) → IsComplete case → AreCaseParts case hot cold → KeepsRanges side.Hot hot ts → KeepsRanges side.Cold cold ts → AllCanBeLed case hot cold ts
+pub all_led : (case : Case) (hot cold : List Part) (ts : List Transfer) → IsSensibleCase case → AreCaseParts case hot cold → KeepsRanges side.Hot hot ts → KeepsRanges side.Cold cold ts → AllCanBeLed case hot cold ts
 all_led case hot cold ts complete parts hots colds number s here = by s.side
   where
     by : (of : Side) → CanBeLed of (parts_of of hot cold) ts number

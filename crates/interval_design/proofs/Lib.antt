@@ -8,6 +8,7 @@ pub mod PartValues
 pub mod StreamValues
 pub mod NetworkValues
 pub mod TransferExchangers
+pub mod SensibleParts
 pub mod ShareLemmas
 pub mod CourseShape
 pub mod TurnLemmas

@@ -5,8 +5,8 @@ use Rattle.std.specs.Prelude.{Contains}
 use Rattle.std.proofs.lemmas.List.{length-map}
 use Rattle.std.proofs.lemmas.List.FromFn.{length-enumerate_from}
 use Rattle.std.proofs.lemmas.Simd.{map-map}
-use Rattle.stream_case.specs.Case.{IsComplete}
 use Rattle.stream_case.specs.declared.case.Case.{Case}
+use Rattle.design_lines.proofs.SensibleStreams.{IsSensibleCase}
 use Rattle.networks.specs.Shape.{HasShape}
 use Rattle.network_values.specs.Values.{ended_streams, first_value}
 use Rattle.network_audit.specs.Valid.{IsValidNetwork}
@@ -25,7 +25,7 @@ use Rattle.interval_design.proofs.NetworkValues.{all_led_network, courses_along-
 use Rattle.interval_design.proofs.Permitted.{all_permitted}
 use Rattle.interval_design.proofs.Ranges.{utility_in_range}
 
-module _ (case : Case) (hot cold : List Part) (ts : List Transfer) (complete : IsComplete case) (parts : AreCaseParts case hot cold) (flow : IsHeatFlow (reach_between case hot cold) hot cold ts) where
+module _ (case : Case) (hot cold : List Part) (ts : List Transfer) (complete : IsSensibleCase case) (parts : AreCaseParts case hot cold) (flow : IsHeatFlow (reach_between case hot cold) hot cold ts) where
   streams_ended : (stream : ℕ) → stream < length case.streams → Contains (ended_streams (network_of case hot cold ts)) stream
   unfolding network_of
   streams_ended stream within =

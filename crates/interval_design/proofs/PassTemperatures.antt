@@ -4,11 +4,11 @@ use Rattle.std.specs.List.{enumerate_from}
 use Rattle.std.proofs.lemmas.List.{length-map}
 use Rattle.std.proofs.lemmas.List.Elements.{All-append, All-map}
 use Rattle.std.proofs.lemmas.Option.{same_Some}
-use Rattle.stream_case.specs.Case.{IsComplete}
 use Rattle.stream_case.specs.Source.{same_source}
 use Rattle.stream_case.specs.declared.case.Case.{Case}
 use Rattle.stream_case.specs.declared.source.Source.TheVariants as source
 use Rattle.stream_case.specs.declared.stream.Stream.{Stream}
+use Rattle.design_lines.proofs.SensibleStreams.{IsSensibleCase}
 use Rattle.fractions.specs.Rationals.{Rational, whole}
 use Rattle.network_values.specs.Values.{Valuation, first_value}
 use Rattle.design_lines.specs.Drawn.{Course, courses_lines, declared_line}
@@ -73,7 +73,7 @@ module _ (case : Case) (hot cold : List Part) (ts : List Transfer) where
   declared_runs values es = All-map (RunsAs case (network_of case hot cold ts) RunsThroughPart values) (λ e. declared_line (exchanger_of hot cold e)) es (λ k d within. tt)
 
   -- over the values of the courses, each pass runs through the part of its exchanger's transfer
-  pub network_runs : IsComplete case → AreCaseParts case hot cold → IsHeatFlow (reach_between case hot cold) hot cold ts
+  pub network_runs : IsSensibleCase case → AreCaseParts case hot cold → IsHeatFlow (reach_between case hot cold) hot cold ts
       → All (RunsAs case (network_of case hot cold ts) RunsThroughPart (map first_value case.streams ++ courses_values (led_courses case hot cold ts))) (network_of case hot cold ts).lines
   unfolding network_of
   network_runs complete parts flow =

@@ -4,19 +4,19 @@ use Rattle.std.specs.List.{enumerate_from, filter_map}
 use Rattle.std.proofs.lemmas.Int.{ints}
 use Rattle.std.proofs.lemmas.List.Elements.{All-append, All-map, All-weaker}
 use Rattle.sums.proofs.EnumerationLemmas.{All-enumerated}
-use Rattle.stream_case.specs.Case.{IsComplete}
 use Rattle.stream_case.specs.Limits.{IsContribution, IsShifted}
 use Rattle.stream_case.specs.Source.{same_source}
-use Rattle.stream_case.specs.Stream.{IsValidStream, high_end, low_end}
+use Rattle.stream_case.specs.Stream.{high_end, low_end}
 use Rattle.stream_case.specs.declared.case.Case.{Case}
 use Rattle.stream_case.specs.declared.limits.TheConstants.{HIGHEST_LEVEL, LONGEST_RANGE, MOST_CP}
 use Rattle.stream_case.specs.declared.source.Side.{Side}
 use Rattle.stream_case.specs.declared.source.Side.TheVariants as side
 use Rattle.stream_case.specs.declared.source.Source.TheVariants as source
 use Rattle.stream_case.specs.declared.stream.Stream.{Stream}
-use Rattle.stream_case.proofs.CompleteLemmas.{HasValidStreams-IsComplete}
 use Rattle.stream_case.proofs.EndLemmas.{AreEnds-IsValidStream}
-use Rattle.stream_case.proofs.HeatLemmas.{HasLength-IsValidStream}
+use Rattle.stream_case.proofs.HeatLemmas.{range-length}
+use Rattle.design_lines.proofs.SensibleStreams.{AreSensibleStreams-case, IsSensibleCase, IsSensibleStream}
+use Rattle.design_lines.proofs.SensibleStreams.{AreSensibleStreams-case, IsSensibleCase, IsSensibleStream}
 use Rattle.fractions.specs.Rationals.{IsWithinLimits, whole}
 use Rattle.fractions.proofs.Comparisons.{at_most_trans}
 use Rattle.networks.proofs.Lists.{all_at}
@@ -88,7 +88,7 @@ plain_change of from to one two = sized_change one.width most_cp 1 highest of fr
 
 -- ---- a stream's own branch
 
-first_plain : (s : Stream) → IsValidStream s → IsPlain (first_value s)
+first_plain : (s : Stream) → IsSensibleStream s → IsPlain (first_value s)
 first_plain s valid = record {
   width = 1;
   wide = omega arith;
@@ -112,28 +112,27 @@ end_shifted : (of : Side) (p : Part) → IsShifted p.high → IsShifted p.low �
 end_shifted side.Hot p high low = (high, low)
 end_shifted side.Cold p high low = (low, high)
 
-part_plain : (case : Case) (hot cold : List Part) (ts : List Transfer) (s : Stream) (index : ℕ) (p : Part) → IsValidStream s → ArePositive ts → IsOwnPart s ts index p → low_end s ≤ℤ p.low → p.high ≤ℤ high_end s → StageHolds IsPlain (led_part s ts (index, p))
+part_plain : (case : Case) (hot cold : List Part) (ts : List Transfer) (s : Stream) (index : ℕ) (p : Part) → IsSensibleStream s → ArePositive ts → IsOwnPart s ts index p → low_end s ≤ℤ p.low → p.high ≤ℤ high_end s → StageHolds IsPlain (led_part s ts (index, p))
 unfolding shares_of
 part_plain case hot cold ts s index p valid positive own from upto =
     let led = part_led case hot cold ts s index p positive own in
     let width = width_of p in
     let shares = filter_map (share_of s.side index width) (enumerate_from 0 ts) in
-    let ends = AreEnds-IsValidStream s valid in
-    let long = HasLength-IsValidStream s valid in
+    let ends = AreEnds-IsValidStream s valid.valid.valid in
+    let long = range-length s valid.valid in
     let falls = own.falls in
     let lowest = ends.from in
     let highest_end = ends.upto in
-    let same = long.same in
-    let most_long = long.length.upto in
+    let most_long = long.upto in
     let wide : 0 < width = omega (arith, ints, falls) in
-    let narrow : width ≤ longest = omega (arith, ints, falls, from, upto, same, most_long) in
+    let narrow : width ≤ longest = omega (arith, ints, falls, from, upto, most_long) in
     let high : IsShifted p.high = record { from = omega (arith, ints, lowest, from, falls); upto = omega (arith, ints, upto, highest_end) } in
     let low : IsShifted p.low = record { from = omega (arith, ints, lowest, from); upto = omega (arith, ints, upto, highest_end, falls) } in
     let places = end_shifted s.side p high low in
     let entered = actual s.side (entered_at s.side p) s.contribution in
     let left = actual s.side (left_at s.side p) s.contribution in
-    let entered_sized = end_sized s.side (entered_at s.side p) s.contribution places.0 valid.contribution in
-    let left_sized = end_sized s.side (left_at s.side p) s.contribution places.1 valid.contribution in
+    let entered_sized = end_sized s.side (entered_at s.side p) s.contribution places.0 valid.valid.valid.contribution in
+    let left_sized = end_sized s.side (left_at s.side p) s.contribution places.1 valid.valid.valid.contribution in
     let over : AreOver width shares = shares_each (λ (a : Share). IsOver width a.cp) s.side index width (enumerate_from 0 ts) (λ k e inside. record { num = (get_or (enumerate_from 0 ts) k e).1.heat; is = refl }) in
     All-weaker (IsStageBranch width (full_size s) (whole entered) (whole left)) IsPlain (λ v is.
     let size = sized-between width most_cp v.cp is.over.num wide is.over.is is.least
@@ -144,12 +143,12 @@ part_plain case hot cold ts s index p valid positive own from upto =
 
 -- ---- all branches
 
-module _ (case : Case) (hot cold : List Part) (ts : List Transfer) (complete : IsComplete case) (parts : AreCaseParts case hot cold) (flow : IsHeatFlow (reach_between case hot cold) hot cold ts) where
+module _ (case : Case) (hot cold : List Part) (ts : List Transfer) (complete : IsSensibleCase case) (parts : AreCaseParts case hot cold) (flow : IsHeatFlow (reach_between case hot cold) hot cold ts) where
   own_plain : (number : ℕ) (s : Stream) → slice_get case.streams number ≡ Some s → (of : Side) (ps : List Part) → s.side ≡ of → AreParts case.streams case.utilities parts.grid of ps → KeepsRanges of ps ts
       → (index : ℕ) (p : Part) → slice_get ps index ≡ Some p → same_source p.source (source.Stream number) ≡ true → StageHolds IsPlain (led_part s ts (index, p))
   own_plain number s here of ps same are ranges index p at own =
-      let valid = all_at IsValidStream case.streams number s (HasValidStreams-IsComplete case complete).are_streams.each here in
-      let is = own_part case.streams case.utilities parts.grid of number s here same parts.is_grid.ordered p (all_at (IsPartOf case.streams case.utilities parts.grid of) ps index p are.each at) own in
+      let valid = all_at IsSensibleStream case.streams number s (AreSensibleStreams-case case complete).each here in
+      let is = own_part case.streams case.utilities parts.grid of number s here same valid.sensible parts.is_grid.ordered p (all_at (IsPartOf case.streams case.utilities parts.grid of) ps index p are.each at) own in
       part_plain case hot cold ts s index p valid flow.positive (own_heat case hot cold ts complete parts number s here index p of ps same are ranges at own) is.from is.upto
 
   stream_plain : (number : ℕ) (s : Stream) → slice_get case.streams number ≡ Some s → CourseHolds IsPlain (led_course hot cold ts (number, s))
@@ -164,7 +163,7 @@ module _ (case : Case) (hot cold : List Part) (ts : List Transfer) (complete : I
 
   pub all_plain : All IsPlain (map first_value case.streams ++ courses_values (led_courses case hot cold ts))
   all_plain =
-      let valid = (HasValidStreams-IsComplete case complete).are_streams.each in
+      let valid = (AreSensibleStreams-case case complete).each in
       All-append IsPlain (map first_value case.streams) (courses_values (led_courses case hot cold ts))
       (All-map IsPlain first_value case.streams (λ k s inside. first_plain (get_or case.streams k s) (valid k s inside)))
       (courses_hold IsPlain (led_courses case hot cold ts)

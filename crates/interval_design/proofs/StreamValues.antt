@@ -5,16 +5,16 @@ use Rattle.std.specs.List.{cons_option, enumerate_from, filter_map}
 use Rattle.std.proofs.lemmas.Int.{ints}
 use Rattle.std.proofs.lemmas.List.Elements.{All-head, All-nil, All-tail}
 use Rattle.sums.proofs.ProductLemmas.{product_positive}
-use Rattle.stream_case.specs.Case.{IsComplete}
 use Rattle.stream_case.specs.Source.{same_source}
-use Rattle.stream_case.specs.Stream.{IsValidStream, high_end, low_end}
+use Rattle.stream_case.specs.Stream.{high_end, low_end}
 use Rattle.stream_case.specs.declared.case.Case.{Case}
 use Rattle.stream_case.specs.declared.source.Side.{Side}
 use Rattle.stream_case.specs.declared.source.Side.TheVariants as side
 use Rattle.stream_case.specs.declared.source.Source.TheVariants as source
 use Rattle.stream_case.specs.declared.stream.Stream.{Stream}
-use Rattle.stream_case.proofs.CompleteLemmas.{HasValidStreams-IsComplete}
 use Rattle.stream_case.proofs.EndLemmas.{AreEnds-IsValidStream}
+use Rattle.design_lines.proofs.SensibleStreams.{AreSensibleStreams-case, IsSensibleCase, IsSensibleStream}
+use Rattle.design_lines.proofs.SensibleStreams.{AreSensibleStreams-case, IsSensibleCase, IsSensibleStream}
 use Rattle.fractions.specs.Rationals.{whole}
 use Rattle.networks.proofs.Lists.{all_at}
 use Rattle.network_values.specs.Values.{first_state, full_size, last_state}
@@ -34,6 +34,7 @@ use Rattle.interval_design.specs.Courses.{course_of, network_of, on_the_way, sha
 use Rattle.interval_design.specs.Values.{actual, entered_at, led_course, led_part, led_stage, left_at}
 use Rattle.interval_design.proofs.FlowLemmas.{All-way}
 use Rattle.interval_design.proofs.PartValues.{IsOwnPart, part_led}
+use Rattle.interval_design.proofs.SensibleParts.{sensible_heat, sensible_interval}
 use Rattle.interval_design.proofs.WayLemmas.{WayTo, filter_map-reverse, own_item, own_part, parts_fall, rise_reverse}
 
 -- ---- the stages of a course
@@ -90,9 +91,9 @@ AreJoined of hot cold ts number s =
     Meet (first_state s) (map (led_at of s.contribution ts) (items_of of hot cold number))
     × (state_behind (first_state s) (map (led_at of s.contribution ts) (items_of of hot cold number)) ≡ last_state s)
 
-module _ (case : Case) (hot cold : List Part) (ts : List Transfer) (complete : IsComplete case) (parts : AreCaseParts case hot cold) (number : ℕ) (s : Stream) (here : slice_get case.streams number ≡ Some s) where
-  valid : IsValidStream s
-  valid = all_at IsValidStream case.streams number s (HasValidStreams-IsComplete case complete).are_streams.each here
+module _ (case : Case) (hot cold : List Part) (ts : List Transfer) (complete : IsSensibleCase case) (parts : AreCaseParts case hot cold) (number : ℕ) (s : Stream) (here : slice_get case.streams number ≡ Some s) where
+  valid : IsSensibleStream s
+  valid = all_at IsSensibleStream case.streams number s (AreSensibleStreams-case case complete).each here
 
   high_held : Contains parts.grid (high_end s)
   high_held = (all_at (λ r. Contains parts.grid (high_end r) × Contains parts.grid (low_end r)) case.streams number s (holds_ends case.streams case.utilities parts.grid (HoldsPlaces-IsGrid case parts.grid parts.is_grid)) here).0
@@ -102,8 +103,8 @@ module _ (case : Case) (hot cold : List Part) (ts : List Transfer) (complete : I
 
   side_falls : (of : Side) (ps : List Part) → s.side ≡ of → AreParts case.streams case.utilities parts.grid of ps → WayTo side.Hot (high_end s) (filter_map (own_item number) (enumerate_from 0 ps)) (low_end s)
   side_falls of ps same are =
-      let order = (AreEnds-IsValidStream s valid).order in
-      parts_fall case.streams case.utilities parts.grid of number s here same parts.is_grid.ordered low_held 0 (high_end s) ps (record {
+      let order = (AreEnds-IsValidStream s valid.valid.valid).order in
+      parts_fall case.streams case.utilities parts.grid of number s here same valid.sensible parts.is_grid.ordered low_held 0 (high_end s) ps (record {
         ordered = are.ordered;
         each = are.each;
         below = λ k d within. λ own. own.upto;
@@ -142,13 +143,13 @@ module _ (case : Case) (hot cold : List Part) (ts : List Transfer) (complete : I
 
   pub own_heat : (index : ℕ) (p : Part) (of : Side) (ps : List Part) → s.side ≡ of → AreParts case.streams case.utilities parts.grid of ps → KeepsRanges of ps ts → slice_get ps index ≡ Some p → same_source p.source (source.Stream number) ≡ true → IsOwnPart s ts index p
   own_heat index p of ps same are ranges at own =
-      let is = own_part case.streams case.utilities parts.grid of number s here same parts.is_grid.ordered p (all_at (IsPartOf case.streams case.utilities parts.grid of) ps index p are.each at) own in
-      let falls = interval_falls parts.grid p.high p.low parts.is_grid.ordered is.interval in
-      let flow = valid.cp in
+      let is = own_part case.streams case.utilities parts.grid of number s here same valid.sensible parts.is_grid.ordered p (all_at (IsPartOf case.streams case.utilities parts.grid of) ps index p are.each at) own in
+      let falls = interval_falls parts.grid p.high p.low parts.is_grid.ordered (sensible_interval parts.grid s p.high p.low valid.sensible is.piece) in
+      let flow = valid.sensible.cp in
       let flow_positive : pos 0 <ℤ s.cp = omega (arith, ints, flow.from) in
       let width_positive : pos 0 <ℤ (p.high -ℤ p.low) = omega (arith, ints, falls) in
-      let least : p.least ≡ s.cp *ℤ (p.high -ℤ p.low) = ap (λ (q : Part). q.least) is.is in
-      let most : p.most ≡ s.cp *ℤ (p.high -ℤ p.low) = ap (λ (q : Part). q.most) is.is in
+      let least : p.least ≡ s.cp *ℤ (p.high -ℤ p.low) = ap (λ (q : Part). q.least) is.is ∙ sensible_heat s p.high p.low valid.sensible in
+      let most : p.most ≡ s.cp *ℤ (p.high -ℤ p.low) = ap (λ (q : Part). q.most) is.is ∙ sensible_heat s p.high p.low valid.sensible in
       let range = ranges index p at in
       let from = range.from in
       let upto = range.upto in

@@ -9,7 +9,7 @@ use Rattle.std.proofs.lemmas.List.{reverse-append}
 use Rattle.std.proofs.lemmas.List.Elements.{All-head, All-tail, filter_map-append}
 use Rattle.std.proofs.lemmas.Option.{same_Some, slice_get-get_or}
 use Rattle.stream_case.specs.Source.{same_source}
-use Rattle.stream_case.specs.Stream.{high_end, low_end}
+use Rattle.stream_case.specs.Stream.{IsSensible, high_end, low_end}
 use Rattle.stream_case.specs.declared.source.Side.{Side}
 use Rattle.stream_case.specs.declared.source.Side.TheVariants as side
 use Rattle.stream_case.specs.declared.source.Source.{Source}
@@ -19,6 +19,7 @@ use Rattle.stream_case.specs.declared.utility.Utility.{Utility}
 use Rattle.grid.specs.Part.{IsInterval, IsPartOf, IsStreamPart, comes_before, comes_before_source, stream_part}
 use Rattle.grid.specs.declared.part.Part.{Part}
 use Rattle.interval_design.specs.Values.{entered_at, left_at}
+use Rattle.interval_design.proofs.SensibleParts.{sensible_interval}
 use Rattle.grid.proofs.PlaceLemmas.{interval_below, interval_ends, interval_falls}
 
 -- ---- parts that meet
@@ -92,9 +93,12 @@ own_source : (a : Source) (number : ℕ) → same_source a (source.Stream number
 own_source (source.Stream i) number own = let same : i ≡ number = grind (arith, nat_tests) in ap source.Stream same
 own_source (source.Utility i) number own = absurd (false≢true own)
 
-module _ (streams : List Stream) (utilities : List Utility) (grid : List ℤ) (of : Side) (number : ℕ) (s : Stream) (here : slice_get streams number ≡ Some s) (side_is : s.side ≡ of) (falls : AllPairs (λ a b. b <ℤ a) grid) where
+module _ (streams : List Stream) (utilities : List Utility) (grid : List ℤ) (of : Side) (number : ℕ) (s : Stream) (here : slice_get streams number ≡ Some s) (side_is : s.side ≡ of) (sensible : IsSensible s) (falls : AllPairs (λ a b. b <ℤ a) grid) where
   abbrev pub IsOwn : Part → Type 0
   IsOwn p = IsStreamPart streams grid of number s p
+
+  own_interval : (p : Part) → IsOwn p → IsInterval grid p.high p.low
+  own_interval p own = sensible_interval grid s p.high p.low sensible own.piece
 
   pub own_part : (p : Part) → IsPartOf streams utilities grid of p → same_source p.source (source.Stream number) ≡ true → IsOwn p
   own_part p (inl (i, r, is)) own =
@@ -122,16 +126,16 @@ module _ (streams : List Stream) (utilities : List Utility) (grid : List ℤ) (o
   part_below : (x : ℤ) → Contains grid x → Contains grid (low_end s) → x ≤ℤ high_end s → low_end s <ℤ x → (p : Part) × (p.high ≡ x) × IsOwn p
   part_below x place least upto above =
       let (low, interval, from) = next_place grid x (low_end s) falls place least above in
-      (stream_part x low number s, refl, record { stream = here; side_is = side_is; interval = interval; from = from; upto = upto; is = refl })
+      (stream_part x low number s, refl, record { stream = here; side_is = side_is; piece = inl interval; from = from; upto = upto; is = refl })
 
   -- of two parts of the stream, the one that comes later lies below
   lies_below : (p q : Part) → IsOwn p → IsOwn q → comes_before p q → q.high ≤ℤ p.low
-  lies_below p q one two (inl less) = interval_below grid p.high p.low q.high falls one.interval (interval_ends grid q.high q.low two.interval).0 less
+  lies_below p q one two (inl less) = interval_below grid p.high p.low q.high falls (own_interval p one) (interval_ends grid q.high q.low (own_interval q two)).0 less
   lies_below p q one two (inr (inl same)) =
       let top = same.0 in
       let less = same.1 in
-      let down = interval_falls grid p.high p.low falls one.interval in
-      let below = interval_below grid q.high q.low p.low falls two.interval (interval_ends grid p.high p.low one.interval).1 (omega (arith, ints, top, down)) in
+      let down = interval_falls grid p.high p.low falls (own_interval p one) in
+      let below = interval_below grid q.high q.low p.low falls (own_interval q two) (interval_ends grid p.high p.low (own_interval p one)).1 (omega (arith, ints, top, down)) in
       absurd (omega (arith, ints, below, less))
   lies_below p q one two (inr (inr same)) =
       let first : comes_before_source (source.Stream number) q.source = subst (λ a. comes_before_source a q.source) (ap (λ (r : Part). r.source) one.is) same.2 in
@@ -187,7 +191,7 @@ module _ (streams : List Stream) (utilities : List Utility) (grid : List ℤ) (o
         by lower true is =
             let own = own_part p (All-head (IsPartOf streams utilities grid of) p ps lie.each) is in
             let most = All-head (λ (q : Part). IsOwn q → q.high ≤ℤ x) p ps lie.below own in
-            let down = interval_falls grid p.high p.low falls own.interval in
+            let down = interval_falls grid p.high p.low falls (own_interval p own) in
             let from = own.from in
             let upto = own.upto in
             let top : p.high ≡ x = by_lt_z p.high x (λ less. absurd (gap own less)) (λ same. omega (arith, ints, same, most)) in (
@@ -197,7 +201,7 @@ module _ (streams : List Stream) (utilities : List Utility) (grid : List ℤ) (o
                 each = All-tail (IsPartOf streams utilities grid of) p ps lie.each;
                 below = λ k d within. λ two. lies_below p (get_or ps k d) own two (behind k d within);
                 every = λ q two under. ⊎_elim (λ same. let high = ap (λ (r : Part). r.high) same in absurd (omega (arith, ints, high, under, down))) (λ there. there) (contains_cases p ps q (lie.every q two (omega (arith, ints, under, down, most))));
-                place = (interval_ends grid p.high p.low own.interval).1;
+                place = (interval_ends grid p.high p.low (own_interval p own)).1;
                 from = from;
                 upto = omega (arith, ints, down, upto);
               }),
@@ -205,7 +209,7 @@ module _ (streams : List Stream) (utilities : List Utility) (grid : List ℤ) (o
           where
             gap : IsOwn p → p.high <ℤ x → ⊥
             gap own less =
-                let down = interval_falls grid p.high p.low falls own.interval in
+                let down = interval_falls grid p.high p.low falls (own_interval p own) in
                 let from = own.from in
                 let (q, top, two) = part_below x lie.place least lie.upto (omega (arith, ints, from, down, less)) in
                 ⊎_elim (λ same. let high = ap (λ (r : Part). r.high) same in absurd (omega (arith, ints, high, top, less)))

@@ -2,11 +2,12 @@
 use Rattle.std.proofs.Common.{◌≡◌, ◌∙◌, ⊎_elim, ◌∷◌, ◌+ℤ◌, ◌*ℤ◌, ℕ, ℤ, pos, List, [], slice_get, sym, ap, ap₂, arith}
 use Rattle.std.specs.List.{enumerate_from, filter_map}
 use Rattle.std.proofs.lemmas.Int.{ints}
-use Rattle.stream_case.specs.Case.{IsComplete, IsStandard, standard_utility}
+use Rattle.stream_case.specs.Case.{IsStandard, standard_utility}
 use Rattle.stream_case.specs.declared.case.Case.{Case}
 use Rattle.stream_case.specs.declared.source.Side.{Side}
 use Rattle.stream_case.specs.declared.source.Side.TheVariants as side
 use Rattle.stream_case.specs.declared.utility.Utility.{Utility}
+use Rattle.design_lines.proofs.SensibleStreams.{IsSensibleCase}
 use Rattle.fractions.specs.Rationals.{minus, plus, rational_sum, rational_sum_by, rational_zero, times, whole}
 use Rattle.fractions.proofs.Sums.{minus-self, plus-zero}
 use Rattle.fractions.proofs.Wholes.{whole-plus, whole-times}
@@ -21,7 +22,7 @@ use Rattle.vertical_design.specs.Courses.{AreIntervals, network_of}
 use Rattle.vertical_design.specs.declared.interval.Interval.{Interval}
 use Rattle.vertical_design.proofs.UtilityHeats.{heat_is, target_on}
 
-module _ (case : Case) (intervals : List Interval) (complete : IsComplete case) (standard : IsStandard case) (are : AreIntervals case intervals) where
+module _ (case : Case) (intervals : List Interval) (complete : IsSensibleCase case) (standard : IsStandard case) (are : AreIntervals case intervals) where
   abbrev design : Network
   design = network_of case intervals
 

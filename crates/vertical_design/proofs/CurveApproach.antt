@@ -5,10 +5,11 @@ use Rattle.std.specs.Int.{int_max, int_min}
 use Rattle.std.proofs.lemmas.Int.{clamps, ints}
 use Rattle.sums.proofs.IntegerLemmas.{int_lt_cases}
 use Rattle.sums.proofs.ProductLemmas.{*ℤ_cancel_right}
-use Rattle.stream_case.specs.Stream.{AreStreams, high_end, low_end}
+use Rattle.stream_case.specs.Stream.{high_end, low_end}
 use Rattle.stream_case.specs.declared.source.Side.{Side}
 use Rattle.stream_case.specs.declared.source.Side.TheVariants as side
 use Rattle.stream_case.specs.declared.stream.Stream.{Stream}
+use Rattle.design_lines.proofs.SensibleStreams.{AreSensibleStreams}
 use Rattle.fractions.specs.Integers.{pos_above}
 use Rattle.fractions.specs.Rationals.{IsAtMost, IsBelow, Rational, ratio, whole}
 use Rattle.fractions.proofs.Comparisons.{at_most-ratio, at_most_from_ratio, below_from_ratio}
@@ -20,7 +21,7 @@ use Rattle.vertical_design.proofs.ScaledCurve.{curve_heat-ratio, curve_parts, cu
 
 -- ---- in parts
 
-module _ (d : ℕ) (some : 0 < d) (streams : List Stream) (are : AreStreams streams) (r : Stream) (member : Contains streams r) where
+module _ (d : ℕ) (some : 0 < d) (streams : List Stream) (are : AreSensibleStreams streams) (r : Stream) (member : Contains streams r) where
   -- below the cold temperature a cold stream runs
   approach-below : (hot cold : ℤ) → r.side ≡ side.Cold → (low_end r *ℤ pos d) <ℤ cold → cold ≤ℤ (high_end r *ℤ pos d) → curve_parts d side.Hot streams hot ≡ curve_parts d side.Cold streams cold → cold ≤ℤ hot
   approach-below hot cold on_side from upto same =
@@ -67,7 +68,7 @@ same_heats d some streams of other n m same =
     let y = curve_parts d other streams m in
     *ℤ_cancel_right (pos d) x y (pos_above d some) (same_from_ratio x y d d some some (sym (curve_heat-ratio d some of streams n) ∙ same ∙ curve_heat-ratio d some other streams m))
 
-module _ (streams : List Stream) (are : AreStreams streams) (r : Stream) (member : Contains streams r) where
+module _ (streams : List Stream) (are : AreSensibleStreams streams) (r : Stream) (member : Contains streams r) where
   pub approach_below : (hot cold : Rational) → r.side ≡ side.Cold → IsBelow (whole (low_end r)) cold → IsAtMost cold (whole (high_end r)) → curve_heat side.Hot streams hot ≡ curve_heat side.Cold streams cold → IsAtMost cold hot
   approach_below hot cold on_side =
       by_two (λ h c. IsBelow (whole (low_end r)) c → IsAtMost c (whole (high_end r)) → curve_heat side.Hot streams h ≡ curve_heat side.Cold streams c → IsAtMost c h)

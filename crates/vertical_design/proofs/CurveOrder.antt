@@ -8,11 +8,13 @@ use Rattle.sums.proofs.IntegerLemmas.{int_le_cases, int_lt_cases}
 use Rattle.sums.proofs.ProductLemmas.{*ℤ-+ℤ, *ℤ-≤ℤ_right, *ℤ-≤ℤ_turned, *ℤ_assoc, +ℤ-*ℤ, -ℤ-*ℤ, product_not_negative, zero_times}
 use Rattle.sums.proofs.SumLemmas.{int_sum_by-add, int_sum_by-same}
 use Rattle.stream_case.specs.Source.{same_side}
-use Rattle.stream_case.specs.Stream.{AreStreams, IsValidStream, heat_above, heat_of, high_end, length_above, low_end, stream_ends}
+use Rattle.stream_case.specs.Stream.{heat_above, heat_between, heat_of, high_end, length_above, low_end, sensible_above, stream_ends}
 use Rattle.stream_case.specs.declared.source.Side.{Side}
 use Rattle.stream_case.specs.declared.source.Side.TheVariants as side
 use Rattle.stream_case.specs.declared.stream.Stream.{Stream}
 use Rattle.stream_case.proofs.EndLemmas.{AreEnds-IsValidStream, each_end}
+use Rattle.stream_case.proofs.HeatLemmas.{heat_of-sensible, heat_over-sensible}
+use Rattle.design_lines.proofs.SensibleStreams.{AreSensibleStreams, IsSensibleStream}
 use Rattle.curves.specs.Below.{length_below}
 use Rattle.problem_table.specs.Deficit.{cold_target}
 use Rattle.problem_table.specs.Sides.{sum_side}
@@ -64,7 +66,7 @@ module _ (d : ℕ) (a b : ℤ) where
     pub high : IsOutside a b (high_end s *ℤ pos d)
 
   module _ (m : ℤ) (some : a <ℤ b) (from : a ≤ℤ m) (upto : m ≤ℤ b) where
-    parts_straight : (s : Stream) → IsValidStream s → IsStraight s → parts_below d m s ≡ parts_below d a s +ℤ flow_across s *ℤ (m -ℤ a)
+    parts_straight : (s : Stream) → IsSensibleStream s → IsStraight s → parts_below d m s ≡ parts_below d a s +ℤ flow_across s *ℤ (m -ℤ a)
     parts_straight s h clear =
         let low = low_end s *ℤ pos d in
         let high = high_end s *ℤ pos d in
@@ -75,13 +77,13 @@ module _ (d : ℕ) (a b : ℤ) where
         by true = refl
         by false = *ℤ-zero s.cp ∙ sym (zero_times (pos 0) (m -ℤ a) refl)
 
-    sum_straight : (of : Side) (streams : List Stream) → All IsValidStream streams → All (λ s. same_side s.side of ≡ true → IsStraight s) streams
+    sum_straight : (of : Side) (streams : List Stream) → All IsSensibleStream streams → All (λ s. same_side s.side of ≡ true → IsStraight s) streams
         → sum_side of (parts_below d m) streams ≡ sum_side of (parts_below d a) streams +ℤ sum_side of flow_across streams *ℤ (m -ℤ a)
     sum_straight of [] valid clear = sym (ap (λ z. pos 0 +ℤ z) (zero_times (pos 0) (m -ℤ a) refl) ∙ refl)
     sum_straight of (s ∷ ss) valid clear =
         let S : Stream → Type 0 = λ t. same_side t.side of ≡ true → IsStraight t in
-        let rest = sum_straight of ss (All-tail IsValidStream s ss valid) (All-tail S s ss clear) in
-        let first = by (same_side s.side of) refl (parts_straight s (All-head IsValidStream s ss valid)) (All-head S s ss clear) in
+        let rest = sum_straight of ss (All-tail IsSensibleStream s ss valid) (All-tail S s ss clear) in
+        let first = by (same_side s.side of) refl (parts_straight s (All-head IsSensibleStream s ss valid)) (All-head S s ss clear) in
         let spread = +ℤ-*ℤ (if same_side s.side of then flow_across s else pos 0) (sum_side of flow_across ss) (m -ℤ a) in
         omega (arith, ints, rest, first, spread)
       where
@@ -91,7 +93,7 @@ module _ (d : ℕ) (a b : ℤ) where
         by false is straight clears = sym (ap (λ z. pos 0 +ℤ z) (zero_times (pos 0) (m -ℤ a) refl) ∙ refl)
 
     -- the curve of a side from a to b
-    pub curve_straight : (of : Side) (streams : List Stream) → All IsValidStream streams → All (λ s. same_side s.side of ≡ true → IsStraight s) streams
+    pub curve_straight : (of : Side) (streams : List Stream) → All IsSensibleStream streams → All (λ s. same_side s.side of ≡ true → IsStraight s) streams
         → curve_parts d of streams m ≡ curve_parts d of streams a +ℤ sum_side of flow_across streams *ℤ (m -ℤ a)
     curve_straight of streams valid clear = let sums = sum_straight of streams valid clear in omega (arith, ints, sums)
 
@@ -107,17 +109,19 @@ sum-halves of f g h streams both =
     by true x y z is = is
     by false x y z is = refl
 
-pub below_and_above : (t : ℤ) (s : Stream) → IsValidStream s → heat_below t s +ℤ heat_above t s ≡ heat_of s
+pub below_and_above : (t : ℤ) (s : Stream) → IsSensibleStream s → heat_below t s +ℤ heat_above t s ≡ heat_of s
 below_and_above t s h =
-    let ends = AreEnds-IsValidStream s h in
+    let ends = AreEnds-IsValidStream s h.valid in
     let order = ends.order in
+    let parts : heat_below t s +ℤ sensible_above t s ≡ heat_between (high_end s) (low_end s) s =
     sym (*ℤ-+ℤ s.cp (length_below (low_end s) (high_end s) t) (length_above (low_end s) (high_end s) t))
-    ∙ ap (λ l. s.cp *ℤ l) {x = length_below (low_end s) (high_end s) t +ℤ length_above (low_end s) (high_end s) t} {y = high_end s -ℤ low_end s} (omega (arith, ints, clamps, order))
+    ∙ ap (λ l. s.cp *ℤ l) {x = length_below (low_end s) (high_end s) t +ℤ length_above (low_end s) (high_end s) t} {y = high_end s -ℤ low_end s} (omega (arith, ints, clamps, order)) in
+    ap (λ z. heat_below t s +ℤ z) (heat_over-sensible false t s h.sensible) ∙ parts ∙ sym (heat_of-sensible s h.sensible)
 
 -- the cold curve lies further by what the hot target exceeds the deficit
-heats-at_end : (streams : List Stream) (t : ℤ) → AreStreams streams → Contains (stream_ends streams) t → heat_at side.Hot streams t ≤ℤ heat_at side.Cold streams t
+heats-at_end : (streams : List Stream) (t : ℤ) → AreSensibleStreams streams → Contains (stream_ends streams) t → heat_at side.Hot streams t ≤ℤ heat_at side.Cold streams t
 heats-at_end streams t are member =
-    let both = All-weaker IsValidStream (λ s. heat_below t s +ℤ heat_above t s ≡ heat_of s) (below_and_above t) streams are.each in
+    let both = All-weaker IsSensibleStream (λ s. heat_below t s +ℤ heat_above t s ≡ heat_of s) (below_and_above t) streams are.each in
     let hot = sum-halves side.Hot (heat_below t) (heat_above t) heat_of streams both in
     let cold = sum-halves side.Cold (heat_below t) (heat_above t) heat_of streams both in
     let bound = hot_target-bound streams t member in
@@ -135,7 +139,7 @@ order-between hot cold hot_flow cold_flow hot_end cold_end hot_here cold_here fa
     (λ less. let turned = *ℤ-≤ℤ_turned (cold_flow -ℤ hot_flow) far here (omega (arith, ints, less)) upto in omega (arith, ints, turned, begin, end, hot_far, cold_far, hot_near, cold_near, apart_far, apart_near))
     (λ more. let rise = product_not_negative (cold_flow -ℤ hot_flow) here more from in omega (arith, ints, rise, begin, hot_near, cold_near, apart_near))
 
-module _ (d : ℕ) (some : 0 < d) (streams : List Stream) (are : AreStreams streams) where
+module _ (d : ℕ) (some : 0 < d) (streams : List Stream) (are : AreSensibleStreams streams) where
   curves-at_end : (t : ℤ) → Contains (stream_ends streams) t → curve_parts d side.Hot streams (t *ℤ pos d) ≤ℤ curve_parts d side.Cold streams (t *ℤ pos d)
   curves-at_end t member =
       let hot = curve_parts-whole d side.Hot streams t some in
@@ -148,16 +152,16 @@ module _ (d : ℕ) (some : 0 < d) (streams : List Stream) (are : AreStreams stre
   all_below of n below =
       sum_side-same of (parts_below d n) (λ s. heat_of s *ℤ pos d) streams (λ k o within. by (get_or streams k o) (are.each k o within) (below k o within)) ∙ sum_side-scaled of heat_of (pos d) streams
     where
-      by : (s : Stream) → IsValidStream s → (high_end s *ℤ pos d) <ℤ n → parts_below d n s ≡ heat_of s *ℤ pos d
+      by : (s : Stream) → IsSensibleStream s → (high_end s *ℤ pos d) <ℤ n → parts_below d n s ≡ heat_of s *ℤ pos d
       by s h less =
           let order = ends_order d s h in
           let apart = -ℤ-*ℤ (high_end s) (low_end s) (pos d) in
-          ap (λ l. s.cp *ℤ l) {x = length_below (low_end s *ℤ pos d) (high_end s *ℤ pos d) n} {y = (high_end s -ℤ low_end s) *ℤ pos d} (omega (arith, ints, clamps, less, order, apart)) ∙ sym (*ℤ_assoc s.cp (high_end s -ℤ low_end s) (pos d))
+          ap (λ l. s.cp *ℤ l) {x = length_below (low_end s *ℤ pos d) (high_end s *ℤ pos d) n} {y = (high_end s -ℤ low_end s) *ℤ pos d} (omega (arith, ints, clamps, less, order, apart)) ∙ sym (*ℤ_assoc s.cp (high_end s -ℤ low_end s) (pos d)) ∙ ap (λ x. x *ℤ pos d) (sym (heat_of-sensible s h.sensible))
 
   none_below : (of : Side) (n : ℤ) → All (λ s. n <ℤ (low_end s *ℤ pos d)) streams → sum_side of (parts_below d n) streams ≡ pos 0
   none_below of n above = sum_side-zero of (parts_below d n) streams (λ k o within. by (get_or streams k o) (are.each k o within) (above k o within))
     where
-      by : (s : Stream) → IsValidStream s → n <ℤ (low_end s *ℤ pos d) → parts_below d n s ≡ pos 0
+      by : (s : Stream) → IsSensibleStream s → n <ℤ (low_end s *ℤ pos d) → parts_below d n s ≡ pos 0
       by s h less =
           let order = ends_order d s h in
           ap (λ l. s.cp *ℤ l) {x = length_below (low_end s *ℤ pos d) (high_end s *ℤ pos d) n} {y = pos 0} (omega (arith, ints, clamps, less, order)) ∙ *ℤ-zero s.cp
@@ -166,7 +170,7 @@ module _ (d : ℕ) (some : 0 < d) (streams : List Stream) (are : AreStreams stre
   order-above n below =
       let hot = all_below side.Hot n below in
       let cold = all_below side.Cold n below in
-      let target = hot_target-within streams are in
+      let target = hot_target-within streams are.are in
       let from = target.from in
       let order = *ℤ-≤ℤ_right (pos d) (pos 0 +ℤ sum_side side.Hot heat_of streams) (cold_target streams +ℤ sum_side side.Cold heat_of streams) (omega (arith, ints)) (omega (arith, ints, from)) in
       let first = +ℤ-*ℤ (pos 0) (sum_side side.Hot heat_of streams) (pos d) in
@@ -177,7 +181,7 @@ module _ (d : ℕ) (some : 0 < d) (streams : List Stream) (are : AreStreams stre
   order-below n above =
       let hot = none_below side.Hot n above in
       let cold = none_below side.Cold n above in
-      let order = *ℤ-≤ℤ_right (pos d) (pos 0) (cold_target streams) (omega (arith, ints)) (cold_target-within streams are).from in
+      let order = *ℤ-≤ℤ_right (pos d) (pos 0) (cold_target streams) (omega (arith, ints)) (cold_target-within streams are.are).from in
       omega (arith, ints, hot, cold, order)
 
   -- the ends next to a place that lies inside neither

@@ -5,10 +5,11 @@ use Rattle.std.proofs.lemmas.Int.{ints}
 use Rattle.std.proofs.lemmas.List.Elements.{All-cons, All-contains, All-head, All-nil, All-tail, All-weaker}
 use Rattle.sums.proofs.IntegerLemmas.{int_lt_cases}
 use Rattle.stream_case.specs.Source.{same_side}
-use Rattle.stream_case.specs.Stream.{AreStreams, IsValidStream, high_end, low_end, stream_ends}
+use Rattle.stream_case.specs.Stream.{high_end, low_end, stream_ends}
 use Rattle.stream_case.specs.declared.source.Side.{Side}
 use Rattle.stream_case.specs.declared.stream.Stream.{Stream}
 use Rattle.stream_case.proofs.EndLemmas.{each_end}
+use Rattle.design_lines.proofs.SensibleStreams.{AreSensibleStreams, IsSensibleStream}
 use Rattle.vertical_design.specs.Axis.{heat_at}
 use Rattle.vertical_design.proofs.CurveOrder.{IsOutside}
 use Rattle.vertical_design.proofs.Foremost.{IsForemost, foremost}
@@ -25,7 +26,7 @@ kept {X} p P (x ∷ xs) all = by (p x) refl all (kept p P xs)
 
 -- ---- a whole curve rises
 
-pub heat_rises : (of : Side) (streams : List Stream) (t u : ℤ) → All IsValidStream streams → t ≤ℤ u → heat_at of streams t ≤ℤ heat_at of streams u
+pub heat_rises : (of : Side) (streams : List Stream) (t u : ℤ) → All IsSensibleStream streams → t ≤ℤ u → heat_at of streams t ≤ℤ heat_at of streams u
 heat_rises of streams t u valid upto =
     let rise = curve_rises 1 of streams (t *ℤ pos 1) (u *ℤ pos 1) valid (omega (arith, ints, upto)) in
     let here = curve_parts-whole 1 of streams t (omega arith) in
@@ -34,7 +35,7 @@ heat_rises of streams t u valid upto =
 
 -- ---- the segment
 
-module _ (of : Side) (streams : List Stream) (are : AreStreams streams) (low high : ℤ) where
+module _ (of : Side) (streams : List Stream) (are : AreSensibleStreams streams) (low high : ℤ) where
   abbrev pub on_side : Stream → Bool
   on_side s = same_side s.side of
 

@@ -4,10 +4,11 @@ use Rattle.std.specs.Prelude.{unsigned_abs}
 use Rattle.std.proofs.Math.IntN.{*ℤ_comm}
 use Rattle.std.proofs.lemmas.Int.{ints, unsigned_abs-mul}
 use Rattle.sums.specs.declared.pairs.Pair.{Pair}
-use Rattle.stream_case.specs.Stream.{AreStreams, high_end, low_end}
+use Rattle.stream_case.specs.Stream.{high_end, low_end}
 use Rattle.stream_case.specs.declared.source.Side.{Side}
 use Rattle.stream_case.specs.declared.source.Side.TheVariants as side
 use Rattle.stream_case.specs.declared.stream.Stream.{Stream}
+use Rattle.design_lines.proofs.SensibleStreams.{AreSensibleStreams}
 use Rattle.fractions.specs.Rationals.{Rational, minus, plus, ratio, times, whole}
 use Rattle.fractions.proofs.Comparisons.{at_most-whole}
 use Rattle.fractions.proofs.Ratios.{times-ratio}
@@ -59,7 +60,7 @@ actual-last s = by s.side
 
 -- ---- both sides at one heat
 
-module _ (streams : List Stream) (are : AreStreams streams) (low high : ℤ) where
+module _ (streams : List Stream) (are : AreSensibleStreams streams) (low high : ℤ) where
   -- two streams
   pub scales_face : (hot_flow cold_flow : ℤ) (hot cold : ℤ → Rational) → IsScale side.Hot streams are low high hot_flow hot → IsScale side.Cold streams are low high cold_flow cold → (q : ℤ) → low ≤ℤ q → q ≤ℤ high
       → curve_heat side.Hot streams (hot q) ≡ curve_heat side.Cold streams (cold q)

@@ -15,7 +15,6 @@ use Rattle.sums.proofs.ListLemmas.{Contains-slice_get}
 use Rattle.sums.proofs.ProductLemmas.{zero_times}
 use Rattle.sums.proofs.SumLemmas.{int_sum_by-same}
 use Rattle.stream_case.specs.Source.{same_side, same_source}
-use Rattle.stream_case.specs.Stream.{AreStreams}
 use Rattle.stream_case.specs.declared.case.Case.{Case}
 use Rattle.stream_case.specs.declared.source.Side.{Side}
 use Rattle.stream_case.specs.declared.source.Side.TheVariants as side
@@ -23,6 +22,7 @@ use Rattle.stream_case.specs.declared.source.Source.{Source}
 use Rattle.stream_case.specs.declared.source.Source.TheVariants as source
 use Rattle.stream_case.specs.declared.stream.Stream.{Stream}
 use Rattle.stream_case.proofs.SourceLemmas.{own_side, same_source-true}
+use Rattle.design_lines.proofs.SensibleStreams.{AreSensibleStreams}
 use Rattle.fractions.specs.Rationals.{plus, ratio, whole}
 use Rattle.fractions.proofs.Ratios.{plus-ratio_same_den, ratio-zero}
 use Rattle.fractions.proofs.Wholes.{ratio-multiple}
@@ -140,7 +140,7 @@ module _ (case : Case) (low high : ℤ) where
       by side.Hot p one other = one
       by side.Cold p one other = other
 
-  pub stream_runs : (are : AreStreams case.streams) (of : Side) (a : Source) (number : ℕ) (s : Stream) → RunsFrom of a → a ≡ source.Stream number → slice_get case.streams number ≡ Some s → Runs of case.streams are low high s
+  pub stream_runs : (are : AreSensibleStreams case.streams) (of : Side) (a : Source) (number : ℕ) (s : Stream) → RunsFrom of a → a ≡ source.Stream number → slice_get case.streams number ≡ Some s → Runs of case.streams are low high s
   stream_runs are of a number s is own here = by is.kind
     where
       by : IsSourceSpan case of is.span → Runs of case.streams are low high s
@@ -165,7 +165,7 @@ module _ (case : Case) (low high : ℤ) where
       by (inr (n, u, made)) = (subst (λ (x : Span). x.from ≤ℤ low) made.is is.from, subst (λ (x : Span). high ≤ℤ x.to) made.is is.upto)
 
   -- a stream that does not run has no share
-  pub no_shares : (are : AreStreams case.streams) (of : Side) (number first : ℕ) (s : Stream) → slice_get case.streams number ≡ Some s → (Runs of case.streams are low high s → ⊥)
+  pub no_shares : (are : AreSensibleStreams case.streams) (of : Side) (number first : ℕ) (s : Stream) → slice_get case.streams number ≡ Some s → (Runs of case.streams are low high s → ⊥)
       → shares_in of number (record { first = first; matches = matches_in low high (spans_of side.Hot case) (spans_of side.Cold case) }) ≡ []
   no_shares are of number first s here rests =
       let ms = matches_in low high (spans_of side.Hot case) (spans_of side.Cold case) in

@@ -5,13 +5,13 @@ use Rattle.std.proofs.lemmas.Int.{ints}
 use Rattle.std.proofs.lemmas.List.Elements.{All-contains}
 use Rattle.sums.specs.declared.pairs.Pair.{Pair}
 use Rattle.sums.proofs.IntegerLemmas.{int_le-from}
-use Rattle.stream_case.specs.Case.{IsComplete, IsStandard}
-use Rattle.stream_case.specs.Stream.{AreStreams, IsValidStream, high_end, low_end}
+use Rattle.stream_case.specs.Case.{IsStandard}
+use Rattle.stream_case.specs.Stream.{high_end, low_end}
 use Rattle.stream_case.specs.declared.case.Case.{Case}
 use Rattle.stream_case.specs.declared.source.Side.{Side}
 use Rattle.stream_case.specs.declared.source.Side.TheVariants as side
 use Rattle.stream_case.specs.declared.stream.Stream.{Stream}
-use Rattle.stream_case.proofs.CompleteLemmas.{AreStreams-IsComplete}
+use Rattle.design_lines.proofs.SensibleStreams.{AreSensibleStreams, AreSensibleStreams-case, IsSensibleCase, IsSensibleStream}
 use Rattle.fractions.specs.Rationals.{IsBelow, Rational, minus, ratio, rational_zero, times, whole}
 use Rattle.fractions.proofs.Comparisons.{positive-ratio}
 use Rattle.fractions.proofs.Sums.{minus-minus_same, minus-plus_plus}
@@ -59,7 +59,7 @@ left_at side.Hot low high = low
 left_at side.Cold low high = high
 
 -- a stream is led through an interval in which it runs, from the temperature of the one cut to that of the other, by its shares there
-pub record IsIntervalStage (case : Case) (cuts : List ℤ) (are : AreStreams case.streams) (number : ℕ) (s : Stream) (stage : LedStage) : Type 0 where
+pub record IsIntervalStage (case : Case) (cuts : List ℤ) (are : AreSensibleStreams case.streams) (number : ℕ) (s : Stream) (stage : LedStage) : Type 0 where
   pub at : ℕ
   pub later : 0 < at
   pub within : at < length cuts
@@ -109,9 +109,9 @@ some_share : (shares : List Share) (n : ℤ) → pos 0 <ℤ n → size_of shares
 some_share [] n above is = absurd (whole-nonzero n (λ none. absurd (omega (arith, ints, above, none))) (sym is))
 some_share (s ∷ shares) n above is = omega arith
 
-module _ (case : Case) (cuts : List ℤ) (complete : IsComplete case) (standard : IsStandard case) (are_cuts : AreCuts (spans_of side.Hot case) (spans_of side.Cold case) cuts) where
-  abbrev streams_are : AreStreams case.streams
-  streams_are = AreStreams-IsComplete case complete
+module _ (case : Case) (cuts : List ℤ) (complete : IsSensibleCase case) (standard : IsStandard case) (are_cuts : AreCuts (spans_of side.Hot case) (spans_of side.Cold case) cuts) where
+  abbrev streams_are : AreSensibleStreams case.streams
+  streams_are = AreSensibleStreams-case case complete
 
   module _ (number : ℕ) (s : Stream) (here : slice_get case.streams number ≡ Some s) (at : ℕ) (later : 0 < at) (within : at < length cuts) (runs : Runs s.side case.streams streams_are (lower_cut cuts at) (upper_cut cuts at) s) where
     abbrev here_shares : List Share
@@ -133,8 +133,8 @@ module _ (case : Case) (cuts : List ℤ) (complete : IsComplete case) (standard 
     -- and there is one
     pub stage_some : 0 < length here_shares
     stage_some =
-        let valid = All-contains IsValidStream case.streams s streams_are.each runs.member in
-        let cp = valid.cp.from in
+        let valid = All-contains IsSensibleStream case.streams s streams_are.each runs.member in
+        let cp = valid.sensible.cp.from in
         some_share here_shares s.cp (omega (arith, ints, cp)) stage_size
 
   pub stage_led : (number : ℕ) (s : Stream) → slice_get case.streams number ≡ Some s → (stage : LedStage) → IsIntervalStage case cuts streams_are number s stage

@@ -2,11 +2,12 @@
 use Rattle.std.proofs.Common.{◌≡◌, ◌∙◌, ◌<◌, ◌-◌, ◌+ℤ◌, ◌-ℤ◌, ◌*ℤ◌, ℕ, ℤ, pos, negsuc, ◌≤ℤ◌, ◌<ℤ◌, List, get_or, length, refl, sym, ap, arith}
 use Rattle.std.specs.Prelude.{unsigned_abs}
 use Rattle.std.proofs.lemmas.Int.{ints}
-use Rattle.stream_case.specs.Stream.{AreStreams, high_end, low_end}
+use Rattle.stream_case.specs.Stream.{high_end, low_end}
 use Rattle.stream_case.specs.declared.case.Case.{Case}
 use Rattle.stream_case.specs.declared.source.Side.{Side}
 use Rattle.stream_case.specs.declared.source.Side.TheVariants as side
 use Rattle.stream_case.specs.declared.stream.Stream.{Stream}
+use Rattle.design_lines.proofs.SensibleStreams.{AreSensibleStreams}
 use Rattle.fractions.specs.Rationals.{IsAtMost, IsBelow, Rational, minus, ratio, whole}
 use Rattle.fractions.proofs.Wholes.{ratio-multiple}
 use Rattle.design_lines.proofs.StageSizes.{IsOver}
@@ -29,7 +30,7 @@ size_is (pos n) above = refl
 size_is (negsuc n) above = absurd (omega (arith, ints, above))
 
 -- the temperature of a side at each heat from the lower cut to the higher one: the curve has that heat there, each stream that runs has it in its range, it changes by the heat over the flow, and it is a whole number over the flow
-pub record IsScale (of : Side) (streams : List Stream) (are : AreStreams streams) (low high flow : ℤ) (scale : ℤ → Rational) : Type 0 where
+pub record IsScale (of : Side) (streams : List Stream) (are : AreSensibleStreams streams) (low high flow : ℤ) (scale : ℤ → Rational) : Type 0 where
   pub heat : (q : ℤ) → low ≤ℤ q → q ≤ℤ high → curve_heat of streams (scale q) ≡ whole q
   pub range : (q : ℤ) → low ≤ℤ q → q ≤ℤ high → (r : Stream) → Runs of streams are low high r → IsAtMost (whole (low_end r)) (scale q) × IsAtMost (scale q) (whole (high_end r))
   pub change : (q p : ℤ) → minus (scale p) (scale q) ≡ ratio (p -ℤ q) (unsigned_abs flow)
@@ -37,7 +38,7 @@ pub record IsScale (of : Side) (streams : List Stream) (are : AreStreams streams
   pub over : (q : ℤ) → IsOver (unsigned_abs flow) (scale q)
 
 -- an interval in which a stream of the side runs has one
-pub interval_scale : (case : Case) (cuts : List ℤ) (are_cuts : AreCuts (spans_of side.Hot case) (spans_of side.Cold case) cuts) (at : ℕ) (later : 0 < at) (within : at < length cuts) (are : AreStreams case.streams) (of : Side) (r : Stream)
+pub interval_scale : (case : Case) (cuts : List ℤ) (are_cuts : AreCuts (spans_of side.Hot case) (spans_of side.Cold case) cuts) (at : ℕ) (later : 0 < at) (within : at < length cuts) (are : AreSensibleStreams case.streams) (of : Side) (r : Stream)
     → Runs of case.streams are (get_or cuts at (pos 0)) (get_or cuts (at - 1) (pos 0)) r
     → (scale : ℤ → Rational) × IsScale of case.streams are (get_or cuts at (pos 0)) (get_or cuts (at - 1) (pos 0)) (side_flow (get_or cuts at (pos 0)) (get_or cuts (at - 1) (pos 0)) (spans_of of case)) scale
 interval_scale case cuts are_cuts at later within are of r runs =

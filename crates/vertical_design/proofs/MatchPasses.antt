@@ -6,15 +6,14 @@ use Rattle.std.proofs.lemmas.Int.{ints}
 use Rattle.std.proofs.lemmas.List.{length-map}
 use Rattle.std.proofs.lemmas.List.Elements.{All-append, All-map, All-weaker}
 use Rattle.std.proofs.lemmas.Option.{same_Some, slice_get_within}
-use Rattle.stream_case.specs.Case.{IsComplete, IsStandard, side_of}
-use Rattle.stream_case.specs.Stream.{AreStreams}
+use Rattle.stream_case.specs.Case.{IsStandard, side_of}
 use Rattle.stream_case.specs.declared.case.Case.{Case}
 use Rattle.stream_case.specs.declared.source.Side.{Side}
 use Rattle.stream_case.specs.declared.source.Side.TheVariants as side
 use Rattle.stream_case.specs.declared.source.Source.{Source}
 use Rattle.stream_case.specs.declared.source.Source.TheVariants as source
 use Rattle.stream_case.specs.declared.stream.Stream.{Stream}
-use Rattle.stream_case.proofs.CompleteLemmas.{AreStreams-IsComplete}
+use Rattle.design_lines.proofs.SensibleStreams.{AreSensibleStreams, AreSensibleStreams-case, IsSensibleCase}
 use Rattle.fractions.specs.Rationals.{Rational}
 use Rattle.networks.specs.Lines.{Exchanger, exchangers_of}
 use Rattle.networks.specs.Shape.{HasShape, IsExchanger, Joins}
@@ -51,7 +50,7 @@ use Rattle.vertical_design.proofs.VerticalApproaches.{AllStayInRange, IsWithinRa
 -- ---- passes
 
 -- a stream comes into the interval of an exchanger's match at the temperature of the one cut, and leaves it at that of the other
-pub record RunsThrough (case : Case) (cuts : List ℤ) (are : AreStreams case.streams) (exchanger : ℕ) (s : Stream) (before after : Rational) : Type 0 where
+pub record RunsThrough (case : Case) (cuts : List ℤ) (are : AreSensibleStreams case.streams) (exchanger : ℕ) (s : Stream) (before after : Rational) : Type 0 where
   pub at : ℕ
   pub place : IsNumberIn (spans_of side.Hot case) (spans_of side.Cold case) cuts at exchanger
   pub scale : ℤ → Rational
@@ -60,7 +59,7 @@ pub record RunsThrough (case : Case) (cuts : List ℤ) (are : AreStreams case.st
   pub comes_in : before ≡ actual_at s.side (scale (entered_at s.side (lower_cut cuts at) (upper_cut cuts at))) s.contribution
   pub goes_out : after ≡ actual_at s.side (scale (left_at s.side (lower_cut cuts at) (upper_cut cuts at))) s.contribution
 
-module _ (case : Case) (cuts : List ℤ) (are : AreStreams case.streams) where
+module _ (case : Case) (cuts : List ℤ) (are : AreSensibleStreams case.streams) where
   abbrev pub RunsThroughInterval : ℕ → ℕ → Rational → Rational → Type 0
   RunsThroughInterval stream exchanger before after = (s : Stream) → slice_get case.streams stream ≡ Some s → RunsThrough case cuts are exchanger s before after
 
@@ -89,9 +88,9 @@ module _ (case : Case) (cuts : List ℤ) (are : AreStreams case.streams) where
 side_there : (case : Case) (of : Side) (a : Source) (stream : ℕ) → side_of case a ≡ Some of → a ≡ source.Stream stream → (s : Stream) × (slice_get case.streams stream ≡ Some s) × (s.side ≡ of)
 side_there case of a stream on is = found (λ (s : Stream). s.side) of (slice_get case.streams stream) (sym (ap (side_of case) is) ∙ on)
 
-module _ (case : Case) (cuts : List ℤ) (complete : IsComplete case) (standard : IsStandard case) (are_cuts : AreCuts (spans_of side.Hot case) (spans_of side.Cold case) cuts) (all : AreCourses case cuts (AreStreams-IsComplete case complete)) (shape : HasShape case (network_of case (intervals_between case cuts))) where
-  abbrev are : AreStreams case.streams
-  are = AreStreams-IsComplete case complete
+module _ (case : Case) (cuts : List ℤ) (complete : IsSensibleCase case) (standard : IsStandard case) (are_cuts : AreCuts (spans_of side.Hot case) (spans_of side.Cold case) cuts) (all : AreCourses case cuts (AreSensibleStreams-case case complete)) (shape : HasShape case (network_of case (intervals_between case cuts))) where
+  abbrev are : AreSensibleStreams case.streams
+  are = AreSensibleStreams-case case complete
 
   abbrev network : Network
   network = network_of case (intervals_between case cuts)

@@ -4,12 +4,11 @@ use Rattle.std.specs.List.{enumerate_from}
 use Rattle.std.specs.Prelude.{Contains}
 use Rattle.std.proofs.lemmas.List.{length-map}
 use Rattle.std.proofs.lemmas.Option.{same_Some}
-use Rattle.stream_case.specs.Case.{IsComplete, IsStandard}
-use Rattle.stream_case.specs.Stream.{AreStreams}
+use Rattle.stream_case.specs.Case.{IsStandard}
 use Rattle.stream_case.specs.declared.case.Case.{Case}
 use Rattle.stream_case.specs.declared.source.Side.TheVariants as side
 use Rattle.stream_case.specs.declared.stream.Stream.{Stream}
-use Rattle.stream_case.proofs.CompleteLemmas.{AreStreams-IsComplete}
+use Rattle.design_lines.proofs.SensibleStreams.{AreSensibleStreams, AreSensibleStreams-case, IsSensibleCase}
 use Rattle.networks.specs.Lines.{own_branches}
 use Rattle.networks.specs.Shape.{HasShape}
 use Rattle.networks.specs.declared.network.Network.{Network}
@@ -35,13 +34,13 @@ intervals_between case cuts = intervals_of (spans_of side.Hot case) (spans_of si
 -- ---- the courses of all streams
 
 -- for each stream, in their order, the course that it is led through
-pub record AreCourses (case : Case) (cuts : List ℤ) (are : AreStreams case.streams) : Type 0 where
+pub record AreCourses (case : Case) (cuts : List ℤ) (are : AreSensibleStreams case.streams) : Type 0 where
   pub courses : List (List LedStage)
   pub along : courses_along courses ≡ courses_of case (intervals_between case cuts)
   pub each : (k : ℕ) (course : List LedStage) → slice_get courses k ≡ Some course → (s : Stream) × (slice_get case.streams k ≡ Some s) × IsLedCourse case cuts are k s course
 
 -- the same of the streams from number n on
-record AreCoursesFrom (case : Case) (cuts : List ℤ) (are : AreStreams case.streams) (n : ℕ) (ss : List Stream) : Type 0 where
+record AreCoursesFrom (case : Case) (cuts : List ℤ) (are : AreSensibleStreams case.streams) (n : ℕ) (ss : List Stream) : Type 0 where
   courses : List (List LedStage)
   along : courses_along courses ≡ map (course_of (intervals_between case cuts)) (enumerate_from n ss)
   each : (k : ℕ) (course : List LedStage) → slice_get courses k ≡ Some course → (s : Stream) × (slice_get ss k ≡ Some s) × IsLedCourse case cuts are (n + k) s course
@@ -59,7 +58,7 @@ later_there case n s ss there i t at = let same : n + 1 + i ≡ n + suc i = omeg
 all_there : (case : Case) → AreStreamsFrom case 0 case.streams
 all_there case i s at = let same : 0 + i ≡ i = omega arith in ap (slice_get case.streams) same ∙ at
 
-module _ (case : Case) (cuts : List ℤ) (are : AreStreams case.streams) where
+module _ (case : Case) (cuts : List ℤ) (are : AreSensibleStreams case.streams) where
   no_courses : (n : ℕ) → AreCoursesFrom case cuts are n []
   no_courses n = record { courses = []; along = refl; each = λ k course at. cc at }
 
@@ -80,9 +79,9 @@ module _ (case : Case) (cuts : List ℤ) (are : AreStreams case.streams) where
           let further : n + 1 + k ≡ n + suc k = omega arith in
           (r, there, subst (λ m. IsLedCourse case cuts are m r c) further one)
 
-module _ (case : Case) (cuts : List ℤ) (complete : IsComplete case) (standard : IsStandard case) (are_cuts : AreCuts (spans_of side.Hot case) (spans_of side.Cold case) cuts) where
-  abbrev are : AreStreams case.streams
-  are = AreStreams-IsComplete case complete
+module _ (case : Case) (cuts : List ℤ) (complete : IsSensibleCase case) (standard : IsStandard case) (are_cuts : AreCuts (spans_of side.Hot case) (spans_of side.Cold case) cuts) where
+  abbrev are : AreSensibleStreams case.streams
+  are = AreSensibleStreams-case case complete
 
   next_courses : (n : ℕ) (s : Stream) (ss : List Stream) → slice_get case.streams n ≡ Some s → AreCoursesFrom case cuts are (n + 1) ss → AreCoursesFrom case cuts are n (s ∷ ss)
   next_courses n s ss here rest = let (course, is) = led_course case cuts complete standard are_cuts n s here in one_more case cuts are n s ss course is rest
@@ -139,7 +138,7 @@ module _ (case : Case) (cuts : List ℤ) (complete : IsComplete case) (standard 
 
     -- with the shape of a network, they are its valuation, and each end has its whole stream at its target
     pub network_valued : (shape : HasShape case network) → AreValues case network shape (courses_values all.courses)
-    network_valued shape = values_made case network shape (courses_values all.courses) complete network_makes
+    network_valued shape = values_made case network shape (courses_values all.courses) complete.complete network_makes
 
     length-courses : length all.courses ≡ length case.streams
     length-courses = sym (length-map all.courses shares_along) ∙ ap length all.along ∙ length-courses_of case (intervals_between case cuts)

@@ -3,11 +3,11 @@ use Rattle.std.proofs.Common.{◌<◌, ◌≤◌, ◌+◌, ◌*◌, ◌^◌, ◌
 use Rattle.std.proofs.Math.Nat.{mul-le-mul, mul-le-mul_right}
 use Rattle.std.proofs.lemmas.List.Elements.{All-append, All-head, All-nil, All-tail, All-weaker}
 use Rattle.sums.proofs.OrderLemmas.{AllPairs-head, AllPairs-tail}
-use Rattle.stream_case.specs.Case.{IsComplete, IsStandard}
+use Rattle.stream_case.specs.Case.{IsStandard}
 use Rattle.stream_case.specs.declared.case.Case.{Case}
 use Rattle.stream_case.specs.declared.source.Side.TheVariants as side
 use Rattle.stream_case.proofs.CaseLemmas.{length-AreStreams}
-use Rattle.stream_case.proofs.CompleteLemmas.{AreStreams-IsComplete}
+use Rattle.design_lines.proofs.SensibleStreams.{AreSensibleStreams-case, IsSensibleCase}
 use Rattle.networks.specs.Shape.{HasShape, KeepsCounts}
 use Rattle.design_lines.specs.Drawn.{all_branches, HasFewLines}
 use Rattle.vertical_design.specs.Axis.{AreCuts, spans_of}
@@ -48,7 +48,7 @@ pub record IsBuilt (case : Case) (intervals : List Interval) : Type 0 where
   pub counts : KeepsCounts (network_of case intervals)
   pub few_lines : HasFewLines (network_of case intervals)
 
-built : (case : Case) (cuts : List ℤ) → IsComplete case → IsStandard case → AreCuts (spans_of side.Hot case) (spans_of side.Cold case) cuts → IsBuilt case (intervals_of (spans_of side.Hot case) (spans_of side.Cold case) cuts)
+built : (case : Case) (cuts : List ℤ) → IsSensibleCase case → IsStandard case → AreCuts (spans_of side.Hot case) (spans_of side.Cold case) cuts → IsBuilt case (intervals_of (spans_of side.Hot case) (spans_of side.Cold case) cuts)
 unfolding network_of
 built case cuts complete standard are =
     let hot = spans_of side.Hot case in
@@ -60,7 +60,7 @@ built case cuts complete standard are =
     let cuts_few = mul-le-mul_right most (few_cuts hot cold cuts are_hot are_cold are) in
     let counts = few_intervals hot cold are_hot are_cold cuts in
     let few : length (matches_of intervals) ≤ 4 * MOST_SPANS * most = omega (arith, counts.all, cuts_few) in
-    let streams = length-AreStreams case.streams (AreStreams-IsComplete case complete) in
+    let streams = length-AreStreams case.streams (AreSensibleStreams-case case complete).are in
     let branches = few_all case intervals in
     let product = mul-le-mul streams few in
     let can : CanBeDrawn case intervals = record {
@@ -74,10 +74,10 @@ built case cuts complete standard are =
       numbers = All-weaker (λ (i : Interval). i.first + length i.matches ≤ length cuts * most) (λ i. i.first + length i.matches < 2 ^ 32) (λ i le. omega (arith, le, cuts_few)) intervals counts.each;
       streams = omega (arith, streams);
       fits = omega (arith, branches, product, streams);
-      shape = HasShape-matches case intervals can complete;
+      shape = HasShape-matches case intervals can complete.complete;
       counts = KeepsCounts-matches case intervals can;
       few_lines = few-lines case intervals can;
     }
 
-pub is_built : (case : Case) (intervals : List Interval) → IsComplete case → IsStandard case → AreIntervals case intervals → IsBuilt case intervals
+pub is_built : (case : Case) (intervals : List Interval) → IsSensibleCase case → IsStandard case → AreIntervals case intervals → IsBuilt case intervals
 is_built case intervals complete standard (cuts, are, made) = subst (IsBuilt case) (sym made) (built case cuts complete standard are)

@@ -1,10 +1,11 @@
 -- The network of the matches is valid and vertical: over the values of its courses each stream ends once in full, and each exchanger joins the two curves at one heat, and so keeps its approach.
 use Rattle.std.proofs.Common.{ℤ, List, All, get_or, refl, sym, ap, subst}
-use Rattle.stream_case.specs.Case.{IsComplete, IsStandard, is_forbidden}
+use Rattle.stream_case.specs.Case.{IsStandard, is_forbidden}
 use Rattle.stream_case.specs.declared.case.Case.{Case}
 use Rattle.stream_case.specs.declared.case.Forbid.{Forbid}
 use Rattle.stream_case.specs.declared.source.Side.TheVariants as side
 use Rattle.stream_case.proofs.CompleteLemmas.{HasValidStreams-IsComplete}
+use Rattle.design_lines.proofs.SensibleStreams.{IsSensibleCase}
 use Rattle.networks.specs.Lines.{exchangers_of}
 use Rattle.networks.specs.Shape.{HasShape}
 use Rattle.networks.specs.declared.network.Network.{Network}
@@ -22,7 +23,7 @@ use Rattle.vertical_design.proofs.VerticalApproaches.{vertical_keeps_approaches}
 all_permitted : (case : Case) (network : Network) → IsStandard case → All (IsPermitted case) (exchangers_of network.lines)
 all_permitted case network standard k e within = ap (λ (fs : List Forbid). is_forbidden fs (get_or (exchangers_of network.lines) k e).hot (get_or (exchangers_of network.lines) k e).cold) standard.free
 
-module _ (case : Case) (complete : IsComplete case) (standard : IsStandard case) where
+module _ (case : Case) (complete : IsSensibleCase case) (standard : IsStandard case) where
   valid_between : (cuts : List ℤ) → AreCuts (spans_of side.Hot case) (spans_of side.Cold case) cuts → HasShape case (network_of case (intervals_between case cuts)) → IsValidNetwork case (network_of case (intervals_between case cuts))
   valid_between cuts are_cuts shape =
       let network = network_of case (intervals_between case cuts) in
@@ -33,7 +34,7 @@ module _ (case : Case) (complete : IsComplete case) (standard : IsStandard case)
         values = values;
         valuation = valued.valuation;
         ended = record { full = valued.full; each = streams_ended case cuts complete standard are_cuts all };
-        approaches = vertical_keeps_approaches case network values (HasValidStreams-IsComplete case complete) standard shape.exchangers.each (are_vertical case cuts complete standard are_cuts all shape) (stay_in_range case cuts complete standard are_cuts all shape);
+        approaches = vertical_keeps_approaches case network values (HasValidStreams-IsComplete case complete.complete) standard shape.exchangers.each (are_vertical case cuts complete standard are_cuts all shape) (stay_in_range case cuts complete standard are_cuts all shape);
         permitted = all_permitted case network standard;
         ranges = λ index u here. utilities_kept case (intervals_between case cuts) complete standard (cuts, are_cuts, refl) index u here;
       }

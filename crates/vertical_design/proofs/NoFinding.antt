@@ -3,13 +3,12 @@ use Rattle.std.proofs.Common.{◌++◌, ℕ, ℤ, List, [], All, Some, get_or, s
 use Rattle.std.proofs.lemmas.List.{length-map}
 use Rattle.std.proofs.lemmas.List.Elements.{All-append, All-map, All-weaker}
 use Rattle.std.proofs.lemmas.Option.{slice_get-get_or}
-use Rattle.stream_case.specs.Case.{IsComplete, IsStandard}
-use Rattle.stream_case.specs.Stream.{AreStreams, IsValidStream}
+use Rattle.stream_case.specs.Case.{IsStandard}
 use Rattle.stream_case.specs.declared.case.Case.{Case}
 use Rattle.stream_case.specs.declared.source.Side.{Side}
 use Rattle.stream_case.specs.declared.source.Side.TheVariants as side
 use Rattle.stream_case.specs.declared.utility.Utility.{Utility}
-use Rattle.stream_case.proofs.CompleteLemmas.{AreStreams-IsComplete}
+use Rattle.design_lines.proofs.SensibleStreams.{AreSensibleStreams, AreSensibleStreams-case, IsSensibleCase, IsSensibleStream}
 use Rattle.fractions.specs.Rationals.{IsWithinLimits, Rational}
 use Rattle.networks.specs.Shape.{HasShape}
 use Rattle.networks.specs.declared.network.Line.{Line}
@@ -39,15 +38,15 @@ use Rattle.vertical_design.proofs.UtilityHeats.{has_groups, heats_whole, most_fl
 
 -- ---- the sums of a utility
 
-sums_formed : (case : Case) (intervals : List Interval) → IsComplete case → IsStandard case → AreIntervals case intervals → (index : ℕ) (u : Utility) → slice_get case.utilities index ≡ Some u → AreFormed (utility_items_at (network_of case intervals) (index, u))
+sums_formed : (case : Case) (intervals : List Interval) → IsSensibleCase case → IsStandard case → AreIntervals case intervals → (index : ℕ) (u : Utility) → slice_get case.utilities index ≡ Some u → AreFormed (utility_items_at (network_of case intervals) (index, u))
 sums_formed case intervals complete standard are index u here =
     let has = has_groups case complete standard index u here intervals are in
     let few = has.few in
     grouped_utility_formed most_flow most_width (omega arith) (network_of case intervals) index u has.groups has.duties (omega (arith, few)) has.each
 
-module _ (case : Case) (cuts : List ℤ) (complete : IsComplete case) (standard : IsStandard case) (are_cuts : AreCuts (spans_of side.Hot case) (spans_of side.Cold case) cuts) where
-  abbrev streams_valid : AreStreams case.streams
-  streams_valid = AreStreams-IsComplete case complete
+module _ (case : Case) (cuts : List ℤ) (complete : IsSensibleCase case) (standard : IsStandard case) (are_cuts : AreCuts (spans_of side.Hot case) (spans_of side.Cold case) cuts) where
+  abbrev streams_valid : AreSensibleStreams case.streams
+  streams_valid = AreSensibleStreams-case case complete
 
   abbrev drawn_network : Network
   drawn_network = network_of case (intervals_between case cuts)
@@ -58,7 +57,7 @@ module _ (case : Case) (cuts : List ℤ) (complete : IsComplete case) (standard 
     fine_course : (k : ℕ) (course : List LedStage) → slice_get all.courses k ≡ Some course → CourseHolds IsFine course
     fine_course k course at =
         let (s, here, is) = all.each k course at in
-        let valid = all_at IsValidStream case.streams k s streams_valid.each here in
+        let valid = all_at IsSensibleStream case.streams k s streams_valid.each here in
         course_holds IsFine course (λ j stage within.
         let own = get_or course j stage in
         let through = is.each j stage within in
@@ -107,10 +106,10 @@ module _ (case : Case) (cuts : List ℤ) (complete : IsComplete case) (standard 
       let all = network_courses case cuts complete standard are_cuts in
       let intervals = intervals_between case cuts in
       let are : AreIntervals case intervals = (cuts, are_cuts, refl) in
-      no_finding_from_room case drawn_network (network_values case cuts complete standard are_cuts all) complete shape (network_valued case cuts complete standard are_cuts all shape).valuation valid (has_room all) (heats_whole case intervals complete standard are)
+      no_finding_from_room case drawn_network (network_values case cuts complete standard are_cuts all) complete.complete shape (network_valued case cuts complete standard are_cuts all shape).valuation valid (has_room all) (heats_whole case intervals complete standard are)
       (sums_formed case intervals complete standard are)
 
-pub network_has_no_finding : (case : Case) (intervals : List Interval) → IsComplete case → IsStandard case → AreIntervals case intervals → HasShape case (network_of case intervals) → IsValidNetwork case (network_of case intervals) → HasNoFinding case (network_of case intervals)
+pub network_has_no_finding : (case : Case) (intervals : List Interval) → IsSensibleCase case → IsStandard case → AreIntervals case intervals → HasShape case (network_of case intervals) → IsValidNetwork case (network_of case intervals) → HasNoFinding case (network_of case intervals)
 network_has_no_finding case intervals complete standard (cuts, are_cuts, made) shape valid =
     subst (λ (is : List Interval). HasNoFinding case (network_of case is)) (sym made)
     (no_finding_between case cuts complete standard are_cuts (subst (λ (is : List Interval). HasShape case (network_of case is)) made shape) (subst (λ (is : List Interval). IsValidNetwork case (network_of case is)) made valid))

@@ -8,11 +8,12 @@ use Rattle.sums.proofs.IntegerLemmas.{strictly}
 use Rattle.sums.proofs.ProductLemmas.{*ℤ--ℤ, *ℤ-≤ℤ_left, *ℤ-≤ℤ_right, *ℤ_assoc, +ℤ-*ℤ, -ℤ-*ℤ, product_positive, zero_times}
 use Rattle.sums.proofs.SumLemmas.{int_sum_by-equal}
 use Rattle.stream_case.specs.Source.{same_side}
-use Rattle.stream_case.specs.Stream.{IsValidStream, distance_above, high_end, low_end}
+use Rattle.stream_case.specs.Stream.{distance_above, high_end, low_end}
 use Rattle.stream_case.specs.declared.source.Side.{Side}
 use Rattle.stream_case.specs.declared.source.Side.TheVariants as side
 use Rattle.stream_case.specs.declared.stream.Stream.{Stream}
 use Rattle.stream_case.proofs.EndLemmas.{AreEnds-IsValidStream}
+use Rattle.design_lines.proofs.SensibleStreams.{IsSensibleStream}
 use Rattle.fractions.specs.Integers.{pos_above}
 use Rattle.fractions.specs.Rationals.{IsAtMost, minus, plus, ratio, rational_zero, times, whole}
 use Rattle.fractions.proofs.Comparisons.{at_most-ratio, not_negative-ratio}
@@ -105,27 +106,27 @@ curve_parts-whole d of streams t some =
 
 module _ (d : ℕ) where
   -- the ends of a stream in parts
-  pub ends_order : (s : Stream) → IsValidStream s → (low_end s *ℤ pos d) ≤ℤ (high_end s *ℤ pos d)
-  ends_order s h = let ends = AreEnds-IsValidStream s h in *ℤ-≤ℤ_right (pos d) (low_end s) (high_end s) (omega (arith, ints)) (omega (arith, ints, ends.order))
+  pub ends_order : (s : Stream) → IsSensibleStream s → (low_end s *ℤ pos d) ≤ℤ (high_end s *ℤ pos d)
+  ends_order s h = let ends = AreEnds-IsValidStream s h.valid in *ℤ-≤ℤ_right (pos d) (low_end s) (high_end s) (omega (arith, ints)) (omega (arith, ints, ends.order))
 
-  parts_rise : (n m : ℤ) → n ≤ℤ m → (s : Stream) → IsValidStream s → parts_below d n s ≤ℤ parts_below d m s
+  parts_rise : (n m : ℤ) → n ≤ℤ m → (s : Stream) → IsSensibleStream s → parts_below d n s ≤ℤ parts_below d m s
   parts_rise n m upto s h =
-      let cp = h.cp.from in
+      let cp = h.sensible.cp.from in
       let order = ends_order s h in
       *ℤ-≤ℤ_left s.cp (length_below (low_end s *ℤ pos d) (high_end s *ℤ pos d) n) (length_below (low_end s *ℤ pos d) (high_end s *ℤ pos d) m) (omega (arith, ints, cp)) (omega (arith, ints, clamps, order, upto))
 
-  pub curve_rises : (of : Side) (streams : List Stream) (n m : ℤ) → All IsValidStream streams → n ≤ℤ m → curve_parts d of streams n ≤ℤ curve_parts d of streams m
+  pub curve_rises : (of : Side) (streams : List Stream) (n m : ℤ) → All IsSensibleStream streams → n ≤ℤ m → curve_parts d of streams n ≤ℤ curve_parts d of streams m
   curve_rises of streams n m valid upto =
-      let sums = sum_side-le of (parts_below d n) (parts_below d m) streams (All-weaker IsValidStream (λ s. parts_below d n s ≤ℤ parts_below d m s) (parts_rise n m upto) streams valid) in
+      let sums = sum_side-le of (parts_below d n) (parts_below d m) streams (All-weaker IsSensibleStream (λ s. parts_below d n s ≤ℤ parts_below d m s) (parts_rise n m upto) streams valid) in
       omega (arith, ints, sums)
 
   -- strictly where a stream of the side runs
-  pub curve_rises_inside : (of : Side) (streams : List Stream) (n m : ℤ) (r : Stream) → All IsValidStream streams → Contains streams r → r.side ≡ of → (low_end r *ℤ pos d) ≤ℤ n → n <ℤ m → m ≤ℤ (high_end r *ℤ pos d)
+  pub curve_rises_inside : (of : Side) (streams : List Stream) (n m : ℤ) (r : Stream) → All IsSensibleStream streams → Contains streams r → r.side ≡ of → (low_end r *ℤ pos d) ≤ℤ n → n <ℤ m → m ≤ℤ (high_end r *ℤ pos d)
       → curve_parts d of streams n <ℤ curve_parts d of streams m
   curve_rises_inside of streams n m r valid member on_side from less upto =
       let term = λ (x : ℤ) (s : Stream). if same_side s.side of then parts_below d x s else pos 0 in
-      let rise = All-weaker IsValidStream (λ s. term n s ≤ℤ term m s) (λ s h. either (same_side s.side of) (parts_rise n m (omega (arith, ints, less)) s h)) streams valid in
-      let h = All-contains IsValidStream streams r valid member in
+      let rise = All-weaker IsSensibleStream (λ s. term n s ≤ℤ term m s) (λ s h. either (same_side s.side of) (parts_rise n m (omega (arith, ints, less)) s h)) streams valid in
+      let h = All-contains IsSensibleStream streams r valid member in
       let at_most = curve_rises of streams n m valid (omega (arith, ints, less)) in
       strictly (curve_parts d of streams n) (curve_parts d of streams m) at_most
       (λ same.
@@ -134,7 +135,7 @@ module _ (d : ℕ) where
       let own : parts_below d n r ≡ parts_below d m r = chosen (same_side r.side of) (on r.side of on_side) equal in
       let here = length_below (low_end r *ℤ pos d) (high_end r *ℤ pos d) n in
       let there = length_below (low_end r *ℤ pos d) (high_end r *ℤ pos d) m in
-      let cp = h.cp.from in
+      let cp = h.sensible.cp.from in
       let more = product_positive r.cp (there -ℤ here) (omega (arith, ints, cp)) (omega (arith, ints, clamps, from, less, upto)) in
       let apart = *ℤ--ℤ r.cp there here in
       omega (arith, ints, own, more, apart))

@@ -8,9 +8,10 @@ use Rattle.sums.proofs.IntegerLemmas.{int_le-false, int_le-from}
 use Rattle.sums.proofs.ProductLemmas.{*ℤ-<ℤ_right, *ℤ-≤ℤ_right, *ℤ_cancel_right, -ℤ-*ℤ, zero_times}
 use Rattle.sums.proofs.SumLemmas.{int_sum_by-same}
 use Rattle.stream_case.specs.Source.{same_side}
-use Rattle.stream_case.specs.Stream.{AreStreams, high_end, low_end}
+use Rattle.stream_case.specs.Stream.{high_end, low_end}
 use Rattle.stream_case.specs.declared.source.Side.{Side}
 use Rattle.stream_case.specs.declared.stream.Stream.{Stream}
+use Rattle.design_lines.proofs.SensibleStreams.{AreSensibleStreams}
 use Rattle.fractions.specs.Integers.{pos_above}
 use Rattle.fractions.specs.Rationals.{IsAtMost, IsBelow, Rational, minus, ratio, whole}
 use Rattle.fractions.proofs.Comparisons.{at_most-ratio_whole, at_most-whole_ratio, below-ratio}
@@ -23,7 +24,7 @@ use Rattle.vertical_design.proofs.CurveOrder.{IsOutside, IsStraight, curve_strai
 use Rattle.vertical_design.proofs.CurveSegments.{EndsPlaced, HasNoEnd, IsPlaced, IsSegment, Runs}
 use Rattle.vertical_design.proofs.ScaledCurve.{curve_heat-ratio, curve_parts, curve_parts-whole}
 
-module _ (of : Side) (streams : List Stream) (are : AreStreams streams) (low high : ℤ) (gap : low <ℤ high) where
+module _ (of : Side) (streams : List Stream) (are : AreSensibleStreams streams) (low high : ℤ) (gap : low <ℤ high) where
   -- the flow of a stream that runs between the cuts, and of all of them
   abbrev pub running_flow : Stream → ℤ
   running_flow s = if int_le (heat_at of streams (low_end s)) low && int_le high (heat_at of streams (high_end s)) then s.cp else pos 0

@@ -13,7 +13,7 @@ use Rattle.sums.proofs.SumLemmas.{int_sum_by-append, int_sum_by-map, int_sum_by-
 use Rattle.stream_case.specs.Case.{IsStandard, standard_utility}
 use Rattle.stream_case.specs.Limits.{IsBetween}
 use Rattle.stream_case.specs.Source.{same_side}
-use Rattle.stream_case.specs.Stream.{AreStreams, IsValidStream, heat_of, high_end, low_end, stream_ends}
+use Rattle.stream_case.specs.Stream.{heat_of, high_end, low_end, stream_ends}
 use Rattle.stream_case.specs.declared.case.Case.{Case}
 use Rattle.stream_case.specs.declared.limits.TheConstants.{ALL_STREAMS, HIGHEST_SHIFTED, LOWEST_SHIFTED}
 use Rattle.stream_case.specs.declared.source.Side.{Side}
@@ -22,7 +22,8 @@ use Rattle.stream_case.specs.declared.stream.Stream.{Stream}
 use Rattle.stream_case.specs.declared.utility.Utility.{Utility}
 use Rattle.stream_case.proofs.CaseLemmas.{length-AreStreams}
 use Rattle.stream_case.proofs.EndLemmas.{AreEnds-IsValidStream, each_end}
-use Rattle.stream_case.proofs.HeatLemmas.{heat_above-between}
+use Rattle.stream_case.proofs.HeatLemmas.{heat_over-between}
+use Rattle.design_lines.proofs.SensibleStreams.{AreSensibleStreams, IsSensibleStream}
 use Rattle.curves.specs.Below.{length_below}
 use Rattle.problem_table.specs.Sides.{sum_side}
 use Rattle.problem_table.proofs.DeficitLemmas.{cold_target-within, hot_target-within}
@@ -41,30 +42,30 @@ use Rattle.vertical_design.proofs.SpanSources.{utility_place, utility_span_of}
 
 -- ---- a whole curve
 
-module _ (of : Side) (streams : List Stream) (are : AreStreams streams) where
-  nothing_below : (t : ℤ) (s : Stream) → IsValidStream s → t ≤ℤ low_end s → heat_below t s ≡ pos 0
+module _ (of : Side) (streams : List Stream) (are : AreSensibleStreams streams) where
+  nothing_below : (t : ℤ) (s : Stream) → IsSensibleStream s → t ≤ℤ low_end s → heat_below t s ≡ pos 0
   nothing_below t s valid under =
-      let order = (AreEnds-IsValidStream s valid).order in
+      let order = (AreEnds-IsValidStream s valid.valid).order in
       ap (λ l. s.cp *ℤ l) {x = length_below (low_end s) (high_end s) t} {y = pos 0} (omega (arith, ints, clamps, under, order)) ∙ *ℤ-zero s.cp
 
   -- at the lowest temperature it begins, and at the highest it has all heat
   curve_begins : heat_at of streams LOWEST_SHIFTED ≡ begin_of of streams
   curve_begins =
-      let none = sum_side-zero of (heat_below LOWEST_SHIFTED) streams (All-weaker IsValidStream (λ s. heat_below LOWEST_SHIFTED s ≡ pos 0) (λ s valid. nothing_below LOWEST_SHIFTED s valid (AreEnds-IsValidStream s valid).from) streams are.each) in
+      let none = sum_side-zero of (heat_below LOWEST_SHIFTED) streams (All-weaker IsSensibleStream (λ s. heat_below LOWEST_SHIFTED s ≡ pos 0) (λ s valid. nothing_below LOWEST_SHIFTED s valid (AreEnds-IsValidStream s valid.valid).from) streams are.each) in
       omega (arith, ints, none)
 
   curve_ends : heat_at of streams HIGHEST_SHIFTED ≡ begin_of of streams +ℤ sum_side of heat_of streams
   curve_ends =
       ap (λ z. begin_of of streams +ℤ z)
-      (sum_side-same of (heat_below HIGHEST_SHIFTED) heat_of streams (All-weaker IsValidStream (λ s. heat_below HIGHEST_SHIFTED s ≡ heat_of s) (λ s valid. heat_below-all HIGHEST_SHIFTED s valid (AreEnds-IsValidStream s valid).upto) streams are.each))
+      (sum_side-same of (heat_below HIGHEST_SHIFTED) heat_of streams (All-weaker IsSensibleStream (λ s. heat_below HIGHEST_SHIFTED s ≡ heat_of s) (λ s valid. heat_below-all HIGHEST_SHIFTED s valid (AreEnds-IsValidStream s valid.valid).upto) streams are.each))
 
   -- all of it lies between
   pub on_curve : (t : ℤ) → IsBetween (begin_of of streams) (begin_of of streams +ℤ sum_side of heat_of streams) (heat_at of streams t)
   on_curve t =
-      let few : length streams ≤ ALL_STREAMS = length-AreStreams streams are in
-      let some = (sum_side-heat of (heat_below t) (heat_below-between t) streams are.each few).from in
+      let few : length streams ≤ ALL_STREAMS = length-AreStreams streams are.are in
+      let some = (sum_side-heat of (heat_below t) (heat_below-between t) streams are.are.each few).from in
       let most = sum_side-le of (heat_below t) heat_of streams
-      (All-weaker IsValidStream (λ s. heat_below t s ≤ℤ heat_of s) (λ s valid. let parts = below_and_above t s valid in let rest = (heat_above-between t s valid).from in omega (arith, ints, parts, rest)) streams are.each) in
+      (All-weaker IsSensibleStream (λ s. heat_below t s ≤ℤ heat_of s) (λ s valid. let parts = below_and_above t s valid in let rest = (heat_over-between false t s valid.valid).from in omega (arith, ints, parts, rest)) streams are.each) in
       record { from = omega (arith, ints, some); upto = omega (arith, ints, most) }
 
   -- ---- what runs between two places of the curve
@@ -167,10 +168,10 @@ pub record IsAxis (streams : List Stream) : Type 0 where
   pub cold_end : begin_of side.Cold streams +ℤ sum_side side.Cold heat_of streams ≡ utility_to side.Hot streams
   pub apart : utility_to side.Cold streams ≤ℤ utility_from side.Hot streams
 
-pub is_axis : (streams : List Stream) → AreStreams streams → IsAxis streams
+pub is_axis : (streams : List Stream) → AreSensibleStreams streams → IsAxis streams
 is_axis streams are =
-    let hot = hot_target-within streams are in
-    let cold = cold_target-within streams are in
+    let hot = hot_target-within streams are.are in
+    let cold = cold_target-within streams are.are in
     let hot_least = hot.from in
     let cold_least = cold.from in
     let cold_most = cold.upto in
@@ -189,7 +190,7 @@ utility_order side.Cold streams axis = axis.cold_order
 abbrev pub IsOnAxis : List Stream → ℤ → Type 0
 IsOnAxis streams x = IsBetween (pos 0) (utility_to side.Hot streams) x
 
-curve_on_axis : (of : Side) (streams : List Stream) (t : ℤ) → AreStreams streams → IsOnAxis streams (heat_at of streams t)
+curve_on_axis : (of : Side) (streams : List Stream) (t : ℤ) → AreSensibleStreams streams → IsOnAxis streams (heat_at of streams t)
 curve_on_axis of streams t are = by of (on_curve of streams are t) (is_axis streams are)
   where
     by : (d : Side) → IsBetween (begin_of d streams) (begin_of d streams +ℤ sum_side d heat_of streams) (heat_at d streams t) → IsAxis streams → IsOnAxis streams (heat_at d streams t)
@@ -241,7 +242,7 @@ pub standard-side : (of : Side) (case : Case) → (standard_utility of case).sid
 standard-side side.Hot case = refl
 standard-side side.Cold case = refl
 
-module _ (case : Case) (cuts : List ℤ) (are_cuts : AreCuts (spans_of side.Hot case) (spans_of side.Cold case) cuts) (are : AreStreams case.streams) where
+module _ (case : Case) (cuts : List ℤ) (are_cuts : AreCuts (spans_of side.Hot case) (spans_of side.Cold case) cuts) (are : AreSensibleStreams case.streams) where
   -- ---- the cuts
 
   span_ends : (of : Side) → All (IsOnAxis case.streams) (ends_of (spans_of of case))

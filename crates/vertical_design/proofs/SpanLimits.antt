@@ -9,21 +9,21 @@ use Rattle.sums.specs.Sum.{int_sum_by}
 use Rattle.sums.proofs.CountLemmas.{count_by-cons}
 use Rattle.sums.proofs.ProductLemmas.{*ℤ-≤ℤ_left}
 use Rattle.sums.proofs.SumLemmas.{int_sum_by-at_most}
-use Rattle.stream_case.specs.Case.{IsComplete, IsStandard, standard_utility}
-use Rattle.stream_case.specs.Limits.{IsBetween}
+use Rattle.stream_case.specs.Case.{IsStandard, standard_utility}
+use Rattle.stream_case.specs.Limits.{IsBetween, IsSensibleHeat, IsSensiblesHeat}
 use Rattle.stream_case.specs.Source.{same_side}
-use Rattle.stream_case.specs.Stream.{AreStreams, IsValidStream, count_on, heat_of, high_end, low_end}
+use Rattle.stream_case.specs.Stream.{count_on, heat_of, high_end, low_end}
 use Rattle.stream_case.specs.declared.case.Case.{Case}
-use Rattle.stream_case.specs.declared.limits.TheConstants.{ALL_STREAMS_HEAT}
+use Rattle.stream_case.specs.declared.limits.TheConstants.{ALL_SENSIBLE_HEAT}
 use Rattle.stream_case.specs.declared.source.Side.{Side}
 use Rattle.stream_case.specs.declared.source.Side.TheVariants as side
 use Rattle.stream_case.specs.declared.source.Source.TheVariants as source
 use Rattle.stream_case.specs.declared.stream.Stream.{Stream}
 use Rattle.stream_case.specs.declared.utility.Utility.{Utility}
 use Rattle.stream_case.proofs.CaseLemmas.{length-AreStreams}
-use Rattle.stream_case.proofs.CompleteLemmas.{AreStreams-IsComplete}
 use Rattle.stream_case.proofs.EndLemmas.{AreEnds-IsValidStream}
-use Rattle.stream_case.proofs.HeatLemmas.{heat_of-between}
+use Rattle.stream_case.proofs.HeatLemmas.{heat-between, heat_of-between, heat_of-sensible, range-length}
+use Rattle.design_lines.proofs.SensibleStreams.{AreSensibleStreams, AreSensibleStreams-case, IsSensibleCase, IsSensibleStream}
 use Rattle.curves.specs.Below.{length_below}
 use Rattle.problem_table.specs.Deficit.{cold_target, hot_target}
 use Rattle.problem_table.specs.Sides.{sum_side}
@@ -46,42 +46,46 @@ both_sides f (s ∷ ss) = by s.side (both_sides f ss)
     by side.Hot rest = omega (arith, ints, rest)
     by side.Cold rest = omega (arith, ints, rest)
 
-all_within : {m : ℕ} (streams : List Stream) → ((s : Stream) → IsValidStream s → IsBetween (pos 0) (pos m) (heat_of s)) → All IsValidStream streams → int_sum_by heat_of streams ≤ℤ pos (length streams * m)
-all_within {m} streams bounded valid = int_sum_by-at_most heat_of m streams (All-weaker IsValidStream (λ s. heat_of s ≤ℤ pos m) (λ s h. (bounded s h).upto) streams valid)
+all_within : {m : ℕ} (streams : List Stream) → ((s : Stream) → IsSensibleStream s → IsBetween (pos 0) (pos m) (heat_of s)) → All IsSensibleStream streams → int_sum_by heat_of streams ≤ℤ pos (length streams * m)
+all_within {m} streams bounded valid = int_sum_by-at_most heat_of m streams (All-weaker IsSensibleStream (λ s. heat_of s ≤ℤ pos m) (λ s h. (bounded s h).upto) streams valid)
 
-heat_below-le : (t : ℤ) (s : Stream) → IsValidStream s → heat_below t s ≤ℤ heat_of s
+heat_below-le : (t : ℤ) (s : Stream) → IsSensibleStream s → heat_below t s ≤ℤ heat_of s
 heat_below-le t s h =
-    let cp = h.cp.from in
-    let ends = AreEnds-IsValidStream s h in
-    *ℤ-≤ℤ_left s.cp (length_below (low_end s) (high_end s) t) (high_end s -ℤ low_end s) (omega (arith, ints, cp)) (omega (arith, ints, clamps))
+    let cp = h.sensible.cp.from in
+    let ends = AreEnds-IsValidStream s h.valid in
+    let part = *ℤ-≤ℤ_left s.cp (length_below (low_end s) (high_end s) t) (high_end s -ℤ low_end s) (omega (arith, ints, cp)) (omega (arith, ints, clamps)) in
+    subst (λ x. heat_below t s ≤ℤ x) (sym (heat_of-sensible s h.sensible)) part
+
+heat-within : (s : Stream) → IsSensibleStream s → IsSensibleHeat (heat_of s)
+heat-within s h = subst IsSensibleHeat (sym (heat_of-sensible s h.sensible)) (heat-between s (high_end s -ℤ low_end s) h.valid (range-length s h.valid))
 
 -- the heats of both sides together are a place of the axis, and so is what is between
 record HasHeats (streams : List Stream) : Type 0 where
   hot : pos 0 ≤ℤ sum_side side.Hot heat_of streams
   cold : pos 0 ≤ℤ sum_side side.Cold heat_of streams
-  both : (sum_side side.Hot heat_of streams +ℤ sum_side side.Cold heat_of streams) ≤ℤ ALL_STREAMS_HEAT
+  both : (sum_side side.Hot heat_of streams +ℤ sum_side side.Cold heat_of streams) ≤ℤ ALL_SENSIBLE_HEAT
   hot_target : IsBetween (pos 0) (sum_side side.Cold heat_of streams) (hot_target streams)
   cold_target : IsBetween (pos 0) (sum_side side.Hot heat_of streams) (cold_target streams)
 
-has_heats : (streams : List Stream) → AreStreams streams → HasHeats streams
+has_heats : (streams : List Stream) → AreSensibleStreams streams → HasHeats streams
 has_heats streams are =
-    let few = length-AreStreams streams are in
-    let hot = sum_side-heat side.Hot heat_of heat_of-between streams are.each few in
-    let cold = sum_side-heat side.Cold heat_of heat_of-between streams are.each few in
-    let all = all_within streams heat_of-between are.each in
+    let few = length-AreStreams streams are.are in
+    let hot = sum_side-heat side.Hot heat_of heat_of-between streams are.are.each few in
+    let cold = sum_side-heat side.Cold heat_of heat_of-between streams are.are.each few in
+    let all = all_within streams heat-within are.each in
     record {
       hot = hot.from;
       cold = cold.from;
       both = omega (arith, ints, all, few, both_sides heat_of streams);
-      hot_target = hot_target-within streams are;
-      cold_target = cold_target-within streams are;
+      hot_target = hot_target-within streams are.are;
+      cold_target = cold_target-within streams are.are;
     }
 
-curve_place : (of : Side) (streams : List Stream) (t : ℤ) → AreStreams streams → IsPlace (heat_at of streams t)
+curve_place : (of : Side) (streams : List Stream) (t : ℤ) → AreSensibleStreams streams → IsPlace (heat_at of streams t)
 curve_place of streams t are =
-    let few = length-AreStreams streams are in
-    let below = sum_side-heat of (heat_below t) (heat_below-between t) streams are.each few in
-    let most = sum_side-le of (heat_below t) heat_of streams (All-weaker IsValidStream (λ s. heat_below t s ≤ℤ heat_of s) (λ s h. heat_below-le t s h) streams are.each) in
+    let few = length-AreStreams streams are.are in
+    let below = sum_side-heat of (heat_below t) (heat_below-between t) streams are.are.each few in
+    let most = sum_side-le of (heat_below t) heat_of streams (All-weaker IsSensibleStream (λ s. heat_below t s ≤ℤ heat_of s) (λ s h. heat_below-le t s h) streams are.each) in
     by of (has_heats streams are) below.from most
   where
     by : (d : Side) → HasHeats streams → pos 0 ≤ℤ sum_side d (heat_below t) streams → sum_side d (heat_below t) streams ≤ℤ sum_side d heat_of streams → IsPlace (heat_at d streams t)
@@ -101,6 +105,22 @@ utility_places side.Cold streams heats =
     let target = heats.cold_target in
     (record { from = omega (arith, ints); upto = omega (arith, ints) }, record { from = target.from; upto = omega (arith, ints, target.upto, cold, both) })
 
+-- so the utility of a side covers no more than that
+pub target-within : (of : Side) (streams : List Stream) → AreSensibleStreams streams → IsSensiblesHeat (utility_to of streams -ℤ utility_from of streams)
+target-within of streams are = by of (has_heats streams are)
+  where
+    by : (d : Side) → HasHeats streams → IsSensiblesHeat (utility_to d streams -ℤ utility_from d streams)
+    by side.Hot heats =
+        let hot = heats.hot in
+        let both = heats.both in
+        let target = heats.hot_target in
+        record { from = omega (arith, ints, target.from); upto = omega (arith, ints, target.upto, hot, both) }
+    by side.Cold heats =
+        let cold = heats.cold in
+        let both = heats.both in
+        let target = heats.cold_target in
+        record { from = omega (arith, ints, target.from); upto = omega (arith, ints, target.upto, cold, both) }
+
 -- ---- the spans
 
 length-one_more : (b : Bool) (s : Span) (rest : List Span) → length (cons_option (if b then Some s else None) rest) ≡ cond b 1 0 + length rest
@@ -114,15 +134,15 @@ record AreStreamSpans (of : Side) (ss : List Stream) (spans : List Span) : Type 
   each : All IsSpan spans
   few : length spans ≤ count_on of ss
 
-stream_spans : (of : Side) (streams : List Stream) → AreStreams streams → (n : ℕ) (ss : List Stream) → All IsValidStream ss → AreStreamSpans of ss (filter_map (stream_span of streams) (enumerate_from n ss))
+stream_spans : (of : Side) (streams : List Stream) → AreSensibleStreams streams → (n : ℕ) (ss : List Stream) → All IsSensibleStream ss → AreStreamSpans of ss (filter_map (stream_span of streams) (enumerate_from n ss))
 unfolding span_at
 stream_spans of streams are n [] valid = record { each = All-nil IsSpan; few = omega arith }
 stream_spans of streams are n (s ∷ ss) valid =
-    let h = All-head IsValidStream s ss valid in
-    let rest = stream_spans of streams are (n + 1) ss (All-tail IsValidStream s ss valid) in
+    let h = All-head IsSensibleStream s ss valid in
+    let rest = stream_spans of streams are (n + 1) ss (All-tail IsSensibleStream s ss valid) in
     let spans = filter_map (stream_span of streams) (enumerate_from (n + 1) ss) in
     let b = same_side s.side of in
-    let cp = h.cp in
+    let cp = h.sensible.cp in
     record {
       each = All-kept IsSpan b (span_at of streams n s) spans (λ own. record { flow = record { from = omega (arith, ints, cp.from); upto = cp.upto }; from = curve_place of streams (low_end s) are; to = curve_place of streams (high_end s) are }) rest.each;
       few = omega (arith, length-one_more b (span_at of streams n s) spans, count_by-cons (λ (r : Stream). same_side r.side of) s ss, rest.few);
@@ -154,10 +174,10 @@ utility_spans of case heats standard =
     cold_first side.Hot places = alone _ (is_span side.Hot places 1)
     cold_first side.Cold places = alone _ (is_span side.Cold places 0)
 
-pub AreSpans-spans_of : (of : Side) (case : Case) → IsComplete case → IsStandard case → AreSpans (spans_of of case)
+pub AreSpans-spans_of : (of : Side) (case : Case) → IsSensibleCase case → IsStandard case → AreSpans (spans_of of case)
 unfolding spans_of
 AreSpans-spans_of of case complete standard =
-    let are = AreStreams-IsComplete case complete in
+    let are = AreSensibleStreams-case case complete in
     let streams = stream_spans of case.streams are 0 case.streams are.each in
     let utilities = utility_spans of case (has_heats case.streams are) standard in
     let ss = filter_map (stream_span of case.streams) (enumerate_from 0 case.streams) in

@@ -10,7 +10,7 @@ use Rattle.sums.specs.Sum.{int_sum_by}
 use Rattle.sums.proofs.IntegerLemmas.{int_le-false}
 use Rattle.sums.proofs.SumLemmas.{int_sum_by-append, int_sum_by-map}
 use Rattle.stream_case.specs.Source.{same_side}
-use Rattle.stream_case.specs.Stream.{AreStreams, IsValidStream, heat_of, high_end, low_end}
+use Rattle.stream_case.specs.Stream.{heat_of, high_end, low_end}
 use Rattle.stream_case.specs.declared.case.Case.{Case}
 use Rattle.stream_case.specs.declared.source.Side.{Side}
 use Rattle.stream_case.specs.declared.source.Side.TheVariants as side
@@ -19,7 +19,8 @@ use Rattle.stream_case.specs.declared.stream.Stream.{Stream}
 use Rattle.stream_case.specs.declared.utility.Utility.{Utility}
 use Rattle.stream_case.specs.declared.limits.TheConstants.{ALL_STREAMS}
 use Rattle.stream_case.proofs.CaseLemmas.{length-AreStreams}
-use Rattle.stream_case.proofs.HeatLemmas.{heat_above-between}
+use Rattle.stream_case.proofs.HeatLemmas.{heat_over-between}
+use Rattle.design_lines.proofs.SensibleStreams.{AreSensibleStreams, IsSensibleStream}
 use Rattle.problem_table.specs.Sides.{sum_side}
 use Rattle.problem_table.proofs.SideLemmas.{sum_side-heat, sum_side-le}
 use Rattle.vertical_design.specs.Axis.{AreCuts, ends_of, heat_at, heat_below, spans_of, stream_span, utility_from, utility_span, utility_to}
@@ -72,7 +73,7 @@ module _ (of : Side) (streams : List Stream) where
           All-cons (λ t. same_side t.side of ≡ true → P (heat_at of streams (low_end t)) × P (heat_at of streams (high_end t))) s ss (λ own. (All-head P from (to ∷ later) some, All-head P to later tail)) (rest (All-tail P to later tail))
       by false is some rest = All-cons (λ t. same_side t.side of ≡ true → P (heat_at of streams (low_end t)) × P (heat_at of streams (high_end t))) s ss (λ own. absurd (true≢false (sym own ∙ is))) (rest some)
 
-  module _ (are : AreStreams streams) (low high : ℤ) (gap : low <ℤ high) where
+  module _ (are : AreSensibleStreams streams) (low high : ℤ) (gap : low <ℤ high) where
     -- the flows of the streams that run
     flows_of_streams : (n : ℕ) (ss : List Stream) → int_sum_by (flow_in low high) (filter_map (stream_span of streams) (enumerate_from n ss)) ≡ sum_side of (running_flow of streams are low high gap) ss
     flows_of_streams n [] = refl
@@ -87,11 +88,11 @@ module _ (of : Side) (streams : List Stream) where
     -- where a stream of the side runs, its utility does not
     utility_rests : (r : Stream) → Runs of streams are low high r → (int_le (utility_from of streams) low && int_le high (utility_to of streams)) ≡ false
     utility_rests r runs = by of (sum_side-heat of (heat_below (low_end r)) (heat_below-between (low_end r)) streams are.each few).from
-        (sum_side-le of (heat_below (high_end r)) heat_of streams (All-weaker IsValidStream (λ s. heat_below (high_end r) s ≤ℤ heat_of s) (λ s h. let parts = below_and_above (high_end r) s h in let rest = (heat_above-between (high_end r) s h).from in omega (arith, ints, parts, rest)) streams are.each))
+        (sum_side-le of (heat_below (high_end r)) heat_of streams (All-weaker IsSensibleStream (λ s. heat_below (high_end r) s ≤ℤ heat_of s) (λ s h. let parts = below_and_above (high_end r) s h in let rest = (heat_over-between false (high_end r) s h.valid).from in omega (arith, ints, parts, rest)) streams are.each))
         runs.from runs.upto
       where
         few : length streams ≤ ALL_STREAMS
-        few = length-AreStreams streams are
+        few = length-AreStreams streams are.are
 
         by : (d : Side) → pos 0 ≤ℤ sum_side d (heat_below (low_end r)) streams → sum_side d (heat_below (high_end r)) streams ≤ℤ sum_side d heat_of streams → heat_at d streams (low_end r) ≤ℤ low → high ≤ℤ heat_at d streams (high_end r)
             → (int_le (utility_from d streams) low && int_le high (utility_to d streams)) ≡ false
@@ -128,7 +129,7 @@ module _ (case : Case) (cuts : List ℤ) (are_cuts : AreCuts (spans_of side.Hot 
 
 -- ---- between neighbouring cuts of a case
 
-module _ (case : Case) (cuts : List ℤ) (are_cuts : AreCuts (spans_of side.Hot case) (spans_of side.Cold case) cuts) (at : ℕ) (later : 0 < at) (within : at < length cuts) (are : AreStreams case.streams) where
+module _ (case : Case) (cuts : List ℤ) (are_cuts : AreCuts (spans_of side.Hot case) (spans_of side.Cold case) cuts) (at : ℕ) (later : 0 < at) (within : at < length cuts) (are : AreSensibleStreams case.streams) where
   abbrev pub low_cut : ℤ
   low_cut = get_or cuts at (pos 0)
 

@@ -7,15 +7,16 @@ use Rattle.std.proofs.lemmas.List.Elements.{All-contains, All-weaker}
 use Rattle.sums.specs.Spans.{IsOverlap}
 use Rattle.sums.specs.declared.pairs.Pair.{Pair}
 use Rattle.sums.proofs.ProductLemmas.{neg_ℤ-*ℤ}
-use Rattle.stream_case.specs.Case.{IsComplete, IsStandard}
+use Rattle.stream_case.specs.Case.{IsStandard}
 use Rattle.stream_case.specs.Limits.{IsContribution}
-use Rattle.stream_case.specs.Stream.{AreStreams, IsValidStream, high_end, low_end}
+use Rattle.stream_case.specs.Stream.{high_end, low_end}
 use Rattle.stream_case.specs.declared.case.Case.{Case}
 use Rattle.stream_case.specs.declared.limits.TheConstants.{HIGHEST_SHIFTED, MOST_CONTRIBUTION, MOST_CP}
 use Rattle.stream_case.specs.declared.source.Side.{Side}
 use Rattle.stream_case.specs.declared.source.Side.TheVariants as side
 use Rattle.stream_case.specs.declared.stream.Stream.{Stream}
 use Rattle.stream_case.proofs.EndLemmas.{AreEnds, AreEnds-IsValidStream}
+use Rattle.design_lines.proofs.SensibleStreams.{AreSensibleStreams, IsSensibleCase, IsSensibleStream}
 use Rattle.fractions.specs.Rationals.{IsAtMost, IsWithinLimits, Rational, ratio, whole}
 use Rattle.fractions.proofs.Comparisons.{at_most-whole, at_most_from_ratio_whole, at_most_from_whole_ratio, at_most_trans}
 use Rattle.network_values.specs.Values.{change, first_value, full_size}
@@ -79,12 +80,12 @@ pub fine_roomy : (v : BranchValue) → IsFine v → IsRoomy v
 fine_roomy v fine = sized_roomy fine.size_den most_cp fine.state_den highest v (small fine.size_den fine.state_den fine.size_some fine.size_few fine.state_some fine.state_few) fine.size fine.state
 
 -- a stream's own branch
-pub first_fine : (s : Stream) → IsValidStream s → IsFine (first_value s)
+pub first_fine : (s : Stream) → IsSensibleStream s → IsFine (first_value s)
 first_fine s valid =
-    let low = valid.supply.from in
-    let high = valid.supply.upto in
-    let least = valid.cp.from in
-    let most = valid.cp.upto in
+    let low = valid.valid.supply.from in
+    let high = valid.valid.supply.upto in
+    let least = valid.sensible.cp.from in
+    let most = valid.sensible.cp.upto in
     record {
       size_den = 1;
       size_some = omega arith;
@@ -158,9 +159,9 @@ stage_change stage fine of =
     sized_change 1 most_cp fine.state_den highest of stage.before stage.after (small 1 fine.state_den (omega arith) (omega arith) fine.state_some fine.state_few) fine.before fine.after
 
 -- and its branches are such
-pub stage_fine : (network : Network) (s : Stream) (stage : LedStage) → IsValidStream s → IsFineStage stage → IsLedStage network s.side (full_size s) stage → StageHolds IsFine stage
+pub stage_fine : (network : Network) (s : Stream) (stage : LedStage) → IsSensibleStream s → IsFineStage stage → IsLedStage network s.side (full_size s) stage → StageHolds IsFine stage
 stage_fine network s stage valid fine led =
-    let cp_most = valid.cp.upto in
+    let cp_most = valid.sensible.cp.upto in
     let whole_most = at_most-whole s.cp (pos most_cp) cp_most in
     All-weaker (IsStageBranch fine.size_den (full_size s) stage.before stage.after) IsFine (λ v is. record {
       size_den = fine.size_den;
@@ -176,7 +177,7 @@ stage_fine network s stage valid fine led =
 
 -- ---- the stages of a standard case
 
-module _ (case : Case) (cuts : List ℤ) (complete : IsComplete case) (standard : IsStandard case) (are_cuts : AreCuts (spans_of side.Hot case) (spans_of side.Cold case) cuts) (are : AreStreams case.streams) where
+module _ (case : Case) (cuts : List ℤ) (complete : IsSensibleCase case) (standard : IsStandard case) (are_cuts : AreCuts (spans_of side.Hot case) (spans_of side.Cold case) cuts) (are : AreSensibleStreams case.streams) where
   side_few : (at : ℕ) (of : Side) → unsigned_abs (side_flow (lower_cut cuts at) (upper_cut cuts at) (spans_of of case)) ≤ most_flow
   side_few at of =
       let is = side-within (lower_cut cuts at) (upper_cut cuts at) (spans_of of case) (AreSpans-spans_of of case complete standard) in
@@ -197,14 +198,14 @@ module _ (case : Case) (cuts : List ℤ) (complete : IsComplete case) (standard 
       let flow = side_flow low high (spans_of s.side case) in
       let across = side_flow low high (list_across s.side hot cold) in
       let some = size_some at is.later is.within in
-      let valid = All-contains IsValidStream case.streams s are.each is.runs.member in
-      let ends = AreEnds-IsValidStream s valid in
+      let valid = All-contains IsSensibleStream case.streams s are.each is.runs.member in
+      let ends = AreEnds-IsValidStream s valid.valid in
       let gap = cut_below case cuts are_cuts at is.later is.within are in
       let sized : (q : ℤ) → low ≤ℤ q → q ≤ℤ high → IsSized (unsigned_abs flow) highest (actual_at s.side (is.scale q) s.contribution) =
       λ q from upto.
       let over = is.is.over q in
       let range = is.is.range q from upto s is.runs in
-      stream_sized s.side (unsigned_abs flow) (is.scale q) s.contribution over.num (low_end s) (high_end s) (some s.side) over.is ends range.0 range.1 valid.contribution in
+      stream_sized s.side (unsigned_abs flow) (is.scale q) s.contribution over.num (low_end s) (high_end s) (some s.side) over.is ends range.0 range.1 valid.valid.contribution in
       record {
         size_den = unsigned_abs across;
         size_some = across_is case s.side (λ ss. 0 < unsigned_abs (side_flow low high ss)) (some side.Hot) (some side.Cold);

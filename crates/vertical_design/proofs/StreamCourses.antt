@@ -8,16 +8,16 @@ use Rattle.std.proofs.lemmas.List.{get_or_default, map-append, reverse-append}
 use Rattle.std.proofs.lemmas.List.Elements.{All-cons, All-contains, All-nil, All-weaker}
 use Rattle.sums.proofs.IntegerLemmas.{int_lt_cases}
 use Rattle.sums.proofs.ListLemmas.{Contains-slice_get}
-use Rattle.stream_case.specs.Case.{IsComplete, IsStandard}
+use Rattle.stream_case.specs.Case.{IsStandard}
 use Rattle.stream_case.specs.Source.{same_side}
-use Rattle.stream_case.specs.Stream.{AreStreams, IsValidStream, high_end, low_end}
+use Rattle.stream_case.specs.Stream.{high_end, low_end}
 use Rattle.stream_case.specs.declared.case.Case.{Case}
 use Rattle.stream_case.specs.declared.source.Side.{Side}
 use Rattle.stream_case.specs.declared.source.Side.TheVariants as side
 use Rattle.stream_case.specs.declared.stream.Stream.{Stream}
-use Rattle.stream_case.proofs.CompleteLemmas.{AreStreams-IsComplete}
-use Rattle.stream_case.proofs.EndLemmas.{AreEnds-IsValidStream}
+use Rattle.stream_case.proofs.EndLemmas.{order-sensible}
 use Rattle.stream_case.proofs.SourceLemmas.{own_side}
+use Rattle.design_lines.proofs.SensibleStreams.{AreSensibleStreams, AreSensibleStreams-case, IsSensibleCase, IsSensibleStream}
 use Rattle.fractions.specs.Rationals.{IsAtMost, Rational, whole}
 use Rattle.fractions.proofs.Comparisons.{at_most-whole}
 use Rattle.network_values.specs.Values.{first_state, full_size, last_state}
@@ -133,15 +133,15 @@ cut_from_last cuts falls x (k, inside, is) at last later =
 -- ---- the way of a stream
 
 -- a stream is led through the intervals in which it runs, from its supply to its target
-pub record IsLedCourse (case : Case) (cuts : List ℤ) (are : AreStreams case.streams) (number : ℕ) (s : Stream) (course : List LedStage) : Type 0 where
+pub record IsLedCourse (case : Case) (cuts : List ℤ) (are : AreSensibleStreams case.streams) (number : ℕ) (s : Stream) (course : List LedStage) : Type 0 where
   pub each : All (IsIntervalStage case cuts are number s) course
   pub along : shares_along course ≡ course_of (intervals_of (spans_of side.Hot case) (spans_of side.Cold case) cuts) (number, s)
   pub joined : Meet (first_state s) course
   pub ends : state_behind (first_state s) course ≡ last_state s
 
-module _ (case : Case) (cuts : List ℤ) (complete : IsComplete case) (standard : IsStandard case) (are_cuts : AreCuts (spans_of side.Hot case) (spans_of side.Cold case) cuts) (number : ℕ) (s : Stream) (here : slice_get case.streams number ≡ Some s) where
-  abbrev are : AreStreams case.streams
-  are = AreStreams-IsComplete case complete
+module _ (case : Case) (cuts : List ℤ) (complete : IsSensibleCase case) (standard : IsStandard case) (are_cuts : AreCuts (spans_of side.Hot case) (spans_of side.Cold case) cuts) (number : ℕ) (s : Stream) (here : slice_get case.streams number ≡ Some s) where
+  abbrev are : AreSensibleStreams case.streams
+  are = AreSensibleStreams-case case complete
 
   abbrev hot : List Span
   hot = spans_of side.Hot case
@@ -160,7 +160,7 @@ module _ (case : Case) (cuts : List ℤ) (complete : IsComplete case) (standard 
   member = Contains-slice_get case.streams number s here
 
   ends_rise : low_end s <ℤ high_end s
-  ends_rise = (AreEnds-IsValidStream s (All-contains IsValidStream case.streams s are.each member)).order
+  ends_rise = order-sensible s (All-contains IsSensibleStream case.streams s are.each member).sensible
 
   heats_rise : bottom ≤ℤ top
   heats_rise = let order = ends_rise in heat_rises s.side case.streams (low_end s) (high_end s) are.each (omega (arith, ints, order))

@@ -4,10 +4,10 @@ use Rattle.std.proofs.lemmas.Int.{ints}
 use Rattle.std.proofs.lemmas.List.Elements.{All-append, All-head, All-nil}
 use Rattle.std.proofs.lemmas.Option.{slice_get-get_or}
 use Rattle.sums.proofs.OrderLemmas.{AllPairs-head, AllPairs-tail}
-use Rattle.stream_case.specs.Stream.{AreStreams}
 use Rattle.stream_case.specs.declared.case.Case.{Case}
 use Rattle.stream_case.specs.declared.source.Side.TheVariants as side
 use Rattle.stream_case.specs.declared.source.Source.TheVariants as source
+use Rattle.design_lines.proofs.SensibleStreams.{AreSensibleStreams}
 use Rattle.networks.proofs.Lists.{all_at}
 use Rattle.vertical_design.specs.Axis.{AreCuts, spans_of}
 use Rattle.vertical_design.specs.Matches.{intervals_below, intervals_of, matches_in, matches_of}
@@ -20,7 +20,7 @@ use Rattle.vertical_design.proofs.SideFlows.{is_axis}
 abbrev HasStream : Match → Type 0
 HasStream m = (i j : ℕ) → m.hot ≡ source.Utility i → m.cold ≡ source.Utility j → ⊥
 
-module _ (case : Case) (are : AreStreams case.streams) where
+module _ (case : Case) (are : AreSensibleStreams case.streams) where
   abbrev hot : List Span
   hot = spans_of side.Hot case
 

@@ -13,26 +13,23 @@ use Rattle.sums.specs.Sum.{int_sum_by}
 use Rattle.sums.specs.declared.pairs.Pair.{Pair}
 use Rattle.sums.proofs.IntegerLemmas.{int_le-true}
 use Rattle.sums.proofs.ProductLemmas.{*ℤ-+ℤ, one_times, zero_times}
-use Rattle.stream_case.specs.Case.{IsComplete, IsStandard, side_of, standard_utility}
-use Rattle.stream_case.specs.Limits.{IsStreamsHeat}
+use Rattle.stream_case.specs.Case.{IsStandard, side_of, standard_utility}
 use Rattle.stream_case.specs.Source.{same_source}
-use Rattle.stream_case.specs.Stream.{AreStreams}
 use Rattle.stream_case.specs.declared.case.Case.{Case}
-use Rattle.stream_case.specs.declared.limits.TheConstants.{ALL_STREAMS_HEAT, MOST_HEAT}
+use Rattle.stream_case.specs.declared.limits.TheConstants.{ALL_SENSIBLE_HEAT, MOST_HEAT}
 use Rattle.stream_case.specs.declared.source.Side.{Side}
 use Rattle.stream_case.specs.declared.source.Side.TheVariants as side
 use Rattle.stream_case.specs.declared.source.Source.{Source}
 use Rattle.stream_case.specs.declared.source.Source.TheVariants as source
 use Rattle.stream_case.specs.declared.stream.Stream.{Stream}
 use Rattle.stream_case.specs.declared.utility.Utility.{Utility}
-use Rattle.stream_case.proofs.CompleteLemmas.{AreStreams-IsComplete}
 use Rattle.stream_case.proofs.SourceLemmas.{same_source-true}
+use Rattle.design_lines.proofs.SensibleStreams.{AreSensibleStreams, AreSensibleStreams-case, IsSensibleCase}
 use Rattle.fractions.specs.Rationals.{Rational, plus, ratio, rational_sum, whole}
 use Rattle.fractions.proofs.Comparisons.{at_most-whole}
 use Rattle.fractions.proofs.RationalSums.{rational_sum_by-append}
 use Rattle.fractions.proofs.Ratios.{plus-ratio_same_den, ratio-zero}
 use Rattle.fractions.proofs.Wholes.{ratio-multiple, whole-plus}
-use Rattle.problem_table.proofs.DeficitLemmas.{cold_target-between, hot_target-between}
 use Rattle.networks.specs.declared.network.Network.{Network}
 use Rattle.network_audit.specs.Balance.{duties_with, duty_with, heat_with}
 use Rattle.network_audit.specs.Valid.{IsInRange}
@@ -58,7 +55,7 @@ use Rattle.vertical_design.proofs.MatchShape.{IsMatch, matches-are, spans_on}
 use Rattle.vertical_design.proofs.OverlapLists.{ListsOverlaps-pairs_of}
 use Rattle.vertical_design.proofs.OwnPairs.{index_on, list_across, list_on, own_amount, own_amounts, own_share}
 use Rattle.vertical_design.proofs.SideFlows.{flow_above, is_axis, utility_alone, utility_cuts, utility_order, utility_outside}
-use Rattle.vertical_design.proofs.SpanLimits.{AreSpans-spans_of}
+use Rattle.vertical_design.proofs.SpanLimits.{AreSpans-spans_of, target-within}
 use Rattle.vertical_design.proofs.SpanRuns.{cut_below}
 use Rattle.vertical_design.proofs.SpanSources.{own_place, sources_differ, utility_place, utility_span_of}
 
@@ -153,9 +150,9 @@ pub record IsInterval (case : Case) (low high : ℤ) : Type 0 where
   pub outside : (of : Side) → IsOutside low high (utility_from of case.streams) × IsOutside low high (utility_to of case.streams)
   pub alone : (of : Side) → utility_from of case.streams ≤ℤ low → high ≤ℤ utility_to of case.streams → side_flow low high (spans_of of case) ≡ pos 1
 
-pub each_interval : (case : Case) (high : ℤ) (cuts : List ℤ) → IsComplete case → IsStandard case → AreCuts (spans_of side.Hot case) (spans_of side.Cold case) (high ∷ cuts) → EachGap (IsInterval case) high cuts
+pub each_interval : (case : Case) (high : ℤ) (cuts : List ℤ) → IsSensibleCase case → IsStandard case → AreCuts (spans_of side.Hot case) (spans_of side.Cold case) (high ∷ cuts) → EachGap (IsInterval case) high cuts
 each_interval case high cuts complete standard are_cuts =
-    let are = AreStreams-IsComplete case complete in
+    let are = AreSensibleStreams-case case complete in
     let hot = spans_of side.Hot case in
     let cold = spans_of side.Cold case in
     let all = high ∷ cuts in
@@ -178,12 +175,12 @@ no_width width other n = ap (λ z. ratio (width *ℤ z) n) (zero_times (pos 0) o
 
 -- the most heat of a duty, and the greatest flow
 abbrev pub most_width : ℕ
-most_width = unsigned_abs ALL_STREAMS_HEAT
+most_width = unsigned_abs ALL_SENSIBLE_HEAT
 
 abbrev pub most_flow : ℕ
 most_flow = unsigned_abs MOST_FLOW
 
-part_sized : (width share other : ℤ) (n : ℕ) → pos 0 ≤ℤ width → width ≤ℤ ALL_STREAMS_HEAT → pos 0 <ℤ share → share ≤ℤ other → n ≡ unsigned_abs other → IsSized (unsigned_abs other) most_width (ratio (width *ℤ share) n)
+part_sized : (width share other : ℤ) (n : ℕ) → pos 0 ≤ℤ width → width ≤ℤ ALL_SENSIBLE_HEAT → pos 0 <ℤ share → share ≤ℤ other → n ≡ unsigned_abs other → IsSized (unsigned_abs other) most_width (ratio (width *ℤ share) n)
 part_sized width share other n from upto some most is = record {
   num = width *ℤ share;
   is = ap (ratio (width *ℤ share)) is;
@@ -213,7 +210,7 @@ few-grouped hot cold index high [] are_hot are_cold = omega arith
 few-grouped hot cold index high (low ∷ cuts) are_hot are_cold =
     omega (arith, few-grouped hot cold index low cuts are_hot are_cold, length-numbers (duty_in index) (matches_in low high hot cold), few_matches low high hot cold are_hot are_cold)
 
-module _ (case : Case) (complete : IsComplete case) (standard : IsStandard case) (index : ℕ) (u : Utility) (here : slice_get case.utilities index ≡ Some u) where
+module _ (case : Case) (complete : IsSensibleCase case) (standard : IsStandard case) (index : ℕ) (u : Utility) (here : slice_get case.utilities index ≡ Some u) where
   abbrev hot_spans : List Span
   hot_spans = spans_of side.Hot case
 
@@ -282,7 +279,7 @@ module _ (case : Case) (complete : IsComplete case) (standard : IsStandard case)
     width_from : pos 0 ≤ℤ (high -ℤ low)
     width_from = let falls = interval.gap.falls in omega (arith, ints, falls)
 
-    width_upto : (high -ℤ low) ≤ℤ ALL_STREAMS_HEAT
+    width_upto : (high -ℤ low) ≤ℤ ALL_SENSIBLE_HEAT
     width_upto = let from = interval.gap.low_place.from in let upto = interval.gap.high_place.upto in omega (arith, ints, from, upto)
 
     module _ (of : Side) (side_is : u.side ≡ of) (k : ℕ) (there : slice_get (list_on of hot_spans cold_spans) k ≡ Some (utility_span_of of case.streams index)) where
@@ -387,11 +384,11 @@ module _ (case : Case) (complete : IsComplete case) (standard : IsStandard case)
     pub heat : heat_with network index ≡ whole (utility_to u.side case.streams -ℤ utility_from u.side case.streams)
 
   grouped_by : (cuts : List ℤ) → AreCuts hot_spans cold_spans cuts → HasGroups (network_of case (intervals_of hot_spans cold_spans cuts))
-  grouped_by [] are_cuts = let nothing = (utility_cuts case [] are_cuts (AreStreams-IsComplete case complete) standard u.side).0.1 in absurd (omega (arith, nothing))
+  grouped_by [] are_cuts = let nothing = (utility_cuts case [] are_cuts (AreSensibleStreams-case case complete) standard u.side).0.1 in absurd (omega (arith, nothing))
   grouped_by (high ∷ cuts) are_cuts =
       let all = high ∷ cuts in
       let each = each_interval case high cuts complete standard are_cuts in
-      let streams = AreStreams-IsComplete case complete in
+      let streams = AreSensibleStreams-case case complete in
       let ends = utility_cuts case all are_cuts streams standard u.side in
       let order = utility_order u.side case.streams (is_axis case.streams streams) in
       let clear = gaps-weaker (IsInterval case) (IsClear (from_of u.side) (to_of u.side)) (λ low upper is. let outside = is.outside u.side in record { falls = is.gap.falls; begin_outside = outside.0; end_outside = outside.1 }) high cuts each in
@@ -426,17 +423,13 @@ each_utility case standard P hot cold index u here =
     ⊎_elim (λ e. of_two P (standard_utility side.Hot case) (standard_utility side.Cold case) hot cold index u (ap (λ (us : List Utility). slice_get us index) (sym e) ∙ here))
     (λ e. of_two P (standard_utility side.Cold case) (standard_utility side.Hot case) cold hot index u (ap (λ (us : List Utility). slice_get us index) (sym e) ∙ here)) standard.utilities
 
-target_between : (of : Side) (streams : List Stream) → AreStreams streams → IsStreamsHeat (target_on of streams)
-target_between side.Hot streams are = let is = hot_target-between streams are in let from = is.from in let upto = is.upto in record { from = omega (arith, ints, from); upto = omega (arith, ints, upto) }
-target_between side.Cold streams are = let is = cold_target-between streams are in let from = is.from in let upto = is.upto in record { from = omega (arith, ints, from); upto = omega (arith, ints, upto) }
-
-module _ (case : Case) (intervals : List Interval) (complete : IsComplete case) (standard : IsStandard case) (are : AreIntervals case intervals) where
+module _ (case : Case) (intervals : List Interval) (complete : IsSensibleCase case) (standard : IsStandard case) (are : AreIntervals case intervals) where
   pub heat_is : (index : ℕ) (u : Utility) → slice_get case.utilities index ≡ Some u → heat_with (network_of case intervals) index ≡ whole (target_on u.side case.streams)
   heat_is index u here = (has_groups case complete standard index u here intervals are).heat
 
   target_kept : (of : Side) (u : Utility) → u.least ≡ pos 0 → u.most ≡ MOST_HEAT → IsInRange u (whole (target_on of case.streams))
   target_kept of u least most =
-      let is = target_between of case.streams (AreStreams-IsComplete case complete) in
+      let is = target-within of case.streams (AreSensibleStreams-case case complete) in
       let from = is.from in
       let upto = is.upto in
       record { least = at_most-whole u.least (target_on of case.streams) (omega (arith, ints, least, from)); most = at_most-whole (target_on of case.streams) u.most (omega (arith, ints, most, upto)) }
@@ -450,7 +443,7 @@ module _ (case : Case) (intervals : List Interval) (complete : IsComplete case) 
   -- and its heat is whole
   pub heats_whole : HaveWholeHeats case (network_of case intervals)
   heats_whole index u here =
-      let is = target_between u.side case.streams (AreStreams-IsComplete case complete) in
+      let is = target-within u.side case.streams (AreSensibleStreams-case case complete) in
       let from = is.from in
       let upto = is.upto in
       subst (IsSized 1 most_heat) (sym (heat_is index u here)) (sized-whole 1 most_heat (target_on u.side case.streams) (omega arith) (omega (arith, ints, from, upto)))

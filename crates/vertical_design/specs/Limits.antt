@@ -1,7 +1,7 @@
 -- Spans and shares within the limits.
 use Rattle.std.specs.Prelude.{◌≤◌, ℤ, pos, ◌<ℤ◌, List, length, All}
 use Rattle.stream_case.specs.Limits.{IsBetween}
-use Rattle.stream_case.specs.declared.limits.TheConstants.{ALL_STREAMS_HEAT, MOST_CP}
+use Rattle.stream_case.specs.declared.limits.TheConstants.{ALL_SENSIBLE_HEAT, MOST_CP}
 use Rattle.vertical_design.specs.declared.limits.TheConstants.{MOST_FLOW, MOST_SPANS}
 use Rattle.vertical_design.specs.declared.span.Span.{Span}
 
@@ -14,7 +14,7 @@ IsSideFlow flow = IsBetween (pos 0) MOST_FLOW flow
 
 -- a place on the heat axis, in W
 abbrev pub IsPlace : ℤ → Type 0
-IsPlace heat = IsBetween (pos 0) ALL_STREAMS_HEAT heat
+IsPlace heat = IsBetween (pos 0) ALL_SENSIBLE_HEAT heat
 
 -- a span of the axis
 pub record IsSpan (s : Span) : Type 0 where

@@ -2,7 +2,7 @@
 
 ghost use Rattle.std.specs.Prelude.{◌≡◌};
 ghost use Rattle.stream_case.specs.Limits.{IsStreamHeat, IsStreamsHeat};
-ghost use Rattle.stream_case.specs.Stream.{AreStreams, IsValidStream, heat_of};
+ghost use Rattle.stream_case.specs.Stream.{AreSensible, AreStreams, IsValidStream, heat_of};
 ghost use Rattle.problem_table.specs.Deficit.{cold_target};
 ghost use Rattle.problem_table.specs.Sides.{sum_side};
 ghost use Rattle.vertical_design.specs.Axis.{heat_at, heat_below};
@@ -37,7 +37,8 @@ fn side_heat_below(streams: &[Stream], side: Side, t: i32) -> i64
 
 /// All heat of a side, in W.
 pub(crate) fn side_heat(streams: &[Stream], side: Side) -> i64
-    requires { AreStreams streams.now }
+    requires streams { AreStreams streams.now }
+    requires sensible { AreSensible streams.now }
     ensures value { result ≡ sum_side side heat_of streams.now }
     ensures range { IsStreamsHeat result }
 {

@@ -1,4 +1,4 @@
-//! The network of a standard case by the composite curves.
+//! The network of a standard case by the composite curves, where no stream is latent.
 //!
 //! The shifted curves of both sides are laid along one axis of heat, the hot target above the hot
 //! curve and the cold target below the cold one. Between two neighbouring places where a source

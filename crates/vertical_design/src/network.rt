@@ -2,6 +2,7 @@
 
 ghost use Rattle.std.specs.Prelude.{◌≡◌, IfOk};
 ghost use Rattle.stream_case.specs.Case.{IsComplete, IsStandard};
+ghost use Rattle.stream_case.specs.Stream.{AreSensible};
 ghost use Rattle.networks.specs.Shape.{HasShape, KeepsCounts};
 ghost use Rattle.design_lines.specs.Drawn.{HasFewLines};
 ghost use Rattle.network_audit.specs.Balance.{balance_of};
@@ -21,10 +22,11 @@ use networks::Network;
 use std::alloc::{AllocError, Global};
 use stream_case::{Case, Side};
 
-/// The intervals of a standard case with their matches, from the greatest heat down.
+/// The intervals of a standard case without latent streams, with their matches, from the greatest heat down.
 fn intervals_for(alloc: Global, case: &Case) -> Result<Vec<Interval>, AllocError>
     requires complete { IsComplete case.now }
     requires standard { IsStandard case.now }
+    requires sensible { AreSensible case.now.streams }
     ensures { IfOk result (λ intervals. AreIntervals case.now intervals.items) }
 {
     let hot = spans_of(alloc, case, Side::Hot)?;
@@ -34,18 +36,20 @@ fn intervals_for(alloc: Global, case: &Case) -> Result<Vec<Interval>, AllocError
     Ok(intervals)
 }
 
-/// The network of a standard case from its shifted composite curves (Kemp 2007; the shares are
-/// this project's rule). The heat axis is cut wherever a source begins or ends. Between two cuts
-/// each source of a side meets those of the other side in their order, until it has given or taken
-/// its part of the heat between the cuts. The network has the shape that the grammar of networks
-/// asks for, keeps the counts of a text, so that it is printed and read again, and has few lines. It
-/// is valid: each stream is led to its target, each exchanger keeps its approach, no match is
-/// forbidden, and each utility is in its range. And it is vertical: each exchanger joins the two curves at one heat, or
-/// a curve with the utility that lies there. Its audit has no finding, and its balance is that of
-/// the targets: it has no excess, and costs the hot target.
+/// The network of a standard case without latent streams, from its shifted composite curves (Kemp
+/// 2007; the shares are this project's rule). The heat axis is cut wherever a source begins or
+/// ends. Between two cuts each source of a side meets those of the other side in their order, until
+/// it has given or taken its part of the heat between the cuts. The network has the shape that the
+/// grammar of networks asks for, keeps the counts of a text, so that it is printed and read again,
+/// and has few lines. It is valid: each stream is led to its target, each exchanger keeps its
+/// approach, no match is forbidden, and each utility is in its range. And it is vertical: each
+/// exchanger joins the two curves at one heat, or a curve with the utility that lies there. Its
+/// audit has no finding, and its balance is that of the targets: it has no excess, and costs the
+/// hot target.
 pub fn vertical(alloc: Global, case: &Case) -> Result<Network, AllocError>
     requires complete { IsComplete case.now }
     requires standard { IsStandard case.now }
+    requires sensible { AreSensible case.now.streams }
     ensures drawn { IfOk result (λ network. IsVerticalDesign case.now network) }
     ensures shape { IfOk result (λ network. HasShape case.now network) }
     ensures counts { IfOk result (λ network. KeepsCounts network) }

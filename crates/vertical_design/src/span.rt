@@ -3,7 +3,7 @@
 ghost use Rattle.std.specs.Prelude.{◌≡◌, ◌<◌, ◌^◌, ◌++◌, length, IfOk, OnOk};
 ghost use Rattle.std.specs.List.{enumerate_from, filter_map};
 ghost use Rattle.stream_case.specs.Source.{same_side};
-ghost use Rattle.stream_case.specs.Stream.{AreStreams};
+ghost use Rattle.stream_case.specs.Stream.{AreSensible, AreStreams};
 ghost use Rattle.problem_table.specs.Deficit.{cold_target, hot_target};
 ghost use Rattle.vertical_design.specs.Axis.{spans_of, stream_span, utility_from, utility_span, utility_to};
 
@@ -54,6 +54,7 @@ fn push_streams(
 /// Where the utility of a side begins on the heat axis, in W, and where it ends.
 fn utility_range(streams: &[Stream], side: Side, targets: Target) -> (i64, i64)
     requires streams { AreStreams streams.now }
+    requires sensible { AreSensible streams.now }
     requires hot_target { targets.hot ≡ hot_target streams.now }
     requires cold_target { targets.cold ≡ cold_target streams.now }
     ensures from { result.0 ≡ utility_from side streams.now }
@@ -83,6 +84,7 @@ fn push_utilities(
     targets: Target,
 ) -> Result<(), AllocError>
     requires streams { AreStreams case.now.streams }
+    requires sensible { AreSensible case.now.streams }
     requires few { length case.now.utilities < 2 ^ 32 }
     requires hot_target { targets.hot ≡ hot_target case.now.streams }
     requires cold_target { targets.cold ≡ cold_target case.now.streams }
@@ -107,6 +109,7 @@ fn push_utilities(
 #[tactic(auto, unfolding(crate::specs::Axis::spans_of))]
 pub(crate) fn spans_of(alloc: Global, case: &Case, side: Side) -> Result<Vec<Span>, AllocError>
     requires streams { AreStreams case.now.streams }
+    requires sensible { AreSensible case.now.streams }
     requires few { length case.now.utilities < 2 ^ 32 }
     ensures { IfOk result (λ spans. spans.items ≡ spans_of side case.now) }
 {

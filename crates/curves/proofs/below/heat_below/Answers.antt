@@ -1,12 +1,12 @@
 -- The part of the range below `t` ends where `t` is held within the range.
 use Rattle.std.proofs.Common.{ap, ◌∙◌, w64, rules, arith, ◌*ℤ◌}
 use Rattle.std.proofs.lemmas.Int.{ints, clamps, to_z-of_z}
-use Rattle.stream_case.proofs.HeatLemmas.{HasLength-IsValidStream}
+use Rattle.curves.proofs.BelowLemmas.{actual-length}
 use Rattle.curves.proofs.below.heat_below.Goals as goal
 
 pub heat_between-requires-clause-within : goal.heat_between-requires-clause-within
 heat_between-requires-clause-within c =
-    let range = HasLength-IsValidStream c.args.stream.now c.requires in
+    let range = actual-length c.args.stream.now c.requires in
     record { from = omega (arith, ints); upto = omega (arith, ints) }
 
 pub returns-clause-value : goal.returns-clause-value

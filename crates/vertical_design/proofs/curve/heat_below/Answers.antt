@@ -3,12 +3,12 @@ use Rattle.std.proofs.Common.{ap, ◌∙◌, w64, rules, arith}
 use Rattle.std.specs.Prelude.{◌*ℤ◌}
 use Rattle.std.proofs.lemmas.Int.{ints, clamps, to_z-of_z}
 use Rattle.stream_case.proofs.EndLemmas.{AreEnds-IsValidStream}
-use Rattle.stream_case.proofs.HeatLemmas.{HasLength-IsValidStream}
+use Rattle.stream_case.proofs.HeatLemmas.{range-length}
 use Rattle.vertical_design.proofs.curve.heat_below.Goals as goal
 
 pub heat_between-requires-clause-within : goal.heat_between-requires-clause-within
 heat_between-requires-clause-within c =
-    let range = HasLength-IsValidStream c.args.stream.now c.requires in
+    let range = range-length c.args.stream.now c.requires in
     let ends = AreEnds-IsValidStream c.args.stream.now c.requires in
     record { from = omega (arith, ints); upto = omega (arith, ints) }
 

@@ -3,9 +3,10 @@ use Rattle.std.proofs.Common.{w64, ◌∙◌, rules}
 use Rattle.std.proofs.lemmas.Int.{to_z-of_z}
 use Rattle.std.proofs.lemmas.List.Elements.{All-weaker}
 use Rattle.std.specs.Prelude.{◌≡◌}
-use Rattle.stream_case.specs.Stream.{IsValidStream, heat_of}
+use Rattle.stream_case.specs.Stream.{heat_of}
 use Rattle.stream_case.specs.declared.limits.TheConstants.{HIGHEST_SHIFTED}
 use Rattle.stream_case.proofs.EndLemmas.{AreEnds-IsValidStream}
+use Rattle.design_lines.proofs.SensibleStreams.{AreSensibleStreams-both, IsSensibleStream}
 use Rattle.problem_table.proofs.SideLemmas.{sum_side-same}
 use Rattle.vertical_design.specs.Axis.{heat_below}
 use Rattle.vertical_design.proofs.CurveLemmas.{heat_below-all}
@@ -16,4 +17,4 @@ returns-clause-value c =
     let streams = c.args.streams.now in
     to_z-of_z w64 c.side_heat_below.result (search rules) ∙ c.side_heat_below.ensures.value
     ∙ sum_side-same c.args.side (heat_below HIGHEST_SHIFTED) heat_of streams
-    (All-weaker IsValidStream (λ s. heat_below HIGHEST_SHIFTED s ≡ heat_of s) (λ s h. heat_below-all HIGHEST_SHIFTED s h (AreEnds-IsValidStream s h).upto) streams c.requires.each)
+    (All-weaker IsSensibleStream (λ s. heat_below HIGHEST_SHIFTED s ≡ heat_of s) (λ s h. heat_below-all HIGHEST_SHIFTED s h (AreEnds-IsValidStream s h.valid).upto) streams (AreSensibleStreams-both streams c.requires.streams c.requires.sensible).each)

@@ -1,6 +1,7 @@
 use Rattle.std.proofs.Common.{◌≡◌, ◌∙◌, ℤ, List, sym, subst, arith}
 use Rattle.stream_case.specs.declared.source.Side.TheVariants as side
 use Rattle.stream_case.proofs.CompleteLemmas.{AreStreams-IsComplete, length-utilities}
+use Rattle.design_lines.proofs.SensibleStreams.{IsSensibleCase-both}
 use Rattle.vertical_design.specs.Axis.{AreCuts, spans_of}
 use Rattle.vertical_design.specs.Limits.{AreSpans}
 use Rattle.vertical_design.specs.Matches.{intervals_of}
@@ -24,10 +25,10 @@ pub spans_of-requires-2-clause-few : goal.spans_of-requires-2-clause-few
 spans_of-requires-2-clause-few c = omega (arith, length-utilities c.args.case.now c.requires.complete)
 
 pub intervals_of-requires-clause-hot : goal.intervals_of-requires-clause-hot
-intervals_of-requires-clause-hot c = subst AreSpans (sym (c.as_slice-3.ensures.value ∙ c.in_ok-hot.ensures)) (AreSpans-spans_of side.Hot c.args.case.now c.requires.complete c.requires.standard)
+intervals_of-requires-clause-hot c = subst AreSpans (sym (c.as_slice-3.ensures.value ∙ c.in_ok-hot.ensures)) (AreSpans-spans_of side.Hot c.args.case.now (IsSensibleCase-both c.args.case.now c.requires.complete c.requires.sensible) c.requires.standard)
 
 pub intervals_of-requires-clause-cold : goal.intervals_of-requires-clause-cold
-intervals_of-requires-clause-cold c = subst AreSpans (sym (c.as_slice-4.ensures.value ∙ c.in_ok-cold.ensures)) (AreSpans-spans_of side.Cold c.args.case.now c.requires.complete c.requires.standard)
+intervals_of-requires-clause-cold c = subst AreSpans (sym (c.as_slice-4.ensures.value ∙ c.in_ok-cold.ensures)) (AreSpans-spans_of side.Cold c.args.case.now (IsSensibleCase-both c.args.case.now c.requires.complete c.requires.sensible) c.requires.standard)
 
 pub intervals_of-requires-clause-cuts : goal.intervals_of-requires-clause-cuts
 intervals_of-requires-clause-cuts c =
