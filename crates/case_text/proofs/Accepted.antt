@@ -1,8 +1,8 @@
 -- The case of a file that is accepted is valid.
-use Rattle.std.proofs.Common.{◌≡◌, ◌≢◌, ◌∙◌, ◌∷◌, ◌++◌, ◌<◌, ◌≤◌, ℕ, zero, suc, ℤ, pos, true, not, List, [], All, AllPairs, Option, Some, None, Result, Ok, Err, IfOk, IfSome, option_map, unwrap_or, length, slice_get, sym, arith, append_assoc, length-append}
+use Rattle.std.proofs.Common.{◌≡◌, ◌≢◌, ◌∙◌, ◌⊎◌, inl, inr, ◌∷◌, ◌++◌, ◌<◌, ◌≤◌, ℕ, zero, suc, ℤ, pos, true, not, List, [], All, AllPairs, Option, Some, None, Result, Ok, Err, IfOk, IfSome, option_map, unwrap_or, length, slice_get, refl, sym, arith, append_assoc, length-append}
 use Rattle.first_fault.specs.Outcome.{given_by}
 use Rattle.std.specs.Map.{keys_of}
-use Rattle.std.proofs.lemmas.Bool.Decides.{nat_tests}
+use Rattle.std.proofs.lemmas.Bool.Decides.{Decides-and, Decides-int_eq, nat_tests}
 use Rattle.std.proofs.lemmas.List.{length-map, map-append}
 use Rattle.std.proofs.lemmas.List.Elements.{All-map, All-nil, All-push, All-weaker}
 use Rattle.std.proofs.lemmas.List.Quantifiers.{all_pairs_push}
@@ -13,7 +13,7 @@ use Rattle.first_fault.proofs.Steps.{IsKept, given_has}
 use Rattle.stream_case.specs.Case.{IsRightlyNamed, IsUnreserved, IsValid, IsValidForbid}
 use Rattle.stream_case.specs.Limits.{IsContribution}
 use Rattle.stream_case.specs.Name.{is_name}
-use Rattle.stream_case.specs.Stream.{IsValidStream, count_on}
+use Rattle.stream_case.specs.Stream.{IsLatent, IsSensible, IsValidStream, count_on}
 use Rattle.stream_case.specs.Utility.{IsValidUtility}
 use Rattle.stream_case.specs.declared.case.Case.{Case}
 use Rattle.stream_case.specs.declared.case.Forbid.{Forbid}
@@ -23,16 +23,15 @@ use Rattle.stream_case.specs.declared.source.Side.TheVariants as side
 use Rattle.stream_case.specs.declared.source.Source.{Source}
 use Rattle.stream_case.specs.declared.source.Source.TheVariants as source
 use Rattle.stream_case.specs.declared.stream.Stream.{Stream}
-use Rattle.stream_case.specs.declared.utility.Utility.{Utility}
 use Rattle.stream_case.proofs.NameTests.{passed-name}
-use Rattle.rows.specs.Numbers.{is_own_contribution}
+use Rattle.rows.specs.Numbers.{is_flow_rate_beside, is_own_contribution, is_own_load}
 use Rattle.rows.specs.Fields.{field, number, optional_number}
 use Rattle.rows.proofs.Seams.{All-back}
-use Rattle.rows.proofs.Streams.{no_contribution, range_of, stream-is_valid}
+use Rattle.rows.proofs.Streams.{no_contribution, passed-latent, passed-sensible, range_of, stream-is_valid}
 use Rattle.rows.proofs.Tests.{Decides-int_le, Decides-is_own_contribution, passed-room, passed-within}
 use Rattle.case_text.specs.Rows.{kind_of}
 use Rattle.case_text.specs.Given.{Given, case_of, entry_by, nothing, source_at, stream_data, stream_of, utility_data, utility_of, with_entry}
-use Rattle.case_text.specs.Checks.{checks, contribution_checks, end_checks, forbid_checks, is_reserved, is_reserved_from, is_taken, kind_checks, stream_checks, stream_number_checks, utility_checks, utility_number_checks}
+use Rattle.case_text.specs.Checks.{checks, contribution_checks, end_checks, forbid_checks, heat_checks, is_reserved, is_reserved_from, is_taken, kind_checks, stream_checks, stream_number_checks, utility_checks, utility_number_checks}
 use Rattle.case_text.specs.Answers.{HasFewSources}
 use Rattle.case_text.specs.Outcome.{IsCase, IsOutcome, end_fault, grammar}
 use Rattle.case_text.specs.declared.fault.CaseWhy.{CaseWhy}
@@ -113,10 +112,20 @@ contribution_kept given row fits (_, (_, (_, (range, _)))) = record {
 own_range : (row : Row) (contribution : ℤ) → is_own_contribution (optional_number row 6) ≡ true → IsContribution contribution → IsContribution (unwrap_or (optional_number row 6) contribution)
 own_range row contribution own range = range_of (optional_number row 6) contribution ((Decides-is_own_contribution (optional_number row 6)).0 own) range
 
+-- a stream that gives this load, where its numbers pass the checks
+heat_of : (s : Stream) (load : Option ℤ) → s.load ≡ unwrap_or load (pos 0) → is_flow_rate_beside load s.cp ≡ true → is_own_load load ≡ true → Passes (heat_checks load s.side s.supply s.target s.cp) → IsSensible s ⊎ IsLatent s
+unfolding is_own_load heat_checks
+heat_of s None is cp range (differs, (way, _)) = inl (passed-sensible s cp is way)
+heat_of s (Some load) is cp range (latent, _) =
+    let (level, none) = (Decides-and _ _ (Decides-int_eq s.supply s.target) (Decides-int_eq s.cp (pos 0))).0 latent in
+    inr (passed-latent s level none (rw is range))
+
 stream_fits : (of : Side) (row : Row) → is_name (field row 1) ≡ true → not (is_reserved (field row 1)) ≡ true → Passes (stream_number_checks of row) → StreamFits (field row 1, stream_data of row)
 unfolding stream_number_checks
-stream_fits of row name unreserved (_, (_, (_, (_, (supply, (target, (cp, (own, (way, _))))))))) = record {
-  valid = λ contribution range. stream-is_valid (stream_of contribution (field row 1, stream_data of row)) name supply target cp way (own_range row contribution own range);
+stream_fits of row name unreserved (_, (_, (_, (_, (_, (supply, (target, (cp, (load, (own, heat)))))))))) = record {
+  valid = λ contribution range.
+      let s = stream_of contribution (field row 1, stream_data of row) in
+      stream-is_valid s name supply target (heat_of s (optional_number row 5) refl cp load heat) (own_range row contribution own range);
   name = (Decides-is_reserved (field row 1)).0 unreserved;
 }
 
@@ -129,7 +138,7 @@ new_name given name new = rw (← names_of-case given) ((Decides-is_taken (case_
 
 stream_kept : (given : Given) (row : Row) (of : Side) → Fits given → Passes (stream_checks of given row) → Fits (with_entry given (entry.Stream (field row 1) (stream_data of row)))
 unfolding stream_checks
-stream_kept given row of fits (_, (few, (name, (unreserved, (free, numbers))))) =
+stream_kept given row of fits (few, (name, (unreserved, (free, numbers)))) =
     let s : List ℕ × StreamData = (field row 1, stream_data of row) in
     let streams = keys_of given.streams in
     let utilities = keys_of given.utilities in

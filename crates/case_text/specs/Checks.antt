@@ -1,6 +1,7 @@
 -- The checks of a row, in their order. A check is a sentence on the row and on what the rows before it gave.
-use Rattle.std.specs.Prelude.{ℕ, Bool, false, not, ◌==◌, ◌||◌, List, [], ◌∷◌, length, Option, Some, None, is_some, is_none, nat_lt, int_le, option_and_then, codes}
+use Rattle.std.specs.Prelude.{ℕ, ℤ, pos, Bool, false, not, ◌==◌, ◌&&◌, ◌||◌, List, [], ◌∷◌, length, Option, Some, None, is_some, is_none, nat_lt, int_le, option_and_then, codes}
 use Rattle.std.specs.List.{list_any}
+use Rattle.std.specs.Ordering.{int_eq}
 use Rattle.std.specs.Str.{bytes_eq}
 use Rattle.rows.specs.Rows.{Row}
 use Rattle.first_fault.specs.Checks.{Check}
@@ -13,7 +14,7 @@ use Rattle.stream_case.specs.declared.limits.TheConstants.{MOST_FORBIDS, MOST_ST
 use Rattle.stream_case.specs.declared.source.Side.{Side}
 use Rattle.stream_case.specs.declared.source.Side.TheVariants as side
 use Rattle.rows.specs.Fields.{are_empty, field, is_number, is_number_or_empty, number, optional_number}
-use Rattle.rows.specs.Numbers.{is_contribution, is_flow_rate, is_heat, is_own_contribution, is_price, is_temperature}
+use Rattle.rows.specs.Numbers.{is_contribution, is_flow_rate_beside, is_heat, is_own_contribution, is_own_load, is_price, is_temperature}
 use Rattle.case_text.specs.Rows.{kind_of}
 use Rattle.case_text.specs.Given.{Given, case_of, source_at}
 use Rattle.case_text.specs.declared.fault.CaseWhy.{CaseWhy}
@@ -56,23 +57,28 @@ contribution_checks earlier row =
     ∷ (is_contribution (number row 2), why.OutOfRange)
     ∷ []
 
+-- a stream that gives a load stays at one temperature, by no heat-capacity flow; one that gives none goes the right way
+unfoldable pub heat_checks : Option ℤ → Side → ℤ → ℤ → ℤ → List (Check CaseWhy)
+heat_checks (Some load) of supply target cp = (int_eq supply target && int_eq cp (pos 0), why.NotLatent) ∷ []
+heat_checks None of supply target cp = (not (int_eq supply target), why.NoLoad) ∷ (is_right_way of supply target, why.WrongWay) ∷ []
+
 unfoldable pub stream_number_checks : Side → Row → List (Check CaseWhy)
 stream_number_checks of row =
     (is_number row 2, why.BadNumber)
     ∷ (is_number row 3, why.BadNumber)
     ∷ (is_number row 4, why.BadNumber)
+    ∷ (is_number_or_empty row 5, why.BadNumber)
     ∷ (is_number_or_empty row 6, why.BadNumber)
     ∷ (is_temperature (number row 2), why.OutOfRange)
     ∷ (is_temperature (number row 3), why.OutOfRange)
-    ∷ (is_flow_rate (number row 4), why.OutOfRange)
+    ∷ (is_flow_rate_beside (optional_number row 5) (number row 4), why.OutOfRange)
+    ∷ (is_own_load (optional_number row 5), why.OutOfRange)
     ∷ (is_own_contribution (optional_number row 6), why.OutOfRange)
-    ∷ (is_right_way of (number row 2) (number row 3), why.WrongWay)
-    ∷ []
+    ∷ heat_checks (optional_number row 5) of (number row 2) (number row 3) (number row 4)
 
 unfoldable pub stream_checks : Side → Given → Row → List (Check CaseWhy)
 stream_checks of earlier row =
-    (are_empty row (5 ∷ []), why.FieldCount)
-    ∷ (nat_lt (count_on of (case_of earlier).streams) MOST_STREAMS, why.TooMany)
+    (nat_lt (count_on of (case_of earlier).streams) MOST_STREAMS, why.TooMany)
     ∷ (is_name (field row 1), why.BadName)
     ∷ (not (is_reserved (field row 1)), why.BadName)
     ∷ (not (is_taken (case_of earlier) (field row 1)), why.SameName)

@@ -30,7 +30,7 @@ nothing = record { contribution = None; streams = []; utilities = []; forbids = 
 
 -- ---- the case that is made of it
 
--- a source has the contribution that it gives, else that of the case
+-- a source has the contribution that it gives, else that of the case; a stream has the load that it gives, else 0
 abbrev pub stream_of : ℤ → List ℕ × StreamData → Stream
 stream_of contribution (name, stream) = record {
   name = name;
@@ -38,6 +38,7 @@ stream_of contribution (name, stream) = record {
   supply = stream.supply;
   target = stream.target;
   cp = stream.cp;
+  load = unwrap_or stream.load (pos 0);
   contribution = unwrap_or stream.contribution contribution;
 }
 
@@ -72,7 +73,7 @@ source_at given name = unwrap_or (source_named (case_of given) name) (source.Str
 -- ---- what a row gives, behind rows that gave this
 
 abbrev pub stream_data : Side → Row → StreamData
-stream_data of row = record { side = of; supply = number row 2; target = number row 3; cp = number row 4; contribution = optional_number row 6 }
+stream_data of row = record { side = of; supply = number row 2; target = number row 3; cp = number row 4; load = optional_number row 5; contribution = optional_number row 6 }
 
 abbrev pub utility_data : Side → Row → UtilityData
 utility_data of row = record { side = of; level = number row 2; least = number row 3; most = number row 4; price = number row 5; contribution = optional_number row 6 }

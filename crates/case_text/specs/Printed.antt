@@ -1,5 +1,5 @@
 -- How a case is printed.
-use Rattle.std.specs.Prelude.{ℕ, ℤ, List, [], ◌∷◌, ◌++◌, map, Option, Some, None, if◌then◌else◌, codes}
+use Rattle.std.specs.Prelude.{ℕ, ℤ, pos, List, [], ◌∷◌, ◌++◌, map, Option, Some, None, if◌then◌else◌, codes}
 use Rattle.std.specs.Fmt.{signed_decimal}
 use Rattle.std.specs.Ordering.{int_eq}
 use Rattle.rows.specs.Printed.{contribution_row, optional_field}
@@ -21,8 +21,16 @@ own_contribution case contribution = if int_eq contribution case.contribution th
 unfoldable pub contribution_field : Case → ℤ → List ℕ
 contribution_field case contribution = optional_field (own_contribution case contribution)
 
+-- the load that a stream gives: none where it is 0, as that of a sensible one
+abbrev pub own_load : ℤ → Option ℤ
+own_load load = if int_eq load (pos 0) then None else Some load
+
+-- the sixth field of a stream
+unfoldable pub load_field : ℤ → List ℕ
+load_field load = optional_field (own_load load)
+
 abbrev pub stream_row : Case → Stream → Row
-stream_row case s = rows.stream_row (contribution_field case s.contribution) s
+stream_row case s = rows.stream_row (load_field s.load) (contribution_field case s.contribution) s
 
 abbrev pub utility_kind : Side → List ℕ
 utility_kind side.Hot = codes "heater"

@@ -15,6 +15,8 @@ pub struct StreamData {
     pub target: i32,
     /// The heat-capacity flow, in 10 W/K.
     pub cp: i64,
+    /// The heat of a latent stream, in W; there is none for a sensible one.
+    pub load: Option<i64>,
     /// In tenths of °C; that of the case where there is none.
     pub contribution: Option<i32>,
 }
@@ -30,6 +32,7 @@ impl StreamData {
             supply: self.supply,
             target: self.target,
             cp: self.cp,
+            load: self.load.unwrap_or(0),
             contribution: self.contribution.unwrap_or(contribution),
         }
     }

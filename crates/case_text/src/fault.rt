@@ -17,7 +17,7 @@ pub enum CaseWhy {
     BadName,
     /// A stream or utility has the name of an earlier one.
     SameName,
-    /// A hot supply is not above its target, or a cold supply not below it.
+    /// A hot supply is below its target, or a cold supply above it.
     WrongWay,
     /// An earlier row gave a contribution, or forbade this match.
     Repeated,
@@ -31,6 +31,10 @@ pub enum CaseWhy {
     NoStream,
     /// The least heat of a utility is above its most.
     BadRange,
+    /// A stream whose supply equals its target gives no load.
+    NoLoad,
+    /// A stream that gives a load has a target other than its supply, or a heat-capacity flow.
+    NotLatent,
 }
 
 /// Why there is no case: the first row at fault with its cause, or want of memory.

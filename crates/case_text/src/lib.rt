@@ -2,8 +2,9 @@
 //!
 //! A case file is a CSV text with a contribution, hot and cold streams, heaters, coolers and
 //! forbidden matches, one a row. A stream or utility may have a contribution of its own, and has
-//! that of the case where its row gives none. The grammar says of the rows of a text either which
-//! case they give, or which row is at fault and why.
+//! that of the case where its row gives none. A stream that stays at one temperature gives a load
+//! instead of a heat-capacity flow. The grammar says of the rows of a text either which case they
+//! give, or which row is at fault and why.
 #![tactic(auto)]
 
 mod contribution_row;

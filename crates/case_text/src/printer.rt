@@ -7,7 +7,7 @@ ghost use Rattle.stream_case.specs.Case.{IsValid, IsValidForbid};
 ghost use Rattle.case_text.specs.Outcome.{IsCase};
 ghost use Rattle.rows.specs.Printed.{contribution_row};
 ghost use Rattle.rows.specs.Text.{fields_text, row_text, rows_text};
-ghost use Rattle.case_text.specs.Printed.{contribution_field, forbid_row, printed_rows, stream_row, utility_row};
+ghost use Rattle.case_text.specs.Printed.{contribution_field, forbid_row, load_field, printed_rows, stream_row, utility_row};
 
 use std::alloc::{AllocError, Global};
 use stream_case::{Case, Forbid, Side, Stream, Utility};
@@ -31,6 +31,28 @@ fn contribution_field(alloc: Global, case: &Case, contribution: i32) -> Result<S
     format!(in alloc; "{contribution}")
 }
 
+/// The field of a stream's load, in W: it is empty where that is 0, as a sensible stream's.
+#[tactic(auto, unfolding(crate::specs::Printed::load_field))]
+fn load_field(alloc: Global, load: i64) -> Result<String, AllocError>
+    ensures { IfOk result (λ f. string_bytes f ≡ load_field load) }
+{
+    if load == 0 {
+        return Ok(String::new(alloc));
+    }
+    format!(in alloc; "{load}")
+}
+
+/// The end of a stream's line, behind its temperatures: the heat-capacity flow, the load and the
+/// contribution.
+#[tactic(auto, unfolding(rows::specs::Text::fields_text))]
+fn stream_end(alloc: Global, case: &Case, stream: &Stream) -> Result<String, AllocError>
+    ensures { IfOk result (λ end. string_bytes end ≡ fields_text (drop 4 (stream_row case.now stream.now))) }
+{
+    let load = load_field(alloc, stream.load)?;
+    let own = contribution_field(alloc, case, stream.contribution)?;
+    format!(in alloc; ",{},{load},{own}\n", stream.cp)
+}
+
 /// The line of a stream.
 #[tactic(auto, unfolding(rows::specs::Text::fields_text))]
 fn stream_line(alloc: Global, case: &Case, stream: &Stream) -> Result<String, AllocError>
@@ -40,10 +62,10 @@ fn stream_line(alloc: Global, case: &Case, stream: &Stream) -> Result<String, Al
         Side::Hot => "hot",
         Side::Cold => "cold",
     };
-    let own = contribution_field(alloc, case, stream.contribution)?;
+    let end = stream_end(alloc, case, stream)?;
     format!(in alloc;
-        "{kind},{},{},{},{},,{own}\n",
-        stream.name, stream.supply, stream.target, stream.cp
+        "{kind},{},{},{}{end}",
+        stream.name, stream.supply, stream.target
     )
 }
 
@@ -131,8 +153,8 @@ fn push_forbids(
 
 /// Prints a case as a case file: the contribution, the streams, the utilities and the forbidden
 /// matches in their order, one a row, with seven fields and without quotes. The contribution of
-/// a source stands in its row only where it is not that of the case. `read_case` gives the case
-/// back.
+/// a source stands in its row only where it is not that of the case, and a load only in that of a
+/// latent stream, which has the heat-capacity flow 0. `read_case` gives the case back.
 pub fn print_case(alloc: Global, case: &Case) -> Result<Vec<u8>, AllocError>
     requires { IsValid case.now }
     ensures text { IfOk result (λ text. text.items ≡ rows_text (printed_rows case.now)) }

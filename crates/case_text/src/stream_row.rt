@@ -5,7 +5,7 @@ ghost use Rattle.csv.specs.Records.{fields_of};
 ghost use Rattle.first_fault.specs.Checks.{Checked};
 ghost use Rattle.rows.specs.Fields.{field};
 ghost use Rattle.case_text.specs.Given.{stream_data};
-ghost use Rattle.case_text.specs.Checks.{is_reserved, stream_checks, stream_number_checks};
+ghost use Rattle.case_text.specs.Checks.{heat_checks, is_reserved, stream_checks, stream_number_checks};
 ghost use Rattle.case_text.specs.Answers.{IsFresh};
 
 use crate::entry::{Entry, StreamData};
@@ -13,7 +13,8 @@ use crate::fault::CaseWhy;
 use crate::found::Found;
 use csv::ByteRecord;
 use rows::{
-    are_empty, flow_rate, name_in, number_in, optional_number_in, own_contribution, temperature,
+    flow_rate_beside, name_in, number_in, optional_number_in, own_contribution, own_load,
+    temperature,
 };
 use stream_case::{MOST_STREAMS, Side};
 
@@ -25,6 +26,29 @@ fn is_reserved(name: &[u8]) -> bool
     name == b"HOT".as_slice() || name == b"COLD".as_slice()
 }
 
+/// Whether a stream has the temperatures and the heat-capacity flow of a latent one, if it gives
+/// a load, or else those of a sensible one; or the cause where it has not.
+#[tactic(auto, unfolding(crate::specs::Checks::heat_checks))]
+fn check_heat(stream: &StreamData) -> Result<(), CaseWhy>
+    ensures { Checked (heat_checks stream.now.load stream.now.side stream.now.supply stream.now.target stream.now.cp) (λ _. Unit {0}) result }
+{
+    let is_level = stream.supply == stream.target;
+    if stream.load.is_some() {
+        return if is_level && stream.cp == 0 {
+            Ok(())
+        } else {
+            Err(CaseWhy::NotLatent)
+        };
+    }
+    if is_level {
+        return Err(CaseWhy::NoLoad);
+    }
+    if !stream.side.is_right_way(stream.supply, stream.target) {
+        return Err(CaseWhy::WrongWay);
+    }
+    Ok(())
+}
+
 /// What the numbers of a stream's row say.
 #[tactic(auto, unfolding(crate::specs::Checks::stream_number_checks))]
 fn stream_data(side: Side, row: &ByteRecord) -> Result<StreamData, CaseWhy>
@@ -33,21 +57,23 @@ fn stream_data(side: Side, row: &ByteRecord) -> Result<StreamData, CaseWhy>
     let supply = number_in(row, 2, CaseWhy::BadNumber)?;
     let target = number_in(row, 3, CaseWhy::BadNumber)?;
     let cp = number_in(row, 4, CaseWhy::BadNumber)?;
+    let load = optional_number_in(row, 5, CaseWhy::BadNumber)?;
     let own = optional_number_in(row, 6, CaseWhy::BadNumber)?;
     let supply = temperature(supply, CaseWhy::OutOfRange)?;
     let target = temperature(target, CaseWhy::OutOfRange)?;
-    let cp = flow_rate(cp, CaseWhy::OutOfRange)?;
+    let cp = flow_rate_beside(load, cp, CaseWhy::OutOfRange)?;
+    let load = own_load(load, CaseWhy::OutOfRange)?;
     let contribution = own_contribution(own, CaseWhy::OutOfRange)?;
-    if !side.is_right_way(supply, target) {
-        return Err(CaseWhy::WrongWay);
-    }
-    Ok(StreamData {
+    let stream = StreamData {
         side,
         supply,
         target,
         cp,
+        load,
         contribution,
-    })
+    };
+    check_heat(&stream)?;
+    Ok(stream)
 }
 
 /// What a row of that kind gives.
@@ -56,9 +82,6 @@ pub fn stream_entry(found: &Found, side: Side, row: &ByteRecord) -> Result<Entry
     ensures fresh { IfOk result (IsFresh found.now) }
     ensures checked { Checked (stream_checks side found.now (fields_of row.now)) (λ e. e ≡ Entry.Stream (field (fields_of row.now) 1) (stream_data side (fields_of row.now))) result }
 {
-    if !are_empty(row, &[5]) {
-        return Err(CaseWhy::FieldCount);
-    }
     if found.count_streams(side) >= MOST_STREAMS {
         return Err(CaseWhy::TooMany);
     }

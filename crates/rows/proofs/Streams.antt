@@ -1,7 +1,5 @@
 -- What is kept of the contribution and of the streams that rows give.
 use Rattle.std.proofs.Common.{◌≡◌, ◌⊎◌, ◌+◌, ◌<◌, ◌≤◌, ℕ, ℤ, pos, true, cond, Option, Some, None, IfSome, unwrap_or, arith}
-use Rattle.std.specs.Ordering.{int_eq}
-use Rattle.std.proofs.lemmas.Bool.Decides.{Decides-int_eq}
 use Rattle.stream_case.specs.Limits.{IsContribution}
 use Rattle.stream_case.specs.Name.{is_name}
 use Rattle.stream_case.specs.Source.{is_right_way, same_side}
@@ -26,8 +24,8 @@ range_of (Some c) otherwise fits range = fits
 pub passed-sensible : (s : Stream) → is_flow_rate s.cp ≡ true → s.load ≡ pos 0 → is_right_way s.side s.supply s.target ≡ true → IsSensible s
 passed-sensible s cp load way = record { way = (Decides-is_right_way s.side s.supply s.target).0 way; cp = passed-within _ _ _ cp; load = load }
 
-pub passed-latent : (s : Stream) → s.cp ≡ pos 0 → is_load s.load ≡ true → int_eq s.supply s.target ≡ true → IsLatent s
-passed-latent s cp load level = record { level = (Decides-int_eq s.supply s.target).0 level; cp = cp; load = passed-within _ _ _ load }
+pub passed-latent : (s : Stream) → s.supply ≡ s.target → s.cp ≡ pos 0 → is_load s.load ≡ true → IsLatent s
+passed-latent s level cp load = record { level = level; cp = cp; load = passed-within _ _ _ load }
 
 pub stream-is_valid : (s : Stream) → is_name s.name ≡ true → is_temperature s.supply ≡ true → is_temperature s.target ≡ true → IsSensible s ⊎ IsLatent s → IsContribution s.contribution → IsValidStream s
 stream-is_valid s name supply target heat contribution = record {

@@ -2,7 +2,9 @@ ghost use Rattle.std.specs.Prelude.{IfOk};
 ghost use Rattle.stream_case.specs.Case.{IsValid};
 
 use crate::compare::{assert_lists, assert_same};
-use crate::tables::{FOUR_STREAMS, TWO_STREAMS, Table, case_of, repeated, stream, utility, valid};
+use crate::tables::{
+    FOUR_STREAMS, TWO_STREAMS, Table, case_of, latent, repeated, stream, utility, valid,
+};
 use case_text::{CaseFault, CaseWhy, number_of, print_case, read_case};
 use std::alloc::{AllocError, Global};
 use std::process::Abort;
@@ -52,6 +54,14 @@ const OWN_CONTRIBUTIONS: &[u8] =
 const PRINTED_OWN_CONTRIBUTIONS: &[u8] =
     b"contribution,,50,,,,\nhot,H,600,400,20,,100\ncold,C,300,700,10,,\nheater,S,800,0,9000,1,0\ncooler,W,200,0,9000,0,\n";
 
+/// A sensible stream and two latent ones, of which one has the greatest load.
+const LATENT_STREAMS: &[u8] =
+    b"contribution,,50,,,,\nhot,H,1500,700,10,,\ncold,B,0900,900,00,0008000,050\nhot,V,-20,-20,-0,10000000000,0\n";
+
+/// The same as they are printed.
+const PRINTED_LATENT_STREAMS: &[u8] =
+    b"contribution,,50,,,,\nhot,H,1500,700,10,,\ncold,B,900,900,0,8000,\nhot,V,-20,-20,0,10000000000,0\n";
+
 /// Tables, how they are printed, and the cases that they give.
 const TABLES: [(&[u8], &[u8], Table); 2] = [
     (FOUR_STREAMS_TEXT, FOUR_STREAMS_TEXT, FOUR_STREAMS),
@@ -74,11 +84,20 @@ const NUMBERS: [(&str, Option<i64>); 12] = [
 ];
 
 /// Rows behind the contribution and the stream H, and why they are refused.
-const FAULTY_ROWS: [(&str, CaseWhy); 24] = [
+const FAULTY_ROWS: [(&str, CaseWhy); 33] = [
     ("steam,S,1,2,3,4,", CaseWhy::UnknownKind),
     ("hot,K,900,400,10,", CaseWhy::FieldCount),
-    ("hot,K,900,400,10,7,", CaseWhy::FieldCount),
-    ("hot,K,900,400,10,x,7", CaseWhy::FieldCount),
+    ("hot,K,900,400,10,7,", CaseWhy::NotLatent),
+    ("cold,K,900,900,10,7,1000", CaseWhy::NotLatent),
+    ("cold,K,30001,900,10,7,", CaseWhy::OutOfRange),
+    ("cold,K,900,900,10,7,1001", CaseWhy::OutOfRange),
+    ("hot,K,900,900,0,0,", CaseWhy::OutOfRange),
+    ("hot,K,900,900,0,10000000001,", CaseWhy::OutOfRange),
+    ("hot,K,900,900,-1,7,", CaseWhy::OutOfRange),
+    ("hot,K,900,900,0,,", CaseWhy::OutOfRange),
+    ("hot,K,900,400,10,x,7", CaseWhy::BadNumber),
+    ("hot,K,900,400,10,7,x", CaseWhy::BadNumber),
+    ("heater,S,1500,0,5,,", CaseWhy::BadNumber),
     ("hot,K,900,400,10,,x", CaseWhy::BadNumber),
     ("cold,K,400,900,10,,1001", CaseWhy::OutOfRange),
     ("heater,S,1500,0,5,1,x", CaseWhy::BadNumber),
@@ -93,7 +112,7 @@ const FAULTY_ROWS: [(&str, CaseWhy); 24] = [
     ("forbid,H,C,,,,", CaseWhy::UnknownName),
     ("heater,S,1500,10,5,1,", CaseWhy::BadRange),
     ("hot,H,500,500,10,,", CaseWhy::SameName),
-    ("hot,K,500,500,10,,", CaseWhy::WrongWay),
+    ("hot,K,500,500,10,,", CaseWhy::NoLoad),
     ("heater,COLD,1500,0,5,1,", CaseWhy::BadName),
     ("cooler,S,200,0,1000000000001,0,", CaseWhy::OutOfRange),
     ("forbid,H,C,5,,,", CaseWhy::FieldCount),
@@ -202,6 +221,21 @@ fn own_contributions(alloc: Global) -> Result<Case, Fail>
     })
 }
 
+/// The case that the latent streams give.
+fn latent_streams(alloc: Global) -> Result<Case, Fail>
+    ensures { IfOk result IsValid }
+{
+    let sensible = stream("H", Hot, (1500, 700), 10, 50)?;
+    let evaporating = latent("B", Cold, 900, 8000, 50)?;
+    let condensing = latent("V", Hot, -20, 10_000_000_000, 0)?;
+    valid(Case {
+        contribution: 50,
+        streams: Items::from_vec(vec![in alloc; sensible, evaporating, condensing]?),
+        utilities: Items::new(alloc),
+        forbids: Items::new(alloc),
+    })
+}
+
 /// A table gives this case, is printed so, and is then read as the same case.
 fn check_table(
     rt: &(impl Abort + AllocGlobal),
@@ -224,7 +258,9 @@ fn tables_give_their_cases_and_are_printed(rt: HostRuntime) -> Result<(), Fail> 
         check_table(&rt, table, wanted, &case_of(rt.alloc(), given)?)?;
     }
     let case = own_contributions(rt.alloc())?;
-    check_table(&rt, OWN_CONTRIBUTIONS, PRINTED_OWN_CONTRIBUTIONS, &case)
+    check_table(&rt, OWN_CONTRIBUTIONS, PRINTED_OWN_CONTRIBUTIONS, &case)?;
+    let case = latent_streams(rt.alloc())?;
+    check_table(&rt, LATENT_STREAMS, PRINTED_LATENT_STREAMS, &case)
 }
 
 #[test]

@@ -114,7 +114,22 @@ pub fn stream(
         supply,
         target,
         cp,
+        load: 0,
         contribution,
+    })
+}
+
+/// A latent stream with this contribution, at its one temperature.
+pub fn latent(
+    text: &str,
+    side: Side,
+    level: i32,
+    load: i64,
+    contribution: i32,
+) -> Result<Stream, Fail> {
+    Ok(Stream {
+        load,
+        ..stream(text, side, (level, level), 0, contribution)?
     })
 }
 

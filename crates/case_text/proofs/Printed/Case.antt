@@ -1,5 +1,5 @@
 -- The printed rows of a valid case give the case.
-use Rattle.std.proofs.Common.{◌≡◌, ◌≢◌, ◌∙◌, ◌∷◌, ◌++◌, ◌<◌, ◌≤◌, ℕ, ℤ, Bool, cond, List, [], All, Some, None, is_some, true, false, if◌then◌else◌, unwrap_or, length, map, refl, sym, ap, subst, arith, append_assoc}
+use Rattle.std.proofs.Common.{◌≡◌, ◌≢◌, ◌∙◌, ◌∷◌, ◌++◌, ◌<◌, ◌≤◌, ℕ, ℤ, pos, Bool, cond, List, [], All, Some, None, is_some, true, false, if◌then◌else◌, unwrap_or, length, map, refl, sym, ap, subst, arith, append_assoc}
 use Rattle.std.specs.Map.{keys_of}
 use Rattle.std.specs.Ordering.{int_eq}
 use Rattle.std.proofs.lemmas.Bool.Decides.{Decides-int_eq, nat_tests}
@@ -28,7 +28,7 @@ use Rattle.case_text.specs.Given.{Given, case_of, nothing, stream_of, utility_of
 use Rattle.case_text.specs.Checks.{end_checks}
 use Rattle.case_text.specs.Outcome.{IsCase, end_fault, grammar}
 use Rattle.rows.specs.Printed.{contribution_row}
-use Rattle.case_text.specs.Printed.{forbid_row, own_contribution, printed_rows, stream_row, utility_row}
+use Rattle.case_text.specs.Printed.{forbid_row, own_contribution, own_load, printed_rows, stream_row, utility_row}
 use Rattle.case_text.specs.declared.entry.StreamData.{StreamData}
 use Rattle.case_text.specs.declared.entry.UtilityData.{UtilityData}
 use Rattle.case_text.proofs.ListLemmas.{count_by-map}
@@ -98,9 +98,17 @@ own_back k c = by (int_eq c k.contribution) refl
     by true same = sym ((Decides-int_eq c k.contribution).0 same)
     by false differs = refl
 
+-- the load that a stream gives, or else 0
+load_back : (load : ℤ) → unwrap_or (own_load load) (pos 0) ≡ load
+load_back load = by (int_eq load (pos 0)) refl
+  where
+    by : (b : Bool) → int_eq load (pos 0) ≡ b → unwrap_or (if b then None else Some load) (pos 0) ≡ load
+    by true none = sym ((Decides-int_eq load (pos 0)).0 none)
+    by false some = refl
+
 streams_back : (k : Case) (ss : List Stream) → map (stream_of k.contribution) (map (stream_entry k) ss) ≡ ss
 streams_back k [] = refl
-streams_back k (s ∷ ss) = λ i. record s { contribution = own_back k s.contribution i } ∷ streams_back k ss i
+streams_back k (s ∷ ss) = λ i. record s { load = load_back s.load i; contribution = own_back k s.contribution i } ∷ streams_back k ss i
 
 utilities_back : (k : Case) (us : List Utility) → map (utility_of k.contribution) (map (utility_entry k) us) ≡ us
 utilities_back k [] = refl

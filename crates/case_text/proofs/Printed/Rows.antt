@@ -1,7 +1,8 @@
 -- Each printed row follows on the rows before it.
-use Rattle.std.proofs.Common.{◌≡◌, ◌≢◌, ◌∷◌, ◌++◌, ◌<◌, ℕ, ℤ, pos, true, false, List, All, Some, None, IfSome, if◌then◌else◌, unwrap_or, length, refl, arith}
+use Rattle.std.proofs.Common.{◌≡◌, ◌≢◌, ◌⊎◌, inl, inr, ◌∷◌, ◌++◌, ◌<◌, ℕ, ℤ, pos, Bool, not, true, false, List, All, Option, Some, None, IfSome, if◌then◌else◌, unwrap_or, length, refl, arith}
 use Rattle.std.specs.Map.{keys_of}
 use Rattle.std.specs.Ordering.{int_eq}
+use Rattle.std.proofs.lemmas.Bool.Decides.{Decides-and, Decides-int_eq, Decides-not}
 use Rattle.std.proofs.lemmas.Int.{ints}
 use Rattle.rows.specs.Rows.{Row}
 use Rattle.first_fault.proofs.CheckLemmas.{Passes, none_fails}
@@ -9,11 +10,12 @@ use Rattle.first_fault.proofs.Steps.{Follows}
 use Rattle.stream_case.specs.Case.{IsRightlyNamed, IsUnreserved, side_of, source_name, source_named}
 use Rattle.stream_case.specs.Limits.{IsContribution, IsHeat}
 use Rattle.stream_case.specs.Name.{IsName}
-use Rattle.stream_case.specs.Stream.{IsValidStream, count_on}
+use Rattle.stream_case.specs.Stream.{IsLatent, IsSensible, IsValidStream, count_on}
 use Rattle.stream_case.specs.Utility.{IsValidUtility}
 use Rattle.stream_case.specs.declared.case.Case.{Case}
 use Rattle.stream_case.specs.declared.case.Forbid.{Forbid}
 use Rattle.stream_case.specs.declared.limits.TheConstants.{MOST_FORBIDS, MOST_STREAMS, MOST_UTILITIES}
+use Rattle.stream_case.specs.Source.{IsRightWay}
 use Rattle.stream_case.specs.declared.source.Side.{Side}
 use Rattle.stream_case.specs.declared.source.Side.TheVariants as side
 use Rattle.stream_case.specs.declared.source.Source.{Source}
@@ -22,19 +24,19 @@ use Rattle.stream_case.specs.declared.utility.Utility.{Utility}
 use Rattle.stream_case.proofs.NameTests.{name-passes}
 use Rattle.stream_case.proofs.SourceLemmas.{Decides-is_right_way}
 use Rattle.rows.specs.Fields.{are_empty, field, is_number, is_number_or_empty, is_passed_over, number, optional_number}
-use Rattle.rows.specs.Numbers.{is_own_contribution}
+use Rattle.rows.specs.Numbers.{is_flow_rate_beside, is_own_contribution, is_own_load}
 use Rattle.rows.proofs.Tests.{Decides-int_le, Decides-is_own_contribution, room-passes, within-passes}
 use Rattle.case_text.specs.Rows.{kind_of}
 use Rattle.case_text.specs.Given.{Given, case_of, nothing, with_entry}
-use Rattle.case_text.specs.Checks.{checks, contribution_checks, forbid_checks, kind_checks, stream_checks, stream_number_checks, utility_checks, utility_number_checks}
+use Rattle.case_text.specs.Checks.{checks, contribution_checks, forbid_checks, heat_checks, kind_checks, stream_checks, stream_number_checks, utility_checks, utility_number_checks}
 use Rattle.case_text.specs.Outcome.{grammar}
 use Rattle.rows.specs.Printed.{contribution_row, stream_kind}
-use Rattle.case_text.specs.Printed.{contribution_field, forbid_row, own_contribution, stream_row, utility_kind, utility_row}
+use Rattle.case_text.specs.Printed.{contribution_field, forbid_row, load_field, own_contribution, own_load, stream_row, utility_kind, utility_row}
 use Rattle.case_text.specs.declared.entry.Entry.TheVariants as entry
 use Rattle.case_text.specs.declared.entry.StreamData.{StreamData}
 use Rattle.case_text.specs.declared.entry.UtilityData.{UtilityData}
 use Rattle.case_text.specs.declared.kind.Kind.TheVariants as kind
-use Rattle.rows.proofs.PrintedNumbers.{IsPrintable, contribution, flow_rate, heat, number_read, optional_read, price, temperature}
+use Rattle.rows.proofs.PrintedNumbers.{IsPrintable, contribution, heat, load, number_read, optional_read, price, stream_flow_rate, temperature}
 use Rattle.case_text.proofs.Sources.{count_of, count_on-case, names_of-case}
 use Rattle.case_text.proofs.Tests.{Decides-is_forbidden, Decides-is_reserved, Decides-is_reserved_from, Decides-is_taken, is_source-named}
 
@@ -65,8 +67,64 @@ reads_own k c row range printed =
 
 -- ---- streams
 
+-- the load that a stream gives
+no_load : (s : Stream) → IsSensible s → own_load s.load ≡ None
+no_load s sensible = rw sensible.load refl
+
+some_load : (s : Stream) → IsLatent s → own_load s.load ≡ Some s.load
+some_load s latent = let more = (Decides-not _ (Decides-int_eq s.load (pos 0))).1 (λ none. absurd (omega (arith, ints, latent.load.from, none))) in rw (not_true _ more) refl
+  where
+    not_true : (b : Bool) → not b ≡ true → b ≡ false
+    not_true true e = cc e
+    not_true false e = refl
+
+pub load_printable : (s : Stream) → IsValidStream s → IfSome (own_load s.load) IsPrintable
+load_printable s valid = by valid.heat
+  where
+    by : IsSensible s ⊎ IsLatent s → IfSome (own_load s.load) IsPrintable
+    by (inl sensible) = rw (no_load s sensible) tt
+    by (inr latent) = rw (some_load s latent) (load s.load latent.load)
+
+-- a stream passes the checks of its heat by this load
+record PassesHeat (s : Stream) (given : Option ℤ) : Type 0 where
+  cp : is_flow_rate_beside given s.cp ≡ true
+  load : is_own_load given ≡ true
+  heat : Passes (heat_checks given s.side s.supply s.target s.cp)
+
+sensible_passes : (s : Stream) → IsSensible s → PassesHeat s None
+unfolding is_own_load heat_checks
+sensible_passes s sensible = record {
+  cp = within-passes _ _ _ sensible.cp;
+  load = refl;
+  heat = ((Decides-not _ (Decides-int_eq s.supply s.target)).1 (differs s.side s.supply s.target sensible.way), ((Decides-is_right_way s.side s.supply s.target).1 sensible.way, tt));
+}
+  where
+    differs : (of : Side) (supply target : ℤ) → IsRightWay of supply target → supply ≡ target → ⊥
+    differs side.Hot supply target way level = omega (arith, ints, way, level)
+    differs side.Cold supply target way level = omega (arith, ints, way, level)
+
+latent_passes : (s : Stream) → IsLatent s → PassesHeat s (Some s.load)
+unfolding is_own_load heat_checks
+latent_passes s latent = record {
+  cp = within-passes _ _ _ (record { from = omega (arith, ints, latent.cp); upto = omega (arith, ints, latent.cp) });
+  load = within-passes _ _ _ latent.load;
+  heat = ((Decides-and _ _ (Decides-int_eq s.supply s.target) (Decides-int_eq s.cp (pos 0))).1 (latent.level, latent.cp), tt);
+}
+
+passes_heat : (s : Stream) → IsValidStream s → PassesHeat s (own_load s.load)
+passes_heat s valid = by valid.heat
+  where
+    by : IsSensible s ⊎ IsLatent s → PassesHeat s (own_load s.load)
+    by (inl sensible) = rw (no_load s sensible) (sensible_passes s sensible)
+    by (inr latent) = rw (some_load s latent) (latent_passes s latent)
+
+-- the sixth field, in which the load is printed
+reads_load : (s : Stream) (row : Row) → IsValidStream s → field row 5 ≡ load_field s.load → (is_number_or_empty row 5 ≡ true) × (optional_number row 5 ≡ own_load s.load)
+unfolding load_field
+reads_load s row valid printed = optional_read row 5 (own_load s.load) (load_printable s valid) printed
+
 abbrev pub stream_entry : Case → Stream → List ℕ × StreamData
-stream_entry k s = (s.name, record { side = s.side; supply = s.supply; target = s.target; cp = s.cp; contribution = own_contribution k s.contribution })
+stream_entry k s = (s.name, record { side = s.side; supply = s.supply; target = s.target; cp = s.cp; load = own_load s.load; contribution = own_contribution k s.contribution })
 
 stream_row_kind : (of : Side) (fields : Row) → kind_of (stream_kind of ∷ fields) ≡ Some (kind.Stream of)
 unfolding kind_of is_passed_over are_empty
@@ -82,14 +140,16 @@ stream_follows given k s valid unreserved few new =
     let is : kind_of row ≡ Some (kind.Stream s.side) = stream_row_kind s.side _ in
     let supply = number_read s.supply (temperature s.supply valid.supply) in
     let target = number_read s.target (temperature s.target valid.target) in
-    let cp = number_read s.cp (flow_rate s.cp valid.cp) in
+    let cp = number_read s.cp (stream_flow_rate s valid) in
+    let (is_load, load) = reads_load s row valid refl in
+    let heat = passes_heat s valid in
     let own = reads_own k s.contribution row valid.contribution refl in
     let place = room-passes (count_on s.side (case_of given).streams) MOST_STREAMS (rw (count_on-case s.side (unwrap_or given.contribution (pos 0)) given.streams) few) in
     let free = (Decides-is_taken (case_of given) s.name).1 (rw (names_of-case given) new) in
     let numbers : Passes (stream_number_checks s.side row) =
-    rw (supply, target, cp, own.read) (refl, (refl, (refl, (own.is_number, (within-passes _ _ _ valid.supply, (within-passes _ _ _ valid.target, (within-passes _ _ _ valid.cp, (own.range, ((Decides-is_right_way s.side s.supply s.target).1 valid.way, tt))))))))) in
-    let passes : Passes (checks given row) = rw is (refl, (refl, (refl, (place, (name-passes s.name valid.name, ((Decides-is_reserved s.name).1 unreserved, (free, numbers))))))) in
-    record { passes = none_fails (checks given row) passes; next_is = rw (is, supply, target, cp, own.read) refl }
+    rw (supply, target, cp, load, own.read) (refl, (refl, (refl, (is_load, (own.is_number, (within-passes _ _ _ valid.supply, (within-passes _ _ _ valid.target, (heat.cp, (heat.load, (own.range, heat.heat)))))))))) in
+    let passes : Passes (checks given row) = rw is (refl, (refl, (place, (name-passes s.name valid.name, ((Decides-is_reserved s.name).1 unreserved, (free, numbers)))))) in
+    record { passes = none_fails (checks given row) passes; next_is = rw (is, supply, target, cp, load, own.read) refl }
 
 -- ---- utilities
 

@@ -22,9 +22,9 @@ use Rattle.rows.proofs.PrintedNumbers.{IsPrintable, contribution, heat, price, t
 use Rattle.rows.proofs.PrintedRows.{IsPrintedField, IsPrintedRow, contribution_printed, name_field, no_field, number_field, optional_number_field, rows_short, seven_fields}
 use Rattle.rows.proofs.PrintedRows as printed
 use Rattle.case_text.specs.Outcome.{IsCase}
-use Rattle.case_text.specs.Printed.{contribution_field, forbid_row, own_contribution, printed_rows, stream_row, utility_kind, utility_row}
+use Rattle.case_text.specs.Printed.{contribution_field, forbid_row, load_field, own_contribution, own_load, printed_rows, stream_row, utility_kind, utility_row}
 use Rattle.case_text.proofs.Printed.Case.{name_of, rows_back}
-use Rattle.case_text.proofs.Printed.Rows.{own}
+use Rattle.case_text.proofs.Printed.Rows.{load_printable, own}
 
 -- ---- the rows
 
@@ -35,6 +35,10 @@ utility_kind_field side.Cold = record { plain = refl; short = omega arith }
 contribution_field_printed : (k : Case) (c : ℤ) → IsContribution c → IsPrintedField (contribution_field k c)
 unfolding contribution_field
 contribution_field_printed k c range = optional_number_field (own_contribution k c) (own IsPrintable k c (contribution c range))
+
+load_field_printed : (s : Stream) → IsValidStream s → IsPrintedField (load_field s.load)
+unfolding load_field
+load_field_printed s valid = optional_number_field (own_load s.load) (load_printable s valid)
 
 utility_printed : (k : Case) (u : Utility) → IsValidUtility u → IsPrintedRow (utility_row k u)
 utility_printed k u valid =
@@ -54,7 +58,7 @@ forbid_printed k valid f joins =
 rows_printed : (k : Case) → IsValid k → All IsPrintedRow (printed_rows k)
 unfolding printed_rows
 rows_printed k valid =
-    let stream = λ (s : Stream) (is : IsValidStream s). printed.stream_printed _ (contribution_field_printed k s.contribution is.contribution) s is in
+    let stream = λ (s : Stream) (is : IsValidStream s). printed.stream_printed _ _ (load_field_printed s is) (contribution_field_printed k s.contribution is.contribution) s is in
     let each_stream = All-weaker IsValidStream (λ s. IsPrintedRow (stream_row k s)) stream k.streams valid.streams.are_streams.each in
     let each_utility = All-weaker IsValidUtility (λ u. IsPrintedRow (utility_row k u)) (utility_printed k) k.utilities valid.utilities in
     let each_forbid = All-weaker (IsValidForbid k) (λ f. IsPrintedRow (forbid_row k f)) (forbid_printed k valid) k.forbids valid.forbids in
