@@ -1,5 +1,5 @@
 -- The first item that is not passed, of lists of items in a row and of the items of many members.
-use Rattle.std.proofs.Common.{◌≡◌, ◌∙◌, ◌+◌, ◌∷◌, ◌++◌, ℕ, Bool, true, false, not, List, [], Option, Some, None, All, slice_get, refl, sym, ap}
+use Rattle.std.proofs.Common.{◌≡◌, ◌∙◌, ◌∷◌, ◌++◌, ℕ, Bool, true, false, not, List, [], Option, Some, None, All, slice_get, refl, sym, ap}
 use Rattle.std.specs.List.{enumerate_from, flat_map}
 use Rattle.std.specs.Option.{option_or}
 use Rattle.std.proofs.lemmas.List.Elements.{All-head, All-tail}

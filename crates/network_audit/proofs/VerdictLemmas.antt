@@ -1,6 +1,6 @@
 -- What follows from a verdict.
 use Rattle.std.proofs.Common.{◌≡◌, ◌∙◌, inl, inr, Some, length, sym, ap, subst}
-use Rattle.network_audit.proofs.Words.{Audit, Balance, Case, HasShape, IfAccepted, IsAtMost, IsValidNetwork, IsVerdict, IsWholeValuation, Leaves, Network, Says, SaysExactly, Valuation, Verdict, rational_zero}
+use Rattle.network_audit.proofs.Words.{AreSensible, Audit, Balance, Case, HasShape, IfAccepted, IsAtMost, IsValidNetwork, IsVerdict, IsWholeValuation, Leaves, Network, Says, SaysExactly, Valuation, Verdict, rational_zero}
 use Rattle.network_values.proofs.SignLemmas.{targets_met}
 use Rattle.network_values.proofs.ValuationLemmas.{one_valuation}
 use Rattle.network_audit.specs.declared.verdict.Verdict.TheVariants as verdict
@@ -29,11 +29,12 @@ says_exactly P (verdict.Rejected place reason) is = inr ((λ none. absurd none),
 says_exactly P (verdict.TooFine place step) is = inl tt
 
 -- what is accepted does not beat the target
-pub excess_of_verdict : (case : Case) (network : Network) (given : Verdict) → HasShape case network → IsVerdict case network given
+pub excess_of_verdict : (case : Case) (network : Network) (given : Verdict) → AreSensible case.streams → HasShape case network
+    → IsVerdict case network given
     → IfAccepted given (λ balance. IsAtMost rational_zero balance.excess)
-excess_of_verdict case network (verdict.Accepted balance) shape is =
+excess_of_verdict case network (verdict.Accepted balance) sensible shape is =
     let valid = valid_network case network is.0 in
     subst (λ (b : Balance). IsAtMost rational_zero b.excess) (sym is.1)
-    (targets_met case network valid.values shape valid.valuation valid.ended valid.approaches)
-excess_of_verdict case network (verdict.Rejected place reason) shape is = tt
-excess_of_verdict case network (verdict.TooFine place step) shape is = tt
+    (targets_met case network valid.values sensible shape valid.valuation valid.ended valid.approaches)
+excess_of_verdict case network (verdict.Rejected place reason) sensible shape is = tt
+excess_of_verdict case network (verdict.TooFine place step) sensible shape is = tt

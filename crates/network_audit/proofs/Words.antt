@@ -41,7 +41,7 @@ pub use Rattle.problem_table.specs.Deficit.{hot_target}
 pub use Rattle.stream_case.specs.Case.{IsComplete, IsSourceOf, is_forbidden, side_of}
 pub use Rattle.stream_case.specs.Limits.{IsBetween, IsContribution, IsLevel}
 pub use Rattle.stream_case.specs.Source.{same_side, same_source}
-pub use Rattle.stream_case.specs.Stream.{IsValidStream}
+pub use Rattle.stream_case.specs.Stream.{AreSensible, IsValidStream}
 pub use Rattle.stream_case.specs.Utility.{IsPlaced}
 pub use Rattle.stream_case.specs.declared.case.Case.{Case}
 pub use Rattle.stream_case.specs.declared.limits.TheConstants.{ALL_STREAMS_HEAT, ALL_UTILITIES, HIGHEST_LEVEL, MOST_CONTRIBUTION, MOST_CP, MOST_HEAT, MOST_PRICE}

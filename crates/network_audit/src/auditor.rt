@@ -1,6 +1,7 @@
 //! The auditor of a network.
 ghost use Rattle.std.specs.Prelude.{◌≡◌, None, Some, IfOk, MatchResult, slice_get, option_and_then, length};
 ghost use Rattle.stream_case.specs.Case.{IsComplete};
+ghost use Rattle.stream_case.specs.Stream.{AreSensible};
 ghost use Rattle.fractions.specs.Rationals.{IsAtMost, rational_zero};
 ghost use Rattle.networks.specs.Shape.{HasShape};
 ghost use Rattle.network_values.specs.Values.{IsWholeValuation, Valuation};
@@ -58,9 +59,11 @@ impl Auditor {
     ghost use Rattle.network_audit.specs.Audit.{KnowsItsNetwork, Leaves, Says, SaysExactly};
     ghost use Rattle.network_audit.specs.Joints.{joints_of};
 
-    /// Takes all the room that the audits need, and copies of the case and the network.
+    /// Takes all the room that the audits need, and copies of the case and the network. No stream
+    /// of the case is latent.
     pub fn new(alloc: Global, case: &Case, network: &Network) -> Result<Auditor, AllocError>
         requires complete { IsComplete case.now }
+        requires sensible { AreSensible case.now.streams }
         requires shape { HasShape case.now network.now }
         ensures { IfOk result (λ auditor.
             auditor ≡ record { case = case.now; network = network.now; values = None }) }
@@ -105,6 +108,7 @@ impl Auditor {
     fn audited(&mut self) -> Verdict
         ensures verdict { IsVerdict self.old.case self.old.network result }
         ensures after { Leaves self.old result self.new }
+        ensures sensible { AreSensible self.old.case.streams }
         ensures shape { HasShape self.old.case self.old.network }
     {
         let audited = audit_network(

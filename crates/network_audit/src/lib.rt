@@ -3,7 +3,8 @@
 //! The items of an audit are tests and numbers that are formed on the way, in one order. The
 //! finding is the first of them that fails: a test that is not passed, or a number that is not
 //! within the limits of a fraction. A network without a finding is valid, and its balance tells
-//! what it needs and costs: no network that is accepted needs less than the hot target.
+//! what it needs and costs: no network that is accepted needs less than the hot target. An auditor
+//! is made for a case without latent streams.
 #![tactic(auto)]
 
 mod auditor;

@@ -32,10 +32,10 @@ abbrev numbers : Rational → ℤ × ℕ
 numbers a = (a.num, a.den)
 
 abbrev hot_stream : Stream
-hot_stream = record { name = codes "H"; side = side.Hot; supply = pos 600; target = pos 400; cp = pos 20; contribution = pos 50 }
+hot_stream = record { name = codes "H"; side = side.Hot; supply = pos 600; target = pos 400; cp = pos 20; load = pos 0; contribution = pos 50 }
 
 abbrev cold_stream : Stream
-cold_stream = record { name = codes "C"; side = side.Cold; supply = pos 300; target = pos 700; cp = pos 10; contribution = pos 50 }
+cold_stream = record { name = codes "C"; side = side.Cold; supply = pos 300; target = pos 700; cp = pos 10; load = pos 0; contribution = pos 50 }
 
 abbrev heater : Utility
 heater = record { name = codes "ST"; side = side.Hot; level = pos 1000; least = pos 0; most = pos 1000000; price = pos 1; contribution = pos 50 }

@@ -1,11 +1,12 @@
 -- The sum of all penalties.
-use Rattle.std.proofs.Common.{◌≡◌, ◌∙◌, ◌+ℤ◌, ◌-ℤ◌, ◌*ℤ◌, ℕ, ℤ, pos, Option, Some, None, slice_get, refl, sym, ap, ap₂, arith, if◌then◌else◌}
+use Rattle.std.proofs.Common.{◌≡◌, ◌∙◌, ◌+ℤ◌, ◌-ℤ◌, ◌*ℤ◌, ℕ, ℤ, pos, false, Option, Some, None, slice_get, refl, sym, ap, ap₂, arith, if◌then◌else◌}
 use Rattle.std.specs.Int.{int_max}
 use Rattle.std.specs.List.{enumerate_from}
 use Rattle.std.proofs.lemmas.Int.{by_lt_z, clamps, ints}
-use Rattle.network_values.proofs.Words.{Case, Exchanger, HasShape, IsAdditive, Network, PenaltiesAddUp, PenaltiesAreTheExcess, Rational, Side, Source, Stream, StreamsGiveTheirHeat, View, absorbed_heat, course_of, exchangers_of, first_value, given_by, heat_above, height, height_at, height_in, heights, hot_duty, hot_heat, inlet_height, int_sum_by, last_value, minus, mix_penalties, outlet_height, pass_loss, pass_of, penalty, plus, positive_part, ratio, rational_sum_by, rational_zero, released_heat, same_side, stream_height, stream_loss, sum_side, times, utility_part, whole}
+use Rattle.network_values.proofs.Words.{AreSensible, Case, Exchanger, HasShape, IsAdditive, IsSensible, Network, PenaltiesAddUp, PenaltiesAreTheExcess, Rational, Side, Source, Stream, StreamsGiveTheirHeat, View, absorbed_heat, course_of, exchangers_of, first_value, given_by, heat_above, height, height_at, height_in, heights, hot_duty, hot_heat, inlet_height, int_sum_by, last_value, minus, mix_penalties, outlet_height, pass_loss, pass_of, penalty, plus, positive_part, ratio, rational_sum_by, rational_zero, released_heat, same_side, sensible_above, stream_height, stream_loss, sum_side, times, utility_part, whole}
 use Rattle.sums.proofs.ProductLemmas.{*ℤ--ℤ}
 use Rattle.sums.proofs.SumLemmas.{int_sum_by-sub}
+use Rattle.stream_case.proofs.HeatLemmas.{heat_over-sensible}
 use Rattle.stream_case.specs.declared.source.Side.TheVariants as side
 use Rattle.stream_case.specs.declared.source.Source.TheVariants as source
 use Rattle.fractions.proofs.Comparisons.{at_most-whole}
@@ -13,6 +14,8 @@ use Rattle.fractions.proofs.RationalSums.{rational_sum_by-plus, rational_sum_by-
 use Rattle.fractions.proofs.Ratios.{by_three, one_denominator}
 use Rattle.fractions.proofs.Sums.{minus-zero, plus-zero, plus_assoc, zero-plus}
 use Rattle.fractions.proofs.Wholes.{whole-minus, whole-times}
+use Rattle.networks.proofs.Lists.{all_at}
+use Rattle.problem_table.proofs.DeficitLemmas.{tight-sensible}
 use Rattle.network_values.proofs.CourseLemmas.{height_on-additive}
 use Rattle.network_values.proofs.HeightLemmas.{positive_part-above, positive_part-below}
 use Rattle.network_values.proofs.PassLemmas.{passes_by_side, side_taken, sides_taken}
@@ -41,11 +44,11 @@ height_lost cp t u base =
 -- ---- what streams give away
 
 pub stream_given : StreamsGiveTheirHeat
-stream_given view s = by s.side
+stream_given view s sensible = by s.side ∙ ap (λ heat. whole (given_by s.side heat)) (sym (heat_over-sensible false view.place s sensible))
   where
     by : (on : Side)
         → minus (height_in view (record s { side = on }) (first_value s)) (height_in view (record s { side = on }) (last_value s))
-        ≡ whole (given_by on (heat_above view.place (record s { side = on })))
+        ≡ whole (given_by on (sensible_above view.place (record s { side = on })))
     by side.Hot =
         let place = view.place in
         let high : s.supply -ℤ (place +ℤ s.contribution) ≡ (s.supply -ℤ s.contribution) -ℤ place = omega (arith, ints) in
@@ -71,16 +74,16 @@ given_by-sides : (on : Side) (heat : ℤ) → given_by on heat ≡ (if same_side
 given_by-sides side.Hot heat = omega (arith, ints)
 given_by-sides side.Cold heat = refl
 
-pub streams_given : (case : Case) (view : View)
+pub streams_given : (case : Case) (view : View) → AreSensible case.streams
     → rational_sum_by (stream_loss (heights case view)) (enumerate_from 0 case.streams)
     ≡ whole (sum_side side.Hot (heat_above view.place) case.streams -ℤ sum_side side.Cold (heat_above view.place) case.streams)
 unfolding heights
-streams_given case view =
+streams_given case view sensible =
     let hot = heat_beside side.Hot view.place in let cold = heat_beside side.Cold view.place in
     let less = λ (s : Stream). hot s -ℤ cold s in
     sum-items (stream_loss (heights case view)) (λ s. whole (less s)) case.streams
     (λ i s at. ap₂ minus (ap (λ o. stream_height view o (first_value s)) at) (ap (λ o. stream_height view o (last_value s)) at)
-    ∙ stream_given view s ∙ ap whole (given_by-sides s.side (heat_above view.place s)))
+    ∙ stream_given view s (all_at IsSensible case.streams i s sensible at) ∙ ap whole (given_by-sides s.side (heat_above view.place s)))
     ∙ rational_sum_by-whole less (int_sum_by less) refl (λ s ss. refl) case.streams
     ∙ ap whole (int_sum_by-sub hot cold case.streams)
 
@@ -129,7 +132,7 @@ module _ (weight : ℕ → Rational) (case : Case) (network : Network) (shape : 
       ∙ ap₂ plus (sum-items given hot_duty es (λ number e at. refl)) (sym (passes_by_side weight case network shape))
 
 pub penalties_sum : PenaltiesAddUp
-penalties_sum case network values view shape whole_values ended =
+penalties_sum case network values view sensible shape whole_values ended =
     let height = height_at case view network values in
     let passes = rational_sum_by (pass_loss height) network.lines in
     let mixes = mix_penalties case view network values in
@@ -137,9 +140,10 @@ penalties_sum case network values view shape whole_values ended =
     let cold = sum_side side.Cold (heat_above view.place) case.streams in
     ap (λ x. plus x mixes) (exchangers_add_up height case network shape) ∙ plus_assoc (hot_heat network) passes mixes
     ∙ ap (plus (hot_heat network))
-    (sym (weight_balance case network values (heights case view) shape whole_values ended (heights-additive case view)) ∙ streams_given case view)
+    (sym (weight_balance case network values (heights case view) shape whole_values ended (heights-additive case view)) ∙ streams_given case view sensible)
     ∙ less_deficit (hot_heat network) hot cold
 
 pub penalties_excess : PenaltiesAreTheExcess
-penalties_excess case network values view shape whole_values ended reference =
-    penalties_sum case network values view shape whole_values ended ∙ ap (λ d. minus (hot_heat network) (whole d)) reference.at.tight
+penalties_excess case network values view sensible shape whole_values ended reference =
+    penalties_sum case network values view sensible shape whole_values ended
+    ∙ ap (λ d. minus (hot_heat network) (whole d)) (tight-sensible case.streams view.place sensible reference.at)

@@ -22,12 +22,12 @@ pub use Rattle.networks.specs.Shape.{AreMadeInOrder, HasPositiveFlow, HasShape, 
 pub use Rattle.networks.specs.declared.network.Branch.{Branch}
 pub use Rattle.networks.specs.declared.network.Line.{Line}
 pub use Rattle.networks.specs.declared.network.Network.{Network}
-pub use Rattle.problem_table.specs.Deficit.{deficit_above, hot_target}
+pub use Rattle.problem_table.specs.Deficit.{deficit_above, deficit_from, end_deficits, hot_target}
 pub use Rattle.problem_table.specs.Sides.{sum_side}
 pub use Rattle.stream_case.specs.Case.{IsComplete, side_of}
 pub use Rattle.stream_case.specs.Shift.{shifted}
 pub use Rattle.stream_case.specs.Source.{is_hot, same_side}
-pub use Rattle.stream_case.specs.Stream.{IsValidStream, heat_above, high_end, low_end, stream_ends}
+pub use Rattle.stream_case.specs.Stream.{AreSensible, IsSensible, heat_above, high_end, low_end, sensible_above, stream_ends}
 pub use Rattle.stream_case.specs.declared.case.Case.{Case}
 pub use Rattle.stream_case.specs.declared.source.Side.{Side}
 pub use Rattle.stream_case.specs.declared.source.Source.{Source}

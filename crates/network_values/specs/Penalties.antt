@@ -1,7 +1,7 @@
 -- Penalties of exchangers and mixes: the heat that they carry past a place.
 use Rattle.std.specs.Prelude.{◌≡◌, ℕ, ℤ, pos, ◌+ℤ◌, ◌-ℤ◌, Option, Some, None, slice_get, All}
 use Rattle.std.specs.List.{enumerate_from}
-use Rattle.stream_case.specs.Stream.{heat_above}
+use Rattle.stream_case.specs.Stream.{AreSensible, IsSensible, heat_above}
 use Rattle.stream_case.specs.declared.case.Case.{Case}
 use Rattle.stream_case.specs.declared.source.Side.{Side}
 use Rattle.stream_case.specs.declared.source.Side.TheVariants as side
@@ -115,17 +115,18 @@ abbrev pub given_by : Side → ℤ → ℤ
 given_by side.Hot heat = heat
 given_by side.Cold heat = pos 0 -ℤ heat
 
--- in each view a stream loses the height, from its first state to its last, that it gives away above the place
+-- in each view a sensible stream loses the height, from its first state to its last, that it gives away above the place
 abbrev pub StreamsGiveTheirHeat : Type 0
 StreamsGiveTheirHeat =
-    (view : View) (s : Stream)
+    (view : View) (s : Stream) → IsSensible s
     → minus (height_in view s (first_value s)) (height_in view s (last_value s)) ≡ whole (given_by s.side (heat_above view.place s))
 
--- in each view all penalties add up to the heat of the hot utilities less the deficit above the place
+-- without latent streams, in each view all penalties add up to the heat of the hot utilities less the deficit above the
+-- place
 abbrev pub PenaltiesAddUp : Type 0
 PenaltiesAddUp =
     (case : Case) (network : Network) (values : Valuation) (view : View)
-    → HasShape case network → IsWholeValuation case network values → AreEnded case network values
+    → AreSensible case.streams → HasShape case network → IsWholeValuation case network values → AreEnded case network values
     → plus (exchanger_penalties case view network values) (mix_penalties case view network values)
     ≡ minus (hot_heat network) (whole (deficit_above case.streams view.place))
 
@@ -133,7 +134,7 @@ PenaltiesAddUp =
 abbrev pub PenaltiesAreTheExcess : Type 0
 PenaltiesAreTheExcess =
     (case : Case) (network : Network) (values : Valuation) (view : View)
-    → HasShape case network → IsWholeValuation case network values → AreEnded case network values
+    → AreSensible case.streams → HasShape case network → IsWholeValuation case network values → AreEnded case network values
     → IsReferencePlace case.streams view.place
     → plus (exchanger_penalties case view network values) (mix_penalties case view network values)
     ≡ minus (hot_heat network) (whole (hot_target case.streams))
@@ -152,11 +153,11 @@ PenaltiesAreNotNegative =
     → HasShape case network → IsWholeValuation case network values → KeepApproaches case network values
     → HasNoNegativePenalty case view network values
 
--- the hot utilities give at least the deficit above any place
+-- without latent streams, the hot utilities give at least the deficit above any place
 abbrev pub DeficitsAreMet : Type 0
 DeficitsAreMet =
     (case : Case) (network : Network) (values : Valuation) (place : ℤ)
-    → HasShape case network → IsWholeValuation case network values
+    → AreSensible case.streams → HasShape case network → IsWholeValuation case network values
     → AreEnded case network values → KeepApproaches case network values
     → IsAtMost (whole (deficit_above case.streams place)) (hot_heat network)
 
@@ -164,6 +165,6 @@ DeficitsAreMet =
 abbrev pub TargetsAreMet : Type 0
 TargetsAreMet =
     (case : Case) (network : Network) (values : Valuation)
-    → HasShape case network → IsWholeValuation case network values
+    → AreSensible case.streams → HasShape case network → IsWholeValuation case network values
     → AreEnded case network values → KeepApproaches case network values
     → IsAtMost rational_zero (minus (hot_heat network) (whole (hot_target case.streams)))

@@ -15,14 +15,14 @@ pub fn weights_balance()
     ensures { WeightsBalance }
 {}
 
-/// In each view, above a place or from the place itself, a stream loses as much height from its
-/// first state to its last as it gives heat away above the place, in W; a cold stream takes it.
+/// In each view, above a place or from the place itself, a sensible stream loses as much height from
+/// its first state to its last as it gives heat away above the place, in W; a cold stream takes it.
 pub fn streams_give_their_heat()
     ensures { StreamsGiveTheirHeat }
 {}
 
-/// In each view, the penalties of the exchangers and of the mixes add up to the heat of the hot
-/// utilities less the deficit above the place, all in W.
+/// Without latent streams, in each view the penalties of the exchangers and of the mixes add up to
+/// the heat of the hot utilities less the deficit above the place, all in W.
 pub fn penalties_add_up()
     ensures { PenaltiesAddUp }
 {}
@@ -38,7 +38,7 @@ pub fn penalties_are_not_negative()
     ensures { PenaltiesAreNotNegative }
 {}
 
-/// So the hot utilities give at least the deficit above any place.
+/// So without latent streams the hot utilities give at least the deficit above any place.
 pub fn deficits_are_met()
     ensures { DeficitsAreMet }
 {}

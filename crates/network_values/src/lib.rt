@@ -4,7 +4,8 @@
 //! statements. The laws of this crate are said of valuations: there is at most one, the streams
 //! end once, and any weight that is additive in size is balanced. Where a network keeps its
 //! approaches, none of its exchangers and mixes has a negative penalty, and so its hot utilities
-//! give at least the hot target.
+//! give at least the hot target. The laws that speak of a stream's own heat or of its first value
+//! have the condition that no stream of the case is latent.
 #![tactic(auto)]
 
 mod balance;

@@ -34,6 +34,7 @@ pub use Rattle.penalties.specs.declared.list.Penalty.{Penalty}
 pub use Rattle.penalties.specs.declared.list.TooFine.{TooFine}
 pub use Rattle.problem_table.specs.Deficit.{IsReferencePlace}
 pub use Rattle.stream_case.specs.Case.{IsComplete}
+pub use Rattle.stream_case.specs.Stream.{AreSensible}
 pub use Rattle.stream_case.specs.declared.case.Case.{Case}
 pub use Rattle.stream_case.specs.declared.source.Source.{Source}
 pub use Rattle.stream_case.specs.declared.stream.Stream.{Stream}

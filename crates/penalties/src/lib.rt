@@ -3,7 +3,7 @@
 //! The height of a branch is its heat-capacity flow times its distance above the reference place.
 //! The penalty of an exchanger is what its hot side releases above the place less what its cold
 //! side absorbs there; that of a mix is the height that its two branches lose. No penalty is
-//! negative, and together they are the excess of the network.
+//! negative, and together they are the excess of the network. The case has no latent stream.
 #![tactic(auto)]
 
 mod exchangers;

@@ -1,5 +1,6 @@
 //! All penalties of a network.
 ghost use Rattle.std.specs.Prelude.{IfOk, ◌≡◌, All};
+ghost use Rattle.stream_case.specs.Stream.{AreSensible};
 ghost use Rattle.network_audit.specs.Audit.{HasAccepted};
 ghost use Rattle.network_audit.specs.Balance.{excess_of};
 ghost use Rattle.penalties.specs.Answers.{IfListed, IsNotNegative, ListsPenalties, sum_of};
@@ -12,15 +13,16 @@ use problem_table::reference_place;
 use std::alloc::{AllocError, Global};
 use stream_case::{Case, Items};
 
-/// The penalties in W of a network that the last audit accepted. They add up to its excess, and
-/// none is negative.
+/// The penalties in W of a network that the last audit accepted, where no stream is latent. They
+/// add up to its excess, and none is negative.
 pub fn penalties(
     alloc: Global,
     case: &Case,
     network: &Network,
     auditor: &Auditor,
 ) -> Result<PenaltyList, AllocError>
-    requires { HasAccepted auditor.now case.now network.now }
+    requires sensible { AreSensible case.now.streams }
+    requires accepted { HasAccepted auditor.now case.now network.now }
     ensures lists { IfOk result (ListsPenalties case.now network.now) }
     ensures not_negative { IfOk result (λ list. IfListed list (All IsNotNegative)) }
     ensures sum { IfOk result (λ list.

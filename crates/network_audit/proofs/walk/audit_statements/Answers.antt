@@ -12,7 +12,7 @@ loop-index-init c =
     let values = c.start.new.values in
     let start = subst (λ ss. take (length ss) values ≡ map first_value ss) c.as_slice.ensures c.start.ensures in
     let room : length values ≡ length c.args.network.now.branches = omega (arith, c.start.auto.values, c.requires.room) in
-    subst (λ m. IsWalked c.args.case.now c.args.network.now 0 m values) (sym c.len-made.ensures) (walked-start c.args.case.now c.args.network.now values c.requires.complete room start)
+    subst (λ m. IsWalked c.args.case.now c.args.network.now 0 m values) (sym c.len-made.ensures) (walked-start c.args.case.now c.args.network.now values c.requires.complete c.requires.sensible room start)
 
 pub made_by-requires-clause-known : goal.made_by-requires-clause-known
 made_by-requires-clause-known c =

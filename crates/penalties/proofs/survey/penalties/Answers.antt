@@ -9,27 +9,27 @@ use Rattle.penalties.proofs.Listing.{all_listed, found_none, found_some, too_fin
 use Rattle.penalties.proofs.survey.penalties.Goals as goal
 
 pub reference_place-requires : goal.reference_place-requires
-reference_place-requires c = let complete : IsComplete c.args.case.now = (known_network _ _ _ c.requires c.joints-joints.ensures.known).complete in search rules
+reference_place-requires c = let complete : IsComplete c.args.case.now = (known_network _ _ _ c.requires.accepted c.joints-joints.ensures.known).complete in search rules
 
 pub add_exchangers-requires : goal.add_exchangers-requires
 add_exchangers-requires c =
     let network = c.args.network.now in
     let many : length c.joints-joints.result.now ≡ length (exchangers_of network.lines) =
-    ap length (c.joints-joints.ensures.table ∙ ap (λ (a : Audit). joints_of a.network) c.requires.is)
+    ap length (c.joints-joints.ensures.table ∙ ap (λ (a : Audit). joints_of a.network) c.requires.accepted.is)
     ∙ length-joints network.branches network.lines (exchangers_of network.lines) in
     let fewer = few_exchangers network.lines in
-    let few = (known_network _ _ _ c.requires c.joints-joints.ensures.known).shape.few in
+    let few = (known_network _ _ _ c.requires.accepted c.joints-joints.ensures.known).shape.few in
     omega (arith, many, fewer, few)
 
 pub add_mixes-requires : goal.add_mixes-requires
-add_mixes-requires c = omega (arith, ap length c.as_slice.ensures, (known_network _ _ _ c.requires c.joints-joints.ensures.known).shape.few)
+add_mixes-requires c = omega (arith, ap length c.as_slice.ensures, (known_network _ _ _ c.requires.accepted c.joints-joints.ensures.known).shape.few)
 
 pub returns-in-Some-clause-lists : goal.returns-in-Some-clause-lists
 returns-in-Some-clause-lists c =
     let reference = to_z w32 (of_z w32 c.reference_place.result) in
     let is_reference : IsReferencePlace c.args.case.now.streams reference =
     subst (IsReferencePlace c.args.case.now.streams) (sym (to_z-of_z w32 c.reference_place.result (search rules))) c.reference_place.ensures in
-    too_fine_first c.args.case.now c.args.network.now c.args.auditor.now reference c.joints-joints.result.now c.requires
+    too_fine_first c.args.case.now c.args.network.now c.args.auditor.now reference c.joints-joints.result.now c.requires.accepted
     c.joints-joints.ensures.known is_reference c.joints-joints.ensures.table
     c.in-Some.field-0.place c.in-Some.field-0.step (found_some _ _ _ _ c.in_ok-place.ensures c.in-Some.is)
 
@@ -39,7 +39,7 @@ returns-in-Some-2-clause-lists c =
     let is_reference : IsReferencePlace c.args.case.now.streams reference =
     subst (IsReferencePlace c.args.case.now.streams) (sym (to_z-of_z w32 c.reference_place.result (search rules))) c.reference_place.ensures in
     let exchangers = found_none _ _ _ c.in_ok-place.ensures c.in_default.not-Some in
-    too_fine_later c.args.case.now c.args.network.now c.args.auditor.now reference c.joints-joints.result.now c.requires
+    too_fine_later c.args.case.now c.args.network.now c.args.auditor.now reference c.joints-joints.result.now c.requires.accepted
     c.joints-joints.ensures.known is_reference c.joints-joints.ensures.table
     c.as_slice.result.now c.as_slice.ensures c.in-Some-2.field-0.place c.in-Some-2.field-0.step exchangers.0
     (found_some _ _ _ _ c.in_ok-place-2.ensures c.in-Some-2.is)
@@ -51,17 +51,17 @@ returns-clause-lists c =
     subst (IsReferencePlace c.args.case.now.streams) (sym (to_z-of_z w32 c.reference_place.result (search rules))) c.reference_place.ensures in
     let exchangers = found_none _ _ _ c.in_ok-place.ensures c.in_default.not-Some in
     let mixes = found_none _ _ _ c.in_ok-place-2.ensures c.in_default-2.not-Some in
-    all_listed c.args.case.now c.args.network.now c.args.auditor.now reference c.joints-joints.result.now c.requires
+    all_listed c.args.case.now c.args.network.now c.args.auditor.now reference c.joints-joints.result.now c.requires.accepted
     c.joints-joints.ensures.known is_reference c.joints-joints.ensures.table
     c.as_slice.result.now c.as_slice.ensures c.new-list.result.items c.add_exchangers.new.list.items c.from_vec.result
     exchangers.0 mixes.0 c.new-list.ensures.items exchangers.1 (c.from_vec.ensures ∙ mixes.1)
 
 pub returns-clause-not_negative : goal.returns-clause-not_negative
 returns-clause-not_negative c =
-    let known = known_network _ _ _ c.requires c.joints-joints.ensures.known in
-    listed_not_negative c.args.case.now c.args.network.now known.shape known.valid c.from_vec.result (returns-clause-lists c)
+    let known = known_network _ _ _ c.requires.accepted c.joints-joints.ensures.known in
+    listed_not_negative c.args.case.now c.args.network.now c.requires.sensible known.shape known.valid c.from_vec.result (returns-clause-lists c)
 
 pub returns-clause-sum : goal.returns-clause-sum
 returns-clause-sum c =
-    let known = known_network _ _ _ c.requires c.joints-joints.ensures.known in
-    listed_sum c.args.case.now c.args.network.now known.shape known.valid c.from_vec.result (returns-clause-lists c)
+    let known = known_network _ _ _ c.requires.accepted c.joints-joints.ensures.known in
+    listed_sum c.args.case.now c.args.network.now c.requires.sensible known.shape known.valid c.from_vec.result (returns-clause-lists c)
