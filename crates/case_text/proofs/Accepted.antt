@@ -1,5 +1,5 @@
 -- The case of a file that is accepted is valid.
-use Rattle.std.proofs.Common.{◌≡◌, ◌≢◌, ◌∙◌, ◌⊎◌, inl, inr, ◌∷◌, ◌++◌, ◌<◌, ◌≤◌, ℕ, zero, suc, ℤ, pos, true, not, List, [], All, AllPairs, Option, Some, None, Result, Ok, Err, IfOk, IfSome, option_map, unwrap_or, length, slice_get, refl, sym, arith, append_assoc, length-append}
+use Rattle.std.proofs.Common.{◌≡◌, ◌≢◌, ◌∙◌, ◌⊎◌, inl, inr, ◌∷◌, ◌++◌, ◌<◌, ◌≤◌, ℕ, zero, suc, ℤ, pos, true, not, List, [], All, AllPairs, Option, Some, None, is_some, if◌then◌else◌, Result, Ok, Err, IfOk, IfSome, option_map, unwrap_or, length, slice_get, refl, sym, arith, append_assoc, length-append}
 use Rattle.first_fault.specs.Outcome.{given_by}
 use Rattle.std.specs.Map.{keys_of}
 use Rattle.std.proofs.lemmas.Bool.Decides.{Decides-and, Decides-int_eq, nat_tests}
@@ -31,7 +31,7 @@ use Rattle.rows.proofs.Streams.{no_contribution, passed-latent, passed-sensible,
 use Rattle.rows.proofs.Tests.{Decides-int_le, Decides-is_own_contribution, passed-room, passed-within}
 use Rattle.case_text.specs.Rows.{kind_of}
 use Rattle.case_text.specs.Given.{Given, case_of, entry_by, nothing, source_at, stream_data, stream_of, utility_data, utility_of, with_entry}
-use Rattle.case_text.specs.Checks.{checks, contribution_checks, end_checks, forbid_checks, heat_checks, is_reserved, is_reserved_from, is_taken, kind_checks, stream_checks, stream_number_checks, utility_checks, utility_number_checks}
+use Rattle.case_text.specs.Checks.{checks, contribution_checks, end_checks, forbid_checks, heat_checks, is_reserved, is_reserved_from, is_taken, kind_checks, latent_checks, sensible_checks, stream_checks, stream_number_checks, utility_checks, utility_number_checks}
 use Rattle.case_text.specs.Answers.{HasFewSources}
 use Rattle.case_text.specs.Outcome.{IsCase, IsOutcome, end_fault, grammar}
 use Rattle.case_text.specs.declared.fault.CaseWhy.{CaseWhy}
@@ -113,19 +113,24 @@ own_range : (row : Row) (contribution : ℤ) → is_own_contribution (optional_n
 own_range row contribution own range = range_of (optional_number row 6) contribution ((Decides-is_own_contribution (optional_number row 6)).0 own) range
 
 -- a stream that gives this load, where its numbers pass the checks
-heat_of : (s : Stream) (load : Option ℤ) → s.load ≡ unwrap_or load (pos 0) → is_flow_rate_beside load s.cp ≡ true → is_own_load load ≡ true → Passes (heat_checks load s.side s.supply s.target s.cp) → IsSensible s ⊎ IsLatent s
+heat_of : (s : List ℕ × StreamData) (contribution : ℤ) → is_flow_rate_beside s.1.load s.1.cp ≡ true → is_own_load s.1.load ≡ true → Passes (heat_checks s.1)
+    → IsSensible (stream_of contribution s) ⊎ IsLatent (stream_of contribution s)
 unfolding is_own_load heat_checks
-heat_of s None is cp range (differs, (way, _)) = inl (passed-sensible s cp is way)
-heat_of s (Some load) is cp range (latent, _) =
-    let (level, none) = (Decides-and _ _ (Decides-int_eq s.supply s.target) (Decides-int_eq s.cp (pos 0))).0 latent in
-    inr (passed-latent s level none (rw is range))
+heat_of s contribution = by s.1.load refl
+  where
+    by : (load : Option ℤ) → s.1.load ≡ load → is_flow_rate_beside load s.1.cp ≡ true → is_own_load load ≡ true → Passes (if is_some load then latent_checks s.1 else sensible_checks s.1)
+        → IsSensible (stream_of contribution s) ⊎ IsLatent (stream_of contribution s)
+    by None is cp range (differs, (way, _)) = inl (passed-sensible (stream_of contribution s) cp (rw is refl) way)
+    by (Some load) is cp range (latent, _) =
+        let (level, none) = (Decides-and _ _ (Decides-int_eq s.1.supply s.1.target) (Decides-int_eq s.1.cp (pos 0))).0 latent in
+        inr (passed-latent (stream_of contribution s) level none (rw is range))
 
 stream_fits : (of : Side) (row : Row) → is_name (field row 1) ≡ true → not (is_reserved (field row 1)) ≡ true → Passes (stream_number_checks of row) → StreamFits (field row 1, stream_data of row)
 unfolding stream_number_checks
 stream_fits of row name unreserved (_, (_, (_, (_, (_, (supply, (target, (cp, (load, (own, heat)))))))))) = record {
   valid = λ contribution range.
-      let s = stream_of contribution (field row 1, stream_data of row) in
-      stream-is_valid s name supply target (heat_of s (optional_number row 5) refl cp load heat) (own_range row contribution own range);
+      let s : List ℕ × StreamData = (field row 1, stream_data of row) in
+      stream-is_valid (stream_of contribution s) name supply target (heat_of s contribution cp load heat) (own_range row contribution own range);
   name = (Decides-is_reserved (field row 1)).0 unreserved;
 }
 

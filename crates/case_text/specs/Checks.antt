@@ -1,5 +1,5 @@
 -- The checks of a row, in their order. A check is a sentence on the row and on what the rows before it gave.
-use Rattle.std.specs.Prelude.{ℕ, ℤ, pos, Bool, false, not, ◌==◌, ◌&&◌, ◌||◌, List, [], ◌∷◌, length, Option, Some, None, is_some, is_none, nat_lt, int_le, option_and_then, codes}
+use Rattle.std.specs.Prelude.{ℕ, pos, Bool, false, not, ◌==◌, ◌&&◌, ◌||◌, List, [], ◌∷◌, length, Option, Some, None, is_some, is_none, if◌then◌else◌, nat_lt, int_le, option_and_then, codes}
 use Rattle.std.specs.List.{list_any}
 use Rattle.std.specs.Ordering.{int_eq}
 use Rattle.std.specs.Str.{bytes_eq}
@@ -16,7 +16,8 @@ use Rattle.stream_case.specs.declared.source.Side.TheVariants as side
 use Rattle.rows.specs.Fields.{are_empty, field, is_number, is_number_or_empty, number, optional_number}
 use Rattle.rows.specs.Numbers.{is_contribution, is_flow_rate_beside, is_heat, is_own_contribution, is_own_load, is_price, is_temperature}
 use Rattle.case_text.specs.Rows.{kind_of}
-use Rattle.case_text.specs.Given.{Given, case_of, source_at}
+use Rattle.case_text.specs.Given.{Given, case_of, source_at, stream_data}
+use Rattle.case_text.specs.declared.entry.StreamData.{StreamData}
 use Rattle.case_text.specs.declared.fault.CaseWhy.{CaseWhy}
 use Rattle.case_text.specs.declared.fault.CaseWhy.TheVariants as why
 use Rattle.case_text.specs.declared.kind.Kind.{Kind}
@@ -57,10 +58,17 @@ contribution_checks earlier row =
     ∷ (is_contribution (number row 2), why.OutOfRange)
     ∷ []
 
--- a stream that gives a load stays at one temperature, by no heat-capacity flow; one that gives none goes the right way
-unfoldable pub heat_checks : Option ℤ → Side → ℤ → ℤ → ℤ → List (Check CaseWhy)
-heat_checks (Some load) of supply target cp = (int_eq supply target && int_eq cp (pos 0), why.NotLatent) ∷ []
-heat_checks None of supply target cp = (not (int_eq supply target), why.NoLoad) ∷ (is_right_way of supply target, why.WrongWay) ∷ []
+-- it stays at one temperature, by no heat-capacity flow
+abbrev pub latent_checks : StreamData → List (Check CaseWhy)
+latent_checks s = (int_eq s.supply s.target && int_eq s.cp (pos 0), why.NotLatent) ∷ []
+
+-- it leaves its temperature, the right way
+abbrev pub sensible_checks : StreamData → List (Check CaseWhy)
+sensible_checks s = (not (int_eq s.supply s.target), why.NoLoad) ∷ (is_right_way s.side s.supply s.target, why.WrongWay) ∷ []
+
+-- the checks of a stream whose numbers are in their ranges: it is latent where it gives a load
+unfoldable pub heat_checks : StreamData → List (Check CaseWhy)
+heat_checks s = if is_some s.load then latent_checks s else sensible_checks s
 
 unfoldable pub stream_number_checks : Side → Row → List (Check CaseWhy)
 stream_number_checks of row =
@@ -74,7 +82,7 @@ stream_number_checks of row =
     ∷ (is_flow_rate_beside (optional_number row 5) (number row 4), why.OutOfRange)
     ∷ (is_own_load (optional_number row 5), why.OutOfRange)
     ∷ (is_own_contribution (optional_number row 6), why.OutOfRange)
-    ∷ heat_checks (optional_number row 5) of (number row 2) (number row 3) (number row 4)
+    ∷ heat_checks (stream_data of row)
 
 unfoldable pub stream_checks : Side → Given → Row → List (Check CaseWhy)
 stream_checks of earlier row =

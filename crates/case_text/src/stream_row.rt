@@ -26,11 +26,11 @@ fn is_reserved(name: &[u8]) -> bool
     name == b"HOT".as_slice() || name == b"COLD".as_slice()
 }
 
-/// Whether a stream has the temperatures and the heat-capacity flow of a latent one, if it gives
-/// a load, or else those of a sensible one; or the cause where it has not.
+/// Whether a stream that gives a load is latent otherwise too, and one that gives none sensible;
+/// or the cause where it is not.
 #[tactic(auto, unfolding(crate::specs::Checks::heat_checks))]
 fn check_heat(stream: &StreamData) -> Result<(), CaseWhy>
-    ensures { Checked (heat_checks stream.now.load stream.now.side stream.now.supply stream.now.target stream.now.cp) (λ _. Unit {0}) result }
+    ensures { Checked (heat_checks stream.now) (λ _. Unit {0}) result }
 {
     let is_level = stream.supply == stream.target;
     if stream.load.is_some() {

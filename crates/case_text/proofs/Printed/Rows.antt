@@ -85,18 +85,22 @@ load_printable s valid = by valid.heat
     by (inl sensible) = rw (no_load s sensible) tt
     by (inr latent) = rw (some_load s latent) (load s.load latent.load)
 
--- a stream passes the checks of its heat by this load
+-- what its row says of a stream that gives this load and this contribution
+abbrev pub data_of : Stream → Option ℤ → Option ℤ → StreamData
+data_of s load contribution = record { side = s.side; supply = s.supply; target = s.target; cp = s.cp; load = load; contribution = contribution }
+
+-- the stream passes the checks of its heat then
 record PassesHeat (s : Stream) (given : Option ℤ) : Type 0 where
   cp : is_flow_rate_beside given s.cp ≡ true
   load : is_own_load given ≡ true
-  heat : Passes (heat_checks given s.side s.supply s.target s.cp)
+  heat : (contribution : Option ℤ) → Passes (heat_checks (data_of s given contribution))
 
 sensible_passes : (s : Stream) → IsSensible s → PassesHeat s None
 unfolding is_own_load heat_checks
 sensible_passes s sensible = record {
   cp = within-passes _ _ _ sensible.cp;
   load = refl;
-  heat = ((Decides-not _ (Decides-int_eq s.supply s.target)).1 (differs s.side s.supply s.target sensible.way), ((Decides-is_right_way s.side s.supply s.target).1 sensible.way, tt));
+  heat = λ contribution. ((Decides-not _ (Decides-int_eq s.supply s.target)).1 (differs s.side s.supply s.target sensible.way), ((Decides-is_right_way s.side s.supply s.target).1 sensible.way, tt));
 }
   where
     differs : (of : Side) (supply target : ℤ) → IsRightWay of supply target → supply ≡ target → ⊥
@@ -108,7 +112,7 @@ unfolding is_own_load heat_checks
 latent_passes s latent = record {
   cp = within-passes _ _ _ (record { from = omega (arith, ints, latent.cp); upto = omega (arith, ints, latent.cp) });
   load = within-passes _ _ _ latent.load;
-  heat = ((Decides-and _ _ (Decides-int_eq s.supply s.target) (Decides-int_eq s.cp (pos 0))).1 (latent.level, latent.cp), tt);
+  heat = λ contribution. ((Decides-and _ _ (Decides-int_eq s.supply s.target) (Decides-int_eq s.cp (pos 0))).1 (latent.level, latent.cp), tt);
 }
 
 passes_heat : (s : Stream) → IsValidStream s → PassesHeat s (own_load s.load)
@@ -124,7 +128,7 @@ unfolding load_field
 reads_load s row valid printed = optional_read row 5 (own_load s.load) (load_printable s valid) printed
 
 abbrev pub stream_entry : Case → Stream → List ℕ × StreamData
-stream_entry k s = (s.name, record { side = s.side; supply = s.supply; target = s.target; cp = s.cp; load = own_load s.load; contribution = own_contribution k s.contribution })
+stream_entry k s = (s.name, data_of s (own_load s.load) (own_contribution k s.contribution))
 
 stream_row_kind : (of : Side) (fields : Row) → kind_of (stream_kind of ∷ fields) ≡ Some (kind.Stream of)
 unfolding kind_of is_passed_over are_empty
@@ -147,7 +151,7 @@ stream_follows given k s valid unreserved few new =
     let place = room-passes (count_on s.side (case_of given).streams) MOST_STREAMS (rw (count_on-case s.side (unwrap_or given.contribution (pos 0)) given.streams) few) in
     let free = (Decides-is_taken (case_of given) s.name).1 (rw (names_of-case given) new) in
     let numbers : Passes (stream_number_checks s.side row) =
-    rw (supply, target, cp, load, own.read) (refl, (refl, (refl, (is_load, (own.is_number, (within-passes _ _ _ valid.supply, (within-passes _ _ _ valid.target, (heat.cp, (heat.load, (own.range, heat.heat)))))))))) in
+    rw (supply, target, cp, load, own.read) (refl, (refl, (refl, (is_load, (own.is_number, (within-passes _ _ _ valid.supply, (within-passes _ _ _ valid.target, (heat.cp, (heat.load, (own.range, heat.heat _)))))))))) in
     let passes : Passes (checks given row) = rw is (refl, (refl, (place, (name-passes s.name valid.name, ((Decides-is_reserved s.name).1 unreserved, (free, numbers)))))) in
     record { passes = none_fails (checks given row) passes; next_is = rw (is, supply, target, cp, load, own.read) refl }
 
