@@ -1,19 +1,19 @@
 -- The corner flow is a heat flow in which the utilities give and take the targets, and it is of least cost.
-use Rattle.std.proofs.Common.{◌≡◌, ⊎_elim, ◌∙◌, refl, sym, ap, ap₂, subst, subst₂, ℕ, ◌<◌, not, ◌&&◌, List, [], ◌∷◌, length, get_or, map, Some, arith}
+use Rattle.std.proofs.Common.{◌≡◌, ⊎_elim, ◌∙◌, refl, sym, ap, ap₂, subst, subst₂, ℕ, ◌<◌, true, not, ◌&&◌, List, [], ◌∷◌, length, get_or, map, Some, arith}
 use Rattle.std.specs.Prelude.{◌==◌, ℤ, pos, ◌+ℤ◌, ◌≤ℤ◌, ◌<ℤ◌, if◌then◌else◌, slice_get}
 use Rattle.std.proofs.lemmas.Int.{ints}
 use Rattle.std.proofs.lemmas.Bool.{not-true}
 use Rattle.std.proofs.lemmas.List.{get_or-map, length-map}
 use Rattle.std.proofs.lemmas.List.Elements.{All-map}
 use Rattle.std.proofs.lemmas.Option.{slice_get-get_or, slice_get_within, get_or_from_slice_get}
-use Rattle.corner_flow.proofs.Words.{Case, Cold, Hot, IsBetween, IsCornerFlow, IsFlowOf, IsHeat, IsLeastCost, IsOverlap, KeepsRanges, ListsOverlaps, NotNegative, Pair, Part, Side, Transfer, UtilityHeat, as_pair, as_transfer, both_reach, cold_target, cost_of, heat_above, heat_at, heats_of, hot_target, int_sum_by, is_forbidden, is_stream, pair_before, part_heat, parts_of, reach_between, sum_side}
+use Rattle.corner_flow.proofs.Words.{Case, Cold, Hot, IsBetween, IsCornerFlow, IsFlowOf, IsHeat, IsLeastCost, IsOverlap, KeepsRanges, ListsOverlaps, NotNegative, Pair, Part, Side, Transfer, UtilityHeat, as_pair, as_transfer, both_reach, cold_target, cost_of, heat_at, heat_over, heats_of, hot_target, int_sum_by, is_forbidden, is_stream, pair_before, part_heat, parts_of, reach_between, sum_side}
 use Rattle.sums.proofs.SumLemmas.{int_sum_by-map, int_sum_from-by}
 use Rattle.sums.proofs.WalkLemmas.{overlaps_first, overlaps_second, some_overlaps}
 use Rattle.problem_table.proofs.DeficitLemmas.{hot_target-between, cold_target-between}
 use Rattle.heat_flow.proofs.Blanks.{blank}
 use Rattle.corner_flow.proofs.StandardLemmas.{end_of}
 use Rattle.corner_flow.proofs.SideLemmas.{IsStandardPart, AreStandardParts}
-use Rattle.corner_flow.proofs.HeatLemmas.{target_of, above, is_reached, one_times, from_stream, from_utility, sum_above, cost-hot_utility, cost-at_least}
+use Rattle.corner_flow.proofs.HeatLemmas.{target_of, above, from_place, is_reached, one_times, from_stream, from_utility, sum_above, cost-hot_utility, cost-at_least}
 use Rattle.corner_flow.proofs.ReachLemmas.{heat_of_stream, heat_of_utility, overlap-passes}
 
 pub as_pair-as_transfer : (ps : List Pair) → map as_pair (map as_transfer ps) ≡ ps
@@ -52,16 +52,16 @@ module _ {c : Case} {hot cold : List Part} (s : AreStandardParts c hot cold) whe
       omega (arith, ints, range.from, part.bounded.least.from))
 
   -- they add up to the target and all heat of the streams
-  heats-sum : (side : Side) → int_sum_by (λ x. x) (heats side) ≡ target_of side c.streams +ℤ sum_side side (heat_above (end_of c Cold)) c.streams
+  heats-sum : (side : Side) → int_sum_by (λ x. x) (heats side) ≡ target_of side c.streams +ℤ sum_side side (heat_over true (end_of c Cold)) c.streams
   heats-sum side =
       let target = target_of side c.streams in
       let parts = parts_of side hot cold in
       let bottom = end_of c Cold in
       int_sum_by-map (λ x. x) (part_heat target) parts ∙ sym (int_sum_from-by (part_heat target) 0 parts)
-      ∙ sum_above s side (λ a p. part_heat target p) bottom target (s.ends Cold)
+      ∙ sum_above s side (λ a p. part_heat target p) true bottom target (s.ends Cold)
       (λ a p at h. ⊎_elim
-      (λ k. heat_of_stream target p k.source_is ∙ sym (from_stream bottom target p k.source_is ∙ one_times (above bottom p) p.least (is_reached bottom p.low h.from)))
-      (λ k. heat_of_utility target p k.source_is ∙ sym (from_utility bottom target p k.source_is))
+      (λ k. heat_of_stream target p k.source_is ∙ sym (from_stream true bottom target p k.source_is ∙ one_times (above true bottom p) p.least (is_reached true bottom p.low (from_place bottom p.low h.from))))
+      (λ k. heat_of_utility target p k.source_is ∙ sym (from_utility true bottom target p k.source_is))
       h.kind)
 
   same_total : int_sum_by (λ x. x) (heats Hot) ≡ int_sum_by (λ x. x) (heats Cold)

@@ -1,19 +1,18 @@
 -- Heat goes down: what the cold parts take above a place is at most what the hot parts give above it.
 use Rattle.std.proofs.Common.{◌≡◌, ⊎_elim, ◌∙◌, refl, sym, ap, ap₂, subst₂, ℕ, Bool, true, false, not, ◌&&◌, List, map, Option, Some, None, arith}
-use Rattle.std.specs.Prelude.{ℤ, pos, ◌+ℤ◌, ◌*ℤ◌, ◌≤ℤ◌, ◌<ℤ◌, int_le, ◌==◌, if◌then◌else◌, All, Contains, slice_get}
+use Rattle.std.specs.Prelude.{ℤ, pos, ◌+ℤ◌, ◌*ℤ◌, ◌≤ℤ◌, ◌<ℤ◌, int_le, int_lt, ◌==◌, if◌then◌else◌, All, Contains, slice_get}
 use Rattle.std.specs.Ordering.{int_eq}
 use Rattle.std.proofs.Math.IntN.{*ℤ-zero, *ℤ_comm}
 use Rattle.std.proofs.lemmas.Int.{ints}
-use Rattle.std.proofs.lemmas.Bool.{and_parts, or_cases, not-true}
+use Rattle.std.proofs.lemmas.Bool.{and_parts, false≢true, or_cases, not-true}
 use Rattle.std.proofs.lemmas.Bool.Decides.{Decides-int_eq}
 use Rattle.std.proofs.lemmas.List.{get_or-map}
 use Rattle.std.proofs.lemmas.Option.{slice_get_within, get_or_from_slice_get}
-use Rattle.corner_flow.proofs.Words.{Case, Cold, HaveParts, Hot, IsFlowOf, IsSupporting, KeepsRanges, NeedsHeat, Part, Side, Stream, Transfer, UtilityHeat, both_reach, cold_target, cost_of, heat_above, heat_at, hot_target, int_sum_by, int_sum_from, is_forbidden, is_stream, part_index, part_reaches, parts_of, passes_heat, price_at, reach_between, side_cost, sum_side}
-use Rattle.sums.proofs.IntegerLemmas.{int_le-from, int_le-false}
-use Rattle.sums.proofs.ProductLemmas.{product_not_negative}
+use Rattle.corner_flow.proofs.Words.{Case, Cold, HaveParts, Hot, IsFlowOf, IsSupporting, IsTightOver, KeepsRanges, NeedsHeat, Part, Side, Stream, Transfer, UtilityHeat, both_reach, cold_target, cost_of, counts_above, heat_at, heat_over, hot_target, int_sum_by, int_sum_from, is_forbidden, is_stream, part_index, part_reaches, parts_of, passes_heat, price_at, reach_between, side_cost, stands_above, sum_side}
+use Rattle.sums.proofs.IntegerLemmas.{int_le-false, int_le-from, int_lt-from}
 use Rattle.sums.proofs.SumLemmas.{int_sum_by-le, int_sum_by-not_negative, int_sum_from-add, int_sum_from-by, int_sum_from-grouped, int_sum_from-same_each}
 use Rattle.problem_table.proofs.DeficitLemmas.{some_tight}
-use Rattle.grid.proofs.HeatLemmas.{heat_from}
+use Rattle.grid.proofs.HeatLemmas.{part_over}
 use Rattle.heat_flow.proofs.CostLemmas.{heats_at-not_negative}
 use Rattle.heat_flow.proofs.Duality.{side_worth, side_worth-parts, worth-le}
 use Rattle.corner_flow.proofs.StandardLemmas.{end_of}
@@ -26,18 +25,39 @@ target_of Cold streams = cold_target streams
 
 -- ---- one part
 
--- 1 for what is not below a place, and 0 for what is
-abbrev pub reached : ℤ → ℤ → ℤ
-reached place low = if int_le place low then pos 1 else pos 0
+-- 1 for a level that counts as above a place, and for a part that stands above it; 0 for the others
+abbrev pub reached : Bool → ℤ → ℤ → ℤ
+reached from place level = if counts_above from place level then pos 1 else pos 0
 
-abbrev pub above : ℤ → Part → ℤ
-above place p = reached place p.low
+abbrev pub above : Bool → ℤ → Part → ℤ
+above from place p = if stands_above from place p then pos 1 else pos 0
 
-pub is_reached : (place low : ℤ) → place ≤ℤ low → reached place low ≡ pos 1
-is_reached place low most = ap (λ b. if b then pos 1 else pos 0) (int_le-from place low most)
+pub is_reached : (from : Bool) (place level : ℤ) → counts_above from place level ≡ true → reached from place level ≡ pos 1
+is_reached from place level e = ap (λ b. if b then pos 1 else pos 0) e
 
-pub is_missed : (place low : ℤ) → low <ℤ place → reached place low ≡ pos 0
-is_missed place low less = ap (λ b. if b then pos 1 else pos 0) (int_le-false place low less)
+pub is_missed : (from : Bool) (place level : ℤ) → counts_above from place level ≡ false → reached from place level ≡ pos 0
+is_missed from place level e = ap (λ b. if b then pos 1 else pos 0) e
+
+-- a part at one level stands above a place where the level does
+pub stands-level : (from : Bool) (place level : ℤ) (p : Part) → p.high ≡ level → p.low ≡ level → stands_above from place p ≡ counts_above from place level
+stands-level false place level p high low = ap (int_lt place) high
+stands-level true place level p high low = ap (int_le place) low
+
+pub int_lt-false : (a b : ℤ) → b ≤ℤ a → int_lt a b ≡ false
+int_lt-false a b h = grind (arith, ints)
+
+-- a level that is higher counts as above a place, and a lower one does not
+pub counts_higher : (from : Bool) (place level : ℤ) → place <ℤ level → counts_above from place level ≡ true
+counts_higher false place level less = int_lt-from place level less
+counts_higher true place level less = int_le-from place level (omega (arith, ints))
+
+pub counts_lower : (from : Bool) (place level : ℤ) → level <ℤ place → counts_above from place level ≡ false
+counts_lower false place level less = int_lt-false place level (omega (arith, ints))
+counts_lower true place level less = int_le-false place level less
+
+-- from a place on lies what is not below it
+pub from_place : (place level : ℤ) → place ≤ℤ level → counts_above true place level ≡ true
+from_place place level most = int_le-from place level most
 
 pub zero_times : (x y : ℤ) → x ≡ pos 0 → x *ℤ y ≡ pos 0
 zero_times x y e = ap (λ z. z *ℤ y) e ∙ *ℤ_comm (pos 0) y ∙ *ℤ-zero y
@@ -49,11 +69,16 @@ chosen : (b : Bool) (x : ℤ) → (if b then x else pos 0) ≡ (if b then pos 1 
 chosen true x = omega (arith, ints)
 chosen false x = sym (zero_times (pos 0) x refl)
 
-pub from_stream : (place each : ℤ) (p : Part) → is_stream p.source ≡ true → heat_from place each p ≡ above place p *ℤ p.least
-from_stream place each p e = ap (λ b. if b then (if int_le place p.low then p.least else pos 0) else each) e ∙ chosen (int_le place p.low) p.least
+pub from_stream : (from : Bool) (place each : ℤ) (p : Part) → is_stream p.source ≡ true → part_over from place each p ≡ above from place p *ℤ p.least
+from_stream from place each p e = ap (λ b. if b then (if stands_above from place p then p.least else pos 0) else each) e ∙ chosen (stands_above from place p) p.least
 
-pub from_utility : (place each : ℤ) (p : Part) → is_stream p.source ≡ false → heat_from place each p ≡ each
-from_utility place each p e = ap (λ b. if b then (if int_le place p.low then p.least else pos 0) else each) e
+pub from_utility : (from : Bool) (place each : ℤ) (p : Part) → is_stream p.source ≡ false → part_over from place each p ≡ each
+from_utility from place each p e = ap (λ b. if b then (if stands_above from place p then p.least else pos 0) else each) e
+
+-- a share of 0 or 1
+share : (b : Bool) (x : ℤ) → pos 0 ≤ℤ x → (pos 0 ≤ℤ ((if b then pos 1 else pos 0) *ℤ x)) × (((if b then pos 1 else pos 0) *ℤ x) ≤ℤ x)
+share true x h = let is = one_times (pos 1) x refl in (omega (arith, ints), omega (arith, ints))
+share false x h = let is = zero_times (pos 0) x refl in (omega (arith, ints), omega (arith, ints))
 
 -- the price of the part at an index, where each part has its own
 pub price_at-map : (f : Part → ℤ) (parts : List Part) (a : ℕ) (p : Part) → slice_get parts a ≡ Some p → price_at (map f parts) a ≡ f p
@@ -66,29 +91,44 @@ both_parts c None y h = cc
 both_parts c (Some p) None h = cc
 both_parts c (Some p) (Some q) h = (p, q, refl, refl, h)
 
-passes_down : (p q : Part) → passes_heat p q ≡ true → q.low ≤ℤ q.high → q.low ≤ℤ p.low
-passes_down p q h order =
-    ⊎_elim (λ e. omega (arith, ints)) (λ e. let low = (Decides-int_eq p.low q.low).0 (and_parts (int_eq p.high q.high) (int_eq p.low q.low) e).1 in omega (arith, ints))
+passes_down : (p q : Part) → passes_heat p q ≡ true → p.low ≤ℤ p.high → q.low ≤ℤ q.high → (q.high ≤ℤ p.high) × (q.low ≤ℤ p.low)
+passes_down p q h order other =
+    ⊎_elim (λ e. (omega (arith, ints), omega (arith, ints)))
+    (λ e.
+    let same = and_parts (int_eq p.high q.high) (int_eq p.low q.low) e in
+    let high = (Decides-int_eq p.high q.high).0 same.0 in
+    let low = (Decides-int_eq p.low q.low).0 same.1 in
+    (omega (arith, ints), omega (arith, ints)))
     (or_cases (int_le q.high p.low) (int_eq p.high q.high && int_eq p.low q.low) h)
+
+pub stands_falls : (from : Bool) (place : ℤ) (p q : Part) → q.high ≤ℤ p.high → q.low ≤ℤ p.low → stands_above from place q ≡ true → stands_above from place p ≡ true
+stands_falls false place p q high low e = int_lt-from place p.high (omega (arith, ints))
+stands_falls true place p q high low e = int_le-from place p.low (omega (arith, ints))
+
+either_falls : (b c : Bool) → (b ≡ true → c ≡ true) → (if b then pos 1 else pos 0) ≤ℤ (if c then pos 1 else pos 0)
+either_falls true true h = omega (arith, ints)
+either_falls true false h = absurd (false≢true (h refl))
+either_falls false true h = omega (arith, ints)
+either_falls false false h = omega (arith, ints)
+
+pub above_falls : (from : Bool) (place : ℤ) (p q : Part) → q.high ≤ℤ p.high → q.low ≤ℤ p.low → above from place q ≤ℤ above from place p
+above_falls from place p q high low = either_falls (stands_above from place q) (stands_above from place p) (stands_falls from place p q high low)
 
 module _ {c : Case} {hot cold : List Part} (s : AreStandardParts c hot cold) where
   -- prices that do not rise downward support each heat flow
-  pub supports_down : (f : Part → ℤ) → ((p q : Part) → q.low ≤ℤ p.low → f q ≤ℤ f p) → IsSupporting (reach_between c hot cold) (map f hot) (map f cold)
+  pub supports_down : (f : Part → ℤ) → ((p q : Part) → q.high ≤ℤ p.high → q.low ≤ℤ p.low → f q ≤ℤ f p) → IsSupporting (reach_between c hot cold) (map f hot) (map f cold)
   supports_down f falls a b reach =
       let (p, q, from, to, both) = both_parts c (slice_get hot a) (slice_get cold b) reach in
       let passes = (and_parts (passes_heat p q) (not (is_forbidden c.forbids p.source q.source)) both).0 in
-      subst₂ (λ y z. z ≤ℤ y) (sym (price_at-map f hot a p from)) (sym (price_at-map f cold b q to))
-      (falls p q (passes_down p q passes ((s.sides Cold).each b q to).falls))
-
-  above_falls : (place : ℤ) (p q : Part) → q.low ≤ℤ p.low → above place q ≤ℤ above place p
-  above_falls place p q h = grind (arith, ints)
+      let down = passes_down p q passes ((s.sides Hot).each a p from).falls ((s.sides Cold).each b q to).falls in
+      subst₂ (λ y z. z ≤ℤ y) (sym (price_at-map f hot a p from)) (sym (price_at-map f cold b q to)) (falls p q down.0 down.1)
 
   -- a sum over the parts of a side that each add what stands above a place of the grid, and something for the utility
-  pub sum_above : (side : Side) (f : ℕ → Part → ℤ) (place each : ℤ) → Contains s.grid place → ((a : ℕ) (p : Part) → slice_get (parts_of side hot cold) a ≡ Some p → IsStandardPart c s.grid side p → f a p ≡ heat_from place each p) → int_sum_from f 0 (parts_of side hot cold) ≡ each +ℤ sum_side side (heat_above place) c.streams
-  sum_above side f place each on h =
+  pub sum_above : (side : Side) (f : ℕ → Part → ℤ) (from : Bool) (place each : ℤ) → Contains s.grid place → ((a : ℕ) (p : Part) → slice_get (parts_of side hot cold) a ≡ Some p → IsStandardPart c s.grid side p → f a p ≡ part_over from place each p) → int_sum_from f 0 (parts_of side hot cold) ≡ each +ℤ sum_side side (heat_over from place) c.streams
+  sum_above side f from place each on h =
       let parts = parts_of side hot cold in
-      int_sum_from-same_each f (λ a p. heat_from place each p) parts (λ a p at. h a p at ((s.sides side).each a p at))
-      ∙ int_sum_from-by (heat_from place each) 0 parts ∙ (s.sides side).sum place each on
+      int_sum_from-same_each f (λ a p. part_over from place each p) parts (λ a p at. h a p at ((s.sides side).each a p at))
+      ∙ int_sum_from-by (part_over from place each) 0 parts ∙ (s.sides side).sum from place each on
 
   -- what a side costs is what its utility costs
   side_cost-standard : (side : Side) (ts : List Transfer) (heat : ℤ) → UtilityHeat side (parts_of side hot cold) ts heat → side_cost side (parts_of side hot cold) ts ≡ unit_price side *ℤ heat
@@ -96,22 +136,22 @@ module _ {c : Case} {hot cold : List Part} (s : AreStandardParts c hot cold) whe
       let place = end_of c Cold in
       let each = unit_price side *ℤ heat in
       let whole =
-      sum_above side (λ a p. p.price *ℤ heat_at side ts a +ℤ heat_from place (pos 0) p) place each (s.ends Cold)
+      sum_above side (λ a p. p.price *ℤ heat_at side ts a +ℤ part_over true place (pos 0) p) true place each (s.ends Cold)
       (λ a p at h. ⊎_elim
       (λ k.
       let free = zero_times p.price (heat_at side ts a) k.price in
-      let none = from_stream place (pos 0) p k.source_is in
-      let other = from_stream place each p k.source_is in
+      let none = from_stream true place (pos 0) p k.source_is in
+      let other = from_stream true place each p k.source_is in
       omega (arith, ints))
       (λ k.
       let priced = ap₂ ◌*ℤ◌ k.price (utility a p at (ap not k.source_is)) in
-      let none = from_utility place (pos 0) p k.source_is in
-      let other = from_utility place each p k.source_is in
+      let none = from_utility true place (pos 0) p k.source_is in
+      let other = from_utility true place each p k.source_is in
       omega (arith, ints))
       h.kind) in
-      let split = int_sum_from-add (λ a p. p.price *ℤ heat_at side ts a) (λ a p. heat_from place (pos 0) p) 0 (parts_of side hot cold) in
-      let plain = int_sum_from-by (heat_from place (pos 0)) 0 (parts_of side hot cold) in
-      let above_place = (s.sides side).sum place (pos 0) (s.ends Cold) in
+      let split = int_sum_from-add (λ a p. p.price *ℤ heat_at side ts a) (λ a p. part_over true place (pos 0) p) 0 (parts_of side hot cold) in
+      let plain = int_sum_from-by (part_over true place (pos 0)) 0 (parts_of side hot cold) in
+      let above_place = (s.sides side).sum true place (pos 0) (s.ends Cold) in
       omega (arith, ints)
 
   -- a heat flow costs what the hot utility gives
@@ -134,45 +174,58 @@ module _ {c : Case} {hot cold : List Part} (s : AreStandardParts c hot cold) whe
     on_side Cold = (flow.cold_indexes, flow.cold_ranges)
 
     -- the heats of the parts of a side above a place
-    heats_above : (side : Side) (w : ℕ → Part → ℤ) (place each : ℤ) → Contains s.grid place → UtilityHeat side (parts_of side hot cold) ts each → ((a : ℕ) (p : Part) → slice_get (parts_of side hot cold) a ≡ Some p → w a p ≡ above place p) → int_sum_from (λ a p. w a p *ℤ heat_at side ts a) 0 (parts_of side hot cold) ≡ reached place (end_of c side) *ℤ each +ℤ sum_side side (heat_above place) c.streams
-    heats_above side w place each on utility weight =
-        sum_above side (λ a p. w a p *ℤ heat_at side ts a) place (reached place (end_of c side) *ℤ each) on
+    heats_above : (side : Side) (w : ℕ → Part → ℤ) (from : Bool) (place each : ℤ) → Contains s.grid place → UtilityHeat side (parts_of side hot cold) ts each → ((a : ℕ) (p : Part) → slice_get (parts_of side hot cold) a ≡ Some p → w a p ≡ above from place p) → int_sum_from (λ a p. w a p *ℤ heat_at side ts a) 0 (parts_of side hot cold) ≡ reached from place (end_of c side) *ℤ each +ℤ sum_side side (heat_over from place) c.streams
+    heats_above side w from place each on utility weight =
+        sum_above side (λ a p. w a p *ℤ heat_at side ts a) from place (reached from place (end_of c side) *ℤ each) on
         (λ a p at h. ap (λ z. z *ℤ heat_at side ts a) (weight a p at) ∙ ⊎_elim
-        (λ k. let range = (on_side side).1 a p at in let fixed = k.fixed in ap (λ z. above place p *ℤ z) (omega (arith, ints)) ∙ sym (from_stream place (reached place (end_of c side) *ℤ each) p k.source_is))
-        (λ k. ap₂ (λ low z. reached place low *ℤ z) k.low (utility a p at (ap not k.source_is)) ∙ sym (from_utility place (reached place (end_of c side) *ℤ each) p k.source_is))
+        (λ k.
+        let range = (on_side side).1 a p at in
+        let fixed = k.fixed in
+        ap (λ z. above from place p *ℤ z) (omega (arith, ints)) ∙ sym (from_stream from place (reached from place (end_of c side) *ℤ each) p k.source_is))
+        (λ k.
+        let level = ap (λ b. if b then pos 1 else pos 0) (stands-level from place (end_of c side) p k.high k.low) in
+        ap₂ ◌*ℤ◌ level (utility a p at (ap not k.source_is)) ∙ sym (from_utility from place (reached from place (end_of c side) *ℤ each) p k.source_is))
         h.kind)
 
     -- the same, transfer by transfer
-    pub worth_above : (side : Side) (place each : ℤ) → Contains s.grid place → UtilityHeat side (parts_of side hot cold) ts each → side_worth side (map (above place) (parts_of side hot cold)) ts ≡ reached place (end_of c side) *ℤ each +ℤ sum_side side (heat_above place) c.streams
-    worth_above side place each on utility =
+    pub worth_above : (side : Side) (from : Bool) (place each : ℤ) → Contains s.grid place → UtilityHeat side (parts_of side hot cold) ts each → side_worth side (map (above from place) (parts_of side hot cold)) ts ≡ reached from place (end_of c side) *ℤ each +ℤ sum_side side (heat_over from place) c.streams
+    worth_above side from place each on utility =
         let parts = parts_of side hot cold in
-        sym (side_worth-parts side (map (above place) parts) parts ts (on_side side).0)
-        ∙ heats_above side (λ a p. price_at (map (above place) parts) a) place each on utility (price_at-map (above place) parts)
+        sym (side_worth-parts side (map (above from place) parts) parts ts (on_side side).0)
+        ∙ heats_above side (λ a p. price_at (map (above from place) parts) a) from place each on utility (price_at-map (above from place) parts)
 
-    pub taken-le : (place : ℤ) → All (λ t. (price_at (map (above place) cold) t.cold *ℤ t.heat) ≤ℤ (price_at (map (above place) hot) t.hot *ℤ t.heat)) ts
-    taken-le place = worth-le (reach_between c hot cold) (map (above place) hot) (map (above place) cold) ts (supports_down (above place) (above_falls place)) flow.positive flow.joined
+    pub taken-le : (from : Bool) (place : ℤ) → All (λ t. (price_at (map (above from place) cold) t.cold *ℤ t.heat) ≤ℤ (price_at (map (above from place) hot) t.hot *ℤ t.heat)) ts
+    taken-le from place = worth-le (reach_between c hot cold) (map (above from place) hot) (map (above from place) cold) ts (supports_down (above from place) (above_falls from place)) flow.positive flow.joined
 
     -- all heat of a side: that of its streams and of its utility
-    whole_heat : (side : Side) → int_sum_by (λ t. pos 1 *ℤ t.heat) ts ≡ heat side ts +ℤ sum_side side (heat_above (end_of c Cold)) c.streams
+    whole_heat : (side : Side) → int_sum_by (λ t. pos 1 *ℤ t.heat) ts ≡ heat side ts +ℤ sum_side side (heat_over true (end_of c Cold)) c.streams
     whole_heat side =
         let bottom = end_of c Cold in
-        let all = one_times (reached bottom (end_of c side)) (heat side ts) (is_reached bottom (end_of c side) (s.within Cold (end_of c side) (s.ends side))) in
-        let sum = heats_above side (λ a p. pos 1) bottom (heat side ts) (s.ends Cold) (utility_heat side ts) (λ a p at. sym (is_reached bottom p.low ((s.sides side).each a p at).from)) in
-        sym (int_sum_from-grouped (part_index side) (λ t. t.heat) (λ a. pos 1) (parts_of side hot cold) ts (on_side side).0) ∙ sum ∙ ap (λ z. z +ℤ sum_side side (heat_above bottom) c.streams) all
+        let all = one_times (reached true bottom (end_of c side)) (heat side ts) (is_reached true bottom (end_of c side) (from_place bottom (end_of c side) (s.within Cold (end_of c side) (s.ends side)))) in
+        let sum =
+        heats_above side (λ a p. pos 1) true bottom (heat side ts) (s.ends Cold) (utility_heat side ts)
+        (λ a p at. sym (is_reached true bottom p.low (from_place bottom p.low ((s.sides side).each a p at).from))) in
+        sym (int_sum_from-grouped (part_index side) (λ t. t.heat) (λ a. pos 1) (parts_of side hot cold) ts (on_side side).0) ∙ sum ∙ ap (λ z. z +ℤ sum_side side (heat_over true bottom) c.streams) all
 
-    -- above a place where the deficit is the hot target the cold parts need that much more than the hot streams give
+    utility-not_negative : (side : Side) → pos 0 ≤ℤ heat side ts
+    utility-not_negative side =
+        int_sum_by-not_negative (λ t. if part_index side t == (s.sides side).utility then t.heat else pos 0) ts (heats_at-not_negative side ts (s.sides side).utility flow.positive)
+
+    -- above a place where a deficit is the hot target the cold parts need that much more than the hot streams give
     hot-at_least : hot_target c.streams ≤ℤ heat Hot ts
     hot-at_least =
         let (place, tight) = some_tight c.streams s.valid in
         let on = s.stream_end place tight.end in
-        let hots = worth_above Hot place (heat Hot ts) on (utility_heat Hot ts) in
-        let colds = worth_above Cold place (heat Cold ts) on (utility_heat Cold ts) in
-        let all = one_times (reached place (end_of c Hot)) (heat Hot ts) (is_reached place (end_of c Hot) (s.within Hot place on)) in
-        let some =
-        product_not_negative (reached place (end_of c Cold)) (heat Cold ts) (grind (arith, ints))
-        (int_sum_by-not_negative (λ t. if part_index Cold t == (s.sides Cold).utility then t.heat else pos 0) ts (heats_at-not_negative Cold ts (s.sides Cold).utility flow.positive)) in
-        let le = int_sum_by-le (λ t. price_at (map (above place) cold) t.cold *ℤ t.heat) (λ t. price_at (map (above place) hot) t.hot *ℤ t.heat) ts (taken-le place) in
-        omega (arith, ints, tight.tight)
+        ⊎_elim (at_tight false place on) (at_tight true place on) tight.tight
+      where
+        at_tight : (from : Bool) (place : ℤ) → Contains s.grid place → IsTightOver from c.streams place → hot_target c.streams ≤ℤ heat Hot ts
+        at_tight from place on tight =
+            let hots = worth_above Hot from place (heat Hot ts) on (utility_heat Hot ts) in
+            let colds = worth_above Cold from place (heat Cold ts) on (utility_heat Cold ts) in
+            let most = (share (counts_above from place (end_of c Hot)) (heat Hot ts) (utility-not_negative Hot)).1 in
+            let some = (share (counts_above from place (end_of c Cold)) (heat Cold ts) (utility-not_negative Cold)).0 in
+            let le = int_sum_by-le (λ t. price_at (map (above from place) cold) t.cold *ℤ t.heat) (λ t. price_at (map (above from place) hot) t.hot *ℤ t.heat) ts (taken-le from place) in
+            omega (arith, ints)
 
     -- the utilities give and take at least the targets
     at_least : (side : Side) → target_of side c.streams ≤ℤ heat side ts

@@ -1,14 +1,14 @@
 -- No heat crosses a pinch: what is needed above it is all that the hot parts above it give.
-use Rattle.std.proofs.Common.{◌≡◌, ⊎_elim, ◌∙◌, List, [], ◌∷◌, get_or, map, arith}
-use Rattle.std.specs.Prelude.{ℤ, ◌*ℤ◌, ◌≤ℤ◌, ◌<ℤ◌, All, Contains}
+use Rattle.std.proofs.Common.{◌≡◌, ◌∙◌, ap, Bool, List, [], ◌∷◌, get_or, map, arith}
+use Rattle.std.specs.Prelude.{ℤ, pos, ◌*ℤ◌, ◌≤ℤ◌, ◌<ℤ◌, if◌then◌else◌, All, Contains}
+use Rattle.std.proofs.lemmas.Bool.{not-true}
 use Rattle.std.proofs.lemmas.Int.{ints}
 use Rattle.std.proofs.lemmas.List.Elements.{All-nil, All-cons, All-head, All-tail}
-use Rattle.corner_flow.proofs.Words.{Case, Cold, Hot, IsFlowOf, IsPinch, NoHeatCrosses, NoHeatCrossesPinch, Part, Transfer, UtilityHeat, hot_target, int_sum_by, price_at}
+use Rattle.corner_flow.proofs.Words.{Case, Cold, Hot, IsFlowOf, IsPinch, IsTightOver, NoHeatCrosses, NoHeatCrossesPinch, Part, Transfer, UtilityHeat, hot_target, int_sum_by, price_at, stands_above}
 use Rattle.sums.proofs.SumLemmas.{int_sum_by-le}
-use Rattle.grid.proofs.PlaceLemmas.{interval_falls}
 use Rattle.corner_flow.proofs.StandardLemmas.{end_of}
-use Rattle.corner_flow.proofs.SideLemmas.{IsStandardPart, AreStandardParts}
-use Rattle.corner_flow.proofs.HeatLemmas.{above, reached, is_reached, is_missed, zero_times, one_times, price_at-map, taken-le, worth_above, heat, utility_heat}
+use Rattle.corner_flow.proofs.SideLemmas.{AreStandardParts}
+use Rattle.corner_flow.proofs.HeatLemmas.{above, counts_higher, counts_lower, reached, is_reached, is_missed, zero_times, one_times, price_at-map, taken-le, worth_above, heat, utility_heat}
 
 -- where two sums are equal and no term of the one is greater, the terms are equal
 equal_terms : {X : Type 0} (f g : X → ℤ) (xs : List X) → All (λ x. f x ≤ℤ g x) xs → int_sum_by f xs ≡ int_sum_by g xs → All (λ x. f x ≡ g x) xs
@@ -20,36 +20,35 @@ equal_terms f g (x ∷ xs) le e =
     let is : f x ≡ g x = omega (arith, ints) in
     All-cons (λ y. f y ≡ g y) x xs is (equal_terms f g xs others (omega (arith, ints)))
 
-module _ {c : Case} {hot cold : List Part} (s : AreStandardParts c hot cold) (place : ℤ) (pinch : IsPinch c.streams place) (ts : List Transfer) (flow : IsFlowOf c hot cold ts) (given : UtilityHeat Hot hot ts (hot_target c.streams)) where
-  -- the cold utility stands below the pinch
+module _ {c : Case} {hot cold : List Part} (s : AreStandardParts c hot cold) (place : ℤ) (pinch : IsPinch c.streams place) (from : Bool) (tight : IsTightOver from c.streams place) (ts : List Transfer) (flow : IsFlowOf c hot cold ts) (given : UtilityHeat Hot hot ts (hot_target c.streams)) where
+  -- the hot utility stands above the pinch, and the cold one below it
+  top_above : place <ℤ end_of c Hot
+  top_above = let (k, x, within, is, less) = pinch.inside.below_some in let highest = s.within Hot x (s.stream_end x (k, within, is)) in omega (arith, ints)
+
   bottom_below : end_of c Cold <ℤ place
   bottom_below = let (k, x, within, is, less) = pinch.inside.above_some in let lowest = s.within Cold x (s.stream_end x (k, within, is)) in omega (arith, ints)
 
-  -- a part that is not above it lies below it
-  below_high : (q : Part) → q.high ≤ℤ place → IsStandardPart c s.grid Cold q → q.low <ℤ place
-  below_high q below h =
-      ⊎_elim (λ k. let less = interval_falls s.grid q.high q.low s.grid_falls k.interval in omega (arith, ints)) (λ k. let bottom = bottom_below in omega (arith, ints, k.low)) h.kind
-
   -- all that is given above the pinch is taken above it
-  same_above : All (λ t. price_at (map (above place) cold) t.cold *ℤ t.heat ≡ price_at (map (above place) hot) t.hot *ℤ t.heat) ts
+  same_above : All (λ t. price_at (map (above from place) cold) t.cold *ℤ t.heat ≡ price_at (map (above from place) hot) t.hot *ℤ t.heat) ts
   same_above =
       let on : Contains s.grid place = s.stream_end place pinch.at.end in
       let target = hot_target c.streams in
-      let hots = worth_above s ts flow Hot place target on given in
-      let colds = worth_above s ts flow Cold place (heat s Cold ts) on (utility_heat s Cold ts) in
-      let all = one_times (reached place (end_of c Hot)) target (is_reached place (end_of c Hot) (s.within Hot place on)) in
-      let none = zero_times (reached place (end_of c Cold)) (heat s Cold ts) (is_missed place (end_of c Cold) bottom_below) in
-      equal_terms (λ t. price_at (map (above place) cold) t.cold *ℤ t.heat) (λ t. price_at (map (above place) hot) t.hot *ℤ t.heat) ts (taken-le s ts flow place) (omega (arith, ints, pinch.at.tight))
+      let hots = worth_above s ts flow Hot from place target on given in
+      let colds = worth_above s ts flow Cold from place (heat s Cold ts) on (utility_heat s Cold ts) in
+      let all = one_times (reached from place (end_of c Hot)) target (is_reached from place (end_of c Hot) (counts_higher from place (end_of c Hot) top_above)) in
+      let none = zero_times (reached from place (end_of c Cold)) (heat s Cold ts) (is_missed from place (end_of c Cold) (counts_lower from place (end_of c Cold) bottom_below)) in
+      equal_terms (λ t. price_at (map (above from place) cold) t.cold *ℤ t.heat) (λ t. price_at (map (above from place) hot) t.hot *ℤ t.heat) ts (taken-le s ts flow from place) (omega (arith, ints))
 
   -- so nothing is left to give below it
-  none_crosses : NoHeatCrosses hot cold place ts
+  none_crosses : NoHeatCrosses from hot cold place ts
   none_crosses k d within crossing =
       let t = get_or ts k d in
       let p = crossing.hot_part in
       let q = crossing.cold_part in
-      let low = below_high q crossing.below ((s.sides Cold).each t.cold q crossing.to) in
-      let gives = one_times (price_at (map (above place) hot) t.hot) t.heat (price_at-map (above place) hot t.hot p crossing.from ∙ is_reached place p.low crossing.above) in
-      let takes = zero_times (price_at (map (above place) cold) t.cold) t.heat (price_at-map (above place) cold t.cold q crossing.to ∙ is_missed place q.low low) in
+      let gives = one_times (price_at (map (above from place) hot) t.hot) t.heat (price_at-map (above from place) hot t.hot p crossing.hot_at ∙ ap (λ b. if b then pos 1 else pos 0) crossing.above) in
+      let takes =
+      zero_times (price_at (map (above from place) cold) t.cold) t.heat
+      (price_at-map (above from place) cold t.cold q crossing.cold_at ∙ ap (λ b. if b then pos 1 else pos 0) (not-true (stands_above from place q) crossing.not_above)) in
       let same = same_above k d within in
       omega (arith, ints, flow.positive k d within)
 

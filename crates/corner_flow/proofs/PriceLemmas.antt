@@ -1,34 +1,45 @@
 -- The prices of the corner flow support every heat flow, and their value is the hot target.
-use Rattle.std.proofs.Common.{◌≡◌, ⊎_elim, ◌∙◌, refl, sym, ap, ap₂, Bool, true, false, List, get_or, map, arith}
-use Rattle.std.specs.Prelude.{ℤ, pos, ◌*ℤ◌, ◌≤ℤ◌, if◌then◌else◌, All}
+use Rattle.std.proofs.Common.{◌≡◌, ◌≢◌, ◌⊎◌, ⊎_elim, inl, inr, ◌∙◌, refl, sym, ap, ap₂, subst, ℕ, ◌<◌, Bool, true, false, not, List, length, get_or, map, arith}
+use Rattle.std.specs.Prelude.{◌↔◌, ◌||◌, ℤ, pos, ◌+ℤ◌, ◌-ℤ◌, ◌*ℤ◌, ◌≤ℤ◌, int_lt, if◌then◌else◌, All, Contains}
 use Rattle.std.specs.Int.{int_min}
 use Rattle.std.specs.Ordering.{int_eq}
 use Rattle.std.proofs.Math.IntN.{*ℤ-zero}
-use Rattle.std.proofs.lemmas.Int.{ints, clamps}
+use Rattle.std.proofs.lemmas.Int.{by_lt_z, ints, clamps}
+use Rattle.std.proofs.lemmas.Bool.{and_cases, cases_Bool, false≢true}
 use Rattle.std.proofs.lemmas.Bool.Decides.{Decides-int_eq}
 use Rattle.std.proofs.lemmas.List.Elements.{All-map}
-use Rattle.corner_flow.proofs.Words.{Case, Cold, Hot, IsBetween, IsPartPrice, IsSupporting, IsTight, Part, Side, corner_price, excess_price, hot_target, int_sum_by, is_stream, least_product, parts_of, price_at, reach_between, side_value, value_of}
+use Rattle.corner_flow.proofs.Words.{Case, Cold, CountsFromItself, Hot, IsBetween, IsPartPrice, IsReferencePlace, IsSupporting, IsTightOver, IsValidStream, Part, Side, Stream, corner_price, counts_above, counts_low, deficit_above, deficit_from, excess_price, has_level, heat_over, high_end, hot_target, int_sum_by, is_level_at, is_stream, least_product, load_over, parts_of, price_at, reach_between, sensible_above, side_value, stands_above, stream_ends, value_of}
+use Rattle.sums.proofs.CountLemmas.{none_any}
+use Rattle.sums.proofs.IntegerLemmas.{if_zero, int_le-false, int_le-from, int_lt-from, strictly}
 use Rattle.sums.proofs.ProductLemmas.{product_not_negative}
 use Rattle.sums.proofs.SumLemmas.{int_sum_by-zero, int_sum_from-by, int_sum_from-zero, int_sum_from-same_each}
-use Rattle.grid.proofs.HeatLemmas.{heat_from}
+use Rattle.problem_table.proofs.SideLemmas.{sum_side-same}
+use Rattle.grid.proofs.HeatLemmas.{part_over}
+use Rattle.grid.proofs.SizeLemmas.{load-between}
 use Rattle.heat_flow.proofs.Duality.{excess_price-*ℤ, int_sum_from-excess}
 use Rattle.corner_flow.proofs.SideLemmas.{unit_price, IsStandardPart, AreStandardParts}
-use Rattle.corner_flow.proofs.HeatLemmas.{above, zero_times, from_stream, from_utility, price_at-map, supports_down}
+use Rattle.corner_flow.proofs.HeatLemmas.{above, above_falls, int_lt-false, zero_times, from_stream, from_utility, price_at-map, supports_down}
 
 -- the price of a part, where `none` says that no heat is needed
-abbrev priced : Bool → ℤ → Part → ℤ
-priced none place p = if none then pos 0 else above place p
+abbrev priced : Bool → Bool → ℤ → Part → ℤ
+priced none low place p = if none then pos 0 else above low place p
 
-priced_falls : (none : Bool) (place : ℤ) (p q : Part) → q.low ≤ℤ p.low → priced none place q ≤ℤ priced none place p
-priced_falls none place p q h = grind (arith, ints)
+priced_falls : (none low : Bool) (place : ℤ) (p q : Part) → q.high ≤ℤ p.high → q.low ≤ℤ p.low → priced none low place q ≤ℤ priced none low place p
+priced_falls true low place p q high less = omega (arith, ints)
+priced_falls false low place p q high less = above_falls low place p q high less
 
-priced_range : (none : Bool) (place : ℤ) (p : Part) → IsBetween (pos 0) (pos 1) (priced none place p)
-priced_range none place p = record { from = grind (arith, ints); upto = grind (arith, ints) }
+priced_range : (none low : Bool) (place : ℤ) (p : Part) → IsBetween (pos 0) (pos 1) (priced none low place p)
+priced_range none low place p = either none (stands_above low place p)
+  where
+    either : (b c : Bool) → IsBetween (pos 0) (pos 1) (if b then pos 0 else if c then pos 1 else pos 0)
+    either true c = record { from = omega (arith, ints); upto = omega (arith, ints) }
+    either false true = record { from = omega (arith, ints); upto = omega (arith, ints) }
+    either false false = record { from = omega (arith, ints); upto = omega (arith, ints) }
 
-pub prices_within : (target place : ℤ) (parts : List Part) → All IsPartPrice (map (corner_price target place) parts)
-prices_within target place parts =
-    All-map IsPartPrice (corner_price target place) parts
-    (λ k d within. let range = priced_range (int_eq target (pos 0)) place (get_or parts k d) in record { from = omega (arith, ints, range.from); upto = omega (arith, ints, range.upto) })
+pub prices_within : (target : ℤ) (low : Bool) (place : ℤ) (parts : List Part) → All IsPartPrice (map (corner_price target low place) parts)
+prices_within target low place parts =
+    All-map IsPartPrice (corner_price target low place) parts
+    (λ k d within. let range = priced_range (int_eq target (pos 0)) low place (get_or parts k d) in record { from = omega (arith, ints, range.from); upto = omega (arith, ints, range.upto) })
 
 -- ---- the value of a side
 
@@ -47,53 +58,91 @@ no_excess Hot = refl
 no_excess Cold = refl
 
 -- the heat of a stream that has a price
-abbrev priced_heat : Bool → ℤ → Part → ℤ
-priced_heat none place p = if none then pos 0 else heat_from place (pos 0) p
+abbrev priced_heat : Bool → Bool → ℤ → Part → ℤ
+priced_heat none low place p = if none then pos 0 else part_over low place (pos 0) p
 
-priced-stream : (none : Bool) (place : ℤ) (p : Part) → is_stream p.source ≡ true → priced none place p *ℤ p.least ≡ priced_heat none place p
-priced-stream true place p e = zero_times (pos 0) p.least refl
-priced-stream false place p e = sym (from_stream place (pos 0) p e)
+priced-stream : (none low : Bool) (place : ℤ) (p : Part) → is_stream p.source ≡ true → priced none low place p *ℤ p.least ≡ priced_heat none low place p
+priced-stream true low place p e = zero_times (pos 0) p.least refl
+priced-stream false low place p e = sym (from_stream low place (pos 0) p e)
 
-priced-utility : (none : Bool) (place : ℤ) (p : Part) → is_stream p.source ≡ false → priced_heat none place p ≡ pos 0
-priced-utility true place p e = refl
-priced-utility false place p e = from_utility place (pos 0) p e
+priced-utility : (none low : Bool) (place : ℤ) (p : Part) → is_stream p.source ≡ false → priced_heat none low place p ≡ pos 0
+priced-utility true low place p e = refl
+priced-utility false low place p e = from_utility low place (pos 0) p e
 
-module _ {c : Case} {hot cold : List Part} (s : AreStandardParts c hot cold) (place : ℤ) where
+module _ {c : Case} {hot cold : List Part} (s : AreStandardParts c hot cold) (low : Bool) (place : ℤ) where
   module _ (side : Side) (none : Bool) where
     -- a stream is worth that, and a utility nothing
-    worth : (p : Part) → IsStandardPart c s.grid side p → least_product (excess_price side p.price (priced none place p)) p.least p.most ≡ excess_price side (pos 0) (priced_heat none place p)
+    worth : (p : Part) → IsStandardPart c s.grid side p → least_product (excess_price side p.price (priced none low place p)) p.least p.most ≡ excess_price side (pos 0) (priced_heat none low place p)
     worth p h =
-        let excess = excess_price side p.price (priced none place p) in
+        let excess = excess_price side p.price (priced none low place p) in
         ⊎_elim
-        (λ k. fixed_product excess p.least p.most k.fixed ∙ excess_price-*ℤ side p.price (priced none place p) p.least ∙ ap₂ (excess_price side) (zero_times p.price p.least k.price) (priced-stream none place p k.source_is))
+        (λ k. fixed_product excess p.least p.most k.fixed ∙ excess_price-*ℤ side p.price (priced none low place p) p.least ∙ ap₂ (excess_price side) (zero_times p.price p.least k.price) (priced-stream none low place p k.source_is))
         (λ k.
-        free_product excess p.least p.most (free_excess side p.price (priced none place p) k.price (priced_range none place p)) k.least (omega (arith, ints, k.most))
-        ∙ sym (ap (excess_price side (pos 0)) (priced-utility none place p k.source_is) ∙ no_excess side))
+        free_product excess p.least p.most (free_excess side p.price (priced none low place p) k.price (priced_range none low place p)) k.least (omega (arith, ints, k.most))
+        ∙ sym (ap (excess_price side (pos 0)) (priced-utility none low place p k.source_is) ∙ no_excess side))
         h.kind
 
-    side_value-priced : side_value side (parts_of side hot cold) (map (priced none place) (parts_of side hot cold)) ≡ excess_price side (pos 0) (int_sum_by (priced_heat none place) (parts_of side hot cold))
+    side_value-priced : side_value side (parts_of side hot cold) (map (priced none low place) (parts_of side hot cold)) ≡ excess_price side (pos 0) (int_sum_by (priced_heat none low place) (parts_of side hot cold))
     side_value-priced =
-        let f = priced none place in
+        let f = priced none low place in
         let parts = parts_of side hot cold in
-        int_sum_from-same_each (λ a p. least_product (excess_price side p.price (price_at (map f parts) a)) p.least p.most) (λ a p. excess_price side (pos 0) (priced_heat none place p)) parts
+        int_sum_from-same_each (λ a p. least_product (excess_price side p.price (price_at (map f parts) a)) p.least p.most) (λ a p. excess_price side (pos 0) (priced_heat none low place p)) parts
         (λ a p at. ap (λ y. least_product (excess_price side p.price y) p.least p.most) (price_at-map f parts a p at) ∙ worth p ((s.sides side).each a p at))
-        ∙ int_sum_from-excess side (λ a p. pos 0) (λ a p. priced_heat none place p) parts
-        ∙ ap₂ (excess_price side) (int_sum_from-zero (λ a p. pos 0) 0 parts (λ a p le. refl)) (int_sum_from-by (priced_heat none place) 0 parts)
+        ∙ int_sum_from-excess side (λ a p. pos 0) (λ a p. priced_heat none low place p) parts
+        ∙ ap₂ (excess_price side) (int_sum_from-zero (λ a p. pos 0) 0 parts (λ a p le. refl)) (int_sum_from-by (priced_heat none low place) 0 parts)
 
-  pub corner-supports : IsSupporting (reach_between c hot cold) (map (corner_price (hot_target c.streams) place) hot) (map (corner_price (hot_target c.streams) place) cold)
-  corner-supports = supports_down s (corner_price (hot_target c.streams) place) (priced_falls (int_eq (hot_target c.streams) (pos 0)) place)
+  pub corner-supports : IsSupporting (reach_between c hot cold) (map (corner_price (hot_target c.streams) low place) hot) (map (corner_price (hot_target c.streams) low place) cold)
+  corner-supports = supports_down s (corner_price (hot_target c.streams) low place) (priced_falls (int_eq (hot_target c.streams) (pos 0)) low place)
 
-  value-priced : (none : Bool) → int_eq (hot_target c.streams) (pos 0) ≡ none → IsTight c.streams place → value_of hot cold (map (priced none place) hot) (map (priced none place) cold) ≡ hot_target c.streams
-  value-priced true e tight =
+  value-priced : (none : Bool) → int_eq (hot_target c.streams) (pos 0) ≡ none → Contains (stream_ends c.streams) place → IsTightOver low c.streams place → value_of hot cold (map (priced none low place) hot) (map (priced none low place) cold) ≡ hot_target c.streams
+  value-priced true e end tight =
       let zero = (Decides-int_eq (hot_target c.streams) (pos 0)).0 e in
       let hots = side_value-priced Hot true ∙ ap (excess_price Hot (pos 0)) (int_sum_by-zero (λ p. pos 0) hot (λ k d within. refl)) in
       let colds = side_value-priced Cold true ∙ ap (excess_price Cold (pos 0)) (int_sum_by-zero (λ p. pos 0) cold (λ k d within. refl)) in
       omega (arith, ints)
-  value-priced false e tight =
-      let on = s.stream_end place tight.end in
-      let hots = side_value-priced Hot false ∙ ap (excess_price Hot (pos 0)) ((s.sides Hot).sum place (pos 0) on) in
-      let colds = side_value-priced Cold false ∙ ap (excess_price Cold (pos 0)) ((s.sides Cold).sum place (pos 0) on) in
-      omega (arith, ints, tight.tight)
+  value-priced false e end tight =
+      let on = s.stream_end place end in
+      let hots = side_value-priced Hot false ∙ ap (excess_price Hot (pos 0)) ((s.sides Hot).sum low place (pos 0) on) in
+      let colds = side_value-priced Cold false ∙ ap (excess_price Cold (pos 0)) ((s.sides Cold).sum low place (pos 0) on) in
+      omega (arith, ints)
 
-  pub corner-value : IsTight c.streams place → value_of hot cold (map (corner_price (hot_target c.streams) place) hot) (map (corner_price (hot_target c.streams) place) cold) ≡ hot_target c.streams
+  pub corner-value : Contains (stream_ends c.streams) place → IsTightOver low c.streams place → value_of hot cold (map (corner_price (hot_target c.streams) low place) hot) (map (corner_price (hot_target c.streams) low place) cold) ≡ hot_target c.streams
   corner-value = value-priced (int_eq (hot_target c.streams) (pos 0)) refl
+
+-- ---- the deficit that the prices go by
+
+-- a stream that has no level at a place has the same heat above it and from it on
+same_heat : (place : ℤ) (s : Stream) → IsValidStream s → is_level_at place s ≡ false → heat_over true place s ≡ heat_over false place s
+same_heat place s h e = ap (λ load. sensible_above place s +ℤ load) (by_parts (and_cases (int_lt (pos 0) s.load) (int_eq (high_end s) place) e))
+  where
+    by_parts : (int_lt (pos 0) s.load ≡ false) ⊎ (int_eq (high_end s) place ≡ false) → load_over true place s ≡ load_over false place s
+    by_parts (inl none) =
+        let load = load-between s h.heat in
+        let zero : s.load ≡ pos 0 = by_lt_z (pos 0) s.load (λ more. absurd (false≢true (sym none ∙ int_lt-from (pos 0) s.load more))) (λ most. omega (arith, ints, load)) in
+        if_zero (counts_above true place (high_end s)) s.load zero ∙ sym (if_zero (counts_above false place (high_end s)) s.load zero)
+    by_parts (inr other) =
+        let differ : high_end s ≢ place = λ same. false≢true (sym other ∙ (Decides-int_eq (high_end s) place).1 same) in
+        let same : counts_above true place (high_end s) ≡ counts_above false place (high_end s) =
+        by_lt_z place (high_end s) (λ less. int_le-from place (high_end s) (omega (arith, ints)) ∙ sym (int_lt-from place (high_end s) less))
+        (λ most. let less = strictly (high_end s) place most differ in int_le-false place (high_end s) less ∙ sym (int_lt-false place (high_end s) most)) in
+        ap (λ b. if b then s.load else pos 0) same
+
+same_deficit : (place : ℤ) (streams : List Stream) → All IsValidStream streams → has_level streams place ≡ false → deficit_from streams place ≡ deficit_above streams place
+same_deficit place streams valid none =
+    let others = none_any (is_level_at place) streams none in
+    let same = λ (k : ℕ) (d : Stream) (within : k < length streams). same_heat place (get_or streams k d) (valid k d within) (others k d within) in
+    ap₂ ◌-ℤ◌ (sum_side-same Cold (heat_over true place) (heat_over false place) streams same) (sum_side-same Hot (heat_over true place) (heat_over false place) streams same)
+
+-- the deficit over the reference place, as its prices count, is the hot target
+pub tight_counted : (streams : List Stream) (place : ℤ) (from : Bool) → All IsValidStream streams → IsReferencePlace streams place → from ≡ true ↔ CountsFromItself streams place → IsTightOver (counts_low streams from place) streams place
+tight_counted streams place true valid reference counts = ⊎_elim (λ e. absurd (counts.0 refl e)) (λ e. e) reference.at.tight
+tight_counted streams place false valid reference counts = by_level (has_level streams place) refl
+  where
+    above_is : deficit_above streams place ≡ hot_target streams
+    above_is = ⊎_elim (λ e. (Decides-int_eq (deficit_above streams place) (hot_target streams)).0 e)
+        (λ e. absurd (false≢true (counts.1 (λ same. false≢true (sym e ∙ (Decides-int_eq (deficit_above streams place) (hot_target streams)).1 same)))))
+        (cases_Bool (int_eq (deficit_above streams place) (hot_target streams)))
+
+    by_level : (b : Bool) → has_level streams place ≡ b → IsTightOver (false || not (has_level streams place)) streams place
+    by_level true e = subst (λ (x : Bool). IsTightOver (not x) streams place) (sym e) above_is
+    by_level false e = subst (λ (x : Bool). IsTightOver (not x) streams place) (sym e) (same_deficit place streams valid e ∙ above_is)

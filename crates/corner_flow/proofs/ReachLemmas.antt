@@ -1,19 +1,20 @@
 -- Two parts whose spans overlap reach.
-use Rattle.std.proofs.Common.{◌≡◌, ⊎_elim, ◌∙◌, refl, sym, ap, ap₂, ℕ, zero, suc, ◌+◌, true, false, ◌&&◌, List, [], ◌∷◌, take, Some, arith, zero-add}
+use Rattle.std.proofs.Common.{◌≡◌, ⊎_elim, inl, inr, ◌∙◌, refl, sym, ap, ap₂, ℕ, zero, suc, ◌+◌, Bool, true, false, ◌&&◌, List, [], ◌∷◌, take, Some, arith, zero-add}
 use Rattle.std.specs.Prelude.{ℤ, pos, ◌+ℤ◌, ◌≤ℤ◌, ◌<ℤ◌, int_le, nat_lt, if◌then◌else◌, Contains, slice_get}
 use Rattle.std.specs.Ordering.{int_eq}
 use Rattle.std.proofs.lemmas.Int.{ints, clamps, by_lt_z}
-use Rattle.std.proofs.lemmas.Bool.{or_parts, and_from, cases_Bool, cases_lt, both_ways, lt-ltb, le-ltb}
+use Rattle.std.proofs.lemmas.Bool.{or_parts, and_from, cases_Bool, cases_lt, both_ways, false_from_ne_true, false≢true, lt-ltb, le-ltb}
 use Rattle.std.proofs.lemmas.Bool.Decides.{Decides-int_eq}
 use Rattle.std.proofs.lemmas.List.{take-map}
-use Rattle.corner_flow.proofs.Words.{Case, Cold, Hot, Part, begin_of, cold_target, heat_above, heats_of, hot_target, int_sum_by, int_sum_from, is_stream, overlap, part_heat, passes_heat, sum_side}
+use Rattle.corner_flow.proofs.Words.{Case, Cold, Hot, IsInterval, Part, begin_of, cold_target, counts_above, heat_over, heats_of, hot_target, int_sum_by, int_sum_from, is_stream, overlap, part_heat, passes_heat, stands_above, sum_side}
 use Rattle.sums.proofs.SumLemmas.{int_sum_by-map, int_sum_from-by, int_sum_from-zero, int_sum_from-le_each}
-use Rattle.problem_table.proofs.DeficitLemmas.{hot_target-bound, hot_target-between}
+use Rattle.sums.proofs.IntegerLemmas.{int_le-false, int_le-from, int_lt-from}
+use Rattle.problem_table.proofs.DeficitLemmas.{deficit_over-bound, hot_target-between}
 use Rattle.grid.proofs.PlaceLemmas.{interval_falls, interval_ends, interval_below, interval_above}
-use Rattle.grid.proofs.HeatLemmas.{heat_from}
+use Rattle.grid.proofs.HeatLemmas.{part_over}
 use Rattle.corner_flow.proofs.StandardLemmas.{end_of}
-use Rattle.corner_flow.proofs.SideLemmas.{IsStreamHere, AreStandardParts}
-use Rattle.corner_flow.proofs.HeatLemmas.{above, is_reached, is_missed, zero_times, one_times, from_stream}
+use Rattle.corner_flow.proofs.SideLemmas.{IsStandardPart, AreStandardParts, StandsOn, ends_on}
+use Rattle.corner_flow.proofs.HeatLemmas.{above, counts_higher, counts_lower, from_place, from_stream, int_lt-false, one_times, stands-level, stands_falls, zero_times}
 
 -- ---- the spans before an index
 
@@ -52,104 +53,128 @@ heat_of_stream target p e = ap (λ b. if b then p.least else target) e
 pub heat_of_utility : (target : ℤ) (p : Part) → is_stream p.source ≡ false → part_heat target p ≡ target
 heat_of_utility target p e = ap (λ b. if b then p.least else target) e
 
-heat_from-le : (place target : ℤ) (p : Part) → pos 0 ≤ℤ p.least → pos 0 ≤ℤ target → (pos 0 ≤ℤ heat_from place target p) × (heat_from place target p ≤ℤ part_heat target p)
-heat_from-le place target p h k = (grind (arith, ints), grind (arith, ints))
+part_over-le : (from : Bool) (place target : ℤ) (p : Part) → pos 0 ≤ℤ p.least → pos 0 ≤ℤ target → (pos 0 ≤ℤ part_over from place target p) × (part_over from place target p ≤ℤ part_heat target p)
+part_over-le from place target p h k = either (is_stream p.source) (stands_above from place p)
+  where
+    either : (b d : Bool) → (pos 0 ≤ℤ (if b then (if d then p.least else pos 0) else target)) × ((if b then (if d then p.least else pos 0) else target) ≤ℤ (if b then p.least else target))
+    either true true = (omega (arith, ints), omega (arith, ints))
+    either true false = (omega (arith, ints), omega (arith, ints))
+    either false d = (omega (arith, ints), omega (arith, ints))
 
-module _ {c : Case} {hot cold : List Part} (s : AreStandardParts c hot cold) where
-  -- the hot heat above a place stands before a hot part that is not above it
-  hot_before : (place : ℤ) → Contains s.grid place → (i : ℕ) (p : Part) → slice_get hot i ≡ Some p → p.high ≤ℤ place → place <ℤ end_of c Hot → (hot_target c.streams +ℤ sum_side Hot (heat_above place) c.streams) ≤ℤ begin_of (heats_of (hot_target c.streams) hot) i
-  hot_before place on i p at high under =
+module _ {c : Case} {hot cold : List Part} (s : AreStandardParts c hot cold) (from : Bool) (place : ℤ) (on : Contains s.grid place) where
+  -- the hot heat above a place stands before a hot part that does not stand above it
+  hot_before : (i : ℕ) (p : Part) → slice_get hot i ≡ Some p → stands_above from place p ≡ false → counts_above from place (end_of c Hot) ≡ true → (hot_target c.streams +ℤ sum_side Hot (heat_over from place) c.streams) ≤ℤ begin_of (heats_of (hot_target c.streams) hot) i
+  hot_before i p at missed top =
       let target = hot_target c.streams in
       let each =
-      int_sum_from-le_each (λ k q. heat_from place target q) (heat_before target i) hot
+      int_sum_from-le_each (λ k q. part_over from place target q) (heat_before target i) hot
       (λ k q other.
       let part = (s.sides Hot).each k q other in
       ⊎_elim
       (λ early.
-      let heat = (heat_from-le place target q part.bounded.least.from (hot_target-between c.streams s.valid.are_streams).from).1 in
+      let heat = (part_over-le from place target q part.bounded.least.from (hot_target-between c.streams s.valid.are_streams).from).1 in
       let here = ap (λ b. if b then part_heat target q else pos 0) (lt-ltb k i early) in
       omega (arith, ints))
       (λ late.
       let falls = (s.sides Hot).falls i k p q at other late in
       let past = ap (λ b. if b then part_heat target q else pos 0) (le-ltb k i late) in
-      let none : heat_from place target q ≡ pos 0 =
+      let not_above : stands_above from place q ≡ true → ⊥ = λ e. false≢true (sym missed ∙ stands_falls from place p q falls.0 falls.1 e) in
+      let none : part_over from place target q ≡ pos 0 =
       ⊎_elim
-      (λ h. let less = interval_falls s.grid q.high q.low s.grid_falls h.interval in from_stream place target q h.source_is ∙ zero_times (above place q) q.least (is_missed place q.low (omega (arith, ints))))
-      (λ h. absurd (omega (arith, ints, h.high)))
+      (λ h. from_stream from place target q h.source_is ∙ zero_times (above from place q) q.least (ap (λ b. if b then pos 1 else pos 0) (false_from_ne_true (stands_above from place q) not_above)))
+      (λ h. absurd (not_above (stands-level from place (end_of c Hot) q h.high h.low ∙ top)))
       part.kind in
       omega (arith, ints))
       (cases_lt k i)) in
-      let plain = int_sum_from-by (heat_from place target) 0 hot in
-      let sum = (s.sides Hot).sum place target on in
+      let plain = int_sum_from-by (part_over from place target) 0 hot in
+      let sum = (s.sides Hot).sum from place target on in
       let begin = begin_of-heats target hot i in
       omega (arith, ints)
 
-  -- the cold heat up to a part lies above a place that the part is above
-  cold_upto : (place : ℤ) → Contains s.grid place → (j : ℕ) (q : Part) → slice_get cold j ≡ Some q → place <ℤ q.high → begin_of (heats_of (cold_target c.streams) cold) (suc j) ≤ℤ sum_side Cold (heat_above place) c.streams
-  cold_upto place on j q at high =
+  -- the cold heat up to a part that stands above a place lies above the place
+  cold_upto : (j : ℕ) (q : Part) → slice_get cold j ≡ Some q → stands_above from place q ≡ true → counts_above from place (end_of c Cold) ≡ false → begin_of (heats_of (cold_target c.streams) cold) (suc j) ≤ℤ sum_side Cold (heat_over from place) c.streams
+  cold_upto j q at stands bottom =
       let target = cold_target c.streams in
       let each =
-      int_sum_from-le_each (heat_before target (suc j)) (λ k r. heat_from place (pos 0) r) cold
+      int_sum_from-le_each (heat_before target (suc j)) (λ k r. part_over from place (pos 0) r) cold
       (λ k r other.
       let part = (s.sides Cold).each k r other in
       ⊎_elim
       (λ early.
       let falls = (s.sides Cold).falls k j r q other at (omega (arith, early)) in
       let here = ap (λ b. if b then part_heat target r else pos 0) (lt-ltb k (suc j) early) in
+      let higher = stands_falls from place r q falls.0 falls.1 stands in
       ⊎_elim
       (λ h.
       let whole = heat_of_stream target r h.source_is in
-      let low = interval_below s.grid r.high r.low place s.grid_falls h.interval on (omega (arith, ints)) in
-      let all = from_stream place (pos 0) r h.source_is ∙ one_times (above place r) r.least (is_reached place r.low low) in
+      let all = from_stream from place (pos 0) r h.source_is ∙ one_times (above from place r) r.least (ap (λ b. if b then pos 1 else pos 0) higher) in
       omega (arith, ints))
-      (λ h. let lowest = s.within Cold place on in absurd (omega (arith, ints, h.high)))
+      (λ h. absurd (false≢true (sym bottom ∙ sym (stands-level from place (end_of c Cold) r h.high h.low) ∙ higher)))
       part.kind)
       (λ late.
-      let heat = (heat_from-le place (pos 0) r part.bounded.least.from (omega (arith, ints))).0 in
+      let heat = (part_over-le from place (pos 0) r part.bounded.least.from (omega (arith, ints))).0 in
       let past = ap (λ b. if b then part_heat target r else pos 0) (le-ltb k (suc j) late) in
       omega (arith, ints))
       (cases_lt k (suc j))) in
-      let plain = int_sum_from-by (heat_from place (pos 0)) 0 cold in
-      let sum = (s.sides Cold).sum place (pos 0) on in
+      let plain = int_sum_from-by (part_over from place (pos 0)) 0 cold in
+      let sum = (s.sides Cold).sum from place (pos 0) on in
       let begin = begin_of-heats target cold (suc j) in
       omega (arith, ints)
 
-  -- two streams that do not reach: the hot one lies below the low of the cold one
-  lower : (p q : Part) → IsStreamHere s.grid p → IsStreamHere s.grid q → passes_heat p q ≡ false → p.high ≤ℤ q.low
-  lower p q h k missed =
+  -- so the spans of two parts with a place between them do not overlap
+  no_overlap : (i j : ℕ) (p q : Part) → slice_get hot i ≡ Some p → slice_get cold j ≡ Some q → stands_above from place p ≡ false → stands_above from place q ≡ true → counts_above from place (end_of c Hot) ≡ true → counts_above from place (end_of c Cold) ≡ false
+      → pos 0 <ℤ overlap (heats_of (hot_target c.streams) hot) (heats_of (cold_target c.streams) cold) i j → ⊥
+  no_overlap i j p q at other missed stands top bottom positive =
+      let begin = hot_before i p at missed top in
+      let end = cold_upto j q other stands bottom in
+      let bound = deficit_over-bound from c.streams place (s.grid_end place on) in
+      omega (arith, ints, clamps)
+
+module _ {c : Case} {hot cold : List Part} (s : AreStandardParts c hot cold) where
+  -- of two parts that do not reach the hot one lies below the low of a cold one on an interval
+  lower : (p q : Part) → StandsOn s.grid p → IsInterval s.grid q.high q.low → passes_heat p q ≡ false → p.high ≤ℤ q.low
+  lower p q (inl level) k missed =
       let (below, differ) = apart p q missed in
-      let mine = interval_ends s.grid p.high p.low h.interval in
-      let other = interval_ends s.grid q.high q.low k.interval in
-      let at_most = interval_below s.grid q.high q.low p.low s.grid_falls k.interval mine.1 below in
+      let same = level.0 in
+      let at_most = interval_below s.grid q.high q.low p.high s.grid_falls k level.1 (omega (arith, ints)) in
+      omega (arith, ints)
+  lower p q (inr h) k missed =
+      let (below, differ) = apart p q missed in
+      let mine = interval_ends s.grid p.high p.low h in
+      let other = interval_ends s.grid q.high q.low k in
+      let at_most = interval_below s.grid q.high q.low p.low s.grid_falls k mine.1 below in
       by_lt_z p.low q.low
-      (λ less. interval_above s.grid p.high p.low q.low s.grid_falls h.interval other.1 less)
+      (λ less. interval_above s.grid p.high p.low q.low s.grid_falls h other.1 less)
       (λ most.
-      let step = interval_falls s.grid p.high p.low s.grid_falls h.interval in
-      let up = interval_above s.grid q.high q.low p.high s.grid_falls k.interval mine.0 (omega (arith, ints)) in
-      let down = interval_above s.grid p.high p.low q.high s.grid_falls h.interval other.0 below in
+      let step = interval_falls s.grid p.high p.low s.grid_falls h in
+      let up = interval_above s.grid q.high q.low p.high s.grid_falls k mine.0 (omega (arith, ints)) in
+      let down = interval_above s.grid p.high p.low q.high s.grid_falls h other.0 below in
       absurd (differ (omega (arith, ints)) (omega (arith, ints))))
 
   -- two parts whose spans overlap reach
   pub overlap-passes : (i j : ℕ) (p q : Part) → slice_get hot i ≡ Some p → slice_get cold j ≡ Some q → pos 0 <ℤ overlap (heats_of (hot_target c.streams) hot) (heats_of (cold_target c.streams) cold) i j → passes_heat p q ≡ true
-  overlap-passes i j p q at other positive =
-      ⊎_elim (λ e. e)
-      (λ missed.
-      let (below, _) = apart p q missed in
-      let x = (s.sides Hot).each i p at in
-      let y = (s.sides Cold).each j q other in
-      let from = x.from in
-      let upto = y.upto in
-      absurd (⊎_elim
-      (λ h. ⊎_elim
-      (λ k.
-      let low = (interval_ends s.grid q.high q.low k.interval).1 in
-      let falls = interval_falls s.grid q.high q.low s.grid_falls k.interval in
-      let begin = hot_before q.low low i p at (lower p q h k missed) (omega (arith, ints)) in
-      let end = cold_upto q.low low j q other falls in
-      let bound = hot_target-bound c.streams q.low (s.grid_end q.low low) in
-      omega (arith, ints, clamps))
-      (λ k. omega (arith, ints, k.high))
-      y.kind)
-      (λ h. omega (arith, ints, h.low))
-      x.kind))
-      (cases_Bool (passes_heat p q))
+  overlap-passes i j p q at other positive = ⊎_elim (λ e. e) (λ missed. absurd (never missed ((s.sides Hot).each i p at) ((s.sides Cold).each j q other))) (cases_Bool (passes_heat p q))
+    where
+      never : passes_heat p q ≡ false → IsStandardPart c s.grid Hot p → IsStandardPart c s.grid Cold q → ⊥
+      never missed x y = split y.ends
+        where
+          below : p.low <ℤ q.high
+          below = (apart p q missed).0
+
+          on : Contains s.grid q.low
+          on = (ends_on s.grid q y.ends).1
+
+          split : StandsOn s.grid q → ⊥
+          split (inl level) =
+              let same = level.0 in
+              let from = x.from in
+              let upto = y.upto in
+              no_overlap s true q.low on i j p q at other (int_le-false q.low p.low (omega (arith, ints, below))) (int_le-from q.low q.low (omega (arith, ints)))
+              (from_place q.low (end_of c Hot) (omega (arith, ints))) (counts_lower true q.low (end_of c Cold) (omega (arith, ints, below))) positive
+          split (inr interval) =
+              let falls = interval_falls s.grid q.high q.low s.grid_falls interval in
+              let under = lower p q x.ends interval missed in
+              let from = y.from in
+              let upto = y.upto in
+              no_overlap s false q.low on i j p q at other (int_lt-false q.low p.high under) (int_lt-from q.low q.high falls)
+              (counts_higher false q.low (end_of c Hot) (omega (arith, ints))) (int_lt-false q.low (end_of c Cold) from) positive

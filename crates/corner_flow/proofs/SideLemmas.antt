@@ -1,26 +1,27 @@
 -- The parts of a side of a standard case.
-use Rattle.std.proofs.Common.{◌≡◌, ◌⊎◌, inl, inr, ◌∙◌, refl, sym, ap, ap₂, subst, subst₂, ⊎_elim, ℕ, ◌<◌, ◌≤◌, true, false, List, arith}
+use Rattle.std.proofs.Common.{◌≡◌, ◌⊎◌, inl, inr, ◌∙◌, refl, sym, ap, ap₂, subst, subst₂, ⊎_elim, ℕ, ◌<◌, ◌≤◌, Bool, true, false, List, arith}
 use Rattle.std.specs.Prelude.{ℤ, pos, ◌+ℤ◌, ◌-ℤ◌, ◌≤ℤ◌, ◌<ℤ◌, AllPairs, Contains, Some, slice_get}
 use Rattle.std.proofs.lemmas.Int.{ints}
 use Rattle.std.proofs.lemmas.Bool.{cases_eq, cases_order, both_ways}
 use Rattle.std.proofs.lemmas.Option.{same_Some, slice_get-get_or, slice_get_within, get_or_from_slice_get}
-use Rattle.corner_flow.proofs.Words.{AreCaseParts, AreParts, Case, Cold, HasValidStreams, HoldsPlaces, Hot, IsBounded, IsComplete, IsGrid, IsInterval, IsPartOf, IsStandard, MOST_HEAT, Part, Side, cold_target, comes_before, deficit_above, heat_above, hot_target, int_sum_by, is_stream, parts_of, standard_utility, stream_ends, sum_side, utility_part}
+use Rattle.corner_flow.proofs.Words.{AreCaseParts, AreParts, Case, Cold, HasValidStreams, HoldsPlaces, Hot, IsBounded, IsComplete, IsGrid, IsInterval, IsPartOf, IsPiece, IsStandard, MOST_HEAT, Part, Side, Stream, cold_target, comes_before, deficit_from, heat_over, high_end, hot_target, int_sum_by, is_stream, low_end, parts_of, standard_utility, stream_ends, sum_side, utility_part}
 use Rattle.stream_case.proofs.CompleteLemmas.{HasValidStreams-IsComplete, IsPlaced-IsComplete, shifted_level-standard}
+use Rattle.stream_case.proofs.EndLemmas.{level-latent}
 use Rattle.stream_case.proofs.SourceLemmas.{each_side}
+use Rattle.sums.proofs.ListLemmas.{All-slice_get}
 use Rattle.problem_table.proofs.EndLemmas.{IsOutside}
-use Rattle.grid.proofs.HeatLemmas.{heat_from, sum-heat_from}
-use Rattle.grid.proofs.MakingLemmas.{HoldsPlaces-IsGrid, AreParts-made}
-use Rattle.grid.proofs.PlaceLemmas.{interval_falls, interval_ends}
+use Rattle.grid.proofs.HeatLemmas.{part_over, sum-part_over}
+use Rattle.grid.proofs.MakingLemmas.{HoldsPlaces-IsGrid, AreParts-made, holds_ends}
+use Rattle.grid.proofs.PlaceLemmas.{interval_below, interval_ends, interval_falls}
 use Rattle.grid.proofs.SizeLemmas.{IsBounded-part}
 use Rattle.grid.proofs.StandardUtilities.{own_utility, some_utility, one_utility, sum_utilities}
 use Rattle.corner_flow.proofs.StandardLemmas.{end_of, grid_is_ends, grid_within, stream_end_on_grid, end_on_grid, cold_target-lowest_end}
 
 -- ---- one part
 
--- a stream on an interval of the grid, with one heat
-pub record IsStreamHere (grid : List ℤ) (p : Part) : Type 0 where
+-- a stream with one heat
+pub record IsStreamHere (p : Part) : Type 0 where
   pub source_is : is_stream p.source ≡ true
-  pub interval : IsInterval grid p.high p.low
   pub fixed : p.least ≡ p.most
   pub price : p.price ≡ pos 0
 
@@ -38,21 +39,26 @@ pub record IsUtilityHere (c : Case) (side : Side) (p : Part) : Type 0 where
   pub most : p.most ≡ MOST_HEAT
   pub price : p.price ≡ unit_price side
 
+-- a part at a place of the grid, or on an interval of it
+abbrev pub StandsOn : List ℤ → Part → Type 0
+StandsOn grid p = ((p.high ≡ p.low) × Contains grid p.high) ⊎ IsInterval grid p.high p.low
+
 -- a part between the ends of the grid, of one of the two kinds
 pub record IsStandardPart (c : Case) (grid : List ℤ) (side : Side) (p : Part) : Type 0 where
   pub bounded : IsBounded p
   pub from : end_of c Cold ≤ℤ p.low
   pub falls : p.low ≤ℤ p.high
   pub upto : p.high ≤ℤ end_of c Hot
-  pub kind : IsStreamHere grid p ⊎ IsUtilityHere c side p
+  pub ends : StandsOn grid p
+  pub kind : IsStreamHere p ⊎ IsUtilityHere c side p
 
 -- ---- a side
 
 -- what the proofs use of the parts of a side
 pub record IsStandardSide (c : Case) (grid : List ℤ) (side : Side) (parts : List Part) : Type 0 where
   pub each : (a : ℕ) (p : Part) → slice_get parts a ≡ Some p → IsStandardPart c grid side p
-  pub falls : (a b : ℕ) (p q : Part) → slice_get parts a ≡ Some p → slice_get parts b ≡ Some q → a ≤ b → q.high ≤ℤ p.high
-  pub sum : (at each : ℤ) → Contains grid at → int_sum_by (heat_from at each) parts ≡ each +ℤ sum_side side (heat_above at) c.streams
+  pub falls : (a b : ℕ) (p q : Part) → slice_get parts a ≡ Some p → slice_get parts b ≡ Some q → a ≤ b → (q.high ≤ℤ p.high) × (q.low ≤ℤ p.low)
+  pub sum : (from : Bool) (at each : ℤ) → Contains grid at → int_sum_by (part_over from at each) parts ≡ each +ℤ sum_side side (heat_over from at) c.streams
   pub utility : ℕ
   pub only : (a : ℕ) (p : Part) → slice_get parts a ≡ Some p → is_stream p.source ≡ false → a ≡ utility
 
@@ -66,7 +72,7 @@ pub record AreStandardParts (c : Case) (hot cold : List Part) : Type 0 where
   pub stream_end : (x : ℤ) → Contains (stream_ends c.streams) x → Contains grid x
   pub within : (side : Side) (x : ℤ) → Contains grid x → IsOutside side (end_of c side) x
   pub ends : (side : Side) → Contains grid (end_of c side)
-  pub lowest : cold_target c.streams ≡ hot_target c.streams -ℤ deficit_above c.streams (end_of c Cold)
+  pub lowest : cold_target c.streams ≡ hot_target c.streams -ℤ deficit_from c.streams (end_of c Cold)
   pub sides : (side : Side) → IsStandardSide c grid side (parts_of side hot cold)
 
 -- ---- they are so
@@ -79,10 +85,20 @@ IsUtilityHere-standard : (c : Case) (side : Side) (i : ℕ) → IsUtilityHere c 
 IsUtilityHere-standard c Hot i = record { source_is = refl; high = shifted_level-standard Hot c; low = shifted_level-standard Hot c; least = refl; most = refl; price = refl }
 IsUtilityHere-standard c Cold i = record { source_is = refl; high = shifted_level-standard Cold c; low = shifted_level-standard Cold c; least = refl; most = refl; price = refl }
 
-not_higher : (p q : Part) → comes_before p q → q.high ≤ℤ p.high
-not_higher p q (inl h) = omega (arith, ints)
-not_higher p q (inr (inl h)) = omega (arith, ints, h.0)
-not_higher p q (inr (inr h)) = omega (arith, ints, h.0)
+-- a place that is below the high of a part is at most its low
+pub low_reached : (grid : List ℤ) (p : Part) (x : ℤ) → AllPairs (λ a b. b <ℤ a) grid → StandsOn grid p → Contains grid x → x <ℤ p.high → x ≤ℤ p.low
+low_reached grid p x falls (inl level) at less = let same = level.0 in omega (arith, ints)
+low_reached grid p x falls (inr interval) at less = interval_below grid p.high p.low x falls interval at less
+
+-- both ends are places
+pub ends_on : (grid : List ℤ) (p : Part) → StandsOn grid p → Contains grid p.high × Contains grid p.low
+ends_on grid p (inl level) = (level.1, subst (Contains grid) level.0 level.1)
+ends_on grid p (inr interval) = interval_ends grid p.high p.low interval
+
+in_order_of : (grid : List ℤ) (p q : Part) → AllPairs (λ a b. b <ℤ a) grid → StandsOn grid p → StandsOn grid q → q.low ≤ℤ q.high → comes_before p q → (q.high ≤ℤ p.high) × (q.low ≤ℤ p.low)
+in_order_of grid p q falls on other order (inl h) = let low = low_reached grid p q.high falls on (ends_on grid q other).0 h in (omega (arith, ints), omega (arith, ints))
+in_order_of grid p q falls on other order (inr (inl h)) = (omega (arith, ints, h.0), omega (arith, ints, h.1))
+in_order_of grid p q falls on other order (inr (inr h)) = (omega (arith, ints, h.0), omega (arith, ints, h.1))
 
 module _ (c : Case) (grid : List ℤ) (complete : IsComplete c) (standard : IsStandard c) (on_grid : IsGrid c grid) (side : Side) (parts : List Part) (are : AreParts c.streams c.utilities grid side parts) where
   valid : HasValidStreams c.streams
@@ -121,23 +137,33 @@ module _ (c : Case) (grid : List ℤ) (complete : IsComplete c) (standard : IsSt
       never (inr (inl less)) = omega (arith, ints, less.1)
       never (inr (inr less)) = omega (arith, less.2)
 
-  kind : (p : Part) → OnSide p → IsStreamHere grid p ⊎ IsUtilityHere c side p
+  kind : (p : Part) → OnSide p → IsStreamHere p ⊎ IsUtilityHere c side p
   unfolding own
   kind p (inl (i, s, h)) =
-      inl (record { source_is = ap (λ q. is_stream q.source) h.is; interval = h.interval; fixed = ap (λ q. q.least) h.is ∙ sym (ap (λ q. q.most) h.is); price = ap (λ q. q.price) h.is })
+      inl (record { source_is = ap (λ q. is_stream q.source) h.is; fixed = ap (λ q. q.least) h.is ∙ sym (ap (λ q. q.most) h.is); price = ap (λ q. q.price) h.is })
   kind p (inr (i, u, h)) =
       inr (subst (IsUtilityHere c side) (sym (own-is p (inr (i, u, h)) (ap (λ q. is_stream q.source) h.is))) (IsUtilityHere-standard c side (some_utility c standard side).0))
 
-  lies : (p : Part) → IsStreamHere grid p ⊎ IsUtilityHere c side p → (end_of c Cold ≤ℤ p.low) × (p.low ≤ℤ p.high) × (p.high ≤ℤ end_of c Hot)
-  lies p (inl h) =
-      let ends = interval_ends grid p.high p.low h.interval in
-      let falls = interval_falls grid p.high p.low on_grid.ordered h.interval in
-      (grid_within c grid valid standard on_grid Cold p.low ends.1, omega (arith, ints), grid_within c grid valid standard on_grid Hot p.high ends.0)
-  lies p (inr h) =
-      let at = end_on_grid c grid valid standard on_grid side in
-      let from = grid_within c grid valid standard on_grid Cold (end_of c side) at in
-      let upto = grid_within c grid valid standard on_grid Hot (end_of c side) at in
-      (omega (arith, ints), omega (arith, ints), omega (arith, ints))
+  -- a part of a stream is on an interval, or at its level, and one of a utility at its own
+  on_places : (p : Part) → OnSide p → StandsOn grid p
+  on_places p (inl (i, s, h)) = of_piece h.piece
+    where
+      of_piece : IsPiece grid s p.high p.low → StandsOn grid p
+      of_piece (inl interval) = inr interval
+      of_piece (inr (latent, same)) =
+          let held = All-slice_get (λ (x : Stream). Contains grid (high_end x) × Contains grid (low_end x)) c.streams i s (holds_ends c.streams c.utilities grid holds) h.stream in
+          let level = level-latent s latent in
+          let is : high_end s ≡ p.high = omega (arith, ints, h.from, h.upto) in
+          inl (same, subst (Contains grid) is held.0)
+  on_places p (inr h) = at_level (kind p (inr h))
+    where
+      at_level : IsStreamHere p ⊎ IsUtilityHere c side p → StandsOn grid p
+      at_level (inl stream) = absurd (both_ways (is_stream p.source) (ap (λ q. is_stream q.source) h.2.is) stream.source_is)
+      at_level (inr utility) = inl (utility.high ∙ sym utility.low, subst (Contains grid) (sym utility.high) (end_on_grid c grid valid standard on_grid side))
+
+  order : (p : Part) → StandsOn grid p → p.low ≤ℤ p.high
+  order p (inl level) = let same = level.0 in omega (arith, ints)
+  order p (inr interval) = let falls = interval_falls grid p.high p.low on_grid.ordered interval in omega (arith, ints)
 
   -- the utility of the side is one of the parts
   own-at : (a : ℕ) × (slice_get parts a ≡ Some own)
@@ -154,15 +180,30 @@ module _ (c : Case) (grid : List ℤ) (complete : IsComplete c) (standard : IsSt
       record {
         each = λ a p at.
             let here = on_side a p at in
-            let between = lies p (kind p here) in
-            record { bounded = IsBounded-part c.streams c.utilities side grid valid.are_streams.each (IsPlaced-IsComplete c complete) holds p here; from = between.0; falls = between.1; upto = between.2; kind = kind p here };
+            let ends = ends_on grid p (on_places p here) in
+            record {
+              bounded = IsBounded-part c.streams c.utilities side grid valid.are_streams.each (IsPlaced-IsComplete c complete) holds p here;
+              from = grid_within c grid valid standard on_grid Cold p.low ends.1;
+              falls = order p (on_places p here);
+              upto = grid_within c grid valid standard on_grid Hot p.high ends.0;
+              ends = on_places p here;
+              kind = kind p here;
+            };
         falls = λ a d p q at last le.
-            ⊎_elim (λ e. let high = ap (λ r. r.high) (same_Some p q (sym at ∙ ap (slice_get parts) e ∙ last)) in omega (arith, ints))
-            (λ differ. not_higher p q (in_order a d p q at last (omega (arith, differ)))) (cases_eq a d);
-        sum = λ at each found.
-            ap (int_sum_by (heat_from at each)) (AreParts-made c.streams c.utilities side grid parts holds are)
-            ∙ sum-heat_from c.streams c.utilities side grid at each valid.are_streams.each holds found
-            ∙ ap (λ z. z +ℤ sum_side side (heat_above at) c.streams) (sum_utilities c standard side each);
+            let here = on_places p (on_side a p at) in
+            let there = on_places q (on_side d q last) in
+            ⊎_elim
+            (λ e.
+            let same = same_Some p q (sym at ∙ ap (slice_get parts) e ∙ last) in
+            let high = ap (λ r. r.high) same in
+            let low = ap (λ r. r.low) same in
+            (omega (arith, ints), omega (arith, ints)))
+            (λ differ. in_order_of grid p q on_grid.ordered here there (order q there) (in_order a d p q at last (omega (arith, differ))))
+            (cases_eq a d);
+        sum = λ from at each found.
+            ap (int_sum_by (part_over from at each)) (AreParts-made c.streams c.utilities side grid parts holds are)
+            ∙ sum-part_over c.streams c.utilities side grid from at each valid.are_streams.each holds found
+            ∙ ap (λ z. z +ℤ sum_side side (heat_over from at) c.streams) (sum_utilities c standard side each);
         utility = b;
         only = λ a p at e.
             ⊎_elim (λ same. same)

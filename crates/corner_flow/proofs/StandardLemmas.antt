@@ -5,10 +5,10 @@ use Rattle.std.proofs.lemmas.Int.{ints}
 use Rattle.std.proofs.lemmas.List.{get_or-map, length-map}
 use Rattle.std.proofs.lemmas.List.Elements.{All-weaker, All-contains, Contains-append_left, Contains-append_cases}
 use Rattle.std.proofs.lemmas.Option.{slice_get-get_or}
-use Rattle.corner_flow.proofs.Words.{Case, Cold, HasValidStreams, Hot, IsGrid, IsStandard, Side, cold_target, deficit_above, high_end, hot_target, low_end, outermost, places_of, shifted_level, standard_utility, stream_ends}
+use Rattle.corner_flow.proofs.Words.{Case, Cold, HasValidStreams, Hot, IsGrid, IsStandard, Side, cold_target, deficit_from, high_end, hot_target, low_end, outermost, places_of, shifted_level, standard_utility, stream_ends}
 use Rattle.stream_case.proofs.CompleteLemmas.{shifted_level-standard}
 use Rattle.stream_case.proofs.EndLemmas.{length-stream_ends, each_end}
-use Rattle.problem_table.proofs.DeficitLemmas.{deficit_above-lowest}
+use Rattle.problem_table.proofs.DeficitLemmas.{deficit_from-lowest}
 use Rattle.problem_table.proofs.EndLemmas.{IsOutside, IsOutermost, IsOutermost-outermost}
 use Rattle.grid.proofs.StandardUtilities.{own_utility}
 
@@ -42,10 +42,10 @@ module _ (c : Case) (grid : List ℤ) (valid : HasValidStreams c.streams) (stand
   pub end_on_grid : (side : Side) → Contains grid (end_of c side)
   end_on_grid side = stream_end_on_grid (end_of c side) (outer side).member
 
-  -- all heat lies above the lowest end
-  pub cold_target-lowest_end : cold_target c.streams ≡ hot_target c.streams -ℤ deficit_above c.streams (end_of c Cold)
+  -- all heat lies from the lowest end on
+  pub cold_target-lowest_end : cold_target c.streams ≡ hot_target c.streams -ℤ deficit_from c.streams (end_of c Cold)
   cold_target-lowest_end =
       let bottom = end_of c Cold in
       let ends = each_end (λ e. bottom ≤ℤ e) c.streams (outer Cold).bound in
-      let lowest = deficit_above-lowest bottom c.streams valid.are_streams.each (All-weaker (λ s. (bottom ≤ℤ high_end s) × (bottom ≤ℤ low_end s)) (λ s. bottom ≤ℤ low_end s) (λ s h. h.1) c.streams ends) in
+      let lowest = deficit_from-lowest bottom c.streams valid.are_streams.each (All-weaker (λ s. (bottom ≤ℤ high_end s) × (bottom ≤ℤ low_end s)) (λ s. bottom ≤ℤ low_end s) (λ s h. h.1) c.streams ends) in
       omega (arith, ints)

@@ -1,13 +1,17 @@
 -- The corner flow of a standard case, and prices that prove it least.
-use Rattle.std.specs.Prelude.{◌≡◌, ℕ, IsTrue, not, ℤ, pos, ◌≤ℤ◌, int_le, List, map, Some, slice_get, if◌then◌else◌, All}
+use Rattle.std.specs.Prelude.{◌≡◌, ◌↔◌, ℕ, Bool, IsTrue, not, ◌||◌, ◌&&◌, ℤ, pos, ◌≤ℤ◌, int_lt, List, map, Some, slice_get, if◌then◌else◌, All}
+use Rattle.std.specs.List.{list_any}
 use Rattle.std.specs.Ordering.{int_eq}
 use Rattle.stream_case.specs.declared.source.Side.{Side}
 use Rattle.stream_case.specs.declared.source.Side.TheVariants.{Hot}
 use Rattle.stream_case.specs.declared.case.Case.{Case}
+use Rattle.stream_case.specs.declared.stream.Stream.{Stream}
+use Rattle.stream_case.specs.Stream.{high_end}
 use Rattle.sums.specs.declared.pairs.Pair.{Pair}
 use Rattle.sums.specs.Spans.{ListsOverlaps}
-use Rattle.problem_table.specs.Deficit.{hot_target, cold_target, IsPinch, IsReferencePlace}
+use Rattle.problem_table.specs.Deficit.{hot_target, cold_target, IsPinch, IsReferencePlace, IsTightOver, CountsFromItself}
 use Rattle.grid.specs.declared.part.Part.{Part}
+use Rattle.grid.specs.Part.{stands_above}
 use Rattle.stream_case.specs.Source.{is_stream}
 use Rattle.heat_flow.specs.declared.flow.Transfer.{Transfer}
 use Rattle.heat_flow.specs.declared.prices.Prices.{Prices}
@@ -36,16 +40,29 @@ abbrev pub IsCornerFlow : Case → List Part → List Part → List Transfer →
 IsCornerFlow c hot cold transfers =
     ListsOverlaps (heats_of (hot_target c.streams) hot) (heats_of (cold_target c.streams) cold) (map as_pair transfers)
 
--- where the hot target is 0 every price is 0; else it is 1 for a part that is not below the reference place, and 0 for the others
-abbrev pub corner_price : ℤ → ℤ → Part → ℤ
-corner_price target place p = if int_eq target (pos 0) then pos 0 else if int_le place p.low then pos 1 else pos 0
+-- a latent stream, as its load tells, at this place
+abbrev pub is_level_at : ℤ → Stream → Bool
+is_level_at place s = int_lt (pos 0) s.load && int_eq (high_end s) place
+
+abbrev pub has_level : List Stream → ℤ → Bool
+has_level streams place = list_any (is_level_at place) streams
+
+-- parts stand above the reference place with their low where it counts from itself and where no latent stream stands at it, else with their high
+abbrev pub counts_low : List Stream → Bool → ℤ → Bool
+counts_low streams from place = from || not (has_level streams place)
+
+-- where the hot target is 0 every price is 0; else it is 1 for a part that stands above the reference place, and 0 for the others
+abbrev pub corner_price : ℤ → Bool → ℤ → Part → ℤ
+corner_price target low place p = if int_eq target (pos 0) then pos 0 else if stands_above low place p then pos 1 else pos 0
 
 -- the prices that the corner flow comes with
 pub record AreCornerPrices (c : Case) (hot cold : List Part) (prices : Prices) : Type 0 where
   pub place : ℤ
+  pub from : Bool
   pub reference : IsReferencePlace c.streams place
-  pub hot_prices : prices.hot ≡ map (corner_price (hot_target c.streams) place) hot
-  pub cold_prices : prices.cold ≡ map (corner_price (hot_target c.streams) place) cold
+  pub counts : IsTrue from ↔ CountsFromItself c.streams place
+  pub hot_prices : prices.hot ≡ map (corner_price (hot_target c.streams) (counts_low c.streams from place) place) hot
+  pub cold_prices : prices.cold ≡ map (corner_price (hot_target c.streams) (counts_low c.streams from place) place) cold
 
 -- the utility of this side gives or takes just this heat
 abbrev pub UtilityHeat : Side → List Part → List Transfer → ℤ → Type 0
@@ -63,20 +80,23 @@ NeedsHeat c hot cold side heat = (transfers : List Transfer) → IsFlowOf c hot 
 abbrev pub NeedsHeatOf : Case → Side → ℤ → Type 0
 NeedsHeatOf c side heat = HoldsOfParts c (λ hot cold. NeedsHeat c hot cold side heat)
 
--- a transfer takes heat across a place where it joins a hot part above the place to a cold part below it
-pub record CrossesHeat (hot cold : List Part) (place : ℤ) (t : Transfer) : Type 0 where
+-- a transfer takes heat across a place where it joins a hot part that stands above the place to a cold part that does not
+pub record CrossesHeat (from : Bool) (hot cold : List Part) (place : ℤ) (t : Transfer) : Type 0 where
   pub hot_part : Part
   pub cold_part : Part
-  pub from : slice_get hot t.hot ≡ Some hot_part
-  pub to : slice_get cold t.cold ≡ Some cold_part
-  pub above : place ≤ℤ hot_part.low
-  pub below : cold_part.high ≤ℤ place
+  pub hot_at : slice_get hot t.hot ≡ Some hot_part
+  pub cold_at : slice_get cold t.cold ≡ Some cold_part
+  pub above : IsTrue (stands_above from place hot_part)
+  pub not_above : IsTrue (not (stands_above from place cold_part))
 
 -- none of the transfers does
-abbrev pub NoHeatCrosses : List Part → List Part → ℤ → List Transfer → Type 0
-NoHeatCrosses hot cold place transfers = All (λ t. CrossesHeat hot cold place t → ⊥) transfers
+abbrev pub NoHeatCrosses : Bool → List Part → List Part → ℤ → List Transfer → Type 0
+NoHeatCrosses from hot cold place transfers = All (λ t. CrossesHeat from hot cold place t → ⊥) transfers
 
--- in each heat flow of these parts in which the hot utility gives just the hot target, no heat crosses a pinch of the case
+-- in each heat flow of these parts in which the hot utility gives just the hot target, no heat crosses a pinch of the case: where the deficit above
+-- the pinch is the target, none from a part with its high above the pinch to one with its high at most there; where the deficit from the pinch is, none
+-- from a part with its low at least there to one with its low below
 abbrev pub NoHeatCrossesPinch : Case → List Part → List Part → Type 0
 NoHeatCrossesPinch c hot cold =
-    (pinch : ℤ) → IsPinch c.streams pinch → (transfers : List Transfer) → IsFlowOf c hot cold transfers → UtilityHeat Hot hot transfers (hot_target c.streams) → NoHeatCrosses hot cold pinch transfers
+    (pinch : ℤ) → IsPinch c.streams pinch → (from : Bool) → IsTightOver from c.streams pinch
+    → (transfers : List Transfer) → IsFlowOf c hot cold transfers → UtilityHeat Hot hot transfers (hot_target c.streams) → NoHeatCrosses from hot cold pinch transfers
