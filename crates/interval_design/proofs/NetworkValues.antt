@@ -79,4 +79,4 @@ module _ (case : Case) (hot cold : List Part) (ts : List Transfer) (complete : I
 
   -- with the shape of a network, they are its valuation, and each end has its whole stream at its target
   pub network_valued : (shape : HasShape case (network_of case hot cold ts)) → AreValues case (network_of case hot cold ts) shape (courses_values (led_courses case hot cold ts))
-  network_valued shape = values_made case (network_of case hot cold ts) shape (courses_values (led_courses case hot cold ts)) complete.complete network_makes
+  network_valued shape = values_made case (network_of case hot cold ts) shape (courses_values (led_courses case hot cold ts)) complete network_makes

@@ -93,8 +93,8 @@ first_plain s valid = record {
   width = 1;
   wide = omega arith;
   narrow = omega arith;
-  size = full_size-sized s valid most_cp (omega arith);
-  state = first_state-sized s valid highest (omega arith);
+  size = full_size-sized s valid.valid most_cp (omega arith);
+  state = first_state-sized s valid.valid highest (omega arith);
 }
 
 -- ---- a part
@@ -136,7 +136,7 @@ part_plain case hot cold ts s index p valid positive own from upto =
     let over : AreOver width shares = shares_each (λ (a : Share). IsOver width a.cp) s.side index width (enumerate_from 0 ts) (λ k e inside. record { num = (get_or (enumerate_from 0 ts) k e).1.heat; is = refl }) in
     All-weaker (IsStageBranch width (full_size s) (whole entered) (whole left)) IsPlain (λ v is.
     let size = sized-between width most_cp v.cp is.over.num wide is.over.is is.least
-    (at_most_trans v.cp (full_size s) (whole (pos most_cp)) is.most (full_size-most s valid)) in
+    (at_most_trans v.cp (full_size s) (whole (pos most_cp)) is.most (full_size-most s valid.valid)) in
     let state = ⊎_elim (λ same. subst (IsSized 1 highest) (sym same) entered_sized) (λ same. subst (IsSized 1 highest) (sym same) left_sized) is.state in
     record { width = width; wide = wide; narrow = narrow; size = size; state = state })
     (stage_values (whole entered) (whole left) shares) (stage_sized width (full_size s) (whole entered) (whole left) shares over led.positive led.sizes)
