@@ -45,13 +45,7 @@ module _ (height : ℕ → Rational) where
 
 -- ---- all rows
 
-module _
-    (case : Case)
-    (network : Network)
-    (sensible : AreSensible case.streams)
-    (shape : HasShape case network)
-    (valid : IsValidNetwork case network)
-  where
+module _ (case : Case) (network : Network) (sensible : AreSensible case.streams) (shape : HasShape case network) (valid : IsValidNetwork case network) where
   -- a network has one valuation, and so the approaches are kept by any
   same_values : (values : Valuation) → IsWholeValuation case network values → valid.values ≡ values
   same_values values is = one_valuation case network (length network.lines) valid.values values shape valid.valuation is

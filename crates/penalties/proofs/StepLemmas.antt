@@ -1,5 +1,5 @@
 -- The first step that is too fine, of steps in a row and of the steps of many members.
-use Rattle.std.proofs.Common.{◌≡◌, ◌∙◌, ◌+◌, ◌∷◌, ◌++◌, ℕ, true, false, List, [], Option, Some, None, Result, Ok, Err, refl, sym, ap₂, subst, IsErrAnd}
+use Rattle.std.proofs.Common.{◌≡◌, ◌∙◌, ◌∷◌, ◌++◌, ℕ, true, false, List, [], Option, Some, None, Result, Ok, Err, refl, sym, ap₂, subst, IsErrAnd}
 use Rattle.std.specs.Option.{option_or}
 use Rattle.sums.proofs.FirstLemmas.{first-append, first-behind, first-front}
 use Rattle.penalties.proofs.Words.{Formed, Gives, Place, Rational, Step, TooFine, first_too_fine, is_too_fine, is_within_limits, minus, spot_of, step}
