@@ -34,7 +34,7 @@ module _ (case : Case) (complete : IsSensibleCase case) (standard : IsStandard c
         values = values;
         valuation = valued.valuation;
         ended = record { full = valued.full; each = streams_ended case cuts complete standard are_cuts all };
-        approaches = vertical_keeps_approaches case network values (HasValidStreams-IsComplete case complete.complete) standard shape.exchangers.each (are_vertical case cuts complete standard are_cuts all shape) (stay_in_range case cuts complete standard are_cuts all shape);
+        approaches = vertical_keeps_approaches case network values (HasValidStreams-IsComplete case complete.complete) complete.sensible standard shape.exchangers.each (are_vertical case cuts complete standard are_cuts all shape) (stay_in_range case cuts complete standard are_cuts all shape);
         permitted = all_permitted case network standard;
         ranges = λ index u here. utilities_kept case (intervals_between case cuts) complete standard (cuts, are_cuts, refl) index u here;
       }

@@ -184,5 +184,5 @@ AreSpans-spans_of of case complete standard =
     let us = filter_map (utility_span of case.streams) (enumerate_from 0 case.utilities) in
     record {
       each = All-append IsSpan ss us streams.each utilities.each;
-      few = omega (arith, length-append ss us, streams.few, utilities.few, are.few of);
+      few = omega (arith, length-append ss us, streams.few, utilities.few, are.are.few of);
     }

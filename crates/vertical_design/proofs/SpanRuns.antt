@@ -87,7 +87,7 @@ module _ (of : Side) (streams : List Stream) where
 
     -- where a stream of the side runs, its utility does not
     utility_rests : (r : Stream) → Runs of streams are low high r → (int_le (utility_from of streams) low && int_le high (utility_to of streams)) ≡ false
-    utility_rests r runs = by of (sum_side-heat of (heat_below (low_end r)) (heat_below-between (low_end r)) streams are.each few).from
+    utility_rests r runs = by of (sum_side-heat of (heat_below (low_end r)) (heat_below-between (low_end r)) streams are.are.each few).from
         (sum_side-le of (heat_below (high_end r)) heat_of streams (All-weaker IsSensibleStream (λ s. heat_below (high_end r) s ≤ℤ heat_of s) (λ s h. let parts = below_and_above (high_end r) s h in let rest = (heat_over-between false (high_end r) s h.valid).from in omega (arith, ints, parts, rest)) streams are.each))
         runs.from runs.upto
       where

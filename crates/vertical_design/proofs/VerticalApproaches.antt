@@ -8,7 +8,7 @@ use Rattle.std.proofs.lemmas.Option.{none-some, same_Some}
 use Rattle.sums.proofs.ListLemmas.{Contains-slice_get}
 use Rattle.stream_case.specs.Case.{IsStandard, outermost, side_of, standard_utility}
 use Rattle.stream_case.specs.Shift.{shifted}
-use Rattle.stream_case.specs.Stream.{HasValidStreams, high_end, low_end, stream_ends}
+use Rattle.stream_case.specs.Stream.{AreSensible, HasValidStreams, high_end, low_end, stream_ends}
 use Rattle.stream_case.specs.Utility.{shifted_level}
 use Rattle.stream_case.specs.declared.case.Case.{Case}
 use Rattle.stream_case.specs.declared.source.Side.{Side}
@@ -30,6 +30,7 @@ use Rattle.networks.specs.declared.network.Network.{Network}
 use Rattle.networks.proofs.Lists.{all_at}
 use Rattle.network_values.specs.Sides.{KeepApproaches, contribution_of, side_run}
 use Rattle.network_values.specs.Values.{Valuation}
+use Rattle.design_lines.proofs.SensibleStreams.{AreSensibleStreams, AreSensibleStreams-both}
 use Rattle.vertical_design.specs.Vertical.{AreFacing, AreVertical, curve_heat, entry, exit}
 use Rattle.vertical_design.proofs.CurveApproach.{approach_above, approach_below}
 
@@ -78,7 +79,10 @@ record IsOrdered (hot_in hot_out cold_in cold_out : Rational) : Type 0 where
   hot_end : IsAtMost cold_out hot_in
   cold_end : IsAtMost cold_in hot_out
 
-module _ (case : Case) (network : Network) (values : Valuation) (valid : HasValidStreams case.streams) (standard : IsStandard case) where
+module _ (case : Case) (network : Network) (values : Valuation) (valid : HasValidStreams case.streams) (sensible : AreSensible case.streams) (standard : IsStandard case) where
+  abbrev are : AreSensibleStreams case.streams
+  are = AreSensibleStreams-both case.streams valid.are_streams sensible
+
   abbrev outer_end : Side → ℤ
   outer_end of = outermost of (stream_ends case.streams)
 
@@ -122,8 +126,8 @@ module _ (case : Case) (network : Network) (values : Valuation) (valid : HasVali
     streams_ordered : (i j : ℕ) (s r : Stream) → slice_get case.streams i ≡ Some s → slice_get case.streams j ≡ Some r → s.side ≡ side.Hot → r.side ≡ side.Cold → IsWithinRange s hot_out hot_in → IsWithinRange r cold_in cold_out
         → curve_heat side.Hot case.streams hot_in ≡ curve_heat side.Cold case.streams cold_out → curve_heat side.Hot case.streams hot_out ≡ curve_heat side.Cold case.streams cold_in → IsOrdered hot_in hot_out cold_in cold_out
     streams_ordered i j s r at_s at_r hot cold hot_range cold_range hot_same cold_same = record {
-      hot_end = approach_below case.streams valid.are_streams r (Contains-slice_get case.streams j r at_r) hot_in cold_out cold (at_most_below_trans (whole (low_end r)) cold_in cold_out cold_range.from cold_range.rises) cold_range.upto hot_same;
-      cold_end = approach_above case.streams valid.are_streams s (Contains-slice_get case.streams i s at_s) hot_out cold_in hot hot_range.from (below_at_most_trans hot_out hot_in (whole (high_end s)) hot_range.rises hot_range.upto) cold_same;
+      hot_end = approach_below case.streams are r (Contains-slice_get case.streams j r at_r) hot_in cold_out cold (at_most_below_trans (whole (low_end r)) cold_in cold_out cold_range.from cold_range.rises) cold_range.upto hot_same;
+      cold_end = approach_above case.streams are s (Contains-slice_get case.streams i s at_s) hot_out cold_in hot hot_range.from (below_at_most_trans hot_out hot_in (whole (high_end s)) hot_range.rises hot_range.upto) cold_same;
     }
 
     -- a stream above the cold level, and one below the hot level
