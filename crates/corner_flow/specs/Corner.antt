@@ -47,7 +47,8 @@ is_level_at place s = int_lt (pos 0) s.load && int_eq (high_end s) place
 abbrev pub has_level : List Stream → ℤ → Bool
 has_level streams place = list_any (is_level_at place) streams
 
--- parts stand above the reference place with their low where it counts from itself and where no latent stream stands at it, else with their high
+-- parts stand above the reference place with their low where it counts from itself and where no latent stream stands at it;
+-- else with their high
 abbrev pub counts_low : List Stream → Bool → ℤ → Bool
 counts_low streams from place = from || not (has_level streams place)
 
@@ -93,10 +94,11 @@ pub record CrossesHeat (from : Bool) (hot cold : List Part) (place : ℤ) (t : T
 abbrev pub NoHeatCrosses : Bool → List Part → List Part → ℤ → List Transfer → Type 0
 NoHeatCrosses from hot cold place transfers = All (λ t. CrossesHeat from hot cold place t → ⊥) transfers
 
--- in each heat flow of these parts in which the hot utility gives just the hot target, no heat crosses a pinch of the case: where the deficit above
--- the pinch is the target, none from a part with its high above the pinch to one with its high at most there; where the deficit from the pinch is, none
--- from a part with its low at least there to one with its low below
+-- in each heat flow of these parts in which the hot utility gives just the hot target, no heat crosses a pinch of the case.
+-- Where the deficit above the pinch is the target, none goes from a part with its high above it to one with its high at most there;
+-- where the deficit from it is, none goes from a part with its low at least there to one with its low below
 abbrev pub NoHeatCrossesPinch : Case → List Part → List Part → Type 0
 NoHeatCrossesPinch c hot cold =
     (pinch : ℤ) → IsPinch c.streams pinch → (from : Bool) → IsTightOver from c.streams pinch
-    → (transfers : List Transfer) → IsFlowOf c hot cold transfers → UtilityHeat Hot hot transfers (hot_target c.streams) → NoHeatCrosses from hot cold pinch transfers
+    → (transfers : List Transfer) → IsFlowOf c hot cold transfers → UtilityHeat Hot hot transfers (hot_target c.streams)
+    → NoHeatCrosses from hot cold pinch transfers

@@ -64,8 +64,8 @@ fn overlaps_of(alloc: Global, parts: &Parts, targets: Target) -> Result<Vec<Pair
 /// the pairs of a hot and a cold part whose spans overlap, each with the length that they share;
 /// there are fewer of them than parts.
 /// No heat flow of these parts takes less from `HOT` or gives less to `COLD`, and in one that takes
-/// just the hot target no transfer crosses a pinch, from a hot part above it to a cold part below
-/// it (Kemp 2007).
+/// just the hot target no transfer crosses a pinch, from a hot part that stands above it to a cold
+/// part that does not (Kemp 2007).
 pub fn corner(
     alloc: Global,
     case: &Case,

@@ -94,9 +94,9 @@ pub fn corner_prices(
     requires hot_target { targets.hot ≡ hot_target case.now.streams }
     requires cold_target { targets.cold ≡ cold_target case.now.streams }
     ensures hot { let low = counts_low case.now.streams from place in
-        IfOk result (λ prices. prices.hot ≡ map (corner_price targets.hot low place) parts.now.hot) }
+        IfOk result (λ made. made.hot ≡ map (corner_price targets.hot low place) parts.now.hot) }
     ensures cold { let low = counts_low case.now.streams from place in
-        IfOk result (λ prices. prices.cold ≡ map (corner_price targets.hot low place) parts.now.cold) }
+        IfOk result (λ made. made.cold ≡ map (corner_price targets.hot low place) parts.now.cold) }
     ensures hot_range { IfOk result (λ prices. All IsPartPrice prices.hot) }
     ensures cold_range { IfOk result (λ prices. All IsPartPrice prices.cold) }
     ensures supporting { IfOk result (λ prices. IsSupporting (reach_between case.now parts.now.hot parts.now.cold) prices.hot prices.cold) }

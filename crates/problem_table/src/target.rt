@@ -54,7 +54,8 @@ pub(crate) fn hot_target(streams: &[Stream]) -> i64
 // The greatest of one of the deficits over the stream ends, and at least 0.
 fn greatest_deficit(streams: &[Stream], from: bool) -> i64
     requires { AreStreams streams.now }
-    ensures { result ≡ fold int_max (pos 0) (map (deficit_over from streams.now) (stream_ends streams.now)) }
+    ensures { result ≡ fold int_max (pos 0)
+        (map (deficit_over from streams.now) (stream_ends streams.now)) }
 {
     let mut greatest: i64 = 0;
     for stream in streams {

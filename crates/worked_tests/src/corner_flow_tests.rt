@@ -1,16 +1,20 @@
-//! The corner flow of the four-stream example and its certificate, worked by hand.
+//! The corner flow of the four-stream example, and of cases with latent streams, and its
+//! certificate, worked by hand.
 ghost use Rattle.stream_case.specs.Case.{IsComplete, IsStandard};
 ghost use Rattle.grid.specs.Part.{AreCaseParts};
 
 use crate::compare::{assert_lists, assert_same};
-use crate::flows::four_streams;
+use crate::flows::{Parted, four_streams, with_standard_utilities};
+use crate::tables::{StreamRow, Table};
 use corner_flow::{corner, corner_prices, standard_cost};
 use grid::Parts;
 use heat_flow::{Flow, Prices, Reach, Transfer, cost_of, is_flow, is_supported, value_of};
-use problem_table::{reference_place, targets};
-use std::alloc::{AllocError, Global};
+use problem_table::{reference_from, reference_place, targets};
+use std::alloc::{AllocError, AllocGlobal, Global};
+use std::process::Abort;
 use std::test::Fail;
 use stream_case::Case;
+use stream_case::Side::{Cold, Hot};
 
 /// The indices of a hot and a cold part, and the heat.
 const TRANSFERS: [(u32, u32, i64); 12] = [
@@ -55,7 +59,8 @@ fn certificate(alloc: Global, case: &Case, parts: &Parts) -> Result<(Prices, i12
     requires parts { AreCaseParts case.now parts.now.hot parts.now.cold }
 {
     let place = reference_place(case);
-    let prices = corner_prices(alloc, case, parts, place, targets(case))?;
+    let from = reference_from(case);
+    let prices = corner_prices(alloc, case, parts, place, from, targets(case))?;
     let value = value_of(parts, &prices);
     Ok((prices, value))
 }
@@ -86,5 +91,123 @@ fn these_prices_certify_it(rt: HostRuntime) -> Result<(), Fail> {
         &(supported, value),
         &(true, 20_000),
     );
+    Ok(())
+}
+
+/// A case with latent streams, the transfers of its corner flow, their prices, and its cost.
+struct Worked {
+    streams: &'static [StreamRow],
+    transfers: &'static [(u32, u32, i64)],
+    hot_prices: &'static [i64],
+    cold_prices: &'static [i64],
+    cost: i128,
+}
+
+/// A level at the pinch, from each side and from both; levels at the highest and the lowest end,
+/// before the utilities there; one latent stream alone; and two at one level, that exchange all.
+const LATENT: [Worked; 7] = [
+    Worked {
+        streams: &[("H", Hot, 1500, 700, 10), ("B", Cold, 900, 900, 8000)],
+        transfers: &[(0, 0, 3000), (1, 0, 5000), (2, 1, 3000)],
+        hot_prices: &[1, 1, 0],
+        cold_prices: &[1, 0],
+        cost: 3000,
+    },
+    Worked {
+        streams: &[("K", Hot, 1000, 1000, 8000), ("C", Cold, 500, 1300, 10)],
+        transfers: &[(0, 0, 4000), (1, 1, 4000), (1, 2, 4000)],
+        hot_prices: &[1, 0],
+        cold_prices: &[1, 0, 0],
+        cost: 4000,
+    },
+    Worked {
+        streams: &[
+            ("K", Hot, 1000, 1000, 10_000),
+            ("C", Cold, 500, 1300, 10),
+            ("B", Cold, 900, 900, 6000),
+        ],
+        transfers: &[(0, 0, 4000), (1, 1, 6000), (1, 2, 4000)],
+        hot_prices: &[1, 0],
+        cold_prices: &[1, 0, 0, 0],
+        cost: 4000,
+    },
+    Worked {
+        streams: &[("K", Hot, 1500, 1500, 2000), ("C", Cold, 1000, 1300, 10)],
+        transfers: &[(0, 0, 2000), (1, 0, 1000)],
+        hot_prices: &[1, 1],
+        cold_prices: &[1, 1],
+        cost: 1000,
+    },
+    Worked {
+        streams: &[("H", Hot, 1000, 500, 10), ("B", Cold, 400, 400, 6000)],
+        transfers: &[(0, 0, 1000), (1, 0, 5000)],
+        hot_prices: &[1, 1],
+        cold_prices: &[1, 1],
+        cost: 1000,
+    },
+    Worked {
+        streams: &[("B", Cold, 900, 900, 10_000_000_000)],
+        transfers: &[(0, 0, 10_000_000_000)],
+        hot_prices: &[1],
+        cold_prices: &[1, 1],
+        cost: 10_000_000_000,
+    },
+    Worked {
+        streams: &[("K", Hot, 1000, 1000, 5000), ("B", Cold, 900, 900, 5000)],
+        transfers: &[(0, 0, 5000)],
+        hot_prices: &[0, 0],
+        cold_prices: &[0, 0],
+        cost: 0,
+    },
+];
+
+fn compare_flow(rt: &(impl Abort + AllocGlobal), made: &Parted, worked: &Worked) -> Result<(), Fail>
+    requires complete { IsComplete made.now.case }
+    requires standard { IsStandard made.now.case }
+    requires parts { AreCaseParts made.now.case made.now.parts.hot made.now.parts.cold }
+{
+    let flow = corner(rt.alloc(), &made.case, &made.parts, targets(&made.case))?;
+    let rows = rows_of(rt.alloc(), flow.transfers.as_slice())?;
+    assert_lists(rt, "the transfers", &rows, worked.transfers);
+    let cost = cost_if_flow(&made.parts, &made.reach, &flow);
+    assert_same(rt, "the cost", &cost, &Some(worked.cost));
+    Ok(())
+}
+
+fn compare_prices(
+    rt: &(impl Abort + AllocGlobal),
+    made: &Parted,
+    worked: &Worked,
+) -> Result<(), Fail>
+    requires complete { IsComplete made.now.case }
+    requires standard { IsStandard made.now.case }
+    requires parts { AreCaseParts made.now.case made.now.parts.hot made.now.parts.cold }
+{
+    let (prices, value) = certificate(rt.alloc(), &made.case, &made.parts)?;
+    assert_lists(rt, "hot prices", prices.hot.as_slice(), worked.hot_prices);
+    assert_lists(
+        rt,
+        "cold prices",
+        prices.cold.as_slice(),
+        worked.cold_prices,
+    );
+    let certified = (is_supported(&made.reach, &prices), value);
+    assert_same(rt, "support and value", &certified, &(true, worked.cost));
+    Ok(())
+}
+
+#[test]
+fn latent_streams_have_these_corner_flows(rt: HostRuntime) -> Result<(), Fail> {
+    for worked in &LATENT {
+        let table = Table {
+            contribution: 50,
+            streams: worked.streams,
+            utilities: &[],
+            forbids: &[],
+        };
+        let made = with_standard_utilities(rt.alloc(), &table)?;
+        compare_flow(&rt, &made, worked)?;
+        compare_prices(&rt, &made, worked)?;
+    }
     Ok(())
 }

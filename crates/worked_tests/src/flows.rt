@@ -4,7 +4,7 @@ ghost use Rattle.stream_case.specs.Case.{IsComplete, IsStandard};
 ghost use Rattle.grid.specs.Part.{AreCaseParts};
 ghost use Rattle.heat_flow.specs.Table.{HasSizes};
 
-use crate::tables::{FOUR_STREAMS, completed_case};
+use crate::tables::{FOUR_STREAMS, Table, completed_case};
 use chains::{Chains, chains_of};
 use grid::{Parts, grid_of, parts_of};
 use heat_flow::{Reach, reach_of};
@@ -43,17 +43,26 @@ pub struct Parted {
     pub reach: Reach,
 }
 
-/// The four streams with `HOT` and `COLD`.
-pub fn four_streams(alloc: Global) -> Result<Parted, Fail>
-    ensures complete { IfOk result (λ four. IsComplete four.case) }
-    ensures standard { IfOk result (λ four. IsStandard four.case) }
-    ensures parts { IfOk result (λ four. AreCaseParts four.case four.parts.hot four.parts.cold) }
+/// The streams of a table with `HOT` and `COLD`.
+pub fn with_standard_utilities(alloc: Global, table: &Table) -> Result<Parted, Fail>
+    ensures complete { IfOk result (λ made. IsComplete made.case) }
+    ensures standard { IfOk result (λ made. IsStandard made.case) }
+    ensures parts { IfOk result (λ made. AreCaseParts made.case made.parts.hot made.parts.cold) }
 {
-    let case = completed_case(alloc, &FOUR_STREAMS)?;
+    let case = completed_case(alloc, table)?;
     if !is_standard(&case) {
         return Err("the case is not standard".into());
     }
     let parts = parts_of_case(alloc, &case)?;
     let reach = reach_of_case(alloc, &case, &parts)?;
     Ok(Parted { case, parts, reach })
+}
+
+/// The four streams with `HOT` and `COLD`.
+pub fn four_streams(alloc: Global) -> Result<Parted, Fail>
+    ensures complete { IfOk result (λ four. IsComplete four.case) }
+    ensures standard { IfOk result (λ four. IsStandard four.case) }
+    ensures parts { IfOk result (λ four. AreCaseParts four.case four.parts.hot four.parts.cold) }
+{
+    with_standard_utilities(alloc, &FOUR_STREAMS)
 }

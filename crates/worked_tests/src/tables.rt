@@ -13,7 +13,8 @@ use stream_case::{
 /// The most heat of a utility.
 pub const MOST_HEAT: i64 = 1_000_000_000_000;
 
-/// A stream of a table: name, side, supply, target and heat-capacity flow.
+/// A stream of a table: name, side, supply, target, and its heat-capacity flow, or its load where
+/// the supply is the target.
 pub type StreamRow = (&'static str, Side, i32, i32, i64);
 
 /// A utility of a table: name, side, level, least and most heat, and price.
@@ -47,6 +48,14 @@ const ONE_OF_EACH_SIDE: [StreamRow; 2] = [("H", Hot, 1000, 500, 10), ("C", Cold,
 pub const TWO_STREAMS: Table = Table {
     contribution: 50,
     streams: &ONE_OF_EACH_SIDE,
+    utilities: &[],
+    forbids: &[],
+};
+
+/// A cold stream that evaporates amid the range of a hot one.
+pub const ONE_LATENT: Table = Table {
+    contribution: 50,
+    streams: &[("H", Hot, 1500, 700, 10), ("B", Cold, 900, 900, 8000)],
     utilities: &[],
     forbids: &[],
 };
@@ -100,21 +109,22 @@ pub fn name(text: &str) -> Result<Name, Fail> {
     Ok(Name::new(text.as_bytes()).ok_or("a name")?)
 }
 
-/// A stream with this contribution, from its supply to its target.
+/// A stream with this contribution, from its supply to its target, or a latent one with this load.
 pub fn stream(
     text: &str,
     side: Side,
     (supply, target): (i32, i32),
-    cp: i64,
+    heat: i64,
     contribution: i32,
 ) -> Result<Stream, Fail> {
+    let is_latent = supply == target;
     Ok(Stream {
         name: name(text)?,
         side,
         supply,
         target,
-        cp,
-        load: 0,
+        cp: if is_latent { 0 } else { heat },
+        load: if is_latent { heat } else { 0 },
         contribution,
     })
 }
@@ -155,8 +165,8 @@ pub fn utility(
 
 fn streams_of(alloc: Global, contribution: i32, rows: &[StreamRow]) -> Result<Vec<Stream>, Fail> {
     let mut streams = Vec::new(alloc);
-    for (text, side, supply, target, cp) in rows {
-        streams.push(stream(text, *side, (*supply, *target), *cp, contribution)?)?;
+    for (text, side, supply, target, heat) in rows {
+        streams.push(stream(text, *side, (*supply, *target), *heat, contribution)?)?;
     }
     Ok(streams)
 }
