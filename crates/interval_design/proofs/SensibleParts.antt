@@ -1,5 +1,5 @@
 -- The parts of a stream that is not latent: each lies on an interval, and has the stream's heat there.
-use Rattle.std.proofs.Common.{◌≡◌, ◌⊎◌, inl, inr, ℤ, List, arith}
+use Rattle.std.proofs.Common.{◌≡◌, inl, inr, ℤ, List, arith}
 use Rattle.std.specs.Prelude.{◌+ℤ◌, ◌-ℤ◌, ◌*ℤ◌}
 use Rattle.std.proofs.lemmas.Int.{ints}
 use Rattle.stream_case.specs.Stream.{IsSensible, heat_between}

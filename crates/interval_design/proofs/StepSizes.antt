@@ -118,7 +118,7 @@ part_plain case hot cold ts s index p valid positive own from upto =
     let led = part_led case hot cold ts s index p positive own in
     let width = width_of p in
     let shares = filter_map (share_of s.side index width) (enumerate_from 0 ts) in
-    let ends = AreEnds-IsValidStream s valid.valid.valid in
+    let ends = AreEnds-IsValidStream s valid.valid in
     let long = range-length s valid.valid in
     let falls = own.falls in
     let lowest = ends.from in
@@ -131,8 +131,8 @@ part_plain case hot cold ts s index p valid positive own from upto =
     let places = end_shifted s.side p high low in
     let entered = actual s.side (entered_at s.side p) s.contribution in
     let left = actual s.side (left_at s.side p) s.contribution in
-    let entered_sized = end_sized s.side (entered_at s.side p) s.contribution places.0 valid.valid.valid.contribution in
-    let left_sized = end_sized s.side (left_at s.side p) s.contribution places.1 valid.valid.valid.contribution in
+    let entered_sized = end_sized s.side (entered_at s.side p) s.contribution places.0 valid.valid.contribution in
+    let left_sized = end_sized s.side (left_at s.side p) s.contribution places.1 valid.valid.contribution in
     let over : AreOver width shares = shares_each (λ (a : Share). IsOver width a.cp) s.side index width (enumerate_from 0 ts) (λ k e inside. record { num = (get_or (enumerate_from 0 ts) k e).1.heat; is = refl }) in
     All-weaker (IsStageBranch width (full_size s) (whole entered) (whole left)) IsPlain (λ v is.
     let size = sized-between width most_cp v.cp is.over.num wide is.over.is is.least

@@ -103,7 +103,7 @@ module _ (case : Case) (hot cold : List Part) (ts : List Transfer) (complete : I
 
   side_falls : (of : Side) (ps : List Part) → s.side ≡ of → AreParts case.streams case.utilities parts.grid of ps → WayTo side.Hot (high_end s) (filter_map (own_item number) (enumerate_from 0 ps)) (low_end s)
   side_falls of ps same are =
-      let order = (AreEnds-IsValidStream s valid.valid.valid).order in
+      let order = (AreEnds-IsValidStream s valid.valid).order in
       parts_fall case.streams case.utilities parts.grid of number s here same valid.sensible parts.is_grid.ordered low_held 0 (high_end s) ps (record {
         ordered = are.ordered;
         each = are.each;

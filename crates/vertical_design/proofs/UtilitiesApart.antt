@@ -1,5 +1,5 @@
 -- No match joins the hot utility with the cold one: the one lies on the heat axis where the other has ended.
-use Rattle.std.proofs.Common.{◌≡◌, ◌<◌, ◌+◌, ◌∷◌, ℕ, ℤ, ◌<ℤ◌, List, [], All, AllPairs, Some, get_or, slice_get, length, arith}
+use Rattle.std.proofs.Common.{◌≡◌, ◌+◌, ◌∷◌, ℕ, ℤ, ◌<ℤ◌, List, [], All, AllPairs, Some, get_or, slice_get, length, arith}
 use Rattle.std.proofs.lemmas.Int.{ints}
 use Rattle.std.proofs.lemmas.List.Elements.{All-append, All-head, All-nil}
 use Rattle.std.proofs.lemmas.Option.{slice_get-get_or}

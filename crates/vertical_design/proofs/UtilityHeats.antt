@@ -24,7 +24,7 @@ use Rattle.stream_case.specs.declared.source.Source.TheVariants as source
 use Rattle.stream_case.specs.declared.stream.Stream.{Stream}
 use Rattle.stream_case.specs.declared.utility.Utility.{Utility}
 use Rattle.stream_case.proofs.SourceLemmas.{same_source-true}
-use Rattle.design_lines.proofs.SensibleStreams.{AreSensibleStreams, AreSensibleStreams-case, IsSensibleCase}
+use Rattle.design_lines.proofs.SensibleStreams.{AreSensibleStreams-case, IsSensibleCase}
 use Rattle.fractions.specs.Rationals.{Rational, plus, ratio, rational_sum, whole}
 use Rattle.fractions.proofs.Comparisons.{at_most-whole}
 use Rattle.fractions.proofs.RationalSums.{rational_sum_by-append}
