@@ -1,16 +1,17 @@
 -- The surplus of streams below a temperature, and the greatest excess at some places.
-use Rattle.std.proofs.Common.{◌≡◌, ◌∙◌, refl, sym, ap, ℕ, ◌+◌, ◌<◌, Bool, true, false, cond, List, [], ◌∷◌, length, get_or, take, map, arith}
-use Rattle.std.specs.Prelude.{ℤ, pos, negsuc, ◌-ℤ◌, ◌*ℤ◌, ◌≤ℤ◌, fold, filter, if◌then◌else◌}
+use Rattle.std.proofs.Common.{◌≡◌, ◌∙◌, refl, sym, ap, ap₂, ℕ, ◌+◌, ◌<◌, Bool, true, false, cond, List, [], ◌∷◌, length, get_or, take, map, arith}
+use Rattle.std.specs.Prelude.{ℤ, pos, negsuc, ◌-ℤ◌, ◌*ℤ◌, ◌<ℤ◌, fold, filter, if◌then◌else◌}
 use Rattle.std.specs.Int.{int_max}
 use Rattle.std.proofs.lemmas.Int.{ints, clamps}
 use Rattle.std.proofs.lemmas.List.Sums.{fold-append}
 use Rattle.std.proofs.lemmas.List.Elements.{All-weaker}
 use Rattle.stream_case.specs.Source.{same_side}
-use Rattle.stream_case.specs.Stream.{AreStreams, IsValidStream, heat_above, heat_of, high_end, length_above, low_end, stream_ends}
+use Rattle.stream_case.specs.Stream.{AreSensible, IsSensible, IsValidStream, heat_above, heat_of, high_end, length_above, low_end, stream_ends}
 use Rattle.stream_case.specs.declared.source.Side.{Side}
 use Rattle.stream_case.specs.declared.source.Side.TheVariants.{Cold, Hot}
 use Rattle.stream_case.specs.declared.stream.Stream.{Stream}
 use Rattle.stream_case.proofs.EndLemmas.{AreEnds-IsValidStream, stream_ends-more}
+use Rattle.stream_case.proofs.HeatLemmas.{heat_of-sensible, heat_over-sensible}
 use Rattle.sums.proofs.ProductLemmas.{*ℤ--ℤ}
 use Rattle.sums.proofs.SumLemmas.{int_sum_by-same, int_sum_by-sub}
 use Rattle.problem_table.specs.Deficit.{deficit_above}
@@ -19,7 +20,7 @@ use Rattle.problem_table.proofs.DeficitLemmas.{deficit_above-lowest}
 use Rattle.plants.specs.Directions.{excess, is_beyond, plant_profile, raised}
 use Rattle.plants.specs.Profiles.{heat_below, length_below, surplus_below}
 use Rattle.plants.specs.Table.{gives_at, main_places, site_places, takes_at}
-use Rattle.plants.specs.Site.{streams_of}
+use Rattle.plants.specs.Site.{ArePlantStreams, streams_of}
 use Rattle.plants.specs.declared.site.Main.{Main}
 use Rattle.plants.specs.declared.site.Plant.{Plant}
 use Rattle.plants.specs.declared.site.Site.{Site}
@@ -33,28 +34,31 @@ use Rattle.plants.proofs.SiteLemmas.{ends_of-more}
 length_below-is : (low high t : ℤ) → length_below low high t ≡ (high -ℤ low) -ℤ length_above low high t
 length_below-is low high t = omega (arith, ints, clamps)
 
-heat_below-is : (t : ℤ) (s : Stream) → heat_below t s ≡ heat_of s -ℤ heat_above t s
-heat_below-is t s = ap (λ l. s.cp *ℤ l) (length_below-is (low_end s) (high_end s) t) ∙ *ℤ--ℤ s.cp (high_end s -ℤ low_end s) (length_above (low_end s) (high_end s) t)
+heat_below-is : (t : ℤ) (s : Stream) → IsSensible s → heat_below t s ≡ heat_of s -ℤ heat_above t s
+heat_below-is t s h =
+    ap (λ l. s.cp *ℤ l) (length_below-is (low_end s) (high_end s) t)
+    ∙ *ℤ--ℤ s.cp (high_end s -ℤ low_end s) (length_above (low_end s) (high_end s) t)
+    ∙ sym (ap₂ ◌-ℤ◌ (heat_of-sensible s h) (heat_over-sensible false t s h))
 
 -- the heat of a side below t
-side_below : (side : Side) (t : ℤ) (streams : List Stream) → sum_side side (heat_below t) streams ≡ sum_side side heat_of streams -ℤ sum_side side (heat_above t) streams
-side_below side t streams =
+side_below : (side : Side) (t : ℤ) (streams : List Stream) → AreSensible streams → sum_side side (heat_below t) streams ≡ sum_side side heat_of streams -ℤ sum_side side (heat_above t) streams
+side_below side t streams h =
     let all = λ (s : Stream). if same_side s.side side then heat_of s else pos 0 in
     let above = λ (s : Stream). if same_side s.side side then heat_above t s else pos 0 in
-    int_sum_by-same (λ s. if same_side s.side side then heat_below t s else pos 0) (λ s. all s -ℤ above s) streams (λ k d within. term (same_side (get_or streams k d).side side) (get_or streams k d)) ∙ int_sum_by-sub all above streams
+    int_sum_by-same (λ s. if same_side s.side side then heat_below t s else pos 0) (λ s. all s -ℤ above s) streams (λ k d within. term (same_side (get_or streams k d).side side) (get_or streams k d) (h k d within)) ∙ int_sum_by-sub all above streams
   where
-    term : (b : Bool) (s : Stream) → (if b then heat_below t s else pos 0) ≡ (if b then heat_of s else pos 0) -ℤ (if b then heat_above t s else pos 0)
-    term true s = heat_below-is t s
-    term false s = refl
+    term : (b : Bool) (s : Stream) → IsSensible s → (if b then heat_below t s else pos 0) ≡ (if b then heat_of s else pos 0) -ℤ (if b then heat_above t s else pos 0)
+    term true s sensible = heat_below-is t s sensible
+    term false s sensible = refl
 
 -- the surplus below t is the deficit above it less the deficit of all heats, which lie above the least number
-pub surplus_below-is : (t : ℤ) (streams : List Stream) → AreStreams streams → surplus_below streams t ≡ deficit_above streams t -ℤ deficit_above streams (negsuc 2147483647)
+pub surplus_below-is : (t : ℤ) (streams : List Stream) → ArePlantStreams streams → surplus_below streams t ≡ deficit_above streams t -ℤ deficit_above streams (negsuc 2147483647)
 surplus_below-is t streams h =
     let least = negsuc 2147483647 in
-    let below = All-weaker IsValidStream (λ s. least ≤ℤ low_end s) (λ s valid. let ends = AreEnds-IsValidStream s valid in omega (arith, ints, ends)) streams h.each in
-    let lowest = deficit_above-lowest least streams h.each below in
-    let hot = side_below Hot t streams in
-    let cold = side_below Cold t streams in
+    let below = All-weaker IsValidStream (λ s. least <ℤ low_end s) (λ s valid. let ends = AreEnds-IsValidStream s valid in omega (arith, ints, ends)) streams h.are_streams.each in
+    let lowest = deficit_above-lowest least streams h.are_streams.each below in
+    let hot = side_below Hot t streams h.sensible in
+    let cold = side_below Cold t streams h.sensible in
     omega (arith, ints)
 
 -- ---- the greatest excess

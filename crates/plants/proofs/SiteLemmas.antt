@@ -8,11 +8,11 @@ use Rattle.std.proofs.lemmas.List.{append-nil}
 use Rattle.std.proofs.lemmas.List.Elements.{All-cons, All-drop, All-nil, All-take}
 use Rattle.std.proofs.lemmas.List.Sums.{sum_by-append}
 use Rattle.stream_case.specs.Source.{same_side}
-use Rattle.stream_case.specs.Stream.{AreStreams, IsValidStream, count_on, stream_ends}
+use Rattle.stream_case.specs.Stream.{AreStreams, IsSensible, IsValidStream, count_on, stream_ends}
 use Rattle.stream_case.specs.declared.source.Side.{Side}
 use Rattle.stream_case.specs.declared.stream.Stream.{Stream}
 use Rattle.stream_case.proofs.EndLemmas.{stream_ends-append}
-use Rattle.plants.specs.Site.{IsValidSite, streams_of}
+use Rattle.plants.specs.Site.{ArePlantStreams, IsValidSite, streams_of}
 use Rattle.plants.specs.declared.site.Plant.{Plant}
 use Rattle.plants.specs.declared.site.Site.{Site}
 
@@ -47,7 +47,7 @@ AreStreams-back xs ys h = record {
   few = λ side. omega (arith, h.few side, count_on-append side xs ys);
 }
 
-pub AreStreams-plants : (plants : List Plant) → AreStreams (streams_of plants) → All (λ plant. AreStreams plant.streams) plants
+AreStreams-plants : (plants : List Plant) → AreStreams (streams_of plants) → All (λ plant. AreStreams plant.streams) plants
 AreStreams-plants [] h = All-nil (λ (p : Plant). AreStreams p.streams)
 AreStreams-plants (plant ∷ plants) h =
     All-cons (λ (p : Plant). AreStreams p.streams) plant plants (AreStreams-front plant.streams (streams_of plants) h) (AreStreams-plants plants (AreStreams-back plant.streams (streams_of plants) h))
@@ -58,3 +58,10 @@ All-plants P [] h = All-nil (λ (p : Plant). All P p.streams)
 All-plants P (plant ∷ plants) h =
     All-cons (λ (p : Plant). All P p.streams) plant plants (rw take-append_seam at (All-take P (length plant.streams) (plant.streams ++ streams_of plants) h))
     (All-plants P plants (rw drop-append_seam at (All-drop P (length plant.streams) (plant.streams ++ streams_of plants) h)))
+
+-- so the streams of each plant are as they have to be
+pub ArePlantStreams-site : (site : Site) → IsValidSite site → All (λ plant. ArePlantStreams plant.streams) site.plants
+ArePlantStreams-site site valid k d within = record {
+  are_streams = AreStreams-plants site.plants (AreStreams-site site valid) k d within;
+  sensible = All-plants IsSensible site.plants valid.streams.sensible k d within;
+}

@@ -17,7 +17,7 @@ use Rattle.plants.specs.declared.site.Site.{Site}
 abbrev pub length_below : ℤ → ℤ → ℤ → ℤ
 length_below low high t = distance_above t low -ℤ distance_above t high
 
--- the heat that a stream gives or takes below the shifted temperature t
+-- the heat that a stream gives or takes below the shifted temperature t; the streams of a site are sensible
 abbrev pub heat_below : ℤ → Stream → ℤ
 heat_below t s = s.cp *ℤ length_below (low_end s) (high_end s) t
 

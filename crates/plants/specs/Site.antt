@@ -3,7 +3,7 @@ use Rattle.std.specs.Prelude.{◌≡◌, ◌≢◌, ◌<◌, ◌≤◌, ℕ, ℤ
 use Rattle.std.specs.List.{flat_map}
 use Rattle.stream_case.specs.Limits.{IsContribution, IsTemperature}
 use Rattle.stream_case.specs.Name.{IsName}
-use Rattle.stream_case.specs.Stream.{IsValidStream, count_on}
+use Rattle.stream_case.specs.Stream.{AreSensible, AreStreams, IsValidStream, count_on}
 use Rattle.stream_case.specs.declared.limits.TheConstants.{MOST_MAINS}
 use Rattle.stream_case.specs.declared.source.Side.{Side}
 use Rattle.stream_case.specs.declared.stream.Stream.{Stream}
@@ -15,6 +15,11 @@ use Rattle.plants.specs.declared.site.Site.{Site}
 -- the streams of plants, those of one plant after those of the plants before it
 abbrev pub streams_of : List Plant → List Stream
 streams_of plants = flat_map (λ plant. plant.streams) plants
+
+-- the streams of a plant: as those of a case, and none latent
+pub record ArePlantStreams (streams : List Stream) : Type 0 where
+  pub are_streams : AreStreams streams
+  pub sensible : AreSensible streams
 
 -- ---- sites that the site grammar can give
 
@@ -38,10 +43,11 @@ pub record AreMains (mains : List Main) : Type 0 where
   pub distinct : AreDistinct (map (λ main. main.name) mains)
   pub few : length mains ≤ MOST_MAINS
 
--- there is one, and each has the contribution of the site
+-- there is one, none is latent, and each has the contribution of the site
 pub record AreSiteStreams (contribution : ℤ) (streams : List Stream) : Type 0 where
   pub some : 0 < length streams
   pub each : All IsValidStream streams
+  pub sensible : AreSensible streams
   pub contributions : All (λ s. s.contribution ≡ contribution) streams
   pub names : All (λ s. IsUnreserved s.name) streams
   pub distinct : AreDistinct (map (λ s. s.name) streams)

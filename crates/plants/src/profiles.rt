@@ -1,10 +1,10 @@
 //! The profiles of a site.
 ghost use Rattle.std.specs.Prelude.{◌≡◌, All, fold};
 ghost use Rattle.stream_case.specs.Limits.{IsContribution, IsTemperature};
-ghost use Rattle.stream_case.specs.Stream.{AreStreams, IsValidStream, stream_ends};
+ghost use Rattle.stream_case.specs.Stream.{IsValidStream, stream_ends};
 ghost use Rattle.plants.specs.Directions.{IsExcess, IsPlantHeat, excess, is_beyond, plant_profile, profile, raised};
 ghost use Rattle.plants.specs.Profiles.{sink_profile, source_profile};
-ghost use Rattle.plants.specs.Site.{IsValidSite, streams_of};
+ghost use Rattle.plants.specs.Site.{ArePlantStreams, IsValidSite, streams_of};
 ghost use Rattle.plants.specs.Table.{main_places, site_places};
 
 use crate::places::{gives_at, takes_at};
@@ -23,7 +23,7 @@ enum Direction {
 
 /// The deficit of streams above a place, or their surplus below it, in W.
 fn excess(direction: Direction, streams: &[Stream], place: i32) -> i64
-    requires { AreStreams streams.now }
+    requires { ArePlantStreams streams.now }
     ensures value { result ≡ excess direction streams.now place }
     ensures range { IsExcess result }
 {
@@ -46,7 +46,7 @@ fn is_beyond(direction: Direction, t: i32, place: i32) -> bool
 
 /// The greater of `so_far` and the excess of streams at a place, if it lies at `t` or beyond it.
 fn raised(direction: Direction, t: i32, streams: &[Stream], so_far: i64, place: i32) -> i64
-    requires streams { AreStreams streams.now }
+    requires streams { ArePlantStreams streams.now }
     requires so_far { IsPlantHeat so_far }
     ensures value { result ≡ raised direction t streams.now so_far place }
     ensures range { IsPlantHeat result }
@@ -66,7 +66,7 @@ fn raised_by_ends(
     so_far: i64,
     others: &[Stream],
 ) -> i64
-    requires streams { AreStreams streams.now }
+    requires streams { ArePlantStreams streams.now }
     requires so_far { IsPlantHeat so_far }
     requires others { All IsValidStream others.now }
     ensures value { result ≡ fold (raised direction t streams.now) so_far (stream_ends others.now) }
@@ -88,7 +88,7 @@ fn raised_by_plants(
     so_far: i64,
     plants: &[Plant],
 ) -> i64
-    requires streams { AreStreams streams.now }
+    requires streams { ArePlantStreams streams.now }
     requires so_far { IsPlantHeat so_far }
     requires plants { All IsValidStream (streams_of plants.now) }
     ensures value { result ≡ fold (raised direction t streams.now) so_far (stream_ends (streams_of plants.now)) }
@@ -110,7 +110,7 @@ fn raised_by_mains(
     mains: &[Main],
     contribution: i32,
 ) -> i64
-    requires streams { AreStreams streams.now }
+    requires streams { ArePlantStreams streams.now }
     requires so_far { IsPlantHeat so_far }
     requires levels { All (λ main. IsTemperature main.level) mains.now }
     requires contribution { IsContribution contribution }
@@ -141,7 +141,7 @@ fn raised_by_mains(
 /// beyond it; and at least 0.
 fn plant_profile(direction: Direction, site: &Site, t: i32, plant: &Plant) -> i64
     requires valid { IsValidSite site.now }
-    requires streams { AreStreams plant.now.streams }
+    requires streams { ArePlantStreams plant.now.streams }
     ensures value { result ≡ plant_profile direction (site_places site.now) t plant.now }
     ensures range { IsPlantHeat result }
 {

@@ -1,5 +1,5 @@
 -- The site of a file that is accepted is valid.
-use Rattle.std.proofs.Common.{◌≡◌, ◌≢◌, ◌∷◌, ◌++◌, ◌<◌, ◌≤◌, ℕ, ℤ, pos, true, not, List, [], All, Option, Some, None, Result, Ok, Err, IfOk, IfSome, unwrap_or, length, map, ◌==◌, refl, arith, length-append}
+use Rattle.std.proofs.Common.{◌≡◌, ◌≢◌, ◌∷◌, ◌++◌, ◌<◌, ◌≤◌, ℕ, ℤ, pos, true, not, List, [], All, Option, Some, None, Result, Ok, Err, IfOk, IfSome, unwrap_or, length, map, ◌==◌, inl, refl, arith, length-append}
 use Rattle.std.proofs.lemmas.Bool.Decides.{nat_tests}
 use Rattle.std.proofs.lemmas.List.{append-nil, length-map, map-append}
 use Rattle.std.proofs.lemmas.List.Elements.{All-map, All-nil, All-push, All-weaker}
@@ -11,13 +11,13 @@ use Rattle.first_fault.proofs.CheckLemmas.{Passes}
 use Rattle.first_fault.proofs.Steps.{IsKept, given_has}
 use Rattle.stream_case.specs.Limits.{IsContribution, IsTemperature}
 use Rattle.stream_case.specs.Name.{IsName, is_name}
-use Rattle.stream_case.specs.Stream.{IsValidStream, count_on}
+use Rattle.stream_case.specs.Stream.{IsSensible, IsValidStream, count_on}
 use Rattle.stream_case.specs.declared.limits.TheConstants.{MOST_MAINS}
 use Rattle.stream_case.specs.declared.source.Side.{Side}
 use Rattle.stream_case.specs.declared.stream.Stream.{Stream}
 use Rattle.stream_case.proofs.NameTests.{passed-name}
 use Rattle.rows.specs.Fields.{field, number}
-use Rattle.rows.proofs.Streams.{no_contribution, range_of, stream-is_valid}
+use Rattle.rows.proofs.Streams.{no_contribution, passed-sensible, range_of, stream-is_valid}
 use Rattle.rows.proofs.Tests.{passed-room, passed-within}
 use Rattle.plants.specs.Site.{AreDistinct, ArePlants, IsUnreserved, IsValidSite, streams_of}
 use Rattle.plants.specs.declared.limits.TheConstants.{MOST_SIDE_STREAMS}
@@ -37,6 +37,7 @@ use Rattle.site.proofs.Tests.{Decides-is_among, Decides-is_reserved}
 -- a stream of a valid site, whatever its contribution
 record StreamFits (s : Stream) : Type 0 where
   valid : (contribution : ℤ) → IsContribution contribution → IsValidStream (with_contribution contribution s)
+  sensible : (contribution : ℤ) → IsSensible (with_contribution contribution s)
   name : IsUnreserved s.name
 
 record StreamsFit (streams : List Stream) : Type 0 where
@@ -100,7 +101,8 @@ main_kept given row fits (_, (few, (name, (new, (_, (level, _)))))) = record {
 stream_fits : (of : Side) (row : Row) → is_name (field row 1) ≡ true → not (is_reserved (field row 1)) ≡ true → Passes (stream_number_checks of row) → StreamFits (stream_in of row)
 unfolding stream_number_checks
 stream_fits of row name unreserved (_, (_, (_, (supply, (target, (cp, (way, _))))))) = record {
-  valid = λ contribution range. stream-is_valid (with_contribution contribution (stream_in of row)) name supply target cp way range;
+  valid = λ contribution range. stream-is_valid (with_contribution contribution (stream_in of row)) name supply target (inl (passed-sensible (with_contribution contribution (stream_in of row)) cp refl way)) range;
+  sensible = λ contribution. passed-sensible (with_contribution contribution (stream_in of row)) cp refl way;
   name = (Decides-is_reserved (field row 1)).0 unreserved;
 }
 
@@ -179,6 +181,7 @@ site_valid given fits whole =
       streams = rw (streams_of-plant_with c given.plants) (record {
         some = rw (length-map streams (with_contribution c)) whole.streams;
         each = All-map IsValidStream (with_contribution c) streams (All-weaker StreamFits (λ s. IsValidStream (with_contribution c s)) (λ s fit. fit.valid c range) streams fits.streams.each);
+        sensible = All-map IsSensible (with_contribution c) streams (All-weaker StreamFits (λ s. IsSensible (with_contribution c s)) (λ s fit. fit.sensible c) streams fits.streams.each);
         contributions = All-map (λ (s : Stream). s.contribution ≡ c) (with_contribution c) streams (λ k d inside. refl);
         names = All-map (λ (s : Stream). IsUnreserved s.name) (with_contribution c) streams (All-weaker StreamFits (λ s. IsUnreserved s.name) (λ s fit. fit.name) streams fits.streams.each);
         distinct = rw (stream_names-with c streams) fits.streams.distinct;

@@ -6,7 +6,7 @@ use Rattle.first_fault.proofs.CheckLemmas.{Passes, none_fails}
 use Rattle.first_fault.proofs.Steps.{Follows}
 use Rattle.stream_case.specs.Limits.{IsContribution, IsTemperature}
 use Rattle.stream_case.specs.Name.{IsName}
-use Rattle.stream_case.specs.Stream.{IsValidStream, count_on}
+use Rattle.stream_case.specs.Stream.{IsSensible, IsValidStream, count_on}
 use Rattle.stream_case.specs.declared.limits.TheConstants.{MOST_MAINS}
 use Rattle.stream_case.specs.declared.source.Side.{Side}
 use Rattle.stream_case.specs.declared.source.Side.TheVariants as side
@@ -61,16 +61,17 @@ some_plant : (plants : List Plant) → 0 < length plants → not (length plants 
 some_plant plants some = grind (arith, nat_tests)
 
 -- a stream below a plant, of which an earlier row gave neither the name nor too many of its side
-pub stream_follows : (given : Given) (s : Stream) → IsValidStream s → IsUnreserved s.name → 0 < length given.plants → count_on s.side (streams_of given.plants) < MOST_SIDE_STREAMS → All (λ other. other ≢ s.name) (map (λ t. t.name) (streams_of given.plants))
-    → Follows grammar given (stream_row [] s) (with_entry given (entry.Stream (with_contribution (pos 0) s)))
+pub stream_follows : (given : Given) (s : Stream) → IsValidStream s → IsSensible s → IsUnreserved s.name → 0 < length given.plants → count_on s.side (streams_of given.plants) < MOST_SIDE_STREAMS → All (λ other. other ≢ s.name) (map (λ t. t.name) (streams_of given.plants))
+    → Follows grammar given (stream_row [] [] s) (with_entry given (entry.Stream (with_contribution (pos 0) s)))
 unfolding checks kind_checks stream_checks stream_number_checks are_empty is_number number
-stream_follows given s valid unreserved some few new =
-    let is : kind_of (stream_row [] s) ≡ Some (kind.Stream s.side) = stream_row_kind s.side _ in
+stream_follows given s valid sensible unreserved some few new =
+    let no_load = sensible.load in
+    let is : kind_of (stream_row [] [] s) ≡ Some (kind.Stream s.side) = stream_row_kind s.side _ in
     let supply = number_read s.supply (temperature s.supply valid.supply) in
     let target = number_read s.target (temperature s.target valid.target) in
-    let cp = number_read s.cp (flow_rate s.cp valid.cp) in
+    let cp = number_read s.cp (flow_rate s.cp sensible.cp) in
     let free = (Decides-is_among (λ (t : Stream). t.name) (streams_of given.plants) s.name).1 new in
-    let numbers : Passes (stream_number_checks s.side (stream_row [] s)) =
-    rw (supply, target, cp) (refl, (refl, (refl, (within-passes _ _ _ valid.supply, (within-passes _ _ _ valid.target, (within-passes _ _ _ valid.cp, ((Decides-is_right_way s.side s.supply s.target).1 valid.way, tt))))))) in
-    let passes : Passes (checks given (stream_row [] s)) = rw is (refl, (refl, (refl, (room-passes _ _ few, (some_plant given.plants some, (name-passes s.name valid.name, ((Decides-is_reserved s.name).1 unreserved, (free, numbers)))))))) in
-    record { passes = none_fails (checks given (stream_row [] s)) passes; next_is = rw (is, supply, target, cp) refl }
+    let numbers : Passes (stream_number_checks s.side (stream_row [] [] s)) =
+    rw (supply, target, cp) (refl, (refl, (refl, (within-passes _ _ _ valid.supply, (within-passes _ _ _ valid.target, (within-passes _ _ _ sensible.cp, ((Decides-is_right_way s.side s.supply s.target).1 sensible.way, tt))))))) in
+    let passes : Passes (checks given (stream_row [] [] s)) = rw is (refl, (refl, (refl, (room-passes _ _ few, (some_plant given.plants some, (name-passes s.name valid.name, ((Decides-is_reserved s.name).1 unreserved, (free, numbers)))))))) in
+    record { passes = none_fails (checks given (stream_row [] [] s)) passes; next_is = rw (is, supply, target, cp, no_load) refl }

@@ -11,7 +11,7 @@ use Rattle.first_fault.proofs.Steps.{Follows, Give, all_give, nothing_gives, one
 use Rattle.stream_case.specs.Limits.{IsTemperature}
 use Rattle.stream_case.specs.Name.{IsName}
 use Rattle.stream_case.specs.Source.{same_side}
-use Rattle.stream_case.specs.Stream.{IsValidStream, count_on}
+use Rattle.stream_case.specs.Stream.{IsSensible, IsValidStream, count_on}
 use Rattle.stream_case.specs.declared.limits.TheConstants.{MOST_MAINS}
 use Rattle.stream_case.specs.declared.stream.Stream.{Stream}
 use Rattle.stream_case.proofs.SourceLemmas.{own_side}
@@ -71,7 +71,7 @@ module _ (site : Site) (valid : IsValidSite site) where
       streams_of-plant (map bare before) (bare_with plant done) ∙ ap (λ ss. ss ++ map (with_contribution (pos 0)) done) (streams_of-plant_with (pos 0) before) ∙ sym (map-append (with_contribution (pos 0)) (streams_of before) done)
 
   stream_step : (before : List Plant) (plant : Plant) (after : List Plant) → site.plants ≡ before ++ plant ∷ after → (done : List Stream) (s : Stream) (left : List Stream) → plant.streams ≡ done ++ s ∷ left
-      → Follows grammar (given_with site site.mains (map bare before ++ bare_with plant done ∷ [])) (stream_row [] s) (given_with site site.mains (map bare before ++ bare_with plant (done ++ s ∷ []) ∷ []))
+      → Follows grammar (given_with site site.mains (map bare before ++ bare_with plant done ∷ [])) (stream_row [] [] s) (given_with site site.mains (map bare before ++ bare_with plant (done ++ s ∷ []) ∷ []))
   stream_step before plant after is done s left own =
       let given = given_with site site.mains (map bare before ++ bare_with plant done ∷ []) in
       let so_far = streams_of before ++ done in
@@ -87,9 +87,9 @@ module _ (site : Site) (valid : IsValidSite site) where
       let some : 0 < length given.plants = omega (arith, length-append (map bare before) (bare_with plant done ∷ [])) in
       let room : count_on s.side (streams_of given.plants) < MOST_SIDE_STREAMS = rw (given_streams, count_on-with s.side (pos 0) so_far) few in
       let free : All (λ other. other ≢ s.name) (map (λ t. t.name) (streams_of given.plants)) = rw (given_streams, stream_names-with (pos 0) so_far) new in
-      let follows = stream_follows given s (All-seam IsValidStream (streams_of site.plants) so_far s (left ++ streams_of after) all valid.streams.each) (All-seam (λ (t : Stream). IsUnreserved t.name) (streams_of site.plants) so_far s (left ++ streams_of after) all valid.streams.names) some room free in
+      let follows = stream_follows given s (All-seam IsValidStream (streams_of site.plants) so_far s (left ++ streams_of after) all valid.streams.each) (All-seam IsSensible (streams_of site.plants) so_far s (left ++ streams_of after) all valid.streams.sensible) (All-seam (λ (t : Stream). IsUnreserved t.name) (streams_of site.plants) so_far s (left ++ streams_of after) all valid.streams.names) some room free in
       let next : map bare before ++ bare_with plant (done ++ s ∷ []) ∷ [] ≡ _ = ap (λ ss. map bare before ++ record { name = plant.name; streams = ss } ∷ []) (map-append (with_contribution (pos 0)) done (s ∷ [])) ∙ sym (with_stream-last (with_contribution (pos 0) s) (map bare before) (bare_with plant done)) in
-      subst (λ ps. Follows grammar given (stream_row [] s) (given_with site site.mains ps)) (sym next) follows
+      subst (λ ps. Follows grammar given (stream_row [] [] s) (given_with site site.mains ps)) (sym next) follows
 
   -- ---- all rows
 
@@ -104,9 +104,9 @@ module _ (site : Site) (valid : IsValidSite site) where
   plants_give before (plant ∷ after) is gives =
       let base = (contribution_row site.contribution ∷ map main_row site.mains) ++ flat_map plant_rows before in
       let named = one_more_gives grammar base (given_with site site.mains (map bare before)) (plant_row plant) (given_with site site.mains (map bare before ++ bare_with plant [] ∷ [])) gives (plant_step before plant after is) in
-      let whole = all_give grammar (stream_row []) (λ done. given_with site site.mains (map bare before ++ bare_with plant done ∷ [])) (base ++ plant_row plant ∷ []) plant.streams (stream_step before plant after is) named in
-      let rows : (base ++ plant_row plant ∷ []) ++ map (stream_row []) plant.streams ≡ (contribution_row site.contribution ∷ map main_row site.mains) ++ flat_map plant_rows (before ++ plant ∷ []) =
-      append_assoc base (plant_row plant ∷ []) (map (stream_row []) plant.streams) ∙ append_assoc (contribution_row site.contribution ∷ map main_row site.mains) (flat_map plant_rows before) (plant_rows plant)
+      let whole = all_give grammar (stream_row [] []) (λ done. given_with site site.mains (map bare before ++ bare_with plant done ∷ [])) (base ++ plant_row plant ∷ []) plant.streams (stream_step before plant after is) named in
+      let rows : (base ++ plant_row plant ∷ []) ++ map (stream_row [] []) plant.streams ≡ (contribution_row site.contribution ∷ map main_row site.mains) ++ flat_map plant_rows (before ++ plant ∷ []) =
+      append_assoc base (plant_row plant ∷ []) (map (stream_row [] []) plant.streams) ∙ append_assoc (contribution_row site.contribution ∷ map main_row site.mains) (flat_map plant_rows before) (plant_rows plant)
       ∙ ap (λ rs. (contribution_row site.contribution ∷ map main_row site.mains) ++ rs) (ap (λ rs. flat_map plant_rows before ++ rs) (sym (append-nil (plant_rows plant))) ∙ sym (flat_map-append plant_rows before (plant ∷ []))) in
       let plants : map bare before ++ bare_with plant plant.streams ∷ [] ≡ map bare (before ++ plant ∷ []) = sym (map-append bare before (plant ∷ [])) in
       plants_give (before ++ plant ∷ []) after (is ∙ sym (append_snoc before plant after)) (subst (λ ps. Give grammar ((contribution_row site.contribution ∷ map main_row site.mains) ++ flat_map plant_rows (before ++ plant ∷ [])) (given_with site site.mains ps)) plants (subst (λ rs. Give grammar rs (given_with site site.mains (map bare before ++ bare_with plant plant.streams ∷ []))) rows whole))

@@ -37,8 +37,8 @@ plant_printed : (plant : Plant) → IsName plant.name → All IsValidStream plan
 plant_printed plant named valid =
     let kind : IsPrintedField (codes "plant") = record { plain = refl; short = omega arith } in
     let first = seven_fields _ _ _ _ _ _ _ kind (name_field plant.name named) no_field no_field no_field no_field no_field in
-    let each = All-weaker IsValidStream (λ (s : Stream). IsPrintedRow (stream_row [] s)) (stream_printed [] no_field) plant.streams valid in
-    All-cons IsPrintedRow (plant_row plant) (map (stream_row []) plant.streams) first (All-map IsPrintedRow (stream_row []) plant.streams each)
+    let each = All-weaker IsValidStream (λ (s : Stream). IsPrintedRow (stream_row [] [] s)) (stream_printed [] [] no_field no_field) plant.streams valid in
+    All-cons IsPrintedRow (plant_row plant) (map (stream_row [] []) plant.streams) first (All-map IsPrintedRow (stream_row [] []) plant.streams each)
 
 plants_printed : (plants : List Plant) → All (λ p. IsName p.name) plants → All (λ p. All IsValidStream p.streams) plants
     → All IsPrintedRow (flat_map plant_rows plants)

@@ -60,7 +60,7 @@ abbrev pub main_in : Row → Main
 main_in row = record { name = field row 1; level = number row 2 }
 
 abbrev pub stream_in : Side → Row → Stream
-stream_in of row = record { name = field row 1; side = of; supply = number row 2; target = number row 3; cp = number row 4; contribution = pos 0 }
+stream_in of row = record { name = field row 1; side = of; supply = number row 2; target = number row 3; cp = number row 4; load = pos 0; contribution = pos 0 }
 
 abbrev pub entry_by : Option Kind → Row → Entry
 entry_by None row = entry.Nothing

@@ -16,7 +16,7 @@ plant_row plant = codes "plant" ∷ plant.name ∷ [] ∷ [] ∷ [] ∷ [] ∷ [
 
 -- a plant and its streams
 abbrev pub plant_rows : Plant → List Row
-plant_rows plant = plant_row plant ∷ map (stream_row []) plant.streams
+plant_rows plant = plant_row plant ∷ map (stream_row [] []) plant.streams
 
 -- the contribution, the mains, and the plants with their streams, in their order
 unfoldable pub printed_rows : Site → List Row

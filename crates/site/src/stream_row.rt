@@ -45,6 +45,7 @@ fn stream_of(name: Name, side: Side, row: &ByteRecord) -> Result<Stream, SiteWhy
         supply,
         target,
         cp,
+        load: 0,
         contribution: 0,
     })
 }

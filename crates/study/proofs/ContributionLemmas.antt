@@ -1,5 +1,5 @@
 -- A valid case stays valid with another contribution.
-use Rattle.std.proofs.Common.{◌≡◌, ◌≢◌, ◌∙◌, refl, sym, ap, ap₂, subst, ℕ, ◌++◌, List, [], ◌∷◌, map, Option, None, Some, arith}
+use Rattle.std.proofs.Common.{◌≡◌, ◌≢◌, ◌⊎◌, ◌∙◌, inl, inr, refl, sym, ap, ap₂, subst, ℕ, ◌++◌, List, [], ◌∷◌, map, Option, None, Some, arith}
 use Rattle.std.specs.Prelude.{ℤ, AllPairs, slice_get, option_map}
 use Rattle.std.proofs.lemmas.List.{length-map}
 use Rattle.std.proofs.lemmas.List.Elements.{All-map, All-weaker}
@@ -12,7 +12,7 @@ use Rattle.stream_case.specs.declared.case.Forbid.{Forbid}
 use Rattle.stream_case.specs.declared.case.Case.{Case}
 use Rattle.stream_case.specs.Limits.{IsContribution}
 use Rattle.stream_case.specs.Source.{same_side}
-use Rattle.stream_case.specs.Stream.{IsValidStream, HasValidStreams}
+use Rattle.stream_case.specs.Stream.{IsSensible, IsLatent, IsValidStream, HasValidStreams}
 use Rattle.stream_case.specs.Utility.{IsValidUtility}
 use Rattle.stream_case.specs.Case.{IsRightlyNamed, IsUnreserved, IsComplete, IsValid, IsValidForbid, completed, names_of, side_of}
 use Rattle.sums.proofs.CountLemmas.{count_by-map}
@@ -43,7 +43,11 @@ module _ (contribution : ℤ) where
 
   module _ (within : IsContribution contribution) where
     IsValidStream-with : (s : Stream) → IsValidStream s → IsValidStream (stream_with contribution s)
-    IsValidStream-with s h = record { name = h.name; supply = h.supply; target = h.target; way = h.way; cp = h.cp; contribution = within }
+    IsValidStream-with s h = record { name = h.name; supply = h.supply; target = h.target; heat = heat-with h.heat; contribution = within }
+      where
+        heat-with : IsSensible s ⊎ IsLatent s → IsSensible (stream_with contribution s) ⊎ IsLatent (stream_with contribution s)
+        heat-with (inl sensible) = inl (record { way = sensible.way; cp = sensible.cp; load = sensible.load })
+        heat-with (inr latent) = inr (record { level = latent.level; cp = latent.cp; load = latent.load })
 
     IsValidUtility-with : (u : Utility) → IsValidUtility u → IsValidUtility (utility_with contribution u)
     IsValidUtility-with u h = record { name = h.name; level = h.level; least = h.least; most = h.most; price = h.price; contribution = within }

@@ -17,9 +17,9 @@ use Rattle.stream_case.specs.declared.case.Forbid.{Forbid}
 use Rattle.stream_case.specs.declared.case.Case.{Case}
 use Rattle.stream_case.specs.Case.{is_forbidden, standard_utility, IsComplete, IsStandard, IsValid}
 use Rattle.stream_case.specs.Source.{is_stream, same_source}
-use Rattle.stream_case.specs.Stream.{heat_above}
+use Rattle.stream_case.specs.Stream.{heat_over}
 use Rattle.stream_case.proofs.CaseLemmas.{length-AreStreams}
-use Rattle.stream_case.proofs.HeatLemmas.{heat_above-between}
+use Rattle.stream_case.proofs.HeatLemmas.{heat_over-between}
 use Rattle.sums.specs.Sum.{int_sum_by}
 use Rattle.sums.proofs.IntegerLemmas.{int_le-from}
 use Rattle.sums.proofs.OrderLemmas.{AllPairs-nil}
@@ -27,10 +27,10 @@ use Rattle.sums.proofs.SumLemmas.{int_sum_by-le, int_sum_from-le_each, int_sum_f
 use Rattle.problem_table.proofs.SideLemmas.{sum_side-heat}
 use Rattle.grid.specs.declared.part.Part.{Part}
 use Rattle.grid.specs.Part.{utility_part, AreParts, AreCaseParts}
-use Rattle.grid.proofs.HeatLemmas.{heat_from}
+use Rattle.grid.proofs.HeatLemmas.{part_over}
 use Rattle.heat_flow.specs.Cuts.{joins, least_at, meets, offer_of, opposite, parts_of, IsCut}
 use Rattle.heat_flow.specs.Reach.{both_reach, part_reaches, passes_heat, reach_between}
-use Rattle.corner_flow.proofs.HeatLemmas.{above, from_stream, from_utility, is_reached, one_times}
+use Rattle.corner_flow.proofs.HeatLemmas.{above, from_place, from_stream, from_utility, is_reached, one_times}
 use Rattle.corner_flow.proofs.SideLemmas.{AreStandardParts, AreStandardParts-parts, IsStandardPart, IsUtilityHere}
 use Rattle.grid.proofs.StandardUtilities.{some_utility}
 use Rattle.corner_flow.proofs.StandardLemmas.{end_of}
@@ -130,14 +130,14 @@ module _ (c : Case) (hot cold : List Part) (complete : IsComplete c) (supplied :
   standard : AreStandardParts (unforbidden c) hot cold
   standard = AreStandardParts-parts (IsComplete-unforbidden c complete) (IsStandard-unforbidden c supplied) (AreCaseParts-unforbidden c hot cold parts)
 
-  -- the lowest stream end, above which all parts lie
+  -- the lowest stream end, from which on all parts lie
   abbrev bottom : ℤ
   bottom = end_of (unforbidden c) Cold
 
-  part_least : (side : Side) (p : Part) → IsStandardPart (unforbidden c) standard.grid side p → p.least ≤ℤ heat_from bottom (pos 0) p
+  part_least : (side : Side) (p : Part) → IsStandardPart (unforbidden c) standard.grid side p → p.least ≤ℤ part_over true bottom (pos 0) p
   part_least side p here =
-      ⊎_elim (λ stream. let whole = from_stream bottom (pos 0) p stream.source_is ∙ one_times (above bottom p) p.least (is_reached bottom p.low here.from) in omega (arith, ints))
-      (λ utility. let none = from_utility bottom (pos 0) p utility.source_is in let least = utility.least in omega (arith, ints))
+      ⊎_elim (λ stream. let whole = from_stream true bottom (pos 0) p stream.source_is ∙ one_times (above true bottom p) p.least (is_reached true bottom p.low (from_place bottom p.low here.from)) in omega (arith, ints))
+      (λ utility. let none = from_utility true bottom (pos 0) p utility.source_is in let least = utility.least in omega (arith, ints))
       here.kind
 
   -- the parts of a side have to have no more than the heat of all streams
@@ -146,10 +146,10 @@ module _ (c : Case) (hot cold : List Part) (complete : IsComplete c) (supplied :
       let mine = parts_of side hot cold in
       let streams = standard.valid.are_streams in
       let each =
-      int_sum_by-le (λ p. p.least) (heat_from bottom (pos 0)) mine
+      int_sum_by-le (λ p. p.least) (part_over true bottom (pos 0)) mine
       (λ k d within. let p = get_or mine k d in part_least side p ((standard.sides side).each k p (slice_get-get_or mine k d within))) in
-      let sum = (standard.sides side).sum bottom (pos 0) (standard.ends Cold) in
-      let heat = (sum_side-heat side (heat_above bottom) (heat_above-between bottom) c.streams streams.each (length-AreStreams c.streams streams)).upto in
+      let sum = (standard.sides side).sum true bottom (pos 0) (standard.ends Cold) in
+      let heat = (sum_side-heat side (heat_over true bottom) (heat_over-between true bottom) c.streams streams.each (length-AreStreams c.streams streams)).upto in
       omega (arith, ints)
 
   leasts-not_negative : (side : Side) → All (λ p. pos 0 ≤ℤ p.least) (parts_of side hot cold)

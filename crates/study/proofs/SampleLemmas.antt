@@ -1,5 +1,5 @@
 -- A sample is a valid case.
-use Rattle.std.proofs.Common.{◌≡◌, ◌≢◌, ◌∙◌, refl, sym, ap, subst, Bool, true, false, cond, ℕ, ◌+◌, ◌*◌, ◌%◌, ◌<◌, ◌≤◌, List, [], ◌∷◌, ◌++◌, length, get_or, map, Some, arith}
+use Rattle.std.proofs.Common.{◌≡◌, ◌≢◌, ◌∙◌, inl, refl, sym, ap, subst, Bool, true, false, cond, ℕ, ◌+◌, ◌*◌, ◌%◌, ◌<◌, ◌≤◌, List, [], ◌∷◌, ◌++◌, length, get_or, map, Some, arith}
 use Rattle.std.specs.Prelude.{pos, ◌==◌, All, AllPairs, count_by, filter, slice_get, option_map, unsigned_abs}
 use Rattle.std.specs.List.{range_with_len}
 use Rattle.std.proofs.lemmas.Int.{ints}
@@ -59,16 +59,22 @@ IsValidStream-drawn Hot x number small = record {
   name = IsName-stream_name Hot number small;
   supply = IsTemperature-high Hot x;
   target = IsTemperature-low Hot x;
-  way = let less = below (drawn_low Hot x) (draw x 1 TEMPERATURES) in omega (arith, ints, less);
-  cp = let most = flow_rate_upto (state_after x 3) in record { from = omega (arith, ints); upto = omega (arith, ints, most) };
+  heat = inl (record {
+    way = let less = below (drawn_low Hot x) (draw x 1 TEMPERATURES) in omega (arith, ints, less);
+    cp = let most = flow_rate_upto (state_after x 3) in record { from = omega (arith, ints); upto = omega (arith, ints, most) };
+    load = refl;
+  });
   contribution = record { from = omega (arith, ints); upto = omega (arith, ints) };
 }
 IsValidStream-drawn Cold x number small = record {
   name = IsName-stream_name Cold number small;
   supply = IsTemperature-low Cold x;
   target = IsTemperature-high Cold x;
-  way = let less = below (drawn_low Cold x) (draw x 1 TEMPERATURES) in omega (arith, ints, less);
-  cp = let most = flow_rate_upto (state_after x 3) in record { from = omega (arith, ints); upto = omega (arith, ints, most) };
+  heat = inl (record {
+    way = let less = below (drawn_low Cold x) (draw x 1 TEMPERATURES) in omega (arith, ints, less);
+    cp = let most = flow_rate_upto (state_after x 3) in record { from = omega (arith, ints); upto = omega (arith, ints, most) };
+    load = refl;
+  });
   contribution = record { from = omega (arith, ints); upto = omega (arith, ints) };
 }
 

@@ -8,7 +8,7 @@ ghost use Rattle.study.specs.Answer.{IsCornerAnswer};
 
 use corner_flow::{corner, corner_prices};
 use grid::Parts;
-use problem_table::{reference_place, targets};
+use problem_table::{reference_from, reference_place, targets};
 use std::alloc::{AllocError, Global};
 use stream_case::{Case, is_standard};
 use transport::{Answer, least_case};
@@ -39,8 +39,9 @@ fn corner_answer(alloc: Global, case: &Case, parts: &Parts) -> Result<Answer, Al
 {
     let targets = targets(case);
     let place = reference_place(case);
+    let from = reference_from(case);
     let flow = corner(alloc, case, parts, targets)?;
-    let prices = corner_prices(alloc, case, parts, place, targets)?;
+    let prices = corner_prices(alloc, case, parts, place, from, targets)?;
     Ok(Answer::Least {
         flow,
         prices,

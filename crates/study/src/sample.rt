@@ -65,6 +65,7 @@ fn draw_stream(
         supply: supply as i32,
         target: target as i32,
         cp: i64::from(cp),
+        load: 0,
         contribution: SAMPLE_CONTRIBUTION,
     })
 }

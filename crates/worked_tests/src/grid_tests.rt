@@ -2,7 +2,7 @@
 ghost use Rattle.stream_case.specs.Case.{IsComplete};
 
 use crate::compare::assert_lists;
-use crate::tables::{FOUR_STREAMS, MOST_HEAT, RESTRICTED, completed_case};
+use crate::tables::{FOUR_STREAMS, MOST_HEAT, ONE_LATENT, RESTRICTED, Table, completed_case};
 use grid::{Part, grid_of, parts_of};
 use std::alloc::{AllocError, Global};
 use std::process::Abort;
@@ -53,6 +53,43 @@ const RESTRICTED_COLD: [PartRow; 6] = [
     (Utility(5), Cold, 150, 150, 0, 9000, 4),
 ];
 
+const ONE_LATENT_HOT: [PartRow; 3] = [
+    (Utility(0), Hot, 1450, 1450, 0, MOST_HEAT, 1),
+    (Stream(0), Hot, 1450, 950, 5000, 5000, 0),
+    (Stream(0), Hot, 950, 650, 3000, 3000, 0),
+];
+
+const ONE_LATENT_COLD: [PartRow; 2] = [
+    (Stream(1), Cold, 950, 950, 8000, 8000, 0),
+    (Utility(1), Cold, 650, 650, 0, MOST_HEAT, 0),
+];
+
+/// A latent stream and a utility at the same place, inside the range of another stream.
+const AT_ONE_PLACE: Table = Table {
+    contribution: 0,
+    streams: &[
+        ("H", Hot, 1000, 500, 10),
+        ("K", Hot, 800, 800, 700),
+        ("C", Cold, 300, 700, 10),
+    ],
+    utilities: &[("ST", Hot, 800, 0, 1000, 2)],
+    forbids: &[],
+};
+
+const AT_ONE_PLACE_HOT: [PartRow; 5] = [
+    (Stream(0), Hot, 1000, 800, 2000, 2000, 0),
+    (Stream(1), Hot, 800, 800, 700, 700, 0),
+    (Utility(0), Hot, 800, 800, 0, 1000, 2),
+    (Stream(0), Hot, 800, 700, 1000, 1000, 0),
+    (Stream(0), Hot, 700, 500, 2000, 2000, 0),
+];
+
+const AT_ONE_PLACE_COLD: [PartRow; 3] = [
+    (Stream(2), Cold, 700, 500, 2000, 2000, 0),
+    (Stream(2), Cold, 500, 300, 2000, 2000, 0),
+    (Utility(1), Cold, 300, 300, 0, MOST_HEAT, 0),
+];
+
 pub fn rows_of(alloc: Global, parts: &[Part]) -> Result<Vec<PartRow>, AllocError> {
     let mut rows = Vec::new(alloc);
     for part in parts {
@@ -100,4 +137,18 @@ fn utilities_stand_before_the_streams_below_them(rt: HostRuntime) -> Result<(), 
     let case = completed_case(rt.alloc(), &RESTRICTED)?;
     let places = [1650, 950, 750, 650, 450, 350, 150];
     compare_with(&rt, &case, &places, &RESTRICTED_HOT, &RESTRICTED_COLD)
+}
+
+#[test]
+fn a_latent_stream_has_one_part(rt: HostRuntime) -> Result<(), Fail> {
+    let case = completed_case(rt.alloc(), &ONE_LATENT)?;
+    let places = [1450, 950, 650];
+    compare_with(&rt, &case, &places, &ONE_LATENT_HOT, &ONE_LATENT_COLD)
+}
+
+#[test]
+fn latent_streams_stand_before_utilities(rt: HostRuntime) -> Result<(), Fail> {
+    let case = completed_case(rt.alloc(), &AT_ONE_PLACE)?;
+    let places = [1000, 800, 700, 500, 300];
+    compare_with(&rt, &case, &places, &AT_ONE_PLACE_HOT, &AT_ONE_PLACE_COLD)
 }

@@ -3,19 +3,19 @@ use Rattle.std.proofs.Common.{◌≡◌, ◌∙◌, ◌+◌, ◌*◌, List, ap, 
 use Rattle.std.specs.Prelude.{All, ◌+ℤ◌, ◌≤ℤ◌, unsigned_abs}
 use Rattle.std.proofs.lemmas.Int.{ints}
 use Rattle.stream_case.specs.declared.limits.TheConstants.{ALL_STREAMS_HEAT}
-use Rattle.stream_case.specs.Stream.{AreStreams}
 use Rattle.sums.specs.Sum.{int_sum_by}
 use Rattle.sums.proofs.SumLemmas.{int_sum_by-more}
 use Rattle.plants.specs.Directions.{plant_profile}
+use Rattle.plants.specs.Site.{ArePlantStreams}
 use Rattle.plants.specs.Table.{site_places}
 use Rattle.plants.specs.declared.site.Plant.{Plant}
-use Rattle.plants.proofs.SiteLemmas.{AreStreams-plants, AreStreams-site}
+use Rattle.plants.proofs.SiteLemmas.{ArePlantStreams-site}
 use Rattle.plants.proofs.profiles.profile.Goals as goal
 
 pub plant_profile-heat-requires-clause-streams : goal.plant_profile-heat-requires-clause-streams
 plant_profile-heat-requires-clause-streams c =
-    let each = subst (All (λ (p : Plant). AreStreams p.streams)) (sym c.as_slice-plants.ensures) (AreStreams-plants c.args.site.now.plants (AreStreams-site c.args.site.now c.requires)) in
-    subst (λ (p : Plant). AreStreams p.streams) (sym c.plant-item.is) (each c.loop-plant.plant-index c.plant-item.result c.loop-plant-test.true)
+    let each = subst (All (λ (p : Plant). ArePlantStreams p.streams)) (sym c.as_slice-plants.ensures) (ArePlantStreams-site c.args.site.now c.requires) in
+    subst (λ (p : Plant). ArePlantStreams p.streams) (sym c.plant-item.is) (each c.loop-plant.plant-index c.plant-item.result c.loop-plant-test.true)
 
 pub loop-plant-preserved : goal.loop-plant-preserved
 loop-plant-preserved c =

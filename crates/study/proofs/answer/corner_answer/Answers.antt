@@ -4,7 +4,7 @@ use Rattle.std.proofs.lemmas.List.{length-map}
 use Rattle.stream_case.specs.declared.source.Side.TheVariants.{Hot, Cold}
 use Rattle.heat_flow.specs.Reach.{reach_between}
 use Rattle.heat_flow.proofs.Duality.{weak_duality}
-use Rattle.corner_flow.specs.Corner.{UtilityHeat, NeedsHeat, corner_price}
+use Rattle.corner_flow.specs.Corner.{UtilityHeat, NeedsHeat, corner_price, counts_low}
 use Rattle.transport.specs.declared.answer.Answer.TheVariants.{Least}
 use Rattle.study.proofs.answer.corner_answer.Goals as goal
 
@@ -45,7 +45,8 @@ returns-clause-corner c =
     let hot = c.targets-targets.ensures.hot in
     let cold = c.targets-targets.ensures.cold in
     let fits : FitsSigned w32 c.reference_place-place.result = search rules in
-    let place = ap₂ (λ t p. corner_price t p) hot (to_z-of_z w32 c.reference_place-place.result fits) in
+    let from = c.reference_from-from.result in
+    let price = ap₂ (λ t p. corner_price t (counts_low case.streams from p) p) hot (to_z-of_z w32 c.reference_place-place.result fits) in
     record {
       flow = flow.flow;
       prices = prices.prices;
@@ -58,8 +59,10 @@ returns-clause-corner c =
       least_cold = subst (NeedsHeat case parts.hot parts.cold Cold) cold flow.ensures.least_cold;
       corner_prices = record {
         place = c.reference_place-place.result;
+        from = from;
         reference = c.reference_place-place.ensures;
-        hot_prices = prices.ensures.hot ∙ ap (λ f. map f parts.hot) place;
-        cold_prices = prices.ensures.cold ∙ ap (λ f. map f parts.cold) place;
+        counts = c.reference_from-from.ensures c.reference_place-place.result c.reference_place-place.ensures;
+        hot_prices = prices.ensures.hot ∙ ap (λ f. map f parts.hot) price;
+        cold_prices = prices.ensures.cold ∙ ap (λ f. map f parts.cold) price;
       };
     }
