@@ -1,6 +1,4 @@
-use Rattle.std.proofs.Common.{inl, inr, refl, subst, sym}
-use Rattle.stream_case.specs.Stream.{AreSensible}
-use Rattle.stream_case.specs.declared.case.Case.{Case}
+use Rattle.std.proofs.Common.{inl, inr, refl}
 use Rattle.pinch.specs.Case.{case_file}
 use Rattle.pinch.specs.Files.{EndsIn, by_text}
 use Rattle.pinch.specs.Reading.{reading_of}
@@ -26,6 +24,3 @@ unfolding EndsIn reading_of
 returns-clause-reads g c =
     by_text _ _ c.in_ok-given.ensures.case
     (inl (c.if-not-is_sensible.ensures.0 refl, by_text _ _ (rw c.in_ok-case.ensures at c.in_ok-network.ensures.network) (rw c.in_ok-case.ensures refl, refl)))
-
-pub returns-clause-request : goal.returns-clause-request
-returns-clause-request g c = ?

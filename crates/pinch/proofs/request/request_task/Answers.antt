@@ -13,7 +13,7 @@ pub returns-then-is_case_for-clause-reads : goal.returns-then-is_case_for-clause
 unfolding EndsIn reading_of
 returns-then-is_case_for-clause-reads g c = by_text _ _ c.in_ok-case.ensures.case (inl (c.is_case_for.ensures.0 c.if-is_case_for.true, (refl, refl)))
 
-pub returns-clause-reads : goal.returns-clause-reads
+pub returns-else-is_case_for-clause-reads : goal.returns-else-is_case_for-clause-reads
 unfolding EndsIn reading_of
-returns-clause-reads g c =
+returns-else-is_case_for-clause-reads g c =
     by_text _ _ c.in_ok-case.ensures.case (inr (λ is. let test = c.is_case_for.ensures.1 is in cc (test, c.if-is_case_for.false), refl, refl))
