@@ -1,12 +1,20 @@
-use Rattle.std.proofs.Common.{◌∙◌, length, map, ap, ap₂, subst, arith, rules, FitsSigned, w32}
+use Rattle.std.proofs.Common.{◌∙◌, length, map, ap, ap₂, sym, subst, arith, rules, FitsSigned, w32}
+use Rattle.std.specs.Prelude.{◌↔◌, IsTrue}
 use Rattle.std.proofs.lemmas.Int.{ints, to_z-of_z}
 use Rattle.std.proofs.lemmas.List.{length-map}
 use Rattle.stream_case.specs.declared.source.Side.TheVariants.{Hot, Cold}
+use Rattle.problem_table.specs.Deficit.{CountsFromItself}
 use Rattle.heat_flow.specs.Reach.{reach_between}
 use Rattle.heat_flow.proofs.Duality.{weak_duality}
 use Rattle.corner_flow.specs.Corner.{UtilityHeat, NeedsHeat, corner_price, counts_low}
 use Rattle.transport.specs.declared.answer.Answer.TheVariants.{Least}
 use Rattle.study.proofs.answer.corner_answer.Goals as goal
+
+pub corner_prices-requires-clause-from : goal.corner_prices-requires-clause-from
+corner_prices-requires-clause-from c =
+    let place = c.reference_place-place.result in
+    let fits : FitsSigned w32 place = search rules in
+    subst (λ p. IsTrue c.reference_from-from.result ↔ CountsFromItself c.args.case.now.streams p) (sym (to_z-of_z w32 place fits)) (c.reference_from-from.ensures place c.reference_place-place.ensures)
 
 pub returns-clause-answer : goal.returns-clause-answer
 returns-clause-answer c =
