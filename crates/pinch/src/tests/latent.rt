@@ -64,8 +64,20 @@ fn latent_streams_have_targets(rt: HostRuntime) -> Result<(), Fail> {
             "hot 10000000000\ncold 0\npinch none\n",
         ),
     ];
-    check_answer(&rt, "targets", EVAPORATING, 0, "hot 3000\ncold 3000\npinch 950\n")?;
-    check_answer(&rt, "targets", CONDENSING, 0, "hot 4000\ncold 4000\npinch 950\n")?;
+    check_answer(
+        &rt,
+        "targets",
+        EVAPORATING,
+        0,
+        "hot 3000\ncold 3000\npinch 950\n",
+    )?;
+    check_answer(
+        &rt,
+        "targets",
+        CONDENSING,
+        0,
+        "hot 4000\ncold 4000\npinch 950\n",
+    )?;
     for (streams, text) in rows {
         let case = format!(in alloc; "contribution,,50,,,,\n{streams}")?;
         check_answer(&rt, "targets", case.as_str(), 0, text)?;
