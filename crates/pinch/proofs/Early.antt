@@ -1,8 +1,9 @@
 -- The early ends of reading.
-use Rattle.std.proofs.Common.{◌≡◌, ℕ, List, Option, Some, Result, Ok, Err, IfOk, refl, subst, sym}
+use Rattle.std.proofs.Common.{◌≡◌, inl, ℕ, List, Option, Some, Result, Ok, Err, IfOk, refl, subst, sym}
 use Rattle.std.specs.Result.{IsErrAnd}
 use Rattle.stream_case.specs.declared.case.Case.{Case}
 use Rattle.stream_case.specs.Case.{completed}
+use Rattle.stream_case.specs.Stream.{AreSensible}
 use Rattle.pinch_outside.specs.Shelf.{ShelfState}
 use Rattle.reports.specs.declared.shown.Shown.{Shown}
 use Rattle.pinch.specs.Answers.{ShowsCommand}
@@ -31,11 +32,12 @@ pub without_text : {Value Cause : Type 0} (format : Format Value Cause) (result 
 unfolding EndsIn
 without_text format result stop name old new next same early = stopped result stop _ _ same (λ shown none. no_text shown refl none) early
 
--- no network was had, behind the case
+-- no network was had, behind a case of sensible streams
 pub without_network : (result : Result Request Stop) (stop : Stop) (case_name name : List ℕ) (old mid new : ShelfState) (case : Case) → IsErrAnd result (λ e. e ≡ stop)
-    → ReadsText case_file case_name old mid case → IfEarly stop (NoText (network_file (completed case)) name mid new) → IfEnd result (EndsIn (reading_of (Some (Audit case_name name))) old new)
+    → AreSensible case.streams → ReadsText case_file case_name old mid case → IfEarly stop (NoText (network_file (completed case)) name mid new) → IfEnd result (EndsIn (reading_of (Some (Audit case_name name))) old new)
 unfolding EndsIn reading_of
-without_network result stop case_name name old mid new case same reads early = stopped result stop _ _ same (λ shown none. by_text mid case reads (no_text shown refl none)) early
+without_network result stop case_name name old mid new case same sensible reads early =
+    stopped result stop _ _ same (λ shown none. by_text mid case reads (inl (sensible, no_text shown refl none))) early
 
 -- what is shown early is shown for the command
 pub early_shown : {E : Type 0} (stop : Stop) (result : Result Shown E) (command : Option Command) (old new : ShelfState) → IfOk result (λ shown. stop ≡ Early shown)

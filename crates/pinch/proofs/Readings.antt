@@ -27,9 +27,9 @@ IsLawfulReading other = IsFurther other
 pub lawful : (command : Option Command) → IsLawfulReading (reading_of command)
 unfolding reading_of IsPrintable IsFurther IsLawfulReading
 lawful None = tt
-lawful (Some (OfCase case task)) = (lawful_case, λ c. tt)
-lawful (Some (Vertical case)) = (lawful_case, λ c. (refl, tt, tt))
-lawful (Some (Audit case network)) = (lawful_case, λ c. (lawful_network (completed c), λ n. tt))
+lawful (Some (OfCase case task)) = (lawful_case, λ c. (refl, tt, tt))
+lawful (Some (Vertical case)) = (lawful_case, λ c. (refl, tt, (refl, tt, tt)))
+lawful (Some (Audit case network)) = (lawful_case, λ c. (refl, tt, (lawful_network (completed c), λ n. tt)))
 lawful (Some (Site site)) = (lawful_site, λ s. tt)
 lawful (Some (Sample number count)) = tt
 

@@ -1,11 +1,12 @@
 -- What is shown for the words and the files: all is read first, and then it is answered.
 use Rattle.std.specs.Prelude.{◌≡◌, Option, Result, Ok, Err}
 use Rattle.stream_case.specs.Case.{IsComplete, IsStandard, IsValid}
+use Rattle.stream_case.specs.Stream.{AreSensible}
 use Rattle.plants.specs.Site.{IsValidSite}
 use Rattle.networks.specs.Shape.{HasShape}
 use Rattle.pinch_outside.specs.Shelf.{ShelfState}
 use Rattle.reports.specs.declared.shown.Shown.{Shown}
-use Rattle.pinch.specs.Command.{CanDo, IsSampleOf}
+use Rattle.pinch.specs.Command.{CanDo, IsCaseFor, IsSampleOf}
 use Rattle.pinch.specs.Files.{EndsIn}
 use Rattle.pinch.specs.Network.{IsAuditOf}
 use Rattle.pinch.specs.Reading.{reading_of}
@@ -19,9 +20,9 @@ use Rattle.pinch.specs.declared.request.Request.TheVariants.{OfCase, Vertical, A
 
 -- a request that can be answered
 abbrev pub IsRequest : Request → Type 0
-IsRequest (OfCase case task) = IsValid case × CanDo task
-IsRequest (Vertical case) = IsComplete case × IsStandard case
-IsRequest (Audit case network) = IsComplete case × HasShape case network
+IsRequest (OfCase case task) = IsValid case × CanDo task × IsCaseFor task case
+IsRequest (Vertical case) = IsComplete case × IsStandard case × AreSensible case.streams
+IsRequest (Audit case network) = IsComplete case × HasShape case network × AreSensible case.streams
 IsRequest (OfSite site) = IsValidSite site
 IsRequest (Sample number count) = IsSampleOf number count
 

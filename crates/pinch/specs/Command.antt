@@ -1,6 +1,8 @@
 -- The forms of a command.
 use Rattle.std.specs.Prelude.{ℕ, ◌≤◌, List, [], ◌∷◌, Option, Some, None, option_map, codes, if◌then◌else◌, ⊤}
 use Rattle.std.specs.Str.{bytes_eq}
+use Rattle.stream_case.specs.Stream.{AreSensible}
+use Rattle.stream_case.specs.declared.case.Case.{Case}
 use Rattle.study.specs.Plan.{IsSweepPlan}
 use Rattle.study.specs.declared.limits.TheConstants.{MOST_SAMPLE_NUMBER, MOST_SAMPLE_STREAMS, MOST_WORKERS}
 use Rattle.study.specs.declared.plan.SweepPlan.{SweepPlan}
@@ -76,3 +78,9 @@ abbrev pub IsRunnable : Command → Type 0
 IsRunnable (OfCase case task) = CanDo task
 IsRunnable (Sample number count) = IsSampleOf number count
 IsRunnable other = ⊤
+
+-- designs and curves are for cases without latent streams, the other tasks for every case
+abbrev pub IsCaseFor : CaseTask → Case → Type 0
+IsCaseFor Design case = AreSensible case.streams
+IsCaseFor Curves case = AreSensible case.streams
+IsCaseFor other case = ⊤

@@ -1,9 +1,11 @@
 -- What the words ask to be read, before anything is answered.
 use Rattle.std.specs.Prelude.{ℕ, List, Option, Some, None}
 use Rattle.stream_case.specs.Case.{completed, IsStandard}
+use Rattle.stream_case.specs.Stream.{AreSensible}
 use Rattle.reports.specs.declared.shown.Shown.{Shown}
-use Rattle.reports.specs.declared.shown.Shown.TheVariants.{BadWords, NotStandard}
+use Rattle.reports.specs.declared.shown.Shown.TheVariants.{BadWords, Latent, NotStandard}
 use Rattle.pinch.specs.Case.{case_file}
+use Rattle.pinch.specs.Command.{IsCaseFor}
 use Rattle.pinch.specs.Format.{Format}
 use Rattle.pinch.specs.Network.{network_file}
 use Rattle.pinch.specs.Site.{site_file}
@@ -26,10 +28,12 @@ pub data Reading : Type 1 where
 -- what the words of a command ask to be read, and what is asked then
 unfoldable pub reading_of : Option Command → Reading
 reading_of None = stop BadWords
-reading_of (Some (command.OfCase case task)) = file case_file case (λ c. ready (request.OfCase c task))
+reading_of (Some (command.OfCase case task)) = file case_file case (λ c. wanted (IsCaseFor task c) Latent (ready (request.OfCase c task)))
 reading_of (Some (command.Vertical case)) =
-    file case_file case (λ c. wanted (IsStandard (completed c)) NotStandard (ready (request.Vertical (completed c))))
+    file case_file case (λ c. wanted (IsStandard (completed c)) NotStandard
+    (wanted (AreSensible c.streams) Latent (ready (request.Vertical (completed c)))))
 reading_of (Some (command.Audit case network)) =
-    file case_file case (λ c. file (network_file (completed c)) network (λ n. ready (request.Audit (completed c) n)))
+    file case_file case (λ c. wanted (AreSensible c.streams) Latent
+    (file (network_file (completed c)) network (λ n. ready (request.Audit (completed c) n))))
 reading_of (Some (command.Site site)) = file site_file site (λ s. ready (request.OfSite s))
 reading_of (Some (command.Sample number count)) = ready (request.Sample number count)

@@ -41,6 +41,7 @@ status_of (shows.Sample hot cold cost) = Answered
 status_of shows.BadWords = NoCommand
 status_of (shows.BadCase row why) = CaseRefused
 status_of shows.NotStandard = CaseRefused
+status_of shows.Latent = CaseRefused
 status_of (shows.BadSite row why) = CaseRefused
 status_of (shows.BadNetwork line why) = NetworkRefused
 status_of (shows.TooLong file) = TooLong

@@ -1,11 +1,13 @@
 //! What is asked: all files are read here, and all that is refused is refused here.
-ghost use Rattle.std.specs.Prelude.{IfOk, Some};
+ghost use Rattle.std.specs.Prelude.{◌↔◌, IfOk, IsTrue, Some};
+ghost use Rattle.stream_case.specs.Case.{IsValid};
+ghost use Rattle.stream_case.specs.Stream.{AreSensible};
 ghost use Rattle.pinch.specs.Answers.{IsRequest};
-ghost use Rattle.pinch.specs.Command.{command_of, IsRunnable};
+ghost use Rattle.pinch.specs.Command.{command_of, CanDo, IsCaseFor, IsRunnable};
 ghost use Rattle.pinch.specs.Files.{EndsIn};
 ghost use Rattle.pinch.specs.Reading.{reading_of};
 ghost use Rattle.pinch.specs.Stop.{IfEnd};
-ghost use Rattle.pinch.specs.declared.command.Command.TheVariants.{Audit, Vertical};
+ghost use Rattle.pinch.specs.declared.command.Command.TheVariants.{Audit, OfCase, Vertical};
 
 use crate::command::{CaseTask, Command, read_command};
 use crate::files::{take_case, take_network, take_site};
@@ -16,16 +18,16 @@ use pinch_outside::Shelf;
 use reports::Shown;
 use site::Site;
 use std::alloc::Global;
-use stream_case::{Case, Items, complete, is_standard};
+use stream_case::{Case, Items, complete, has_latent, is_standard};
 
 /// What is asked, with what its files say.
 #[derive(Debug, Drop)]
 pub enum Request {
-    /// A task on a case.
+    /// A task on a case that it is for.
     OfCase { case: Case, task: CaseTask },
-    /// The network of a completed standard case by its composite curves.
+    /// The network of a completed standard case of sensible streams by its composite curves.
     Vertical { case: Case },
-    /// Whether a network is valid for a completed case.
+    /// Whether a network is valid for a completed case of sensible streams.
     Audit { case: Case, network: Network },
     /// The profiles of a site, and its least boiler heat.
     OfSite { site: Site },
@@ -60,10 +62,7 @@ fn request_of_command<S: Shelf>(
         (EndsIn (reading_of (Some command.now)) (S.state shelf.old) (S.state shelf.new)) }
 {
     match command {
-        Command::OfCase { case, task } => {
-            let case = take_case(alloc, shelf, case)?;
-            Ok(Request::OfCase { case, task: *task })
-        }
+        Command::OfCase { case, task } => request_task(alloc, shelf, case, *task),
         Command::Vertical { case } => request_vertical(alloc, shelf, case),
         Command::Audit { case, network } => request_audit(alloc, shelf, case, network),
         Command::Site { site } => {
@@ -77,7 +76,27 @@ fn request_of_command<S: Shelf>(
     }
 }
 
-/// A case that is not standard is refused.
+/// A case with latent streams is refused where the task is for sensible ones alone.
+fn request_task<S: Shelf>(
+    alloc: Global,
+    shelf: &mut S,
+    case: &Word,
+    task: CaseTask,
+) -> Result<Request, Stop>
+    requires { CanDo task }
+    ensures request { IfOk result IsRequest }
+    ensures reads { IfEnd result
+        (EndsIn (reading_of (Some (OfCase case.now task))) (S.state shelf.old) (S.state shelf.new)) }
+{
+    let case = take_case(alloc, shelf, case)?;
+    if is_case_for(task, &case) {
+        Ok(Request::OfCase { case, task })
+    } else {
+        Err(Stop::Early(Shown::Latent))
+    }
+}
+
+/// A case that is not standard is refused, and so is one with latent streams.
 fn request_vertical<S: Shelf>(alloc: Global, shelf: &mut S, case: &Word) -> Result<Request, Stop>
     ensures request { IfOk result IsRequest }
     ensures reads { IfEnd result
@@ -85,14 +104,18 @@ fn request_vertical<S: Shelf>(alloc: Global, shelf: &mut S, case: &Word) -> Resu
 {
     let given = take_case(alloc, shelf, case)?;
     let case = complete(alloc, &given)?;
-    if is_standard(&case) {
+    if !is_standard(&case) {
+        return Err(Stop::Early(Shown::NotStandard));
+    }
+    if is_sensible(&given) {
         Ok(Request::Vertical { case })
     } else {
-        Err(Stop::Early(Shown::NotStandard))
+        Err(Stop::Early(Shown::Latent))
     }
 }
 
-/// The network is read for the completed case, and only after it.
+/// A case with latent streams is refused. The network is read for the completed case, and only
+/// after it.
 fn request_audit<S: Shelf>(
     alloc: Global,
     shelf: &mut S,
@@ -104,7 +127,29 @@ fn request_audit<S: Shelf>(
         (EndsIn (reading_of (Some (Audit case.now network.now))) (S.state shelf.old) (S.state shelf.new)) }
 {
     let given = take_case(alloc, shelf, case)?;
+    if !is_sensible(&given) {
+        return Err(Stop::Early(Shown::Latent));
+    }
     let case = complete(alloc, &given)?;
     let network = take_network(alloc, shelf, &case, network)?;
     Ok(Request::Audit { case, network })
+}
+
+/// Whether the task is for this case: designs and curves are for sensible streams alone.
+fn is_case_for(task: CaseTask, case: &Case) -> bool
+    requires { IsValid case.now }
+    ensures { IsTrue result ↔ IsCaseFor task case.now }
+{
+    match task {
+        CaseTask::Design | CaseTask::Curves => is_sensible(case),
+        CaseTask::Targets | CaseTask::Flow | CaseTask::Sweep { .. } => true,
+    }
+}
+
+/// Whether the case has no latent stream.
+fn is_sensible(case: &Case) -> bool
+    requires { IsValid case.now }
+    ensures { IsTrue result ↔ AreSensible case.now.streams }
+{
+    !has_latent(case.streams.as_slice())
 }

@@ -14,7 +14,8 @@ pub enum Status {
     AnsweredNo,
     /// The words are no command.
     NoCommand,
-    /// The case file or the site file is refused, or the case is not standard where it has to be.
+    /// The case file or the site file is refused, or the case is not standard or has latent streams
+    /// where the command is for none of these.
     CaseRefused,
     /// The network file is refused.
     NetworkRefused,
@@ -66,7 +67,7 @@ pub fn status_of(shown: &Shown) -> Status
         Shown::SiteShown { answer, .. } => status_of_site(answer),
         Shown::TooFine { .. } => Status::TooFine,
         Shown::BadWords => Status::NoCommand,
-        Shown::BadCase { .. } | Shown::BadSite { .. } | Shown::NotStandard => {
+        Shown::BadCase { .. } | Shown::BadSite { .. } | Shown::NotStandard | Shown::Latent => {
             Status::CaseRefused
         },
         Shown::BadNetwork { .. } => Status::NetworkRefused,

@@ -13,6 +13,7 @@ mod hostile_cuts;
 mod hostile_orders;
 mod hostile_refused;
 mod hostile_worked;
+mod latent;
 mod least_cost;
 mod limits;
 mod network_lines;

@@ -1,6 +1,7 @@
 //! The network of a case by its composite curves.
 ghost use Rattle.std.specs.Prelude.{IfOk};
 ghost use Rattle.stream_case.specs.Case.{IsComplete, IsStandard};
+ghost use Rattle.stream_case.specs.Stream.{AreSensible};
 ghost use Rattle.pinch.specs.Vertical.{IsVerticalAnswer};
 
 use crate::design::audited;
@@ -14,6 +15,7 @@ use vertical_design::vertical;
 pub fn show_vertical(alloc: Global, case: Case) -> Result<Shown, AllocError>
     requires complete { IsComplete case }
     requires standard { IsStandard case }
+    requires sensible { AreSensible case.streams }
     ensures { IfOk result (IsVerticalAnswer case) }
 {
     let network = vertical(alloc, &case)?;

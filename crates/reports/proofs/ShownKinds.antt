@@ -23,7 +23,7 @@ use Rattle.penalties.specs.declared.list.PenaltyList.{PenaltyList}
 use Rattle.reports.specs.Text.{is_of_network, is_refusal}
 use Rattle.reports.specs.declared.shown.FileRole.{FileRole}
 use Rattle.reports.specs.declared.shown.Shown.{Shown}
-use Rattle.reports.specs.declared.shown.Shown.TheVariants.{Targets, Flow, Stuck, Curves, Design, Accepted, Rejected, TooFine, SiteShown, Sweep, Sample, BadWords, BadCase, NotStandard, BadSite, BadNetwork, TooLong, ReadFault}
+use Rattle.reports.specs.declared.shown.Shown.TheVariants.{Targets, Flow, Stuck, Curves, Design, Accepted, Rejected, TooFine, SiteShown, Sweep, Sample, BadWords, BadCase, NotStandard, Latent, BadSite, BadNetwork, TooLong, ReadFault}
 
 -- what is no answer and no network is a refusal
 pub is_refusal-other : (shown : Shown)
@@ -53,6 +53,7 @@ is_refusal-other (TooFine k network place step) t f s c e w m d a r o = absurd (
 is_refusal-other BadWords t f s c e w m d a r o = refl
 is_refusal-other (BadCase row why) t f s c e w m d a r o = refl
 is_refusal-other NotStandard t f s c e w m d a r o = refl
+is_refusal-other Latent t f s c e w m d a r o = refl
 is_refusal-other (BadSite row why) t f s c e w m d a r o = refl
 is_refusal-other (BadNetwork line why) t f s c e w m d a r o = refl
 is_refusal-other (TooLong file) t f s c e w m d a r o = refl
@@ -71,21 +72,23 @@ no_network (Rejected k network place reason) is d a r o = r k network place reas
 no_network (TooFine k network place step) is d a r o = o k network place step refl
 no_network other is d a r o = cc
 
--- a refusal in one of seven
+-- a refusal in one of eight
 pub no_refusal : (shown : Shown) → IsTrue (is_refusal shown)
     → (shown ≡ BadWords → ⊥)
     → ((row : ℕ) (why : CaseWhy) → shown ≡ BadCase row why → ⊥)
     → (shown ≡ NotStandard → ⊥)
+    → (shown ≡ Latent → ⊥)
     → ((row : ℕ) (why : SiteWhy) → shown ≡ BadSite row why → ⊥)
     → ((line : ℕ) (why : NetWhy) → shown ≡ BadNetwork line why → ⊥)
     → ((file : FileRole) → shown ≡ TooLong file → ⊥)
     → ((file : FileRole) → shown ≡ ReadFault file → ⊥)
     → ⊥
-no_refusal BadWords is w c u s n l f = w refl
-no_refusal (BadCase row why) is w c u s n l f = c row why refl
-no_refusal NotStandard is w c u s n l f = u refl
-no_refusal (BadSite row why) is w c u s n l f = s row why refl
-no_refusal (BadNetwork line why) is w c u s n l f = n line why refl
-no_refusal (TooLong file) is w c u s n l f = l file refl
-no_refusal (ReadFault file) is w c u s n l f = f file refl
-no_refusal other is w c u s n l f = cc
+no_refusal BadWords is w c u h s n l f = w refl
+no_refusal (BadCase row why) is w c u h s n l f = c row why refl
+no_refusal NotStandard is w c u h s n l f = u refl
+no_refusal Latent is w c u h s n l f = h refl
+no_refusal (BadSite row why) is w c u h s n l f = s row why refl
+no_refusal (BadNetwork line why) is w c u h s n l f = n line why refl
+no_refusal (TooLong file) is w c u h s n l f = l file refl
+no_refusal (ReadFault file) is w c u h s n l f = f file refl
+no_refusal other is w c u h s n l f = cc

@@ -25,6 +25,8 @@ case_why_name why.UnknownName = codes "UnknownName"
 case_why_name why.NoContribution = codes "NoContribution"
 case_why_name why.NoStream = codes "NoStream"
 case_why_name why.BadRange = codes "BadRange"
+case_why_name why.NoLoad = codes "NoLoad"
+case_why_name why.NotLatent = codes "NotLatent"
 
 -- case row ROW WHY
 abbrev pub bad_case_text : ℕ → CaseWhy → List ℕ

@@ -14,7 +14,7 @@ use Rattle.reports.specs.Site.{total_site_text}
 use Rattle.reports.specs.Sweep.{sweep_text}
 use Rattle.reports.specs.Targets.{targets_text}
 use Rattle.reports.specs.declared.shown.Shown.{Shown}
-use Rattle.reports.specs.declared.shown.Shown.TheVariants.{Targets, Flow, Stuck, Curves, Design, Accepted, Rejected, TooFine, SiteShown, Sweep, Sample, BadWords, BadCase, NotStandard, BadSite, BadNetwork, ReadFault, TooLong}
+use Rattle.reports.specs.declared.shown.Shown.TheVariants.{Targets, Flow, Stuck, Curves, Design, Accepted, Rejected, TooFine, SiteShown, Sweep, Sample, BadWords, BadCase, NotStandard, Latent, BadSite, BadNetwork, ReadFault, TooLong}
 
 -- a design has the shape of a network of its completed case
 unfoldable pub IsPrintable : Shown → Type 0
@@ -34,6 +34,7 @@ abbrev pub is_refusal : Shown → Bool
 is_refusal BadWords = true
 is_refusal (BadCase row why) = true
 is_refusal NotStandard = true
+is_refusal Latent = true
 is_refusal (BadSite row why) = true
 is_refusal (BadNetwork line why) = true
 is_refusal (TooLong file) = true
@@ -56,6 +57,7 @@ text (Sample hot cold cost) = sample_text hot cold cost
 text BadWords = codes "words: targets flow curves design vertical audit site sweep sample certify prices\n"
 text (BadCase row why) = bad_case_text row why
 text NotStandard = codes "case not standard\n"
+text Latent = codes "case has latent streams\n"
 text (BadSite row why) = bad_site_text row why
 text (BadNetwork line why) = bad_network_text line why
 text (TooLong file) = file_text (codes "too long") file

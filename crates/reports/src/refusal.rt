@@ -15,6 +15,10 @@ pub const WORDS: &str =
 /// What is printed where a command that is for standard cases alone is asked for another one.
 pub const NOT_STANDARD: &str = "case not standard\n";
 
+/// What is printed where a command that is for sensible streams alone is asked for a case that has
+/// latent ones.
+pub const LATENT: &str = "case has latent streams\n";
+
 /// A line that names the row of a case file, counted from 1, and its cause.
 pub fn bad_case_text(alloc: Global, row: u32, why: CaseWhy) -> Result<String, AllocError>
     ensures { IfOk result (λ text. string_bytes text ≡ bad_case_text row why) }
@@ -70,6 +74,8 @@ fn case_why_name(why: CaseWhy) -> &'static str
         CaseWhy::NoContribution => "NoContribution",
         CaseWhy::NoStream => "NoStream",
         CaseWhy::BadRange => "BadRange",
+        CaseWhy::NoLoad => "NoLoad",
+        CaseWhy::NotLatent => "NotLatent",
     }
 }
 

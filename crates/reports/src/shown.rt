@@ -113,6 +113,8 @@ pub enum Shown {
     },
     /// The completed case is not standard, and the command is for standard cases alone.
     NotStandard,
+    /// The case has latent streams, and the command is for sensible ones alone.
+    Latent,
     /// The site file is refused: the row, counted from 1, and what is to be mended there.
     BadSite {
         row: u32,

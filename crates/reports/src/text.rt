@@ -9,7 +9,7 @@ use crate::flow::flow_text;
 use crate::names::case_names;
 use crate::points::curves_text;
 use crate::refusal::{
-    NOT_STANDARD, WORDS, bad_case_text, bad_network_text, bad_site_text, file_text,
+    LATENT, NOT_STANDARD, WORDS, bad_case_text, bad_network_text, bad_site_text, file_text,
 };
 use crate::sample::sample_text;
 use crate::shown::Shown;
@@ -113,6 +113,7 @@ fn refusal_text(alloc: Global, shown: &Shown) -> Result<String, AllocError>
         Shown::BadWords => String::from_str(alloc, WORDS),
         Shown::BadCase { row, why } => bad_case_text(alloc, *row, *why),
         Shown::NotStandard => String::from_str(alloc, NOT_STANDARD),
+        Shown::Latent => String::from_str(alloc, LATENT),
         Shown::BadSite { row, why } => bad_site_text(alloc, *row, *why),
         Shown::BadNetwork { line, why } => bad_network_text(alloc, *line, *why),
         Shown::TooLong { file } => file_text(alloc, "too long", *file),

@@ -8,9 +8,15 @@ fn a_row_is_refused_with_its_cause(rt: HostRuntime) -> Result<(), Fail> {
     let rows = [
         ("steam,S,1,2,3,4,", "UnknownKind"),
         ("hot,K,900,400,10,", "FieldCount"),
-        ("hot,K,900,400,10,7,", "FieldCount"),
-        ("hot,K,900,400,10,x,7", "FieldCount"),
-        ("hot,K,900,400,10,x,x", "FieldCount"),
+        ("hot,K,900,400,10,x,7", "BadNumber"),
+        ("hot,K,900,400,10,x,x", "BadNumber"),
+        ("hot,K,900,400,10,7,", "NotLatent"),
+        ("hot,K,900,900,1,7,", "NotLatent"),
+        ("cold,K,900,901,0,7,", "NotLatent"),
+        ("hot,K,900,900,0,0,", "OutOfRange"),
+        ("hot,K,900,900,0,,", "OutOfRange"),
+        ("hot,K,900,900,0,10000000001,", "OutOfRange"),
+        ("hot,K,900,900,10,,", "NoLoad"),
         ("hot,K,900,400,10,,x", "BadNumber"),
         ("hot,K,900,400,100001,,x", "BadNumber"),
         ("hot,K,900,400,10,,1001", "OutOfRange"),
@@ -42,7 +48,7 @@ fn a_file_is_refused_at_its_row(rt: HostRuntime) -> Result<(), Fail> {
         ("contribution,,50,,,,\n", "case row 2 NoStream\n"),
         (
             "contribution,,50,,,,\nhot,H,500,500,10,,\n",
-            "case row 2 WrongWay\n",
+            "case row 2 NoLoad\n",
         ),
         (
             "contribution,,50,,,,\ncold,C1,200,1350,200,",

@@ -182,6 +182,8 @@ fn a_row_of_a_site_is_refused_with_its_cause(rt: HostRuntime) -> Result<(), Fail
         ("main,LP,9x0,,,,", "row 7 BadNumber"),
         ("hot,K,30001,400,10,,", "row 7 OutOfRange"),
         ("cold,K,700,300,10,,", "row 7 WrongWay"),
+        // No stream of a site is latent.
+        ("cold,K,700,700,10,,", "row 7 WrongWay"),
     ];
     for (row, rest) in rows {
         let site = format!(in alloc; "{TWO_PLANTS}{row}\n")?;

@@ -1,22 +1,13 @@
 use Rattle.std.proofs.Common.{refl}
-use Rattle.pinch.specs.Case.{case_file}
 use Rattle.pinch.specs.Files.{EndsIn, by_text}
 use Rattle.pinch.specs.Reading.{reading_of}
 use Rattle.pinch.specs.Site.{site_file}
 use Rattle.pinch.proofs.Early.{without_text}
 use Rattle.pinch.proofs.request.request_of_command.Goals as goal
 
-pub returns-in_err-case-in-OfCase-clause-reads : goal.returns-in_err-case-in-OfCase-clause-reads
-unfolding reading_of
-returns-in_err-case-in-OfCase-clause-reads g c = rw c.in-OfCase.is (without_text case_file _ _ _ _ _ _ c.from_residual.ensures.1 c.in_err-case-in-OfCase.ensures.stop)
-
 pub returns-in_err-site-in-Site-clause-reads : goal.returns-in_err-site-in-Site-clause-reads
 unfolding reading_of
-returns-in_err-site-in-Site-clause-reads g c = rw c.in-Site.is (without_text site_file _ _ _ _ _ _ c.from_residual-in_err-site-in-Site.ensures.1 c.in_err-site-in-Site.ensures.stop)
-
-pub returns-in_ok-case-in-OfCase-clause-reads : goal.returns-in_ok-case-in-OfCase-clause-reads
-unfolding EndsIn reading_of
-returns-in_ok-case-in-OfCase-clause-reads g c = rw c.in-OfCase.is (by_text _ _ c.in_ok-case-in-OfCase.ensures.case (refl, refl))
+returns-in_err-site-in-Site-clause-reads g c = rw c.in-Site.is (without_text site_file _ _ _ _ _ _ c.from_residual.ensures.1 c.in_err-site-in-Site.ensures.stop)
 
 pub returns-in_ok-site-in-Site-clause-reads : goal.returns-in_ok-site-in-Site-clause-reads
 unfolding EndsIn reading_of

@@ -10,14 +10,21 @@ pub returns-in_err-given-clause-reads : goal.returns-in_err-given-clause-reads
 unfolding reading_of
 returns-in_err-given-clause-reads g c = without_text case_file _ _ _ _ _ _ c.from_residual.ensures.1 c.in_err-given.ensures.stop
 
-pub returns-then-is_standard-clause-reads : goal.returns-then-is_standard-clause-reads
+pub returns-then-not-is_standard-clause-reads : goal.returns-then-not-is_standard-clause-reads
 unfolding EndsIn reading_of
-returns-then-is_standard-clause-reads g c =
-    let standard = c.is_standard.ensures.0 c.if-is_standard.true in
-    by_text _ _ c.in_ok-given.ensures.case (inl (subst IsStandard c.in_ok-case.ensures standard, (rw c.in_ok-case.ensures refl, refl)))
+returns-then-not-is_standard-clause-reads g c =
+    by_text _ _ c.in_ok-given.ensures.case
+    (inr (λ standard. let test = c.if-not-is_standard.ensures.1 (subst IsStandard (sym c.in_ok-case.ensures) standard) in cc test, refl, refl))
+
+pub returns-then-is_sensible-clause-reads : goal.returns-then-is_sensible-clause-reads
+unfolding EndsIn reading_of
+returns-then-is_sensible-clause-reads g c =
+    let standard = subst IsStandard c.in_ok-case.ensures (c.if-not-is_standard.ensures.0 refl) in
+    by_text _ _ c.in_ok-given.ensures.case (inl (standard, inl (c.is_sensible.ensures.0 c.if-is_sensible.true, (rw c.in_ok-case.ensures refl, refl))))
 
 pub returns-clause-reads : goal.returns-clause-reads
 unfolding EndsIn reading_of
 returns-clause-reads g c =
+    let standard = subst IsStandard c.in_ok-case.ensures (c.if-not-is_standard.ensures.0 refl) in
     by_text _ _ c.in_ok-given.ensures.case
-    (inr (λ standard. let test = c.is_standard.ensures.1 (subst IsStandard (sym c.in_ok-case.ensures) standard) in cc (test, c.if-is_standard.false), refl, refl))
+    (inl (standard, inr (λ sensible. let test = c.is_sensible.ensures.1 sensible in cc (test, c.if-is_sensible.false), refl, refl)))
