@@ -1,0 +1,11 @@
+-- Whether the reference place counts from itself is told of this very place.
+use Rattle.std.proofs.Common.{rules, ◌↔◌, IsTrue, subst, sym, w32, FitsSigned}
+use Rattle.std.proofs.lemmas.Int.{to_z-of_z}
+use Rattle.problem_table.specs.Deficit.{CountsFromItself}
+use Rattle.worked_tests.proofs.corner_flow_tests.certificate.Goals as goal
+
+pub corner_prices-requires-clause-from : goal.corner_prices-requires-clause-from
+corner_prices-requires-clause-from c =
+    let place = c.reference_place-place.result in
+    let fits : FitsSigned w32 place = search rules in
+    subst (λ p. IsTrue c.reference_from-from.result ↔ CountsFromItself c.args.case.now.streams p) (sym (to_z-of_z w32 place fits)) (c.reference_from-from.ensures place c.reference_place-place.ensures)
