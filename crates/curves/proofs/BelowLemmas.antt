@@ -1,5 +1,5 @@
 -- The heat of streams below an actual temperature, and the ends of a side's streams.
-use Rattle.std.proofs.Common.{◌≡◌, ◌⊎◌, inl, inr, ℕ, ◌+◌, ◌<◌, Bool, true, false, List, [], ◌∷◌, ◌++◌, length, get_or, take, refl, ap, sym, ◌∙◌, arith, ℤ, ◌-ℤ◌, if◌then◌else◌, filter, flat_map}
+use Rattle.std.proofs.Common.{◌≡◌, ◌⊎◌, inl, inr, ℕ, ◌+◌, ◌<◌, Bool, true, false, List, [], ◌∷◌, ◌++◌, length, get_or, take, refl, ap, sym, ◌∙◌, arith, ℤ, pos, ◌-ℤ◌, if◌then◌else◌, filter, flat_map}
 use Rattle.std.proofs.lemmas.Int.{ints, clamps}
 use Rattle.std.proofs.lemmas.Grind.{flat_map-append}
 use Rattle.std.proofs.lemmas.List.{take_more}
@@ -7,11 +7,12 @@ use Rattle.std.proofs.lemmas.List.Elements.{filter-append}
 use Rattle.stream_case.specs.declared.source.Side.{Side}
 use Rattle.stream_case.specs.declared.source.Side.TheVariants.{Hot, Cold}
 use Rattle.stream_case.specs.declared.stream.Stream.{Stream}
-use Rattle.stream_case.specs.Limits.{IsLength, IsStreamHeat}
+use Rattle.sums.proofs.IntegerLemmas.{if_zero, if_between}
+use Rattle.stream_case.specs.Limits.{IsLength, IsSensibleHeat, IsStreamHeat}
 use Rattle.stream_case.specs.Source.{is_hot, same_side}
-use Rattle.stream_case.specs.Stream.{lower_temperature, higher_temperature, IsSensible, IsLatent, IsValidStream}
+use Rattle.stream_case.specs.Stream.{lower_temperature, higher_temperature, counts_above, IsSensible, IsLatent, IsValidStream}
 use Rattle.stream_case.proofs.HeatLemmas.{HasLength-sensible, heat-between}
-use Rattle.curves.specs.Below.{length_below, heat_below, temperatures_of}
+use Rattle.curves.specs.Below.{length_below, sensible_below, load_under, heat_under, temperatures_of}
 
 -- the length of the actual range: a latent stream has one temperature
 pub actual-length : (s : Stream) → IsValidStream s → IsLength (higher_temperature s -ℤ lower_temperature s)
@@ -25,11 +26,34 @@ actual-length s h = by_heat h.heat
     by_heat (inl sensible) = let range = HasLength-sensible s h sensible in record { from = omega (arith, ints); upto = omega (arith, ints) }
     by_heat (inr latent) = none s.side s.supply s.target latent.level
 
-pub heat_below-between : (t : ℤ) (s : Stream) → IsValidStream s → IsStreamHeat (heat_below t s)
-heat_below-between t s h =
+pub sensible_below-between : (t : ℤ) (s : Stream) → IsValidStream s → IsSensibleHeat (sensible_below t s)
+sensible_below-between t s h =
     let range = actual-length s h in
-    let heat = heat-between s (length_below (lower_temperature s) (higher_temperature s) t) h (record { from = omega (arith, ints, clamps); upto = omega (arith, ints, clamps) }) in
-    record { from = heat.from; upto = omega (arith, ints, heat.upto) }
+    let below = length_below (lower_temperature s) (higher_temperature s) t in
+    heat-between s below h (record { from = omega (arith, ints, clamps); upto = omega (arith, ints, clamps) })
+
+pub load_under-between : (upto : Bool) (t : ℤ) (s : Stream) → IsValidStream s → IsStreamHeat (load_under upto t s)
+load_under-between upto t s h = by_heat h.heat
+  where
+    by_heat : IsSensible s ⊎ IsLatent s → IsStreamHeat (load_under upto t s)
+    by_heat (inl sensible) =
+        let none = if_zero (counts_above upto s.supply t) s.load sensible.load in
+        record { from = omega (arith, ints); upto = omega (arith, ints) }
+    by_heat (inr latent) =
+        let load = latent.load in let some = if_between (counts_above upto s.supply t) s.load (omega (arith, ints)) in
+        record { from = some.0; upto = omega (arith, ints, some.1) }
+
+-- one of the two summands is 0
+pub heat_under-between : (upto : Bool) (t : ℤ) (s : Stream) → IsValidStream s → IsStreamHeat (heat_under upto t s)
+heat_under-between upto t s h = by_heat h.heat
+  where
+    by_heat : IsSensible s ⊎ IsLatent s → IsStreamHeat (heat_under upto t s)
+    by_heat (inl sensible) =
+        let product = sensible_below-between t s h in let none = if_zero (counts_above upto s.supply t) s.load sensible.load in
+        record { from = omega (arith, ints); upto = omega (arith, ints) }
+    by_heat (inr latent) =
+        let some = load_under-between upto t s h in let none : sensible_below t s ≡ pos 0 = rw latent.cp (omega (arith, ints)) in
+        record { from = omega (arith, ints); upto = omega (arith, ints) }
 
 ends_of : Stream → List ℤ
 ends_of s = s.supply ∷ s.target ∷ []
@@ -39,7 +63,8 @@ unfolding ends_of
 picked true s = refl
 picked false s = refl
 
-pub temperatures_of-more : (side : Side) (streams : List Stream) (i : ℕ) (s : Stream) → i < length streams → s ≡ get_or streams i s → temperatures_of side (take (i + 1) streams) ≡ temperatures_of side (take i streams) ++ (if same_side s.side side then s.supply ∷ s.target ∷ [] else [])
+pub temperatures_of-more : (side : Side) (streams : List Stream) (i : ℕ) (s : Stream) → i < length streams → s ≡ get_or streams i s
+    → temperatures_of side (take (i + 1) streams) ≡ temperatures_of side (take i streams) ++ (if same_side s.side side then s.supply ∷ s.target ∷ [] else [])
 unfolding ends_of
 temperatures_of-more side streams i s within is =
     let on_side = λ (x : Stream). same_side x.side side in let front = take i streams in

@@ -1,32 +1,31 @@
 //! The hot and the cold composite curve.
 ghost use Rattle.std.specs.Prelude.{◌≡◌, IfOk};
-ghost use Rattle.stream_case.specs.Stream.{AreSensible, AreStreams};
+ghost use Rattle.std.specs.List.{list_any};
+ghost use Rattle.stream_case.specs.Stream.{AreStreams};
 ghost use Rattle.curves.specs.Below.{temperatures_of};
-ghost use Rattle.curves.specs.Curve.{IsSideCurve};
+ghost use Rattle.curves.specs.Curve.{is_latent_at, IsSideCurve};
 
-use crate::below::side_heat_below;
+use crate::below::side_heat_under;
 use crate::point::Point;
 use std::alloc::{AllocError, Global};
 use stream_case::{Case, Items, Side, Stream};
 use sums::rising;
 
 /// The hot composite curve: for each actual temperature that is an end of a hot stream, rising
-/// and each once, the heat of all hot streams below it. It is empty where there is no hot
-/// stream. No stream is latent.
+/// and each once, the heat of all hot streams below it. Where a latent hot stream has this
+/// temperature a second point follows, with the heat of those that condense there added. The
+/// curve is empty where there is no hot stream.
 pub fn hot_curve(alloc: Global, case: &Case) -> Result<Items<Point>, AllocError>
-    requires streams { AreStreams case.now.streams }
-    requires sensible { AreSensible case.now.streams }
+    requires { AreStreams case.now.streams }
     ensures { IfOk result (λ curve. IsSideCurve Side.Hot case.now.streams curve) }
 {
     side_curve(alloc, case.streams.as_slice(), Side::Hot)
 }
 
 /// The cold composite curve, in the same way over the cold streams. A drawing begins it at the
-/// cold target; here its heats begin at 0. No stream is
-/// latent.
+/// cold target; here its heats begin at 0.
 pub fn cold_curve(alloc: Global, case: &Case) -> Result<Items<Point>, AllocError>
-    requires streams { AreStreams case.now.streams }
-    requires sensible { AreSensible case.now.streams }
+    requires { AreStreams case.now.streams }
     ensures { IfOk result (λ curve. IsSideCurve Side.Cold case.now.streams curve) }
 {
     side_curve(alloc, case.streams.as_slice(), Side::Cold)
@@ -40,11 +39,24 @@ fn side_curve(alloc: Global, streams: &[Stream], side: Side) -> Result<Items<Poi
     let mut points = Items::new(alloc);
     for t in temperatures.as_slice() {
         points.push(Point {
-            heat: side_heat_below(streams, side, *t),
+            heat: side_heat_under(streams, side, false, *t),
             temperature: *t,
         })?;
+        if has_latent_at(streams, side, *t) {
+            points.push(Point {
+                heat: side_heat_under(streams, side, true, *t),
+                temperature: *t,
+            })?;
+        }
     }
     Ok(points)
+}
+
+// Whether a latent stream of a side has the temperature `t`.
+fn has_latent_at(streams: &[Stream], side: Side, t: i32) -> bool
+    ensures { result ≡ list_any (is_latent_at side t) streams.now }
+{
+    streams.iter().any(|stream| stream.is_on(side) && stream.is_latent() && stream.supply == t)
 }
 
 // The ends of the streams of a side, in their order.

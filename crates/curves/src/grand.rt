@@ -1,19 +1,20 @@
 //! The grand composite curve.
-ghost use Rattle.std.specs.Prelude.{IfOk};
-ghost use Rattle.stream_case.specs.Stream.{AreSensible, AreStreams};
-ghost use Rattle.curves.specs.Curve.{IsGrandCurve};
+ghost use Rattle.std.specs.Prelude.{◌≡◌, All, IfOk};
+ghost use Rattle.std.specs.List.{list_any};
+ghost use Rattle.stream_case.specs.Stream.{AreStreams, IsValidStream};
+ghost use Rattle.curves.specs.Curve.{is_level_at, IsGrandCurve};
 
 use crate::point::Point;
-use problem_table::{deficit_above, targets};
+use problem_table::{deficit_above, deficit_from, targets};
 use std::alloc::{AllocError, Global};
-use stream_case::{Case, Items, stream_ends};
+use stream_case::{Case, Items, Stream, stream_ends};
 use sums::falling;
 
 /// The grand composite curve: for each shifted stream end, falling and each once, the hot
-/// target less the deficit above it. No stream is latent.
+/// target less the deficit above it. Where a latent stream has this level a second point
+/// follows: the hot target less the deficit from it.
 pub fn grand_curve(alloc: Global, case: &Case) -> Result<Items<Point>, AllocError>
-    requires streams { AreStreams case.now.streams }
-    requires sensible { AreSensible case.now.streams }
+    requires { AreStreams case.now.streams }
     ensures { IfOk result (λ curve. IsGrandCurve case.now.streams curve) }
 {
     let hot = targets(case).hot;
@@ -24,6 +25,28 @@ pub fn grand_curve(alloc: Global, case: &Case) -> Result<Items<Point>, AllocErro
             heat: hot - deficit_above(case, *t),
             temperature: *t,
         })?;
+        if has_level_at(case.streams.as_slice(), *t) {
+            points.push(Point {
+                heat: hot - deficit_from(case, *t),
+                temperature: *t,
+            })?;
+        }
     }
     Ok(points)
+}
+
+// Whether a stream is latent and has the shifted level `t`.
+fn is_level_at(stream: &Stream, t: i32) -> bool
+    requires { IsValidStream stream.now }
+    ensures { result ≡ is_level_at t stream.now }
+{
+    stream.is_latent() && stream.high_end() == t
+}
+
+// Whether some stream is and has.
+fn has_level_at(streams: &[Stream], t: i32) -> bool
+    requires { All IsValidStream streams.now }
+    ensures { result ≡ list_any (is_level_at t) streams.now }
+{
+    streams.iter().any(|stream| is_level_at(stream, t))
 }

@@ -1,5 +1,5 @@
 //! The composite curves and the grand composite curve, as their corner points (Linnhoff and
-//! Flower 1978; Kemp 2007), of a case that has no latent stream.
+//! Flower 1978; Kemp 2007).
 #![tactic(auto)]
 
 mod below;

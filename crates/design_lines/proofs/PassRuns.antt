@@ -1,4 +1,4 @@
--- The temperatures between which the passes of a drawn network run: a share passes its exchanger between those of its stage.
+-- The states between which the passes of a drawn network run: a share passes its exchanger between those of its stage.
 use Rattle.std.proofs.Common.{◌≡◌, ◌∙◌, ◌<◌, ◌≤◌, ◌+◌, ◌-◌, ◌*◌, ◌∷◌, ◌++◌, ℕ, zero, suc, List, [], All, Some, slice_get, length, refl, sym, ap, subst, append_assoc, arith, length-append}
 use Rattle.std.proofs.lemmas.List.Elements.{All-append, All-cons, All-head, All-nil, All-tail}
 use Rattle.stream_case.specs.declared.case.Case.{Case}
@@ -21,7 +21,7 @@ use Rattle.design_lines.proofs.CourseValues.{HaveOwn, course_made, own_more, sid
 use Rattle.design_lines.proofs.StageValues.{branches_hold, length-split_values, passes_carry, splits_carry, stage_made, value_of}
 use Rattle.design_lines.proofs.ValueSteps.{Carries, CarryFrom, CarryShares, carry_from_more, carry_more}
 
--- what `R` asks of a stream, an exchanger that it passes, and its temperatures before and behind it
+-- what `R` asks of a stream, an exchanger that it passes, and its states before and behind it
 module _ (case : Case) (network : Network) (R : ℕ → ℕ → Rational → Rational → Type 0) where
   abbrev pub RunsAs : Valuation → Line → Type 0
   RunsAs values (line.Exchanger name hot cold duty) = Unit {0}

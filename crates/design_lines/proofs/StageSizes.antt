@@ -1,4 +1,4 @@
--- The branches of a stage whose shares have one denominator: sizes over it, at most the whole size, at the temperature before the stage or at that after it.
+-- The branches of a stage whose shares have one denominator: sizes over it, at most the whole size, in the state before the stage or in that after it.
 use Rattle.std.proofs.Common.{◌≡◌, ◌∙◌, ◌∷◌, ◌++◌, ◌⊎◌, inl, inr, ℕ, ℤ, pos, ◌+ℤ◌, List, [], All, refl, sym, ap₂, subst}
 use Rattle.std.proofs.lemmas.List.Elements.{All-append, All-cons, All-head, All-nil, All-tail}
 use Rattle.fractions.specs.Rationals.{IsAtMost, Rational, plus, ratio, rational_zero}

@@ -14,7 +14,7 @@ use Rattle.design_lines.specs.Values.{IsLedStage, LedStage, Make, mix_values, pa
 use Rattle.design_lines.specs.declared.stage.Share.{Share}
 use Rattle.design_lines.proofs.ValueSteps.{Carries, CarryFrom, CarryShares, carries_more, carries_new, first_positive, make_append, mixes_make, others_positive, passes_make, share_value, splits_make}
 
--- a branch of some size and temperature
+-- a branch of some size and state
 abbrev pub value_of : Rational → Rational → BranchValue
 value_of size t = record { cp = size; t = t }
 
@@ -120,7 +120,7 @@ module _ (case : Case) (network : Network) (of : Side) (full : Rational) where
       length-mix_values t size [] = refl
       length-mix_values t size (a ∷ ss) = let rest = length-mix_values t (plus size a.cp) ss in omega (arith, rest)
 
-  -- a stage of the whole stream: its lines make its values, and its last branch is the whole stream at the temperature after it
+  -- a stage of the whole stream: its lines make its values, and its last branch is the whole stream in the state after it
   pub stage_made : (stage : LedStage) (values : Valuation) (next from : ℕ) → IsLedStage network of full stage
       → next ≡ length values → Carries values from (value_of full stage.before) → branch_side case network from ≡ of → ((b : ℕ) → next ≤ b → b < next + 2 * (length stage.shares - 1) → branch_side case network b ≡ of)
       → IsStageMade case network values next from full stage

@@ -33,7 +33,7 @@ pub carries_new : (values more : Valuation) (k branch : ℕ) → branch ≡ leng
 carries_new values more k branch number inside =
     record { within = omega (arith, number, inside, length-append values more); is = ap (value_at (values ++ more)) number ∙ get_or-append-add values more k no_value }
 
--- a share at some temperature
+-- a share in some state
 abbrev pub share_value : Rational → Share → BranchValue
 share_value t s = record { cp = s.cp; t = t }
 

@@ -5,6 +5,7 @@ use Rattle.std.specs.List.{flat_map}
 use Rattle.std.proofs.lemmas.List.{get_or-append-add, get_or_append_left, length-map}
 use Rattle.std.proofs.lemmas.List.Elements.{All-append, All-cons, All-nil}
 use Rattle.std.proofs.lemmas.Option.{get_or_from_slice_get, slice_get-get_or, slice_get-map, slice_get_within}
+use Rattle.stream_case.specs.Case.{IsComplete}
 use Rattle.stream_case.specs.declared.case.Case.{Case}
 use Rattle.networks.specs.Lines.{Exchanger, uses}
 use Rattle.networks.specs.Shape.{HasShape}
@@ -17,7 +18,6 @@ use Rattle.network_values.specs.Values.{IsFullEnd, IsValuation, IsWholeValuation
 use Rattle.network_values.specs.declared.values.BranchValue.{BranchValue}
 use Rattle.network_values.proofs.ValuationLemmas.{valuation_more, valuation_start}
 use Rattle.design_lines.specs.Drawn.{declared_line}
-use Rattle.design_lines.proofs.SensibleStreams.{IsSensibleCase}
 use Rattle.design_lines.specs.Values.{AllCanFollow, CanFollow, Make, values_after}
 use Rattle.design_lines.proofs.ValueSteps.{make_line, make_none}
 use Rattle.design_lines.proofs.CourseValues.{HaveOwn}
@@ -88,15 +88,15 @@ module _ (case : Case) (network : Network) (shape : HasShape case network) where
         full = All-append (IsFullEnd case network final) (ends l) (flat_map ends lines) (end_stays l values final (stays (l ∷ lines) values) used follow.0) rest.full;
       }
 
-  -- what all lines make, behind the streams' own values, is the valuation of the network, and each end has its whole stream at its target
+  -- what all lines make, behind the streams' own values, is the valuation of the network, and each end has its whole stream in its last state
   pub record AreValues (made : List BranchValue) : Type 0 where
     pub valuation : IsWholeValuation case network (map first_value case.streams ++ made)
     pub full : All (IsFullEnd case network (map first_value case.streams ++ made)) (ended_by network.lines)
 
-  pub values_made : (made : List BranchValue) → IsSensibleCase case → Make case network (map first_value case.streams) network.lines made → AreValues made
+  pub values_made : (made : List BranchValue) → IsComplete case → Make case network (map first_value case.streams) network.lines made → AreValues made
   unfolding ended_by
   values_made made complete make =
-      let all = valued network.lines [] (map first_value case.streams) refl (valuation_start case network complete.complete complete.sensible) make.follow in
+      let all = valued network.lines [] (map first_value case.streams) refl (valuation_start case network complete) make.follow in
       record {
         valuation = subst (IsWholeValuation case network) make.made_is all.valuation;
         full = subst (λ vs. All (IsFullEnd case network vs) (flat_map ends network.lines)) make.made_is all.full;

@@ -1,4 +1,4 @@
--- What the branches of a drawn network carry, in the order of their numbers: a stream has one temperature before each of its stages, and one after it.
+-- What the branches of a drawn network carry, in the order of their numbers: a stream has one state before each of its stages, and one after it.
 use Rattle.std.specs.Prelude.{◌≡◌, ℕ, ◌+◌, ◌<◌, ◌≤◌, List, [], ◌∷◌, ◌++◌, length, map, All, Some, slice_get}
 use Rattle.stream_case.specs.declared.case.Case.{Case}
 use Rattle.stream_case.specs.declared.source.Side.{Side}
@@ -26,7 +26,7 @@ split_values before [] = []
 split_values before (s ∷ []) = []
 split_values before (s ∷ t ∷ shares) = record { cp = s.cp; t = before } ∷ record { cp = size_of (t ∷ shares); t = before } ∷ split_values before (t ∷ shares)
 
--- the passes make each share, at the temperature behind its exchanger
+-- the passes make each share, in the state behind its exchanger
 abbrev pub pass_values : Rational → List Share → List BranchValue
 pass_values after shares = map (λ s. record { cp = s.cp; t = after }) shares
 
@@ -43,13 +43,13 @@ joined_values after (s ∷ shares) = mix_values after s.cp shares
 abbrev pub stage_values : Rational → Rational → List Share → List BranchValue
 stage_values before after shares = split_values before shares ++ (pass_values after shares ++ joined_values after shares)
 
--- the shares of a stage, and the temperatures before it and after it
+-- the shares of a stage, and the states before it and after it
 pub record LedStage : Type 0 where
   pub before : Rational
   pub after : Rational
   pub shares : List Share
 
--- the shares have sizes that are the full size together, and the duty of each one's exchanger brings it from the one temperature to the other
+-- the shares have sizes that are the full size together, and the duty of each one's exchanger brings it from the one state to the other
 pub record IsLedStage (network : Network) (of : Side) (full : Rational) (stage : LedStage) : Type 0 where
   pub some : 0 < length stage.shares
   pub positive : All (λ s. IsBelow rational_zero s.cp) stage.shares
@@ -65,17 +65,17 @@ abbrev pub course_values : List LedStage → List BranchValue
 course_values [] = []
 course_values (stage ∷ stages) = stage_values stage.before stage.after stage.shares ++ course_values stages
 
--- the first stage begins at this temperature, and each other one where the one before it ends
+-- the first stage begins in this state, and each other one in that in which the one before it ends
 abbrev pub Meet : Rational → List LedStage → Type 0
 Meet t [] = Unit {0}
 Meet t (stage ∷ stages) = (stage.before ≡ t) × Meet stage.after stages
 
--- the temperature behind the last stage
+-- the state behind the last stage
 abbrev pub state_behind : Rational → List LedStage → Rational
 state_behind t [] = t
 state_behind t (stage ∷ stages) = state_behind stage.after stages
 
--- a stream is led from its supply to its target
+-- a stream is led from its first state to its last
 pub record IsLedStream (network : Network) (s : Stream) (stages : List LedStage) : Type 0 where
   pub led : All (IsLedStage network s.side (full_size s)) stages
   pub joined : Meet (first_state s) stages
@@ -105,7 +105,7 @@ AreLed case network next stream (course ∷ courses) =
 
 -- ---- lines
 
--- a split leaves something of its branch, and an end has the whole stream at its target
+-- a split leaves something of its branch, and an end has the whole stream in its last state
 abbrev pub CanFollow : Case → Network → Valuation → Line → Type 0
 CanFollow case network values (line.Exchanger name hot cold duty) = Unit {0}
 CanFollow case network values (line.Split from first cp second) = IsBelow cp (value_at values from).cp

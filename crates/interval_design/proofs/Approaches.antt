@@ -7,8 +7,9 @@ use Rattle.std.proofs.lemmas.Bool.{and_parts, or_cases}
 use Rattle.std.proofs.lemmas.Bool.Decides.{Decides-int_eq}
 use Rattle.std.proofs.lemmas.Int.{ints}
 use Rattle.sums.proofs.IntegerLemmas.{int_le-true}
-use Rattle.stream_case.specs.Case.{is_forbidden, side_of}
+use Rattle.stream_case.specs.Case.{IsComplete, is_forbidden, side_of}
 use Rattle.stream_case.specs.Shift.{shifted}
+use Rattle.stream_case.specs.Stream.{IsSensible, IsValidStream}
 use Rattle.stream_case.specs.declared.case.Case.{Case}
 use Rattle.stream_case.specs.declared.source.Side.{Side}
 use Rattle.stream_case.specs.declared.source.Side.TheVariants as side
@@ -16,7 +17,7 @@ use Rattle.stream_case.specs.declared.source.Source.{Source}
 use Rattle.stream_case.specs.declared.source.Source.TheVariants as source
 use Rattle.stream_case.specs.declared.stream.Stream.{Stream}
 use Rattle.stream_case.specs.declared.utility.Utility.{Utility}
-use Rattle.design_lines.proofs.SensibleStreams.{IsSensibleCase}
+use Rattle.stream_case.proofs.CompleteLemmas.{AreStreams-IsComplete}
 use Rattle.fractions.specs.Rationals.{IsAtMost, Rational, plus, whole}
 use Rattle.fractions.proofs.Comparisons.{at_most-whole}
 use Rattle.fractions.proofs.Wholes.{whole-plus}
@@ -25,8 +26,9 @@ use Rattle.networks.specs.Shape.{HasShape, Joins}
 use Rattle.networks.specs.declared.network.Line.TheVariants as line
 use Rattle.networks.proofs.Lists.{all_at}
 use Rattle.networks.proofs.OfShape.{the_pass_of}
-use Rattle.network_values.specs.Sides.{KeepApproaches, Level, SideRun, contribution_of, enters, leaves, pass_run, run_between, side_run}
+use Rattle.network_values.specs.Sides.{KeepApproaches, Level, SideRun, contribution_of, enters, leaves, level_or, pass_run, passed_run, run_between, side_run}
 use Rattle.network_values.specs.Values.{Valuation, branch_side, first_value, value_at}
+use Rattle.network_values.proofs.StreamStates.{fixed_level-latent, fixed_level-sensible}
 use Rattle.network_audit.proofs.HeatLemmas.{source_on}
 use Rattle.design_lines.specs.Values.{courses_values}
 use Rattle.design_lines.proofs.NumberedItems.{numbered-item}
@@ -41,7 +43,8 @@ use Rattle.heat_flow.specs.declared.flow.Transfer.{Transfer}
 use Rattle.interval_design.specs.Courses.{exchanger_of, network_of}
 use Rattle.interval_design.specs.Values.{actual, entered_at, led_courses, left_at}
 use Rattle.interval_design.proofs.ExchangerLemmas.{exchangers_of-network_of}
-use Rattle.interval_design.proofs.PassTemperatures.{RunsThrough, RunsThroughPart, network_runs}
+use Rattle.interval_design.proofs.OwnParts.{LiesAtLevel, entered-sensible, high_end-latent, left-sensible, lies}
+use Rattle.interval_design.proofs.PassStates.{RunsThrough, RunsThroughPart, network_runs}
 use Rattle.interval_design.proofs.TurnLemmas.{part_there}
 
 -- ---- levels
@@ -125,29 +128,45 @@ pub record GoesThrough (case : Case) (of : Side) (run : SideRun) (a : Source) (p
   pub enters_at : enters of run ≡ whole (actual of (entered_at of p) (contribution_of case a))
   pub leaves_at : leaves of run ≡ whole (actual of (left_at of p) (contribution_of case a))
 
-module _ (case : Case) (hot cold : List Part) (ts : List Transfer) (complete : IsSensibleCase case) (parts : AreCaseParts case hot cold) (flow : IsHeatFlow (reach_between case hot cold) hot cold ts) (shape : HasShape case (network_of case hot cold ts)) where
+module _ (case : Case) (hot cold : List Part) (ts : List Transfer) (complete : IsComplete case) (parts : AreCaseParts case hot cold) (flow : IsHeatFlow (reach_between case hot cold) hot cold ts) (shape : HasShape case (network_of case hot cold ts)) where
   abbrev values_here : Valuation
   values_here = map first_value case.streams ++ courses_values (led_courses case hot cold ts)
+
+  -- a source at one level, whose part stands there
+  level_side : (of : Side) (number : ℕ) (a : Source) (p : Part) (level contribution : ℤ) → side_run case (network_of case hot cold ts) values_here number a ≡ Level (whole level) → contribution_of case a ≡ contribution
+      → p.high ≡ shifted of level contribution → p.low ≡ shifted of level contribution → GoesThrough case of (side_run case (network_of case hot cold ts) values_here number a) a p
+  level_side of number a p level contribution run contribution_is high low =
+      let place = shifted of level contribution in
+      let back : (x : ℤ) → x ≡ place → whole level ≡ whole (actual of x (contribution_of case a)) =
+      λ x is. sym (ap (λ c. whole (actual of x c)) contribution_is ∙ ap (λ y. whole (actual of y contribution)) is ∙ ap whole (actual-shifted of level contribution)) in
+      record {
+        enters_at = ap (enters of) run ∙ enters-level of (whole level) ∙ back (entered_at of p) (entered-level of p place high low);
+        leaves_at = ap (leaves of) run ∙ leaves-level of (whole level) ∙ back (left_at of p) (left-level of p place high low);
+      }
 
   utility_side : (of : Side) (number index : ℕ) (u : Utility) (p : Part) → slice_get case.utilities index ≡ Some u → u.side ≡ of → p.high ≡ shifted of u.level u.contribution → p.low ≡ shifted of u.level u.contribution
       → GoesThrough case of (side_run case (network_of case hot cold ts) values_here number (source.Utility index)) (source.Utility index) p
   unfolding side_run
   utility_side of number index u p here side_is high low =
-      let at : option_map_or (λ (v : Utility). v.level) (slice_get case.utilities index) (pos 0) ≡ u.level = ap (λ o. option_map_or (λ (v : Utility). v.level) o (pos 0)) here in
-      let contribution : contribution_of case (source.Utility index) ≡ u.contribution = ap (λ o. option_map_or (λ (v : Utility). v.contribution) o (pos 0)) here in
-      let back : (x : ℤ) → x ≡ shifted of u.level u.contribution → whole (actual of x (contribution_of case (source.Utility index))) ≡ whole u.level =
-      λ x is. ap (λ c. whole (actual of x c)) contribution ∙ ap (λ y. whole (actual of y u.contribution)) is ∙ ap whole (actual-shifted of u.level u.contribution) in
-      let level = whole (option_map_or (λ (v : Utility). v.level) (slice_get case.utilities index) (pos 0)) in
-      record {
-        enters_at = enters-level of level ∙ ap whole at ∙ sym (back (entered_at of p) (entered-level of p (shifted of u.level u.contribution) high low));
-        leaves_at = leaves-level of level ∙ ap whole at ∙ sym (back (left_at of p) (left-level of p (shifted of u.level u.contribution) high low));
-      }
+      level_side of number (source.Utility index) p u.level u.contribution (ap (λ o. Level (whole (option_map_or (λ (v : Utility). v.level) o (pos 0)))) here) (ap (λ o. option_map_or (λ (v : Utility). v.contribution) o (pos 0)) here) high low
 
-  stream_side : (of : Side) (number stream : ℕ) (t : Transfer) (s : Stream) (p : Part) (e : Exchanger) → slice_get ts number ≡ Some t → slice_get case.streams stream ≡ Some s → s.side ≡ of → slice_get (parts_of of hot cold) (part_index of t) ≡ Some p
+  stream_contribution : (stream : ℕ) (s : Stream) → slice_get case.streams stream ≡ Some s → contribution_of case (source.Stream stream) ≡ s.contribution
+  stream_contribution stream s here = ap (λ o. option_map_or (λ (r : Stream). r.contribution) o (pos 0)) here
+
+  latent_side : (of : Side) (number stream : ℕ) (s : Stream) (p : Part) → slice_get case.streams stream ≡ Some s → s.side ≡ of → LiesAtLevel s p
+      → GoesThrough case of (side_run case (network_of case hot cold ts) values_here number (source.Stream stream)) (source.Stream stream) p
+  unfolding side_run
+  latent_side of number stream s p here side_is at =
+      let run : side_run case (network_of case hot cold ts) values_here number (source.Stream stream) ≡ Level (whole s.supply) =
+      ap (level_or (passed_run case (network_of case hot cold ts) values_here number (source.Stream stream))) (fixed_level-latent case stream s here at.latent) in
+      let place = high_end-latent s at.latent ∙ ap (λ d. shifted d s.supply s.contribution) side_is in
+      level_side of number (source.Stream stream) p s.supply s.contribution run (stream_contribution stream s here) (at.high ∙ place) (at.low ∙ place)
+
+  sensible_side : (of : Side) (number stream : ℕ) (t : Transfer) (s : Stream) (p : Part) (e : Exchanger) → slice_get ts number ≡ Some t → slice_get case.streams stream ≡ Some s → IsSensible s → s.side ≡ of → slice_get (parts_of of hot cold) (part_index of t) ≡ Some p
       → slice_get (exchangers_of (network_of case hot cold ts).lines) number ≡ Some e → source_on of e ≡ source.Stream stream
       → GoesThrough case of (side_run case (network_of case hot cold ts) values_here number (source.Stream stream)) (source.Stream stream) p
   unfolding side_run branch_side
-  stream_side of number stream t s p e at here side_is part declared source_is =
+  sensible_side of number stream t s p e at here sensible side_is part declared source_is =
       let network = network_of case hot cold ts in
       let (from, to, index, pass) = the_pass_of shape number stream e declared (joins-on of e stream source_is) in
       let on : branch_side case network from ≡ of =
@@ -155,14 +174,15 @@ module _ (case : Case) (hot cold : List Part) (ts : List Transfer) (complete : I
       let first = value_at values_here from in
       let second = value_at values_here to in
       let run : side_run case network values_here number (source.Stream stream) ≡ run_between of first second =
-      ap (pass_run case network values_here) pass.found ∙ ap (λ d. run_between d first second) on in
+      ap (level_or (passed_run case network values_here number (source.Stream stream))) (fixed_level-sensible case stream s here sensible)
+      ∙ ap (pass_run case network values_here) pass.found ∙ ap (λ d. run_between d first second) on in
       let through = all_at (RunsAs case network (RunsThroughPart case hot cold ts) values_here) network.lines index (line.Pass from number to) (network_runs case hot cold ts complete parts flow) pass.here in
       let part_here : slice_get (parts_of s.side hot cold) (part_index s.side t) ≡ Some p = ap (λ d. slice_get (parts_of d hot cold) (part_index d t)) side_is ∙ part in
       let runs : RunsThrough s p first.t second.t = through t s p at (ap (slice_get case.streams) pass.of_stream ∙ here) part_here in
-      let contribution : s.contribution ≡ contribution_of case (source.Stream stream) = sym (ap (λ o. option_map_or (λ (r : Stream). r.contribution) o (pos 0)) here) in
+      let contribution = sym (stream_contribution stream s here) in
       record {
-        enters_at = ap (enters of) run ∙ enters-run of first second ∙ runs.enters ∙ (λ i. whole (actual (side_is i) (entered_at (side_is i) p) (contribution i)));
-        leaves_at = ap (leaves of) run ∙ leaves-run of first second ∙ runs.leaves ∙ (λ i. whole (actual (side_is i) (left_at (side_is i) p) (contribution i)));
+        enters_at = ap (enters of) run ∙ enters-run of first second ∙ runs.enters ∙ entered-sensible s p sensible ∙ (λ i. whole (actual (side_is i) (entered_at (side_is i) p) (contribution i)));
+        leaves_at = ap (leaves of) run ∙ leaves-run of first second ∙ runs.leaves ∙ left-sensible s p sensible ∙ (λ i. whole (actual (side_is i) (left_at (side_is i) p) (contribution i)));
       }
 
   side_through : (of : Side) (number : ℕ) (t : Transfer) (p : Part) (e : Exchanger) → slice_get ts number ≡ Some t → slice_get (parts_of of hot cold) (part_index of t) ≡ Some p → IsPartOf case.streams case.utilities parts.grid of p
@@ -170,7 +190,10 @@ module _ (case : Case) (hot cold : List Part) (ts : List Transfer) (complete : I
       → GoesThrough case of (side_run case (network_of case hot cold ts) values_here number (source_on of e)) (source_on of e) p
   side_through of number t p e at part (inl (stream, s, is)) declared source_is =
       let own = source_is ∙ ap (λ (q : Part). q.source) is.is in
-      subst (λ a. GoesThrough case of (side_run case (network_of case hot cold ts) values_here number a) a p) (sym own) (stream_side of number stream t s p e at is.stream is.side_is part declared own)
+      let valid = all_at IsValidStream case.streams stream s (AreStreams-IsComplete case complete).each is.stream in
+      subst (λ a. GoesThrough case of (side_run case (network_of case hot cold ts) values_here number a) a p) (sym own)
+      (⊎_elim (λ on. sensible_side of number stream t s p e at is.stream on.sensible is.side_is part declared own) (λ level. latent_side of number stream s p is.stream is.side_is level)
+      (lies parts.grid s p valid parts.is_grid.ordered is))
   side_through of number t p e at part (inr (index, u, is)) declared source_is =
       let own = source_is ∙ ap (λ (q : Part). q.source) is.is in
       let high = ap (λ (q : Part). q.high) is.is ∙ ap (λ d. shifted d u.level u.contribution) is.side_is in

@@ -1,19 +1,17 @@
 -- The courses of a heat flow are courses of their streams, of shares that have a flow and pass exchangers of the stream.
-use Rattle.std.proofs.Common.{◌≡◌, ◌∙◌, ◌<◌, ◌+◌, ◌^◌, ◌∷◌, inl, inr, ℕ, ℤ, ◌-ℤ◌, ◌≤ℤ◌, ◌<ℤ◌, Bool, true, false, if◌then◌else◌, List, [], All, Some, slice_get, map, sym, ap, subst, arith}
-use Rattle.std.specs.Prelude.{unsigned_abs}
+use Rattle.std.proofs.Common.{◌≡◌, ◌∙◌, ◌<◌, ◌+◌, ◌^◌, ◌∷◌, inl, inr, ℕ, ℤ, true, false, List, [], All, Some, slice_get, map, sym, ap, subst, arith}
 use Rattle.std.specs.List.{enumerate_from, filter_map}
 use Rattle.std.proofs.lemmas.Bool.{false≢true}
-use Rattle.std.proofs.lemmas.Int.{ints}
 use Rattle.std.proofs.lemmas.List.Elements.{All-head, All-nil, All-tail}
-use Rattle.stream_case.specs.Limits.{IsHeat, IsTemperature}
-use Rattle.stream_case.specs.Shift.{shifted}
+use Rattle.stream_case.specs.Limits.{IsHeat}
 use Rattle.stream_case.specs.Source.{same_source}
-use Rattle.stream_case.specs.Stream.{higher_temperature, lower_temperature}
 use Rattle.stream_case.specs.declared.case.Case.{Case}
 use Rattle.stream_case.specs.declared.source.Side.{Side}
 use Rattle.stream_case.specs.declared.source.Side.TheVariants as side
 use Rattle.stream_case.specs.declared.source.Source.TheVariants as source
-use Rattle.design_lines.proofs.SensibleStreams.{AreSensibleStreams-case, IsSensibleCase, IsSensibleStream}
+use Rattle.stream_case.specs.Case.{IsComplete}
+use Rattle.stream_case.specs.Stream.{IsValidStream}
+use Rattle.stream_case.proofs.CompleteLemmas.{AreStreams-IsComplete}
 use Rattle.networks.proofs.Lists.{all_at}
 use Rattle.design_lines.specs.Led.{IsCourseOf, IsShareOf}
 use Rattle.design_lines.specs.Drawn.{Course}
@@ -23,30 +21,21 @@ use Rattle.design_lines.proofs.NumberedItems.{numbered-item}
 use Rattle.grid.specs.Grid.{IsGrid}
 use Rattle.grid.specs.Part.{AreCaseParts, AreParts, IsPartOf}
 use Rattle.grid.specs.declared.part.Part.{Part}
-use Rattle.grid.proofs.PlaceLemmas.{interval_falls}
 use Rattle.heat_flow.specs.Cuts.{parts_of}
 use Rattle.heat_flow.specs.Flow.{ArePositive}
 use Rattle.heat_flow.specs.declared.flow.Transfer.{Transfer}
 use Rattle.interval_design.specs.Courses.{AllCanBeLed, CanBeLed, course_of, courses_of, exchanger_of, on_the_way, shares_of, stage_of, stream_course, width_of}
-use Rattle.interval_design.proofs.SensibleParts.{sensible_interval}
+use Rattle.interval_design.proofs.OwnParts.{fits}
 use Rattle.interval_design.proofs.FlowLemmas.{All-way}
 use Rattle.interval_design.proofs.ShareLemmas.{shares-joined}
 
 -- ---- widths
 
-narrow-range : (of : Side) (high low contribution top bottom : ℤ) → IsTemperature high → IsTemperature low → shifted of low contribution ≤ℤ bottom → top ≤ℤ shifted of high contribution → bottom <ℤ top → unsigned_abs (top -ℤ bottom) < 2 ^ 32
-narrow-range side.Hot high low contribution top bottom is_high is_low from upto falls = omega (arith, ints, is_high.from, is_high.upto, is_low.from, is_low.upto, from, upto, falls)
-narrow-range side.Cold high low contribution top bottom is_high is_low from upto falls = omega (arith, ints, is_high.from, is_high.upto, is_low.from, is_low.upto, from, upto, falls)
-
-either : (b : Bool) (one other : ℤ) → IsTemperature one → IsTemperature other → IsTemperature (if b then one else other)
-either true one other is_one is_other = is_one
-either false one other is_one is_other = is_other
-
-part_narrow : (case : Case) (grid : List ℤ) (of : Side) (p : Part) (stream : ℕ) → IsSensibleCase case → IsGrid case grid → IsPartOf case.streams case.utilities grid of p → same_source p.source (source.Stream stream) ≡ true → width_of p < 2 ^ 32
+part_narrow : (case : Case) (grid : List ℤ) (of : Side) (p : Part) (stream : ℕ) → IsComplete case → IsGrid case grid → IsPartOf case.streams case.utilities grid of p → same_source p.source (source.Stream stream) ≡ true → width_of p < 2 ^ 32
 part_narrow case grid of p stream complete is_grid (inl (i, s, is)) own =
-    let valid = all_at IsSensibleStream case.streams i s (AreSensibleStreams-case case complete).each is.stream in
-    let falls = interval_falls grid p.high p.low is_grid.ordered (sensible_interval grid s p.high p.low valid.sensible is.piece) in
-    narrow-range s.side (higher_temperature s) (lower_temperature s) s.contribution p.high p.low (either _ s.supply s.target valid.valid.supply valid.valid.target) (either _ s.target s.supply valid.valid.target valid.valid.supply) is.from is.upto falls
+    let valid = all_at IsValidStream case.streams i s (AreStreams-IsComplete case complete).each is.stream in
+    let fit = fits grid s p valid is_grid.ordered is in
+    omega (arith, fit.narrow)
 part_narrow case grid of p stream complete is_grid (inr (i, u, is)) own =
     let other : same_source p.source (source.Stream stream) ≡ false = ap (λ (q : Part). same_source q.source (source.Stream stream)) is.is in
     absurd (false≢true (sym other ∙ own))
@@ -63,21 +52,21 @@ each-stage Q of ts stream ((index, p) ∷ xs) each =
     All-kept Q (same_source p.source (source.Stream stream)) (shares_of of index (width_of p) ts) (filter_map (stage_of of ts stream) xs) (All-head (HoldsOf Q of ts stream) (index, p) xs each)
     (each-stage Q of ts stream xs (All-tail (HoldsOf Q of ts stream) (index, p) xs each))
 
-course-shares : (case : Case) (grid : List ℤ) (of : Side) (hot cold : List Part) (ts : List Transfer) (stream : ℕ) → IsSensibleCase case → IsGrid case grid → AreParts case.streams case.utilities grid of (parts_of of hot cold)
+course-shares : (case : Case) (grid : List ℤ) (of : Side) (hot cold : List Part) (ts : List Transfer) (stream : ℕ) → IsComplete case → IsGrid case grid → AreParts case.streams case.utilities grid of (parts_of of hot cold)
     → ArePositive ts → All (λ t. IsHeat t.heat) ts → CanBeLed of (parts_of of hot cold) ts stream
     → IsCourseOf (map (exchanger_of hot cold) (enumerate_from 0 ts)) stream (course_of of (parts_of of hot cold) ts stream)
 course-shares case grid of hot cold ts stream complete is_grid are positive heats led =
     let parts = parts_of of hot cold in
     let Q : List Share → Type 0 = λ shares. All (IsShareOf (map (exchanger_of hot cold) (enumerate_from 0 ts)) stream) shares in
     record {
-      stages = led.used;
+      stages = led;
       shares = each-stage Q of ts stream (on_the_way of (enumerate_from 0 parts)) (All-way (HoldsOf Q of ts stream) of parts (λ i p here own.
-          let wide = all_at (λ (q : Part). same_source q.source (source.Stream stream) ≡ true → 0 < width_of q) parts i p led.wide here own in
+          let wide : 0 < width_of p = omega arith in
           let narrow = part_narrow case grid of p stream complete is_grid (all_at (IsPartOf case.streams case.utilities grid of) parts i p are.each here) own in
           shares-joined of hot cold ts stream i (width_of p) p positive heats here own wide narrow));
     }
 
-pub courses-are : (case : Case) (hot cold : List Part) (ts : List Transfer) → IsSensibleCase case → AreCaseParts case hot cold → ArePositive ts → All (λ t. IsHeat t.heat) ts → AllCanBeLed case hot cold ts
+pub courses-are : (case : Case) (hot cold : List Part) (ts : List Transfer) → IsComplete case → AreCaseParts case hot cold → ArePositive ts → All (λ t. IsHeat t.heat) ts → AllCanBeLed case hot cold ts
     → (stream : ℕ) (course : Course) → slice_get (courses_of case hot cold ts) stream ≡ Some course → IsCourseOf (map (exchanger_of hot cold) (enumerate_from 0 ts)) stream course
 courses-are case hot cold ts complete parts positive heats led stream course at =
     let (s, here, is) = numbered-item (stream_course hot cold ts) 0 case.streams stream course at in

@@ -7,7 +7,7 @@ use Rattle.stream_case.specs.Limits.{IsHeat}
 use Rattle.stream_case.specs.declared.case.Case.{Case}
 use Rattle.stream_case.specs.declared.limits.TheConstants.{ALL_STREAMS}
 use Rattle.stream_case.specs.declared.source.Side.TheVariants as side
-use Rattle.design_lines.proofs.SensibleStreams.{IsSensibleCase}
+use Rattle.stream_case.specs.Case.{IsComplete}
 use Rattle.networks.specs.Shape.{HasShape, KeepsCounts}
 use Rattle.networks.specs.declared.limits.TheConstants.{MOST_EXCHANGERS}
 use Rattle.networks.specs.declared.network.Network.{Network}
@@ -66,7 +66,7 @@ KeepsCounts-network_of case hot cold transfers few_lines few = record {
   exchangers = omega (arith, ap length (exchangers_of-network_of case hot cold transfers), length-map (enumerate_from 0 transfers) (exchanger_of hot cold), length-enumerate_from 0 transfers, few);
 }
 
-pub AreLed-transfers : (case : Case) (hot cold : List Part) (transfers : List Transfer) → IsSensibleCase case → CanBeDrawn case hot cold transfers
+pub AreLed-transfers : (case : Case) (hot cold : List Part) (transfers : List Transfer) → IsComplete case → CanBeDrawn case hot cold transfers
     → AreLed case (map (exchanger_of hot cold) (enumerate_from 0 transfers)) (courses_of case hot cold transfers)
 AreLed-transfers case hot cold transfers complete can = record {
   declared = all-exchangers case hot cold transfers can.parts can.hot_indexes can.cold_indexes can.positive can.heats (omega (arith, can.few));
@@ -77,7 +77,7 @@ AreLed-transfers case hot cold transfers complete can = record {
   few = omega (arith, lines-upto case hot cold transfers, can.few, can.few_streams);
 }
 
-pub HasShape-network_of : (case : Case) (hot cold : List Part) (transfers : List Transfer) → IsSensibleCase case → CanBeDrawn case hot cold transfers → HasShape case (network_of case hot cold transfers)
+pub HasShape-network_of : (case : Case) (hot cold : List Part) (transfers : List Transfer) → IsComplete case → CanBeDrawn case hot cold transfers → HasShape case (network_of case hot cold transfers)
 HasShape-network_of case hot cold transfers complete can =
     subst (HasShape case) (sym (network_of-drawn case hot cold transfers))
-    (HasShape-drawn case (map (exchanger_of hot cold) (enumerate_from 0 transfers)) (courses_of case hot cold transfers) complete.complete (AreLed-transfers case hot cold transfers complete can))
+    (HasShape-drawn case (map (exchanger_of hot cold) (enumerate_from 0 transfers)) (courses_of case hot cold transfers) complete (AreLed-transfers case hot cold transfers complete can))

@@ -1,5 +1,5 @@
--- A heat flow of a case can be led: each part of a stream has a width and a transfer, and there are few transfers.
-use Rattle.std.proofs.Common.{◌≡◌, ◌∙◌, ◌<◌, ◌≤◌, ◌+◌, ◌-◌, ◌*◌, ◌^◌, ◌∷◌, ◌==◌, inl, inr, ℕ, zero, suc, ℤ, pos, ◌+ℤ◌, ◌-ℤ◌, ◌*ℤ◌, ◌<ℤ◌, Bool, true, false, cond, if◌then◌else◌, List, [], All, AllPairs, Some, None, get_or, slice_get, length, map, refl, sym, ap, subst, arith}
+-- A heat flow of a case can be led: each part of a stream has a transfer, and there are few transfers.
+use Rattle.std.proofs.Common.{◌≡◌, ◌∙◌, ◌<◌, ◌≤◌, ◌+◌, ◌-◌, ◌*◌, ◌^◌, ◌∷◌, ◌==◌, inl, inr, ℕ, zero, suc, ℤ, pos, ◌+ℤ◌, ◌<ℤ◌, Bool, true, false, cond, if◌then◌else◌, List, [], All, AllPairs, Some, None, get_or, slice_get, length, map, refl, sym, ap, subst, arith}
 use Rattle.std.specs.Prelude.{Option, count_by, nat_lt, reverse, sum_by}
 use Rattle.std.specs.List.{cons_option, enumerate_from, filter_map}
 use Rattle.std.proofs.Math.Nat.{mul-le-mul}
@@ -21,7 +21,9 @@ use Rattle.stream_case.specs.declared.source.Side.TheVariants as side
 use Rattle.stream_case.specs.declared.source.Source.TheVariants as source
 use Rattle.stream_case.specs.declared.stream.Stream.{Stream}
 use Rattle.stream_case.proofs.SourceLemmas.{same_source-true}
-use Rattle.design_lines.proofs.SensibleStreams.{AreSensibleStreams-case, IsSensibleCase, IsSensibleStream}
+use Rattle.stream_case.specs.Case.{IsComplete}
+use Rattle.stream_case.specs.Stream.{IsValidStream}
+use Rattle.stream_case.proofs.CompleteLemmas.{AreStreams-IsComplete}
 use Rattle.fractions.specs.Rationals.{ratio}
 use Rattle.networks.proofs.Lists.{all_at}
 use Rattle.design_lines.specs.Drawn.{Course, all_branches, course_branches}
@@ -30,11 +32,10 @@ use Rattle.design_lines.proofs.ListLemmas.{All-kept, sum_by-reverse}
 use Rattle.grid.specs.Grid.{IsGrid}
 use Rattle.grid.specs.Part.{AreCaseParts, AreParts, IsPartOf}
 use Rattle.grid.specs.declared.part.Part.{Part}
-use Rattle.grid.proofs.PlaceLemmas.{interval_falls}
 use Rattle.heat_flow.specs.Cuts.{parts_of}
 use Rattle.heat_flow.specs.Flow.{HaveParts, IsHeatFlow, KeepsRanges, heat_at, part_index, precedes}
 use Rattle.heat_flow.specs.declared.flow.Transfer.{Transfer}
-use Rattle.interval_design.proofs.SensibleParts.{sensible_heat, sensible_interval}
+use Rattle.interval_design.proofs.OwnParts.{fits}
 use Rattle.interval_design.specs.Courses.{AllCanBeLed, CanBeLed, course_of, courses_of, on_the_way, share_of, shares_of, stage_of, stream_course, width_of}
 use Rattle.interval_design.proofs.WayLemmas.{filter_map-reverse}
 
@@ -162,36 +163,25 @@ All-way P side.Cold parts each = All-reverse P (enumerate_from 0 parts) (All-num
 
 -- ---- the parts of a case
 
-record IsWide (p : Part) : Type 0 where
-  wide : 0 < width_of p
-  heat : pos 0 <ℤ p.least
-
-part_wide : (case : Case) (grid : List ℤ) (of : Side) (p : Part) (stream : ℕ) → IsSensibleCase case → IsGrid case grid → IsPartOf case.streams case.utilities grid of p → same_source p.source (source.Stream stream) ≡ true → IsWide p
-part_wide case grid of p stream complete is_grid (inl (i, s, is)) own =
-    let valid = all_at IsSensibleStream case.streams i s (AreSensibleStreams-case case complete).each is.stream in
-    let falls = interval_falls grid p.high p.low is_grid.ordered (sensible_interval grid s p.high p.low valid.sensible is.piece) in
-    let flow = valid.sensible.cp in
-    let length_positive : pos 0 <ℤ (p.high -ℤ p.low) = omega (arith, ints, falls) in
-    let cp_positive : pos 0 <ℤ s.cp = omega (arith, ints, flow.from) in
-    let least : p.least ≡ s.cp *ℤ (p.high -ℤ p.low) = ap (λ (q : Part). q.least) is.is ∙ sensible_heat s p.high p.low valid.sensible in
-    record { wide = omega (arith, ints, falls); heat = subst (λ h. pos 0 <ℤ h) (sym least) (product_positive s.cp (p.high -ℤ p.low) cp_positive length_positive) }
-part_wide case grid of p stream complete is_grid (inr (i, u, is)) own =
+-- each part of a stream has some heat
+part_heat : (case : Case) (grid : List ℤ) (of : Side) (p : Part) (stream : ℕ) → IsComplete case → IsGrid case grid → IsPartOf case.streams case.utilities grid of p → same_source p.source (source.Stream stream) ≡ true → pos 0 <ℤ p.least
+part_heat case grid of p stream complete is_grid (inl (i, s, is)) own =
+    let valid = all_at IsValidStream case.streams i s (AreStreams-IsComplete case complete).each is.stream in
+    let fit = fits grid s p valid is_grid.ordered is in
+    let wide : 0 < width_of p = omega arith in
+    subst (λ h. pos 0 <ℤ h) (sym fit.least) (product_positive (s.cp +ℤ s.load) (pos (width_of p)) fit.some (omega (arith, ints, wide)))
+part_heat case grid of p stream complete is_grid (inr (i, u, is)) own =
     let other : same_source p.source (source.Stream stream) ≡ false = ap (λ (q : Part). same_source q.source (source.Stream stream)) is.is in
     absurd (false≢true (sym other ∙ own))
 
-side_led : (case : Case) (grid : List ℤ) (of : Side) (parts : List Part) (ts : List Transfer) (stream : ℕ) → IsSensibleCase case → IsGrid case grid → AreParts case.streams case.utilities grid of parts → KeepsRanges of parts ts → CanBeLed of parts ts stream
+side_led : (case : Case) (grid : List ℤ) (of : Side) (parts : List Part) (ts : List Transfer) (stream : ℕ) → IsComplete case → IsGrid case grid → AreParts case.streams case.utilities grid of parts → KeepsRanges of parts ts → CanBeLed of parts ts stream
 side_led case grid of parts ts stream complete is_grid are ranges =
-    let wide : (i : ℕ) (p : Part) → slice_get parts i ≡ Some p → same_source p.source (source.Stream stream) ≡ true → IsWide p =
-    λ i p here own. part_wide case grid of p stream complete is_grid (all_at (IsPartOf case.streams case.utilities grid of) parts i p are.each here) own in
-    record {
-      wide = λ k d within own. (wide k (get_or parts k d) (slice_get-get_or parts k d within) own).wide;
-      used = stages-used of ts stream (on_the_way of (enumerate_from 0 parts)) (All-way (HasHeat of ts stream) of parts (λ i p here own.
-          let least = (wide i p here own).heat in
-          let range = ranges i p here in
-          omega (arith, ints, least, range.from)));
-    }
+    stages-used of ts stream (on_the_way of (enumerate_from 0 parts)) (All-way (HasHeat of ts stream) of parts (λ i p here own.
+    let least = part_heat case grid of p stream complete is_grid (all_at (IsPartOf case.streams case.utilities grid of) parts i p are.each here) own in
+    let range = ranges i p here in
+    omega (arith, ints, least, range.from)))
 
-pub all_led : (case : Case) (hot cold : List Part) (ts : List Transfer) → IsSensibleCase case → AreCaseParts case hot cold → KeepsRanges side.Hot hot ts → KeepsRanges side.Cold cold ts → AllCanBeLed case hot cold ts
+pub all_led : (case : Case) (hot cold : List Part) (ts : List Transfer) → IsComplete case → AreCaseParts case hot cold → KeepsRanges side.Hot hot ts → KeepsRanges side.Cold cold ts → AllCanBeLed case hot cold ts
 all_led case hot cold ts complete parts hots colds number s here = by s.side
   where
     by : (of : Side) → CanBeLed of (parts_of of hot cold) ts number
@@ -305,5 +295,5 @@ pub all-fit : (case : Case) (hot cold : List Part) (ts : List Transfer) → leng
 all-fit case hot cold ts few_streams few led =
     let courses = courses_of case hot cold ts in
     let used = All-map (All (λ (ss : List Share). 0 < length ss)) (stream_course hot cold ts) (enumerate_from 0 case.streams)
-    (All-numbered (λ ((number, s) : ℕ × Stream). All (λ (ss : List Share). 0 < length ss) (stream_course hot cold ts (number, s))) case.streams (λ i s here. (led i s here).used)) in
+    (All-numbered (λ ((number, s) : ℕ × Stream). All (λ (ss : List Share). 0 < length ss) (stream_course hot cold ts (number, s))) case.streams (λ i s here. led i s here)) in
     omega (arith, branches-all courses used, all-total-is courses, few-shares case hot cold ts, few_streams, few)

@@ -8,13 +8,14 @@ pub mod PartValues
 pub mod StreamValues
 pub mod NetworkValues
 pub mod TransferExchangers
-pub mod SensibleParts
+pub mod OwnParts
 pub mod ShareLemmas
 pub mod CourseShape
 pub mod TurnLemmas
 pub mod DesignShape
-pub mod PassTemperatures
+pub mod PassStates
 pub mod Approaches
+pub mod LoadsKept
 pub mod Permitted
 pub mod Ranges
 pub mod NetworkValid

@@ -6,7 +6,7 @@ use Rattle.std.proofs.lemmas.List.{length-map}
 use Rattle.std.proofs.lemmas.List.FromFn.{length-enumerate_from}
 use Rattle.std.proofs.lemmas.Simd.{map-map}
 use Rattle.stream_case.specs.declared.case.Case.{Case}
-use Rattle.design_lines.proofs.SensibleStreams.{IsSensibleCase}
+use Rattle.stream_case.specs.Case.{IsComplete}
 use Rattle.networks.specs.Shape.{HasShape}
 use Rattle.network_values.specs.Values.{ended_streams, first_value}
 use Rattle.network_audit.specs.Valid.{IsValidNetwork}
@@ -21,11 +21,12 @@ use Rattle.heat_flow.specs.declared.flow.Transfer.{Transfer}
 use Rattle.interval_design.specs.Courses.{exchanger_of, network_of}
 use Rattle.interval_design.specs.Values.{led_course, led_courses}
 use Rattle.interval_design.proofs.Approaches.{keeps_approaches}
+use Rattle.interval_design.proofs.LoadsKept.{network_keeps_loads}
 use Rattle.interval_design.proofs.NetworkValues.{all_led_network, courses_along-led, network_valued}
 use Rattle.interval_design.proofs.Permitted.{all_permitted}
 use Rattle.interval_design.proofs.Ranges.{utility_in_range}
 
-module _ (case : Case) (hot cold : List Part) (ts : List Transfer) (complete : IsSensibleCase case) (parts : AreCaseParts case hot cold) (flow : IsHeatFlow (reach_between case hot cold) hot cold ts) where
+module _ (case : Case) (hot cold : List Part) (ts : List Transfer) (complete : IsComplete case) (parts : AreCaseParts case hot cold) (flow : IsHeatFlow (reach_between case hot cold) hot cold ts) where
   streams_ended : (stream : ℕ) → stream < length case.streams → Contains (ended_streams (network_of case hot cold ts)) stream
   unfolding network_of
   streams_ended stream within =
@@ -45,6 +46,7 @@ module _ (case : Case) (hot cold : List Part) (ts : List Transfer) (complete : I
         values = map first_value case.streams ++ courses_values (led_courses case hot cold ts);
         valuation = valued.valuation;
         ended = record { full = valued.full; each = streams_ended };
+        loads = network_keeps_loads case hot cold ts complete parts flow shape valued.valuation;
         approaches = keeps_approaches case hot cold ts complete parts flow shape;
         permitted = all_permitted case hot cold ts flow;
         ranges = λ index u here. utility_in_range case hot cold ts parts flow index u here;

@@ -7,7 +7,7 @@ use Rattle.std.proofs.lemmas.List.FromFn.{length-enumerate_from}
 use Rattle.std.proofs.lemmas.Option.{same_Some, slice_get-map, slice_get_cases, slice_get_within}
 use Rattle.stream_case.specs.declared.case.Case.{Case}
 use Rattle.stream_case.specs.declared.stream.Stream.{Stream}
-use Rattle.design_lines.proofs.SensibleStreams.{IsSensibleCase}
+use Rattle.stream_case.specs.Case.{IsComplete}
 use Rattle.networks.specs.Lines.{own_branches}
 use Rattle.networks.specs.Shape.{HasShape}
 use Rattle.networks.specs.declared.network.Network.{Network}
@@ -39,7 +39,7 @@ declared_make case network hot cold values [] = make_none case network values
 declared_make case network hot cold values ((number, t) ∷ es) =
     make_line case network values (declared_line (exchanger_of hot cold (number, t))) (map (λ e. declared_line (exchanger_of hot cold e)) es) [] [] refl tt (declared_make case network hot cold (values ++ []) es)
 
-module _ (case : Case) (hot cold : List Part) (ts : List Transfer) (complete : IsSensibleCase case) (parts : AreCaseParts case hot cold) (flow : IsHeatFlow (reach_between case hot cold) hot cold ts) where
+module _ (case : Case) (hot cold : List Part) (ts : List Transfer) (complete : IsComplete case) (parts : AreCaseParts case hot cold) (flow : IsHeatFlow (reach_between case hot cold) hot cold ts) where
   each_led : IsEachLed case (network_of case hot cold ts) 0 (led_courses case hot cold ts)
   each_led k course there = by (slice_get_cases case.streams k).1
     where

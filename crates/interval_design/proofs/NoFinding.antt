@@ -6,7 +6,7 @@ use Rattle.std.proofs.lemmas.List.Elements.{All-map, All-weaker}
 use Rattle.sums.proofs.EnumerationLemmas.{All-enumerated}
 use Rattle.stream_case.specs.Limits.{IsHeat}
 use Rattle.stream_case.specs.declared.case.Case.{Case}
-use Rattle.design_lines.proofs.SensibleStreams.{IsSensibleCase}
+use Rattle.stream_case.specs.Case.{IsComplete}
 use Rattle.networks.specs.Lines.{Exchanger, exchangers_of}
 use Rattle.networks.specs.Shape.{HasShape}
 use Rattle.networks.proofs.Lists.{all_at}
@@ -40,7 +40,7 @@ duties_whole case hot cold ts heats =
     let upto = is.upto in
     sized-whole 1 most_heat t.heat (omega arith) (omega (arith, ints, from, upto)))))
 
-pub network_has_no_finding : (case : Case) (hot cold : List Part) (ts : List Transfer) → IsSensibleCase case → AreCaseParts case hot cold → IsHeatFlow (reach_between case hot cold) hot cold ts → All (λ t. IsHeat t.heat) ts
+pub network_has_no_finding : (case : Case) (hot cold : List Part) (ts : List Transfer) → IsComplete case → AreCaseParts case hot cold → IsHeatFlow (reach_between case hot cold) hot cold ts → All (λ t. IsHeat t.heat) ts
     → HasShape case (network_of case hot cold ts) → IsValidNetwork case (network_of case hot cold ts) → HasNoFinding case (network_of case hot cold ts)
 network_has_no_finding case hot cold ts complete parts flow heats shape valid =
     let network = network_of case hot cold ts in
@@ -50,4 +50,4 @@ network_has_no_finding case hot cold ts complete parts flow heats shape valid =
       branches = All-weaker IsPlain IsRoomy plain_roomy values plain;
       changes = λ k from exchanger to here. plain_change (branch_side case network from) (value_at values from) (value_at values to) (each_value IsPlain plain_none values plain from) (each_value IsPlain plain_none values plain to);
     } in
-    no_finding_from_duties case network values complete.complete shape (network_valued case hot cold ts complete parts flow shape).valuation valid room (duties_whole case hot cold ts heats)
+    no_finding_from_duties case network values complete shape (network_valued case hot cold ts complete parts flow shape).valuation valid room (duties_whole case hot cold ts heats)

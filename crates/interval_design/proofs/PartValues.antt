@@ -1,5 +1,5 @@
--- In each part of a stream the shares are the whole stream, and the exchangers bring them from the one end of the part to the other.
-use Rattle.std.proofs.Common.{◌≡◌, ◌∙◌, ◌<◌, ◌+◌, ◌∷◌, ◌==◌, ℕ, ℤ, pos, ◌+ℤ◌, ◌-ℤ◌, ◌*ℤ◌, ◌<ℤ◌, Bool, true, false, if◌then◌else◌, List, [], All, Some, None, get_or, slice_get, sym, ap, arith}
+-- In each part of a stream the shares are the whole stream, and the exchangers bring them from the one state to the other.
+use Rattle.std.proofs.Common.{◌≡◌, ◌∙◌, ◌<◌, ◌+◌, ◌∷◌, ◌==◌, ℕ, ℤ, pos, ◌+ℤ◌, ◌*ℤ◌, ◌<ℤ◌, Bool, true, false, if◌then◌else◌, List, [], All, Some, None, get_or, slice_get, sym, ap, arith}
 use Rattle.std.specs.Prelude.{option_map}
 use Rattle.std.specs.List.{cons_option, enumerate_from, filter_map}
 use Rattle.std.proofs.lemmas.Int.{ints}
@@ -8,12 +8,11 @@ use Rattle.std.proofs.lemmas.List.FromFn.{get_or-enumerate_from, length-enumerat
 use Rattle.std.proofs.lemmas.Option.{get_or_from_slice_get, slice_get-get_or, slice_get-map, slice_get_within}
 use Rattle.stream_case.specs.declared.case.Case.{Case}
 use Rattle.stream_case.specs.declared.source.Side.{Side}
-use Rattle.stream_case.specs.declared.source.Side.TheVariants as side
 use Rattle.stream_case.specs.declared.stream.Stream.{Stream}
 use Rattle.fractions.specs.Rationals.{IsBelow, plus, ratio, rational_zero, times, whole}
 use Rattle.fractions.proofs.Comparisons.{positive-ratio}
 use Rattle.fractions.proofs.Ratios.{plus-ratio_same_den, ratio-zero}
-use Rattle.fractions.proofs.Wholes.{ratio-multiple, ratio-times_den, whole-minus}
+use Rattle.fractions.proofs.Wholes.{ratio-multiple, ratio-times_den}
 use Rattle.networks.proofs.Lists.{all_at}
 use Rattle.network_values.specs.Values.{change, duty_at, duty_of, full_size}
 use Rattle.design_lines.specs.Values.{IsLedStage, size_of}
@@ -23,9 +22,10 @@ use Rattle.grid.specs.declared.part.Part.{Part}
 use Rattle.heat_flow.specs.Flow.{ArePositive, heat_at, part_index}
 use Rattle.heat_flow.specs.declared.flow.Transfer.{Transfer}
 use Rattle.interval_design.specs.Courses.{exchanger_of, network_of, share_of, shares_of, width_of}
-use Rattle.interval_design.specs.Values.{actual, entered_at, led_part, left_at}
+use Rattle.interval_design.specs.Values.{entered_state, led_part, left_state}
 use Rattle.interval_design.proofs.ExchangerLemmas.{exchangers_of-network_of}
 use Rattle.interval_design.proofs.FlowLemmas.{All-numbered, some_share}
+use Rattle.interval_design.proofs.OwnParts.{FitsStream}
 
 -- ---- the shares of a part
 
@@ -64,36 +64,26 @@ duty-network_of case hot cold ts number t here =
 
 -- ---- a part
 
--- a part of this width, through which the stream gives or takes all its heat
+-- a part through which the stream gives or takes all its heat there
 pub record IsOwnPart (s : Stream) (ts : List Transfer) (index : ℕ) (p : Part) : Type 0 where
-  pub falls : p.low <ℤ p.high
-  pub flow : pos 0 <ℤ s.cp
-  pub heat : heat_at s.side ts index ≡ s.cp *ℤ (p.high -ℤ p.low)
+  pub fits : FitsStream s p
+  pub heat : heat_at s.side ts index ≡ (s.cp +ℤ s.load) *ℤ pos (width_of p)
   pub some : pos 0 <ℤ heat_at s.side ts index
-
-change_over : (of : Side) (p : Part) (c : ℤ) → change of (whole (actual of (entered_at of p) c)) (whole (actual of (left_at of p) c)) ≡ whole (p.high -ℤ p.low)
-change_over side.Hot p c = let same : (p.high +ℤ c) -ℤ (p.low +ℤ c) ≡ p.high -ℤ p.low = omega (arith, ints) in whole-minus (p.high +ℤ c) (p.low +ℤ c) ∙ ap whole same
-change_over side.Cold p c = let same : (p.high -ℤ c) -ℤ (p.low -ℤ c) ≡ p.high -ℤ p.low = omega (arith, ints) in whole-minus (p.high -ℤ c) (p.low -ℤ c) ∙ ap whole same
 
 pub part_led : (case : Case) (hot cold : List Part) (ts : List Transfer) (s : Stream) (index : ℕ) (p : Part) → ArePositive ts → IsOwnPart s ts index p
     → IsLedStage (network_of case hot cold ts) s.side (full_size s) (led_part s ts (index, p))
 unfolding shares_of
 part_led case hot cold ts s index p positive own =
-    let falls = own.falls in
     let width = width_of p in
-    let wide : 0 < width = omega (arith, ints, falls) in
-    let width_is : p.high -ℤ p.low ≡ pos width = omega (arith, ints, falls) in
+    let wide : 0 < width = omega arith in
     let network = network_of case hot cold ts in
-    let before = whole (actual s.side (entered_at s.side p) s.contribution) in
-    let after = whole (actual s.side (left_at s.side p) s.contribution) in
-    let over_width : change s.side before after ≡ whole (pos width) = change_over s.side p s.contribution ∙ ap whole width_is in
-    let D : Share → Type 0 = λ a. times a.cp (change s.side before after) ≡ duty_at network a.exchanger in
+    let D : Share → Type 0 = λ a. times a.cp (change s.side (entered_state s p) (left_state s p)) ≡ duty_at network a.exchanger in
     record {
       some = some_share s.side ts index width own.some;
       positive = shares_each (λ a. IsBelow rational_zero a.cp) s.side index width (enumerate_from 0 ts)
           (All-numbered (λ e. IsBelow rational_zero (ratio e.1.heat width)) ts (λ i t here. positive-ratio t.heat width wide (all_at (λ (u : Transfer). pos 0 <ℤ u.heat) ts i t positive here)));
-      sizes = size-shares s.side index width 0 ts ∙ ap (λ h. ratio h width) (own.heat ∙ ap (λ w. s.cp *ℤ w) width_is) ∙ ratio-multiple s.cp width wide;
+      sizes = size-shares s.side index width 0 ts ∙ ap (λ h. ratio h width) own.heat ∙ ratio-multiple (s.cp +ℤ s.load) width wide;
       duties = shares_each D s.side index width (enumerate_from 0 ts)
           (All-numbered (λ e. D (record { exchanger = e.0; cp = ratio e.1.heat width })) ts (λ i t here.
-          ap (times (ratio t.heat width)) over_width ∙ ratio-times_den t.heat width wide ∙ sym (duty-network_of case hot cold ts i t here)));
+          ap (times (ratio t.heat width)) own.fits.change_is ∙ ratio-times_den t.heat width wide ∙ sym (duty-network_of case hot cold ts i t here)));
     }

@@ -1,5 +1,5 @@
 -- The network of a heat flow: an exchanger for each transfer, and each stream led through its parts.
-use Rattle.std.specs.Prelude.{◌≡◌, ◌<◌, ℕ, true, All, ◌==◌, ◌-◌, ◌-ℤ◌, unsigned_abs, List, ◌++◌, length, map, reverse, Option, Some, None, slice_get, if◌then◌else◌}
+use Rattle.std.specs.Prelude.{◌≡◌, ℕ, ◌==◌, ◌-◌, ◌-ℤ◌, max, unsigned_abs, List, ◌++◌, length, map, reverse, Option, Some, None, slice_get, if◌then◌else◌}
 use Rattle.std.specs.List.{enumerate_from, filter_map}
 use Rattle.std.specs.Option.{option_map_or}
 use Rattle.stream_case.specs.Source.{same_source}
@@ -13,6 +13,7 @@ use Rattle.fractions.specs.Rationals.{ratio, whole}
 use Rattle.networks.specs.Lines.{Exchanger, own_branches}
 use Rattle.networks.specs.declared.network.Network.{Network}
 use Rattle.design_lines.specs.Drawn.{Course, courses_lines, declared_line, made_branches}
+use Rattle.design_lines.specs.Led.{AreStages}
 use Rattle.design_lines.specs.Names.{exchanger_name}
 use Rattle.design_lines.specs.declared.stage.Share.{Share}
 use Rattle.grid.specs.declared.part.Part.{Part}
@@ -20,11 +21,11 @@ use Rattle.heat_flow.specs.Cuts.{parts_of}
 use Rattle.heat_flow.specs.Flow.{part_index}
 use Rattle.heat_flow.specs.declared.flow.Transfer.{Transfer}
 
--- the width of a part, in tenths of a degree
+-- the width of a part, in tenths of a degree; a latent stream's part has none, and 1 stands for it
 abbrev pub width_of : Part → ℕ
-width_of p = unsigned_abs (p.high -ℤ p.low)
+width_of p = max 1 (unsigned_abs (p.high -ℤ p.low))
 
--- the share of a transfer in the part at an index: the exchanger of the transfer, and its heat over the width
+-- the share of a transfer in the part at an index: the exchanger of the transfer, and its heat over the width, which is its heat in the part of a latent stream
 abbrev pub share_of : Side → ℕ → ℕ → ℕ × Transfer → Option Share
 share_of of index width (number, t) = if part_index of t == index then Some (record { exchanger = number; cp = ratio t.heat width }) else None
 
@@ -56,10 +57,9 @@ stream_course hot cold transfers (number, s) = course_of s.side (parts_of s.side
 abbrev pub courses_of : Case → List Part → List Part → List Transfer → List Course
 courses_of case hot cold transfers = map (stream_course hot cold transfers) (enumerate_from 0 case.streams)
 
--- each part of the stream has a width and a share, so that its course can be led
-pub record CanBeLed (of : Side) (parts : List Part) (transfers : List Transfer) (stream : ℕ) : Type 0 where
-  pub wide : All (λ p. same_source p.source (source.Stream stream) ≡ true → 0 < width_of p) parts
-  pub used : All (λ shares. 0 < length shares) (course_of of parts transfers stream)
+-- each part of the stream has a share, so that its course can be led
+abbrev pub CanBeLed : Side → List Part → List Transfer → ℕ → Type 0
+CanBeLed of parts transfers stream = AreStages (course_of of parts transfers stream)
 
 -- the same of all streams
 abbrev pub AllCanBeLed : Case → List Part → List Part → List Transfer → Type 0

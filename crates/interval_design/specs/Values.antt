@@ -1,13 +1,15 @@
--- The temperatures between which a heat flow leads the streams: those of the ends of their parts.
+-- The states between which a heat flow leads the streams: the temperatures of the ends of their parts, or the first and last parts of a load.
 use Rattle.std.specs.Prelude.{ℕ, ◌+ℤ◌, ◌-ℤ◌, ℤ, List, map, Option, Some, None, if◌then◌else◌}
 use Rattle.std.specs.List.{enumerate_from, filter_map}
 use Rattle.stream_case.specs.Source.{same_source}
+use Rattle.stream_case.specs.Stream.{is_latent}
 use Rattle.stream_case.specs.declared.case.Case.{Case}
 use Rattle.stream_case.specs.declared.source.Side.{Side}
 use Rattle.stream_case.specs.declared.source.Side.TheVariants as side
 use Rattle.stream_case.specs.declared.source.Source.TheVariants as source
 use Rattle.stream_case.specs.declared.stream.Stream.{Stream}
-use Rattle.fractions.specs.Rationals.{whole}
+use Rattle.fractions.specs.Rationals.{Rational, whole}
+use Rattle.network_values.specs.Values.{first_state, last_state}
 use Rattle.design_lines.specs.Values.{LedStage}
 use Rattle.grid.specs.declared.part.Part.{Part}
 use Rattle.heat_flow.specs.Cuts.{parts_of}
@@ -28,11 +30,18 @@ abbrev pub left_at : Side → Part → ℤ
 left_at side.Hot p = p.low
 left_at side.Cold p = p.high
 
+-- the state of a stream where it comes into a part, and where it leaves it; a latent stream has one part, which takes it from its first state to its last
+abbrev pub entered_state : Stream → Part → Rational
+entered_state s p = if is_latent s then first_state s else whole (actual s.side (entered_at s.side p) s.contribution)
+
+abbrev pub left_state : Stream → Part → Rational
+left_state s p = if is_latent s then last_state s else whole (actual s.side (left_at s.side p) s.contribution)
+
 -- a stream in one of its parts
 abbrev pub led_part : Stream → List Transfer → ℕ × Part → LedStage
 led_part s transfers (index, p) = record {
-  before = whole (actual s.side (entered_at s.side p) s.contribution);
-  after = whole (actual s.side (left_at s.side p) s.contribution);
+  before = entered_state s p;
+  after = left_state s p;
   shares = shares_of s.side index (width_of p) transfers;
 }
 

@@ -5,7 +5,6 @@ ghost use Rattle.std.specs.List.{enumerate_from};
 ghost use Rattle.stream_case.specs.Limits.{IsHeat};
 ghost use Rattle.heat_flow.specs.Cuts.{parts_of};
 ghost use Rattle.stream_case.specs.Case.{IsComplete, IsStandard};
-ghost use Rattle.stream_case.specs.Stream.{AreSensible};
 ghost use Rattle.grid.specs.Part.{AreCaseParts};
 ghost use Rattle.problem_table.specs.Deficit.{hot_target};
 ghost use Rattle.fractions.specs.Rationals.{rational_zero};
@@ -88,9 +87,9 @@ fn push_courses(
     Ok(())
 }
 
-/// The network of a heat flow of a completed case without latent streams. Each transfer becomes one
-/// exchanger, between the sources of its two parts and with its heat as duty, in W, and each stream
-/// is led through its parts. The network has the shape that the grammar of networks asks for, and,
+/// The network of a heat flow of a completed case. Each transfer becomes one exchanger, between the
+/// sources of its two parts and with its heat as duty, in W, and each stream is led through its
+/// parts. The network has the shape that the grammar of networks asks for, and,
 /// where the flow has fewer transfers than parts, at most as many exchangers and lines as a text
 /// may have, and few lines. It is valid: each stream is led to its target, each exchanger keeps its
 /// approach, no match is forbidden, and each utility is in its range; its audit has no finding. Its
@@ -99,7 +98,6 @@ fn push_courses(
 #[tactic(auto, unfolding(crate::specs::Courses::network_of))]
 pub fn design(alloc: Global, case: &Case, parts: &Parts, flow: &Flow) -> Result<Network, AllocError>
     requires complete { IsComplete case.now }
-    requires sensible { AreSensible case.now.streams }
     requires parts { AreCaseParts case.now parts.now.hot parts.now.cold }
     requires flow { IsHeatFlow
         (reach_between case.now parts.now.hot parts.now.cold) parts.now.hot parts.now.cold

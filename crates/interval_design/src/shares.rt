@@ -13,14 +13,16 @@ use heat_flow::Transfer;
 use std::alloc::{AllocError, Global};
 use stream_case::Side;
 
-/// The width of a part of a stream, in tenths of a degree.
+/// The width of a part of a stream, in tenths of a degree; 1 for a latent stream, whose part has
+/// none.
 pub(crate) fn width_of(part: &Part) -> u32
     ensures { result ≡ width_of part.now }
 {
-    part.high.abs_diff(part.low)
+    part.high.abs_diff(part.low).max(1)
 }
 
-/// The heat of a transfer over a width, which is a heat-capacity flow in 10 W/K.
+/// The heat of a transfer over a width: a heat-capacity flow in 10 W/K, or a load in W where the
+/// width is 1.
 fn flow_of(transfer: &Transfer, width: u32) -> Frac
     requires heat { IsHeat transfer.now.heat }
     requires wide { 0 < width }

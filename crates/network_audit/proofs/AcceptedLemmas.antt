@@ -1,11 +1,10 @@
 -- What is known of a network that an auditor has accepted.
 use Rattle.std.proofs.Common.{Some, subst}
-use Rattle.network_audit.proofs.Words.{AreSensible, Audit, Case, HasAccepted, HasShape, IsComplete, IsFaultless, IsValidNetwork, KnowsItsNetwork, Network}
-use Rattle.network_audit.proofs.ValidLemmas.{valid_network}
+use Rattle.network_audit.proofs.Words.{Audit, Case, HasAccepted, HasShape, IsComplete, IsFaultless, IsValidNetwork, KnowsItsNetwork, Network}
+use Rattle.network_audit.proofs.ValidLemmas.{valid_from_none}
 
 pub record IsKnown (case : Case) (network : Network) : Type 0 where
   pub complete : IsComplete case
-  pub sensible : AreSensible case.streams
   pub shape : HasShape case network
   pub valid : IsValidNetwork case network
 
@@ -19,7 +18,6 @@ module _ (audit : Audit) (case : Case) (network : Network) (accepted : HasAccept
   pub known_network : IsKnown case network
   known_network = record {
     complete = known_here.complete;
-    sensible = known_here.sensible;
     shape = known_here.shape;
-    valid = valid_network case network (record { values = accepted.values; valuation = faultless_values.valuation; none = faultless_values.none });
+    valid = valid_from_none case network accepted.values known_here.shape faultless_values.valuation faultless_values.none;
   }

@@ -1,10 +1,10 @@
 -- No test of a valid network fails, and so what is rejected is not valid.
-use Rattle.std.proofs.Common.{◌≡◌, ◌∙◌, ◌<◌, ◌+◌, ◌-◌, ◌∷◌, ◌++◌, ℕ, Bool, true, false, not, List, [], Option, Some, None, All, slice_get, length, map, refl, sym, ap, subst, arith, if◌then◌else◌, flat_map}
+use Rattle.std.proofs.Common.{◌≡◌, ◌∙◌, ◌<◌, ◌+◌, ◌-◌, ◌∷◌, ◌++◌, ℕ, pos, Bool, true, false, not, List, [], Option, Some, None, All, slice_get, length, map, refl, sym, ap, subst, arith, if◌then◌else◌, flat_map}
 use Rattle.std.specs.List.{enumerate_from}
 use Rattle.std.proofs.lemmas.Bool.{false≢true}
 use Rattle.std.proofs.lemmas.List.Elements.{All-append, All-cons, All-from_recursion, All-head, All-nil}
 use Rattle.std.proofs.lemmas.Option.{slice_get_within}
-use Rattle.network_audit.proofs.Words.{AreEnded, BranchValue, Case, Decides-rational_eq, Exchanger, HasShape, IsFinding, IsFullEnd, IsInRange, IsPermitted, IsValidNetwork, IsValuation, IsWholeValuation, Item, KeepsApproach, Line, Network, Place, Rational, Reason, Step, Stream, Test, Utility, Valuation, balance_items, branch_side, cost_steps, duties_with, duty_at, end_items, ended_by, ended_streams, excess_of, exchanger_items, exchanger_items_at, exchangers_of, finding_of, first_finding, front, full_size, heat_price, heat_with, heats_on, is_below, is_ended, is_forbidden, is_passed, items, items_behind, last_state, last_value, line_items, made_before, mean_items, pass_items, plus, range_items, rational_eq, rational_zero, split_items, statement_items, stream_at, stream_items, stream_items_at, sum_steps, utility_items, utility_items_at, value_at, whole}
+use Rattle.network_audit.proofs.Words.{AreEnded, BranchValue, Case, Decides-rational_eq, Exchanger, HasShape, IsFinding, IsFullEnd, IsInRange, IsPartOfLoad, IsPermitted, IsValidNetwork, IsValuation, IsWholeValuation, Item, KeepLoads, KeepsApproach, Line, Network, Place, Rational, Reason, Step, Stream, Test, Utility, Valuation, balance_items, cost_steps, duties_with, duty_at, end_items, ended_by, ended_streams, excess_of, exchanger_items, exchanger_items_at, exchangers_of, finding_of, first_finding, front, full_size, heat_price, heat_with, heats_on, is_below, is_ended, is_forbidden, is_latent_branch, is_passed, items, items_behind, last_state, last_value, line_items, load_items, made_before, mean_items, over, plus, range_items, rational_eq, rational_zero, split_items, statement_items, stream_at, stream_items, stream_items_at, sum_steps, utility_items, utility_items_at, value_at, whole}
 use Rattle.stream_case.specs.declared.source.Side.TheVariants as side
 use Rattle.fractions.proofs.Comparisons.{Decides-is_below, Decides-not_below}
 use Rattle.networks.specs.declared.network.Line.TheVariants as line
@@ -13,6 +13,7 @@ use Rattle.networks.proofs.OfShape.{line_of}
 use Rattle.network_values.proofs.ValuationLemmas.{agree-take, room_left, valuation_front}
 use Rattle.network_audit.specs.declared.findings.Finding.TheVariants as finding
 use Rattle.network_audit.specs.declared.findings.Place.TheVariants as place
+use Rattle.network_audit.proofs.BehindPass.{behind_latent, behind_state, behind_there, state_behind}
 use Rattle.network_audit.proofs.FindingLemmas.{found-whole}
 use Rattle.network_audit.proofs.FoundLemmas.{each-items, found-item}
 use Rattle.network_audit.proofs.ValidLemmas.{contains-ended, each-ends, items-whole}
@@ -75,18 +76,32 @@ sound-end at value (Some s) full =
     let is = full s refl in
     All-from_recursion IsSound (end_items at value (Some s)) ((Decides-rational_eq value.cp (full_size s)).1 (ap (λ v. v.cp) is), ((Decides-rational_eq value.t (last_state s)).1 (ap (λ v. v.t) is), tt))
 
-line_sound : (case : Case) (network : Network) (values : Valuation) (k : ℕ) (l : Line) → HasShape case network → IsWholeValuation case network values → AreEnded case network values → slice_get network.lines k ≡ Some l → AreSound (line_items case network values (place.Line (k + 1)) l)
+sound-load : (at : Place) (latent : Bool) (state : Rational) → (latent ≡ true → IsPartOfLoad state) → AreSound (load_items at latent state)
+sound-load at false state keeps = sound-none
+sound-load at true state keeps =
+    let part = keeps refl in
+    All-from_recursion IsSound (load_items at true state)
+    ((Decides-not_below state rational_zero).1 part.least, ((Decides-not_below (whole (pos 1)) state).1 part.most, tt))
+
+line_sound : (case : Case) (network : Network) (values : Valuation) (k : ℕ) (l : Line) → HasShape case network → IsWholeValuation case network values
+    → AreEnded case network values → KeepLoads case network values → slice_get network.lines k ≡ Some l
+    → AreSound (line_items case network values (place.Line (k + 1)) l)
 unfolding ended_by
-line_sound case network values k (line.Exchanger name hot cold duty) shape valuation ended at = sound-none
-line_sound case network values k (line.Split from first cp second) shape valuation ended at =
+line_sound case network values k (line.Exchanger name hot cold duty) shape valuation ended loads at = sound-none
+line_sound case network values k (line.Split from first cp second) shape valuation ended loads at =
     All-from_recursion IsSound (split_items (place.Line (k + 1)) (value_at values from) cp) (room-whole case network values k from first second cp shape valuation at, (tt, tt))
-line_sound case network values k (line.Pass from exchanger to) shape valuation ended at =
-    All-from_recursion IsSound (pass_items (place.Line (k + 1)) (branch_side case network from) (value_at values from) (duty_at network exchanger)) (tt, (tt, tt))
-line_sound case network values k (line.Mix first second to) shape valuation ended at =
+line_sound case network values k (line.Pass from exchanger to) shape valuation ended loads at =
+    let here = place.Line (k + 1) in let latent = is_latent_branch case network from in
+    let by = over (duty_at network exchanger) (value_at values from).cp in let state = state_behind case network values from exchanger in
+    let keeps : latent ≡ true → IsPartOfLoad state =
+    λ is. subst IsPartOfLoad (behind_state shape valuation k at) (loads to (behind_there shape valuation k at) (behind_latent shape valuation k at ∙ is)) in
+    sound-step here 1 by (Step here 2 state ∷ load_items here latent state)
+    (sound-step here 2 state (load_items here latent state) (sound-load here latent state keeps))
+line_sound case network values k (line.Mix first second to) shape valuation ended loads at =
     let one = value_at values first in let two = value_at values second in
     let means = mean_items (place.Line (k + 1)) one two (plus one.cp two.cp) in
     sound-step (place.Line (k + 1)) 1 (plus one.cp two.cp) (if rational_eq one.t two.t then [] else means) (sound-if (rational_eq one.t two.t) means (All-from_recursion IsSound means (tt, (tt, (tt, (tt, tt))))))
-line_sound case network values k (line.End branch) shape valuation ended at =
+line_sound case network values k (line.End branch) shape valuation ended loads at =
     sound-end (place.Line (k + 1)) (value_at values branch) (slice_get case.streams (stream_at network.branches branch))
     (All-head (IsFullEnd case network values) branch [] (each-ends (IsFullEnd case network values) network.lines k (line.End branch) ended.full at))
 
@@ -121,7 +136,8 @@ all_sound case network shape valid =
     let values = valid.values in let es = exchangers_of network.lines in
     subst AreSound (sym (items-whole case network values))
     (All-append IsSound (flat_map (statement_items case network values) (enumerate_from 0 network.lines)) (items_behind case network values)
-    (each-items IsSound (statement_items case network values) network.lines (λ k l at. line_sound case network values k l shape valid.valuation valid.ended at))
+    (each-items IsSound (statement_items case network values) network.lines
+    (λ k l at. line_sound case network values k l shape valid.valuation valid.ended valid.loads at))
     (All-append IsSound (stream_items case network) (exchanger_items case network values ++ (utility_items case network ++ balance_items case network))
     (each-items IsSound (stream_items_at network) case.streams (λ index s at. stream_sound case network values index s valid.ended at))
     (All-append IsSound (exchanger_items case network values) (utility_items case network ++ balance_items case network)

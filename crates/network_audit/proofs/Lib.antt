@@ -8,6 +8,7 @@ pub mod TableLemmas
 pub mod HeatLemmas
 pub mod BalanceLemmas
 pub mod FindingLemmas
+pub mod BehindPass
 pub mod ValidLemmas
 pub mod AuditLemmas
 pub mod InvalidLemmas

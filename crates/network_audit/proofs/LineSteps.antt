@@ -1,5 +1,5 @@
 -- The numbers that statements and exchangers form are within the limits where what the branches carry leaves room.
-use Rattle.std.proofs.Common.{◌≡◌, ◌∙◌, ◌+◌, ◌*◌, ◌<◌, ◌≤◌, ◌+ℤ◌, ⊎_elim, ℕ, ℤ, pos, Bool, true, false, List, [], Option, Some, None, All, slice_get, length, unsigned_abs, refl, sym, ap, subst, arith, if◌then◌else◌}
+use Rattle.std.proofs.Common.{◌≡◌, ◌∙◌, ◌∷◌, ◌+◌, ◌*◌, ◌<◌, ◌≤◌, ◌+ℤ◌, ⊎_elim, ℕ, ℤ, pos, Bool, true, false, List, [], Option, Some, None, All, slice_get, length, unsigned_abs, refl, sym, ap, subst, arith, if◌then◌else◌}
 use Rattle.std.specs.Option.{option_map_or}
 use Rattle.std.proofs.Math.Nat.{mul-le-mul, mul-pos}
 use Rattle.std.proofs.lemmas.Option.{same_Some}
@@ -7,7 +7,7 @@ use Rattle.std.proofs.lemmas.Bool.{cases_lt}
 use Rattle.std.proofs.lemmas.Int.{ints}
 use Rattle.std.proofs.lemmas.List.{get_or_past}
 use Rattle.std.proofs.lemmas.List.Elements.{All-from_recursion}
-use Rattle.network_audit.proofs.Words.{BranchValue, Case, Exchanger, HasShape, IsBelow, IsBetween, IsComplete, IsContribution, IsFormed, IsLevel, IsMix, IsPass, IsSplit, IsValidStream, IsWholeValuation, IsWithinLimits, Item, Line, MOST_CONTRIBUTION, Network, Place, Rational, Side, Solves, Source, Stream, Utility, Valuation, approach_of, branch_side, change, contribution_of, duty_at, end_items, ends_of, exchanger_items_at, fixed_level, high_of, line_items, low_of, mean_items, minus, mix_items, no_value, pass_items, pass_of, pass_run, plus, rational_eq, rational_zero, run_between, side_items, side_run, split_items, stream_at, times, value_at, whole}
+use Rattle.network_audit.proofs.Words.{BranchValue, Case, Exchanger, HasShape, IsBelow, IsBetween, IsComplete, IsContribution, IsFormed, IsLevel, IsMix, IsPass, IsSplit, IsTemperature, IsValidStream, IsWholeValuation, IsWithinLimits, Item, Line, MOST_CONTRIBUTION, Network, Place, Rational, Side, Solves, Source, Step, Stream, Utility, Valuation, approach_of, branch_side, change, contribution_of, duty_at, end_items, ends_of, exchanger_items_at, fixed_level, high_of, is_latent, is_latent_branch, level_or, line_items, load_items, low_of, mean_items, minus, mix_items, moved, no_value, over, pass_items, pass_of, pass_run, passed_run, plus, rational_eq, rational_zero, run_between, side_items, side_run, split_items, stream_at, stream_level, times, value_at, whole}
 use Rattle.stream_case.specs.declared.source.Side.TheVariants as side
 use Rattle.stream_case.specs.declared.source.Source.TheVariants as source
 use Rattle.stream_case.proofs.CompleteLemmas.{HasValidStreams-IsComplete, IsUtility, StaysValid-IsComplete}
@@ -122,14 +122,21 @@ split_formed at from first second cp split roomy =
     let rest = ap (λ (v : BranchValue). v.cp) (split_determined from first second cp split).second_is in
     All-from_recursion IsFormed (split_items at from cp) (tt, (subst IsWithinLimits rest roomy.size, tt))
 
+load_formed : (at : Place) (latent : Bool) (state : Rational) → AreFormed (load_items at latent state)
+load_formed at false state = formed-none
+load_formed at true state = All-from_recursion IsFormed (load_items at true state) (tt, (tt, tt))
+
 -- a pass forms the change of the state, and the state behind it
-pub pass_formed : (at : Place) (of : Side) (duty : Rational) (from to : BranchValue) → IsBelow rational_zero from.cp → IsPass of duty from to → IsRoomy to
-    → IsWithinLimits (change of from.t to.t) → AreFormed (pass_items at of from duty)
-pass_formed at of duty from to positive pass roomy change_within =
+pub pass_formed : (at : Place) (of : Side) (latent : Bool) (duty : Rational) (from to : BranchValue) → IsBelow rational_zero from.cp → IsPass of duty from to
+    → IsRoomy to
+    → IsWithinLimits (change of from.t to.t) → AreFormed (pass_items at of latent from duty)
+pass_formed at of latent duty from to positive pass roomy change_within =
     let by = change of from.t to.t in
+    let after = moved of from.t (over duty from.cp) in
     let over_size = over_from_times by duty from.cp (positive-nonzero from.cp positive) (times_comm by from.cp ∙ pass.heat) in
     let state = ap (λ (v : BranchValue). v.t) (pass_determined of from to duty positive pass) in
-    All-from_recursion IsFormed (pass_items at of from duty) (subst IsWithinLimits over_size change_within, (subst IsWithinLimits state roomy.state, tt))
+    formed-step at 1 (over duty from.cp) (Step at 2 after ∷ load_items at latent after) (subst IsWithinLimits over_size change_within)
+    (formed-step at 2 after (load_items at latent after) (subst IsWithinLimits state roomy.state) (load_formed at latent after))
 
 formed-if : (b : Bool) (items : List Item) → AreFormed items → AreFormed (if b then [] else items)
 formed-if true items formed = formed-none
@@ -159,7 +166,8 @@ lines_formed case network values shape valuation room k (line.Split from first c
     (roomy_at values room.branches second)
 lines_formed case network values shape valuation room k (line.Pass from exchanger to) here =
     let known = names-known case network shape k (line.Pass from exchanger to) here in
-    pass_formed (place.Line (k + 1)) (branch_side case network from) (duty_at network exchanger) (value_at values from) (value_at values to)
+    pass_formed (place.Line (k + 1)) (branch_side case network from) (is_latent_branch case network from) (duty_at network exchanger)
+    (value_at values from) (value_at values to)
     (branch_above valuation shape from known.0)
     (all_at (Solves case network values) network.lines k (line.Pass from exchanger to) (all_solved valuation) here) (roomy_at values room.branches to)
     (room.changes k from exchanger to here)
@@ -194,8 +202,20 @@ approach-within case complete hot cold =
     record { from = omega (arith, ints, one_from, two_from); upto = omega (arith, ints, one_upto, two_upto) }
 
 -- a level that a source has is one of a case
+supply-level : (latent : Bool) (supply level : ℤ) → IsTemperature supply → (if latent then Some supply else None) ≡ Some level → IsLevel level
+supply-level false supply level is found = cc found
+supply-level true supply level is found =
+    let low = is.from in let high = is.upto in
+    subst IsLevel (same_Some supply level found) (record { from = omega (arith, ints, low); upto = omega (arith, ints, high) })
+
 level-within : (case : Case) → IsComplete case → (s : Source) (level : ℤ) → fixed_level case s ≡ Some level → IsLevel level
-level-within case complete (source.Stream number) level is = cc is
+level-within case complete (source.Stream number) level is = by (slice_get case.streams number) refl is
+  where
+    by : (o : Option Stream) → slice_get case.streams number ≡ o → stream_level o ≡ Some level → IsLevel level
+    by None at found = cc found
+    by (Some s) at found =
+        let valid = all_at IsValidStream case.streams number s (HasValidStreams-IsComplete case complete).are_streams.each at in
+        supply-level (is_latent s) s.supply level valid.supply found
 level-within case complete (source.Utility number) level is = subst IsLevel (same_Some _ level is) (by (slice_get case.utilities number) refl)
   where
     by : (o : Option Utility) → slice_get case.utilities number ≡ o → IsLevel (option_map_or (λ u. u.level) o (pos 0))
@@ -231,10 +251,18 @@ module _
     pass_keeps (Some (line.Mix first second to)) = (none, none)
     pass_keeps (Some (line.End branch)) = (none, none)
 
+    passed_keeps : (number : ℕ) (of : Source) → P (low_of (passed_run case network values number of)) × P (high_of (passed_run case network values number of))
+    passed_keeps number (source.Stream stream) = pass_keeps (pass_of network number stream)
+    passed_keeps number (source.Utility index) = (none, none)
+
     side_keeps : (number : ℕ) (of : Source) → P (low_of (side_run case network values number of)) × P (high_of (side_run case network values number of))
     unfolding side_run
-    side_keeps number (source.Stream stream) = pass_keeps (pass_of network number stream)
-    side_keeps number (source.Utility index) = let here = levels (source.Utility index) _ refl in (here, here)
+    side_keeps number of = by (fixed_level case of) refl
+      where
+        by : (o : Option ℤ) → fixed_level case of ≡ o
+            → P (low_of (level_or (passed_run case network values number of) o)) × P (high_of (level_or (passed_run case network values number of) o))
+        by None at = passed_keeps number of
+        by (Some level) at = let here = levels of level at in (here, here)
 
 -- an exchanger forms the temperatures that its cold side asks for
 pub exchanger_formed : (case : Case) (network : Network) (values : Valuation) → IsComplete case → All IsRoomy values → (number : ℕ) (e : Exchanger)

@@ -1,21 +1,40 @@
 -- The full size of a stream of a case and its first state are whole numbers within the limits of a case.
-use Rattle.std.proofs.Common.{◌≤◌, ℕ, unsigned_abs, arith}
+use Rattle.std.proofs.Common.{◌≤◌, ◌⊎◌, inl, inr, ℕ, pos, ◌+ℤ◌, Bool, true, false, unsigned_abs, arith, if◌then◌else◌}
 use Rattle.std.proofs.lemmas.Int.{ints}
-use Rattle.network_audit.proofs.Words.{HIGHEST_LEVEL, IsAtMost, IsValidStream, MOST_CP, Stream, first_state, full_size, whole}
-use Rattle.stream_case.proofs.HeatLemmas.{cp-between}
+use Rattle.network_audit.proofs.Words.{HIGHEST_LEVEL, IsAtMost, IsBetween, IsLatent, IsSensible, IsValidStream, MOST_LOAD, Side, Stream, first_part_of_load, first_state, full_size, is_latent, whole}
+use Rattle.stream_case.specs.declared.source.Side.TheVariants as side
 use Rattle.fractions.proofs.Comparisons.{at_most-whole}
 use Rattle.network_audit.proofs.Sized.{IsSized, sized-whole}
 
 module _ (s : Stream) (valid : IsValidStream s) where
-  pub full_size-sized : (m : ℕ) → unsigned_abs MOST_CP ≤ m → IsSized 1 m (full_size s)
-  full_size-sized m larger =
-      let cp = cp-between s valid in
-      sized-whole 1 m s.cp (omega arith) (omega (arith, ints, cp, larger))
+  size-between : IsBetween (pos 0) MOST_LOAD (s.cp +ℤ s.load)
+  size-between = by valid.heat
+    where
+      by : IsSensible s ⊎ IsLatent s → IsBetween (pos 0) MOST_LOAD (s.cp +ℤ s.load)
+      by (inl sensible) =
+          let none = sensible.load in let from = sensible.cp.from in let upto = sensible.cp.upto in
+          record { from = omega (arith, ints, none, from); upto = omega (arith, ints, none, upto) }
+      by (inr latent) =
+          let none = latent.cp in let from = latent.load.from in let upto = latent.load.upto in
+          record { from = omega (arith, ints, none, from); upto = omega (arith, ints, none, upto) }
 
-  pub full_size-most : IsAtMost (full_size s) (whole MOST_CP)
-  full_size-most = at_most-whole s.cp MOST_CP (cp-between s valid).upto
+  pub full_size-sized : (m : ℕ) → unsigned_abs MOST_LOAD ≤ m → IsSized 1 m (full_size s)
+  full_size-sized m larger =
+      let from = size-between.from in let upto = size-between.upto in
+      sized-whole 1 m (s.cp +ℤ s.load) (omega arith) (omega (arith, ints, from, upto, larger))
+
+  pub full_size-most : IsAtMost (full_size s) (whole MOST_LOAD)
+  full_size-most = at_most-whole (s.cp +ℤ s.load) MOST_LOAD size-between.upto
 
   pub first_state-sized : (m : ℕ) → unsigned_abs HIGHEST_LEVEL ≤ m → IsSized 1 m (first_state s)
-  first_state-sized m larger =
-      let low = valid.supply.from in let high = valid.supply.upto in
-      sized-whole 1 m s.supply (omega arith) (omega (arith, ints, low, high, larger))
+  first_state-sized m larger = by (is_latent s)
+    where
+      part : (of : Side) → IsSized 1 m (first_part_of_load of)
+      part side.Hot = sized-whole 1 m (pos 1) (omega arith) (omega (arith, larger))
+      part side.Cold = sized-whole 1 m (pos 0) (omega arith) (omega arith)
+
+      by : (latent : Bool) → IsSized 1 m (if latent then first_part_of_load s.side else whole s.supply)
+      by true = part s.side
+      by false =
+          let low = valid.supply.from in let high = valid.supply.upto in
+          sized-whole 1 m s.supply (omega arith) (omega (arith, ints, low, high, larger))

@@ -1,9 +1,9 @@
 -- What the audit reads of the table of exchangers is what the items say: the ends of the sides, and the duties of the utilities.
-use Rattle.std.proofs.Common.{◌≡◌, ◌∙◌, ◌<◌, ◌+◌, ◌∷◌, ◌++◌, ℕ, List, [], Some, ◌⊎◌, inl, inr, slice_get, get_or, length, map, take, refl, sym, ap, ap₂, arith, unwrap_or, filter_map, flat_map, length-take}
+use Rattle.std.proofs.Common.{◌≡◌, ◌∙◌, ◌<◌, ◌+◌, ◌∷◌, ◌++◌, ℕ, ℤ, List, [], Option, Some, None, ◌⊎◌, inl, inr, slice_get, get_or, length, map, take, refl, sym, ap, ap₂, arith, unwrap_or, filter_map, flat_map, length-take}
 use Rattle.std.specs.List.{cons_option, enumerate_from}
 use Rattle.std.proofs.lemmas.List.{map-append, take_more}
 use Rattle.sums.proofs.EnumerationLemmas.{All-enumerated, enumerate_from-append}
-use Rattle.network_audit.proofs.Words.{Case, Exchanger, HasShape, IsExchanger, Joint, Network, Rational, Side, Source, Utility, Valuation, all_heat_items, branch_side, crossing_among, crossing_by, duties_in, duties_with, duty_with, ends_at, ends_of, exchanger_items, exchanger_items_at, exchangers_of, heat_items, heats_in, joint_among, joint_duty, joint_items, joint_items_at, joints_among, joints_of, pass_of, pass_run, range_items, rational_sum, rational_zero, run_between, side_items, side_of, side_run, stream_at, sum_steps, utility_items, utility_items_at, value_at}
+use Rattle.network_audit.proofs.Words.{Case, Exchanger, HasShape, IsExchanger, Joint, Network, Rational, Side, SideRun, Source, Utility, Valuation, all_heat_items, branch_side, crossing_among, crossing_by, duties_in, duties_with, duty_with, ends_at, ends_of, exchanger_items, exchanger_items_at, exchangers_of, fixed_level, heat_items, heats_in, joint_among, joint_duty, joint_items, joint_items_at, joints_among, joints_of, level_ends, level_or, pass_of, pass_run, passed_ends, passed_run, range_items, rational_sum, rational_zero, run_between, side_items, side_of, side_run, stream_at, sum_steps, utility_items, utility_items_at, value_at}
 use Rattle.stream_case.specs.declared.source.Side.TheVariants as side
 use Rattle.stream_case.specs.declared.source.Source.TheVariants as source
 use Rattle.networks.specs.declared.network.Line.TheVariants as line
@@ -24,14 +24,11 @@ branch_side-is case network from stream on of_stream is =
 -- where a stream's pass is found, its ends are those of the branches
 stream_run : (case : Case) (network : Network) (values : Valuation) (number stream from to : ℕ) (on : Side)
     → pass_of network number stream ≡ Some (line.Pass from number to) → branch_side case network from ≡ on
-    → ends_of on (side_run case network values number (source.Stream stream))
-    ≡ ends_at case values (source.Stream stream) (Some (record { from = from; to = to }))
-unfolding side_run
+    → ends_of on (passed_run case network values number (source.Stream stream)) ≡ passed_ends values (Some (record { from = from; to = to }))
 stream_run case network values number stream from to on found is =
     ap (λ o. ends_of on (pass_run case network values o)) found ∙ ap (λ s. ends_of on (run_between s (value_at values from) (value_at values to))) is ∙ by on
   where
-    by : (s : Side) → ends_of s (run_between s (value_at values from) (value_at values to))
-        ≡ ends_at case values (source.Stream stream) (Some (record { from = from; to = to }))
+    by : (s : Side) → ends_of s (run_between s (value_at values from) (value_at values to)) ≡ passed_ends values (Some (record { from = from; to = to }))
     by side.Hot = refl
     by side.Cold = refl
 
@@ -40,6 +37,12 @@ crossing-found : (network : Network) (number stream from to : ℕ) → pass_of n
     → crossing_among network.branches network.lines number (source.Stream stream) ≡ Some (record { from = from; to = to })
 unfolding pass_of
 crossing-found network number stream from to found = ap crossing_by found
+
+-- a level is that of both ends
+level_run : (on : Side) (run : SideRun) (o : Option ℤ) → level_ends (ends_of on run) o ≡ ends_of on (level_or run o)
+level_run on run None = refl
+level_run side.Hot run (Some level) = refl
+level_run side.Cold run (Some level) = refl
 
 -- the ends that are read from the table
 ends-are : (case : Case) (network : Network) (values : Valuation) (number : ℕ) (e : Exchanger) (of : Source) (on : Side) → HasShape case network
@@ -51,7 +54,9 @@ ends-are case network values number e (source.Utility index) side.Cold shape at 
 ends-are case network values number e (source.Stream stream) on shape at joins is =
     let (from, to, index, pass) = the_pass_of shape number stream e at joins in
     ap (ends_at case values (source.Stream stream)) (crossing-found network number stream from to pass.found)
-    ∙ sym (stream_run case network values number stream from to on pass.found (branch_side-is case network from stream on pass.of_stream is))
+    ∙ ap (λ ends. level_ends ends (fixed_level case (source.Stream stream)))
+    (sym (stream_run case network values number stream from to on pass.found (branch_side-is case network from stream on pass.of_stream is)))
+    ∙ level_run on (passed_run case network values number (source.Stream stream)) (fixed_level case (source.Stream stream))
 
 -- ---- members of a table that was made from members
 

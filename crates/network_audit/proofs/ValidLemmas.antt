@@ -1,15 +1,18 @@
 -- A network without a finding is valid, and no test of a valid one fails.
-use Rattle.std.proofs.Common.{◌≡◌, ◌∙◌, ◌<◌, ◌+◌, ◌∷◌, ◌++◌, ◌==◌, ◌||◌, ℕ, zero, suc, Bool, true, false, not, List, [], Option, Some, None, All, slice_get, length, get_or, map, refl, sym, ap, subst, arith, Contains, if◌then◌else◌, flat_map, eq-eqb, take_all}
+use Rattle.std.proofs.Common.{◌≡◌, ◌∙◌, ◌<◌, ◌+◌, ◌∷◌, ◌++◌, ◌==◌, ◌||◌, ℕ, zero, suc, pos, Bool, true, false, not, List, [], Option, Some, None, All, slice_get, length, get_or, map, refl, sym, ap, subst, arith, Contains, if◌then◌else◌, flat_map, eq-eqb, take_all}
 use Rattle.std.specs.List.{enumerate_from, list_any}
 use Rattle.std.proofs.lemmas.Bool.Decides.{nat_tests}
 use Rattle.std.proofs.lemmas.List.Elements.{All-cons, All-nil}
 use Rattle.std.proofs.lemmas.Option.{none-some, same_Some, slice_get-get_or}
-use Rattle.network_audit.proofs.Words.{Branch, Case, Decides-rational_eq, Exchanger, HasNoFinding, IsFullEnd, IsInRange, IsValidNetwork, IsWholeValuation, Item, KeepsApproach, Line, Network, Place, Stream, Utility, Valuation, balance_items, duties_with, end_items, ended_by, ended_streams, ends, ends_stream, exchanger_items, exchanger_items_at, exchangers_of, first_finding, full_size, heat_with, is_ended, is_forbidden, items, items_before, items_behind, last_state, last_value, line_items, range_items, rational_zero, statement_items, stream_at, stream_items, stream_items_at, sum_steps, utility_items, utility_items_at, value_at, whole}
+use Rattle.network_audit.proofs.Words.{Branch, Case, Decides-rational_eq, Exchanger, HasNoFinding, HasShape, IsFullEnd, IsInRange, IsPartOfLoad, IsValidNetwork, IsWholeValuation, Item, KeepsApproach, Line, Network, PassKeepsLoad, Place, Rational, Stream, Utility, Valuation, balance_items, duties_with, end_items, ended_by, ended_streams, ends, ends_stream, exchanger_items, exchanger_items_at, exchangers_of, first_finding, full_size, heat_with, is_ended, is_forbidden, is_latent_branch, items, items_before, items_behind, last_state, last_value, line_items, load_items, range_items, rational_zero, statement_items, stream_at, stream_items, stream_items_at, sum_steps, utility_items, utility_items_at, value_at, whole}
 use Rattle.fractions.proofs.Comparisons.{Decides-not_below}
 use Rattle.networks.specs.declared.network.Line.TheVariants as line
 use Rattle.networks.proofs.Lists.{All-back, All-flat_map, All-front}
 use Rattle.network_values.proofs.LineLemmas.{same_value}
+use Rattle.network_values.proofs.LoadLemmas.{loads_kept}
+use Rattle.network_values.proofs.ValuationLemmas.{each_first}
 use Rattle.network_audit.specs.declared.findings.Place.TheVariants as place
+use Rattle.network_audit.proofs.BehindPass.{behind_latent, behind_state, state_behind}
 use Rattle.network_audit.proofs.FoundLemmas.{passed-back, passed-front, passed-item, passed-rest}
 
 -- ---- ends and streams
@@ -127,6 +130,26 @@ full_end case network values at (line.End branch) none = All-cons (IsFullEnd cas
         ((Decides-rational_eq (value_at values branch).cp (full_size s)).0 (passed-item _ _ tests))
         ((Decides-rational_eq (value_at values branch).t (last_state s)).0 (passed-item _ _ (passed-rest _ _ tests)))
 
+-- a state that passes the tests is a part of the load, and so is that behind each pass of a latent branch
+load_passed : (at : Place) (latent : Bool) (state : Rational) → first_finding (load_items at latent state) ≡ None → latent ≡ true → IsPartOfLoad state
+load_passed at false state none is = cc is
+load_passed at true state none is = record {
+  least = (Decides-not_below state rational_zero).0 (passed-item _ _ none);
+  most = (Decides-not_below (whole (pos 1)) state).0 (passed-item _ _ (passed-rest _ _ none));
+}
+
+load_kept : (case : Case) (network : Network) (values : Valuation) (k : ℕ) (l : Line) → HasShape case network → IsWholeValuation case network values
+    → slice_get network.lines k ≡ Some l → first_finding (line_items case network values (place.Line (k + 1)) l) ≡ None → PassKeepsLoad case network values l
+load_kept case network values k (line.Exchanger name hot cold duty) shape valuation at none = tt
+load_kept case network values k (line.Split from first cp second) shape valuation at none = tt
+load_kept case network values k (line.Pass from exchanger to) shape valuation at none = λ latent.
+    let tests = passed-rest _ _ (passed-rest _ _ none) in
+    subst IsPartOfLoad (sym (behind_state shape valuation k at))
+    (load_passed (place.Line (k + 1)) (is_latent_branch case network from) (state_behind case network values from exchanger) tests
+    (sym (behind_latent shape valuation k at) ∙ latent))
+load_kept case network values k (line.Mix first second to) shape valuation at none = tt
+load_kept case network values k (line.End branch) shape valuation at none = tt
+
 false_from_not : (b : Bool) → not b ≡ true → b ≡ false
 false_from_not true is = cc is
 false_from_not false is = refl
@@ -155,9 +178,10 @@ in_range network index u none =
       most = (Decides-not_below (whole u.most) (heat_with network index)).0 (passed-item _ _ (passed-rest _ _ tests));
     }
 
-pub valid_from_none : (case : Case) (network : Network) (values : Valuation) → IsWholeValuation case network values → first_finding (items case network values (length network.lines)) ≡ None → IsValidNetwork case network
+pub valid_from_none : (case : Case) (network : Network) (values : Valuation) → HasShape case network → IsWholeValuation case network values
+    → first_finding (items case network values (length network.lines)) ≡ None → IsValidNetwork case network
 unfolding ended_by ended_streams is_ended
-valid_from_none case network values valuation none =
+valid_from_none case network values shape valuation none =
     let all = passed-each case network values none in record {
       values = values;
       valuation = valuation;
@@ -165,6 +189,9 @@ valid_from_none case network values valuation none =
         full = All-flat_map (IsFullEnd case network values) ends network.lines (λ k d inside. full_end case network values (place.Line (k + 1)) (get_or network.lines k d) (all.lines k (get_or network.lines k d) (slice_get-get_or network.lines k d inside)));
         each = λ stream inside. ended-contains network.branches stream network.lines (stream_passed stream inside all);
       };
+      loads = loads_kept case network (length network.lines) values shape valuation
+          (each_first (PassKeepsLoad case network values) network.lines (length network.lines)
+          (λ k l early at. load_kept case network values k l shape valuation at (all.lines k l at)));
       approaches = λ number e at. (side_passed case network values number e (all.exchangers number e at)).approach;
       permitted = λ k d inside. (side_passed case network values k (get_or (exchangers_of network.lines) k d) (all.exchangers k (get_or (exchangers_of network.lines) k d) (slice_get-get_or (exchangers_of network.lines) k d inside))).permitted;
       ranges = λ index u at. in_range network index u (all.utilities index u at);
@@ -177,5 +204,5 @@ valid_from_none case network values valuation none =
         at_some None is = absurd (some_within case.streams stream inside is)
         at_some (Some s) is = passed-item _ _ (all.streams stream s is)
 
-pub valid_network : (case : Case) (network : Network) → HasNoFinding case network → IsValidNetwork case network
-valid_network case network none = valid_from_none case network none.values none.valuation none.none
+pub valid_network : (case : Case) (network : Network) → HasShape case network → HasNoFinding case network → IsValidNetwork case network
+valid_network case network shape none = valid_from_none case network none.values shape none.valuation none.none

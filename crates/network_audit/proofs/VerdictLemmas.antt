@@ -1,6 +1,7 @@
 -- What follows from a verdict.
 use Rattle.std.proofs.Common.{◌≡◌, ◌∙◌, inl, inr, Some, length, sym, ap, subst}
-use Rattle.network_audit.proofs.Words.{AreSensible, Audit, Balance, Case, HasShape, IfAccepted, IsAtMost, IsValidNetwork, IsVerdict, IsWholeValuation, Leaves, Network, Says, SaysExactly, Valuation, Verdict, rational_zero}
+use Rattle.network_audit.proofs.Words.{Audit, Balance, Case, HasShape, IfAccepted, IsAtMost, IsComplete, IsValidNetwork, IsVerdict, IsWholeValuation, Leaves, Network, Says, SaysExactly, Valuation, Verdict, rational_zero}
+use Rattle.stream_case.proofs.CompleteLemmas.{AreStreams-IsComplete}
 use Rattle.network_values.proofs.SignLemmas.{targets_met}
 use Rattle.network_values.proofs.ValuationLemmas.{one_valuation}
 use Rattle.network_audit.specs.declared.verdict.Verdict.TheVariants as verdict
@@ -19,7 +20,7 @@ one_valuation_left old new (verdict.TooFine place step) shape left = tt
 -- what is accepted is valid, and what is rejected is not
 pub says_valid : (case : Case) (network : Network) (given : Verdict) → HasShape case network → IsVerdict case network given
     → Says given (IsValidNetwork case network)
-says_valid case network (verdict.Accepted balance) shape is = valid_network case network is.0
+says_valid case network (verdict.Accepted balance) shape is = valid_network case network shape is.0
 says_valid case network (verdict.Rejected place reason) shape is = invalid_network case network place reason shape is
 says_valid case network (verdict.TooFine place step) shape is = tt
 
@@ -29,12 +30,12 @@ says_exactly P (verdict.Rejected place reason) is = inr ((λ none. absurd none),
 says_exactly P (verdict.TooFine place step) is = inl tt
 
 -- what is accepted does not beat the target
-pub excess_of_verdict : (case : Case) (network : Network) (given : Verdict) → AreSensible case.streams → HasShape case network
+pub excess_of_verdict : (case : Case) (network : Network) (given : Verdict) → IsComplete case → HasShape case network
     → IsVerdict case network given
     → IfAccepted given (λ balance. IsAtMost rational_zero balance.excess)
-excess_of_verdict case network (verdict.Accepted balance) sensible shape is =
-    let valid = valid_network case network is.0 in
+excess_of_verdict case network (verdict.Accepted balance) complete shape is =
+    let valid = valid_network case network shape is.0 in
     subst (λ (b : Balance). IsAtMost rational_zero b.excess) (sym is.1)
-    (targets_met case network valid.values sensible shape valid.valuation valid.ended valid.approaches)
-excess_of_verdict case network (verdict.Rejected place reason) sensible shape is = tt
-excess_of_verdict case network (verdict.TooFine place step) sensible shape is = tt
+    (targets_met case network valid.values (AreStreams-IsComplete case complete) shape valid.valuation valid.ended valid.approaches)
+excess_of_verdict case network (verdict.Rejected place reason) complete shape is = tt
+excess_of_verdict case network (verdict.TooFine place step) complete shape is = tt

@@ -4,7 +4,7 @@ use Rattle.std.specs.List.{enumerate_from}
 use Rattle.std.proofs.lemmas.List.Elements.{All-head, All-tail}
 use Rattle.std.proofs.lemmas.Option.{get_or_from_slice_get, slice_get_within}
 use Rattle.sums.proofs.EnumerationLemmas.{All-enumerated}
-use Rattle.network_audit.proofs.Words.{AreSensible, BranchValue, Case, Finding, HasShape, IsComplete, IsFinding, IsValuation, IsWholeValuation, LeavesRoom, Line, Network, Place, Valuation, branch_side, duty_at, end_items, first_finding, first_value, items, items_before, items_behind, line_items, made_before, made_by, made_values, mix_items, pass_items, split_items, statement_items, stream_at, uses, value_at}
+use Rattle.network_audit.proofs.Words.{BranchValue, Case, Finding, HasShape, IsComplete, IsFinding, IsValuation, IsWholeValuation, LeavesRoom, Line, Network, Place, Valuation, branch_side, duty_at, end_items, first_finding, first_value, is_latent_branch, items, items_before, items_behind, line_items, made_before, made_by, made_values, mix_items, pass_items, split_items, statement_items, stream_at, uses, value_at}
 use Rattle.fractions.proofs.Comparisons.{Decides-is_below}
 use Rattle.networks.specs.declared.network.Line.TheVariants as line
 use Rattle.networks.proofs.Lists.{slice_get-take}
@@ -19,7 +19,9 @@ use Rattle.network_audit.proofs.FoundLemmas.{flat_map-same, found-behind, found-
 pub line_items-same : (case : Case) (network : Network) (values other : Valuation) (m : ℕ) (at : Place) (l : Line) → AgreeBelow values other m → All (λ b. b < m) (uses l) → line_items case network values at l ≡ line_items case network other at l
 line_items-same case network values other m at (line.Exchanger name hot cold duty) agree used = refl
 line_items-same case network values other m at (line.Split from first cp second) agree used = ap (λ v. split_items at v cp) (agree.same from (All-head (λ b. b < m) from [] used))
-line_items-same case network values other m at (line.Pass from exchanger to) agree used = ap (λ v. pass_items at (branch_side case network from) v (duty_at network exchanger)) (agree.same from (All-head (λ b. b < m) from [] used))
+line_items-same case network values other m at (line.Pass from exchanger to) agree used =
+    ap (λ v. pass_items at (branch_side case network from) (is_latent_branch case network from) v (duty_at network exchanger))
+    (agree.same from (All-head (λ b. b < m) from [] used))
 line_items-same case network values other m at (line.Mix first second to) agree used =
     ap (λ v. mix_items at v (value_at values second)) (agree.same first (All-head (λ b. b < m) first (second ∷ []) used))
     ∙ ap (λ v. mix_items at (value_at other first) v) (agree.same second (All-head (λ b. b < m) second [] (All-tail (λ b. b < m) first (second ∷ []) used)))
@@ -66,14 +68,14 @@ pub record IsWalked (case : Case) (network : Network) (n made : ℕ) (values : V
   pub valuation : IsValuation case network n (take made values)
   pub passed : first_finding (items_before case network (take made values) n) ≡ None
 
-pub walked-start : (case : Case) (network : Network) (values : Valuation) → IsComplete case → AreSensible case.streams → length values ≡ length network.branches
+pub walked-start : (case : Case) (network : Network) (values : Valuation) → IsComplete case → length values ≡ length network.branches
     → take (length case.streams) values ≡ map first_value case.streams
     → IsWalked case network 0 (length case.streams) values
 unfolding made_by
-walked-start case network values complete sensible room start = record {
+walked-start case network values complete room start = record {
   made_is = omega arith;
   room = room;
-  valuation = subst (IsValuation case network 0) (sym start) (valuation_start case network complete sensible);
+  valuation = subst (IsValuation case network 0) (sym start) (valuation_start case network complete);
   passed = ap first_finding (items_before-none case network (take (length case.streams) values)) ∙ found-nothing;
 }
 

@@ -1,7 +1,6 @@
 -- What an auditor knows, and what an audit leaves behind.
 use Rattle.std.specs.Prelude.{◌≡◌, ◌⊎◌, ◌↔◌, IfSome, List, length, Option, Some, None}
 use Rattle.stream_case.specs.Case.{IsComplete}
-use Rattle.stream_case.specs.Stream.{AreSensible}
 use Rattle.stream_case.specs.declared.case.Case.{Case}
 use Rattle.fractions.specs.Rationals.{Rational}
 use Rattle.networks.specs.Shape.{HasShape}
@@ -45,11 +44,9 @@ pub record HasAccepted (audit : Audit) (case : Case) (network : Network) : Type 
   pub values : Valuation
   pub is : audit ≡ record { case = case; network = network; values = Some values }
 
--- what an auditor knows at any time: its case has no latent stream, and what it keeps is a whole valuation without a
--- finding
+-- what an auditor knows at any time: what it keeps is a whole valuation without a finding
 pub record KnowsItsNetwork (audit : Audit) : Type 0 where
   pub complete : IsComplete audit.case
-  pub sensible : AreSensible audit.case.streams
   pub shape : HasShape audit.case audit.network
   pub kept : IfSome audit.values (IsFaultless audit.case audit.network)
 
@@ -86,7 +83,6 @@ pub record Accepts (case : Case) (network : Network) (values : Valuation) (balan
 -- for each utility
 pub record IsReady (case : Case) (network : Network) (joints : List Joint) (values : Valuation) (heats : List Rational) : Type 0 where
   pub complete : IsComplete case
-  pub sensible : AreSensible case.streams
   pub shape : HasShape case network
   pub table : joints ≡ joints_of network
   pub value_each : length values ≡ length network.branches

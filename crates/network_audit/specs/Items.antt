@@ -1,5 +1,5 @@
 -- The items of an audit: tests, and numbers that are formed on the way. Those of statements, streams and exchangers.
-use Rattle.std.specs.Prelude.{ℕ, ◌+◌, ◌==◌, Bool, false, not, List, [], ◌∷◌, find, take, Option, Some, None, option_map, slice_get, if◌then◌else◌}
+use Rattle.std.specs.Prelude.{ℕ, ◌+◌, ◌==◌, pos, Bool, true, false, not, List, [], ◌∷◌, find, take, Option, Some, None, option_map, slice_get, if◌then◌else◌}
 use Rattle.std.specs.List.{enumerate_from, flat_map, list_any}
 use Rattle.stream_case.specs.Case.{is_forbidden}
 use Rattle.stream_case.specs.declared.case.Case.{Case}
@@ -15,7 +15,7 @@ use Rattle.networks.specs.declared.network.Line.TheVariants as line
 use Rattle.networks.specs.declared.network.Network.{Network}
 use Rattle.network_values.specs.Made.{heat_of_both, moved}
 use Rattle.network_values.specs.Sides.{SideRun, approach_of, enters, leaves, side_run}
-use Rattle.network_values.specs.Values.{Valuation, branch_side, duty_at, full_size, last_state, value_at}
+use Rattle.network_values.specs.Values.{Valuation, branch_side, duty_at, full_size, is_latent_branch, last_state, value_at}
 use Rattle.network_values.specs.declared.values.BranchValue.{BranchValue}
 use Rattle.network_audit.specs.declared.exchangers.Ends.{Ends}
 use Rattle.network_audit.specs.declared.findings.Finding.{Finding}
@@ -58,9 +58,20 @@ is_reached found wanted = not (is_below found wanted)
 abbrev pub split_items : Place → BranchValue → Rational → List Item
 split_items at from cp = Test at (is_below cp from.cp) (reason.Overdrawn cp from.cp) ∷ Step at 1 (minus from.cp cp) ∷ []
 
+-- the state of a latent branch is from 0 to 1
+abbrev pub load_items : Place → Bool → Rational → List Item
+load_items at false state = []
+load_items at true state =
+    Test at (is_reached state rational_zero) (reason.Overdrawn state rational_zero)
+    ∷ Test at (is_reached (whole (pos 1)) state) (reason.Overdrawn state (whole (pos 1)))
+    ∷ []
+
 -- the change of the state, and the state behind the exchanger
-abbrev pub pass_items : Place → Side → BranchValue → Rational → List Item
-pass_items at side from duty = Step at 1 (over duty from.cp) ∷ Step at 2 (moved side from.t (over duty from.cp)) ∷ []
+abbrev pub pass_items : Place → Side → Bool → BranchValue → Rational → List Item
+pass_items at side latent from duty =
+    Step at 1 (over duty from.cp)
+    ∷ Step at 2 (moved side from.t (over duty from.cp))
+    ∷ load_items at latent (moved side from.t (over duty from.cp))
 
 -- the size of two branches together; two equal states are that of the mix, and else it is their mean
 abbrev pub mean_items : Place → BranchValue → BranchValue → Rational → List Item
@@ -89,7 +100,7 @@ abbrev pub line_items : Case → Network → Valuation → Place → Line → Li
 line_items case network values at (line.Exchanger name hot cold duty) = []
 line_items case network values at (line.Split from first cp second) = split_items at (value_at values from) cp
 line_items case network values at (line.Pass from exchanger to) =
-    pass_items at (branch_side case network from) (value_at values from) (duty_at network exchanger)
+    pass_items at (branch_side case network from) (is_latent_branch case network from) (value_at values from) (duty_at network exchanger)
 line_items case network values at (line.Mix first second to) = mix_items at (value_at values first) (value_at values second)
 line_items case network values at (line.End branch) = end_items at (value_at values branch) (slice_get case.streams (stream_at network.branches branch))
 

@@ -7,7 +7,7 @@ use Rattle.fractions.specs.Rationals.{IsAtMost, Rational, whole}
 use Rattle.networks.specs.Lines.{Exchanger, exchangers_of}
 use Rattle.networks.specs.declared.network.Network.{Network}
 use Rattle.network_values.specs.Sides.{KeepApproaches}
-use Rattle.network_values.specs.Values.{AreEnded, IsWholeValuation, Valuation}
+use Rattle.network_values.specs.Values.{AreEnded, IsWholeValuation, KeepLoads, Valuation}
 use Rattle.network_audit.specs.Balance.{heat_with}
 
 -- the match of an exchanger is not forbidden
@@ -19,12 +19,13 @@ pub record IsInRange (u : Utility) (heat : Rational) : Type 0 where
   pub least : IsAtMost (whole u.least) heat
   pub most : IsAtMost heat (whole u.most)
 
--- the whole network has a valuation, over which each stream ends once in full, both ends of each exchanger keep the
--- approach, no match is forbidden and each utility is in its range
+-- the whole network has a valuation, over which each stream ends once in full, each latent branch has a part of its load
+-- as state, both ends of each exchanger keep the approach, no match is forbidden and each utility is in its range
 pub record IsValidNetwork (case : Case) (network : Network) : Type 0 where
   pub values : Valuation
   pub valuation : IsWholeValuation case network values
   pub ended : AreEnded case network values
+  pub loads : KeepLoads case network values
   pub approaches : KeepApproaches case network values
   pub permitted : All (IsPermitted case) (exchangers_of network.lines)
   pub ranges : (index : ℕ) (u : Utility) → slice_get case.utilities index ≡ Some u → IsInRange u (heat_with network index)

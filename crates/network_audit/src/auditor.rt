@@ -1,7 +1,6 @@
 //! The auditor of a network.
 ghost use Rattle.std.specs.Prelude.{◌≡◌, None, Some, IfOk, MatchResult, slice_get, option_and_then, length};
 ghost use Rattle.stream_case.specs.Case.{IsComplete};
-ghost use Rattle.stream_case.specs.Stream.{AreSensible};
 ghost use Rattle.fractions.specs.Rationals.{IsAtMost, rational_zero};
 ghost use Rattle.networks.specs.Shape.{HasShape};
 ghost use Rattle.network_values.specs.Values.{IsWholeValuation, Valuation};
@@ -59,11 +58,9 @@ impl Auditor {
     ghost use Rattle.network_audit.specs.Audit.{KnowsItsNetwork, Leaves, Says, SaysExactly};
     ghost use Rattle.network_audit.specs.Joints.{joints_of};
 
-    /// Takes all the room that the audits need, and copies of the case and the network. No stream
-    /// of the case is latent.
+    /// Takes all the room that the audits need, and copies of the case and the network.
     pub fn new(alloc: Global, case: &Case, network: &Network) -> Result<Auditor, AllocError>
         requires complete { IsComplete case.now }
-        requires sensible { AreSensible case.now.streams }
         requires shape { HasShape case.now network.now }
         ensures { IfOk result (λ auditor.
             auditor ≡ record { case = case.now; network = network.now; values = None }) }
@@ -108,7 +105,7 @@ impl Auditor {
     fn audited(&mut self) -> Verdict
         ensures verdict { IsVerdict self.old.case self.old.network result }
         ensures after { Leaves self.old result self.new }
-        ensures sensible { AreSensible self.old.case.streams }
+        ensures complete { IsComplete self.old.case }
         ensures shape { HasShape self.old.case self.old.network }
     {
         let audited = audit_network(
@@ -134,9 +131,9 @@ impl Auditor {
         self.joints.as_slice()
     }
 
-    /// What a branch carries, by its number: its heat-capacity flow in 10 W/K and its temperature
-    /// in tenths of °C. There is none where no audit was made, where the last one did not accept
-    /// the network, and where there is no such branch.
+    /// What a branch carries, by its number: its size in 10 W/K and its state in tenths of °C, of a
+    /// latent stream in W and as a part of the load. There is none where no audit was made, where the
+    /// last one did not accept the network, and where there is no such branch.
     pub fn value(&self, branch: u32) -> Option<BranchValue>
         ensures { result ≡ option_and_then (λ values. slice_get values branch) self.now.values }
     {

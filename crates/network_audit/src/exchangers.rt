@@ -45,19 +45,24 @@ fn approach_of(case: &Case, hot: Source, cold: Source) -> Frac
     Frac::whole(sum)
 }
 
-/// The level of a source, in tenths of °C; a stream has none, since it runs between two
-/// temperatures. It is 0, of which no rule speaks, where there is no such utility.
+/// The level of a source, in tenths of °C: that of a utility, or the one temperature of a latent
+/// stream. A sensible stream has none, since it runs between two temperatures. It is 0, of which no
+/// rule speaks, where there is no such utility.
 fn fixed_level(case: &Case, source: Source) -> Option<i32>
     ensures { result ≡ fixed_level case.now source }
 {
     match source {
-        Source::Stream(_) => None,
+        Source::Stream(index) => match case.streams.get(index as usize) {
+            Some(stream) if stream.is_latent() => Some(stream.supply),
+            _ => None,
+        },
         Source::Utility(index) => Some(case.utilities.get(index as usize).map_or(0, |u| u.level)),
     }
 }
 
-/// The temperature of a branch in tenths of °C; 0, of which no rule speaks, where there is none.
-fn temperature_at(values: &[BranchValue], number: u32) -> Frac
+/// The state of a branch, of a sensible stream its temperature in tenths of °C; 0, of which no rule
+/// speaks, where there is none.
+fn state_at(values: &[BranchValue], number: u32) -> Frac
     ensures { result ≡ (value_at values.now number).t }
 {
     match values.get(number as usize) {
@@ -66,8 +71,8 @@ fn temperature_at(values: &[BranchValue], number: u32) -> Frac
     }
 }
 
-/// Where the side of a source enters an exchanger and leaves it: at its level, or else at the
-/// temperatures of its branch before and behind its pass.
+/// Where the side of a source enters an exchanger and leaves it: at its level, or else, as a
+/// sensible stream does, at the temperatures of its branch before and behind its pass.
 fn ends_at(case: &Case, values: &[BranchValue], source: Source, pass: Option<Crossing>) -> Ends
     ensures { result ≡ ends_at case.now values.now source pass }
 {
@@ -86,8 +91,8 @@ fn ends_at(case: &Case, values: &[BranchValue], source: Source, pass: Option<Cro
         };
     };
     Ends {
-        enters: temperature_at(values, crossing.from),
-        leaves: temperature_at(values, crossing.to),
+        enters: state_at(values, crossing.from),
+        leaves: state_at(values, crossing.to),
     }
 }
 

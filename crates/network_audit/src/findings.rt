@@ -20,11 +20,14 @@ pub enum Place {
 /// Why a network is not valid: what was found, and what was wanted.
 #[derive(Clone, Copy, Debug, PartialEq, Eq)]
 pub enum Reason {
-    /// A split takes from a branch all that it has, or more, in 10 W/K.
+    /// A split takes from a branch all that it has, or more: in 10 W/K, or in W of a latent stream.
+    /// Or a pass brings the state of a latent branch below 0 or above 1.
     Overdrawn { found: Frac, wanted: Frac },
-    /// A stream ends at another temperature than its target, in tenths of °C.
+    /// A stream ends at another temperature than its target, in tenths of °C, or a latent one in
+    /// another state than its last: 0 of a hot one, 1 of a cold one.
     MissedTarget { found: Frac, wanted: Frac },
-    /// A stream ends with another heat-capacity flow than its own, in 10 W/K, or does not end.
+    /// A stream ends with another heat-capacity flow than its own, in 10 W/K, or a latent one with
+    /// another share of its load, in W; or it does not end.
     Unfinished { found: Frac, wanted: Frac },
     /// Where the hot side enters, it is not hotter than the cold side by the least approach; in
     /// tenths of °C.

@@ -30,8 +30,8 @@ pub fn networks_have_one_verdict()
 /// A network without a finding is valid, and one that fails a test is not. A valid one has no
 /// finding where each number that is formed on the way is within the limits of a fraction.
 pub fn findings_tell_what_is_valid()
-    ensures valid { (case : Case) (network : Network) → HasNoFinding case network
-        → IsValidNetwork case network }
+    ensures valid { (case : Case) (network : Network) → HasShape case network
+        → HasNoFinding case network → IsValidNetwork case network }
     ensures invalid { (case : Case) (network : Network) (place : Place) (reason : Reason)
         → HasShape case network → IsFinding case network (finding.Failed place reason)
         → IsValidNetwork case network → ⊥ }

@@ -3,8 +3,13 @@
 //! The items of an audit are tests and numbers that are formed on the way, in one order. The
 //! finding is the first of them that fails: a test that is not passed, or a number that is not
 //! within the limits of a fraction. A network without a finding is valid, and its balance tells
-//! what it needs and costs: no network that is accepted needs less than the hot target. An auditor
-//! is made for a case without latent streams.
+//! what it needs and costs: no network that is accepted needs less than the hot target.
+//!
+//! A branch has a size and a state. Those of a sensible stream are its heat-capacity flow in 10 W/K
+//! and its temperature in tenths of °C. Those of a latent stream are its share of the load in W and
+//! the part of it, from 0 to 1, that is still to be given (hot) or was already taken (cold). So a
+//! latent stream ends where all of its load is given or taken, a pass overdraws it where the state
+//! falls below 0 or rises above 1, and in an exchanger it has its one temperature at both ends.
 #![tactic(auto)]
 
 mod auditor;

@@ -1,12 +1,14 @@
 //! The audit of the statements: what each makes of what the branches carry before it.
 ghost use Rattle.std.specs.Prelude.{◌≡◌, ◌<◌, length, All};
+ghost use Rattle.stream_case.specs.Case.{IsComplete};
+ghost use Rattle.stream_case.specs.Stream.{IsValidStream};
 ghost use Rattle.fractions.specs.Rationals.{Gives, IsBelow, over, rational_zero};
 ghost use Rattle.networks.specs.Lines.{members, uses};
 ghost use Rattle.networks.specs.Shape.{NamesKnown};
 ghost use Rattle.network_values.specs.Made.{heat_of_both, made_values, mixed_value, moved, passed_value, second_part};
-ghost use Rattle.network_values.specs.Values.{branch_side};
+ghost use Rattle.network_values.specs.Values.{branch_side, is_latent_branch};
 ghost use Rattle.network_audit.specs.Answers.{Formed, Judged, Tested};
-ghost use Rattle.network_audit.specs.Items.{end_items, line_items, mean_items, mix_items, pass_items, split_items};
+ghost use Rattle.network_audit.specs.Items.{end_items, line_items, load_items, mean_items, mix_items, pass_items, split_items};
 ghost use Rattle.network_audit.specs.Joints.{joints_of};
 ghost use Rattle.networks.specs.declared.network.Network.{Network};
 
@@ -18,8 +20,8 @@ use network_values::BranchValue;
 use networks::{AtMostTwo, Branch, Line, Network};
 use stream_case::{Case, Side, Source, Stream};
 
-/// The second part of a branch that is split, where the first has this heat-capacity flow in
-/// 10 W/K: both keep the temperature.
+/// The second part of a branch that is split, where the first has this size in 10 W/K, or in W of a
+/// latent stream: both keep the state.
 pub(crate) fn split_rest(
     place: Place,
     from: &BranchValue,
@@ -48,25 +50,58 @@ pub(crate) fn split_rest(
     })
 }
 
-/// A branch behind an exchanger of this duty in W, or the number of the step that is too fine.
-pub(crate) fn passed(side: Side, from: &BranchValue, duty: &Frac) -> Result<BranchValue, u32>
+/// A branch behind an exchanger of this duty in W, where a latent one keeps its state from 0 to 1.
+pub(crate) fn passed(
+    place: Place,
+    side: Side,
+    is_latent: bool,
+    from: &BranchValue,
+    duty: &Frac,
+) -> Result<BranchValue, Finding>
     requires { IsBelow rational_zero from.now.cp }
-    ensures { Formed
-        (λ at. pass_items at side from.now duty.now)
+    ensures { Judged
+        (pass_items place side is_latent from.now duty.now)
         (λ to. to ≡ passed_value side from.now duty.now)
         result }
 {
     let Some(change) = duty.over(&from.cp) else {
-        return Err(1);
+        return Err(Finding::TooFine { place, step: 1 });
     };
     let Some(t) = moved(side, &from.t, &change) else {
-        return Err(2);
+        return Err(Finding::TooFine { place, step: 2 });
     };
-    Ok(BranchValue { cp: from.cp, t })
+    match keeps_load(is_latent, &t) {
+        Ok(()) => Ok(BranchValue { cp: from.cp, t }),
+        Err(reason) => Err(Finding::Failed { place, reason }),
+    }
 }
 
-/// A temperature that falls by `change` on the hot side, or rises by it on the cold one, all in
-/// tenths of °C.
+/// The state of a latent branch is a part of its load, from 0 to 1, or else why not.
+fn keeps_load(is_latent: bool, state: &Frac) -> Result<(), Reason>
+    ensures { Tested (λ at. load_items at is_latent state.now) (λ _. Unit {0}) result }
+{
+    if !is_latent {
+        return Ok(());
+    }
+    let none = Frac::whole(0);
+    if state.is_below(&none) {
+        return Err(Reason::Overdrawn {
+            found: *state,
+            wanted: none,
+        });
+    }
+    let all = Frac::whole(1);
+    if all.is_below(state) {
+        return Err(Reason::Overdrawn {
+            found: *state,
+            wanted: all,
+        });
+    }
+    Ok(())
+}
+
+/// A state that falls by `change` on the hot side, or rises by it on the cold one: temperatures in
+/// tenths of °C, or parts of a load.
 fn moved(side: Side, t: &Frac, change: &Frac) -> Option<Frac>
     ensures { Gives result (moved side t.now change.now) }
 {
@@ -95,8 +130,8 @@ pub(crate) fn mixed(first: &BranchValue, second: &BranchValue) -> Result<BranchV
     Ok(BranchValue { cp, t })
 }
 
-/// The temperature in tenths of °C of two branches together, which have this heat-capacity flow
-/// in 10 W/K, or the number of the step that is too fine.
+/// The state of two branches together, which have this size, or the number of the step that is too
+/// fine: the mean of their states by their sizes.
 fn mean(first: &BranchValue, second: &BranchValue, cp: &Frac) -> Result<Frac, u32>
     requires { IsBelow rational_zero cp.now }
     ensures { Formed
@@ -119,8 +154,9 @@ fn mean(first: &BranchValue, second: &BranchValue, cp: &Frac) -> Result<Frac, u3
     Ok(t)
 }
 
-/// A branch that ends carries its whole stream at its target.
+/// A branch that ends carries its whole stream in its last state.
 pub(crate) fn ended(value: &BranchValue, stream: &Stream) -> Result<(), Reason>
+    requires { IsValidStream stream.now }
     ensures { Tested (λ at. end_items at value.now (Some stream.now)) (λ _. Unit {0}) result }
 {
     let size = full_size(stream);
@@ -130,11 +166,11 @@ pub(crate) fn ended(value: &BranchValue, stream: &Stream) -> Result<(), Reason>
             wanted: size,
         });
     }
-    let target = last_state(stream);
-    if value.t != target {
+    let state = last_state(stream);
+    if value.t != state {
         return Err(Reason::MissedTarget {
             found: value.t,
-            wanted: target,
+            wanted: state,
         });
     }
     Ok(())
@@ -149,6 +185,16 @@ fn branch_side(case: &Case, branches: &[Branch], number: u32) -> Side
         .unwrap_or(Side::Hot)
 }
 
+/// Whether the stream of a branch is latent; not, of which no rule speaks, where there is none.
+fn is_latent_branch(case: &Case, branches: &[Branch], number: u32) -> bool
+    ensures { (network : Network) → network.branches ≡ branches.now
+        → result ≡ is_latent_branch case.now network number }
+{
+    case.streams
+        .get(stream_at(branches, number) as usize)
+        .is_some_and(|s| s.is_latent())
+}
+
 /// What a statement makes of what the branches before it carry, or what is found at it.
 pub(crate) fn made_by(
     case: &Case,
@@ -158,6 +204,7 @@ pub(crate) fn made_by(
     place: Place,
     line: &Line,
 ) -> Result<AtMostTwo<BranchValue>, Finding>
+    requires complete { IsComplete case.now }
     requires joints { joints.now ≡ joints_of network.now }
     requires known { NamesKnown case.now network.now line.now }
     requires used { All (λ b. b < length values.now) (uses line.now) }
@@ -171,22 +218,20 @@ pub(crate) fn made_by(
         Line::Exchanger { .. } => Ok(AtMostTwo::Nothing),
         Line::Split { from, cp, .. } => {
             let from = &values[from as usize];
-            match split_rest(place, from, &cp) {
-                Ok(rest) => Ok(AtMostTwo::Two(BranchValue { cp, t: from.t }, rest)),
-                Err(found) => Err(found),
-            }
+            let rest = split_rest(place, from, &cp)?;
+            Ok(AtMostTwo::Two(BranchValue { cp, t: from.t }, rest))
         }
         Line::Pass {
             from,
             exchanger,
             ..
         } => {
-            let side = branch_side(case, network.branches.as_slice(), from);
+            let branches = network.branches.as_slice();
+            let side = branch_side(case, branches, from);
+            let is_latent = is_latent_branch(case, branches, from);
             let duty = joints[exchanger as usize].duty;
-            match passed(side, &values[from as usize], &duty) {
-                Ok(to) => Ok(AtMostTwo::One(to)),
-                Err(step) => Err(Finding::TooFine { place, step }),
-            }
+            let to = passed(place, side, is_latent, &values[from as usize], &duty)?;
+            Ok(AtMostTwo::One(to))
         }
         Line::Mix { first, second, .. } => {
             match mixed(&values[first as usize], &values[second as usize]) {

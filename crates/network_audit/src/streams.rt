@@ -1,7 +1,8 @@
 //! What streams carry at their ends, and whether each of them ends.
-ghost use Rattle.std.specs.Prelude.{◌≡◌, ◌<◌, ◌≤◌, ◌^◌, ◌++◌, length, map, take};
+ghost use Rattle.std.specs.Prelude.{◌≡◌, ◌<◌, ◌≤◌, ◌^◌, ◌++◌, length, map, take, All};
 ghost use Rattle.std.specs.List.{list_any};
-ghost use Rattle.network_values.specs.Values.{first_value, full_size, last_state};
+ghost use Rattle.stream_case.specs.Stream.{AreStreams, IsValidStream};
+ghost use Rattle.network_values.specs.Values.{first_state, first_value, full_size, last_state};
 ghost use Rattle.network_audit.specs.Answers.{Judged};
 ghost use Rattle.network_audit.specs.Items.{ends_stream, stream_items};
 
@@ -10,35 +11,60 @@ use crate::joints::stream_at;
 use fractions::Frac;
 use network_values::BranchValue;
 use networks::{Branch, Line, Network};
-use stream_case::{Case, Stream};
+use stream_case::{Case, Side, Stream};
 
-/// The size of a whole stream: its heat-capacity flow, in 10 W/K.
+/// The size of a whole stream: its heat-capacity flow in 10 W/K, or its load in W.
 pub(crate) fn full_size(stream: &Stream) -> Frac
+    requires { IsValidStream stream.now }
     ensures { result ≡ full_size stream.now }
 {
-    Frac::whole(stream.cp)
+    // One of the two is 0.
+    Frac::whole(stream.cp + stream.load)
+}
+
+/// The state in which a stream begins: its supply in tenths of °C. A latent one has all of its load
+/// to give, 1, or has taken none of it, 0.
+fn first_state(stream: &Stream) -> Frac
+    ensures { result ≡ first_state stream.now }
+{
+    if !stream.is_latent() {
+        return Frac::whole(i64::from(stream.supply));
+    }
+    match stream.side {
+        Side::Hot => Frac::whole(1),
+        Side::Cold => Frac::whole(0),
+    }
+}
+
+/// The state in which a stream ends: its target in tenths of °C. A latent one has none of its load
+/// left to give, 0, or has taken all of it, 1.
+pub(crate) fn last_state(stream: &Stream) -> Frac
+    ensures { result ≡ last_state stream.now }
+{
+    if !stream.is_latent() {
+        return Frac::whole(i64::from(stream.target));
+    }
+    match stream.side {
+        Side::Hot => Frac::whole(0),
+        Side::Cold => Frac::whole(1),
+    }
 }
 
 /// What a stream's own branch carries.
 pub(crate) fn first_value(stream: &Stream) -> BranchValue
+    requires { IsValidStream stream.now }
     ensures { result ≡ first_value stream.now }
 {
     BranchValue {
         cp: full_size(stream),
-        t: Frac::whole(i64::from(stream.supply)),
+        t: first_state(stream),
     }
-}
-
-/// The state in which a stream ends: its target, in tenths of °C.
-pub(crate) fn last_state(stream: &Stream) -> Frac
-    ensures { result ≡ last_state stream.now }
-{
-    Frac::whole(i64::from(stream.target))
 }
 
 /// Gives the streams' own branches what they carry.
 pub(crate) fn start(streams: &[Stream], values: &mut [BranchValue])
-    requires { length streams.now ≤ length values.old }
+    requires valid { All IsValidStream streams.now }
+    requires room { length streams.now ≤ length values.old }
     ensures { take (length streams.now) values.new ≡ map first_value streams.now }
 {
     for (index, stream) in streams.iter().enumerate() {
@@ -65,7 +91,7 @@ fn is_ended(branches: &[Branch], lines: &[Line], stream: u32) -> bool
 
 /// Each stream has to end.
 pub(crate) fn audit_streams(case: &Case, network: &Network) -> Result<(), Finding>
-    requires { length case.now.streams < 2 ^ 32 }
+    requires { AreStreams case.now.streams }
     ensures { Judged (stream_items case.now network.now) (λ _. Unit {0}) result }
 {
     let branches = network.branches.as_slice();

@@ -2,7 +2,6 @@
 ghost use Rattle.std.specs.Prelude.{◌≡◌, ◌+◌, ◌<◌, ◌≤◌, ◌^◌, ◌++◌, length, take};
 ghost use Rattle.networks.specs.Lines.{members};
 ghost use Rattle.stream_case.specs.Case.{IsComplete};
-ghost use Rattle.stream_case.specs.Stream.{AreSensible};
 ghost use Rattle.networks.specs.Shape.{HasShape};
 ghost use Rattle.network_audit.specs.Walk.{WalkedAll};
 ghost use Rattle.network_audit.specs.Joints.{joints_of};
@@ -46,7 +45,6 @@ pub(crate) fn audit_statements(
 ) -> Result<(), Finding>
     requires shape { HasShape case.now network.now }
     requires complete { IsComplete case.now }
-    requires sensible { AreSensible case.now.streams }
     requires joints { joints.now ≡ joints_of network.now }
     requires room { length values.old ≡ length network.now.branches }
     ensures { WalkedAll case.now network.now values.new result }

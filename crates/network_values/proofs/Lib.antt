@@ -9,8 +9,10 @@ pub mod FlowBalance
 pub mod EndLemmas
 pub mod WeightLemmas
 pub mod PassLemmas
+pub mod WholeHeights
 pub mod PenaltyLemmas
 pub mod StreamStates
+pub mod LoadLemmas
 pub mod ScaleLemmas
 pub mod SignLemmas
 mod OnNetwork

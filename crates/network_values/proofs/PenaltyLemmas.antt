@@ -1,89 +1,110 @@
 -- The sum of all penalties.
-use Rattle.std.proofs.Common.{◌≡◌, ◌∙◌, ◌+ℤ◌, ◌-ℤ◌, ◌*ℤ◌, ℕ, ℤ, pos, false, Option, Some, None, slice_get, refl, sym, ap, ap₂, arith, if◌then◌else◌}
+use Rattle.std.proofs.Common.{◌≡◌, ◌↔◌, ◌∙◌, ⊎_elim, inl, inr, ◌+ℤ◌, ◌-ℤ◌, ◌*ℤ◌, ℕ, ℤ, pos, Bool, true, false, List, Option, Some, None, slice_get, refl, sym, ap, ap₂, arith, if◌then◌else◌}
 use Rattle.std.specs.Int.{int_max}
+use Rattle.std.specs.Bool.{IsTrue}
 use Rattle.std.specs.List.{enumerate_from}
-use Rattle.std.proofs.lemmas.Int.{by_lt_z, clamps, ints}
-use Rattle.network_values.proofs.Words.{AreSensible, Case, Exchanger, HasShape, IsAdditive, IsSensible, Network, PenaltiesAddUp, PenaltiesAreTheExcess, Rational, Side, Source, Stream, StreamsGiveTheirHeat, View, absorbed_heat, course_of, exchangers_of, first_value, given_by, heat_above, height, height_at, height_in, heights, hot_duty, hot_heat, inlet_height, int_sum_by, last_value, minus, mix_penalties, outlet_height, pass_loss, pass_of, penalty, plus, positive_part, ratio, rational_sum_by, rational_zero, released_heat, same_side, sensible_above, stream_height, stream_loss, sum_side, times, utility_part, whole}
+use Rattle.std.proofs.lemmas.Int.{by_lt_z, ints}
+use Rattle.network_values.proofs.Words.{AreStreams, Case, CountsFromItself, Exchanger, HasShape, IsAdditive, IsLatent, IsReferenceView, IsSensible, IsValidStream, Latent, Network, PenaltiesAddUp, PenaltiesAreTheExcess, Rational, Sensible, Side, Source, Stream, StreamsGiveTheirHeat, View, absorbed_heat, base_of, counts_above, course_of, deficit_above, deficit_over, exchangers_of, first_part_of_load, first_value, full_size, given_by, heat_over, height_at, height_on, heights, high_end, hot_duty, hot_heat, hot_target, inlet_height, int_sum_by, is_latent, last_part_of_load, last_value, load_over, minus, mix_penalties, outlet_height, pass_loss, pass_of, penalty, plus, ratio, rational_sum_by, rational_zero, released_heat, same_side, sensible_above, stream_height, stream_loss, sum_side, times, utility_part, whole}
 use Rattle.sums.proofs.ProductLemmas.{*ℤ--ℤ}
 use Rattle.sums.proofs.SumLemmas.{int_sum_by-sub}
-use Rattle.stream_case.proofs.HeatLemmas.{heat_over-sensible}
+use Rattle.stream_case.proofs.HeatLemmas.{heat_over-latent, heat_over-sensible, is_latent-latent, is_latent-sensible}
 use Rattle.stream_case.specs.declared.source.Side.TheVariants as side
 use Rattle.stream_case.specs.declared.source.Source.TheVariants as source
-use Rattle.fractions.proofs.Comparisons.{at_most-whole}
 use Rattle.fractions.proofs.RationalSums.{rational_sum_by-plus, rational_sum_by-whole, sum-enumerated, sum-items}
 use Rattle.fractions.proofs.Ratios.{by_three, one_denominator}
-use Rattle.fractions.proofs.Sums.{minus-zero, plus-zero, plus_assoc, zero-plus}
+use Rattle.fractions.proofs.Sums.{minus-self, minus-zero, plus-zero, plus_assoc, zero-plus}
 use Rattle.fractions.proofs.Wholes.{whole-minus, whole-times}
 use Rattle.networks.proofs.Lists.{all_at}
-use Rattle.problem_table.proofs.DeficitLemmas.{tight-sensible}
+use Rattle.problem_table.specs.Deficit.{HasTightDeficit}
+use Rattle.problem_table.proofs.DeficitLemmas.{hot_target-bound}
 use Rattle.network_values.proofs.CourseLemmas.{height_on-additive}
-use Rattle.network_values.proofs.HeightLemmas.{positive_part-above, positive_part-below}
 use Rattle.network_values.proofs.PassLemmas.{passes_by_side, side_taken, sides_taken}
+use Rattle.network_values.proofs.StreamStates.{full_size-latent, full_size-sensible}
 use Rattle.network_values.proofs.WeightLemmas.{weight_balance}
-
--- ---- heights of whole numbers
-
-whole_positive_part : (n : ℤ) → positive_part (whole n) ≡ whole (int_max n (pos 0))
-whole_positive_part n =
-    by_lt_z (pos 0) n (λ above. positive_part-above (whole n) (at_most-whole (pos 0) n (omega (arith, ints, above)))
-    ∙ ap whole (omega (arith, ints, clamps, above)))
-    (λ upto. positive_part-below (whole n) (at_most-whole n (pos 0) upto) ∙ ap whole (omega (arith, ints, clamps, upto)))
-
-whole_height : (cp t base : ℤ) → height (whole cp) (minus (whole t) (whole base)) ≡ whole (cp *ℤ int_max (t -ℤ base) (pos 0))
-whole_height cp t base = ap (λ x. times (whole cp) (positive_part x)) (whole-minus t base) ∙ ap (times (whole cp)) (whole_positive_part (t -ℤ base))
-    ∙ whole-times cp (int_max (t -ℤ base) (pos 0))
-
--- the height that is lost from t to u
-height_lost : (cp t u base : ℤ)
-    → minus (height (whole cp) (minus (whole t) (whole base))) (height (whole cp) (minus (whole u) (whole base)))
-    ≡ whole (cp *ℤ (int_max (t -ℤ base) (pos 0) -ℤ int_max (u -ℤ base) (pos 0)))
-height_lost cp t u base =
-    ap₂ minus (whole_height cp t base) (whole_height cp u base) ∙ whole-minus (cp *ℤ int_max (t -ℤ base) (pos 0)) (cp *ℤ int_max (u -ℤ base) (pos 0))
-    ∙ ap whole (sym (*ℤ--ℤ cp (int_max (t -ℤ base) (pos 0)) (int_max (u -ℤ base) (pos 0))))
+use Rattle.network_values.proofs.WholeHeights.{height_lost, level_counts}
 
 -- ---- what streams give away
 
-pub stream_given : StreamsGiveTheirHeat
-stream_given view s sensible = by s.side ∙ ap (λ heat. whole (given_by s.side heat)) (sym (heat_over-sensible false view.place s sensible))
-  where
-    by : (on : Side)
-        → minus (height_in view (record s { side = on }) (first_value s)) (height_in view (record s { side = on }) (last_value s))
-        ≡ whole (given_by on (sensible_above view.place (record s { side = on })))
-    by side.Hot =
-        let place = view.place in
-        let high : s.supply -ℤ (place +ℤ s.contribution) ≡ (s.supply -ℤ s.contribution) -ℤ place = omega (arith, ints) in
-        let low : s.target -ℤ (place +ℤ s.contribution) ≡ (s.target -ℤ s.contribution) -ℤ place = omega (arith, ints) in
-        height_lost s.cp s.supply s.target (place +ℤ s.contribution)
-        ∙ ap whole (ap₂ (λ x y. s.cp *ℤ (int_max x (pos 0) -ℤ int_max y (pos 0))) high low)
-    by side.Cold =
-        let place = view.place in
-        let high : s.supply -ℤ (place -ℤ s.contribution) ≡ (s.supply +ℤ s.contribution) -ℤ place = omega (arith, ints) in
-        let low : s.target -ℤ (place -ℤ s.contribution) ≡ (s.target +ℤ s.contribution) -ℤ place = omega (arith, ints) in
-        height_lost s.cp s.supply s.target (place -ℤ s.contribution)
-        ∙ ap whole (ap₂ (λ x y. s.cp *ℤ (int_max x (pos 0) -ℤ int_max y (pos 0))) high low)
-        ∙ ap whole (turned s.cp (int_max ((s.supply +ℤ s.contribution) -ℤ place) (pos 0)) (int_max ((s.target +ℤ s.contribution) -ℤ place) (pos 0)))
-      where
-        turned : (cp x y : ℤ) → cp *ℤ (x -ℤ y) ≡ pos 0 -ℤ cp *ℤ (y -ℤ x)
-        turned cp x y = let one = *ℤ--ℤ cp x y in let two = *ℤ--ℤ cp y x in omega (arith, ints, one, two)
+-- by whether it is latent, and by its size
+abbrev given_back : View → Stream → Bool → Rational → Rational
+given_back view s latent size =
+    let course = if latent then Latent (minus (whole s.supply) (base_of view.place s)) else Sensible (base_of view.place s) in
+    minus (height_on view.from_itself course (record { cp = size; t = if latent then first_part_of_load s.side else whole s.supply }))
+    (height_on view.from_itself course (record { cp = size; t = if latent then last_part_of_load s.side else whole s.target }))
 
--- the heat of a stream, where it is on a side
-abbrev heat_beside : Side → ℤ → Stream → ℤ
-heat_beside on place s = if same_side s.side on then heat_above place s else pos 0
+-- a flow's heat between two distances, as far as they are above 0
+abbrev lost : ℤ → ℤ → ℤ → ℤ
+lost cp x y = cp *ℤ (int_max x (pos 0) -ℤ int_max y (pos 0))
+
+lost_turned : (cp x y : ℤ) → lost cp x y ≡ pos 0 -ℤ lost cp y x
+lost_turned cp x y =
+    let a = int_max x (pos 0) in let b = int_max y (pos 0) in
+    let one = *ℤ--ℤ cp a b in let two = *ℤ--ℤ cp b a in omega (arith, ints, one, two)
+
+sensible_given : (view : View) (s : Stream) → given_back view s false (whole s.cp) ≡ whole (given_by s.side (sensible_above view.place s))
+sensible_given view s = by s.side
+  where
+    by : (on : Side) → given_back view (record s { side = on }) false (whole s.cp) ≡ whole (given_by on (sensible_above view.place (record s { side = on })))
+    by side.Hot =
+        let base = view.place +ℤ s.contribution in
+        let high : s.supply -ℤ base ≡ (s.supply -ℤ s.contribution) -ℤ view.place = omega (arith, ints) in
+        let low : s.target -ℤ base ≡ (s.target -ℤ s.contribution) -ℤ view.place = omega (arith, ints) in
+        height_lost s.cp s.supply s.target base ∙ ap whole (ap₂ (lost s.cp) high low)
+    by side.Cold =
+        let base = view.place -ℤ s.contribution in
+        let low : s.supply -ℤ base ≡ (s.supply +ℤ s.contribution) -ℤ view.place = omega (arith, ints) in
+        let high : s.target -ℤ base ≡ (s.target +ℤ s.contribution) -ℤ view.place = omega (arith, ints) in
+        height_lost s.cp s.supply s.target base ∙ ap whole (ap₂ (lost s.cp) low high)
+        ∙ ap whole (lost_turned s.cp ((s.supply +ℤ s.contribution) -ℤ view.place) ((s.target +ℤ s.contribution) -ℤ view.place))
+
+-- a load is given away, or taken, where its level counts
+abbrev load_lost : Side → ℤ → Bool → Rational
+load_lost on load counts =
+    minus (if counts then times (whole load) (first_part_of_load on) else rational_zero)
+    (if counts then times (whole load) (last_part_of_load on) else rational_zero)
+
+load_given : (on : Side) (counts : Bool) (load : ℤ) → load_lost on load counts ≡ whole (given_by on (if counts then load else pos 0))
+load_given side.Hot true load = ap₂ minus (whole-times load (pos 1)) (whole-times load (pos 0)) ∙ whole-minus _ _ ∙ ap whole (omega (arith, ints))
+load_given side.Cold true load = ap₂ minus (whole-times load (pos 0)) (whole-times load (pos 1)) ∙ whole-minus _ _ ∙ ap whole (omega (arith, ints))
+load_given side.Hot false load = minus-self rational_zero
+load_given side.Cold false load = minus-self rational_zero
+
+latent_given : (view : View) (s : Stream) → IsLatent s
+    → given_back view s true (whole s.load) ≡ whole (given_by s.side (load_over view.from_itself view.place s))
+latent_given view s latent =
+    ap (load_lost s.side s.load) (level_counts view.from_itself view.place s latent)
+    ∙ load_given s.side (counts_above view.from_itself view.place (high_end s)) s.load
+
+pub stream_given : StreamsGiveTheirHeat
+stream_given view s valid = ⊎_elim sensible latent valid.heat
+  where
+    sensible : IsSensible s → given_back view s (is_latent s) (full_size s) ≡ whole (given_by s.side (heat_over view.from_itself view.place s))
+    sensible h = ap₂ (given_back view s) (is_latent-sensible s h) (full_size-sensible s h) ∙ sensible_given view s
+        ∙ ap (λ heat. whole (given_by s.side heat)) (sym (heat_over-sensible view.from_itself view.place s h))
+
+    latent : IsLatent s → given_back view s (is_latent s) (full_size s) ≡ whole (given_by s.side (heat_over view.from_itself view.place s))
+    latent h = ap₂ (given_back view s) (is_latent-latent s h) (full_size-latent s h) ∙ latent_given view s h
+        ∙ ap (λ heat. whole (given_by s.side heat)) (sym (heat_over-latent view.from_itself view.place s h))
+
+-- the heat of a stream in a view, where it is on a side
+abbrev heat_beside : Side → View → Stream → ℤ
+heat_beside on view s = if same_side s.side on then heat_over view.from_itself view.place s else pos 0
 
 given_by-sides : (on : Side) (heat : ℤ) → given_by on heat ≡ (if same_side on side.Hot then heat else pos 0) -ℤ (if same_side on side.Cold then heat else pos 0)
 given_by-sides side.Hot heat = omega (arith, ints)
 given_by-sides side.Cold heat = refl
 
-pub streams_given : (case : Case) (view : View) → AreSensible case.streams
+pub streams_given : (case : Case) (view : View) → AreStreams case.streams
     → rational_sum_by (stream_loss (heights case view)) (enumerate_from 0 case.streams)
-    ≡ whole (sum_side side.Hot (heat_above view.place) case.streams -ℤ sum_side side.Cold (heat_above view.place) case.streams)
+    ≡ whole (sum_side side.Hot (heat_over view.from_itself view.place) case.streams -ℤ sum_side side.Cold (heat_over view.from_itself view.place) case.streams)
 unfolding heights
-streams_given case view sensible =
-    let hot = heat_beside side.Hot view.place in let cold = heat_beside side.Cold view.place in
+streams_given case view streams =
+    let hot = heat_beside side.Hot view in let cold = heat_beside side.Cold view in
     let less = λ (s : Stream). hot s -ℤ cold s in
     sum-items (stream_loss (heights case view)) (λ s. whole (less s)) case.streams
     (λ i s at. ap₂ minus (ap (λ o. stream_height view o (first_value s)) at) (ap (λ o. stream_height view o (last_value s)) at)
-    ∙ stream_given view s (all_at IsSensible case.streams i s sensible at) ∙ ap whole (given_by-sides s.side (heat_above view.place s)))
+    ∙ stream_given view s (all_at IsValidStream case.streams i s streams.each at)
+    ∙ ap whole (given_by-sides s.side (heat_over view.from_itself view.place s)))
     ∙ rational_sum_by-whole less (int_sum_by less) refl (λ s ss. refl) case.streams
     ∙ ap whole (int_sum_by-sub hot cold case.streams)
 
@@ -132,18 +153,34 @@ module _ (weight : ℕ → Rational) (case : Case) (network : Network) (shape : 
       ∙ ap₂ plus (sum-items given hot_duty es (λ number e at. refl)) (sym (passes_by_side weight case network shape))
 
 pub penalties_sum : PenaltiesAddUp
-penalties_sum case network values view sensible shape whole_values ended =
+penalties_sum case network values view streams shape whole_values ended =
     let height = height_at case view network values in
     let passes = rational_sum_by (pass_loss height) network.lines in
     let mixes = mix_penalties case view network values in
-    let hot = sum_side side.Hot (heat_above view.place) case.streams in
-    let cold = sum_side side.Cold (heat_above view.place) case.streams in
+    let hot = sum_side side.Hot (heat_over view.from_itself view.place) case.streams in
+    let cold = sum_side side.Cold (heat_over view.from_itself view.place) case.streams in
     ap (λ x. plus x mixes) (exchangers_add_up height case network shape) ∙ plus_assoc (hot_heat network) passes mixes
     ∙ ap (plus (hot_heat network))
-    (sym (weight_balance case network values (heights case view) shape whole_values ended (heights-additive case view)) ∙ streams_given case view sensible)
+    (sym (weight_balance case network values (heights case view) shape whole_values ended (heights-additive case view)) ∙ streams_given case view streams)
     ∙ less_deficit (hot_heat network) hot cold
 
+-- ---- the view from the reference place
+
+-- in it the deficit is the hot target
+pub reference_tight : (streams : List Stream) (view : View) → IsReferenceView streams view
+    → deficit_over view.from_itself streams view.place ≡ hot_target streams
+reference_tight streams view reference = by view.from_itself reference.from_itself reference.place.at.tight
+  where
+    by : (b : Bool) → (IsTrue b ↔ CountsFromItself streams view.place) → HasTightDeficit streams view.place
+        → deficit_over b streams view.place ≡ hot_target streams
+    by false counts (inl above) = above
+    by false counts (inr from) =
+        let bound = hot_target-bound streams view.place reference.place.at.end in
+        by_lt_z (deficit_above streams view.place) (hot_target streams) (λ less. cc (counts.1 (λ e. omega (arith, ints)))) (λ most. omega (arith, ints))
+    by true counts (inl above) = absurd (counts.0 refl above)
+    by true counts (inr from) = from
+
 pub penalties_excess : PenaltiesAreTheExcess
-penalties_excess case network values view sensible shape whole_values ended reference =
-    penalties_sum case network values view sensible shape whole_values ended
-    ∙ ap (λ d. minus (hot_heat network) (whole d)) (tight-sensible case.streams view.place sensible reference.at)
+penalties_excess case network values view streams shape whole_values ended reference =
+    penalties_sum case network values view streams shape whole_values ended
+    ∙ ap (λ d. minus (hot_heat network) (whole d)) (reference_tight case.streams view reference)

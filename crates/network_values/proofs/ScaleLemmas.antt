@@ -1,10 +1,10 @@
 -- The two sides of an exchanger on the shifted scale, with the heights that streams lose and gain there.
-use Rattle.std.proofs.Common.{◌≡◌, ◌∙◌, inl, inr, ◌<◌, ◌+ℤ◌, ◌-ℤ◌, ℕ, ℤ, pos, Option, Some, None, slice_get, length, refl, sym, ap, ap₂, subst, arith, All, option_map, unwrap_or}
+use Rattle.std.proofs.Common.{◌≡◌, ◌∙◌, inl, inr, ◌<◌, ◌+ℤ◌, ◌-ℤ◌, ℕ, ℤ, pos, Bool, true, false, if◌then◌else◌, Option, Some, None, slice_get, length, refl, sym, ap, ap₂, subst, arith, All, option_map, unwrap_or}
 use Rattle.std.specs.Option.{option_map_or}
 use mathlib.Core.Path.{subst₂}
 use Rattle.std.proofs.lemmas.Int.{ints}
 use Rattle.std.proofs.lemmas.Option.{same_Some}
-use Rattle.network_values.proofs.Words.{Between, Case, Exchanger, ExchangersRunOnOneScale, HasDuty, HasShape, IsAtMost, IsBelow, IsBetweenValues, IsExchanger, IsOfOneStream, IsWholeValuation, Joins, Level, Network, Rational, RunsOnOneScale, Sensible, Side, SideRun, Solves, Source, Stream, Valuation, View, absorbed_heat, base_of, branch_side, change, contribution_of, course_of, duty_at, duty_of, exchangers_of, height_at, height_in, heights, inlet_height, minus, outlet_height, pass_of, pass_run, plus, ratio, rational_zero, released_heat, run_between, seen_from, share, share_in, shifted_run, side_of, side_run, stream_at, stream_height, times, unshifted, uses, value_at, whole}
+use Rattle.network_values.proofs.Words.{Between, BranchValue, Case, Exchanger, ExchangersRunOnOneScale, HasDuty, HasShape, IsAtMost, IsBelow, IsBetweenValues, IsExchanger, IsOfOneStream, IsWholeValuation, Joins, Latent, Level, Network, Rational, RunsOnOneScale, Sensible, Side, SideRun, Solves, Source, Stream, Valuation, View, absorbed_heat, base_of, branch_side, change, contribution_of, course_of, duty_at, duty_of, exchangers_of, height_at, height_in, heights, inlet_height, is_latent, level_or, minus, outlet_height, pass_of, pass_run, plus, ratio, rational_zero, released_heat, run_between, seen_from, share, share_in, shifted_run, side_of, side_on, side_run, stream_at, stream_height, stream_level, times, unshifted, uses, value_at, whole}
 use Rattle.stream_case.specs.declared.source.Side.TheVariants as side
 use Rattle.stream_case.specs.declared.source.Source.TheVariants as source
 use Rattle.fractions.proofs.Comparisons.{at_most-minus_right, at_most-minus_swap, positive-is}
@@ -59,6 +59,37 @@ seen-again on place c run = by run
     by (Between size low high) = ap₂ (λ a b. Between size a b) (at low) (at high)
     by (Level t) = ap Level (at t)
 
+-- ---- the values before and behind a pass
+
+-- a hot branch passes from the higher state to the lower, a cold one the other way round
+abbrev lower : Side → BranchValue → BranchValue → BranchValue
+lower side.Hot from to = to
+lower side.Cold from to = from
+
+abbrev higher : Side → BranchValue → BranchValue → BranchValue
+higher side.Hot from to = from
+higher side.Cold from to = to
+
+abbrev between_both : Side → BranchValue → BranchValue → SideRun
+between_both on from to = Between (higher on from to).cp (lower on from to).t (higher on from to).t
+
+values_between : (on : Side) (duty : Rational) (from to : BranchValue) → IsBelow rational_zero from.cp → to.cp ≡ from.cp
+    → times from.cp (change on from.t to.t) ≡ duty → IsBetweenValues duty (lower on from to) (higher on from to)
+values_between side.Hot duty from to some size heat = record { some = some; size = size; gives = heat }
+values_between side.Cold duty from to some size heat =
+    record { some = subst (IsBelow rational_zero) (sym size) some; size = sym size; gives = ap (λ f. times f (minus to.t from.t)) size ∙ heat }
+
+run_between-both : (on : Side) (from to : BranchValue) → to.cp ≡ from.cp → run_between on from to ≡ between_both on from to
+run_between-both side.Hot from to size = refl
+run_between-both side.Cold from to size = ap (λ f. Between f from.t to.t) (sym size)
+
+-- the level of a latent stream, or else the range between the states, less the base
+level_or-seen : (base : Rational) (level : ℤ) (low high : BranchValue) (latent : Bool)
+    → seen_from base (level_or (Between high.cp low.t high.t) (if latent then Some level else None))
+    ≡ side_on (if latent then Latent (minus (whole level) base) else Sensible base) low high
+level_or-seen base level low high true = refl
+level_or-seen base level low high false = refl
+
 module _ {case : Case} {network : Network} {values : Valuation} (shape : HasShape case network) (whole_values : IsWholeValuation case network values) where
   pub branch_height : (view : View) (i : ℕ) (s : Stream) (branch : ℕ)
       → slice_get case.streams i ≡ Some s → stream_at network.branches branch ≡ i
@@ -73,10 +104,8 @@ module _ {case : Case} {network : Network} {values : Valuation} (shape : HasShap
     of_from : stream_at network.branches from ≡ i
     of_to : stream_at network.branches to ≡ i
     found : pass_of network number i ≡ Some (line.Pass from number to)
-    some : IsBelow rational_zero (value_at values from).cp
-    size : (value_at values to).cp ≡ (value_at values from).cp
-    heat : times (value_at values from).cp (change on (value_at values from).t (value_at values to).t) ≡ duty
-    run : side_run case network values number (source.Stream i) ≡ run_between on (value_at values from) (value_at values to)
+    between : IsBetweenValues duty (lower on (value_at values from) (value_at values to)) (higher on (value_at values from) (value_at values to))
+    run : side_run case network values number (source.Stream i) ≡ level_or (between_both on (value_at values from) (value_at values to)) (stream_level (Some s))
 
   run_of : (number i : ℕ) (e : Exchanger) (on : Side) → slice_get (exchangers_of network.lines) number ≡ Some e → Joins e i
       → side_of case (source.Stream i) ≡ Some on
@@ -92,7 +121,10 @@ module _ {case : Case} {network : Network} {values : Valuation} (shape : HasShap
       (used_there shape.made_once shape.made_first) pass.here in
       let of_side : branch_side case network from ≡ on =
       ap (λ n. unwrap_or (side_of case (source.Stream n)) side.Hot) pass.of_stream ∙ ap (λ o. unwrap_or o side.Hot) is in
-      let duty : duty_at network number ≡ e.duty = ap duty_of at in (
+      let duty : duty_at network number ≡ e.duty = ap duty_of at in
+      let some = branch_above whole_values shape from (used 0 0 (omega arith)) in
+      let heat = ap (λ o. times (value_at values from).cp (change o (value_at values from).t (value_at values to).t)) (sym of_side) ∙ solves.heat ∙ duty in
+      let passed = ap (pass_run case network values) pass.found ∙ ap (λ o. run_between o (value_at values from) (value_at values to)) of_side in (
         s,
         from,
         to,
@@ -102,23 +134,39 @@ module _ {case : Case} {network : Network} {values : Valuation} (shape : HasShap
           of_from = pass.of_stream;
           of_to = one ∙ pass.of_stream;
           found = pass.found;
-          some = branch_above whole_values shape from (used 0 0 (omega arith));
-          size = solves.size;
-          heat = ap (λ o. times (value_at values from).cp (change o (value_at values from).t (value_at values to).t)) (sym of_side) ∙ solves.heat ∙ duty;
-          run = ap (pass_run case network values) pass.found ∙ ap (λ o. run_between o (value_at values from) (value_at values to)) of_side;
+          between = values_between on e.duty (value_at values from) (value_at values to) some solves.size heat;
+          run = ap₂ level_or (passed ∙ run_between-both on (value_at values from) (value_at values to) solves.size) (ap stream_level of_case);
         },
       )
 
   contribution-of : (i : ℕ) (s : Stream) → slice_get case.streams i ≡ Some s → contribution_of case (source.Stream i) ≡ s.contribution
   contribution-of i s at = ap (λ o. option_map_or (λ (t : Stream). t.contribution) o (pos 0)) at
 
-  -- the side of a stream as it is seen from a place, and from the shifted scale
-  seen_run : (number i : ℕ) (on : Side) (duty : Rational) (s : Stream) (from to : ℕ) → IsRun number i on duty s from to → (place : ℤ)
-      → seen_from (whole place) (shifted_run on case network values number (source.Stream i))
-      ≡ seen_from (base_of place s) (run_between on (value_at values from) (value_at values to))
-  seen_run number i on duty s from to r place =
-      seen-again on place (contribution_of case (source.Stream i)) (side_run case network values number (source.Stream i))
-      ∙ ap₂ seen_from (ap₂ (λ o c. whole (unshifted o place c)) (sym r.is_on) (contribution-of i s r.at)) r.run
+  -- the side of a stream, seen from a place of the shifted scale, is the side on its course
+  module _ (number i : ℕ) (on : Side) (duty : Rational) (s : Stream) (from to : ℕ) (r : IsRun number i on duty s from to) where
+    abbrev low : BranchValue
+    low = lower on (value_at values from) (value_at values to)
+
+    abbrev high : BranchValue
+    high = higher on (value_at values from) (value_at values to)
+
+    run-on_course : (place : ℤ)
+        → seen_from (whole (unshifted on place (contribution_of case (source.Stream i)))) (side_run case network values number (source.Stream i))
+        ≡ side_on (course_of place s) low high
+    run-on_course place =
+        ap₂ seen_from (ap₂ (λ o c. whole (unshifted o place c)) (sym r.is_on) (contribution-of i s r.at)) r.run
+        ∙ level_or-seen (base_of place s) s.supply low high (is_latent s)
+
+    run-has_duty : HasDuty duty (shifted_run on case network values number (source.Stream i))
+    run-has_duty = subst (HasDuty duty) (sym (run-on_course (pos 0))) (passes_take.has_duty (course_of (pos 0) s) duty low high r.between)
+
+    -- and the height that the pass takes is its share
+    run-takes : (view : View)
+        → minus (height_in view s high) (height_in view s low) ≡ share_in view duty (shifted_run on case network values number (source.Stream i))
+    run-takes view =
+        let c = contribution_of case (source.Stream i) in let run = side_run case network values number (source.Stream i) in
+        passes_take.takes view.from_itself (course_of view.place s) duty low high r.between
+        ∙ ap (share view.from_itself duty) (sym (seen-again on view.place c run ∙ run-on_course view.place))
 
   -- what a side has on the shifted scale: the duty, and of a stream the share in each view
   record IsSide (on : Side) (number : ℕ) (duty : Rational) (s : Source) (taken : View → Rational) : Type 0 where
@@ -130,16 +178,12 @@ module _ {case : Case} {network : Network} {values : Valuation} (shape : HasShap
       → IsSide side.Hot number e.duty s (λ view. released_heat (height_at case view network values) network number e.duty s)
   unfolding side_run
   hot_side number e at (source.Stream i) is joins =
-      let (s, from, to, r) = run_of number i e side.Hot at (joins i refl) is in
-      let base = whole (unshifted side.Hot (pos 0) (contribution_of case (source.Stream i))) in
-      let before = value_at values from in let behind = value_at values to in
-      let between : IsBetweenValues e.duty behind before = record { some = r.some; size = r.size; gives = r.heat } in record {
-        has_duty = subst (λ run. HasDuty e.duty (seen_from base run)) (sym r.run) (passes_take.has_duty (Sensible base) e.duty behind before between);
+      let (s, from, to, r) = run_of number i e side.Hot at (joins i refl) is in record {
+        has_duty = run-has_duty number i side.Hot e.duty s from to r;
         is_share = λ view j same.
             ap (λ o. minus (inlet_height (height_at case view network values) o) (outlet_height (height_at case view network values) o)) r.found
             ∙ ap₂ minus (branch_height view i s from r.at r.of_from) (branch_height view i s to r.at r.of_to)
-            ∙ passes_take.takes view.from_itself (course_of view.place s) e.duty behind before between
-            ∙ sym (ap (share view.from_itself e.duty) (seen_run number i side.Hot e.duty s from to r view.place));
+            ∙ run-takes number i side.Hot e.duty s from to r view;
       }
   hot_side number e at (source.Utility i) is joins = record { has_duty = tt; is_share = λ view j same. cc same }
 
@@ -148,23 +192,12 @@ module _ {case : Case} {network : Network} {values : Valuation} (shape : HasShap
       → IsSide side.Cold number e.duty s (λ view. absorbed_heat (height_at case view network values) network number s)
   unfolding side_run
   cold_side number e at (source.Stream i) is joins =
-      let (s, from, to, r) = run_of number i e side.Cold at (joins i refl) is in
-      let base = whole (unshifted side.Cold (pos 0) (contribution_of case (source.Stream i))) in
-      let before = value_at values from in let behind = value_at values to in
-      let between : IsBetweenValues e.duty before behind = record {
-        some = subst (IsBelow rational_zero) (sym r.size) r.some;
-        size = sym r.size;
-        gives = ap (λ f. times f (minus behind.t before.t)) r.size ∙ r.heat;
-      } in
-      let run : Between behind.cp before.t behind.t ≡ side_run case network values number (source.Stream i) =
-      ap (λ f. Between f before.t behind.t) r.size ∙ sym r.run in record {
-        has_duty = subst (λ run. HasDuty e.duty (seen_from base run)) run (passes_take.has_duty (Sensible base) e.duty before behind between);
+      let (s, from, to, r) = run_of number i e side.Cold at (joins i refl) is in record {
+        has_duty = run-has_duty number i side.Cold e.duty s from to r;
         is_share = λ view j same.
             ap (λ o. minus (outlet_height (height_at case view network values) o) (inlet_height (height_at case view network values) o)) r.found
             ∙ ap₂ minus (branch_height view i s to r.at r.of_to) (branch_height view i s from r.at r.of_from)
-            ∙ passes_take.takes view.from_itself (course_of view.place s) e.duty before behind between
-            ∙ ap (λ f. share view.from_itself e.duty (seen_from (base_of view.place s) (Between f before.t behind.t))) r.size
-            ∙ sym (ap (share view.from_itself e.duty) (seen_run number i side.Cold e.duty s from to r view.place));
+            ∙ run-takes number i side.Cold e.duty s from to r view;
       }
   cold_side number e at (source.Utility i) is joins = record { has_duty = tt; is_share = λ view j same. cc same }
 

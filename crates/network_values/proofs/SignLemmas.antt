@@ -1,16 +1,15 @@
 -- No penalty is negative, and the targets are met.
-use Rattle.std.proofs.Common.{◌≡◌, ⊎_elim, ◌<◌, ℕ, ℤ, pos, Some, get_or, slice_get, length, map, refl, sym, ap₂, subst, arith, All}
+use Rattle.std.proofs.Common.{◌≡◌, ⊎_elim, ◌<◌, ℕ, ℤ, pos, Bool, true, false, Some, get_or, slice_get, length, map, refl, sym, ap₂, subst, arith, All}
 use mathlib.Core.Path.{subst₂}
 use Rattle.std.proofs.lemmas.Int.{fold-int_max_reached}
 use Rattle.std.proofs.lemmas.List.Elements.{All-append, All-map}
-use Rattle.network_values.proofs.Words.{Case, DeficitsAreMet, Exchanger, HasNoNegativePenalty, HasShape, IsAtMost, IsBelow, IsExchanger, IsOfOneStream, IsWholeValuation, KeepApproaches, KeepsApproach, Line, Network, PenaltiesAreNotNegative, Rational, RunsOnOneScale, Solves, Source, TargetsAreMet, Valuation, View, absorbed_heat, course_of, deficit_above, deficit_from, end_deficits, exchanger_penalties, exchangers_of, height_at, hot_duty, hot_heat, hot_target, mix_loss, mix_penalties, penalty, plus, rational_zero, released_heat, share_in, shifted_run, stream_at, stream_ends, uses, utility_part, value_at, view_above, whole}
+use Rattle.network_values.proofs.Words.{Case, DeficitsAreMet, Exchanger, HasNoNegativePenalty, HasShape, IsAtMost, IsBelow, IsExchanger, IsOfOneStream, IsWholeValuation, KeepApproaches, KeepsApproach, Line, Network, PenaltiesAreNotNegative, Rational, RunsOnOneScale, Solves, Source, TargetsAreMet, Valuation, View, absorbed_heat, course_of, deficit_above, deficit_from, deficit_over, end_deficits, exchanger_penalties, exchangers_of, height_at, hot_duty, hot_heat, hot_target, mix_loss, mix_penalties, penalty, plus, rational_zero, released_heat, share_in, shifted_run, stream_at, stream_ends, uses, utility_part, value_at, whole}
 use Rattle.stream_case.specs.declared.source.Side.TheVariants as side
 use Rattle.stream_case.specs.declared.source.Source.TheVariants as source
 use Rattle.fractions.proofs.Comparisons.{at_most_from_below, at_most_from_not_negative, at_most_from_same, at_most_refl, at_most_trans, not_negative-minus, not_negative-plus, positive-is}
 use Rattle.fractions.proofs.RationalSums.{not_negative-enumerated, not_negative-rational_sum_by}
 use Rattle.networks.specs.declared.network.Line.TheVariants as line
 use Rattle.networks.proofs.OfShape.{stream_within, used_there}
-use Rattle.problem_table.proofs.DeficitLemmas.{deficit_from-sensible}
 use Rattle.network_values.proofs.CourseLemmas.{height_on-mixed}
 use Rattle.network_values.proofs.PenaltyLemmas.{penalties_sum}
 use Rattle.network_values.proofs.ScaleLemmas.{branch_height, run_on_scale}
@@ -84,10 +83,10 @@ pub penalties_sign : PenaltiesAreNotNegative
 penalties_sign case network values view shape whole_values apart = no_negative case network values view shape whole_values apart
 
 pub deficits_met : DeficitsAreMet
-deficits_met case network values place sensible shape whole_values ended apart =
-    at_most_from_not_negative (whole (deficit_above case.streams place)) (hot_heat network)
-    (subst (IsAtMost rational_zero) (penalties_sum case network values (view_above place) sensible shape whole_values ended)
-    (sum_sign case network values (view_above place) shape whole_values apart))
+deficits_met case network values view streams shape whole_values ended apart =
+    at_most_from_not_negative (whole (deficit_over view.from_itself case.streams view.place)) (hot_heat network)
+    (subst (IsAtMost rational_zero) (penalties_sum case network values view streams shape whole_values ended)
+    (sum_sign case network values view shape whole_values apart))
 
 -- ---- the targets
 
@@ -105,15 +104,14 @@ hot_heat-least case network shape =
 
 -- the hot target is 0, or one of both deficits at some end
 pub targets_met : TargetsAreMet
-targets_met case network values sensible shape whole_values ended apart =
+targets_met case network values valid shape whole_values ended apart =
     let streams = case.streams in let ends = stream_ends streams in
     let IsMet = λ (d : ℤ). IsAtMost (whole d) (hot_heat network) in
-    let above : (t : ℤ) → IsMet (deficit_above streams t) = λ t. deficits_met case network values t sensible shape whole_values ended apart in
-    let from : (t : ℤ) → IsMet (deficit_from streams t) = λ t. subst IsMet (sym (deficit_from-sensible t streams sensible)) (above t) in
+    let met : (from_itself : Bool) (t : ℤ) → IsMet (deficit_over from_itself streams t) =
+    λ from_itself t. deficits_met case network values (record { place = t; from_itself = from_itself }) valid shape whole_values ended apart in
+    let all_met = λ (from_itself : Bool). All-map IsMet (deficit_over from_itself streams) ends (λ k d within. met from_itself (get_or ends k d)) in
     let each : All IsMet (end_deficits streams) =
-    All-append IsMet (map (deficit_above streams) ends) (map (deficit_from streams) ends)
-    (All-map IsMet (deficit_above streams) ends (λ k d within. above (get_or ends k d)))
-    (All-map IsMet (deficit_from streams) ends (λ k d within. from (get_or ends k d))) in
+    All-append IsMet (map (deficit_above streams) ends) (map (deficit_from streams) ends) (all_met false) (all_met true) in
     not_negative-minus (whole (hot_target streams)) (hot_heat network)
     (⊎_elim (λ none. subst IsMet (sym none) (hot_heat-least case network shape)) (λ (k, within, is). subst IsMet is (each k (hot_target streams) within))
     (fold-int_max_reached (pos 0) (end_deficits streams) (hot_target streams) refl))

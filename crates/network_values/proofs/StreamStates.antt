@@ -1,8 +1,57 @@
--- The first and the last state of a stream are the ends of its shifted range, unshifted.
-use Rattle.std.proofs.Common.{◌≡◌, ◌∙◌, ℤ, ap, arith, if◌then◌else◌}
+-- The sizes, states and levels of streams: sensible ones first, then latent ones.
+use Rattle.std.proofs.Common.{◌≡◌, ◌⊎◌, inl, inr, ◌∙◌, ℕ, ℤ, pos, ◌+ℤ◌, sym, ap, arith, false, if◌then◌else◌, Some, None, slice_get}
+use Rattle.std.specs.Option.{option_map_or}
 use Rattle.std.proofs.lemmas.Int.{ints}
-use Rattle.network_values.proofs.Words.{Side, Stream, first_state, high_end, is_hot, last_state, low_end, shifted, unshifted, whole}
+use Rattle.stream_case.specs.Stream.{IsLatent, IsValidStream}
 use Rattle.stream_case.specs.declared.source.Side.TheVariants as side
+use Rattle.stream_case.specs.declared.source.Source.TheVariants as source
+use Rattle.stream_case.proofs.HeatLemmas.{is_latent-latent, is_latent-sensible}
+use Rattle.fractions.proofs.Comparisons.{below-whole}
+use Rattle.network_values.proofs.Words.{Case, IsBelow, IsSensible, Network, Side, Stream, first_part_of_load, first_state, fixed_level, full_size, high_end, is_hot, is_latent, is_latent_branch, last_part_of_load, last_state, low_end, rational_zero, shifted, stream_at, stream_level, unshifted, whole}
+
+-- ---- sensible streams
+
+pub full_size-sensible : (s : Stream) → IsSensible s → full_size s ≡ whole s.cp
+full_size-sensible s h = let none = h.load in ap whole (omega (arith, ints))
+
+pub first_state-sensible : (s : Stream) → IsSensible s → first_state s ≡ whole s.supply
+first_state-sensible s h = ap (λ b. if b then first_part_of_load s.side else whole s.supply) (is_latent-sensible s h)
+
+pub last_state-sensible : (s : Stream) → IsSensible s → last_state s ≡ whole s.target
+last_state-sensible s h = ap (λ b. if b then last_part_of_load s.side else whole s.target) (is_latent-sensible s h)
+
+pub fixed_level-sensible : (case : Case) (i : ℕ) (s : Stream) → slice_get case.streams i ≡ Some s → IsSensible s → fixed_level case (source.Stream i) ≡ None
+fixed_level-sensible case i s at h = ap stream_level at ∙ ap (λ b. if b then Some s.supply else None) (is_latent-sensible s h)
+
+-- ---- latent streams
+
+pub full_size-latent : (s : Stream) → IsLatent s → full_size s ≡ whole s.load
+full_size-latent s h = let none = h.cp in ap whole (omega (arith, ints))
+
+pub first_state-latent : (s : Stream) → IsLatent s → first_state s ≡ first_part_of_load s.side
+first_state-latent s h = ap (λ b. if b then first_part_of_load s.side else whole s.supply) (is_latent-latent s h)
+
+pub last_state-latent : (s : Stream) → IsLatent s → last_state s ≡ last_part_of_load s.side
+last_state-latent s h = ap (λ b. if b then last_part_of_load s.side else whole s.target) (is_latent-latent s h)
+
+pub fixed_level-latent : (case : Case) (i : ℕ) (s : Stream) → slice_get case.streams i ≡ Some s → IsLatent s → fixed_level case (source.Stream i) ≡ Some s.supply
+fixed_level-latent case i s at h = ap stream_level at ∙ ap (λ b. if b then Some s.supply else None) (is_latent-latent s h)
+
+-- ---- all streams
+
+pub full_size-positive : (s : Stream) → IsValidStream s → IsBelow rational_zero (full_size s)
+full_size-positive s h = by_heat h.heat
+  where
+    by_heat : IsSensible s ⊎ IsLatent s → IsBelow rational_zero (full_size s)
+    by_heat (inl sensible) = let flow = sensible.cp in let none = sensible.load in below-whole (pos 0) (s.cp +ℤ s.load) (omega (arith, ints, flow.from))
+    by_heat (inr latent) = let load = latent.load in let none = latent.cp in below-whole (pos 0) (s.cp +ℤ s.load) (omega (arith, ints, load.from))
+
+pub is_latent_branch-is : (case : Case) (network : Network) (branch : ℕ) (s : Stream)
+    → slice_get case.streams (stream_at network.branches branch) ≡ Some s → is_latent_branch case network branch ≡ is_latent s
+unfolding is_latent_branch
+is_latent_branch-is case network branch s at = ap (λ found. option_map_or is_latent found false) at
+
+-- ---- the states of a sensible stream are the ends of its shifted range, unshifted
 
 -- a hot stream begins at the high end of its range and ends at the low one, a cold one the other way round
 abbrev pub first_end : Side → Stream → ℤ
@@ -17,18 +66,18 @@ unshifted-shifted : (on : Side) (t c : ℤ) → unshifted on (shifted on t c) c 
 unshifted-shifted side.Hot t c = omega (arith, ints)
 unshifted-shifted side.Cold t c = omega (arith, ints)
 
-pub first_state-unshifted : (on : Side) (s : Stream) → s.side ≡ on → whole (unshifted on (first_end on s) s.contribution) ≡ first_state s
-first_state-unshifted side.Hot s is =
+pub first_state-unshifted : (on : Side) (s : Stream) → IsSensible s → s.side ≡ on → whole (unshifted on (first_end on s) s.contribution) ≡ first_state s
+first_state-unshifted side.Hot s sensible is =
     ap (λ a. whole (unshifted side.Hot (shifted a (if is_hot a then s.supply else s.target) s.contribution) s.contribution)) is
-    ∙ ap whole (unshifted-shifted side.Hot s.supply s.contribution)
-first_state-unshifted side.Cold s is =
+    ∙ ap whole (unshifted-shifted side.Hot s.supply s.contribution) ∙ sym (first_state-sensible s sensible)
+first_state-unshifted side.Cold s sensible is =
     ap (λ a. whole (unshifted side.Cold (shifted a (if is_hot a then s.target else s.supply) s.contribution) s.contribution)) is
-    ∙ ap whole (unshifted-shifted side.Cold s.supply s.contribution)
+    ∙ ap whole (unshifted-shifted side.Cold s.supply s.contribution) ∙ sym (first_state-sensible s sensible)
 
-pub last_state-unshifted : (on : Side) (s : Stream) → s.side ≡ on → whole (unshifted on (last_end on s) s.contribution) ≡ last_state s
-last_state-unshifted side.Hot s is =
+pub last_state-unshifted : (on : Side) (s : Stream) → IsSensible s → s.side ≡ on → whole (unshifted on (last_end on s) s.contribution) ≡ last_state s
+last_state-unshifted side.Hot s sensible is =
     ap (λ a. whole (unshifted side.Hot (shifted a (if is_hot a then s.target else s.supply) s.contribution) s.contribution)) is
-    ∙ ap whole (unshifted-shifted side.Hot s.target s.contribution)
-last_state-unshifted side.Cold s is =
+    ∙ ap whole (unshifted-shifted side.Hot s.target s.contribution) ∙ sym (last_state-sensible s sensible)
+last_state-unshifted side.Cold s sensible is =
     ap (λ a. whole (unshifted side.Cold (shifted a (if is_hot a then s.supply else s.target) s.contribution) s.contribution)) is
-    ∙ ap whole (unshifted-shifted side.Cold s.target s.contribution)
+    ∙ ap whole (unshifted-shifted side.Cold s.target s.contribution) ∙ sym (last_state-sensible s sensible)

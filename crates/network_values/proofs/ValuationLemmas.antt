@@ -1,14 +1,15 @@
 -- Valuations of the first lines: with one line less and with one more, and that there is at most one.
-use Rattle.std.proofs.Common.{◌≡◌, ◌∙◌, ◌<◌, ◌≤◌, ◌+◌, ◌-◌, ◌∷◌, ◌++◌, pos, ℕ, zero, suc, List, [], All, Some, get_or, slice_get, length, map, take, drop, sym, ap, subst, refl, arith, length-append}
-use Rattle.std.proofs.lemmas.Int.{ints}
+use Rattle.std.proofs.Common.{◌≡◌, ◌∙◌, ◌<◌, ◌≤◌, ◌+◌, ◌-◌, ◌∷◌, ◌++◌, ℕ, zero, suc, List, [], All, Some, get_or, slice_get, length, map, take, drop, sym, ap, subst, refl, arith, length-append}
 use Rattle.std.proofs.lemmas.List.{ext_get_or, get_or-append-add, get_or-drop, length-drop, get_or_append_left, get_or-take, length-map, length-take, take-append-drop, take-append-le, take-take, take_all}
 use Rattle.std.proofs.lemmas.List.Elements.{All-append, All-cons, All-map, All-nil, All-push, All-take, All-weaker}
 use Rattle.std.proofs.lemmas.Option.{slice_get-get_or}
-use Rattle.network_values.proofs.Words.{AreSensible, BranchValue, Case, HasPositiveFlow, HasShape, IsBelow, IsComplete, IsMix, IsPass, IsSensible, IsSplit, IsValuation, LeaveRoom, LeavesRoom, Line, Network, Solves, Stream, Valuation, branch_side, duty_at, first_part, first_value, front, made_before, made_by, made_values, makes, mixed_value, no_value, passed_value, rational_zero, second_part, uses, value_at, whole}
-use Rattle.fractions.proofs.Comparisons.{below-whole, positive-is, positive-minus}
+use Rattle.network_values.proofs.Words.{BranchValue, Case, HasPositiveFlow, HasShape, IsBelow, IsComplete, IsMix, IsPass, IsSplit, IsValidStream, IsValuation, LeaveRoom, LeavesRoom, Line, Network, Solves, Valuation, branch_side, duty_at, first_part, first_value, front, full_size, made_before, made_by, made_values, makes, mixed_value, no_value, passed_value, rational_zero, second_part, uses, value_at}
+use Rattle.stream_case.proofs.CompleteLemmas.{AreStreams-IsComplete}
+use Rattle.fractions.proofs.Comparisons.{positive-is, positive-minus}
 use Rattle.networks.specs.declared.network.Line.TheVariants as line
 use Rattle.networks.proofs.Lists.{all_at, slice_get-take}
 use Rattle.networks.proofs.OfShape.{HasNumbers, line_at, line_of, made_fewer}
+use Rattle.network_values.proofs.StreamStates.{full_size-positive}
 use Rattle.network_values.proofs.LineLemmas.{mix_determined, mix_solved, mixed_positive, pass_determined, pass_solved, split_determined, split_solved}
 
 -- ---- lists
@@ -237,20 +238,18 @@ valuation_ends case network n values l shape here is =
 
 -- ---- the start, and that there is at most one
 
-pub valuation_start : (case : Case) (network : Network) → IsComplete case → AreSensible case.streams → IsValuation case network 0 (map first_value case.streams)
+pub valuation_start : (case : Case) (network : Network) → IsComplete case → IsValuation case network 0 (map first_value case.streams)
 unfolding made_by
-valuation_start case network complete sensible =
+valuation_start case network complete =
     let many = length-map case.streams first_value in
     record {
       within = omega arith;
       count = omega (arith, many);
       own = take_all (length case.streams) (map first_value case.streams) (omega (arith, many));
-      positive = All-map (λ v. IsBelow rational_zero v.cp) first_value case.streams (All-weaker IsSensible (λ s. IsBelow rational_zero (whole s.cp)) flow_positive case.streams sensible);
+      positive = All-map (λ v. IsBelow rational_zero v.cp) first_value case.streams
+          (All-weaker IsValidStream (λ s. IsBelow rational_zero (full_size s)) full_size-positive case.streams (AreStreams-IsComplete case complete).each);
       solved = All-nil (Solves case network (map first_value case.streams));
     }
-  where
-    flow_positive : (s : Stream) → IsSensible s → IsBelow rational_zero (whole s.cp)
-    flow_positive s is = let flow = is.cp in below-whole (pos 0) s.cp (omega (arith, ints, flow.from))
 
 -- the first branches are the streams' own
 start_only : (case : Case) (network : Network) (values : Valuation) → IsValuation case network 0 values → values ≡ map first_value case.streams
@@ -289,10 +288,12 @@ room_left case network n values shape is index l other early here is_other =
     let same = one_valuation case network index (front case network index shorter) other shape (valuation_less case network index shorter shape more) is_other in
     subst (λ vs. LeavesRoom vs l) same (valuation_ends case network index shorter l shape here more).room
 
-pub valuation_from_room : (case : Case) (network : Network) (n : ℕ) → IsComplete case → AreSensible case.streams → HasShape case network → n ≤ length network.lines → LeaveRoom case network n → (values : Valuation) × IsValuation case network n values
-valuation_from_room case network zero complete sensible shape within room = (map first_value case.streams, valuation_start case network complete sensible)
-valuation_from_room case network (suc n) complete sensible shape within room =
+pub valuation_from_room : (case : Case) (network : Network) (n : ℕ) → IsComplete case → HasShape case network → n ≤ length network.lines → LeaveRoom case network n
+    → (values : Valuation) × IsValuation case network n values
+valuation_from_room case network zero complete shape within room = (map first_value case.streams, valuation_start case network complete)
+valuation_from_room case network (suc n) complete shape within room =
     let l = get_or network.lines n (line.End 0) in
     let here = (line_at network.lines n (line.End 0) within).here in
-    let (values, is) = valuation_from_room case network n complete sensible shape (omega (arith, within)) (λ index other vs early. room index other vs (omega (arith, early))) in
+    let (values, is) = valuation_from_room case network n complete shape (omega (arith, within))
+    (λ index other vs early. room index other vs (omega (arith, early))) in
     (values ++ made_values case network values l, valuation_more case network n values l shape here is (room n l values (omega arith) here is))

@@ -1,11 +1,11 @@
--- A valuation of all lines, at a line, at a stream and at a branch; numbers of a range.
+-- A valuation at a line, at a stream and at a branch; numbers of a range.
 use Rattle.std.proofs.Common.{◌≡◌, ◌∙◌, ◌<◌, ℕ, zero, suc, List, [], ◌∷◌, Some, get_or, slice_get, length, sym, refl, ap, subst, arith, All, Contains, get_or-take}
 use Rattle.std.specs.List.{range_with_len}
 use Rattle.std.proofs.Math.Seq.{take-length}
 use Rattle.std.proofs.lemmas.List.{get_or-map}
 use Rattle.std.proofs.lemmas.List.FromFn.{get_or-range_with_len, length-range_with_len}
 use Rattle.std.proofs.lemmas.Option.{get_or_from_slice_get, slice_get_within}
-use Rattle.network_values.proofs.Words.{Case, HasShape, IsBelow, IsWholeValuation, Network, Solves, Stream, Valuation, first_value, made_by, no_value, rational_zero, value_at}
+use Rattle.network_values.proofs.Words.{Case, HasShape, IsBelow, IsValuation, IsWholeValuation, Network, Solves, Stream, Valuation, first_value, made_by, no_value, rational_zero, value_at}
 use Rattle.networks.proofs.OfShape.{all_made}
 use Rattle.network_values.proofs.ValuationLemmas.{branch_positive}
 
@@ -25,18 +25,21 @@ All-range P n each k d inside =
 pub Contains-range : (n k : ℕ) → k < n → Contains (range_with_len 0 n) k
 Contains-range n k within = (k, omega (arith, within, length-range_with_len 0 n), get_or-range_with_len 0 n k k within ∙ omega arith)
 
+-- ---- a stream's own branch
+
+-- it carries the stream
+pub own_value : {case : Case} {network : Network} {n : ℕ} {values : Valuation} → IsValuation case network n values → (i : ℕ) (s : Stream)
+    → slice_get case.streams i ≡ Some s → value_at values i ≡ first_value s
+own_value {case} {network} {n} {values} is i s at =
+    let within = slice_get_within case.streams i s at in
+    sym (get_or-take (length case.streams) values i no_value within) ∙ ap (λ vs. get_or vs i no_value) is.own
+    ∙ get_or-map first_value case.streams i s no_value within ∙ ap first_value (get_or_from_slice_get case.streams i s s at)
+
 -- ---- a valuation of all lines
 
 module _ {case : Case} {network : Network} {values : Valuation} (whole : IsWholeValuation case network values) where
   pub all_solved : All (Solves case network values) network.lines
   all_solved = subst (All (Solves case network values)) (take-length network.lines) whole.solved
-
-  -- a stream's own branch carries the stream
-  pub own_value : (i : ℕ) (s : Stream) → slice_get case.streams i ≡ Some s → value_at values i ≡ first_value s
-  own_value i s at =
-      let within = slice_get_within case.streams i s at in
-      sym (get_or-take (length case.streams) values i no_value within) ∙ ap (λ vs. get_or vs i no_value) whole.own
-      ∙ get_or-map first_value case.streams i s no_value within ∙ ap first_value (get_or_from_slice_get case.streams i s s at)
 
   pub branch_above : HasShape case network → (branch : ℕ) → branch < length network.branches → IsBelow rational_zero (value_at values branch).cp
   branch_above shape branch within =

@@ -8,12 +8,12 @@ unfoldable pub use Rattle.network_values.specs.Heights.{positive_part}
 pub use Rattle.network_values.specs.Made.{LeaveRoom, LeavesRoom, first_part, front, heat_of_both, made_values, mixed_value, moved, passed_value, second_part}
 pub use Rattle.network_values.specs.Mixes.{MixesLoseHeight, height_above}
 pub use Rattle.network_values.specs.OneScale.{ExchangersRunOnOneScale, RunsOnOneScale, shifted_run}
-pub use Rattle.network_values.specs.Penalties.{DeficitsAreMet, HasNoNegativePenalty, PenaltiesAddUp, PenaltiesAreNotNegative, PenaltiesAreTheExcess, StreamsGiveTheirHeat, TargetsAreMet, absorbed_heat, base_of, course_of, exchanger_penalties, given_by, height_at, height_in, hot_duty, hot_heat, inlet_height, mix_penalties, outlet_height, penalty, released_heat, stream_height, unshifted, utility_part}
+pub use Rattle.network_values.specs.Penalties.{DeficitsAreMet, HasNoNegativePenalty, IsReferenceView, PenaltiesAddUp, PenaltiesAreNotNegative, PenaltiesAreTheExcess, StreamsGiveTheirHeat, TargetsAreMet, absorbed_heat, base_of, course_of, exchanger_penalties, given_by, height_at, height_in, hot_duty, hot_heat, inlet_height, mix_penalties, outlet_height, penalty, released_heat, stream_height, unshifted, utility_part}
 unfoldable pub use Rattle.network_values.specs.Penalties.{heights}
-pub use Rattle.network_values.specs.Sides.{Between, KeepApproaches, KeepsApproach, Level, SideRun, contribution_of, high_of, low_of, pass_run, run_between, seen_from}
+pub use Rattle.network_values.specs.Sides.{Between, KeepApproaches, KeepsApproach, Level, SideRun, contribution_of, fixed_level, high_of, level_or, low_of, pass_run, run_between, seen_from, stream_level}
 unfoldable pub use Rattle.network_values.specs.Sides.{side_run}
-pub use Rattle.network_values.specs.Values.{AreEnded, IsMix, IsPass, IsSplit, IsValuation, IsWholeValuation, Solves, Valuation, change, duty_of, ends, first_state, first_value, last_state, last_value, no_value, value_at}
-unfoldable pub use Rattle.network_values.specs.Values.{branch_side, duty_at, ended_by, ended_streams}
+pub use Rattle.network_values.specs.Values.{AreEnded, IsMix, IsPartOfLoad, IsPass, IsSplit, IsValuation, IsWholeValuation, KeepsLoad, LoadsAreKept, PassKeepsLoad, Solves, Valuation, change, duty_of, ends, first_part_of_load, first_state, first_value, full_size, last_part_of_load, last_state, last_value, no_value, value_at}
+unfoldable pub use Rattle.network_values.specs.Values.{branch_side, duty_at, ended_by, ended_streams, is_latent_branch}
 pub use Rattle.network_values.specs.Weights.{EndOnce, IsAdditive, StreamsEndOnce, Weight, WeightsBalance, mix_loss, pass_loss, stream_loss, weight_at}
 pub use Rattle.network_values.specs.declared.values.BranchValue.{BranchValue}
 pub use Rattle.networks.specs.Lines.{Exchanger, is_pass_of, makes, uses}
@@ -22,12 +22,12 @@ pub use Rattle.networks.specs.Shape.{AreMadeInOrder, HasPositiveFlow, HasShape, 
 pub use Rattle.networks.specs.declared.network.Branch.{Branch}
 pub use Rattle.networks.specs.declared.network.Line.{Line}
 pub use Rattle.networks.specs.declared.network.Network.{Network}
-pub use Rattle.problem_table.specs.Deficit.{deficit_above, deficit_from, end_deficits, hot_target}
+pub use Rattle.problem_table.specs.Deficit.{CountsFromItself, deficit_above, deficit_from, deficit_over, end_deficits, hot_target}
 pub use Rattle.problem_table.specs.Sides.{sum_side}
 pub use Rattle.stream_case.specs.Case.{IsComplete, side_of}
 pub use Rattle.stream_case.specs.Shift.{shifted}
 pub use Rattle.stream_case.specs.Source.{is_hot, same_side}
-pub use Rattle.stream_case.specs.Stream.{AreSensible, IsSensible, heat_above, high_end, low_end, sensible_above, stream_ends}
+pub use Rattle.stream_case.specs.Stream.{AreStreams, IsLatent, IsSensible, IsValidStream, counts_above, heat_over, high_end, is_latent, load_over, low_end, sensible_above, stream_ends}
 pub use Rattle.stream_case.specs.declared.case.Case.{Case}
 pub use Rattle.stream_case.specs.declared.source.Side.{Side}
 pub use Rattle.stream_case.specs.declared.source.Source.{Source}

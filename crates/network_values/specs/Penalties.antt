@@ -1,7 +1,7 @@
 -- Penalties of exchangers and mixes: the heat that they carry past a place.
-use Rattle.std.specs.Prelude.{◌≡◌, ℕ, ℤ, pos, ◌+ℤ◌, ◌-ℤ◌, Option, Some, None, slice_get, All}
+use Rattle.std.specs.Prelude.{◌≡◌, ◌↔◌, ℕ, ℤ, pos, ◌+ℤ◌, ◌-ℤ◌, IsTrue, List, Option, Some, None, slice_get, All, if◌then◌else◌}
 use Rattle.std.specs.List.{enumerate_from}
-use Rattle.stream_case.specs.Stream.{AreSensible, IsSensible, heat_above}
+use Rattle.stream_case.specs.Stream.{AreStreams, IsValidStream, heat_over, is_latent}
 use Rattle.stream_case.specs.declared.case.Case.{Case}
 use Rattle.stream_case.specs.declared.source.Side.{Side}
 use Rattle.stream_case.specs.declared.source.Side.TheVariants as side
@@ -14,8 +14,8 @@ use Rattle.networks.specs.Shape.{HasShape}
 use Rattle.networks.specs.declared.network.Line.{Line}
 use Rattle.networks.specs.declared.network.Line.TheVariants as line
 use Rattle.networks.specs.declared.network.Network.{Network}
-use Rattle.problem_table.specs.Deficit.{IsReferencePlace, deficit_above, hot_target}
-use Rattle.network_values.specs.Courses.{Course, Sensible, height_on}
+use Rattle.problem_table.specs.Deficit.{CountsFromItself, IsReferencePlace, deficit_over, hot_target}
+use Rattle.network_values.specs.Courses.{Course, Latent, Sensible, height_on}
 use Rattle.network_values.specs.Heights.{View}
 use Rattle.network_values.specs.Sides.{KeepApproaches}
 use Rattle.network_values.specs.Values.{AreEnded, IsWholeValuation, Valuation, first_value, last_value}
@@ -29,12 +29,12 @@ abbrev pub unshifted : Side → ℤ → ℤ → ℤ
 unshifted side.Hot place contribution = place +ℤ contribution
 unshifted side.Cold place contribution = place -ℤ contribution
 
--- the base of a stream's distances, and its course as it is seen from the place
+-- the base of a stream's distances, and its course as it is seen from the place: a latent stream stays at one distance
 abbrev pub base_of : ℤ → Stream → Rational
 base_of place s = whole (unshifted s.side place s.contribution)
 
 abbrev pub course_of : ℤ → Stream → Course
-course_of place s = Sensible (base_of place s)
+course_of place s = if is_latent s then Latent (minus (whole s.supply) (base_of place s)) else Sensible (base_of place s)
 
 -- the height of what a branch of a stream carries
 abbrev pub height_in : View → Stream → BranchValue → Rational
@@ -115,27 +115,32 @@ abbrev pub given_by : Side → ℤ → ℤ
 given_by side.Hot heat = heat
 given_by side.Cold heat = pos 0 -ℤ heat
 
--- in each view a sensible stream loses the height, from its first state to its last, that it gives away above the place
+-- in each view a stream loses the height, from its first state to its last, that it gives away in that view
 abbrev pub StreamsGiveTheirHeat : Type 0
 StreamsGiveTheirHeat =
-    (view : View) (s : Stream) → IsSensible s
-    → minus (height_in view s (first_value s)) (height_in view s (last_value s)) ≡ whole (given_by s.side (heat_above view.place s))
+    (view : View) (s : Stream) → IsValidStream s
+    → minus (height_in view s (first_value s)) (height_in view s (last_value s))
+    ≡ whole (given_by s.side (heat_over view.from_itself view.place s))
 
--- without latent streams, in each view all penalties add up to the heat of the hot utilities less the deficit above the
--- place
+-- in each view all penalties add up to the heat of the hot utilities less the deficit in that view
 abbrev pub PenaltiesAddUp : Type 0
 PenaltiesAddUp =
     (case : Case) (network : Network) (values : Valuation) (view : View)
-    → AreSensible case.streams → HasShape case network → IsWholeValuation case network values → AreEnded case network values
+    → AreStreams case.streams → HasShape case network → IsWholeValuation case network values → AreEnded case network values
     → plus (exchanger_penalties case view network values) (mix_penalties case view network values)
-    ≡ minus (hot_heat network) (whole (deficit_above case.streams view.place))
+    ≡ minus (hot_heat network) (whole (deficit_over view.from_itself case.streams view.place))
 
--- from the reference place to the excess: the heat of the hot utilities less the hot target
+-- the view from the reference place, which counts from itself just where the deficit above it is not the hot target
+pub record IsReferenceView (streams : List Stream) (view : View) : Type 0 where
+  pub place : IsReferencePlace streams view.place
+  pub from_itself : IsTrue view.from_itself ↔ CountsFromItself streams view.place
+
+-- in this view they add up to the excess: the heat of the hot utilities less the hot target
 abbrev pub PenaltiesAreTheExcess : Type 0
 PenaltiesAreTheExcess =
     (case : Case) (network : Network) (values : Valuation) (view : View)
-    → AreSensible case.streams → HasShape case network → IsWholeValuation case network values → AreEnded case network values
-    → IsReferencePlace case.streams view.place
+    → AreStreams case.streams → HasShape case network → IsWholeValuation case network values → AreEnded case network values
+    → IsReferenceView case.streams view
     → plus (exchanger_penalties case view network values) (mix_penalties case view network values)
     ≡ minus (hot_heat network) (whole (hot_target case.streams))
 
@@ -153,18 +158,18 @@ PenaltiesAreNotNegative =
     → HasShape case network → IsWholeValuation case network values → KeepApproaches case network values
     → HasNoNegativePenalty case view network values
 
--- without latent streams, the hot utilities give at least the deficit above any place
+-- the hot utilities give at least the deficit in any view
 abbrev pub DeficitsAreMet : Type 0
 DeficitsAreMet =
-    (case : Case) (network : Network) (values : Valuation) (place : ℤ)
-    → AreSensible case.streams → HasShape case network → IsWholeValuation case network values
+    (case : Case) (network : Network) (values : Valuation) (view : View)
+    → AreStreams case.streams → HasShape case network → IsWholeValuation case network values
     → AreEnded case network values → KeepApproaches case network values
-    → IsAtMost (whole (deficit_above case.streams place)) (hot_heat network)
+    → IsAtMost (whole (deficit_over view.from_itself case.streams view.place)) (hot_heat network)
 
 -- and so at least the hot target: the excess is not negative
 abbrev pub TargetsAreMet : Type 0
 TargetsAreMet =
     (case : Case) (network : Network) (values : Valuation)
-    → AreSensible case.streams → HasShape case network → IsWholeValuation case network values
+    → AreStreams case.streams → HasShape case network → IsWholeValuation case network values
     → AreEnded case network values → KeepApproaches case network values
     → IsAtMost rational_zero (minus (hot_heat network) (whole (hot_target case.streams)))

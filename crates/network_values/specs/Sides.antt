@@ -1,11 +1,13 @@
 -- The two sides of an exchanger.
-use Rattle.std.specs.Prelude.{◌≡◌, ℕ, ℤ, pos, ◌+ℤ◌, Option, Some, None, slice_get}
+use Rattle.std.specs.Prelude.{◌≡◌, ℕ, ℤ, pos, ◌+ℤ◌, Option, Some, None, slice_get, if◌then◌else◌}
 use Rattle.std.specs.Option.{option_map_or}
+use Rattle.stream_case.specs.Stream.{is_latent}
 use Rattle.stream_case.specs.declared.case.Case.{Case}
 use Rattle.stream_case.specs.declared.source.Side.{Side}
 use Rattle.stream_case.specs.declared.source.Side.TheVariants as side
 use Rattle.stream_case.specs.declared.source.Source.{Source}
 use Rattle.stream_case.specs.declared.source.Source.TheVariants as source
+use Rattle.stream_case.specs.declared.stream.Stream.{Stream}
 use Rattle.fractions.specs.Rationals.{IsAtMost, Rational, minus, plus, rational_zero, whole}
 use Rattle.networks.specs.Lines.{Exchanger, exchangers_of, pass_of}
 use Rattle.networks.specs.declared.network.Line.{Line}
@@ -56,9 +58,14 @@ pass_run case network values (Some (line.Mix first second to)) = Level rational_
 pass_run case network values (Some (line.End branch)) = Level rational_zero
 pass_run case network values None = Level rational_zero
 
--- the level of a source, in tenths of °C; a stream has none, since it runs between two temperatures
+-- a latent stream has its one temperature, in tenths of °C; a sensible one runs between two
+abbrev pub stream_level : Option Stream → Option ℤ
+stream_level None = None
+stream_level (Some s) = if is_latent s then Some s.supply else None
+
+-- the level of a source
 abbrev pub fixed_level : Case → Source → Option ℤ
-fixed_level case (source.Stream number) = None
+fixed_level case (source.Stream number) = stream_level (slice_get case.streams number)
 fixed_level case (source.Utility number) = Some (option_map_or (λ u. u.level) (slice_get case.utilities number) (pos 0))
 
 -- the run of the branches of a source that pass an exchanger; a utility has none, and no rule speaks of this one

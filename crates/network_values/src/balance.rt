@@ -3,7 +3,7 @@
 ghost use Rattle.network_values.specs.Penalties.{DeficitsAreMet, PenaltiesAddUp, PenaltiesAreNotNegative, PenaltiesAreTheExcess, StreamsGiveTheirHeat, TargetsAreMet};
 ghost use Rattle.network_values.specs.Weights.{StreamsEndOnce, WeightsBalance};
 
-/// Where each end has the full size of its stream at its target, and each stream has an end, no
+/// Where each end has the full size of its stream in its last state, and each stream has an end, no
 /// stream ends twice, and no branch is left over.
 pub fn streams_end_once()
     ensures { StreamsEndOnce }
@@ -15,20 +15,20 @@ pub fn weights_balance()
     ensures { WeightsBalance }
 {}
 
-/// In each view, above a place or from the place itself, a sensible stream loses as much height from
-/// its first state to its last as it gives heat away above the place, in W; a cold stream takes it.
+/// In each view, above a place or from the place itself, a stream loses as much height from its
+/// first state to its last as it gives heat away in that view, in W; a cold stream takes it.
 pub fn streams_give_their_heat()
     ensures { StreamsGiveTheirHeat }
 {}
 
-/// Without latent streams, in each view the penalties of the exchangers and of the mixes add up to
-/// the heat of the hot utilities less the deficit above the place, all in W.
+/// In each view the penalties of the exchangers and of the mixes add up to the heat of the hot
+/// utilities less the deficit in that view, all in W.
 pub fn penalties_add_up()
     ensures { PenaltiesAddUp }
 {}
 
-/// From the reference place they add up to the excess: the heat of the hot utilities less the hot
-/// target.
+/// In the view from the reference place they add up to the excess: the heat of the hot utilities
+/// less the hot target.
 pub fn penalties_are_the_excess()
     ensures { PenaltiesAreTheExcess }
 {}
@@ -38,7 +38,7 @@ pub fn penalties_are_not_negative()
     ensures { PenaltiesAreNotNegative }
 {}
 
-/// So without latent streams the hot utilities give at least the deficit above any place.
+/// So the hot utilities give at least the deficit in any view.
 pub fn deficits_are_met()
     ensures { DeficitsAreMet }
 {}

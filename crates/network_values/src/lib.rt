@@ -4,8 +4,9 @@
 //! statements. The laws of this crate are said of valuations: there is at most one, the streams
 //! end once, and any weight that is additive in size is balanced. Where a network keeps its
 //! approaches, none of its exchangers and mixes has a negative penalty, and so its hot utilities
-//! give at least the hot target. The laws that speak of a stream's own heat or of its first value
-//! have the condition that no stream of the case is latent.
+//! give at least the hot target. A sensible stream's size is its heat-capacity flow and its state its
+//! temperature; a latent stream's size is its load, and its state the part of it that is still to be
+//! given (hot) or was already taken (cold).
 #![tactic(auto)]
 
 mod balance;
@@ -22,6 +23,7 @@ pub use heights::{
     passes_take_shares, priced_shares_are_ordered, shares_are_parts, shares_rise,
 };
 pub use valuations::{
-    valuations_agree, valuations_exist_where_splits_leave_room, valuations_go_line_by_line,
+    loads_are_kept, valuations_agree, valuations_exist_where_splits_leave_room,
+    valuations_go_line_by_line,
 };
 pub use values::BranchValue;

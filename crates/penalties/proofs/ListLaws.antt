@@ -3,7 +3,7 @@ use Rattle.std.proofs.Common.{◌≡◌, ◌∙◌, ◌+◌, ◌∷◌, ℕ, Lis
 use Rattle.std.specs.List.{enumerate_from, filter_map}
 use Rattle.std.proofs.lemmas.List.Elements.{All-append, All-cons, All-head, All-map, All-nil, All-same, All-tail}
 use Rattle.sums.proofs.EnumerationLemmas.{All-enumerated}
-use Rattle.penalties.proofs.Words.{AreEnded, AreSensible, Case, HasNoNegativePenalty, HasShape, IsAtMost, IsNotNegative, IsReferencePlace, IsValidNetwork, IsWholeValuation, KeepApproaches, Line, ListsPenalties, Network, Penalty, Rational, Valuation, View, excess_of, exchanger_row, exchanger_rows, exchangers_of, height_at, mix_loss, mix_row, mix_rows, penalties_of, plus, rational_sum_by, rational_zero, sum_of, view_above}
+use Rattle.penalties.proofs.Words.{AreEnded, AreStreams, Case, HasNoNegativePenalty, HasShape, IsAtMost, IsNotNegative, IsReferenceView, IsValidNetwork, IsWholeValuation, KeepApproaches, Line, ListsPenalties, Network, Penalty, Rational, Valuation, View, excess_of, exchanger_row, exchanger_rows, exchangers_of, height_at, mix_loss, mix_row, mix_rows, penalties_of, plus, rational_sum_by, rational_zero, sum_of}
 use Rattle.fractions.proofs.RationalSums.{rational_sum_by-append, rational_sum_by-map}
 use Rattle.fractions.proofs.Sums.{zero-plus}
 use Rattle.networks.specs.declared.network.Line.TheVariants as line
@@ -45,7 +45,7 @@ module _ (height : ℕ → Rational) where
 
 -- ---- all rows
 
-module _ (case : Case) (network : Network) (sensible : AreSensible case.streams) (shape : HasShape case network) (valid : IsValidNetwork case network) where
+module _ (case : Case) (network : Network) (streams : AreStreams case.streams) (shape : HasShape case network) (valid : IsValidNetwork case network) where
   -- a network has one valuation, and so the approaches are kept by any
   same_values : (values : Valuation) → IsWholeValuation case network values → valid.values ≡ values
   same_values values is = one_valuation case network (length network.lines) valid.values values shape valid.valuation is
@@ -62,7 +62,7 @@ module _ (case : Case) (network : Network) (sensible : AreSensible case.streams)
       (All-enumerated (λ p. IsNotNegative (exchanger_row height network p)) (exchangers_of network.lines) (λ number e at. signs.exchangers number e at)))
       (mixes_not_negative height 0 network.lines signs.mixes)
 
-  sum-rows : (view : View) (values : Valuation) → IsReferencePlace case.streams view.place → IsWholeValuation case network values
+  sum-rows : (view : View) (values : Valuation) → IsReferenceView case.streams view → IsWholeValuation case network values
       → sum_of (penalties_of case view network values) ≡ excess_of case network
   unfolding exchanger_rows mix_rows
   sum-rows view values is_reference whole_values =
@@ -70,11 +70,11 @@ module _ (case : Case) (network : Network) (sensible : AreSensible case.streams)
       rational_sum_by-append value_of (exchanger_rows height network) (mix_rows height network.lines)
       ∙ ap₂ plus (rational_sum_by-map value_of (exchanger_row height network) (enumerate_from 0 (exchangers_of network.lines)))
       (sum-mixes height 0 network.lines)
-      ∙ penalties_excess case network values view sensible shape whole_values
+      ∙ penalties_excess case network values view streams shape whole_values
       (subst (AreEnded case network) (same_values values whole_values) valid.ended) is_reference
 
   pub listed_not_negative : (listed : List Penalty) → ListsPenalties case network (list.Listed listed) → All IsNotNegative listed
-  listed_not_negative listed is = All-same IsNotNegative listed _ is.lists.1 (rows_not_negative (view_above is.reference) is.values is.valuation)
+  listed_not_negative listed is = All-same IsNotNegative listed _ is.lists.1 (rows_not_negative is.view is.values is.valuation)
 
   pub listed_sum : (listed : List Penalty) → ListsPenalties case network (list.Listed listed) → sum_of listed ≡ excess_of case network
-  listed_sum listed is = ap sum_of is.lists.1 ∙ sum-rows (view_above is.reference) is.values is.is_reference is.valuation
+  listed_sum listed is = ap sum_of is.lists.1 ∙ sum-rows is.view is.values is.is_reference is.valuation

@@ -1,11 +1,11 @@
 -- What is answered for steps: a number, a list of penalties, or the first step that is too fine.
-use Rattle.std.specs.Prelude.{◌≡◌, ℤ, List, Option, Some, None, Result, Ok, Err}
+use Rattle.std.specs.Prelude.{◌≡◌, List, Option, Some, None, Result, Ok, Err}
 use Rattle.stream_case.specs.declared.case.Case.{Case}
 use Rattle.fractions.specs.Rationals.{IsAtMost, Rational, rational_sum_by, rational_zero}
 use Rattle.networks.specs.declared.network.Network.{Network}
-use Rattle.network_values.specs.Heights.{view_above}
+use Rattle.network_values.specs.Heights.{View}
+use Rattle.network_values.specs.Penalties.{IsReferenceView}
 use Rattle.network_values.specs.Values.{IsWholeValuation, Valuation}
-use Rattle.problem_table.specs.Deficit.{IsReferencePlace}
 use Rattle.penalties.specs.Rows.{penalties_of}
 use Rattle.penalties.specs.Steps.{Step, first_too_fine, penalty_steps}
 use Rattle.penalties.specs.declared.list.Penalty.{Penalty}
@@ -27,15 +27,14 @@ abbrev pub Lists : List Step → List Penalty → PenaltyList → Type 0
 Lists steps penalties (list.Listed listed) = (first_too_fine steps ≡ None) × (listed ≡ penalties)
 Lists steps penalties (list.TooFine place step) = first_too_fine steps ≡ Some (place, step)
 
--- the penalties of the network's valuation above the reference place, where all steps that form them are within the
--- limits of a fraction, and else the first step that is not
+-- the penalties of the network's valuation in the view from the reference place, where all steps that form them are
+-- within the limits of a fraction, and else the first step that is not
 pub record ListsPenalties (case : Case) (network : Network) (answer : PenaltyList) : Type 0 where
-  pub reference : ℤ
+  pub view : View
   pub values : Valuation
-  pub is_reference : IsReferencePlace case.streams reference
+  pub is_reference : IsReferenceView case.streams view
   pub valuation : IsWholeValuation case network values
-  pub lists : Lists
-      (penalty_steps case (view_above reference) network values) (penalties_of case (view_above reference) network values) answer
+  pub lists : Lists (penalty_steps case view network values) (penalties_of case view network values) answer
 
 -- what holds of penalties that are listed
 abbrev pub IfListed : PenaltyList → (List Penalty → Type 0) → Type 0

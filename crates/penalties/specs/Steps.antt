@@ -10,8 +10,9 @@ use Rattle.networks.specs.Lines.{Exchanger, exchangers_of, stream_at}
 use Rattle.networks.specs.declared.network.Line.{Line}
 use Rattle.networks.specs.declared.network.Line.TheVariants as line
 use Rattle.networks.specs.declared.network.Network.{Network}
-use Rattle.network_values.specs.Heights.{View}
-use Rattle.network_values.specs.Penalties.{base_of, height_at, penalty}
+use Rattle.network_values.specs.Courses.{Course, Latent, Sensible}
+use Rattle.network_values.specs.Heights.{View, is_above}
+use Rattle.network_values.specs.Penalties.{course_of, height_at, penalty}
 use Rattle.network_values.specs.Values.{Valuation, value_at}
 use Rattle.network_values.specs.declared.values.BranchValue.{BranchValue}
 use Rattle.network_audit.specs.Joints.{crossing_among}
@@ -42,13 +43,21 @@ first_too_fine steps = option_map spot_of (find is_too_fine steps)
 
 -- ---- branches
 
--- the distance of a branch from the place, and its height, which is formed only where the distance is above 0
-abbrev pub height_steps : Place → ℕ → Rational → Rational → List Step
-height_steps at k size distance = step at k distance ∷ (if is_below rational_zero distance then step at (k + 1) (times size distance) ∷ [] else [])
+-- of a sensible stream: its distance from the place, and its height, which is formed only where the distance is above 0
+abbrev pub sensible_steps : Place → ℕ → Rational → Rational → List Step
+sensible_steps at k size distance = step at k distance ∷ (if is_below rational_zero distance then step at (k + 1) (times size distance) ∷ [] else [])
+
+-- of a latent one no distance is formed, and its height only where its level counts as above the place
+abbrev pub latent_steps : Place → ℕ → Bool → BranchValue → List Step
+latent_steps at k counts value = if counts then step at (k + 1) (times value.cp value.t) ∷ [] else []
+
+abbrev pub course_steps : Bool → Course → Place → ℕ → BranchValue → List Step
+course_steps from_itself (Sensible base) at k value = sensible_steps at k value.cp (minus value.t base)
+course_steps from_itself (Latent distance) at k value = latent_steps at k (is_above from_itself distance) value
 
 abbrev pub stream_steps : View → Place → ℕ → Option Stream → BranchValue → List Step
 stream_steps view at k None value = []
-stream_steps view at k (Some s) value = height_steps at k value.cp (minus value.t (base_of view.place s))
+stream_steps view at k (Some s) value = course_steps view.from_itself (course_of view.place s) at k value
 
 -- those of the branch with a number
 abbrev pub branch_steps : Case → View → Network → Valuation → Place → ℕ → ℕ → List Step

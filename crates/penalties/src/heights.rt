@@ -1,17 +1,19 @@
 //! Heights of branches above the reference place.
-ghost use Rattle.std.specs.Prelude.{◌≡◌, ◌+◌, ◌<◌, ◌^◌};
-ghost use Rattle.fractions.specs.Rationals.{minus};
+ghost use Rattle.std.specs.Prelude.{◌≡◌, ◌+◌, ◌<◌, ◌^◌, All, if◌then◌else◌};
+ghost use Rattle.fractions.specs.Rationals.{minus, rational_zero, times};
 ghost use Rattle.network_values.specs.Heights.{height};
 ghost use Rattle.network_values.specs.Penalties.{base_of};
 ghost use Rattle.penalties.specs.Answers.{Formed};
-ghost use Rattle.penalties.specs.Steps.{height_steps};
+ghost use Rattle.penalties.specs.Steps.{latent_steps, sensible_steps};
+ghost use Rattle.stream_case.specs.Limits.{IsShifted};
+ghost use Rattle.stream_case.specs.Shift.{shifted};
 
 use crate::list::TooFine;
 use fractions::Frac;
 use network_audit::{Auditor, Place, stream_at};
 use network_values::BranchValue;
 use networks::Network;
-use stream_case::{Case, Side, Stream};
+use stream_case::{Case, Side, Stream, counts_above, shifted};
 
 /// A network with what an audit knows of it, seen from the reference place.
 #[derive(Clone, Copy)]
@@ -21,6 +23,11 @@ pub(crate) struct Survey<'a> {
     pub auditor: &'a Auditor,
     /// A shifted temperature, in tenths of °C.
     pub reference: i32,
+    /// Whether a latent level at the reference place counts as above it.
+    pub from_itself: bool,
+    ghost levels: { All
+        (λ s. IsShifted (shifted s.side s.supply s.contribution))
+        case.now.streams },
 }
 
 /// The reference place as a temperature of a stream, in tenths of °C.
@@ -35,12 +42,25 @@ fn base_of(stream: &Stream, reference: i32) -> Frac
     }
 }
 
-/// The height in W of what a branch carries above a base in tenths of °C: two steps, of which the
-/// second is only taken above the base.
-fn height(place: Place, step: u32, base: &Frac, value: &BranchValue) -> Result<Frac, TooFine>
+/// The level of a latent stream as a shifted temperature, in tenths of °C.
+fn level_of(stream: &Stream) -> i32
+    requires { IsShifted (shifted stream.now.side stream.now.supply stream.now.contribution) }
+    ensures { result ≡ shifted stream.now.side stream.now.supply stream.now.contribution }
+{
+    shifted(stream.side, stream.supply, stream.contribution)
+}
+
+/// The height in W of what a branch of a sensible stream carries above a base in tenths of °C: two
+/// steps, of which the second is only taken above the base.
+fn sensible_height(
+    place: Place,
+    step: u32,
+    base: &Frac,
+    value: &BranchValue,
+) -> Result<Frac, TooFine>
     requires { step + 1 < 2 ^ 32 }
     ensures { let distance = minus value.now.t base.now in Formed
-        (height_steps place step value.now.cp distance)
+        (sensible_steps place step value.now.cp distance)
         (λ h. h ≡ height value.now.cp distance)
         result }
 {
@@ -52,6 +72,30 @@ fn height(place: Place, step: u32, base: &Frac, value: &BranchValue) -> Result<F
     }
     let step = step + 1;
     match value.cp.times(&distance) {
+        Some(height) => Ok(height),
+        None => Err(TooFine { place, step }),
+    }
+}
+
+/// The height in W of what a branch of a latent stream carries, by whether its level counts as
+/// above the place: at most one step, with the number of a height.
+fn latent_height(
+    place: Place,
+    step: u32,
+    counts: bool,
+    value: &BranchValue,
+) -> Result<Frac, TooFine>
+    requires { step + 1 < 2 ^ 32 }
+    ensures { Formed
+        (latent_steps place step counts value.now)
+        (λ h. h ≡ (if counts then times value.now.cp value.now.t else rational_zero))
+        result }
+{
+    if !counts {
+        return Ok(Frac::whole(0));
+    }
+    let step = step + 1;
+    match value.cp.times(&value.t) {
         Some(height) => Ok(height),
         None => Err(TooFine { place, step }),
     }
@@ -85,7 +129,12 @@ impl<'a> Survey<'a> {
             return Ok(Frac::whole(0));
         };
         let reference = self.reference;
+        let value = self.value(branch);
+        if stream.is_latent() {
+            let counts = counts_above(self.from_itself, reference, level_of(stream));
+            return latent_height(place, step, counts, &value);
+        }
         let base = base_of(stream, reference);
-        height(place, step, &base, &self.value(branch))
+        sensible_height(place, step, &base, &value)
     }
 }

@@ -1,6 +1,5 @@
 //! All penalties of a network.
 ghost use Rattle.std.specs.Prelude.{IfOk, ◌≡◌, All};
-ghost use Rattle.stream_case.specs.Stream.{AreSensible};
 ghost use Rattle.network_audit.specs.Audit.{HasAccepted};
 ghost use Rattle.network_audit.specs.Balance.{excess_of};
 ghost use Rattle.penalties.specs.Answers.{IfListed, IsNotNegative, ListsPenalties, sum_of};
@@ -9,19 +8,18 @@ use crate::heights::Survey;
 use crate::list::{PenaltyList, TooFine};
 use network_audit::Auditor;
 use networks::Network;
-use problem_table::reference_place;
+use problem_table::{reference_from, reference_place};
 use std::alloc::{AllocError, Global};
 use stream_case::{Case, Items};
 
-/// The penalties in W of a network that the last audit accepted, where no stream is latent. They
-/// add up to its excess, and none is negative.
+/// The penalties in W of a network that the last audit accepted. They add up to its excess, and
+/// none is negative.
 pub fn penalties(
     alloc: Global,
     case: &Case,
     network: &Network,
     auditor: &Auditor,
 ) -> Result<PenaltyList, AllocError>
-    requires sensible { AreSensible case.now.streams }
     requires accepted { HasAccepted auditor.now case.now network.now }
     ensures lists { IfOk result (ListsPenalties case.now network.now) }
     ensures not_negative { IfOk result (λ list. IfListed list (All IsNotNegative)) }
@@ -34,6 +32,7 @@ pub fn penalties(
         network,
         auditor,
         reference: reference_place(case),
+        from_itself: reference_from(case),
     };
     let mut list = Vec::new(alloc);
     if let Some(TooFine { place, step }) = survey.add_exchangers(joints, &mut list)? {

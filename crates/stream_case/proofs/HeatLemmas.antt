@@ -1,6 +1,7 @@
 -- The length of the range of a valid stream, and its heat.
 use Rattle.std.proofs.Common.{◌≡◌, ◌⊎◌, inl, inr, ℕ, ◌≤◌, ℤ, pos, negsuc, Bool, true, false, refl, ap, ◌∙◌, arith}
 use Rattle.std.specs.Prelude.{◌-ℤ◌, ◌*ℤ◌, ◌≤ℤ◌, if◌then◌else◌}
+use Rattle.std.proofs.lemmas.Bool.{false_from_ne_true}
 use Rattle.std.proofs.lemmas.Int.{ints, clamps}
 use Rattle.std.proofs.lemmas.Nat.{mul-le}
 use Rattle.stream_case.specs.declared.limits.TheConstants.{LONGEST_RANGE, MOST_CP}
@@ -10,7 +11,7 @@ use Rattle.stream_case.specs.declared.stream.Stream.{Stream}
 use Rattle.stream_case.specs.Limits.{IsBetween, IsLength, IsSensibleHeat, IsStreamHeat, IsTemperature}
 use Rattle.stream_case.specs.Shift.{shifted}
 use Rattle.stream_case.specs.Source.{is_hot, IsRightWay}
-use Rattle.stream_case.specs.Stream.{higher_temperature, lower_temperature, high_end, low_end, length_above, counts_above, load_over, sensible_above, heat_between, heat_over, heat_of, IsSensible, IsLatent, IsValidStream}
+use Rattle.stream_case.specs.Stream.{higher_temperature, lower_temperature, high_end, low_end, length_above, counts_above, load_over, sensible_above, heat_between, heat_over, heat_of, is_latent, IsSensible, IsLatent, IsValidStream}
 use Rattle.stream_case.proofs.EndLemmas.{level-latent}
 
 -- a range, and the same range moved by a contribution
@@ -143,3 +144,18 @@ sensible_unless_latent s h none = by_heat h.heat
     by_heat : IsSensible s ⊎ IsLatent s → IsSensible s
     by_heat (inl sensible) = sensible
     by_heat (inr latent) = absurd (none latent)
+
+-- ---- whether a stream is latent
+
+pub is_latent-sensible : (s : Stream) → IsSensible s → is_latent s ≡ false
+is_latent-sensible s h = let none = h.load in false_from_ne_true (is_latent s) (λ is. omega (arith, ints, is))
+
+pub is_latent-latent : (s : Stream) → IsLatent s → is_latent s ≡ true
+is_latent-latent s h = let some = h.load.from in grind (arith, ints)
+
+pub latent-is_latent : (s : Stream) → IsValidStream s → is_latent s ≡ true → IsLatent s
+latent-is_latent s h is = by_heat h.heat
+  where
+    by_heat : IsSensible s ⊎ IsLatent s → IsLatent s
+    by_heat (inl sensible) = let none = sensible.load in absurd (omega (arith, ints, is))
+    by_heat (inr latent) = latent

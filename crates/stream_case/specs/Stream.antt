@@ -95,6 +95,10 @@ pub record IsValidStream (s : Stream) : Type 0 where
   pub heat : IsSensible s ⊎ IsLatent s
   pub contribution : IsContribution s.contribution
 
+-- the stream has a load, as a valid one has just where it is latent
+abbrev pub is_latent : Stream → Bool
+is_latent s = int_lt (pos 0) s.load
+
 -- no stream is latent
 abbrev pub AreSensible : List Stream → Type 0
 AreSensible streams = All IsSensible streams

@@ -29,7 +29,7 @@ pub struct Stream {
 
 impl Stream {
     ghost use Rattle.stream_case.specs.Source.{same_side};
-    ghost use Rattle.stream_case.specs.Stream.{lower_temperature, higher_temperature, high_end, low_end, heat_between, sensible_above, load_over, heat_over, heat_above, heat_from, IsLatent, IsValidStream};
+    ghost use Rattle.stream_case.specs.Stream.{lower_temperature, higher_temperature, high_end, low_end, heat_between, sensible_above, load_over, heat_over, heat_above, heat_from, is_latent, IsLatent, IsValidStream};
 
     /// Whether the stream is on this side.
     pub fn is_on(&self, side: Side) -> bool
@@ -78,8 +78,8 @@ impl Stream {
 
     /// Whether the stream condenses or evaporates at one temperature.
     pub fn is_latent(&self) -> bool
-        requires { IsValidStream self.now }
-        ensures { IsTrue result ↔ IsLatent self.now }
+        ensures value { result ≡ is_latent self.now }
+        ensures latent { IsValidStream self.now → (IsTrue result ↔ IsLatent self.now) }
     {
         self.load > 0
     }

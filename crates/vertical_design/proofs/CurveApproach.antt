@@ -62,11 +62,13 @@ module _ (d : ℕ) (some : 0 < d) (streams : List Stream) (are : AreSensibleStre
 
 -- ---- at any temperatures
 
-same_heats : (d : ℕ) (some : 0 < d) (streams : List Stream) (of other : Side) (n m : ℤ) → curve_heat of streams (ratio n d) ≡ curve_heat other streams (ratio m d) → curve_parts d of streams n ≡ curve_parts d other streams m
-same_heats d some streams of other n m same =
+same_heats : (d : ℕ) (some : 0 < d) (streams : List Stream) (of other : Side) (n m : ℤ) → AreSensibleStreams streams
+    → curve_heat of streams (ratio n d) ≡ curve_heat other streams (ratio m d) → curve_parts d of streams n ≡ curve_parts d other streams m
+same_heats d some streams of other n m are same =
     let x = curve_parts d of streams n in
     let y = curve_parts d other streams m in
-    *ℤ_cancel_right (pos d) x y (pos_above d some) (same_from_ratio x y d d some some (sym (curve_heat-ratio d some of streams n) ∙ same ∙ curve_heat-ratio d some other streams m))
+    let ratios = sym (curve_heat-ratio d some of streams n are.each) ∙ same ∙ curve_heat-ratio d some other streams m are.each in
+    *ℤ_cancel_right (pos d) x y (pos_above d some) (same_from_ratio x y d d some some ratios)
 
 module _ (streams : List Stream) (are : AreSensibleStreams streams) (r : Stream) (member : Contains streams r) where
   pub approach_below : (hot cold : Rational) → r.side ≡ side.Cold → IsBelow (whole (low_end r)) cold → IsAtMost cold (whole (high_end r)) → curve_heat side.Hot streams hot ≡ curve_heat side.Cold streams cold → IsAtMost cold hot
@@ -75,7 +77,7 @@ module _ (streams : List Stream) (are : AreSensibleStreams streams) (r : Stream)
       (λ n m d some from upto same.
       let below = below_from_ratio (low_end r *ℤ pos d) m d some (subst (λ x. IsBelow x (ratio m d)) (sym (ratio-multiple (low_end r) d some)) from) in
       let most = at_most_from_ratio m (high_end r *ℤ pos d) d some (subst (IsAtMost (ratio m d)) (sym (ratio-multiple (high_end r) d some)) upto) in
-      at_most-ratio m n d some (approach-below d some streams are r member n m on_side below most (same_heats d some streams side.Hot side.Cold n m same)))
+      at_most-ratio m n d some (approach-below d some streams are r member n m on_side below most (same_heats d some streams side.Hot side.Cold n m are same)))
       hot cold
 
   pub approach_above : (hot cold : Rational) → r.side ≡ side.Hot → IsAtMost (whole (low_end r)) hot → IsBelow hot (whole (high_end r)) → curve_heat side.Hot streams hot ≡ curve_heat side.Cold streams cold → IsAtMost cold hot
@@ -84,7 +86,7 @@ module _ (streams : List Stream) (are : AreSensibleStreams streams) (r : Stream)
       (λ n m d some from upto same.
       let least = at_most_from_ratio (low_end r *ℤ pos d) n d some (subst (λ x. IsAtMost x (ratio n d)) (sym (ratio-multiple (low_end r) d some)) from) in
       let below = below_from_ratio n (high_end r *ℤ pos d) d some (subst (IsBelow (ratio n d)) (sym (ratio-multiple (high_end r) d some)) upto) in
-      at_most-ratio m n d some (approach-above d some streams are r member n m on_side least below (same_heats d some streams side.Hot side.Cold n m same)))
+      at_most-ratio m n d some (approach-above d some streams are r member n m on_side least below (same_heats d some streams side.Hot side.Cold n m are same)))
       hot cold
 
   -- two temperatures of a stream's range with one heat on its curve are one
@@ -94,4 +96,5 @@ module _ (streams : List Stream) (are : AreSensibleStreams streams) (r : Stream)
       (λ n m d some t_from t_upto u_from u_upto same.
       let low = λ (x : ℤ) (from : IsAtMost (whole (low_end r)) (ratio x d)). at_most_from_ratio (low_end r *ℤ pos d) x d some (subst (λ z. IsAtMost z (ratio x d)) (sym (ratio-multiple (low_end r) d some)) from) in
       let high = λ (x : ℤ) (upto : IsAtMost (ratio x d) (whole (high_end r))). at_most_from_ratio x (high_end r *ℤ pos d) d some (subst (IsAtMost (ratio x d)) (sym (ratio-multiple (high_end r) d some)) upto) in
-      ap (λ x. ratio x d) (one-place d some streams are r member r.side n m refl (low n t_from) (high n t_upto) (low m u_from) (high m u_upto) (same_heats d some streams r.side r.side n m same)))
+      let heats = same_heats d some streams r.side r.side n m are same in
+      ap (λ x. ratio x d) (one-place d some streams are r member r.side n m refl (low n t_from) (high n t_upto) (low m u_from) (high m u_upto) heats))

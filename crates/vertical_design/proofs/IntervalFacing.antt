@@ -1,10 +1,10 @@
 -- What the temperatures of an interval give for its matches: both sides face each other at its two cuts, and each branch gives or takes the duty of its match.
-use Rattle.std.proofs.Common.{◌≡◌, ◌∙◌, ◌<◌, ◌*◌, ◌+ℤ◌, ◌-ℤ◌, ◌*ℤ◌, ℕ, ℤ, pos, ◌≤ℤ◌, ◌<ℤ◌, List, sym, ap, ap₂, subst, arith}
+use Rattle.std.proofs.Common.{◌≡◌, ◌∙◌, ◌<◌, ◌*◌, ◌-ℤ◌, ◌*ℤ◌, ℕ, ℤ, pos, ◌≤ℤ◌, ◌<ℤ◌, List, refl, sym, ap, ap₂, subst, arith}
 use Rattle.std.specs.Prelude.{unsigned_abs}
 use Rattle.std.proofs.Math.IntN.{*ℤ_comm}
 use Rattle.std.proofs.lemmas.Int.{ints, unsigned_abs-mul}
 use Rattle.sums.specs.declared.pairs.Pair.{Pair}
-use Rattle.stream_case.specs.Stream.{high_end, low_end}
+use Rattle.stream_case.specs.Stream.{IsSensible}
 use Rattle.stream_case.specs.declared.source.Side.{Side}
 use Rattle.stream_case.specs.declared.source.Side.TheVariants as side
 use Rattle.stream_case.specs.declared.stream.Stream.{Stream}
@@ -14,7 +14,9 @@ use Rattle.fractions.proofs.Comparisons.{at_most-whole}
 use Rattle.fractions.proofs.Ratios.{times-ratio}
 use Rattle.fractions.proofs.Sums.{minus-plus, plus-minus}
 use Rattle.fractions.proofs.Wholes.{whole-minus, whole-plus}
+use Rattle.network_values.specs.Penalties.{unshifted}
 use Rattle.network_values.specs.Values.{first_state, last_state}
+use Rattle.network_values.proofs.StreamStates.{first_end, first_state-unshifted, last_end, last_state-unshifted}
 use Rattle.vertical_design.specs.Axis.{utility_from, utility_to}
 use Rattle.vertical_design.specs.Matches.{match_of, side_flow}
 use Rattle.vertical_design.specs.Vertical.{IsAtUtility, curve_heat, on_scale}
@@ -35,28 +37,16 @@ pub on_scale-actual : (of : Side) (t : Rational) (contribution : ℤ) → on_sca
 on_scale-actual side.Hot t contribution = minus-plus t (whole contribution)
 on_scale-actual side.Cold t contribution = plus-minus t (whole contribution)
 
--- the shifted ends at which a stream begins and ends its way
-abbrev pub first_end : Side → Stream → ℤ
-first_end side.Hot s = high_end s
-first_end side.Cold s = low_end s
+actual_at-whole : (of : Side) (place contribution : ℤ) → actual_at of (whole place) contribution ≡ whole (unshifted of place contribution)
+actual_at-whole side.Hot place contribution = whole-plus place contribution
+actual_at-whole side.Cold place contribution = whole-minus place contribution
 
-abbrev pub last_end : Side → Stream → ℤ
-last_end side.Hot s = low_end s
-last_end side.Cold s = high_end s
+-- a sensible stream begins and ends its way at the ends of its shifted range
+pub actual-first : (s : Stream) → IsSensible s → actual_at s.side (whole (first_end s.side s)) s.contribution ≡ first_state s
+actual-first s h = actual_at-whole s.side (first_end s.side s) s.contribution ∙ first_state-unshifted s.side s h refl
 
-pub actual-first : (s : Stream) → actual_at s.side (whole (first_end s.side s)) s.contribution ≡ first_state s
-actual-first s = by s.side
-  where
-    by : (on : Side) → actual_at on (whole (first_end on (record s { side = on }))) s.contribution ≡ whole s.supply
-    by side.Hot = whole-plus (s.supply -ℤ s.contribution) s.contribution ∙ ap whole (omega (arith, ints))
-    by side.Cold = whole-minus (s.supply +ℤ s.contribution) s.contribution ∙ ap whole (omega (arith, ints))
-
-pub actual-last : (s : Stream) → actual_at s.side (whole (last_end s.side s)) s.contribution ≡ last_state s
-actual-last s = by s.side
-  where
-    by : (on : Side) → actual_at on (whole (last_end on (record s { side = on }))) s.contribution ≡ whole s.target
-    by side.Hot = whole-plus (s.target -ℤ s.contribution) s.contribution ∙ ap whole (omega (arith, ints))
-    by side.Cold = whole-minus (s.target +ℤ s.contribution) s.contribution ∙ ap whole (omega (arith, ints))
+pub actual-last : (s : Stream) → IsSensible s → actual_at s.side (whole (last_end s.side s)) s.contribution ≡ last_state s
+actual-last s h = actual_at-whole s.side (last_end s.side s) s.contribution ∙ last_state-unshifted s.side s h refl
 
 -- ---- both sides at one heat
 

@@ -17,6 +17,7 @@ use Rattle.fractions.proofs.Comparisons.{positive-ratio}
 use Rattle.fractions.proofs.Sums.{minus-minus_same, minus-plus_plus}
 use Rattle.fractions.proofs.Wholes.{whole-nonzero}
 use Rattle.network_values.specs.Values.{change, duty_at, duty_of, full_size}
+use Rattle.network_values.proofs.StreamStates.{full_size-sensible}
 use Rattle.design_lines.specs.Values.{IsLedStage, LedStage, size_of}
 use Rattle.design_lines.specs.declared.stage.Share.{Share}
 use Rattle.design_lines.proofs.Declared.{exchangers_of-drawn}
@@ -128,14 +129,14 @@ module _ (case : Case) (cuts : List ℤ) (complete : IsSensibleCase case) (stand
         ap₂ (λ p q. if p && q then s.cp else pos 0) (int_le-from (heat_at s.side case.streams (low_end s)) low runs.from) (int_le-from high (heat_at s.side case.streams (high_end s)) runs.upto) in
         shares_size case low high (AreSpans-spans_of side.Hot case complete standard) (AreSpans-spans_of side.Cold case complete standard) s.side number (first_at hot cold cuts at) s here refl
         (flow_above case cuts are_cuts streams_are standard at later within side.Hot) (flow_above case cuts are_cuts streams_are standard at later within side.Cold)
-        ∙ ap whole flow
+        ∙ ap whole flow ∙ sym (full_size-sensible s (All-contains IsSensibleStream case.streams s streams_are.each runs.member).sensible)
 
     -- and there is one
     pub stage_some : 0 < length here_shares
     stage_some =
         let valid = All-contains IsSensibleStream case.streams s streams_are.each runs.member in
         let cp = valid.sensible.cp.from in
-        some_share here_shares s.cp (omega (arith, ints, cp)) stage_size
+        some_share here_shares s.cp (omega (arith, ints, cp)) (stage_size ∙ full_size-sensible s valid.sensible)
 
   pub stage_led : (number : ℕ) (s : Stream) → slice_get case.streams number ≡ Some s → (stage : LedStage) → IsIntervalStage case cuts streams_are number s stage
       → IsLedStage (network_of case (intervals_of (spans_of side.Hot case) (spans_of side.Cold case) cuts)) s.side (full_size s) stage

@@ -20,9 +20,10 @@ use Rattle.vertical_design.proofs.SegmentTemperatures.{flow_positive, flow_runni
 use Rattle.vertical_design.proofs.SpanRuns.{cut_below, no_end_between, side_flow-running}
 
 -- at whole temperatures the curve is the one of the axis
-pub curve_heat-whole : (of : Side) (streams : List Stream) (t : ℤ) → curve_heat of streams (whole t) ≡ whole (heat_at of streams t)
-curve_heat-whole of streams t =
-    ap (curve_heat of streams) (sym (ratio-multiple t 1 (omega arith))) ∙ curve_heat-ratio 1 (omega arith) of streams (t *ℤ pos 1) ∙ ap (λ z. ratio z 1) (curve_parts-whole 1 of streams t (omega arith))
+pub curve_heat-whole : (of : Side) (streams : List Stream) (t : ℤ) → AreSensibleStreams streams → curve_heat of streams (whole t) ≡ whole (heat_at of streams t)
+curve_heat-whole of streams t are =
+    ap (curve_heat of streams) (sym (ratio-multiple t 1 (omega arith))) ∙ curve_heat-ratio 1 (omega arith) of streams (t *ℤ pos 1) are.each
+    ∙ ap (λ z. ratio z 1) (curve_parts-whole 1 of streams t (omega arith))
     ∙ ratio-multiple (heat_at of streams t) 1 (omega arith)
 
 pub size_is : (x : ℤ) → pos 0 <ℤ x → x ≡ pos (unsigned_abs x)

@@ -1,5 +1,5 @@
 -- Each pass of the network of the matches leads its stream through the interval of the match whose exchanger it passes: so both sources of an exchanger face each other at both of its ends, and its streams stay in their ranges.
-use Rattle.std.proofs.Common.{◌≡◌, ◌∙◌, inl, inr, ◌+◌, ◌++◌, ℕ, ℤ, pos, ◌≤ℤ◌, ◌<ℤ◌, List, [], All, Some, slice_get, length, map, option_map, refl, sym, ap, subst, subst₂, append-nil, arith}
+use Rattle.std.proofs.Common.{◌≡◌, ◌∙◌, inl, inr, ◌+◌, ◌++◌, ℕ, ℤ, pos, ◌≤ℤ◌, ◌<ℤ◌, List, [], All, Some, slice_get, length, map, option_map, refl, sym, ap, ap₂, subst, subst₂, append-nil, arith}
 use Rattle.std.specs.Prelude.{unwrap_or}
 use Rattle.std.specs.Option.{option_map_or}
 use Rattle.std.proofs.lemmas.Int.{ints}
@@ -13,7 +13,7 @@ use Rattle.stream_case.specs.declared.source.Side.TheVariants as side
 use Rattle.stream_case.specs.declared.source.Source.{Source}
 use Rattle.stream_case.specs.declared.source.Source.TheVariants as source
 use Rattle.stream_case.specs.declared.stream.Stream.{Stream}
-use Rattle.design_lines.proofs.SensibleStreams.{AreSensibleStreams, AreSensibleStreams-case, IsSensibleCase}
+use Rattle.design_lines.proofs.SensibleStreams.{AreSensibleStreams, AreSensibleStreams-case, IsSensibleCase, IsSensibleStream}
 use Rattle.fractions.specs.Rationals.{Rational}
 use Rattle.networks.specs.Lines.{Exchanger, exchangers_of}
 use Rattle.networks.specs.Shape.{HasShape, IsExchanger, Joins}
@@ -21,8 +21,9 @@ use Rattle.networks.specs.declared.network.Line.TheVariants as line
 use Rattle.networks.specs.declared.network.Network.{Network}
 use Rattle.networks.proofs.Lists.{all_at}
 use Rattle.networks.proofs.OfShape.{the_pass_of}
-use Rattle.network_values.specs.Sides.{contribution_of, enters, leaves, pass_run, run_between, side_run}
+use Rattle.network_values.specs.Sides.{contribution_of, enters, leaves, level_or, pass_run, run_between, side_run}
 use Rattle.network_values.specs.Values.{Valuation, branch_side, first_value, value_at}
+use Rattle.network_values.proofs.StreamStates.{fixed_level-sensible}
 use Rattle.design_lines.specs.Drawn.{Course, courses_lines, declared_line}
 use Rattle.design_lines.specs.Values.{LedStage, courses_values}
 use Rattle.design_lines.specs.declared.stage.Share.{Share}
@@ -146,7 +147,8 @@ module _ (case : Case) (cuts : List ℤ) (complete : IsSensibleCase case) (stand
       let first = value_at values from in
       let second = value_at values to in
       let run : side_run case network values number (source.Stream stream) ≡ run_between s.side first second =
-      ap (pass_run case network values) pass.found ∙ ap (λ d. run_between d first second) on in
+      ap₂ level_or (ap (pass_run case network values) pass.found ∙ ap (λ d. run_between d first second) on)
+      (fixed_level-sensible case stream s here (all_at IsSensibleStream case.streams stream s are.each here).sensible) in
       let through = all_at (RunsAs case network R values) network.lines index (line.Pass from number to) network_runs pass.here in
       let runs : RunsThrough case cuts are number s first.t second.t = through s (ap (slice_get case.streams) pass.of_stream ∙ here) in
       let c = contribution_of case (source.Stream stream) in

@@ -138,7 +138,7 @@ module _ (case : Case) (cuts : List ℤ) (complete : IsSensibleCase case) (stand
 
     -- with the shape of a network, they are its valuation, and each end has its whole stream at its target
     pub network_valued : (shape : HasShape case network) → AreValues case network shape (courses_values all.courses)
-    network_valued shape = values_made case network shape (courses_values all.courses) complete network_makes
+    network_valued shape = values_made case network shape (courses_values all.courses) complete.complete network_makes
 
     length-courses : length all.courses ≡ length case.streams
     length-courses = sym (length-map all.courses shares_along) ∙ ap length all.along ∙ length-courses_of case (intervals_between case cuts)

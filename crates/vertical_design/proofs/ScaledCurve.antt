@@ -25,6 +25,7 @@ use Rattle.problem_table.specs.Sides.{sum_side}
 use Rattle.problem_table.proofs.SideLemmas.{sum_side-le, sum_side-same}
 use Rattle.network_values.specs.Heights.{positive_part}
 use Rattle.network_values.proofs.HeightLemmas.{positive_part-above, positive_part-below}
+use Rattle.network_values.proofs.StreamStates.{full_size-sensible}
 use Rattle.vertical_design.specs.Axis.{begin_of, heat_at, heat_below}
 use Rattle.vertical_design.specs.Vertical.{curve_heat, range_below, stream_heat}
 
@@ -47,25 +48,30 @@ module _ (d : ℕ) (some : 0 < d) where
   distance-ratio n x =
       ap positive_part (ap (minus (ratio n d)) (sym (ratio-multiple x d some)) ∙ minus-ratio_same_den n (x *ℤ pos d) d) ∙ positive_part-ratio (n -ℤ x *ℤ pos d) d some
 
-  stream_heat-ratio : (n : ℤ) (s : Stream) → stream_heat (ratio n d) s ≡ ratio (parts_below d n s) d
-  stream_heat-ratio n s =
+  stream_heat-ratio : (n : ℤ) (s : Stream) → IsSensibleStream s → stream_heat (ratio n d) s ≡ ratio (parts_below d n s) d
+  stream_heat-ratio n s h =
       let length = length_below (low_end s *ℤ pos d) (high_end s *ℤ pos d) n in
       let range : range_below (ratio n d) s ≡ ratio length d = ap₂ minus (distance-ratio n (low_end s)) (distance-ratio n (high_end s)) ∙ minus-ratio_same_den _ _ d in
       let one : 1 * d ≡ d = omega arith in
-      ap₂ times (sym (ratio-one s.cp)) range ∙ times-ratio s.cp length 1 d (omega arith) some ∙ ap (ratio (s.cp *ℤ length)) one
+      let size = full_size-sensible s h.sensible ∙ sym (ratio-one s.cp) in
+      ap₂ times size range ∙ times-ratio s.cp length 1 d (omega arith) some ∙ ap (ratio (s.cp *ℤ length)) one
 
   -- the heat of the curve at n/d
-  pub curve_heat-ratio : (of : Side) (streams : List Stream) (n : ℤ) → curve_heat of streams (ratio n d) ≡ ratio (curve_parts d of streams n) d
+  pub curve_heat-ratio : (of : Side) (streams : List Stream) (n : ℤ) → All IsSensibleStream streams
+      → curve_heat of streams (ratio n d) ≡ ratio (curve_parts d of streams n) d
   unfolding curve_heat
-  curve_heat-ratio of streams n =
+  curve_heat-ratio of streams n valid =
       let term = λ (s : Stream). if same_side s.side of then parts_below d n s else pos 0 in
-      let each = rational_sum_by-same (λ s. if same_side s.side of then stream_heat (ratio n d) s else rational_zero) (λ s. ratio (term s) d) streams (λ k o within. by (same_side (get_or streams k o).side of) (get_or streams k o)) in
+      let heat = λ (s : Stream). if same_side s.side of then stream_heat (ratio n d) s else rational_zero in
+      let same = λ (s : Stream) (h : IsSensibleStream s). by (same_side s.side of) s h in
+      let each = rational_sum_by-same heat (λ s. ratio (term s) d) streams (λ k o within. same (get_or streams k o) (valid k o within)) in
       let total = rational_sum_by-ratio term (sum_side of (parts_below d n)) d refl (λ s ss. refl) streams in
       ap₂ plus (sym (ratio-multiple (begin_of of streams) d some)) (each ∙ total) ∙ plus-ratio_same_den (begin_of of streams *ℤ pos d) (sum_side of (parts_below d n) streams) d
     where
-      by : (b : Bool) (s : Stream) → (if b then stream_heat (ratio n d) s else rational_zero) ≡ ratio (if b then parts_below d n s else pos 0) d
-      by true s = stream_heat-ratio n s
-      by false s = sym (ratio-zero d)
+      by : (b : Bool) (s : Stream) → IsSensibleStream s
+          → (if b then stream_heat (ratio n d) s else rational_zero) ≡ ratio (if b then parts_below d n s else pos 0) d
+      by true s h = stream_heat-ratio n s h
+      by false s h = sym (ratio-zero d)
 
 -- ---- at whole temperatures
 

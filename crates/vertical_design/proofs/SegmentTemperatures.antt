@@ -138,7 +138,7 @@ module _ (of : Side) (streams : List Stream) (are : AreSensibleStreams streams) 
             let product = ap (λ z. flow_running *ℤ z) further ∙ *ℤ_comm flow_running more ∙ ap (λ z. more *ℤ z) flow_is in
             let apart = -ℤ-*ℤ q (heat_at of streams begin) (pos d) in
             let is : curve_parts d of streams n ≡ q *ℤ pos d = omega (arith, ints, on_line, product, apart) in
-            curve_heat-ratio d some of streams n ∙ ap (λ z. ratio z d) is ∙ ratio-multiple q d some
+            curve_heat-ratio d some of streams n are.each ∙ ap (λ z. ratio z d) is ∙ ratio-multiple q d some
 
         -- and it lies in the range of each stream that runs
         pub within_range : (r : Stream) → Runs of streams are low high r → IsAtMost (whole (low_end r)) (temperature q) × IsAtMost (temperature q) (whole (high_end r))

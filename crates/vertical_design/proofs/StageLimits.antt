@@ -20,6 +20,7 @@ use Rattle.design_lines.proofs.SensibleStreams.{AreSensibleStreams, IsSensibleCa
 use Rattle.fractions.specs.Rationals.{IsAtMost, IsWithinLimits, Rational, ratio, whole}
 use Rattle.fractions.proofs.Comparisons.{at_most-whole, at_most_from_ratio_whole, at_most_from_whole_ratio, at_most_trans}
 use Rattle.network_values.specs.Values.{change, first_value, full_size}
+use Rattle.network_values.proofs.StreamStates.{first_state-sensible, full_size-sensible}
 use Rattle.network_values.specs.declared.values.BranchValue.{BranchValue}
 use Rattle.network_audit.proofs.LineSteps.{AreSmall, IsRoomy, sized_change, sized_roomy}
 use Rattle.network_audit.proofs.Sized.{IsSized, sized-between, sized-minus, sized-plus, sized-whole}
@@ -86,15 +87,17 @@ first_fine s valid =
     let high = valid.valid.supply.upto in
     let least = valid.sensible.cp.from in
     let most = valid.sensible.cp.upto in
+    let size = full_size-sensible s valid.sensible in
+    let state = first_state-sensible s valid.sensible in
     record {
       size_den = 1;
       size_some = omega arith;
       size_few = omega arith;
-      size = sized-whole 1 most_cp s.cp (omega arith) (omega (arith, ints, least, most));
+      size = subst (IsSized 1 most_cp) (sym size) (sized-whole 1 most_cp s.cp (omega arith) (omega (arith, ints, least, most)));
       state_den = 1;
       state_some = omega arith;
       state_few = omega arith;
-      state = sized-whole 1 highest s.supply (omega arith) (omega (arith, ints, low, high));
+      state = subst (IsSized 1 highest) (sym state) (sized-whole 1 highest s.supply (omega arith) (omega (arith, ints, low, high)));
     }
 
 -- ---- temperatures of an interval
@@ -162,7 +165,7 @@ stage_change stage fine of =
 pub stage_fine : (network : Network) (s : Stream) (stage : LedStage) → IsSensibleStream s → IsFineStage stage → IsLedStage network s.side (full_size s) stage → StageHolds IsFine stage
 stage_fine network s stage valid fine led =
     let cp_most = valid.sensible.cp.upto in
-    let whole_most = at_most-whole s.cp (pos most_cp) cp_most in
+    let whole_most = subst (λ x. IsAtMost x (whole (pos most_cp))) (sym (full_size-sensible s valid.sensible)) (at_most-whole s.cp (pos most_cp) cp_most) in
     All-weaker (IsStageBranch fine.size_den (full_size s) stage.before stage.after) IsFine (λ v is. record {
       size_den = fine.size_den;
       size_some = fine.size_some;

@@ -21,6 +21,7 @@ use Rattle.design_lines.proofs.SensibleStreams.{AreSensibleStreams, AreSensibleS
 use Rattle.fractions.specs.Rationals.{IsAtMost, Rational, whole}
 use Rattle.fractions.proofs.Comparisons.{at_most-whole}
 use Rattle.network_values.specs.Values.{first_state, full_size, last_state}
+use Rattle.network_values.proofs.StreamStates.{first_end, last_end}
 use Rattle.design_lines.specs.Drawn.{Course}
 use Rattle.design_lines.specs.Values.{IsLedStage, IsLedStream, LedStage, Meet, shares_along, state_behind}
 use Rattle.design_lines.specs.Ways.{on_the_way}
@@ -33,7 +34,7 @@ use Rattle.vertical_design.specs.declared.span.Span.{Span}
 use Rattle.vertical_design.proofs.CourseLemmas.{All-way}
 use Rattle.vertical_design.proofs.CurveApproach.{one_place}
 use Rattle.vertical_design.proofs.CurveSegments.{HasNoEnd, Runs, heat_rises}
-use Rattle.vertical_design.proofs.IntervalFacing.{actual-first, actual-last, actual_at, first_end, last_end}
+use Rattle.vertical_design.proofs.IntervalFacing.{actual-first, actual-last, actual_at}
 use Rattle.vertical_design.proofs.IntervalPlaces.{first_at, interval_at, rest_all, rest_at, rest_next, rest_none}
 use Rattle.vertical_design.proofs.IntervalShares.{no_shares}
 use Rattle.vertical_design.proofs.IntervalStages.{IsIntervalStage, entered_at, left_at, lower_cut, stage_led, stage_some, upper_cut}
@@ -184,14 +185,14 @@ module _ (case : Case) (cuts : List ℤ) (complete : IsSensibleCase case) (stand
   low_place = let order = ends_rise in record {
     from = at_most-whole (low_end s) (low_end s) (omega (arith, ints));
     upto = at_most-whole (low_end s) (high_end s) (omega (arith, ints, order));
-    heat_is = curve_heat-whole s.side case.streams (low_end s);
+    heat_is = curve_heat-whole s.side case.streams (low_end s) are;
   }
 
   high_place : IsPlaceOf (whole (high_end s)) top
   high_place = let order = ends_rise in record {
     from = at_most-whole (low_end s) (high_end s) (omega (arith, ints, order));
     upto = at_most-whole (high_end s) (high_end s) (omega (arith, ints));
-    heat_is = curve_heat-whole s.side case.streams (high_end s);
+    heat_is = curve_heat-whole s.side case.streams (high_end s) are;
   }
 
   -- ---- where it runs
@@ -357,11 +358,12 @@ module _ (case : Case) (cuts : List ℤ) (complete : IsSensibleCase case) (stand
   pub led_course : (course : List LedStage) × IsLedCourse case cuts are number s course
   led_course =
       let w = way in
+      let sensible = (All-contains IsSensibleStream case.streams s are.each member).sensible in
       let c = s.contribution in
       let actual = λ (t : Rational). actual_at s.side t c in
       let leads = way_leads s.side w.stages (actual (whole (high_end s))) (actual (whole (low_end s))) w.fall in
-      let start = start_place s.side actual s ∙ actual-first s in
-      let end = end_place s.side actual s ∙ actual-last s in
+      let start = start_place s.side actual s ∙ actual-first s sensible in
+      let end = end_place s.side actual s ∙ actual-last s sensible in
       let course = on_the_way s.side w.stages in
       let from_start : Leads (first_state s) course (end_of s.side (actual (whole (high_end s))) (actual (whole (low_end s)))) = subst (λ x. Leads x course (end_of s.side (actual (whole (high_end s))) (actual (whole (low_end s))))) start leads in (
         course,

@@ -1,17 +1,15 @@
-use Rattle.std.proofs.Common.{◌≡◌, ◌∙◌, ◌<◌, ◌∷◌, ◌++◌, [], true, ap, refl, sym, arith}
+use Rattle.std.proofs.Common.{◌≡◌, ◌∙◌, ◌∷◌, ◌++◌, [], true, ap, refl, sym, arith}
 use Rattle.stream_case.specs.Source.{same_source}
 use Rattle.stream_case.specs.declared.source.Source.TheVariants as source
-use Rattle.networks.proofs.Lists.{all_at}
 use Rattle.networks.specs.declared.network.Line.TheVariants as line
 use Rattle.design_lines.specs.Stages.{stage_end}
-use Rattle.grid.specs.declared.part.Part.{Part}
 use Rattle.interval_design.specs.Courses.{shares_of, width_of}
 use Rattle.interval_design.proofs.CourseLemmas.{HasStage, IsTurn, led_end, led_next, led_skip, led_stage, led_start}
 use Rattle.interval_design.proofs.courses.push_course.Goals as goal
 use Rattle.interval_design.proofs.courses.push_course.Goals.{After-as_slice}
 
 pub loop-turn-init : goal.loop-turn-init
-loop-turn-init c = led_start c.args.side c.args.parts.now c.args.transfers.now c.args.stream c.args.next c.args.lines.now.items 0 c.args.lines.now.items c.args.next c.args.stream refl refl refl refl c.requires.led.used
+loop-turn-init c = led_start c.args.side c.args.parts.now c.args.transfers.now c.args.stream c.args.next c.args.lines.now.items 0 c.args.lines.now.items c.args.next c.args.stream refl refl refl refl c.requires.led
 
 pub loop-turn-preserved-then-not-is_own : goal.loop-turn-preserved-then-not-is_own
 loop-turn-preserved-then-not-is_own c =
@@ -21,11 +19,7 @@ loop-turn-preserved-then-not-is_own c =
     c.index_at-index.result p is (sym c.is_part_of-is_own.ensures ∙ c.if-not-is_own.true) c.loop-turn.invariant
 
 pub shares_of-requires-clause-wide : goal.shares_of-requires-clause-wide
-shares_of-requires-clause-wide c =
-    let p = c.part_at-part.result in
-    let wide : 0 < width_of p = all_at (λ (q : Part). same_source q.source (source.Stream c.args.stream) ≡ true → 0 < width_of q) c.args.parts.now c.index_at-index.result p c.requires.led.wide c.part_at-part.ensures
-    (sym c.is_part_of-is_own.ensures ∙ c.if-not-is_own.false) in
-    omega (arith, wide, c.width_of.ensures)
+shares_of-requires-clause-wide c = omega (arith, c.width_of.ensures)
 
 -- the part at the turn is the stream's, and its shares are a stage, for which there is room
 turn_is : (c : After-as_slice) → IsTurn c.args.side c.args.parts.now c.loop-turn.turn c.index_at-index.result c.part_at-part.result

@@ -10,7 +10,6 @@ use Rattle.networks.specs.Lines.{exchangers_of}
 use Rattle.networks.specs.Shape.{HasShape, KeepsCounts}
 use Rattle.networks.specs.declared.network.Network.{Network}
 use Rattle.design_lines.specs.Drawn.{courses_lines, declared_line, made_branches, HasFewLines}
-use Rattle.design_lines.proofs.SensibleStreams.{IsSensibleCase-both}
 use Rattle.interval_design.specs.Balance.{flow_balance}
 use Rattle.interval_design.specs.Courses.{courses_of, exchanger_of, network_of}
 use Rattle.interval_design.proofs.Balances.{balance-network, no_excess}
@@ -44,7 +43,7 @@ push_courses-requires-clause-few_transfers c = let few = few_flow c.requires.flo
 
 pub push_courses-requires-clause-led : goal.push_courses-requires-clause-led
 push_courses-requires-clause-led c =
-    all_led c.args.case.now c.args.parts.now.hot c.args.parts.now.cold c.args.flow.now.transfers (IsSensibleCase-both c.args.case.now c.requires.complete c.requires.sensible) c.requires.parts c.requires.flow.hot_ranges c.requires.flow.cold_ranges
+    all_led c.args.case.now c.args.parts.now.hot c.args.parts.now.cold c.args.flow.now.transfers c.requires.complete c.requires.parts c.requires.flow.hot_ranges c.requires.flow.cold_ranges
 
 pub push_courses-requires-clause-own : goal.push_courses-requires-clause-own
 push_courses-requires-clause-own c = ap length c.in_ok-branches.ensures ∙ many_own c.args.case.now
@@ -55,7 +54,7 @@ push_courses-requires-clause-fits c =
     let cold = c.args.parts.now.cold in
     let streams = length-AreStreams c.args.case.now.streams (AreStreams-IsComplete c.args.case.now c.requires.complete) in
     all-fit c.args.case.now hot cold c.args.flow.now.transfers streams (few_flow c.requires.flow c.args.parts.now.few_hot c.args.parts.now.few_cold)
-    (all_led c.args.case.now hot cold c.args.flow.now.transfers (IsSensibleCase-both c.args.case.now c.requires.complete c.requires.sensible) c.requires.parts c.requires.flow.hot_ranges c.requires.flow.cold_ranges)
+    (all_led c.args.case.now hot cold c.args.flow.now.transfers c.requires.complete c.requires.parts c.requires.flow.hot_ranges c.requires.flow.cold_ranges)
 
 -- ---- the network
 
@@ -90,19 +89,19 @@ has_shape c =
     let hot = c.args.parts.now.hot in
     let cold = c.args.parts.now.cold in
     let ts = c.args.flow.now.transfers in
-    HasShape-network_of case hot cold ts (IsSensibleCase-both c.args.case.now c.requires.complete c.requires.sensible) (record {
+    HasShape-network_of case hot cold ts c.requires.complete (record {
       parts = c.requires.parts;
       hot_indexes = c.requires.flow.hot_indexes;
       cold_indexes = c.requires.flow.cold_indexes;
       positive = c.requires.flow.positive;
       heats = heats c;
       few = few_flow c.requires.flow c.args.parts.now.few_hot c.args.parts.now.few_cold;
-      led = all_led case hot cold ts (IsSensibleCase-both c.args.case.now c.requires.complete c.requires.sensible) c.requires.parts c.requires.flow.hot_ranges c.requires.flow.cold_ranges;
+      led = all_led case hot cold ts c.requires.complete c.requires.parts c.requires.flow.hot_ranges c.requires.flow.cold_ranges;
       few_streams = few_streams c;
     })
 
 is_valid : (c : goal.After-from_vec-2) → IsValidNetwork c.args.case.now (network_of c.args.case.now c.args.parts.now.hot c.args.parts.now.cold c.args.flow.now.transfers)
-is_valid c = valid_network c.args.case.now c.args.parts.now.hot c.args.parts.now.cold c.args.flow.now.transfers (IsSensibleCase-both c.args.case.now c.requires.complete c.requires.sensible) c.requires.parts c.requires.flow (has_shape c)
+is_valid c = valid_network c.args.case.now c.args.parts.now.hot c.args.parts.now.cold c.args.flow.now.transfers c.requires.complete c.requires.parts c.requires.flow (has_shape c)
 
 balance_is : (c : goal.After-from_vec-2) → balance_of c.args.case.now (record { branches = c.from_vec.result; lines = c.from_vec-2.result }) ≡ flow_balance c.args.case.now c.args.parts.now.hot c.args.parts.now.cold c.args.flow.now.transfers
 balance_is c =
@@ -142,7 +141,7 @@ returns-clause-valid c = subst (IsValidNetwork c.args.case.now) (sym (network_is
 pub returns-clause-accepted : goal.returns-clause-accepted
 returns-clause-accepted c =
     subst (HasNoFinding c.args.case.now) (sym (network_is c))
-    (network_has_no_finding c.args.case.now c.args.parts.now.hot c.args.parts.now.cold c.args.flow.now.transfers (IsSensibleCase-both c.args.case.now c.requires.complete c.requires.sensible) c.requires.parts c.requires.flow (heats c) (has_shape c) (is_valid c))
+    (network_has_no_finding c.args.case.now c.args.parts.now.hot c.args.parts.now.cold c.args.flow.now.transfers c.requires.complete c.requires.parts c.requires.flow (heats c) (has_shape c) (is_valid c))
 
 pub returns-clause-balance : goal.returns-clause-balance
 returns-clause-balance c = balance_is c

@@ -1,6 +1,4 @@
 use Rattle.std.proofs.Common.{◌≡◌, ◌∙◌, ◌<◌, ◌^◌, ◌++◌, List, Some, length, sym, ap, arith}
-use Rattle.stream_case.proofs.CaseLemmas.{length-AreStreams}
-use Rattle.stream_case.proofs.CompleteLemmas.{AreStreams-IsComplete}
 use Rattle.network_audit.proofs.Words.{Finding, IsFinding, Item, all_heat_items, balance_in, balance_items, balance_of, balance_steps_in, exchanger_of, exchangers_of, first_finding, heats_in, items, joint_items, stream_items}
 use Rattle.network_audit.specs.declared.findings.Finding.TheVariants as finding
 use Rattle.network_audit.specs.declared.findings.Place.TheVariants as place
@@ -11,9 +9,6 @@ use Rattle.network_audit.proofs.JointLemmas.{length-joints}
 use Rattle.network_audit.proofs.SumSteps.{length-numbers}
 use Rattle.network_audit.proofs.auditor.audit_network.Goals as goal
 use Rattle.network_audit.proofs.auditor.audit_network.Goals.{After-hot_target-target, In_default}
-
-pub audit_streams-requires : goal.audit_streams-requires
-audit_streams-requires c = omega (arith, length-AreStreams c.args.case.now.streams (AreStreams-IsComplete c.args.case.now c.requires.complete))
 
 -- the items behind the statements, read from the tables
 abbrev behind : In_default → List Item

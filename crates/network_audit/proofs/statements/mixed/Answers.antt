@@ -15,13 +15,15 @@ returns-then-eq c =
     let f = c.args.first.now in let s = c.args.second.now in
     let even : rational_eq f.t s.t ≡ true = sym c.eq.ensures ∙ c.if-eq.true in
     let state = even_mix f s (mixed_positive f s c.requires.first c.requires.second) ((Decides-rational_eq f.t s.t).0 even) in (
-      λ at. found-formed at 1 _ _ _ _ c.in-Some.is c.plus.ensures ∙ ap (λ b. first_finding (if b then [] else mean_items at f s (plus f.cp s.cp))) even ∙ found-nothing,
+      λ at. found-formed at 1 _ _ _ _ c.in-Some.is c.plus.ensures
+          ∙ ap (λ b. first_finding (if b then [] else mean_items at f s (plus f.cp s.cp))) even ∙ found-nothing,
       λ i. record { cp = value_formed _ _ _ c.in-Some.is c.plus.ensures i; t = state i },
     )
 
 pub mean-requires : goal.mean-requires
 mean-requires c =
-    subst (IsBelow rational_zero) (sym (value_formed _ _ _ c.in-Some.is c.plus.ensures)) (mixed_positive c.args.first.now c.args.second.now c.requires.first c.requires.second)
+    subst (IsBelow rational_zero) (sym (value_formed _ _ _ c.in-Some.is c.plus.ensures))
+    (mixed_positive c.args.first.now c.args.second.now c.requires.first c.requires.second)
 
 pub returns-in_err-t : goal.returns-in_err-t
 returns-in_err-t c =

@@ -4,9 +4,16 @@ use Rattle.network_audit.specs.Items.{ends_stream, first_finding, is_ended, stre
 use Rattle.network_audit.specs.declared.findings.Finding.TheVariants as finding
 use Rattle.network_audit.specs.declared.findings.Place.TheVariants as place
 use Rattle.network_audit.specs.declared.findings.Reason.TheVariants as reason
+use Rattle.stream_case.proofs.CaseLemmas.{length-AreStreams}
 use Rattle.sums.proofs.FirstLemmas.{first-here, first-more, first-none}
 use Rattle.network_audit.proofs.FoundLemmas.{found-append, found-failed, found-nothing, found-passed}
 use Rattle.network_audit.proofs.streams.audit_streams.Goals as goal
+
+pub overflow_cast-index : goal.overflow_cast-index
+overflow_cast-index c = omega (arith, ap length c.as_slice-stream-items.ensures, length-AreStreams c.args.case.now.streams c.requires)
+
+pub overflow_cast-result : goal.overflow_cast-result
+overflow_cast-result c = omega (arith, ap length c.as_slice-stream-items.ensures, length-AreStreams c.args.case.now.streams c.requires)
 
 pub loop-index-init : goal.loop-index-init
 loop-index-init c = found-nothing

@@ -1,15 +1,25 @@
-use Rattle.std.proofs.Common.{rules, of_z, to_z, w32, ◌≡◌, ◌∙◌, length, sym, ap, subst, arith}
+use Rattle.std.proofs.Common.{rules, w32, ◌≡◌, ◌∙◌, length, ap, arith}
 use Rattle.std.proofs.lemmas.Int.{to_z-of_z}
-use Rattle.penalties.proofs.Words.{Audit, IsComplete, IsReferencePlace, exchangers_of, joints_of}
+use Rattle.penalties.proofs.Words.{Audit, exchangers_of, joints_of}
+use Rattle.stream_case.proofs.CompleteLemmas.{AreStreams-IsComplete, HasValidStreams-IsComplete}
 use Rattle.networks.proofs.LineLaws.{few_exchangers}
 use Rattle.network_audit.proofs.AcceptedLemmas.{known_network}
 use Rattle.network_audit.proofs.JointLemmas.{length-joints}
 use Rattle.penalties.proofs.ListLaws.{listed_not_negative, listed_sum}
-use Rattle.penalties.proofs.Listing.{all_listed, found_none, found_some, too_fine_first, too_fine_later}
+use Rattle.penalties.proofs.Listing.{all_listed, found_none, found_some, reference_view, too_fine_first, too_fine_later}
+use Rattle.penalties.proofs.SurveyLemmas.{supplies_shifted}
 use Rattle.penalties.proofs.survey.penalties.Goals as goal
 
 pub reference_place-requires : goal.reference_place-requires
-reference_place-requires c = let complete : IsComplete c.args.case.now = (known_network _ _ _ c.requires.accepted c.joints-joints.ensures.known).complete in search rules
+reference_place-requires c = HasValidStreams-IsComplete c.args.case.now (known_network _ _ _ c.requires.accepted c.joints-joints.ensures.known).complete
+
+pub reference_from-requires : goal.reference_from-requires
+reference_from-requires c = HasValidStreams-IsComplete c.args.case.now (known_network _ _ _ c.requires.accepted c.joints-joints.ensures.known).complete
+
+pub invariant_of-survey : goal.invariant_of-survey
+invariant_of-survey c =
+    let complete = (known_network _ _ _ c.requires.accepted c.joints-joints.ensures.known).complete in
+    record { levels = supplies_shifted c.args.case.now.streams (AreStreams-IsComplete c.args.case.now complete).each }
 
 pub add_exchangers-requires : goal.add_exchangers-requires
 add_exchangers-requires c =
@@ -26,32 +36,29 @@ add_mixes-requires c = omega (arith, ap length c.as_slice.ensures, (known_networ
 
 pub returns-in-Some-clause-lists : goal.returns-in-Some-clause-lists
 returns-in-Some-clause-lists c =
-    let reference = to_z w32 (of_z w32 c.reference_place.result) in
-    let is_reference : IsReferencePlace c.args.case.now.streams reference =
-    subst (IsReferencePlace c.args.case.now.streams) (sym (to_z-of_z w32 c.reference_place.result (search rules))) c.reference_place.ensures in
-    too_fine_first c.args.case.now c.args.network.now c.args.auditor.now reference c.joints-joints.result.now c.requires.accepted
+    let same = to_z-of_z w32 c.reference_place.result (search rules) in
+    let is_reference = reference_view c.args.case.now.streams _ _ c.reference_from.result same c.reference_place.ensures c.reference_from.ensures in
+    too_fine_first c.args.case.now c.args.network.now c.args.auditor.now _ c.joints-joints.result.now c.requires.accepted
     c.joints-joints.ensures.known is_reference c.joints-joints.ensures.table
     c.in-Some.field-0.place c.in-Some.field-0.step (found_some _ _ _ _ c.in_ok-place.ensures c.in-Some.is)
 
 pub returns-in-Some-2-clause-lists : goal.returns-in-Some-2-clause-lists
 returns-in-Some-2-clause-lists c =
-    let reference = to_z w32 (of_z w32 c.reference_place.result) in
-    let is_reference : IsReferencePlace c.args.case.now.streams reference =
-    subst (IsReferencePlace c.args.case.now.streams) (sym (to_z-of_z w32 c.reference_place.result (search rules))) c.reference_place.ensures in
+    let same = to_z-of_z w32 c.reference_place.result (search rules) in
+    let is_reference = reference_view c.args.case.now.streams _ _ c.reference_from.result same c.reference_place.ensures c.reference_from.ensures in
     let exchangers = found_none _ _ _ c.in_ok-place.ensures c.in_default.not-Some in
-    too_fine_later c.args.case.now c.args.network.now c.args.auditor.now reference c.joints-joints.result.now c.requires.accepted
+    too_fine_later c.args.case.now c.args.network.now c.args.auditor.now _ c.joints-joints.result.now c.requires.accepted
     c.joints-joints.ensures.known is_reference c.joints-joints.ensures.table
     c.as_slice.result.now c.as_slice.ensures c.in-Some-2.field-0.place c.in-Some-2.field-0.step exchangers.0
     (found_some _ _ _ _ c.in_ok-place-2.ensures c.in-Some-2.is)
 
 pub returns-clause-lists : goal.returns-clause-lists
 returns-clause-lists c =
-    let reference = to_z w32 (of_z w32 c.reference_place.result) in
-    let is_reference : IsReferencePlace c.args.case.now.streams reference =
-    subst (IsReferencePlace c.args.case.now.streams) (sym (to_z-of_z w32 c.reference_place.result (search rules))) c.reference_place.ensures in
+    let same = to_z-of_z w32 c.reference_place.result (search rules) in
+    let is_reference = reference_view c.args.case.now.streams _ _ c.reference_from.result same c.reference_place.ensures c.reference_from.ensures in
     let exchangers = found_none _ _ _ c.in_ok-place.ensures c.in_default.not-Some in
     let mixes = found_none _ _ _ c.in_ok-place-2.ensures c.in_default-2.not-Some in
-    all_listed c.args.case.now c.args.network.now c.args.auditor.now reference c.joints-joints.result.now c.requires.accepted
+    all_listed c.args.case.now c.args.network.now c.args.auditor.now _ c.joints-joints.result.now c.requires.accepted
     c.joints-joints.ensures.known is_reference c.joints-joints.ensures.table
     c.as_slice.result.now c.as_slice.ensures c.new-list.result.items c.add_exchangers.new.list.items c.from_vec.result
     exchangers.0 mixes.0 c.new-list.ensures.items exchangers.1 (c.from_vec.ensures ∙ mixes.1)
@@ -59,9 +66,11 @@ returns-clause-lists c =
 pub returns-clause-not_negative : goal.returns-clause-not_negative
 returns-clause-not_negative c =
     let known = known_network _ _ _ c.requires.accepted c.joints-joints.ensures.known in
-    listed_not_negative c.args.case.now c.args.network.now c.requires.sensible known.shape known.valid c.from_vec.result (returns-clause-lists c)
+    listed_not_negative c.args.case.now c.args.network.now (AreStreams-IsComplete c.args.case.now known.complete)
+    known.shape known.valid c.from_vec.result (returns-clause-lists c)
 
 pub returns-clause-sum : goal.returns-clause-sum
 returns-clause-sum c =
     let known = known_network _ _ _ c.requires.accepted c.joints-joints.ensures.known in
-    listed_sum c.args.case.now c.args.network.now c.requires.sensible known.shape known.valid c.from_vec.result (returns-clause-lists c)
+    listed_sum c.args.case.now c.args.network.now (AreStreams-IsComplete c.args.case.now known.complete)
+    known.shape known.valid c.from_vec.result (returns-clause-lists c)

@@ -1,4 +1,4 @@
--- Each pass of the network of a heat flow leads its stream from the one end of a part to the other: the part of the transfer whose exchanger it passes.
+-- Each pass of the network of a heat flow leads its stream from the one state of a part to the other: the part of the transfer whose exchanger it passes.
 use Rattle.std.proofs.Common.{◌≡◌, ◌∙◌, ◌+◌, ◌++◌, ℕ, List, [], All, Some, slice_get, length, map, true, sym, ap, subst, append-nil, arith}
 use Rattle.std.specs.List.{enumerate_from}
 use Rattle.std.proofs.lemmas.List.{length-map}
@@ -8,9 +8,9 @@ use Rattle.stream_case.specs.Source.{same_source}
 use Rattle.stream_case.specs.declared.case.Case.{Case}
 use Rattle.stream_case.specs.declared.source.Source.TheVariants as source
 use Rattle.stream_case.specs.declared.stream.Stream.{Stream}
-use Rattle.design_lines.proofs.SensibleStreams.{IsSensibleCase}
-use Rattle.fractions.specs.Rationals.{Rational, whole}
-use Rattle.network_values.specs.Values.{Valuation, first_value}
+use Rattle.stream_case.specs.Case.{IsComplete}
+use Rattle.fractions.specs.Rationals.{Rational}
+use Rattle.network_values.specs.Values.{first_value}
 use Rattle.design_lines.specs.Drawn.{Course, courses_lines, declared_line}
 use Rattle.design_lines.specs.Values.{LedStage, courses_values}
 use Rattle.design_lines.proofs.NumberedItems.{numbered-item}
@@ -23,19 +23,19 @@ use Rattle.heat_flow.specs.Flow.{IsHeatFlow, part_index}
 use Rattle.heat_flow.specs.Reach.{reach_between}
 use Rattle.heat_flow.specs.declared.flow.Transfer.{Transfer}
 use Rattle.interval_design.specs.Courses.{courses_of, exchanger_of, network_of, on_the_way, shares_of, width_of}
-use Rattle.interval_design.specs.Values.{actual, entered_at, led_course, led_courses, led_part, left_at}
+use Rattle.interval_design.specs.Values.{entered_state, led_course, led_courses, led_part, left_state}
 use Rattle.interval_design.proofs.FlowLemmas.{All-way}
 use Rattle.interval_design.proofs.NetworkValues.{all_led_network, courses_along-led}
 use Rattle.interval_design.proofs.ShareLemmas.{each-share}
 use Rattle.interval_design.proofs.StreamValues.{led_each}
 
--- a stream comes into a part at the one temperature, and leaves it at the other
+-- a stream comes into a part in the one state, and leaves it in the other
 pub record RunsThrough (s : Stream) (p : Part) (before after : Rational) : Type 0 where
-  pub enters : before ≡ whole (actual s.side (entered_at s.side p) s.contribution)
-  pub leaves : after ≡ whole (actual s.side (left_at s.side p) s.contribution)
+  pub enters : before ≡ entered_state s p
+  pub leaves : after ≡ left_state s p
 
 module _ (case : Case) (hot cold : List Part) (ts : List Transfer) where
-  -- the temperatures before and behind an exchanger are those of the ends of the part of its transfer
+  -- the states before and behind an exchanger are those of the part of its transfer
   abbrev pub RunsThroughPart : ℕ → ℕ → Rational → Rational → Type 0
   RunsThroughPart stream exchanger before after =
       (t : Transfer) (s : Stream) (p : Part) → slice_get ts exchanger ≡ Some t → slice_get case.streams stream ≡ Some s → slice_get (parts_of s.side hot cold) (part_index s.side t) ≡ Some p → RunsThrough s p before after
@@ -53,30 +53,32 @@ module _ (case : Case) (hot cold : List Part) (ts : List Transfer) where
       λ j. slice_get (parts_of (stream_is j).side hot cold) (part_index (stream_is j).side (transfer_is j)) in
       let part_is : p ≡ q = same_Some p q (sym at ∙ ap (slice_get (parts_of s.side hot cold)) (sym own) ∙ place ∙ part) in
       record {
-        enters = λ j. whole (actual (stream_is j).side (entered_at (stream_is j).side (part_is j)) (stream_is j).contribution);
-        leaves = λ j. whole (actual (stream_is j).side (left_at (stream_is j).side (part_is j)) (stream_is j).contribution);
+        enters = λ j. entered_state (stream_is j) (part_is j);
+        leaves = λ j. left_state (stream_is j) (part_is j);
       })
 
-  course_runs : (stream : ℕ) (s : Stream) → slice_get case.streams stream ≡ Some s → All (StageRuns case (network_of case hot cold ts) RunsThroughPart stream) (led_course hot cold ts (stream, s))
-  course_runs stream s here =
-      let Q : LedStage → Type 0 = StageRuns case (network_of case hot cold ts) RunsThroughPart stream in
+  -- what each stage of a stream's parts holds, each stage of its course holds
+  pub stages_run : (R : ℕ → ℕ → Rational → Rational → Type 0) (stream : ℕ) (s : Stream)
+      → ((index : ℕ) (p : Part) → slice_get (parts_of s.side hot cold) index ≡ Some p → StageRuns case (network_of case hot cold ts) R stream (led_part s ts (index, p)))
+      → All (StageRuns case (network_of case hot cold ts) R stream) (led_course hot cold ts (stream, s))
+  stages_run R stream s each =
+      let Q : LedStage → Type 0 = StageRuns case (network_of case hot cold ts) R stream in
       led_each Q s ts stream (on_the_way s.side (enumerate_from 0 (parts_of s.side hot cold)))
-      (All-way (λ e. same_source e.1.source (source.Stream stream) ≡ true → Q (led_part s ts e)) s.side (parts_of s.side hot cold) (λ index p at own. part_runs stream s here index p at))
+      (All-way (λ e. same_source e.1.source (source.Stream stream) ≡ true → Q (led_part s ts e)) s.side (parts_of s.side hot cold) (λ index p at own. each index p at))
 
-  each_runs : EachRuns case (network_of case hot cold ts) RunsThroughPart 0 (led_courses case hot cold ts)
-  each_runs k course there =
+  each_runs : (R : ℕ → ℕ → Rational → Rational → Type 0) → ((stream : ℕ) (s : Stream) → slice_get case.streams stream ≡ Some s → All (StageRuns case (network_of case hot cold ts) R stream) (led_course hot cold ts (stream, s)))
+      → EachRuns case (network_of case hot cold ts) R 0 (led_courses case hot cold ts)
+  each_runs R each k course there =
       let (s, here, is) = numbered-item (led_course hot cold ts) 0 case.streams k course there in
       let number : k ≡ 0 + k = omega arith in
-      subst (All (StageRuns case (network_of case hot cold ts) RunsThroughPart (0 + k))) is (course_runs (0 + k) s (ap (slice_get case.streams) (sym number) ∙ here))
+      subst (All (StageRuns case (network_of case hot cold ts) R (0 + k))) is (each (0 + k) s (ap (slice_get case.streams) (sym number) ∙ here))
 
-  declared_runs : (values : Valuation) (es : List (ℕ × Transfer)) → All (RunsAs case (network_of case hot cold ts) RunsThroughPart values) (map (λ e. declared_line (exchanger_of hot cold e)) es)
-  declared_runs values es = All-map (RunsAs case (network_of case hot cold ts) RunsThroughPart values) (λ e. declared_line (exchanger_of hot cold e)) es (λ k d within. tt)
-
-  -- over the values of the courses, each pass runs through the part of its exchanger's transfer
-  pub network_runs : IsSensibleCase case → AreCaseParts case hot cold → IsHeatFlow (reach_between case hot cold) hot cold ts
-      → All (RunsAs case (network_of case hot cold ts) RunsThroughPart (map first_value case.streams ++ courses_values (led_courses case hot cold ts))) (network_of case hot cold ts).lines
+  -- over the values of the courses, each pass runs as the courses of the streams do
+  pub passes_run : (R : ℕ → ℕ → Rational → Rational → Type 0) → IsComplete case → AreCaseParts case hot cold → IsHeatFlow (reach_between case hot cold) hot cold ts
+      → ((stream : ℕ) (s : Stream) → slice_get case.streams stream ≡ Some s → All (StageRuns case (network_of case hot cold ts) R stream) (led_course hot cold ts (stream, s)))
+      → All (RunsAs case (network_of case hot cold ts) R (map first_value case.streams ++ courses_values (led_courses case hot cold ts))) (network_of case hot cold ts).lines
   unfolding network_of
-  network_runs complete parts flow =
+  passes_run R complete parts flow each =
       let network = network_of case hot cold ts in
       let start = map first_value case.streams in
       let led = led_courses case hot cold ts in
@@ -85,6 +87,13 @@ module _ (case : Case) (hot cold : List Part) (ts : List Transfer) where
       let courses = courses_along-led hot cold ts (enumerate_from 0 case.streams) in
       let n = length case.streams in
       let whole_values : final ≡ start ++ (made ++ []) = ap (λ vs. start ++ vs) (sym (append-nil made)) in
-      let runs = courses_run case network RunsThroughPart led start [] final n 0 (sym (length-map case.streams first_value)) (own_start case) (all_led_network case hot cold ts complete parts flow) each_runs whole_values in
-      let drawn = subst (λ (cs : List Course). All (RunsAs case network RunsThroughPart final) (courses_lines n 0 cs)) courses runs in
-      All-append (RunsAs case network RunsThroughPart final) (map (λ e. declared_line (exchanger_of hot cold e)) (enumerate_from 0 ts)) (courses_lines n 0 (courses_of case hot cold ts)) (declared_runs final (enumerate_from 0 ts)) drawn
+      let runs = courses_run case network R led start [] final n 0 (sym (length-map case.streams first_value)) (own_start case) (all_led_network case hot cold ts complete parts flow) (each_runs R each) whole_values in
+      let drawn = subst (λ (cs : List Course). All (RunsAs case network R final) (courses_lines n 0 cs)) courses runs in
+      let declared = All-map (RunsAs case network R final) (λ e. declared_line (exchanger_of hot cold e)) (enumerate_from 0 ts) (λ k d within. tt) in
+      All-append (RunsAs case network R final) (map (λ e. declared_line (exchanger_of hot cold e)) (enumerate_from 0 ts)) (courses_lines n 0 (courses_of case hot cold ts)) declared drawn
+
+  -- over the values of the courses, each pass runs through the part of its exchanger's transfer
+  pub network_runs : IsComplete case → AreCaseParts case hot cold → IsHeatFlow (reach_between case hot cold) hot cold ts
+      → All (RunsAs case (network_of case hot cold ts) RunsThroughPart (map first_value case.streams ++ courses_values (led_courses case hot cold ts))) (network_of case hot cold ts).lines
+  network_runs complete parts flow =
+      passes_run RunsThroughPart complete parts flow (λ stream s here. stages_run RunsThroughPart stream s (λ index p at. part_runs stream s here index p at))

@@ -2,7 +2,7 @@
 use Rattle.std.proofs.Common.{ap, ◌∙◌, w64, rules, arith, ◌*ℤ◌}
 use Rattle.std.proofs.lemmas.Int.{ints, clamps, to_z-of_z}
 use Rattle.curves.proofs.BelowLemmas.{actual-length}
-use Rattle.curves.proofs.below.heat_below.Goals as goal
+use Rattle.curves.proofs.below.sensible_below.Goals as goal
 
 pub heat_between-requires-clause-within : goal.heat_between-requires-clause-within
 heat_between-requires-clause-within c =

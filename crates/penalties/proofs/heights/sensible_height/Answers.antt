@@ -3,7 +3,7 @@ use Rattle.penalties.proofs.Words.{Gives, first_too_fine, is_below, minus, ratio
 use Rattle.fractions.proofs.Limits.{value_formed}
 use Rattle.penalties.proofs.StepLemmas.{after_formed, at_not_formed, none_of_nothing}
 use Rattle.penalties.proofs.SurveyLemmas.{height-above, height-below, steps-above, steps-below}
-use Rattle.penalties.proofs.heights.height.Goals as goal
+use Rattle.penalties.proofs.heights.sensible_height.Goals as goal
 
 pub returns-in_default : goal.returns-in_default
 returns-in_default c = at_not_formed c.args.place c.args.step _ _ _ c.in_default.is c.minus.ensures

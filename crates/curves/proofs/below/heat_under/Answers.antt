@@ -1,0 +1,10 @@
+-- A sum of two heats of which one is 0.
+use Rattle.std.proofs.Common.{to_z, of_z, w32, arith}
+use Rattle.std.proofs.lemmas.Int.{ints}
+use Rattle.curves.proofs.BelowLemmas.{heat_under-between}
+use Rattle.curves.proofs.below.heat_under.Goals as goal
+
+pub returns-clause-range : goal.returns-clause-range
+returns-clause-range c =
+    let range = heat_under-between c.args.upto (to_z w32 (of_z w32 c.args.t)) c.args.stream.now c.requires in
+    record { from = omega (arith, ints); upto = omega (arith, ints) }

@@ -1,0 +1,8 @@
+-- The heat of the side's streams so far.
+use Rattle.std.proofs.Common.{◌≡◌, take}
+use Rattle.problem_table.specs.Sides.{sum_side}
+use Rattle.curves.specs.Below.{heat_under}
+use Rattle.curves.proofs.below.side_heat_under.Given as goal
+
+abbrev pub invariant-loop-stream : goal.invariant-loop-stream
+invariant-loop-stream l = l.heat ≡ sum_side l.side (heat_under l.upto l.t) (take l.stream-index l.streams)

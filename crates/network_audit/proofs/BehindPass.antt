@@ -1,0 +1,45 @@
+-- The branch behind a pass of a network with a valuation: its number, what it carries, and whether it is latent.
+use Rattle.std.proofs.Common.{◌≡◌, ◌<◌, ℕ, false, Some, slice_get, length, ap, arith}
+use Rattle.std.specs.Option.{option_map_or}
+use Rattle.std.proofs.Math.Seq.{take-length}
+use Rattle.network_audit.proofs.Words.{Case, HasShape, IsWholeValuation, Network, Rational, Solves, Valuation, branch_side, duty_at, is_latent, is_latent_branch, made_by, moved, over, value_at}
+use Rattle.networks.specs.declared.network.Line.TheVariants as line
+use Rattle.networks.proofs.Lists.{all_at}
+use Rattle.networks.proofs.OfShape.{IsLineOf, all_made, line_of}
+use Rattle.network_values.proofs.LineLemmas.{pass_determined}
+use Rattle.network_values.proofs.WholeLemmas.{all_solved, branch_above}
+
+-- the state that the schoolbook gives behind an exchanger
+abbrev pub state_behind : Case → Network → Valuation → ℕ → ℕ → Rational
+state_behind case network values from exchanger =
+    let before = value_at values from in moved (branch_side case network from) before.t (over (duty_at network exchanger) before.cp)
+
+module _
+    {case : Case}
+    {network : Network}
+    {values : Valuation}
+    (shape : HasShape case network)
+    (valuation : IsWholeValuation case network values)
+    (k : ℕ)
+    {from exchanger to : ℕ}
+    (at : slice_get network.lines k ≡ Some (line.Pass from exchanger to))
+  where
+    line_here : IsLineOf case network k (line.Pass from exchanger to)
+    line_here = line_of shape k (line.Pass from exchanger to) at
+
+    pub behind_there : to < length values
+    unfolding made_by
+    behind_there =
+        let there = line_here.known.2 in let count = valuation.count in
+        omega (arith, there, count, all_made shape.made_once, ap (λ ls. length (made_by ls)) (take-length network.lines))
+
+    pub behind_state : (value_at values to).t ≡ state_behind case network values from exchanger
+    behind_state =
+        ap (λ v. v.t)
+        (pass_determined (branch_side case network from) (value_at values from) (value_at values to) (duty_at network exchanger)
+        (branch_above valuation shape from line_here.known.0)
+        (all_at (Solves case network values) network.lines k (line.Pass from exchanger to) (all_solved valuation) at))
+
+    pub behind_latent : is_latent_branch case network to ≡ is_latent_branch case network from
+    unfolding is_latent_branch
+    behind_latent = ap (λ stream. option_map_or is_latent (slice_get case.streams stream) false) line_here.one_stream
