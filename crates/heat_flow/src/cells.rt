@@ -11,7 +11,7 @@ use std::alloc::{AllocError, Global};
 use stream_case::{Case, Forbid, Items, Source};
 
 /// The index of a source among the streams of the case and then its utilities.
-fn source_index(case: &Case, source: Source) -> usize
+pub fn source_index(case: &Case, source: Source) -> usize
     requires complete { IsComplete case.now }
     requires source { IsSourceOf case.now source }
     ensures { result ≡ source_index case.now source }
@@ -38,7 +38,7 @@ fn forbid_matches(allowed: &mut [bool], case: &Case, forbids: &[Forbid], hot: So
 
 /// For each source of the case, whether it may take heat from this hot source. The list is made
 /// once for each hot part, so that the forbidden matches are not gone through for each pair.
-fn permissions(alloc: Global, case: &Case, hot: Source) -> Result<Vec<bool>, AllocError>
+pub fn permissions(alloc: Global, case: &Case, hot: Source) -> Result<Vec<bool>, AllocError>
     requires { IsComplete case.now }
     ensures { IfOk result (λ allowed. ArePermissions case.now case.now.forbids hot allowed.items) }
 {

@@ -36,8 +36,8 @@ fn precedes(first: &Transfer, second: &Transfer) -> bool
     first.hot < second.hot || (first.hot == second.hot && first.cold < second.cold)
 }
 
-/// Whether each transfer stands before all later ones.
-fn are_ordered(transfers: &[Transfer]) -> bool
+/// Whether each transfer stands before all later ones, by the hot part and then by the cold part.
+pub fn are_ordered(transfers: &[Transfer]) -> bool
     ensures { IsTrue result ↔ AllPairs precedes transfers.now }
 {
     for i in 1..transfers.len() {
@@ -82,7 +82,7 @@ fn are_within(parts: &[Part], sums: &[i128]) -> bool
 
 /// Whether the sum of the transfers of each part of a side is within the part's range. The sums
 /// of all parts are formed in one pass over the transfers.
-fn keeps_ranges(side: Side, parts: &[Part], transfers: &[Transfer]) -> bool
+pub fn keeps_ranges(side: Side, parts: &[Part], transfers: &[Transfer]) -> bool
     requires few { length parts.now ≤ MOST_PARTS }
     requires indexes { HaveParts side parts.now transfers.now }
     requires positive { ArePositive transfers.now }

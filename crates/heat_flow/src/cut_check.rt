@@ -13,7 +13,8 @@ use crate::table::{has_sizes, reaches};
 use grid::{Part, Parts};
 use stream_case::Side;
 
-fn opposite(side: Side) -> Side
+/// The other side.
+pub fn opposite(side: Side) -> Side
     ensures { result ≡ opposite side }
 {
     match side {
@@ -22,7 +23,8 @@ fn opposite(side: Side) -> Side
     }
 }
 
-fn parts_of(side: Side, parts: &Parts) -> &[Part]
+/// The parts of a side.
+pub fn parts_of(side: Side, parts: &Parts) -> &[Part]
     ensures { result.now ≡ parts_of side parts.now.hot parts.now.cold }
 {
     match side {
@@ -41,7 +43,7 @@ fn least_at(parts: &[Part], index: u32) -> i64
 }
 
 /// Whether each of these is the index of a part that has to have some heat.
-fn are_needing(parts: &[Part], members: &[u32]) -> bool
+pub fn are_needing(parts: &[Part], members: &[u32]) -> bool
     requires { All IsBounded parts.now }
     ensures { IsTrue result ↔ All (λ i. pos 0 <ℤ least_at parts.now i) members.now }
 {
@@ -49,7 +51,7 @@ fn are_needing(parts: &[Part], members: &[u32]) -> bool
 }
 
 /// Whether indexes rise strictly.
-fn are_rising(members: &[u32]) -> bool
+pub fn are_rising(members: &[u32]) -> bool
     ensures { IsTrue result ↔ AllPairs (λ i j. i < j) members.now }
 {
     for i in 1..members.len() {
@@ -120,7 +122,7 @@ pub fn offer_of(side: Side, reach: &Reach, others: &[Part], members: &[u32]) -> 
 }
 
 /// Whether a cut has this need and this offer, and its need is the greater one.
-fn is_short(cut: &Cut, need: i128, offer: i128) -> bool
+pub fn is_short(cut: &Cut, need: i128, offer: i128) -> bool
     ensures { IsTrue result ↔ (cut.now.need ≡ need) × (cut.now.offer ≡ offer) × (offer <ℤ need) }
 {
     i128::from(cut.need) == need && i128::from(cut.offer) == offer && offer < need

@@ -16,11 +16,13 @@ mod reach;
 mod support;
 mod table;
 
-pub use cells::{passes_heat, reach_of};
-pub use check::is_flow;
+pub use cells::{passes_heat, permissions, reach_of, source_index};
+pub use check::{are_ordered, is_flow, keeps_ranges};
 pub use cost::{cost_of, least_cost_is_one};
 pub use cut::{Cut, CutKind};
-pub use cut_check::{is_cut, need_of, offer_of};
+pub use cut_check::{
+    are_needing, are_rising, is_cut, is_short, need_of, offer_of, opposite, parts_of,
+};
 pub use flow::{Flow, Transfer};
 pub use prices::{Prices, least_product_is_least, value_of};
 pub use reach::Reach;

@@ -1,0 +1,90 @@
+-- The prices of a report that the grammar gives are within the limits of a certificate.
+use Rattle.std.proofs.Common.{◌≡◌, ◌∷◌, ◌++◌, ℤ, List, [], Option, Some, None, arith}
+use Rattle.std.proofs.lemmas.Bool.{and_parts}
+use Rattle.std.proofs.lemmas.List.Elements.{All-nil, All-push}
+use Rattle.sums.proofs.IntegerLemmas.{int_le-true}
+use Rattle.first_fault.specs.Checks.{Check}
+use Rattle.first_fault.specs.Outcome.{given_by}
+use Rattle.first_fault.proofs.CheckLemmas.{Passes}
+use Rattle.first_fault.proofs.Steps.{IsKept, given_has}
+use Rattle.stream_case.specs.Limits.{IsPartPrice}
+use Rattle.certify.proofs.Words.{CutKind, Draft, Entry, HasPartPrices, IsReport, Kind, Priced, Report, Span, Statement, checks, entry_as, entry_by, entry_in, field, field_checks, grammar, kind_checks, kind_of, lengthened, number, priced_checks, report_in, span_checks, with_any, with_entry}
+use Rattle.certify.specs.declared.draft.Draft.TheVariants as draft
+use Rattle.certify.specs.declared.entry.Entry.TheVariants as entry
+use Rattle.certify.specs.declared.kind.Kind.TheVariants as kind
+use Rattle.certify.specs.declared.report.Report.TheVariants as report
+
+-- a draft with such prices
+abbrev HasPrices : Draft → Type 0
+HasPrices draft.Nothing = Unit {0}
+HasPrices draft.Infeasible = Unit {0}
+HasPrices (draft.Whole r) = HasPartPrices r
+
+passes_behind : {Cause : Type 0} → (group others : List (Check Cause)) → Passes (group ++ others) → Passes others
+passes_behind [] others h = h
+passes_behind (check ∷ group) others h = passes_behind group others h.1
+
+-- the price of a statement that is not at fault
+price_within : (s : Statement) → Passes (priced_checks s) → IsPartPrice (number (field s 4))
+price_within s h =
+    let both = and_parts _ _ (passes_behind (span_checks s 1) _ h).1.0 in
+    record { from = int_le-true _ _ both.0; upto = int_le-true _ _ both.1 }
+
+-- what a statement that is not at fault adds
+abbrev IsPriced : Entry → Type 0
+IsPriced (entry.Give g) = IsPartPrice g.price
+IsPriced (entry.Take t) = IsPartPrice t.price
+IsPriced e = Unit {0}
+
+entry_priced : (k : Kind) (s : Statement) → Passes (field_checks k s) → IsPriced (entry_as k s)
+unfolding field_checks
+entry_priced kind.Cost s h = tt
+entry_priced kind.Use s h = tt
+entry_priced kind.Move s h = tt
+entry_priced kind.Give s h = price_within s h
+entry_priced kind.Take s h = price_within s h
+entry_priced kind.Infeasible s h = tt
+entry_priced kind.Cut s h = tt
+entry_priced kind.Part s h = tt
+
+cut_longer : (side : CutKind) (need offer : ℤ) (parts : List Span) (e : Entry) → HasPartPrices (lengthened (report.Cut side need offer parts) e)
+cut_longer = grind arith
+
+longer : (r : Report) (e : Entry) → HasPartPrices r → IsPriced e → HasPartPrices (lengthened r e)
+longer (report.Flow cost uses moves gives takes) (entry.Cost n) has priced = has
+longer (report.Flow cost uses moves gives takes) (entry.Use u) has priced = has
+longer (report.Flow cost uses moves gives takes) (entry.Move m) has priced = has
+longer (report.Flow cost uses moves gives takes) (entry.Give g) has priced = (All-push (λ x. IsPartPrice x.price) gives g has.0 priced, has.1)
+longer (report.Flow cost uses moves gives takes) (entry.Take t) has priced = (has.0, All-push (λ x. IsPartPrice x.price) takes t has.1 priced)
+longer (report.Flow cost uses moves gives takes) entry.Infeasible has priced = has
+longer (report.Flow cost uses moves gives takes) (entry.Cut side need offer) has priced = has
+longer (report.Flow cost uses moves gives takes) (entry.Part p) has priced = has
+longer (report.Cut side need offer parts) e has priced = cut_longer side need offer parts e
+
+first : (e : Entry) → HasPrices (with_entry draft.Nothing e)
+first = grind (arith, All-nil {X = Priced} (λ g. IsPartPrice g.price))
+
+behind_the_word : (e : Entry) → HasPrices (with_entry draft.Infeasible e)
+behind_the_word = grind arith
+
+step : (given : Draft) (e : Entry) → HasPrices given → IsPriced e → HasPrices (with_entry given e)
+step draft.Nothing e has priced = first e
+step draft.Infeasible e has priced = behind_the_word e
+step (draft.Whole r) e has priced = longer r e has priced
+
+kept : IsKept grammar HasPrices
+unfolding checks entry_in
+kept given s has passes = by (kind_of s) passes.1
+  where
+    by : (k : Option Kind) → Passes (kind_checks k given s) → HasPrices (with_any given (entry_by k s))
+    by None h = has
+    by (Some k) h = step given (entry_as k s) has (entry_priced k s h.1.1)
+
+priced : (given : Draft) (r : Report) → HasPrices given → r ≡ report_in given → HasPartPrices r
+priced draft.Nothing r has is = rw is (All-nil _, All-nil _)
+priced draft.Infeasible r has is = rw is (All-nil _, All-nil _)
+priced (draft.Whole w) r has is = rw is has
+
+pub report_prices : (statements : List Statement) (r : Report) → IsReport statements r → HasPartPrices r
+report_prices statements r is =
+    priced (given_by grammar statements) r (given_has grammar HasPrices tt kept statements is.sound) is.value_is

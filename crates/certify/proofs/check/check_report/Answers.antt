@@ -1,0 +1,21 @@
+use Rattle.stream_case.specs.declared.source.Side.TheVariants.{Hot, Cold}
+use Rattle.heat_flow.proofs.ReachLemmas.{sources_of_parts}
+use Rattle.certify.proofs.Firsts.{answered}
+use Rattle.certify.proofs.check.check_report.Goals as goal
+
+pub check_over-requires-clause-setting : goal.check_over-requires-clause-setting
+check_over-requires-clause-setting c =
+    let case = c.args.case.now in
+    let parts = c.in_ok-parts.ensures in
+    record {
+      complete = c.requires.complete;
+      hot_sources = sources_of_parts case parts.grid Hot c.in_ok-parts.parts.hot parts.hot_parts;
+      cold_sources = sources_of_parts case parts.grid Cold c.in_ok-parts.parts.cold parts.cold_parts;
+      permits = c.in_ok-permits.ensures;
+    }
+
+pub returns : goal.returns
+returns c =
+    let parts = c.in_ok-parts.parts in
+    let both = answered c.args.case.now parts.hot parts.cold c.args.report.now c.check_over.result c.in_ok-parts.ensures c.check_over.ensures in
+    record { answer = both.0; proves = both.1 }

@@ -1,0 +1,19 @@
+use Rattle.std.proofs.Common.{sym}
+use Rattle.certify.specs.Answers.{transfer_of}
+use Rattle.certify.proofs.Moves.{one_more_given, one_more_known}
+use Rattle.certify.proofs.naming.flow_of.Goals as goal
+
+pub loop-moved-preserved : goal.loop-moved-preserved
+loop-moved-preserved c =
+    let h = transfer_of c.args.case.now c.args.parts.now.hot c.args.parts.now.cold in
+    let moves = c.args.moves.now in
+    let i = c.loop-moved.moved-index in
+    let m = c.moved-item.result in
+    let t = c.in-Some.transfer in
+    let is = sym c.in-Some.ensures in
+    record {
+      known = one_more_known h moves i m t c.loop-moved-test.true c.moved-item.is c.loop-moved.invariant.known is;
+      transfers =
+          one_more_given h moves i m c.loop-moved.transfers.items _ t c.loop-moved-test.true c.moved-item.is c.loop-moved.invariant.transfers is
+          c.in_ok-push.ensures.items;
+    }

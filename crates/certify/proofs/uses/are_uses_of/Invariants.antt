@@ -1,0 +1,11 @@
+use Rattle.std.proofs.Common.{◌≡◌, ℕ, ◌<◌, Some}
+use Rattle.std.specs.Prelude.{slice_get}
+use Rattle.stream_case.specs.declared.utility.Utility.{Utility}
+use Rattle.certify.specs.Answers.{use_of}
+use Rattle.certify.specs.declared.report.Used.{Used}
+use Rattle.certify.proofs.uses.are_uses_of.Given as goal
+
+abbrev pub invariant-loop-index : goal.invariant-loop-index
+invariant-loop-index l =
+    (i : ℕ) (used : Used) (u : Utility) → i < l.index → slice_get l.uses i ≡ Some used → slice_get l.case.utilities i ≡ Some u
+    → used ≡ use_of l.parts.hot l.parts.cold l.transfers i u

@@ -1,0 +1,5 @@
+pub mod Answers
+pub mod Checks
+pub mod Given
+pub mod Outcome
+pub mod Permits

@@ -1,0 +1,187 @@
+//! Whether a report proves what it says.
+
+ghost use Rattle.std.specs.Prelude.{◌≡◌, All, IfOk, length};
+ghost use Rattle.stream_case.specs.Case.{IsComplete};
+ghost use Rattle.certify.specs.Answers.{HasPartPrices, HoldsOfCut, HoldsOfFlow, HoldsOfTransfers, IsAnswer, IsAnswerOver, IsFirstOf, Proves, cut_causes, flow_causes, prices_of, transfer_causes};
+ghost use Rattle.certify.specs.Permits.{IsSetting};
+ghost use Rattle.stream_case.specs.Limits.{IsPartPrice};
+
+use crate::certificate::{is_flow, is_supported};
+use crate::cut::{is_cut, members_of};
+use crate::naming::{are_prices_of, flow_of};
+use crate::permits::permits_of;
+use crate::report::{Checked, Moved, NoWhy, Priced, Report, Span, Used};
+use crate::uses::are_uses_of;
+use grid::{Parts, case_parts};
+use heat_flow::{Cut, CutKind, Flow, Prices, cost_of, parts_of, value_of};
+use std::alloc::{AllocError, Global};
+use stream_case::{Case, Items};
+
+/// The price of a part.
+fn price_of(priced: &Priced) -> i64
+    ensures { result ≡ priced.now.price }
+{
+    priced.price
+}
+
+/// The prices of the parts of a side.
+fn prices_of(alloc: Global, prices: &[Priced]) -> Result<Vec<i64>, AllocError>
+    ensures { IfOk result (λ amounts. amounts.items ≡ prices_of prices.now) }
+{
+    prices.iter().map(|priced| price_of(priced)).collect(alloc)
+}
+
+/// The first check that fails of transfers and prices.
+fn check_transfers(
+    case: &Case,
+    parts: &Parts,
+    permits: &Items<Items<bool>>,
+    cost: i128,
+    uses: &[Used],
+    flow: &Flow,
+    prices: &Prices,
+) -> Checked
+    requires setting { IsSetting case.now parts.now.hot parts.now.cold permits.now }
+    requires hot_count { length prices.now.hot ≡ length parts.now.hot }
+    requires cold_count { length prices.now.cold ≡ length parts.now.cold }
+    requires hot_range { All IsPartPrice prices.now.hot }
+    requires cold_range { All IsPartPrice prices.now.cold }
+    ensures { IsFirstOf transfer_causes (HoldsOfTransfers case.now parts.now.hot parts.now.cold
+        cost uses.now flow.now.transfers prices.now.hot prices.now.cold) result }
+{
+    let transfers = flow.transfers.as_slice();
+    if !is_flow(case, parts, permits, transfers) {
+        return Checked::No { why: NoWhy::Flow };
+    }
+    if cost_of(parts, flow) != cost {
+        return Checked::No { why: NoWhy::Cost };
+    }
+    if !are_uses_of(case, parts, transfers, uses) {
+        return Checked::No { why: NoWhy::Uses };
+    }
+    if !is_supported(case, parts, permits, prices) {
+        return Checked::No {
+            why: NoWhy::Support,
+        };
+    }
+    if value_of(parts, prices) != cost {
+        return Checked::No { why: NoWhy::Value };
+    }
+    Checked::Yes
+}
+
+/// The first check that fails of a report of a heat flow.
+fn check_flow(
+    alloc: Global,
+    case: &Case,
+    parts: &Parts,
+    permits: &Items<Items<bool>>,
+    cost: i128,
+    uses: &[Used],
+    moves: &[Moved],
+    gives: &[Priced],
+    takes: &[Priced],
+) -> Result<Checked, AllocError>
+    requires setting { IsSetting case.now parts.now.hot parts.now.cold permits.now }
+    requires gives { All (λ g. IsPartPrice g.price) gives.now }
+    requires takes { All (λ g. IsPartPrice g.price) takes.now }
+    ensures { IfOk result (IsFirstOf flow_causes (HoldsOfFlow case.now parts.now.hot parts.now.cold
+        cost uses.now moves.now gives.now takes.now)) }
+{
+    let hot = parts.hot.as_slice();
+    let cold = parts.cold.as_slice();
+    if !are_prices_of(case, hot, gives) || !are_prices_of(case, cold, takes) {
+        return Ok(Checked::No { why: NoWhy::Parts });
+    }
+    let Some(flow) = flow_of(alloc, case, parts, moves)? else {
+        return Ok(Checked::No { why: NoWhy::Moves });
+    };
+    let prices = Prices {
+        hot: Items::from_vec(prices_of(alloc, gives)?),
+        cold: Items::from_vec(prices_of(alloc, takes)?),
+    };
+    Ok(check_transfers(case, parts, permits, cost, uses, &flow, &prices))
+}
+
+/// The first check that fails of a report of a cut.
+fn check_cut(
+    alloc: Global,
+    case: &Case,
+    parts: &Parts,
+    permits: &Items<Items<bool>>,
+    kind: CutKind,
+    need: i64,
+    offer: i64,
+    spans: &[Span],
+) -> Result<Checked, AllocError>
+    requires { IsSetting case.now parts.now.hot parts.now.cold permits.now }
+    ensures { IfOk result (IsFirstOf cut_causes (HoldsOfCut case.now parts.now.hot parts.now.cold
+        kind need offer spans.now)) }
+{
+    let own = parts_of(kind.side(), parts);
+    let Some(members) = members_of(alloc, case, own, spans)? else {
+        return Ok(Checked::No { why: NoWhy::Parts });
+    };
+    let cut = Cut {
+        kind,
+        parts: members,
+        need,
+        offer,
+    };
+    if !is_cut(case, parts, permits, &cut) {
+        return Ok(Checked::No { why: NoWhy::Cut });
+    }
+    Ok(Checked::Yes)
+}
+
+/// The first check that fails of a report, where these are the parts of the case.
+fn check_over(
+    alloc: Global,
+    case: &Case,
+    parts: &Parts,
+    permits: &Items<Items<bool>>,
+    report: &Report,
+) -> Result<Checked, AllocError>
+    requires setting { IsSetting case.now parts.now.hot parts.now.cold permits.now }
+    requires prices { HasPartPrices report.now }
+    ensures { IfOk result (IsAnswerOver case.now parts.now.hot parts.now.cold report.now) }
+{
+    match report {
+        Report::Flow {
+            cost,
+            uses,
+            moves,
+            gives,
+            takes,
+        } => {
+            let (uses, moves) = (uses.as_slice(), moves.as_slice());
+            let (gives, takes) = (gives.as_slice(), takes.as_slice());
+            check_flow(
+                alloc, case, parts, permits, *cost, uses, moves, gives, takes,
+            )
+        }
+        Report::Cut {
+            kind,
+            need,
+            offer,
+            parts: spans,
+        } => {
+            let spans = spans.as_slice();
+            check_cut(alloc, case, parts, permits, *kind, *need, *offer, spans)
+        }
+    }
+}
+
+/// Checks a report of a completed case, by the definitions alone. The answer is yes exactly where
+/// no check fails, and else no with the first that does. After yes the cost of a flow is the least
+/// cost of the case (weak duality of linear programs), and with a cut there is no heat flow.
+pub fn check_report(alloc: Global, case: &Case, report: &Report) -> Result<Checked, AllocError>
+    requires complete { IsComplete case.now }
+    requires prices { HasPartPrices report.now }
+    ensures answer { IfOk result (IsAnswer case.now report.now) }
+    ensures proves { IfOk result (Proves case.now report.now) }
+{
+    let parts = case_parts(alloc, case)?;
+    let permits = permits_of(alloc, case)?;
+    check_over(alloc, case, &parts, &permits, report)
+}

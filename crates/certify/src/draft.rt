@@ -1,0 +1,107 @@
+//! What the statements read so far give.
+
+ghost use Rattle.std.specs.Prelude.{◌≡◌, IfOk};
+ghost use Rattle.certify.specs.Given.{admits, lengthened, with_entry};
+ghost use Rattle.certify.specs.declared.draft.Draft.TheVariants as draft;
+
+use crate::entry::Entry;
+use crate::kind::Kind;
+use crate::report::Report;
+use std::alloc::{AllocError, Global};
+use stream_case::Items;
+
+/// A report, as far as it is read.
+#[derive(Drop)]
+pub enum Draft {
+    /// No statement is read yet.
+    Nothing,
+    /// There is to be no heat flow; the cut is not read yet.
+    Infeasible,
+    /// A report, which more statements may lengthen.
+    Whole(Report),
+}
+
+impl Draft {
+    /// Whether a statement of this kind may come next.
+    pub fn admits(&self, kind: Kind) -> bool
+        ensures { result ≡ admits self.now kind }
+    {
+        match self {
+            Draft::Nothing => matches!(kind, Kind::Cost | Kind::Infeasible),
+            Draft::Infeasible => matches!(kind, Kind::Cut),
+            Draft::Whole(Report::Cut { .. }) => matches!(kind, Kind::Part),
+            Draft::Whole(
+                Report::Flow {
+                    moves,
+                    gives,
+                    takes,
+                    ..
+                },
+            ) => match kind {
+                Kind::Use => moves.is_empty() && gives.is_empty() && takes.is_empty(),
+                Kind::Move => gives.is_empty() && takes.is_empty(),
+                Kind::Give => takes.is_empty(),
+                Kind::Take => true,
+                Kind::Cost | Kind::Infeasible | Kind::Cut | Kind::Part => false,
+            },
+        }
+    }
+
+    /// The same with one statement more. What may not come next changes nothing.
+    pub fn with(self, alloc: Global, entry: Entry) -> Result<Draft, AllocError>
+        ensures { IfOk result (λ draft. draft ≡ with_entry self entry) }
+    {
+        match self {
+            Draft::Nothing => Ok(opened(alloc, entry)),
+            Draft::Infeasible => Ok(opened_cut(alloc, entry)),
+            Draft::Whole(report) => Ok(Draft::Whole(lengthened(report, entry)?)),
+        }
+    }
+}
+
+/// What the first statement gives.
+fn opened(alloc: Global, entry: Entry) -> Draft
+    ensures { result ≡ with_entry draft.Nothing entry }
+{
+    match entry {
+        Entry::Cost(cost) => Draft::Whole(Report::Flow {
+            cost,
+            uses: Items::new(alloc),
+            moves: Items::new(alloc),
+            gives: Items::new(alloc),
+            takes: Items::new(alloc),
+        }),
+        Entry::Infeasible => Draft::Infeasible,
+        _ => Draft::Nothing,
+    }
+}
+
+/// What a cut gives behind the word that there is no heat flow.
+fn opened_cut(alloc: Global, entry: Entry) -> Draft
+    ensures { result ≡ with_entry draft.Infeasible entry }
+{
+    match entry {
+        Entry::Cut { kind, need, offer } => Draft::Whole(Report::Cut {
+            kind,
+            need,
+            offer,
+            parts: Items::new(alloc),
+        }),
+        _ => Draft::Infeasible,
+    }
+}
+
+/// A report with one statement more.
+fn lengthened(mut report: Report, entry: Entry) -> Result<Report, AllocError>
+    ensures { IfOk result (λ longer. longer ≡ lengthened report entry) }
+{
+    match (&mut report, entry) {
+        (Report::Flow { uses, .. }, Entry::Use(used)) => uses.push(used)?,
+        (Report::Flow { moves, .. }, Entry::Move(moved)) => moves.push(moved)?,
+        (Report::Flow { gives, .. }, Entry::Give(priced)) => gives.push(priced)?,
+        (Report::Flow { takes, .. }, Entry::Take(priced)) => takes.push(priced)?,
+        (Report::Cut { parts, .. }, Entry::Part(part)) => parts.push(part)?,
+        _ => {}
+    }
+    Ok(report)
+}
