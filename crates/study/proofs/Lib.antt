@@ -9,3 +9,9 @@ pub mod SweepLemmas
 pub mod Leasts
 pub mod NoCut
 pub mod SampleRowLemmas
+pub mod PricedLemmas
+pub mod CostRangeLemmas
+pub mod SpanLemmas
+pub mod LineLemmas
+pub mod AnswerLemmas
+pub mod PartBounds

@@ -1,9 +1,14 @@
 pub mod Answer
 pub mod Cost
+pub mod CostRange
 pub mod Draws
 pub mod Plan
+pub mod Priced
 pub mod Row
 pub mod Sample
 pub mod SampleRow
+pub mod Segments
+pub mod Spans
+pub mod Study
 pub mod Supplied
 pub mod Sweep

@@ -1,30 +1,43 @@
 //! The items of all workers, in their order.
-ghost use Rattle.std.specs.Prelude.{◌≡◌, ℕ, ◌+◌, ◌^◌, ◌<◌, ◌≤◌, length, IfOk};
-ghost use Rattle.workers.specs.Shares.{AreItems, AreItemsOfWorker, AreItemsOfWorkers, HasItem, StandsAt};
+ghost use Rattle.std.specs.Prelude.{◌≡◌, ℕ, ◌+◌, ◌^◌, ◌<◌, ◌≤◌, List, length, IfOk};
+ghost use Rattle.workers.specs.Shares.{AreItems, AreItemsOfWorker, AreItemsOfWorkers, IsLastOf};
 
 use crate::gate::Gate;
 use std::alloc::{AllocError, Global};
+use std::marker::Model;
 use std::thread;
 use std::thread::Threads;
 use stream_case::Items;
 
+/// The items that one worker made. A contract sees the list of them.
+#[derive(Drop)]
+struct Share<X> {
+    items: Vec<X>,
+}
+
+impl<X> Model for Share<X> {
+    ghost Value = { List X };
+
+    ghost view = { λ s. s.items.items };
+}
+
 /// The items that one of so many workers makes: that of its own number, from 0, and then each that
 /// is so many further on.
-fn worker_items<X: Copy, G: Gate, F: Fn(u32) -> Result<X, AllocError>>(
+fn share_of<X: Drop, G: Gate, F: Fn(u32) -> Result<X, AllocError>>(
     alloc: Global,
     gate: &G,
     item: &F,
     count: u32,
     worker: u32,
     workers: u32,
-) -> Result<Items<X>, AllocError>
+) -> Result<Share<X>, AllocError>
     requires callable { (k : ℕ) → k < count → F.pre item.now k }
     requires some_workers { 1 ≤ workers }
     requires few { count + workers < 2 ^ 32 }
     requires worker { worker < workers }
     ensures { IfOk result (λ items. AreItemsOfWorker (λ k x. F.post item.now k (Ok x)) count workers worker items) }
 {
-    let mut items = Items::new(alloc);
+    let mut items = Vec::new(alloc);
     let mut number = worker;
     while number < count {
         gate.enter(number);
@@ -33,13 +46,13 @@ fn worker_items<X: Copy, G: Gate, F: Fn(u32) -> Result<X, AllocError>>(
         items.push(made?)?;
         number += workers;
     }
-    Ok(items)
+    Ok(Share { items })
 }
 
 /// The items of each worker.
-fn items_of_workers<
+fn shares_of_workers<
     R: Threads + Sync,
-    X: Copy + Send,
+    X: Drop + Send,
     G: Gate + Sync,
     F: Fn(u32) -> Result<X, AllocError> + Sync,
 >(
@@ -49,29 +62,28 @@ fn items_of_workers<
     item: &F,
     count: u32,
     workers: u32,
-) -> Result<Vec<Result<Items<X>, AllocError>>, AllocError>
+) -> Result<Vec<Result<Share<X>, AllocError>>, AllocError>
     requires callable { (k : ℕ) → k < count → F.pre item.now k }
     requires some_workers { 1 ≤ workers }
     requires few { count + workers < 2 ^ 32 }
-    ensures count { IfOk result (λ lists. length lists.items ≡ workers) }
-    ensures items { IfOk result (λ lists. AreItemsOfWorkers (λ k x. F.post item.now k (Ok x)) count lists.items) }
+    ensures count { IfOk result (λ shares. length shares.items ≡ workers) }
+    ensures items { IfOk result (λ shares. AreItemsOfWorkers (λ k x. F.post item.now k (Ok x)) count shares.items) }
 {
     thread::map_indices(
         rt,
         alloc,
         workers as usize,
-        &|worker| { worker_items(alloc, gate, item, count, worker as u32, workers) },
+        &|worker| { share_of(alloc, gate, item, count, worker as u32, workers) },
     )
 }
 
-/// An item, out of the lists of all workers.
-fn item_of<X: Copy>(lists: &[Result<Items<X>, AllocError>], number: usize) -> Result<X, AllocError>
-    requires some { 0 < length lists.now }
-    requires has { HasItem lists.now number }
-    ensures { IfOk result (StandsAt lists.now number) }
+/// Takes the last item of a share, or says that its worker found no memory.
+fn take_last<X: Drop>(share: &mut Result<Share<X>, AllocError>) -> Result<X, AllocError>
+    requires { IfOk share.old (λ items. 0 < length items) }
+    ensures { IfOk result (IsLastOf share.old share.new) }
 {
-    match &lists[number % lists.len()] {
-        Ok(items) => Ok(items.as_slice()[number / lists.len()]),
+    match share {
+        Ok(share) => share.items.pop().ok_or(AllocError),
         Err(_) => Err(AllocError),
     }
 }
@@ -82,7 +94,7 @@ fn item_of<X: Copy>(lists: &[Result<Items<X>, AllocError>], number: usize) -> Re
 /// the answer is want of memory.
 pub fn items_by_workers<
     R: Threads + Sync,
-    X: Copy + Send,
+    X: Drop + Send,
     G: Gate + Sync,
     F: Fn(u32) -> Result<X, AllocError> + Sync,
 >(
@@ -98,10 +110,14 @@ pub fn items_by_workers<
     requires few { count + workers < 2 ^ 32 }
     ensures { IfOk result (AreItems (λ k x. F.post item.now k (Ok x)) count) }
 {
-    let lists = items_of_workers(rt, alloc, gate, item, count, workers)?;
-    let mut items = Items::new(alloc);
-    for number in 0..count as usize {
-        items.push(item_of(lists.as_slice(), number)?)?;
+    let mut shares = shares_of_workers(rt, alloc, gate, item, count, workers)?;
+    let mut items = Vec::new(alloc);
+    let mut left = count as usize;
+    // Each item moves out of the end of its worker's share, so the last one comes first.
+    while left > 0 {
+        left -= 1;
+        items.push(take_last(&mut shares[left % workers as usize])?)?;
     }
-    Ok(items)
+    items.reverse();
+    Ok(Items::from_vec(items))
 }

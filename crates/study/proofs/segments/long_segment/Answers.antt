@@ -1,0 +1,18 @@
+use Rattle.std.proofs.Common.{◌≡◌, ◌∙◌, sym, subst₂, FitsSigned, w64, arith, rules}
+use Rattle.std.specs.Int.{w128}
+use Rattle.std.specs.Prelude.{◌<ℤ◌}
+use Rattle.std.proofs.lemmas.Int.{ints, to_z-of_z}
+use Rattle.study.specs.Spans.{IsLineEnd}
+use Rattle.study.proofs.SpanLemmas.{segment-of_line}
+use Rattle.study.proofs.segments.long_segment.Goals as goal
+
+pub returns-clause-segment : goal.returns-clause-segment
+returns-clause-segment c =
+    let case = c.args.case.now in let i = c.args.utility in
+    let line = c.in_ok-line.line in let is = c.in_ok-line.ensures.line in let from = c.in_ok-line.ensures.from in
+    let end_fits : FitsSigned w64 c.in_ok-end.end = search rules in
+    let cost_fits : FitsSigned w128 c.line_at.result = search rules in
+    let slope_fits : FitsSigned w128 line.slope = let a = is.small.slope.from in let b = is.small.slope.upto in omega (arith, ints) in
+    let ends = subst₂ (IsLineEnd case i line) (to_z-of_z w64 c.args.to c.ranges.to) (sym (to_z-of_z w64 c.in_ok-end.end end_fits)) c.in_ok-end.ensures in
+    let ahead : line.from <ℤ c.args.to = omega (arith, ints, from, c.requires.ahead) in
+    segment-of_line case i line c.args.to _ c.requires.utility is ends ahead (sym from) (to_z-of_z w128 c.line_at.result cost_fits ∙ c.line_at.ensures) (to_z-of_z w128 line.slope slope_fits)

@@ -1,0 +1,5 @@
+use Rattle.study.proofs.AnswerLemmas.{one_answer_list}
+use Rattle.study.proofs.studies.answers_are_one.Goals as goal
+
+pub returns : goal.returns
+returns c = one_answer_list

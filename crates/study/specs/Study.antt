@@ -1,0 +1,69 @@
+-- Price studies of a case, and their answers.
+use Rattle.std.specs.Prelude.{◌≡◌, ◌⊎◌, ℕ, ◌<◌, ◌≤◌, ℤ, pos, ◌+ℤ◌, ◌-ℤ◌, ◌≤ℤ◌, ◌<ℤ◌, List, [], length, All, Some, slice_get}
+use Rattle.stream_case.specs.Limits.{IsBetween, IsPrice}
+use Rattle.stream_case.specs.declared.case.Case.{Case}
+use Rattle.study.specs.Priced.{HasNoFlowAt, IsCostAt, IsLeastCostAt, prices_with}
+use Rattle.study.specs.Segments.{AreSegments, IsCostFunction}
+use Rattle.study.specs.declared.limits.TheConstants.{MOST_ITEMS, MOST_SPAN}
+use Rattle.study.specs.declared.study_item.Segment.{Segment}
+use Rattle.study.specs.declared.study_item.Study.{Study}
+use Rattle.study.specs.declared.study_item.StudyAnswer.{StudyAnswer}
+use Rattle.study.specs.declared.study_item.StudyAnswer.TheVariants.{Cost, Segments}
+use Rattle.study.specs.declared.study_item.StudyItem.{StudyItem}
+use Rattle.study.specs.declared.study_item.StudyItem.TheVariants.{Scenario, Span}
+
+-- ---- studies
+
+-- a price for each utility of the case
+pub record AreCasePrices (c : Case) (prices : List ℤ) : Type 0 where
+  pub one_each : length prices ≡ length c.utilities
+  pub within : All IsPrice prices
+
+-- prices of a utility of the case from `from` to `to`, at most `MOST_SPAN` of them
+pub record IsSpan (c : Case) (i : ℕ) (from to : ℤ) : Type 0 where
+  pub utility : i < length c.utilities
+  pub first : IsPrice from
+  pub last : IsPrice to
+  pub order : from ≤ℤ to
+  pub few : (to -ℤ from) <ℤ MOST_SPAN
+
+abbrev pub IsItem : Case → StudyItem → Type 0
+IsItem c (Scenario name prices) = AreCasePrices c prices
+IsItem c (Span i from to) = IsSpan c i from to
+
+-- a study of the case
+pub record IsStudy (c : Case) (study : Study) : Type 0 where
+  pub items : All (IsItem c) study.items
+  pub few : length study.items ≤ MOST_ITEMS
+
+-- ---- answers
+
+-- the segments of the least cost over the span, or none where the case has no heat flow at any of its prices
+abbrev pub AreSpanSegments : Case → ℕ → ℤ → ℤ → List Segment → Type 0
+AreSpanSegments c i from to segments =
+    ((f : ℤ → ℤ) × IsCostFunction c i from to f × AreSegments f from to segments)
+    ⊎ ((segments ≡ []) × ((p : ℤ) → IsBetween from to p → HasNoFlowAt c (prices_with c i p)))
+
+-- the least cost of a scenario, and the segments of a span
+abbrev pub IsItemAnswer : Case → StudyItem → StudyAnswer → Type 0
+IsItemAnswer c (Scenario name prices) (Cost cost) = IsCostAt c prices cost
+IsItemAnswer c (Scenario name prices) (Segments segments) = ⊥
+IsItemAnswer c (Span i from to) (Cost cost) = ⊥
+IsItemAnswer c (Span i from to) (Segments segments) = AreSpanSegments c i from to segments
+
+-- the answer to item number k
+abbrev pub IsAnswerAt : Case → Study → ℕ → StudyAnswer → Type 0
+IsAnswerAt c study k answer = (item : StudyItem) → slice_get study.items k ≡ Some item → IsItemAnswer c item answer
+
+-- an answer to each item, in their order
+pub record AreAnswers (c : Case) (study : Study) (answers : List StudyAnswer) : Type 0 where
+  pub as_many : length answers ≡ length study.items
+  pub each : (k : ℕ) (answer : StudyAnswer) → slice_get answers k ≡ Some answer → IsAnswerAt c study k answer
+
+-- there is at most one list of them
+abbrev pub OneAnswer : Case → Type 0
+OneAnswer c = (study : Study) (answers others : List StudyAnswer) → IsStudy c study → AreAnswers c study answers → AreAnswers c study others → answers ≡ others
+
+-- the least cost never rises more behind a price of a utility than before it
+abbrev pub RisesFall : Case → Type 0
+RisesFall c = (i : ℕ) (p first middle last : ℤ) → i < length c.utilities → IsLeastCostAt c (prices_with c i p) first → IsLeastCostAt c (prices_with c i (p +ℤ pos 1)) middle → IsLeastCostAt c (prices_with c i (p +ℤ pos 2)) last → (last -ℤ middle) ≤ℤ (middle -ℤ first)
