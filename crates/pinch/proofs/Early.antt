@@ -1,20 +1,14 @@
 -- The early ends of reading.
-use Rattle.std.proofs.Common.{◌≡◌, inl, ℕ, List, Option, Some, Result, Ok, Err, IfOk, refl, subst, sym}
+use Rattle.std.proofs.Common.{◌≡◌, ℕ, List, Option, Result, Ok, Err, IfOk, refl, subst, sym}
 use Rattle.std.specs.Result.{IsErrAnd}
-use Rattle.stream_case.specs.declared.case.Case.{Case}
-use Rattle.stream_case.specs.Case.{completed}
-use Rattle.stream_case.specs.Stream.{AreSensible}
 use Rattle.pinch_outside.specs.Shelf.{ShelfState}
 use Rattle.reports.specs.declared.shown.Shown.{Shown}
 use Rattle.pinch.specs.Answers.{ShowsCommand}
-use Rattle.pinch.specs.Case.{case_file}
 use Rattle.pinch.specs.Files.{EndsIn, NoText, ReadsText, no_text, by_text}
 use Rattle.pinch.specs.Format.{Format}
-use Rattle.pinch.specs.Network.{network_file}
 use Rattle.pinch.specs.Reading.{Reading, reading_of, file}
 use Rattle.pinch.specs.Stop.{IfEarly, IfEnd}
 use Rattle.pinch.specs.declared.command.Command.{Command}
-use Rattle.pinch.specs.declared.command.Command.TheVariants.{Audit}
 use Rattle.pinch.specs.declared.request.Request.{Request}
 use Rattle.pinch.specs.declared.stop.Stop.{Stop}
 use Rattle.pinch.specs.declared.stop.Stop.TheVariants.{Early, OutOfMemory}
@@ -32,12 +26,13 @@ pub without_text : {Value Cause : Type 0} (format : Format Value Cause) (result 
 unfolding EndsIn
 without_text format result stop name old new next same early = stopped result stop _ _ same (λ shown none. no_text shown refl none) early
 
--- no network was had, behind a case of sensible streams
-pub without_network : (result : Result Request Stop) (stop : Stop) (case_name name : List ℕ) (old mid new : ShelfState) (case : Case) → IsErrAnd result (λ e. e ≡ stop)
-    → AreSensible case.streams → ReadsText case_file case_name old mid case → IfEarly stop (NoText (network_file (completed case)) name mid new) → IfEnd result (EndsIn (reading_of (Some (Audit case_name name))) old new)
-unfolding EndsIn reading_of
-without_network result stop case_name name old mid new case same sensible reads early =
-    stopped result stop _ _ same (λ shown none. by_text mid case reads (inl (sensible, no_text shown refl none))) early
+-- that of a second file was not had, behind what a first one says
+pub without_second : {Value Cause Other Fault : Type 0} (first : Format Value Cause) (second : Value → Format Other Fault) (next : Value → Other → Reading) (result : Result Request Stop)
+    (stop : Stop) (first_name name : List ℕ) (old mid new : ShelfState) (value : Value) → IsErrAnd result (λ e. e ≡ stop) → ReadsText first first_name old mid value
+    → IfEarly stop (NoText (second value) name mid new) → IfEnd result (EndsIn (file first first_name (λ v. file (second v) name (next v))) old new)
+unfolding EndsIn
+without_second first second next result stop first_name name old mid new value same reads early =
+    stopped result stop _ _ same (λ shown none. by_text mid value reads (no_text shown refl none)) early
 
 -- what is shown early is shown for the command
 pub early_shown : {E : Type 0} (stop : Stop) (result : Result Shown E) (command : Option Command) (old new : ShelfState) → IfOk result (λ shown. stop ≡ Early shown)

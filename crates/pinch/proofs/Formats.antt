@@ -3,6 +3,7 @@ use Rattle.std.proofs.Common.{◌≡◌, ◌∙◌, true, List, ℕ, Result, Ok,
 use Rattle.rows.specs.Rows.{rows_of}
 use Rattle.first_fault.proofs.OneOutcome.{one_outcome}
 use Rattle.case_text.specs.Outcome.{grammar}
+use Rattle.certify.specs.Outcome as report
 use Rattle.network_text.specs.Outcome as network
 use Rattle.statements.specs.Statements.{statements_of}
 use Rattle.site.specs.Outcome as site
@@ -13,6 +14,7 @@ use Rattle.pinch.specs.Case.{case_file}
 use Rattle.pinch.specs.Files.{IsRefused}
 use Rattle.pinch.specs.Format.{Format}
 use Rattle.pinch.specs.Network.{network_file}
+use Rattle.pinch.specs.Report.{report_file}
 use Rattle.pinch.specs.Site.{site_file}
 use Rattle.pinch.proofs.Plain.{is_plain}
 
@@ -28,6 +30,10 @@ lawful_case = record { one_outcome = λ bytes. one_outcome grammar (rows_of byte
 pub lawful_network : (case : Case) → IsLawful (network_file case)
 unfolding IsPrintable
 lawful_network case = record { one_outcome = λ bytes. one_outcome (network.grammar case) (statements_of bytes); plain = λ at why. refl; printable = λ at why. tt }
+
+pub lawful_report : IsLawful report_file
+unfolding IsPrintable
+lawful_report = record { one_outcome = λ bytes. one_outcome report.grammar (statements_of bytes); plain = λ at why. refl; printable = λ at why. tt }
 
 pub lawful_site : IsLawful site_file
 unfolding IsPrintable

@@ -8,8 +8,8 @@ use Rattle.reports.specs.declared.shown.Shown.{Shown}
 use Rattle.pinch.specs.Complete.{CanAnswer, HasBadFile}
 use Rattle.pinch.specs.Reading.{Reading, reading_of, ready, stop, wanted, file}
 use Rattle.pinch.specs.declared.command.Command.{Command}
-use Rattle.pinch.specs.declared.command.Command.TheVariants.{OfCase, Vertical, Audit, Site, Sample}
-use Rattle.pinch.proofs.Formats.{IsLawful, lawful_case, lawful_network, lawful_site}
+use Rattle.pinch.specs.declared.command.Command.TheVariants.{OfCase, Vertical, Audit, Certify, Site, Sample}
+use Rattle.pinch.proofs.Formats.{IsLawful, lawful_case, lawful_network, lawful_report, lawful_site}
 use Rattle.pinch.proofs.Plain.{is_plain}
 
 -- its formats are lawful, and what it shows in place of a request is plain and can be printed
@@ -27,9 +27,10 @@ IsLawfulReading other = IsFurther other
 pub lawful : (command : Option Command) → IsLawfulReading (reading_of command)
 unfolding reading_of IsPrintable IsFurther IsLawfulReading
 lawful None = tt
-lawful (Some (OfCase case task)) = (lawful_case, λ c. (refl, tt, tt))
+lawful (Some (OfCase case task)) = (lawful_case, λ c. tt)
 lawful (Some (Vertical case)) = (lawful_case, λ c. (refl, tt, (refl, tt, tt)))
-lawful (Some (Audit case network)) = (lawful_case, λ c. (refl, tt, (lawful_network (completed c), λ n. tt)))
+lawful (Some (Audit case network)) = (lawful_case, λ c. (lawful_network (completed c), λ n. tt))
+lawful (Some (Certify case report)) = (lawful_case, λ c. (lawful_report, λ r. tt))
 lawful (Some (Site site)) = (lawful_site, λ s. tt)
 lawful (Some (Sample number count)) = tt
 

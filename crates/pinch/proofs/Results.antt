@@ -2,6 +2,9 @@
 use Rattle.std.proofs.Common.{◌≡◌, sym, subst}
 use Rattle.stream_case.specs.declared.case.Case.{Case}
 use Rattle.stream_case.specs.Case.{completed}
+use Rattle.certify.specs.declared.report.Checked.{Checked}
+use Rattle.certify.specs.declared.report.Checked.TheVariants.{Yes, No}
+use Rattle.certify.specs.declared.report.Report.{Report}
 use Rattle.grid.specs.declared.parts.Parts.{Parts}
 use Rattle.transport.specs.declared.answer.Answer.{Answer}
 use Rattle.transport.specs.declared.answer.Answer.TheVariants as answer
@@ -14,12 +17,13 @@ use Rattle.pinch.specs.Answers.{Answers}
 use Rattle.pinch.specs.Design.{ShowsDesignOf}
 use Rattle.pinch.specs.Flow.{shown_answer}
 use Rattle.pinch.specs.Network.{ShowsVerdict}
+use Rattle.pinch.specs.Report.{shown_check}
 use Rattle.pinch.specs.Status.{status_of, status_of_site, IsAnswered}
 use Rattle.pinch.specs.Tasks.{ShowsTask}
 use Rattle.pinch.specs.declared.command.CaseTask.{CaseTask}
 use Rattle.pinch.specs.declared.command.CaseTask.TheVariants.{Targets, Flow, Design, Curves, Sweep}
 use Rattle.pinch.specs.declared.request.Request.{Request}
-use Rattle.pinch.specs.declared.request.Request.TheVariants.{OfCase, Vertical, Audit, OfSite, Sample}
+use Rattle.pinch.specs.declared.request.Request.TheVariants.{OfCase, Vertical, Audit, Certify, OfSite, Sample}
 
 pub record IsResult (shown : Shown) : Type 0 where
   pub answered : IsAnswered (status_of shown)
@@ -53,6 +57,11 @@ of_verdict c network (verdict.Accepted balance) shown accepted = of_is shown _ a
 of_verdict c network (verdict.Rejected place reason) shown is = of_is shown _ is tt tt
 of_verdict c network (verdict.TooFine place step) shown is = of_is shown _ is tt tt
 
+of_check : (r : Report) (checked : Checked) (shown : Shown) → shown ≡ shown_check r checked → IsResult shown
+unfolding IsPrintable
+of_check r Yes shown is = of_is shown _ is tt tt
+of_check r (No why) shown is = of_is shown _ is tt tt
+
 site_is_answered : (a : Answer) → IsAnswered (status_of_site a)
 site_is_answered (answer.Least flow prices cost) = tt
 site_is_answered (answer.Stuck cut) = tt
@@ -62,5 +71,6 @@ unfolding Answers IsPrintable
 is_result (OfCase case task) shown is = of_task task case shown is
 is_result (Vertical case) shown is = of_is shown _ is.shows.is tt (is.shows.complete, is.shows.shape)
 is_result (Audit case network) shown is = of_verdict case network is.verdict shown is.shows
+is_result (Certify case report) shown is = of_check report is.checked shown is.is
 is_result (OfSite site) shown is = of_is shown _ is.is (site_is_answered is.answer) tt
 is_result (Sample number count) shown is = of_is shown _ is.is tt tt

@@ -9,11 +9,11 @@ use Rattle.study.specs.Plan.{IsSweepPlan}
 use Rattle.study.specs.declared.limits.TheConstants.{MOST_ROWS, MOST_SAMPLE_NUMBER, MOST_SAMPLE_STREAMS, MOST_WORKERS}
 use Rattle.study.specs.declared.plan.SweepPlan.{SweepPlan}
 use Rattle.pinch.specs.declared.numbers.TheConstants.{MOST_DIGITS, MOST_END, MOST_STEP}
-use Rattle.pinch.specs.Command.{audit_of, command_of, command_of_word, one_file, sample_of, sample_with, sweep_of, sweep_with, IsRunnable}
+use Rattle.pinch.specs.Command.{command_of, command_of_word, one_file, sample_of, sample_with, sweep_of, sweep_with, two_files, IsRunnable}
 use Rattle.pinch.specs.Numbers.{limited, number_within, plan_of, plan_with, sample_count_of, sample_number_of, workers_of}
 use Rattle.pinch.specs.declared.command.CaseTask.TheVariants.{Targets, Flow, Design, Curves}
 use Rattle.pinch.specs.declared.command.Command.{Command}
-use Rattle.pinch.specs.declared.command.Command.TheVariants.{OfCase, Vertical, Site}
+use Rattle.pinch.specs.declared.command.Command.TheVariants.{Audit, Certify, OfCase, Vertical, Site}
 
 -- what is there only where a test holds
 where_true : {X : Type 0} (b : Bool) (x : X) (P : X → Type 0) → (b ≡ true → P x) → IfSome (if b then Some x else None) P
@@ -72,13 +72,10 @@ of_sample (number ∷ count ∷ []) =
     of_sample_numbers (sample_number_of number) (sample_count_of count) (limited-within 1 MOST_SAMPLE_NUMBER (natural_in MOST_DIGITS number)) (limited-within 1 MOST_SAMPLE_STREAMS (natural_in MOST_DIGITS count))
 of_sample words = tt
 
-of_audit : (words : List (List ℕ)) → IfSome (audit_of words) IsRunnable
-of_audit ((byte ∷ case) ∷ (other ∷ network) ∷ []) = tt
-of_audit words = tt
-
-of_file : (command : List ℕ → Command) → ((name : List ℕ) → IsRunnable (command name)) → (name : Option (List ℕ)) → IfSome (option_map command name) IsRunnable
-of_file command runs (Some name) = runs name
-of_file command runs None = tt
+-- a command of the names of files
+of_names : {Names : Type 0} (command : Names → Command) → ((names : Names) → IsRunnable (command names)) → (names : Option Names) → IfSome (option_map command names) IsRunnable
+of_names command runs (Some names) = runs names
+of_names command runs None = tt
 
 either : (b : Bool) (x y : Option Command) → IfSome x IsRunnable → IfSome y IsRunnable → IfSome (if b then x else y) IsRunnable
 either true x y one other = one
@@ -86,15 +83,16 @@ either false x y one other = other
 
 of_word : (word : List ℕ) (rest : List (List ℕ)) → IfSome (command_of_word word rest) IsRunnable
 of_word word rest =
-    either (bytes_eq word (codes "targets")) _ _ (of_file (λ n. OfCase n Targets) (λ n. tt) (one_file rest))
-    (either (bytes_eq word (codes "flow")) _ _ (of_file (λ n. OfCase n Flow) (λ n. tt) (one_file rest))
-    (either (bytes_eq word (codes "design")) _ _ (of_file (λ n. OfCase n Design) (λ n. tt) (one_file rest))
-    (either (bytes_eq word (codes "vertical")) _ _ (of_file Vertical (λ n. tt) (one_file rest))
-    (either (bytes_eq word (codes "curves")) _ _ (of_file (λ n. OfCase n Curves) (λ n. tt) (one_file rest))
-    (either (bytes_eq word (codes "audit")) _ _ (of_audit rest)
-    (either (bytes_eq word (codes "site")) _ _ (of_file Site (λ n. tt) (one_file rest))
+    either (bytes_eq word (codes "targets")) _ _ (of_names (λ n. OfCase n Targets) (λ n. tt) (one_file rest))
+    (either (bytes_eq word (codes "flow")) _ _ (of_names (λ n. OfCase n Flow) (λ n. tt) (one_file rest))
+    (either (bytes_eq word (codes "design")) _ _ (of_names (λ n. OfCase n Design) (λ n. tt) (one_file rest))
+    (either (bytes_eq word (codes "vertical")) _ _ (of_names Vertical (λ n. tt) (one_file rest))
+    (either (bytes_eq word (codes "curves")) _ _ (of_names (λ n. OfCase n Curves) (λ n. tt) (one_file rest))
+    (either (bytes_eq word (codes "audit")) _ _ (of_names (λ n. Audit n.0 n.1) (λ n. tt) (two_files rest))
+    (either (bytes_eq word (codes "certify")) _ _ (of_names (λ n. Certify n.0 n.1) (λ n. tt) (two_files rest))
+    (either (bytes_eq word (codes "site")) _ _ (of_names Site (λ n. tt) (one_file rest))
     (either (bytes_eq word (codes "sweep")) _ _ (of_sweep rest)
-    (either (bytes_eq word (codes "sample")) _ _ (of_sample rest) tt))))))))
+    (either (bytes_eq word (codes "sample")) _ _ (of_sample rest) tt)))))))))
 
 of_words : (words : List (List ℕ)) → IfSome (command_of words) IsRunnable
 of_words [] = tt

@@ -4,25 +4,28 @@ use Rattle.stream_case.specs.Case.{IsComplete, IsStandard, IsValid}
 use Rattle.stream_case.specs.Stream.{AreSensible}
 use Rattle.plants.specs.Site.{IsValidSite}
 use Rattle.networks.specs.Shape.{HasShape}
+use Rattle.certify.specs.Answers.{HasPartPrices}
 use Rattle.pinch_outside.specs.Shelf.{ShelfState}
 use Rattle.reports.specs.declared.shown.Shown.{Shown}
-use Rattle.pinch.specs.Command.{CanDo, IsCaseFor, IsSampleOf}
+use Rattle.pinch.specs.Command.{CanDo, IsSampleOf}
 use Rattle.pinch.specs.Files.{EndsIn}
 use Rattle.pinch.specs.Network.{IsAuditOf}
 use Rattle.pinch.specs.Reading.{reading_of}
+use Rattle.pinch.specs.Report.{IsCheckOf}
 use Rattle.pinch.specs.Sample.{ShowsSample}
 use Rattle.pinch.specs.Site.{ShowsSite}
 use Rattle.pinch.specs.Tasks.{ShowsTask}
 use Rattle.pinch.specs.Vertical.{IsVerticalAnswer}
 use Rattle.pinch.specs.declared.command.Command.{Command}
 use Rattle.pinch.specs.declared.request.Request.{Request}
-use Rattle.pinch.specs.declared.request.Request.TheVariants.{OfCase, Vertical, Audit, OfSite, Sample}
+use Rattle.pinch.specs.declared.request.Request.TheVariants.{OfCase, Vertical, Audit, Certify, OfSite, Sample}
 
 -- a request that can be answered
 abbrev pub IsRequest : Request → Type 0
-IsRequest (OfCase case task) = IsValid case × CanDo task × IsCaseFor task case
+IsRequest (OfCase case task) = IsValid case × CanDo task
 IsRequest (Vertical case) = IsComplete case × IsStandard case × AreSensible case.streams
-IsRequest (Audit case network) = IsComplete case × HasShape case network × AreSensible case.streams
+IsRequest (Audit case network) = IsComplete case × HasShape case network
+IsRequest (Certify case report) = IsComplete case × HasPartPrices report
 IsRequest (OfSite site) = IsValidSite site
 IsRequest (Sample number count) = IsSampleOf number count
 
@@ -31,6 +34,7 @@ unfoldable pub Answers : Request → Shown → Type 0
 Answers (OfCase case task) shown = ShowsTask task case shown
 Answers (Vertical case) shown = IsVerticalAnswer case shown
 Answers (Audit case network) shown = IsAuditOf case network shown
+Answers (Certify case report) shown = IsCheckOf case report shown
 Answers (OfSite site) shown = ShowsSite site shown
 Answers (Sample number count) shown = ShowsSample number count shown
 

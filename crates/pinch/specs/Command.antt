@@ -1,8 +1,6 @@
 -- The forms of a command.
 use Rattle.std.specs.Prelude.{ℕ, ◌≤◌, List, [], ◌∷◌, Option, Some, None, option_map, codes, if◌then◌else◌, ⊤}
 use Rattle.std.specs.Str.{bytes_eq}
-use Rattle.stream_case.specs.Stream.{AreSensible}
-use Rattle.stream_case.specs.declared.case.Case.{Case}
 use Rattle.study.specs.Plan.{IsSweepPlan}
 use Rattle.study.specs.declared.limits.TheConstants.{MOST_SAMPLE_NUMBER, MOST_SAMPLE_STREAMS, MOST_WORKERS}
 use Rattle.study.specs.declared.plan.SweepPlan.{SweepPlan}
@@ -10,7 +8,7 @@ use Rattle.pinch.specs.Numbers.{plan_of, sample_count_of, sample_number_of, work
 use Rattle.pinch.specs.declared.command.CaseTask.{CaseTask}
 use Rattle.pinch.specs.declared.command.CaseTask.TheVariants.{Targets, Flow, Design, Curves, Sweep}
 use Rattle.pinch.specs.declared.command.Command.{Command}
-use Rattle.pinch.specs.declared.command.Command.TheVariants.{OfCase, Vertical, Audit, Site, Sample}
+use Rattle.pinch.specs.declared.command.Command.TheVariants.{OfCase, Vertical, Audit, Certify, Site, Sample}
 
 -- the name of a file, where the words are just that; it is not empty
 abbrev pub one_file : List (List ℕ) → Option (List ℕ)
@@ -21,10 +19,10 @@ one_file words = None
 abbrev pub of_case : CaseTask → List (List ℕ) → Option Command
 of_case task words = option_map (λ case. OfCase case task) (one_file words)
 
--- the audit of the case and the network of two files, where the words are just their names; none is empty
-abbrev pub audit_of : List (List ℕ) → Option Command
-audit_of ((byte ∷ case) ∷ (other ∷ network) ∷ []) = Some (Audit (byte ∷ case) (other ∷ network))
-audit_of words = None
+-- the names of two files, where the words are just those; none is empty
+abbrev pub two_files : List (List ℕ) → Option (List ℕ × List ℕ)
+two_files ((byte ∷ first) ∷ (other ∷ second) ∷ []) = Some (byte ∷ first, other ∷ second)
+two_files words = None
 
 -- the sweep of the case of a file by this plan and so many workers, where they are there
 abbrev pub sweep_with : List ℕ → Option SweepPlan → Option ℕ → Option Command
@@ -54,7 +52,8 @@ command_of_word word rest =
     else if bytes_eq word (codes "design") then of_case Design rest
     else if bytes_eq word (codes "vertical") then option_map Vertical (one_file rest)
     else if bytes_eq word (codes "curves") then of_case Curves rest
-    else if bytes_eq word (codes "audit") then audit_of rest
+    else if bytes_eq word (codes "audit") then option_map (λ (names : List ℕ × List ℕ). Audit names.0 names.1) (two_files rest)
+    else if bytes_eq word (codes "certify") then option_map (λ (names : List ℕ × List ℕ). Certify names.0 names.1) (two_files rest)
     else if bytes_eq word (codes "site") then option_map Site (one_file rest)
     else if bytes_eq word (codes "sweep") then sweep_of rest
     else if bytes_eq word (codes "sample") then sample_of rest
@@ -78,9 +77,3 @@ abbrev pub IsRunnable : Command → Type 0
 IsRunnable (OfCase case task) = CanDo task
 IsRunnable (Sample number count) = IsSampleOf number count
 IsRunnable other = ⊤
-
--- designs and curves are for cases without latent streams, the other tasks for every case
-abbrev pub IsCaseFor : CaseTask → Case → Type 0
-IsCaseFor Design case = AreSensible case.streams
-IsCaseFor Curves case = AreSensible case.streams
-IsCaseFor other case = ⊤

@@ -11,6 +11,7 @@ pub mod Format
 pub mod Network
 pub mod Numbers
 pub mod Reading
+pub mod Report
 pub mod Run
 pub mod Sample
 pub mod Site

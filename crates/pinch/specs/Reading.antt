@@ -5,9 +5,9 @@ use Rattle.stream_case.specs.Stream.{AreSensible}
 use Rattle.reports.specs.declared.shown.Shown.{Shown}
 use Rattle.reports.specs.declared.shown.Shown.TheVariants.{BadWords, Latent, NotStandard}
 use Rattle.pinch.specs.Case.{case_file}
-use Rattle.pinch.specs.Command.{IsCaseFor}
 use Rattle.pinch.specs.Format.{Format}
 use Rattle.pinch.specs.Network.{network_file}
+use Rattle.pinch.specs.Report.{report_file}
 use Rattle.pinch.specs.Site.{site_file}
 use Rattle.pinch.specs.declared.command.Command.{Command}
 use Rattle.pinch.specs.declared.command.Command.TheVariants as command
@@ -28,12 +28,13 @@ pub data Reading : Type 1 where
 -- what the words of a command ask to be read, and what is asked then
 unfoldable pub reading_of : Option Command → Reading
 reading_of None = stop BadWords
-reading_of (Some (command.OfCase case task)) = file case_file case (λ c. wanted (IsCaseFor task c) Latent (ready (request.OfCase c task)))
+reading_of (Some (command.OfCase case task)) = file case_file case (λ c. ready (request.OfCase c task))
 reading_of (Some (command.Vertical case)) =
     file case_file case (λ c. wanted (IsStandard (completed c)) NotStandard
     (wanted (AreSensible c.streams) Latent (ready (request.Vertical (completed c)))))
 reading_of (Some (command.Audit case network)) =
-    file case_file case (λ c. wanted (AreSensible c.streams) Latent
-    (file (network_file (completed c)) network (λ n. ready (request.Audit (completed c) n))))
+    file case_file case (λ c. file (network_file (completed c)) network (λ n. ready (request.Audit (completed c) n)))
+reading_of (Some (command.Certify case report)) =
+    file case_file case (λ c. file report_file report (λ r. ready (request.Certify (completed c) r)))
 reading_of (Some (command.Site site)) = file site_file site (λ s. ready (request.OfSite s))
 reading_of (Some (command.Sample number count)) = ready (request.Sample number count)

@@ -38,12 +38,15 @@ status_of (shows.TooFine case network place step) = TooFine
 status_of (shows.SiteShown site parts sinks sources answer) = status_of_site answer
 status_of (shows.Sweep rows) = Answered
 status_of (shows.Sample hot cold cost) = Answered
+status_of (shows.Certified cost) = Answered
+status_of (shows.NotCertified why) = AnsweredNo
 status_of shows.BadWords = NoCommand
 status_of (shows.BadCase row why) = CaseRefused
 status_of shows.NotStandard = CaseRefused
 status_of shows.Latent = CaseRefused
 status_of (shows.BadSite row why) = CaseRefused
 status_of (shows.BadNetwork line why) = NetworkRefused
+status_of (shows.BadReport line why) = NetworkRefused
 status_of (shows.TooLong file) = TooLong
 status_of (shows.ReadFault file) = ReadFault
 

@@ -1,7 +1,6 @@
 //! The audit of a network.
 ghost use Rattle.std.specs.Prelude.{IfOk};
 ghost use Rattle.stream_case.specs.Case.{IsComplete};
-ghost use Rattle.stream_case.specs.Stream.{AreSensible};
 ghost use Rattle.networks.specs.Shape.{HasShape};
 ghost use Rattle.pinch.specs.Network.{IsAuditOf};
 
@@ -18,7 +17,6 @@ use stream_case::Case;
 pub fn show_audit(alloc: Global, case: Case, network: Network) -> Result<Shown, AllocError>
     requires complete { IsComplete case }
     requires shape { HasShape case network }
-    requires sensible { AreSensible case.streams }
     ensures { IfOk result (IsAuditOf case network) }
 {
     let mut auditor = Auditor::new(alloc, &case, &network)?;

@@ -1,9 +1,8 @@
 //! What a task shows of a case.
 ghost use Rattle.std.specs.Prelude.{IfOk};
 ghost use Rattle.stream_case.specs.Case.{IsValid};
-ghost use Rattle.stream_case.specs.Stream.{AreSensible};
 ghost use Rattle.pinch.specs.Case.{AreTargetsOf, AreCurvesOf};
-ghost use Rattle.pinch.specs.Command.{CanDo, IsCaseFor};
+ghost use Rattle.pinch.specs.Command.{CanDo};
 ghost use Rattle.pinch.specs.Tasks.{ShowsTask};
 
 use crate::command::CaseTask;
@@ -28,7 +27,6 @@ pub fn show_task<R: Threads + Sync, G: Gate + Sync>(
 ) -> Result<Shown, AllocError>
     requires valid { IsValid case.now }
     requires task { CanDo task }
-    requires case { IsCaseFor task case.now }
     ensures { IfOk result (ShowsTask task case.now) }
 {
     match task {
@@ -53,8 +51,7 @@ pub fn show_targets(alloc: Global, case: &Case) -> Result<Shown, AllocError>
 
 /// The three curves of a case.
 pub fn show_curves(alloc: Global, case: &Case) -> Result<Shown, AllocError>
-    requires valid { IsValid case.now }
-    requires sensible { AreSensible case.now.streams }
+    requires { IsValid case.now }
     ensures { IfOk result (AreCurvesOf case.now) }
 {
     Ok(Shown::Curves {

@@ -1,6 +1,6 @@
 //! The forms of a command.
 ghost use Rattle.std.specs.Prelude.{◌≡◌, IfOk};
-ghost use Rattle.pinch.specs.Command.{audit_of, command_of, command_of_word, of_case, one_file, sample_of, sample_with, sweep_of, sweep_with};
+ghost use Rattle.pinch.specs.Command.{command_of, command_of_word, of_case, one_file, sample_of, sample_with, sweep_of, sweep_with, two_files};
 
 use crate::numbers::{plan_of, sample_count_of, sample_number_of, workers_of};
 use crate::word::Word;
@@ -33,6 +33,8 @@ pub enum Command {
     Vertical { case: Word },
     /// `audit CASE NETWORK`: whether the network is valid for the completed case.
     Audit { case: Word, network: Word },
+    /// `certify CASE REPORT`: whether the report proves what it says of the completed case.
+    Certify { case: Word, report: Word },
     /// `site SITE`: the profiles of a site, and its least boiler heat with a certificate.
     Site { site: Word },
     /// `sample NUMBER N`: the targets and the least cost of the sample of a number, with so many
@@ -59,7 +61,12 @@ fn command_of_word(alloc: Global, word: &str, rest: &[Word]) -> Result<Option<Co
         "design" => of_case(alloc, rest, CaseTask::Design),
         "vertical" => Ok(one_file(alloc, rest)?.map(|case| Command::Vertical { case })),
         "curves" => of_case(alloc, rest, CaseTask::Curves),
-        "audit" => audit_of(alloc, rest),
+        "audit" => {
+            Ok(two_files(alloc, rest)?.map(|(case, network)| Command::Audit { case, network }))
+        }
+        "certify" => {
+            Ok(two_files(alloc, rest)?.map(|(case, report)| Command::Certify { case, report }))
+        }
         "site" => Ok(one_file(alloc, rest)?.map(|site| Command::Site { site })),
         "sweep" => sweep_of(alloc, rest),
         "sample" => Ok(sample_of(rest)),
@@ -84,16 +91,13 @@ fn of_case(alloc: Global, words: &[Word], task: CaseTask) -> Result<Option<Comma
     Ok(one_file(alloc, words)?.map(|case| Command::OfCase { case, task }))
 }
 
-/// The audit of two files, where the words are just their names; none is empty.
-fn audit_of(alloc: Global, words: &[Word]) -> Result<Option<Command>, AllocError>
-    ensures { IfOk result (λ command. command ≡ audit_of words.now) }
+/// The names of two files, where the words are just those; none is empty.
+fn two_files(alloc: Global, words: &[Word]) -> Result<Option<(Word, Word)>, AllocError>
+    ensures { IfOk result (λ names. names ≡ two_files words.now) }
 {
     match words {
-        [case, network] if !case.as_str().is_empty() && !network.as_str().is_empty() => {
-            Ok(Some(Command::Audit {
-                case: case.copied(alloc)?,
-                network: network.copied(alloc)?,
-            }))
+        [first, second] if !first.as_str().is_empty() && !second.as_str().is_empty() => {
+            Ok(Some((first.copied(alloc)?, second.copied(alloc)?)))
         }
         _ => Ok(None),
     }

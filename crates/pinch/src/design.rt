@@ -1,7 +1,6 @@
 //! The design of a case.
 ghost use Rattle.std.specs.Prelude.{◌≡◌, ◌≤◌, ◌+◌, ◌-◌, IfOk, length};
 ghost use Rattle.stream_case.specs.Case.{IsComplete, IsStandard, IsValid};
-ghost use Rattle.stream_case.specs.Stream.{AreSensible};
 ghost use Rattle.grid.specs.Part.{AreCaseParts};
 ghost use Rattle.heat_flow.specs.Certificate.{IsFlowOf};
 ghost use Rattle.heat_flow.specs.Flow.{cost_of};
@@ -25,8 +24,7 @@ use transport::Answer;
 /// A network of the completed case that realises a heat flow of least cost, or a cut where there
 /// is no heat flow.
 pub fn show_design(alloc: Global, case: &Case) -> Result<Shown, AllocError>
-    requires valid { IsValid case.now }
-    requires sensible { AreSensible case.now.streams }
+    requires { IsValid case.now }
     ensures { IfOk result (ShowsDesign case.now) }
 {
     let case = complete(alloc, case)?;
@@ -41,7 +39,6 @@ pub fn show_design(alloc: Global, case: &Case) -> Result<Shown, AllocError>
 /// costs the hot target and has fewer transfers than parts has no excess.
 fn design_flow(alloc: Global, case: Case, parts: &Parts, flow: &Flow) -> Result<Shown, AllocError>
     requires complete { IsComplete case }
-    requires sensible { AreSensible case.streams }
     requires parts { AreCaseParts case parts.now.hot parts.now.cold }
     requires flow { IsFlowOf case parts.now.hot parts.now.cold flow.now.transfers }
     ensures design { IfOk result (IsDesignOf case parts.now flow.now) }
@@ -62,7 +59,6 @@ fn design_flow(alloc: Global, case: Case, parts: &Parts, flow: &Flow) -> Result<
 /// The balance of a network in which an audit finds nothing.
 pub fn audited(alloc: Global, case: &Case, network: &Network) -> Result<Balance, AllocError>
     requires complete { IsComplete case.now }
-    requires sensible { AreSensible case.now.streams }
     requires shape { HasShape case.now network.now }
     requires accepted { HasNoFinding case.now network.now }
     ensures { IfOk result (λ balance. balance ≡ balance_of case.now network.now) }

@@ -1,11 +1,13 @@
 //! Files: each is taken whole from the shelf, and read by the grammar of its role.
 ghost use Rattle.std.specs.Prelude.{IfOk, IfErr};
 ghost use Rattle.stream_case.specs.Case.{IsComplete, IsValid};
+ghost use Rattle.certify.specs.Answers.{HasPartPrices};
 ghost use Rattle.networks.specs.Shape.{HasShape};
 ghost use Rattle.pinch_outside.specs.Shelf.{KeepsFiles, IsWhole};
 ghost use Rattle.pinch.specs.Case.{case_file};
 ghost use Rattle.pinch.specs.Files.{NoFile, NoText, ReadsText};
 ghost use Rattle.pinch.specs.Network.{network_file};
+ghost use Rattle.pinch.specs.Report.{report_file};
 ghost use Rattle.pinch.specs.Site.{site_file};
 ghost use Rattle.pinch.specs.Stop.{IfEarly};
 ghost use Rattle.plants.specs.Site.{IsValidSite};
@@ -13,6 +15,7 @@ ghost use Rattle.plants.specs.Site.{IsValidSite};
 use crate::stop::Stop;
 use crate::word::Word;
 use case_text::{CaseFault, read_case};
+use certify::{Report, ReportFault, read_report};
 use network_text::{NetFault, Network, read_network};
 use pinch_outside::{Shelf, TakeFault, take_all};
 use reports::{FileRole, Shown};
@@ -84,5 +87,21 @@ pub fn take_network<S: Shelf>(
         Ok(network) => Ok(network),
         Err(NetFault::At { line, why }) => Err(Stop::Early(Shown::BadNetwork { line, why })),
         Err(NetFault::OutOfMemory) => Err(Stop::OutOfMemory),
+    }
+}
+
+/// The report of a report file. Each price is within the limits of a certificate.
+pub fn take_report<S: Shelf>(alloc: Global, shelf: &mut S, name: &Word) -> Result<Report, Stop>
+    ensures report { IfOk result
+        (ReadsText report_file name.now (S.state shelf.old) (S.state shelf.new)) }
+    ensures prices { IfOk result HasPartPrices }
+    ensures stop { IfErr result (λ stop. IfEarly stop
+        (NoText report_file name.now (S.state shelf.old) (S.state shelf.new))) }
+{
+    let bytes = take_file(alloc, shelf, FileRole::Report, name)?;
+    match read_report(alloc, &bytes) {
+        Ok(report) => Ok(report),
+        Err(ReportFault::At { line, why }) => Err(Stop::Early(Shown::BadReport { line, why })),
+        Err(ReportFault::OutOfMemory) => Err(Stop::OutOfMemory),
     }
 }

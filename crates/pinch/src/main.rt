@@ -5,6 +5,7 @@ mod answer;
 mod arguments;
 mod audit;
 mod case_answer;
+mod certify_answer;
 mod command;
 mod design;
 mod files;

@@ -3,16 +3,17 @@ ghost use Rattle.std.specs.Prelude.{◌↔◌, IfOk, IsTrue, Some};
 ghost use Rattle.stream_case.specs.Case.{IsValid};
 ghost use Rattle.stream_case.specs.Stream.{AreSensible};
 ghost use Rattle.pinch.specs.Answers.{IsRequest};
-ghost use Rattle.pinch.specs.Command.{command_of, CanDo, IsCaseFor, IsRunnable};
+ghost use Rattle.pinch.specs.Command.{command_of, CanDo, IsRunnable};
 ghost use Rattle.pinch.specs.Files.{EndsIn};
 ghost use Rattle.pinch.specs.Reading.{reading_of};
 ghost use Rattle.pinch.specs.Stop.{IfEnd};
-ghost use Rattle.pinch.specs.declared.command.Command.TheVariants.{Audit, OfCase, Vertical};
+ghost use Rattle.pinch.specs.declared.command.Command.TheVariants.{Audit, Certify, OfCase, Vertical};
 
 use crate::command::{CaseTask, Command, read_command};
-use crate::files::{take_case, take_network, take_site};
+use crate::files::{take_case, take_network, take_report, take_site};
 use crate::stop::Stop;
 use crate::word::Word;
+use certify::Report;
 use network_text::Network;
 use pinch_outside::Shelf;
 use reports::Shown;
@@ -27,8 +28,10 @@ pub enum Request {
     OfCase { case: Case, task: CaseTask },
     /// The network of a completed standard case of sensible streams by its composite curves.
     Vertical { case: Case },
-    /// Whether a network is valid for a completed case of sensible streams.
+    /// Whether a network is valid for a completed case.
     Audit { case: Case, network: Network },
+    /// Whether a report proves what it says of a completed case.
+    Certify { case: Case, report: Report },
     /// The profiles of a site, and its least boiler heat.
     OfSite { site: Site },
     /// The sample of a number, with so many streams on each side.
@@ -65,6 +68,7 @@ fn request_of_command<S: Shelf>(
         Command::OfCase { case, task } => request_task(alloc, shelf, case, *task),
         Command::Vertical { case } => request_vertical(alloc, shelf, case),
         Command::Audit { case, network } => request_audit(alloc, shelf, case, network),
+        Command::Certify { case, report } => request_certify(alloc, shelf, case, report),
         Command::Site { site } => {
             let site = take_site(alloc, shelf, site)?;
             Ok(Request::OfSite { site })
@@ -76,7 +80,6 @@ fn request_of_command<S: Shelf>(
     }
 }
 
-/// A case with latent streams is refused where the task is for sensible ones alone.
 fn request_task<S: Shelf>(
     alloc: Global,
     shelf: &mut S,
@@ -89,11 +92,7 @@ fn request_task<S: Shelf>(
         (EndsIn (reading_of (Some (OfCase case.now task))) (S.state shelf.old) (S.state shelf.new)) }
 {
     let case = take_case(alloc, shelf, case)?;
-    if is_case_for(task, &case) {
-        Ok(Request::OfCase { case, task })
-    } else {
-        Err(Stop::Early(Shown::Latent))
-    }
+    Ok(Request::OfCase { case, task })
 }
 
 /// A case that is not standard is refused, and so is one with latent streams.
@@ -114,8 +113,7 @@ fn request_vertical<S: Shelf>(alloc: Global, shelf: &mut S, case: &Word) -> Resu
     }
 }
 
-/// A case with latent streams is refused. The network is read for the completed case, and only
-/// after it.
+/// The network is read for the completed case, and only after it.
 fn request_audit<S: Shelf>(
     alloc: Global,
     shelf: &mut S,
@@ -127,23 +125,26 @@ fn request_audit<S: Shelf>(
         (EndsIn (reading_of (Some (Audit case.now network.now))) (S.state shelf.old) (S.state shelf.new)) }
 {
     let given = take_case(alloc, shelf, case)?;
-    if !is_sensible(&given) {
-        return Err(Stop::Early(Shown::Latent));
-    }
     let case = complete(alloc, &given)?;
     let network = take_network(alloc, shelf, &case, network)?;
     Ok(Request::Audit { case, network })
 }
 
-/// Whether the task is for this case: designs and curves are for sensible streams alone.
-fn is_case_for(task: CaseTask, case: &Case) -> bool
-    requires { IsValid case.now }
-    ensures { IsTrue result ↔ IsCaseFor task case.now }
+/// The report is read behind the case.
+fn request_certify<S: Shelf>(
+    alloc: Global,
+    shelf: &mut S,
+    case: &Word,
+    report: &Word,
+) -> Result<Request, Stop>
+    ensures request { IfOk result IsRequest }
+    ensures reads { IfEnd result (EndsIn (reading_of (Some (Certify case.now report.now)))
+        (S.state shelf.old) (S.state shelf.new)) }
 {
-    match task {
-        CaseTask::Design | CaseTask::Curves => is_sensible(case),
-        CaseTask::Targets | CaseTask::Flow | CaseTask::Sweep { .. } => true,
-    }
+    let given = take_case(alloc, shelf, case)?;
+    let case = complete(alloc, &given)?;
+    let report = take_report(alloc, shelf, report)?;
+    Ok(Request::Certify { case, report })
 }
 
 /// Whether the case has no latent stream.

@@ -17,7 +17,7 @@ pub enum Status {
     /// The case file or the site file is refused, or the case is not standard or has latent streams
     /// where the command is for none of these.
     CaseRefused,
-    /// The network file is refused.
+    /// The network file or the report is refused.
     NetworkRefused,
     /// A file is longer than the limit.
     TooLong,
@@ -62,15 +62,18 @@ pub fn status_of(shown: &Shown) -> Status
         | Shown::Design { .. }
         | Shown::Accepted { .. }
         | Shown::Sweep { .. }
-        | Shown::Sample { .. } => Status::Answered,
-        Shown::Stuck { .. } | Shown::Rejected { .. } => Status::AnsweredNo,
+        | Shown::Sample { .. }
+        | Shown::Certified { .. } => Status::Answered,
+        Shown::Stuck { .. } | Shown::Rejected { .. } | Shown::NotCertified { .. } => {
+            Status::AnsweredNo
+        }
         Shown::SiteShown { answer, .. } => status_of_site(answer),
         Shown::TooFine { .. } => Status::TooFine,
         Shown::BadWords => Status::NoCommand,
         Shown::BadCase { .. } | Shown::BadSite { .. } | Shown::NotStandard | Shown::Latent => {
             Status::CaseRefused
         },
-        Shown::BadNetwork { .. } => Status::NetworkRefused,
+        Shown::BadNetwork { .. } | Shown::BadReport { .. } => Status::NetworkRefused,
         Shown::TooLong { .. } => Status::TooLong,
         Shown::ReadFault { .. } => Status::ReadFault,
     }

@@ -1,9 +1,11 @@
-//! Tests of the commands, over files and an output in memory.
+//! Tests of the commands, over files and an output in memory. Their rows are constants: what a body
+//! makes is carried through the proof of each call behind it, and a constant is not.
 
 mod arguments;
 mod audit;
 mod audit_steps;
 mod case_rows;
+mod certified_reports;
 mod composite_curves;
 mod cuts;
 mod design;

@@ -1,4 +1,5 @@
 pub mod Audit
+pub mod Certified
 pub mod Curves
 pub mod Cut
 pub mod Design

@@ -3,12 +3,14 @@ use Rattle.std.specs.Prelude.{ℕ, List, [], ◌∷◌, ◌++◌, codes}
 use Rattle.std.specs.Fmt.{decimal}
 use Rattle.case_text.specs.declared.fault.CaseWhy.{CaseWhy}
 use Rattle.case_text.specs.declared.fault.CaseWhy.TheVariants as why
+use Rattle.certify.specs.declared.fault.ReportWhy.{ReportWhy}
+use Rattle.certify.specs.declared.fault.ReportWhy.TheVariants as report
 use Rattle.network_text.specs.declared.fault.NetWhy.{NetWhy}
 use Rattle.network_text.specs.declared.fault.NetWhy.TheVariants as net
 use Rattle.site.specs.declared.fault.SiteWhy.{SiteWhy}
 use Rattle.site.specs.declared.fault.SiteWhy.TheVariants as site
 use Rattle.reports.specs.declared.shown.FileRole.{FileRole}
-use Rattle.reports.specs.declared.shown.FileRole.TheVariants.{Case, Network, Site}
+use Rattle.reports.specs.declared.shown.FileRole.TheVariants.{Case, Network, Site, Report}
 
 -- the name of a cause for which a case file is refused
 abbrev pub case_why_name : CaseWhy → List ℕ
@@ -73,10 +75,26 @@ net_why_name net.BadName = codes "BadName"
 abbrev pub bad_network_text : ℕ → NetWhy → List ℕ
 bad_network_text line why = codes "network line " ++ (decimal line ++ 32 ∷ (net_why_name why ++ 10 ∷ []))
 
+-- the name of a cause for which a report is refused
+abbrev pub report_why_name : ReportWhy → List ℕ
+report_why_name report.UnknownWord = codes "UnknownWord"
+report_why_name report.FieldCount = codes "FieldCount"
+report_why_name report.OutOfOrder = codes "OutOfOrder"
+report_why_name report.BadKind = codes "BadKind"
+report_why_name report.BadName = codes "BadName"
+report_why_name report.BadNumber = codes "BadNumber"
+report_why_name report.OutOfRange = codes "OutOfRange"
+report_why_name report.Ended = codes "Ended"
+
+-- report line LINE WHY
+abbrev pub bad_report_text : ℕ → ReportWhy → List ℕ
+bad_report_text line why = codes "report line " ++ (decimal line ++ 32 ∷ (report_why_name why ++ 10 ∷ []))
+
 abbrev pub role_name : FileRole → List ℕ
 role_name Case = codes "case"
 role_name Network = codes "network"
 role_name Site = codes "site"
+role_name Report = codes "report"
 
 -- FAULT FILE
 abbrev pub file_text : List ℕ → FileRole → List ℕ

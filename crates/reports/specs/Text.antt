@@ -3,18 +3,19 @@ use Rattle.std.specs.Prelude.{ℕ, Bool, true, false, List, ⊤, codes}
 use Rattle.stream_case.specs.Case.{IsComplete}
 use Rattle.networks.specs.Shape.{HasShape}
 use Rattle.reports.specs.Audit.{accepted_text, rejected_text, too_fine_text}
+use Rattle.reports.specs.Certified.{certified_text, not_certified_text}
 use Rattle.reports.specs.Curves.{curves_text}
 use Rattle.reports.specs.Cut.{stuck_text}
 use Rattle.reports.specs.Design.{design_text}
 use Rattle.reports.specs.Flow.{flow_text}
 use Rattle.reports.specs.Names.{case_names}
-use Rattle.reports.specs.Refusals.{bad_case_text, bad_network_text, bad_site_text, file_text}
+use Rattle.reports.specs.Refusals.{bad_case_text, bad_network_text, bad_report_text, bad_site_text, file_text}
 use Rattle.reports.specs.Sample.{sample_text}
 use Rattle.reports.specs.Site.{total_site_text}
 use Rattle.reports.specs.Sweep.{sweep_text}
 use Rattle.reports.specs.Targets.{targets_text}
 use Rattle.reports.specs.declared.shown.Shown.{Shown}
-use Rattle.reports.specs.declared.shown.Shown.TheVariants.{Targets, Flow, Stuck, Curves, Design, Accepted, Rejected, TooFine, SiteShown, Sweep, Sample, BadWords, BadCase, NotStandard, Latent, BadSite, BadNetwork, ReadFault, TooLong}
+use Rattle.reports.specs.declared.shown.Shown.TheVariants.{Targets, Flow, Stuck, Curves, Design, Accepted, Rejected, TooFine, SiteShown, Sweep, Sample, Certified, NotCertified, BadWords, BadCase, NotStandard, Latent, BadSite, BadNetwork, BadReport, ReadFault, TooLong}
 
 -- a design has the shape of a network of its completed case
 unfoldable pub IsPrintable : Shown → Type 0
@@ -37,6 +38,7 @@ is_refusal NotStandard = true
 is_refusal Latent = true
 is_refusal (BadSite row why) = true
 is_refusal (BadNetwork line why) = true
+is_refusal (BadReport line why) = true
 is_refusal (TooLong file) = true
 is_refusal (ReadFault file) = true
 is_refusal other = false
@@ -54,11 +56,14 @@ text (TooFine case network place step) = too_fine_text case network place step
 text (SiteShown site parts sinks sources answer) = total_site_text site parts sinks sources answer
 text (Sweep rows) = sweep_text rows
 text (Sample hot cold cost) = sample_text hot cold cost
+text (Certified cost) = certified_text cost
+text (NotCertified why) = not_certified_text why
 text BadWords = codes "words: targets flow curves design vertical audit site sweep sample certify prices\n"
 text (BadCase row why) = bad_case_text row why
 text NotStandard = codes "case not standard\n"
 text Latent = codes "case has latent streams\n"
 text (BadSite row why) = bad_site_text row why
 text (BadNetwork line why) = bad_network_text line why
+text (BadReport line why) = bad_report_text line why
 text (TooLong file) = file_text (codes "too long") file
 text (ReadFault file) = file_text (codes "read fault") file

@@ -2,6 +2,7 @@
 #![tactic(auto)]
 
 mod audit;
+mod certified;
 mod cut;
 mod design;
 mod flow;

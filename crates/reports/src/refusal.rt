@@ -1,9 +1,10 @@
 //! The texts of what is no result of a command: words, files and rows that are refused.
 ghost use Rattle.std.specs.Prelude.{◌≡◌, IfOk, string_bytes};
-ghost use Rattle.reports.specs.Refusals.{bad_case_text, bad_network_text, bad_site_text, case_why_name, file_text, net_why_name, role_name, site_why_name};
+ghost use Rattle.reports.specs.Refusals.{bad_case_text, bad_network_text, bad_report_text, bad_site_text, case_why_name, file_text, net_why_name, report_why_name, role_name, site_why_name};
 
 use crate::shown::FileRole;
 use case_text::CaseWhy;
+use certify::ReportWhy;
 use network_text::NetWhy;
 use site::SiteWhy;
 use std::alloc::{AllocError, Global};
@@ -40,6 +41,13 @@ pub fn bad_network_text(alloc: Global, line: u32, why: NetWhy) -> Result<String,
     format!(in alloc; "network line {line} {}\n", net_why_name(why))
 }
 
+/// A line that names the statement of a report, counted from 1, and its cause.
+pub fn bad_report_text(alloc: Global, line: u32, why: ReportWhy) -> Result<String, AllocError>
+    ensures { IfOk result (λ text. string_bytes text ≡ bad_report_text line why) }
+{
+    format!(in alloc; "report line {line} {}\n", report_why_name(why))
+}
+
 /// A line of what is wrong and of the file where it is.
 pub fn file_text(alloc: Global, fault: &str, file: FileRole) -> Result<String, AllocError>
     ensures { IfOk result (λ text. string_bytes text ≡ file_text fault.now file) }
@@ -54,6 +62,7 @@ fn role_name(file: FileRole) -> &'static str
         FileRole::Case => "case",
         FileRole::Network => "network",
         FileRole::Site => "site",
+        FileRole::Report => "report",
     }
 }
 
@@ -117,5 +126,20 @@ fn net_why_name(why: NetWhy) -> &'static str
         NetWhy::NotPositive => "NotPositive",
         NetWhy::OtherStream => "OtherStream",
         NetWhy::BadName => "BadName",
+    }
+}
+
+fn report_why_name(why: ReportWhy) -> &'static str
+    ensures { result.now ≡ report_why_name why }
+{
+    match why {
+        ReportWhy::UnknownWord => "UnknownWord",
+        ReportWhy::FieldCount => "FieldCount",
+        ReportWhy::OutOfOrder => "OutOfOrder",
+        ReportWhy::BadKind => "BadKind",
+        ReportWhy::BadName => "BadName",
+        ReportWhy::BadNumber => "BadNumber",
+        ReportWhy::OutOfRange => "OutOfRange",
+        ReportWhy::Ended => "Ended",
     }
 }

@@ -1,6 +1,7 @@
 //! All that the program can show.
 
 use case_text::CaseWhy;
+use certify::{NoWhy, ReportWhy};
 use curves::Point;
 use grid::Parts;
 use heat_flow::{Cut, Flow, Prices};
@@ -19,6 +20,7 @@ pub enum FileRole {
     Case,
     Network,
     Site,
+    Report,
 }
 
 /// What is printed. Everything that a text says of a case is carried here, so that a contract
@@ -104,6 +106,15 @@ pub enum Shown {
         cold: i64,
         cost: i128,
     },
+    /// The report proves what it says of the completed case: the least cost, or nothing where there
+    /// is no heat flow.
+    Certified {
+        cost: Option<i128>,
+    },
+    /// The report proves nothing of the completed case: its first check that fails.
+    NotCertified {
+        why: NoWhy,
+    },
     /// The words are no command.
     BadWords,
     /// The case file is refused: the row, counted from 1, and what is to be mended there.
@@ -124,6 +135,11 @@ pub enum Shown {
     BadNetwork {
         line: u32,
         why: NetWhy,
+    },
+    /// The report is refused: the statement, counted from 1, and what is to be mended there.
+    BadReport {
+        line: u32,
+        why: ReportWhy,
     },
     /// The file is longer than the limit.
     TooLong {

@@ -3,13 +3,15 @@ ghost use Rattle.std.specs.Prelude.{◌≡◌, string_bytes, IfOk, IsTrue};
 ghost use Rattle.reports.specs.Text.{is_of_network, is_refusal, text, IsPrintable};
 
 use crate::audit::{accepted_text, rejected_text, too_fine_text};
+use crate::certified::{certified_text, not_certified_text};
 use crate::cut::stuck_text;
 use crate::design::design_text;
 use crate::flow::flow_text;
 use crate::names::case_names;
 use crate::points::curves_text;
 use crate::refusal::{
-    LATENT, NOT_STANDARD, WORDS, bad_case_text, bad_network_text, bad_site_text, file_text,
+    LATENT, NOT_STANDARD, WORDS, bad_case_text, bad_network_text, bad_report_text, bad_site_text,
+    file_text,
 };
 use crate::sample::sample_text;
 use crate::shown::Shown;
@@ -56,6 +58,8 @@ pub fn text_of(alloc: Global, shown: &Shown) -> Result<Vec<u8>, AllocError>
         Shown::Sample { hot, cold, cost } => {
             Ok(sample_text(alloc, *hot, *cold, *cost)?.into_bytes())
         }
+        Shown::Certified { cost } => Ok(certified_text(alloc, *cost)?.into_bytes()),
+        Shown::NotCertified { why } => Ok(not_certified_text(alloc, *why)?.into_bytes()),
         Shown::Design { .. }
         | Shown::Accepted { .. }
         | Shown::Rejected { .. }
@@ -116,6 +120,7 @@ fn refusal_text(alloc: Global, shown: &Shown) -> Result<String, AllocError>
         Shown::Latent => String::from_str(alloc, LATENT),
         Shown::BadSite { row, why } => bad_site_text(alloc, *row, *why),
         Shown::BadNetwork { line, why } => bad_network_text(alloc, *line, *why),
+        Shown::BadReport { line, why } => bad_report_text(alloc, *line, *why),
         Shown::TooLong { file } => file_text(alloc, "too long", *file),
         Shown::ReadFault { file } => file_text(alloc, "read fault", *file),
         _ => unreachable!(),

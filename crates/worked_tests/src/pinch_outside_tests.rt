@@ -1,6 +1,7 @@
 ghost use Rattle.std.specs.Prelude.{refl};
 ghost use Rattle.pinch_outside.specs.Memory.{memory_state};
 
+use crate::compare::{assert_lists, assert_same};
 use pinch_outside::{
     FileShelf, MemoryFile, MemoryShelf, MemorySink, OutSink, Shelf, ShelfFault, SinkFault,
     TakeFault, take_all, write_all_of,
@@ -49,23 +50,24 @@ fn shelf_of(alloc: Global, bytes: usize, fails: &[u64]) -> Result<MemoryShelf, A
     Ok(MemoryShelf::new(files, fails.to_vec(alloc)?))
 }
 
+/// How many bytes a file has, the name that is asked for, the calls that fail, and the answer.
+const FILES: &[(usize, &str, &[u64], Result<usize, TakeFault>)] = &[
+    (10_000, "streams", &[], Ok(10_000)),
+    (0, "streams", &[], Ok(0)),
+    (10_000, "prices", &[], Err(TakeFault::Fault)),
+    (10_000, "streams", &[1], Err(TakeFault::Fault)),
+    (10_000, "streams", &[3], Err(TakeFault::Fault)),
+    (LONGEST, "streams", &[], Ok(LONGEST)),
+    (LONGEST + 1, "streams", &[], Err(TakeFault::Long)),
+];
+
 #[test]
 fn files_in_memory_are_taken_whole_or_refused(rt: HostRuntime) -> Result<(), Fail> {
     let alloc = rt.alloc();
-    // How many bytes the file has, the name that is asked for, and the calls that fail.
-    let rows: [(usize, &str, &[u64], Result<usize, TakeFault>); 7] = [
-        (10_000, "streams", &[], Ok(10_000)),
-        (0, "streams", &[], Ok(0)),
-        (10_000, "prices", &[], Err(TakeFault::Fault)),
-        (10_000, "streams", &[1], Err(TakeFault::Fault)),
-        (10_000, "streams", &[3], Err(TakeFault::Fault)),
-        (LONGEST, "streams", &[], Ok(LONGEST)),
-        (LONGEST + 1, "streams", &[], Err(TakeFault::Long)),
-    ];
-    for (bytes, name, fails, wanted) in rows {
-        let mut shelf = shelf_of(alloc, bytes, fails)?;
+    for (bytes, name, fails, wanted) in FILES {
+        let mut shelf = shelf_of(alloc, *bytes, fails)?;
         let answer = take_all(alloc, &mut shelf, name).map(|taken| taken.len());
-        assert_eq!(rt; answer, wanted, "{name} of {bytes}");
+        assert_same(&rt, name, &answer, wanted);
     }
     Ok(())
 }
@@ -84,19 +86,21 @@ fn no_take_asks_for_more_than_one_byte_above_the_limit(rt: HostRuntime) -> Resul
     Ok(())
 }
 
+/// How much room there is, the writes that fail, the answer, and what is written.
+const ROOMS: &[(usize, &[u64], Result<(), SinkFault>, &str)] = &[
+    (100, &[], Ok(()), "hot 20000\n"),
+    (100, &[2], Err(SinkFault), "hot 2"),
+    (7, &[], Err(SinkFault), "hot 200"),
+];
+
 #[test]
 fn texts_are_written_whole_or_in_front(rt: HostRuntime) -> Result<(), Fail> {
     let alloc = rt.alloc();
-    // How much room there is, and the writes that fail.
-    let rows: [(usize, &[u64], Result<(), SinkFault>, &str); 3] = [
-        (100, &[], Ok(()), "hot 20000\n"),
-        (100, &[2], Err(SinkFault), "hot 2"),
-        (7, &[], Err(SinkFault), "hot 200"),
-    ];
-    for (room, fails, wanted, written) in rows {
-        let mut sink = MemorySink::new(alloc, room, 5, fails.to_vec(alloc)?)?;
-        assert_eq!(rt; write_all_of(&mut sink, b"hot 20000\n"), wanted);
-        assert_eq!(rt; sink.written.as_slice(), written.as_bytes());
+    for (room, fails, wanted, written) in ROOMS {
+        let mut sink = MemorySink::new(alloc, *room, 5, fails.to_vec(alloc)?)?;
+        let answer = write_all_of(&mut sink, b"hot 20000\n");
+        assert_same(&rt, written, &answer, wanted);
+        assert_lists(&rt, written, sink.written.as_slice(), written.as_bytes());
     }
     Ok(())
 }
@@ -145,22 +149,26 @@ impl Print for Page {
     }
 }
 
+/// How much room there is, the answer, and what is written.
+const PAGES: &[(usize, Result<(), SinkFault>, &str)] = &[
+    (100, Ok(()), "hot 20000\n"),
+    (7, Err(SinkFault), "hot 200"),
+    (0, Err(SinkFault), ""),
+];
+
 #[test]
 fn an_output_takes_a_text_or_its_front(rt: HostRuntime) -> Result<(), Fail> {
     let alloc = rt.alloc();
-    let rows = [
-        (100, Ok(()), "hot 20000\n"),
-        (7, Err(SinkFault), "hot 200"),
-        (0, Err(SinkFault), ""),
-    ];
-    for (room, wanted, written) in rows {
+    for (room, wanted, written) in PAGES {
         let page = Page {
             bytes: RefCell::new(Vec::new(alloc)),
-            room,
+            room: *room,
         };
         let mut sink = OutSink::new(&page);
-        assert_eq!(rt; write_all_of(&mut sink, b"hot 20000\n"), wanted);
-        assert_eq!(rt; page.bytes.into_inner().as_slice(), written.as_bytes());
+        let answer = write_all_of(&mut sink, b"hot 20000\n");
+        assert_same(&rt, written, &answer, wanted);
+        let bytes = page.bytes.into_inner();
+        assert_lists(&rt, written, bytes.as_slice(), written.as_bytes());
     }
     Ok(())
 }

@@ -40,6 +40,12 @@ fn each_answer_has_its_text(rt: HostRuntime) -> Result<(), Fail> {
     assert_printed(&rt, targets_with(pinches), text);
     let text = "hot 20000\ncold 60000\npinch none\n";
     assert_printed(&rt, targets_with(Vec::new(rt.alloc())), text);
+    Ok(())
+}
+
+#[test]
+#[tactic(auto, unfolding(reports::specs::Text::IsPrintable))]
+fn each_refusal_has_its_text(rt: HostRuntime) {
     let row = 14;
     let why = CaseWhy::TooMany;
     assert_printed(&rt, Shown::BadCase { row, why }, "case row 14 TooMany\n");
@@ -53,16 +59,27 @@ fn each_answer_has_its_text(rt: HostRuntime) -> Result<(), Fail> {
     let words = "words: targets flow curves design vertical audit \
                  site sweep sample certify prices\n";
     assert_printed(&rt, Shown::BadWords, words);
-    let file = FileRole::Case;
-    assert_printed(&rt, Shown::TooLong { file }, "too long case\n");
-    assert_printed(&rt, Shown::ReadFault { file }, "read fault case\n");
-    let file = FileRole::Network;
-    assert_printed(&rt, Shown::TooLong { file }, "too long network\n");
-    assert_printed(&rt, Shown::ReadFault { file }, "read fault network\n");
-    let file = FileRole::Site;
-    assert_printed(&rt, Shown::TooLong { file }, "too long site\n");
-    assert_printed(&rt, Shown::ReadFault { file }, "read fault site\n");
-    Ok(())
+}
+
+/// Files that are too long, or cannot be read, and how that is told.
+const FILES: &[(FileRole, &str, &str)] = &[
+    (FileRole::Case, "too long case\n", "read fault case\n"),
+    (
+        FileRole::Network,
+        "too long network\n",
+        "read fault network\n",
+    ),
+    (FileRole::Site, "too long site\n", "read fault site\n"),
+];
+
+#[test]
+#[tactic(auto, unfolding(reports::specs::Text::IsPrintable))]
+fn files_that_are_not_had_are_told(rt: HostRuntime) {
+    for (file, too_long, read_fault) in FILES {
+        let file = *file;
+        assert_printed(&rt, Shown::TooLong { file }, too_long);
+        assert_printed(&rt, Shown::ReadFault { file }, read_fault);
+    }
 }
 
 #[test]

@@ -49,6 +49,9 @@ pass C E1 .1
 end .1
 ";
 
+/// Tables, and the texts of their vertical designs.
+const DESIGNS: &[(Table, &[u8])] = &[(ONE_AND_TWO, ONE_AND_TWO_TEXT), (ONE_COLD, ONE_COLD_TEXT)];
+
 /// The text of the vertical design of a table.
 fn design_of(alloc: Global, table: &Table) -> Result<Vec<u8>, Fail> {
     let case = completed_case(alloc, table)?;
@@ -62,8 +65,7 @@ fn design_of(alloc: Global, table: &Table) -> Result<Vec<u8>, Fail> {
 
 #[test]
 fn tables_have_these_vertical_designs(rt: HostRuntime) -> Result<(), Fail> {
-    let wanted = [(ONE_AND_TWO, ONE_AND_TWO_TEXT), (ONE_COLD, ONE_COLD_TEXT)];
-    for (table, text) in &wanted {
+    for (table, text) in DESIGNS {
         let printed = design_of(rt.alloc(), table)?;
         assert_lists(&rt, "a vertical design", &printed, text);
     }

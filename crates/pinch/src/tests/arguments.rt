@@ -46,19 +46,20 @@ fn words_text(alloc: Global, line: &[u8]) -> Result<String, AllocError> {
     Ok(text)
 }
 
+/// Arguments, and the words with a bar behind each.
+const LINES: &[(&[u8], &str)] = &[
+    (b"pinch", ""),
+    (b"pinch|targets|plant.csv", "targets|plant.csv|"),
+    (b"pinch|| a  b |\xc3\xa9", "| a  b |é|"),
+    // An argument that is no text leaves no words.
+    (b"pinch|targets|\xff", ""),
+    (b"pinch|\xff|targets", ""),
+];
+
 #[test]
 fn words_are_the_arguments_behind_the_name(rt: HostRuntime) -> Result<(), Fail> {
-    // The arguments, and the words with a bar behind each.
-    let rows = [
-        (b"pinch".as_slice(), ""),
-        (b"pinch|targets|plant.csv".as_slice(), "targets|plant.csv|"),
-        (b"pinch|| a  b |\xc3\xa9".as_slice(), "| a  b |é|"),
-        // An argument that is no text leaves no words.
-        (b"pinch|targets|\xff".as_slice(), ""),
-        (b"pinch|\xff|targets".as_slice(), ""),
-    ];
-    for (line, wanted) in rows {
-        assert_eq!(rt; words_text(rt.alloc(), line)?.as_str(), wanted);
+    for (line, wanted) in LINES {
+        assert_eq!(rt; words_text(rt.alloc(), line)?.as_str(), *wanted);
     }
     Ok(())
 }
@@ -88,23 +89,17 @@ fn end_of<R: Threads + Sync + AllocGlobal>(
     Ok((format!(in alloc; "{code:?}")?, sink.written))
 }
 
+/// Arguments, the status, and what is written.
+const EXIT_CODES: &[(&[u8], u8, &str)] = &[
+    (b"pinch|targets|plant.csv", 0, FOUR_STREAM_TARGETS),
+    (b"pinch|targets|other.csv", 6, "read fault case\n"),
+    (b"pinch", 2, WORDS),
+    (b"pinch|targets|\xff", 2, WORDS),
+];
+
 #[test]
 fn the_exit_code_is_the_status(rt: HostRuntime) -> Result<(), Fail> {
-    let rows = [
-        (
-            b"pinch|targets|plant.csv".as_slice(),
-            0u8,
-            FOUR_STREAM_TARGETS,
-        ),
-        (
-            b"pinch|targets|other.csv".as_slice(),
-            6,
-            "read fault case\n",
-        ),
-        (b"pinch".as_slice(), 2, WORDS),
-        (b"pinch|targets|\xff".as_slice(), 2, WORDS),
-    ];
-    for (line, status, text) in rows {
+    for (line, status, text) in EXIT_CODES {
         let (code, written) = end_of(&rt, line)?;
         let wanted = format!(in rt.alloc(); "ExitCode(unix_exit_status({status}))")?;
         assert_eq!(rt; code.as_str(), wanted.as_str());

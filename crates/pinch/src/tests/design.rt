@@ -1,4 +1,4 @@
-use super::support::{FOUR_STREAM, OWN_CONTRIBUTION, check_answer, check_audit};
+use super::support::{FOUR_STREAM, OWN_CONTRIBUTION, check_answer, check_answers, check_audits};
 use std::test::Fail;
 
 /// The design of the four-stream table.
@@ -116,40 +116,39 @@ pass H E1 .1
 end .1
 ";
 
+/// Cases, and their designs.
+const WORKED: &[(&str, &str)] = &[
+    (FOUR_STREAM, FOUR_STREAM_DESIGN),
+    (APART, APART_DESIGN),
+    (OWN_UTILITIES, OWN_UTILITIES_DESIGN),
+    // Hot streams only.
+    (
+        "contribution,,50,,,,\nhot,H,1000,500,10,,\n",
+        "# hot 0 cold 5000 excess 0 cost 0\nexchanger E1 H COLD 5000\npass H E1 .1\nend .1\n",
+    ),
+    // Cold streams only.
+    (
+        "contribution,,50,,,,\ncold,C,300,700,10,,\n",
+        "# hot 4000 cold 0 excess 0 cost 4000\nexchanger E1 HOT C 4000\npass C E1 .1\nend .1\n",
+    ),
+    // Two streams that never overlap.
+    (
+        "contribution,,50,,,,\nhot,H,400,300,10,,\ncold,C,600,700,10,,\n",
+        "# hot 1000 cold 1000 excess 0 cost 1000\nexchanger E1 HOT C 1000\n\
+         exchanger E2 H COLD 1000\npass H E2 .1\nend .1\npass C E1 .2\nend .2\n",
+    ),
+    (
+        OWN_CONTRIBUTION,
+        "# hot 2500 cold 2500 excess 0 cost 2500\nexchanger E1 HOT C 2500\n\
+         exchanger E2 H C 1500\nexchanger E3 H COLD 1500\nexchanger E4 H COLD 1000\n\
+         split H .1 10 .2\npass .1 E2 .3\npass .2 E3 .4\nmix .3 .4 .5\n\
+         pass .5 E4 .6\nend .6\npass C E2 .7\npass .7 E1 .8\nend .8\n",
+    ),
+];
+
 #[test]
 fn designs_of_worked_tables(rt: HostRuntime) -> Result<(), Fail> {
-    let rows = [
-        (FOUR_STREAM, FOUR_STREAM_DESIGN),
-        (APART, APART_DESIGN),
-        (OWN_UTILITIES, OWN_UTILITIES_DESIGN),
-        // Hot streams only.
-        (
-            "contribution,,50,,,,\nhot,H,1000,500,10,,\n",
-            "# hot 0 cold 5000 excess 0 cost 0\nexchanger E1 H COLD 5000\npass H E1 .1\nend .1\n",
-        ),
-        // Cold streams only.
-        (
-            "contribution,,50,,,,\ncold,C,300,700,10,,\n",
-            "# hot 4000 cold 0 excess 0 cost 4000\nexchanger E1 HOT C 4000\npass C E1 .1\nend .1\n",
-        ),
-        // Two streams that never overlap.
-        (
-            "contribution,,50,,,,\nhot,H,400,300,10,,\ncold,C,600,700,10,,\n",
-            "# hot 1000 cold 1000 excess 0 cost 1000\nexchanger E1 HOT C 1000\n\
-             exchanger E2 H COLD 1000\npass H E2 .1\nend .1\npass C E1 .2\nend .2\n",
-        ),
-        (
-            OWN_CONTRIBUTION,
-            "# hot 2500 cold 2500 excess 0 cost 2500\nexchanger E1 HOT C 2500\n\
-             exchanger E2 H C 1500\nexchanger E3 H COLD 1500\nexchanger E4 H COLD 1000\n\
-             split H .1 10 .2\npass .1 E2 .3\npass .2 E3 .4\nmix .3 .4 .5\n\
-             pass .5 E4 .6\nend .6\npass C E2 .7\npass .7 E1 .8\nend .8\n",
-        ),
-    ];
-    for (case, text) in rows {
-        check_answer(&rt, "design", case, 0, text)?;
-    }
-    Ok(())
+    check_answers(&rt, "design", 0, WORKED)
 }
 
 #[test]
@@ -160,28 +159,27 @@ fn what_has_no_heat_flow_has_no_design(rt: HostRuntime) -> Result<(), Fail> {
     check_answer(&rt, "design", case, 1, cut)
 }
 
+/// Cases, their designs, and the audits of these.
+const ACCEPTED: &[(&str, &str, &str)] = &[
+    (FOUR_STREAM, FOUR_STREAM_DESIGN, FOUR_STREAM_AUDIT),
+    // The hot utility does what the hot stream may not.
+    (
+        APART,
+        APART_DESIGN,
+        "accepted\nhot 4000\ncold 5000\nexcess 4000\ncost 4000\nplace 950\n\
+         penalty exchanger E1 3000\npenalty exchanger E2 1000\npenalty exchanger E3 0\n\
+         penalty exchanger E4 0\n",
+    ),
+    // The heat of the heater is lost: the streams need none.
+    (
+        OWN_UTILITIES,
+        OWN_UTILITIES_DESIGN,
+        "accepted\nhot 100\ncold 5100\nexcess 100\ncost 200\nplace 950\n\
+         penalty exchanger E1 0\npenalty exchanger E2 100\n",
+    ),
+];
+
 #[test]
 fn designs_are_accepted(rt: HostRuntime) -> Result<(), Fail> {
-    let rows = [
-        (FOUR_STREAM, FOUR_STREAM_DESIGN, FOUR_STREAM_AUDIT),
-        // The hot utility does what the hot stream may not.
-        (
-            APART,
-            APART_DESIGN,
-            "accepted\nhot 4000\ncold 5000\nexcess 4000\ncost 4000\nplace 950\n\
-             penalty exchanger E1 3000\npenalty exchanger E2 1000\npenalty exchanger E3 0\n\
-             penalty exchanger E4 0\n",
-        ),
-        // The heat of the heater is lost: the streams need none.
-        (
-            OWN_UTILITIES,
-            OWN_UTILITIES_DESIGN,
-            "accepted\nhot 100\ncold 5100\nexcess 100\ncost 200\nplace 950\n\
-             penalty exchanger E1 0\npenalty exchanger E2 100\n",
-        ),
-    ];
-    for (case, network, text) in rows {
-        check_audit(&rt, case, network, 0, text)?;
-    }
-    Ok(())
+    check_audits(&rt, 0, ACCEPTED)
 }

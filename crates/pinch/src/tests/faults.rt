@@ -8,46 +8,50 @@ use std::thread::Threads;
 
 const LONGEST_FILE: usize = 8_388_608;
 
+/// The name that is asked for, the calls of the shelf and of the sink that fail, the status, and
+/// the text.
+const FAULTS: &[(&str, &[u64], &[u64], u8, &str)] = &[
+    ("plant.csv", &[], &[], 0, FOUR_STREAM_TARGETS),
+    // The second write: only the first piece of five bytes is there.
+    ("plant.csv", &[], &[2], 7, "hot 2"),
+    // The start, and the second take.
+    ("plant.csv", &[1], &[], 6, "read fault case\n"),
+    ("plant.csv", &[3], &[], 6, "read fault case\n"),
+    ("no-such-file.csv", &[], &[], 6, "read fault case\n"),
+    // A take and the first write.
+    ("plant.csv", &[2], &[1], 7, ""),
+];
+
 #[test]
 fn faults_of_shelf_and_sink_are_told(rt: HostRuntime) -> Result<(), Fail> {
-    // The name that is asked for, and the calls of the shelf and of the sink that fail.
-    let rows: [(&str, &[u64], &[u64], u8, &str); 6] = [
-        ("plant.csv", &[], &[], 0, FOUR_STREAM_TARGETS),
-        // The second write: only the first piece of five bytes is there.
-        ("plant.csv", &[], &[2], 7, "hot 2"),
-        // The start, and the second take.
-        ("plant.csv", &[1], &[], 6, "read fault case\n"),
-        ("plant.csv", &[3], &[], 6, "read fault case\n"),
-        ("no-such-file.csv", &[], &[], 6, "read fault case\n"),
-        // A take and the first write.
-        ("plant.csv", &[2], &[1], 7, ""),
-    ];
     let files = [("plant.csv", FOUR_STREAM.as_bytes())];
-    for (name, shelf, sink, status, written) in rows {
+    for (name, shelf, sink, status, written) in FAULTS {
         let outcome = outcome_under(&rt, &["targets", name], &files, Fails { shelf, sink })?;
         check_end(
             &rt,
             &(name, shelf, sink),
             &outcome,
-            status,
+            *status,
             written.as_bytes(),
         );
     }
     Ok(())
 }
 
+/// How many bytes a case file has, the status, and the text.
+const LONG_FILES: &[(usize, u8, &str)] = &[
+    (LONGEST_FILE + 1, 5, "too long case\n"),
+    (LONGEST_FILE, 3, "case row 1 FieldCount\n"),
+];
+
 #[test]
 fn a_file_above_the_limit_is_too_long(rt: HostRuntime) -> Result<(), Fail> {
     let alloc = rt.alloc();
-    let rows = [
-        (LONGEST_FILE + 1, 5, "too long case\n"),
-        (LONGEST_FILE, 3, "case row 1 FieldCount\n"),
-    ];
-    for (count, status, text) in rows {
-        let bytes = vec![in alloc; b'#'; count]?;
+    for (count, status, text) in LONG_FILES {
+        let bytes = vec![in alloc; b'#'; *count]?;
         let files = [("long.csv", bytes.as_slice())];
         let outcome = outcome_of(&rt, &["targets", "long.csv"], &files)?;
-        check_end(&rt, &count, &outcome, status, text.as_bytes());
+        check_end(&rt, count, &outcome, *status, text.as_bytes());
     }
     Ok(())
 }

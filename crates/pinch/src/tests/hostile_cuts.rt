@@ -4,6 +4,7 @@
 use super::hostile_orders::{ROWS, Row};
 use super::support::{check_end, outcome_over, shelf_of};
 use case_text::{CaseFault, read_case};
+use certify::{ReportFault, read_report};
 use network_text::{NetFault, read_network};
 use pinch_outside::MemoryFile;
 use site::{SiteFault, read_site};
@@ -72,6 +73,22 @@ fn refusal_of_network<R: Abort + AllocGlobal>(
     }
 }
 
+/// How the grammar of reports refuses these bytes, if it does.
+fn refusal_of_report<R: Abort + AllocGlobal>(
+    rt: &R,
+    bytes: &[u8],
+) -> Result<Option<Refusal>, AllocError> {
+    let alloc = rt.alloc();
+    assert!(rt; bytes.len() <= LONGEST_FILE);
+    match read_report(alloc, bytes) {
+        Ok(_) => Ok(None),
+        Err(ReportFault::At { line, why }) => {
+            Ok(Some((4, format!(in alloc; "report line {line} {why:?}\n")?)))
+        }
+        Err(ReportFault::OutOfMemory) => Err(AllocError),
+    }
+}
+
 /// How the grammars refuse these files, the first that is refused, if one is.
 fn refusal_of<R: Abort + AllocGlobal>(
     rt: &R,
@@ -80,9 +97,10 @@ fn refusal_of<R: Abort + AllocGlobal>(
     match files {
         [site] if site.name.as_str() == "site" => refusal_of_site(rt, &site.bytes),
         [case] => refusal_of_case(rt, &case.bytes),
-        [case, network] => match refusal_of_case(rt, &case.bytes)? {
+        [case, other] => match refusal_of_case(rt, &case.bytes)? {
             Some(refusal) => Ok(Some(refusal)),
-            None => refusal_of_network(rt, &case.bytes, &network.bytes),
+            None if other.name.as_str() == "report" => refusal_of_report(rt, &other.bytes),
+            None => refusal_of_network(rt, &case.bytes, &other.bytes),
         },
         _ => Ok(None),
     }
@@ -94,7 +112,7 @@ fn statuses_of(words: &[&str]) -> &'static [u8] {
         return &[];
     };
     match *command {
-        "flow" | "design" | "site" => &[0, 1],
+        "flow" | "design" | "certify" | "site" => &[0, 1],
         "vertical" => &[0, 3],
         "audit" => &[0, 1, 9],
         _ => &[0],

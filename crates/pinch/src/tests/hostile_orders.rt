@@ -52,6 +52,20 @@ const UNFINISHED: &[u8] = b"exchanger E2 H COLD 5000\npass H E2 a\nend a\n";
 /// Its first pass falls by a number that is too fine.
 const TOO_FINE: &[u8] = b"exchanger E2 H COLD 1/281474976710655\npass H E2 a\nend a\n";
 
+/// A heat flow of the case with a heater and a cooler.
+const FLOW: &[u8] = b"cost 200
+use S 100
+use W 5100
+move H 950 450 W 400 400 5000
+move S 400 400 W 400 400 100
+give H 950 450 0
+give S 400 400 0
+take W 400 400 0
+";
+
+/// A cut of the case whose cooler takes too little.
+const CUT: &[u8] = b"infeasible\ncut supply 5000 2000\npart H 950 450\n";
+
 /// Two plants, and a main between them.
 const SITE: &[u8] = b"contribution,,50,,,,
 main,MP,1500,,,,
@@ -69,7 +83,7 @@ cold,C,500,1300,10,,
 ";
 
 /// Every command, and every status that needs no refused call, no refused write and no long file.
-pub const ROWS: [Row; 21] = [
+pub const ROWS: [Row; 25] = [
     (
         &["targets", "case"],
         &[("case", CASE)],
@@ -165,6 +179,30 @@ pub const ROWS: [Row; 21] = [
         &[("case", b"")],
         3,
         "case row 1 NoContribution\n",
+    ),
+    (
+        &["certify", "case", "report"],
+        &[("case", UTILITIES), ("report", FLOW)],
+        0,
+        "yes cost 200\n",
+    ),
+    (
+        &["certify", "case", "report"],
+        &[("case", INFEASIBLE), ("report", CUT)],
+        0,
+        "yes infeasible\n",
+    ),
+    (
+        &["certify", "case", "report"],
+        &[("case", CASE), ("report", FLOW)],
+        1,
+        "no Parts\n",
+    ),
+    (
+        &["certify", "case", "report"],
+        &[("case", CASE), ("report", b"infeasible\n")],
+        4,
+        "report line 2 Ended\n",
     ),
     (
         &["site", "site"],

@@ -71,48 +71,52 @@ fn check_refused_call<R: Abort + Threads + Sync + AllocGlobal>(
     Ok(())
 }
 
+/// Of each file the start, the one take that brings bytes, and the take that brings its end; and
+/// the fault that is told.
+const CALLS: &[(u64, &str)] = &[
+    (1, "read fault case\n"),
+    (2, "read fault case\n"),
+    (3, "read fault case\n"),
+    (4, "read fault network\n"),
+    (5, "read fault network\n"),
+    (6, "read fault network\n"),
+];
+
 #[test]
 fn each_call_of_the_shelf_is_refused(rt: HostRuntime) -> Result<(), Fail> {
-    // Of each file the start, the one take that brings bytes, and the take that brings its end.
-    let rows = [
-        (1, "read fault case\n"),
-        (2, "read fault case\n"),
-        (3, "read fault case\n"),
-        (4, "read fault network\n"),
-        (5, "read fault network\n"),
-        (6, "read fault network\n"),
-    ];
-    for (number, text) in rows {
-        check_refused_call(&rt, number, text)?;
+    for (number, text) in CALLS {
+        check_refused_call(&rt, *number, text)?;
     }
     println!(rt;
         "calls of the shelf refused in turn: {} runs",
-        rows.len() * 2
+        CALLS.len() * 2
     )?;
     Ok(())
 }
+
+/// A write, and what stands there before it.
+const WRITES: &[(u64, &str)] = &[
+    (1, ""),
+    (2, "hot 2"),
+    (3, "hot 20000\n"),
+    (4, "hot 20000\ncold "),
+    (5, "hot 20000\ncold 60000"),
+    (6, "hot 20000\ncold 60000\npinc"),
+    (7, "hot 20000\ncold 60000\npinch 850"),
+];
 
 #[test]
 fn each_write_is_refused(rt: HostRuntime) -> Result<(), Fail> {
     let words = ["targets", "case"];
     let files = [("case", FOUR_STREAM.as_bytes())];
-    let rows = [
-        (1, ""),
-        (2, "hot 2"),
-        (3, "hot 20000\n"),
-        (4, "hot 20000\ncold "),
-        (5, "hot 20000\ncold 60000"),
-        (6, "hot 20000\ncold 60000\npinc"),
-        (7, "hot 20000\ncold 60000\npinch 850"),
-    ];
-    for (number, front) in rows {
-        let refused = outcome_to(&rt, &words, &files, (5, &[number]))?;
-        check_end(&rt, &number, &refused, 7, front.as_bytes());
+    for (number, front) in WRITES {
+        let refused = outcome_to(&rt, &words, &files, (5, &[*number]))?;
+        check_end(&rt, number, &refused, 7, front.as_bytes());
     }
     let whole = outcome_to(&rt, &words, &files, (5, &[8]))?;
     check_end(&rt, &8, &whole, 0, FOUR_STREAM_TARGETS.as_bytes());
     check_count(&rt, &8, whole.writes, 7);
-    println!(rt; "writes refused in turn: {} runs", rows.len() + 1)?;
+    println!(rt; "writes refused in turn: {} runs", WRITES.len() + 1)?;
     Ok(())
 }
 
@@ -144,17 +148,18 @@ fn check_audit<R: Abort + Threads + Sync + AllocGlobal>(
     Ok(())
 }
 
+/// How many bytes are left: the row of the contribution alone; the next row too, up to its last
+/// comma; all but the end of the last line.
+const CUTS: &[(usize, u8, &str)] = &[
+    (21, 3, "case row 2 NoStream\n"),
+    (42, 3, "case row 2 FieldCount\n"),
+    (FOUR_STREAM.len() - 1, 0, FOUR_STREAM_TARGETS),
+];
+
 #[test]
 fn cut_files_are_told(rt: HostRuntime) -> Result<(), Fail> {
-    // The row of the contribution alone; the next row too, up to its last comma; all but the end
-    // of the last line.
-    let rows = [
-        (21, 3, "case row 2 NoStream\n"),
-        (42, 3, "case row 2 FieldCount\n"),
-        (FOUR_STREAM.len().saturating_sub(1), 0, FOUR_STREAM_TARGETS),
-    ];
-    for (length, status, text) in rows {
-        check_targets(&rt, front(FOUR_STREAM, length), status, text)?;
+    for (length, status, text) in CUTS {
+        check_targets(&rt, front(FOUR_STREAM, *length), *status, text)?;
     }
     // The last two lines pass the cold side of `E1`, and end it.
     let lines = "pass C3 E1 c3a\nend c3a\n";
@@ -162,7 +167,7 @@ fn cut_files_are_told(rt: HostRuntime) -> Result<(), Fail> {
     let network = front(NETWORK, NETWORK.len().saturating_sub(lines.len()));
     let files = (FOUR_STREAM.as_bytes(), network);
     check_audit(&rt, files, 4, "network line 1 MissingPass\n")?;
-    println!(rt; "cut files: {} runs", rows.len() + 1)?;
+    println!(rt; "cut files: {} runs", CUTS.len() + 1)?;
     Ok(())
 }
 

@@ -37,43 +37,45 @@ fn largest_case(alloc: Global, more: &str) -> Result<String, AllocError> {
     Ok(case)
 }
 
+const TARGETS: &str = "hot 270000\ncold 8292669525\npinch 29950\n";
+
+/// Commands, utilities, how many lines the text has, and how it begins.
+const LARGEST: &[(&str, &str, u64, &str)] = &[
+    ("targets", UTILITIES, 3, TARGETS),
+    ("targets", "", 3, TARGETS),
+    // 60 points of the hot curve and of the cold one, and 120 of the grand one.
+    ("curves", UTILITIES, 240, "hot 0 5\nhot 10000000 105\n"),
+    ("curves", "", 240, "hot 0 5\nhot 10000000 105\n"),
+    // 3600 transfers, 1830 hot parts and 1772 cold ones.
+    (
+        "flow",
+        "",
+        7205,
+        "cost 270000\nuse HOT 270000\nuse COLD 8292669525\n\
+         move HOT 29953 29953 C0 29953 29950 270000\n",
+    ),
+    (
+        "design",
+        "",
+        15_265,
+        "# hot 270000 cold 8292669525 excess 0 cost 270000\nexchanger E1 HOT C0 270000\n",
+    ),
+    // 3512 exchangers.
+    (
+        "vertical",
+        "",
+        16_047,
+        "# hot 270000 cold 8292669525 excess 0 cost 270000\nexchanger E1 HOT C0 270000\n",
+    ),
+];
+
 #[test]
 fn the_largest_case_is_answered(rt: HostRuntime) -> Result<(), Fail> {
-    let alloc = rt.alloc();
-    let targets = "hot 270000\ncold 8292669525\npinch 29950\n";
-    let rows = [
-        ("targets", UTILITIES, 3, targets),
-        ("targets", "", 3, targets),
-        // 60 points of the hot curve and of the cold one, and 120 of the grand one.
-        ("curves", UTILITIES, 240, "hot 0 5\nhot 10000000 105\n"),
-        ("curves", "", 240, "hot 0 5\nhot 10000000 105\n"),
-        // 3600 transfers, 1830 hot parts and 1772 cold ones.
-        (
-            "flow",
-            "",
-            7205,
-            "cost 270000\nuse HOT 270000\nuse COLD 8292669525\n\
-             move HOT 29953 29953 C0 29953 29950 270000\n",
-        ),
-        (
-            "design",
-            "",
-            15_265,
-            "# hot 270000 cold 8292669525 excess 0 cost 270000\nexchanger E1 HOT C0 270000\n",
-        ),
-        // 3512 exchangers.
-        (
-            "vertical",
-            "",
-            16_047,
-            "# hot 270000 cold 8292669525 excess 0 cost 270000\nexchanger E1 HOT C0 270000\n",
-        ),
-    ];
-    for (command, more, lines, front) in rows {
-        let case = largest_case(alloc, more)?;
+    for (command, more, lines, front) in LARGEST {
+        let case = largest_case(rt.alloc(), more)?;
         let answer = answer_of(&rt, command, case.as_str())?;
-        check_front(&rt, &command, &answer, 0, front);
-        check_count(&rt, &command, line_count(&answer.written), lines);
+        check_front(&rt, command, &answer, 0, front);
+        check_count(&rt, command, line_count(&answer.written), *lines);
     }
     Ok(())
 }
@@ -88,19 +90,26 @@ fn the_largest_vertical_design_is_accepted(rt: HostRuntime) -> Result<(), Fail> 
     Ok(())
 }
 
+/// Rows behind those of the largest case, and how it is refused.
+const ONE_MORE: &[(&str, &str)] = &[
+    ("hot,K,1000,500,10,,\n", "case row 62 TooMany\n"),
+    ("cold,K,500,1000,10,,\n", "case row 62 TooMany\n"),
+];
+
 #[test]
 fn one_stream_or_utility_more_is_too_many(rt: HostRuntime) -> Result<(), Fail> {
-    let alloc = rt.alloc();
-    let utility = format!(in alloc; "{UTILITIES}cooler,Lake,0,0,1,0,\n")?;
-    let rows = [
-        ("hot,K,1000,500,10,,\n", "case row 62 TooMany\n"),
-        ("cold,K,500,1000,10,,\n", "case row 62 TooMany\n"),
-        (utility.as_str(), "case row 74 TooMany\n"),
-    ];
-    for (more, text) in rows {
-        let case = largest_case(alloc, more)?;
+    for (more, text) in ONE_MORE {
+        let case = largest_case(rt.alloc(), more)?;
         check_answer(&rt, "targets", case.as_str(), 3, text)?;
     }
+    let utilities = format!(in rt.alloc(); "{UTILITIES}cooler,Lake,0,0,1,0,\n")?;
+    let case = largest_case(rt.alloc(), utilities.as_str())?;
+    check_answer(&rt, "targets", case.as_str(), 3, "case row 74 TooMany\n")
+}
+
+#[test]
+fn one_hot_stream_more_is_too_many(rt: HostRuntime) -> Result<(), Fail> {
+    let alloc = rt.alloc();
     let mut case = String::from_str(alloc, "contribution,,50,,,,\nhot,H,1000,500,10,,\n")?;
     for k in 1..=30u32 {
         case.push_str(&format!(in alloc; "hot,K{k},900,400,10,,\n")?)?;

@@ -39,37 +39,41 @@ fn the_largest_sample_is_the_same_each_time(rt: HostRuntime) -> Result<(), Fail>
     Ok(())
 }
 
+/// Numbers and counts that no sample has.
+const NO_NUMBERS: &[(&str, &str)] = &[
+    // A number, or a count, that is too small or too large.
+    ("0", "1"),
+    ("2147483647", "1"),
+    ("1", "0"),
+    ("1", "13"),
+    // A sign, a blank, no digit, eleven digits, and a number beyond 32 bits.
+    ("-1", "1"),
+    ("1", "+1"),
+    (" 1", "1"),
+    ("1", ""),
+    ("00000000001", "1"),
+    ("1", "4294967297"),
+];
+
 #[test]
 fn numbers_that_a_sample_cannot_have_are_no_command(rt: HostRuntime) -> Result<(), Fail> {
-    let rows = [
-        // A number, or a count, that is too small or too large.
-        ("0", "1"),
-        ("2147483647", "1"),
-        ("1", "0"),
-        ("1", "13"),
-        // A sign, a blank, no digit, eleven digits, and a number beyond 32 bits.
-        ("-1", "1"),
-        ("1", "+1"),
-        (" 1", "1"),
-        ("1", ""),
-        ("00000000001", "1"),
-        ("1", "4294967297"),
-    ];
-    for (number, count) in rows {
+    for (number, count) in NO_NUMBERS {
         check_sample(&rt, &["sample", number, count], 2, WORDS)?;
     }
     Ok(())
 }
 
+/// Words of no sample.
+const NO_SAMPLES: &[&[&str]] = &[
+    &["sample"],
+    &["sample", "1"],
+    &["sample", "1", "1", "1"],
+    &["Sample", "1", "1"],
+];
+
 #[test]
 fn other_words_are_no_sample(rt: HostRuntime) -> Result<(), Fail> {
-    let rows: [&[&str]; 4] = [
-        &["sample"],
-        &["sample", "1"],
-        &["sample", "1", "1", "1"],
-        &["Sample", "1", "1"],
-    ];
-    for row in rows {
+    for row in NO_SAMPLES {
         check_sample(&rt, row, 2, WORDS)?;
     }
     Ok(())

@@ -229,6 +229,32 @@ pub fn check_answer<R: Abort + Threads + Sync + AllocGlobal>(
     Ok(())
 }
 
+/// A command of each of these cases ends with this status and with the text beside the case.
+pub fn check_answers<R: Abort + Threads + Sync + AllocGlobal>(
+    rt: &R,
+    command: &str,
+    status: u8,
+    rows: &[(&str, &str)],
+) -> Result<(), Fail> {
+    for (case, text) in rows {
+        check_answer(rt, command, case, status, text)?;
+    }
+    Ok(())
+}
+
+/// How a command of a case file and another file ends, where some calls fail.
+pub fn answer_under<R: Threads + Sync + AllocGlobal>(
+    rt: &R,
+    command: &str,
+    case: &str,
+    other: &[u8],
+    fails: Fails<'_>,
+) -> Result<Outcome, AllocError> {
+    let words = [command, "plant.csv", "other.txt"];
+    let files = [("plant.csv", case.as_bytes()), ("other.txt", other)];
+    outcome_under(rt, &words, &files, fails)
+}
+
 /// How an audit of these files ends, where some calls fail.
 pub fn audit_under<R: Threads + Sync + AllocGlobal>(
     rt: &R,
@@ -236,9 +262,7 @@ pub fn audit_under<R: Threads + Sync + AllocGlobal>(
     network: &[u8],
     fails: Fails<'_>,
 ) -> Result<Outcome, AllocError> {
-    let words = ["audit", "plant.csv", "network.txt"];
-    let files = [("plant.csv", case.as_bytes()), ("network.txt", network)];
-    outcome_under(rt, &words, &files, fails)
+    answer_under(rt, "audit", case, network, fails)
 }
 
 /// The audit of a network for a case ends with this status and this text.
@@ -251,5 +275,18 @@ pub fn check_audit<R: Abort + Threads + Sync + AllocGlobal>(
 ) -> Result<(), Fail> {
     let outcome = audit_under(rt, case, network.as_bytes(), NONE)?;
     check_end(rt, &(network, case), &outcome, status, text.as_bytes());
+    Ok(())
+}
+
+/// The audit of each of these networks, which stand behind their case, ends with this status and
+/// with the text behind the network.
+pub fn check_audits<R: Abort + Threads + Sync + AllocGlobal>(
+    rt: &R,
+    status: u8,
+    rows: &[(&str, &str, &str)],
+) -> Result<(), Fail> {
+    for (case, network, text) in rows {
+        check_audit(rt, case, network, status, text)?;
+    }
     Ok(())
 }

@@ -22,11 +22,14 @@ row 90 56000 96000 56000
 row 100 65000 105000 65000
 ";
 
+/// From where, how far and by which step a sweep goes, and how many workers it has.
+type Numbers<'a> = (&'a str, &'a str, &'a str, &'a str);
+
 /// A sweep with these numbers ends with this status and this text.
 fn check_sweep<R: Abort + Threads + Sync + AllocGlobal>(
     rt: &R,
     case: &str,
-    (from, to, step, workers): (&str, &str, &str, &str),
+    (from, to, step, workers): Numbers<'_>,
     status: u8,
     text: &str,
 ) -> Result<(), Fail> {
@@ -58,35 +61,37 @@ fn an_open_gate_changes_no_row(rt: HostRuntime) -> Result<(), Fail> {
     Ok(())
 }
 
+/// Cases, the numbers of a sweep, and its rows.
+const PLANS: &[(&str, Numbers<'static>, &str)] = &[
+    // The step does not divide: the last row is below the end.
+    (
+        FOUR_STREAM,
+        ("40", "69", "10", "4"),
+        "row 40 11000 51000 11000\nrow 50 20000 60000 20000\nrow 60 29000 69000 29000\n",
+    ),
+    // One row, and more workers than rows.
+    (
+        FOUR_STREAM,
+        ("50", "50", "1", "16"),
+        "row 50 20000 60000 20000\n",
+    ),
+    (
+        FOUR_STREAM,
+        ("0", "1000", "1000", "2"),
+        "row 0 0 40000 0\nrow 1000 470000 510000 470000\n",
+    ),
+    // A row has one contribution for all sources.
+    (
+        OWN_CONTRIBUTION,
+        ("50", "100", "50", "2"),
+        "row 50 2000 2000 2000\nrow 100 3000 3000 3000\n",
+    ),
+];
+
 #[test]
 fn a_sweep_has_the_rows_of_its_plan(rt: HostRuntime) -> Result<(), Fail> {
-    let rows = [
-        // The step does not divide: the last row is below the end.
-        (
-            FOUR_STREAM,
-            ("40", "69", "10", "4"),
-            "row 40 11000 51000 11000\nrow 50 20000 60000 20000\nrow 60 29000 69000 29000\n",
-        ),
-        // One row, and more workers than rows.
-        (
-            FOUR_STREAM,
-            ("50", "50", "1", "16"),
-            "row 50 20000 60000 20000\n",
-        ),
-        (
-            FOUR_STREAM,
-            ("0", "1000", "1000", "2"),
-            "row 0 0 40000 0\nrow 1000 470000 510000 470000\n",
-        ),
-        // A row has one contribution for all sources.
-        (
-            OWN_CONTRIBUTION,
-            ("50", "100", "50", "2"),
-            "row 50 2000 2000 2000\nrow 100 3000 3000 3000\n",
-        ),
-    ];
-    for (case, numbers, text) in rows {
-        check_sweep(&rt, case, numbers, 0, text)?;
+    for (case, numbers, text) in PLANS {
+        check_sweep(&rt, case, *numbers, 0, text)?;
     }
     Ok(())
 }
@@ -109,44 +114,48 @@ fn the_most_rows_are_printed(rt: HostRuntime) -> Result<(), Fail> {
     Ok(())
 }
 
+/// Numbers that no sweep has.
+const NO_NUMBERS: &[Numbers<'static>] = &[
+    // 1001 rows, and too many workers or none.
+    ("0", "1000", "1", "4"),
+    ("0", "100", "10", "17"),
+    ("0", "100", "10", "0"),
+    // The end is below the start, or above the greatest contribution.
+    ("51", "50", "1", "1"),
+    ("0", "1001", "10", "1"),
+    ("1001", "1001", "1", "1"),
+    // The step is 0 or too long.
+    ("0", "100", "0", "1"),
+    ("0", "1000", "1001", "1"),
+    // A sign, a blank, no digit, eleven digits, and a number beyond 32 bits.
+    ("-1", "100", "10", "1"),
+    ("0", "+100", "10", "1"),
+    ("0", "100", " 10", "1"),
+    ("0", "100", "10", ""),
+    ("00000000000", "100", "10", "1"),
+    ("0", "100", "10", "4294967297"),
+];
+
 #[test]
 fn numbers_that_a_sweep_cannot_have_are_no_command(rt: HostRuntime) -> Result<(), Fail> {
-    let rows = [
-        // 1001 rows, and too many workers or none.
-        ("0", "1000", "1", "4"),
-        ("0", "100", "10", "17"),
-        ("0", "100", "10", "0"),
-        // The end is below the start, or above the greatest contribution.
-        ("51", "50", "1", "1"),
-        ("0", "1001", "10", "1"),
-        ("1001", "1001", "1", "1"),
-        // The step is 0 or too long.
-        ("0", "100", "0", "1"),
-        ("0", "1000", "1001", "1"),
-        // A sign, a blank, no digit, eleven digits, and a number beyond 32 bits.
-        ("-1", "100", "10", "1"),
-        ("0", "+100", "10", "1"),
-        ("0", "100", " 10", "1"),
-        ("0", "100", "10", ""),
-        ("00000000000", "100", "10", "1"),
-        ("0", "100", "10", "4294967297"),
-    ];
-    for numbers in rows {
-        check_sweep(&rt, FOUR_STREAM, numbers, 2, WORDS)?;
+    for numbers in NO_NUMBERS {
+        check_sweep(&rt, FOUR_STREAM, *numbers, 2, WORDS)?;
     }
     Ok(())
 }
 
+/// Words of no sweep.
+const NO_SWEEPS: &[&[&str]] = &[
+    &["sweep", "plant.csv", "0", "100", "10"],
+    &["sweep", "plant.csv", "0", "100", "10", "1", "1"],
+    &["sweep", "", "0", "100", "10", "1"],
+    &["sweep", "plant.csv"],
+];
+
 #[test]
 fn other_words_are_no_sweep(rt: HostRuntime) -> Result<(), Fail> {
-    let rows: [&[&str]; 4] = [
-        &["sweep", "plant.csv", "0", "100", "10"],
-        &["sweep", "plant.csv", "0", "100", "10", "1", "1"],
-        &["sweep", "", "0", "100", "10", "1"],
-        &["sweep", "plant.csv"],
-    ];
     let files = [("plant.csv", FOUR_STREAM.as_bytes())];
-    for row in rows {
+    for row in NO_SWEEPS {
         let outcome = outcome_of(&rt, row, &files)?;
         check_end(&rt, &row, &outcome, 2, WORDS.as_bytes());
         check_count(&rt, &row, outcome.calls, 0);

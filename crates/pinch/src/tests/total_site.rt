@@ -1,6 +1,8 @@
 //! Sites that were worked by hand, and site files that are refused.
 
-use super::support::{Fails, WORDS, check_answer, check_end, outcome_of, outcome_under};
+use super::support::{
+    Fails, WORDS, check_answer, check_answers, check_end, outcome_of, outcome_under,
+};
 use std::alloc::{AllocError, Global};
 use std::process::Abort;
 use std::test::Fail;
@@ -71,22 +73,24 @@ fn check_target<R: Abort + Threads + Sync + AllocGlobal>(
     Ok(())
 }
 
+/// Mains between two plants, and the lines of the target.
+const MAINS: &[(&str, &str)] = &[
+    // The main takes heat above its level plus the contribution: none, 10 W, and so on.
+    ("main,M,1900,,,,\n", "\nboiler 8000\ncooling 10000\n"),
+    ("main,M,1899,,,,\n", "\nboiler 7990\ncooling 9990\n"),
+    ("main,M,1400,,,,\n", "\nboiler 3000\ncooling 5000\n"),
+    // A second main takes what the first one cannot, and gives it below.
+    (
+        "main,M,1500,,,,\nmain,L,900,,,,\n",
+        "\nboiler 1000\ncooling 3000\n",
+    ),
+];
+
 #[test]
 fn heat_between_plants_passes_only_through_a_main(rt: HostRuntime) -> Result<(), Fail> {
     let alloc = rt.alloc();
     let plants = "plant,A,,,,,\nhot,H,2000,1000,10,,\nplant,B,,,,,\ncold,C,500,1300,10,,\n";
-    let rows = [
-        // The main takes heat above its level plus the contribution: none, 10 W, and so on.
-        ("main,M,1900,,,,\n", "\nboiler 8000\ncooling 10000\n"),
-        ("main,M,1899,,,,\n", "\nboiler 7990\ncooling 9990\n"),
-        ("main,M,1400,,,,\n", "\nboiler 3000\ncooling 5000\n"),
-        // A second main takes what the first one cannot, and gives it below.
-        (
-            "main,M,1500,,,,\nmain,L,900,,,,\n",
-            "\nboiler 1000\ncooling 3000\n",
-        ),
-    ];
-    for (mains, lines) in rows {
+    for (mains, lines) in MAINS {
         let site = format!(in alloc; "contribution,,50,,,,\n{mains}{plants}")?;
         check_target(&rt, site.as_str(), lines)?;
     }
@@ -159,33 +163,34 @@ fn the_largest_site_is_answered(rt: HostRuntime) -> Result<(), Fail> {
     )
 }
 
+/// Rows behind six sound ones, in the order of the checks, and how they are refused.
+const SEVENTH_ROWS: &[(&str, &str)] = &[
+    ("hot,K,900,400,10,", "row 7 FieldCount"),
+    ("steam,S,1,2,3,4,", "row 7 UnknownKind"),
+    ("heater,S,1500,0,10,1,", "row 7 UnknownKind"),
+    ("main,LP,900,1,,,", "row 7 FieldCount"),
+    (
+        "main,M2,9,,,,\nmain,M3,9,,,,\nmain,M4,9,,,,\nmain,M5,9x,,,,",
+        "row 10 TooMany",
+    ),
+    ("contribution,,50,,,,", "row 7 Repeated"),
+    ("hot,K L,900,400,10,,", "row 7 BadName"),
+    ("cold,BOILER,300,700,10,,", "row 7 BadName"),
+    ("hot,COOLING,700,300,10,,", "row 7 BadName"),
+    ("cold,H,300,700,10,,", "row 7 SameName"),
+    ("plant,B,,,,,", "row 7 SameName"),
+    ("main,MP,900,,,,", "row 7 SameName"),
+    ("main,LP,9x0,,,,", "row 7 BadNumber"),
+    ("hot,K,30001,400,10,,", "row 7 OutOfRange"),
+    ("cold,K,700,300,10,,", "row 7 WrongWay"),
+    // No stream of a site is latent.
+    ("cold,K,700,700,10,,", "row 7 WrongWay"),
+];
+
 #[test]
 fn a_row_of_a_site_is_refused_with_its_cause(rt: HostRuntime) -> Result<(), Fail> {
     let alloc = rt.alloc();
-    // Six sound rows come before each; in the order of the checks.
-    let rows = [
-        ("hot,K,900,400,10,", "row 7 FieldCount"),
-        ("steam,S,1,2,3,4,", "row 7 UnknownKind"),
-        ("heater,S,1500,0,10,1,", "row 7 UnknownKind"),
-        ("main,LP,900,1,,,", "row 7 FieldCount"),
-        (
-            "main,M2,9,,,,\nmain,M3,9,,,,\nmain,M4,9,,,,\nmain,M5,9x,,,,",
-            "row 10 TooMany",
-        ),
-        ("contribution,,50,,,,", "row 7 Repeated"),
-        ("hot,K L,900,400,10,,", "row 7 BadName"),
-        ("cold,BOILER,300,700,10,,", "row 7 BadName"),
-        ("hot,COOLING,700,300,10,,", "row 7 BadName"),
-        ("cold,H,300,700,10,,", "row 7 SameName"),
-        ("plant,B,,,,,", "row 7 SameName"),
-        ("main,MP,900,,,,", "row 7 SameName"),
-        ("main,LP,9x0,,,,", "row 7 BadNumber"),
-        ("hot,K,30001,400,10,,", "row 7 OutOfRange"),
-        ("cold,K,700,300,10,,", "row 7 WrongWay"),
-        // No stream of a site is latent.
-        ("cold,K,700,700,10,,", "row 7 WrongWay"),
-    ];
-    for (row, rest) in rows {
+    for (row, rest) in SEVENTH_ROWS {
         let site = format!(in alloc; "{TWO_PLANTS}{row}\n")?;
         let text = format!(in alloc; "site {rest}\n")?;
         check_answer(&rt, "site", site.as_str(), 3, text.as_str())?;
@@ -193,53 +198,54 @@ fn a_row_of_a_site_is_refused_with_its_cause(rt: HostRuntime) -> Result<(), Fail
     Ok(())
 }
 
+/// Files, and how they are refused.
+const FILES: &[(&str, &str)] = &[
+    // A stream above every plant, also where its name is bad.
+    (
+        "contribution,,50,,,,\ncold,C,500,1300,10,,\n",
+        "site row 2 NoPlant\n",
+    ),
+    (
+        "contribution,,50,,,,\ncold,.C,500,1300,10,,\n",
+        "site row 2 NoPlant\n",
+    ),
+    (
+        "plant,B,,,,,\ncold,C,500,1300,10,,\n",
+        "site row 3 NoContribution\n",
+    ),
+    (
+        "contribution,,50,,,,\nplant,B,,,,,\ncold,C,500,1300,10,,\n",
+        "site row 4 NoMain\n",
+    ),
+    (
+        "contribution,,50,,,,\nmain,MP,1500,,,,\nplant,B,,,,,\n",
+        "site row 4 NoStream\n",
+    ),
+    ("", "site row 1 NoContribution\n"),
+];
+
 #[test]
 fn a_site_file_is_refused_at_its_row(rt: HostRuntime) -> Result<(), Fail> {
-    let rows = [
-        // A stream above every plant, also where its name is bad.
-        (
-            "contribution,,50,,,,\ncold,C,500,1300,10,,\n",
-            "site row 2 NoPlant\n",
-        ),
-        (
-            "contribution,,50,,,,\ncold,.C,500,1300,10,,\n",
-            "site row 2 NoPlant\n",
-        ),
-        (
-            "plant,B,,,,,\ncold,C,500,1300,10,,\n",
-            "site row 3 NoContribution\n",
-        ),
-        (
-            "contribution,,50,,,,\nplant,B,,,,,\ncold,C,500,1300,10,,\n",
-            "site row 4 NoMain\n",
-        ),
-        (
-            "contribution,,50,,,,\nmain,MP,1500,,,,\nplant,B,,,,,\n",
-            "site row 4 NoStream\n",
-        ),
-        ("", "site row 1 NoContribution\n"),
-    ];
-    for (site, text) in rows {
-        check_answer(&rt, "site", site, 3, text)?;
-    }
-    Ok(())
+    check_answers(&rt, "site", 3, FILES)
 }
+
+/// The name of a site file, the calls of the shelf that fail, and how the program ends.
+const NOT_HAD: &[(&str, &[u64], u8, &str)] = &[
+    ("site.csv", &[], 5, "too long site\n"),
+    ("site.csv", &[1], 6, "read fault site\n"),
+    ("no-such-file.csv", &[], 6, "read fault site\n"),
+    ("", &[], 2, WORDS),
+];
 
 #[test]
 fn a_site_file_that_is_not_had_is_told(rt: HostRuntime) -> Result<(), Fail> {
     let alloc = rt.alloc();
     let long = vec![in alloc; b'#'; 8_388_609]?;
-    let rows: [(&str, &[u64], u8, &str); 4] = [
-        ("site.csv", &[], 5, "too long site\n"),
-        ("site.csv", &[1], 6, "read fault site\n"),
-        ("no-such-file.csv", &[], 6, "read fault site\n"),
-        ("", &[], 2, WORDS),
-    ];
     let files = [("site.csv", long.as_slice())];
-    for (name, shelf, status, text) in rows {
+    for (name, shelf, status, text) in NOT_HAD {
         let fails = Fails { shelf, sink: &[] };
         let outcome = outcome_under(&rt, &["site", name], &files, fails)?;
-        check_end(&rt, &(name, shelf), &outcome, status, text.as_bytes());
+        check_end(&rt, &(name, shelf), &outcome, *status, text.as_bytes());
     }
     Ok(())
 }

@@ -1,4 +1,4 @@
-use Rattle.std.proofs.Common.{inl, inr, refl}
+use Rattle.std.proofs.Common.{refl}
 use Rattle.pinch.specs.Case.{case_file}
 use Rattle.pinch.specs.Files.{EndsIn, by_text}
 use Rattle.pinch.specs.Reading.{reading_of}
@@ -9,11 +9,6 @@ pub returns-in_err-case-clause-reads : goal.returns-in_err-case-clause-reads
 unfolding reading_of
 returns-in_err-case-clause-reads g c = without_text case_file _ _ _ _ _ _ c.from_residual.ensures.1 c.in_err-case.ensures.stop
 
-pub returns-then-is_case_for-clause-reads : goal.returns-then-is_case_for-clause-reads
+pub returns-clause-reads : goal.returns-clause-reads
 unfolding EndsIn reading_of
-returns-then-is_case_for-clause-reads g c = by_text _ _ c.in_ok-case.ensures.case (inl (c.is_case_for.ensures.0 c.if-is_case_for.true, (refl, refl)))
-
-pub returns-else-is_case_for-clause-reads : goal.returns-else-is_case_for-clause-reads
-unfolding EndsIn reading_of
-returns-else-is_case_for-clause-reads g c =
-    by_text _ _ c.in_ok-case.ensures.case (inr (λ is. let test = c.is_case_for.ensures.1 is in cc (test, c.if-is_case_for.false), refl, refl))
+returns-clause-reads g c = by_text _ _ c.in_ok-case.ensures.case (refl, refl)
