@@ -27,7 +27,10 @@ FOUR_NETWORK = example('four-stream-network.txt')
 OWN = example('own-contributions.csv')
 OWN_NETWORK = example('own-contributions-network.txt')
 COLUMN = example('column.csv')
+COLUMN_NETWORK = example('column-network.txt')
 EVAPORATING = text('contribution,,50,,,,', 'hot,H,1500,700,10,,', 'cold,B,900,900,0,8000,')
+EVAPORATING_FLOW = text('cost 3000', 'use HOT 3000', 'use COLD 3000', 'move HOT 1450 1450 B 950 950 3000', 'move H 1450 950 B 950 950 5000', 'move H 950 650 COLD 650 650 3000',
+                        'give HOT 1450 1450 1', 'give H 1450 950 1', 'give H 950 650 0', 'take B 950 950 1', 'take COLD 650 650 0')
 FORBIDDEN = text('contribution,,50,,,,', 'hot,H,1000,500,10,,', 'cold,C,300,700,10,,', 'forbid,H,C,,,,')
 THREE = text('contribution,,50,,,,', 'hot,H,1000,500,10,,', 'cold,C,300,500,5,,', 'cold,D,300,500,10,,')
 SMALL = text('contribution,,50,,,,', 'hot,H,1000,500,2,,')
@@ -70,9 +73,17 @@ COMMANDS = [
     (['audit', 'case', 'net'], {'case': OWN, 'net': OWN_NETWORK}, ['case', 'network'], 0, 'accepted\nhot 93750\n'),
     (['design', 'case'], {'case': OWN}, ['case'], 0, '# hot 93750 cold 28750 excess 0 cost 93750\n'),
     (['flow', 'case'], {'case': COLUMN}, ['case'], 0, 'cost 2282000\nuse HOT 2282000\n'),
-    (['curves', 'case'], {'case': EVAPORATING}, ['case'], 3, 'case has latent streams\n'),
-    # The network is not read.
-    (['audit', 'case', 'net'], {'case': EVAPORATING}, ['case'], 3, 'case has latent streams\n'),
+    (['curves', 'case'], {'case': EVAPORATING}, ['case'], 0, 'hot 0 700\n'),
+    (['design', 'case'], {'case': EVAPORATING}, ['case'], 0, '# hot 3000 cold 3000 excess 0 cost 3000\n'),
+    (['vertical', 'case'], {'case': EVAPORATING}, ['case'], 3, 'case has latent streams\n'),
+    (['audit', 'case', 'net'], {'case': COLUMN, 'net': COLUMN_NETWORK}, ['case', 'network'], 0, 'accepted\n'),
+    (['audit', 'case', 'net'], {'case': EVAPORATING, 'net': text('exchanger E1 HOT B 8800', 'pass B E1 a', 'end a')}, ['case', 'network'], 1,
+     'rejected line 2 Overdrawn found 11/10 wanted 1\n'),
+    (['certify', 'case', 'report'], {'case': EVAPORATING, 'report': EVAPORATING_FLOW}, ['case', 'report'], 0, 'yes cost 3000\n'),
+    (['certify', 'case', 'report'], {'case': FOUR, 'report': EVAPORATING_FLOW}, ['case', 'report'], 1, 'no Parts\n'),
+    (['certify', 'case', 'report'], {'case': example('too-little-cooling.csv'), 'report': text('infeasible', 'cut supply 5000 2000', 'part H 950 450')},
+     ['case', 'report'], 0, 'yes infeasible\n'),
+    (['certify', 'case', 'report'], {'case': FOUR, 'report': text('infeasible')}, ['case', 'report'], 4, 'report line 2 Ended\n'),
     (['site', 'site'], {'site': example('three-plants.csv')}, ['site'], 0, 'profile 2550 0 120000\n'),
     (['site', 'site'], {'site': LOW_MAIN}, ['site'], 1, 'profile 1400 0 0\n'),
     (['sweep', 'case', '50', '50', '1', '2'], {'case': example('too-little-cooling.csv')}, ['case'], 0,

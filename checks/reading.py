@@ -1,5 +1,5 @@
 """A second reading of what `pinch` reads, by the rules of docs/FORMATS.md and docs/DECISIONS.md, which shares nothing with the
-program: the rows of a CSV text, the grammars of cases, sites and networks, the words; and of what it answers, as far as that is one
+program: the rows of a CSV text, the grammars of cases, sites, networks and reports, the words; and of what it answers, as far as that is one
 text: `targets`, `curves` and `audit` whole, the profiles of `site`, and how each other answer begins. Fractions are Python's."""
 from fractions import Fraction
 import re
@@ -90,6 +90,16 @@ class Source:
     def actual(self):
         """The range as it is, as (low, high)."""
         return min(self.supply, self.target), max(self.supply, self.target)
+
+    def size(self):
+        """The full size of a stream: what all its branches carry together."""
+        return self.load or self.cp
+
+    def states(self):
+        """The state of a stream where it begins and where it ends: of a latent one the part of its load that is still to be given, or was taken."""
+        if not self.load:
+            return self.supply, self.target
+        return (1, 0) if self.hot else (0, 1)
 
     def span(self):
         """The shifted range, as (low, high)."""
@@ -278,13 +288,13 @@ def deficit_from(streams, place):
 
 
 def targets_of(case):
-    """The hot and the cold target, the pinches from the highest down, and the reference place."""
+    """The hot and the cold target, the pinches from the highest down, and the reference place with whether it counts from itself."""
     ends = case.ends()
     deficits = [(deficit(case.streams, end), deficit_from(case.streams, end)) for end in ends]
     hot = max(0, max(map(max, deficits)))
     cold = hot - deficit(case.streams, -FAR)
     pinches = [end for end, both in zip(ends, deficits) if hot in both and ends[-1] < end < ends[0]]
-    return hot, cold, pinches, next(end for end, both in zip(ends, deficits) if hot in both)
+    return hot, cold, pinches, next((end, both[0] != hot) for end, both in zip(ends, deficits) if hot in both)
 
 
 def targets_text(case):
@@ -297,9 +307,13 @@ def curves_text(case):
     for word, hot in (('hot', True), ('cold', False)):
         streams = [each for each in case.streams if each.hot is hot]
         for place in sorted({end for each in streams for end in (each.supply, each.target)}):
-            lines.append('%s %d %d\n' % (word, sum(each.cp * within(each.actual(), -FAR, place) for each in streams), place))
-    target = targets_of(case)[0]
-    return ''.join(lines + ['net %d %d\n' % (target - deficit(case.streams, end), end) for end in case.ends()])
+            below = sum(each.cp * within(each.actual(), -FAR, place) + each.load * (each.supply < place) for each in streams)
+            there = [each.load for each in streams if each.load and each.supply == place]
+            lines += ['%s %d %d\n' % (word, heat, place) for heat in [below] + [below + sum(there)] * bool(there)]
+    target, levels = targets_of(case)[0], {each.span()[0] for each in case.streams if each.load}
+    for end in case.ends():
+        lines += ['net %d %d\n' % (target - owed(case.streams, end), end) for owed in [deficit] + [deficit_from] * (end in levels)]
+    return ''.join(lines)
 
 
 def profile_text(site):
@@ -325,7 +339,7 @@ class Statement:
 
 class Branch:
     def __init__(self, stream):
-        self.stream, self.spent, self.cp, self.heat = stream, False, None, None
+        self.stream, self.spent, self.size, self.state = stream, False, None, None
 
 
 def ratio_of(field, at):
@@ -401,8 +415,8 @@ def network_of(data, case):
         elif word == b'split':
             source = used(fields[1])
             first = made(fields[2], source.stream)
-            cp = ratio_of(fields[3], at)
-            statement = Statement('split', source=source, first=first, cp=cp, second=made(fields[4], source.stream))
+            size = ratio_of(fields[3], at)
+            statement = Statement('split', source=source, first=first, size=size, second=made(fields[4], source.stream))
         elif word == b'pass':
             source = used(fields[1])
             if fields[2] not in exchangers:
@@ -458,12 +472,12 @@ def accepted_text(case, statements):
     for each in statements:
         for name in ('source', 'first', 'second'):
             branch = getattr(each, name, None)
-            if branch is not None and branch.cp is None and branch.stream is not None and branch.heat is None:
-                branch.cp, branch.heat = Fraction(branch.stream.cp), Fraction(branch.stream.supply)
+            if branch is not None and branch.size is None:
+                branch.size, branch.state = Fraction(branch.stream.size()), Fraction(branch.stream.states()[0])
         audit_statement(each, ended)
     for each in case.streams:
         if each not in ended:
-            raise Rejected('stream %s' % each.name.decode(), 'Unfinished', 0, each.cp)
+            raise Rejected('stream %s' % each.name.decode(), 'Unfinished', 0, each.size())
     for each in exchangers:
         place = 'exchanger %s' % each.name.decode()
         if (each.hot.name, each.cold.name) in case.forbidden:
@@ -496,14 +510,14 @@ def accepted_text(case, statements):
                 hot = steps.formed(hot + total)
             elif utility.hot is side:
                 cold = steps.formed(cold + total)
-    target, _, _, place = targets_of(case)
+    target, _, _, (place, from_itself) = targets_of(case)
     excess = steps.formed(hot - target)
     for utility, total in zip(case.utilities, sums):
         part = steps.formed(utility.price * total)
         cost = steps.formed(cost + part)
     head = 'accepted\nhot %s\ncold %s\nexcess %s\ncost %s\nplace %d\n' % (hot, cold, excess, cost, place)
     try:
-        return head + penalty_text(statements, exchangers, place)
+        return head + penalty_text(statements, exchangers, place, from_itself)
     except Fine as finding:
         return head + 'penalties too fine %s step %d\n' % (finding.place, finding.step)
 
@@ -512,46 +526,53 @@ def audit_statement(each, ended):
     place = 'line %d' % each.line
     steps = Steps(place)
     if each.word == 'split':
-        if each.cp >= each.source.cp:
-            raise Rejected(place, 'Overdrawn', each.cp, each.source.cp)
-        each.first.cp, each.second.cp = each.cp, steps.formed(each.source.cp - each.cp)
-        each.first.heat = each.second.heat = each.source.heat
+        if each.size >= each.source.size:
+            raise Rejected(place, 'Overdrawn', each.size, each.source.size)
+        each.first.size, each.second.size = each.size, steps.formed(each.source.size - each.size)
+        each.first.state = each.second.state = each.source.state
     elif each.word == 'pass':
-        change = steps.formed(each.exchanger.duty / each.source.cp)
-        each.to.cp = each.source.cp
-        each.to.heat = steps.formed(each.source.heat - change if each.source.stream.hot else each.source.heat + change)
+        change = steps.formed(each.exchanger.duty / each.source.size)
+        each.to.size = each.source.size
+        each.to.state = steps.formed(each.source.state - change if each.source.stream.hot else each.source.state + change)
+        for wrong, wanted in ((each.to.state < 0, 0), (each.to.state > 1, 1)):
+            if each.source.stream.load and wrong:
+                raise Rejected(place, 'Overdrawn', each.to.state, wanted)
     elif each.word == 'mix':
-        each.to.cp = steps.formed(each.first.cp + each.second.cp)
-        if each.first.heat == each.second.heat:
-            each.to.heat = each.first.heat
+        each.to.size = steps.formed(each.first.size + each.second.size)
+        if each.first.state == each.second.state:
+            each.to.state = each.first.state
         else:
-            first, second = steps.formed(each.first.cp * each.first.heat), steps.formed(each.second.cp * each.second.heat)
+            first, second = steps.formed(each.first.size * each.first.state), steps.formed(each.second.size * each.second.state)
             both = steps.formed(first + second)
-            each.to.heat = steps.formed(both / each.to.cp)
+            each.to.state = steps.formed(both / each.to.size)
     elif each.word == 'end':
         stream = each.source.stream
-        if each.source.cp != stream.cp:
-            raise Rejected(place, 'Unfinished', each.source.cp, stream.cp)
-        if each.source.heat != stream.target:
-            raise Rejected(place, 'MissedTarget', each.source.heat, stream.target)
+        if each.source.size != stream.size():
+            raise Rejected(place, 'Unfinished', each.source.size, stream.size())
+        if each.source.state != stream.states()[1]:
+            raise Rejected(place, 'MissedTarget', each.source.state, stream.states()[1])
         ended.add(stream)
 
 
 def heats_of(exchanger, hot):
     """The temperatures of one side before and behind an exchanger."""
     side = exchanger.hot if hot else exchanger.cold
-    if not side.stream:
+    if not side.stream or side.load:
         return Fraction(side.supply), Fraction(side.supply)
     before, behind = exchanger.passed[hot]
-    return before.heat, behind.heat
+    return before.state, behind.state
 
 
-def penalty_text(statements, exchangers, place):
+def penalty_text(statements, exchangers, place, from_itself):
     lines = []
 
     def height(steps, branch, first):
-        distance = steps.formed(branch.heat - (place + branch.stream.share if branch.stream.hot else place - branch.stream.share), first)
-        return steps.formed(branch.cp * distance, first + 1) if distance > 0 else Fraction(0)
+        if branch.stream.load:
+            level = branch.stream.span()[0]
+            is_above = level >= place if from_itself else level > place
+            return steps.formed(branch.size * branch.state, first + 1) if is_above else Fraction(0)
+        distance = steps.formed(branch.state - (place + branch.stream.share if branch.stream.hot else place - branch.stream.share), first)
+        return steps.formed(branch.size * distance, first + 1) if distance > 0 else Fraction(0)
 
     for each in exchangers:
         steps = Steps('exchanger %s' % each.name.decode())
@@ -577,6 +598,48 @@ def penalty_text(statements, exchangers, place):
     return ''.join(lines)
 
 
+# Reports.
+
+AMOUNT, LEVEL = 10 ** 15, 10 ** 6
+# The fields of each statement behind its word: the kind of a cut, names, and the greatest of numbers.
+SPAN = ('name', LEVEL, LEVEL)
+FIELDS = {b'cost': (10 ** 20,), b'use': ('name', AMOUNT), b'move': SPAN + SPAN + (AMOUNT,), b'give': SPAN + (AMOUNT,), b'take': SPAN + (AMOUNT,), b'infeasible': (),
+          b'cut': ('kind', AMOUNT, AMOUNT), b'part': SPAN}
+# Which words may stand behind a word, or at the head.
+BEHIND = {None: (b'cost', b'infeasible'), b'cost': (b'use', b'move', b'give', b'take'), b'use': (b'use', b'move', b'give', b'take'), b'move': (b'move', b'give', b'take'),
+          b'give': (b'give', b'take'), b'take': (b'take',), b'infeasible': (b'cut',), b'cut': (b'part',), b'part': (b'part',)}
+LONG_NUMBER = re.compile(rb'-?[0-9]{1,30}\Z')
+
+
+def report_of(data):
+    """The statements of a report."""
+    lines = data.split(b'\n')
+    lines = [line[:-1] if line.endswith(b'\r') and number < len(lines) - 1 else line for number, line in enumerate(lines)]
+    statements = [fields for fields in map(fields_of, lines) if fields and not fields[0].startswith(b'#')]
+    last = None
+    for at, fields in enumerate(statements, 1):
+        word = fields[0]
+        if word not in FIELDS:
+            raise Refused(at, 'UnknownWord')
+        if len(fields) != 1 + len(FIELDS[word]):
+            raise Refused(at, 'FieldCount')
+        if word not in BEHIND[last]:
+            raise Refused(at, 'OutOfOrder')
+        for field, kind in zip(fields[1:], FIELDS[word]):
+            if kind == 'kind' and field not in (b'demand', b'supply'):
+                raise Refused(at, 'BadKind')
+            if kind == 'name' and not NAME.match(field):
+                raise Refused(at, 'BadName')
+            if isinstance(kind, int) and not LONG_NUMBER.match(field):
+                raise Refused(at, 'BadNumber')
+            if isinstance(kind, int) and abs(int(field)) > kind:
+                raise Refused(at, 'OutOfRange')
+        last = word
+    if last in (None, b'infeasible'):
+        raise Refused(len(statements) + 1, 'Ended')
+    return statements
+
+
 # Words.
 
 WHOLE = re.compile(r'[0-9]{1,10}\Z')
@@ -589,7 +652,7 @@ def is_command(words):
     form = words[0] if words else ''
     if form in ('targets', 'flow', 'curves', 'design', 'vertical', 'site'):
         return len(words) == 2
-    if form == 'audit':
+    if form in ('audit', 'certify'):
         return len(words) == 3
     if form == 'sweep' and len(words) == 6 and all(WHOLE.match(word) for word in words[2:]):
         first, last, step, workers = [int(word) for word in words[2:]]
@@ -626,8 +689,6 @@ def wanted_of(command, files):
         return Wanted((0,), targets_text(case), True)
     if command == 'site':
         return Wanted((0, 1), [profile_text(case) + line for line in ('boiler ', 'infeasible\ncut ')], False)
-    if command in ('curves', 'design', 'audit') and case.is_latent():
-        return Wanted((3,), LATENT, True)
     if command == 'audit':
         if len(files[1]) > LIMIT:
             return Wanted((5,), 'too long network\n', True)
@@ -637,6 +698,14 @@ def wanted_of(command, files):
             return Wanted((4,), 'network line %d %s\n' % (fault.at, fault.why), True)
         status, answer = audit_text(case, statements)
         return Wanted((status,), answer, True)
+    if command == 'certify':
+        if len(files[1]) > LIMIT:
+            return Wanted((5,), 'too long report\n', True)
+        try:
+            report_of(files[1])
+        except Refused as fault:
+            return Wanted((4,), 'report line %d %s\n' % (fault.at, fault.why), True)
+        return Wanted((0, 1), ['yes ', 'no '], False)
     if command == 'curves':
         return Wanted((0,), curves_text(case), True)
     hot, cold, _, _ = targets_of(case)
