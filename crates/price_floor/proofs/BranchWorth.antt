@@ -1,0 +1,194 @@
+-- What a branch is worth at step prices: additive in its size, changed at a pass by the share, and no more behind a mix.
+use Rattle.std.proofs.Common.{◌≡◌, ◌∙◌, inl, inr, ◌<◌, ℕ, ℤ, List, Option, Some, None, slice_get, length, refl, sym, ap, ap₂, arith, All, option_map, unwrap_or}
+use mathlib.Core.Path.{subst₂}
+use Rattle.std.proofs.lemmas.Option.{same_Some}
+use Rattle.stream_case.specs.Case.{side_of}
+use Rattle.stream_case.specs.declared.case.Case.{Case}
+use Rattle.stream_case.specs.declared.source.Side.{Side}
+use Rattle.stream_case.specs.declared.source.Side.TheVariants as side
+use Rattle.stream_case.specs.declared.source.Source.{Source}
+use Rattle.stream_case.specs.declared.source.Source.TheVariants as source
+use Rattle.stream_case.specs.declared.stream.Stream.{Stream}
+use Rattle.fractions.specs.Rationals.{IsAtMost, Rational, minus, plus, rational_zero, times}
+use Rattle.fractions.proofs.Comparisons.{at_most_refl, not_negative-minus}
+use Rattle.fractions.proofs.Products.{plus-times, times-minus}
+use Rattle.fractions.proofs.Sums.{minus-interchange, minus-self, plus-zero, plus_comm}
+use Rattle.networks.specs.Lines.{Exchanger, exchangers_of, pass_of, stream_at, uses}
+use Rattle.networks.specs.Shape.{HasShape, IsOfOneStream, Joins}
+use Rattle.networks.specs.declared.network.Line.{Line}
+use Rattle.networks.specs.declared.network.Line.TheVariants as line
+use Rattle.networks.specs.declared.network.Network.{Network}
+use Rattle.networks.proofs.Lists.{all_at}
+use Rattle.networks.proofs.OfShape.{stream_within, the_pass_of}
+use Rattle.network_values.specs.Heights.{View, share_in}
+use Rattle.network_values.specs.OneScale.{shifted_run}
+use Rattle.network_values.specs.Penalties.{absorbed_heat, course_of, height_at, height_in, inlet_height, outlet_height, released_heat}
+use Rattle.network_values.specs.Values.{IsWholeValuation, Solves, Valuation, branch_side, change, duty_at, duty_of, value_at}
+use Rattle.network_values.specs.Weights.{IsAdditive, mix_loss, weight_at}
+use Rattle.network_values.specs.declared.values.BranchValue.{BranchValue}
+use Rattle.network_values.proofs.CourseLemmas.{height_on-additive, height_on-mixed}
+use Rattle.network_values.proofs.PassLemmas.{side_taken}
+use Rattle.network_values.proofs.ScaleLemmas.{branch_height, run_on_scale}
+use Rattle.network_values.proofs.WholeLemmas.{all_solved, branch_above, item_at}
+use Rattle.price_floor.specs.Steps.{FallTo, StepPrices, step_worth}
+use Rattle.price_floor.specs.Worths.{branch_worth, value_worth}
+use Rattle.price_floor.proofs.StepLemmas.{step_worth-at_most, step_worth-minus, step_worth-plus, step_worth-same}
+
+there_and_back : (a b : Rational) → plus (minus b a) (minus a b) ≡ rational_zero
+there_and_back a b = sym (minus-interchange b a a b) ∙ ap (minus (plus b a)) (plus_comm a b) ∙ minus-self (plus b a)
+
+module _ (case : Case) (least : ℤ) (views : List View) (prices : Side → Source → StepPrices) where
+  pub branch_worth-additive : IsAdditive (branch_worth case least views prices)
+  unfolding branch_worth
+  branch_worth-additive i f g t = by (slice_get case.streams i)
+    where
+      by : (o : Option Stream) → value_worth least views prices i o (record { cp = plus f g; t = t })
+          ≡ plus (value_worth least views prices i o (record { cp = f; t = t })) (value_worth least views prices i o (record { cp = g; t = t }))
+      by None = sym (plus-zero rational_zero)
+      by (Some s) =
+          let p = prices s.side (source.Stream i) in
+          let height = λ (size : Rational) (v : View). height_in v s (record { cp = size; t = t }) in
+          step_worth-same least views p _ (plus (times f t) (times g t)) _ (λ v. plus (height f v) (height g v)) (plus-times f g t)
+          (λ v. height_on-additive v.from_itself (course_of v.place s) f g t)
+          ∙ step_worth-plus least views p (times f t) (times g t) (height f) (height g)
+
+  module _ {network : Network} {values : Valuation} (shape : HasShape case network) (whole_values : IsWholeValuation case network values) where
+    abbrev pub worth : ℕ → Rational
+    worth = weight_at (branch_worth case least views prices) network values
+
+    abbrev branch : ℕ → BranchValue
+    branch number = value_at values number
+
+    -- what a branch of a stream is worth, by its heights
+    worth-of : (i : ℕ) (s : Stream) (b : ℕ) → slice_get case.streams i ≡ Some s → stream_at network.branches b ≡ i
+        → worth b ≡ step_worth least views (prices s.side (source.Stream i)) (times (branch b).cp (branch b).t) (λ v. height_at case v network values b)
+    unfolding branch_worth
+    worth-of i s b at of_stream =
+        ap (λ j. value_worth least views prices j (slice_get case.streams j) (branch b)) of_stream
+        ∙ ap (λ o. value_worth least views prices i o (branch b)) at
+        ∙ step_worth-same least views (prices s.side (source.Stream i)) _ _ _ _ refl
+        (λ v. sym (branch_height shape whole_values v i s b at of_stream))
+
+    -- ---- mixes
+
+    pub mix_worth : ((on : Side) (s : Source) → FallTo least views (prices on s)) → (l : Line) → All (λ b. b < length network.branches) (uses l)
+        → IsOfOneStream network.branches l → Solves case network values l → IsAtMost rational_zero (mix_loss worth l)
+    mix_worth falls (line.Exchanger name hot cold duty) within one solves = at_most_refl rational_zero
+    mix_worth falls (line.Split from first cp second) within one solves = at_most_refl rational_zero
+    mix_worth falls (line.Pass from exchanger to) within one solves = at_most_refl rational_zero
+    mix_worth falls (line.Mix first second to) within one solves =
+        let first_within = within 0 0 (omega arith) in let second_within = within 1 0 (omega arith) in
+        let i = stream_at network.branches first in
+        let (s, at) = item_at case.streams i (stream_within shape first first_within) in
+        let p = prices s.side (source.Stream i) in
+        let height = λ (b : ℕ) (v : View). height_at case v network values b in
+        let heat = λ (b : ℕ). times (branch b).cp (branch b).t in
+        let seen = λ (b : ℕ) (same : stream_at network.branches b ≡ i) (v : View). branch_height shape whole_values v i s b at same in
+        let mixed = λ (v : View). height_on-mixed v.from_itself (course_of v.place s) (branch first) (branch second) (branch to)
+        (branch_above whole_values shape first first_within) (branch_above whole_values shape second second_within) solves in
+        let lower = λ (v : View). subst₂ IsAtMost (sym (seen to one.1 v)) (sym (ap₂ plus (seen first refl v) (seen second one.0 v))) (mixed v) in
+        let both : step_worth least views p (heat to) (λ v. plus (height first v) (height second v)) ≡ plus (worth first) (worth second) =
+        step_worth-same least views p _ (plus (heat first) (heat second)) _ (λ v. plus (height first v) (height second v)) solves.heat (λ v. refl)
+        ∙ step_worth-plus least views p (heat first) (heat second) (height first) (height second)
+        ∙ sym (ap₂ plus (worth-of i s first at refl) (worth-of i s second at one.0)) in
+        not_negative-minus (worth to) (plus (worth first) (worth second))
+        (subst₂ IsAtMost (sym (worth-of i s to at one.1)) both
+        (step_worth-at_most least views p (falls s.side (source.Stream i)) (heat to) (height to) (λ v. plus (height first v) (height second v)) lower))
+    mix_worth falls (line.End b) within one solves = at_most_refl rational_zero
+
+    -- ---- passes
+
+    -- what a side takes of the duty in each view is worth
+    abbrev pub side_worth : Side → ℕ → Rational → Source → Rational
+    side_worth on number duty s = step_worth least views (prices on s) duty (λ v. share_in v duty (shifted_run on case network values number s))
+
+    -- the pass of a stream on a side of an exchanger
+    record IsPassBy (number i : ℕ) (on : Side) (duty : Rational) (s : Stream) (from to : ℕ) : Type 0 where
+      at : slice_get case.streams i ≡ Some s
+      is_on : s.side ≡ on
+      of_from : stream_at network.branches from ≡ i
+      of_to : stream_at network.branches to ≡ i
+      found : pass_of network number i ≡ Some (line.Pass from number to)
+      size : (branch to).cp ≡ (branch from).cp
+      heat : times (branch from).cp (change on (branch from).t (branch to).t) ≡ duty
+
+    stream_on : (i : ℕ) (on : Side) → side_of case (source.Stream i) ≡ Some on → (s : Stream) × (slice_get case.streams i ≡ Some s) × (s.side ≡ on)
+    stream_on i on is = by (slice_get case.streams i) refl is
+      where
+        by : (o : Option Stream) → slice_get case.streams i ≡ o → option_map (λ s. s.side) o ≡ Some on
+            → (s : Stream) × (slice_get case.streams i ≡ Some s) × (s.side ≡ on)
+        by None at none = cc none
+        by (Some s) at some = (s, at, same_Some s.side on some)
+
+    pass_by : (number i : ℕ) (e : Exchanger) (on : Side) → slice_get (exchangers_of network.lines) number ≡ Some e → Joins e i
+        → side_of case (source.Stream i) ≡ Some on → (s : Stream) × (from : ℕ) × (to : ℕ) × IsPassBy number i on e.duty s from to
+    unfolding branch_side duty_at
+    pass_by number i e on at joins is =
+        let (s, of_case, is_on) = stream_on i on is in
+        let (from, to, index, pass) = the_pass_of shape number i e at joins in
+        let l = line.Pass from number to in
+        let solves = all_at (Solves case network values) network.lines index l (all_solved whole_values) pass.here in
+        let one = all_at (IsOfOneStream network.branches) network.lines index l shape.one_stream pass.here in
+        let of_side : branch_side case network from ≡ on =
+        ap (λ n. unwrap_or (side_of case (source.Stream n)) side.Hot) pass.of_stream ∙ ap (λ o. unwrap_or o side.Hot) is in
+        let duty : duty_at network number ≡ e.duty = ap duty_of at in (
+          s,
+          from,
+          to,
+          record {
+            at = of_case;
+            is_on = is_on;
+            of_from = pass.of_stream;
+            of_to = one ∙ pass.of_stream;
+            found = pass.found;
+            size = solves.size;
+            heat = ap (λ o. times (branch from).cp (change o (branch from).t (branch to).t)) (sym of_side) ∙ solves.heat ∙ duty;
+          },
+        )
+
+    -- two branches of a stream differ by what the difference of their heat is worth
+    worth-between : (i : ℕ) (s : Stream) (on : Side) (high low : ℕ) (duty : Rational) (taken : View → Rational) → slice_get case.streams i ≡ Some s
+        → s.side ≡ on → stream_at network.branches high ≡ i → stream_at network.branches low ≡ i
+        → minus (times (branch high).cp (branch high).t) (times (branch low).cp (branch low).t) ≡ duty
+        → ((v : View) → minus (height_at case v network values high) (height_at case v network values low) ≡ taken v)
+        → minus (worth high) (worth low) ≡ step_worth least views (prices on (source.Stream i)) duty taken
+    worth-between i s on high low duty taken at is_on of_high of_low heat takes =
+        let p = prices s.side (source.Stream i) in
+        let height = λ (b : ℕ) (v : View). height_at case v network values b in
+        let all = λ (b : ℕ). times (branch b).cp (branch b).t in
+        ap₂ minus (worth-of i s high at of_high) (worth-of i s low at of_low)
+        ∙ sym (step_worth-minus least views p (all high) (all low) (height high) (height low))
+        ∙ step_worth-same least views p _ duty _ taken heat takes
+        ∙ ap (λ o. step_worth least views (prices o (source.Stream i)) duty taken) is_on
+
+    -- a hot stream loses what its side is worth
+    pub hot_taken : (number i : ℕ) (e : Exchanger) → slice_get (exchangers_of network.lines) number ≡ Some e → e.hot ≡ source.Stream i
+        → side_of case (source.Stream i) ≡ Some side.Hot
+        → side_taken worth network number (source.Stream i) ≡ side_worth side.Hot number e.duty (source.Stream i)
+    hot_taken number i e at is on =
+        let (s, from, to, pass) = pass_by number i e side.Hot at (inl is) on in
+        let runs = run_on_scale shape whole_values number e at in
+        let height = λ (v : View). height_at case v network values in
+        let heat = ap (λ size. minus (times (branch from).cp (branch from).t) (times size (branch to).t)) pass.size
+        ∙ sym (times-minus (branch from).cp (branch from).t (branch to).t) ∙ pass.heat in
+        let takes = λ (v : View). sym (ap (λ o. minus (inlet_height (height v) o) (outlet_height (height v) o)) pass.found)
+        ∙ ap (λ x. released_heat (height v) network number e.duty x) (sym is) ∙ runs.released v i is
+        ∙ ap (λ x. share_in v e.duty (shifted_run side.Hot case network values number x)) is in
+        ap (λ o. minus (inlet_height worth o) (outlet_height worth o)) pass.found
+        ∙ worth-between i s side.Hot from to e.duty _ pass.at pass.is_on pass.of_from pass.of_to heat takes
+
+    -- and a cold one gains it
+    pub cold_taken : (number i : ℕ) (e : Exchanger) → slice_get (exchangers_of network.lines) number ≡ Some e → e.cold ≡ source.Stream i
+        → side_of case (source.Stream i) ≡ Some side.Cold
+        → plus (side_worth side.Cold number e.duty (source.Stream i)) (side_taken worth network number (source.Stream i)) ≡ rational_zero
+    cold_taken number i e at is on =
+        let (s, from, to, pass) = pass_by number i e side.Cold at (inr is) on in
+        let runs = run_on_scale shape whole_values number e at in
+        let height = λ (v : View). height_at case v network values in
+        let heat = ap (λ size. minus (times size (branch to).t) (times (branch from).cp (branch from).t)) pass.size
+        ∙ sym (times-minus (branch from).cp (branch to).t (branch from).t) ∙ pass.heat in
+        let takes = λ (v : View). sym (ap (λ o. minus (outlet_height (height v) o) (inlet_height (height v) o)) pass.found)
+        ∙ ap (λ x. absorbed_heat (height v) network number x) (sym is) ∙ runs.absorbed v i is
+        ∙ ap (λ x. share_in v e.duty (shifted_run side.Cold case network values number x)) is in
+        let gained = worth-between i s side.Cold to from e.duty _ pass.at pass.is_on pass.of_to pass.of_from heat takes in
+        ap₂ plus (sym gained) (ap (λ o. minus (inlet_height worth o) (outlet_height worth o)) pass.found) ∙ there_and_back (worth from) (worth to)
