@@ -1,5 +1,5 @@
 -- What a branch is worth at step prices: additive in its size, changed at a pass by the share, and no more behind a mix.
-use Rattle.std.proofs.Common.{◌≡◌, ◌∙◌, inl, inr, ◌<◌, ℕ, ℤ, List, Option, Some, None, slice_get, length, refl, sym, ap, ap₂, arith, All, option_map, unwrap_or}
+use Rattle.std.proofs.Common.{◌≡◌, ◌∙◌, inl, inr, ◌<◌, ℕ, ℤ, List, Option, Some, None, slice_get, length, refl, sym, ap, ap₂, subst, arith, All, option_map, unwrap_or}
 use mathlib.Core.Path.{subst₂}
 use Rattle.std.proofs.lemmas.Option.{same_Some}
 use Rattle.stream_case.specs.Case.{side_of}
@@ -19,7 +19,7 @@ use Rattle.networks.specs.declared.network.Line.{Line}
 use Rattle.networks.specs.declared.network.Line.TheVariants as line
 use Rattle.networks.specs.declared.network.Network.{Network}
 use Rattle.networks.proofs.Lists.{all_at}
-use Rattle.networks.proofs.OfShape.{stream_within, the_pass_of}
+use Rattle.networks.proofs.OfShape.{stream_within, the_pass_of, used_there}
 use Rattle.network_values.specs.Heights.{View, share_in}
 use Rattle.network_values.specs.OneScale.{shifted_run}
 use Rattle.network_values.specs.Penalties.{absorbed_heat, course_of, height_at, height_in, inlet_height, outlet_height, released_heat}
@@ -57,11 +57,17 @@ module _ (case : Case) (least : ℤ) (views : List View) (prices : Side → Sour
     worth = weight_at (branch_worth case least views prices) network values
 
     abbrev branch : ℕ → BranchValue
-    branch number = value_at values number
+    branch b = value_at values b
+
+    abbrev heat : ℕ → Rational
+    heat b = times (branch b).cp (branch b).t
+
+    abbrev height : ℕ → View → Rational
+    height b v = height_at case v network values b
 
     -- what a branch of a stream is worth, by its heights
     worth-of : (i : ℕ) (s : Stream) (b : ℕ) → slice_get case.streams i ≡ Some s → stream_at network.branches b ≡ i
-        → worth b ≡ step_worth least views (prices s.side (source.Stream i)) (times (branch b).cp (branch b).t) (λ v. height_at case v network values b)
+        → worth b ≡ step_worth least views (prices s.side (source.Stream i)) (heat b) (height b)
     unfolding branch_worth
     worth-of i s b at of_stream =
         ap (λ j. value_worth least views prices j (slice_get case.streams j) (branch b)) of_stream
@@ -81,8 +87,6 @@ module _ (case : Case) (least : ℤ) (views : List View) (prices : Side → Sour
         let i = stream_at network.branches first in
         let (s, at) = item_at case.streams i (stream_within shape first first_within) in
         let p = prices s.side (source.Stream i) in
-        let height = λ (b : ℕ) (v : View). height_at case v network values b in
-        let heat = λ (b : ℕ). times (branch b).cp (branch b).t in
         let seen = λ (b : ℕ) (same : stream_at network.branches b ≡ i) (v : View). branch_height shape whole_values v i s b at same in
         let mixed = λ (v : View). height_on-mixed v.from_itself (course_of v.place s) (branch first) (branch second) (branch to)
         (branch_above whole_values shape first first_within) (branch_above whole_values shape second second_within) solves in
@@ -112,21 +116,16 @@ module _ (case : Case) (least : ℤ) (views : List View) (prices : Side → Sour
       size : (branch to).cp ≡ (branch from).cp
       heat : times (branch from).cp (change on (branch from).t (branch to).t) ≡ duty
 
-    stream_on : (i : ℕ) (on : Side) → side_of case (source.Stream i) ≡ Some on → (s : Stream) × (slice_get case.streams i ≡ Some s) × (s.side ≡ on)
-    stream_on i on is = by (slice_get case.streams i) refl is
-      where
-        by : (o : Option Stream) → slice_get case.streams i ≡ o → option_map (λ s. s.side) o ≡ Some on
-            → (s : Stream) × (slice_get case.streams i ≡ Some s) × (s.side ≡ on)
-        by None at none = cc none
-        by (Some s) at some = (s, at, same_Some s.side on some)
-
     pass_by : (number i : ℕ) (e : Exchanger) (on : Side) → slice_get (exchangers_of network.lines) number ≡ Some e → Joins e i
         → side_of case (source.Stream i) ≡ Some on → (s : Stream) × (from : ℕ) × (to : ℕ) × IsPassBy number i on e.duty s from to
     unfolding branch_side duty_at
     pass_by number i e on at joins is =
-        let (s, of_case, is_on) = stream_on i on is in
         let (from, to, index, pass) = the_pass_of shape number i e at joins in
         let l = line.Pass from number to in
+        let used = all_at (λ x. All (λ b. b < length network.branches) (uses x)) network.lines index l
+        (used_there shape.made_once shape.made_first) pass.here in
+        let within = subst (λ n. n < length case.streams) pass.of_stream (stream_within shape from (used 0 0 (omega arith))) in
+        let (s, of_case) = item_at case.streams i within in
         let solves = all_at (Solves case network values) network.lines index l (all_solved whole_values) pass.here in
         let one = all_at (IsOfOneStream network.branches) network.lines index l shape.one_stream pass.here in
         let of_side : branch_side case network from ≡ on =
@@ -137,7 +136,7 @@ module _ (case : Case) (least : ℤ) (views : List View) (prices : Side → Sour
           to,
           record {
             at = of_case;
-            is_on = is_on;
+            is_on = same_Some s.side on (sym (ap (option_map (λ t. t.side)) of_case) ∙ is);
             of_from = pass.of_stream;
             of_to = one ∙ pass.of_stream;
             found = pass.found;
@@ -149,16 +148,13 @@ module _ (case : Case) (least : ℤ) (views : List View) (prices : Side → Sour
     -- two branches of a stream differ by what the difference of their heat is worth
     worth-between : (i : ℕ) (s : Stream) (on : Side) (high low : ℕ) (duty : Rational) (taken : View → Rational) → slice_get case.streams i ≡ Some s
         → s.side ≡ on → stream_at network.branches high ≡ i → stream_at network.branches low ≡ i
-        → minus (times (branch high).cp (branch high).t) (times (branch low).cp (branch low).t) ≡ duty
-        → ((v : View) → minus (height_at case v network values high) (height_at case v network values low) ≡ taken v)
+        → minus (heat high) (heat low) ≡ duty → ((v : View) → minus (height high v) (height low v) ≡ taken v)
         → minus (worth high) (worth low) ≡ step_worth least views (prices on (source.Stream i)) duty taken
-    worth-between i s on high low duty taken at is_on of_high of_low heat takes =
+    worth-between i s on high low duty taken at is_on of_high of_low gives takes =
         let p = prices s.side (source.Stream i) in
-        let height = λ (b : ℕ) (v : View). height_at case v network values b in
-        let all = λ (b : ℕ). times (branch b).cp (branch b).t in
         ap₂ minus (worth-of i s high at of_high) (worth-of i s low at of_low)
-        ∙ sym (step_worth-minus least views p (all high) (all low) (height high) (height low))
-        ∙ step_worth-same least views p _ duty _ taken heat takes
+        ∙ sym (step_worth-minus least views p (heat high) (heat low) (height high) (height low))
+        ∙ step_worth-same least views p _ duty _ taken gives takes
         ∙ ap (λ o. step_worth least views (prices o (source.Stream i)) duty taken) is_on
 
     -- a hot stream loses what its side is worth
@@ -168,14 +164,13 @@ module _ (case : Case) (least : ℤ) (views : List View) (prices : Side → Sour
     hot_taken number i e at is on =
         let (s, from, to, pass) = pass_by number i e side.Hot at (inl is) on in
         let runs = run_on_scale shape whole_values number e at in
-        let height = λ (v : View). height_at case v network values in
-        let heat = ap (λ size. minus (times (branch from).cp (branch from).t) (times size (branch to).t)) pass.size
+        let gives = ap (λ size. minus (heat from) (times size (branch to).t)) pass.size
         ∙ sym (times-minus (branch from).cp (branch from).t (branch to).t) ∙ pass.heat in
-        let takes = λ (v : View). sym (ap (λ o. minus (inlet_height (height v) o) (outlet_height (height v) o)) pass.found)
-        ∙ ap (λ x. released_heat (height v) network number e.duty x) (sym is) ∙ runs.released v i is
+        let takes = λ (v : View). sym (ap (λ o. minus (inlet_height (λ b. height b v) o) (outlet_height (λ b. height b v) o)) pass.found)
+        ∙ ap (λ x. released_heat (λ b. height b v) network number e.duty x) (sym is) ∙ runs.released v i is
         ∙ ap (λ x. share_in v e.duty (shifted_run side.Hot case network values number x)) is in
         ap (λ o. minus (inlet_height worth o) (outlet_height worth o)) pass.found
-        ∙ worth-between i s side.Hot from to e.duty _ pass.at pass.is_on pass.of_from pass.of_to heat takes
+        ∙ worth-between i s side.Hot from to e.duty _ pass.at pass.is_on pass.of_from pass.of_to gives takes
 
     -- and a cold one gains it
     pub cold_taken : (number i : ℕ) (e : Exchanger) → slice_get (exchangers_of network.lines) number ≡ Some e → e.cold ≡ source.Stream i
@@ -184,11 +179,10 @@ module _ (case : Case) (least : ℤ) (views : List View) (prices : Side → Sour
     cold_taken number i e at is on =
         let (s, from, to, pass) = pass_by number i e side.Cold at (inr is) on in
         let runs = run_on_scale shape whole_values number e at in
-        let height = λ (v : View). height_at case v network values in
-        let heat = ap (λ size. minus (times size (branch to).t) (times (branch from).cp (branch from).t)) pass.size
+        let gives = ap (λ size. minus (times size (branch to).t) (heat from)) pass.size
         ∙ sym (times-minus (branch from).cp (branch to).t (branch from).t) ∙ pass.heat in
-        let takes = λ (v : View). sym (ap (λ o. minus (outlet_height (height v) o) (inlet_height (height v) o)) pass.found)
-        ∙ ap (λ x. absorbed_heat (height v) network number x) (sym is) ∙ runs.absorbed v i is
+        let takes = λ (v : View). sym (ap (λ o. minus (outlet_height (λ b. height b v) o) (inlet_height (λ b. height b v) o)) pass.found)
+        ∙ ap (λ x. absorbed_heat (λ b. height b v) network number x) (sym is) ∙ runs.absorbed v i is
         ∙ ap (λ x. share_in v e.duty (shifted_run side.Cold case network values number x)) is in
-        let gained = worth-between i s side.Cold to from e.duty _ pass.at pass.is_on pass.of_to pass.of_from heat takes in
+        let gained = worth-between i s side.Cold to from e.duty _ pass.at pass.is_on pass.of_to pass.of_from gives takes in
         ap₂ plus (sym gained) (ap (λ o. minus (inlet_height worth o) (outlet_height worth o)) pass.found) ∙ there_and_back (worth from) (worth to)

@@ -3,11 +3,10 @@ use Rattle.std.proofs.Common.{◌≡◌, ◌∙◌, ℤ, pos, ◌≤ℤ◌, ◌-
 use Rattle.std.proofs.lemmas.Int.{ints}
 use Rattle.sums.proofs.OrderLemmas.{AllPairs-head, AllPairs-tail}
 use Rattle.std.proofs.lemmas.List.Elements.{All-head}
-use Rattle.fractions.specs.Rationals.{IsAtMost, Rational, minus, plus, ratio, rational_zero, times, whole}
+use Rattle.fractions.specs.Rationals.{IsAtMost, Rational, minus, plus, rational_zero, times, whole}
 use Rattle.fractions.proofs.Comparisons.{at_most-plus_plus, at_most-plus_right, at_most-times_left, at_most-whole, at_most_from_same, at_most_refl, at_most_trans, not_negative-times}
 use Rattle.fractions.proofs.Products.{plus-times, times-minus, times-plus, zero-times}
-use Rattle.fractions.proofs.Ratios.{by_three, one_denominator}
-use Rattle.fractions.proofs.Sums.{minus-interchange, minus-self, plus-interchange, plus-zero, zero-plus}
+use Rattle.fractions.proofs.Sums.{minus-interchange, minus-self, plus-interchange, plus-zero, plus_assoc, plus_comm, zero-plus}
 use Rattle.fractions.proofs.Wholes.{whole-plus}
 use Rattle.network_values.specs.Heights.{View}
 use Rattle.price_floor.specs.Steps.{AreAtMost, AreFalling, FallTo, StepPrices, last_price, rise_worth, step_worth}
@@ -83,23 +82,20 @@ two_steps a b c x =
     sym (plus-times (whole (a -ℤ b)) (whole (b -ℤ c)) x)
     ∙ ap (λ rise. times rise x) (whole-plus (a -ℤ b) (b -ℤ c) ∙ ap whole (omega (arith, ints)))
 
-plus_last : (a b c : Rational) → plus (plus a b) c ≡ plus (plus c a) b
-plus_last = by_three _ (λ n m l d some. simp one_denominator (ap (λ k. ratio k d) (omega (arith, ints))))
-
-plus_inner : (a b c : Rational) → plus (plus a b) c ≡ plus a (plus c b)
-plus_inner = by_three _ (λ n m l d some. simp one_denominator (ap (λ k. ratio k d) (omega (arith, ints))))
-
 -- the same heat at the rises of both prices, with what the second ones are above the first ones
 shifted_rises : (p q p_next q_next : ℤ) (x rest : Rational)
     → plus (plus (times (whole (p -ℤ p_next)) x) rest) (times (whole (q -ℤ p)) x)
     ≡ plus (times (whole (q -ℤ q_next)) x) (plus rest (times (whole (q_next -ℤ p_next)) x))
 shifted_rises p q p_next q_next x rest =
-    plus_last (times (whole (p -ℤ p_next)) x) rest (times (whole (q -ℤ p)) x)
+    let here = times (whole (p -ℤ p_next)) x in let higher = times (whole (q -ℤ p)) x in
+    let first = times (whole (q -ℤ q_next)) x in let next = times (whole (q_next -ℤ p_next)) x in
+    plus_comm (plus here rest) higher ∙ sym (plus_assoc higher here rest)
     ∙ ap (λ y. plus y rest) (two_steps q p p_next x ∙ sym (two_steps q q_next p_next x))
-    ∙ plus_inner (times (whole (q -ℤ q_next)) x) (times (whole (q_next -ℤ p_next)) x) rest
+    ∙ plus_assoc first next rest ∙ ap (plus first) (plus_comm next rest)
 
 module _ (least : ℤ) (p q : View → ℤ) (x : View → Rational) (more : (v : View) → p v ≤ℤ q v) (rising : AreRising x) where
-  -- prices that end alike: the higher ones are worth more by what they are above at the top, for the heat that every view sees
+  -- prices that fall to the same one: at the higher prices the heat is worth more, at least by what they are higher at the
+  -- top for as much heat as each view sees
   rise_worth-ordered : (p_top q_top : ℤ) (c : Rational) (views : List View) → p_top ≤ℤ q_top
       → last_price p_top p views ≡ least → last_price q_top q views ≡ least → AllPairs comes_below views → All (λ v. IsAtMost c (x v)) views
       → IsAtMost (plus (rise_worth p_top p x views) (times (whole (q_top -ℤ p_top)) c)) (rise_worth q_top q x views)
