@@ -1,3 +1,11 @@
 pub mod StepLemmas
 pub mod BranchWorth
 pub mod NetworkWorth
+pub mod PartViews
+pub mod StepsOfParts
+pub mod StepSums
+pub mod StreamParts
+pub mod PartSums
+pub mod StreamWorth
+pub mod UtilityWorth
+pub mod UsesLemmas

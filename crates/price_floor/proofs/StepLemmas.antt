@@ -77,7 +77,7 @@ abbrev pub AreRising : (View → Rational) → Type 0
 AreRising x = (v w : View) → comes_below v w → IsAtMost (x v) (x w)
 
 -- from one price to another by way of a third
-two_steps : (a b c : ℤ) (x : Rational) → plus (times (whole (a -ℤ b)) x) (times (whole (b -ℤ c)) x) ≡ times (whole (a -ℤ c)) x
+pub two_steps : (a b c : ℤ) (x : Rational) → plus (times (whole (a -ℤ b)) x) (times (whole (b -ℤ c)) x) ≡ times (whole (a -ℤ c)) x
 two_steps a b c x =
     sym (plus-times (whole (a -ℤ b)) (whole (b -ℤ c)) x)
     ∙ ap (λ rise. times rise x) (whole-plus (a -ℤ b) (b -ℤ c) ∙ ap whole (omega (arith, ints)))

@@ -1,0 +1,112 @@
+-- Sums over parts and exchangers by the sources of the case, and what the use of a part is worth.
+use Rattle.std.proofs.Common.{◌≡◌, ◌≢◌, ◌⊎◌, ⊎_elim, inl, inr, ◌∙◌, refl, sym, ap, ap₂, arith, ℕ, ◌<◌, ◌==◌, Bool, true, false, List, [], ◌∷◌, length, get_or, All, AllPairs, Contains, eq-eqb, ne_eqb}
+use Rattle.std.specs.Prelude.{ℤ, ◌<ℤ◌, if◌then◌else◌}
+use Rattle.std.specs.List.{enumerate_from, range_with_len}
+use Rattle.std.proofs.lemmas.Bool.{cases_eq}
+use Rattle.std.proofs.lemmas.Int.{ints}
+use Rattle.std.proofs.lemmas.List.Elements.{All-contains, All-head, All-tail}
+use Rattle.sums.proofs.OrderLemmas.{AllPairs-head, AllPairs-tail, Contains-cons}
+use Rattle.stream_case.specs.Case.{IsSourceOf}
+use Rattle.stream_case.specs.Source.{same_source}
+use Rattle.stream_case.specs.declared.case.Case.{Case}
+use Rattle.stream_case.specs.declared.source.Side.{Side}
+use Rattle.stream_case.specs.declared.source.Source.{Source}
+use Rattle.stream_case.specs.declared.source.Source.TheVariants as source
+use Rattle.fractions.specs.Rationals.{Rational, plus, rational_sum_by, rational_zero}
+use Rattle.fractions.proofs.RationalSums.{but_at, one_taken, rational_sum_by-plus, rational_sum_by-same, rational_sum_by-swap, rational_sum_by-zero, sum-enumerate}
+use Rattle.fractions.proofs.Sums.{plus-zero, zero-plus}
+use Rattle.grid.specs.declared.part.Part.{Part}
+use Rattle.grid.specs.Part.{comes_before, comes_before_source}
+use Rattle.networks.specs.declared.network.Network.{Network}
+use Rattle.network_values.specs.Heights.{View}
+use Rattle.price_floor.specs.Steps.{StepPrices, step_worth}
+use Rattle.price_floor.specs.Uses.{used_heat}
+use Rattle.price_floor.proofs.StepSums.{stood}
+
+-- ---- worths of uses
+
+-- the use of a part at the step prices of its source
+abbrev pub part_worth : ℤ → List View → (Side → Source → StepPrices) → Network → Side → Part → Rational
+part_worth least views prices network on p = step_worth least views (prices on p.source) (used_heat network p) (stood p (used_heat network p))
+
+-- the same of the parts of one source
+abbrev pub own_worth : ℤ → List View → (Side → Source → StepPrices) → Network → Side → Source → Part → Rational
+own_worth least views prices network on s p = if same_source p.source s then part_worth least views prices network on p else rational_zero
+
+-- ---- one number, and one element
+
+pub sum-picked : {X : Type 0} (k : ℕ) (a : Rational) (xs : List X) → k < length xs → rational_sum_by (λ (e : ℕ × X). if k == e.0 then a else rational_zero) (enumerate_from 0 xs) ≡ a
+sum-picked k a xs within =
+    sum-enumerate (λ e. if k == e.0 then a else rational_zero) (λ i. if k == i then a else rational_zero) xs (λ i x at. refl)
+    ∙ one_taken (λ i. if k == i then a else rational_zero) k 0 (length xs) (omega arith) (omega (arith, within))
+    ∙ ap₂ plus (ap (λ b. if b then a else rational_zero) (eq-eqb k k refl))
+    (rational_sum_by-zero (but_at (λ i. if k == i then a else rational_zero) k) (range_with_len 0 (length xs)) (λ j d inside. none (get_or (range_with_len 0 (length xs)) j d)))
+    ∙ plus-zero a
+  where
+    none : (i : ℕ) → but_at (λ j. if k == j then a else rational_zero) k i ≡ rational_zero
+    none i = by (cases_eq i k)
+      where
+        by : (i ≡ k) ⊎ (i ≢ k) → but_at (λ j. if k == j then a else rational_zero) k i ≡ rational_zero
+        by (inl same) = ap (λ b. if b then rational_zero else (if k == i then a else rational_zero)) (eq-eqb i k same)
+        by (inr other) = ap (λ b. if b then rational_zero else (if k == i then a else rational_zero)) (ne_eqb i k other) ∙ ap (λ b. if b then a else rational_zero) (ne_eqb k i (λ is. other (sym is)))
+
+-- a sum that has but one term
+pub sum-single : {X : Type 0} (f : X → Rational) (xs : List X) (x : X) → AllPairs (λ a b. a ≢ b) xs → Contains xs x → All (λ y. y ≢ x → f y ≡ rational_zero) xs → rational_sum_by f xs ≡ f x
+sum-single f [] x distinct (k, within, is) none = absurd (omega (arith, within))
+sum-single {X} f (y ∷ ys) x distinct found none = ⊎_elim here (λ inside. later inside (sum-single f ys x (AllPairs-tail (λ a b. a ≢ b) y ys distinct) inside (All-tail (λ z. z ≢ x → f z ≡ rational_zero) y ys none))) (Contains-cons y ys x found)
+  where
+    others : All (λ z. y ≢ z) ys
+    others = AllPairs-head (λ a b. a ≢ b) y ys distinct
+
+    here : y ≡ x → rational_sum_by f (y ∷ ys) ≡ f x
+    here same =
+        ap (plus (f y)) (rational_sum_by-zero f ys (λ k d within. All-tail (λ z. z ≢ x → f z ≡ rational_zero) y ys none k d within (λ is. others k d within (same ∙ sym is))))
+        ∙ plus-zero (f y) ∙ ap f same
+
+    later : Contains ys x → rational_sum_by f ys ≡ f x → rational_sum_by f (y ∷ ys) ≡ f x
+    later inside rest =
+        ap₂ plus (All-head (λ z. z ≢ x → f z ≡ rational_zero) y ys none (All-contains (λ z. y ≢ z) ys x others inside)) rest ∙ zero-plus (f x)
+
+-- ---- by sources
+
+-- the terms of one source
+abbrev pub of_source : {X : Type 0} → (X → Source) → (X → Rational) → Source → X → Rational
+of_source of f s x = if same_source (of x) s then f x else rational_zero
+
+module _ (case : Case) where
+  -- a number beside each source that is this one
+  one_source : (s : Source) (a : Rational) → IsSourceOf case s
+      → a ≡ plus (rational_sum_by (λ e. if same_source s (source.Stream e.0) then a else rational_zero) (enumerate_from 0 case.streams))
+      (rational_sum_by (λ e. if same_source s (source.Utility e.0) then a else rational_zero) (enumerate_from 0 case.utilities))
+  one_source (source.Stream i) a within =
+      sym (plus-zero a)
+      ∙ ap₂ plus (sym (sum-picked i a case.streams within)) (sym (rational_sum_by-zero (λ e. rational_zero) (enumerate_from 0 case.utilities) (λ k d inside. refl)))
+  one_source (source.Utility i) a within =
+      sym (zero-plus a)
+      ∙ ap₂ plus (sym (rational_sum_by-zero (λ e. rational_zero) (enumerate_from 0 case.streams) (λ k d inside. refl))) (sym (sum-picked i a case.utilities within))
+
+  pub sum-by_source : {X : Type 0} (of : X → Source) (f : X → Rational) (xs : List X) → All (λ x. IsSourceOf case (of x)) xs
+      → rational_sum_by f xs
+      ≡ plus (rational_sum_by (λ e. rational_sum_by (of_source of f (source.Stream e.0)) xs) (enumerate_from 0 case.streams))
+      (rational_sum_by (λ e. rational_sum_by (of_source of f (source.Utility e.0)) xs) (enumerate_from 0 case.utilities))
+  sum-by_source {X} of f xs each =
+      let streams = enumerate_from 0 case.streams in
+      let utilities = enumerate_from 0 case.utilities in
+      let by_streams = λ (x : X). rational_sum_by (λ e. of_source of f (source.Stream e.0) x) streams in
+      let by_utilities = λ (x : X). rational_sum_by (λ e. of_source of f (source.Utility e.0) x) utilities in
+      rational_sum_by-same f (λ x. plus (by_streams x) (by_utilities x)) xs (λ k d within. one_source (of (get_or xs k d)) (f (get_or xs k d)) (each k d within))
+      ∙ rational_sum_by-plus by_streams by_utilities xs
+      ∙ ap₂ plus (rational_sum_by-swap (λ x e. of_source of f (source.Stream e.0) x) xs streams) (rational_sum_by-swap (λ x e. of_source of f (source.Utility e.0) x) xs utilities)
+
+-- ---- parts are distinct
+
+before_source-not : (a b : Source) → comes_before_source a b → a ≢ b
+before_source-not (source.Stream i) (source.Stream j) h same = absurd (let is : i ≡ j = cc in omega (arith, is))
+before_source-not (source.Stream i) (source.Utility j) h same = absurd (cc)
+before_source-not (source.Utility i) (source.Stream j) h same = h
+before_source-not (source.Utility i) (source.Utility j) h same = absurd (let is : i ≡ j = cc in omega (arith, is))
+
+pub before-not : (p q : Part) → comes_before p q → p ≢ q
+before-not p q (inl h) same = absurd (let is : p.high ≡ q.high = ap (λ (r : Part). r.high) same in omega (arith, ints))
+before-not p q (inr (inl h)) same = absurd (let is : p.low ≡ q.low = ap (λ (r : Part). r.low) same in omega (arith, ints))
+before-not p q (inr (inr h)) same = before_source-not p.source q.source h.2 (ap (λ (r : Part). r.source) same)

@@ -1,0 +1,206 @@
+-- What a network uses of the parts of its case is ordered at prices that support the heat flows.
+use Rattle.std.proofs.Common.{◌≡◌, ◌⊎◌, inl, inr, ◌∙◌, refl, sym, ap, ap₂, subst, arith, ℕ, zero, suc, Bool, true, false, List, [], ◌∷◌, Some, slice_get, get_or, is_some, All, AllPairs, Contains}
+use Rattle.std.specs.Prelude.{ℤ, pos, ◌≤ℤ◌, ◌<ℤ◌}
+use Rattle.std.specs.Int.{int_min}
+use Rattle.std.specs.List.{enumerate_from}
+use Rattle.std.proofs.lemmas.Int.{clamps, ints}
+use Rattle.std.proofs.lemmas.List.Elements.{All-contains, All-weaker}
+use Rattle.sums.proofs.EnumerationLemmas.{All-enumerated}
+use Rattle.sums.proofs.ListLemmas.{All-slice_get}
+use Rattle.sums.proofs.OrderLemmas.{ListsFalling-unique}
+use Rattle.stream_case.specs.Case.{IsComplete, IsSourceOf}
+use Rattle.stream_case.specs.Stream.{IsValidStream, high_end, low_end}
+use Rattle.stream_case.specs.Utility.{IsPlaced}
+use Rattle.stream_case.specs.declared.case.Case.{Case}
+use Rattle.stream_case.specs.declared.source.Side.{Side}
+use Rattle.stream_case.specs.declared.source.Side.TheVariants as side
+use Rattle.stream_case.specs.declared.source.Source.{Source}
+use Rattle.stream_case.specs.declared.source.Source.TheVariants as source
+use Rattle.stream_case.specs.declared.stream.Stream.{Stream}
+use Rattle.stream_case.specs.declared.utility.Utility.{Utility}
+use Rattle.stream_case.proofs.CaseLemmas.{IsSourceOf-side}
+use Rattle.stream_case.proofs.CompleteLemmas.{AreStreams-IsComplete, IsPlaced-IsComplete}
+use Rattle.fractions.specs.Rationals.{IsAtMost, Rational, minus, plus, rational_sum_by, rational_zero, times, whole}
+use Rattle.fractions.proofs.Comparisons.{at_most-plus_plus, at_most-times, at_most-whole, at_most_refl, at_most_trans}
+use Rattle.fractions.proofs.RationalSums.{at_most-rational_sum_by, rational_sum_by-minus, sum-enumerated, sum-items}
+use Rattle.fractions.proofs.Sums.{plus-minus, plus_assoc, plus_comm}
+use Rattle.grid.specs.declared.part.Part.{Part}
+use Rattle.grid.specs.Grid.{HoldsPlaces, IsGrid, places_of}
+use Rattle.grid.specs.OnGrid.{IsOnPlaces}
+use Rattle.grid.specs.Part.{AreCaseParts, AreParts, IsPartOf}
+use Rattle.grid.proofs.MakingLemmas.{AreParts-made, HoldsPlaces-IsGrid, holds_ends}
+use Rattle.grid.proofs.OnGridLemmas.{parts_on_grid, side_of_part}
+use Rattle.grid.proofs.SizeLemmas.{IsBounded-part}
+use Rattle.heat_flow.specs.Prices.{IsSupporting, price_at}
+use Rattle.heat_flow.specs.Reach.{both_reach, part_reaches, reach_between}
+use Rattle.networks.specs.Lines.{Exchanger, exchangers_of}
+use Rattle.networks.specs.Shape.{HasShape}
+use Rattle.networks.specs.declared.network.Network.{Network}
+use Rattle.network_values.specs.Heights.{View}
+use Rattle.network_values.specs.Weights.{stream_loss}
+use Rattle.network_audit.specs.Balance.{heat_with}
+use Rattle.network_audit.specs.Valid.{IsValidNetwork}
+use Rattle.price_floor.specs.PartPrices.{price_steps}
+use Rattle.price_floor.specs.Steps.{StepPrices}
+use Rattle.price_floor.specs.Uses.{UsesAreOrdered, use_worth, used_by, used_heat, worth_of_uses}
+use Rattle.price_floor.specs.Views.{views_of}
+use Rattle.price_floor.specs.Worths.{branch_worth, cold_worth, hot_worth}
+use Rattle.price_floor.proofs.NetworkWorth.{worths_ordered}
+use Rattle.price_floor.proofs.PartSums.{of_source, own_worth, part_worth, sum-by_source}
+use Rattle.price_floor.proofs.PartViews.{HasEnds, leaves_own, own_view, some_lowest, views-fall}
+use Rattle.price_floor.proofs.StepsOfParts.{cold_price, hot_price, steps_are_ordered, steps_fall}
+use Rattle.price_floor.proofs.StepSums.{step-part}
+use Rattle.price_floor.proofs.StreamWorth.{stream_worth-is}
+use Rattle.price_floor.proofs.UtilityWorth.{side_worth, source_on, side_worth-by, utility_worth-is}
+
+-- ---- the least price
+
+-- the least of some prices, and no more than 0
+abbrev least_price : List ℤ → ℤ
+least_price [] = pos 0
+least_price (x ∷ xs) = int_min x (least_price xs)
+
+least_price-least : (xs : List ℤ) (a : ℕ) → least_price xs ≤ℤ price_at xs a
+least_price-least [] a = omega (arith, ints)
+least_price-least (x ∷ xs) zero = omega (arith, ints, clamps)
+least_price-least (x ∷ xs) (suc a) = let rest = least_price-least xs a in omega (arith, ints, clamps)
+
+-- ---- the parts on a grid
+
+module _ (case : Case) (network : Network) (hot cold : List Part) (y z : List ℤ) (complete : IsComplete case) (shape : HasShape case network) (valid : IsValidNetwork case network)
+  (grid : List ℤ) (is_grid : IsGrid case grid) (hot_parts : AreParts case.streams case.utilities grid side.Hot hot) (cold_parts : AreParts case.streams case.utilities grid side.Cold cold)
+  (hot_ends : All (HasEnds grid) hot) (cold_ends : All (HasEnds grid) cold) where
+  abbrev least : ℤ
+  least = least_price y
+
+  abbrev views : List View
+  views = views_of grid
+
+  abbrev prices : Side → Source → StepPrices
+  prices = price_steps case (least_price y) z cold
+
+  abbrev worth : Side → Part → Rational
+  worth = part_worth (least_price y) (views_of grid) (price_steps case (least_price y) z cold) network
+
+  falls : AllPairs (λ a b. b <ℤ a) grid
+  falls = is_grid.ordered
+
+  holds : HoldsPlaces case.streams case.utilities grid
+  holds = HoldsPlaces-IsGrid case grid is_grid
+
+  -- ---- uses are not negative
+
+  used-not_negative : (on : Side) (p : Part) → IsPartOf case.streams case.utilities grid on p → IsAtMost rational_zero (used_heat network p)
+  used-not_negative on p (inl (i, s, h)) =
+      let from : source.Stream i ≡ p.source = sym (ap (λ (r : Part). r.source) h.is) in
+      let bounded = IsBounded-part case.streams case.utilities on grid (AreStreams-IsComplete case complete).each (IsPlaced-IsComplete case complete) holds p (inl (i, s, h)) in
+      subst (λ r. IsAtMost rational_zero (used_by network p.least r)) from (at_most-whole (pos 0) p.least bounded.least.from)
+  used-not_negative on p (inr (k, u, h)) =
+      let from : source.Utility k ≡ p.source = sym (ap (λ (r : Part). r.source) h.is) in
+      let placed = All-slice_get IsPlaced case.utilities k u (IsPlaced-IsComplete case complete) h.utility in
+      subst (λ r. IsAtMost rational_zero (used_by network p.least r)) from
+      (at_most_trans rational_zero (whole u.least) (heat_with network k) (at_most-whole (pos 0) u.least placed.least.from) (valid.ranges k u h.utility).least)
+
+  -- ---- one part
+
+  worth-is : (on : Side) (p : Part) (own : HasEnds grid p) → worth on p ≡ times (whole ((prices on p.source).below (own_view grid p own))) (used_heat network p)
+  worth-is on p own =
+      step-part least views (prices on p.source) p (own_view grid p own) (used_heat network p) (steps_fall case least z cold grid falls cold_ends on p.source).last (leaves_own grid p falls own)
+
+  cold_part : (b : ℕ) (p : Part) → slice_get cold b ≡ Some p → IsAtMost (use_worth network z (b, p)) (worth side.Cold p)
+  cold_part b p at =
+      let own = All-slice_get (HasEnds grid) cold b p cold_ends at in
+      let price = (prices side.Cold p.source).below (own_view grid p own) in
+      subst (IsAtMost (use_worth network z (b, p))) (sym (worth-is side.Cold p own))
+      (at_most-times (whole (price_at z b)) (whole price) (used_heat network p) (used-not_negative side.Cold p (All-slice_get (IsPartOf case.streams case.utilities grid side.Cold) cold b p cold_parts.each at))
+      (at_most-whole (price_at z b) price (cold_price case least z cold grid falls cold_ends b p at own)))
+
+  hot_part : IsSupporting (reach_between case hot cold) y z → (a : ℕ) (p : Part) → slice_get hot a ≡ Some p → IsAtMost (worth side.Hot p) (use_worth network y (a, p))
+  hot_part supporting a p at =
+      let own = All-slice_get (HasEnds grid) hot a p hot_ends at in
+      let price = (prices side.Hot p.source).below (own_view grid p own) in
+      subst (λ w. IsAtMost w (use_worth network y (a, p))) (sym (worth-is side.Hot p own))
+      (at_most-times (whole price) (whole (price_at y a)) (used_heat network p) (used-not_negative side.Hot p (All-slice_get (IsPartOf case.streams case.utilities grid side.Hot) hot a p hot_parts.each at))
+      (at_most-whole price (price_at y a) (hot_price case least z cold grid falls cold_ends p own (price_at y a) (least_price-least y a)
+      (λ b q here reaches. supporting a b (ap₂ (both_reach case) at here ∙ reaches)))))
+
+  -- ---- all parts of a side
+
+  abbrev of_streams : Side → List Part → Rational
+  of_streams on parts = rational_sum_by (λ (e : ℕ × Stream). rational_sum_by (own_worth least views prices network on (source.Stream e.0)) parts) (enumerate_from 0 case.streams)
+
+  abbrev of_utilities : Side → Rational
+  of_utilities on = rational_sum_by (side_worth case network valid.values least views prices on) (enumerate_from 0 (exchangers_of network.lines))
+
+  side_sum : (on : Side) (parts : List Part) → AreParts case.streams case.utilities grid on parts → rational_sum_by (worth on) parts ≡ plus (of_streams on parts) (of_utilities on)
+  side_sum on parts are =
+      sum-by_source case (λ (p : Part). p.source) (worth on) parts
+      (All-weaker (IsPartOf case.streams case.utilities grid on) (λ p. IsSourceOf case p.source)
+      (λ p is. IsSourceOf-side case p.source (ap is_some (side_of_part case grid on p is))) parts are.each)
+      ∙ ap (plus (of_streams on parts))
+      (sum-enumerated (λ (e : ℕ × Utility). rational_sum_by (own_worth least views prices network on (source.Utility e.0)) parts) 
+      (λ e. rational_sum_by (of_source (λ (n : ℕ × Exchanger). source_on on n.1) (side_worth case network valid.values least views prices on) (source.Utility e.0)) (enumerate_from 0 (exchangers_of network.lines)))
+      case.utilities
+      (λ k u at. utility_worth-is case network valid.values least views prices on k u at shape grid parts are)
+      ∙ sym (side_worth-by case network valid.values least views prices on shape))
+
+  streams-lose : rational_sum_by (stream_loss (branch_worth case least views prices)) (enumerate_from 0 case.streams) ≡ minus (of_streams side.Hot hot) (of_streams side.Cold cold)
+  streams-lose =
+      let hots = λ (e : ℕ × Stream). rational_sum_by (own_worth least views prices network side.Hot (source.Stream e.0)) hot in
+      let colds = λ (e : ℕ × Stream). rational_sum_by (own_worth least views prices network side.Cold (source.Stream e.0)) cold in
+      sum-enumerated (stream_loss (branch_worth case least views prices)) (λ e. minus (hots e) (colds e)) case.streams one
+      ∙ rational_sum_by-minus hots colds (enumerate_from 0 case.streams)
+    where
+      one : (i : ℕ) (s : Stream) → slice_get case.streams i ≡ Some s → stream_loss (branch_worth case least views prices) (i, s)
+          ≡ minus (rational_sum_by (own_worth least views prices network side.Hot (source.Stream i)) hot) (rational_sum_by (own_worth least views prices network side.Cold (source.Stream i)) cold)
+      one i s at =
+          let ends = All-slice_get (λ (r : Stream). Contains grid (high_end r) × Contains grid (low_end r)) case.streams i s (holds_ends case.streams case.utilities grid holds) at in
+          let (lowest, low) = some_lowest grid (low_end s) falls ends.1 in
+          let under = All-contains (λ x. lowest ≤ℤ x) grid (low_end s) low.each ends.1 in
+          stream_worth-is case network least grid prices holds lowest low i s at (All-slice_get IsValidStream case.streams i s (AreStreams-IsComplete case complete).each at) under hot cold
+          (AreParts-made case.streams case.utilities side.Hot grid hot holds hot_parts) hot_ends (AreParts-made case.streams case.utilities side.Cold grid cold holds cold_parts) cold_ends
+
+  -- ---- both sides
+
+  moved_over : (a b c e : Rational) → IsAtMost c (plus (minus a b) e) → IsAtMost (plus b c) (plus a e)
+  moved_over a b c e h =
+      subst (λ w. IsAtMost w (plus a e)) (plus_comm c b)
+      (subst (IsAtMost (plus c b)) (ap (λ w. plus w b) (plus_comm (minus a b) e) ∙ plus_assoc e (minus a b) b ∙ ap (plus e) (plus-minus a b) ∙ plus_comm e a)
+      (at_most-plus_plus c (plus (minus a b) e) b b h (at_most_refl b)))
+
+  worths-ordered : IsAtMost (rational_sum_by (worth side.Cold) cold) (rational_sum_by (worth side.Hot) hot)
+  worths-ordered =
+      let es = exchangers_of network.lines in
+      let takes = sum-enumerated (cold_worth case network valid.values least views prices) (side_worth case network valid.values least views prices side.Cold) es (λ n e at. refl) in
+      let gives = sum-enumerated (hot_worth case network valid.values least views prices) (side_worth case network valid.values least views prices side.Hot) es (λ n e at. refl) in
+      let h = worths_ordered case network valid.values least views prices shape valid.valuation valid.ended valid.approaches valid.permitted (views-fall grid falls) (steps_are_ordered case least z cold grid falls cold_ends) in
+      let both = subst (λ c. IsAtMost c (plus (minus (of_streams side.Hot hot) (of_streams side.Cold cold)) (of_utilities side.Hot))) takes
+      (subst (IsAtMost (rational_sum_by (cold_worth case network valid.values least views prices) (enumerate_from 0 es))) (ap₂ plus streams-lose gives) h) in
+      subst (λ w. IsAtMost w (rational_sum_by (worth side.Hot) hot)) (sym (side_sum side.Cold cold cold_parts))
+      (subst (IsAtMost (plus (of_streams side.Cold cold) (of_utilities side.Cold))) (sym (side_sum side.Hot hot hot_parts))
+      (moved_over (of_streams side.Hot hot) (of_streams side.Cold cold) (of_utilities side.Cold) (of_utilities side.Hot) both))
+
+  uses-ordered : IsSupporting (reach_between case hot cold) y z → IsAtMost (worth_of_uses network z cold) (worth_of_uses network y hot)
+  unfolding worth_of_uses
+  uses-ordered supporting =
+      let colds = rational_sum_by (worth side.Cold) cold in
+      let hots = rational_sum_by (worth side.Hot) hot in
+      let cold_sum = sum-items (λ (e : ℕ × Part). worth side.Cold e.1) (worth side.Cold) cold (λ i p at. refl) in
+      let hot_sum = sum-items (λ (e : ℕ × Part). worth side.Hot e.1) (worth side.Hot) hot (λ i p at. refl) in
+      let taken = subst (IsAtMost (rational_sum_by (use_worth network z) (enumerate_from 0 cold))) cold_sum
+      (at_most-rational_sum_by (use_worth network z) (λ (e : ℕ × Part). worth side.Cold e.1) (enumerate_from 0 cold)
+      (All-enumerated (λ (e : ℕ × Part). IsAtMost (use_worth network z e) (worth side.Cold e.1)) cold cold_part)) in
+      let given = subst (λ w. IsAtMost w (rational_sum_by (use_worth network y) (enumerate_from 0 hot))) hot_sum
+      (at_most-rational_sum_by (λ (e : ℕ × Part). worth side.Hot e.1) (use_worth network y) (enumerate_from 0 hot)
+      (All-enumerated (λ (e : ℕ × Part). IsAtMost (worth side.Hot e.1) (use_worth network y e)) hot (hot_part supporting))) in
+      at_most_trans (rational_sum_by (use_worth network z) (enumerate_from 0 cold)) colds (rational_sum_by (use_worth network y) (enumerate_from 0 hot)) taken
+      (at_most_trans colds hots (rational_sum_by (use_worth network y) (enumerate_from 0 hot)) worths-ordered given)
+
+pub uses_ordered : UsesAreOrdered
+uses_ordered case network hot cold y z complete shape valid parts supporting =
+    let on = parts_on_grid case hot cold parts in
+    let same = ListsFalling-unique (Contains (places_of case.streams case.utilities)) parts.grid on.grid parts.is_grid on.is_grid in
+    uses-ordered case network hot cold y z complete shape valid on.grid on.is_grid
+    (subst (λ g. AreParts case.streams case.utilities g side.Hot hot) same parts.hot_parts) (subst (λ g. AreParts case.streams case.utilities g side.Cold cold) same parts.cold_parts)
+    (All-weaker (IsOnPlaces case on.grid side.Hot) (HasEnds on.grid) (λ p h. h.ends) hot on.hot_parts)
+    (All-weaker (IsOnPlaces case on.grid side.Cold) (HasEnds on.grid) (λ p h. h.ends) cold on.cold_parts) supporting
