@@ -1,6 +1,6 @@
 -- Sums over parts and exchangers by the sources of the case, and what the use of a part is worth.
-use Rattle.std.proofs.Common.{◌≡◌, ◌≢◌, ◌⊎◌, ⊎_elim, inl, inr, ◌∙◌, refl, sym, ap, ap₂, arith, ℕ, ◌<◌, ◌==◌, Bool, true, false, List, [], ◌∷◌, length, get_or, All, AllPairs, Contains, eq-eqb, ne_eqb}
-use Rattle.std.specs.Prelude.{ℤ, ◌<ℤ◌, if◌then◌else◌}
+use Rattle.std.proofs.Common.{◌≡◌, ◌≢◌, ◌⊎◌, ⊎_elim, inl, inr, ◌∙◌, refl, sym, ap, ap₂, arith, ℕ, ◌<◌, ◌==◌, List, [], ◌∷◌, length, get_or, All, AllPairs, Contains, eq-eqb, ne_eqb}
+use Rattle.std.specs.Prelude.{ℤ, if◌then◌else◌}
 use Rattle.std.specs.List.{enumerate_from, range_with_len}
 use Rattle.std.proofs.lemmas.Bool.{cases_eq}
 use Rattle.std.proofs.lemmas.Int.{ints}

@@ -1,5 +1,5 @@
 -- Parts as views see them: which views a part stands above, and the last view that it does not.
-use Rattle.std.proofs.Common.{◌≡◌, ◌⊎◌, ⊎_elim, inl, inr, refl, sym, ap, subst, arith, Bool, true, false, List, [], ◌∷◌, get_or, All, AllPairs, Contains}
+use Rattle.std.proofs.Common.{◌≡◌, ◌⊎◌, ⊎_elim, inl, inr, refl, ap, subst, arith, Bool, true, false, List, [], ◌∷◌, get_or, All, AllPairs, Contains}
 use Rattle.std.specs.Prelude.{ℤ, ◌≤ℤ◌, ◌<ℤ◌, int_le, int_lt}
 use Rattle.std.proofs.lemmas.Bool.{false_from_ne_true}
 use Rattle.std.proofs.lemmas.Int.{ints}

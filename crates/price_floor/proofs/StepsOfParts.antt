@@ -1,7 +1,7 @@
 -- The step prices that prices of cold parts make: they fall to the least price, they are ordered, and where a part lies
 -- they are at most its price if it is hot, and at least its price if it is cold.
-use Rattle.std.proofs.Common.{◌≡◌, ◌⊎◌, inl, inr, ◌∙◌, refl, sym, ap, subst, arith, ℕ, zero, suc, ◌+◌, Bool, true, false, not, ◌&&◌, List, [], ◌∷◌, Some, slice_get, All, AllPairs, Contains, get_or}
-use Rattle.std.specs.Prelude.{ℤ, ◌≤ℤ◌, ◌<ℤ◌, int_le, int_lt, if◌then◌else◌}
+use Rattle.std.proofs.Common.{◌≡◌, inl, inr, ◌∙◌, refl, sym, ap, subst, arith, ℕ, zero, suc, ◌+◌, Bool, true, false, not, ◌&&◌, List, [], ◌∷◌, Some, slice_get, All, AllPairs, Contains, get_or}
+use Rattle.std.specs.Prelude.{ℤ, ◌≤ℤ◌, ◌<ℤ◌, int_le, if◌then◌else◌}
 use Rattle.std.specs.Ordering.{int_eq}
 use Rattle.std.specs.Int.{int_max}
 use Rattle.std.specs.List.{enumerate_from}
@@ -21,15 +21,14 @@ use Rattle.stream_case.specs.declared.source.Side.TheVariants as side
 use Rattle.stream_case.specs.declared.source.Source.{Source}
 use Rattle.stream_case.proofs.SourceLemmas.{same_source-same, same_source-true}
 use Rattle.grid.specs.declared.part.Part.{Part}
-use Rattle.grid.specs.Part.{IsInterval}
 use Rattle.grid.proofs.PlaceLemmas.{interval_below, interval_ends, interval_falls}
 use Rattle.heat_flow.specs.Prices.{price_at}
 use Rattle.heat_flow.specs.Reach.{part_reaches, passes_heat}
 use Rattle.network_values.specs.Heights.{View}
 use Rattle.price_floor.specs.PartPrices.{counts_for, greatest_price, price_steps}
-use Rattle.price_floor.specs.Steps.{AreAtMost, AreFalling, AreOrderedPrices, FallTo, StepPrices, last_price}
+use Rattle.price_floor.specs.Steps.{AreAtMost, AreFalling, AreOrderedPrices, FallTo, last_price}
 use Rattle.price_floor.specs.Views.{comes_below, views_of}
-use Rattle.price_floor.proofs.PartViews.{HasEnds, IsLowest, from_place, low_on, lowest_of, none_inside, own_not, own_view, stands, stands_later, stands_lowest, views-fall, views-places}
+use Rattle.price_floor.proofs.PartViews.{HasEnds, from_place, low_on, lowest_of, none_inside, own_not, own_view, stands, stands_later, stands_lowest, views-fall, views-places}
 
 -- ---- the greatest of two
 

@@ -1,5 +1,5 @@
 -- What a stream loses of its worth is what its parts are worth: of a hot stream's, and of a cold one's taken away.
-use Rattle.std.proofs.Common.{◌≡◌, ◌⊎◌, ⊎_elim, ◌∙◌, refl, sym, ap, ap₂, arith, ℕ, ◌==◌, Bool, true, false, List, [], ◌∷◌, Some, slice_get, get_or, All, AllPairs, Contains, eqb-true}
+use Rattle.std.proofs.Common.{◌≡◌, ⊎_elim, ◌∙◌, refl, sym, ap, ap₂, arith, ℕ, ◌==◌, Bool, true, false, List, Some, slice_get, get_or, All, Contains, eqb-true}
 use Rattle.std.specs.Prelude.{ℤ, pos, ◌+ℤ◌, ◌-ℤ◌, ◌*ℤ◌, ◌≤ℤ◌, if◌then◌else◌}
 use Rattle.std.proofs.lemmas.Int.{clamps, ints}
 use Rattle.stream_case.specs.Source.{same_side, same_source}
@@ -10,14 +10,13 @@ use Rattle.stream_case.specs.declared.source.Side.TheVariants as side
 use Rattle.stream_case.specs.declared.source.Source.{Source}
 use Rattle.stream_case.specs.declared.source.Source.TheVariants as source
 use Rattle.stream_case.specs.declared.stream.Stream.{Stream}
-use Rattle.stream_case.specs.declared.utility.Utility.{Utility}
 use Rattle.stream_case.proofs.EndLemmas.{level-latent, order-sensible}
 use Rattle.stream_case.proofs.HeatLemmas.{heat_over-latent, heat_over-sensible, is_latent-latent, is_latent-sensible}
 use Rattle.sums.specs.Sum.{int_sum_by}
 use Rattle.sums.proofs.IntegerLemmas.{int_le-from}
 use Rattle.sums.proofs.ProductLemmas.{*ℤ--ℤ}
 use Rattle.sums.proofs.SumLemmas.{int_sum_by-same}
-use Rattle.fractions.specs.Rationals.{Rational, minus, plus, rational_sum_by, rational_zero, times, whole}
+use Rattle.fractions.specs.Rationals.{Rational, minus, rational_sum_by, rational_zero, times, whole}
 use Rattle.fractions.proofs.RationalSums.{rational_sum_by-same, rational_sum_by-whole}
 use Rattle.fractions.proofs.Sums.{minus-zero}
 use Rattle.fractions.proofs.Wholes.{whole-minus, whole-times}
@@ -27,7 +26,7 @@ use Rattle.grid.specs.Making.{made_parts}
 use Rattle.networks.specs.declared.network.Network.{Network}
 use Rattle.network_values.specs.Heights.{View}
 use Rattle.network_values.specs.Penalties.{given_by, height_in}
-use Rattle.network_values.specs.Values.{first_part_of_load, first_state, first_value, full_size, last_part_of_load, last_state, last_value}
+use Rattle.network_values.specs.Values.{first_part_of_load, first_value, full_size, last_part_of_load, last_value}
 use Rattle.network_values.specs.Weights.{stream_loss}
 use Rattle.network_values.proofs.PenaltyLemmas.{stream_given}
 use Rattle.network_values.proofs.StreamStates.{full_size-latent, full_size-sensible}

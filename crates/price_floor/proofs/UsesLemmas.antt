@@ -1,5 +1,5 @@
 -- What a network uses of the parts of its case is ordered at prices that support the heat flows.
-use Rattle.std.proofs.Common.{◌≡◌, ◌⊎◌, inl, inr, ◌∙◌, refl, sym, ap, ap₂, subst, arith, ℕ, zero, suc, Bool, true, false, List, [], ◌∷◌, Some, slice_get, get_or, is_some, All, AllPairs, Contains}
+use Rattle.std.proofs.Common.{◌≡◌, inl, inr, ◌∙◌, refl, sym, ap, ap₂, subst, arith, ℕ, zero, suc, List, [], ◌∷◌, Some, slice_get, is_some, All, AllPairs, Contains}
 use Rattle.std.specs.Prelude.{ℤ, pos, ◌≤ℤ◌, ◌<ℤ◌}
 use Rattle.std.specs.Int.{int_min}
 use Rattle.std.specs.List.{enumerate_from}
@@ -27,12 +27,12 @@ use Rattle.fractions.proofs.Sums.{plus-minus, plus_assoc, plus_comm}
 use Rattle.grid.specs.declared.part.Part.{Part}
 use Rattle.grid.specs.Grid.{HoldsPlaces, IsGrid, places_of}
 use Rattle.grid.specs.OnGrid.{IsOnPlaces}
-use Rattle.grid.specs.Part.{AreCaseParts, AreParts, IsPartOf}
+use Rattle.grid.specs.Part.{AreParts, IsPartOf}
 use Rattle.grid.proofs.MakingLemmas.{AreParts-made, HoldsPlaces-IsGrid, holds_ends}
 use Rattle.grid.proofs.OnGridLemmas.{parts_on_grid, side_of_part}
 use Rattle.grid.proofs.SizeLemmas.{IsBounded-part}
 use Rattle.heat_flow.specs.Prices.{IsSupporting, price_at}
-use Rattle.heat_flow.specs.Reach.{both_reach, part_reaches, reach_between}
+use Rattle.heat_flow.specs.Reach.{both_reach, reach_between}
 use Rattle.networks.specs.Lines.{Exchanger, exchangers_of}
 use Rattle.networks.specs.Shape.{HasShape}
 use Rattle.networks.specs.declared.network.Network.{Network}

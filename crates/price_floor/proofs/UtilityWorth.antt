@@ -1,11 +1,9 @@
 -- The duties of a utility are worth what its part is worth.
-use Rattle.std.proofs.Common.{◌≡◌, ◌≢◌, ◌⊎◌, inl, inr, ◌∙◌, refl, sym, ap, ap₂, subst, arith, ℕ, ◌==◌, ◌||◌, Bool, true, false, List, [], ◌∷◌, Option, Some, None, slice_get, get_or, length, All, AllPairs, Contains, option_map, unwrap_or, filter_map, is_some, eqb-true, eq-eqb, ne_eqb}
-use Rattle.std.specs.Prelude.{ℤ, pos, ◌+ℤ◌, ◌-ℤ◌, if◌then◌else◌}
+use Rattle.std.proofs.Common.{◌≡◌, ◌≢◌, inl, inr, ◌∙◌, refl, sym, ap, ap₂, arith, ℕ, ◌==◌, ◌||◌, Bool, true, false, List, [], ◌∷◌, Option, Some, None, slice_get, get_or, option_map, unwrap_or, filter_map, is_some, eqb-true}
+use Rattle.std.specs.Prelude.{ℤ, pos, ◌-ℤ◌, if◌then◌else◌}
 use Rattle.std.specs.List.{cons_option, enumerate_from}
 use Rattle.std.specs.Option.{option_map_or}
-use Rattle.std.proofs.lemmas.Bool.{cases_Bool}
 use Rattle.std.proofs.lemmas.Int.{ints}
-use Rattle.std.proofs.lemmas.List.Elements.{All-weaker}
 use Rattle.sums.proofs.EnumerationLemmas.{All-enumerated}
 use Rattle.sums.proofs.ListLemmas.{All-slice_get}
 use Rattle.stream_case.specs.Case.{IsSourceOf, side_of}
@@ -18,7 +16,6 @@ use Rattle.stream_case.specs.declared.source.Side.{Side}
 use Rattle.stream_case.specs.declared.source.Side.TheVariants as side
 use Rattle.stream_case.specs.declared.source.Source.{Source}
 use Rattle.stream_case.specs.declared.source.Source.TheVariants as source
-use Rattle.stream_case.specs.declared.stream.Stream.{Stream}
 use Rattle.stream_case.specs.declared.utility.Utility.{Utility}
 use Rattle.stream_case.proofs.CaseLemmas.{IsSourceOf-side}
 use Rattle.stream_case.proofs.SourceLemmas.{own_side, same_side-true, same_source-same, same_source-true}
@@ -27,11 +24,11 @@ use Rattle.fractions.proofs.RationalSums.{rational_sum_by-same, rational_sum_by-
 use Rattle.fractions.proofs.Sums.{zero-plus}
 use Rattle.fractions.proofs.Wholes.{whole-minus}
 use Rattle.grid.specs.declared.part.Part.{Part}
-use Rattle.grid.specs.Part.{AreParts, IsPartOf, comes_before, utility_part}
+use Rattle.grid.specs.Part.{AreParts, IsPartOf, utility_part}
 use Rattle.networks.specs.Lines.{Exchanger, exchangers_of}
 use Rattle.networks.specs.Shape.{HasShape, IsExchanger}
 use Rattle.networks.specs.declared.network.Network.{Network}
-use Rattle.network_values.specs.Heights.{View, is_above, share_in}
+use Rattle.network_values.specs.Heights.{View, share_in}
 use Rattle.network_values.specs.OneScale.{shifted_run}
 use Rattle.network_values.specs.Penalties.{unshifted}
 use Rattle.network_values.specs.Sides.{Level, side_run}

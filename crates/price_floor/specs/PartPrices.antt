@@ -1,5 +1,5 @@
 -- The step prices that prices of cold parts make.
-use Rattle.std.specs.Prelude.{ℕ, ℤ, Bool, true, false, not, ◌&&◌, List, [], ◌∷◌, if◌then◌else◌}
+use Rattle.std.specs.Prelude.{ℕ, ℤ, Bool, not, ◌&&◌, List, [], ◌∷◌, if◌then◌else◌}
 use Rattle.std.specs.Int.{int_max}
 use Rattle.std.specs.List.{enumerate_from}
 use Rattle.stream_case.specs.Case.{is_forbidden}
@@ -11,7 +11,6 @@ use Rattle.stream_case.specs.declared.source.Source.{Source}
 use Rattle.grid.specs.declared.part.Part.{Part}
 use Rattle.grid.specs.Part.{stands_above}
 use Rattle.heat_flow.specs.Prices.{price_at}
-use Rattle.network_values.specs.Heights.{View}
 use Rattle.price_floor.specs.Steps.{StepPrices}
 
 -- the greatest price of the parts that count, and no less than the least price

@@ -1,5 +1,5 @@
 -- What the branches of a network are worth at step prices, and the heat of its utilities.
-use Rattle.std.specs.Prelude.{◌≡◌, ℕ, ℤ, false, List, All, AllPairs, Option, Some, None, slice_get}
+use Rattle.std.specs.Prelude.{ℕ, ℤ, List, All, AllPairs, Option, Some, None, slice_get}
 use Rattle.std.specs.List.{enumerate_from}
 use Rattle.stream_case.specs.declared.case.Case.{Case}
 use Rattle.stream_case.specs.declared.source.Side.{Side}
