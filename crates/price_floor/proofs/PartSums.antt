@@ -35,12 +35,14 @@ own_worth least views prices network on s p = if same_source p.source s then par
 
 -- ---- one number, and one element
 
-pub sum-picked : {X : Type 0} (k : ℕ) (a : Rational) (xs : List X) → k < length xs → rational_sum_by (λ (e : ℕ × X). if k == e.0 then a else rational_zero) (enumerate_from 0 xs) ≡ a
+pub sum-picked : {X : Type 0} (k : ℕ) (a : Rational) (xs : List X) → k < length xs
+    → rational_sum_by (λ (e : ℕ × X). if k == e.0 then a else rational_zero) (enumerate_from 0 xs) ≡ a
 sum-picked k a xs within =
     sum-enumerate (λ e. if k == e.0 then a else rational_zero) (λ i. if k == i then a else rational_zero) xs (λ i x at. refl)
     ∙ one_taken (λ i. if k == i then a else rational_zero) k 0 (length xs) (omega arith) (omega (arith, within))
     ∙ ap₂ plus (ap (λ b. if b then a else rational_zero) (eq-eqb k k refl))
-    (rational_sum_by-zero (but_at (λ i. if k == i then a else rational_zero) k) (range_with_len 0 (length xs)) (λ j d inside. none (get_or (range_with_len 0 (length xs)) j d)))
+    (rational_sum_by-zero (but_at (λ i. if k == i then a else rational_zero) k) (range_with_len 0 (length xs))
+    (λ j d inside. none (get_or (range_with_len 0 (length xs)) j d)))
     ∙ plus-zero a
   where
     none : (i : ℕ) → but_at (λ j. if k == j then a else rational_zero) k i ≡ rational_zero
@@ -48,19 +50,25 @@ sum-picked k a xs within =
       where
         by : (i ≡ k) ⊎ (i ≢ k) → but_at (λ j. if k == j then a else rational_zero) k i ≡ rational_zero
         by (inl same) = ap (λ b. if b then rational_zero else (if k == i then a else rational_zero)) (eq-eqb i k same)
-        by (inr other) = ap (λ b. if b then rational_zero else (if k == i then a else rational_zero)) (ne_eqb i k other) ∙ ap (λ b. if b then a else rational_zero) (ne_eqb k i (λ is. other (sym is)))
+        by (inr other) =
+            ap (λ b. if b then rational_zero else (if k == i then a else rational_zero)) (ne_eqb i k other)
+            ∙ ap (λ b. if b then a else rational_zero) (ne_eqb k i (λ is. other (sym is)))
 
 -- a sum that has but one term
-pub sum-single : {X : Type 0} (f : X → Rational) (xs : List X) (x : X) → AllPairs (λ a b. a ≢ b) xs → Contains xs x → All (λ y. y ≢ x → f y ≡ rational_zero) xs → rational_sum_by f xs ≡ f x
+pub sum-single : {X : Type 0} (f : X → Rational) (xs : List X) (x : X) → AllPairs (λ a b. a ≢ b) xs → Contains xs x
+    → All (λ y. y ≢ x → f y ≡ rational_zero) xs → rational_sum_by f xs ≡ f x
 sum-single f [] x distinct (k, within, is) none = absurd (omega (arith, within))
-sum-single {X} f (y ∷ ys) x distinct found none = ⊎_elim here (λ inside. later inside (sum-single f ys x (AllPairs-tail (λ a b. a ≢ b) y ys distinct) inside (All-tail (λ z. z ≢ x → f z ≡ rational_zero) y ys none))) (Contains-cons y ys x found)
+sum-single {X} f (y ∷ ys) x distinct found none =
+    ⊎_elim here (λ inside. later inside (sum-single f ys x (AllPairs-tail (λ a b. a ≢ b) y ys distinct) inside
+    (All-tail (λ z. z ≢ x → f z ≡ rational_zero) y ys none))) (Contains-cons y ys x found)
   where
     others : All (λ z. y ≢ z) ys
     others = AllPairs-head (λ a b. a ≢ b) y ys distinct
 
     here : y ≡ x → rational_sum_by f (y ∷ ys) ≡ f x
     here same =
-        ap (plus (f y)) (rational_sum_by-zero f ys (λ k d within. All-tail (λ z. z ≢ x → f z ≡ rational_zero) y ys none k d within (λ is. others k d within (same ∙ sym is))))
+        ap (plus (f y)) (rational_sum_by-zero f ys
+        (λ k d within. All-tail (λ z. z ≢ x → f z ≡ rational_zero) y ys none k d within (λ is. others k d within (same ∙ sym is))))
         ∙ plus-zero (f y) ∙ ap f same
 
     later : Contains ys x → rational_sum_by f ys ≡ f x → rational_sum_by f (y ∷ ys) ≡ f x
@@ -80,10 +88,12 @@ module _ (case : Case) where
       (rational_sum_by (λ e. if same_source s (source.Utility e.0) then a else rational_zero) (enumerate_from 0 case.utilities))
   one_source (source.Stream i) a within =
       sym (plus-zero a)
-      ∙ ap₂ plus (sym (sum-picked i a case.streams within)) (sym (rational_sum_by-zero (λ e. rational_zero) (enumerate_from 0 case.utilities) (λ k d inside. refl)))
+      ∙ ap₂ plus (sym (sum-picked i a case.streams within))
+      (sym (rational_sum_by-zero (λ e. rational_zero) (enumerate_from 0 case.utilities) (λ k d inside. refl)))
   one_source (source.Utility i) a within =
       sym (zero-plus a)
-      ∙ ap₂ plus (sym (rational_sum_by-zero (λ e. rational_zero) (enumerate_from 0 case.streams) (λ k d inside. refl))) (sym (sum-picked i a case.utilities within))
+      ∙ ap₂ plus (sym (rational_sum_by-zero (λ e. rational_zero) (enumerate_from 0 case.streams) (λ k d inside. refl)))
+      (sym (sum-picked i a case.utilities within))
 
   pub sum-by_source : {X : Type 0} (of : X → Source) (f : X → Rational) (xs : List X) → All (λ x. IsSourceOf case (of x)) xs
       → rational_sum_by f xs
@@ -94,9 +104,11 @@ module _ (case : Case) where
       let utilities = enumerate_from 0 case.utilities in
       let by_streams = λ (x : X). rational_sum_by (λ e. of_source of f (source.Stream e.0) x) streams in
       let by_utilities = λ (x : X). rational_sum_by (λ e. of_source of f (source.Utility e.0) x) utilities in
-      rational_sum_by-same f (λ x. plus (by_streams x) (by_utilities x)) xs (λ k d within. one_source (of (get_or xs k d)) (f (get_or xs k d)) (each k d within))
+      rational_sum_by-same f (λ x. plus (by_streams x) (by_utilities x)) xs
+      (λ k d within. one_source (of (get_or xs k d)) (f (get_or xs k d)) (each k d within))
       ∙ rational_sum_by-plus by_streams by_utilities xs
-      ∙ ap₂ plus (rational_sum_by-swap (λ x e. of_source of f (source.Stream e.0) x) xs streams) (rational_sum_by-swap (λ x e. of_source of f (source.Utility e.0) x) xs utilities)
+      ∙ ap₂ plus (rational_sum_by-swap (λ x e. of_source of f (source.Stream e.0) x) xs streams)
+      (rational_sum_by-swap (λ x e. of_source of f (source.Utility e.0) x) xs utilities)
 
 -- ---- parts are distinct
 

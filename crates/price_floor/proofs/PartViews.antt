@@ -48,7 +48,8 @@ views-fall [] falls = AllPairs-nil comes_below
 views-fall (g ∷ places) falls =
     let less = AllPairs-head (λ a b. b <ℤ a) g places falls in
     let below = λ (v : View) (at : v.place ≡ g).
-        All-views (comes_below v) places (All-weaker (λ x. x <ℤ g) (λ x. comes_below v (above_place x) × comes_below v (from_place x)) (λ x h. (inl (omega (arith, ints)), inl (omega (arith, ints)))) places less) in
+        All-views (comes_below v) places (All-weaker (λ x. x <ℤ g) (λ x. comes_below v (above_place x) × comes_below v (from_place x))
+        (λ x h. (inl (omega (arith, ints)), inl (omega (arith, ints)))) places less) in
     AllPairs-cons_if comes_below true (above_place g) (from_place g ∷ views_of places)
     (λ e. All-cons (comes_below (above_place g)) (from_place g) (views_of places) (inr (refl, refl, refl)) (below (above_place g) refl))
     (AllPairs-cons_if comes_below true (from_place g) (views_of places) (λ e. below (from_place g) refl)
@@ -61,7 +62,8 @@ pub record IsLowest (places : List ℤ) (lowest : ℤ) : Type 0 where
   pub last : (above : ℤ) (below : View → ℤ) → last_price above below (views_of places) ≡ below (from_place lowest)
 
 pub lowest_of : (g : ℤ) (places : List ℤ) → AllPairs (λ a b. b <ℤ a) (g ∷ places) → (lowest : ℤ) × IsLowest (g ∷ places) lowest
-lowest_of g [] falls = (g, record { place = (0, omega arith, refl); each = All-cons (λ x. g ≤ℤ x) g [] (omega (arith, ints)) (All-nil (λ x. g ≤ℤ x)); last = λ above below. refl })
+lowest_of g [] falls =
+    (g, record { place = (0, omega arith, refl); each = All-cons (λ x. g ≤ℤ x) g [] (omega (arith, ints)) (All-nil (λ x. g ≤ℤ x)); last = λ above below. refl })
 lowest_of g (l ∷ places) falls =
     let (lowest, h) = lowest_of l places (AllPairs-tail (λ a b. b <ℤ a) g (l ∷ places) falls) in
     let here = All-head (λ x. lowest ≤ℤ x) l places h.each in
@@ -96,7 +98,8 @@ none_inside places p falls (inr interval) x at less = interval_below places p.hi
 -- ---- views that a part stands above
 
 -- what stands above a view stands above each one that comes below it
-pub stands_later : (places : List ℤ) (p : Part) → AllPairs (λ a b. b <ℤ a) places → HasEnds places p → (u v : View) → Contains places u.place → comes_below u v → stands p u ≡ true → stands p v ≡ true
+pub stands_later : (places : List ℤ) (p : Part) → AllPairs (λ a b. b <ℤ a) places → HasEnds places p → (u v : View) → Contains places u.place
+    → comes_below u v → stands p u ≡ true → stands p v ≡ true
 stands_later places p falls ends u v at below above = by v.from_itself v.place below (low u.from_itself above)
   where
     order : p.low ≤ℤ p.high
@@ -106,7 +109,8 @@ stands_later places p falls ends u v at below above = by v.from_itself v.place b
     low true e = int_le-true u.place p.low e
     low false e = none_inside places p falls ends u.place at (int_lt-true u.place p.high e)
 
-    by : (from : Bool) (place : ℤ) → (place <ℤ u.place) ⊎ ((place ≡ u.place) × (u.from_itself ≡ false) × (from ≡ true)) → u.place ≤ℤ p.low → stands_above from place p ≡ true
+    by : (from : Bool) (place : ℤ) → (place <ℤ u.place) ⊎ ((place ≡ u.place) × (u.from_itself ≡ false) × (from ≡ true)) → u.place ≤ℤ p.low
+        → stands_above from place p ≡ true
     by true place (inl less) h = int_le-from place p.low (omega (arith, ints))
     by true place (inr (same, first, second)) h = int_le-from place p.low (omega (arith, ints))
     by false place (inl less) h = let most = order in int_lt-from place p.high (omega (arith, ints, most))
@@ -136,27 +140,34 @@ module _ (p : Part) (order : p.low ≤ℤ p.high) where
   stands_all : (places : List ℤ) → All (λ x. (x <ℤ p.high) × (x ≤ℤ p.low)) places → All (λ w. stands p w ≡ true) (views_of places)
   stands_all places each =
       All-views (λ w. stands p w ≡ true) places
-      (All-weaker (λ x. (x <ℤ p.high) × (x ≤ℤ p.low)) (λ x. (int_lt x p.high ≡ true) × (int_le x p.low ≡ true)) (λ x h. (int_lt-from x p.high h.0, int_le-from x p.low h.1)) places each)
+      (All-weaker (λ x. (x <ℤ p.high) × (x ≤ℤ p.low)) (λ x. (int_lt x p.high ≡ true) × (int_le x p.low ≡ true))
+      (λ x h. (int_lt-from x p.high h.0, int_le-from x p.low h.1)) places each)
 
-  leaves_level : p.high ≡ p.low → (places : List ℤ) → AllPairs (λ a b. b <ℤ a) places → Contains places p.high → LeavesAt p (above_place p.high) (views_of places)
+  leaves_level : p.high ≡ p.low → (places : List ℤ) → AllPairs (λ a b. b <ℤ a) places → Contains places p.high
+      → LeavesAt p (above_place p.high) (views_of places)
   leaves_level level [] falls (k, within, is) = absurd (omega arith)
   leaves_level level (g ∷ places) falls found =
-      ⊎_elim here (λ inside. later inside (leaves_level level places (AllPairs-tail (λ a b. b <ℤ a) g places falls) inside)) (Contains-cons g places p.high found)
+      ⊎_elim here (λ inside. later inside (leaves_level level places (AllPairs-tail (λ a b. b <ℤ a) g places falls) inside))
+      (Contains-cons g places p.high found)
     where
       less : All (λ x. x <ℤ g) places
       less = AllPairs-head (λ a b. b <ℤ a) g places falls
 
       here : g ≡ p.high → LeavesAt p (above_place p.high) (views_of (g ∷ places))
       here e =
-          let rest = stands_all places (All-weaker (λ x. x <ℤ g) (λ x. (x <ℤ p.high) × (x ≤ℤ p.low)) (λ x h. (omega (arith, ints), omega (arith, ints))) places less) in
-          (not_below g p.high (omega (arith, ints)), inl (ap above_place e, All-cons (λ w. stands p w ≡ true) (from_place g) (views_of places) (int_le-from g p.low (omega (arith, ints))) rest))
+          let rest =
+              stands_all places (All-weaker (λ x. x <ℤ g) (λ x. (x <ℤ p.high) × (x ≤ℤ p.low))
+              (λ x h. (omega (arith, ints), omega (arith, ints))) places less) in
+          (not_below g p.high (omega (arith, ints)), inl
+          (ap above_place e, All-cons (λ w. stands p w ≡ true) (from_place g) (views_of places) (int_le-from g p.low (omega (arith, ints))) rest))
 
       later : Contains places p.high → LeavesAt p (above_place p.high) (views_of places) → LeavesAt p (above_place p.high) (views_of (g ∷ places))
       later inside next =
           let under = All-contains (λ x. x <ℤ g) places p.high less inside in
           (not_below g p.high (omega (arith, ints)), inr (not_upto g p.low (omega (arith, ints)), inr next))
 
-  leaves_interval : p.low <ℤ p.high → (places : List ℤ) → AllPairs (λ a b. b <ℤ a) places → Contains places p.high → All (λ x. x <ℤ p.high → x ≤ℤ p.low) places → LeavesAt p (from_place p.high) (views_of places)
+  leaves_interval : p.low <ℤ p.high → (places : List ℤ) → AllPairs (λ a b. b <ℤ a) places → Contains places p.high
+      → All (λ x. x <ℤ p.high → x ≤ℤ p.low) places → LeavesAt p (from_place p.high) (views_of places)
   leaves_interval width [] falls (k, within, is) none = absurd (omega arith)
   leaves_interval width (g ∷ places) falls found none =
       ⊎_elim here (λ inside. later inside (leaves_interval width places (AllPairs-tail (λ a b. b <ℤ a) g places falls) inside others))
@@ -179,12 +190,14 @@ module _ (p : Part) (order : p.low ≤ℤ p.high) where
           let under = All-contains (λ x. x <ℤ g) places p.high less inside in
           (not_below g p.high (omega (arith, ints)), inr (not_upto g p.low (omega (arith, ints)), inr next))
 
-pub leaves_own : (places : List ℤ) (p : Part) → AllPairs (λ a b. b <ℤ a) places → (ends : HasEnds places p) → LeavesAt p (own_view places p ends) (views_of places)
+pub leaves_own : (places : List ℤ) (p : Part) → AllPairs (λ a b. b <ℤ a) places → (ends : HasEnds places p)
+    → LeavesAt p (own_view places p ends) (views_of places)
 leaves_own places p falls (inl (level, found)) = leaves_level p (omega (arith, ints)) level places falls found
 leaves_own places p falls (inr interval) =
     let less = interval_falls places p.high p.low falls interval in
     leaves_interval p (omega (arith, ints)) less places falls (interval_ends places p.high p.low interval).0
-    (All-weaker (Contains places) (λ x. x <ℤ p.high → x ≤ℤ p.low) (λ x at h. interval_below places p.high p.low x falls interval at h) places (All-contains_itself places))
+    (All-weaker (Contains places) (λ x. x <ℤ p.high → x ≤ℤ p.low) (λ x at h. interval_below places p.high p.low x falls interval at h) places
+    (All-contains_itself places))
 
 -- a part does not stand above its own view
 pub own_not : (places : List ℤ) (p : Part) → AllPairs (λ a b. b <ℤ a) places → (ends : HasEnds places p) → stands p (own_view places p ends) ≡ false

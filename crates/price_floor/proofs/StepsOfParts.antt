@@ -1,6 +1,6 @@
 -- The step prices that prices of cold parts make: they fall to the least price, they are ordered, and where a part lies
 -- they are at most its price if it is hot, and at least its price if it is cold.
-use Rattle.std.proofs.Common.{◌≡◌, inl, inr, ◌∙◌, refl, sym, ap, subst, arith, ℕ, zero, suc, ◌+◌, Bool, true, false, not, ◌&&◌, List, [], ◌∷◌, Some, slice_get, All, AllPairs, Contains, get_or}
+use Rattle.std.proofs.Common.{◌≡◌, ◌⊎◌, inl, inr, ◌∙◌, refl, sym, ap, subst, arith, ℕ, zero, suc, ◌+◌, Bool, true, false, not, ◌&&◌, List, [], ◌∷◌, Some, slice_get, All, AllPairs, Contains, get_or}
 use Rattle.std.specs.Prelude.{ℤ, ◌≤ℤ◌, ◌<ℤ◌, int_le, if◌then◌else◌}
 use Rattle.std.specs.Ordering.{int_eq}
 use Rattle.std.specs.Int.{int_max}
@@ -21,12 +21,13 @@ use Rattle.stream_case.specs.declared.source.Side.TheVariants as side
 use Rattle.stream_case.specs.declared.source.Source.{Source}
 use Rattle.stream_case.proofs.SourceLemmas.{same_source-same, same_source-true}
 use Rattle.grid.specs.declared.part.Part.{Part}
+use Rattle.grid.specs.Part.{IsInterval}
 use Rattle.grid.proofs.PlaceLemmas.{interval_below, interval_ends, interval_falls}
 use Rattle.heat_flow.specs.Prices.{price_at}
 use Rattle.heat_flow.specs.Reach.{part_reaches, passes_heat}
 use Rattle.network_values.specs.Heights.{View}
 use Rattle.price_floor.specs.PartPrices.{counts_for, greatest_price, price_steps}
-use Rattle.price_floor.specs.Steps.{AreAtMost, AreFalling, AreOrderedPrices, FallTo, last_price}
+use Rattle.price_floor.specs.Steps.{AreAtMost, AreFalling, AreOrderedPrices, FallTo, StepPrices, last_price}
 use Rattle.price_floor.specs.Views.{comes_below, views_of}
 use Rattle.price_floor.proofs.PartViews.{HasEnds, from_place, low_on, lowest_of, none_inside, own_not, own_view, stands, stands_later, stands_lowest, views-fall, views-places}
 
@@ -46,10 +47,12 @@ both_upto x y a h k = omega (arith, ints, clamps)
 module _ (least : ℤ) (prices : List ℤ) where
   greatest-least : (counts : Part → Bool) (parts : List (ℕ × Part)) → least ≤ℤ greatest_price least counts prices parts
   greatest-least counts [] = omega (arith, ints)
-  greatest-least counts ((b, p) ∷ parts) = behind least (if counts p then price_at prices b else least) (greatest_price least counts prices parts) (greatest-least counts parts)
+  greatest-least counts ((b, p) ∷ parts) =
+      behind least (if counts p then price_at prices b else least) (greatest_price least counts prices parts) (greatest-least counts parts)
 
   -- no less where more parts count
-  greatest-more : (counts more : Part → Bool) (parts : List (ℕ × Part)) → All (λ (e : ℕ × Part). counts e.1 ≡ true → more e.1 ≡ true) parts → greatest_price least counts prices parts ≤ℤ greatest_price least more prices parts
+  greatest-more : (counts more : Part → Bool) (parts : List (ℕ × Part)) → All (λ (e : ℕ × Part). counts e.1 ≡ true → more e.1 ≡ true) parts
+      → greatest_price least counts prices parts ≤ℤ greatest_price least more prices parts
   greatest-more counts more [] h = omega (arith, ints)
   greatest-more counts more ((b, p) ∷ parts) h =
       let x = price_at prices b in
@@ -57,14 +60,16 @@ module _ (least : ℤ) (prices : List ℤ) where
       let others = greatest_price least more prices parts in
       both_upto (if counts p then x else least) rest (int_max (if more p then x else least) others)
       (by (counts p) (more p) (All-head (λ (e : ℕ × Part). counts e.1 ≡ true → more e.1 ≡ true) (b, p) parts h) x others (greatest-least more parts))
-      (behind rest (if more p then x else least) others (greatest-more counts more parts (All-tail (λ (e : ℕ × Part). counts e.1 ≡ true → more e.1 ≡ true) (b, p) parts h)))
+      (behind rest (if more p then x else least) others
+      (greatest-more counts more parts (All-tail (λ (e : ℕ × Part). counts e.1 ≡ true → more e.1 ≡ true) (b, p) parts h)))
     where
       by : (b c : Bool) → (b ≡ true → c ≡ true) → (x others : ℤ) → least ≤ℤ others → (if b then x else least) ≤ℤ int_max (if c then x else least) others
       by true true h x others k = front x x others (omega (arith, ints))
       by true false h x others k = absurd (let no = h refl in cc)
       by false c h x others k = behind least (if c then x else least) others k
 
-  greatest-upto : (counts : Part → Bool) (bound : ℤ) (parts : List (ℕ × Part)) → least ≤ℤ bound → All (λ (e : ℕ × Part). counts e.1 ≡ true → price_at prices e.0 ≤ℤ bound) parts → greatest_price least counts prices parts ≤ℤ bound
+  greatest-upto : (counts : Part → Bool) (bound : ℤ) (parts : List (ℕ × Part)) → least ≤ℤ bound
+      → All (λ (e : ℕ × Part). counts e.1 ≡ true → price_at prices e.0 ≤ℤ bound) parts → greatest_price least counts prices parts ≤ℤ bound
   greatest-upto counts bound [] h each = h
   greatest-upto counts bound ((b, p) ∷ parts) h each =
       both_upto (if counts p then price_at prices b else least) (greatest_price least counts prices parts) bound
@@ -76,18 +81,34 @@ module _ (least : ℤ) (prices : List ℤ) where
       by false x k = h
 
   -- no less than the price of a part that counts
-  greatest-at : (counts : Part → Bool) (n : ℕ) (parts : List Part) (b : ℕ) (p : Part) → slice_get parts b ≡ Some p → counts p ≡ true → price_at prices (n + b) ≤ℤ greatest_price least counts prices (enumerate_from n parts)
+  greatest-at : (counts : Part → Bool) (n : ℕ) (parts : List Part) (b : ℕ) (p : Part) → slice_get parts b ≡ Some p → counts p ≡ true
+      → price_at prices (n + b) ≤ℤ greatest_price least counts prices (enumerate_from n parts)
   greatest-at counts n [] b p at h = absurd (cc)
   greatest-at counts n (q ∷ parts) zero p at h =
       let is : q ≡ p = cc in
       let index : n + 0 ≡ n = omega arith in
       let here : (if counts q then price_at prices n else least) ≡ price_at prices n = ap (λ c. if c then price_at prices n else least) (ap counts is ∙ h) in
       subst (λ k. price_at prices k ≤ℤ greatest_price least counts prices (enumerate_from n (q ∷ parts))) (sym index)
-      (front (price_at prices n) (if counts q then price_at prices n else least) (greatest_price least counts prices (enumerate_from (n + 1) parts)) (omega (arith, ints)))
+      (front (price_at prices n) (if counts q then price_at prices n else least) (greatest_price least counts prices (enumerate_from (n + 1) parts))
+      (omega (arith, ints)))
   greatest-at counts n (q ∷ parts) (suc b) p at h =
       let index : n + 1 + b ≡ n + suc b = omega arith in
       subst (λ k. price_at prices k ≤ℤ greatest_price least counts prices (enumerate_from n (q ∷ parts))) index
-      (behind (price_at prices (n + 1 + b)) (if counts q then price_at prices n else least) (greatest_price least counts prices (enumerate_from (n + 1) parts)) (greatest-at counts (n + 1) parts b p at h))
+      (behind (price_at prices (n + 1 + b)) (if counts q then price_at prices n else least)
+      (greatest_price least counts prices (enumerate_from (n + 1) parts)) (greatest-at counts (n + 1) parts b p at h))
+
+  -- the same of the cold parts of a side with their indices
+  more_counted : (counts more : Part → Bool) (cold : List Part)
+      → ((b : ℕ) (p : Part) → slice_get cold b ≡ Some p → counts p ≡ true → more p ≡ true)
+      → greatest_price least counts prices (enumerate_from 0 cold) ≤ℤ greatest_price least more prices (enumerate_from 0 cold)
+  more_counted counts more cold each =
+      greatest-more counts more (enumerate_from 0 cold) (All-enumerated (λ (e : ℕ × Part). counts e.1 ≡ true → more e.1 ≡ true) cold each)
+
+  upto_counted : (counts : Part → Bool) (bound : ℤ) (cold : List Part) → least ≤ℤ bound
+      → ((b : ℕ) (p : Part) → slice_get cold b ≡ Some p → counts p ≡ true → price_at prices b ≤ℤ bound)
+      → greatest_price least counts prices (enumerate_from 0 cold) ≤ℤ bound
+  upto_counted counts bound cold some each =
+      greatest-upto counts bound (enumerate_from 0 cold) some (All-enumerated (λ (e : ℕ × Part). counts e.1 ≡ true → price_at prices e.0 ≤ℤ bound) cold each)
 
 -- ---- falling prices
 
@@ -101,119 +122,148 @@ falling_along R P below step above (v ∷ views) each pairs of = (
   (AllPairs-tail R v views pairs) (All-tail P v views of),
 )
 
-module _ (case : Case) (least : ℤ) (prices : List ℤ) (cold : List Part) (grid : List ℤ) (falls : AllPairs (λ a b. b <ℤ a) grid) (ends : All (HasEnds grid) cold) where
+module _ (case : Case) (least : ℤ) (prices : List ℤ) (cold : List Part) (grid : List ℤ) (falls : AllPairs (λ a b. b <ℤ a) grid)
+  (ends : All (HasEnds grid) cold) where
   ends_at : (b : ℕ) (p : Part) → slice_get cold b ≡ Some p → HasEnds grid p
   ends_at b p at = All-slice_get (HasEnds grid) cold b p ends at
 
+  -- a cold part that counts for a source and does not stand above a view
+  abbrev counts_below : Side → Source → View → Part → Bool
+  counts_below on s v p = counts_for case on s p && not (stands p v)
+
+  below-from : (on : Side) (s : Source) (v : View) (p : Part) → counts_for case on s p ≡ true → stands p v ≡ false → counts_below on s v p ≡ true
+  below-from on s v p counted under = and_from (counts_for case on s p) (not (stands p v)) counted (not_from_false (stands p v) under)
+
+  below-parts : (on : Side) (s : Source) (v : View) (p : Part) → counts_below on s v p ≡ true → (counts_for case on s p ≡ true) × (stands p v ≡ false)
+  below-parts on s v p h =
+      let (counted, under) = and_parts (counts_for case on s p) (not (stands p v)) h in (counted, false_from_ne_true (stands p v) (λ e. cc))
+
   module _ (on : Side) (s : Source) where
-    below_top : (v : View) → (price_steps case least prices cold on s).below v ≤ℤ (price_steps case least prices cold on s).top
-    below_top v =
-        greatest-more least prices (λ p. counts_for case on s p && not (stands p v)) (counts_for case on s) (enumerate_from 0 cold)
-        (All-enumerated (λ (e : ℕ × Part). (counts_for case on s e.1 && not (stands e.1 v)) ≡ true → counts_for case on s e.1 ≡ true) cold (λ b p at h. (and_parts (counts_for case on s p) (not (stands p v)) h).0))
+    abbrev steps : StepPrices
+    steps = price_steps case least prices cold on s
 
-    below_before : (u v : View) → Contains grid u.place → comes_below u v → (price_steps case least prices cold on s).below v ≤ℤ (price_steps case least prices cold on s).below u
-    below_before u v at below =
-        greatest-more least prices (λ p. counts_for case on s p && not (stands p v)) (λ p. counts_for case on s p && not (stands p u)) (enumerate_from 0 cold)
-        (All-enumerated (λ (e : ℕ × Part). (counts_for case on s e.1 && not (stands e.1 v)) ≡ true → (counts_for case on s e.1 && not (stands e.1 u)) ≡ true) cold more)
+    below_top : (v : View) → steps.below v ≤ℤ steps.top
+    below_top v = more_counted least prices (counts_below on s v) (counts_for case on s) cold (λ b p at h. (below-parts on s v p h).0)
+
+    below_before : (u v : View) → Contains grid u.place → comes_below u v → steps.below v ≤ℤ steps.below u
+    below_before u v at below = more_counted least prices (counts_below on s v) (counts_below on s u) cold more
       where
-        more : (b : ℕ) (p : Part) → slice_get cold b ≡ Some p → (counts_for case on s p && not (stands p v)) ≡ true → (counts_for case on s p && not (stands p u)) ≡ true
+        more : (b : ℕ) (p : Part) → slice_get cold b ≡ Some p → counts_below on s v p ≡ true → counts_below on s u p ≡ true
         more b p here h =
-            let (counted, under) = and_parts (counts_for case on s p) (not (stands p v)) h in
-            and_from (counts_for case on s p) (not (stands p u)) counted
-            (not_from_false (stands p u) (false_from_ne_true (stands p u) (λ e. let later = stands_later grid p falls (ends_at b p here) u v at below e in cc)))
+            let (counted, under) = below-parts on s v p h in
+            below-from on s u p counted
+            (false_from_ne_true (stands p u) (λ e. let later = stands_later grid p falls (ends_at b p here) u v at below e in cc))
 
-    last_least : last_price (price_steps case least prices cold on s).top (price_steps case least prices cold on s).below (views_of grid) ≡ least
-    last_least = by grid falls ends
-      where
-        none_counts : (counted : Part → Bool) → ((b : ℕ) (p : Part) → slice_get cold b ≡ Some p → counted p ≡ true → ⊥) → greatest_price least counted prices (enumerate_from 0 cold) ≡ least
-        none_counts counted none =
-            let upto = greatest-upto least prices counted least (enumerate_from 0 cold) (omega (arith, ints))
-                (All-enumerated (λ (e : ℕ × Part). counted e.1 ≡ true → price_at prices e.0 ≤ℤ least) cold (λ b p at h. absurd (none b p at h))) in
-            let from = greatest-least least prices counted (enumerate_from 0 cold) in
-            omega (arith, ints)
+    none_counts : (counted : Part → Bool) → ((b : ℕ) (p : Part) → slice_get cold b ≡ Some p → counted p ≡ true → ⊥)
+        → greatest_price least counted prices (enumerate_from 0 cold) ≡ least
+    none_counts counted none =
+        let upto = upto_counted least prices counted least cold (omega (arith, ints)) (λ b p at h. absurd (none b p at h)) in
+        let from = greatest-least least prices counted (enumerate_from 0 cold) in
+        omega (arith, ints)
 
-        by : (places : List ℤ) → AllPairs (λ a b. b <ℤ a) places → All (HasEnds places) cold → last_price (price_steps case least prices cold on s).top (price_steps case least prices cold on s).below (views_of places) ≡ least
-        by [] down each = none_counts (counts_for case on s) (λ b p at h. let (k, within, is) = low_on [] p (All-slice_get (HasEnds []) cold b p each at) in omega arith)
-        by (g ∷ places) down each =
-            let (lowest, h) = lowest_of g places down in
-            h.last (price_steps case least prices cold on s).top (price_steps case least prices cold on s).below
-            ∙ none_counts (λ p. counts_for case on s p && not (stands p (from_place lowest)))
-            (λ b p at counted.
-            let above = stands_lowest (g ∷ places) p lowest (All-slice_get (HasEnds (g ∷ places)) cold b p each at) h in
-            let under = (and_parts (counts_for case on s p) (not (stands p (from_place lowest))) counted).1 in
-            cc)
+    last_least : (places : List ℤ) → AllPairs (λ a b. b <ℤ a) places → All (HasEnds places) cold
+        → last_price steps.top steps.below (views_of places) ≡ least
+    last_least [] down each =
+        none_counts (counts_for case on s) (λ b p at h. let (k, within, is) = low_on [] p (All-slice_get (HasEnds []) cold b p each at) in omega arith)
+    last_least (g ∷ places) down each =
+        let (lowest, h) = lowest_of g places down in
+        h.last steps.top steps.below
+        ∙ none_counts (counts_below on s (from_place lowest))
+        (λ b p at counted.
+        let above = stands_lowest (g ∷ places) p lowest (All-slice_get (HasEnds (g ∷ places)) cold b p each at) h in
+        let under = (below-parts on s (from_place lowest) p counted).1 in
+        cc)
 
     pub steps_fall : FallTo least (views_of grid) (price_steps case least prices cold on s)
     steps_fall = record {
       falling =
-          falling_along comes_below (λ v. Contains grid v.place) (price_steps case least prices cold on s).below below_before (price_steps case least prices cold on s).top (views_of grid)
+          falling_along comes_below (λ v. Contains grid v.place) steps.below below_before steps.top (views_of grid)
           (λ k d within. below_top (get_or (views_of grid) k d)) (views-fall grid falls) (views-places grid);
-      last = last_least;
+      last = last_least grid falls ends;
     }
 
-  -- what a cold source's parts are priced, a hot source's parts count as well
-  steps_ordered : (hot cold_source : Source) → is_forbidden case.forbids hot cold_source ≡ false → AreAtMost (price_steps case least prices cold side.Cold cold_source) (price_steps case least prices cold side.Hot hot)
-  steps_ordered hot taker permitted = record {
+  -- what counts for a cold source counts for a hot source that may heat it
+  counts_more : (giver taker : Source) → is_forbidden case.forbids giver taker ≡ false → (p : Part)
+      → counts_for case side.Cold taker p ≡ true → counts_for case side.Hot giver p ≡ true
+  counts_more giver taker permitted p own =
+      not_from_false (is_forbidden case.forbids giver p.source) (ap (is_forbidden case.forbids giver) (same_source-true p.source taker own) ∙ permitted)
+
+  steps_ordered : (giver taker : Source) → is_forbidden case.forbids giver taker ≡ false
+      → AreAtMost (price_steps case least prices cold side.Cold taker) (price_steps case least prices cold side.Hot giver)
+  steps_ordered giver taker permitted = record {
     top =
-        greatest-more least prices (counts_for case side.Cold taker) (counts_for case side.Hot hot) (enumerate_from 0 cold)
-        (All-enumerated (λ (e : ℕ × Part). counts_for case side.Cold taker e.1 ≡ true → counts_for case side.Hot hot e.1 ≡ true) cold (λ b p at own. counted p own));
+        more_counted least prices (counts_for case side.Cold taker) (counts_for case side.Hot giver) cold
+        (λ b p at own. counts_more giver taker permitted p own);
     below = λ v.
-        greatest-more least prices (λ p. counts_for case side.Cold taker p && not (stands p v)) (λ p. counts_for case side.Hot hot p && not (stands p v)) (enumerate_from 0 cold)
-        (All-enumerated (λ (e : ℕ × Part). (counts_for case side.Cold taker e.1 && not (stands e.1 v)) ≡ true → (counts_for case side.Hot hot e.1 && not (stands e.1 v)) ≡ true) cold
-        (λ b p at h. let (own, under) = and_parts (same_source p.source taker) (not (stands p v)) h in and_from (counts_for case side.Hot hot p) (not (stands p v)) (counted p own) under));
+        more_counted least prices (counts_below side.Cold taker v) (counts_below side.Hot giver v) cold
+        (λ b p at h. let (own, under) = below-parts side.Cold taker v p h in below-from side.Hot giver v p (counts_more giver taker permitted p own) under);
   }
-    where
-      counted : (p : Part) → same_source p.source taker ≡ true → not (is_forbidden case.forbids hot p.source) ≡ true
-      counted p own = not_from_false (is_forbidden case.forbids hot p.source) (ap (is_forbidden case.forbids hot) (same_source-true p.source taker own) ∙ permitted)
 
   pub steps_are_ordered : AreOrderedPrices case least (views_of grid) (price_steps case least prices cold)
   steps_are_ordered = record { falls = steps_fall; ordered = steps_ordered }
 
   -- ---- the price where a part lies
 
-  -- a hot part reaches each cold part that does not stand above its own view
+  high_on : (r : Part) → HasEnds grid r → Contains grid r.high
+  high_on r (inl (level, found)) = found
+  high_on r (inr interval) = (interval_ends grid r.high r.low interval).0
+
+  -- a part whose low end lies below the high one of an interval lies below the interval, or on it
+  on_interval : (p q : Part) → IsInterval grid p.high p.low → HasEnds grid q → q.low <ℤ p.high → (q.high ≤ℤ p.low) ⊎ ((p.high ≡ q.high) × (p.low ≡ q.low))
+  on_interval p q interval other less = by_lt_z p.low q.high (λ more. inr (same more)) (λ upto. inl upto)
+    where
+      width : p.low <ℤ p.high
+      width = interval_falls grid p.high p.low falls interval
+
+      lower : q.low ≤ℤ p.low
+      lower = interval_below grid p.high p.low q.low falls interval (low_on grid q other) less
+
+      -- no end of the one lies inside the other
+      same : p.low <ℤ q.high → (p.high ≡ q.high) × (p.low ≡ q.low)
+      same more =
+          let low = none_inside grid q falls other p.low (interval_ends grid p.high p.low interval).1 more in
+          let wide = width in
+          let under = lower in (
+            by_lt_z p.high q.high
+            (λ up. let inside = none_inside grid q falls other p.high (interval_ends grid p.high p.low interval).0 up in absurd (omega (arith, ints)))
+            (λ upto.
+            by_lt_z q.high p.high
+            (λ down. let inside = interval_below grid p.high p.low q.high falls interval (high_on q other) down in absurd (omega (arith, ints)))
+            (λ from. omega (arith, ints))),
+            omega (arith, ints),
+          )
+
+  -- heat passes from a hot part to each cold part that does not stand above the hot part's own view
   passes_own : (p q : Part) (own : HasEnds grid p) → HasEnds grid q → stands q (own_view grid p own) ≡ false → passes_heat p q ≡ true
   passes_own p q (inl (level, found)) other under =
       by_lt_z p.high q.high (λ more. let stood = int_lt-from p.high q.high more in absurd (cc))
       (λ most. or_left (int_le q.high p.low) (int_eq p.high q.high && int_eq p.low q.low) (int_le-from q.high p.low (omega (arith, ints))))
   passes_own p q (inr interval) other under =
-      by_lt_z q.low p.high
-      (λ less.
-      by_lt_z p.low q.high
-      (λ more.
-      let low = none_inside grid q falls other p.low (interval_ends grid p.high p.low interval).1 more in
-      let lower = interval_below grid p.high p.low q.low falls interval (low_on grid q other) less in
-      let width = interval_falls grid p.high p.low falls interval in
-      let same_low : p.low ≡ q.low = omega (arith, ints) in
-      let same_high : p.high ≡ q.high =
-          by_lt_z p.high q.high (λ up. let inside = none_inside grid q falls other p.high (interval_ends grid p.high p.low interval).0 up in absurd (omega (arith, ints)))
-          (λ upto.
-          by_lt_z q.high p.high (λ down. let inside = interval_below grid p.high p.low q.high falls interval (high_on q other) down in absurd (omega (arith, ints)))
-          (λ from. omega (arith, ints))) in
-      or_right (int_le q.high p.low) (int_eq p.high q.high && int_eq p.low q.low)
-      (and_from (int_eq p.high q.high) (int_eq p.low q.low) ((Decides-int_eq p.high q.high).1 same_high) ((Decides-int_eq p.low q.low).1 same_low)))
-      (λ upto. or_left (int_le q.high p.low) (int_eq p.high q.high && int_eq p.low q.low) (int_le-from q.high p.low upto)))
-      (λ more. let stood = int_le-from p.high q.low more in absurd (cc))
+      by_lt_z q.low p.high (λ less. by (on_interval p q interval other less)) (λ more. let stood = int_le-from p.high q.low more in absurd (cc))
     where
-      high_on : (r : Part) → HasEnds grid r → Contains grid r.high
-      high_on r (inl (level, found)) = found
-      high_on r (inr interval) = (interval_ends grid r.high r.low interval).0
+      by : (q.high ≤ℤ p.low) ⊎ ((p.high ≡ q.high) × (p.low ≡ q.low)) → passes_heat p q ≡ true
+      by (inl below) = or_left (int_le q.high p.low) (int_eq p.high q.high && int_eq p.low q.low) (int_le-from q.high p.low below)
+      by (inr (high, low)) =
+          or_right (int_le q.high p.low) (int_eq p.high q.high && int_eq p.low q.low)
+          (and_from (int_eq p.high q.high) (int_eq p.low q.low) ((Decides-int_eq p.high q.high).1 high) ((Decides-int_eq p.low q.low).1 low))
 
-  -- a hot part's is at most a price that none of the cold parts that it reaches is above
-  pub hot_price : (p : Part) (own : HasEnds grid p) (price : ℤ) → least ≤ℤ price → ((b : ℕ) (q : Part) → slice_get cold b ≡ Some q → part_reaches case p q ≡ true → price_at prices b ≤ℤ price)
+  -- a hot part's is at most a price that is at least that of each cold part that it reaches
+  pub hot_price : (p : Part) (own : HasEnds grid p) (price : ℤ) → least ≤ℤ price
+      → ((b : ℕ) (q : Part) → slice_get cold b ≡ Some q → part_reaches case p q ≡ true → price_at prices b ≤ℤ price)
       → (price_steps case least prices cold side.Hot p.source).below (own_view grid p own) ≤ℤ price
   hot_price p own price some reached =
-      greatest-upto least prices (λ q. counts_for case side.Hot p.source q && not (stands q (own_view grid p own))) price (enumerate_from 0 cold) some
-      (All-enumerated (λ (e : ℕ × Part). (counts_for case side.Hot p.source e.1 && not (stands e.1 (own_view grid p own))) ≡ true → price_at prices e.0 ≤ℤ price) cold
+      let v = own_view grid p own in
+      upto_counted least prices (counts_below side.Hot p.source v) price cold some
       (λ b q at h.
-      let (permitted, under) = and_parts (counts_for case side.Hot p.source q) (not (stands q (own_view grid p own))) h in
-      let passes = passes_own p q own (ends_at b q at) (false_from_ne_true (stands q (own_view grid p own)) (λ e. cc)) in
-      reached b q at (and_from (passes_heat p q) (not (is_forbidden case.forbids p.source q.source)) passes permitted)))
+      let (permitted, under) = below-parts side.Hot p.source v q h in
+      reached b q at (and_from (passes_heat p q) (not (is_forbidden case.forbids p.source q.source)) (passes_own p q own (ends_at b q at) under) permitted))
 
   -- a cold part's is at least its price
-  pub cold_price : (b : ℕ) (p : Part) (at : slice_get cold b ≡ Some p) (own : HasEnds grid p) → price_at prices b ≤ℤ (price_steps case least prices cold side.Cold p.source).below (own_view grid p own)
+  pub cold_price : (b : ℕ) (p : Part) (at : slice_get cold b ≡ Some p) (own : HasEnds grid p)
+      → price_at prices b ≤ℤ (price_steps case least prices cold side.Cold p.source).below (own_view grid p own)
   cold_price b p at own =
-      let counted = and_from (same_source p.source p.source) (not (stands p (own_view grid p own))) (same_source-same p.source) (not_from_false (stands p (own_view grid p own)) (own_not grid p falls own)) in
+      let v = own_view grid p own in
       let index : 0 + b ≡ b = omega arith in
-      subst (λ k. price_at prices k ≤ℤ (price_steps case least prices cold side.Cold p.source).below (own_view grid p own)) index
-      (greatest-at least prices (λ q. same_source q.source p.source && not (stands q (own_view grid p own))) 0 cold b p at counted)
+      subst (λ k. price_at prices k ≤ℤ (price_steps case least prices cold side.Cold p.source).below v) index
+      (greatest-at least prices (counts_below side.Cold p.source v) 0 cold b p at
+      (below-from side.Cold p.source v p (same_source-same p.source) (own_not grid p falls own)))

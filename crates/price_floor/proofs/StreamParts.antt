@@ -10,6 +10,7 @@ use Rattle.stream_case.specs.declared.source.Source.TheVariants.{Stream as of_st
 use Rattle.stream_case.specs.declared.stream.Stream.{Stream}
 use Rattle.stream_case.specs.declared.utility.Utility.{Utility}
 use Rattle.sums.specs.Sum.{int_sum_by}
+use Rattle.sums.proofs.IntegerLemmas.{if_zero}
 use Rattle.sums.proofs.ListLemmas.{All-slice_get}
 use Rattle.sums.proofs.SumLemmas.{int_sum_by-append, int_sum_by-cons_if}
 use Rattle.grid.specs.declared.part.Part.{Part}
@@ -25,28 +26,30 @@ own_over i from place p = if same_source p.source (of_stream i) then (if stands_
 
 module _ (i : ℕ) (from : Bool) (place : ℤ) where
   own-other : (high low : ℤ) (n : ℕ) (s : Stream) → n ≢ i → own_over i from place (stream_part high low n s) ≡ pos 0
-  own-other high low n s other = ap (λ b. if b then (if stands_above from place (stream_part high low n s) then (stream_part high low n s).least else pos 0) else pos 0) (ne_eqb n i other)
+  own-other high low n s other =
+      ap (λ b. if b then (if stands_above from place (stream_part high low n s) then (stream_part high low n s).least else pos 0) else pos 0) (ne_eqb n i other)
 
-  own-here : (high low : ℤ) (n : ℕ) (s : Stream) → n ≡ i → own_over i from place (stream_part high low n s) ≡ part_over from place (pos 0) (stream_part high low 0 s)
-  own-here high low n s same = ap (λ b. if b then (if stands_above from place (stream_part high low n s) then (stream_part high low n s).least else pos 0) else pos 0) (eq-eqb n i same)
+  own-here : (high low : ℤ) (n : ℕ) (s : Stream) → n ≡ i
+      → own_over i from place (stream_part high low n s) ≡ part_over from place (pos 0) (stream_part high low 0 s)
+  own-here high low n s same =
+      ap (λ b. if b then (if stands_above from place (stream_part high low n s) then (stream_part high low n s).least else pos 0) else pos 0) (eq-eqb n i same)
 
   -- parts of later streams
-  own-later : (test : Stream → Bool) (high low : ℤ) (n : ℕ) (streams : List Stream) → i < n → int_sum_by (own_over i from place) (picked test (stream_part high low) n streams) ≡ pos 0
+  own-later : (test : Stream → Bool) (high low : ℤ) (n : ℕ) (streams : List Stream) → i < n
+      → int_sum_by (own_over i from place) (picked test (stream_part high low) n streams) ≡ pos 0
   own-later test high low n [] later = refl
   own-later test high low n (s ∷ streams) later =
       let first = own-other high low n s (λ same. absurd (omega (arith, same))) in
-      let here : (if test s then own_over i from place (stream_part high low n s) else pos 0) ≡ pos 0 = if_none (test s) (own_over i from place (stream_part high low n s)) first in
+      let here : (if test s then own_over i from place (stream_part high low n s) else pos 0) ≡ pos 0 =
+          if_zero (test s) (own_over i from place (stream_part high low n s)) first in
       let rest = own-later test high low (suc n) streams (omega arith) in
       let sum = int_sum_by-cons_if (own_over i from place) (test s) (stream_part high low n s) (picked test (stream_part high low) (suc n) streams) in
       omega (arith, ints)
-    where
-      if_none : (b : Bool) (x : ℤ) → x ≡ pos 0 → (if b then x else pos 0) ≡ pos 0
-      if_none true x none = none
-      if_none false x none = refl
 
   -- parts that are picked are those that would be picked of this stream alone
   own-picked : (test : Stream → Bool) (high low : ℤ) (n : ℕ) (streams : List Stream) (k : ℕ) (s : Stream) → slice_get streams k ≡ Some s → i ≡ n + k
-      → int_sum_by (own_over i from place) (picked test (stream_part high low) n streams) ≡ int_sum_by (part_over from place (pos 0)) (picked test (stream_part high low) 0 (s ∷ []))
+      → int_sum_by (own_over i from place) (picked test (stream_part high low) n streams)
+      ≡ int_sum_by (part_over from place (pos 0)) (picked test (stream_part high low) 0 (s ∷ []))
   own-picked test high low n [] k s at is = absurd (cc)
   own-picked test high low n (t ∷ streams) zero s at is =
       let same : t ≡ s = cc in
@@ -54,42 +57,41 @@ module _ (i : ℕ) (from : Bool) (place : ℤ) where
       let rest = own-later test high low (suc n) streams (omega (arith, is)) in
       let sum = int_sum_by-cons_if (own_over i from place) (test t) (stream_part high low n t) (picked test (stream_part high low) (suc n) streams) in
       let alone = int_sum_by-cons_if (part_over from place (pos 0)) (test s) (stream_part high low 0 s) [] in
-      let here : (if test t then own_over i from place (stream_part high low n t) else pos 0) ≡ (if test s then part_over from place (pos 0) (stream_part high low 0 s) else pos 0) =
-          ap (λ x. if test t then x else pos 0) (own-here high low n t number) ∙ ap (λ r. if test r then part_over from place (pos 0) (stream_part high low 0 r) else pos 0) same in
+      let here : (if test t then own_over i from place (stream_part high low n t) else pos 0)
+      ≡ (if test s then part_over from place (pos 0) (stream_part high low 0 s) else pos 0) =
+          ap (λ x. if test t then x else pos 0) (own-here high low n t number)
+          ∙ ap (λ r. if test r then part_over from place (pos 0) (stream_part high low 0 r) else pos 0) same in
       omega (arith, ints)
   own-picked test high low n (t ∷ streams) (suc k) s at is =
       let first = own-other high low n t (λ same. absurd (omega (arith, same, is))) in
       let rest = own-picked test high low (suc n) streams k s at (omega (arith, is)) in
       let sum = int_sum_by-cons_if (own_over i from place) (test t) (stream_part high low n t) (picked test (stream_part high low) (suc n) streams) in
-      let here : (if test t then own_over i from place (stream_part high low n t) else pos 0) ≡ pos 0 = if_none (test t) (own_over i from place (stream_part high low n t)) first in
+      let here : (if test t then own_over i from place (stream_part high low n t) else pos 0) ≡ pos 0 =
+          if_zero (test t) (own_over i from place (stream_part high low n t)) first in
       omega (arith, ints)
-    where
-      if_none : (b : Bool) (x : ℤ) → x ≡ pos 0 → (if b then x else pos 0) ≡ pos 0
-      if_none true x none = none
-      if_none false x none = refl
 
   own-utilities : (test : Utility → Bool) (n : ℕ) (utilities : List Utility) → int_sum_by (own_over i from place) (picked test utility_part n utilities) ≡ pos 0
   own-utilities test n [] = refl
   own-utilities test n (u ∷ utilities) =
       let rest = own-utilities test (suc n) utilities in
       let sum = int_sum_by-cons_if (own_over i from place) (test u) (utility_part n u) (picked test utility_part (suc n) utilities) in
-      let here : (if test u then pos 0 else pos 0) ≡ pos 0 = none (test u) in
+      let here : (if test u then pos 0 else pos 0) ≡ pos 0 = if_zero (test u) (pos 0) refl in
       omega (arith, ints)
-    where
-      none : (b : Bool) → (if b then pos 0 else pos 0) ≡ pos 0
-      none true = refl
-      none false = refl
 
   module _ (streams : List Stream) (utilities : List Utility) (side : Side) (s : Stream) (at : slice_get streams i ≡ Some s) where
     number : i ≡ 0 + i
     number = omega arith
 
-    own-interval : (g : ℤ) (places : List ℤ) → int_sum_by (own_over i from place) (interval_parts streams utilities side g places) ≡ int_sum_by (part_over from place (pos 0)) (interval_parts (s ∷ []) [] side g places)
+    own-interval : (g : ℤ) (places : List ℤ)
+        → int_sum_by (own_over i from place) (interval_parts streams utilities side g places)
+        ≡ int_sum_by (part_over from place (pos 0)) (interval_parts (s ∷ []) [] side g places)
     own-interval g [] = refl
     own-interval g (low ∷ places) = own-picked (covers side g low) g low 0 streams i s at number
 
     -- the stream's own parts are those that would be made of it alone
-    own-made : (places : List ℤ) → int_sum_by (own_over i from place) (made_parts streams utilities side places) ≡ int_sum_by (part_over from place (pos 0)) (made_parts (s ∷ []) [] side places)
+    own-made : (places : List ℤ)
+        → int_sum_by (own_over i from place) (made_parts streams utilities side places)
+        ≡ int_sum_by (part_over from place (pos 0)) (made_parts (s ∷ []) [] side places)
     own-made [] = refl
     own-made (g ∷ places) =
         let f = own_over i from place in
@@ -114,10 +116,12 @@ module _ (i : ℕ) (from : Bool) (place : ℤ) where
         omega (arith, ints)
 
 -- on places that hold the ends of the streams and this place
-pub stream_parts-are : (i : ℕ) (from : Bool) (place : ℤ) (streams : List Stream) (utilities : List Utility) (side : Side) (s : Stream) (places : List ℤ) → slice_get streams i ≡ Some s → IsValidStream s
-    → HoldsPlaces streams utilities places → Contains places place → int_sum_by (own_over i from place) (made_parts streams utilities side places) ≡ (if same_side s.side side then heat_over from place s else pos 0)
+pub stream_parts-are : (i : ℕ) (from : Bool) (place : ℤ) (streams : List Stream) (utilities : List Utility) (side : Side) (s : Stream) (places : List ℤ)
+    → slice_get streams i ≡ Some s → IsValidStream s → HoldsPlaces streams utilities places → Contains places place
+    → int_sum_by (own_over i from place) (made_parts streams utilities side places) ≡ (if same_side s.side side then heat_over from place s else pos 0)
 stream_parts-are i from place streams utilities side s places at valid holds found =
-    let ends = All-slice_get (λ (r : Stream). Contains places (high_end r) × Contains places (low_end r)) streams i s (holds_ends streams utilities places holds) at in
+    let ends =
+        All-slice_get (λ (r : Stream). Contains places (high_end r) × Contains places (low_end r)) streams i s (holds_ends streams utilities places holds) at in
     let alone : HoldsPlaces (s ∷ []) [] places = record {
       falls = holds.falls;
       holds = All-cons (Contains places) (high_end s) (low_end s ∷ []) ends.0 (All-cons (Contains places) (low_end s) [] ends.1 (All-nil (Contains places)));

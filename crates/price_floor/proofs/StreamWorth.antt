@@ -50,7 +50,8 @@ change_of s latent size =
 product_lost : (a b c : ℤ) → minus (times (whole a) (whole b)) (times (whole a) (whole c)) ≡ whole (a *ℤ (b -ℤ c))
 product_lost a b c = ap₂ minus (whole-times a b) (whole-times a c) ∙ whole-minus (a *ℤ b) (a *ℤ c) ∙ ap whole (sym (*ℤ--ℤ a b c))
 
-sensible_change : (s : Stream) (x : ℤ) → x ≤ℤ low_end s → low_end s ≤ℤ high_end s → change_of s false (whole s.cp) ≡ whole (given_by s.side (sensible_above x s))
+sensible_change : (s : Stream) (x : ℤ) → x ≤ℤ low_end s → low_end s ≤ℤ high_end s
+    → change_of s false (whole s.cp) ≡ whole (given_by s.side (sensible_above x s))
 sensible_change s x = by s.side
   where
     by : (on : Side) → x ≤ℤ low_end (record s { side = on }) → low_end (record s { side = on }) ≤ℤ high_end (record s { side = on })
@@ -70,7 +71,8 @@ latent_change s x under = by s.side ∙ ap (λ b. whole (given_by s.side (if b t
   where
     by : (on : Side) → minus (times (whole s.load) (first_part_of_load on)) (times (whole s.load) (last_part_of_load on)) ≡ whole (given_by on s.load)
     by side.Hot = let heat : s.load *ℤ (pos 1 -ℤ pos 0) ≡ s.load = omega (arith, ints) in product_lost s.load (pos 1) (pos 0) ∙ ap whole heat
-    by side.Cold = ap₂ minus (whole-times s.load (pos 0)) (whole-times s.load (pos 1)) ∙ whole-minus (s.load *ℤ pos 0) (s.load *ℤ pos 1) ∙ ap whole (omega (arith, ints))
+    by side.Cold =
+        ap₂ minus (whole-times s.load (pos 0)) (whole-times s.load (pos 1)) ∙ whole-minus (s.load *ℤ pos 0) (s.load *ℤ pos 1) ∙ ap whole (omega (arith, ints))
 
 -- is all its heat, given away, where a place is not above the stream
 change_given : (s : Stream) (x : ℤ) → IsValidStream s → x ≤ℤ low_end s → change_of s (is_latent s) (full_size s) ≡ whole (given_by s.side (heat_over true x s))
@@ -104,10 +106,12 @@ module _ (least : ℤ) (views : List View) (prices : Side → Source → StepPri
       sym (minus-zero worth) ∙ ap (minus worth) (sym (step-none least views (prices side.Cold of)))
   sides_given side.Cold all heat =
       let q = prices side.Cold of in
-      step-same least views q (whole (pos 0 -ℤ all)) (minus rational_zero (whole all)) (λ v. whole (pos 0 -ℤ heat v)) (λ v. minus rational_zero (whole (heat v)))
+      step-same least views q (whole (pos 0 -ℤ all)) (minus rational_zero (whole all)) (λ v. whole (pos 0 -ℤ heat v))
+      (λ v. minus rational_zero (whole (heat v)))
       (sym (whole-minus (pos 0) all)) (λ k d within. sym (whole-minus (pos 0) (heat (get_or views k d))))
       ∙ step_worth-minus least views q rational_zero (whole all) (λ v. rational_zero) (λ v. whole (heat v))
-      ∙ ap (λ none. minus none (step_worth least views q (whole all) (λ v. whole (heat v)))) (step-none least views q ∙ sym (step-none least views (prices side.Hot of)))
+      ∙ ap (λ none. minus none (step_worth least views q (whole all) (λ v. whole (heat v))))
+      (step-none least views q ∙ sym (step-none least views (prices side.Hot of)))
 
 -- ---- the parts of a stream
 
@@ -127,35 +131,43 @@ module _ (network : Network) (least : ℤ) (views : List View) (prices : Side �
       if_whole false = refl
 
       by : (j : ℕ) (b : Bool) → (b ≡ true → j ≡ i)
-          → (if b then step_worth least views (prices on (source.Stream j)) (whole p.least) (λ v. if stands p v then whole p.least else rational_zero) else rational_zero)
-          ≡ step_worth least views (prices on (source.Stream i)) (whole (if b then p.least else pos 0)) (λ v. whole (if b then (if stands p v then p.least else pos 0) else pos 0))
+          → (if b then step_worth least views (prices on (source.Stream j)) (whole p.least)
+          (λ v. if stands p v then whole p.least else rational_zero) else rational_zero)
+          ≡ step_worth least views (prices on (source.Stream i)) (whole (if b then p.least else pos 0))
+          (λ v. whole (if b then (if stands p v then p.least else pos 0) else pos 0))
       by j true same =
           ap (λ k. step_worth least views (prices on (source.Stream k)) (whole p.least) (λ v. if stands p v then whole p.least else rational_zero)) (same refl)
-          ∙ step-same least views (prices on (source.Stream i)) (whole p.least) (whole p.least) (λ v. if stands p v then whole p.least else rational_zero) (λ v. whole (if stands p v then p.least else pos 0))
+          ∙ step-same least views (prices on (source.Stream i)) (whole p.least) (whole p.least)
+          (λ v. if stands p v then whole p.least else rational_zero) (λ v. whole (if stands p v then p.least else pos 0))
           refl (λ k d within. if_whole (stands p (get_or views k d)))
       by j false same = sym none
 
       of_source : (s : Source) → (if same_source s (source.Stream i)
-          then step_worth least views (prices on s) (used_by network p.least s) (λ v. if stands p v then used_by network p.least s else rational_zero) else rational_zero)
+          then step_worth least views (prices on s) (used_by network p.least s)
+          (λ v. if stands p v then used_by network p.least s else rational_zero) else rational_zero)
           ≡ step_worth least views (prices on (source.Stream i)) (whole (if same_source s (source.Stream i) then p.least else pos 0))
           (λ v. whole (if same_source s (source.Stream i) then (if stands p v then p.least else pos 0) else pos 0))
       of_source (source.Stream j) = by j (j == i) (eqb-true j i)
       of_source (source.Utility k) = sym none
 
   own-sum : (parts : List Part) → rational_sum_by (own_worth least views prices network on (source.Stream i)) parts
-      ≡ step_worth least views (prices on (source.Stream i)) (whole (int_sum_by (own_least i) parts)) (λ v. whole (int_sum_by (own_over i v.from_itself v.place) parts))
+      ≡ step_worth least views (prices on (source.Stream i)) (whole (int_sum_by (own_least i) parts))
+      (λ v. whole (int_sum_by (own_over i v.from_itself v.place) parts))
   own-sum parts =
       let q = prices on (source.Stream i) in
       let over = λ (v : View). own_over i v.from_itself v.place in
-      rational_sum_by-same (own_worth least views prices network on (source.Stream i)) (λ p. step_worth least views q (whole (own_least i p)) (λ v. whole (over v p))) parts (λ k d within. own-heat (get_or parts k d))
+      rational_sum_by-same (own_worth least views prices network on (source.Stream i))
+      (λ p. step_worth least views q (whole (own_least i p)) (λ v. whole (over v p))) parts (λ k d within. own-heat (get_or parts k d))
       ∙ step-sum least views q (λ p. whole (own_least i p)) (λ p v. whole (over v p)) parts
-      ∙ step-same least views q (rational_sum_by (λ p. whole (own_least i p)) parts) (whole (int_sum_by (own_least i) parts)) (λ v. rational_sum_by (λ p. whole (over v p)) parts) (λ v. whole (int_sum_by (over v) parts))
+      ∙ step-same least views q (rational_sum_by (λ p. whole (own_least i p)) parts) (whole (int_sum_by (own_least i) parts))
+      (λ v. rational_sum_by (λ p. whole (over v p)) parts) (λ v. whole (int_sum_by (over v) parts))
       (rational_sum_by-whole (own_least i) (int_sum_by (own_least i)) refl (λ p ps. refl) parts)
       (λ k d within. let v = get_or views k d in rational_sum_by-whole (over v) (int_sum_by (over v)) refl (λ p ps. refl) parts)
 
 -- ---- a stream of a case
 
-module _ (case : Case) (network : Network) (least : ℤ) (grid : List ℤ) (prices : Side → Source → StepPrices) (holds : HoldsPlaces case.streams case.utilities grid) (lowest : ℤ) (low : IsLowest grid lowest)
+module _ (case : Case) (network : Network) (least : ℤ) (grid : List ℤ) (prices : Side → Source → StepPrices)
+  (holds : HoldsPlaces case.streams case.utilities grid) (lowest : ℤ) (low : IsLowest grid lowest)
   (i : ℕ) (s : Stream) (at : slice_get case.streams i ≡ Some s) (valid : IsValidStream s) where
   -- the heat of the stream in a view
   abbrev seen : View → ℤ
@@ -167,20 +179,26 @@ module _ (case : Case) (network : Network) (least : ℤ) (grid : List ℤ) (pric
       ≡ side_heat least (views_of grid) prices (source.Stream i) s.side (seen (from_place lowest)) seen on
   parts_given on parts made ends =
       own-sum network least (views_of grid) prices on i parts
-      ∙ step-same least (views_of grid) (prices on (source.Stream i)) (whole (int_sum_by (own_least i) parts)) (whole (if same_side s.side on then seen (from_place lowest) else pos 0))
+      ∙ step-same least (views_of grid) (prices on (source.Stream i)) (whole (int_sum_by (own_least i) parts))
+      (whole (if same_side s.side on then seen (from_place lowest) else pos 0))
       (λ v. whole (int_sum_by (own_over i v.from_itself v.place) parts)) (λ v. whole (if same_side s.side on then seen v else pos 0))
-      (ap whole (int_sum_by-same (own_least i) (own_over i true lowest) parts (λ k d within. all_over (get_or parts k d) (ends k d within)) ∙ over true lowest low.place))
+      (ap whole (int_sum_by-same (own_least i) (own_over i true lowest) parts (λ k d within. all_over (get_or parts k d) (ends k d within))
+      ∙ over true lowest low.place))
       (λ k d within. let v = get_or (views_of grid) k d in ap whole (over v.from_itself v.place (views-places grid k d within)))
     where
       all_over : (p : Part) → HasEnds grid p → own_least i p ≡ own_over i true lowest p
-      all_over p own = ap (λ b. if same_source p.source (source.Stream i) then (if b then p.least else pos 0) else pos 0) (sym (stands_lowest grid p lowest own low))
+      all_over p own =
+          ap (λ b. if same_source p.source (source.Stream i) then (if b then p.least else pos 0) else pos 0) (sym (stands_lowest grid p lowest own low))
 
-      over : (from : Bool) (place : ℤ) → Contains grid place → int_sum_by (own_over i from place) parts ≡ (if same_side s.side on then heat_over from place s else pos 0)
-      over from place found = ap (int_sum_by (own_over i from place)) made ∙ stream_parts-are i from place case.streams case.utilities on s grid at valid holds found
+      over : (from : Bool) (place : ℤ) → Contains grid place
+          → int_sum_by (own_over i from place) parts ≡ (if same_side s.side on then heat_over from place s else pos 0)
+      over from place found =
+          ap (int_sum_by (own_over i from place)) made ∙ stream_parts-are i from place case.streams case.utilities on s grid at valid holds found
 
   -- what it loses
   loss_given : lowest ≤ℤ low_end s → stream_loss (branch_worth case least (views_of grid) prices) (i, s)
-      ≡ step_worth least (views_of grid) (prices s.side (source.Stream i)) (whole (given_by s.side (seen (from_place lowest)))) (λ v. whole (given_by s.side (seen v)))
+      ≡ step_worth least (views_of grid) (prices s.side (source.Stream i)) (whole (given_by s.side (seen (from_place lowest))))
+      (λ v. whole (given_by s.side (seen v)))
   unfolding branch_worth
   loss_given under =
       let views = views_of grid in
@@ -190,7 +208,8 @@ module _ (case : Case) (network : Network) (least : ℤ) (grid : List ℤ) (pric
       ap (λ o. minus (value_worth least views prices i o first) (value_worth least views prices i o last)) at
       ∙ sym (step_worth-minus least views q (times first.cp first.t) (times last.cp last.t) (λ v. height_in v s first) (λ v. height_in v s last))
       ∙ step-same least views q (minus (times first.cp first.t) (times last.cp last.t)) (whole (given_by s.side (seen (from_place lowest))))
-      (λ v. minus (height_in v s first) (height_in v s last)) (λ v. whole (given_by s.side (seen v))) (change_given s lowest valid under) (λ k d within. stream_given (get_or views k d) s valid)
+      (λ v. minus (height_in v s first) (height_in v s last)) (λ v. whole (given_by s.side (seen v))) (change_given s lowest valid under)
+      (λ k d within. stream_given (get_or views k d) s valid)
 
   pub stream_worth-is : lowest ≤ℤ low_end s → (hot cold : List Part)
       → hot ≡ made_parts case.streams case.utilities side.Hot grid → All (HasEnds grid) hot

@@ -67,8 +67,10 @@ least_price-least (x ∷ xs) (suc a) = let rest = least_price-least xs a in omeg
 
 -- ---- the parts on a grid
 
-module _ (case : Case) (network : Network) (hot cold : List Part) (y z : List ℤ) (complete : IsComplete case) (shape : HasShape case network) (valid : IsValidNetwork case network)
-  (grid : List ℤ) (is_grid : IsGrid case grid) (hot_parts : AreParts case.streams case.utilities grid side.Hot hot) (cold_parts : AreParts case.streams case.utilities grid side.Cold cold)
+module _ (case : Case) (network : Network) (hot cold : List Part) (y z : List ℤ) (complete : IsComplete case) (shape : HasShape case network)
+  (valid : IsValidNetwork case network)
+  (grid : List ℤ) (is_grid : IsGrid case grid) (hot_parts : AreParts case.streams case.utilities grid side.Hot hot)
+  (cold_parts : AreParts case.streams case.utilities grid side.Cold cold)
   (hot_ends : All (HasEnds grid) hot) (cold_ends : All (HasEnds grid) cold) where
   abbrev least : ℤ
   least = least_price y
@@ -93,7 +95,9 @@ module _ (case : Case) (network : Network) (hot cold : List Part) (y z : List �
   used-not_negative : (on : Side) (p : Part) → IsPartOf case.streams case.utilities grid on p → IsAtMost rational_zero (used_heat network p)
   used-not_negative on p (inl (i, s, h)) =
       let from : source.Stream i ≡ p.source = sym (ap (λ (r : Part). r.source) h.is) in
-      let bounded = IsBounded-part case.streams case.utilities on grid (AreStreams-IsComplete case complete).each (IsPlaced-IsComplete case complete) holds p (inl (i, s, h)) in
+      let bounded =
+          IsBounded-part case.streams case.utilities on grid (AreStreams-IsComplete case complete).each (IsPlaced-IsComplete case complete) holds p
+          (inl (i, s, h)) in
       subst (λ r. IsAtMost rational_zero (used_by network p.least r)) from (at_most-whole (pos 0) p.least bounded.least.from)
   used-not_negative on p (inr (k, u, h)) =
       let from : source.Utility k ≡ p.source = sym (ap (λ (r : Part). r.source) h.is) in
@@ -105,46 +109,54 @@ module _ (case : Case) (network : Network) (hot cold : List Part) (y z : List �
 
   worth-is : (on : Side) (p : Part) (own : HasEnds grid p) → worth on p ≡ times (whole ((prices on p.source).below (own_view grid p own))) (used_heat network p)
   worth-is on p own =
-      step-part least views (prices on p.source) p (own_view grid p own) (used_heat network p) (steps_fall case least z cold grid falls cold_ends on p.source).last (leaves_own grid p falls own)
+      step-part least views (prices on p.source) p (own_view grid p own) (used_heat network p)
+      (steps_fall case least z cold grid falls cold_ends on p.source).last (leaves_own grid p falls own)
 
   cold_part : (b : ℕ) (p : Part) → slice_get cold b ≡ Some p → IsAtMost (use_worth network z (b, p)) (worth side.Cold p)
   cold_part b p at =
       let own = All-slice_get (HasEnds grid) cold b p cold_ends at in
       let price = (prices side.Cold p.source).below (own_view grid p own) in
       subst (IsAtMost (use_worth network z (b, p))) (sym (worth-is side.Cold p own))
-      (at_most-times (whole (price_at z b)) (whole price) (used_heat network p) (used-not_negative side.Cold p (All-slice_get (IsPartOf case.streams case.utilities grid side.Cold) cold b p cold_parts.each at))
+      (at_most-times (whole (price_at z b)) (whole price) (used_heat network p)
+      (used-not_negative side.Cold p (All-slice_get (IsPartOf case.streams case.utilities grid side.Cold) cold b p cold_parts.each at))
       (at_most-whole (price_at z b) price (cold_price case least z cold grid falls cold_ends b p at own)))
 
-  hot_part : IsSupporting (reach_between case hot cold) y z → (a : ℕ) (p : Part) → slice_get hot a ≡ Some p → IsAtMost (worth side.Hot p) (use_worth network y (a, p))
+  hot_part : IsSupporting (reach_between case hot cold) y z → (a : ℕ) (p : Part) → slice_get hot a ≡ Some p
+      → IsAtMost (worth side.Hot p) (use_worth network y (a, p))
   hot_part supporting a p at =
       let own = All-slice_get (HasEnds grid) hot a p hot_ends at in
       let price = (prices side.Hot p.source).below (own_view grid p own) in
       subst (λ w. IsAtMost w (use_worth network y (a, p))) (sym (worth-is side.Hot p own))
-      (at_most-times (whole price) (whole (price_at y a)) (used_heat network p) (used-not_negative side.Hot p (All-slice_get (IsPartOf case.streams case.utilities grid side.Hot) hot a p hot_parts.each at))
+      (at_most-times (whole price) (whole (price_at y a)) (used_heat network p)
+      (used-not_negative side.Hot p (All-slice_get (IsPartOf case.streams case.utilities grid side.Hot) hot a p hot_parts.each at))
       (at_most-whole price (price_at y a) (hot_price case least z cold grid falls cold_ends p own (price_at y a) (least_price-least y a)
       (λ b q here reaches. supporting a b (ap₂ (both_reach case) at here ∙ reaches)))))
 
   -- ---- all parts of a side
 
   abbrev of_streams : Side → List Part → Rational
-  of_streams on parts = rational_sum_by (λ (e : ℕ × Stream). rational_sum_by (own_worth least views prices network on (source.Stream e.0)) parts) (enumerate_from 0 case.streams)
+  of_streams on parts =
+      rational_sum_by (λ (e : ℕ × Stream). rational_sum_by (own_worth least views prices network on (source.Stream e.0)) parts) (enumerate_from 0 case.streams)
 
   abbrev of_utilities : Side → Rational
   of_utilities on = rational_sum_by (side_worth case network valid.values least views prices on) (enumerate_from 0 (exchangers_of network.lines))
 
-  side_sum : (on : Side) (parts : List Part) → AreParts case.streams case.utilities grid on parts → rational_sum_by (worth on) parts ≡ plus (of_streams on parts) (of_utilities on)
+  side_sum : (on : Side) (parts : List Part) → AreParts case.streams case.utilities grid on parts
+      → rational_sum_by (worth on) parts ≡ plus (of_streams on parts) (of_utilities on)
   side_sum on parts are =
       sum-by_source case (λ (p : Part). p.source) (worth on) parts
       (All-weaker (IsPartOf case.streams case.utilities grid on) (λ p. IsSourceOf case p.source)
       (λ p is. IsSourceOf-side case p.source (ap is_some (side_of_part case grid on p is))) parts are.each)
       ∙ ap (plus (of_streams on parts))
       (sum-enumerated (λ (e : ℕ × Utility). rational_sum_by (own_worth least views prices network on (source.Utility e.0)) parts) 
-      (λ e. rational_sum_by (of_source (λ (n : ℕ × Exchanger). source_on on n.1) (side_worth case network valid.values least views prices on) (source.Utility e.0)) (enumerate_from 0 (exchangers_of network.lines)))
+      (λ e. rational_sum_by (of_source (λ (n : ℕ × Exchanger). source_on on n.1) (side_worth case network valid.values least views prices on)
+      (source.Utility e.0)) (enumerate_from 0 (exchangers_of network.lines)))
       case.utilities
       (λ k u at. utility_worth-is case network valid.values least views prices on k u at shape grid parts are)
       ∙ sym (side_worth-by case network valid.values least views prices on shape))
 
-  streams-lose : rational_sum_by (stream_loss (branch_worth case least views prices)) (enumerate_from 0 case.streams) ≡ minus (of_streams side.Hot hot) (of_streams side.Cold cold)
+  streams-lose : rational_sum_by (stream_loss (branch_worth case least views prices)) (enumerate_from 0 case.streams)
+      ≡ minus (of_streams side.Hot hot) (of_streams side.Cold cold)
   streams-lose =
       let hots = λ (e : ℕ × Stream). rational_sum_by (own_worth least views prices network side.Hot (source.Stream e.0)) hot in
       let colds = λ (e : ℕ × Stream). rational_sum_by (own_worth least views prices network side.Cold (source.Stream e.0)) cold in
@@ -152,13 +164,18 @@ module _ (case : Case) (network : Network) (hot cold : List Part) (y z : List �
       ∙ rational_sum_by-minus hots colds (enumerate_from 0 case.streams)
     where
       one : (i : ℕ) (s : Stream) → slice_get case.streams i ≡ Some s → stream_loss (branch_worth case least views prices) (i, s)
-          ≡ minus (rational_sum_by (own_worth least views prices network side.Hot (source.Stream i)) hot) (rational_sum_by (own_worth least views prices network side.Cold (source.Stream i)) cold)
+          ≡ minus (rational_sum_by (own_worth least views prices network side.Hot (source.Stream i)) hot)
+          (rational_sum_by (own_worth least views prices network side.Cold (source.Stream i)) cold)
       one i s at =
-          let ends = All-slice_get (λ (r : Stream). Contains grid (high_end r) × Contains grid (low_end r)) case.streams i s (holds_ends case.streams case.utilities grid holds) at in
+          let ends =
+              All-slice_get (λ (r : Stream). Contains grid (high_end r) × Contains grid (low_end r)) case.streams i s
+              (holds_ends case.streams case.utilities grid holds) at in
           let (lowest, low) = some_lowest grid (low_end s) falls ends.1 in
           let under = All-contains (λ x. lowest ≤ℤ x) grid (low_end s) low.each ends.1 in
-          stream_worth-is case network least grid prices holds lowest low i s at (All-slice_get IsValidStream case.streams i s (AreStreams-IsComplete case complete).each at) under hot cold
-          (AreParts-made case.streams case.utilities side.Hot grid hot holds hot_parts) hot_ends (AreParts-made case.streams case.utilities side.Cold grid cold holds cold_parts) cold_ends
+          stream_worth-is case network least grid prices holds lowest low i s at
+          (All-slice_get IsValidStream case.streams i s (AreStreams-IsComplete case complete).each at) under hot cold
+          (AreParts-made case.streams case.utilities side.Hot grid hot holds hot_parts) hot_ends
+          (AreParts-made case.streams case.utilities side.Cold grid cold holds cold_parts) cold_ends
 
   -- ---- both sides
 
@@ -171,9 +188,15 @@ module _ (case : Case) (network : Network) (hot cold : List Part) (y z : List �
   worths-ordered : IsAtMost (rational_sum_by (worth side.Cold) cold) (rational_sum_by (worth side.Hot) hot)
   worths-ordered =
       let es = exchangers_of network.lines in
-      let takes = sum-enumerated (cold_worth case network valid.values least views prices) (side_worth case network valid.values least views prices side.Cold) es (λ n e at. refl) in
-      let gives = sum-enumerated (hot_worth case network valid.values least views prices) (side_worth case network valid.values least views prices side.Hot) es (λ n e at. refl) in
-      let h = worths_ordered case network valid.values least views prices shape valid.valuation valid.ended valid.approaches valid.permitted (views-fall grid falls) (steps_are_ordered case least z cold grid falls cold_ends) in
+      let takes =
+          sum-enumerated (cold_worth case network valid.values least views prices)
+          (side_worth case network valid.values least views prices side.Cold) es (λ n e at. refl) in
+      let gives =
+          sum-enumerated (hot_worth case network valid.values least views prices)
+          (side_worth case network valid.values least views prices side.Hot) es (λ n e at. refl) in
+      let h =
+          worths_ordered case network valid.values least views prices shape valid.valuation valid.ended valid.approaches valid.permitted
+          (views-fall grid falls) (steps_are_ordered case least z cold grid falls cold_ends) in
       let both = subst (λ c. IsAtMost c (plus (minus (of_streams side.Hot hot) (of_streams side.Cold cold)) (of_utilities side.Hot))) takes
       (subst (IsAtMost (rational_sum_by (cold_worth case network valid.values least views prices) (enumerate_from 0 es))) (ap₂ plus streams-lose gives) h) in
       subst (λ w. IsAtMost w (rational_sum_by (worth side.Hot) hot)) (sym (side_sum side.Cold cold cold_parts))
@@ -201,6 +224,7 @@ uses_ordered case network hot cold y z complete shape valid parts supporting =
     let on = parts_on_grid case hot cold parts in
     let same = ListsFalling-unique (Contains (places_of case.streams case.utilities)) parts.grid on.grid parts.is_grid on.is_grid in
     uses-ordered case network hot cold y z complete shape valid on.grid on.is_grid
-    (subst (λ g. AreParts case.streams case.utilities g side.Hot hot) same parts.hot_parts) (subst (λ g. AreParts case.streams case.utilities g side.Cold cold) same parts.cold_parts)
+    (subst (λ g. AreParts case.streams case.utilities g side.Hot hot) same parts.hot_parts)
+    (subst (λ g. AreParts case.streams case.utilities g side.Cold cold) same parts.cold_parts)
     (All-weaker (IsOnPlaces case on.grid side.Hot) (HasEnds on.grid) (λ p h. h.ends) hot on.hot_parts)
     (All-weaker (IsOnPlaces case on.grid side.Cold) (HasEnds on.grid) (λ p h. h.ends) cold on.cold_parts) supporting

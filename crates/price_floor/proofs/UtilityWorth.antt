@@ -55,7 +55,8 @@ side-on case side.Cold e is = is.cold
 side-utility : (case : Case) (on : Side) (k : ℕ) (u : Utility) → side_of case (source.Utility k) ≡ Some on → slice_get case.utilities k ≡ Some u → u.side ≡ on
 side-utility case on k u is at = let here : Some u.side ≡ Some on = sym (ap (option_map (λ (v : Utility). v.side)) at) ∙ is in cc
 
-not_utility : (case : Case) (on : Side) (k : ℕ) (u : Utility) (s : Source) → side_of case s ≡ Some on → slice_get case.utilities k ≡ Some u → (u.side ≡ on → ⊥) → same_source s (source.Utility k) ≡ false
+not_utility : (case : Case) (on : Side) (k : ℕ) (u : Utility) (s : Source) → side_of case s ≡ Some on → slice_get case.utilities k ≡ Some u
+    → (u.side ≡ on → ⊥) → same_source s (source.Utility k) ≡ false
 not_utility case on k u s is at other = by (same_source s (source.Utility k)) refl
   where
     by : (b : Bool) → same_source s (source.Utility k) ≡ b → b ≡ false
@@ -76,15 +77,18 @@ sum-filter_map f (x ∷ xs) = by (f x) ∙ ap (plus (unwrap_or (f x) rational_ze
 abbrev own_duty : Side → ℕ → Exchanger → Rational
 own_duty on k e = if same_source (source_on on e) (source.Utility k) then e.duty else rational_zero
 
-duty-own : (case : Case) (on : Side) (k : ℕ) (u : Utility) (e : Exchanger) → IsExchanger case e → slice_get case.utilities k ≡ Some u → u.side ≡ on → unwrap_or (duty_with k e) rational_zero ≡ own_duty on k e
+duty-own : (case : Case) (on : Side) (k : ℕ) (u : Utility) (e : Exchanger) → IsExchanger case e → slice_get case.utilities k ≡ Some u → u.side ≡ on
+    → unwrap_or (duty_with k e) rational_zero ≡ own_duty on k e
 duty-own case side.Hot k u e is at side_is =
-    ap (λ b. unwrap_or (if same_source e.hot (source.Utility k) || b then Some e.duty else None) rational_zero) (not_utility case side.Cold k u e.cold is.cold at (λ wrong. cc)) ∙ one (same_source e.hot (source.Utility k))
+    ap (λ b. unwrap_or (if same_source e.hot (source.Utility k) || b then Some e.duty else None) rational_zero)
+    (not_utility case side.Cold k u e.cold is.cold at (λ wrong. cc)) ∙ one (same_source e.hot (source.Utility k))
   where
     one : (b : Bool) → unwrap_or (if b || false then Some e.duty else None) rational_zero ≡ (if b then e.duty else rational_zero)
     one true = refl
     one false = refl
 duty-own case side.Cold k u e is at side_is =
-    ap (λ b. unwrap_or (if b || same_source e.cold (source.Utility k) then Some e.duty else None) rational_zero) (not_utility case side.Hot k u e.hot is.hot at (λ wrong. cc)) ∙ one (same_source e.cold (source.Utility k))
+    ap (λ b. unwrap_or (if b || same_source e.cold (source.Utility k) then Some e.duty else None) rational_zero)
+    (not_utility case side.Hot k u e.hot is.hot at (λ wrong. cc)) ∙ one (same_source e.cold (source.Utility k))
   where
     one : (b : Bool) → unwrap_or (if b then Some e.duty else None) rational_zero ≡ (if b then e.duty else rational_zero)
     one true = refl
@@ -95,7 +99,8 @@ heat-own : (case : Case) (network : Network) (on : Side) (k : ℕ) (u : Utility)
 unfolding duties_with
 heat-own case network on k u shape at side_is =
     let es = exchangers_of network.lines in
-    rational_sum_by-same (own_duty on k) (λ e. unwrap_or (duty_with k e) rational_zero) es (λ n d within. sym (duty-own case on k u (get_or es n d) (shape.exchangers.each n d within) at side_is))
+    rational_sum_by-same (own_duty on k) (λ e. unwrap_or (duty_with k e) rational_zero) es
+    (λ n d within. sym (duty-own case on k u (get_or es n d) (shape.exchangers.each n d within) at side_is))
     ∙ sym (sum-filter_map (duty_with k) es)
 
 -- ---- the run of a utility is the level of its part
@@ -104,17 +109,21 @@ shifted-base : (on : Side) (level c : ℤ) → level -ℤ unshifted on (pos 0) c
 shifted-base side.Hot level c = omega (arith, ints)
 shifted-base side.Cold level c = omega (arith, ints)
 
-module _ (case : Case) (network : Network) (values : Valuation) (on : Side) (number k : ℕ) (u : Utility) (at : slice_get case.utilities k ≡ Some u) (side_is : u.side ≡ on) where
+module _ (case : Case) (network : Network) (values : Valuation) (on : Side) (number k : ℕ) (u : Utility) (at : slice_get case.utilities k ≡ Some u)
+  (side_is : u.side ≡ on) where
   run-is : shifted_run on case network values number (source.Utility k) ≡ Level (whole (shifted_level u))
   unfolding side_run
   run-is =
-      ap (λ o. Level (minus (whole (option_map_or (λ (v : Utility). v.level) o (pos 0))) (whole (unshifted on (pos 0) (option_map_or (λ (v : Utility). v.contribution) o (pos 0)))))) at
-      ∙ ap Level (whole-minus u.level (unshifted on (pos 0) u.contribution) ∙ ap whole (shifted-base on u.level u.contribution ∙ ap (λ s. shifted s u.level u.contribution) (sym side_is)))
+      ap (λ o. Level (minus (whole (option_map_or (λ (v : Utility). v.level) o (pos 0)))
+      (whole (unshifted on (pos 0) (option_map_or (λ (v : Utility). v.contribution) o (pos 0)))))) at
+      ∙ ap Level (whole-minus u.level (unshifted on (pos 0) u.contribution)
+      ∙ ap whole (shifted-base on u.level u.contribution ∙ ap (λ s. shifted s u.level u.contribution) (sym side_is)))
 
   share-stood : (v : View) (duty : Rational) → share_in v duty (shifted_run on case network values number (source.Utility k)) ≡ stood (utility_part k u) duty v
   share-stood v duty =
       ap (share_in v duty) run-is
-      ∙ ap (λ b. if b then duty else rational_zero) (is_above-whole v.from_itself v.place (shifted_level u) ∙ ap (counts_above v.from_itself v.place) (sym (either v.from_itself)))
+      ∙ ap (λ b. if b then duty else rational_zero)
+      (is_above-whole v.from_itself v.place (shifted_level u) ∙ ap (counts_above v.from_itself v.place) (sym (either v.from_itself)))
     where
       either : (b : Bool) → (if b then shifted_level u else shifted_level u) ≡ shifted_level u
       either true = refl
@@ -132,12 +141,14 @@ module _ (case : Case) (network : Network) (values : Valuation) (least : ℤ) (v
 
   module _ (k : ℕ) (u : Utility) (at : slice_get case.utilities k ≡ Some u) where
     duty-stood : u.side ≡ on → (e : ℕ × Exchanger)
-        → of_source side_source side_worth (source.Utility k) e ≡ step_worth least views (prices on (source.Utility k)) (own_duty on k e.1) (stood (utility_part k u) (own_duty on k e.1))
+        → of_source side_source side_worth (source.Utility k) e
+        ≡ step_worth least views (prices on (source.Utility k)) (own_duty on k e.1) (stood (utility_part k u) (own_duty on k e.1))
     duty-stood side_is e = by_source (source_on on e.1)
       where
         none : step_worth least views (prices on (source.Utility k)) rational_zero (stood (utility_part k u) rational_zero) ≡ rational_zero
         none =
-            step-same least views (prices on (source.Utility k)) rational_zero rational_zero (stood (utility_part k u) rational_zero) (λ v. rational_zero) refl (λ n d within. nothing (stands (utility_part k u) (get_or views n d)))
+            step-same least views (prices on (source.Utility k)) rational_zero rational_zero (stood (utility_part k u) rational_zero)
+            (λ v. rational_zero) refl (λ n d within. nothing (stands (utility_part k u) (get_or views n d)))
             ∙ step-none least views (prices on (source.Utility k))
           where
             nothing : (b : Bool) → (if b then rational_zero else rational_zero) ≡ rational_zero
@@ -146,7 +157,8 @@ module _ (case : Case) (network : Network) (values : Valuation) (least : ℤ) (v
 
         by : (j : ℕ) (b : Bool) → (b ≡ true → j ≡ k)
             → (if b then utility_worth case network values least views prices on e.0 e.1.duty (source.Utility j) else rational_zero)
-            ≡ step_worth least views (prices on (source.Utility k)) (if b then e.1.duty else rational_zero) (stood (utility_part k u) (if b then e.1.duty else rational_zero))
+            ≡ step_worth least views (prices on (source.Utility k)) (if b then e.1.duty else rational_zero)
+            (stood (utility_part k u) (if b then e.1.duty else rational_zero))
         by j true same =
             ap (λ m. utility_worth case network values least views prices on e.0 e.1.duty (source.Utility m)) (same refl)
             ∙ step-same least views (prices on (source.Utility k)) e.1.duty e.1.duty
@@ -154,7 +166,8 @@ module _ (case : Case) (network : Network) (values : Valuation) (least : ℤ) (v
             (λ n d within. share-stood case network values on e.0 k u at side_is (get_or views n d) e.1.duty)
         by j false same = sym none
 
-        by_source : (s : Source) → (if same_source s (source.Utility k) then utility_worth case network values least views prices on e.0 e.1.duty s else rational_zero)
+        by_source : (s : Source)
+            → (if same_source s (source.Utility k) then utility_worth case network values least views prices on e.0 e.1.duty s else rational_zero)
             ≡ step_worth least views (prices on (source.Utility k)) (if same_source s (source.Utility k) then e.1.duty else rational_zero)
             (stood (utility_part k u) (if same_source s (source.Utility k) then e.1.duty else rational_zero))
         by_source (source.Stream i) = sym none
@@ -170,13 +183,17 @@ module _ (case : Case) (network : Network) (values : Valuation) (least : ℤ) (v
         let q = prices on (source.Utility k) in
         let duty = λ (e : ℕ × Exchanger). own_duty on k e.1 in
         let heat = heat_with network k in
-        let total : rational_sum_by duty numbered ≡ heat = sum-items duty (own_duty on k) es (λ n e here. refl) ∙ heat-own case network on k u shape at side_is in
-        rational_sum_by-same (of_source side_source side_worth (source.Utility k)) (λ e. step_worth least views q (duty e) (stood (utility_part k u) (duty e))) numbered (λ n d within. duty-stood side_is (get_or numbered n d))
+        let total : rational_sum_by duty numbered ≡ heat =
+            sum-items duty (own_duty on k) es (λ n e here. refl) ∙ heat-own case network on k u shape at side_is in
+        rational_sum_by-same (of_source side_source side_worth (source.Utility k))
+        (λ e. step_worth least views q (duty e) (stood (utility_part k u) (duty e))) numbered (λ n d within. duty-stood side_is (get_or numbered n d))
         ∙ step-sum least views q duty (λ e. stood (utility_part k u) (duty e)) numbered
-        ∙ step-same least views q (rational_sum_by duty numbered) heat (λ v. rational_sum_by (λ e. stood (utility_part k u) (duty e) v) numbered) (stood (utility_part k u) heat) total
+        ∙ step-same least views q (rational_sum_by duty numbered) heat (λ v. rational_sum_by (λ e. stood (utility_part k u) (duty e) v) numbered)
+        (stood (utility_part k u) heat) total
         (λ n d within. where_stood (stands (utility_part k u) (get_or views n d)) duty numbered heat total)
       where
-        where_stood : (b : Bool) (f : ℕ × Exchanger → Rational) (xs : List (ℕ × Exchanger)) (a : Rational) → rational_sum_by f xs ≡ a → rational_sum_by (λ e. if b then f e else rational_zero) xs ≡ (if b then a else rational_zero)
+        where_stood : (b : Bool) (f : ℕ × Exchanger → Rational) (xs : List (ℕ × Exchanger)) (a : Rational) → rational_sum_by f xs ≡ a
+            → rational_sum_by (λ e. if b then f e else rational_zero) xs ≡ (if b then a else rational_zero)
         where_stood true f xs a is = is
         where_stood false f xs a is = rational_sum_by-zero (λ e. rational_zero) xs (λ n d within. refl)
 
@@ -187,7 +204,8 @@ module _ (case : Case) (network : Network) (values : Valuation) (least : ℤ) (v
         rational_sum_by-zero (of_source side_source side_worth (source.Utility k)) (enumerate_from 0 (exchangers_of network.lines))
         (All-enumerated (λ (e : ℕ × Exchanger). of_source side_source side_worth (source.Utility k) e ≡ rational_zero) (exchangers_of network.lines)
         (λ n e here. ap (λ b. if b then side_worth (n, e) else rational_zero)
-        (not_utility case on k u (source_on on e) (side-on case on e (All-slice_get (IsExchanger case) (exchangers_of network.lines) n e shape.exchangers.each here)) at other)))
+        (not_utility case on k u (source_on on e)
+        (side-on case on e (All-slice_get (IsExchanger case) (exchangers_of network.lines) n e shape.exchangers.each here)) at other)))
 
     -- its part among the parts of the side
     part-once : (places : List ℤ) (parts : List Part) → AreParts case.streams case.utilities places on parts → u.side ≡ on
@@ -201,7 +219,8 @@ module _ (case : Case) (network : Network) (values : Valuation) (least : ℤ) (v
         (λ n d within. others (get_or parts n d) (are.each n d within))
         ∙ ap (λ b. if b then part_worth least views prices network on own else rational_zero) (same_source-same (source.Utility k))
       where
-        others : (p : Part) → IsPartOf case.streams case.utilities places on p → p ≢ utility_part k u → own_worth least views prices network on (source.Utility k) p ≡ rational_zero
+        others : (p : Part) → IsPartOf case.streams case.utilities places on p → p ≢ utility_part k u
+            → own_worth least views prices network on (source.Utility k) p ≡ rational_zero
         others p is differ = by (same_source p.source (source.Utility k)) (same_source-true p.source (source.Utility k))
           where
             same_part : IsPartOf case.streams case.utilities places on p → p.source ≡ source.Utility k → p ≡ utility_part k u
@@ -213,7 +232,8 @@ module _ (case : Case) (network : Network) (values : Valuation) (least : ℤ) (v
                 let utility : w ≡ u = cc in
                 h.is ∙ ap₂ utility_part number utility
 
-            by : (b : Bool) → (b ≡ true → p.source ≡ source.Utility k) → (if b then part_worth least views prices network on p else rational_zero) ≡ rational_zero
+            by : (b : Bool) → (b ≡ true → p.source ≡ source.Utility k)
+                → (if b then part_worth least views prices network on p else rational_zero) ≡ rational_zero
             by true of = absurd (differ (same_part is (of refl)))
             by false of = refl
 
@@ -234,7 +254,8 @@ module _ (case : Case) (network : Network) (values : Valuation) (least : ℤ) (v
                 let utility : w ≡ u = cc in
                 other (sym (ap (λ (r : Utility). r.side) utility) ∙ h.side_is)
 
-            by : (b : Bool) → (b ≡ true → p.source ≡ source.Utility k) → (if b then part_worth least views prices network on p else rational_zero) ≡ rational_zero
+            by : (b : Bool) → (b ≡ true → p.source ≡ source.Utility k)
+                → (if b then part_worth least views prices network on p else rational_zero) ≡ rational_zero
             by true of = absurd (wrong is (of refl))
             by false of = refl
 
@@ -248,7 +269,8 @@ module _ (case : Case) (network : Network) (values : Valuation) (least : ℤ) (v
             ≡ rational_sum_by (of_source side_source side_worth (source.Utility k)) (enumerate_from 0 (exchangers_of network.lines))
         by true same is = part-once places parts are (same refl) ∙ sym (duties-worth shape (same refl))
         by false same is =
-            let other : u.side ≡ on → ⊥ = λ side_is. absurd (let own = own_side on in let here : same_side u.side on ≡ true = ap (λ s. same_side s on) side_is ∙ own in cc) in
+            let other : u.side ≡ on → ⊥ =
+                λ side_is. absurd (let own = own_side on in let here : same_side u.side on ≡ true = ap (λ s. same_side s on) side_is ∙ own in cc) in
             part-none places parts are other ∙ sym (duties-none shape other)
 
   -- ---- all utilities
@@ -256,16 +278,19 @@ module _ (case : Case) (network : Network) (values : Valuation) (least : ℤ) (v
   -- what the exchangers have with streams of the side is no utility's
   pub side_worth-by : HasShape case network
       → rational_sum_by side_worth (enumerate_from 0 (exchangers_of network.lines))
-      ≡ rational_sum_by (λ e. rational_sum_by (of_source side_source side_worth (source.Utility e.0)) (enumerate_from 0 (exchangers_of network.lines))) (enumerate_from 0 case.utilities)
+      ≡ rational_sum_by (λ e. rational_sum_by (of_source side_source side_worth (source.Utility e.0))
+      (enumerate_from 0 (exchangers_of network.lines))) (enumerate_from 0 case.utilities)
   side_worth-by shape =
       let es = enumerate_from 0 (exchangers_of network.lines) in
       let utilities = rational_sum_by (λ e. rational_sum_by (of_source side_source side_worth (source.Utility e.0)) es) (enumerate_from 0 case.utilities) in
       sum-by_source case side_source side_worth es
       (All-enumerated (λ (e : ℕ × Exchanger). IsSourceOf case (source_on on e.1)) (exchangers_of network.lines)
-      (λ n e here. IsSourceOf-side case (source_on on e) (ap is_some (side-on case on e (All-slice_get (IsExchanger case) (exchangers_of network.lines) n e shape.exchangers.each here)))))
+      (λ n e here. IsSourceOf-side case (source_on on e)
+      (ap is_some (side-on case on e (All-slice_get (IsExchanger case) (exchangers_of network.lines) n e shape.exchangers.each here)))))
       ∙ ap (λ none. plus none utilities)
       (rational_sum_by-zero (λ e. rational_sum_by (of_source side_source side_worth (source.Stream e.0)) es) (enumerate_from 0 case.streams)
-      (λ n d within. rational_sum_by-zero (of_source side_source side_worth (source.Stream (get_or (enumerate_from 0 case.streams) n d).0)) es (λ m c inside. nothing (get_or (enumerate_from 0 case.streams) n d).0 (get_or es m c))))
+      (λ n d within. rational_sum_by-zero (of_source side_source side_worth (source.Stream (get_or (enumerate_from 0 case.streams) n d).0)) es
+      (λ m c inside. nothing (get_or (enumerate_from 0 case.streams) n d).0 (get_or es m c))))
       ∙ zero-plus utilities
     where
       nothing : (i : ℕ) (e : ℕ × Exchanger) → of_source side_source side_worth (source.Stream i) e ≡ rational_zero
@@ -275,6 +300,8 @@ module _ (case : Case) (network : Network) (values : Valuation) (least : ℤ) (v
           if_same true = refl
           if_same false = refl
 
-          by : (s : Source) → (if same_source s (source.Stream i) then utility_worth case network values least views prices on e.0 e.1.duty s else rational_zero) ≡ rational_zero
+          by : (s : Source)
+              → (if same_source s (source.Stream i) then utility_worth case network values least views prices on e.0 e.1.duty s else rational_zero)
+              ≡ rational_zero
           by (source.Stream j) = if_same (j == i)
           by (source.Utility j) = refl
