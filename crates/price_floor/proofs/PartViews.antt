@@ -48,8 +48,8 @@ views-fall [] falls = AllPairs-nil comes_below
 views-fall (g ∷ places) falls =
     let less = AllPairs-head (λ a b. b <ℤ a) g places falls in
     let below = λ (v : View) (at : v.place ≡ g).
-        All-views (comes_below v) places (All-weaker (λ x. x <ℤ g) (λ x. comes_below v (above_place x) × comes_below v (from_place x))
-        (λ x h. (inl (omega (arith, ints)), inl (omega (arith, ints)))) places less) in
+    All-views (comes_below v) places (All-weaker (λ x. x <ℤ g) (λ x. comes_below v (above_place x) × comes_below v (from_place x))
+    (λ x h. (inl (omega (arith, ints)), inl (omega (arith, ints)))) places less) in
     AllPairs-cons_if comes_below true (above_place g) (from_place g ∷ views_of places)
     (λ e. All-cons (comes_below (above_place g)) (from_place g) (views_of places) (inr (refl, refl, refl)) (below (above_place g) refl))
     (AllPairs-cons_if comes_below true (from_place g) (views_of places) (λ e. below (from_place g) refl)
@@ -156,10 +156,12 @@ module _ (p : Part) (order : p.low ≤ℤ p.high) where
       here : g ≡ p.high → LeavesAt p (above_place p.high) (views_of (g ∷ places))
       here e =
           let rest =
-              stands_all places (All-weaker (λ x. x <ℤ g) (λ x. (x <ℤ p.high) × (x ≤ℤ p.low))
-              (λ x h. (omega (arith, ints), omega (arith, ints))) places less) in
-          (not_below g p.high (omega (arith, ints)), inl
-          (ap above_place e, All-cons (λ w. stands p w ≡ true) (from_place g) (views_of places) (int_le-from g p.low (omega (arith, ints))) rest))
+          stands_all places (All-weaker (λ x. x <ℤ g) (λ x. (x <ℤ p.high) × (x ≤ℤ p.low))
+          (λ x h. (omega (arith, ints), omega (arith, ints))) places less) in (
+            not_below g p.high (omega (arith, ints)),
+            inl
+                (ap above_place e, All-cons (λ w. stands p w ≡ true) (from_place g) (views_of places) (int_le-from g p.low (omega (arith, ints))) rest),
+          )
 
       later : Contains places p.high → LeavesAt p (above_place p.high) (views_of places) → LeavesAt p (above_place p.high) (views_of (g ∷ places))
       later inside next =

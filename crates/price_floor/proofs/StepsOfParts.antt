@@ -14,7 +14,6 @@ use Rattle.sums.proofs.IntegerLemmas.{int_le-from, int_lt-from}
 use Rattle.sums.proofs.ListLemmas.{All-slice_get}
 use Rattle.sums.proofs.OrderLemmas.{AllPairs-head, AllPairs-tail}
 use Rattle.stream_case.specs.Case.{is_forbidden}
-use Rattle.stream_case.specs.Source.{same_source}
 use Rattle.stream_case.specs.declared.case.Case.{Case}
 use Rattle.stream_case.specs.declared.source.Side.{Side}
 use Rattle.stream_case.specs.declared.source.Side.TheVariants as side
@@ -118,12 +117,12 @@ falling_along R P below step above [] each pairs of = tt
 falling_along R P below step above (v ∷ views) each pairs of = (
   All-head (λ w. below w ≤ℤ above) v views each,
   falling_along R P below step (below v) views
-  (All-weaker (R v) (λ w. below w ≤ℤ below v) (λ w r. step v w (All-head P v views of) r) views (AllPairs-head R v views pairs))
-  (AllPairs-tail R v views pairs) (All-tail P v views of),
+      (All-weaker (R v) (λ w. below w ≤ℤ below v) (λ w r. step v w (All-head P v views of) r) views (AllPairs-head R v views pairs))
+      (AllPairs-tail R v views pairs) (All-tail P v views of),
 )
 
 module _ (case : Case) (least : ℤ) (prices : List ℤ) (cold : List Part) (grid : List ℤ) (falls : AllPairs (λ a b. b <ℤ a) grid)
-  (ends : All (HasEnds grid) cold) where
+    (ends : All (HasEnds grid) cold) where
   ends_at : (b : ℕ) (p : Part) → slice_get cold b ≡ Some p → HasEnds grid p
   ends_at b p at = All-slice_get (HasEnds grid) cold b p ends at
 
@@ -225,11 +224,11 @@ module _ (case : Case) (least : ℤ) (prices : List ℤ) (cold : List Part) (gri
           let wide = width in
           let under = lower in (
             by_lt_z p.high q.high
-            (λ up. let inside = none_inside grid q falls other p.high (interval_ends grid p.high p.low interval).0 up in absurd (omega (arith, ints)))
-            (λ upto.
-            by_lt_z q.high p.high
-            (λ down. let inside = interval_below grid p.high p.low q.high falls interval (high_on q other) down in absurd (omega (arith, ints)))
-            (λ from. omega (arith, ints))),
+                (λ up. let inside = none_inside grid q falls other p.high (interval_ends grid p.high p.low interval).0 up in absurd (omega (arith, ints)))
+                (λ upto.
+                by_lt_z q.high p.high
+                (λ down. let inside = interval_below grid p.high p.low q.high falls interval (high_on q other) down in absurd (omega (arith, ints)))
+                (λ from. omega (arith, ints))),
             omega (arith, ints),
           )
 

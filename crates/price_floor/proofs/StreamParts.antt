@@ -1,5 +1,5 @@
 -- The parts of one stream above a view add up to its heat there.
-use Rattle.std.proofs.Common.{◌≡◌, ◌≢◌, ◌∙◌, refl, ap, arith, ℕ, zero, suc, ◌+◌, ◌<◌, Bool, true, false, List, [], ◌∷◌, ◌++◌, Some, slice_get, Contains, eq-eqb, ne_eqb}
+use Rattle.std.proofs.Common.{◌≡◌, ◌≢◌, ◌∙◌, refl, ap, arith, ℕ, zero, suc, ◌+◌, ◌<◌, Bool, List, [], ◌∷◌, ◌++◌, Some, slice_get, Contains, eq-eqb, ne_eqb}
 use Rattle.std.specs.Prelude.{ℤ, pos, if◌then◌else◌}
 use Rattle.std.proofs.lemmas.Int.{ints}
 use Rattle.std.proofs.lemmas.List.Elements.{All-cons, All-nil}
@@ -41,7 +41,7 @@ module _ (i : ℕ) (from : Bool) (place : ℤ) where
   own-later test high low n (s ∷ streams) later =
       let first = own-other high low n s (λ same. absurd (omega (arith, same))) in
       let here : (if test s then own_over i from place (stream_part high low n s) else pos 0) ≡ pos 0 =
-          if_zero (test s) (own_over i from place (stream_part high low n s)) first in
+      if_zero (test s) (own_over i from place (stream_part high low n s)) first in
       let rest = own-later test high low (suc n) streams (omega arith) in
       let sum = int_sum_by-cons_if (own_over i from place) (test s) (stream_part high low n s) (picked test (stream_part high low) (suc n) streams) in
       omega (arith, ints)
@@ -59,15 +59,15 @@ module _ (i : ℕ) (from : Bool) (place : ℤ) where
       let alone = int_sum_by-cons_if (part_over from place (pos 0)) (test s) (stream_part high low 0 s) [] in
       let here : (if test t then own_over i from place (stream_part high low n t) else pos 0)
       ≡ (if test s then part_over from place (pos 0) (stream_part high low 0 s) else pos 0) =
-          ap (λ x. if test t then x else pos 0) (own-here high low n t number)
-          ∙ ap (λ r. if test r then part_over from place (pos 0) (stream_part high low 0 r) else pos 0) same in
+      ap (λ x. if test t then x else pos 0) (own-here high low n t number)
+      ∙ ap (λ r. if test r then part_over from place (pos 0) (stream_part high low 0 r) else pos 0) same in
       omega (arith, ints)
   own-picked test high low n (t ∷ streams) (suc k) s at is =
       let first = own-other high low n t (λ same. absurd (omega (arith, same, is))) in
       let rest = own-picked test high low (suc n) streams k s at (omega (arith, is)) in
       let sum = int_sum_by-cons_if (own_over i from place) (test t) (stream_part high low n t) (picked test (stream_part high low) (suc n) streams) in
       let here : (if test t then own_over i from place (stream_part high low n t) else pos 0) ≡ pos 0 =
-          if_zero (test t) (own_over i from place (stream_part high low n t)) first in
+      if_zero (test t) (own_over i from place (stream_part high low n t)) first in
       omega (arith, ints)
 
   own-utilities : (test : Utility → Bool) (n : ℕ) (utilities : List Utility) → int_sum_by (own_over i from place) (picked test utility_part n utilities) ≡ pos 0
@@ -121,7 +121,7 @@ pub stream_parts-are : (i : ℕ) (from : Bool) (place : ℤ) (streams : List Str
     → int_sum_by (own_over i from place) (made_parts streams utilities side places) ≡ (if same_side s.side side then heat_over from place s else pos 0)
 stream_parts-are i from place streams utilities side s places at valid holds found =
     let ends =
-        All-slice_get (λ (r : Stream). Contains places (high_end r) × Contains places (low_end r)) streams i s (holds_ends streams utilities places holds) at in
+    All-slice_get (λ (r : Stream). Contains places (high_end r) × Contains places (low_end r)) streams i s (holds_ends streams utilities places holds) at in
     let alone : HoldsPlaces (s ∷ []) [] places = record {
       falls = holds.falls;
       holds = All-cons (Contains places) (high_end s) (low_end s ∷ []) ends.0 (All-cons (Contains places) (low_end s) [] ends.1 (All-nil (Contains places)));

@@ -1,5 +1,5 @@
 -- What a stream loses of its worth is what its parts are worth: of a hot stream's, and of a cold one's taken away.
-use Rattle.std.proofs.Common.{◌≡◌, ⊎_elim, ◌∙◌, refl, sym, ap, ap₂, arith, ℕ, ◌==◌, Bool, true, false, List, Some, slice_get, get_or, All, Contains, eqb-true}
+use Rattle.std.proofs.Common.{◌≡◌, ⊎_elim, ◌∙◌, refl, sym, ap, ap₂, arith, ℕ, Bool, true, false, List, Some, slice_get, get_or, All, Contains}
 use Rattle.std.specs.Prelude.{ℤ, pos, ◌+ℤ◌, ◌-ℤ◌, ◌*ℤ◌, ◌≤ℤ◌, if◌then◌else◌}
 use Rattle.std.proofs.lemmas.Int.{clamps, ints}
 use Rattle.stream_case.specs.Source.{same_side, same_source}
@@ -11,6 +11,7 @@ use Rattle.stream_case.specs.declared.source.Source.{Source}
 use Rattle.stream_case.specs.declared.source.Source.TheVariants as source
 use Rattle.stream_case.specs.declared.stream.Stream.{Stream}
 use Rattle.stream_case.proofs.EndLemmas.{level-latent, order-sensible}
+use Rattle.stream_case.proofs.SourceLemmas.{same_source-true}
 use Rattle.stream_case.proofs.HeatLemmas.{heat_over-latent, heat_over-sensible, is_latent-latent, is_latent-sensible}
 use Rattle.sums.specs.Sum.{int_sum_by}
 use Rattle.sums.proofs.IntegerLemmas.{int_le-from}
@@ -34,9 +35,9 @@ use Rattle.price_floor.specs.Steps.{StepPrices, step_worth}
 use Rattle.price_floor.specs.Uses.{used_by}
 use Rattle.price_floor.specs.Views.{views_of}
 use Rattle.price_floor.specs.Worths.{branch_worth, value_worth}
-use Rattle.price_floor.proofs.PartSums.{own_worth}
+use Rattle.price_floor.proofs.PartSums.{own_worth, part_worth}
 use Rattle.price_floor.proofs.PartViews.{HasEnds, IsLowest, from_place, stands, stands_lowest, views-places}
-use Rattle.price_floor.proofs.StepSums.{step-none, step-same, step-sum}
+use Rattle.price_floor.proofs.StepSums.{step-none, step-same, step-sum, stood}
 use Rattle.price_floor.proofs.StepLemmas.{step_worth-minus}
 use Rattle.price_floor.proofs.StreamParts.{own_over, stream_parts-are}
 
@@ -119,45 +120,35 @@ abbrev own_least : ℕ → Part → ℤ
 own_least i p = if same_source p.source (source.Stream i) then p.least else pos 0
 
 module _ (network : Network) (least : ℤ) (views : List View) (prices : Side → Source → StepPrices) (on : Side) (i : ℕ) where
-  own-heat : (p : Part) → own_worth least views prices network on (source.Stream i) p
-      ≡ step_worth least views (prices on (source.Stream i)) (whole (own_least i p)) (λ v. whole (own_over i v.from_itself v.place p))
-  own-heat p = of_source p.source
-    where
-      none : step_worth least views (prices on (source.Stream i)) rational_zero (λ v. rational_zero) ≡ rational_zero
-      none = step-none least views (prices on (source.Stream i))
+  -- heats at the stream's prices
+  abbrev worth : ℤ → (View → ℤ) → Rational
+  worth all above = step_worth least views (prices on (source.Stream i)) (whole all) (λ v. whole (above v))
 
+  abbrev over : View → Part → ℤ
+  over v = own_over i v.from_itself v.place
+
+  own-heat : (p : Part) → own_worth least views prices network on (source.Stream i) p ≡ worth (own_least i p) (λ v. over v p)
+  own-heat p = by (same_source p.source (source.Stream i)) (same_source-true p.source (source.Stream i))
+    where
       if_whole : (b : Bool) → (if b then whole p.least else rational_zero) ≡ whole (if b then p.least else pos 0)
       if_whole true = refl
       if_whole false = refl
 
-      by : (j : ℕ) (b : Bool) → (b ≡ true → j ≡ i)
-          → (if b then step_worth least views (prices on (source.Stream j)) (whole p.least)
-          (λ v. if stands p v then whole p.least else rational_zero) else rational_zero)
-          ≡ step_worth least views (prices on (source.Stream i)) (whole (if b then p.least else pos 0))
-          (λ v. whole (if b then (if stands p v then p.least else pos 0) else pos 0))
-      by j true same =
-          ap (λ k. step_worth least views (prices on (source.Stream k)) (whole p.least) (λ v. if stands p v then whole p.least else rational_zero)) (same refl)
-          ∙ step-same least views (prices on (source.Stream i)) (whole p.least) (whole p.least)
-          (λ v. if stands p v then whole p.least else rational_zero) (λ v. whole (if stands p v then p.least else pos 0))
-          refl (λ k d within. if_whole (stands p (get_or views k d)))
-      by j false same = sym none
+      by : (b : Bool) → (b ≡ true → p.source ≡ source.Stream i) → (if b then part_worth least views prices network on p else rational_zero)
+          ≡ worth (if b then p.least else pos 0) (λ v. if b then (if stands p v then p.least else pos 0) else pos 0)
+      by true same =
+          ap (λ s. step_worth least views (prices on s) (used_by network p.least s) (stood p (used_by network p.least s))) (same refl)
+          ∙ step-same least views (prices on (source.Stream i)) (whole p.least) (whole p.least) (stood p (whole p.least))
+          (λ v. whole (if stands p v then p.least else pos 0)) refl (λ k d within. if_whole (stands p (get_or views k d)))
+      by false same = sym (step-none least views (prices on (source.Stream i)))
 
-      of_source : (s : Source) → (if same_source s (source.Stream i)
-          then step_worth least views (prices on s) (used_by network p.least s)
-          (λ v. if stands p v then used_by network p.least s else rational_zero) else rational_zero)
-          ≡ step_worth least views (prices on (source.Stream i)) (whole (if same_source s (source.Stream i) then p.least else pos 0))
-          (λ v. whole (if same_source s (source.Stream i) then (if stands p v then p.least else pos 0) else pos 0))
-      of_source (source.Stream j) = by j (j == i) (eqb-true j i)
-      of_source (source.Utility k) = sym none
-
-  own-sum : (parts : List Part) → rational_sum_by (own_worth least views prices network on (source.Stream i)) parts
-      ≡ step_worth least views (prices on (source.Stream i)) (whole (int_sum_by (own_least i) parts))
-      (λ v. whole (int_sum_by (own_over i v.from_itself v.place) parts))
+  own-sum : (parts : List Part)
+      → rational_sum_by (own_worth least views prices network on (source.Stream i)) parts
+      ≡ worth (int_sum_by (own_least i) parts) (λ v. int_sum_by (over v) parts)
   own-sum parts =
       let q = prices on (source.Stream i) in
-      let over = λ (v : View). own_over i v.from_itself v.place in
-      rational_sum_by-same (own_worth least views prices network on (source.Stream i))
-      (λ p. step_worth least views q (whole (own_least i p)) (λ v. whole (over v p))) parts (λ k d within. own-heat (get_or parts k d))
+      rational_sum_by-same (own_worth least views prices network on (source.Stream i)) (λ p. worth (own_least i p) (λ v. over v p)) parts
+      (λ k d within. own-heat (get_or parts k d))
       ∙ step-sum least views q (λ p. whole (own_least i p)) (λ p v. whole (over v p)) parts
       ∙ step-same least views q (rational_sum_by (λ p. whole (own_least i p)) parts) (whole (int_sum_by (own_least i) parts))
       (λ v. rational_sum_by (λ p. whole (over v p)) parts) (λ v. whole (int_sum_by (over v) parts))
@@ -167,8 +158,8 @@ module _ (network : Network) (least : ℤ) (views : List View) (prices : Side �
 -- ---- a stream of a case
 
 module _ (case : Case) (network : Network) (least : ℤ) (grid : List ℤ) (prices : Side → Source → StepPrices)
-  (holds : HoldsPlaces case.streams case.utilities grid) (lowest : ℤ) (low : IsLowest grid lowest)
-  (i : ℕ) (s : Stream) (at : slice_get case.streams i ≡ Some s) (valid : IsValidStream s) where
+    (holds : HoldsPlaces case.streams case.utilities grid) (lowest : ℤ) (low : IsLowest grid lowest)
+    (i : ℕ) (s : Stream) (at : slice_get case.streams i ≡ Some s) (valid : IsValidStream s) where
   -- the heat of the stream in a view
   abbrev seen : View → ℤ
   seen v = heat_over v.from_itself v.place s

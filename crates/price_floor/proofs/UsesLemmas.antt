@@ -68,10 +68,10 @@ least_price-least (x ∷ xs) (suc a) = let rest = least_price-least xs a in omeg
 -- ---- the parts on a grid
 
 module _ (case : Case) (network : Network) (hot cold : List Part) (y z : List ℤ) (complete : IsComplete case) (shape : HasShape case network)
-  (valid : IsValidNetwork case network)
-  (grid : List ℤ) (is_grid : IsGrid case grid) (hot_parts : AreParts case.streams case.utilities grid side.Hot hot)
-  (cold_parts : AreParts case.streams case.utilities grid side.Cold cold)
-  (hot_ends : All (HasEnds grid) hot) (cold_ends : All (HasEnds grid) cold) where
+    (valid : IsValidNetwork case network)
+    (grid : List ℤ) (is_grid : IsGrid case grid) (hot_parts : AreParts case.streams case.utilities grid side.Hot hot)
+    (cold_parts : AreParts case.streams case.utilities grid side.Cold cold)
+    (hot_ends : All (HasEnds grid) hot) (cold_ends : All (HasEnds grid) cold) where
   abbrev least : ℤ
   least = least_price y
 
@@ -96,8 +96,8 @@ module _ (case : Case) (network : Network) (hot cold : List Part) (y z : List �
   used-not_negative on p (inl (i, s, h)) =
       let from : source.Stream i ≡ p.source = sym (ap (λ (r : Part). r.source) h.is) in
       let bounded =
-          IsBounded-part case.streams case.utilities on grid (AreStreams-IsComplete case complete).each (IsPlaced-IsComplete case complete) holds p
-          (inl (i, s, h)) in
+      IsBounded-part case.streams case.utilities on grid (AreStreams-IsComplete case complete).each (IsPlaced-IsComplete case complete) holds p
+      (inl (i, s, h)) in
       subst (λ r. IsAtMost rational_zero (used_by network p.least r)) from (at_most-whole (pos 0) p.least bounded.least.from)
   used-not_negative on p (inr (k, u, h)) =
       let from : source.Utility k ≡ p.source = sym (ap (λ (r : Part). r.source) h.is) in
@@ -148,7 +148,7 @@ module _ (case : Case) (network : Network) (hot cold : List Part) (y z : List �
       (All-weaker (IsPartOf case.streams case.utilities grid on) (λ p. IsSourceOf case p.source)
       (λ p is. IsSourceOf-side case p.source (ap is_some (side_of_part case grid on p is))) parts are.each)
       ∙ ap (plus (of_streams on parts))
-      (sum-enumerated (λ (e : ℕ × Utility). rational_sum_by (own_worth least views prices network on (source.Utility e.0)) parts) 
+      (sum-enumerated (λ (e : ℕ × Utility). rational_sum_by (own_worth least views prices network on (source.Utility e.0)) parts)
       (λ e. rational_sum_by (of_source (λ (n : ℕ × Exchanger). source_on on n.1) (side_worth case network valid.values least views prices on)
       (source.Utility e.0)) (enumerate_from 0 (exchangers_of network.lines)))
       case.utilities
@@ -168,8 +168,8 @@ module _ (case : Case) (network : Network) (hot cold : List Part) (y z : List �
           (rational_sum_by (own_worth least views prices network side.Cold (source.Stream i)) cold)
       one i s at =
           let ends =
-              All-slice_get (λ (r : Stream). Contains grid (high_end r) × Contains grid (low_end r)) case.streams i s
-              (holds_ends case.streams case.utilities grid holds) at in
+          All-slice_get (λ (r : Stream). Contains grid (high_end r) × Contains grid (low_end r)) case.streams i s
+          (holds_ends case.streams case.utilities grid holds) at in
           let (lowest, low) = some_lowest grid (low_end s) falls ends.1 in
           let under = All-contains (λ x. lowest ≤ℤ x) grid (low_end s) low.each ends.1 in
           stream_worth-is case network least grid prices holds lowest low i s at
@@ -189,14 +189,14 @@ module _ (case : Case) (network : Network) (hot cold : List Part) (y z : List �
   worths-ordered =
       let es = exchangers_of network.lines in
       let takes =
-          sum-enumerated (cold_worth case network valid.values least views prices)
-          (side_worth case network valid.values least views prices side.Cold) es (λ n e at. refl) in
+      sum-enumerated (cold_worth case network valid.values least views prices)
+      (side_worth case network valid.values least views prices side.Cold) es (λ n e at. refl) in
       let gives =
-          sum-enumerated (hot_worth case network valid.values least views prices)
-          (side_worth case network valid.values least views prices side.Hot) es (λ n e at. refl) in
+      sum-enumerated (hot_worth case network valid.values least views prices)
+      (side_worth case network valid.values least views prices side.Hot) es (λ n e at. refl) in
       let h =
-          worths_ordered case network valid.values least views prices shape valid.valuation valid.ended valid.approaches valid.permitted
-          (views-fall grid falls) (steps_are_ordered case least z cold grid falls cold_ends) in
+      worths_ordered case network valid.values least views prices shape valid.valuation valid.ended valid.approaches valid.permitted
+      (views-fall grid falls) (steps_are_ordered case least z cold grid falls cold_ends) in
       let both = subst (λ c. IsAtMost c (plus (minus (of_streams side.Hot hot) (of_streams side.Cold cold)) (of_utilities side.Hot))) takes
       (subst (IsAtMost (rational_sum_by (cold_worth case network valid.values least views prices) (enumerate_from 0 es))) (ap₂ plus streams-lose gives) h) in
       subst (λ w. IsAtMost w (rational_sum_by (worth side.Hot) hot)) (sym (side_sum side.Cold cold cold_parts))

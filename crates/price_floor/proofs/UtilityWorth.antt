@@ -1,8 +1,9 @@
 -- The duties of a utility are worth what its part is worth.
-use Rattle.std.proofs.Common.{◌≡◌, ◌≢◌, inl, inr, ◌∙◌, refl, sym, ap, ap₂, arith, ℕ, ◌==◌, ◌||◌, Bool, true, false, List, [], ◌∷◌, Option, Some, None, slice_get, get_or, option_map, unwrap_or, filter_map, is_some, eqb-true}
+use Rattle.std.proofs.Common.{◌≡◌, ⊎_elim, inl, inr, ◌∙◌, refl, sym, ap, ap₂, arith, ℕ, ◌==◌, ◌||◌, Bool, true, false, List, [], ◌∷◌, Option, Some, None, slice_get, get_or, option_map, unwrap_or, filter_map, is_some}
 use Rattle.std.specs.Prelude.{ℤ, pos, ◌-ℤ◌, if◌then◌else◌}
 use Rattle.std.specs.List.{cons_option, enumerate_from}
 use Rattle.std.specs.Option.{option_map_or}
+use Rattle.std.proofs.lemmas.Bool.{cases_Bool, false_from_ne_true}
 use Rattle.std.proofs.lemmas.Int.{ints}
 use Rattle.sums.proofs.EnumerationLemmas.{All-enumerated}
 use Rattle.sums.proofs.ListLemmas.{All-slice_get}
@@ -57,11 +58,9 @@ side-utility case on k u is at = let here : Some u.side ≡ Some on = sym (ap (o
 
 not_utility : (case : Case) (on : Side) (k : ℕ) (u : Utility) (s : Source) → side_of case s ≡ Some on → slice_get case.utilities k ≡ Some u
     → (u.side ≡ on → ⊥) → same_source s (source.Utility k) ≡ false
-not_utility case on k u s is at other = by (same_source s (source.Utility k)) refl
-  where
-    by : (b : Bool) → same_source s (source.Utility k) ≡ b → b ≡ false
-    by false e = refl
-    by true e = absurd (other (side-utility case on k u (sym (ap (side_of case) (same_source-true s (source.Utility k) e)) ∙ is) at))
+not_utility case on k u s is at other =
+    false_from_ne_true (same_source s (source.Utility k))
+    (λ e. other (side-utility case on k u (sym (ap (side_of case) (same_source-true s (source.Utility k) e)) ∙ is) at))
 
 -- ---- the heat of a utility
 
@@ -110,7 +109,7 @@ shifted-base side.Hot level c = omega (arith, ints)
 shifted-base side.Cold level c = omega (arith, ints)
 
 module _ (case : Case) (network : Network) (values : Valuation) (on : Side) (number k : ℕ) (u : Utility) (at : slice_get case.utilities k ≡ Some u)
-  (side_is : u.side ≡ on) where
+    (side_is : u.side ≡ on) where
   run-is : shifted_run on case network values number (source.Utility k) ≡ Level (whole (shifted_level u))
   unfolding side_run
   run-is =
@@ -140,38 +139,28 @@ module _ (case : Case) (network : Network) (values : Valuation) (least : ℤ) (v
   side_source e = source_on on e.1
 
   module _ (k : ℕ) (u : Utility) (at : slice_get case.utilities k ≡ Some u) where
-    duty-stood : u.side ≡ on → (e : ℕ × Exchanger)
-        → of_source side_source side_worth (source.Utility k) e
-        ≡ step_worth least views (prices on (source.Utility k)) (own_duty on k e.1) (stood (utility_part k u) (own_duty on k e.1))
-    duty-stood side_is e = by_source (source_on on e.1)
-      where
-        none : step_worth least views (prices on (source.Utility k)) rational_zero (stood (utility_part k u) rational_zero) ≡ rational_zero
-        none =
-            step-same least views (prices on (source.Utility k)) rational_zero rational_zero (stood (utility_part k u) rational_zero)
-            (λ v. rational_zero) refl (λ n d within. nothing (stands (utility_part k u) (get_or views n d)))
-            ∙ step-none least views (prices on (source.Utility k))
-          where
-            nothing : (b : Bool) → (if b then rational_zero else rational_zero) ≡ rational_zero
-            nothing true = refl
-            nothing false = refl
+    -- heat at the utility's prices, where its part stands
+    abbrev worth : Rational → Rational
+    worth heat = step_worth least views (prices on (source.Utility k)) heat (stood (utility_part k u) heat)
 
-        by : (j : ℕ) (b : Bool) → (b ≡ true → j ≡ k)
-            → (if b then utility_worth case network values least views prices on e.0 e.1.duty (source.Utility j) else rational_zero)
-            ≡ step_worth least views (prices on (source.Utility k)) (if b then e.1.duty else rational_zero)
-            (stood (utility_part k u) (if b then e.1.duty else rational_zero))
-        by j true same =
-            ap (λ m. utility_worth case network values least views prices on e.0 e.1.duty (source.Utility m)) (same refl)
+    duty-stood : u.side ≡ on → (e : ℕ × Exchanger) → of_source side_source side_worth (source.Utility k) e ≡ worth (own_duty on k e.1)
+    duty-stood side_is e = by (same_source (source_on on e.1) (source.Utility k)) (same_source-true (source_on on e.1) (source.Utility k))
+      where
+        nothing : (b : Bool) → rational_zero ≡ (if b then rational_zero else rational_zero)
+        nothing true = refl
+        nothing false = refl
+
+        by : (b : Bool) → (b ≡ true → source_on on e.1 ≡ source.Utility k)
+            → (if b then side_worth e else rational_zero) ≡ worth (if b then e.1.duty else rational_zero)
+        by true same =
+            ap (utility_worth case network values least views prices on e.0 e.1.duty) (same refl)
             ∙ step-same least views (prices on (source.Utility k)) e.1.duty e.1.duty
             (λ v. share_in v e.1.duty (shifted_run on case network values e.0 (source.Utility k))) (stood (utility_part k u) e.1.duty) refl
             (λ n d within. share-stood case network values on e.0 k u at side_is (get_or views n d) e.1.duty)
-        by j false same = sym none
-
-        by_source : (s : Source)
-            → (if same_source s (source.Utility k) then utility_worth case network values least views prices on e.0 e.1.duty s else rational_zero)
-            ≡ step_worth least views (prices on (source.Utility k)) (if same_source s (source.Utility k) then e.1.duty else rational_zero)
-            (stood (utility_part k u) (if same_source s (source.Utility k) then e.1.duty else rational_zero))
-        by_source (source.Stream i) = sym none
-        by_source (source.Utility j) = by j (j == k) (eqb-true j k)
+        by false same =
+            sym (step-none least views (prices on (source.Utility k)))
+            ∙ step-same least views (prices on (source.Utility k)) rational_zero rational_zero (λ v. rational_zero) (stood (utility_part k u) rational_zero)
+            refl (λ n d within. nothing (stands (utility_part k u) (get_or views n d)))
 
     -- the duties of a utility of the side are worth what its part is worth
     duties-worth : HasShape case network → u.side ≡ on
@@ -184,9 +173,9 @@ module _ (case : Case) (network : Network) (values : Valuation) (least : ℤ) (v
         let duty = λ (e : ℕ × Exchanger). own_duty on k e.1 in
         let heat = heat_with network k in
         let total : rational_sum_by duty numbered ≡ heat =
-            sum-items duty (own_duty on k) es (λ n e here. refl) ∙ heat-own case network on k u shape at side_is in
+        sum-items duty (own_duty on k) es (λ n e here. refl) ∙ heat-own case network on k u shape at side_is in
         rational_sum_by-same (of_source side_source side_worth (source.Utility k))
-        (λ e. step_worth least views q (duty e) (stood (utility_part k u) (duty e))) numbered (λ n d within. duty-stood side_is (get_or numbered n d))
+        (λ e. worth (duty e)) numbered (λ n d within. duty-stood side_is (get_or numbered n d))
         ∙ step-sum least views q duty (λ e. stood (utility_part k u) (duty e)) numbered
         ∙ step-same least views q (rational_sum_by duty numbered) heat (λ v. rational_sum_by (λ e. stood (utility_part k u) (duty e) v) numbered)
         (stood (utility_part k u) heat) total
@@ -207,71 +196,52 @@ module _ (case : Case) (network : Network) (values : Valuation) (least : ℤ) (v
         (not_utility case on k u (source_on on e)
         (side-on case on e (All-slice_get (IsExchanger case) (exchangers_of network.lines) n e shape.exchangers.each here)) at other)))
 
+    -- a part of the utility is its one part, and on its side
+    part-is : (places : List ℤ) (p : Part) → IsPartOf case.streams case.utilities places on p → p.source ≡ source.Utility k
+        → (p ≡ utility_part k u) × (u.side ≡ on)
+    part-is places p (inl (i, s, h)) of = let from : p.source ≡ source.Stream i = ap (λ (r : Part). r.source) h.is in absurd (cc)
+    part-is places p (inr (j, w, h)) of =
+        let from : p.source ≡ source.Utility j = ap (λ (r : Part). r.source) h.is in
+        let number : j ≡ k = cc in
+        let found : Some w ≡ Some u = sym h.utility ∙ ap (slice_get case.utilities) number ∙ at in
+        let utility : w ≡ u = cc in
+        (h.is ∙ ap₂ utility_part number utility, sym (ap (λ (r : Utility). r.side) utility) ∙ h.side_is)
+
+    own-none : (p : Part) → (p.source ≡ source.Utility k → ⊥) → own_worth least views prices network on (source.Utility k) p ≡ rational_zero
+    own-none p other =
+        ap (λ b. if b then part_worth least views prices network on p else rational_zero)
+        (false_from_ne_true (same_source p.source (source.Utility k)) (λ e. other (same_source-true p.source (source.Utility k) e)))
+
     -- its part among the parts of the side
     part-once : (places : List ℤ) (parts : List Part) → AreParts case.streams case.utilities places on parts → u.side ≡ on
         → rational_sum_by (own_worth least views prices network on (source.Utility k)) parts ≡ part_worth least views prices network on (utility_part k u)
     part-once places parts are side_is =
         let own = utility_part k u in
-        let f = own_worth least views prices network on (source.Utility k) in
-        sum-single f parts own
+        sum-single (own_worth least views prices network on (source.Utility k)) parts own
         (λ i j d less within. before-not (get_or parts i d) (get_or parts j d) (are.ordered i j d less within))
         (are.every own (inr (k, u, record { utility = at; side_is = side_is; is = refl })))
-        (λ n d within. others (get_or parts n d) (are.each n d within))
+        (λ n d within differ. own-none (get_or parts n d) (λ of. differ (part-is places (get_or parts n d) (are.each n d within) of).0))
         ∙ ap (λ b. if b then part_worth least views prices network on own else rational_zero) (same_source-same (source.Utility k))
-      where
-        others : (p : Part) → IsPartOf case.streams case.utilities places on p → p ≢ utility_part k u
-            → own_worth least views prices network on (source.Utility k) p ≡ rational_zero
-        others p is differ = by (same_source p.source (source.Utility k)) (same_source-true p.source (source.Utility k))
-          where
-            same_part : IsPartOf case.streams case.utilities places on p → p.source ≡ source.Utility k → p ≡ utility_part k u
-            same_part (inl (i, s, h)) of = let from : p.source ≡ source.Stream i = ap (λ (r : Part). r.source) h.is in absurd (cc)
-            same_part (inr (j, w, h)) of =
-                let from : p.source ≡ source.Utility j = ap (λ (r : Part). r.source) h.is in
-                let number : j ≡ k = cc in
-                let found : Some w ≡ Some u = sym h.utility ∙ ap (slice_get case.utilities) number ∙ at in
-                let utility : w ≡ u = cc in
-                h.is ∙ ap₂ utility_part number utility
-
-            by : (b : Bool) → (b ≡ true → p.source ≡ source.Utility k)
-                → (if b then part_worth least views prices network on p else rational_zero) ≡ rational_zero
-            by true of = absurd (differ (same_part is (of refl)))
-            by false of = refl
 
     part-none : (places : List ℤ) (parts : List Part) → AreParts case.streams case.utilities places on parts → (u.side ≡ on → ⊥)
         → rational_sum_by (own_worth least views prices network on (source.Utility k)) parts ≡ rational_zero
     part-none places parts are other =
-        rational_sum_by-zero (own_worth least views prices network on (source.Utility k)) parts (λ n d within. nothing (get_or parts n d) (are.each n d within))
-      where
-        nothing : (p : Part) → IsPartOf case.streams case.utilities places on p → own_worth least views prices network on (source.Utility k) p ≡ rational_zero
-        nothing p is = by (same_source p.source (source.Utility k)) (same_source-true p.source (source.Utility k))
-          where
-            wrong : IsPartOf case.streams case.utilities places on p → p.source ≡ source.Utility k → ⊥
-            wrong (inl (i, s, h)) of = let from : p.source ≡ source.Stream i = ap (λ (r : Part). r.source) h.is in cc
-            wrong (inr (j, w, h)) of =
-                let from : p.source ≡ source.Utility j = ap (λ (r : Part). r.source) h.is in
-                let number : j ≡ k = cc in
-                let found : Some w ≡ Some u = sym h.utility ∙ ap (slice_get case.utilities) number ∙ at in
-                let utility : w ≡ u = cc in
-                other (sym (ap (λ (r : Utility). r.side) utility) ∙ h.side_is)
-
-            by : (b : Bool) → (b ≡ true → p.source ≡ source.Utility k)
-                → (if b then part_worth least views prices network on p else rational_zero) ≡ rational_zero
-            by true of = absurd (wrong is (of refl))
-            by false of = refl
+        rational_sum_by-zero (own_worth least views prices network on (source.Utility k)) parts
+        (λ n d within. own-none (get_or parts n d) (λ of. other (part-is places (get_or parts n d) (are.each n d within) of).1))
 
     pub utility_worth-is : HasShape case network → (places : List ℤ) (parts : List Part) → AreParts case.streams case.utilities places on parts
         → rational_sum_by (own_worth least views prices network on (source.Utility k)) parts
         ≡ rational_sum_by (of_source side_source side_worth (source.Utility k)) (enumerate_from 0 (exchangers_of network.lines))
-    utility_worth-is shape places parts are = by (same_side u.side on) (same_side-true u.side on) refl
+    utility_worth-is shape places parts are =
+        ⊎_elim
+        (λ same. let side_is = same_side-true u.side on same in part-once places parts are side_is ∙ sym (duties-worth shape side_is))
+        (λ differ.
+        let other = λ (side_is : u.side ≡ on). absurd_side (ap (λ s. same_side s on) side_is) differ in
+        part-none places parts are other ∙ sym (duties-none shape other))
+        (cases_Bool (same_side u.side on))
       where
-        by : (b : Bool) → (b ≡ true → u.side ≡ on) → same_side u.side on ≡ b
-            → rational_sum_by (own_worth least views prices network on (source.Utility k)) parts
-            ≡ rational_sum_by (of_source side_source side_worth (source.Utility k)) (enumerate_from 0 (exchangers_of network.lines))
-        by true same is = part-once places parts are (same refl) ∙ sym (duties-worth shape (same refl))
-        by false same is =
-            let other : u.side ≡ on → ⊥ =
-                λ side_is. absurd (let own = own_side on in let here : same_side u.side on ≡ true = ap (λ s. same_side s on) side_is ∙ own in cc) in
-            part-none places parts are other ∙ sym (duties-none shape other)
+        absurd_side : same_side u.side on ≡ same_side on on → same_side u.side on ≡ false → ⊥
+        absurd_side same differ = let own = own_side on in absurd (cc)
 
   -- ---- all utilities
 
