@@ -5,7 +5,7 @@ use Rattle.std.proofs.lemmas.Bool.{false_from_ne_true}
 use Rattle.std.proofs.lemmas.Int.{ints}
 use Rattle.std.proofs.lemmas.List.Elements.{All-cons, All-contains, All-contains_itself, All-head, All-nil, All-tail, All-weaker, Contains-append_right}
 use Rattle.sums.proofs.ConsLemmas.{AllPairs-cons_if}
-use Rattle.sums.proofs.IntegerLemmas.{int_le-from, int_le-true, int_lt-from, int_lt-true}
+use Rattle.sums.proofs.IntegerLemmas.{int_le-false, int_le-from, int_le-true, int_lt-from, int_lt-true}
 use Rattle.sums.proofs.OrderLemmas.{AllPairs-head, AllPairs-nil, AllPairs-tail, Contains-cons}
 use Rattle.grid.specs.declared.part.Part.{Part}
 use Rattle.grid.specs.Part.{IsInterval, stands_above}
@@ -129,11 +129,8 @@ abbrev pub own_view : (places : List ℤ) (p : Part) → HasEnds places p → Vi
 own_view places p (inl level) = above_place p.high
 own_view places p (inr interval) = from_place p.high
 
-not_below : (a b : ℤ) → b ≤ℤ a → int_lt a b ≡ false
-not_below a b h = false_from_ne_true (int_lt a b) (λ e. let less = int_lt-true a b e in omega (arith, ints))
-
-not_upto : (a b : ℤ) → b <ℤ a → int_le a b ≡ false
-not_upto a b h = false_from_ne_true (int_le a b) (λ e. let upto = int_le-true a b e in omega (arith, ints))
+int_lt-false : (a b : ℤ) → b ≤ℤ a → int_lt a b ≡ false
+int_lt-false a b h = false_from_ne_true (int_lt a b) (λ e. let less = int_lt-true a b e in omega (arith, ints))
 
 module _ (p : Part) (order : p.low ≤ℤ p.high) where
   -- above both views of places at which it does not end and which are not above it
@@ -158,7 +155,7 @@ module _ (p : Part) (order : p.low ≤ℤ p.high) where
           let rest =
           stands_all places (All-weaker (λ x. x <ℤ g) (λ x. (x <ℤ p.high) × (x ≤ℤ p.low))
           (λ x h. (omega (arith, ints), omega (arith, ints))) places less) in (
-            not_below g p.high (omega (arith, ints)),
+            int_lt-false g p.high (omega (arith, ints)),
             inl
                 (ap above_place e, All-cons (λ w. stands p w ≡ true) (from_place g) (views_of places) (int_le-from g p.low (omega (arith, ints))) rest),
           )
@@ -166,7 +163,7 @@ module _ (p : Part) (order : p.low ≤ℤ p.high) where
       later : Contains places p.high → LeavesAt p (above_place p.high) (views_of places) → LeavesAt p (above_place p.high) (views_of (g ∷ places))
       later inside next =
           let under = All-contains (λ x. x <ℤ g) places p.high less inside in
-          (not_below g p.high (omega (arith, ints)), inr (not_upto g p.low (omega (arith, ints)), inr next))
+          (int_lt-false g p.high (omega (arith, ints)), inr (int_le-false g p.low (omega (arith, ints)), inr next))
 
   leaves_interval : p.low <ℤ p.high → (places : List ℤ) → AllPairs (λ a b. b <ℤ a) places → Contains places p.high
       → All (λ x. x <ℤ p.high → x ≤ℤ p.low) places → LeavesAt p (from_place p.high) (views_of places)
@@ -185,12 +182,12 @@ module _ (p : Part) (order : p.low ≤ℤ p.high) where
       here e =
           let both : All (λ x. (x <ℤ p.high) × (x ≤ℤ p.low)) places = λ k d within.
           let under : get_or places k d <ℤ p.high = subst (λ y. get_or places k d <ℤ y) e (less k d within) in (under, others k d within under) in
-          (not_below g p.high (omega (arith, ints)), inr (not_upto g p.low (omega (arith, ints)), inl (ap from_place e, stands_all places both)))
+          (int_lt-false g p.high (omega (arith, ints)), inr (int_le-false g p.low (omega (arith, ints)), inl (ap from_place e, stands_all places both)))
 
       later : Contains places p.high → LeavesAt p (from_place p.high) (views_of places) → LeavesAt p (from_place p.high) (views_of (g ∷ places))
       later inside next =
           let under = All-contains (λ x. x <ℤ g) places p.high less inside in
-          (not_below g p.high (omega (arith, ints)), inr (not_upto g p.low (omega (arith, ints)), inr next))
+          (int_lt-false g p.high (omega (arith, ints)), inr (int_le-false g p.low (omega (arith, ints)), inr next))
 
 pub leaves_own : (places : List ℤ) (p : Part) → AllPairs (λ a b. b <ℤ a) places → (ends : HasEnds places p)
     → LeavesAt p (own_view places p ends) (views_of places)
@@ -203,5 +200,5 @@ leaves_own places p falls (inr interval) =
 
 -- a part does not stand above its own view
 pub own_not : (places : List ℤ) (p : Part) → AllPairs (λ a b. b <ℤ a) places → (ends : HasEnds places p) → stands p (own_view places p ends) ≡ false
-own_not places p falls (inl level) = not_below p.high p.high (omega (arith, ints))
-own_not places p falls (inr interval) = not_upto p.high p.low (interval_falls places p.high p.low falls interval)
+own_not places p falls (inl level) = int_lt-false p.high p.high (omega (arith, ints))
+own_not places p falls (inr interval) = int_le-false p.high p.low (interval_falls places p.high p.low falls interval)

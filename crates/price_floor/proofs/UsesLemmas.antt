@@ -33,7 +33,7 @@ use Rattle.grid.proofs.OnGridLemmas.{parts_on_grid, side_of_part}
 use Rattle.grid.proofs.SizeLemmas.{IsBounded-part}
 use Rattle.heat_flow.specs.Prices.{IsSupporting, price_at}
 use Rattle.heat_flow.specs.Reach.{both_reach, reach_between}
-use Rattle.networks.specs.Lines.{Exchanger, exchangers_of}
+use Rattle.networks.specs.Lines.{exchangers_of}
 use Rattle.networks.specs.Shape.{HasShape}
 use Rattle.networks.specs.declared.network.Network.{Network}
 use Rattle.network_values.specs.Heights.{View}
@@ -46,12 +46,12 @@ use Rattle.price_floor.specs.Uses.{UsesAreOrdered, use_worth, used_by, used_heat
 use Rattle.price_floor.specs.Views.{views_of}
 use Rattle.price_floor.specs.Worths.{branch_worth, cold_worth, hot_worth}
 use Rattle.price_floor.proofs.NetworkWorth.{worths_ordered}
-use Rattle.price_floor.proofs.PartSums.{of_source, own_worth, part_worth, sum-by_source}
+use Rattle.price_floor.proofs.PartSums.{own_worth, part_worth, sum-by_source}
 use Rattle.price_floor.proofs.PartViews.{HasEnds, leaves_own, own_view, some_lowest, views-fall}
 use Rattle.price_floor.proofs.StepsOfParts.{cold_price, hot_price, steps_are_ordered, steps_fall}
 use Rattle.price_floor.proofs.StepSums.{step-part}
 use Rattle.price_floor.proofs.StreamWorth.{stream_worth-is}
-use Rattle.price_floor.proofs.UtilityWorth.{side_worth, source_on, side_worth-by, utility_worth-is}
+use Rattle.price_floor.proofs.UtilityWorth.{duties_of, side_worth, side_worth-by, utility_worth-is}
 
 -- ---- the least price
 
@@ -149,9 +149,7 @@ module _ (case : Case) (network : Network) (hot cold : List Part) (y z : List �
       (λ p is. IsSourceOf-side case p.source (ap is_some (side_of_part case grid on p is))) parts are.each)
       ∙ ap (plus (of_streams on parts))
       (sum-enumerated (λ (e : ℕ × Utility). rational_sum_by (own_worth least views prices network on (source.Utility e.0)) parts)
-      (λ e. rational_sum_by (of_source (λ (n : ℕ × Exchanger). source_on on n.1) (side_worth case network valid.values least views prices on)
-      (source.Utility e.0)) (enumerate_from 0 (exchangers_of network.lines)))
-      case.utilities
+      (λ e. duties_of case network valid.values least views prices on e.0) case.utilities
       (λ k u at. utility_worth-is case network valid.values least views prices on k u at shape grid parts are)
       ∙ sym (side_worth-by case network valid.values least views prices on shape))
 

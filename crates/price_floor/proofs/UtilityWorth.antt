@@ -35,6 +35,7 @@ use Rattle.network_values.specs.Penalties.{unshifted}
 use Rattle.network_values.specs.Sides.{Level, side_run}
 use Rattle.network_values.specs.Values.{Valuation}
 use Rattle.network_values.proofs.WholeHeights.{is_above-whole}
+use Rattle.network_audit.proofs.HeatLemmas.{source_on}
 use Rattle.network_audit.specs.Balance.{duties_with, duty_with, heat_with}
 use Rattle.price_floor.specs.Steps.{StepPrices, step_worth}
 use Rattle.price_floor.specs.Worths.{utility_worth}
@@ -43,10 +44,6 @@ use Rattle.price_floor.proofs.PartViews.{stands}
 use Rattle.price_floor.proofs.StepSums.{step-none, step-same, step-sum, stood}
 
 -- ---- the source of an exchanger on a side
-
-abbrev pub source_on : Side → Exchanger → Source
-source_on side.Hot e = e.hot
-source_on side.Cold e = e.cold
 
 side-on : (case : Case) (on : Side) (e : Exchanger) → IsExchanger case e → side_of case (source_on on e) ≡ Some on
 side-on case side.Hot e is = is.hot
@@ -138,6 +135,10 @@ module _ (case : Case) (network : Network) (values : Valuation) (least : ℤ) (v
   abbrev side_source : ℕ × Exchanger → Source
   side_source e = source_on on e.1
 
+  -- the same of the exchangers with one utility
+  abbrev pub duties_of : ℕ → Rational
+  duties_of k = rational_sum_by (of_source side_source side_worth (source.Utility k)) (enumerate_from 0 (exchangers_of network.lines))
+
   module _ (k : ℕ) (u : Utility) (at : slice_get case.utilities k ≡ Some u) where
     -- heat at the utility's prices, where its part stands
     abbrev worth : Rational → Rational
@@ -163,9 +164,7 @@ module _ (case : Case) (network : Network) (values : Valuation) (least : ℤ) (v
             refl (λ n d within. nothing (stands (utility_part k u) (get_or views n d)))
 
     -- the duties of a utility of the side are worth what its part is worth
-    duties-worth : HasShape case network → u.side ≡ on
-        → rational_sum_by (of_source side_source side_worth (source.Utility k)) (enumerate_from 0 (exchangers_of network.lines))
-        ≡ part_worth least views prices network on (utility_part k u)
+    duties-worth : HasShape case network → u.side ≡ on → duties_of k ≡ part_worth least views prices network on (utility_part k u)
     duties-worth shape side_is =
         let es = exchangers_of network.lines in
         let numbered = enumerate_from 0 es in
@@ -187,8 +186,7 @@ module _ (case : Case) (network : Network) (values : Valuation) (least : ℤ) (v
         where_stood false f xs a is = rational_sum_by-zero (λ e. rational_zero) xs (λ n d within. refl)
 
     -- a utility of the other side has none here
-    duties-none : HasShape case network → (u.side ≡ on → ⊥)
-        → rational_sum_by (of_source side_source side_worth (source.Utility k)) (enumerate_from 0 (exchangers_of network.lines)) ≡ rational_zero
+    duties-none : HasShape case network → (u.side ≡ on → ⊥) → duties_of k ≡ rational_zero
     duties-none shape other =
         rational_sum_by-zero (of_source side_source side_worth (source.Utility k)) (enumerate_from 0 (exchangers_of network.lines))
         (All-enumerated (λ (e : ℕ × Exchanger). of_source side_source side_worth (source.Utility k) e ≡ rational_zero) (exchangers_of network.lines)
@@ -231,7 +229,7 @@ module _ (case : Case) (network : Network) (values : Valuation) (least : ℤ) (v
 
     pub utility_worth-is : HasShape case network → (places : List ℤ) (parts : List Part) → AreParts case.streams case.utilities places on parts
         → rational_sum_by (own_worth least views prices network on (source.Utility k)) parts
-        ≡ rational_sum_by (of_source side_source side_worth (source.Utility k)) (enumerate_from 0 (exchangers_of network.lines))
+        ≡ duties_of k
     utility_worth-is shape places parts are =
         ⊎_elim
         (λ same. let side_is = same_side-true u.side on same in part-once places parts are side_is ∙ sym (duties-worth shape side_is))
@@ -247,12 +245,10 @@ module _ (case : Case) (network : Network) (values : Valuation) (least : ℤ) (v
 
   -- what the exchangers have with streams of the side is no utility's
   pub side_worth-by : HasShape case network
-      → rational_sum_by side_worth (enumerate_from 0 (exchangers_of network.lines))
-      ≡ rational_sum_by (λ e. rational_sum_by (of_source side_source side_worth (source.Utility e.0))
-      (enumerate_from 0 (exchangers_of network.lines))) (enumerate_from 0 case.utilities)
+      → rational_sum_by side_worth (enumerate_from 0 (exchangers_of network.lines)) ≡ rational_sum_by (λ e. duties_of e.0) (enumerate_from 0 case.utilities)
   side_worth-by shape =
       let es = enumerate_from 0 (exchangers_of network.lines) in
-      let utilities = rational_sum_by (λ e. rational_sum_by (of_source side_source side_worth (source.Utility e.0)) es) (enumerate_from 0 case.utilities) in
+      let utilities = rational_sum_by (λ (e : ℕ × Utility). duties_of e.0) (enumerate_from 0 case.utilities) in
       sum-by_source case side_source side_worth es
       (All-enumerated (λ (e : ℕ × Exchanger). IsSourceOf case (source_on on e.1)) (exchangers_of network.lines)
       (λ n e here. IsSourceOf-side case (source_on on e)
