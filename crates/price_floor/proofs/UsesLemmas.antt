@@ -92,14 +92,14 @@ module _ (case : Case) (network : Network) (hot cold : List Part) (y z : List �
 
   -- ---- uses are not negative
 
-  used-not_negative : (on : Side) (p : Part) → IsPartOf case.streams case.utilities grid on p → IsAtMost rational_zero (used_heat network p)
-  used-not_negative on p (inl (i, s, h)) =
+  not_negative-used : (on : Side) (p : Part) → IsPartOf case.streams case.utilities grid on p → IsAtMost rational_zero (used_heat network p)
+  not_negative-used on p (inl (i, s, h)) =
       let from : source.Stream i ≡ p.source = sym (ap (λ (r : Part). r.source) h.is) in
       let bounded =
       IsBounded-part case.streams case.utilities on grid (AreStreams-IsComplete case complete).each (IsPlaced-IsComplete case complete) holds p
       (inl (i, s, h)) in
       subst (λ r. IsAtMost rational_zero (used_by network p.least r)) from (at_most-whole (pos 0) p.least bounded.least.from)
-  used-not_negative on p (inr (k, u, h)) =
+  not_negative-used on p (inr (k, u, h)) =
       let from : source.Utility k ≡ p.source = sym (ap (λ (r : Part). r.source) h.is) in
       let placed = All-slice_get IsPlaced case.utilities k u (IsPlaced-IsComplete case complete) h.utility in
       subst (λ r. IsAtMost rational_zero (used_by network p.least r)) from
@@ -107,6 +107,7 @@ module _ (case : Case) (network : Network) (hot cold : List Part) (y z : List �
 
   -- ---- one part
 
+  -- it is worth one price of its source, that where it lies
   worth-is : (on : Side) (p : Part) (own : HasEnds grid p) → worth on p ≡ times (whole ((prices on p.source).below (own_view grid p own))) (used_heat network p)
   worth-is on p own =
       step-part least views (prices on p.source) p (own_view grid p own) (used_heat network p)
@@ -118,7 +119,7 @@ module _ (case : Case) (network : Network) (hot cold : List Part) (y z : List �
       let price = (prices side.Cold p.source).below (own_view grid p own) in
       subst (IsAtMost (use_worth network z (b, p))) (sym (worth-is side.Cold p own))
       (at_most-times (whole (price_at z b)) (whole price) (used_heat network p)
-      (used-not_negative side.Cold p (All-slice_get (IsPartOf case.streams case.utilities grid side.Cold) cold b p cold_parts.each at))
+      (not_negative-used side.Cold p (All-slice_get (IsPartOf case.streams case.utilities grid side.Cold) cold b p cold_parts.each at))
       (at_most-whole (price_at z b) price (cold_price case least z cold grid falls cold_ends b p at own)))
 
   hot_part : IsSupporting (reach_between case hot cold) y z → (a : ℕ) (p : Part) → slice_get hot a ≡ Some p
@@ -128,12 +129,13 @@ module _ (case : Case) (network : Network) (hot cold : List Part) (y z : List �
       let price = (prices side.Hot p.source).below (own_view grid p own) in
       subst (λ w. IsAtMost w (use_worth network y (a, p))) (sym (worth-is side.Hot p own))
       (at_most-times (whole price) (whole (price_at y a)) (used_heat network p)
-      (used-not_negative side.Hot p (All-slice_get (IsPartOf case.streams case.utilities grid side.Hot) hot a p hot_parts.each at))
+      (not_negative-used side.Hot p (All-slice_get (IsPartOf case.streams case.utilities grid side.Hot) hot a p hot_parts.each at))
       (at_most-whole price (price_at y a) (hot_price case least z cold grid falls cold_ends p own (price_at y a) (least_price-least y a)
       (λ b q here reaches. supporting a b (ap₂ (both_reach case) at here ∙ reaches)))))
 
   -- ---- all parts of a side
 
+  -- the parts of the streams, and the duties of the utilities
   abbrev of_streams : Side → List Part → Rational
   of_streams on parts =
       rational_sum_by (λ (e : ℕ × Stream). rational_sum_by (own_worth least views prices network on (source.Stream e.0)) parts) (enumerate_from 0 case.streams)
@@ -141,6 +143,7 @@ module _ (case : Case) (network : Network) (hot cold : List Part) (y z : List �
   abbrev of_utilities : Side → Rational
   of_utilities on = rational_sum_by (side_worth case network valid.values least views prices on) (enumerate_from 0 (exchangers_of network.lines))
 
+  -- by streams and by utilities
   side_sum : (on : Side) (parts : List Part) → AreParts case.streams case.utilities grid on parts
       → rational_sum_by (worth on) parts ≡ plus (of_streams on parts) (of_utilities on)
   side_sum on parts are =
@@ -153,9 +156,10 @@ module _ (case : Case) (network : Network) (hot cold : List Part) (y z : List �
       (λ k u at. utility_worth-is case network valid.values least views prices on k u at shape grid parts are)
       ∙ sym (side_worth-by case network valid.values least views prices on shape))
 
-  streams-lose : rational_sum_by (stream_loss (branch_worth case least views prices)) (enumerate_from 0 case.streams)
+  -- the streams lose what the parts of the hot ones are worth, less what those of the cold ones are worth
+  streams_lose : rational_sum_by (stream_loss (branch_worth case least views prices)) (enumerate_from 0 case.streams)
       ≡ minus (of_streams side.Hot hot) (of_streams side.Cold cold)
-  streams-lose =
+  streams_lose =
       let hots = λ (e : ℕ × Stream). rational_sum_by (own_worth least views prices network side.Hot (source.Stream e.0)) hot in
       let colds = λ (e : ℕ × Stream). rational_sum_by (own_worth least views prices network side.Cold (source.Stream e.0)) cold in
       sum-enumerated (stream_loss (branch_worth case least views prices)) (λ e. minus (hots e) (colds e)) case.streams one
@@ -177,14 +181,15 @@ module _ (case : Case) (network : Network) (hot cold : List Part) (y z : List �
 
   -- ---- both sides
 
+  -- what is taken away on one side is added on the other
   moved_over : (a b c e : Rational) → IsAtMost c (plus (minus a b) e) → IsAtMost (plus b c) (plus a e)
   moved_over a b c e h =
       subst (λ w. IsAtMost w (plus a e)) (plus_comm c b)
       (subst (IsAtMost (plus c b)) (ap (λ w. plus w b) (plus_comm (minus a b) e) ∙ plus_assoc e (minus a b) b ∙ ap (plus e) (plus-minus a b) ∙ plus_comm e a)
       (at_most-plus_plus c (plus (minus a b) e) b b h (at_most_refl b)))
 
-  worths-ordered : IsAtMost (rational_sum_by (worth side.Cold) cold) (rational_sum_by (worth side.Hot) hot)
-  worths-ordered =
+  sides_ordered : IsAtMost (rational_sum_by (worth side.Cold) cold) (rational_sum_by (worth side.Hot) hot)
+  sides_ordered =
       let es = exchangers_of network.lines in
       let takes =
       sum-enumerated (cold_worth case network valid.values least views prices)
@@ -196,14 +201,14 @@ module _ (case : Case) (network : Network) (hot cold : List Part) (y z : List �
       worths_ordered case network valid.values least views prices shape valid.valuation valid.ended valid.approaches valid.permitted
       (views-fall grid falls) (steps_are_ordered case least z cold grid falls cold_ends) in
       let both = subst (λ c. IsAtMost c (plus (minus (of_streams side.Hot hot) (of_streams side.Cold cold)) (of_utilities side.Hot))) takes
-      (subst (IsAtMost (rational_sum_by (cold_worth case network valid.values least views prices) (enumerate_from 0 es))) (ap₂ plus streams-lose gives) h) in
+      (subst (IsAtMost (rational_sum_by (cold_worth case network valid.values least views prices) (enumerate_from 0 es))) (ap₂ plus streams_lose gives) h) in
       subst (λ w. IsAtMost w (rational_sum_by (worth side.Hot) hot)) (sym (side_sum side.Cold cold cold_parts))
       (subst (IsAtMost (plus (of_streams side.Cold cold) (of_utilities side.Cold))) (sym (side_sum side.Hot hot hot_parts))
       (moved_over (of_streams side.Hot hot) (of_streams side.Cold cold) (of_utilities side.Cold) (of_utilities side.Hot) both))
 
-  uses-ordered : IsSupporting (reach_between case hot cold) y z → IsAtMost (worth_of_uses network z cold) (worth_of_uses network y hot)
+  uses_on_grid : IsSupporting (reach_between case hot cold) y z → IsAtMost (worth_of_uses network z cold) (worth_of_uses network y hot)
   unfolding worth_of_uses
-  uses-ordered supporting =
+  uses_on_grid supporting =
       let colds = rational_sum_by (worth side.Cold) cold in
       let hots = rational_sum_by (worth side.Hot) hot in
       let cold_sum = sum-items (λ (e : ℕ × Part). worth side.Cold e.1) (worth side.Cold) cold (λ i p at. refl) in
@@ -215,13 +220,13 @@ module _ (case : Case) (network : Network) (hot cold : List Part) (y z : List �
       (at_most-rational_sum_by (λ (e : ℕ × Part). worth side.Hot e.1) (use_worth network y) (enumerate_from 0 hot)
       (All-enumerated (λ (e : ℕ × Part). IsAtMost (worth side.Hot e.1) (use_worth network y e)) hot (hot_part supporting))) in
       at_most_trans (rational_sum_by (use_worth network z) (enumerate_from 0 cold)) colds (rational_sum_by (use_worth network y) (enumerate_from 0 hot)) taken
-      (at_most_trans colds hots (rational_sum_by (use_worth network y) (enumerate_from 0 hot)) worths-ordered given)
+      (at_most_trans colds hots (rational_sum_by (use_worth network y) (enumerate_from 0 hot)) sides_ordered given)
 
 pub uses_ordered : UsesAreOrdered
 uses_ordered case network hot cold y z complete shape valid parts supporting =
     let on = parts_on_grid case hot cold parts in
     let same = ListsFalling-unique (Contains (places_of case.streams case.utilities)) parts.grid on.grid parts.is_grid on.is_grid in
-    uses-ordered case network hot cold y z complete shape valid on.grid on.is_grid
+    uses_on_grid case network hot cold y z complete shape valid on.grid on.is_grid
     (subst (λ g. AreParts case.streams case.utilities g side.Hot hot) same parts.hot_parts)
     (subst (λ g. AreParts case.streams case.utilities g side.Cold cold) same parts.cold_parts)
     (All-weaker (IsOnPlaces case on.grid side.Hot) (HasEnds on.grid) (λ p h. h.ends) hot on.hot_parts)
