@@ -9,3 +9,4 @@ pub mod PartSums
 pub mod StreamWorth
 pub mod UtilityWorth
 pub mod UsesLemmas
+pub mod FloorLemmas
