@@ -85,7 +85,7 @@ abbrev excess_rational : Side → Rational → Rational → Rational
 excess_rational side.Hot = minus
 excess_rational side.Cold = plus
 
-minus-times : (a b c : Rational) → times (minus a b) c ≡ minus (times a c) (times b c)
+pub minus-times : (a b c : Rational) → times (minus a b) c ≡ minus (times a c) (times b c)
 minus-times a b c = times_comm (minus a b) c ∙ times-minus c a b ∙ ap₂ minus (times_comm c a) (times_comm c b)
 
 excess-times : (on : Side) (price y : ℤ) (x : Rational) → times (whole (excess_price on price y)) x ≡ excess_rational on (times (whole price) x) (times (whole y) x)

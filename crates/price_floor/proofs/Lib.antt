@@ -10,3 +10,4 @@ pub mod StreamWorth
 pub mod UtilityWorth
 pub mod UsesLemmas
 pub mod FloorLemmas
+pub mod CutLemmas
