@@ -38,6 +38,8 @@ pub fn floor_of(
     ensures value { result ≡ value_of parts.now.hot parts.now.cold prices.now.hot prices.now.cold }
     ensures floor { IsAtMost (whole result) (cost_of case.now network.now) }
 {
+    // What the auditor knows: the network that it has accepted is valid.
+    let _joints = auditor.joints();
     value_of(parts, prices)
 }
 
@@ -58,5 +60,6 @@ pub fn cut_stands(
         ↔ IsCutOf (reach_between case.now parts.now.hot parts.now.cold) parts.now.hot parts.now.cold cut.now }
     ensures never { result ≡ false }
 {
+    let _joints = auditor.joints();
     is_cut(parts, reach, cut)
 }

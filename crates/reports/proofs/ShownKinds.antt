@@ -39,7 +39,7 @@ pub is_refusal-other : (shown : Shown)
     → ((cost : Option ℤ) → shown ≡ Certified cost → ⊥)
     → ((why : NoWhy) → shown ≡ NotCertified why → ⊥)
     → ((c : Case) (network : Network) (balance : Balance) → shown ≡ Design c network balance → ⊥)
-    → ((c : Case) (network : Network) (balance : Balance) (place : ℤ) (penalties : PenaltyList) → shown ≡ Accepted c network balance place penalties → ⊥)
+    → ((c : Case) (network : Network) (balance : Balance) (place floor : ℤ) (penalties : PenaltyList) → shown ≡ Accepted c network balance place floor penalties → ⊥)
     → ((c : Case) (network : Network) (place : Place) (reason : Reason) → shown ≡ Rejected c network place reason → ⊥)
     → ((c : Case) (network : Network) (place : Place) (step : ℕ) → shown ≡ TooFine c network place step → ⊥)
     → IsTrue (is_refusal shown)
@@ -53,7 +53,7 @@ is_refusal-other (Sample hot cold cost) t f s c e w m y q d a r o = absurd (m ho
 is_refusal-other (Certified cost) t f s c e w m y q d a r o = absurd (y cost refl)
 is_refusal-other (NotCertified why) t f s c e w m y q d a r o = absurd (q why refl)
 is_refusal-other (Design k network balance) t f s c e w m y q d a r o = absurd (d k network balance refl)
-is_refusal-other (Accepted k network balance place penalties) t f s c e w m y q d a r o = absurd (a k network balance place penalties refl)
+is_refusal-other (Accepted k network balance place floor penalties) t f s c e w m y q d a r o = absurd (a k network balance place floor penalties refl)
 is_refusal-other (Rejected k network place reason) t f s c e w m y q d a r o = absurd (r k network place reason refl)
 is_refusal-other (TooFine k network place step) t f s c e w m y q d a r o = absurd (o k network place step refl)
 is_refusal-other BadWords t f s c e w m y q d a r o = refl
@@ -69,12 +69,12 @@ is_refusal-other (ReadFault file) t f s c e w m y q d a r o = refl
 -- a network is shown in one of four ways
 pub no_network : (shown : Shown) → IsTrue (is_of_network shown)
     → ((c : Case) (network : Network) (balance : Balance) → shown ≡ Design c network balance → ⊥)
-    → ((c : Case) (network : Network) (balance : Balance) (place : ℤ) (penalties : PenaltyList) → shown ≡ Accepted c network balance place penalties → ⊥)
+    → ((c : Case) (network : Network) (balance : Balance) (place floor : ℤ) (penalties : PenaltyList) → shown ≡ Accepted c network balance place floor penalties → ⊥)
     → ((c : Case) (network : Network) (place : Place) (reason : Reason) → shown ≡ Rejected c network place reason → ⊥)
     → ((c : Case) (network : Network) (place : Place) (step : ℕ) → shown ≡ TooFine c network place step → ⊥)
     → ⊥
 no_network (Design k network balance) is d a r o = d k network balance refl
-no_network (Accepted k network balance place penalties) is d a r o = a k network balance place penalties refl
+no_network (Accepted k network balance place floor penalties) is d a r o = a k network balance place floor penalties refl
 no_network (Rejected k network place reason) is d a r o = r k network place reason refl
 no_network (TooFine k network place step) is d a r o = o k network place step refl
 no_network other is d a r o = cc

@@ -25,7 +25,7 @@ IsPrintable other = ⊤
 -- a network is shown
 abbrev pub is_of_network : Shown → Bool
 is_of_network (Design case network balance) = true
-is_of_network (Accepted case network balance place penalties) = true
+is_of_network (Accepted case network balance place floor penalties) = true
 is_of_network (Rejected case network place reason) = true
 is_of_network (TooFine case network place step) = true
 is_of_network other = false
@@ -50,7 +50,7 @@ text (Flow case parts flow prices cost) = flow_text case parts flow.transfers pr
 text (Stuck case parts cut) = stuck_text (case_names case) parts cut
 text (Curves hot cold net) = curves_text hot cold net
 text (Design case network balance) = design_text case network balance
-text (Accepted case network balance place penalties) = accepted_text case network balance place penalties
+text (Accepted case network balance place floor penalties) = accepted_text case network balance place floor penalties
 text (Rejected case network place reason) = rejected_text case network place reason
 text (TooFine case network place step) = too_fine_text case network place step
 text (SiteShown site parts sinks sources answer) = total_site_text site parts sinks sources answer

@@ -13,19 +13,22 @@ use penalties::{Penalty, PenaltyList};
 use std::alloc::{AllocError, Global};
 use stream_case::{Case, Name, Source};
 
-/// A network that is accepted: its balance, the reference place of its case, and its penalties.
+/// A network that is accepted: its balance, the floor under its cost, the reference place of its
+/// case, and its penalties.
 pub fn accepted_text(
     alloc: Global,
     case: &Case,
     network: &Network,
     balance: &Balance,
     reference: i32,
+    floor: i128,
     penalties: &PenaltyList,
 ) -> Result<String, AllocError>
-    ensures { IfOk result (λ text. string_bytes text ≡ accepted_text case.now network.now balance.now reference penalties.now) }
+    ensures { IfOk result (λ text. string_bytes text ≡ accepted_text case.now network.now balance.now reference floor penalties.now) }
 {
     let mut text = String::from_str(alloc, "accepted\n")?;
     text.push_str(&balance_lines(alloc, balance)?)?;
+    text.push_str(&line(alloc, "floor", floor)?)?;
     text.push_str(&line(alloc, "place", i128::from(reference))?)?;
     text.push_str(&penalty_lines(alloc, case, network, penalties)?)?;
     Ok(text)

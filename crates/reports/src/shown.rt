@@ -63,12 +63,15 @@ pub enum Shown {
         balance: Balance,
     },
     /// The network is valid for the completed case: what it needs and costs, the reference place
-    /// of the case as a shifted temperature in tenths of °C, and where it loses its heat.
+    /// of the case as a shifted temperature in tenths of °C, the least cost of the heat flows of
+    /// the case in price units times W, which no network of it is below, and where it loses its
+    /// heat.
     Accepted {
         case: Case,
         network: Network,
         balance: Balance,
         place: i32,
+        floor: i128,
         penalties: PenaltyList,
     },
     /// The network is not valid for the completed case: where it fails first, and why.

@@ -86,9 +86,10 @@ fn network_text(alloc: Global, shown: &Shown) -> Result<Vec<u8>, AllocError>
             network,
             balance,
             place,
+            floor,
             penalties,
         } => {
-            let text = accepted_text(alloc, case, network, balance, *place, penalties)?;
+            let text = accepted_text(alloc, case, network, balance, *place, *floor, penalties)?;
             Ok(text.into_bytes())
         }
         Shown::Rejected {
