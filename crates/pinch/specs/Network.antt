@@ -2,7 +2,8 @@
 use Rattle.std.specs.Prelude.{◌≡◌, ℤ, All}
 use Rattle.first_fault.specs.Outcome.{IsOutcome}
 use Rattle.stream_case.specs.declared.case.Case.{Case}
-use Rattle.fractions.specs.Rationals.{IsAtMost, rational_zero}
+use Rattle.fractions.specs.Rationals.{IsAtMost, rational_zero, whole}
+use Rattle.heat_flow.specs.Certificate.{IsLeastCostOf}
 use Rattle.problem_table.specs.Deficit.{IsReferencePlace}
 use Rattle.network_text.specs.Outcome.{grammar}
 use Rattle.statements.specs.Statements.{statements_of}
@@ -25,16 +26,20 @@ use Rattle.pinch.specs.Format.{Format}
 abbrev pub network_file : Case → Format Network NetWhy
 network_file case = record { role = NetworkFile; Gives = λ bytes. IsOutcome (grammar case) (statements_of bytes); bad = BadNetwork }
 
--- a network that is accepted is shown with its balance, the reference place of its case, and its penalties, unless they are too fine: none is
--- negative, and together they are the excess of the balance
+-- a network that is accepted is shown with its balance, the floor, the reference place of its case, and its penalties. The case has a heat flow, and
+-- the floor is the least cost of one: the network costs no less. The penalties, unless they are too fine, are not negative, and together they are the
+-- excess of the balance
 pub record IsAccepted (case : Case) (network : Network) (balance : Balance) (shown : Shown) : Type 0 where
   pub reference : ℤ
   pub is_reference : IsReferencePlace case.streams reference
+  pub floor : ℤ
+  pub is_floor : IsLeastCostOf case floor
+  pub costs_no_less : IsAtMost (whole floor) balance.cost
   pub penalties : PenaltyList
   pub lists : ListsPenalties case network penalties
   pub not_negative : IfListed penalties (All IsNotNegative)
   pub sum : IfListed penalties (λ listed. sum_of listed ≡ balance.excess)
-  pub is : shown ≡ Accepted case network balance reference penalties
+  pub is : shown ≡ Accepted case network balance reference floor penalties
 
 -- how a verdict on a network is shown
 abbrev pub ShowsVerdict : Case → Network → Verdict → Shown → Type 0
