@@ -4,6 +4,8 @@ text: `targets`, `curves` and `audit` whole, the profiles of `site`, and how eac
 from fractions import Fraction
 import re
 
+from cheapest import least_cost
+
 LIMIT = 8388608
 LATENT = 'case has latent streams\n'
 NAME = re.compile(rb'[A-Za-z0-9][A-Za-z0-9_-]{0,15}\Z')
@@ -515,7 +517,7 @@ def accepted_text(case, statements):
     for utility, total in zip(case.utilities, sums):
         part = steps.formed(utility.price * total)
         cost = steps.formed(cost + part)
-    head = 'accepted\nhot %s\ncold %s\nexcess %s\ncost %s\nplace %d\n' % (hot, cold, excess, cost, place)
+    head = 'accepted\nhot %s\ncold %s\nexcess %s\ncost %s\nfloor %s\nplace %d\n' % (hot, cold, excess, cost, least_cost(case), place)
     try:
         return head + penalty_text(statements, exchangers, place, from_itself)
     except Fine as finding:

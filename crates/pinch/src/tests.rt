@@ -10,6 +10,7 @@ mod composite_curves;
 mod cuts;
 mod design;
 mod faults;
+mod floors;
 mod flow;
 mod hostile_cuts;
 mod hostile_orders;

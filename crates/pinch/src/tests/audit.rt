@@ -27,7 +27,7 @@ const ACCEPTED: &[(&str, &str, &str)] = &[
          pass H4 E2 h4a\npass h4a E4 h4b\npass h4b Q2 h4c\nend h4c\n\
          pass C1 E4 c1a\npass c1a E3 c1b\npass c1b E2 c1c\npass c1c Q1 c1d\nend c1d\n\
          pass C3 E1 c3a\nend c3a\n",
-        "accepted\nhot 20000\ncold 60000\nexcess 0\ncost 20000\nplace 850\n\
+        "accepted\nhot 20000\ncold 60000\nexcess 0\ncost 20000\nfloor 20000\nplace 850\n\
          penalty exchanger E1 0\npenalty exchanger E2 0\npenalty exchanger E3 0\n\
          penalty exchanger E4 0\npenalty exchanger Q1 0\npenalty exchanger Q2 0\n",
     ),
@@ -38,7 +38,7 @@ const ACCEPTED: &[(&str, &str, &str)] = &[
         "exchanger E1 H C 500\nexchanger Q1 ST C 2500\nexchanger Q2 ST C 1000\n\
          exchanger Q3 H COLD 3500\npass H E1 ha\npass ha Q3 hb\nend hb\n\
          split C ca 5 cb\npass ca E1 cc\npass cb Q1 cd\nmix cc cd ce\npass ce Q2 cf\nend cf\n",
-        "accepted\nhot 3500\ncold 3500\nexcess 1500\ncost 3500\nplace 550\n\
+        "accepted\nhot 3500\ncold 3500\nexcess 1500\ncost 3500\nfloor 2000\nplace 550\n\
          penalty exchanger E1 0\npenalty exchanger Q1 1000\npenalty exchanger Q2 0\n\
          penalty exchanger Q3 0\npenalty mix 11 500\n",
     ),
@@ -48,7 +48,7 @@ const ACCEPTED: &[(&str, &str, &str)] = &[
         "# A comment.\nexchanger E1 HOT C 3000\nexchanger E2 HOT C 1000\n\
          exchanger E3 H COLD 2000\nexchanger E4 H COLD 3000\n\
          pass H E3 .1\npass .1 E4 .2\nend .2\npass C E2 .3\npass .3 E1 .4\nend .4\n",
-        "accepted\nhot 4000\ncold 5000\nexcess 4000\ncost 4000\nplace 950\n\
+        "accepted\nhot 4000\ncold 5000\nexcess 4000\ncost 4000\nfloor 4000\nplace 950\n\
          penalty exchanger E1 3000\npenalty exchanger E2 1000\n\
          penalty exchanger E3 0\npenalty exchanger E4 0\n",
     ),
@@ -57,7 +57,7 @@ const ACCEPTED: &[(&str, &str, &str)] = &[
         OWN_CONTRIBUTION,
         "exchanger E1 H C 1500\nexchanger Q2 HOT C 2500\nexchanger Q3 H COLD 2500\n\
          pass H E1 a\npass a Q3 b\nend b\npass C E1 d\npass d Q2 e\nend e\n",
-        "accepted\nhot 2500\ncold 2500\nexcess 0\ncost 2500\nplace 500\n\
+        "accepted\nhot 2500\ncold 2500\nexcess 0\ncost 2500\nfloor 2500\nplace 500\n\
          penalty exchanger E1 0\npenalty exchanger Q2 0\npenalty exchanger Q3 0\n",
     ),
 ];

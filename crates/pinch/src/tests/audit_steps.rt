@@ -159,7 +159,7 @@ const BY_A_MODEL: &[(&str, &str, u8, &str)] = &[
         "contribution,,50,,,,\nhot,H,1000,500,10,,\n",
         "exchanger Q1 H COLD 5000\nexchanger Q2 HOT COLD 7\npass H Q1 a\nend a\n",
         0,
-        "accepted\nhot 7\ncold 5007\nexcess 7\ncost 7\nplace 950\n\
+        "accepted\nhot 7\ncold 5007\nexcess 7\ncost 7\nfloor 0\nplace 950\n\
          penalty exchanger Q1 0\npenalty exchanger Q2 7\n",
     ),
     // All temperatures below zero.
@@ -168,7 +168,7 @@ const BY_A_MODEL: &[(&str, &str, u8, &str)] = &[
         "exchanger E H C 1000\nexchanger Q HOT C 500\npass H E a\nend a\n\
          pass C E b\npass b Q c\nend c\n",
         0,
-        "accepted\nhot 500\ncold 0\nexcess 0\ncost 500\nplace -950\n\
+        "accepted\nhot 500\ncold 0\nexcess 0\ncost 500\nfloor 500\nplace -950\n\
          penalty exchanger E 0\npenalty exchanger Q 0\n",
     ),
     // More than the most of a cooler.

@@ -64,6 +64,7 @@ hot 20000
 cold 60000
 excess 0
 cost 20000
+floor 20000
 place 850
 penalty exchanger E1 0
 penalty exchanger E2 0
@@ -166,7 +167,7 @@ const ACCEPTED: &[(&str, &str, &str)] = &[
     (
         APART,
         APART_DESIGN,
-        "accepted\nhot 4000\ncold 5000\nexcess 4000\ncost 4000\nplace 950\n\
+        "accepted\nhot 4000\ncold 5000\nexcess 4000\ncost 4000\nfloor 4000\nplace 950\n\
          penalty exchanger E1 3000\npenalty exchanger E2 1000\npenalty exchanger E3 0\n\
          penalty exchanger E4 0\n",
     ),
@@ -174,7 +175,7 @@ const ACCEPTED: &[(&str, &str, &str)] = &[
     (
         OWN_UTILITIES,
         OWN_UTILITIES_DESIGN,
-        "accepted\nhot 100\ncold 5100\nexcess 100\ncost 200\nplace 950\n\
+        "accepted\nhot 100\ncold 5100\nexcess 100\ncost 200\nfloor 200\nplace 950\n\
          penalty exchanger E1 0\npenalty exchanger E2 100\n",
     ),
 ];

@@ -154,7 +154,7 @@ pub const ROWS: [Row; 25] = [
         &["audit", "case", "network"],
         &[("case", APART), ("network", NETWORK)],
         0,
-        "accepted\nhot 4000\ncold 5000\nexcess 4000\ncost 4000\n",
+        "accepted\nhot 4000\ncold 5000\nexcess 4000\ncost 4000\nfloor 4000\n",
     ),
     (
         &["audit", "case", "network"],

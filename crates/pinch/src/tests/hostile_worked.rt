@@ -37,6 +37,7 @@ hot 20000
 cold 60000
 excess 0
 cost 20000
+floor 20000
 place 850
 penalty exchanger E1 0
 penalty exchanger E2 0

@@ -212,7 +212,7 @@ const AUDITS: &[(&str, &str, u8, &str)] = &[
         EVAPORATING,
         EVAPORATING_DESIGN,
         0,
-        "accepted\nhot 3000\ncold 3000\nexcess 0\ncost 3000\nplace 950\n\
+        "accepted\nhot 3000\ncold 3000\nexcess 0\ncost 3000\nfloor 3000\nplace 950\n\
          penalty exchanger E1 0\npenalty exchanger E2 0\npenalty exchanger E3 0\n\
          penalty mix 10 0\n",
     ),
@@ -220,7 +220,7 @@ const AUDITS: &[(&str, &str, u8, &str)] = &[
         CONDENSING,
         CONDENSING_DESIGN,
         0,
-        "accepted\nhot 4000\ncold 4000\nexcess 0\ncost 4000\nplace 950\n\
+        "accepted\nhot 4000\ncold 4000\nexcess 0\ncost 4000\nfloor 4000\nplace 950\n\
          penalty exchanger E1 0\npenalty exchanger E2 0\npenalty exchanger E3 0\n\
          penalty mix 7 0\n",
     ),
@@ -269,7 +269,7 @@ const AUDITS: &[(&str, &str, u8, &str)] = &[
         "exchanger E1 HOT B 4000\nexchanger E2 H B 4000\nexchanger E3 H COLD 4000\n\
          pass H E2 a\npass a E3 b\nend b\npass B E1 c\npass c E2 d\nend d\n",
         0,
-        "accepted\nhot 4000\ncold 4000\nexcess 1000\ncost 4000\nplace 950\n\
+        "accepted\nhot 4000\ncold 4000\nexcess 1000\ncost 4000\nfloor 3000\nplace 950\n\
          penalty exchanger E1 0\npenalty exchanger E2 0\npenalty exchanger E3 1000\n",
     ),
     (
@@ -277,7 +277,7 @@ const AUDITS: &[(&str, &str, u8, &str)] = &[
         "exchanger E1 HOT C 5000\nexchanger E2 S C 3000\nexchanger E3 S COLD 5000\n\
          pass S E2 a\npass a E3 b\nend b\npass C E2 c\npass c E1 d\nend d\n",
         0,
-        "accepted\nhot 5000\ncold 5000\nexcess 1000\ncost 5000\nplace 950\n\
+        "accepted\nhot 5000\ncold 5000\nexcess 1000\ncost 5000\nfloor 4000\nplace 950\n\
          penalty exchanger E1 1000\npenalty exchanger E2 0\npenalty exchanger E3 0\n",
     ),
     // Two latent streams against each other. One is divided, passed in parts, and mixed where
@@ -287,7 +287,7 @@ const AUDITS: &[(&str, &str, u8, &str)] = &[
         "exchanger E1 H B 5000\nexchanger E2 HOT B 3000\npass H E1 a\nend a\n\
          split B c 7000 d\npass c E1 e\nmix d e f\npass f E2 g\nend g\n",
         0,
-        "accepted\nhot 3000\ncold 0\nexcess 0\ncost 3000\nplace 950\n\
+        "accepted\nhot 3000\ncold 0\nexcess 0\ncost 3000\nfloor 3000\nplace 950\n\
          penalty exchanger E1 0\npenalty exchanger E2 0\npenalty mix 7 0\n",
     ),
     // A utility at the least approach, and a tenth of a degree nearer.
@@ -295,7 +295,7 @@ const AUDITS: &[(&str, &str, u8, &str)] = &[
         "contribution,,50,,,,\ncold,B,900,900,0,8000,\nheater,S,1000,0,10000,1,\n",
         "exchanger E1 S B 8000\npass B E1 a\nend a\n",
         0,
-        "accepted\nhot 8000\ncold 0\nexcess 0\ncost 8000\nplace 950\n\
+        "accepted\nhot 8000\ncold 0\nexcess 0\ncost 8000\nfloor 8000\nplace 950\n\
          penalty exchanger E1 0\n",
     ),
     (
@@ -326,7 +326,7 @@ const AUDITS: &[(&str, &str, u8, &str)] = &[
          pass B E1 a\nsplit a b 1/1073741824 c\npass b E2 d\npass c E3 e\nmix d e f\n\
          pass f E4 g\nend g\n",
         0,
-        "accepted\nhot 1\ncold 0\nexcess 0\ncost 1\nplace 950\n\
+        "accepted\nhot 1\ncold 0\nexcess 0\ncost 1\nfloor 1\nplace 950\n\
          penalties too fine exchanger E2 step 7\n",
     ),
     (
@@ -336,7 +336,7 @@ const AUDITS: &[(&str, &str, u8, &str)] = &[
          pass B E1 a\nsplit a b 91/1073741824 c\npass b E2 d\npass c E3 e\nmix d e f\n\
          pass f E4 g\nend g\n",
         0,
-        "accepted\nhot 1\ncold 0\nexcess 0\ncost 1\nplace 950\n\
+        "accepted\nhot 1\ncold 0\nexcess 0\ncost 1\nfloor 1\nplace 950\n\
          penalties too fine exchanger E2 step 9\n",
     ),
     // That of a hot branch before its exchanger.
@@ -349,7 +349,7 @@ const AUDITS: &[(&str, &str, u8, &str)] = &[
          pass H E1 a\nsplit a b 1/1073741824 c\npass b E2 d\npass c E3 e\nmix d e f\n\
          pass f E4 g\nend g\npass C E5 h\nend h\n",
         0,
-        "accepted\nhot 1000\ncold 1\nexcess 1\ncost 1000\nplace 350\n\
+        "accepted\nhot 1000\ncold 1\nexcess 1\ncost 1000\nfloor 999\nplace 350\n\
          penalties too fine exchanger E2 step 2\n",
     ),
     // Those of the branches of a mix.
@@ -358,7 +358,7 @@ const AUDITS: &[(&str, &str, u8, &str)] = &[
         "exchanger E1 S B 1/14348907\nexchanger E2 S B 14348906/14348907\n\
          pass B E1 a\nsplit a b 1/1073741824 c\nmix b c d\npass d E2 e\nend e\n",
         0,
-        "accepted\nhot 1\ncold 0\nexcess 0\ncost 1\nplace 950\n\
+        "accepted\nhot 1\ncold 0\nexcess 0\ncost 1\nfloor 1\nplace 950\n\
          penalties too fine line 5 step 2\n",
     ),
     (
@@ -366,7 +366,7 @@ const AUDITS: &[(&str, &str, u8, &str)] = &[
         "exchanger E1 S B 1/14348907\nexchanger E2 S B 14348906/14348907\n\
          pass B E1 a\nsplit a b 14348907/1073741824 c\nmix b c d\npass d E2 e\nend e\n",
         0,
-        "accepted\nhot 1\ncold 0\nexcess 0\ncost 1\nplace 950\n\
+        "accepted\nhot 1\ncold 0\nexcess 0\ncost 1\nfloor 1\nplace 950\n\
          penalties too fine line 5 step 4\n",
     ),
 ];

@@ -24,7 +24,7 @@ const CROSSING: &[(&str, &str)] = &[
         "exchanger E1 H D 500\nexchanger E2 H A 3500\nexchanger Q1 HOT A 4500\n\
          exchanger Q2 H COLD 2000\npass H E1 ha\npass ha E2 hb\npass hb Q2 hc\nend hc\n\
          pass D E1 da\nend da\npass A E2 aa\npass aa Q1 ab\nend ab\n",
-        "accepted\nhot 4500\ncold 2000\nexcess 500\ncost 4500\nplace 550\n\
+        "accepted\nhot 4500\ncold 2000\nexcess 500\ncost 4500\nfloor 4000\nplace 550\n\
          penalty exchanger E1 500\npenalty exchanger E2 0\npenalty exchanger Q1 0\n\
          penalty exchanger Q2 0\n",
     ),
@@ -33,7 +33,7 @@ const CROSSING: &[(&str, &str)] = &[
         "exchanger Q1 H COLD 1000\nexchanger E1 H A 3000\nexchanger Q2 HOT A 5000\n\
          exchanger Q3 HOT D 500\nexchanger Q4 H COLD 2000\npass H Q1 ha\npass ha E1 hb\n\
          pass hb Q4 hc\nend hc\npass D Q3 da\nend da\npass A E1 aa\npass aa Q2 ab\nend ab\n",
-        "accepted\nhot 5500\ncold 3000\nexcess 1500\ncost 5500\nplace 550\n\
+        "accepted\nhot 5500\ncold 3000\nexcess 1500\ncost 5500\nfloor 4000\nplace 550\n\
          penalty exchanger Q1 1000\npenalty exchanger E1 0\npenalty exchanger Q2 0\n\
          penalty exchanger Q3 500\npenalty exchanger Q4 0\n",
     ),
@@ -68,7 +68,7 @@ const MIXING: &[(&str, &str)] = &[
          split C ca 5 cb\npass ca E1 cc\nmix cc cb cd\npass cd E2 ce\n\
          split ce cf 5 cg\npass cf Q1 ch\nmix ch cg ci\n\
          split ci cj 5 ck\npass cj Q2 cl\nmix cl ck cm\npass cm Q3 cn\nend cn\n",
-        "accepted\nhot 2500\ncold 2500\nexcess 500\ncost 2500\nplace 550\n\
+        "accepted\nhot 2500\ncold 2500\nexcess 500\ncost 2500\nfloor 2000\nplace 550\n\
          penalty exchanger E1 0\npenalty exchanger E2 0\npenalty exchanger Q1 250\n\
          penalty exchanger Q2 0\npenalty exchanger Q3 0\npenalty exchanger Q4 0\n\
          penalty mix 13 0\npenalty mix 17 250\npenalty mix 20 0\n",
@@ -79,7 +79,7 @@ const MIXING: &[(&str, &str)] = &[
         "exchanger E1 H C 2000\nexchanger Q1 ST C 2000\nexchanger Q2 H CW 2000\n\
          pass H E1 ha\nsplit ha hb 10 hc\npass hb Q2 hd\nmix hd hc he\nend he\n\
          pass C E1 ca\nsplit ca cb 5 cc\npass cb Q1 cd\nmix cd cc ce\nend ce\n",
-        "accepted\nhot 2000\ncold 2000\nexcess 0\ncost 2000\nplace 550\n\
+        "accepted\nhot 2000\ncold 2000\nexcess 0\ncost 2000\nfloor 2000\nplace 550\n\
          penalty exchanger E1 0\npenalty exchanger Q1 0\npenalty exchanger Q2 0\n\
          penalty mix 7 0\npenalty mix 12 0\n",
     ),
@@ -112,7 +112,7 @@ const TOO_FINE: &[(&str, &str)] = &[
 fn penalties_are_too_fine_for_an_accepted_network(rt: HostRuntime) -> Result<(), Fail> {
     for (network, last) in TOO_FINE {
         let text = format!(in rt.alloc();
-            "accepted\nhot 4000\ncold 0\nexcess 0\ncost 4000\nplace 350\n{last}"
+            "accepted\nhot 4000\ncold 0\nexcess 0\ncost 4000\nfloor 4000\nplace 350\n{last}"
         )?;
         check_audit(&rt, ONE_COLD_STREAM, network, 0, text.as_str())?;
     }

@@ -52,6 +52,7 @@ hot 20000
 cold 60000
 excess 0
 cost 20000
+floor 20000
 place 850
 penalty exchanger E1 0
 penalty exchanger E2 0
@@ -128,14 +129,14 @@ const WORKED: &[(&str, &str, &str)] = &[
     (
         ONE_AND_TWO,
         ONE_AND_TWO_DESIGN,
-        "accepted\nhot 0\ncold 2000\nexcess 0\ncost 0\nplace 950\n\
+        "accepted\nhot 0\ncold 2000\nexcess 0\ncost 0\nfloor 0\nplace 950\n\
          penalty exchanger E1 0\npenalty exchanger E2 0\npenalty exchanger E3 0\n\
          penalty mix 7 0\n",
     ),
     (
         TWO_AND_TWO,
         TWO_AND_TWO_DESIGN,
-        "accepted\nhot 0\ncold 1500\nexcess 0\ncost 0\nplace 950\n\
+        "accepted\nhot 0\ncold 1500\nexcess 0\ncost 0\nfloor 0\nplace 950\n\
          penalty exchanger E1 0\npenalty exchanger E2 0\npenalty exchanger E3 0\n\
          penalty exchanger E4 0\npenalty exchanger E5 0\npenalty mix 9 0\npenalty mix 20 0\n",
     ),
@@ -143,21 +144,21 @@ const WORKED: &[(&str, &str, &str)] = &[
     (
         "contribution,,50,,,,\ncold,C,300,700,10,,\n",
         "# hot 4000 cold 0 excess 0 cost 4000\nexchanger E1 HOT C 4000\npass C E1 .1\nend .1\n",
-        "accepted\nhot 4000\ncold 0\nexcess 0\ncost 4000\nplace 350\npenalty exchanger E1 0\n",
+        "accepted\nhot 4000\ncold 0\nexcess 0\ncost 4000\nfloor 4000\nplace 350\npenalty exchanger E1 0\n",
     ),
     // The standard utilities, the cold one first.
     (
         "contribution,,50,,,,\ncooler,COLD,300,0,1000000000000,0,\n\
          heater,HOT,800,0,1000000000000,1,\ncold,C,300,700,10,,\n",
         "# hot 4000 cold 0 excess 0 cost 4000\nexchanger E1 HOT C 4000\npass C E1 .1\nend .1\n",
-        "accepted\nhot 4000\ncold 0\nexcess 0\ncost 4000\nplace 350\npenalty exchanger E1 0\n",
+        "accepted\nhot 4000\ncold 0\nexcess 0\ncost 4000\nfloor 4000\nplace 350\npenalty exchanger E1 0\n",
     ),
     // A gap between the hot streams, and no utility at all.
     (
         "contribution,,50,,,,\nhot,H,1000,900,10,,\nhot,K,500,400,10,,\ncold,C,200,400,10,,\n",
         "# hot 0 cold 0 excess 0 cost 0\nexchanger E1 H C 1000\nexchanger E2 K C 1000\n\
          pass H E1 .1\nend .1\npass K E2 .2\nend .2\npass C E2 .3\npass .3 E1 .4\nend .4\n",
-        "accepted\nhot 0\ncold 0\nexcess 0\ncost 0\nplace 950\n\
+        "accepted\nhot 0\ncold 0\nexcess 0\ncost 0\nfloor 0\nplace 950\n\
          penalty exchanger E1 0\npenalty exchanger E2 0\n",
     ),
     (
@@ -165,7 +166,7 @@ const WORKED: &[(&str, &str, &str)] = &[
         "# hot 2500 cold 2500 excess 0 cost 2500\nexchanger E1 HOT C 2500\n\
          exchanger E2 H C 1500\nexchanger E3 H COLD 2500\npass H E2 .1\npass .1 E3 .2\n\
          end .2\npass C E2 .3\npass .3 E1 .4\nend .4\n",
-        "accepted\nhot 2500\ncold 2500\nexcess 0\ncost 2500\nplace 500\n\
+        "accepted\nhot 2500\ncold 2500\nexcess 0\ncost 2500\nfloor 2500\nplace 500\n\
          penalty exchanger E1 0\npenalty exchanger E2 0\npenalty exchanger E3 0\n",
     ),
 ];
