@@ -1,20 +1,20 @@
 -- Beside a valid network no cut stands: its members would have to use more than the parts that meet them can.
-use Rattle.std.proofs.Common.{◌≡◌, ◌∙◌, ⊎_elim, ◌+◌, ◌<◌, ◌==◌, ℕ, Bool, true, false, Option, Some, None, List, All, get_or, length, map, slice_get, refl, sym, ap, subst, subst₂, arith, if◌then◌else◌}
-use Rattle.std.specs.Prelude.{IsTrue, ℤ, pos, ◌-ℤ◌, ◌≤ℤ◌, ◌<ℤ◌, AllPairs}
+use Rattle.std.proofs.Common.{◌≡◌, ◌∙◌, ⊎_elim, ◌<◌, ◌==◌, ℕ, Bool, true, false, Option, Some, None, List, All, get_or, length, map, slice_get, refl, sym, ap, subst, subst₂, arith, if◌then◌else◌}
+use Rattle.std.specs.Prelude.{ℤ, pos, ◌-ℤ◌, ◌≤ℤ◌, ◌<ℤ◌, AllPairs}
 use Rattle.std.specs.List.{enumerate_from, list_any, range_with_len}
 use Rattle.std.specs.Option.{option_map_or}
 use Rattle.std.proofs.lemmas.Bool.{cases_lt, eqb-true}
 use Rattle.std.proofs.lemmas.Int.{ints}
 use Rattle.std.proofs.lemmas.List.Folds.{Any-from_list_any, list_any-from_Any}
 use Rattle.std.proofs.lemmas.List.FromFn.{get_or-map-range_with_len}
-use Rattle.std.proofs.lemmas.Option.{slice_get-get_or, slice_get_past, slice_get_within}
+use Rattle.std.proofs.lemmas.Option.{slice_get_past, slice_get_within}
 use Rattle.stream_case.specs.Case.{IsComplete}
 use Rattle.stream_case.specs.declared.case.Case.{Case}
 use Rattle.stream_case.specs.declared.source.Side.{Side}
 use Rattle.stream_case.specs.declared.source.Side.TheVariants as side
 use Rattle.sums.specs.Sum.{int_sum_by}
 use Rattle.sums.proofs.EnumerationLemmas.{All-enumerated}
-use Rattle.fractions.specs.Rationals.{IsAtMost, Rational, minus, plus, rational_sum_by, rational_zero, times, whole}
+use Rattle.fractions.specs.Rationals.{IsAtMost, Rational, minus, rational_sum_by, rational_zero, times, whole}
 use Rattle.fractions.proofs.Comparisons.{at_most_from_minus_turned, at_most_from_same, at_most_trans}
 use Rattle.fractions.proofs.Products.{times-one, times_comm, zero-times}
 use Rattle.fractions.proofs.RationalSums.{at_most-rational_sum_by, left_of, rational_sum_by-minus, rational_sum_by-same, rational_sum_by-whole, rational_sum_by-zero, sum-enumerate, sum-enumerated, sum_over_used}
@@ -22,11 +22,9 @@ use Rattle.fractions.proofs.Sums.{minus-plus, minus-self, minus-zero}
 use Rattle.fractions.proofs.Wholes.{whole-minus}
 use Rattle.grid.specs.declared.part.Part.{Part}
 use Rattle.grid.specs.Part.{AreCaseParts}
-use Rattle.heat_flow.specs.Certificate.{IsCutOf}
 use Rattle.heat_flow.specs.Cuts.{cut_side, joins, least_at, meets, need_of, offer_of, opposite, parts_of}
 use Rattle.heat_flow.specs.Prices.{IsSupporting, price_at}
 use Rattle.heat_flow.specs.Reach.{both_reach, reach_between}
-use Rattle.heat_flow.proofs.Blanks.{blank}
 use Rattle.networks.specs.Shape.{HasShape}
 use Rattle.networks.specs.declared.network.Network.{Network}
 use Rattle.network_audit.specs.Valid.{IsValidNetwork}

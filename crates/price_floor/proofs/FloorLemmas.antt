@@ -1,12 +1,11 @@
 -- No valid network costs less than the value of supporting prices: each part costs at least its value beyond what its use is worth.
 use Rattle.std.proofs.Common.{◌≡◌, ◌∙◌, ⊎_elim, inl, inr, ◌+◌, ◌<◌, ◌==◌, ℕ, zero, suc, Bool, true, false, Some, List, [], ◌∷◌, get_or, slice_get, All, refl, sym, ap, ap₂, subst, subst₂, arith, if◌then◌else◌, eq-eqb, ne_eqb}
-use Rattle.std.specs.Prelude.{ℤ, pos, negsuc, ◌+ℤ◌, ◌-ℤ◌, ◌*ℤ◌, ◌≤ℤ◌, AllPairs, Contains}
+use Rattle.std.specs.Prelude.{ℤ, pos, negsuc, ◌+ℤ◌, ◌-ℤ◌, ◌*ℤ◌, AllPairs, Contains}
 use Rattle.std.specs.List.{enumerate_from}
-use Rattle.std.proofs.lemmas.Bool.{eqb-true, false_from_ne_true, true≢false}
+use Rattle.std.proofs.lemmas.Bool.{false_from_ne_true, true≢false}
 use Rattle.std.proofs.lemmas.Int.{ints, clamps}
 use Rattle.std.proofs.lemmas.List.Elements.{All-head, All-tail, All-contains}
-use Rattle.std.proofs.lemmas.Option.{same_Some, slice_get-get_or}
-use Rattle.stream_case.specs.Case.{IsComplete}
+use Rattle.std.proofs.lemmas.Option.{same_Some}
 use Rattle.stream_case.specs.Source.{same_side, same_source}
 use Rattle.stream_case.specs.declared.case.Case.{Case}
 use Rattle.stream_case.specs.declared.source.Side.{Side}
@@ -27,9 +26,7 @@ use Rattle.fractions.proofs.Sums.{plus-zero, zero-plus}
 use Rattle.fractions.proofs.Wholes.{whole-plus, whole-minus, whole-times}
 use Rattle.grid.specs.declared.part.Part.{Part}
 use Rattle.grid.specs.Part.{AreCaseParts, AreParts, IsPartOf, comes_before, comes_before_source, utility_part}
-use Rattle.heat_flow.specs.Prices.{IsSupporting, excess_price, least_product, price_at, side_value, value_of}
-use Rattle.heat_flow.specs.Reach.{reach_between}
-use Rattle.networks.specs.Shape.{HasShape}
+use Rattle.heat_flow.specs.Prices.{excess_price, least_product, price_at, side_value, value_of}
 use Rattle.networks.proofs.Lists.{all_at}
 use Rattle.networks.specs.declared.network.Network.{Network}
 use Rattle.network_audit.specs.Balance.{cost_of, heat_price, heat_with}

@@ -1,6 +1,7 @@
 use Rattle.std.proofs.Common.{◌≡◌, ap, subst, sym, rules, FitsSigned, w32}
+use Rattle.std.specs.Int.{w128}
 use Rattle.std.proofs.lemmas.Int.{to_z-of_z}
-use Rattle.fractions.specs.Rationals.{Rational}
+use Rattle.fractions.specs.Rationals.{IsAtMost, Rational, whole}
 use Rattle.network_audit.specs.Audit.{SaysExactly}
 use Rattle.network_audit.specs.Findings.{IsVerdict}
 use Rattle.network_audit.specs.Valid.{IsValidNetwork}
@@ -18,6 +19,9 @@ returns-in-Accepted c =
     let penalties = c.in_ok-penalties-in-Accepted.field-0 in
     let reference = c.reference_place.result in
     let fits : FitsSigned w32 reference = search rules in
+    let floor = c.in_ok-cost_floor-in-Accepted.field-0 in
+    let floor_fits : FitsSigned w128 floor = search rules in
+    let found = c.in_ok-cost_floor-in-Accepted.ensures in
     let is_verdict : IsVerdict case network (verdict.Accepted balance) =
     subst (λ a. IsVerdict a.case a.network (verdict.Accepted balance)) c.in_ok-auditor.ensures c.in-Accepted.ensures.verdict in
     record {
@@ -29,12 +33,12 @@ returns-in-Accepted c =
         reference = reference;
         is_reference = c.reference_place.ensures;
         floor = floor;
-        is_floor = subst (IsLeastCostOf case) (to_z-of_z w128 floor floor_fits) c.in_ok-floor-in-Accepted.ensures.least;
-        costs_no_less = ?;
+        is_floor = found.least;
+        costs_no_less = subst (λ (b : Balance). IsAtMost (whole floor) b.cost) (sym is_verdict.1) found.floor;
         penalties = penalties;
         lists = c.in_ok-penalties-in-Accepted.ensures.lists;
         not_negative = c.in_ok-penalties-in-Accepted.ensures.not_negative;
         sum = subst (λ (e : Rational). IfListed penalties (λ listed. sum_of listed ≡ e)) (sym (ap (λ (b : Balance). b.excess) is_verdict.1)) c.in_ok-penalties-in-Accepted.ensures.sum;
-        is = ap (λ r. Accepted case network balance r penalties) (to_z-of_z w32 reference fits);
+        is = λ i. Accepted case network balance (to_z-of_z w32 reference fits i) (to_z-of_z w128 floor floor_fits i) penalties;
       };
     }

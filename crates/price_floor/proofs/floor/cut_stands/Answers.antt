@@ -1,5 +1,4 @@
-use Rattle.std.proofs.Common.{◌≡◌, true, sym, subst}
-use Rattle.std.specs.Prelude.{ℕ, Bool}
+use Rattle.std.proofs.Common.{◌≡◌, sym, subst}
 use Rattle.std.proofs.lemmas.Bool.{false_from_ne_true}
 use Rattle.heat_flow.specs.Certificate.{IsCutOf}
 use Rattle.heat_flow.specs.Reach.{reach_between}
@@ -14,9 +13,10 @@ returns-clause-exact c =
     let hot = c.args.parts.now.hot in
     let cold = c.args.parts.now.cold in
     let same : reaches c.args.reach.now ≡ reach_between c.args.case.now hot cold = λ i a b. c.requires.reach.cells a b i in
-    let exact = c.is_cut.ensures.exact in
-    (λ stands. subst (λ r. IsCutOf r hot cold c.args.cut.now) same (exact.0 stands).is_cut,
-    λ cut. exact.1 (record { sizes = c.requires.reach.sizes; is_cut = subst (λ r. IsCutOf r hot cold c.args.cut.now) (sym same) cut }))
+    let exact = c.is_cut.ensures.exact in (
+      λ stands. subst (λ r. IsCutOf r hot cold c.args.cut.now) same (exact.0 stands).is_cut,
+      λ cut. exact.1 (record { sizes = c.requires.reach.sizes; is_cut = subst (λ r. IsCutOf r hot cold c.args.cut.now) (sym same) cut }),
+    )
 
 pub returns-clause-never : goal.returns-clause-never
 returns-clause-never c =
