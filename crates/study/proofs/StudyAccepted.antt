@@ -14,6 +14,7 @@ use Rattle.rows.specs.Fields.{field, number}
 use Rattle.rows.specs.Rows.{Row}
 use Rattle.rows.specs.declared.fault.RowFault.{RowFault}
 use Rattle.rows.proofs.Tests.{Decides-int_le, passed-room, passed-within}
+use Rattle.sums.proofs.CountLemmas.{count_by-cons}
 use Rattle.stream_case.specs.Case.{IsComplete}
 use Rattle.stream_case.specs.Limits.{IsPrice}
 use Rattle.stream_case.specs.declared.case.Case.{Case}
@@ -21,7 +22,7 @@ use Rattle.stream_case.specs.declared.utility.Utility.{Utility}
 use Rattle.study.specs.Priced.{case_prices}
 use Rattle.study.specs.Study.{AreCasePrices, IsItem, IsSpan, IsStudy}
 use Rattle.study.specs.StudyAccepted.{IsKnown}
-use Rattle.study.specs.StudyChecks.{checks, kind_checks, price_checks, scenario_checks, span_checks}
+use Rattle.study.specs.StudyChecks.{checks, kind_checks, price_checks, scenario_checks, span_checks, span_number_checks}
 use Rattle.study.specs.StudyEntries.{count_items, is_item, items_of, prices_by, study_of}
 use Rattle.study.specs.StudyOutcome.{IsStudyOf, IsStudyOutcome, grammar}
 use Rattle.study.specs.StudyRows.{entry_by, kind_of, utility_in, utility_named}
@@ -75,7 +76,7 @@ price_kept c given row fits (_, (_, (named, (_, (_, (price, _)))))) =
     }
 
 span_kept : (c : Case) (given : List Entry) (row : Row) → Fits c given → Passes (span_checks c given row) → Fits c (given ++ entry.Span (utility_in c row) (number row 2) (number row 3) ∷ [])
-unfolding span_checks
+unfolding span_checks span_number_checks
 span_kept c given row fits (room, (named, (_, (_, (first, (last, (order, (few, _)))))))) =
     let e = entry.Span (utility_in c row) (number row 2) (number row 3) in
     let span : IsSpan c (utility_in c row) (number row 2) (number row 3) = record {
@@ -132,9 +133,9 @@ items_are c (entry.Span i from to ∷ entries) own known =
 -- as many items as scenarios and spans
 items_count : (c : Case) (entries : List Entry) → length (items_of c entries) ≡ count_items entries
 items_count c [] = refl
-items_count c (entry.Scenario name ∷ entries) = ap suc (items_count c entries)
-items_count c (entry.Price i price ∷ entries) = items_count c entries
-items_count c (entry.Span i from to ∷ entries) = ap suc (items_count c entries)
+items_count c (entry.Scenario name ∷ entries) = omega (arith, items_count c entries, count_by-cons is_item (entry.Scenario name) entries)
+items_count c (entry.Price i price ∷ entries) = omega (arith, items_count c entries, count_by-cons is_item (entry.Price i price) entries)
+items_count c (entry.Span i from to ∷ entries) = omega (arith, items_count c entries, count_by-cons is_item (entry.Span i from to) entries)
 
 pub study-is_asked : (c : Case) (rows : List Row) (study : Study) → IsComplete c → IsStudyOf c rows study → IsStudy c study
 study-is_asked c rows study complete is =

@@ -36,17 +36,21 @@ price_checks c earlier row =
     ∷ (is_price (number row 2), why.OutOfRange)
     ∷ []
 
-unfoldable pub span_checks : Case → List Entry → Row → List (Check StudyWhy)
-span_checks c earlier row =
-    (nat_lt (count_items earlier) MOST_ITEMS, why.TooMany)
-    ∷ (is_some (utility_named c (field row 1)), why.UnknownName)
-    ∷ (is_number row 2, why.BadNumber)
+unfoldable pub span_number_checks : Row → List (Check StudyWhy)
+span_number_checks row =
+    (is_number row 2, why.BadNumber)
     ∷ (is_number row 3, why.BadNumber)
     ∷ (is_price (number row 2), why.OutOfRange)
     ∷ (is_price (number row 3), why.OutOfRange)
     ∷ (int_le (number row 2) (number row 3), why.BadRange)
     ∷ (int_lt (number row 3 -ℤ number row 2) MOST_SPAN, why.TooWide)
     ∷ []
+
+unfoldable pub span_checks : Case → List Entry → Row → List (Check StudyWhy)
+span_checks c earlier row =
+    (nat_lt (count_items earlier) MOST_ITEMS, why.TooMany)
+    ∷ (is_some (utility_named c (field row 1)), why.UnknownName)
+    ∷ span_number_checks row
 
 unfoldable pub kind_checks : Case → Option Kind → List Entry → Row → List (Check StudyWhy)
 kind_checks c None earlier row = []

@@ -90,13 +90,13 @@ fn study_of(
     ensures { IsStudyOutcome case.now rows.old result }
 {
     let number = take_rows(alloc, case, rows, entries)?;
-    if entries.count_items() == 0 {
-        return Err(StudyFault::Row {
+    match entries.missing() {
+        None => Ok(entries.study(alloc, case)?),
+        Some(why) => Err(StudyFault::Row {
             row: number + 1,
-            why: StudyWhy::NoItem,
-        });
+            why,
+        }),
     }
-    Ok(entries.study(alloc, case)?)
 }
 
 /// Reads a study file for a completed case: the study of the grammar, or the first row at fault
