@@ -26,7 +26,8 @@ use stream_case::Case;
 #[tactic(auto, unfolding(crate::specs::StudyChecks::checks, crate::specs::StudyChecks::kind_checks))]
 fn entry_of(case: &Case, earlier: &Entries, row: &ByteRecord) -> Result<Option<Entry>, StudyWhy>
     requires { IsComplete case.now }
-    ensures { Checked (checks case.now earlier.now (fields_of row.now)) (λ e. e ≡ entry_in case.now (fields_of row.now)) result }
+    ensures { Checked (checks case.now earlier.now (fields_of row.now)) (λ e.
+        e ≡ entry_in case.now (fields_of row.now)) result }
 {
     if row.len() != 4 {
         return Err(StudyWhy::FieldCount);

@@ -1,14 +1,14 @@
 //! The rows of each kind of a study file.
 
-ghost use Rattle.std.specs.Prelude.{◌≡◌, [], ◌∷◌, ◌-ℤ◌, int_lt, is_some, not, position};
+ghost use Rattle.std.specs.Prelude.{◌≡◌, [], ◌∷◌, ◌-ℤ◌, int_lt, not, position};
 ghost use Rattle.std.specs.Str.{bytes_eq};
 ghost use Rattle.csv.specs.Records.{fields_of};
 ghost use Rattle.first_fault.specs.Checks.{Checked};
-ghost use Rattle.rows.specs.Fields.{field, number};
+ghost use Rattle.rows.specs.Fields.{number};
 ghost use Rattle.stream_case.specs.Case.{IsComplete};
 ghost use Rattle.stream_case.specs.Limits.{IsPrice};
-ghost use Rattle.study.specs.StudyChecks.{price_checks, scenario_checks, span_checks, span_number_checks};
-ghost use Rattle.study.specs.StudyRows.{utility_in, utility_named};
+ghost use Rattle.study.specs.StudyChecks.{known_utility, price_checks, scenario_checks, span_checks, span_number_checks};
+ghost use Rattle.study.specs.StudyRows.{price_in, scenario_in, span_in, utility_in, utility_named};
 ghost use Rattle.study.specs.declared.limits.TheConstants.{MOST_SPAN};
 
 use crate::limits::{MOST_ITEMS, MOST_SPAN};
@@ -41,7 +41,8 @@ fn utility_named(case: &Case, name: &[u8]) -> Option<u32>
 #[tactic(auto, unfolding(crate::specs::StudyRows::utility_in))]
 fn utility_in(case: &Case, row: &ByteRecord) -> Result<u32, StudyWhy>
     requires { IsComplete case.now }
-    ensures { Checked ((is_some (utility_named case.now (field (fields_of row.now) 1)), StudyWhy.UnknownName) ∷ []) (λ i. i ≡ utility_in case.now (fields_of row.now)) result }
+    ensures { Checked (known_utility case.now (fields_of row.now) ∷ []) (λ i.
+        i ≡ utility_in case.now (fields_of row.now)) result }
 {
     utility_named(case, field(row, 1)).ok_or(StudyWhy::UnknownName)
 }
@@ -49,7 +50,8 @@ fn utility_in(case: &Case, row: &ByteRecord) -> Result<u32, StudyWhy>
 /// What a row says that begins a scenario.
 #[tactic(auto, unfolding(crate::specs::StudyChecks::scenario_checks))]
 pub(crate) fn scenario_entry(earlier: &Entries, row: &ByteRecord) -> Result<Entry, StudyWhy>
-    ensures { Checked (scenario_checks earlier.now (fields_of row.now)) (λ e. e ≡ Entry.Scenario (field (fields_of row.now) 1)) result }
+    ensures { Checked (scenario_checks earlier.now (fields_of row.now)) (λ e.
+        e ≡ scenario_in (fields_of row.now)) result }
 {
     if !are_empty(row, &[2, 3]) {
         return Err(StudyWhy::FieldCount);
@@ -72,7 +74,8 @@ pub(crate) fn price_entry(
     row: &ByteRecord,
 ) -> Result<Entry, StudyWhy>
     requires { IsComplete case.now }
-    ensures { Checked (price_checks case.now earlier.now (fields_of row.now)) (λ e. e ≡ Entry.Price (utility_in case.now (fields_of row.now)) (number (fields_of row.now) 2)) result }
+    ensures { Checked (price_checks case.now earlier.now (fields_of row.now)) (λ e.
+        e ≡ price_in case.now (fields_of row.now)) result }
 {
     if !are_empty(row, &[3]) {
         return Err(StudyWhy::FieldCount);
@@ -103,7 +106,8 @@ fn is_too_wide(from: i64, to: i64) -> bool
 /// The first and the last price of the span that a row describes.
 #[tactic(auto, unfolding(crate::specs::StudyChecks::span_number_checks))]
 fn span_prices(row: &ByteRecord) -> Result<(i64, i64), StudyWhy>
-    ensures { Checked (span_number_checks (fields_of row.now)) (λ p. p ≡ (number (fields_of row.now) 2, number (fields_of row.now) 3)) result }
+    ensures { Checked (span_number_checks (fields_of row.now)) (λ prices.
+        prices ≡ (number (fields_of row.now) 2, number (fields_of row.now) 3)) result }
 {
     let from = number_in(row, 2, StudyWhy::BadNumber)?;
     let to = number_in(row, 3, StudyWhy::BadNumber)?;
@@ -126,7 +130,8 @@ pub(crate) fn span_entry(
     row: &ByteRecord,
 ) -> Result<Entry, StudyWhy>
     requires { IsComplete case.now }
-    ensures { Checked (span_checks case.now earlier.now (fields_of row.now)) (λ e. e ≡ Entry.Span (utility_in case.now (fields_of row.now)) (number (fields_of row.now) 2) (number (fields_of row.now) 3)) result }
+    ensures { Checked (span_checks case.now earlier.now (fields_of row.now)) (λ e.
+        e ≡ span_in case.now (fields_of row.now)) result }
 {
     if earlier.count_items() >= MOST_ITEMS {
         return Err(StudyWhy::TooMany);
