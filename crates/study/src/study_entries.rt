@@ -38,11 +38,7 @@ impl Model for Entries {
 
 /// The prices of a scenario, behind whose row these entries stand: those of the case but for its
 /// own.
-fn scenario_prices(
-    alloc: Global,
-    case: &Case,
-    behind: &[Entry],
-) -> Result<Items<i64>, AllocError>
+fn scenario_prices(alloc: Global, case: &Case, behind: &[Entry]) -> Result<Items<i64>, AllocError>
     requires { All (IsKnown case.now) behind.now }
     ensures { IfOk result (λ prices. prices ≡ prices_by (case_prices case.now) behind.now) }
 {

@@ -102,13 +102,7 @@ fn read(rt: &(impl Abort + AllocGlobal), case: &Case, text: &str) -> Result<Stud
     read_study(rt.alloc(), case, text.as_bytes())
 }
 
-fn assert_refused(
-    rt: &(impl Abort + AllocGlobal),
-    case: &Case,
-    text: &str,
-    row: u32,
-    why: StudyWhy,
-)
+fn assert_refused(rt: &(impl Abort + AllocGlobal), case: &Case, text: &str, row: u32, why: StudyWhy)
     requires { IsComplete case.now }
 {
     let fault = read(rt, case, text).err();

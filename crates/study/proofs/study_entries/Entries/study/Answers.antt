@@ -46,7 +46,7 @@ loop-entry-preserved c =
     let first : FitsSigned w64 c.in-Span.from = search rules in
     let last : FitsSigned w64 c.in-Span.to = search rules in
     let new_is : c.push-in-Span.new.self ≡ c.loop-entry.items ++ asked ∷ [] =
-        c.in_ok-push-in-Span.ensures.ok ∙ (λ k. c.loop-entry.items ++ item.Span c.in-Span.utility (to_z-of_z w64 c.in-Span.from first k) (to_z-of_z w64 c.in-Span.to last k) ∷ []) in
+    c.in_ok-push-in-Span.ensures.ok ∙ (λ k. c.loop-entry.items ++ item.Span c.in-Span.utility (to_z-of_z w64 c.in-Span.from first k) (to_z-of_z w64 c.in-Span.to last k) ∷ []) in
     let same = sym (ap (λ l. c.loop-entry.items ++ items_of case l) left_is) ∙ c.loop-entry.invariant.same in
     record {
       same = item-more c.loop-entry.items c.push-in-Span.new.self (items_of case behind) (items_of case c.args.self.now) asked new_is same;
