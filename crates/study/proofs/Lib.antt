@@ -15,3 +15,5 @@ pub mod SpanLemmas
 pub mod LineLemmas
 pub mod AnswerLemmas
 pub mod PartBounds
+pub mod StudyAccepted
+pub mod StudyEntryLemmas
