@@ -15,3 +15,4 @@ pub mod SpanLemmas
 pub mod LineLemmas
 pub mod AnswerLemmas
 pub mod PartBounds
+pub mod StudyAccepted

@@ -4,7 +4,7 @@ use Rattle.std.specs.Prelude.{ℤ, pos, neg_ℤ, All, set}
 use Rattle.std.proofs.lemmas.Bool.{cases_lt}
 use Rattle.std.proofs.lemmas.Int.{ints}
 use Rattle.std.proofs.lemmas.List.{get_or_past}
-use Rattle.std.proofs.lemmas.List.Elements.{All-cons, All-head, All-nil, All-tail}
+use Rattle.std.proofs.lemmas.List.Elements.{All-cons, All-head, All-nil, All-set, All-tail}
 use Rattle.stream_case.specs.Limits.{IsPrice}
 use Rattle.stream_case.specs.Case.{IsComplete}
 use Rattle.stream_case.specs.Utility.{IsPlaced}
@@ -50,10 +50,8 @@ prices_of : (us : List Utility) → All IsPlaced us → All IsPrice (map (λ u. 
 prices_of [] h = All-nil IsPrice
 prices_of (u ∷ us) h = All-cons IsPrice u.price (map (λ v. v.price) us) (All-head IsPlaced u us h).price (prices_of us (All-tail IsPlaced u us h))
 
-set_within : (prices : List ℤ) (i : ℕ) (p : ℤ) → All IsPrice prices → IsPrice p → All IsPrice (set prices i p)
-set_within [] i p h is = h
-set_within (x ∷ xs) zero p h is = All-cons IsPrice p xs is (All-tail IsPrice x xs h)
-set_within (x ∷ xs) (suc i) p h is = All-cons IsPrice x (set xs i p) (All-head IsPrice x xs h) (set_within xs i p (All-tail IsPrice x xs h) is)
+pub case_prices-within : (c : Case) → IsComplete c → All IsPrice (case_prices c)
+case_prices-within c complete = prices_of c.utilities (IsPlaced-IsComplete c complete)
 
 pub prices-within : (c : Case) → IsComplete c → (i : ℕ) (p : ℤ) → IsPrice p → All IsPrice (prices_with c i p)
-prices-within c complete i p is = set_within (case_prices c) i p (prices_of c.utilities (IsPlaced-IsComplete c complete)) is
+prices-within c complete i p is = All-set IsPrice (case_prices c) i p is (case_prices-within c complete)

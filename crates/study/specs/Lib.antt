@@ -10,5 +10,10 @@ pub mod SampleRow
 pub mod Segments
 pub mod Spans
 pub mod Study
+pub mod StudyAccepted
+pub mod StudyChecks
+pub mod StudyEntries
+pub mod StudyOutcome
+pub mod StudyRows
 pub mod Supplied
 pub mod Sweep

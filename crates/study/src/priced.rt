@@ -70,7 +70,7 @@ pub(crate) fn cost_at(
 }
 
 /// The prices of the utilities of the case.
-fn case_prices(alloc: Global, utilities: &[Utility]) -> Result<Vec<i64>, AllocError>
+pub(crate) fn case_prices(alloc: Global, utilities: &[Utility]) -> Result<Vec<i64>, AllocError>
     ensures { IfOk result (λ prices. prices.items ≡ map (λ u. u.price) utilities.now) }
 {
     utilities.iter().map(|utility| utility.price).collect(alloc)

@@ -1,0 +1,33 @@
+-- The outcome of a study file for a case: the first row at fault, else the fault of the end, else the study.
+use Rattle.std.specs.Prelude.{ℕ, List, [], Option, Result}
+use Rattle.first_fault.specs.Outcome.{Grammar}
+use Rattle.first_fault.specs.Outcome as outcome
+use Rattle.rows.specs.Outcome.{IsRowOutcome}
+use Rattle.rows.specs.Outcome as of_rows
+use Rattle.rows.specs.Rows.{Row, rows_of}
+use Rattle.rows.specs.declared.fault.RowFault.{RowFault}
+use Rattle.stream_case.specs.declared.case.Case.{Case}
+use Rattle.study.specs.StudyChecks.{checks, end_checks}
+use Rattle.study.specs.StudyEntries.{study_of}
+use Rattle.study.specs.StudyRows.{next}
+use Rattle.study.specs.declared.study_entry.Entry.{Entry}
+use Rattle.study.specs.declared.study_fault.StudyWhy.{StudyWhy}
+use Rattle.study.specs.declared.study_item.Study.{Study}
+
+abbrev pub end_fault : ℕ → List Entry → Option (ℕ × StudyWhy)
+end_fault rows all = of_rows.end_fault end_checks rows all
+
+abbrev pub grammar : Case → Grammar Row (List Entry) Study StudyWhy
+grammar c = record { start = []; checks = checks c; next = next c; end_fault = end_fault; value = study_of c }
+
+-- the row at fault, counted from 1, and its cause
+abbrev pub IsStudyFault : Case → List Row → ℕ → StudyWhy → Type 0
+IsStudyFault c rows row why = outcome.IsFault (grammar c) rows row why
+
+-- nothing is at fault, and the study is what the rows say
+abbrev pub IsStudyOf : Case → List Row → Study → Type 0
+IsStudyOf c rows study = outcome.IsValue (grammar c) rows study
+
+-- the outcome of rows; want of memory is none
+abbrev pub IsStudyOutcome : Case → List Row → Result Study (RowFault StudyWhy) → Type 0
+IsStudyOutcome c rows outcome = IsRowOutcome (grammar c) rows outcome

@@ -1,0 +1,113 @@
+//! Reading a study file.
+
+ghost use Rattle.std.specs.Prelude.{◌≡◌, ◌≤◌, [], Err, length, IfErr, IfOk, OnOk, option_to_list, ◌++◌};
+ghost use Rattle.csv.specs.Records.{fields_of};
+ghost use Rattle.rows.specs.Rows.{rows_of};
+ghost use Rattle.first_fault.specs.Checks.{Checked};
+ghost use Rattle.first_fault.specs.Outcome.{SoundBefore, given_by};
+ghost use Rattle.stream_case.specs.Case.{IsComplete};
+ghost use Rattle.study.specs.Study.{IsStudy};
+ghost use Rattle.study.specs.StudyChecks.{checks};
+ghost use Rattle.study.specs.StudyOutcome.{IsStudyOutcome, grammar};
+ghost use Rattle.study.specs.StudyRows.{entry_in};
+
+use crate::study_entries::Entries;
+use crate::study_entry::Entry;
+use crate::study_fault::{StudyFault, StudyWhy};
+use crate::study_item::Study;
+use crate::study_kind::{Kind, kind_of};
+use crate::study_row::{price_entry, scenario_entry, span_entry};
+use csv::ByteRecord;
+use rows::Rows;
+use std::alloc::{AllocError, Global};
+use stream_case::Case;
+
+/// What a row says, none where it is passed over, or the first of its checks that fails.
+#[tactic(auto, unfolding(crate::specs::StudyChecks::checks, crate::specs::StudyChecks::kind_checks))]
+fn entry_of(case: &Case, earlier: &Entries, row: &ByteRecord) -> Result<Option<Entry>, StudyWhy>
+    requires { IsComplete case.now }
+    ensures { Checked (checks case.now earlier.now (fields_of row.now)) (λ e. e ≡ entry_in case.now (fields_of row.now)) result }
+{
+    if row.len() != 4 {
+        return Err(StudyWhy::FieldCount);
+    }
+    match kind_of(row) {
+        None => Err(StudyWhy::UnknownKind),
+        Some(Kind::PassedOver) => Ok(None),
+        Some(Kind::Scenario) => Ok(Some(scenario_entry(earlier, row)?)),
+        Some(Kind::Price) => Ok(Some(price_entry(case, earlier, row)?)),
+        Some(Kind::Span) => Ok(Some(span_entry(case, earlier, row)?)),
+    }
+}
+
+/// Takes what a row says, if it says something.
+fn take(entries: &mut Entries, entry: Option<Entry>) -> Result<(), AllocError>
+    ensures { OnOk result (entries.new ≡ entries.old ++ option_to_list entry) }
+{
+    match entry {
+        Some(entry) => entries.push(entry),
+        None => Ok(()),
+    }
+}
+
+/// Takes what rows say, and answers how many there are, or the first row at fault.
+fn take_rows(
+    alloc: Global,
+    case: &Case,
+    rows: &mut Rows<'_>,
+    entries: &mut Entries,
+) -> Result<u32, StudyFault>
+    requires complete { IsComplete case.now }
+    requires few { length rows.old ≤ 2000000000 }
+    requires none { entries.old ≡ [] }
+    ensures sound { OnOk result (SoundBefore (grammar case.now) rows.old (length rows.old)) }
+    ensures given { OnOk result (entries.new ≡ given_by (grammar case.now) rows.old) }
+    ensures number { IfOk result (λ n. n ≡ length rows.old) }
+    ensures fault { IfErr result (λ fault. IsStudyOutcome case.now rows.old (Err fault)) }
+{
+    let mut row = ByteRecord::new(alloc);
+    let mut number: u32 = 0;
+    while rows.read(&mut row)? {
+        number += 1;
+        match entry_of(case, entries, &row) {
+            Ok(entry) => take(entries, entry)?,
+            Err(why) => return Err(StudyFault::Row { row: number, why }),
+        }
+    }
+    Ok(number)
+}
+
+/// The study of rows, or the first row at fault with its cause; `entries` takes what they say.
+fn study_of(
+    alloc: Global,
+    case: &Case,
+    rows: &mut Rows<'_>,
+    entries: &mut Entries,
+) -> Result<Study, StudyFault>
+    requires complete { IsComplete case.now }
+    requires few { length rows.old ≤ 2000000000 }
+    requires none { entries.old ≡ [] }
+    ensures { IsStudyOutcome case.now rows.old result }
+{
+    let number = take_rows(alloc, case, rows, entries)?;
+    if entries.count_items() == 0 {
+        return Err(StudyFault::Row {
+            row: number + 1,
+            why: StudyWhy::NoItem,
+        });
+    }
+    Ok(entries.study(alloc, case)?)
+}
+
+/// Reads a study file for a completed case: the study of the grammar, or the first row at fault
+/// with its cause. Prices are of one W. What it answers may be asked of `price_study`.
+#[tactic(auto, using(crate::proofs::StudyAccepted::outcome_is_study))]
+pub fn read_study(alloc: Global, case: &Case, bytes: &[u8]) -> Result<Study, StudyFault>
+    requires complete { IsComplete case.now }
+    requires few { length bytes.now ≤ 2000000000 }
+    ensures outcome { IsStudyOutcome case.now (rows_of bytes.now) result }
+    ensures study { IfOk result (IsStudy case.now) }
+{
+    let mut rows = Rows::new(alloc, bytes);
+    study_of(alloc, case, &mut rows, &mut Entries::new(alloc))
+}
