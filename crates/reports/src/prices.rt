@@ -1,6 +1,5 @@
 //! The text of a price study.
 ghost use Rattle.std.specs.Prelude.{◌≡◌, IfOk, string_bytes};
-ghost use Rattle.std.specs.List.{flat_map};
 ghost use Rattle.reports.specs.Prices.{answer_lines, item_lines, item_words, prices_text, segment_line, segment_lines};
 
 use crate::line::{cost_line, infeasible_line, line};
