@@ -67,7 +67,8 @@ prices_run case study (Some workers) can = can
 prices_run case study None can = tt
 
 of_prices : (words : List (List ℕ)) → IfSome (prices_of words) IsRunnable
-of_prices ((byte ∷ case) ∷ (other ∷ study) ∷ workers ∷ []) = prices_run (byte ∷ case) (other ∷ study) (workers_of workers) (limited-within 1 MOST_WORKERS (natural_in MOST_DIGITS workers))
+of_prices ((byte ∷ case) ∷ (other ∷ study) ∷ workers ∷ []) =
+    prices_run (byte ∷ case) (other ∷ study) (workers_of workers) (limited-within 1 MOST_WORKERS (natural_in MOST_DIGITS workers))
 of_prices words = tt
 
 of_sample_numbers : (number count : Option ℕ) → IfSome number (λ n. (1 ≤ n) × (n ≤ MOST_SAMPLE_NUMBER)) → IfSome count (λ n. (1 ≤ n) × (n ≤ MOST_SAMPLE_STREAMS)) → IfSome (sample_with number count) IsRunnable

@@ -28,13 +28,24 @@ pub enum CaseTask {
 #[derive(Debug, Drop)]
 pub enum Command {
     /// A task on the case of a file.
-    OfCase { case: Word, task: CaseTask },
+    OfCase {
+        case: Word,
+        task: CaseTask,
+    },
     /// `vertical CASE`: a network of a standard case by its composite curves.
-    Vertical { case: Word },
+    Vertical {
+        case: Word,
+    },
     /// `audit CASE NETWORK`: whether the network is valid for the completed case.
-    Audit { case: Word, network: Word },
+    Audit {
+        case: Word,
+        network: Word,
+    },
     /// `certify CASE REPORT`: whether the report proves what it says of the completed case.
-    Certify { case: Word, report: Word },
+    Certify {
+        case: Word,
+        report: Word,
+    },
     /// `prices CASE STUDY WORKERS`: the answers to a price study of the completed case, by so many
     /// workers.
     Prices {
@@ -43,10 +54,15 @@ pub enum Command {
         workers: u32,
     },
     /// `site SITE`: the profiles of a site, and its least boiler heat with a certificate.
-    Site { site: Word },
+    Site {
+        site: Word,
+    },
     /// `sample NUMBER N`: the targets and the least cost of the sample of a number, with so many
     /// streams on each side.
-    Sample { number: u32, count: u32 },
+    Sample {
+        number: u32,
+        count: u32,
+    },
 }
 
 /// The command that the words form, if they form one.

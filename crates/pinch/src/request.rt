@@ -26,13 +26,24 @@ use study::Study;
 #[derive(Debug, Drop)]
 pub enum Request {
     /// A task on a case that it is for.
-    OfCase { case: Case, task: CaseTask },
+    OfCase {
+        case: Case,
+        task: CaseTask,
+    },
     /// The network of a completed standard case of sensible streams by its composite curves.
-    Vertical { case: Case },
+    Vertical {
+        case: Case,
+    },
     /// Whether a network is valid for a completed case.
-    Audit { case: Case, network: Network },
+    Audit {
+        case: Case,
+        network: Network,
+    },
     /// Whether a report proves what it says of a completed case.
-    Certify { case: Case, report: Report },
+    Certify {
+        case: Case,
+        report: Report,
+    },
     /// What a price study of a completed case asks, by so many workers.
     Prices {
         case: Case,
@@ -40,9 +51,14 @@ pub enum Request {
         workers: u32,
     },
     /// The profiles of a site, and its least boiler heat.
-    OfSite { site: Site },
+    OfSite {
+        site: Site,
+    },
     /// The sample of a number, with so many streams on each side.
-    Sample { number: u32, count: u32 },
+    Sample {
+        number: u32,
+        count: u32,
+    },
 }
 
 /// What the words and the files ask.

@@ -78,7 +78,6 @@ fn segment_lines(alloc: Global, words: &str, segments: &[Segment]) -> Result<Str
 fn segment_line(alloc: Global, words: &str, segment: &Segment) -> Result<String, AllocError>
     ensures { IfOk result (λ text. string_bytes text ≡ segment_line words.now segment.now) }
 {
-    let line_words =
-        format!(in alloc; "{words} {} {} {}", segment.from, segment.to, segment.base)?;
+    let line_words = format!(in alloc; "{words} {} {} {}", segment.from, segment.to, segment.base)?;
     line(alloc, &line_words, segment.slope)
 }

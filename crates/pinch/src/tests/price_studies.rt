@@ -133,7 +133,10 @@ const REFUSED: &[(&str, &str)] = &[
     ("scenario,S,,\nscenario,S,,\n", "row 2 SameName"),
     ("span,LP,0,1\n", "row 1 UnknownName"),
     ("scenario,S,,\nprice,C1,1,\n", "row 2 UnknownName"),
-    ("scenario,S,,\nprice,HOT,1,\nspan,HOT,0,1\nprice,HOT,1,\n", "row 4 Repeated"),
+    (
+        "scenario,S,,\nprice,HOT,1,\nspan,HOT,0,1\nprice,HOT,1,\n",
+        "row 4 Repeated",
+    ),
     ("span,HOT,0,+1\n", "row 1 BadNumber"),
     ("span,HOT,0,1000001\n", "row 1 OutOfRange"),
     ("scenario,S,,\nprice,HOT,-1000001,\n", "row 2 OutOfRange"),
@@ -167,7 +170,13 @@ const FILES: &[(&str, usize, &[u64], u8, &str)] = &[
     ("", 1, &[], 3, "case row 1 NoContribution\n"),
     (FOUR_STREAM, 1, &[4], 6, "read fault study\n"),
     (FOUR_STREAM, LONGEST_FILE + 1, &[], 5, "too long study\n"),
-    (FOUR_STREAM, LONGEST_FILE, &[], 4, "study row 1 FieldCount\n"),
+    (
+        FOUR_STREAM,
+        LONGEST_FILE,
+        &[],
+        4,
+        "study row 1 FieldCount\n",
+    ),
 ];
 
 #[test]
@@ -229,7 +238,10 @@ const NO_STUDIES: &[&[&str]] = &[
 
 #[test]
 fn other_words_are_no_price_study(rt: HostRuntime) -> Result<(), Fail> {
-    let files = [("plant.csv", FOUR_STREAM.as_bytes()), ("study.csv", b"scenario,S,,\n".as_slice())];
+    let files = [
+        ("plant.csv", FOUR_STREAM.as_bytes()),
+        ("study.csv", b"scenario,S,,\n".as_slice()),
+    ];
     for row in NO_STUDIES {
         let outcome = outcome_of(&rt, row, &files)?;
         check_end(&rt, &row, &outcome, 2, WORDS.as_bytes());
@@ -242,7 +254,10 @@ fn other_words_are_no_price_study(rt: HostRuntime) -> Result<(), Fail> {
 fn two_items_meet(rt: HostRuntime) -> Result<(), Fail> {
     let words = ["prices", "plant.csv", "study.csv", "2"];
     let study = "scenario,S,,\nspan,HOT,0,3\n";
-    let files = [("plant.csv", FOUR_STREAM.as_bytes()), ("study.csv", study.as_bytes())];
+    let files = [
+        ("plant.csv", FOUR_STREAM.as_bytes()),
+        ("study.csv", study.as_bytes()),
+    ];
     let text = "scenario S 20000\nspan HOT 0 3 0 20000\n";
     let gate = MeetingGate::new();
     let outcome = outcome_by(&rt, &gate, &words, &files)?;

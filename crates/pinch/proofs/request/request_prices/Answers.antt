@@ -15,8 +15,8 @@ returns-in_err-given-clause-reads g c = without_text case_file _ _ _ _ _ _ c.fro
 pub returns-in_err-study-clause-reads : goal.returns-in_err-study-clause-reads
 unfolding reading_of
 returns-in_err-study-clause-reads g c =
-    without_second case_file (λ v. study_file (completed v)) (λ v s. ready (Prices (completed v) s c.args.workers)) _ _ _ _ _ _ _ _ c.from_residual-in_err-study.ensures.1
-    c.in_ok-given.ensures.case (rw c.in_ok-case.ensures at c.in_err-study.ensures.stop)
+    without_second case_file (λ v. study_file (completed v)) (λ v s. ready (Prices (completed v) s c.args.workers)) _ _ _ _ _ _ _ _
+    c.from_residual-in_err-study.ensures.1 c.in_ok-given.ensures.case (rw c.in_ok-case.ensures at c.in_err-study.ensures.stop)
 
 pub returns-clause-reads : goal.returns-clause-reads
 unfolding EndsIn reading_of

@@ -19,5 +19,5 @@ pub returns : goal.returns
 returns c =
     let text = string_bytes c.loop-item.text in
     let left = none_left c.args.names.now (iter_rest (zip_first c.loop-item.item-iterator)) (iter_rest (zip_second c.loop-item.item-iterator))
-        (either_empty_from_Zip c.loop-item.item-iterator c.next.new.self c.next.result c.in-None.is c.next.ensures.steps) in
+    (either_empty_from_Zip c.loop-item.item-iterator c.next.new.self c.next.result c.in-None.is c.next.ensures.steps) in
     sym (append-nil text) ∙ ap (λ rest. text ++ rest) (sym left) ∙ c.loop-item.invariant

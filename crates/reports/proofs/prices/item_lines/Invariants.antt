@@ -7,4 +7,5 @@ use Rattle.reports.proofs.prices.item_lines.Given as goal
 -- what is written is followed by what is left to be written
 abbrev pub invariant-loop-item : goal.invariant-loop-item
 invariant-loop-item l =
-    string_bytes l.text ++ item_lines l.names (iter_rest (zip_first l.item-iterator)) (iter_rest (zip_second l.item-iterator)) ≡ item_lines l.names l.items l.answers
+    string_bytes l.text ++ item_lines l.names (iter_rest (zip_first l.item-iterator)) (iter_rest (zip_second l.item-iterator))
+    ≡ item_lines l.names l.items l.answers
