@@ -190,6 +190,9 @@ fn the_files_of_a_price_study_are_blamed_in_their_order(rt: HostRuntime) -> Resu
     Ok(())
 }
 
+/// One cold stream, so that a thousand least costs are soon had.
+const ONE_COLD: &str = "contribution,,50,,,,\ncold,C,300,700,10,,\n";
+
 /// So many scenarios.
 fn scenarios_of(alloc: Global, count: u32) -> Result<String, AllocError> {
     let mut study = String::new(alloc);
@@ -206,22 +209,22 @@ fn check_most<R: Abort + Threads + Sync + AllocGlobal>(
     front: &str,
     more: &str,
 ) -> Result<(), Fail> {
-    let outcome = study_under(rt, (FOUR_STREAM, study.as_bytes()), "4", NONE)?;
+    let outcome = study_under(rt, (ONE_COLD, study.as_bytes()), "4", NONE)?;
     check_front(rt, &front, &outcome, 0, front);
     check_count(rt, &front, line_count(&outcome.written), 1000);
     study.push_str(more)?;
     let text = "study row 1001 TooMany\n";
-    check_study(rt, (FOUR_STREAM, study.as_str()), "4", 4, text)
+    check_study(rt, (ONE_COLD, study.as_str()), "4", 4, text)
 }
 
 #[test]
 fn as_many_items_as_there_may_be(rt: HostRuntime) -> Result<(), Fail> {
     let alloc = rt.alloc();
     let mut scenarios = scenarios_of(alloc, 1000)?;
-    let front = "scenario S0 20000\nscenario S1 20000\n";
+    let front = "scenario S0 4000\nscenario S1 4000\n";
     check_most(&rt, &mut scenarios, front, "span,HOT,0,1\n")?;
     let mut spans = "span,HOT,3,3\n".repeat(alloc, 1000)?;
-    let front = "span HOT 3 3 60000 0\nspan HOT 3 3 60000 0\n";
+    let front = "span HOT 3 3 12000 0\nspan HOT 3 3 12000 0\n";
     check_most(&rt, &mut spans, front, "scenario,S,,\n")
 }
 
