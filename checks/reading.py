@@ -1,5 +1,5 @@
 """A second reading of what `pinch` reads, by the rules of docs/FORMATS.md and docs/DECISIONS.md, which shares nothing with the
-program: the rows of a CSV text, the grammars of cases, sites, networks and reports, the words; and of what it answers, as far as that is one
+program: the rows of a CSV text, the grammars of cases, sites, networks, reports and price studies, the words; and of what it answers, as far as that is one
 text: `targets`, `curves` and `audit` whole, the profiles of `site`, and how each other answer begins. Fractions are Python's."""
 from fractions import Fraction
 import re
@@ -149,16 +149,16 @@ def numbers(row, fields, ranges, at):
     return values
 
 
-def kind_of(row, at, kinds):
+def kind_of(row, at, kinds, fields=7):
     """The kind of a row, or None for one that is passed over."""
-    if len(row) != 7:
+    if len(row) != fields:
         raise Refused(at, 'FieldCount')
     if not any(row) or row[0].startswith(b'#'):
         return None
     kind = row[0].decode('latin-1')
     if kind not in kinds:
         raise Refused(at, 'UnknownKind')
-    if any(row[field] for field in range(1, 7) if field not in kinds[kind]):
+    if any(row[field] for field in range(1, fields) if field not in kinds[kind]):
         raise Refused(at, 'FieldCount')
     return kind
 
@@ -642,6 +642,51 @@ def report_of(data):
     return statements
 
 
+# Price studies.
+
+STUDY_KINDS = {'scenario': {1}, 'price': {1, 2}, 'span': {1, 2, 3}}
+ITEMS, SPAN_PRICES = 1000, 100000
+
+
+def study_of(data, case):
+    """The items of a price study of a completed case: a scenario as its name and its prices, a span as its utility, its first and its last price."""
+    items, scenario, rows = [], None, rows_of(data)
+    names = [each.name for each in case.utilities]
+    for at, row in enumerate(rows, 1):
+        kind = kind_of(row, at, STUDY_KINDS, 4)
+        if kind is None:
+            continue
+        if kind != 'price' and len(items) == ITEMS:
+            raise Refused(at, 'TooMany')
+        if kind == 'price' and scenario is None:
+            raise Refused(at, 'NoScenario')
+        if kind == 'scenario':
+            if not NAME.match(row[1]):
+                raise Refused(at, 'BadName')
+            if any(item[0] == 'scenario' and item[1] == row[1] for item in items):
+                raise Refused(at, 'SameName')
+            scenario, priced = ('scenario', row[1], [each.price for each in case.utilities]), set()
+            items.append(scenario)
+            continue
+        if row[1] not in names:
+            raise Refused(at, 'UnknownName')
+        if kind == 'price':
+            if row[1] in priced:
+                raise Refused(at, 'Repeated')
+            scenario[2][names.index(row[1])] = numbers(row, (2,), (PRICE,), at)[0]
+            priced.add(row[1])
+            continue
+        first, last = numbers(row, (2, 3), (PRICE, PRICE), at)
+        if first > last:
+            raise Refused(at, 'BadRange')
+        if last - first >= SPAN_PRICES:
+            raise Refused(at, 'TooWide')
+        items.append(('span', row[1], first, last))
+    if not items:
+        raise Refused(len(rows) + 1, 'NoItem')
+    return items
+
+
 # Words.
 
 WHOLE = re.compile(r'[0-9]{1,10}\Z')
@@ -659,6 +704,8 @@ def is_command(words):
     if form == 'sweep' and len(words) == 6 and all(WHOLE.match(word) for word in words[2:]):
         first, last, step, workers = [int(word) for word in words[2:]]
         return first <= last <= 1000 and 1 <= step <= 1000 and 1 <= workers <= 16 and (last - first) // step + 1 <= 1000
+    if form == 'prices' and len(words) == 4 and WHOLE.match(words[3]):
+        return 1 <= int(words[3]) <= 16
     if form == 'sample' and len(words) == 3 and all(WHOLE.match(word) for word in words[1:]):
         return 1 <= int(words[1]) <= 2147483646 and 1 <= int(words[2]) <= SAMPLED
     return False
@@ -708,6 +755,14 @@ def wanted_of(command, files):
         except Refused as fault:
             return Wanted((4,), 'report line %d %s\n' % (fault.at, fault.why), True)
         return Wanted((0, 1), ['yes ', 'no '], False)
+    if command == 'prices':
+        if len(files[1]) > LIMIT:
+            return Wanted((5,), 'too long study\n', True)
+        try:
+            items = study_of(files[1], case.completed())
+        except Refused as fault:
+            return Wanted((4,), 'study row %d %s\n' % (fault.at, fault.why), True)
+        return Wanted((0,), ['%s %s ' % (items[0][0], items[0][1].decode())], False)
     if command == 'curves':
         return Wanted((0,), curves_text(case), True)
     hot, cold, _, _ = targets_of(case)

@@ -7,6 +7,7 @@ use Rattle.certify.specs.Outcome as report
 use Rattle.network_text.specs.Outcome as network
 use Rattle.statements.specs.Statements.{statements_of}
 use Rattle.site.specs.Outcome as site
+use Rattle.study.specs.StudyOutcome as study
 use Rattle.stream_case.specs.declared.case.Case.{Case}
 use Rattle.reports.specs.Text.{IsPrintable}
 use Rattle.reports.specs.declared.shown.Shown.{Shown}
@@ -14,6 +15,7 @@ use Rattle.pinch.specs.Case.{case_file}
 use Rattle.pinch.specs.Files.{IsRefused}
 use Rattle.pinch.specs.Format.{Format}
 use Rattle.pinch.specs.Network.{network_file}
+use Rattle.pinch.specs.Prices.{study_file}
 use Rattle.pinch.specs.Report.{report_file}
 use Rattle.pinch.specs.Site.{site_file}
 use Rattle.pinch.proofs.Plain.{is_plain}
@@ -38,6 +40,10 @@ lawful_report = record { one_outcome = λ bytes. one_outcome report.grammar (sta
 pub lawful_site : IsLawful site_file
 unfolding IsPrintable
 lawful_site = record { one_outcome = λ bytes. one_outcome site.grammar (rows_of bytes); plain = λ at why. refl; printable = λ at why. tt }
+
+pub lawful_study : (case : Case) → IsLawful (study_file case)
+unfolding IsPrintable
+lawful_study case = record { one_outcome = λ bytes. one_outcome (study.grammar case) (rows_of bytes); plain = λ at why. refl; printable = λ at why. tt }
 
 module _ {Value Cause : Type 0} (format : Format Value Cause) (lawful : IsLawful format) (bytes : List ℕ) where
   pub one_value : (a b : Value) → format.Gives bytes (Ok a) → format.Gives bytes (Ok b) → a ≡ b

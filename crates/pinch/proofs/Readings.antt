@@ -8,8 +8,8 @@ use Rattle.reports.specs.declared.shown.Shown.{Shown}
 use Rattle.pinch.specs.Complete.{CanAnswer, HasBadFile}
 use Rattle.pinch.specs.Reading.{Reading, reading_of, ready, stop, wanted, file}
 use Rattle.pinch.specs.declared.command.Command.{Command}
-use Rattle.pinch.specs.declared.command.Command.TheVariants.{OfCase, Vertical, Audit, Certify, Site, Sample}
-use Rattle.pinch.proofs.Formats.{IsLawful, lawful_case, lawful_network, lawful_report, lawful_site}
+use Rattle.pinch.specs.declared.command.Command.TheVariants.{OfCase, Vertical, Audit, Certify, Prices, Site, Sample}
+use Rattle.pinch.proofs.Formats.{IsLawful, lawful_case, lawful_network, lawful_report, lawful_site, lawful_study}
 use Rattle.pinch.proofs.Plain.{is_plain}
 
 -- its formats are lawful, and what it shows in place of a request is plain and can be printed
@@ -31,6 +31,7 @@ lawful (Some (OfCase case task)) = (lawful_case, λ c. tt)
 lawful (Some (Vertical case)) = (lawful_case, λ c. (refl, tt, (refl, tt, tt)))
 lawful (Some (Audit case network)) = (lawful_case, λ c. (lawful_network (completed c), λ n. tt))
 lawful (Some (Certify case report)) = (lawful_case, λ c. (lawful_report, λ r. tt))
+lawful (Some (Prices case study workers)) = (lawful_case, λ c. (lawful_study (completed c), λ s. tt))
 lawful (Some (Site site)) = (lawful_site, λ s. tt)
 lawful (Some (Sample number count)) = tt
 

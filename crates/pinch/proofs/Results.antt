@@ -23,7 +23,7 @@ use Rattle.pinch.specs.Tasks.{ShowsTask}
 use Rattle.pinch.specs.declared.command.CaseTask.{CaseTask}
 use Rattle.pinch.specs.declared.command.CaseTask.TheVariants.{Targets, Flow, Design, Curves, Sweep}
 use Rattle.pinch.specs.declared.request.Request.{Request}
-use Rattle.pinch.specs.declared.request.Request.TheVariants.{OfCase, Vertical, Audit, Certify, OfSite, Sample}
+use Rattle.pinch.specs.declared.request.Request.TheVariants.{OfCase, Vertical, Audit, Certify, Prices, OfSite, Sample}
 
 pub record IsResult (shown : Shown) : Type 0 where
   pub answered : IsAnswered (status_of shown)
@@ -72,5 +72,6 @@ is_result (OfCase case task) shown is = of_task task case shown is
 is_result (Vertical case) shown is = of_is shown _ is.shows.is tt (is.shows.complete, is.shows.shape)
 is_result (Audit case network) shown is = of_verdict case network is.verdict shown is.shows
 is_result (Certify case report) shown is = of_check report is.checked shown is.is
+is_result (Prices case study workers) shown is = of_is shown _ is.is tt tt
 is_result (OfSite site) shown is = of_is shown _ is.is (site_is_answered is.answer) tt
 is_result (Sample number count) shown is = of_is shown _ is.is tt tt

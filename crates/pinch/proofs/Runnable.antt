@@ -9,7 +9,7 @@ use Rattle.study.specs.Plan.{IsSweepPlan}
 use Rattle.study.specs.declared.limits.TheConstants.{MOST_ROWS, MOST_SAMPLE_NUMBER, MOST_SAMPLE_STREAMS, MOST_WORKERS}
 use Rattle.study.specs.declared.plan.SweepPlan.{SweepPlan}
 use Rattle.pinch.specs.declared.numbers.TheConstants.{MOST_DIGITS, MOST_END, MOST_STEP}
-use Rattle.pinch.specs.Command.{command_of, command_of_word, one_file, sample_of, sample_with, sweep_of, sweep_with, two_files, IsRunnable}
+use Rattle.pinch.specs.Command.{command_of, command_of_word, one_file, prices_of, prices_with, sample_of, sample_with, sweep_of, sweep_with, two_files, CanWork, IsRunnable}
 use Rattle.pinch.specs.Numbers.{limited, number_within, plan_of, plan_with, sample_count_of, sample_number_of, workers_of}
 use Rattle.pinch.specs.declared.command.CaseTask.TheVariants.{Targets, Flow, Design, Curves}
 use Rattle.pinch.specs.declared.command.Command.{Command}
@@ -62,6 +62,15 @@ of_sweep ((byte ∷ case) ∷ from ∷ to ∷ step ∷ workers ∷ []) =
     (limited-within 1 MOST_WORKERS (natural_in MOST_DIGITS workers))
 of_sweep words = tt
 
+prices_run : (case study : List ℕ) (workers : Option ℕ) → IfSome workers CanWork → IfSome (prices_with case study workers) IsRunnable
+prices_run case study (Some workers) can = can
+prices_run case study None can = tt
+
+of_prices : (words : List (List ℕ)) → IfSome (prices_of words) IsRunnable
+of_prices ((byte ∷ case) ∷ (other ∷ study) ∷ workers ∷ []) =
+    prices_run (byte ∷ case) (other ∷ study) (workers_of workers) (limited-within 1 MOST_WORKERS (natural_in MOST_DIGITS workers))
+of_prices words = tt
+
 of_sample_numbers : (number count : Option ℕ) → IfSome number (λ n. (1 ≤ n) × (n ≤ MOST_SAMPLE_NUMBER)) → IfSome count (λ n. (1 ≤ n) × (n ≤ MOST_SAMPLE_STREAMS)) → IfSome (sample_with number count) IsRunnable
 of_sample_numbers (Some number) (Some count) known few = (known.0, known.1, few.0, few.1)
 of_sample_numbers (Some number) None known few = tt
@@ -90,9 +99,10 @@ of_word word rest =
     (either (bytes_eq word (codes "curves")) _ _ (of_names (λ n. OfCase n Curves) (λ n. tt) (one_file rest))
     (either (bytes_eq word (codes "audit")) _ _ (of_names (λ n. Audit n.0 n.1) (λ n. tt) (two_files rest))
     (either (bytes_eq word (codes "certify")) _ _ (of_names (λ n. Certify n.0 n.1) (λ n. tt) (two_files rest))
+    (either (bytes_eq word (codes "prices")) _ _ (of_prices rest)
     (either (bytes_eq word (codes "site")) _ _ (of_names Site (λ n. tt) (one_file rest))
     (either (bytes_eq word (codes "sweep")) _ _ (of_sweep rest)
-    (either (bytes_eq word (codes "sample")) _ _ (of_sample rest) tt)))))))))
+    (either (bytes_eq word (codes "sample")) _ _ (of_sample rest) tt))))))))))
 
 of_words : (words : List (List ℕ)) → IfSome (command_of words) IsRunnable
 of_words [] = tt

@@ -8,7 +8,7 @@ use Rattle.pinch.specs.Numbers.{plan_of, sample_count_of, sample_number_of, work
 use Rattle.pinch.specs.declared.command.CaseTask.{CaseTask}
 use Rattle.pinch.specs.declared.command.CaseTask.TheVariants.{Targets, Flow, Design, Curves, Sweep}
 use Rattle.pinch.specs.declared.command.Command.{Command}
-use Rattle.pinch.specs.declared.command.Command.TheVariants.{OfCase, Vertical, Audit, Certify, Site, Sample}
+use Rattle.pinch.specs.declared.command.Command.TheVariants.{OfCase, Vertical, Audit, Certify, Prices, Site, Sample}
 
 -- the name of a file, where the words are just that; it is not empty
 abbrev pub one_file : List (List ℕ) → Option (List ℕ)
@@ -34,6 +34,16 @@ abbrev pub sweep_of : List (List ℕ) → Option Command
 sweep_of ((byte ∷ case) ∷ from ∷ to ∷ step ∷ workers ∷ []) = sweep_with (byte ∷ case) (plan_of from to step) (workers_of workers)
 sweep_of words = None
 
+-- the price study of these files by so many workers, where they are there
+abbrev pub prices_with : List ℕ → List ℕ → Option ℕ → Option Command
+prices_with case study (Some workers) = Some (Prices case study workers)
+prices_with case study None = None
+
+-- the same, where the words are just the names of the files, of which none is empty, and a number of workers
+abbrev pub prices_of : List (List ℕ) → Option Command
+prices_of ((byte ∷ case) ∷ (other ∷ study) ∷ workers ∷ []) = prices_with (byte ∷ case) (other ∷ study) (workers_of workers)
+prices_of words = None
+
 -- the sample of this number with so many streams on each side, where they are there
 abbrev pub sample_with : Option ℕ → Option ℕ → Option Command
 sample_with (Some number) (Some count) = Some (Sample number count)
@@ -54,6 +64,7 @@ command_of_word word rest =
     else if bytes_eq word (codes "curves") then of_case Curves rest
     else if bytes_eq word (codes "audit") then option_map (λ (names : List ℕ × List ℕ). Audit names.0 names.1) (two_files rest)
     else if bytes_eq word (codes "certify") then option_map (λ (names : List ℕ × List ℕ). Certify names.0 names.1) (two_files rest)
+    else if bytes_eq word (codes "prices") then prices_of rest
     else if bytes_eq word (codes "site") then option_map Site (one_file rest)
     else if bytes_eq word (codes "sweep") then sweep_of rest
     else if bytes_eq word (codes "sample") then sample_of rest
@@ -64,9 +75,13 @@ abbrev pub command_of : List (List ℕ) → Option Command
 command_of [] = None
 command_of (word ∷ rest) = command_of_word word rest
 
+-- so many workers can be had
+abbrev pub CanWork : ℕ → Type 0
+CanWork workers = (1 ≤ workers) × (workers ≤ MOST_WORKERS)
+
 -- a sweep has a plan and workers that it can have
 abbrev pub CanDo : CaseTask → Type 0
-CanDo (Sweep plan workers) = IsSweepPlan plan × (1 ≤ workers) × (workers ≤ MOST_WORKERS)
+CanDo (Sweep plan workers) = IsSweepPlan plan × CanWork workers
 CanDo other = ⊤
 
 -- and a sample a number and a count
@@ -75,5 +90,6 @@ IsSampleOf number count = (1 ≤ number) × (number ≤ MOST_SAMPLE_NUMBER) × (
 
 abbrev pub IsRunnable : Command → Type 0
 IsRunnable (OfCase case task) = CanDo task
+IsRunnable (Prices case study workers) = CanWork workers
 IsRunnable (Sample number count) = IsSampleOf number count
 IsRunnable other = ⊤

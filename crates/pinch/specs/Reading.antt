@@ -7,6 +7,7 @@ use Rattle.reports.specs.declared.shown.Shown.TheVariants.{BadWords, Latent, Not
 use Rattle.pinch.specs.Case.{case_file}
 use Rattle.pinch.specs.Format.{Format}
 use Rattle.pinch.specs.Network.{network_file}
+use Rattle.pinch.specs.Prices.{study_file}
 use Rattle.pinch.specs.Report.{report_file}
 use Rattle.pinch.specs.Site.{site_file}
 use Rattle.pinch.specs.declared.command.Command.{Command}
@@ -36,5 +37,7 @@ reading_of (Some (command.Audit case network)) =
     file case_file case (λ c. file (network_file (completed c)) network (λ n. ready (request.Audit (completed c) n)))
 reading_of (Some (command.Certify case report)) =
     file case_file case (λ c. file report_file report (λ r. ready (request.Certify (completed c) r)))
+reading_of (Some (command.Prices case study workers)) =
+    file case_file case (λ c. file (study_file (completed c)) study (λ s. ready (request.Prices (completed c) s workers)))
 reading_of (Some (command.Site site)) = file site_file site (λ s. ready (request.OfSite s))
 reading_of (Some (command.Sample number count)) = ready (request.Sample number count)

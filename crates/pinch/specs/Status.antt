@@ -40,6 +40,7 @@ status_of (shows.Sweep rows) = Answered
 status_of (shows.Sample hot cold cost) = Answered
 status_of (shows.Certified cost) = Answered
 status_of (shows.NotCertified why) = AnsweredNo
+status_of (shows.Prices case study answers) = Answered
 status_of shows.BadWords = NoCommand
 status_of (shows.BadCase row why) = CaseRefused
 status_of shows.NotStandard = CaseRefused
@@ -47,6 +48,7 @@ status_of shows.Latent = CaseRefused
 status_of (shows.BadSite row why) = CaseRefused
 status_of (shows.BadNetwork line why) = NetworkRefused
 status_of (shows.BadReport line why) = NetworkRefused
+status_of (shows.BadStudy row why) = NetworkRefused
 status_of (shows.TooLong file) = TooLong
 status_of (shows.ReadFault file) = ReadFault
 

@@ -5,6 +5,7 @@ ghost use Rattle.pinch.specs.Answers.{Answers, IsRequest};
 use crate::audit::show_audit;
 use crate::case_answer::show_task;
 use crate::certify_answer::show_certify;
+use crate::prices_answer::show_prices;
 use crate::request::Request;
 use crate::sample_answer::show_sample;
 use crate::site_answer::show_site;
@@ -30,6 +31,11 @@ pub fn answer<R: Threads + Sync, G: Gate + Sync>(
         Request::Vertical { case } => show_vertical(alloc, case),
         Request::Audit { case, network } => show_audit(alloc, case, network),
         Request::Certify { case, report } => show_certify(alloc, &case, &report),
+        Request::Prices {
+            case,
+            study,
+            workers,
+        } => show_prices(rt, alloc, gate, case, study, workers),
         Request::OfSite { site } => show_site(alloc, site),
         Request::Sample { number, count } => show_sample(alloc, number, count),
     }

@@ -1,6 +1,6 @@
 //! The forms of a command.
 ghost use Rattle.std.specs.Prelude.{◌≡◌, IfOk};
-ghost use Rattle.pinch.specs.Command.{command_of, command_of_word, of_case, one_file, sample_of, sample_with, sweep_of, sweep_with, two_files};
+ghost use Rattle.pinch.specs.Command.{command_of, command_of_word, of_case, one_file, prices_of, prices_with, sample_of, sample_with, sweep_of, sweep_with, two_files};
 
 use crate::numbers::{plan_of, sample_count_of, sample_number_of, workers_of};
 use crate::word::Word;
@@ -28,18 +28,41 @@ pub enum CaseTask {
 #[derive(Debug, Drop)]
 pub enum Command {
     /// A task on the case of a file.
-    OfCase { case: Word, task: CaseTask },
+    OfCase {
+        case: Word,
+        task: CaseTask,
+    },
     /// `vertical CASE`: a network of a standard case by its composite curves.
-    Vertical { case: Word },
+    Vertical {
+        case: Word,
+    },
     /// `audit CASE NETWORK`: whether the network is valid for the completed case.
-    Audit { case: Word, network: Word },
+    Audit {
+        case: Word,
+        network: Word,
+    },
     /// `certify CASE REPORT`: whether the report proves what it says of the completed case.
-    Certify { case: Word, report: Word },
+    Certify {
+        case: Word,
+        report: Word,
+    },
+    /// `prices CASE STUDY WORKERS`: the answers to a price study of the completed case, by so many
+    /// workers.
+    Prices {
+        case: Word,
+        study: Word,
+        workers: u32,
+    },
     /// `site SITE`: the profiles of a site, and its least boiler heat with a certificate.
-    Site { site: Word },
+    Site {
+        site: Word,
+    },
     /// `sample NUMBER N`: the targets and the least cost of the sample of a number, with so many
     /// streams on each side.
-    Sample { number: u32, count: u32 },
+    Sample {
+        number: u32,
+        count: u32,
+    },
 }
 
 /// The command that the words form, if they form one.
@@ -67,6 +90,7 @@ fn command_of_word(alloc: Global, word: &str, rest: &[Word]) -> Result<Option<Co
         "certify" => {
             Ok(two_files(alloc, rest)?.map(|(case, report)| Command::Certify { case, report }))
         }
+        "prices" => prices_of(alloc, rest),
         "site" => Ok(one_file(alloc, rest)?.map(|site| Command::Site { site })),
         "sweep" => sweep_of(alloc, rest),
         "sample" => Ok(sample_of(rest)),
@@ -130,6 +154,37 @@ fn sweep_with(
             task: CaseTask::Sweep { plan, workers },
         })),
         _ => Ok(None),
+    }
+}
+
+/// The price study of the case of a file, where the words are just the names of two files, of
+/// which none is empty, and a number of workers.
+fn prices_of(alloc: Global, words: &[Word]) -> Result<Option<Command>, AllocError>
+    ensures { IfOk result (λ command. command ≡ prices_of words.now) }
+{
+    match words {
+        [case, study, workers] if !case.as_str().is_empty() && !study.as_str().is_empty() => {
+            prices_with(alloc, case, study, workers_of(workers))
+        }
+        _ => Ok(None),
+    }
+}
+
+fn prices_with(
+    alloc: Global,
+    case: &Word,
+    study: &Word,
+    workers: Option<u32>,
+) -> Result<Option<Command>, AllocError>
+    ensures { IfOk result (λ command. command ≡ prices_with case.now study.now workers) }
+{
+    match workers {
+        Some(workers) => Ok(Some(Command::Prices {
+            case: case.copied(alloc)?,
+            study: study.copied(alloc)?,
+            workers,
+        })),
+        None => Ok(None),
     }
 }
 

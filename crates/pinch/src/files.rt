@@ -7,10 +7,12 @@ ghost use Rattle.pinch_outside.specs.Shelf.{KeepsFiles, IsWhole};
 ghost use Rattle.pinch.specs.Case.{case_file};
 ghost use Rattle.pinch.specs.Files.{NoFile, NoText, ReadsText};
 ghost use Rattle.pinch.specs.Network.{network_file};
+ghost use Rattle.pinch.specs.Prices.{study_file};
 ghost use Rattle.pinch.specs.Report.{report_file};
 ghost use Rattle.pinch.specs.Site.{site_file};
 ghost use Rattle.pinch.specs.Stop.{IfEarly};
 ghost use Rattle.plants.specs.Site.{IsValidSite};
+ghost use Rattle.study.specs.Study.{IsStudy};
 
 use crate::stop::Stop;
 use crate::word::Word;
@@ -22,6 +24,7 @@ use reports::{FileRole, Shown};
 use site::{Site, SiteFault, read_site};
 use std::alloc::Global;
 use stream_case::Case;
+use study::{Study, StudyFault, read_study};
 
 /// The bytes of a file of this role.
 fn take_file<S: Shelf>(
@@ -103,5 +106,27 @@ pub fn take_report<S: Shelf>(alloc: Global, shelf: &mut S, name: &Word) -> Resul
         Ok(report) => Ok(report),
         Err(ReportFault::At { line, why }) => Err(Stop::Early(Shown::BadReport { line, why })),
         Err(ReportFault::OutOfMemory) => Err(Stop::OutOfMemory),
+    }
+}
+
+/// The price study of a study file, for a completed case.
+pub fn take_study<S: Shelf>(
+    alloc: Global,
+    shelf: &mut S,
+    case: &Case,
+    name: &Word,
+) -> Result<Study, Stop>
+    requires { IsComplete case.now }
+    ensures reads { IfOk result
+        (ReadsText (study_file case.now) name.now (S.state shelf.old) (S.state shelf.new)) }
+    ensures study { IfOk result (IsStudy case.now) }
+    ensures stop { IfErr result (λ stop. IfEarly stop
+        (NoText (study_file case.now) name.now (S.state shelf.old) (S.state shelf.new))) }
+{
+    let bytes = take_file(alloc, shelf, FileRole::Study, name)?;
+    match read_study(alloc, case, &bytes) {
+        Ok(study) => Ok(study),
+        Err(StudyFault::Row { row, why }) => Err(Stop::Early(Shown::BadStudy { row, why })),
+        Err(StudyFault::OutOfMemory) => Err(Stop::OutOfMemory),
     }
 }

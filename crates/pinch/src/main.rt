@@ -11,6 +11,7 @@ mod design;
 mod files;
 mod flow;
 mod numbers;
+mod prices_answer;
 mod program;
 mod request;
 mod sample_answer;

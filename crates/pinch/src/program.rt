@@ -42,7 +42,7 @@ pub fn run<R: Threads + Sync, S: Shelf, K: Sink>(
     run_gated(rt, alloc, &OpenGate, words, shelf, sink)
 }
 
-/// The same, where the workers of a sweep pass this gate. It has no influence on what is shown.
+/// The same, where the workers of a sweep or of a price study pass this gate. It has no influence on what is shown.
 pub fn run_gated<R: Threads + Sync, G: Gate + Sync, S: Shelf, K: Sink>(
     rt: &R,
     alloc: Global,

@@ -3,14 +3,14 @@ ghost use Rattle.std.specs.Prelude.{◌↔◌, IfOk, IsTrue, Some};
 ghost use Rattle.stream_case.specs.Case.{IsValid};
 ghost use Rattle.stream_case.specs.Stream.{AreSensible};
 ghost use Rattle.pinch.specs.Answers.{IsRequest};
-ghost use Rattle.pinch.specs.Command.{command_of, CanDo, IsRunnable};
+ghost use Rattle.pinch.specs.Command.{command_of, CanDo, CanWork, IsRunnable};
 ghost use Rattle.pinch.specs.Files.{EndsIn};
 ghost use Rattle.pinch.specs.Reading.{reading_of};
 ghost use Rattle.pinch.specs.Stop.{IfEnd};
-ghost use Rattle.pinch.specs.declared.command.Command.TheVariants.{Audit, Certify, OfCase, Vertical};
+ghost use Rattle.pinch.specs.declared.command.Command.TheVariants.{Audit, Certify, OfCase, Prices, Vertical};
 
 use crate::command::{CaseTask, Command, read_command};
-use crate::files::{take_case, take_network, take_report, take_site};
+use crate::files::{take_case, take_network, take_report, take_site, take_study};
 use crate::stop::Stop;
 use crate::word::Word;
 use certify::Report;
@@ -20,22 +20,45 @@ use reports::Shown;
 use site::Site;
 use std::alloc::Global;
 use stream_case::{Case, Items, complete, has_latent, is_standard};
+use study::Study;
 
 /// What is asked, with what its files say.
 #[derive(Debug, Drop)]
 pub enum Request {
     /// A task on a case that it is for.
-    OfCase { case: Case, task: CaseTask },
+    OfCase {
+        case: Case,
+        task: CaseTask,
+    },
     /// The network of a completed standard case of sensible streams by its composite curves.
-    Vertical { case: Case },
+    Vertical {
+        case: Case,
+    },
     /// Whether a network is valid for a completed case.
-    Audit { case: Case, network: Network },
+    Audit {
+        case: Case,
+        network: Network,
+    },
     /// Whether a report proves what it says of a completed case.
-    Certify { case: Case, report: Report },
+    Certify {
+        case: Case,
+        report: Report,
+    },
+    /// What a price study of a completed case asks, by so many workers.
+    Prices {
+        case: Case,
+        study: Study,
+        workers: u32,
+    },
     /// The profiles of a site, and its least boiler heat.
-    OfSite { site: Site },
+    OfSite {
+        site: Site,
+    },
     /// The sample of a number, with so many streams on each side.
-    Sample { number: u32, count: u32 },
+    Sample {
+        number: u32,
+        count: u32,
+    },
 }
 
 /// What the words and the files ask.
@@ -69,6 +92,11 @@ fn request_of_command<S: Shelf>(
         Command::Vertical { case } => request_vertical(alloc, shelf, case),
         Command::Audit { case, network } => request_audit(alloc, shelf, case, network),
         Command::Certify { case, report } => request_certify(alloc, shelf, case, report),
+        Command::Prices {
+            case,
+            study,
+            workers,
+        } => request_prices(alloc, shelf, case, study, *workers),
         Command::Site { site } => {
             let site = take_site(alloc, shelf, site)?;
             Ok(Request::OfSite { site })
@@ -145,6 +173,29 @@ fn request_certify<S: Shelf>(
     let case = complete(alloc, &given)?;
     let report = take_report(alloc, shelf, report)?;
     Ok(Request::Certify { case, report })
+}
+
+/// The study is read for the completed case, and only after it.
+fn request_prices<S: Shelf>(
+    alloc: Global,
+    shelf: &mut S,
+    case: &Word,
+    study: &Word,
+    workers: u32,
+) -> Result<Request, Stop>
+    requires { CanWork workers }
+    ensures request { IfOk result IsRequest }
+    ensures reads { IfEnd result (EndsIn (reading_of (Some (Prices case.now study.now workers)))
+        (S.state shelf.old) (S.state shelf.new)) }
+{
+    let given = take_case(alloc, shelf, case)?;
+    let case = complete(alloc, &given)?;
+    let study = take_study(alloc, shelf, &case, study)?;
+    Ok(Request::Prices {
+        case,
+        study,
+        workers,
+    })
 }
 
 /// Whether the case has no latent stream.

@@ -17,7 +17,7 @@ pub enum Status {
     /// The case file or the site file is refused, or the case is not standard or has latent streams
     /// where the command is for none of these.
     CaseRefused,
-    /// The network file or the report is refused.
+    /// The network file, the report or the study file is refused.
     NetworkRefused,
     /// A file is longer than the limit.
     TooLong,
@@ -63,7 +63,8 @@ pub fn status_of(shown: &Shown) -> Status
         | Shown::Accepted { .. }
         | Shown::Sweep { .. }
         | Shown::Sample { .. }
-        | Shown::Certified { .. } => Status::Answered,
+        | Shown::Certified { .. }
+        | Shown::Prices { .. } => Status::Answered,
         Shown::Stuck { .. } | Shown::Rejected { .. } | Shown::NotCertified { .. } => {
             Status::AnsweredNo
         }
@@ -73,7 +74,9 @@ pub fn status_of(shown: &Shown) -> Status
         Shown::BadCase { .. } | Shown::BadSite { .. } | Shown::NotStandard | Shown::Latent => {
             Status::CaseRefused
         },
-        Shown::BadNetwork { .. } | Shown::BadReport { .. } => Status::NetworkRefused,
+        Shown::BadNetwork { .. } | Shown::BadReport { .. } | Shown::BadStudy { .. } => {
+            Status::NetworkRefused
+        }
         Shown::TooLong { .. } => Status::TooLong,
         Shown::ReadFault { .. } => Status::ReadFault,
     }

@@ -21,6 +21,7 @@ mod least_cost;
 mod limits;
 mod network_lines;
 mod penalty_lines;
+mod price_studies;
 mod sample;
 mod support;
 mod sweep;

@@ -9,8 +9,10 @@ use Rattle.network_text.specs.declared.fault.NetWhy.{NetWhy}
 use Rattle.network_text.specs.declared.fault.NetWhy.TheVariants as net
 use Rattle.site.specs.declared.fault.SiteWhy.{SiteWhy}
 use Rattle.site.specs.declared.fault.SiteWhy.TheVariants as site
+use Rattle.study.specs.declared.study_fault.StudyWhy.{StudyWhy}
+use Rattle.study.specs.declared.study_fault.StudyWhy.TheVariants as study
 use Rattle.reports.specs.declared.shown.FileRole.{FileRole}
-use Rattle.reports.specs.declared.shown.FileRole.TheVariants.{Case, Network, Site, Report}
+use Rattle.reports.specs.declared.shown.FileRole.TheVariants.{Case, Network, Site, Report, Study}
 
 -- the name of a cause for which a case file is refused
 abbrev pub case_why_name : CaseWhy → List ℕ
@@ -90,11 +92,32 @@ report_why_name report.Ended = codes "Ended"
 abbrev pub bad_report_text : ℕ → ReportWhy → List ℕ
 bad_report_text line why = codes "report line " ++ (decimal line ++ 32 ∷ (report_why_name why ++ 10 ∷ []))
 
+-- the name of a cause for which a study file is refused
+abbrev pub study_why_name : StudyWhy → List ℕ
+study_why_name study.UnknownKind = codes "UnknownKind"
+study_why_name study.FieldCount = codes "FieldCount"
+study_why_name study.BadNumber = codes "BadNumber"
+study_why_name study.OutOfRange = codes "OutOfRange"
+study_why_name study.BadName = codes "BadName"
+study_why_name study.SameName = codes "SameName"
+study_why_name study.UnknownName = codes "UnknownName"
+study_why_name study.Repeated = codes "Repeated"
+study_why_name study.TooMany = codes "TooMany"
+study_why_name study.NoScenario = codes "NoScenario"
+study_why_name study.BadRange = codes "BadRange"
+study_why_name study.TooWide = codes "TooWide"
+study_why_name study.NoItem = codes "NoItem"
+
+-- study row ROW WHY
+abbrev pub bad_study_text : ℕ → StudyWhy → List ℕ
+bad_study_text row why = codes "study row " ++ (decimal row ++ 32 ∷ (study_why_name why ++ 10 ∷ []))
+
 abbrev pub role_name : FileRole → List ℕ
 role_name Case = codes "case"
 role_name Network = codes "network"
 role_name Site = codes "site"
 role_name Report = codes "report"
+role_name Study = codes "study"
 
 -- FAULT FILE
 abbrev pub file_text : List ℕ → FileRole → List ℕ

@@ -1,14 +1,9 @@
 -- The text of a sweep.
-use Rattle.std.specs.Prelude.{ℕ, ℤ, List, ◌∷◌, ◌++◌, Option, Some, None, codes}
+use Rattle.std.specs.Prelude.{ℕ, List, ◌∷◌, ◌++◌, codes}
 use Rattle.std.specs.List.{flat_map}
 use Rattle.std.specs.Fmt.{signed_decimal}
 use Rattle.study.specs.declared.row.SweepRow.{SweepRow}
-use Rattle.reports.specs.Lines.{line}
-
--- a line of a word and the least cost, or that there is no heat flow
-abbrev pub cost_line : List ℕ → Option ℤ → List ℕ
-cost_line word (Some cost) = line word cost
-cost_line word None = word ++ codes " infeasible\n"
+use Rattle.reports.specs.Lines.{cost_line}
 
 -- row CONTRIBUTION HOT COLD COST, or row CONTRIBUTION HOT COLD infeasible
 abbrev pub row_line : SweepRow → List ℕ

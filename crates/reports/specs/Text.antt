@@ -9,13 +9,14 @@ use Rattle.reports.specs.Cut.{stuck_text}
 use Rattle.reports.specs.Design.{design_text}
 use Rattle.reports.specs.Flow.{flow_text}
 use Rattle.reports.specs.Names.{case_names}
-use Rattle.reports.specs.Refusals.{bad_case_text, bad_network_text, bad_report_text, bad_site_text, file_text}
+use Rattle.reports.specs.Prices.{prices_text}
+use Rattle.reports.specs.Refusals.{bad_case_text, bad_network_text, bad_report_text, bad_site_text, bad_study_text, file_text}
 use Rattle.reports.specs.Sample.{sample_text}
 use Rattle.reports.specs.Site.{total_site_text}
 use Rattle.reports.specs.Sweep.{sweep_text}
 use Rattle.reports.specs.Targets.{targets_text}
 use Rattle.reports.specs.declared.shown.Shown.{Shown}
-use Rattle.reports.specs.declared.shown.Shown.TheVariants.{Targets, Flow, Stuck, Curves, Design, Accepted, Rejected, TooFine, SiteShown, Sweep, Sample, Certified, NotCertified, BadWords, BadCase, NotStandard, Latent, BadSite, BadNetwork, BadReport, ReadFault, TooLong}
+use Rattle.reports.specs.declared.shown.Shown.TheVariants.{Targets, Flow, Stuck, Curves, Design, Accepted, Rejected, TooFine, SiteShown, Sweep, Sample, Certified, NotCertified, Prices, BadWords, BadCase, NotStandard, Latent, BadSite, BadNetwork, BadReport, BadStudy, ReadFault, TooLong}
 
 -- a design has the shape of a network of its completed case
 unfoldable pub IsPrintable : Shown → Type 0
@@ -39,6 +40,7 @@ is_refusal Latent = true
 is_refusal (BadSite row why) = true
 is_refusal (BadNetwork line why) = true
 is_refusal (BadReport line why) = true
+is_refusal (BadStudy row why) = true
 is_refusal (TooLong file) = true
 is_refusal (ReadFault file) = true
 is_refusal other = false
@@ -58,6 +60,7 @@ text (Sweep rows) = sweep_text rows
 text (Sample hot cold cost) = sample_text hot cold cost
 text (Certified cost) = certified_text cost
 text (NotCertified why) = not_certified_text why
+text (Prices case study answers) = prices_text case study answers
 text BadWords = codes "words: targets flow curves design vertical audit site sweep sample certify prices\n"
 text (BadCase row why) = bad_case_text row why
 text NotStandard = codes "case not standard\n"
@@ -65,5 +68,6 @@ text Latent = codes "case has latent streams\n"
 text (BadSite row why) = bad_site_text row why
 text (BadNetwork line why) = bad_network_text line why
 text (BadReport line why) = bad_report_text line why
+text (BadStudy row why) = bad_study_text row why
 text (TooLong file) = file_text (codes "too long") file
 text (ReadFault file) = file_text (codes "read fault") file

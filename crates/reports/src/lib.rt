@@ -9,6 +9,7 @@ mod flow;
 mod line;
 mod names;
 mod points;
+mod prices;
 mod refusal;
 mod sample;
 mod shown;

@@ -1,6 +1,6 @@
 //! The texts of what is no result of a command: words, files and rows that are refused.
 ghost use Rattle.std.specs.Prelude.{◌≡◌, IfOk, string_bytes};
-ghost use Rattle.reports.specs.Refusals.{bad_case_text, bad_network_text, bad_report_text, bad_site_text, case_why_name, file_text, net_why_name, report_why_name, role_name, site_why_name};
+ghost use Rattle.reports.specs.Refusals.{bad_case_text, bad_network_text, bad_report_text, bad_site_text, bad_study_text, case_why_name, file_text, net_why_name, report_why_name, role_name, site_why_name, study_why_name};
 
 use crate::shown::FileRole;
 use case_text::CaseWhy;
@@ -8,6 +8,7 @@ use certify::ReportWhy;
 use network_text::NetWhy;
 use site::SiteWhy;
 use std::alloc::{AllocError, Global};
+use study::StudyWhy;
 
 /// What is printed where the words are no command.
 pub const WORDS: &str =
@@ -48,6 +49,13 @@ pub fn bad_report_text(alloc: Global, line: u32, why: ReportWhy) -> Result<Strin
     format!(in alloc; "report line {line} {}\n", report_why_name(why))
 }
 
+/// A line that names the row of a study file, counted from 1, and its cause.
+pub fn bad_study_text(alloc: Global, row: u32, why: StudyWhy) -> Result<String, AllocError>
+    ensures { IfOk result (λ text. string_bytes text ≡ bad_study_text row why) }
+{
+    format!(in alloc; "study row {row} {}\n", study_why_name(why))
+}
+
 /// A line of what is wrong and of the file where it is.
 pub fn file_text(alloc: Global, fault: &str, file: FileRole) -> Result<String, AllocError>
     ensures { IfOk result (λ text. string_bytes text ≡ file_text fault.now file) }
@@ -63,6 +71,7 @@ fn role_name(file: FileRole) -> &'static str
         FileRole::Network => "network",
         FileRole::Site => "site",
         FileRole::Report => "report",
+        FileRole::Study => "study",
     }
 }
 
@@ -141,5 +150,25 @@ fn report_why_name(why: ReportWhy) -> &'static str
         ReportWhy::BadNumber => "BadNumber",
         ReportWhy::OutOfRange => "OutOfRange",
         ReportWhy::Ended => "Ended",
+    }
+}
+
+fn study_why_name(why: StudyWhy) -> &'static str
+    ensures { result.now ≡ study_why_name why }
+{
+    match why {
+        StudyWhy::UnknownKind => "UnknownKind",
+        StudyWhy::FieldCount => "FieldCount",
+        StudyWhy::BadNumber => "BadNumber",
+        StudyWhy::OutOfRange => "OutOfRange",
+        StudyWhy::BadName => "BadName",
+        StudyWhy::SameName => "SameName",
+        StudyWhy::UnknownName => "UnknownName",
+        StudyWhy::Repeated => "Repeated",
+        StudyWhy::TooMany => "TooMany",
+        StudyWhy::NoScenario => "NoScenario",
+        StudyWhy::BadRange => "BadRange",
+        StudyWhy::TooWide => "TooWide",
+        StudyWhy::NoItem => "NoItem",
     }
 }

@@ -11,7 +11,7 @@ use penalties::PenaltyList;
 use problem_table::Target;
 use site::{Site, SiteTable, SiteWhy};
 use stream_case::{Case, Items};
-use study::SweepRow;
+use study::{Study, StudyAnswer, StudyWhy, SweepRow};
 use transport::Answer;
 
 /// What a file is to a command.
@@ -21,6 +21,7 @@ pub enum FileRole {
     Network,
     Site,
     Report,
+    Study,
 }
 
 /// What is printed. Everything that a text says of a case is carried here, so that a contract
@@ -118,6 +119,12 @@ pub enum Shown {
     NotCertified {
         why: NoWhy,
     },
+    /// The answers to a price study of the completed case, one for each item.
+    Prices {
+        case: Case,
+        study: Study,
+        answers: Items<StudyAnswer>,
+    },
     /// The words are no command.
     BadWords,
     /// The case file is refused: the row, counted from 1, and what is to be mended there.
@@ -143,6 +150,11 @@ pub enum Shown {
     BadReport {
         line: u32,
         why: ReportWhy,
+    },
+    /// The study file is refused: the row, counted from 1, and what is to be mended there.
+    BadStudy {
+        row: u32,
+        why: StudyWhy,
     },
     /// The file is longer than the limit.
     TooLong {

@@ -1,8 +1,8 @@
 //! The text of a sweep.
 ghost use Rattle.std.specs.Prelude.{◌≡◌, IfOk, string_bytes};
-ghost use Rattle.reports.specs.Sweep.{cost_line, row_line, sweep_text};
+ghost use Rattle.reports.specs.Sweep.{row_line, sweep_text};
 
-use crate::line::line;
+use crate::line::cost_line;
 use std::alloc::{AllocError, Global};
 use study::SweepRow;
 
@@ -23,13 +23,4 @@ fn row_line(alloc: Global, row: &SweepRow) -> Result<String, AllocError>
 {
     let word = format!(in alloc; "row {} {} {}", row.contribution, row.hot, row.cold)?;
     cost_line(alloc, &word, row.cost)
-}
-
-fn cost_line(alloc: Global, word: &str, cost: Option<i128>) -> Result<String, AllocError>
-    ensures { IfOk result (λ text. string_bytes text ≡ cost_line word.now cost) }
-{
-    match cost {
-        Some(cost) => line(alloc, word, cost),
-        None => format!(in alloc; "{word} infeasible\n"),
-    }
 }

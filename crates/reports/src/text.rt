@@ -9,9 +9,10 @@ use crate::design::design_text;
 use crate::flow::flow_text;
 use crate::names::case_names;
 use crate::points::curves_text;
+use crate::prices::prices_text;
 use crate::refusal::{
     LATENT, NOT_STANDARD, WORDS, bad_case_text, bad_network_text, bad_report_text, bad_site_text,
-    file_text,
+    bad_study_text, file_text,
 };
 use crate::sample::sample_text;
 use crate::shown::Shown;
@@ -60,6 +61,11 @@ pub fn text_of(alloc: Global, shown: &Shown) -> Result<Vec<u8>, AllocError>
         }
         Shown::Certified { cost } => Ok(certified_text(alloc, *cost)?.into_bytes()),
         Shown::NotCertified { why } => Ok(not_certified_text(alloc, *why)?.into_bytes()),
+        Shown::Prices {
+            case,
+            study,
+            answers,
+        } => Ok(prices_text(alloc, case, study, answers.as_slice())?.into_bytes()),
         Shown::Design { .. }
         | Shown::Accepted { .. }
         | Shown::Rejected { .. }
@@ -122,6 +128,7 @@ fn refusal_text(alloc: Global, shown: &Shown) -> Result<String, AllocError>
         Shown::BadSite { row, why } => bad_site_text(alloc, *row, *why),
         Shown::BadNetwork { line, why } => bad_network_text(alloc, *line, *why),
         Shown::BadReport { line, why } => bad_report_text(alloc, *line, *why),
+        Shown::BadStudy { row, why } => bad_study_text(alloc, *row, *why),
         Shown::TooLong { file } => file_text(alloc, "too long", *file),
         Shown::ReadFault { file } => file_text(alloc, "read fault", *file),
         _ => unreachable!(),

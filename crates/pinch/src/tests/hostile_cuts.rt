@@ -13,6 +13,7 @@ use std::process::Abort;
 use std::test::Fail;
 use std::thread::Threads;
 use stream_case::{Case, complete};
+use study::{StudyFault, read_study};
 
 /// The most bytes of a file.
 const LONGEST_FILE: usize = 8_388_608;
@@ -89,6 +90,28 @@ fn refusal_of_report<R: Abort + AllocGlobal>(
     }
 }
 
+/// How the grammar of price studies refuses these bytes, if it does, where it accepts the case.
+fn refusal_of_study<R: Abort + AllocGlobal>(
+    rt: &R,
+    case: &[u8],
+    bytes: &[u8],
+) -> Result<Option<Refusal>, AllocError> {
+    let alloc = rt.alloc();
+    assert!(rt; case.len() <= LONGEST_FILE);
+    assert!(rt; bytes.len() <= LONGEST_FILE);
+    let Ok(case) = read_case(alloc, case) else {
+        return Err(AllocError);
+    };
+    let case = complete(alloc, &case)?;
+    match read_study(alloc, &case, bytes) {
+        Ok(_) => Ok(None),
+        Err(StudyFault::Row { row, why }) => {
+            Ok(Some((4, format!(in alloc; "study row {row} {why:?}\n")?)))
+        }
+        Err(StudyFault::OutOfMemory) => Err(AllocError),
+    }
+}
+
 /// How the grammars refuse these files, the first that is refused, if one is.
 fn refusal_of<R: Abort + AllocGlobal>(
     rt: &R,
@@ -100,6 +123,9 @@ fn refusal_of<R: Abort + AllocGlobal>(
         [case, other] => match refusal_of_case(rt, &case.bytes)? {
             Some(refusal) => Ok(Some(refusal)),
             None if other.name.as_str() == "report" => refusal_of_report(rt, &other.bytes),
+            None if other.name.as_str() == "study" => {
+                refusal_of_study(rt, &case.bytes, &other.bytes)
+            }
             None => refusal_of_network(rt, &case.bytes, &other.bytes),
         },
         _ => Ok(None),

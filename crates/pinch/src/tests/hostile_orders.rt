@@ -66,6 +66,15 @@ take W 400 400 0
 /// A cut of the case whose cooler takes too little.
 const CUT: &[u8] = b"infeasible\ncut supply 5000 2000\npart H 950 450\n";
 
+/// A price study of the case that the standard utilities serve.
+const STUDY: &[u8] = b"scenario,S,,
+price,COLD,2,
+span,COLD,0,3
+";
+
+/// A price study of a cooler.
+const SPAN: &[u8] = b"span,CW,0,3\n";
+
 /// Two plants, and a main between them.
 const SITE: &[u8] = b"contribution,,50,,,,
 main,MP,1500,,,,
@@ -83,7 +92,7 @@ cold,C,500,1300,10,,
 ";
 
 /// Every command, and every status that needs no refused call, no refused write and no long file.
-pub const ROWS: [Row; 25] = [
+pub const ROWS: [Row; 28] = [
     (
         &["targets", "case"],
         &[("case", CASE)],
@@ -203,6 +212,24 @@ pub const ROWS: [Row; 25] = [
         &[("case", CASE), ("report", b"infeasible\n")],
         4,
         "report line 2 Ended\n",
+    ),
+    (
+        &["prices", "case", "study", "2"],
+        &[("case", CASE), ("study", STUDY)],
+        0,
+        "scenario S 2000\nspan COLD 0 3 0 1000\n",
+    ),
+    (
+        &["prices", "case", "study", "1"],
+        &[("case", INFEASIBLE), ("study", SPAN)],
+        0,
+        "span CW infeasible\n",
+    ),
+    (
+        &["prices", "case", "study", "1"],
+        &[("case", CASE), ("study", SPAN)],
+        4,
+        "study row 1 UnknownName\n",
     ),
     (
         &["site", "site"],
