@@ -1,6 +1,9 @@
 pub mod Firsts
 pub mod Moves
+pub mod Numbers
 pub mod Prices
+pub mod Printed
 pub mod Reading
+pub mod Said
 pub mod SourceRows
 pub mod Words
