@@ -2,6 +2,7 @@ pub mod Firsts
 pub mod Moves
 pub mod Numbers
 pub mod Prices
+pub mod PartSums
 pub mod Printed
 pub mod Reading
 pub mod Said

@@ -11,6 +11,7 @@ use Rattle.heat_flow.specs.Reach.{reach_between}
 use Rattle.heat_flow.specs.declared.cut.Cut.{Cut}
 use Rattle.heat_flow.specs.declared.flow.Transfer.{Transfer}
 use Rattle.certify.specs.Answers.{IsAnswer, own_parts, span_of, use_of}
+use Rattle.certify.specs.Printed.{IsReadable}
 use Rattle.certify.specs.declared.report.Checked.TheVariants.{Yes}
 use Rattle.certify.specs.declared.report.Moved.{Moved}
 use Rattle.certify.specs.declared.report.Priced.{Priced}
@@ -55,3 +56,14 @@ abbrev pub CutsPass : Type 0
 CutsPass =
     (c : Case) (hot cold : List Part) (cut : Cut) → IsComplete c → AreCaseParts c hot cold → IsCutOf (reach_between c hot cold) hot cold cut
     → IsAnswer c (cut_report c hot cold cut) Yes
+
+-- both are reports that the grammar can give
+abbrev pub CertifiedFlowsAreReadable : Type 0
+CertifiedFlowsAreReadable =
+    (c : Case) (hot cold : List Part) (transfers : List Transfer) (y z : List ℤ) (cost : ℤ) → IsComplete c → AreCaseParts c hot cold
+    → IsCertified (reach_between c hot cold) hot cold transfers y z cost → IsReadable (flow_report c hot cold transfers y z cost)
+
+abbrev pub CutsAreReadable : Type 0
+CutsAreReadable =
+    (c : Case) (hot cold : List Part) (cut : Cut) → IsComplete c → AreCaseParts c hot cold → IsCutOf (reach_between c hot cold) hot cold cut
+    → IsReadable (cut_report c hot cold cut)
