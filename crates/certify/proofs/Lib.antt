@@ -4,6 +4,7 @@ pub mod Numbers
 pub mod Prices
 pub mod PartSums
 pub mod Printed
+pub mod Ranges
 pub mod Reading
 pub mod Said
 pub mod SourceRows
