@@ -63,7 +63,7 @@ sum_within f a b n (p ∷ ps) each =
     let bound : IsWithin (pos b) (f n p) = subst (λ s. IsWithin (if s then pos a else pos b) (f n p)) utility first in
     let count : utility_parts (p ∷ ps) ≡ 1 + utility_parts ps = ap (λ s. (if s then 0 else 1) + utility_parts ps) utility in
     let product : a * length (p ∷ ps) + b * utility_parts (p ∷ ps) ≡ a + (b + (a * length ps + b * utility_parts ps)) =
-        ap (λ u. a * length (p ∷ ps) + b * u) count ∙ omega arith in
+    ap (λ u. a * length (p ∷ ps) + b * u) count ∙ omega arith in
     let from = bound.from in let upto = bound.upto in
     record { from = omega (arith, ints); upto = omega (arith, ints) })
     (cases_Bool (is_stream p.source))
@@ -127,9 +127,9 @@ module _ (c : Case) (complete : IsComplete c) (grid : List ℤ) (is_grid : IsGri
       let count = count_is (made_parts c.streams c.utilities side grid) in
       let exchanged = sum-made (weight 0 1) nothing (λ u. pos 1) (λ high low i s. refl) (λ i u. refl) c.streams c.utilities side grid in
       let levels = int_sum_by-at_most (λ u. level_run (λ v. pos 1) side u grid) 1 c.utilities
-          (λ k d within. one_level (get_or c.utilities k d) (holds_levels c.streams c.utilities grid holds k d within)) in
+      (λ k d within. one_level (get_or c.utilities k d) (holds_levels c.streams c.utilities grid holds k d within)) in
       let runs = int_sum_by-zero (λ s. latent_run nothing side s grid +ℤ stream_run nothing side s grid) c.streams
-          (λ k d within. let a = no_levels side (get_or c.streams k d) grid in let b = no_intervals side (get_or c.streams k d) grid in omega (arith, ints)) in
+      (λ k d within. let a = no_levels side (get_or c.streams k d) grid in let b = no_intervals side (get_or c.streams k d) grid in omega (arith, ints)) in
       let few = length-utilities c complete in
       let same : utility_parts parts ≡ utility_parts (made_parts c.streams c.utilities side grid) = ap utility_parts made in
       omega (arith, ints)
@@ -166,12 +166,12 @@ module _ (c : Case) (complete : IsComplete c) (grid : List ℤ) (is_grid : IsGri
       → IsWithin (pos 1000000000000000) (int_sum_from f 0 parts)
   heats_within f each =
       let sum = sum_within f most_of_stream most_of_utility 0 parts (λ i p at.
-          let own = each i p at in
-          let most = most_within p (All-slice_get IsBounded parts i p of_side.bounded at)
-              (All-slice_get (IsPartOf c.streams c.utilities grid side) parts i p are.each at) in
-          let bound : IsWithin (weight most_of_stream most_of_utility p) (f i p) =
-              let from = own.0 in let upto = own.1 in record { from = omega (arith, ints); upto = omega (arith, ints) } in
-          subst (λ k. IsWithin (weight most_of_stream most_of_utility p) (f k p)) (sym (zero-add i)) bound) in
+      let own = each i p at in
+      let most = most_within p (All-slice_get IsBounded parts i p of_side.bounded at)
+      (All-slice_get (IsPartOf c.streams c.utilities grid side) parts i p are.each at) in
+      let bound : IsWithin (weight most_of_stream most_of_utility p) (f i p) =
+      let from = own.0 in let upto = own.1 in record { from = omega (arith, ints); upto = omega (arith, ints) } in
+      subst (λ k. IsWithin (weight most_of_stream most_of_utility p) (f k p)) (sym (zero-add i)) bound) in
       let few = of_side.few in let few_utilities = few_utility_parts in
       let from = sum.from in let upto = sum.upto in
       record { from = omega (arith, ints); upto = omega (arith, ints) }
@@ -200,7 +200,7 @@ module _ (c : Case) (complete : IsComplete c) (grid : List ℤ) (is_grid : IsGri
   pub side_cost_within : (ts : List Transfer) → KeepsRanges side parts ts → IsWithin (pos 13000000000000000000) (side_cost side parts ts)
   side_cost_within ts ranges =
       let sum = sum_within (λ a p. p.price *ℤ heat_at side ts a) 0 most_cost_of_utility 0 parts (λ i p at.
-          subst (λ k. IsWithin (weight 0 most_cost_of_utility p) (p.price *ℤ heat_at side ts k)) (sym (zero-add i)) (cost_within ts ranges i p at)) in
+      subst (λ k. IsWithin (weight 0 most_cost_of_utility p) (p.price *ℤ heat_at side ts k)) (sym (zero-add i)) (cost_within ts ranges i p at)) in
       let few_utilities = few_utility_parts in
       let from = sum.from in let upto = sum.upto in
       record { from = omega (arith, ints); upto = omega (arith, ints) }

@@ -60,9 +60,28 @@ unfolding entry_in field_checks span_checks span_at
 move_follows cost uses before m is =
     let n = amount_number m.heat is.heat in let h = read_span m.hot is.hot in let k = read_span m.cold is.cold in
     record {
-      passes = passes_of _ (move_statement m) kind.Move refl
-          (refl, (refl, (name-passes m.hot.name is.hot.name, (h.high.some, (h.high.within, (h.low.some, (h.low.within,
-          (name-passes m.cold.name is.cold.name, (k.high.some, (k.high.within, (k.low.some, (k.low.within, (n.some, (n.within, tt))))))))))))));
+      passes = passes_of _ (move_statement m) kind.Move refl (
+        refl,
+        (
+          refl,
+          (
+            name-passes m.hot.name is.hot.name,
+            (
+              h.high.some,
+              (
+                h.high.within,
+                (
+                  h.low.some,
+                  (
+                    h.low.within,
+                    (name-passes m.cold.name is.cold.name, (k.high.some, (k.high.within, (k.low.some, (k.low.within, (n.some, (n.within, tt))))))),
+                  ),
+                ),
+              ),
+            ),
+          ),
+        ),
+      );
       next_is = λ i. draft.Whole (report.Flow cost uses (before ++ record {
         hot = record { name = m.hot.name; high = sym h.high.value i; low = sym h.low.value i };
         cold = record { name = m.cold.name; high = sym k.high.value i; low = sym k.low.value i };
@@ -141,14 +160,14 @@ given_in : (r : Report) → IsReadable r → Give grammar (statements_in r) (dra
 given_in (report.Flow cost uses moves gives takes) is =
     let base : List Statement = cost_statement cost ∷ [] in
     let first = one_more_gives grammar [] draft.Nothing (cost_statement cost) (draft.Whole (report.Flow cost [] [] [] []))
-        (nothing_gives grammar draft.Nothing refl) (cost_follows cost is.0) in
+    (nothing_gives grammar draft.Nothing refl) (cost_follows cost is.0) in
     let with_uses = all_give grammar use_statement (λ us. draft.Whole (report.Flow cost us [] [] [])) base uses
-        (λ before u after at. use_follows cost before u (of_all IsUse uses before u after is.1 at)) first in
+    (λ before u after at. use_follows cost before u (of_all IsUse uses before u after is.1 at)) first in
     let with_moves = all_give grammar move_statement (λ ms. draft.Whole (report.Flow cost uses ms [] [])) (base ++ map use_statement uses) moves
-        (λ before m after at. move_follows cost uses before m (of_all IsMove moves before m after is.2 at)) with_uses in
+    (λ before m after at. move_follows cost uses before m (of_all IsMove moves before m after is.2 at)) with_uses in
     let with_gives = all_give grammar (priced_statement (codes "give")) (λ gs. draft.Whole (report.Flow cost uses moves gs []))
-        ((base ++ map use_statement uses) ++ map move_statement moves) gives
-        (λ before g after at. give_follows cost uses moves before g (of_all IsPrice gives before g after is.3 at)) with_moves in
+    ((base ++ map use_statement uses) ++ map move_statement moves) gives
+    (λ before g after at. give_follows cost uses moves before g (of_all IsPrice gives before g after is.3 at)) with_moves in
     all_give grammar (priced_statement (codes "take")) (λ ts. draft.Whole (report.Flow cost uses moves gives ts))
     (((base ++ map use_statement uses) ++ map move_statement moves) ++ map (priced_statement (codes "give")) gives) takes
     (λ before g after at. take_follows cost uses moves gives before g (of_all IsPrice takes before g after is.4 at)) with_gives
@@ -156,7 +175,7 @@ given_in (report.Cut of need offer parts) is =
     let word : Statement = codes "infeasible" ∷ [] in
     let first = one_more_gives grammar [] draft.Nothing word draft.Infeasible (nothing_gives grammar draft.Nothing refl) infeasible_follows in
     let second = one_more_gives grammar (word ∷ []) draft.Infeasible (cut_statement of need offer)
-        (draft.Whole (report.Cut of need offer [])) first (cut_follows of need offer is.0 is.1) in
+    (draft.Whole (report.Cut of need offer [])) first (cut_follows of need offer is.0 is.1) in
     all_give grammar part_statement (λ ps. draft.Whole (report.Cut of need offer ps)) (word ∷ cut_statement of need offer ∷ []) parts
     (λ before s after at. part_follows of need offer before s (of_all IsSpan parts before s after is.2 at)) second
 
@@ -169,9 +188,16 @@ use_plain u is =
 move_plain : (m : Moved) → IsMove m → IsPlainStatement (move_statement m)
 move_plain m is =
     let h = read_span m.hot is.hot in let k = read_span m.cold is.cold in
-    plain_statement _ _ (word_plain (codes "move") (omega arith) refl) refl
-    (name_plain m.hot.name is.hot.name, (h.high.plain, (h.low.plain,
-    (name_plain m.cold.name is.cold.name, (k.high.plain, (k.low.plain, ((amount_number m.heat is.heat).plain, tt)))))))
+    plain_statement _ _ (word_plain (codes "move") (omega arith) refl) refl (
+      name_plain m.hot.name is.hot.name,
+      (
+        h.high.plain,
+        (
+          h.low.plain,
+          (name_plain m.cold.name is.cold.name, (k.high.plain, (k.low.plain, ((amount_number m.heat is.heat).plain, tt)))),
+        ),
+      ),
+    )
 
 give_plain : (g : Priced) → IsPrice g → IsPlainStatement (priced_statement (codes "give") g)
 give_plain g is =
@@ -210,11 +236,11 @@ plain : (r : Report) → IsReadable r → All IsPlainStatement (statements_in r)
 plain (report.Flow cost uses moves gives takes) is =
     let base : List Statement = cost_statement cost ∷ [] in
     let first = All-cons IsPlainStatement (cost_statement cost) []
-        (plain_statement (codes "cost") _ (word_plain (codes "cost") (omega arith) refl) refl ((cost_number cost is.0).plain, tt)) (All-nil IsPlainStatement) in
+    (plain_statement (codes "cost") _ (word_plain (codes "cost") (omega arith) refl) refl ((cost_number cost is.0).plain, tt)) (All-nil IsPlainStatement) in
     let with_uses = with_more use_statement IsUse base uses use_plain is.1 first in
     let with_moves = with_more move_statement IsMove (base ++ map use_statement uses) moves move_plain is.2 with_uses in
     let with_gives = with_more (priced_statement (codes "give")) IsPrice ((base ++ map use_statement uses) ++ map move_statement moves) gives
-        give_plain is.3 with_moves in
+    give_plain is.3 with_moves in
     with_more (priced_statement (codes "take")) IsPrice
     (((base ++ map use_statement uses) ++ map move_statement moves) ++ map (priced_statement (codes "give")) gives) takes take_plain is.4 with_gives
 plain (report.Cut of need offer parts) is =

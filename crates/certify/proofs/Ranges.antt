@@ -108,7 +108,7 @@ module _ (c : Case) (complete : IsComplete c) (grid : List ℤ) (is_grid : IsGri
       let own = λ (a : ℕ). if is_of_utility number parts a then pos 1 else pos 0 in
       let grouped = int_sum_from-grouped (part_index side) (λ t. t.heat) own parts ts indexes in
       let same = int_sum_by-same (λ t. own (part_index side t) *ℤ t.heat) (heat_of_utility number side parts) ts
-          (λ k d within. times_one (is_of_utility number parts (part_index side (get_or ts k d))) (get_or ts k d).heat) in
+      (λ k d within. times_one (is_of_utility number parts (part_index side (get_or ts k d))) (get_or ts k d).heat) in
       subst (IsWithin MOST_AMOUNT) (grouped ∙ same) (heats_within c complete grid is_grid side parts are (λ a p. own a *ℤ heat_at side ts a) (λ i p at.
       let range = ranges i p at in let bounded = All-slice_get IsBounded parts i p (of_side c complete grid is_grid side parts are).bounded at in
       let least = bounded.least.from in let from = range.from in let upto = range.upto in
@@ -218,11 +218,11 @@ flows-readable c hot cold ts y z cost complete are h =
             (use_within c complete hot cold are u.side i ts flow.hot_indexes flow.cold_indexes flow.hot_ranges flow.cold_ranges);
       }),
       All-map IsMove (move_of c hot cold) ts (λ k d within.
-      let t = get_or ts k d in let heat = heats k d within in let from = heat.from in let upto = heat.upto in record {
-        hot = named_span c complete on.grid on.is_grid Hot hot on.hot_parts t.hot (flow.hot_indexes k d within);
-        cold = named_span c complete on.grid on.is_grid Cold cold on.cold_parts t.cold (flow.cold_indexes k d within);
-        heat = record { from = omega (arith, ints); upto = omega (arith, ints) };
-      }),
+          let t = get_or ts k d in let heat = heats k d within in let from = heat.from in let upto = heat.upto in record {
+            hot = named_span c complete on.grid on.is_grid Hot hot on.hot_parts t.hot (flow.hot_indexes k d within);
+            cold = named_span c complete on.grid on.is_grid Cold cold on.cold_parts t.cold (flow.cold_indexes k d within);
+            heat = record { from = omega (arith, ints); upto = omega (arith, ints) };
+          }),
       prices_readable c complete on.grid on.is_grid Hot hot on.hot_parts y h.hot_prices.one_each h.hot_prices.within,
       prices_readable c complete on.grid on.is_grid Cold cold on.cold_parts z h.cold_prices.one_each h.cold_prices.within,
     )

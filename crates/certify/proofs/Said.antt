@@ -8,7 +8,6 @@ use Rattle.std.specs.Ordering.{int_eq}
 use Rattle.std.proofs.lemmas.Bool.{cases_lt, and_from, and_parts, false_from_ne_true}
 use Rattle.std.proofs.lemmas.Bool.Decides.{Decides-int_eq, nat_tests}
 use Rattle.std.proofs.lemmas.Int.{ints}
-
 use Rattle.std.proofs.lemmas.List.Elements.{All-cons, All-head, All-map, All-nil, All-tail}
 use Rattle.std.proofs.lemmas.List.Sums.{position_or_len_is}
 use Rattle.std.proofs.lemmas.Option.{get_or_from_slice_get, none-some, same_Some, slice_get-get_or, slice_get_past}
@@ -103,10 +102,10 @@ module _ (c : Case) (complete : IsComplete c) (grid : List ℤ) (side : Side) (p
       let p = get_or parts i blank in
       let sources = sources_of_parts c grid side parts are in
       let own : is_span_of c (span_of c p) p ≡ true =
-          and_from _ _ (and_from _ _ (int_same p.high) (int_same p.low)) ((bytes_decides (source_name c p.source) (source_name c p.source)).1 refl) in
+      and_from _ _ (and_from _ _ (int_same p.high) (int_same p.low)) ((bytes_decides (source_name c p.source) (source_name c p.source)).1 refl) in
       let others : (k : ℕ) → k < i → is_span_of c (span_of c p) (get_or parts k blank) ≡ false =
-          λ k early. false_from_ne_true _ (other_span c complete (get_or parts k blank) p (sources k blank (omega (arith, early, within))) (sources i blank within)
-          (are.ordered k i blank early within)) in
+      λ k early. false_from_ne_true _ (other_span c complete (get_or parts k blank) p (sources k blank (omega (arith, early, within))) (sources i blank within)
+      (are.ordered k i blank early within)) in
       rw (slice_get-get_or parts i blank within) (position-first (is_span_of c (span_of c p)) parts i blank within own others)
 
   -- ---- the prices
@@ -147,7 +146,7 @@ module _ (c : Case) (complete : IsComplete c) (hot cold : List Part) (are : AreC
       let gives = made_from (priced_by c y) 0 hot in let takes = made_from (priced_by c z) 0 cold in
       let moves = map (move_of c hot cold) ts in
       let found : All (λ t. transfer_of c hot cold (move_of c hot cold t) ≡ Some t) ts =
-          λ k d within. own_transfer (get_or ts k d) (h.flow.hot_indexes k d within) (h.flow.cold_indexes k d within) in
+      λ k d within. own_transfer (get_or ts k d) (h.flow.hot_indexes k d within) (h.flow.cold_indexes k d within) in
       let are_uses : AreUsesOf c hot cold ts uses = record {
         one_each = length-made_from (use_of hot cold ts) 0 c.utilities;
         is = λ i used u made at. made_from-at (use_of hot cold ts) 0 c.utilities i used u made at ∙ ap (λ n. use_of hot cold ts n u) (zero-add i);
@@ -169,10 +168,11 @@ module _ (c : Case) (complete : IsComplete c) (hot cold : List Part) (are : AreC
   cut_passes cut h =
       let own = own_parts c hot cold cut.kind in
       let found : All (λ i. index_of c own (named_at c own i) ≡ Some i) cut.parts =
-          λ k d within. own_side cut.kind (get_or cut.parts k d) (needing_within own (get_or cut.parts k d) (h.parts.needing k d within)) in
-      let again = found_again (index_of c own) (named_at c own) cut.parts found in
-      (all_found (index_of c own) (named_at c own) cut.parts found,
-      (subst (λ (members : List ℕ). IsCutOf (reach_between c hot cold) hot cold (record { kind = cut.kind; parts = members; need = cut.need; offer = cut.offer })) (sym again) h, tt))
+      λ k d within. own_side cut.kind (get_or cut.parts k d) (needing_within own (get_or cut.parts k d) (h.parts.needing k d within)) in
+      let again = found_again (index_of c own) (named_at c own) cut.parts found in (
+        all_found (index_of c own) (named_at c own) cut.parts found,
+        (subst (λ (members : List ℕ). IsCutOf (reach_between c hot cold) hot cold (record { kind = cut.kind; parts = members; need = cut.need; offer = cut.offer })) (sym again) h, tt),
+      )
     where
       needing_within : (parts : List Part) (i : ℕ) → pos 0 <ℤ least_at parts i → i < length parts
       needing_within parts i some =

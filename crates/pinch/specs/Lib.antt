@@ -10,6 +10,7 @@ pub mod Flow
 pub mod Format
 pub mod Network
 pub mod Numbers
+pub mod Proofs
 pub mod Reading
 pub mod Report
 pub mod Run

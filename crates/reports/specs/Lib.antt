@@ -6,6 +6,7 @@ pub mod Design
 pub mod Flow
 pub mod Lines
 pub mod Names
+pub mod Proofs
 pub mod Refusals
 pub mod Sample
 pub mod Site
