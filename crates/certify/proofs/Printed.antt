@@ -1,7 +1,6 @@
 -- The text of a report is read as the report.
-use Rattle.std.proofs.Common.{◌≡◌, ◌<◌, ◌++◌, ◌∷◌, ℕ, ℤ, List, [], None, Some, All, length, map, is_some, refl, sym, ap, subst, arith}
+use Rattle.std.proofs.Common.{◌≡◌, ◌++◌, ◌∷◌, ℤ, List, [], None, Some, All, length, map, is_some, refl, sym, ap, subst, arith}
 use Rattle.std.specs.Prelude.{codes, true}
-use Rattle.std.specs.Fmt.{signed_decimal}
 use Rattle.std.proofs.lemmas.List.Elements.{All-append, All-cons, All-map, All-nil, All-weaker}
 use Rattle.stream_case.proofs.NameTests.{name-passes}
 use Rattle.first_fault.specs.Checks.{first_failing}
@@ -13,7 +12,7 @@ use Rattle.heat_flow.specs.declared.cut.CutKind.TheVariants as cut
 use Rattle.statements.specs.Statements.{IsPlainField, IsPlainStatement}
 use Rattle.statements.proofs.PlainStatements.{plain_statement, statements-back, word_plain}
 use Rattle.certify.specs.Given.{cut_kind_in}
-use Rattle.certify.specs.Printed.{IsMove, IsPrice, IsReadable, IsSpan, IsUse, PrintedReportsAreReadAgain, cost_statement, cut_statement, kind_word, move_statement, part_statement, priced_statement, report_text, statements_in, use_statement}
+use Rattle.certify.specs.Printed.{IsMove, IsPrice, IsReadable, IsSpan, IsUse, PrintedReportsAreReadAgain, cost_statement, cut_statement, kind_word, move_statement, part_statement, priced_statement, statements_in, use_statement}
 use Rattle.certify.specs.declared.draft.Draft.TheVariants as draft
 use Rattle.certify.specs.declared.kind.Kind.TheVariants as kind
 use Rattle.certify.specs.declared.limits.TheConstants.{MOST_AMOUNT, MOST_COST, MOST_LEVEL}
@@ -21,7 +20,7 @@ use Rattle.certify.specs.declared.report.Moved.{Moved}
 use Rattle.certify.specs.declared.report.Report.TheVariants as report
 use Rattle.certify.specs.declared.report.Used.{Used}
 use Rattle.certify.proofs.Numbers.{IsNumber, amount_number, cost_number, level_number, name_plain}
-use Rattle.certify.proofs.Words.{CutKind, Draft, IsReport, Kind, Priced, Report, Span, Statement, checks, cut_kind, entry_in, field_checks, grammar, kind_checks, kind_of, number, span_at, span_checks, statements_of}
+use Rattle.certify.proofs.Words.{CutKind, Draft, IsReport, Kind, Priced, Report, Span, Statement, checks, cut_kind, entry_in, field_checks, grammar, kind_checks, kind_of, span_at, span_checks}
 
 -- ---- the statements, one after the other
 

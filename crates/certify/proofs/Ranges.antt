@@ -1,14 +1,14 @@
 -- The reports of a certified heat flow and of a cut have undotted names, and numbers within their ranges.
-use Rattle.std.proofs.Common.{◌≡◌, ◌≢◌, ◌⊎◌, ⊎_elim, inl, inr, ◌∙◌, ◌<◌, ◌+◌, ◌==◌, ◌++◌, refl, sym, ap, subst, ℕ, zero, suc, Bool, true, false, List, [], ◌∷◌, length, map, get_or, Some, None, slice_get, is_some, arith, add-zero, zero-add}
-use Rattle.std.specs.Prelude.{ℤ, pos, ◌+ℤ◌, ◌*ℤ◌, ◌≤ℤ◌, ◌<ℤ◌, if◌then◌else◌, All, AllPairs, Contains}
+use Rattle.std.proofs.Common.{◌≡◌, ◌⊎◌, ⊎_elim, inl, inr, ◌∙◌, ◌<◌, ◌+◌, ◌==◌, refl, sym, ap, subst, ℕ, suc, Bool, true, false, List, [], ◌∷◌, length, map, get_or, Some, slice_get, is_some, arith, add-zero, zero-add}
+use Rattle.std.specs.Prelude.{ℤ, pos, ◌*ℤ◌, ◌<ℤ◌, if◌then◌else◌, All, AllPairs, Contains}
 use Rattle.std.specs.Option.{option_map_or}
 use Rattle.std.proofs.lemmas.Bool.{cases_Bool, cases_lt}
 use Rattle.std.proofs.lemmas.Bool.Decides.{nat_tests}
 use Rattle.std.proofs.lemmas.Int.{ints}
 use Rattle.std.proofs.lemmas.List.Elements.{All-append, All-cons, All-contains, All-map, All-nil, All-weaker}
 use Rattle.std.proofs.lemmas.Option.{slice_get-get_or, slice_get_past, slice_get_within}
-use Rattle.stream_case.specs.Case.{IsComplete, IsSourceOf}
-use Rattle.stream_case.specs.Limits.{IsHeat, IsPartPrice, IsShifted}
+use Rattle.stream_case.specs.Case.{IsComplete}
+use Rattle.stream_case.specs.Limits.{IsPartPrice, IsShifted}
 use Rattle.stream_case.specs.Stream.{stream_ends}
 use Rattle.stream_case.specs.Utility.{IsPlaced, shifted_level}
 use Rattle.stream_case.specs.declared.case.Case.{Case}
@@ -18,25 +18,24 @@ use Rattle.stream_case.specs.declared.utility.Utility.{Utility}
 use Rattle.stream_case.proofs.CaseLemmas.{IsName-source_name, IsSourceOf-side}
 use Rattle.stream_case.proofs.CompleteLemmas.{AreStreams-IsComplete, IsPlaced-IsComplete, IsUtility, StaysValid-IsComplete}
 use Rattle.stream_case.proofs.EndLemmas.{stream_ends-between}
-use Rattle.sums.specs.Sum.{int_sum_by, int_sum_from}
+use Rattle.sums.specs.Sum.{int_sum_by}
 use Rattle.sums.proofs.IntegerLemmas.{if_between}
 use Rattle.sums.proofs.ListLemmas.{All-slice_get}
 use Rattle.sums.proofs.OrderLemmas.{AllPairs-head, AllPairs-tail}
 use Rattle.sums.proofs.SumLemmas.{int_sum_by-same, int_sum_by-zero, int_sum_from-grouped}
 use Rattle.grid.specs.Bounds.{IsBounded}
 use Rattle.grid.specs.Grid.{IsGrid, places_of}
-use Rattle.grid.specs.OnGrid.{AreOnGrid, IsOnPlaces}
+use Rattle.grid.specs.OnGrid.{IsOnPlaces}
 use Rattle.grid.specs.Part.{AreCaseParts, AreParts}
 use Rattle.grid.specs.declared.part.Part.{Part}
 use Rattle.grid.proofs.OnGridLemmas.{parts_on_grid}
 use Rattle.grid.proofs.PlaceLemmas.{interval_ends}
-use Rattle.heat_flow.specs.Certificate.{IsCertified, IsCutOf, heat_of_utility, is_of_utility, utility_heat}
+use Rattle.heat_flow.specs.Certificate.{heat_of_utility, is_of_utility, utility_heat}
 use Rattle.heat_flow.specs.Cuts.{cut_side, least_at, meets, need_of, offer_of, opposite, parts_of}
-use Rattle.heat_flow.specs.Flow.{HaveParts, KeepsRanges, cost_of, heat_at, part_index}
+use Rattle.heat_flow.specs.Flow.{HaveParts, KeepsRanges, heat_at, part_index}
 use Rattle.heat_flow.specs.Prices.{price_at}
 use Rattle.heat_flow.specs.Ranges.{IsWithin}
 use Rattle.heat_flow.specs.Reach.{reach_between}
-use Rattle.heat_flow.specs.declared.cut.Cut.{Cut}
 use Rattle.heat_flow.specs.declared.cut.CutKind.{CutKind}
 use Rattle.heat_flow.specs.declared.cut.CutKind.TheVariants.{Demand, Supply}
 use Rattle.heat_flow.specs.declared.flow.Transfer.{Transfer}
@@ -45,7 +44,7 @@ use Rattle.heat_flow.proofs.CostLemmas.{HasCost-flow, heats_within as transfers_
 use Rattle.certify.specs.Answers.{own_parts, span_of, use_of}
 use Rattle.certify.specs.Printed.{IsMove, IsPrice, IsSpan, IsUse}
 use Rattle.certify.specs.Said.{CertifiedFlowsAreReadable, CutsAreReadable, made_from, move_of, named_at, priced_by}
-use Rattle.certify.specs.declared.limits.TheConstants.{MOST_AMOUNT, MOST_COST, MOST_LEVEL}
+use Rattle.certify.specs.declared.limits.TheConstants.{MOST_AMOUNT, MOST_LEVEL}
 use Rattle.certify.proofs.PartSums.{heats_within, of_side, side_cost_within}
 
 -- what holds of all that is made of a list

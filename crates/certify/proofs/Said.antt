@@ -1,16 +1,15 @@
 -- The reports of a certified heat flow and of a cut pass every check.
-use Rattle.std.proofs.Common.{◌≡◌, ◌≢◌, ◌∙◌, ◌<◌, ◌+◌, ◌∷◌, ◌++◌, ⊎_elim, ℕ, zero, suc, ℤ, pos, Bool, true, false, cond, List, [], Option, None, Some, All, get_or, slice_get, position, length, nat_lt, map, is_some, refl, sym, ap, ap₂, subst, arith, add-zero, zero-add}
-use Rattle.std.specs.Prelude.{◌<ℤ◌, IsTrue, AllPairs, slice_index_or}
+use Rattle.std.proofs.Common.{◌≡◌, ◌∙◌, ◌<◌, ◌+◌, ◌∷◌, ⊎_elim, ℕ, zero, suc, ℤ, pos, Bool, true, false, cond, List, [], Option, None, Some, All, get_or, slice_get, position, length, nat_lt, map, is_some, refl, sym, ap, ap₂, subst, arith, add-zero, zero-add}
+use Rattle.std.specs.Prelude.{◌<ℤ◌, IsTrue}
 use Rattle.std.specs.List.{filter_map}
-use Rattle.std.specs.Str.{bytes_eq}
 use Rattle.std.specs.Cmp.Lexicographic.{bytes_decides}
 use Rattle.std.specs.Ordering.{int_eq}
 use Rattle.std.proofs.lemmas.Bool.{cases_lt, and_from, and_parts, false_from_ne_true}
 use Rattle.std.proofs.lemmas.Bool.Decides.{Decides-int_eq, nat_tests}
 use Rattle.std.proofs.lemmas.Int.{ints}
-use Rattle.std.proofs.lemmas.List.Elements.{All-cons, All-head, All-map, All-nil, All-tail}
+use Rattle.std.proofs.lemmas.List.Elements.{All-head, All-map, All-tail}
 use Rattle.std.proofs.lemmas.List.Sums.{position_or_len_is}
-use Rattle.std.proofs.lemmas.Option.{get_or_from_slice_get, none-some, same_Some, slice_get-get_or, slice_get_past}
+use Rattle.std.proofs.lemmas.Option.{none-some, same_Some, slice_get-get_or, slice_get_past}
 use Rattle.stream_case.specs.Case.{IsComplete, IsSourceOf, source_name, source_named}
 use Rattle.stream_case.specs.declared.case.Case.{Case}
 use Rattle.stream_case.specs.declared.source.Side.{Side}
@@ -19,7 +18,6 @@ use Rattle.stream_case.specs.declared.source.Source.{Source}
 use Rattle.stream_case.specs.declared.source.Source.TheVariants.{Stream as of_stream, Utility as of_utility}
 use Rattle.stream_case.proofs.CaseLemmas.{source_named-source_name}
 use Rattle.stream_case.proofs.CompleteLemmas.{StaysValid-IsComplete}
-use Rattle.sums.proofs.ListLemmas.{All-slice_get}
 use Rattle.grid.specs.Part.{AreCaseParts, AreParts, comes_before, comes_before_source}
 use Rattle.grid.specs.declared.part.Part.{Part}
 use Rattle.heat_flow.specs.Certificate.{IsCertified, IsCutOf}
@@ -33,11 +31,10 @@ use Rattle.heat_flow.specs.declared.flow.Transfer.{Transfer}
 use Rattle.heat_flow.proofs.Blanks.{blank}
 use Rattle.heat_flow.proofs.PartLemmas.{HoldsOfParts-some}
 use Rattle.heat_flow.proofs.ReachLemmas.{sources_of_parts}
-use Rattle.certify.specs.Answers.{ArePricesOf, AreUsesOf, HoldsOfFlow, IsAnswerOver, cut_of, index_of, is_span_of, own_parts, prices_of, span_of, transfer_of, transfers_of, use_of}
+use Rattle.certify.specs.Answers.{ArePricesOf, AreUsesOf, IsAnswerOver, index_of, is_span_of, own_parts, prices_of, span_of, transfer_of, use_of}
 use Rattle.certify.specs.Said.{CertifiedFlowsPass, CutsPass, cut_report, flow_report, made_from, move_of, named_at, priced_by}
 use Rattle.certify.specs.declared.report.Checked.TheVariants.{Yes}
 use Rattle.certify.specs.declared.report.Priced.{Priced}
-use Rattle.certify.specs.declared.report.Used.{Used}
 use Rattle.certify.proofs.Firsts.{flow_first}
 
 -- ---- lists that are made of others
