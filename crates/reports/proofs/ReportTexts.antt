@@ -116,18 +116,16 @@ member_text : (c : Case) (parts : List Part) (i : ℕ) → i < length parts → 
 unfolding fields_text span_text
 member_text c parts i within = ap (λ text. codes "part " ++ text) (named_before c parts i (10 ∷ []) within)
 
-cut_line_text : (cut : Cut) → cut_line cut ≡ statement_text (cut_statement cut.kind cut.need cut.offer)
-cut_line_text cut = by cut.kind
-  where
-    by : (kind : CutKind) → cut_line (record { kind = kind; parts = cut.parts; need = cut.need; offer = cut.offer }) ≡ statement_text (cut_statement kind cut.need cut.offer)
-    unfolding fields_text
-    by Demand = refl
-    by Supply = refl
+kind_line_text : (kind : CutKind) (need offer : ℤ) (parts : List ℕ)
+    → cut_line (record { kind = kind; parts = parts; need = need; offer = offer }) ≡ statement_text (cut_statement kind need offer)
+unfolding fields_text
+kind_line_text Demand need offer parts = refl
+kind_line_text Supply need offer parts = refl
 
 -- ---- the texts
 
-in_a_row : (a b c d e : List ℕ) → (((a ++ b) ++ c) ++ d) ++ e ≡ a ++ (b ++ (c ++ (d ++ e)))
-in_a_row a b c d e = append_assoc ((a ++ b) ++ c) d e ∙ append_assoc (a ++ b) c (d ++ e) ∙ append_assoc a b (c ++ (d ++ e))
+in_a_row : (a b c d e : List ℕ) → (((a ++ b) ++ c) ++ d) ++ e ≡ (a ++ b) ++ ((c ++ d) ++ e)
+in_a_row a b c d e = append_assoc ((a ++ b) ++ c) d e ∙ append_assoc (a ++ b) c (d ++ e) ∙ ap (λ t. (a ++ b) ++ t) (sym (append_assoc c d e))
 
 pub flow-text : (c : Case) (parts : Parts) (ts : List Transfer) (prices : Prices) (cost : ℤ) → HaveParts Hot parts.hot ts → HaveParts Cold parts.cold ts
     → flow_text c parts ts prices cost ≡ report_text (flow_report c parts.hot parts.cold ts prices.hot prices.cold cost)
@@ -147,7 +145,7 @@ flow-text c parts ts prices cost hots colds =
     let front = cost_statement cost ∷ uses in
     let joined = flat_map-append st ((front ++ moves) ++ gives) takes
         ∙ ap (λ t. t ++ flat_map st takes) (flat_map-append st (front ++ moves) gives ∙ ap (λ t. t ++ flat_map st gives) (flat_map-append st front moves)) in
-    (λ i. cost_text cost i ++ (uses_text i ++ (moves_text i ++ (gives_text i ++ takes_text i))))
+    (λ i. (cost_text cost i ++ uses_text i) ++ ((moves_text i ++ gives_text i) ++ takes_text i))
     ∙ sym (joined ∙ in_a_row (st (cost_statement cost)) (flat_map st uses) (flat_map st moves) (flat_map st gives) (flat_map st takes))
 
 pub cut-text : (c : Case) (parts : Parts) (cut : Cut) → All (λ i. i < length (own_parts c parts.hot parts.cold cut.kind)) cut.parts
@@ -157,5 +155,5 @@ cut-text c parts cut within =
     let own = own_parts c parts.hot parts.cold cut.kind in
     let members = texts_each (member_line (case_names c) own) part_statement (named_at c own) cut.parts
         (λ k d inside. member_text c own (get_or cut.parts k d) (within k d inside)) in
-    ap₂ (λ first rest. codes "infeasible\n" ++ (first ++ rest)) (cut_line_text cut)
+    ap₂ (λ first rest. codes "infeasible\n" ++ (first ++ rest)) (kind_line_text cut.kind cut.need cut.offer cut.parts)
     (ap (λ ps. flat_map (member_line (case_names c) ps) cut.parts) (side_is (cut_side cut.kind) parts) ∙ members)
