@@ -1,5 +1,5 @@
 -- A report that is the text of a proof is answered with yes.
-use Rattle.std.proofs.Common.{◌≡◌, ◌∙◌, inl, inr, List, [], ◌∷◌, Option, None, Some, Result, Ok, refl, sym, ap, subst}
+use Rattle.std.proofs.Common.{◌≡◌, ◌∙◌, inl, inr, ℕ, List, [], ◌∷◌, Option, None, Some, Result, Ok, refl, sym, ap, subst}
 use Rattle.stream_case.specs.Case.{IsComplete, completed}
 use Rattle.stream_case.specs.declared.case.Case.{Case}
 use Rattle.rows.specs.Rows.{rows_of}
@@ -43,24 +43,24 @@ use Rattle.pinch.proofs.Formats.{lawful_case, lawful_report}
 -- ---- a report has one answer
 
 first_yes : (causes : List NoWhy) (Holds : NoWhy → Type 0) (checked : Checked) → IsFirstOf causes Holds Yes → IsFirstOf causes Holds checked → checked ≡ Yes
-first_yes causes Holds Yes yes is = refl
-first_yes [] Holds (No why) yes is = absurd is
-first_yes (cause ∷ causes) Holds (No why) yes (inl fails) = absurd (fails.1 yes.0)
-first_yes (cause ∷ causes) Holds (No why) yes (inr later) = first_yes causes Holds (No why) yes.1 later.1
+first_yes causes Holds Yes passes is = refl
+first_yes [] Holds (No why) passes is = absurd is
+first_yes (cause ∷ causes) Holds (No why) passes (inl fails) = absurd (fails.1 passes.0)
+first_yes (cause ∷ causes) Holds (No why) passes (inr later) = first_yes causes Holds (No why) passes.1 later.1
 
 yes_over : (c : Case) (hot cold : List Part) (r : Report) (checked : Checked) → IsAnswerOver c hot cold r Yes → IsAnswerOver c hot cold r checked → checked ≡ Yes
-yes_over c hot cold (report.Flow cost uses moves gives takes) checked yes is = first_yes flow_causes (HoldsOfFlow c hot cold cost uses moves gives takes) checked yes is
-yes_over c hot cold (report.Cut kind need offer parts) checked yes is = first_yes cut_causes (HoldsOfCut c hot cold kind need offer parts) checked yes is
+yes_over c hot cold (report.Flow cost uses moves gives takes) checked passes is = first_yes flow_causes (HoldsOfFlow c hot cold cost uses moves gives takes) checked passes is
+yes_over c hot cold (report.Cut kind need offer parts) checked passes is = first_yes cut_causes (HoldsOfCut c hot cold kind need offer parts) checked passes is
 
 only_yes : (c : Case) (r : Report) (checked : Checked) → IsAnswer c r Yes → IsAnswer c r checked → checked ≡ Yes
-only_yes c r checked yes is =
-    let (hot, cold, are) = yes.some in
-    yes_over c hot cold r checked (yes.each hot cold are) (is.each hot cold are)
+only_yes c r checked passes is =
+    let (hot, cold, are) = passes.some in
+    yes_over c hot cold r checked (passes.each hot cold are) (is.each hot cold are)
 
 -- so it is shown that the report proves what it says
 shown_yes : (c : Case) (r : Report) (shown : Shown) → IsAnswer c r Yes → IsCheckOf c r shown → status_of shown ≡ Answered
-shown_yes c r shown yes is =
-    let checked = only_yes c r is.checked yes is.is_answer in
+shown_yes c r shown passes is =
+    let checked = only_yes c r is.checked passes is.is_answer in
     ap status_of (is.is ∙ ap (shown_check r) checked)
 
 -- ---- reading
@@ -75,7 +75,7 @@ reads_yes c name old new end shown no_fault complete held ends shows =
     of_held report_file lawful_report name old new end no_fault (λ r. IsAnswer c r Yes)
     (λ mid r. (end ≡ Ok (request.Certify c r)) × (new ≡ mid)) (status_of shown ≡ Answered)
     (record { bytes = text held.shown; file = held.file; value = passed.report; says = passed.is; then = passed.answer })
-    (λ mid r keeps yes last. shown_yes c r shown yes (subst (λ e. Shows e shown) last.0 shows)) ends
+    (λ mid r keeps passes last. shown_yes c r shown passes (subst (λ e. Shows e shown) last.0 shows)) ends
 
 pub certified : (command : Option Command) (old new : ShelfState) (shown : Shown) → ShowsCommand command old new shown → ChecksProof command old.files
     → (Rose old.faults new.faults → ⊥) → status_of shown ≡ Answered
