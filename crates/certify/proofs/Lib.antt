@@ -1,6 +1,11 @@
 pub mod Firsts
 pub mod Moves
+pub mod Numbers
 pub mod Prices
+pub mod PartSums
+pub mod Printed
+pub mod Ranges
 pub mod Reading
+pub mod Said
 pub mod SourceRows
 pub mod Words

@@ -3,7 +3,7 @@ pub use Rattle.certify.specs.Answers.{HasPartPrices}
 pub use Rattle.certify.specs.Checks.{kind_checks, priced_checks}
 unfoldable pub use Rattle.certify.specs.Checks.{checks, field_checks, span_checks}
 pub use Rattle.certify.specs.Given.{entry_as, entry_by, kind_of, lengthened, report_in, with_any, with_entry}
-unfoldable pub use Rattle.certify.specs.Given.{entry_in, number}
+unfoldable pub use Rattle.certify.specs.Given.{cut_kind, entry_in, number, span_at}
 pub use Rattle.certify.specs.Outcome.{IsOutcome, IsReport, end_fault, grammar}
 pub use Rattle.certify.specs.declared.draft.Draft.{Draft}
 pub use Rattle.certify.specs.declared.entry.Entry.{Entry}

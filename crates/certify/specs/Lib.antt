@@ -3,3 +3,5 @@ pub mod Checks
 pub mod Given
 pub mod Outcome
 pub mod Permits
+pub mod Printed
+pub mod Said

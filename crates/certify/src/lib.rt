@@ -13,6 +13,7 @@ mod entry;
 mod fault;
 mod fields;
 mod kind;
+mod laws;
 mod limits;
 mod naming;
 mod permits;
@@ -23,6 +24,11 @@ mod uses;
 pub use check::check_report;
 pub use fault::{ReportFault, ReportWhy};
 pub use heat_flow::CutKind;
+pub use laws::{
+    certified_reports_are_answered_with_yes, certified_reports_are_within_the_ranges,
+    printed_reports_are_read_again,
+};
 pub use limits::{MOST_AMOUNT, MOST_COST, MOST_DIGITS, MOST_LEVEL};
 pub use reader::read_report;
 pub use report::{Checked, Moved, NoWhy, Priced, Report, Span, Used};
+pub use uses::utility_heat;

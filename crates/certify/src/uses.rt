@@ -32,8 +32,8 @@ fn heat_of_utility(index: usize, side: Side, parts: &[Part], transfer: &Transfer
     }
 }
 
-/// What a utility gives or takes in all.
-fn utility_heat(index: usize, side: Side, parts: &[Part], transfers: &[Transfer]) -> i128
+/// What a utility gives or takes in all, in W.
+pub fn utility_heat(index: usize, side: Side, parts: &[Part], transfers: &[Transfer]) -> i128
     ensures { result ≡ utility_heat index side parts.now transfers.now }
 {
     let mut total: i128 = 0;

@@ -61,7 +61,7 @@ module _ {Value Cause : Type 0} (format : Format Value Cause) (lawful : IsLawful
       absurd (not_both format lawful held.bytes value refusal (subst (λ b. format.Gives b (Ok value)) same reads.says) held.refused)
 
 -- no fault comes after a file was read, where none comes at all
-no_later_fault : (old mid new : ShelfState) → KeepsFiles old mid → (Rose old.faults new.faults → ⊥) → Rose mid.faults new.faults → ⊥
+pub no_later_fault : (old mid new : ShelfState) → KeepsFiles old mid → (Rose old.faults new.faults → ⊥) → Rose mid.faults new.faults → ⊥
 no_later_fault old mid new keeps no_fault rose = no_fault (omega (arith, rose, keeps.later))
 
 -- files that are what is wanted end in a request

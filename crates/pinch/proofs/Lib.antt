@@ -8,6 +8,7 @@ mod Formats
 mod Plain
 mod Printable
 mod Profiles
+mod Proofs
 mod Readings
 mod Results
 mod Runnable

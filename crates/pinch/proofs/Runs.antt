@@ -13,6 +13,7 @@ use Rattle.pinch.specs.declared.status.Status.{Status}
 use Rattle.pinch.specs.declared.status.Status.TheVariants.{WriteFault, OutOfMemory}
 use Rattle.pinch.proofs.Causes.{causes}
 use Rattle.pinch.proofs.Complete.{complete, bad_file}
+use Rattle.pinch.proofs.Proofs.{certified}
 
 -- what is shown blames neither the sink nor memory
 abbrev IsOfShown : Status → Type 0
@@ -50,6 +51,7 @@ module _ {Sink : Type 0} (text_on : Sink → Option (List ℕ)) (faults_of : Sin
         write_fault = λ e. absurd (not_write_fault (status_of shown) (of_shown shown) (sym number_is ∙ e));
         complete = λ can no_fault no_write_fault. (number_is, complete command old new shown shows can no_fault);
         refused = λ refusal bad no_fault. bad_file command old new shown shows refusal bad no_fault;
+        certified = λ proof no_fault no_write_fault. number_is ∙ ap number_of (certified command old new shown shows proof no_fault);
       }
   of_print shown status number numbered shows (cut is front rose) =
       let number_is = numbered ∙ ap number_of is in
@@ -64,4 +66,5 @@ module _ {Sink : Type 0} (text_on : Sink → Option (List ℕ)) (faults_of : Sin
         write_fault = λ e. rose;
         complete = λ can no_fault no_write_fault. absurd (no_write_fault rose);
         refused = λ refusal bad no_fault. bad_file command old new shown shows refusal bad no_fault;
+        certified = λ proof no_fault no_write_fault. absurd (no_write_fault rose);
       }

@@ -11,6 +11,7 @@ pub mod Format
 pub mod Network
 pub mod Numbers
 pub mod Prices
+pub mod Proofs
 pub mod Reading
 pub mod Report
 pub mod Run

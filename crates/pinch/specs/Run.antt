@@ -9,12 +9,13 @@ use Rattle.reports.specs.declared.shown.Shown.{Shown}
 use Rattle.pinch.specs.Answers.{ShowsCommand}
 use Rattle.pinch.specs.Causes.{HasCause}
 use Rattle.pinch.specs.Complete.{CanAnswer, HasBadFile}
+use Rattle.pinch.specs.Proofs.{ChecksProof}
 use Rattle.pinch.specs.Reading.{reading_of}
 use Rattle.pinch.specs.Status.{number_of, status_of, IsAnswered}
 use Rattle.pinch.specs.declared.command.Command.{Command}
 use Rattle.pinch.specs.declared.program.Done.{Done}
 use Rattle.pinch.specs.declared.status.Status.{Status}
-use Rattle.pinch.specs.declared.status.Status.TheVariants.{WriteFault, OutOfMemory}
+use Rattle.pinch.specs.declared.status.Status.TheVariants.{Answered, WriteFault, OutOfMemory}
 
 -- `text_on` tells what was written to a sink, and `faults_of` how often it refused a write
 pub record Runs {Sink : Type 0} (text_on : Sink → Option (List ℕ)) (faults_of : Sink → ℕ) (command : Option Command) (old new : ShelfState) (before now : Sink) (done : Done) : Type 0 where
@@ -32,6 +33,9 @@ pub record Runs {Sink : Type 0} (text_on : Sink → Option (List ℕ)) (faults_o
       → IfSome done.shown (λ shown. (done.status ≡ number_of (status_of shown)) × IsAnswered (status_of shown))
   -- a file that is refused is told to be refused, with where and why
   pub refused : (refusal : Shown) → HasBadFile (reading_of command) old.files refusal → ¬ Rose old.faults new.faults → IfSome done.shown (λ shown. shown ≡ refusal)
+  -- a report that is what the program prints of a heat flow with its certificate, or of a cut, is answered with yes
+  pub certified : ChecksProof command old.files → ¬ Rose old.faults new.faults → ¬ Rose (faults_of before) (faults_of now)
+      → IfSome done.shown (λ shown. done.status ≡ number_of Answered)
 
 -- what is shown was written whole, or in front where a write was refused
 pub data Prints (before now : Option (List ℕ)) (faults_before faults_now : ℕ) (shown : Shown) (status : Status) : Type 0 where

@@ -7,6 +7,7 @@ pub mod Flow
 pub mod Lines
 pub mod Names
 pub mod Prices
+pub mod Proofs
 pub mod Refusals
 pub mod Sample
 pub mod Site

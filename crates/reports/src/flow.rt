@@ -1,17 +1,16 @@
 //! The text of a heat flow with its prices.
 ghost use Rattle.std.specs.Prelude.{◌≡◌, ◌++◌, IfOk, codes, string_bytes};
 ghost use Rattle.std.specs.List.{flat_map};
-ghost use Rattle.stream_case.specs.Source.{same_source};
 ghost use Rattle.reports.specs.Lines.{line, texts_from};
 ghost use Rattle.reports.specs.Flow.{part_text, part_at, side_parts, side_prices, use_line, move_line, price_word, price_line, price_lines, certificate_lines, flow_text};
-ghost use Rattle.heat_flow.specs.Certificate.{is_of_utility, heat_of_utility, utility_heat};
 
 use crate::line::{line, number_at};
 use crate::names::{SourceNames, case_names};
+use certify::utility_heat;
 use grid::{Part, Parts};
 use heat_flow::{Prices, Transfer};
 use std::alloc::{AllocError, Global};
-use stream_case::{Case, Side, Source, Utility};
+use stream_case::{Case, Side, Utility};
 
 /// The cost, the use of each utility, the transfers and the prices, a line each.
 pub fn flow_text(
@@ -71,40 +70,6 @@ pub fn side_parts(side: Side, parts: &Parts) -> &[Part]
     match side {
         Side::Hot => parts.hot.as_slice(),
         Side::Cold => parts.cold.as_slice(),
-    }
-}
-
-/// What a utility gives or takes in all.
-pub fn utility_heat(index: usize, side: Side, parts: &[Part], transfers: &[Transfer]) -> i128
-    ensures { result ≡ utility_heat index side parts.now transfers.now }
-{
-    let mut total: i128 = 0;
-    for transfer in transfers {
-        total += i128::from(heat_of_utility(index, side, parts, transfer));
-    }
-    total
-}
-
-/// The heat of a transfer, if its part of this side is that of the utility.
-fn heat_of_utility(index: usize, side: Side, parts: &[Part], transfer: &Transfer) -> i64
-    ensures { result ≡ heat_of_utility index side parts.now transfer.now }
-{
-    if is_of_utility(index, parts, transfer.part_index(side)) {
-        transfer.heat
-    } else {
-        0
-    }
-}
-
-fn is_of_utility(index: usize, parts: &[Part], part: u32) -> bool
-    ensures { result ≡ is_of_utility index parts.now part }
-{
-    match parts.get(part as usize) {
-        Some(part) => match part.source {
-            Source::Utility(utility) => utility as usize == index,
-            Source::Stream(_) => false,
-        },
-        None => false,
     }
 }
 

@@ -6,6 +6,7 @@ mod certified;
 mod cut;
 mod design;
 mod flow;
+mod laws;
 mod line;
 mod names;
 mod points;
@@ -19,5 +20,6 @@ mod targets;
 mod text;
 mod total_site;
 
+pub use laws::printed_proofs_are_answered_with_yes;
 pub use shown::{FileRole, Shown};
 pub use text::text_of;

@@ -4,9 +4,10 @@ ghost use Rattle.reports.specs.Lines.{texts_from};
 ghost use Rattle.reports.specs.Site.{answer_lines, boiler_heat, cooling_heat, least_lines, profile_line, profile_lines, total_site_text};
 
 use crate::cut::stuck_text;
-use crate::flow::{certificate_lines, utility_heat};
+use crate::flow::certificate_lines;
 use crate::line::{line, number_at};
 use crate::names::{SourceNames, site_names};
+use certify::utility_heat;
 use grid::Parts;
 use heat_flow::{Prices, Transfer};
 use site::{Site, SiteTable};

@@ -223,3 +223,15 @@ fn the_files_of_a_report_are_blamed_in_their_order(rt: HostRuntime) -> Result<()
     }
     Ok(())
 }
+
+/// So many lines of 8 bytes are within the limit of a file.
+const MANY_LINES: usize = 1_000_000;
+
+#[test]
+fn a_report_of_a_million_lines_is_answered(rt: HostRuntime) -> Result<(), Fail> {
+    let mut report = String::from_str(rt.alloc(), "cost 0\n")?;
+    for _ in 0..MANY_LINES {
+        report.push_str("use A 1\n")?;
+    }
+    check_report(&rt, FOUR_STREAM, report.as_str(), 1, "no Parts\n")
+}

@@ -1,0 +1,204 @@
+-- How large sums over the parts of a side are: there is one part for each utility, and the parts of streams are small or free.
+use Rattle.std.proofs.Common.{◌≡◌, ⊎_elim, inl, inr, ◌∙◌, refl, sym, ap, subst, ℕ, suc, ◌+◌, ◌*◌, ◌≤◌, List, [], ◌∷◌, length, get_or, Some, slice_get, arith, add-zero, zero-add}
+use Rattle.std.specs.Prelude.{ℤ, pos, ◌+ℤ◌, ◌-ℤ◌, ◌*ℤ◌, ◌≤ℤ◌, if◌then◌else◌, Contains}
+use Rattle.std.proofs.lemmas.Bool.{cases_Bool}
+use Rattle.std.proofs.lemmas.Int.{ints}
+use Rattle.stream_case.specs.Case.{IsComplete}
+use Rattle.stream_case.specs.Source.{is_stream, same_side}
+use Rattle.stream_case.specs.Stream.{IsValidStream}
+use Rattle.stream_case.specs.Utility.{shifted_level}
+use Rattle.stream_case.specs.declared.case.Case.{Case}
+use Rattle.stream_case.specs.declared.limits.TheConstants.{ALL_UTILITIES}
+use Rattle.stream_case.specs.declared.source.Side.{Side}
+use Rattle.stream_case.specs.declared.stream.Stream.{Stream}
+use Rattle.stream_case.specs.declared.utility.Utility.{Utility}
+use Rattle.stream_case.proofs.CompleteLemmas.{AreStreams-IsComplete, IsPlaced-IsComplete, length-utilities}
+use Rattle.stream_case.proofs.HeatLemmas.{heat-between}
+use Rattle.sums.specs.Sum.{int_sum_by, int_sum_from}
+use Rattle.sums.proofs.IntegerLemmas.{if_zero}
+use Rattle.sums.proofs.ListLemmas.{All-slice_get}
+use Rattle.sums.proofs.ProductLemmas.{product_within, zero_times}
+use Rattle.sums.proofs.SumLemmas.{int_sum_by-at_most, int_sum_by-zero}
+use Rattle.grid.specs.Bounds.{IsBounded}
+use Rattle.grid.specs.Grid.{IsGrid}
+use Rattle.grid.specs.Making.{covers, made_parts, stands_at}
+use Rattle.grid.specs.Part.{AreParts, IsPartOf, IsPiece}
+use Rattle.grid.specs.declared.part.Part.{Part}
+use Rattle.grid.proofs.MakingLemmas.{AreParts-made, HoldsPlaces-IsGrid, holds_levels}
+use Rattle.grid.proofs.PlaceLemmas.{interval_falls}
+use Rattle.grid.proofs.RunLemmas.{latent_run, level_run, level_run-is, stream_run, sum-made}
+use Rattle.grid.proofs.SizeLemmas.{IsLength-covered, IsSide, IsSide-made, length-grid, load-between}
+use Rattle.heat_flow.specs.Flow.{KeepsRanges, heat_at, side_cost}
+use Rattle.heat_flow.specs.Ranges.{IsWithin}
+use Rattle.heat_flow.specs.declared.flow.Transfer.{Transfer}
+
+-- ---- sums of weights
+
+-- so much for the part of a stream, and so much for that of a utility
+abbrev pub weight : ℕ → ℕ → Part → ℤ
+weight a b p = if is_stream p.source then pos a else pos b
+
+abbrev pub utility_parts : List Part → ℕ
+utility_parts [] = 0
+utility_parts (p ∷ ps) = (if is_stream p.source then 0 else 1) + utility_parts ps
+
+pub sum_within : (f : ℕ → Part → ℤ) (a b n : ℕ) (parts : List Part)
+    → ((i : ℕ) (p : Part) → slice_get parts i ≡ Some p → IsWithin (weight a b p) (f (n + i) p))
+    → IsWithin (pos (a * length parts + b * utility_parts parts)) (int_sum_from f n parts)
+sum_within f a b n [] each = record { from = omega (arith, ints); upto = omega (arith, ints) }
+sum_within f a b n (p ∷ ps) each =
+    let first : IsWithin (weight a b p) (f n p) = subst (λ k. IsWithin (weight a b p) (f k p)) (add-zero n) (each 0 p refl) in
+    let rest = sum_within f a b (suc n) ps (λ i q at. subst (λ k. IsWithin (weight a b q) (f k q)) {x = n + suc i} {y = suc n + i} (omega arith) (each (suc i) q at)) in
+    let rest_from = rest.from in let rest_upto = rest.upto in
+    ⊎_elim
+    (λ stream.
+    let bound : IsWithin (pos a) (f n p) = subst (λ s. IsWithin (if s then pos a else pos b) (f n p)) stream first in
+    let count : utility_parts (p ∷ ps) ≡ utility_parts ps = ap (λ s. (if s then 0 else 1) + utility_parts ps) stream ∙ zero-add (utility_parts ps) in
+    let product : a * length (p ∷ ps) + b * utility_parts (p ∷ ps) ≡ a + (a * length ps + b * utility_parts ps) = ap (λ u. a * length (p ∷ ps) + b * u) count ∙ omega arith in
+    let from = bound.from in let upto = bound.upto in
+    record { from = omega (arith, ints); upto = omega (arith, ints) })
+    (λ utility.
+    let bound : IsWithin (pos b) (f n p) = subst (λ s. IsWithin (if s then pos a else pos b) (f n p)) utility first in
+    let count : utility_parts (p ∷ ps) ≡ 1 + utility_parts ps = ap (λ s. (if s then 0 else 1) + utility_parts ps) utility in
+    let product : a * length (p ∷ ps) + b * utility_parts (p ∷ ps) ≡ a + (b + (a * length ps + b * utility_parts ps)) =
+    ap (λ u. a * length (p ∷ ps) + b * u) count ∙ omega arith in
+    let from = bound.from in let upto = bound.upto in
+    record { from = omega (arith, ints); upto = omega (arith, ints) })
+    (cases_Bool (is_stream p.source))
+
+-- ---- how many parts there are
+
+count_is : (ps : List Part) → int_sum_by (weight 0 1) ps ≡ pos (utility_parts ps)
+count_is [] = refl
+count_is (p ∷ ps) =
+    let rest = count_is ps in
+    ⊎_elim
+    (λ stream.
+    let first : weight 0 1 p ≡ pos 0 = ap (λ s. if s then pos 0 else pos 1) stream in
+    let count : utility_parts (p ∷ ps) ≡ 0 + utility_parts ps = ap (λ s. (if s then 0 else 1) + utility_parts ps) stream in
+    omega (arith, ints))
+    (λ utility.
+    let first : weight 0 1 p ≡ pos 1 = ap (λ s. if s then pos 0 else pos 1) utility in
+    let count : utility_parts (p ∷ ps) ≡ 1 + utility_parts ps = ap (λ s. (if s then 0 else 1) + utility_parts ps) utility in
+    omega (arith, ints))
+    (cases_Bool (is_stream p.source))
+
+-- streams count for nothing
+abbrev nothing : ℤ → ℤ → Stream → ℤ
+nothing high low s = pos 0
+
+no_levels : (side : Side) (s : Stream) (places : List ℤ) → latent_run nothing side s places ≡ pos 0
+no_levels side s [] = refl
+no_levels side s (g ∷ places) = let rest = no_levels side s places in let first = if_zero (stands_at side g s) (pos 0) refl in omega (arith, ints)
+
+no_intervals : (side : Side) (s : Stream) (places : List ℤ) → stream_run nothing side s places ≡ pos 0
+no_intervals side s [] = refl
+no_intervals side s (g ∷ []) = refl
+no_intervals side s (g ∷ low ∷ places) =
+    let rest = no_intervals side s (low ∷ places) in let first = if_zero (covers side g low s) (pos 0) refl in omega (arith, ints)
+
+-- ---- the parts of a side of a completed case
+
+-- no part can give or take more, in W
+abbrev pub most_of_stream : ℕ
+most_of_stream = 20000000000
+
+abbrev pub most_of_utility : ℕ
+most_of_utility = 1000000000000
+
+abbrev most_cost_of_utility : ℕ
+most_cost_of_utility = 1000000 * 1000000000000
+
+module _ (c : Case) (complete : IsComplete c) (grid : List ℤ) (is_grid : IsGrid c grid) (side : Side) (parts : List Part)
+    (are : AreParts c.streams c.utilities grid side parts) where
+  made : parts ≡ made_parts c.streams c.utilities side grid
+  made = AreParts-made c.streams c.utilities side grid parts (HoldsPlaces-IsGrid c grid is_grid) are
+
+  pub of_side : IsSide c.streams c.utilities side grid parts
+  of_side =
+      IsSide-made c.streams c.utilities side grid parts (AreStreams-IsComplete c complete) (IsPlaced-IsComplete c complete) (length-utilities c complete)
+      (HoldsPlaces-IsGrid c grid is_grid) (length-grid c grid complete is_grid) made
+
+  pub few_utility_parts : utility_parts parts ≤ ALL_UTILITIES
+  few_utility_parts =
+      let holds = HoldsPlaces-IsGrid c grid is_grid in
+      let count = count_is (made_parts c.streams c.utilities side grid) in
+      let exchanged = sum-made (weight 0 1) nothing (λ u. pos 1) (λ high low i s. refl) (λ i u. refl) c.streams c.utilities side grid in
+      let levels = int_sum_by-at_most (λ u. level_run (λ v. pos 1) side u grid) 1 c.utilities
+      (λ k d within. one_level (get_or c.utilities k d) (holds_levels c.streams c.utilities grid holds k d within)) in
+      let runs = int_sum_by-zero (λ s. latent_run nothing side s grid +ℤ stream_run nothing side s grid) c.streams
+      (λ k d within. let a = no_levels side (get_or c.streams k d) grid in let b = no_intervals side (get_or c.streams k d) grid in omega (arith, ints)) in
+      let few = length-utilities c complete in
+      let same : utility_parts parts ≡ utility_parts (made_parts c.streams c.utilities side grid) = ap utility_parts made in
+      omega (arith, ints)
+    where
+      one_level : (u : Utility) → Contains grid (shifted_level u) → level_run (λ v. pos 1) side u grid ≤ℤ pos 1
+      one_level u found =
+          let is = level_run-is (λ v. pos 1) side u grid (HoldsPlaces-IsGrid c grid is_grid).falls found in
+          ⊎_elim (λ same. let here = ap (λ b. if b then pos 1 else pos 0) same in omega (arith, ints))
+          (λ other. let here = ap (λ b. if b then pos 1 else pos 0) other in omega (arith, ints)) (cases_Bool (same_side u.side side))
+
+  -- ---- sums of heats
+
+  most_within : (p : Part) → IsBounded p → IsPartOf c.streams c.utilities grid side p → p.most ≤ℤ weight most_of_stream most_of_utility p
+  most_within p bounded (inl (i, s, h)) =
+      let valid = (AreStreams-IsComplete c complete).each in
+      let own = All-slice_get IsValidStream c.streams i s valid h.stream in
+      let length = IsLength-covered s p.high p.low own (order h.piece) h.from h.upto in
+      let product = heat-between s (p.high -ℤ p.low) own length in let load = load-between s own.heat in
+      let upto = product.upto in let most = load.upto in
+      let is = ap (λ (q : Part). q.most) h.is in
+      let stream = ap (λ (q : Part). weight most_of_stream most_of_utility q) h.is in
+      omega (arith, ints)
+    where
+      order : IsPiece grid s p.high p.low → p.low ≤ℤ p.high
+      order (inl interval) = let falls = interval_falls grid p.high p.low (HoldsPlaces-IsGrid c grid is_grid).falls interval in omega (arith, ints)
+      order (inr (latent, same)) = omega (arith, ints)
+  most_within p bounded (inr (i, u, h)) =
+      let most = bounded.most.upto in
+      let utility = ap (λ (q : Part). weight most_of_stream most_of_utility q) h.is in
+      omega (arith, ints)
+
+  -- amounts that are each at most what their part can give or take
+  pub heats_within : (f : ℕ → Part → ℤ) → ((i : ℕ) (p : Part) → slice_get parts i ≡ Some p → (pos 0 ≤ℤ f i p) × (f i p ≤ℤ p.most))
+      → IsWithin (pos 1000000000000000) (int_sum_from f 0 parts)
+  heats_within f each =
+      let sum = sum_within f most_of_stream most_of_utility 0 parts (λ i p at.
+      let own = each i p at in
+      let most = most_within p (All-slice_get IsBounded parts i p of_side.bounded at)
+      (All-slice_get (IsPartOf c.streams c.utilities grid side) parts i p are.each at) in
+      let bound : IsWithin (weight most_of_stream most_of_utility p) (f i p) =
+      let from = own.0 in let upto = own.1 in record { from = omega (arith, ints); upto = omega (arith, ints) } in
+      subst (λ k. IsWithin (weight most_of_stream most_of_utility p) (f k p)) (sym (zero-add i)) bound) in
+      let few = of_side.few in let few_utilities = few_utility_parts in
+      let from = sum.from in let upto = sum.upto in
+      record { from = omega (arith, ints); upto = omega (arith, ints) }
+
+  -- ---- costs
+
+  cost_within : (ts : List Transfer) → KeepsRanges side parts ts → (i : ℕ) (p : Part) → slice_get parts i ≡ Some p
+      → IsWithin (weight 0 most_cost_of_utility p) (p.price *ℤ heat_at side ts i)
+  cost_within ts ranges i p at =
+      let own = All-slice_get IsBounded parts i p of_side.bounded at in let heat = ranges i p at in
+      by (All-slice_get (IsPartOf c.streams c.utilities grid side) parts i p are.each at) own heat.from heat.upto
+    where
+      by : IsPartOf c.streams c.utilities grid side p → IsBounded p → p.least ≤ℤ heat_at side ts i → heat_at side ts i ≤ℤ p.most
+          → IsWithin (weight 0 most_cost_of_utility p) (p.price *ℤ heat_at side ts i)
+      by (inl (j, s, h)) own from upto =
+          let free = zero_times p.price (heat_at side ts i) (ap (λ (q : Part). q.price) h.is) in
+          let stream = ap (λ (q : Part). weight 0 most_cost_of_utility q) h.is in
+          record { from = omega (arith, ints); upto = omega (arith, ints) }
+      by (inr (j, u, h)) own from upto =
+          let least = own.least.from in let most = own.most.upto in
+          let bound = product_within p.price (heat_at side ts i) 1000000 1000000000000 own.price.from own.price.upto (omega (arith, ints)) (omega (arith, ints)) in
+          let utility = ap (λ (q : Part). weight 0 most_cost_of_utility q) h.is in
+          let low = bound.0 in let high = bound.1 in
+          record { from = omega (arith, ints); upto = omega (arith, ints) }
+
+  pub side_cost_within : (ts : List Transfer) → KeepsRanges side parts ts → IsWithin (pos 13000000000000000000) (side_cost side parts ts)
+  side_cost_within ts ranges =
+      let sum = sum_within (λ a p. p.price *ℤ heat_at side ts a) 0 most_cost_of_utility 0 parts (λ i p at.
+      subst (λ k. IsWithin (weight 0 most_cost_of_utility p) (p.price *ℤ heat_at side ts k)) (sym (zero-add i)) (cost_within ts ranges i p at)) in
+      let few_utilities = few_utility_parts in
+      let from = sum.from in let upto = sum.upto in
+      record { from = omega (arith, ints); upto = omega (arith, ints) }
