@@ -42,15 +42,18 @@ use Rattle.pinch.proofs.Formats.{lawful_case, lawful_report}
 
 -- ---- a report has one answer
 
-first_yes : (causes : List NoWhy) (Holds : NoWhy → Type 0) (checked : Checked) → IsFirstOf causes Holds Yes → IsFirstOf causes Holds checked → checked ≡ Yes
+first_yes : (causes : List NoWhy) (Holds : NoWhy → Type 0) (checked : Checked)
+    → IsFirstOf causes Holds Yes → IsFirstOf causes Holds checked → checked ≡ Yes
 first_yes causes Holds Yes passes is = refl
 first_yes [] Holds (No why) passes is = absurd is
 first_yes (cause ∷ causes) Holds (No why) passes (inl fails) = absurd (fails.1 passes.0)
 first_yes (cause ∷ causes) Holds (No why) passes (inr later) = first_yes causes Holds (No why) passes.1 later.1
 
 yes_over : (c : Case) (hot cold : List Part) (r : Report) (checked : Checked) → IsAnswerOver c hot cold r Yes → IsAnswerOver c hot cold r checked → checked ≡ Yes
-yes_over c hot cold (report.Flow cost uses moves gives takes) checked passes is = first_yes flow_causes (HoldsOfFlow c hot cold cost uses moves gives takes) checked passes is
-yes_over c hot cold (report.Cut kind need offer parts) checked passes is = first_yes cut_causes (HoldsOfCut c hot cold kind need offer parts) checked passes is
+yes_over c hot cold (report.Flow cost uses moves gives takes) checked passes is =
+    first_yes flow_causes (HoldsOfFlow c hot cold cost uses moves gives takes) checked passes is
+yes_over c hot cold (report.Cut kind need offer parts) checked passes is =
+    first_yes cut_causes (HoldsOfCut c hot cold kind need offer parts) checked passes is
 
 only_yes : (c : Case) (r : Report) (checked : Checked) → IsAnswer c r Yes → IsAnswer c r checked → checked ≡ Yes
 only_yes c r checked passes is =
@@ -83,7 +86,7 @@ unfolding reading_of EndsIn
 certified (Some (command.Certify case report)) old new shown is proof no_fault =
     let valid = case-is_valid (rows_of proof.bytes) proof.value proof.says in
     let held : HoldsText case_file old.files case (λ c. IsComplete (completed c) × HoldsProof old.files report (completed c)) =
-        record { bytes = proof.bytes; file = proof.file; value = proof.value; says = proof.says; then = ((proof.value, valid, refl), proof.then) } in
+    record { bytes = proof.bytes; file = proof.file; value = proof.value; says = proof.says; then = ((proof.value, valid, refl), proof.then) } in
     of_held case_file lawful_case case old new is.end no_fault (λ c. IsComplete (completed c) × HoldsProof old.files report (completed c)) _
     (status_of shown ≡ Answered) held
     (λ mid c keeps then ends.
