@@ -27,8 +27,8 @@ use Rattle.pinch.specs.Answers.{Answers, Shows, ShowsCommand}
 use Rattle.pinch.specs.Case.{case_file}
 use Rattle.pinch.specs.Complete.{Holds, HoldsText}
 use Rattle.pinch.specs.Files.{EndsIn}
-use Rattle.pinch.specs.Flow.{shown_answer}
-use Rattle.pinch.specs.Proofs.{ChecksProof, FlowsAreProofs, HoldsProof}
+use Rattle.pinch.specs.Flow.{AnswersFlow, IsCaseAnswer, shown_answer}
+use Rattle.pinch.specs.Proofs.{ChecksProof, HoldsProof}
 use Rattle.pinch.specs.Reading.{file, reading_of, ready}
 use Rattle.pinch.specs.Report.{IsCheckOf, report_file, shown_check}
 use Rattle.pinch.specs.Status.{status_of}
@@ -101,6 +101,11 @@ answer_proof : (c : Case) (parts : Parts) (a : Answer) → AreCaseParts c parts.
 answer_proof c parts (answer.Least flow prices cost) are is = (refl, are, is.certified)
 answer_proof c parts (answer.Stuck cut) are is = (refl, are, is.cut)
 
-pub flows-prove : FlowsAreProofs
-flows-prove case shown is =
-    subst (IsProofOf (completed case)) (sym is.is) (answer_proof (completed case) is.parts is.answer is.is_answer.parts_are is.is_answer.answers)
+pub answered : (c : Case) (parts : Parts) (a : Answer) (shown : Shown) → IsCaseAnswer c parts a → shown ≡ shown_answer c parts a → AnswersFlow c shown
+answered c parts a shown is_answer is = record {
+  parts = parts;
+  answer = a;
+  is_answer = is_answer;
+  is = is;
+  proof = subst (IsProofOf c) (sym is) (answer_proof c parts a is_answer.parts_are is_answer.answers);
+}
