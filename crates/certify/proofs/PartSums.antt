@@ -1,8 +1,9 @@
 -- How large sums over the parts of a side are: there is one part for each utility, and the parts of streams are small or free.
-use Rattle.std.proofs.Common.{◌≡◌, ⊎_elim, inl, inr, ◌∙◌, refl, sym, ap, subst, ℕ, suc, ◌+◌, ◌*◌, ◌≤◌, List, [], ◌∷◌, length, get_or, Some, slice_get, arith, add-zero, zero-add}
-use Rattle.std.specs.Prelude.{ℤ, pos, ◌+ℤ◌, ◌-ℤ◌, ◌*ℤ◌, ◌≤ℤ◌, if◌then◌else◌, Contains}
-use Rattle.std.proofs.lemmas.Bool.{cases_Bool}
+use Rattle.std.proofs.Common.{◌≡◌, ⊎_elim, inl, inr, ◌∙◌, refl, sym, ap, subst, ℕ, suc, ◌+◌, ◌*◌, ◌<◌, ◌≤◌, List, [], ◌∷◌, length, get_or, Some, slice_get, arith, add-zero, zero-add}
+use Rattle.std.specs.Prelude.{ℤ, pos, ◌+ℤ◌, ◌-ℤ◌, ◌*ℤ◌, ◌<ℤ◌, ◌≤ℤ◌, if◌then◌else◌, Contains}
+use Rattle.std.proofs.lemmas.Bool.{cases_Bool, cases_lt}
 use Rattle.std.proofs.lemmas.Int.{ints}
+use Rattle.std.proofs.lemmas.Option.{slice_get_past}
 use Rattle.stream_case.specs.Case.{IsComplete}
 use Rattle.stream_case.specs.Source.{is_stream, same_side}
 use Rattle.stream_case.specs.Stream.{IsValidStream}
@@ -28,6 +29,7 @@ use Rattle.grid.proofs.MakingLemmas.{AreParts-made, HoldsPlaces-IsGrid, holds_le
 use Rattle.grid.proofs.PlaceLemmas.{interval_falls}
 use Rattle.grid.proofs.RunLemmas.{latent_run, level_run, level_run-is, stream_run, sum-made}
 use Rattle.grid.proofs.SizeLemmas.{IsLength-covered, IsSide, IsSide-made, length-grid, load-between}
+use Rattle.heat_flow.specs.Cuts.{least_at}
 use Rattle.heat_flow.specs.Flow.{KeepsRanges, heat_at, side_cost}
 use Rattle.heat_flow.specs.Ranges.{IsWithin}
 use Rattle.heat_flow.specs.declared.flow.Transfer.{Transfer}
@@ -48,13 +50,15 @@ pub sum_within : (f : ℕ → Part → ℤ) (a b n : ℕ) (parts : List Part)
 sum_within f a b n [] each = record { from = omega (arith, ints); upto = omega (arith, ints) }
 sum_within f a b n (p ∷ ps) each =
     let first : IsWithin (weight a b p) (f n p) = subst (λ k. IsWithin (weight a b p) (f k p)) (add-zero n) (each 0 p refl) in
-    let rest = sum_within f a b (suc n) ps (λ i q at. subst (λ k. IsWithin (weight a b q) (f k q)) {x = n + suc i} {y = suc n + i} (omega arith) (each (suc i) q at)) in
+    let rest = sum_within f a b (suc n) ps (λ i q at.
+    subst (λ k. IsWithin (weight a b q) (f k q)) {x = n + suc i} {y = suc n + i} (omega arith) (each (suc i) q at)) in
     let rest_from = rest.from in let rest_upto = rest.upto in
     ⊎_elim
     (λ stream.
     let bound : IsWithin (pos a) (f n p) = subst (λ s. IsWithin (if s then pos a else pos b) (f n p)) stream first in
     let count : utility_parts (p ∷ ps) ≡ utility_parts ps = ap (λ s. (if s then 0 else 1) + utility_parts ps) stream ∙ zero-add (utility_parts ps) in
-    let product : a * length (p ∷ ps) + b * utility_parts (p ∷ ps) ≡ a + (a * length ps + b * utility_parts ps) = ap (λ u. a * length (p ∷ ps) + b * u) count ∙ omega arith in
+    let product : a * length (p ∷ ps) + b * utility_parts (p ∷ ps) ≡ a + (a * length ps + b * utility_parts ps) =
+    ap (λ u. a * length (p ∷ ps) + b * u) count ∙ omega arith in
     let from = bound.from in let upto = bound.upto in
     record { from = omega (arith, ints); upto = omega (arith, ints) })
     (λ utility.
@@ -65,6 +69,12 @@ sum_within f a b n (p ∷ ps) each =
     let from = bound.from in let upto = bound.upto in
     record { from = omega (arith, ints); upto = omega (arith, ints) })
     (cases_Bool (is_stream p.source))
+
+-- a part that has to have some heat is there
+pub needing-within : (parts : List Part) (i : ℕ) → pos 0 <ℤ least_at parts i → i < length parts
+needing-within parts i some =
+    ⊎_elim (λ within. within) (λ past. let none = slice_get_past parts i past in absurd (omega (arith, ints, rw none at some)))
+    (cases_lt i (length parts))
 
 -- ---- how many parts there are
 
@@ -190,7 +200,8 @@ module _ (c : Case) (complete : IsComplete c) (grid : List ℤ) (is_grid : IsGri
           record { from = omega (arith, ints); upto = omega (arith, ints) }
       by (inr (j, u, h)) own from upto =
           let least = own.least.from in let most = own.most.upto in
-          let bound = product_within p.price (heat_at side ts i) 1000000 1000000000000 own.price.from own.price.upto (omega (arith, ints)) (omega (arith, ints)) in
+          let bound = product_within p.price (heat_at side ts i) 1000000 1000000000000 own.price.from own.price.upto
+          (omega (arith, ints)) (omega (arith, ints)) in
           let utility = ap (λ (q : Part). weight 0 most_cost_of_utility q) h.is in
           let low = bound.0 in let high = bound.1 in
           record { from = omega (arith, ints); upto = omega (arith, ints) }

@@ -2,11 +2,11 @@
 use Rattle.std.proofs.Common.{◌≡◌, ◌⊎◌, ⊎_elim, inl, inr, ◌∙◌, ◌<◌, ◌+◌, ◌==◌, refl, sym, ap, subst, ℕ, suc, Bool, true, false, List, [], ◌∷◌, length, map, get_or, Some, slice_get, is_some, arith, add-zero, zero-add}
 use Rattle.std.specs.Prelude.{ℤ, pos, ◌*ℤ◌, ◌<ℤ◌, if◌then◌else◌, All, AllPairs, Contains}
 use Rattle.std.specs.Option.{option_map_or}
-use Rattle.std.proofs.lemmas.Bool.{cases_Bool, cases_lt}
+use Rattle.std.proofs.lemmas.Bool.{cases_Bool}
 use Rattle.std.proofs.lemmas.Bool.Decides.{nat_tests}
 use Rattle.std.proofs.lemmas.Int.{ints}
 use Rattle.std.proofs.lemmas.List.Elements.{All-append, All-cons, All-contains, All-map, All-nil, All-weaker}
-use Rattle.std.proofs.lemmas.Option.{slice_get-get_or, slice_get_past, slice_get_within}
+use Rattle.std.proofs.lemmas.Option.{slice_get-get_or, slice_get_within}
 use Rattle.stream_case.specs.Case.{IsComplete}
 use Rattle.stream_case.specs.Limits.{IsPartPrice, IsShifted}
 use Rattle.stream_case.specs.Stream.{stream_ends}
@@ -45,10 +45,11 @@ use Rattle.certify.specs.Answers.{own_parts, span_of, use_of}
 use Rattle.certify.specs.Printed.{IsMove, IsPrice, IsSpan, IsUse}
 use Rattle.certify.specs.Said.{CertifiedFlowsAreReadable, CutsAreReadable, made_from, move_of, named_at, priced_by}
 use Rattle.certify.specs.declared.limits.TheConstants.{MOST_AMOUNT, MOST_LEVEL}
-use Rattle.certify.proofs.PartSums.{heats_within, of_side, side_cost_within}
+use Rattle.certify.proofs.PartSums.{heats_within, needing-within, of_side, side_cost_within}
 
 -- what holds of all that is made of a list
-All-made_from : {X Y : Type 0} (P : Y → Type 0) (f : ℕ → X → Y) (n : ℕ) (xs : List X) → ((i : ℕ) (x : X) → slice_get xs i ≡ Some x → P (f (n + i) x)) → All P (made_from f n xs)
+All-made_from : {X Y : Type 0} (P : Y → Type 0) (f : ℕ → X → Y) (n : ℕ) (xs : List X)
+    → ((i : ℕ) (x : X) → slice_get xs i ≡ Some x → P (f (n + i) x)) → All P (made_from f n xs)
 All-made_from P f n [] each = All-nil P
 All-made_from P f n (x ∷ xs) each =
     All-cons P (f n x) (made_from f (suc n) xs) (subst (λ k. P (f k x)) (add-zero n) (each 0 x refl))
@@ -60,7 +61,8 @@ module _ (c : Case) (complete : IsComplete c) where
   places_shifted : All IsShifted (places_of c.streams c.utilities)
   places_shifted =
       All-append IsShifted (stream_ends c.streams) (map shifted_level c.utilities) (stream_ends-between c.streams (AreStreams-IsComplete c complete).each)
-      (All-map IsShifted shifted_level c.utilities (All-weaker IsPlaced (λ u. IsShifted (shifted_level u)) (λ u h. h.level) c.utilities (IsPlaced-IsComplete c complete)))
+      (All-map IsShifted shifted_level c.utilities
+      (All-weaker IsPlaced (λ u. IsShifted (shifted_level u)) (λ u h. h.level) c.utilities (IsPlaced-IsComplete c complete)))
 
   level_within : (grid : List ℤ) → IsGrid c grid → (g : ℤ) → Contains grid g → IsWithin MOST_LEVEL g
   level_within grid is_grid g found =
@@ -72,7 +74,9 @@ module _ (c : Case) (complete : IsComplete c) where
   part_span : (grid : List ℤ) → IsGrid c grid → (side : Side) (p : Part) → IsOnPlaces c grid side p → IsSpan (span_of c p)
   part_span grid is_grid side p on = record {
     name = IsName-source_name c (StaysValid-IsComplete c complete).names p.source (IsSourceOf-side c p.source (ap is_some on.source));
-    high = ⊎_elim (λ level. level_within grid is_grid p.high level.1) (λ interval. level_within grid is_grid p.high (interval_ends grid p.high p.low interval).0) on.ends;
+    high =
+        ⊎_elim (λ level. level_within grid is_grid p.high level.1)
+        (λ interval. level_within grid is_grid p.high (interval_ends grid p.high p.low interval).0) on.ends;
     low =
         ⊎_elim (λ level. subst (IsWithin MOST_LEVEL) level.0 (level_within grid is_grid p.high level.1))
         (λ interval. level_within grid is_grid p.low (interval_ends grid p.high p.low interval).1) on.ends;
@@ -92,7 +96,9 @@ module _ (c : Case) (complete : IsComplete c) where
       })
     where
       priced : (i : ℕ) → i < length prices → IsWithin MOST_AMOUNT (price_at prices i)
-      priced i inside = let own = within i (pos 0) inside in let from = own.from in let upto = own.upto in record { from = omega (arith, ints); upto = omega (arith, ints) }
+      priced i inside =
+          let own = within i (pos 0) inside in let from = own.from in let upto = own.upto in
+          record { from = omega (arith, ints); upto = omega (arith, ints) }
 
 -- ---- the heat of a utility
 
@@ -102,7 +108,8 @@ times_one false heat = omega (arith, ints)
 
 module _ (c : Case) (complete : IsComplete c) (grid : List ℤ) (is_grid : IsGrid c grid) (side : Side) (parts : List Part)
     (are : AreParts c.streams c.utilities grid side parts) where
-  utility_within : (number : ℕ) (ts : List Transfer) → HaveParts side parts ts → KeepsRanges side parts ts → IsWithin MOST_AMOUNT (utility_heat number side parts ts)
+  utility_within : (number : ℕ) (ts : List Transfer) → HaveParts side parts ts → KeepsRanges side parts ts
+      → IsWithin MOST_AMOUNT (utility_heat number side parts ts)
   utility_within number ts indexes ranges =
       let own = λ (a : ℕ). if is_of_utility number parts a then pos 1 else pos 0 in
       let grouped = int_sum_from-grouped (part_index side) (λ t. t.heat) own parts ts indexes in
@@ -118,25 +125,25 @@ module _ (c : Case) (complete : IsComplete c) (grid : List ℤ) (is_grid : IsGri
 
   -- ---- what members of a cut need
 
-  need_within : (members : List ℕ) → AllPairs (λ i j. i < j) members → All (λ i. pos 0 <ℤ least_at parts i) members → IsWithin MOST_AMOUNT (need_of parts members)
+  need_within : (members : List ℕ) → AllPairs (λ i j. i < j) members → All (λ i. pos 0 <ℤ least_at parts i) members
+      → IsWithin MOST_AMOUNT (need_of parts members)
   need_within members rising needing =
-      let inside : All (λ m. m < length parts) members = λ k d within. needing_within (get_or members k d) (needing k d within) in
+      let inside : All (λ m. m < length parts) members = λ k d within. needing-within parts (get_or members k d) (needing k d within) in
       let grouped = int_sum_from-grouped (λ (m : ℕ). m) (λ m. pos 1) (least_at parts) parts members inside in
       let same = int_sum_by-same (λ m. least_at parts m *ℤ pos 1) (least_at parts) members (λ k d within. omega (arith, ints)) in
       subst (IsWithin MOST_AMOUNT) (grouped ∙ same)
-      (heats_within c complete grid is_grid side parts are (λ a p. least_at parts a *ℤ int_sum_by (λ m. if m == a then pos 1 else pos 0) members) (λ i p at.
+      (heats_within c complete grid is_grid side parts are
+      (λ a p. least_at parts a *ℤ int_sum_by (λ m. if m == a then pos 1 else pos 0) members) (λ i p at.
       let bounded = All-slice_get IsBounded parts i p (of_side c complete grid is_grid side parts are).bounded at in
       let least : least_at parts i ≡ p.least = ap (λ o. option_map_or (λ (q : Part). q.least) o (pos 0)) at in
       let from = bounded.least.from in let most = bounded.most.from in
       ⊎_elim
-      (λ none. let term = ap (λ n. least_at parts i *ℤ n) none in let zero_term : least_at parts i *ℤ pos 0 ≡ pos 0 = omega (arith, ints) in (omega (arith, ints), omega (arith, ints)))
-      (λ one. let term = ap (λ n. least_at parts i *ℤ n) one in let own_term : least_at parts i *ℤ pos 1 ≡ least_at parts i = omega (arith, ints) in (omega (arith, ints), omega (arith, ints)))
+      (λ none. let term = ap (λ n. least_at parts i *ℤ n) none in
+      let zero_term : least_at parts i *ℤ pos 0 ≡ pos 0 = omega (arith, ints) in (omega (arith, ints), omega (arith, ints)))
+      (λ one. let term = ap (λ n. least_at parts i *ℤ n) one in
+      let own_term : least_at parts i *ℤ pos 1 ≡ least_at parts i = omega (arith, ints) in (omega (arith, ints), omega (arith, ints)))
       (once i members rising)))
     where
-      needing_within : (i : ℕ) → pos 0 <ℤ least_at parts i → i < length parts
-      needing_within i some =
-          ⊎_elim (λ within. within) (λ past. let none = slice_get_past parts i past in absurd (omega (arith, ints, rw none at some))) (cases_lt i (length parts))
-
       one_more : (a m : ℕ) (ms : List ℕ) → All (λ n. m < n) ms → m ≡ a → int_sum_by (λ n. if n == a then pos 1 else pos 0) ms ≡ pos 0
       one_more a m ms later here =
           int_sum_by-zero (λ n. if n == a then pos 1 else pos 0) ms (λ k d within.
@@ -170,10 +177,13 @@ module _ (c : Case) (complete : IsComplete c) (grid : List ℤ) (is_grid : IsGri
 -- ---- the reports
 
 module _ (c : Case) (complete : IsComplete c) (hot cold : List Part) (are : AreCaseParts c hot cold) where
-  use_within : (side : Side) (number : ℕ) (ts : List Transfer) → HaveParts Hot hot ts → HaveParts Cold cold ts → KeepsRanges Hot hot ts → KeepsRanges Cold cold ts
+  use_within : (side : Side) (number : ℕ) (ts : List Transfer) → HaveParts Hot hot ts → HaveParts Cold cold ts
+      → KeepsRanges Hot hot ts → KeepsRanges Cold cold ts
       → IsWithin MOST_AMOUNT (utility_heat number side (parts_of side hot cold) ts)
-  use_within Hot number ts hots colds hot_ranges cold_ranges = utility_within c complete are.grid are.is_grid Hot hot are.hot_parts number ts hots hot_ranges
-  use_within Cold number ts hots colds hot_ranges cold_ranges = utility_within c complete are.grid are.is_grid Cold cold are.cold_parts number ts colds cold_ranges
+  use_within Hot number ts hots colds hot_ranges cold_ranges =
+      utility_within c complete are.grid are.is_grid Hot hot are.hot_parts number ts hots hot_ranges
+  use_within Cold number ts hots colds hot_ranges cold_ranges =
+      utility_within c complete are.grid are.is_grid Cold cold are.cold_parts number ts colds cold_ranges
 
   utility_name : (i : ℕ) (u : Utility) → slice_get c.utilities i ≡ Some u → IsUse (record { name = u.name; heat = pos 0 })
   utility_name i u at = record {
@@ -181,22 +191,20 @@ module _ (c : Case) (complete : IsComplete c) (hot cold : List Part) (are : AreC
     heat = record { from = omega (arith, ints); upto = omega (arith, ints) };
   }
 
-  needs : (kind : CutKind) (members : List ℕ) → AllPairs (λ i j. i < j) members → All (λ i. pos 0 <ℤ least_at (parts_of (cut_side kind) hot cold) i) members
+  needs : (kind : CutKind) (members : List ℕ) → AllPairs (λ i j. i < j) members
+      → All (λ i. pos 0 <ℤ least_at (parts_of (cut_side kind) hot cold) i) members
       → IsWithin MOST_AMOUNT (need_of (parts_of (cut_side kind) hot cold) members)
   needs Demand members = need_within c complete are.grid are.is_grid Cold cold are.cold_parts members
   needs Supply members = need_within c complete are.grid are.is_grid Hot hot are.hot_parts members
 
-  offers : (kind : CutKind) (reach : ℕ → ℕ → Bool) (members : List ℕ) → IsWithin MOST_AMOUNT (offer_of (cut_side kind) reach (parts_of (opposite (cut_side kind)) hot cold) members)
+  offers : (kind : CutKind) (reach : ℕ → ℕ → Bool) (members : List ℕ)
+      → IsWithin MOST_AMOUNT (offer_of (cut_side kind) reach (parts_of (opposite (cut_side kind)) hot cold) members)
   offers Demand reach members = offer_within c complete are.grid are.is_grid Hot hot are.hot_parts Cold reach members
   offers Supply reach members = offer_within c complete are.grid are.is_grid Cold cold are.cold_parts Hot reach members
 
   member_span : (kind : CutKind) (i : ℕ) → pos 0 <ℤ least_at (parts_of (cut_side kind) hot cold) i → IsSpan (named_at c (own_parts c hot cold kind) i)
-  member_span kind i some = by kind (needing_within (parts_of (cut_side kind) hot cold) some)
+  member_span kind i some = by kind (needing-within (parts_of (cut_side kind) hot cold) i some)
     where
-      needing_within : (parts : List Part) → pos 0 <ℤ least_at parts i → i < length parts
-      needing_within parts some =
-          ⊎_elim (λ within. within) (λ past. let none = slice_get_past parts i past in absurd (omega (arith, ints, rw none at some))) (cases_lt i (length parts))
-
       by : (kind : CutKind) → i < length (parts_of (cut_side kind) hot cold) → IsSpan (named_at c (own_parts c hot cold kind) i)
       by Demand within = let on = parts_on_grid c hot cold are in named_span c complete on.grid on.is_grid Cold cold on.cold_parts i within
       by Supply within = let on = parts_on_grid c hot cold are in named_span c complete on.grid on.is_grid Hot hot on.hot_parts i within
@@ -209,7 +217,8 @@ flows-readable c hot cold ts y z cost complete are h =
     let cold_cost = side_cost_within c complete are.grid are.is_grid Cold cold are.cold_parts ts flow.cold_ranges in
     let hot_from = hot_cost.from in let hot_upto = hot_cost.upto in let cold_from = cold_cost.from in let cold_upto = cold_cost.upto in
     let costs = h.costs in
-    let heats = transfers_within hot cold ts (of_side c complete are.grid are.is_grid Hot hot are.hot_parts).bounded (HasCost-flow (reach_between c hot cold) hot cold ts flow) in (
+    let heats = transfers_within hot cold ts (of_side c complete are.grid are.is_grid Hot hot are.hot_parts).bounded
+    (HasCost-flow (reach_between c hot cold) hot cold ts flow) in (
       record { from = omega (arith, ints); upto = omega (arith, ints) },
       All-made_from IsUse (use_of hot cold ts) 0 c.utilities (λ i u at. record {
         name = (utility_name c complete hot cold are i u at).name;
@@ -230,5 +239,6 @@ pub cuts-readable : CutsAreReadable
 cuts-readable c hot cold cut complete are h = (
   subst (IsWithin MOST_AMOUNT) (sym h.need) (needs c complete hot cold are cut.kind cut.parts h.parts.ordered h.parts.needing),
   subst (IsWithin MOST_AMOUNT) (sym h.offer) (offers c complete hot cold are cut.kind (reach_between c hot cold) cut.parts),
-  All-map IsSpan (named_at c (own_parts c hot cold cut.kind)) cut.parts (λ k d within. member_span c complete hot cold are cut.kind (get_or cut.parts k d) (h.parts.needing k d within)),
+  All-map IsSpan (named_at c (own_parts c hot cold cut.kind)) cut.parts
+      (λ k d within. member_span c complete hot cold are cut.kind (get_or cut.parts k d) (h.parts.needing k d within)),
 )

@@ -1,15 +1,15 @@
 -- The reports of a certified heat flow and of a cut pass every check.
 use Rattle.std.proofs.Common.{◌≡◌, ◌∙◌, ◌<◌, ◌+◌, ◌∷◌, ⊎_elim, ℕ, zero, suc, ℤ, pos, Bool, true, false, cond, List, [], Option, None, Some, All, get_or, slice_get, position, length, nat_lt, map, is_some, refl, sym, ap, ap₂, subst, arith, add-zero, zero-add}
-use Rattle.std.specs.Prelude.{◌<ℤ◌, IsTrue}
+use Rattle.std.specs.Prelude.{IsTrue}
 use Rattle.std.specs.List.{filter_map}
 use Rattle.std.specs.Cmp.Lexicographic.{bytes_decides}
 use Rattle.std.specs.Ordering.{int_eq}
-use Rattle.std.proofs.lemmas.Bool.{cases_lt, and_from, and_parts, false_from_ne_true}
+use Rattle.std.proofs.lemmas.Bool.{and_from, and_parts, false_from_ne_true}
 use Rattle.std.proofs.lemmas.Bool.Decides.{Decides-int_eq, nat_tests}
 use Rattle.std.proofs.lemmas.Int.{ints}
 use Rattle.std.proofs.lemmas.List.Elements.{All-head, All-map, All-tail}
 use Rattle.std.proofs.lemmas.List.Sums.{position_or_len_is}
-use Rattle.std.proofs.lemmas.Option.{none-some, same_Some, slice_get-get_or, slice_get_past}
+use Rattle.std.proofs.lemmas.Option.{none-some, same_Some, slice_get-get_or}
 use Rattle.stream_case.specs.Case.{IsComplete, IsSourceOf, source_name, source_named}
 use Rattle.stream_case.specs.declared.case.Case.{Case}
 use Rattle.stream_case.specs.declared.source.Side.{Side}
@@ -21,7 +21,6 @@ use Rattle.stream_case.proofs.CompleteLemmas.{StaysValid-IsComplete}
 use Rattle.grid.specs.Part.{AreCaseParts, AreParts, comes_before, comes_before_source}
 use Rattle.grid.specs.declared.part.Part.{Part}
 use Rattle.heat_flow.specs.Certificate.{IsCertified, IsCutOf}
-use Rattle.heat_flow.specs.Cuts.{least_at}
 use Rattle.heat_flow.specs.Prices.{price_at}
 use Rattle.heat_flow.specs.Reach.{reach_between}
 use Rattle.heat_flow.specs.declared.cut.Cut.{Cut}
@@ -36,6 +35,7 @@ use Rattle.certify.specs.Said.{CertifiedFlowsPass, CutsPass, cut_report, flow_re
 use Rattle.certify.specs.declared.report.Checked.TheVariants.{Yes}
 use Rattle.certify.specs.declared.report.Priced.{Priced}
 use Rattle.certify.proofs.Firsts.{flow_first}
+use Rattle.certify.proofs.PartSums.{needing-within}
 
 -- ---- lists that are made of others
 
@@ -43,8 +43,8 @@ pub length-made_from : {X Y : Type 0} (f : ℕ → X → Y) (n : ℕ) (xs : List
 length-made_from f n [] = refl
 length-made_from f n (x ∷ xs) = ap suc (length-made_from f (suc n) xs)
 
-pub made_from-at : {X Y : Type 0} (f : ℕ → X → Y) (n : ℕ) (xs : List X) (i : ℕ) (y : Y) (x : X) → slice_get (made_from f n xs) i ≡ Some y → slice_get xs i ≡ Some x
-    → y ≡ f (n + i) x
+pub made_from-at : {X Y : Type 0} (f : ℕ → X → Y) (n : ℕ) (xs : List X) (i : ℕ) (y : Y) (x : X)
+    → slice_get (made_from f n xs) i ≡ Some y → slice_get xs i ≡ Some x → y ≡ f (n + i) x
 made_from-at f n [] i y x made at = absurd (none-some x at)
 made_from-at f n (z ∷ zs) zero y x made at = sym (same_Some (f n z) y made) ∙ ap₂ f (sym (add-zero n)) (same_Some z x at)
 made_from-at f n (z ∷ zs) (suc i) y x made at =
@@ -57,7 +57,8 @@ found_again h f (x ∷ xs) all =
     let here = All-head (λ z. h (f z) ≡ Some z) x xs all in
     rw here (ap (λ ys. x ∷ ys) (found_again h f xs (All-tail (λ z. h (f z) ≡ Some z) x xs all)))
 
-all_found : {X Y : Type 0} (h : Y → Option X) (f : X → Y) (xs : List X) → All (λ x. h (f x) ≡ Some x) xs → All (λ y. IsTrue (is_some (h y))) (map f xs)
+all_found : {X Y : Type 0} (h : Y → Option X) (f : X → Y) (xs : List X) → All (λ x. h (f x) ≡ Some x) xs
+    → All (λ y. IsTrue (is_some (h y))) (map f xs)
 all_found h f xs all = All-map (λ y. IsTrue (is_some (h y))) f xs (λ k d within. ap is_some (all k d within))
 
 -- ---- a part is found by its name and its ends
@@ -83,7 +84,8 @@ one_source c complete s t is_s is_t same =
     same_Some s t (sym (source_named-source_name c distinct s is_s) ∙ ap (source_named c) same ∙ source_named-source_name c distinct t is_t)
 
 -- a part before another has another name, or other ends
-other_span : (c : Case) → IsComplete c → (q p : Part) → IsSourceOf c q.source → IsSourceOf c p.source → comes_before q p → is_span_of c (span_of c p) q ≡ true → ⊥
+other_span : (c : Case) → IsComplete c → (q p : Part) → IsSourceOf c q.source → IsSourceOf c p.source → comes_before q p
+    → is_span_of c (span_of c p) q ≡ true → ⊥
 other_span c complete q p is_q is_p before same =
     let outer = and_parts _ _ same in let inner = and_parts _ _ outer.0 in
     let high = (Decides-int_eq p.high q.high).0 inner.0 in let low = (Decides-int_eq p.low q.low).0 inner.1 in
@@ -115,7 +117,8 @@ module _ (c : Case) (complete : IsComplete c) (grid : List ℤ) (side : Side) (p
 
 -- the prices come back
 prices_from : (c : Case) (g : ℕ → ℤ) (n : ℕ) (parts : List Part) (prices : List ℤ) → length prices ≡ length parts
-    → ((i : ℕ) → i < length prices → g (n + i) ≡ get_or prices i (pos 0)) → prices_of (made_from (λ i p. record { part = span_of c p; price = g i }) n parts) ≡ prices
+    → ((i : ℕ) → i < length prices → g (n + i) ≡ get_or prices i (pos 0))
+    → prices_of (made_from (λ i p. record { part = span_of c p; price = g i }) n parts) ≡ prices
 prices_from c g n [] [] same each = refl
 prices_from c g n [] (y ∷ ys) same each = absurd (omega (arith, same))
 prices_from c g n (p ∷ ps) [] same each = absurd (omega (arith, same))
@@ -124,7 +127,8 @@ prices_from c g n (p ∷ ps) (y ∷ ys) same each =
     ap₂ ◌∷◌ first (prices_from c g (suc n) ps ys (omega (arith, same))
     (λ i within. let index : suc n + i ≡ n + suc i = omega arith in ap g index ∙ each (suc i) (omega (arith, within))))
 
-own_amounts : (c : Case) (parts : List Part) (prices : List ℤ) → length prices ≡ length parts → prices_of (made_from (priced_by c prices) 0 parts) ≡ prices
+own_amounts : (c : Case) (parts : List Part) (prices : List ℤ) → length prices ≡ length parts
+    → prices_of (made_from (priced_by c prices) 0 parts) ≡ prices
 own_amounts c parts prices same = prices_from c (price_at prices) 0 parts prices same (λ i within. ap (price_at prices) (zero-add i))
 
 -- ---- the report of a heat flow
@@ -157,7 +161,8 @@ module _ (c : Case) (complete : IsComplete c) (hot cold : List Part) (are : AreC
 
   -- ---- the report of a cut
 
-  own_side : (kind : CutKind) (i : ℕ) → i < length (own_parts c hot cold kind) → index_of c (own_parts c hot cold kind) (named_at c (own_parts c hot cold kind) i) ≡ Some i
+  own_side : (kind : CutKind) (i : ℕ) → i < length (own_parts c hot cold kind)
+      → index_of c (own_parts c hot cold kind) (named_at c (own_parts c hot cold kind) i) ≡ Some i
   own_side Demand i within = own_index c complete are.grid Cold cold are.cold_parts i within
   own_side Supply i within = own_index c complete are.grid Hot hot are.hot_parts i within
 
@@ -165,19 +170,20 @@ module _ (c : Case) (complete : IsComplete c) (hot cold : List Part) (are : AreC
   cut_passes cut h =
       let own = own_parts c hot cold cut.kind in
       let found : All (λ i. index_of c own (named_at c own i) ≡ Some i) cut.parts =
-      λ k d within. own_side cut.kind (get_or cut.parts k d) (needing_within own (get_or cut.parts k d) (h.parts.needing k d within)) in
+      λ k d within. own_side cut.kind (get_or cut.parts k d) (needing-within own (get_or cut.parts k d) (h.parts.needing k d within)) in
       let again = found_again (index_of c own) (named_at c own) cut.parts found in (
         all_found (index_of c own) (named_at c own) cut.parts found,
-        (subst (λ (members : List ℕ). IsCutOf (reach_between c hot cold) hot cold (record { kind = cut.kind; parts = members; need = cut.need; offer = cut.offer })) (sym again) h, tt),
+        (
+          subst (λ (members : List ℕ). IsCutOf (reach_between c hot cold) hot cold
+              (record { kind = cut.kind; parts = members; need = cut.need; offer = cut.offer })) (sym again) h,
+          tt,
+        ),
       )
-    where
-      needing_within : (parts : List Part) (i : ℕ) → pos 0 <ℤ least_at parts i → i < length parts
-      needing_within parts i some =
-          ⊎_elim (λ within. within) (λ past. let none = slice_get_past parts i past in absurd (omega (arith, ints, rw none at some))) (cases_lt i (length parts))
 
 pub certified-pass : CertifiedFlowsPass
 certified-pass c hot cold ts y z cost complete are certified =
-    HoldsOfParts-some c (λ h k. IsAnswerOver c h k (flow_report c hot cold ts y z cost) Yes) hot cold are (flow_passes c complete hot cold are ts y z cost certified)
+    HoldsOfParts-some c (λ h k. IsAnswerOver c h k (flow_report c hot cold ts y z cost) Yes) hot cold are
+    (flow_passes c complete hot cold are ts y z cost certified)
 
 pub cuts-pass : CutsPass
 cuts-pass c hot cold cut complete are is =

@@ -27,8 +27,8 @@ use Rattle.pinch.specs.Answers.{Answers, Shows, ShowsCommand}
 use Rattle.pinch.specs.Case.{case_file}
 use Rattle.pinch.specs.Complete.{Holds, HoldsText}
 use Rattle.pinch.specs.Files.{EndsIn}
-use Rattle.pinch.specs.Flow.{shown_answer}
-use Rattle.pinch.specs.Proofs.{ChecksProof, FlowsAreProofs, HoldsProof}
+use Rattle.pinch.specs.Flow.{AnswersFlow, IsCaseAnswer, shown_answer}
+use Rattle.pinch.specs.Proofs.{ChecksProof, HoldsProof}
 use Rattle.pinch.specs.Reading.{file, reading_of, ready}
 use Rattle.pinch.specs.Report.{IsCheckOf, report_file, shown_check}
 use Rattle.pinch.specs.Status.{status_of}
@@ -42,15 +42,18 @@ use Rattle.pinch.proofs.Formats.{lawful_case, lawful_report}
 
 -- ---- a report has one answer
 
-first_yes : (causes : List NoWhy) (Holds : NoWhy → Type 0) (checked : Checked) → IsFirstOf causes Holds Yes → IsFirstOf causes Holds checked → checked ≡ Yes
+first_yes : (causes : List NoWhy) (Holds : NoWhy → Type 0) (checked : Checked)
+    → IsFirstOf causes Holds Yes → IsFirstOf causes Holds checked → checked ≡ Yes
 first_yes causes Holds Yes passes is = refl
 first_yes [] Holds (No why) passes is = absurd is
 first_yes (cause ∷ causes) Holds (No why) passes (inl fails) = absurd (fails.1 passes.0)
 first_yes (cause ∷ causes) Holds (No why) passes (inr later) = first_yes causes Holds (No why) passes.1 later.1
 
 yes_over : (c : Case) (hot cold : List Part) (r : Report) (checked : Checked) → IsAnswerOver c hot cold r Yes → IsAnswerOver c hot cold r checked → checked ≡ Yes
-yes_over c hot cold (report.Flow cost uses moves gives takes) checked passes is = first_yes flow_causes (HoldsOfFlow c hot cold cost uses moves gives takes) checked passes is
-yes_over c hot cold (report.Cut kind need offer parts) checked passes is = first_yes cut_causes (HoldsOfCut c hot cold kind need offer parts) checked passes is
+yes_over c hot cold (report.Flow cost uses moves gives takes) checked passes is =
+    first_yes flow_causes (HoldsOfFlow c hot cold cost uses moves gives takes) checked passes is
+yes_over c hot cold (report.Cut kind need offer parts) checked passes is =
+    first_yes cut_causes (HoldsOfCut c hot cold kind need offer parts) checked passes is
 
 only_yes : (c : Case) (r : Report) (checked : Checked) → IsAnswer c r Yes → IsAnswer c r checked → checked ≡ Yes
 only_yes c r checked passes is =
@@ -83,7 +86,7 @@ unfolding reading_of EndsIn
 certified (Some (command.Certify case report)) old new shown is proof no_fault =
     let valid = case-is_valid (rows_of proof.bytes) proof.value proof.says in
     let held : HoldsText case_file old.files case (λ c. IsComplete (completed c) × HoldsProof old.files report (completed c)) =
-        record { bytes = proof.bytes; file = proof.file; value = proof.value; says = proof.says; then = ((proof.value, valid, refl), proof.then) } in
+    record { bytes = proof.bytes; file = proof.file; value = proof.value; says = proof.says; then = ((proof.value, valid, refl), proof.then) } in
     of_held case_file lawful_case case old new is.end no_fault (λ c. IsComplete (completed c) × HoldsProof old.files report (completed c)) _
     (status_of shown ≡ Answered) held
     (λ mid c keeps then ends.
@@ -98,6 +101,11 @@ answer_proof : (c : Case) (parts : Parts) (a : Answer) → AreCaseParts c parts.
 answer_proof c parts (answer.Least flow prices cost) are is = (refl, are, is.certified)
 answer_proof c parts (answer.Stuck cut) are is = (refl, are, is.cut)
 
-pub flows-prove : FlowsAreProofs
-flows-prove case shown is =
-    subst (IsProofOf (completed case)) (sym is.is) (answer_proof (completed case) is.parts is.answer is.is_answer.parts_are is.is_answer.answers)
+pub answered : (c : Case) (parts : Parts) (a : Answer) (shown : Shown) → IsCaseAnswer c parts a → shown ≡ shown_answer c parts a → AnswersFlow c shown
+answered c parts a shown is_answer is = record {
+  parts = parts;
+  answer = a;
+  is_answer = is_answer;
+  is = is;
+  proof = subst (IsProofOf c) (sym is) (answer_proof c parts a is_answer.parts_are is_answer.answers);
+}

@@ -5,6 +5,7 @@ use Rattle.stream_case.specs.Case.{IsStandard, completed}
 use Rattle.grid.specs.declared.parts.Parts.{Parts}
 use Rattle.grid.specs.Part.{AreCaseParts}
 use Rattle.heat_flow.specs.Reach.{reach_between}
+use Rattle.reports.specs.Proofs.{IsProofOf}
 use Rattle.transport.specs.Answer.{IsAnswer}
 use Rattle.transport.specs.declared.answer.Answer.{Answer}
 use Rattle.transport.specs.declared.answer.Answer.TheVariants as answer
@@ -24,12 +25,13 @@ abbrev pub shown_answer : Case → Parts → Answer → Shown
 shown_answer c parts (answer.Least flow prices cost) = show.Flow c parts flow prices cost
 shown_answer c parts (answer.Stuck cut) = show.Stuck c parts cut
 
--- what answers the case is shown
+-- what answers the case is shown, and it proves what it says
 pub record AnswersFlow (c : Case) (shown : Shown) : Type 0 where
   pub parts : Parts
   pub answer : Answer
   pub is_answer : IsCaseAnswer c parts answer
   pub is : shown ≡ shown_answer c parts answer
+  pub proof : IsProofOf c shown
 
 -- what `flow` shows of a case
 abbrev pub ShowsFlow : Case → Shown → Type 0

@@ -8,7 +8,6 @@ use Rattle.reports.specs.Text.{text}
 use Rattle.reports.specs.declared.shown.Shown.{Shown}
 use Rattle.pinch.specs.Case.{case_file}
 use Rattle.pinch.specs.Complete.{Holds, HoldsText}
-use Rattle.pinch.specs.Flow.{ShowsFlow}
 use Rattle.pinch.specs.declared.command.Command.{Command}
 use Rattle.pinch.specs.declared.command.Command.TheVariants.{Certify}
 
@@ -22,7 +21,3 @@ pub record HoldsProof (files : Option (List NamedFile)) (name : List ℕ) (c : C
 abbrev pub ChecksProof : Option Command → Option (List NamedFile) → Type 0
 ChecksProof (Some (Certify case report)) files = HoldsText case_file files case (λ c. HoldsProof files report (completed c))
 ChecksProof other files = ⊥
-
--- what `flow` shows of a case is such a proof
-abbrev pub FlowsAreProofs : Type 0
-FlowsAreProofs = (case : Case) (shown : Shown) → ShowsFlow case shown → IsProofOf (completed case) shown

@@ -2,7 +2,6 @@
 ghost use Rattle.std.specs.Prelude.{◌≡◌, IfOk};
 ghost use Rattle.stream_case.specs.Case.{IsValid, completed};
 ghost use Rattle.pinch.specs.Flow.{AnswersFlow, shown_answer};
-ghost use Rattle.pinch.specs.Proofs.{FlowsAreProofs};
 
 use grid::{Parts, case_parts};
 use reports::Shown;
@@ -37,8 +36,3 @@ fn shown_answer(case: Case, parts: Parts, answer: Answer) -> Shown
         Answer::Stuck(cut) => Shown::Stuck { case, parts, cut },
     }
 }
-
-/// What is shown of a case is a proof that a report of it can carry.
-pub fn flows_are_proofs()
-    ensures { FlowsAreProofs }
-{}

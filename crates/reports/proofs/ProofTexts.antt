@@ -1,25 +1,18 @@
 -- What is printed of a proof is a report that is answered with yes.
-use Rattle.std.proofs.Common.{◌≡◌, ◌<◌, ⊎_elim, ℕ, ℤ, List, All, pos, length, get_or, sym, ap, subst, arith}
-use Rattle.std.specs.Prelude.{◌<ℤ◌}
-use Rattle.std.specs.Option.{option_map_or}
-use Rattle.std.proofs.lemmas.Bool.{cases_lt}
-use Rattle.std.proofs.lemmas.Int.{ints}
-use Rattle.std.proofs.lemmas.Option.{slice_get_past}
+use Rattle.std.proofs.Common.{◌<◌, ℤ, List, All, length, get_or, sym, subst}
 use Rattle.stream_case.specs.Case.{IsComplete}
 use Rattle.stream_case.specs.declared.case.Case.{Case}
 use Rattle.grid.specs.Part.{AreCaseParts}
 use Rattle.grid.specs.declared.part.Part.{Part}
 use Rattle.grid.specs.declared.parts.Parts.{Parts}
 use Rattle.heat_flow.specs.Certificate.{IsCertified, IsCutOf}
-use Rattle.heat_flow.specs.Cuts.{least_at}
 use Rattle.heat_flow.specs.Reach.{reach_between}
 use Rattle.heat_flow.specs.declared.cut.Cut.{Cut}
-use Rattle.heat_flow.specs.declared.cut.CutKind.{CutKind}
-use Rattle.heat_flow.specs.declared.cut.CutKind.TheVariants.{Demand, Supply}
 use Rattle.heat_flow.specs.declared.flow.Flow.{Flow}
 use Rattle.heat_flow.specs.declared.prices.Prices.{Prices}
 use Rattle.certify.specs.Answers.{own_parts}
 use Rattle.certify.specs.Said.{cut_report, flow_report}
+use Rattle.certify.proofs.PartSums.{needing-within}
 use Rattle.certify.proofs.Printed.{printed-again}
 use Rattle.certify.proofs.Ranges.{cuts-readable, flows-readable}
 use Rattle.certify.proofs.Said.{certified-pass, cuts-pass}
@@ -36,15 +29,15 @@ flow_answered c parts flow prices cost complete are h =
     let r = flow_report c parts.hot parts.cold flow.transfers prices.hot prices.cold cost in
     let readable = flows-readable c parts.hot parts.cold flow.transfers prices.hot prices.cold cost complete are h in
     subst (IsAnsweredWithYes c) (sym (flow-text c parts flow.transfers prices cost h.flow.hot_indexes h.flow.cold_indexes))
-    (record { report = r; is = printed-again r readable; answer = certified-pass c parts.hot parts.cold flow.transfers prices.hot prices.cold cost complete are h })
-
-needing_within : (parts : List Part) (i : ℕ) → pos 0 <ℤ least_at parts i → i < length parts
-needing_within parts i some =
-    ⊎_elim (λ within. within) (λ past. let none = slice_get_past parts i past in absurd (omega (arith, ints, rw none at some))) (cases_lt i (length parts))
+    (record {
+      report = r;
+      is = printed-again r readable;
+      answer = certified-pass c parts.hot parts.cold flow.transfers prices.hot prices.cold cost complete are h;
+    })
 
 members_within : (c : Case) (hot cold : List Part) (cut : Cut) → IsCutOf (reach_between c hot cold) hot cold cut
     → All (λ i. i < length (own_parts c hot cold cut.kind)) cut.parts
-members_within c hot cold cut h k d within = needing_within (own_parts c hot cold cut.kind) (get_or cut.parts k d) (h.parts.needing k d within)
+members_within c hot cold cut h k d within = needing-within (own_parts c hot cold cut.kind) (get_or cut.parts k d) (h.parts.needing k d within)
 
 cut_answered : (c : Case) (parts : Parts) (cut : Cut) → IsComplete c → AreCaseParts c parts.hot parts.cold
     → IsCutOf (reach_between c parts.hot parts.cold) parts.hot parts.cold cut → IsAnsweredWithYes c (text (shows.Stuck c parts cut))
@@ -60,7 +53,9 @@ cut_answered c parts cut complete are h =
 
 pub proofs-pass : PrintedProofsPass
 proofs-pass c (shows.Flow case parts flow prices cost) complete is =
-    subst (λ (k : Case). IsAnsweredWithYes c (text (shows.Flow k parts flow prices cost))) (sym is.0) (flow_answered c parts flow prices cost complete is.1 is.2)
+    subst (λ (k : Case). IsAnsweredWithYes c (text (shows.Flow k parts flow prices cost))) (sym is.0)
+    (flow_answered c parts flow prices cost complete is.1 is.2)
 proofs-pass c (shows.Stuck case parts cut) complete is =
-    subst (λ (k : Case). IsAnsweredWithYes c (text (shows.Stuck k parts cut))) (sym is.0) (cut_answered c parts cut complete is.1 is.2)
+    subst (λ (k : Case). IsAnsweredWithYes c (text (shows.Stuck k parts cut))) (sym is.0)
+    (cut_answered c parts cut complete is.1 is.2)
 proofs-pass c other complete is = absurd is

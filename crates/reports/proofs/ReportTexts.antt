@@ -74,7 +74,8 @@ part_before c p rest =
     ∙ ap (λ t. source_name (case_names c) p.source ++ 32 ∷ t) (append_assoc (signed_decimal p.high) (32 ∷ signed_decimal p.low) rest)
     ∙ ap (λ name. name ++ 32 ∷ (signed_decimal p.high ++ 32 ∷ (signed_decimal p.low ++ rest))) (own_name c p.source)
 
-named_before : (c : Case) (parts : List Part) (i : ℕ) (rest : List ℕ) → i < length parts → part_at (case_names c) parts i ++ rest ≡ span_text (named_at c parts i) rest
+named_before : (c : Case) (parts : List Part) (i : ℕ) (rest : List ℕ) → i < length parts
+    → part_at (case_names c) parts i ++ rest ≡ span_text (named_at c parts i) rest
 named_before c parts i rest within =
     let at = slice_get-get_or parts i blank within in
     ap (λ o. option_map_or (part_text (case_names c)) o [] ++ rest) at
@@ -91,7 +92,8 @@ side_is : (side : Side) (parts : Parts) → side_parts side parts ≡ parts_of s
 side_is Hot parts = refl
 side_is Cold parts = refl
 
-use_text : (parts : Parts) (ts : List Transfer) (i : ℕ) (u : Utility) → use_line parts ts i u ≡ statement_text (use_statement (use_of parts.hot parts.cold ts i u))
+use_text : (parts : Parts) (ts : List Transfer) (i : ℕ) (u : Utility)
+    → use_line parts ts i u ≡ statement_text (use_statement (use_of parts.hot parts.cold ts i u))
 unfolding fields_text
 use_text parts ts i u = ap (λ ps. line (codes "use " ++ u.name) (utility_heat i u.side ps ts)) (side_is u.side parts)
 
@@ -112,7 +114,8 @@ unfolding fields_text span_text
 price_text c Hot price p = ap (λ text. codes "give " ++ text) (part_before c p (32 ∷ (signed_decimal price ++ 10 ∷ [])))
 price_text c Cold price p = ap (λ text. codes "take " ++ text) (part_before c p (32 ∷ (signed_decimal price ++ 10 ∷ [])))
 
-member_text : (c : Case) (parts : List Part) (i : ℕ) → i < length parts → member_line (case_names c) parts i ≡ statement_text (part_statement (named_at c parts i))
+member_text : (c : Case) (parts : List Part) (i : ℕ) → i < length parts
+    → member_line (case_names c) parts i ≡ statement_text (part_statement (named_at c parts i))
 unfolding fields_text span_text
 member_text c parts i within = ap (λ text. codes "part " ++ text) (named_before c parts i (10 ∷ []) within)
 
@@ -137,14 +140,14 @@ flow-text c parts ts prices cost hots colds =
     let takes = map (priced_statement (codes "take")) (made_from (priced_by c prices.cold) 0 parts.cold) in
     let uses_text = texts_made (use_line parts ts) use_statement (use_of parts.hot parts.cold ts) 0 c.utilities (use_text parts ts) in
     let moves_text = texts_each (move_line names parts) move_statement (move_of c parts.hot parts.cold) ts
-        (λ k d within. move_text c parts (get_or ts k d) (hots k d within) (colds k d within)) in
-    let gives_text = texts_made (λ i p. price_line names Hot (price_at prices.hot i) p) (priced_statement (codes "give")) (priced_by c prices.hot) 0 parts.hot
-        (λ i p. price_text c Hot (price_at prices.hot i) p) in
-    let takes_text = texts_made (λ i p. price_line names Cold (price_at prices.cold i) p) (priced_statement (codes "take")) (priced_by c prices.cold) 0 parts.cold
-        (λ i p. price_text c Cold (price_at prices.cold i) p) in
+    (λ k d within. move_text c parts (get_or ts k d) (hots k d within) (colds k d within)) in
+    let gives_text = texts_made (λ i p. price_line names Hot (price_at prices.hot i) p) (priced_statement (codes "give")) (priced_by c prices.hot) 0
+    parts.hot (λ i p. price_text c Hot (price_at prices.hot i) p) in
+    let takes_text = texts_made (λ i p. price_line names Cold (price_at prices.cold i) p) (priced_statement (codes "take")) (priced_by c prices.cold) 0
+    parts.cold (λ i p. price_text c Cold (price_at prices.cold i) p) in
     let front = cost_statement cost ∷ uses in
     let joined = flat_map-append st ((front ++ moves) ++ gives) takes
-        ∙ ap (λ t. t ++ flat_map st takes) (flat_map-append st (front ++ moves) gives ∙ ap (λ t. t ++ flat_map st gives) (flat_map-append st front moves)) in
+    ∙ ap (λ t. t ++ flat_map st takes) (flat_map-append st (front ++ moves) gives ∙ ap (λ t. t ++ flat_map st gives) (flat_map-append st front moves)) in
     (λ i. (cost_text cost i ++ uses_text i) ++ ((moves_text i ++ gives_text i) ++ takes_text i))
     ∙ sym (joined ∙ in_a_row (st (cost_statement cost)) (flat_map st uses) (flat_map st moves) (flat_map st gives) (flat_map st takes))
 
@@ -154,6 +157,6 @@ unfolding fields_text
 cut-text c parts cut within =
     let own = own_parts c parts.hot parts.cold cut.kind in
     let members = texts_each (member_line (case_names c) own) part_statement (named_at c own) cut.parts
-        (λ k d inside. member_text c own (get_or cut.parts k d) (within k d inside)) in
+    (λ k d inside. member_text c own (get_or cut.parts k d) (within k d inside)) in
     ap₂ (λ first rest. codes "infeasible\n" ++ (first ++ rest)) (kind_line_text cut.kind cut.need cut.offer cut.parts)
     (ap (λ ps. flat_map (member_line (case_names c) ps) cut.parts) (side_is (cut_side cut.kind) parts) ∙ members)
