@@ -16,3 +16,4 @@ pub mod LineLemmas
 pub mod AnswerLemmas
 pub mod PartBounds
 pub mod StudyAccepted
+pub mod StudyEntryLemmas

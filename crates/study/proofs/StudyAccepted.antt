@@ -1,6 +1,8 @@
 -- The study of a file that is accepted may be asked of the case.
 use Rattle.std.proofs.Common.{◌≡◌, ◌∙◌, ◌<◌, ◌≤◌, ◌+◌, ◌∷◌, ◌++◌, ℕ, suc, ℤ, ◌-ℤ◌, true, not, cond, List, [], All, Option, Some, None, Result, Ok, Err, IfOk, is_some, unwrap_or, option_to_list, position, length, count_by, map, refl, sym, ap, arith, append-nil}
-use Rattle.std.specs.Prelude.{slice_set}
+use Rattle.std.specs.Prelude.{fold, slice_set}
+use Rattle.std.specs.List.{cons_option}
+use Rattle.std.proofs.Math.Seq.{append_snoc}
 use Rattle.std.specs.Str.{bytes_eq}
 use Rattle.std.proofs.lemmas.Int.{ints}
 use Rattle.std.proofs.lemmas.List.{length-map, length-set}
@@ -14,6 +16,7 @@ use Rattle.rows.specs.Fields.{field, number}
 use Rattle.rows.specs.Rows.{Row}
 use Rattle.rows.specs.declared.fault.RowFault.{RowFault}
 use Rattle.rows.proofs.Tests.{Decides-int_le, passed-room, passed-within}
+use Rattle.sums.proofs.CountLemmas.{count_by-cons}
 use Rattle.stream_case.specs.Case.{IsComplete}
 use Rattle.stream_case.specs.Limits.{IsPrice}
 use Rattle.stream_case.specs.declared.case.Case.{Case}
@@ -21,10 +24,10 @@ use Rattle.stream_case.specs.declared.utility.Utility.{Utility}
 use Rattle.study.specs.Priced.{case_prices}
 use Rattle.study.specs.Study.{AreCasePrices, IsItem, IsSpan, IsStudy}
 use Rattle.study.specs.StudyAccepted.{IsKnown}
-use Rattle.study.specs.StudyChecks.{checks, kind_checks, price_checks, scenario_checks, span_checks}
+use Rattle.study.specs.StudyChecks.{checks, kind_checks, price_checks, scenario_checks, span_checks, span_number_checks}
 use Rattle.study.specs.StudyEntries.{count_items, is_item, items_of, prices_by, study_of}
 use Rattle.study.specs.StudyOutcome.{IsStudyOf, IsStudyOutcome, grammar}
-use Rattle.study.specs.StudyRows.{entry_by, kind_of, utility_in, utility_named}
+use Rattle.study.specs.StudyRows.{entries_in, entry_by, entry_in, kind_of, next, utility_in, utility_named}
 use Rattle.study.specs.declared.limits.TheConstants.{MOST_ITEMS, MOST_SPAN}
 use Rattle.study.specs.declared.study_entry.Entry.{Entry}
 use Rattle.study.specs.declared.study_entry.Entry.TheVariants as entry
@@ -75,7 +78,7 @@ price_kept c given row fits (_, (_, (named, (_, (_, (price, _)))))) =
     }
 
 span_kept : (c : Case) (given : List Entry) (row : Row) → Fits c given → Passes (span_checks c given row) → Fits c (given ++ entry.Span (utility_in c row) (number row 2) (number row 3) ∷ [])
-unfolding span_checks
+unfolding span_checks span_number_checks
 span_kept c given row fits (room, (named, (_, (_, (first, (last, (order, (few, _)))))))) =
     let e = entry.Span (utility_in c row) (number row 2) (number row 3) in
     let span : IsSpan c (utility_in c row) (number row 2) (number row 3) = record {
@@ -132,9 +135,9 @@ items_are c (entry.Span i from to ∷ entries) own known =
 -- as many items as scenarios and spans
 items_count : (c : Case) (entries : List Entry) → length (items_of c entries) ≡ count_items entries
 items_count c [] = refl
-items_count c (entry.Scenario name ∷ entries) = ap suc (items_count c entries)
-items_count c (entry.Price i price ∷ entries) = items_count c entries
-items_count c (entry.Span i from to ∷ entries) = ap suc (items_count c entries)
+items_count c (entry.Scenario name ∷ entries) = omega (arith, items_count c entries, count_by-cons is_item (entry.Scenario name) entries)
+items_count c (entry.Price i price ∷ entries) = omega (arith, items_count c entries, count_by-cons is_item (entry.Price i price) entries)
+items_count c (entry.Span i from to ∷ entries) = omega (arith, items_count c entries, count_by-cons is_item (entry.Span i from to) entries)
 
 pub study-is_asked : (c : Case) (rows : List Row) (study : Study) → IsComplete c → IsStudyOf c rows study → IsStudy c study
 study-is_asked c rows study complete is =
@@ -146,3 +149,16 @@ study-is_asked c rows study complete is =
 pub outcome_is_study : (c : Case) (rows : List Row) (result : Result Study (RowFault StudyWhy)) → IsComplete c → IsStudyOutcome c rows result → IfOk result (IsStudy c)
 outcome_is_study c rows (Ok study) complete is = study-is_asked c rows study complete is
 outcome_is_study c rows (Err fault) complete is = tt
+
+-- what rows give one after the other is what they say together
+said : (c : Case) (rows : List Row) (earlier : List Entry) → fold (next c) earlier rows ≡ earlier ++ entries_in c rows
+said c [] earlier = sym (append-nil earlier)
+said c (row ∷ rows) earlier = by (entry_in c row)
+  where
+    by : (o : Option Entry) → fold (next c) (earlier ++ option_to_list o) rows ≡ earlier ++ cons_option o (entries_in c rows)
+    by None = rw (append-nil earlier) (said c rows earlier)
+    by (Some e) = said c rows (earlier ++ e ∷ []) ∙ append_snoc earlier e (entries_in c rows)
+
+pub outcome_is_said : (c : Case) (rows : List Row) (result : Result Study (RowFault StudyWhy)) → IsStudyOutcome c rows result → IfOk result (λ study. study ≡ study_of c (entries_in c rows))
+outcome_is_said c rows (Ok study) is = is.value_is ∙ ap (study_of c) (said c rows [])
+outcome_is_said c rows (Err fault) is = tt

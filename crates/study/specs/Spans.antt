@@ -1,5 +1,5 @@
 -- Lines through the least costs over a span, which its segments are made of.
-use Rattle.std.specs.Prelude.{◌≡◌, ℕ, ℤ, pos, ◌+ℤ◌, ◌-ℤ◌, ◌*ℤ◌, ◌≤ℤ◌, ◌<ℤ◌, List, [], ◌∷◌}
+use Rattle.std.specs.Prelude.{◌≡◌, ℕ, Bool, MatchBool, ℤ, pos, ◌+ℤ◌, ◌-ℤ◌, ◌*ℤ◌, ◌≤ℤ◌, ◌<ℤ◌, List, [], ◌∷◌}
 use Rattle.heat_flow.specs.Ranges.{IsWithin}
 use Rattle.stream_case.specs.Limits.{IsBetween, IsPrice}
 use Rattle.stream_case.specs.declared.case.Case.{Case}
@@ -20,6 +20,10 @@ HasFlowWith c i = (p : ℤ) → HasNoFlowAt c (prices_with c i p) → ⊥
 -- what a line costs at a price
 abbrev pub line_at : Line → ℤ → ℤ
 line_at line p = line.cost +ℤ (p -ℤ line.from) *ℤ line.slope
+
+-- an answer that says whether the least cost at a price is on a line
+abbrev pub TellsOnLine : Case → ℕ → Line → ℤ → Bool → Type 0
+TellsOnLine c i line p on = let here = CostsWith c i p (line_at line p) in MatchBool on here (here → ⊥)
 
 -- how much a line can rise for each 1 of the price
 abbrev pub IsSlope : ℤ → Type 0

@@ -18,6 +18,9 @@ use Rattle.study.specs.declared.study_kind.Kind.TheVariants as kind
 
 -- ---- the checks of each kind of row
 
+abbrev pub known_utility : Case → Row → Check StudyWhy
+known_utility c row = (is_some (utility_named c (field row 1)), why.UnknownName)
+
 unfoldable pub scenario_checks : List Entry → Row → List (Check StudyWhy)
 scenario_checks earlier row =
     (are_empty row (2 ∷ 3 ∷ []), why.FieldCount)
@@ -30,23 +33,27 @@ unfoldable pub price_checks : Case → List Entry → Row → List (Check StudyW
 price_checks c earlier row =
     (are_empty row (3 ∷ []), why.FieldCount)
     ∷ (has_scenario earlier, why.NoScenario)
-    ∷ (is_some (utility_named c (field row 1)), why.UnknownName)
+    ∷ known_utility c row
     ∷ (not (is_priced (utility_in c row) earlier), why.Repeated)
     ∷ (is_number row 2, why.BadNumber)
     ∷ (is_price (number row 2), why.OutOfRange)
     ∷ []
 
-unfoldable pub span_checks : Case → List Entry → Row → List (Check StudyWhy)
-span_checks c earlier row =
-    (nat_lt (count_items earlier) MOST_ITEMS, why.TooMany)
-    ∷ (is_some (utility_named c (field row 1)), why.UnknownName)
-    ∷ (is_number row 2, why.BadNumber)
+unfoldable pub span_number_checks : Row → List (Check StudyWhy)
+span_number_checks row =
+    (is_number row 2, why.BadNumber)
     ∷ (is_number row 3, why.BadNumber)
     ∷ (is_price (number row 2), why.OutOfRange)
     ∷ (is_price (number row 3), why.OutOfRange)
     ∷ (int_le (number row 2) (number row 3), why.BadRange)
     ∷ (int_lt (number row 3 -ℤ number row 2) MOST_SPAN, why.TooWide)
     ∷ []
+
+unfoldable pub span_checks : Case → List Entry → Row → List (Check StudyWhy)
+span_checks c earlier row =
+    (nat_lt (count_items earlier) MOST_ITEMS, why.TooMany)
+    ∷ known_utility c row
+    ∷ span_number_checks row
 
 unfoldable pub kind_checks : Case → Option Kind → List Entry → Row → List (Check StudyWhy)
 kind_checks c None earlier row = []

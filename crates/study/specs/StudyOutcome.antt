@@ -1,5 +1,5 @@
 -- The outcome of a study file for a case: the first row at fault, else the fault of the end, else the study.
-use Rattle.std.specs.Prelude.{ℕ, List, [], Option, Result}
+use Rattle.std.specs.Prelude.{◌≡◌, ℕ, List, [], Option, Result}
 use Rattle.first_fault.specs.Outcome.{Grammar}
 use Rattle.first_fault.specs.Outcome as outcome
 use Rattle.rows.specs.Outcome.{IsRowOutcome}
@@ -31,3 +31,15 @@ IsStudyOf c rows study = outcome.IsValue (grammar c) rows study
 -- the outcome of rows; want of memory is none
 abbrev pub IsStudyOutcome : Case → List Row → Result Study (RowFault StudyWhy) → Type 0
 IsStudyOutcome c rows outcome = IsRowOutcome (grammar c) rows outcome
+
+-- the study of rows, or the number and the cause of their fault, but for want of memory
+abbrev pub IsOutcomeOf : Case → List Row → Result Study (ℕ × StudyWhy) → Type 0
+IsOutcomeOf c rows found = outcome.IsOutcome (grammar c) rows found
+
+-- there is one
+abbrev pub HasOutcome : Case → List Row → Type 0
+HasOutcome c rows = (outcome : Result Study (ℕ × StudyWhy)) × IsOutcomeOf c rows outcome
+
+-- and no other: never two faults, two causes of one fault, two studies, or a fault and a study
+abbrev pub OneOutcome : Case → List Row → Type 0
+OneOutcome c rows = (outcome other : Result Study (ℕ × StudyWhy)) → IsOutcomeOf c rows outcome → IsOutcomeOf c rows other → outcome ≡ other

@@ -1,5 +1,5 @@
 -- The kind of a row of a study file, and what the row says.
-use Rattle.std.specs.Prelude.{ℕ, List, ◌++◌, Option, Some, None, option_to_list, unwrap_or, position, if◌then◌else◌, codes}
+use Rattle.std.specs.Prelude.{ℕ, List, ◌++◌, filter_map, Option, Some, None, option_to_list, unwrap_or, position, if◌then◌else◌, codes}
 use Rattle.std.specs.Str.{bytes_eq}
 use Rattle.rows.specs.Fields.{field, is_passed_over, number}
 use Rattle.rows.specs.Rows.{Row}
@@ -34,15 +34,28 @@ utility_in c row = unwrap_or (utility_named c (field row 1)) 0
 
 -- ---- what a row says
 
+abbrev pub scenario_in : Row → Entry
+scenario_in row = entry.Scenario (field row 1)
+
+abbrev pub price_in : Case → Row → Entry
+price_in c row = entry.Price (utility_in c row) (number row 2)
+
+abbrev pub span_in : Case → Row → Entry
+span_in c row = entry.Span (utility_in c row) (number row 2) (number row 3)
+
 abbrev pub entry_by : Case → Option Kind → Row → Option Entry
 entry_by c None row = None
 entry_by c (Some kind.PassedOver) row = None
-entry_by c (Some kind.Scenario) row = Some (entry.Scenario (field row 1))
-entry_by c (Some kind.Price) row = Some (entry.Price (utility_in c row) (number row 2))
-entry_by c (Some kind.Span) row = Some (entry.Span (utility_in c row) (number row 2) (number row 3))
+entry_by c (Some kind.Scenario) row = Some (scenario_in row)
+entry_by c (Some kind.Price) row = Some (price_in c row)
+entry_by c (Some kind.Span) row = Some (span_in c row)
 
 abbrev pub entry_in : Case → Row → Option Entry
 entry_in c row = entry_by c (kind_of row) row
+
+-- what rows say, in their order
+abbrev pub entries_in : Case → List Row → List Entry
+entries_in c rows = filter_map (entry_in c) rows
 
 -- what is said behind a row
 abbrev pub next : Case → List Entry → Row → List Entry

@@ -1,10 +1,10 @@
 //! The segments of the least cost over a span of prices of one utility.
-ghost use Rattle.std.specs.Prelude.{◌≡◌, ◌<◌, pos, ◌+ℤ◌, ◌≤ℤ◌, ◌<ℤ◌, length, IfOk, MatchBool};
+ghost use Rattle.std.specs.Prelude.{◌≡◌, ◌<◌, pos, ◌+ℤ◌, ◌≤ℤ◌, ◌<ℤ◌, length, IfOk};
 ghost use Rattle.stream_case.specs.Case.{IsComplete};
 ghost use Rattle.stream_case.specs.Limits.{IsPrice};
 ghost use Rattle.grid.specs.Part.{AreCaseParts};
 ghost use Rattle.study.specs.CostRange.{IsCost};
-ghost use Rattle.study.specs.Spans.{AreCostSegments, CostsWith, HasFlowWith, IsCostSegment, IsLine, IsLineEnd, IsSmallLine, line_at};
+ghost use Rattle.study.specs.Spans.{AreCostSegments, CostsWith, HasFlowWith, IsCostSegment, IsLine, IsLineEnd, IsSmallLine, TellsOnLine, line_at};
 ghost use Rattle.study.specs.Study.{AreSpanSegments, IsSpan};
 
 use crate::priced::cost_with;
@@ -94,7 +94,7 @@ fn is_on_line(
     requires flow { HasFlowWith case.now utility }
     requires line { IsSmallLine line }
     requires price { IsPrice price }
-    ensures { IfOk result (λ on. MatchBool on (CostsWith case.now utility price (line_at line price)) (CostsWith case.now utility price (line_at line price) → ⊥)) }
+    ensures { IfOk result (TellsOnLine case.now utility line price) }
 {
     let cost = known_cost(alloc, case, parts, utility, price)?;
     Ok(cost == line_at(line, price))
@@ -156,35 +156,6 @@ fn last_segment(
     })
 }
 
-/// The segment that begins at a price below `to`.
-fn long_segment(
-    alloc: Global,
-    case: &Case,
-    parts: &Parts,
-    utility: u32,
-    from: i64,
-    to: i64,
-) -> Result<Segment, AllocError>
-    requires complete { IsComplete case.now }
-    requires parts { AreCaseParts case.now parts.now.hot parts.now.cold }
-    requires utility { utility < length case.now.utilities }
-    requires flow { HasFlowWith case.now utility }
-    requires ahead { from <ℤ to }
-    requires first { IsPrice from }
-    requires last { IsPrice to }
-    ensures from { IfOk result (λ segment. segment.from ≡ from) }
-    ensures segment { IfOk result (IsCostSegment case.now utility to) }
-{
-    let line = line_from(alloc, case, parts, utility, from)?;
-    let end = line_end(alloc, case, parts, utility, line, to)?;
-    Ok(Segment {
-        from,
-        to: end,
-        base: line_at(line, 0),
-        slope: line.slope,
-    })
-}
-
 /// The segment that begins at a price, in a span up to `to`.
 fn segment_from(
     alloc: Global,
@@ -205,10 +176,16 @@ fn segment_from(
     ensures segment { IfOk result (IsCostSegment case.now utility to) }
 {
     if from == to {
-        last_segment(alloc, case, parts, utility, from)
-    } else {
-        long_segment(alloc, case, parts, utility, from, to)
+        return last_segment(alloc, case, parts, utility, from);
     }
+    let line = line_from(alloc, case, parts, utility, from)?;
+    let end = line_end(alloc, case, parts, utility, line, to)?;
+    Ok(Segment {
+        from,
+        to: end,
+        base: line_at(line, 0),
+        slope: line.slope,
+    })
 }
 
 /// The segments of a span of a case that has a heat flow.

@@ -2,12 +2,15 @@
 
 ghost use Rattle.std.specs.Prelude.{◌≡◌, [], ◌∷◌, ◌++◌, length, All, IfOk, OnOk, not, ◌==◌};
 ghost use Rattle.std.specs.List.{list_any};
+ghost use Rattle.first_fault.specs.Checks.{first_failing};
 ghost use Rattle.study.specs.Priced.{case_prices};
 ghost use Rattle.study.specs.StudyAccepted.{IsKnown};
-ghost use Rattle.study.specs.StudyEntries.{count_items, has_scenario, is_priced, is_scenario_named, prices_by, study_of};
+ghost use Rattle.study.specs.StudyChecks.{end_checks};
+ghost use Rattle.study.specs.StudyEntries.{count_items, has_scenario, is_price_of, is_priced, is_scenario_named, prices_by, study_of};
 
 use crate::priced::case_prices;
 use crate::study_entry::Entry;
+use crate::study_fault::StudyWhy;
 use crate::study_item::{Study, StudyItem};
 use std::alloc::{AllocError, Global};
 use std::marker::Model;
@@ -35,11 +38,7 @@ impl Model for Entries {
 
 /// The prices of a scenario, behind whose row these entries stand: those of the case but for its
 /// own.
-fn scenario_prices(
-    alloc: Global,
-    case: &Case,
-    behind: &[Entry],
-) -> Result<Items<i64>, AllocError>
+fn scenario_prices(alloc: Global, case: &Case, behind: &[Entry]) -> Result<Items<i64>, AllocError>
     requires { All (IsKnown case.now) behind.now }
     ensures { IfOk result (λ prices. prices ≡ prices_by (case_prices case.now) behind.now) }
 {
@@ -52,6 +51,13 @@ fn scenario_prices(
         }
     }
     Ok(Items::from_vec(prices))
+}
+
+/// Whether one of these entries is a price of the utility of this index.
+fn have_price(entries: &[Entry], utility: u32) -> bool
+    ensures { result ≡ list_any (is_price_of utility) entries.now }
+{
+    entries.iter().any(|entry| entry.is_price_of(utility))
 }
 
 impl Entries {
@@ -91,9 +97,19 @@ impl Entries {
     pub(crate) fn is_priced(&self, utility: u32) -> bool
         ensures { result ≡ is_priced utility self.now }
     {
-        self.entries[self.own..]
-            .iter()
-            .any(|entry| entry.is_price_of(utility))
+        have_price(&self.entries[self.own..], utility)
+    }
+
+    /// What a whole file lacks, if it lacks something.
+    #[tactic(auto, unfolding(crate::specs::StudyChecks::end_checks))]
+    pub(crate) fn missing(&self) -> Option<StudyWhy>
+        ensures { result ≡ first_failing (end_checks self.now) }
+    {
+        if self.count_items() == 0 {
+            Some(StudyWhy::NoItem)
+        } else {
+            None
+        }
     }
 
     /// Takes what a row says.

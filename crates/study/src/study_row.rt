@@ -1,12 +1,15 @@
 //! The rows of each kind of a study file.
 
-ghost use Rattle.std.specs.Prelude.{◌≡◌, [], ◌∷◌, is_some};
+ghost use Rattle.std.specs.Prelude.{◌≡◌, [], ◌∷◌, ◌-ℤ◌, int_lt, not, position};
+ghost use Rattle.std.specs.Str.{bytes_eq};
 ghost use Rattle.csv.specs.Records.{fields_of};
 ghost use Rattle.first_fault.specs.Checks.{Checked};
-ghost use Rattle.rows.specs.Fields.{field, number};
+ghost use Rattle.rows.specs.Fields.{number};
 ghost use Rattle.stream_case.specs.Case.{IsComplete};
-ghost use Rattle.study.specs.StudyChecks.{price_checks, scenario_checks, span_checks};
-ghost use Rattle.study.specs.StudyRows.{utility_in, utility_named};
+ghost use Rattle.stream_case.specs.Limits.{IsPrice};
+ghost use Rattle.study.specs.StudyChecks.{known_utility, price_checks, scenario_checks, span_checks, span_number_checks};
+ghost use Rattle.study.specs.StudyRows.{price_in, scenario_in, span_in, utility_in, utility_named};
+ghost use Rattle.study.specs.declared.limits.TheConstants.{MOST_SPAN};
 
 use crate::limits::{MOST_ITEMS, MOST_SPAN};
 use crate::study_entries::Entries;
@@ -14,17 +17,23 @@ use crate::study_entry::Entry;
 use crate::study_fault::StudyWhy;
 use csv::ByteRecord;
 use rows::{are_empty, field, name_in, number_in, price};
-use stream_case::Case;
+use stream_case::{Case, Utility};
+
+/// The index of the first of these utilities with this name.
+fn index_of(utilities: &[Utility], name: &[u8]) -> Option<usize>
+    ensures { result ≡ position (λ u. bytes_eq name.now u.name) utilities.now }
+{
+    utilities
+        .iter()
+        .position(|utility| name == utility.name.as_bytes())
+}
 
 /// The index of the utility of the case with this name.
 fn utility_named(case: &Case, name: &[u8]) -> Option<u32>
     requires { IsComplete case.now }
     ensures { result ≡ utility_named case.now name.now }
 {
-    let utilities = case.utilities.as_slice();
-    let index = utilities
-        .iter()
-        .position(|utility| name == utility.name.as_bytes())?;
+    let index = index_of(case.utilities.as_slice(), name)?;
     Some(index as u32)
 }
 
@@ -32,7 +41,8 @@ fn utility_named(case: &Case, name: &[u8]) -> Option<u32>
 #[tactic(auto, unfolding(crate::specs::StudyRows::utility_in))]
 fn utility_in(case: &Case, row: &ByteRecord) -> Result<u32, StudyWhy>
     requires { IsComplete case.now }
-    ensures { Checked ((is_some (utility_named case.now (field (fields_of row.now) 1)), StudyWhy.UnknownName) ∷ []) (λ i. i ≡ utility_in case.now (fields_of row.now)) result }
+    ensures { Checked (known_utility case.now (fields_of row.now) ∷ []) (λ i.
+        i ≡ utility_in case.now (fields_of row.now)) result }
 {
     utility_named(case, field(row, 1)).ok_or(StudyWhy::UnknownName)
 }
@@ -40,7 +50,8 @@ fn utility_in(case: &Case, row: &ByteRecord) -> Result<u32, StudyWhy>
 /// What a row says that begins a scenario.
 #[tactic(auto, unfolding(crate::specs::StudyChecks::scenario_checks))]
 pub(crate) fn scenario_entry(earlier: &Entries, row: &ByteRecord) -> Result<Entry, StudyWhy>
-    ensures { Checked (scenario_checks earlier.now (fields_of row.now)) (λ e. e ≡ Entry.Scenario (field (fields_of row.now) 1)) result }
+    ensures { Checked (scenario_checks earlier.now (fields_of row.now)) (λ e.
+        e ≡ scenario_in (fields_of row.now)) result }
 {
     if !are_empty(row, &[2, 3]) {
         return Err(StudyWhy::FieldCount);
@@ -63,7 +74,8 @@ pub(crate) fn price_entry(
     row: &ByteRecord,
 ) -> Result<Entry, StudyWhy>
     requires { IsComplete case.now }
-    ensures { Checked (price_checks case.now earlier.now (fields_of row.now)) (λ e. e ≡ Entry.Price (utility_in case.now (fields_of row.now)) (number (fields_of row.now) 2)) result }
+    ensures { Checked (price_checks case.now earlier.now (fields_of row.now)) (λ e.
+        e ≡ price_in case.now (fields_of row.now)) result }
 {
     if !are_empty(row, &[3]) {
         return Err(StudyWhy::FieldCount);
@@ -82,6 +94,34 @@ pub(crate) fn price_entry(
     Ok(Entry::Price { utility, price })
 }
 
+/// Whether a span has too many prices.
+fn is_too_wide(from: i64, to: i64) -> bool
+    requires from { IsPrice from }
+    requires to { IsPrice to }
+    ensures { result ≡ not (int_lt (to -ℤ from) MOST_SPAN) }
+{
+    to - from >= MOST_SPAN
+}
+
+/// The first and the last price of the span that a row describes.
+#[tactic(auto, unfolding(crate::specs::StudyChecks::span_number_checks))]
+fn span_prices(row: &ByteRecord) -> Result<(i64, i64), StudyWhy>
+    ensures { Checked (span_number_checks (fields_of row.now)) (λ prices.
+        prices ≡ (number (fields_of row.now) 2, number (fields_of row.now) 3)) result }
+{
+    let from = number_in(row, 2, StudyWhy::BadNumber)?;
+    let to = number_in(row, 3, StudyWhy::BadNumber)?;
+    let from = price(from, StudyWhy::OutOfRange)?;
+    let to = price(to, StudyWhy::OutOfRange)?;
+    if from > to {
+        return Err(StudyWhy::BadRange);
+    }
+    if is_too_wide(from, to) {
+        return Err(StudyWhy::TooWide);
+    }
+    Ok((from, to))
+}
+
 /// What a row says that asks for a span.
 #[tactic(auto, unfolding(crate::specs::StudyChecks::span_checks))]
 pub(crate) fn span_entry(
@@ -90,21 +130,13 @@ pub(crate) fn span_entry(
     row: &ByteRecord,
 ) -> Result<Entry, StudyWhy>
     requires { IsComplete case.now }
-    ensures { Checked (span_checks case.now earlier.now (fields_of row.now)) (λ e. e ≡ Entry.Span (utility_in case.now (fields_of row.now)) (number (fields_of row.now) 2) (number (fields_of row.now) 3)) result }
+    ensures { Checked (span_checks case.now earlier.now (fields_of row.now)) (λ e.
+        e ≡ span_in case.now (fields_of row.now)) result }
 {
     if earlier.count_items() >= MOST_ITEMS {
         return Err(StudyWhy::TooMany);
     }
     let utility = utility_in(case, row)?;
-    let from = number_in(row, 2, StudyWhy::BadNumber)?;
-    let to = number_in(row, 3, StudyWhy::BadNumber)?;
-    let from = price(from, StudyWhy::OutOfRange)?;
-    let to = price(to, StudyWhy::OutOfRange)?;
-    if from > to {
-        return Err(StudyWhy::BadRange);
-    }
-    if to - from >= MOST_SPAN {
-        return Err(StudyWhy::TooWide);
-    }
+    let (from, to) = span_prices(row)?;
     Ok(Entry::Span { utility, from, to })
 }

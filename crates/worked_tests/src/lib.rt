@@ -51,6 +51,8 @@ mod stream_case_tests;
 #[cfg(test)]
 mod study_tests;
 #[cfg(test)]
+mod study_text_tests;
+#[cfg(test)]
 mod sums_tests;
 #[cfg(test)]
 mod tables;
