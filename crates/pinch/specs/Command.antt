@@ -75,14 +75,14 @@ abbrev pub command_of : List (List ℕ) → Option Command
 command_of [] = None
 command_of (word ∷ rest) = command_of_word word rest
 
--- so many workers can be had
-abbrev pub CanWork : ℕ → Type 0
-CanWork workers = (1 ≤ workers) × (workers ≤ MOST_WORKERS)
-
 -- a sweep has a plan and workers that it can have
 abbrev pub CanDo : CaseTask → Type 0
-CanDo (Sweep plan workers) = IsSweepPlan plan × CanWork workers
+CanDo (Sweep plan workers) = IsSweepPlan plan × (1 ≤ workers) × (workers ≤ MOST_WORKERS)
 CanDo other = ⊤
+
+-- a price study workers
+abbrev pub CanWork : ℕ → Type 0
+CanWork workers = (1 ≤ workers) × (workers ≤ MOST_WORKERS)
 
 -- and a sample a number and a count
 abbrev pub IsSampleOf : ℕ → ℕ → Type 0

@@ -1,6 +1,8 @@
 -- The study of a file that is accepted may be asked of the case.
 use Rattle.std.proofs.Common.{◌≡◌, ◌∙◌, ◌<◌, ◌≤◌, ◌+◌, ◌∷◌, ◌++◌, ℕ, suc, ℤ, ◌-ℤ◌, true, not, cond, List, [], All, Option, Some, None, Result, Ok, Err, IfOk, is_some, unwrap_or, option_to_list, position, length, count_by, map, refl, sym, ap, arith, append-nil}
-use Rattle.std.specs.Prelude.{slice_set}
+use Rattle.std.specs.Prelude.{fold, slice_set}
+use Rattle.std.specs.List.{cons_option}
+use Rattle.std.proofs.Math.Seq.{append_snoc}
 use Rattle.std.specs.Str.{bytes_eq}
 use Rattle.std.proofs.lemmas.Int.{ints}
 use Rattle.std.proofs.lemmas.List.{length-map, length-set}
@@ -25,7 +27,7 @@ use Rattle.study.specs.StudyAccepted.{IsKnown}
 use Rattle.study.specs.StudyChecks.{checks, kind_checks, price_checks, scenario_checks, span_checks, span_number_checks}
 use Rattle.study.specs.StudyEntries.{count_items, is_item, items_of, prices_by, study_of}
 use Rattle.study.specs.StudyOutcome.{IsStudyOf, IsStudyOutcome, grammar}
-use Rattle.study.specs.StudyRows.{entry_by, kind_of, utility_in, utility_named}
+use Rattle.study.specs.StudyRows.{entries_in, entry_by, entry_in, kind_of, next, utility_in, utility_named}
 use Rattle.study.specs.declared.limits.TheConstants.{MOST_ITEMS, MOST_SPAN}
 use Rattle.study.specs.declared.study_entry.Entry.{Entry}
 use Rattle.study.specs.declared.study_entry.Entry.TheVariants as entry
@@ -147,3 +149,16 @@ study-is_asked c rows study complete is =
 pub outcome_is_study : (c : Case) (rows : List Row) (result : Result Study (RowFault StudyWhy)) → IsComplete c → IsStudyOutcome c rows result → IfOk result (IsStudy c)
 outcome_is_study c rows (Ok study) complete is = study-is_asked c rows study complete is
 outcome_is_study c rows (Err fault) complete is = tt
+
+-- what rows give one after the other is what they say together
+said : (c : Case) (rows : List Row) (earlier : List Entry) → fold (next c) earlier rows ≡ earlier ++ entries_in c rows
+said c [] earlier = sym (append-nil earlier)
+said c (row ∷ rows) earlier = by (entry_in c row)
+  where
+    by : (o : Option Entry) → fold (next c) (earlier ++ option_to_list o) rows ≡ earlier ++ cons_option o (entries_in c rows)
+    by None = rw (append-nil earlier) (said c rows earlier)
+    by (Some e) = said c rows (earlier ++ e ∷ []) ∙ append_snoc earlier e (entries_in c rows)
+
+pub outcome_is_said : (c : Case) (rows : List Row) (result : Result Study (RowFault StudyWhy)) → IsStudyOutcome c rows result → IfOk result (λ study. study ≡ study_of c (entries_in c rows))
+outcome_is_said c rows (Ok study) is = is.value_is ∙ ap (study_of c) (said c rows [])
+outcome_is_said c rows (Err fault) is = tt

@@ -1,5 +1,5 @@
 -- The kind of a row of a study file, and what the row says.
-use Rattle.std.specs.Prelude.{ℕ, List, ◌++◌, Option, Some, None, option_to_list, unwrap_or, position, if◌then◌else◌, codes}
+use Rattle.std.specs.Prelude.{ℕ, List, ◌++◌, filter_map, Option, Some, None, option_to_list, unwrap_or, position, if◌then◌else◌, codes}
 use Rattle.std.specs.Str.{bytes_eq}
 use Rattle.rows.specs.Fields.{field, is_passed_over, number}
 use Rattle.rows.specs.Rows.{Row}
@@ -52,6 +52,10 @@ entry_by c (Some kind.Span) row = Some (span_in c row)
 
 abbrev pub entry_in : Case → Row → Option Entry
 entry_in c row = entry_by c (kind_of row) row
+
+-- what rows say, in their order
+abbrev pub entries_in : Case → List Row → List Entry
+entries_in c rows = filter_map (entry_in c) rows
 
 -- what is said behind a row
 abbrev pub next : Case → List Entry → Row → List Entry

@@ -8,8 +8,9 @@ ghost use Rattle.first_fault.specs.Outcome.{SoundBefore, given_by};
 ghost use Rattle.stream_case.specs.Case.{IsComplete};
 ghost use Rattle.study.specs.Study.{IsStudy};
 ghost use Rattle.study.specs.StudyChecks.{checks};
+ghost use Rattle.study.specs.StudyEntries.{study_of};
 ghost use Rattle.study.specs.StudyOutcome.{IsStudyOutcome, grammar};
-ghost use Rattle.study.specs.StudyRows.{entry_in};
+ghost use Rattle.study.specs.StudyRows.{entries_in, entry_in};
 
 use crate::study_entries::Entries;
 use crate::study_entry::Entry;
@@ -101,12 +102,16 @@ fn study_of(
 }
 
 /// Reads a study file for a completed case: the study of the grammar, or the first row at fault
-/// with its cause. Prices are of one W. What it answers may be asked of `price_study`.
-#[tactic(auto, using(crate::proofs::StudyAccepted::outcome_is_study))]
+/// with its cause. The study has an item for each row of a scenario or a span, in their order; a
+/// scenario has the prices of the case, of one W each, but for those of the rows down to the next
+/// scenario. What it answers may be asked of `price_study`.
+#[tactic(auto, using(crate::proofs::StudyAccepted::outcome_is_said, crate::proofs::StudyAccepted::outcome_is_study))]
 pub fn read_study(alloc: Global, case: &Case, bytes: &[u8]) -> Result<Study, StudyFault>
     requires complete { IsComplete case.now }
     requires few { length bytes.now ≤ 2000000000 }
     ensures outcome { IsStudyOutcome case.now (rows_of bytes.now) result }
+    ensures said { IfOk result (λ study.
+        study ≡ study_of case.now (entries_in case.now (rows_of bytes.now))) }
     ensures study { IfOk result (IsStudy case.now) }
 {
     let mut rows = Rows::new(alloc, bytes);
