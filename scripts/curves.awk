@@ -3,9 +3,9 @@
 function take_points(path,   line, parts) {
     while ((getline line < path) > 0) {
         split(line, parts, " ")
-        if (parts[1] == "hot") print parts[2] / 1000, parts[3] / 10 > (folder "/hot.points")
-        else if (parts[1] == "cold") print (parts[2] + cold_target) / 1000, parts[3] / 10 > (folder "/cold.points")
-        else if (parts[1] == "net" && (net_top = parts[3]) != "") print parts[2] / 1000, parts[3] / 10 > (folder "/net.points")
+        if (parts[1] == "hot") print parts[2] / scale, parts[3] / 10 > (folder "/hot.points")
+        else if (parts[1] == "cold") print (parts[2] + cold_target) / scale, parts[3] / 10 > (folder "/cold.points")
+        else if (parts[1] == "net" && (net_top = parts[3]) != "") print parts[2] / scale, parts[3] / 10 > (folder "/net.points")
     }
 }
 
@@ -20,8 +20,8 @@ function take_targets(path,   line, parts, at) {
         else if (parts[1] == "pinch" && parts[2] != "none") {
             print 0, parts[2] / 10 > (folder "/pinch.points")
             if (!equal) continue
-            print heat_below(1, parts[2]) / 1000, (parts[2] + contribution) / 10 > (folder "/passes.points")
-            print heat_below(1, parts[2]) / 1000, (parts[2] - contribution) / 10 > (folder "/passes.points")
+            print heat_below(1, parts[2]) / scale, (parts[2] + contribution) / 10 > (folder "/passes.points")
+            print heat_below(1, parts[2]) / scale, (parts[2] - contribution) / 10 > (folder "/passes.points")
             print "" > (folder "/passes.points")
         }
     }
@@ -46,9 +46,9 @@ function put_uses(is_hot,   at, best, done, from, base) {
             if (at in use && hot[at] == is_hot && !(at in done) && (!best || (is_hot ? shifted(at, supply[at]) < shifted(best, supply[best]) : shifted(at, supply[at]) > shifted(best, supply[best])))) best = at
         if (!best) break
         done[best] = 1
-        print from / 1000, shifted(best, supply[best]) / 10, use[best] / 1000, name[best] > (folder "/net-uses.points")
-        if (is_hot) print (base + from) / 1000, supply[best] / 10, use[best] / 1000, name[best] > (folder "/hot-uses.points")
-        else print (cold_target - from - use[best]) / 1000, supply[best] / 10, use[best] / 1000, name[best] > (folder "/cold-uses.points")
+        print from / scale, shifted(best, supply[best]) / 10, use[best] / scale, name[best], is_hot ? 15105570 : 1549705 > (folder "/net-uses.points")
+        if (is_hot) print (base + from) / scale, supply[best] / 10, use[best] / scale, name[best] > (folder "/hot-uses.points")
+        else print (cold_target - from - use[best]) / scale, supply[best] / 10, use[best] / scale, name[best] > (folder "/cold-uses.points")
         from += use[best]
     } while (1)
 }
@@ -65,13 +65,14 @@ function fill(list, point,   parts, count, at, line) {
 BEGIN {
     folder = ARGV[2]
     read_case(ARGV[1])
+    scale = heat_below(1, 1000000) + heat_below(0, 1000000) > 40000000 ? 1000000 : 1000
     take_targets(folder "/targets")
     take_points(folder "/curves")
     take_uses(folder "/flow")
     put_uses(1)
     put_uses(0)
     fill("hot cold net pinch passes", "NaN NaN")
-    fill("net-uses hot-uses cold-uses", "0 " net_top / 10 " 0 \"\"")
-    print "title_note = \"" (none ? " (no heat flow: utilities left out)" : "") "\"" > (folder "/curves.settings")
+    fill("net-uses hot-uses cold-uses", "0 " net_top / 10 " 0 \"\" 0")
+    print "title_note = \"" (none ? " (no heat flow: utilities left out)" : "") "\"; unit = \"" (scale == 1000 ? "kW" : "MW") "\"" > (folder "/curves.settings")
     exit 0
 }

@@ -4,8 +4,9 @@ eval "set terminal ".wanted." size 760,540"
 set encoding utf8
 set output 'picture'
 set grid
-set key outside bottom horizontal
+set key tmargin center horizontal
 set offsets graph 0.04, graph 0.04, graph 0.06, graph 0.06
+set xrange [*:*] noextend
 set xlabel "heat in kW: to give left, to take right"
 set ylabel "shifted temperature in °C"
 set title "Site profiles: ".title_note noenhanced

@@ -4,7 +4,8 @@ eval "set terminal ".wanted." size 760,520"
 set encoding utf8
 set output 'picture'
 set grid
-set key outside bottom horizontal
+set key tmargin center horizontal
+set xrange [*:*] noextend
 set xlabel "least approach in °C"
 set ylabel "heat in kW"
 set offsets graph 0.03, graph 0.03, graph 0.06, 0
