@@ -209,7 +209,7 @@ function draw_statement(line,   at, is_hot, from, to) {
         from_at[word[line, 3]] = from_at[word[line, 5]] = at
         begun_at_supply[word[line, 3]] = begun_at_supply[word[line, 5]] = 1
         put_line(x_along(from, at), y_branch(word[line, 3]), x_along(from, at), y_branch(word[line, 5]), hot[of[from]] ? "hot" : "cold")
-        put_text(x_along(from, at), y_branch(word[line, 5]) + 11, "size", share_of(word[line, 5]))
+        put_text(x_along(from, at) + (hot[of[from]] ? -4 : 4), y_branch(word[line, 5]) + 4, hot[of[from]] ? "size end" : "size start", share_of(word[line, 5]))
     } else if (word[line, 1] == "mix") {
         to = word[line, 4]
         at = greatest_of(from_at[from], from_at[word[line, 3]])
@@ -276,7 +276,7 @@ function draw_pinch(   x) {
 
 function style() {
     print "<style>"
-    print "text { font: 11px sans-serif; fill: #222; paint-order: stroke; stroke: #fff; stroke-width: 3px; stroke-linejoin: round } .mark { stroke: none } .degrees, .size { font-size: 10px; text-anchor: middle; fill: #555 } .size { font-size: 9px }"
+    print "text { font: 11px sans-serif; fill: #222; paint-order: stroke; stroke: #fff; stroke-width: 3px; stroke-linejoin: round } .mark { stroke: none } .degrees { font-size: 10px; text-anchor: middle; fill: #555 } .size { font-size: 9px; fill: #555 }"
     print ".stream { font-weight: bold } .end { text-anchor: end } .start { text-anchor: start } .mark, .duty, .title, .pinch-text { text-anchor: middle }"
     print ".mark { font-size: 10px } .duty { font-size: 10px; font-weight: bold } .title { font-size: 10px } .pinch-text { fill: #666 } .big { font-size: 14px }"
     print ".hot { stroke: #c0392b; stroke-width: 2 } .cold { stroke: #2471a3; stroke-width: 2 } .hot-fill { fill: #c0392b } .cold-fill { fill: #2471a3 }"
@@ -292,7 +292,7 @@ function draw(   at, line, width) {
     TOP = 96
     bottom = TOP + row * HEIGHT
     width = x_of(columns + 1) + 150
-    if (width < 640) width = 640
+    if (width < 740) width = 740
     printf "<svg xmlns=\"http://www.w3.org/2000/svg\" viewBox=\"0 0 %d %d\" width=\"%d\" height=\"%d\">\n", width, bottom + 34, width, bottom + 34
     style()
     printf "<rect width=\"%d\" height=\"%d\" fill=\"#fff\"/>\n", width, bottom + 34
