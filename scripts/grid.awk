@@ -35,30 +35,35 @@ function note_orders(   line, branch, at) {
     }
 }
 
-function orders(branch, at,   parts, count, each) {
+# The exchangers that stand left of one, on each of its sides: `before` lists them.
+function orders(branch, at,   parts, count, each, half) {
+    half = hot[of[branch]]
     count = split(behind[branch], parts, " ")
     for (each = 1; each <= count; each++) {
-        edges++
-        edge_hot[edges] = hot[of[branch]]
-        edge_from[edges] = hot[of[branch]] ? parts[each] : at
-        edge_to[edges] = hot[of[branch]] ? at : parts[each]
+        if (half) before[at, 1] = before[at, 1] " " parts[each]
+        else before[parts[each], 0] = before[parts[each], 0] " " at
     }
 }
 
-function waits(wanted,   each, from) {
-    for (each = 1; each <= edges; each++) {
-        if (node(edge_to[each], edge_hot[each]) != wanted) continue
-        from = node(edge_from[each], edge_hot[each])
-        if (!(from in column)) return 1
-    }
-    return 0
-}
-
-function first_free(wanted,   each, from, free) {
+# The first column that a node may have, 0 where one that stands left of it has none yet.
+function first_free(wanted,   at, half, free, found) {
+    at = int(wanted / 2)
     free = 1
-    for (each = 1; each <= edges; each++) {
-        if (node(edge_to[each], edge_hot[each]) != wanted) continue
-        from = node(edge_from[each], edge_hot[each])
+    for (half = 0; half <= 1; half++) {
+        if (node(at, half) != wanted) continue
+        found = free_behind(before[at, half], half)
+        if (!found) return 0
+        if (found > free) free = found
+    }
+    return free
+}
+
+function free_behind(list, half,   parts, count, each, from, free) {
+    free = 1
+    count = split(list, parts, " ")
+    for (each = 1; each <= count; each++) {
+        from = node(parts[each], half)
+        if (!(from in column)) return 0
         if (column[from] >= free) free = column[from] + 1
     }
     return free
@@ -94,7 +99,7 @@ function next_node(   at, half, wanted, best, score) {
     best = 0
     for (at = 1; at <= exchangers; at++) for (half = 1; half >= (slanted[at] ? 0 : 1); half--) {
         wanted = node(at, half)
-        if (wanted in column || waits(wanted)) continue
+        if (wanted in column || !first_free(wanted)) continue
         if (!best || rank(at) < score) { best = wanted; score = rank(at) }
     }
     return best
