@@ -235,7 +235,7 @@ function row_of(row,   kind, first) {
     if (kind == "bad") return ""
     shift = !headed && kind != "" ? 1 : 0
     if (!headed && fields_in[row] > 7) for (first = 8; first <= fields_in[row]; first++) if (is_given(row, first)) { refuse(row, first, "there are seven columns at most: `" stripped(field[row, first]) "`"); return "" }
-    if (fields_in[row] < 3) { refuse(row, 0, "only " fields_in[row] " fields: is `" shown "` what separates them?"); return "" }
+    if (fields_in[row] < 3) { refuse(row, 0, "too few fields (" fields_in[row] "): is `" shown "` what separates them?"); return "" }
     if (kind == "contribution") return contribution_row(row)
     if (kind == "forbid") return "forbid," name_of(row, 2) "," name_of(row, 3) ",,,,"
     streams_seen = 1
@@ -293,6 +293,7 @@ BEGIN {
         decimal_mark = "."
         made[rows] = "contribution,," moved(rows, 1, 1, "half of the least difference, in tenths of a degree") ",,,,"
     }
+    if (!streams_seen) refuse(rows, 0, "the table has no stream")
     if (refused) exit 1
     for (row = 1; row <= rows; row++) print made[row]
     exit 0
