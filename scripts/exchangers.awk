@@ -19,9 +19,9 @@ BEGIN {
     getline verdict < ARGV[3]
     form = ARGV[4]
     cell = "th"
-    if (form == "text") print "# " verdict
+    if (form == "text") print "# " verdict "; temperatures in C"
     if (form == "html") print "<table>"
-    put("exchanger\thot\tcold\tin C\tout C\tin C\tout C\tkW\tleast K\tkW/K")
+    put("exchanger\thot\tcold\thot in\thot out\tcold in\tcold out\tkW\tleast K\tkW/K")
     cell = "td"
     for (at = 1; at <= exchangers; at++) {
         ua = conductance(at)

@@ -121,7 +121,7 @@ function put_network(   lines, count, verdict) {
     print "<h3>Grid diagram</h3>"
     put_picture(folder "/grid.svg")
     print "<p>" escaped(text_of(folder "/grid.note")) "</p>"
-    print "<h3>Exchangers</h3><div class=\"wide\">"
+    print "<h3>Exchangers, temperatures in °C</h3><div class=\"wide\">"
     print text_of(folder "/exchangers.html")
     print "</div>"
 }
