@@ -6,7 +6,7 @@
 LC_ALL=C
 export LC_ALL
 set -u
-scripts=$(cd "$(dirname "$0")" && pwd)
+scripts=$(dirname "$(readlink -f "$0")")
 self=$(basename "$0")
 
 # Prints the usage that stands at the head of the script, and ends with status 2.

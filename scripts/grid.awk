@@ -298,7 +298,7 @@ function draw(   at, line, width) {
     bottom = TOP + row * HEIGHT
     width = x_of(columns + 1) + 150
     if (width < 740) width = 740
-    printf "<svg xmlns=\"http://www.w3.org/2000/svg\" viewBox=\"0 0 %d %d\" width=\"%d\" height=\"%d\">\n", width, bottom + 34, width, bottom + 34
+    printf "<svg xmlns=\"http://www.w3.org/2000/svg\" role=\"img\" aria-label=\"grid diagram\" viewBox=\"0 0 %d %d\" width=\"%d\" height=\"%d\">\n", width, bottom + 34, width, bottom + 34
     style()
     printf "<rect width=\"%d\" height=\"%d\" fill=\"#fff\"/>\n", width, bottom + 34
     put_text(8, 20, "big", verdict)

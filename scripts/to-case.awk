@@ -185,7 +185,7 @@ function flow_of(row, at, from, to,   heat, span, flow) {
     sub(/^-/, "", heat)
     span = from - to < 0 ? to - from : from - to
     flow = sprintf("%.0f", heat / span)
-    if (flow * span != heat + 0) note(row, at, "from " stripped(field[row, at]) " kW the CP is rounded to " flow " (10 W/K), which makes " flow * span " W")
+    if (flow * span != heat + 0) note(row, at, "from " stripped(field[row, at]) " kW the CP is rounded to " flow " (10 W/K), which makes " sprintf("%.0f W", flow * span))
     return flow
 }
 
@@ -193,7 +193,7 @@ function compare_heat(row, at, flow, from, to,   heat, made) {
     heat = moved(row, at, 3, "W")
     sub(/^-/, "", heat)
     made = flow * (from - to < 0 ? to - from : from - to)
-    if (made != heat + 0) note(row, at, "left out: the CP makes " made " W, and this says " heat " W")
+    if (made != heat + 0) note(row, at, "left out: the CP makes " sprintf("%.0f", made) " W, and this says " heat " W")
 }
 
 function utility_row(row, kind,   title, level, from, to, at, cost) {
