@@ -17,6 +17,8 @@ function side_of_pinch(at,   place, low, high) {
         place = shifted(cold_side[at], cold_out[at])
         if (place > high) high = place
     }
+    # what condenses just at the pinch is cooled below it, what boils there is heated above it
+    if (high - low < 0.001 && is_utility(at) && high <= pinch + 0.001 && low >= pinch - 0.001) return stream[hot_side[at]] ? 3 : 1
     if (low >= pinch - 0.001) return 1
     return high <= pinch + 0.001 ? 3 : 2
 }
