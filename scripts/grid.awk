@@ -17,6 +17,8 @@ function side_of_pinch(at,   place, low, high) {
         place = shifted(cold_side[at], cold_out[at])
         if (place > high) high = place
     }
+    # what condenses just at the pinch is cooled below it, what boils there is heated above it
+    if (high - low < 0.001 && is_utility(at) && high <= pinch + 0.001 && low >= pinch - 0.001) return stream[hot_side[at]] ? 3 : 1
     if (low >= pinch - 0.001) return 1
     return high <= pinch + 0.001 ? 3 : 2
 }
@@ -229,6 +231,24 @@ function draw_statement(line,   at, is_hot, from, to) {
     }
 }
 
+# Where a stream has no end its open branches are dashed.
+function draw_open(   line, at, spent) {
+    for (line = 1; line <= statements; line++) {
+        if (word[line, 1] != "exchanger") spent[word[line, 2]] = 1
+        if (word[line, 1] == "mix") spent[word[line, 3]] = 1
+    }
+    for (at = 1; at <= sources; at++) if (stream[at] && !(name[at] in spent)) put_open(name[at])
+    for (line = 1; line <= statements; line++) {
+        if (word[line, 1] == "split" && !(word[line, 3] in spent)) put_open(word[line, 3])
+        if (word[line, 1] == "split" && !(word[line, 5] in spent)) put_open(word[line, 5])
+        if ((word[line, 1] == "pass" || word[line, 1] == "mix") && !(word[line, 4] in spent)) put_open(word[line, 4])
+    }
+}
+
+function put_open(branch) {
+    put_line(x_along(branch, from_at[branch]), y_branch(branch), x_along(branch, hot[of[branch]] ? columns + 0.75 : -0.25), y_branch(branch), (hot[of[branch]] ? "hot" : "cold") " open")
+}
+
 function share_of(branch) { return trimmed(sprintf("%.1f", 100 * size[branch] / (latent[of[branch]] ? heat[of[branch]] : cp[of[branch]]))) " %" }
 
 function draw_stream(at,   left_end, right_end, y) {
@@ -250,7 +270,10 @@ function put_mark(x, y, title, class) {
 function draw_exchanger(at,   x, y, to_x, to_y, title, utility) {
     title = exchanger[at]
     if (is_utility(at)) {
-        if (!stream[hot_side[at]] && !stream[cold_side[at]]) return
+        if (!stream[hot_side[at]] && !stream[cold_side[at]]) {
+            note = note (note == "" ? "" : " ") title " is not drawn: it joins " name[hot_side[at]] " and " name[cold_side[at]] "."
+            return
+        }
         utility = stream[hot_side[at]] ? cold_side[at] : hot_side[at]
         x = x_of(column[2 * at])
         y = y_of(stream[hot_side[at]] ? hot_row[at] : cold_row[at])
@@ -284,7 +307,7 @@ function style() {
     print "text { font: 11px sans-serif; fill: #222; paint-order: stroke; stroke: #fff; stroke-width: 3px; stroke-linejoin: round } .mark { stroke: none } .degrees { font-size: 10px; text-anchor: middle; fill: #555 } .size { font-size: 9px; fill: #555 }"
     print ".stream { font-weight: bold } .end { text-anchor: end } .start { text-anchor: start } .mark, .duty, .title, .pinch-text { text-anchor: middle }"
     print ".mark { font-size: 10px } .duty { font-size: 10px; font-weight: bold } .title { font-size: 10px } .pinch-text { fill: #666 } .big { font-size: 14px }"
-    print ".hot { stroke: #c0392b; stroke-width: 2 } .cold { stroke: #2471a3; stroke-width: 2 } .hot-fill { fill: #c0392b } .cold-fill { fill: #2471a3 }"
+    print ".hot { stroke: #c0392b; stroke-width: 2 } .cold { stroke: #2471a3; stroke-width: 2 } .open { stroke-dasharray: 3 4 } .hot-fill { fill: #c0392b } .cold-fill { fill: #2471a3 }"
     print ".bar { stroke: #333; stroke-width: 1.3 } .joint { fill: #fff; stroke: #333 } .heater { fill: #f5b7b1; stroke: #c0392b } .cooler { fill: #aed6f1; stroke: #2471a3 }"
     print ".pinch { stroke: #666; stroke-dasharray: 6 4 }"
     print "</style>"
@@ -311,6 +334,7 @@ function draw(   at, line, width) {
     }
     for (line = 1; line <= statements; line++) if (word[line, 1] == "end") ended[word[line, 2]] = 1
     for (line = 1; line <= statements; line++) draw_statement(line)
+    draw_open()
     for (at = 1; at <= exchangers; at++) draw_exchanger(at)
     put_text(8, bottom + 20, "stream-note", note)
     print "</svg>"
