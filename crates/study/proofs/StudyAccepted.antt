@@ -153,11 +153,11 @@ outcome_is_study c rows (Err fault) complete is = tt
 -- what rows give one after the other is what they say together
 said : (c : Case) (rows : List Row) (earlier : List Entry) → fold (next c) earlier rows ≡ earlier ++ entries_in c rows
 said c [] earlier = sym (append-nil earlier)
-said c (row ∷ rows) earlier = by (entry_in c row)
+said c (row ∷ rows) earlier = by (entry_in c row) (said c rows)
   where
-    by : (o : Option Entry) → fold (next c) (earlier ++ option_to_list o) rows ≡ earlier ++ cons_option o (entries_in c rows)
-    by None = rw (append-nil earlier) (said c rows earlier)
-    by (Some e) = said c rows (earlier ++ e ∷ []) ∙ append_snoc earlier e (entries_in c rows)
+    by : (o : Option Entry) → ((more : List Entry) → fold (next c) more rows ≡ more ++ entries_in c rows) → fold (next c) (earlier ++ option_to_list o) rows ≡ earlier ++ cons_option o (entries_in c rows)
+    by None rest = rw (append-nil earlier) (rest earlier)
+    by (Some e) rest = rest (earlier ++ e ∷ []) ∙ append_snoc earlier e (entries_in c rows)
 
 pub outcome_is_said : (c : Case) (rows : List Row) (result : Result Study (RowFault StudyWhy)) → IsStudyOutcome c rows result → IfOk result (λ study. study ≡ study_of c (entries_in c rows))
 outcome_is_said c rows (Ok study) is = is.value_is ∙ ap (study_of c) (said c rows [])
