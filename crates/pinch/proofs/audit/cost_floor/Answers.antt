@@ -19,27 +19,27 @@ least_case-requires-clause-parts c = parts_on_grid c.args.case.now c.in_ok-parts
 pub unreachable-requires : goal.unreachable-requires
 unreachable-requires c =
     let parts = c.in_ok-parts.parts in
-    let found = rw c.in-Stuck.is at c.in_ok-least_case.ensures in
+    let found = rw c.in-Stuck.is at c.in_ok-cost.ensures in
     no_cut-stands uses_ordered c.args.case.now c.args.network.now parts.hot parts.cold c.in-Stuck.field-0 c.requires.complete c.requires.shape c.requires.valid c.in_ok-parts.ensures found.cut
 
-pub returns-in-Least-clause-least : goal.returns-in-Least-clause-least
-returns-in-Least-clause-least c =
+pub returns-clause-least : goal.returns-clause-least
+returns-clause-least c =
     let case = c.args.case.now in
     let parts = c.in_ok-parts.parts in
     let cost = c.in-Least.cost in
     let fits : FitsSigned w128 cost = search rules in
-    let found = rw c.in-Least.is at c.in_ok-least_case.ensures in
+    let found = rw c.in-Least.is at c.in_ok-cost.ensures in
     subst (IsLeastCostOf case) (sym (to_z-of_z w128 cost fits)) (HoldsOfParts-some case (λ hot cold. IsLeastCost (reach_between case hot cold) hot cold cost) parts.hot parts.cold c.in_ok-parts.ensures found.least)
 
-pub returns-in-Least-clause-floor : goal.returns-in-Least-clause-floor
-returns-in-Least-clause-floor c =
+pub returns-clause-floor : goal.returns-clause-floor
+returns-clause-floor c =
     let case = c.args.case.now in
     let network = c.args.network.now in
     let parts = c.in_ok-parts.parts in
     let cost = c.in-Least.cost in
     let prices = c.in-Least.prices in
     let fits : FitsSigned w128 cost = search rules in
-    let found = rw c.in-Least.is at c.in_ok-least_case.ensures in
+    let found = rw c.in-Least.is at c.in_ok-cost.ensures in
     let certified = found.certified in
     subst (λ floor. IsAtMost (whole floor) (cost_of case network)) (certified.value ∙ sym (to_z-of_z w128 cost fits))
     (no_network-costs_less uses_ordered case network parts.hot parts.cold prices.hot prices.cold c.requires.complete c.requires.shape c.requires.valid c.in_ok-parts.ensures certified.supporting)
