@@ -1,7 +1,7 @@
 //! Over every command: each file is cut at every byte. How the command ends is compared with what
 //! the grammars say of the bytes that are left.
 
-use super::hostile_orders::{ROWS, Row};
+use super::hostile_orders::{Row, rows};
 use super::support::{check_end, outcome_over, shelf_of};
 use case_text::{CaseFault, read_case};
 use certify::{ReportFault, read_report};
@@ -202,8 +202,8 @@ fn check_cuts_of<R: Abort + Threads + Sync + AllocGlobal>(
 #[test]
 fn each_file_is_cut_at_every_byte(rt: HostRuntime) -> Result<(), Fail> {
     let mut cuts: u64 = 0;
-    for row in ROWS {
-        cuts = cuts.saturating_add(check_cuts(&rt, row)?);
+    for row in rows() {
+        cuts = cuts.saturating_add(check_cuts(&rt, *row)?);
     }
     println!(rt; "files cut at every byte over every command: {cuts} runs")?;
     assert!(rt; cuts >= 1000);

@@ -91,8 +91,7 @@ plant,B,,,,,
 cold,C,500,1300,10,,
 ";
 
-/// Every command, and every status that needs no refused call, no refused write and no long file.
-pub const ROWS: [Row; 28] = [
+const ROWS: &[Row] = &[
     (
         &["targets", "case"],
         &[("case", CASE)],
@@ -257,3 +256,9 @@ pub const ROWS: [Row; 28] = [
     ),
     (&["targets"], &[], 2, WORDS),
 ];
+
+/// Every command, and every status that needs no refused call, no refused write and no long file.
+/// The rows stand in this body alone, since each body that names them is proved over all of them.
+pub fn rows() -> &'static [Row] {
+    ROWS
+}

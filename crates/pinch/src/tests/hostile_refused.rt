@@ -1,6 +1,6 @@
 //! Over every command: each call of the shelf is refused in turn, and each write.
 
-use super::hostile_orders::{ROWS, Row};
+use super::hostile_orders::{Row, rows};
 use super::support::{
     Outcome, check_count, check_end, check_front, outcome_over, outcome_to, shelf_of,
 };
@@ -82,8 +82,8 @@ fn check_refused_calls<R: Abort + Threads + Sync + AllocGlobal>(
 #[test]
 fn each_call_of_the_shelf_is_refused(rt: HostRuntime) -> Result<(), Fail> {
     let mut calls: u64 = 0;
-    for row in ROWS {
-        calls = calls.saturating_add(check_refused_calls(&rt, row)?);
+    for row in rows() {
+        calls = calls.saturating_add(check_refused_calls(&rt, *row)?);
     }
     println!(rt; "calls of the shelf refused in turn over every command: {calls}, each in 2 runs")?;
     assert!(rt; calls >= 60);
@@ -121,8 +121,8 @@ fn check_writes_by<R: Abort + Threads + Sync + AllocGlobal>(
     piece: usize,
 ) -> Result<u64, Fail> {
     let mut writes: u64 = 0;
-    for row in ROWS {
-        writes = writes.saturating_add(check_refused_writes(rt, row, piece)?);
+    for row in rows() {
+        writes = writes.saturating_add(check_refused_writes(rt, *row, piece)?);
     }
     Ok(writes)
 }
@@ -148,6 +148,6 @@ fn each_write_of_all_bytes_is_refused(rt: HostRuntime) -> Result<(), Fail> {
     let writes = check_writes_by(&rt, 4096)?;
     println!(rt; "writes of 4096 bytes refused in turn over every command: {writes} runs")?;
     // Each text is shorter than that, so each row makes one write.
-    assert_eq!(rt; writes, ROWS.len() as u64);
+    assert_eq!(rt; writes, rows().len() as u64);
     Ok(())
 }
