@@ -1,6 +1,6 @@
 -- A study has one list of answers.
-use Rattle.std.proofs.Common.{◌≡◌, ◌∙◌, inl, inr, refl, subst, sym, ap, ap₂, ◌<◌, List, [], ◌∷◌, length, get_or, Option, None, Some, arith}
-use Rattle.std.specs.Prelude.{ℤ, pos, ◌+ℤ◌, ◌-ℤ◌, ◌*ℤ◌, ◌≤ℤ◌, ◌<ℤ◌, ℕ}
+use Rattle.std.proofs.Common.{◌≡◌, ◌∙◌, inl, inr, refl, subst, sym, ap, ap₂, List, [], ◌∷◌, get_or, Option, None, Some, arith}
+use Rattle.std.specs.Prelude.{ℤ, pos, ◌+ℤ◌, ◌*ℤ◌, ◌≤ℤ◌, ℕ}
 use Rattle.std.proofs.lemmas.Int.{ints, by_lt_z}
 use Rattle.std.proofs.lemmas.List.{same_lists}
 use Rattle.std.proofs.lemmas.Option.{slice_get-get_or}
@@ -8,8 +8,8 @@ use Rattle.sums.proofs.ListLemmas.{All-slice_get}
 use Rattle.stream_case.specs.Limits.{IsBetween}
 use Rattle.stream_case.specs.declared.case.Case.{Case}
 use Rattle.study.specs.Priced.{IsCostAt, prices_with}
-use Rattle.study.specs.Segments.{AreSegments, IsCostFunction, IsSegment, on_line}
-use Rattle.study.specs.Study.{AreAnswers, AreSpanSegments, IsItem, IsItemAnswer, OneAnswer}
+use Rattle.study.specs.Segments.{AreSegments, IsSegment, on_line}
+use Rattle.study.specs.Study.{AreSpanSegments, IsItem, IsItemAnswer, OneAnswer}
 use Rattle.study.specs.declared.study_item.Segment.{Segment}
 use Rattle.study.specs.declared.study_item.StudyAnswer.{StudyAnswer}
 use Rattle.study.specs.declared.study_item.StudyAnswer.TheVariants.{Cost, Segments}

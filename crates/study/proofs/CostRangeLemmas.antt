@@ -1,8 +1,8 @@
 -- How large the cost of a heat flow can be.
-use Rattle.std.proofs.Common.{◌≡◌, ap, refl, subst, ℕ, zero, suc, ◌+◌, ◌*◌, ◌≤◌, List, [], ◌∷◌, length, Some, slice_get, arith, add-zero, zero-add}
-use Rattle.std.specs.Prelude.{Bool, ℤ, pos, neg_ℤ, ◌*ℤ◌, ◌≤ℤ◌, All}
+use Rattle.std.proofs.Common.{◌≡◌, refl, subst, ℕ, suc, ◌+◌, ◌*◌, ◌≤◌, List, [], ◌∷◌, length, Some, slice_get, arith, add-zero, zero-add}
+use Rattle.std.specs.Prelude.{Bool, ℤ, pos, ◌*ℤ◌, All}
 use Rattle.std.proofs.lemmas.Int.{ints}
-use Rattle.stream_case.specs.declared.limits.TheConstants.{MOST_HEAT, MOST_PARTS, MOST_PRICE}
+use Rattle.stream_case.specs.declared.limits.TheConstants.{MOST_PARTS}
 use Rattle.stream_case.specs.declared.source.Side.{Side}
 use Rattle.stream_case.specs.declared.source.Side.TheVariants.{Hot, Cold}
 use Rattle.sums.specs.Sum.{int_sum_from}
@@ -11,7 +11,7 @@ use Rattle.sums.proofs.ProductLemmas.{product_within}
 use Rattle.grid.specs.Bounds.{IsBounded}
 use Rattle.grid.specs.declared.part.Part.{Part}
 use Rattle.heat_flow.specs.declared.flow.Transfer.{Transfer}
-use Rattle.heat_flow.specs.Flow.{IsHeatFlow, IsLeastCost, KeepsRanges, cost_of, heat_at, side_cost}
+use Rattle.heat_flow.specs.Flow.{IsLeastCost, KeepsRanges, heat_at, side_cost}
 use Rattle.heat_flow.specs.Ranges.{IsWithin}
 use Rattle.study.specs.CostRange.{IsCost}
 

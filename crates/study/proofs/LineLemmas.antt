@@ -1,7 +1,7 @@
 -- Lines through least costs: how large their numbers are, and how their end is found by halving.
 use Rattle.std.proofs.Common.{◌≡◌, ◌∙◌, refl, sym, ap, subst, ℕ, ◌*◌, Bool, true, false, FitsSigned, to_z, of_z, w64, arith}
 use Rattle.std.specs.Int.{w128}
-use Rattle.std.specs.Prelude.{MatchBool, nat_eq, ℤ, pos, neg_ℤ, ◌+ℤ◌, ◌-ℤ◌, ◌*ℤ◌, ◌≤ℤ◌, ◌<ℤ◌}
+use Rattle.std.specs.Prelude.{MatchBool, nat_eq, ℤ, pos, neg_ℤ, ◌+ℤ◌, ◌-ℤ◌, ◌*ℤ◌, ◌<ℤ◌}
 use Rattle.std.specs.Int.RustNames.{int_div}
 use Rattle.std.proofs.Math.IntN.{*ℤ_comm}
 use Rattle.std.proofs.lemmas.Bool.{eq-eqb, eqb-true, false≢true}

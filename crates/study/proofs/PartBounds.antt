@@ -1,6 +1,6 @@
 -- What parts keep where they are priced anew.
-use Rattle.std.proofs.Common.{◌≡◌, ◌∙◌, ⊎_elim, ap, sym, subst, ℕ, zero, suc, ◌<◌, ◌≤◌, List, [], ◌∷◌, length, map, get_or, arith}
-use Rattle.std.specs.Prelude.{ℤ, pos, neg_ℤ, All, set}
+use Rattle.std.proofs.Common.{◌∙◌, ⊎_elim, ap, sym, subst, ℕ, List, [], ◌∷◌, length, map, arith}
+use Rattle.std.specs.Prelude.{ℤ, pos, All}
 use Rattle.std.proofs.lemmas.Bool.{cases_lt}
 use Rattle.std.proofs.lemmas.Int.{ints}
 use Rattle.std.proofs.lemmas.List.{get_or_past}
@@ -11,7 +11,6 @@ use Rattle.stream_case.specs.Utility.{IsPlaced}
 use Rattle.stream_case.proofs.CompleteLemmas.{IsPlaced-IsComplete}
 use Rattle.stream_case.specs.declared.utility.Utility.{Utility}
 use Rattle.stream_case.specs.declared.case.Case.{Case}
-use Rattle.stream_case.specs.declared.source.Side.{Side}
 use Rattle.stream_case.specs.declared.source.Side.TheVariants.{Hot, Cold}
 use Rattle.stream_case.specs.declared.source.Source.{Source}
 use Rattle.stream_case.specs.declared.source.Source.TheVariants.{Stream as of_stream, Utility as of_utility}

@@ -1,5 +1,5 @@
 -- The study of a file that is accepted may be asked of the case.
-use Rattle.std.proofs.Common.{◌≡◌, ◌∙◌, ◌<◌, ◌≤◌, ◌+◌, ◌∷◌, ◌++◌, ℕ, suc, ℤ, ◌-ℤ◌, true, not, cond, List, [], All, Option, Some, None, Result, Ok, Err, IfOk, is_some, unwrap_or, option_to_list, position, length, count_by, map, refl, sym, ap, arith, append-nil}
+use Rattle.std.proofs.Common.{◌≡◌, ◌∙◌, ◌<◌, ◌≤◌, ◌+◌, ◌∷◌, ◌++◌, ℕ, ℤ, true, cond, List, [], All, Option, Some, None, Result, Ok, Err, IfOk, is_some, unwrap_or, option_to_list, position, length, refl, sym, ap, arith, append-nil}
 use Rattle.std.specs.Prelude.{fold, slice_set}
 use Rattle.std.specs.List.{cons_option}
 use Rattle.std.proofs.Math.Seq.{append_snoc}
@@ -28,12 +28,11 @@ use Rattle.study.specs.StudyChecks.{checks, kind_checks, price_checks, scenario_
 use Rattle.study.specs.StudyEntries.{count_items, is_item, items_of, prices_by, study_of}
 use Rattle.study.specs.StudyOutcome.{IsStudyOf, IsStudyOutcome, grammar}
 use Rattle.study.specs.StudyRows.{entries_in, entry_by, entry_in, kind_of, next, utility_in, utility_named}
-use Rattle.study.specs.declared.limits.TheConstants.{MOST_ITEMS, MOST_SPAN}
+use Rattle.study.specs.declared.limits.TheConstants.{MOST_ITEMS}
 use Rattle.study.specs.declared.study_entry.Entry.{Entry}
 use Rattle.study.specs.declared.study_entry.Entry.TheVariants as entry
 use Rattle.study.specs.declared.study_fault.StudyWhy.{StudyWhy}
 use Rattle.study.specs.declared.study_item.Study.{Study}
-use Rattle.study.specs.declared.study_item.StudyItem.{StudyItem}
 use Rattle.study.specs.declared.study_item.StudyItem.TheVariants as item
 use Rattle.study.specs.declared.study_kind.Kind.{Kind}
 use Rattle.study.specs.declared.study_kind.Kind.TheVariants as kind

@@ -1,5 +1,5 @@
 -- What the rows of a study file say with one more.
-use Rattle.std.proofs.Common.{◌≡◌, ◌∙◌, ◌≤◌, ◌∷◌, ◌++◌, ◌&&◌, ◌||◌, ℕ, Bool, true, false, not, List, [], drop, length, refl, sym, ap, arith, length-append, ℤ}
+use Rattle.std.proofs.Common.{◌≡◌, ◌∙◌, ◌∷◌, ◌++◌, ◌&&◌, ◌||◌, ℕ, Bool, true, false, not, List, [], drop, length, refl, sym, ap, arith, length-append}
 use Rattle.std.specs.List.{list_any}
 use Rattle.std.proofs.Math.Seq.{append_snoc, drop-append-le, drop-length}
 use Rattle.std.proofs.lemmas.List.Folds.{list_any-append}

@@ -1,5 +1,5 @@
 -- The least cost over a span of prices of one utility, in segments.
-use Rattle.std.specs.Prelude.{◌≡◌, ◌≢◌, ℕ, ℤ, pos, ◌+ℤ◌, ◌-ℤ◌, ◌*ℤ◌, ◌≤ℤ◌, ◌<ℤ◌, List, [], ◌∷◌}
+use Rattle.std.specs.Prelude.{◌≡◌, ◌≢◌, ℕ, ℤ, pos, ◌+ℤ◌, ◌-ℤ◌, ◌*ℤ◌, ◌<ℤ◌, List, [], ◌∷◌}
 use Rattle.stream_case.specs.Limits.{IsBetween}
 use Rattle.stream_case.specs.declared.case.Case.{Case}
 use Rattle.study.specs.Priced.{IsLeastCostAt, prices_with}

@@ -1,5 +1,5 @@
 -- Lines through the least costs over a span, which its segments are made of.
-use Rattle.std.specs.Prelude.{◌≡◌, ℕ, Bool, MatchBool, ℤ, pos, ◌+ℤ◌, ◌-ℤ◌, ◌*ℤ◌, ◌≤ℤ◌, ◌<ℤ◌, List, [], ◌∷◌}
+use Rattle.std.specs.Prelude.{◌≡◌, ℕ, Bool, MatchBool, ℤ, pos, ◌+ℤ◌, ◌-ℤ◌, ◌*ℤ◌, ◌<ℤ◌, List, [], ◌∷◌}
 use Rattle.heat_flow.specs.Ranges.{IsWithin}
 use Rattle.stream_case.specs.Limits.{IsBetween, IsPrice}
 use Rattle.stream_case.specs.declared.case.Case.{Case}

@@ -1,5 +1,5 @@
 -- The checks of a row of a study file, in their order. A check is a sentence on the row and on what the rows above it say.
-use Rattle.std.specs.Prelude.{ℕ, ◌-ℤ◌, not, ◌==◌, List, [], ◌∷◌, length, Option, Some, None, is_some, nat_lt, int_le, int_lt}
+use Rattle.std.specs.Prelude.{◌-ℤ◌, not, ◌==◌, List, [], ◌∷◌, length, Option, Some, None, is_some, nat_lt, int_le, int_lt}
 use Rattle.std.specs.List.{list_any}
 use Rattle.first_fault.specs.Checks.{Check}
 use Rattle.rows.specs.Fields.{are_empty, field, is_number, number}

@@ -4,7 +4,7 @@ use Rattle.first_fault.specs.Outcome.{Grammar}
 use Rattle.first_fault.specs.Outcome as outcome
 use Rattle.rows.specs.Outcome.{IsRowOutcome}
 use Rattle.rows.specs.Outcome as of_rows
-use Rattle.rows.specs.Rows.{Row, rows_of}
+use Rattle.rows.specs.Rows.{Row}
 use Rattle.rows.specs.declared.fault.RowFault.{RowFault}
 use Rattle.stream_case.specs.declared.case.Case.{Case}
 use Rattle.study.specs.StudyChecks.{checks, end_checks}

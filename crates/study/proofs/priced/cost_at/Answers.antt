@@ -1,4 +1,4 @@
-use Rattle.std.proofs.Common.{◌≡◌, ◌∙◌, sym, subst, subst₂, FitsSigned, rules, ℕ, List}
+use Rattle.std.proofs.Common.{◌≡◌, sym, subst, subst₂, FitsSigned, rules, ℕ, List}
 use Rattle.std.specs.Int.{w128}
 use Rattle.std.specs.Prelude.{Bool, ℤ}
 use Rattle.stream_case.specs.declared.case.Case.{Case}

@@ -1,4 +1,4 @@
-use Rattle.std.proofs.Common.{◌≡◌, ◌∙◌, ap, map, FitsSigned, w64, rules}
+use Rattle.std.proofs.Common.{◌∙◌, ap, map, FitsSigned, w64, rules}
 use Rattle.std.specs.Prelude.{set}
 use Rattle.std.proofs.lemmas.Int.{to_z-of_z}
 use Rattle.stream_case.specs.declared.utility.Utility.{Utility}

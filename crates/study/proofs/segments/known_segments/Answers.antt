@@ -1,7 +1,7 @@
-use Rattle.std.proofs.Common.{◌≡◌, ◌∙◌, sym, subst, subst₂, to_z, of_z, w64, arith}
+use Rattle.std.proofs.Common.{◌≡◌, sym, subst, subst₂, to_z, of_z, w64, arith}
 use Rattle.std.specs.Prelude.{pos, ◌+ℤ◌}
 use Rattle.std.proofs.lemmas.Int.{ints, to_z-of_z}
-use Rattle.study.specs.Spans.{AreCostSegments, IsCostSegment}
+use Rattle.study.specs.Spans.{AreCostSegments}
 use Rattle.study.proofs.SpanLemmas.{one_more_segment, span-segments}
 use Rattle.study.proofs.segments.known_segments.Goals as goal
 

@@ -1,5 +1,4 @@
 use Rattle.std.specs.Int.RustNames.{unsigned_abs}
-use Rattle.std.proofs.Common.{ℕ, ◌<◌}
 use Rattle.std.specs.Prelude.{pos, ◌+ℤ◌, ◌-ℤ◌, ◌≤ℤ◌}
 use Rattle.study.specs.Spans.{AreCostSegments}
 use Rattle.study.proofs.segments.known_segments.Given as goal

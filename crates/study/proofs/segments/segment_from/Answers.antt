@@ -1,4 +1,4 @@
-use Rattle.std.proofs.Common.{◌≡◌, ◌∙◌, sym, subst₂, FitsSigned, w64, arith, rules}
+use Rattle.std.proofs.Common.{◌∙◌, sym, subst₂, FitsSigned, w64, arith, rules}
 use Rattle.std.specs.Int.{w128}
 use Rattle.std.specs.Prelude.{◌<ℤ◌}
 use Rattle.std.proofs.lemmas.Int.{ints, to_z-of_z}

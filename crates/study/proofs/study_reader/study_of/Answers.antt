@@ -1,8 +1,6 @@
-use Rattle.std.proofs.Common.{◌∙◌, ap, inr, length, subst, sym}
+use Rattle.std.proofs.Common.{subst, sym}
 use Rattle.std.specs.Prelude.{All}
 use Rattle.study.specs.StudyAccepted.{IsKnown}
-use Rattle.study.specs.StudyEntries.{study_of}
-use Rattle.study.specs.StudyOutcome.{end_fault}
 use Rattle.study.proofs.StudyAccepted.{accepted-fits}
 use Rattle.study.proofs.study_reader.study_of.Goals as goal
 
