@@ -10,7 +10,7 @@ use Rattle.curves.specs.declared.point.Point.{Point}
 use Rattle.grid.specs.declared.parts.Parts.{Parts}
 use Rattle.heat_flow.specs.declared.cut.Cut.{Cut}
 use Rattle.heat_flow.specs.declared.flow.Flow.{Flow as HeatFlow}
-use Rattle.heat_flow.specs.declared.prices.Prices.{Prices}
+use Rattle.heat_flow.specs.declared.prices.Prices.{Prices as PartPrices}
 use Rattle.transport.specs.declared.answer.Answer.{Answer}
 use Rattle.plants.specs.declared.site.Site.{Site}
 use Rattle.plants.specs.declared.table.SiteTable.{SiteTable}
@@ -33,7 +33,7 @@ use Rattle.reports.specs.declared.shown.Shown.TheVariants.{Targets, Flow, Stuck,
 -- what is no answer and no network is a refusal
 pub is_refusal-other : (shown : Shown)
     → ((targets : Target) (pinches : List ℤ) → shown ≡ Targets targets pinches → ⊥)
-    → ((c : Case) (parts : Parts) (flow : HeatFlow) (prices : Prices) (cost : ℤ) → shown ≡ Flow c parts flow prices cost → ⊥)
+    → ((c : Case) (parts : Parts) (flow : HeatFlow) (prices : PartPrices) (cost : ℤ) → shown ≡ Flow c parts flow prices cost → ⊥)
     → ((c : Case) (parts : Parts) (cut : Cut) → shown ≡ Stuck c parts cut → ⊥)
     → ((hot cold net : List Point) → shown ≡ Curves hot cold net → ⊥)
     → ((site : Site) (parts : SiteTable) (sinks sources : List ℤ) (answer : Answer) → shown ≡ SiteShown site parts sinks sources answer → ⊥)
