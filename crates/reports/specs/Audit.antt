@@ -75,7 +75,11 @@ abbrev pub penalty_lines : Case → Network → PenaltyList → List ℕ
 penalty_lines c network (list.Listed penalties) = flat_map (penalty_line (exchanger_names network)) penalties
 penalty_lines c network (list.TooFine place step) = codes "penalties " ++ too_fine_text c network place step
 
+-- the floor under the cost and the reference place
+abbrev pub floor_lines : ℤ → ℤ → List ℕ
+floor_lines floor reference = line (codes "floor") floor ++ line (codes "place") reference
+
 -- a network that is accepted, the floor under its cost, the reference place of its case, and the penalties
 abbrev pub accepted_text : Case → Network → Balance → ℤ → ℤ → PenaltyList → List ℕ
 accepted_text c network balance reference floor penalties =
-    codes "accepted\n" ++ balance_lines balance ++ line (codes "floor") floor ++ line (codes "place") reference ++ penalty_lines c network penalties
+    codes "accepted\n" ++ balance_lines balance ++ floor_lines floor reference ++ penalty_lines c network penalties

@@ -2,7 +2,7 @@
 ghost use Rattle.std.specs.Prelude.{◌≡◌, [], IfOk, slice_index_or, string_bytes};
 ghost use Rattle.std.specs.List.{flat_map};
 ghost use Rattle.network_text.specs.Printed.{exchanger_name};
-ghost use Rattle.reports.specs.Audit.{accepted_text, balance_lines, fraction_line, loss_text, measured_text, penalty_line, penalty_lines, place_text, reason_text, rejected_text, too_fine_text};
+ghost use Rattle.reports.specs.Audit.{accepted_text, balance_lines, floor_lines, fraction_line, loss_text, measured_text, penalty_line, penalty_lines, place_text, reason_text, rejected_text, too_fine_text};
 
 use crate::line::line;
 use crate::source::source_name;
@@ -28,8 +28,7 @@ pub fn accepted_text(
 {
     let mut text = String::from_str(alloc, "accepted\n")?;
     text.push_str(&balance_lines(alloc, balance)?)?;
-    text.push_str(&line(alloc, "floor", floor)?)?;
-    text.push_str(&line(alloc, "place", i128::from(reference))?)?;
+    text.push_str(&floor_lines(alloc, floor, reference)?)?;
     text.push_str(&penalty_lines(alloc, case, network, penalties)?)?;
     Ok(text)
 }
@@ -71,6 +70,15 @@ fn balance_lines(alloc: Global, balance: &Balance) -> Result<String, AllocError>
     text.push_str(&fraction_line(alloc, "cold", balance.cold)?)?;
     text.push_str(&fraction_line(alloc, "excess", balance.excess)?)?;
     text.push_str(&fraction_line(alloc, "cost", balance.cost)?)?;
+    Ok(text)
+}
+
+/// The floor under the cost and the reference place, a line each.
+fn floor_lines(alloc: Global, floor: i128, reference: i32) -> Result<String, AllocError>
+    ensures { IfOk result (λ text. string_bytes text ≡ floor_lines floor reference) }
+{
+    let mut text = line(alloc, "floor", floor)?;
+    text.push_str(&line(alloc, "place", i128::from(reference))?)?;
     Ok(text)
 }
 

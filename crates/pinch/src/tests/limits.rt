@@ -85,7 +85,8 @@ fn the_largest_vertical_design_is_accepted(rt: HostRuntime) -> Result<(), Fail> 
     let case = largest_case(rt.alloc(), "")?;
     let design = answer_of(&rt, "vertical", case.as_str())?;
     let audit = audit_under(&rt, case.as_str(), &design.written, NONE)?;
-    let front = "accepted\nhot 270000\ncold 8292669525\nexcess 0\ncost 270000\nfloor 270000\nplace 29950\n";
+    let front =
+        "accepted\nhot 270000\ncold 8292669525\nexcess 0\ncost 270000\nfloor 270000\nplace 29950\n";
     check_front(&rt, &"audit", &audit, 0, front);
     Ok(())
 }
