@@ -1,5 +1,4 @@
 //! Study files that are read and refused.
-ghost use Rattle.std.specs.Prelude.{IfOk};
 ghost use Rattle.stream_case.specs.Case.{IsComplete};
 
 use crate::compare::{assert_lists, assert_same};
@@ -138,9 +137,9 @@ fn sound_rows_are_accepted(rt: HostRuntime) -> Result<(), Fail> {
     Ok(())
 }
 
-/// An item of a study: a scenario with its name and its prices, or, without a name, a span with the
-/// index of its utility, its first and its last price.
-type ItemRow = (&'static str, &'static [i64]);
+/// An item of a study: a scenario with its name, 0 and its prices, or, without a name, a span with
+/// the index of its utility, its first and its last price.
+type ItemRow = (&'static str, u32, &'static [i64]);
 
 /// A text behind a byte order mark, with quotes, a price row behind a span row, and rows that say
 /// nothing.
@@ -149,18 +148,18 @@ const PRICED_TEXT: &str = "\u{feff}scenario,\"S\",,\r\nprice,B,30,\n#,,,\nspan,A
 
 /// What it asks of the case whose prices are 5, 3, 2, -1, 0 and 4.
 const PRICED_ITEMS: [ItemRow; 5] = [
-    ("S", &[5, 30, 2, -1, 0, -4]),
-    ("", &[0, 0, 5]),
-    ("T", &[5, 3, 2, -1, 0, 4]),
-    ("", &[5, -2, 2]),
-    ("U", &[0, 3, 2, 1, 0, 4]),
+    ("S", 0, &[5, 30, 2, -1, 0, -4]),
+    ("", 0, &[0, 5]),
+    ("T", 0, &[5, 3, 2, -1, 0, 4]),
+    ("", 5, &[-2, 2]),
+    ("U", 0, &[0, 3, 2, 1, 0, 4]),
 ];
 
 fn item_of(alloc: Global, row: &ItemRow) -> Result<StudyItem, Fail> {
-    let (text, numbers) = *row;
-    if let [utility, from, to] = numbers {
+    let (text, utility, numbers) = *row;
+    if let [from, to] = numbers {
         return Ok(StudyItem::Span {
-            utility: *utility as u32,
+            utility,
             from: *from,
             to: *to,
         });
