@@ -70,11 +70,7 @@ const FILES: &[(FileRole, &str, &str)] = &[
         "read fault network\n",
     ),
     (FileRole::Site, "too long site\n", "read fault site\n"),
-    (
-        FileRole::Report,
-        "too long report\n",
-        "read fault report\n",
-    ),
+    (FileRole::Report, "too long report\n", "read fault report\n"),
     (FileRole::Study, "too long study\n", "read fault study\n"),
 ];
 

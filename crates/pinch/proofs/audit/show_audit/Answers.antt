@@ -11,8 +11,8 @@ use Rattle.penalties.specs.Answers.{IfListed, sum_of}
 use Rattle.reports.specs.declared.shown.Shown.TheVariants.{Accepted}
 use Rattle.pinch.proofs.audit.show_audit.Goals as goal
 
-pub returns-in_ok-penalties-in-Accepted : goal.returns-in_ok-penalties-in-Accepted
-returns-in_ok-penalties-in-Accepted c =
+pub returns-in-Accepted : goal.returns-in-Accepted
+returns-in-Accepted c =
     let case = c.args.case in
     let network = c.args.network in
     let balance = c.in-Accepted.balance in
