@@ -8,4 +8,5 @@ pub mod Ranges
 pub mod Reading
 pub mod Said
 pub mod SourceRows
+pub mod Table
 pub mod Words

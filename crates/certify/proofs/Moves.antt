@@ -1,14 +1,9 @@
 -- The parts that a report names, and its moves one after the other.
-use Rattle.std.proofs.Common.{◌≡◌, ◌∙◌, ◌∷◌, ◌++◌, ◌<◌, ℕ, ◌+◌, List, [], Option, Some, None, IfSome, length, get_or, take, refl, sym, ap, ap₂}
-use Rattle.std.specs.Prelude.{All, Bool, IsTrue, is_some, position}
+use Rattle.std.proofs.Common.{◌≡◌, ◌∙◌, ◌∷◌, ◌++◌, ◌<◌, ℕ, ◌+◌, List, [], Option, Some, None, length, get_or, take, refl, sym, ap, ap₂}
+use Rattle.std.specs.Prelude.{All, IsTrue, is_some}
 use Rattle.std.specs.List.{filter_map}
 use Rattle.std.proofs.lemmas.List.{take_more}
 use Rattle.std.proofs.lemmas.List.Elements.{All-push, filter_map-append}
-use Rattle.statements.proofs.Positions as of_text
-
-pub index_within : {X : Type 0} (p : X → Bool) (xs : List X) (o : Option ℕ) → o ≡ position p xs → IfSome o (λ i. i < length xs)
-index_within p xs None is = tt
-index_within p xs (Some i) is = rw (sym is) at (of_text.index_within p xs (rw (sym is) refl))
 
 -- one more of what h gives
 pub one_more_given : {X Y : Type 0} (h : X → Option Y) (xs : List X) (i : ℕ) (x : X) (given next : List Y) (y : Y) → i < length xs → x ≡ get_or xs i x

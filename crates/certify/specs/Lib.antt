@@ -5,3 +5,4 @@ pub mod Outcome
 pub mod Permits
 pub mod Printed
 pub mod Said
+pub mod Table

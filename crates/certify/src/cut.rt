@@ -12,7 +12,7 @@ ghost use Rattle.heat_flow.specs.Reach.{reach_between};
 ghost use Rattle.certify.specs.Answers.{index_of};
 ghost use Rattle.certify.specs.Permits.{IsSetting};
 
-use crate::naming::index_of;
+use crate::part_table::{index_in, table_of};
 use crate::permits::reaches;
 use crate::report::Span;
 use grid::{Part, Parts};
@@ -34,9 +34,10 @@ pub fn members_of(
     ensures members { IfOk result (λ members. IfSome members (λ m. m ≡
         filter_map (index_of case.now parts.now) spans.now)) }
 {
+    let table = table_of(alloc, case, parts)?;
     let mut members = Vec::with_capacity(alloc, spans.len())?;
     for span in spans {
-        let Some(member) = index_of(case, parts, span) else {
+        let Some(member) = index_in(&table, span) else {
             return Ok(None);
         };
         members.push(member)?;

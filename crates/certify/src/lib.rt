@@ -16,6 +16,7 @@ mod kind;
 mod laws;
 mod limits;
 mod naming;
+mod part_table;
 mod permits;
 mod reader;
 mod report;

@@ -2,22 +2,16 @@
 
 ghost use Rattle.std.specs.Prelude.{◌≡◌, ◌↔◌, ◌<◌, ◌≤◌, IsTrue, All, IfOk, IfSome, is_some, length};
 ghost use Rattle.stream_case.specs.Case.{IsSourceOf};
-ghost use Rattle.certify.specs.Answers.{ArePricesOf, index_of, is_span_of, span_of, transfer_of, transfers_of};
+ghost use Rattle.certify.specs.Answers.{ArePricesOf, span_of, transfer_by, transfer_of, transfers_of};
+ghost use Rattle.certify.specs.Table.{index_in};
 ghost use Rattle.stream_case.specs.declared.limits.TheConstants.{MOST_PARTS};
 
+use crate::part_table::{PartTable, index_in, table_of};
 use crate::report::{Moved, Priced, Span};
 use grid::{Part, Parts};
 use heat_flow::{Flow, Transfer};
 use std::alloc::{AllocError, Global};
 use stream_case::{Case, Items};
-
-/// Whether a report names this part.
-fn is_span_of(case: &Case, span: &Span, part: &Part) -> bool
-    requires { IsSourceOf case.now part.now.source }
-    ensures { result ≡ is_span_of case.now span.now part.now }
-{
-    span.high == part.high && span.low == part.low && span.name == case.name_of(part.source)
-}
 
 /// Whether a report names this part and no other.
 fn names(case: &Case, span: &Span, part: &Part) -> bool
@@ -25,26 +19,6 @@ fn names(case: &Case, span: &Span, part: &Part) -> bool
     ensures { IsTrue result ↔ (span.now ≡ span_of case.now part.now) }
 {
     span.high == part.high && span.low == part.low && span.name == case.name_of(part.source)
-}
-
-/// The index of the part that a report names.
-#[tactic(auto, using(crate::proofs::Moves::index_within))]
-fn place_of(case: &Case, parts: &[Part], span: &Span) -> Option<usize>
-    requires { All (λ p. IsSourceOf case.now p.source) parts.now }
-    ensures place { result ≡ index_of case.now parts.now span.now }
-    ensures within { IfSome result (λ index. index < length parts.now) }
-{
-    parts.iter().position(|part| is_span_of(case, span, part))
-}
-
-/// The same as a number of 32 bits.
-pub fn index_of(case: &Case, parts: &[Part], span: &Span) -> Option<u32>
-    requires few { length parts.now ≤ MOST_PARTS }
-    requires sources { All (λ p. IsSourceOf case.now p.source) parts.now }
-    ensures { result ≡ index_of case.now parts.now span.now }
-{
-    let index = place_of(case, parts, span)?;
-    Some(index as u32)
 }
 
 /// Whether prices are those of these parts, in their order.
@@ -63,17 +37,14 @@ pub fn are_prices_of(case: &Case, parts: &[Part], prices: &[Priced]) -> bool
     true
 }
 
-/// The transfer between the parts that a move names.
-fn transfer_of(case: &Case, parts: &Parts, moved: &Moved) -> Option<Transfer>
-    requires hot_sources { All (λ p. IsSourceOf case.now p.source) parts.now.hot }
-    requires cold_sources { All (λ p. IsSourceOf case.now p.source) parts.now.cold }
-    ensures { result ≡ transfer_of case.now parts.now.hot parts.now.cold moved.now }
+/// The transfer between the parts that a move names, by the tables of the two sides.
+fn transfer_of(hot: &PartTable, cold: &PartTable, moved: &Moved) -> Option<Transfer>
+    ensures { result ≡
+        transfer_by moved.now.heat (index_in hot.now moved.now.hot) (index_in cold.now moved.now.cold) }
 {
-    let hot = index_of(case, parts.hot.as_slice(), &moved.hot)?;
-    let cold = index_of(case, parts.cold.as_slice(), &moved.cold)?;
     Some(Transfer {
-        hot,
-        cold,
+        hot: index_in(hot, &moved.hot)?,
+        cold: index_in(cold, &moved.cold)?,
         heat: moved.heat,
     })
 }
@@ -92,9 +63,11 @@ pub fn flow_of(
     ensures transfers { IfOk result (λ flow. IfSome flow (λ f. f.transfers ≡
         transfers_of case.now parts.now.hot parts.now.cold moves.now)) }
 {
+    let hot = table_of(alloc, case, parts.hot.as_slice())?;
+    let cold = table_of(alloc, case, parts.cold.as_slice())?;
     let mut transfers = Vec::with_capacity(alloc, moves.len())?;
     for moved in moves {
-        let Some(transfer) = transfer_of(case, parts, moved) else {
+        let Some(transfer) = transfer_of(&hot, &cold, moved) else {
             return Ok(None);
         };
         transfers.push(transfer)?;

@@ -4,7 +4,7 @@ use heat_flow::CutKind;
 use stream_case::{Items, Name};
 
 /// A part of a case as a report names it.
-#[derive(Clone, Copy, Debug, PartialEq, Eq)]
+#[derive(Clone, Copy, Debug, PartialEq, Eq, Hash)]
 pub struct Span {
     /// The name of the part's source.
     pub name: Name,

@@ -1,9 +1,11 @@
 -- The links of a net of chains, part by part and group by group.
-use Rattle.std.proofs.Common.{◌≡◌, ◌∙◌, ◌⊎◌, ⊎_elim, inl, inr, refl, sym, ap, ap₂, subst, subst₂, ℕ, ◌+◌, ◌-◌, ◌*◌, ◌<◌, ◌≤◌, false, List, [], ◌∷◌, ◌++◌, length, get_or, take, Some, arith}
+use Rattle.std.proofs.Common.{◌≡◌, ◌∙◌, ◌⊎◌, ⊎_elim, inl, inr, refl, sym, ap, ap₂, subst, subst₂, ℕ, ◌+◌, ◌-◌, ◌*◌, ◌/◌, ◌%◌, ◌<◌, ◌≤◌, ◌↔◌, false, List, [], ◌∷◌, ◌++◌, length, get_or, take, Some, arith}
 use Rattle.std.specs.Prelude.{ℤ, All, Any, Contains, slice_get}
+use Rattle.std.proofs.Math.Nat.{div-mul-le_self, le-div_iff_mul-le, mul-mod_left}
 use Rattle.std.proofs.lemmas.Bool.{cases_lt}
 use Rattle.std.proofs.lemmas.List.{length-take-le, take_more}
-use Rattle.std.proofs.lemmas.List.Elements.{All-contains, Contains-append_left, Contains-append_right, Contains-get_or, Contains-push, Contains-push_cases}
+use Rattle.std.proofs.lemmas.List.Elements.{All-contains, All-push, Contains-append_left, Contains-append_right, Contains-get_or, Contains-push, Contains-push_cases}
+use Rattle.std.proofs.lemmas.Nat.{div-add-mod', le-div}
 use Rattle.std.proofs.lemmas.Option.{same_Some, slice_get_read}
 use Rattle.stream_case.specs.declared.source.Source.{Source}
 use Rattle.stream_case.specs.declared.case.Case.{Case}
@@ -12,7 +14,7 @@ use Rattle.sums.proofs.ListLemmas.{slice_get-append, slice_get_push}
 use Rattle.grid.specs.declared.part.Part.{Part}
 use Rattle.flow_net.specs.declared.net.Link.{Link}
 use Rattle.chains.specs.declared.net.Group.{Group}
-use Rattle.chains.specs.ChainNet.{open_link, IsEntering, IsOnward, IsLeaving, IsChainLink, HoldsChains}
+use Rattle.chains.specs.ChainNet.{open_link, strides, IsEntering, IsOnward, IsLeaving, IsChainLink, HoldsChains}
 use Rattle.chains.specs.Groups.{AreGroups}
 use Rattle.chains.specs.Making.{Appends, IsStep}
 use Rattle.chains.specs.Ranks.{rank_of, rank_count}
@@ -24,6 +26,9 @@ slice_get-end (a ∷ xs) x = slice_get-end xs x
 
 none_in_nil : {X : Type 0} (x : X) → Contains [] x → ⊥
 none_in_nil x (k, within, is) = omega (arith, within)
+
+only_one : {X : Type 0} (x y : X) → Contains (y ∷ []) x → x ≡ y
+only_one x y found = ⊎_elim (λ none. absurd (none_in_nil x none)) (λ e. sym e) (Contains-push_cases [] y x found)
 
 -- ---- entering links
 
@@ -73,22 +78,102 @@ node_at_most P groups node n most (k, g, within, is, (starts, stands)) = subst (
 
 -- ---- onward links
 
--- one node more
-pub steps-push : (first rank : ℕ) (before after now : List Link) (l : Link) → 1 ≤ rank → Appends (IsStep first rank) (rank - 1) before after → now ≡ after ++ l ∷ [] → l ≡ open_link (first + (rank - 1)) (first + rank) → Appends (IsStep first (rank + 1)) (rank + 1 - 1) before now
-steps-push first rank before after now l some h is link_is =
-    let count : rank - 1 + 1 ≡ rank + 1 - 1 = omega (arith, some) in
-    let last : rank - 1 + 1 ≡ rank = omega (arith, some) in
-    subst (λ m. Appends (IsStep first (rank + 1)) m before now) count
-    (appends-push (IsStep first rank) (IsStep first (rank + 1)) (rank - 1) before after now l h is
-    (record { rank = rank - 1; within = omega (arith, some); is = link_is ∙ ap (λ r. open_link (first + (rank - 1)) (first + r)) (sym last) })
-    (λ k s. let within = s.within in record { rank = s.rank; within = omega (arith, within); is = s.is })
-    (λ k s. ⊎_elim (λ early. inl (record { rank = s.rank; within = early; is = s.is })) (λ late. inr (s.is ∙ here s.rank s.within late ∙ sym link_is)) (cases_lt (s.rank + 1) rank)))
+-- each stride leads on
+pub strides_positive : All (λ stride. 0 < stride) strides
+strides_positive =
+    let P = λ (stride : ℕ). 0 < stride in
+    let ones = All-push P [] 1 (λ k d within. absurd (omega (arith, within))) (omega arith) in
+    let nines = All-push P (1 ∷ 3 ∷ []) 9 (All-push P (1 ∷ []) 3 ones (omega arith)) (omega arith) in
+    All-push P (1 ∷ 3 ∷ 9 ∷ 27 ∷ []) 81 (All-push P (1 ∷ 3 ∷ 9 ∷ []) 27 nines (omega arith)) (omega arith)
+
+-- the first so many links of a stride
+pub record IsStride (first stride steps : ℕ) (l : Link) : Type 0 where
+  pub step : ℕ
+  pub within : step < steps
+  pub is : l ≡ open_link (first + step * stride) (first + step * stride + stride)
+
+-- one more
+pub stride-push : (first stride step : ℕ) (before after now : List Link) (l : Link) → Appends (IsStride first stride step) step before after → now ≡ after ++ l ∷ [] → l ≡ open_link (first + step * stride) (first + step * stride + stride) → Appends (IsStride first stride (step + 1)) (step + 1) before now
+stride-push first stride step before after now l h is link_is =
+    appends-push (IsStride first stride step) (IsStride first stride (step + 1)) step before after now l h is
+    (record { step = step; within = omega arith; is = link_is })
+    (λ k s. let within = s.within in record { step = s.step; within = omega (arith, within); is = s.is })
+    (λ k s. ⊎_elim (λ early. inl (record { step = s.step; within = early; is = s.is })) (λ late. inr (s.is ∙ here s.step s.within late ∙ sym link_is)) (cases_lt s.step step))
   where
-    here : (r : ℕ) → (r + 1) < (rank + 1) → rank ≤ r + 1 → open_link (first + r) (first + (r + 1)) ≡ open_link (first + (rank - 1)) (first + rank)
+    here : (r : ℕ) → r < (step + 1) → step ≤ r → open_link (first + r * stride) (first + r * stride + stride) ≡ open_link (first + step * stride) (first + step * stride + stride)
     here r within late =
-        let from : r ≡ rank - 1 = omega (arith, within, late) in
-        let to : r + 1 ≡ rank = omega (arith, within, late) in
-        ap₂ (λ a b. open_link (first + a) (first + b)) from to
+        let same : r ≡ step = omega (arith, within, late) in
+        ap (λ n. open_link (first + n * stride) (first + n * stride + stride)) same
+
+-- all of them
+pub stride-all : (first ranks stride : ℕ) (before after : List Link) → 1 ≤ ranks → 1 ≤ stride → Appends (IsStride first stride ((ranks - 1) / stride)) ((ranks - 1) / stride) before after → Appends (IsStep (stride ∷ []) first ranks) ((ranks - 1) / stride) before after
+stride-all first ranks stride before after some positive h =
+    appends-same (IsStride first stride count) (IsStep (stride ∷ []) first ranks) count count before after there back (omega arith) h
+  where
+    count : ℕ
+    count = (ranks - 1) / stride
+
+    fits : (k : ℕ) → (k + 1 ≤ count) ↔ ((k + 1) * stride ≤ ranks - 1)
+    fits k = le-div_iff_mul-le {k = stride} {x = k + 1} {y = ranks - 1} positive
+
+    there : (l : Link) → IsStride first stride count l → IsStep (stride ∷ []) first ranks l
+    there l s =
+        let upto = (fits s.step).0 (let within = s.within in omega (arith, within)) in
+        let to : first + s.step * stride + stride ≡ first + (s.step * stride + stride) = omega arith in
+        record {
+          rank = s.step * stride;
+          stride = stride;
+          stride_is = Contains-push [] stride;
+          starts = mul-mod_left s.step stride;
+          within = omega (arith, upto, some);
+          is = s.is ∙ ap (open_link (first + s.step * stride)) to;
+        }
+
+    back : (l : Link) → IsStep (stride ∷ []) first ranks l → IsStride first stride count l
+    back l s =
+        let own : s.stride ≡ stride = only_one s.stride stride s.stride_is in
+        let starts : s.rank % stride ≡ 0 = subst (λ n. s.rank % n ≡ 0) own s.starts in
+        let rank : s.rank / stride * stride ≡ s.rank = (let split = div-add-mod' s.rank stride in omega (arith, split, starts)) in
+        let within = s.within in
+        let upto = (fits (s.rank / stride)).1 (omega (arith, rank, within, own)) in
+        let to : s.rank + stride ≡ s.rank / stride * stride + stride = omega (arith, rank) in
+        record {
+          step = s.rank / stride;
+          within = omega (arith, upto);
+          is = s.is ∙ ap₂ (λ r n. open_link (first + r) (first + n)) (sym rank) (ap (λ n. s.rank + n) own ∙ to) ∙ ap (open_link (first + s.rank / stride * stride)) (omega arith);
+        }
+
+-- the links of one stride more
+pub strides-push : (done : List ℕ) (first ranks stride m n : ℕ) (before between after : List Link) → Appends (IsStep done first ranks) m before between → Appends (IsStep (stride ∷ []) first ranks) n between after → Appends (IsStep (done ++ stride ∷ []) first ranks) (m + n) before after
+strides-push done first ranks stride m n before between after h k =
+    appends-then (IsStep done first ranks) (IsStep (stride ∷ []) first ranks) (IsStep (done ++ stride ∷ []) first ranks) m n before between after h k
+    (λ l s. record { rank = s.rank; stride = s.stride; stride_is = Contains-append_left done (stride ∷ []) s.stride s.stride_is; starts = s.starts; within = s.within; is = s.is })
+    (λ l s. record { rank = s.rank; stride = s.stride; stride_is = Contains-append_right done (stride ∷ []) s.stride s.stride_is; starts = s.starts; within = s.within; is = s.is })
+    (λ l s.
+    ⊎_elim
+    (λ early. inl (record { rank = s.rank; stride = s.stride; stride_is = early; starts = s.starts; within = s.within; is = s.is }))
+    (λ last. inr (record { rank = s.rank; stride = s.stride; stride_is = subst (Contains (stride ∷ [])) last (Contains-push [] stride); starts = s.starts; within = s.within; is = s.is }))
+    (Contains-push_cases done stride s.stride s.stride_is))
+
+-- the links of all strides
+module _ (first ranks : ℕ) where
+  abbrev AddsStride : ℕ → List Link → List Link → Type 0
+  AddsStride stride before after = Appends (IsStep (stride ∷ []) first ranks) ((ranks - 1) / stride) before after
+
+  pub steps-all : (a b c d e f : List Link) → AddsStride 1 a b → AddsStride 3 b c → AddsStride 9 c d → AddsStride 27 d e → AddsStride 81 e f → Appends (IsStep strides first ranks) ((ranks - 1) + (ranks - 1) / 2) a f
+  steps-all a b c d e f by1 by3 by9 by27 by81 =
+      let n = ranks - 1 in
+      let to3 = strides-push (1 ∷ []) first ranks 3 (n / 1) (n / 3) a b c by1 by3 in
+      let to9 = strides-push (1 ∷ 3 ∷ []) first ranks 9 (n / 1 + n / 3) (n / 9) a c d to3 by9 in
+      let to27 = strides-push (1 ∷ 3 ∷ 9 ∷ []) first ranks 27 (n / 1 + n / 3 + n / 9) (n / 27) a d e to9 by27 in
+      let to81 = strides-push (1 ∷ 3 ∷ 9 ∷ 27 ∷ []) first ranks 81 (n / 1 + n / 3 + n / 9 + n / 27) (n / 81) a e f to27 by81 in
+      appends-same (IsStep strides first ranks) (IsStep strides first ranks) (n / 1 + n / 3 + n / 9 + n / 27 + n / 81) (n + n / 2) a f (λ l s. s) (λ l s. s) (few n) to81
+    where
+      few : (n : ℕ) → n / 1 + n / 3 + n / 9 + n / 27 + n / 81 ≤ n + n / 2
+      few n =
+          let ones = div-mul-le_self n 1 in
+          let half = le-div (n / 3 + n / 9 + n / 27 + n / 81) n 2 (omega arith) (omega (arith, div-mul-le_self n 3, div-mul-le_self n 9, div-mul-le_self n 27, div-mul-le_self n 81)) in
+          omega (arith, ones, half)
 
 -- ---- leaving links
 
@@ -100,7 +185,7 @@ module _ (c : Case) (places : List ℤ) (hot cold : List Part) (g : Group) (p : 
   leaving_stays l e = record { index = e.index; part = e.part; group = e.group; part_is = slice_get-append cold (p ∷ []) e.index e.part e.part_is; group_is = e.group_is; permitted = e.permitted; is = e.is }
 
   only : (f : Group) → Contains (g ∷ []) f → f ≡ g
-  only f found = ⊎_elim (λ none. absurd (none_in_nil f none)) (λ e. sym e) (Contains-push_cases [] g f found)
+  only f found = only_one f g found
 
   -- a part more, whose source is permitted to the group
   pub leaving-push : (now : List Link) → IsFree c g p.source → now ≡ after ++ open_link (g.first_node + rank_of places p) (length hot + length cold) ∷ [] → Appends (IsLeaving c places hot (cold ++ p ∷ []) (g ∷ [])) (m + 1) before now
@@ -157,13 +242,17 @@ module _ (c : Case) (places : List ℤ) (hot cold : List Part) (g : Group) (i : 
 
 -- ---- group by group
 
+-- the links down a chain at most
+abbrev pub most_onward : List ℤ → ℕ
+most_onward places = (rank_count places - 1) + (rank_count places - 1) / 2
+
 module _ (c : Case) (places : List ℤ) (hot cold : List Part) (groups : List Group) where
   -- the entering links of all groups, the onward and the leaving ones of those that are done
   abbrev pub IsLinkSoFar : List Group → Link → Type 0
   IsLinkSoFar done l = IsEntering c places hot cold groups l ⊎ IsOnward c places hot cold done l ⊎ IsLeaving c places hot cold done l
 
   abbrev pub most_so_far : ℕ → ℕ
-  most_so_far n = length hot + n * (length cold + 2 * length places)
+  most_so_far n = length hot + n * (length cold + 3 * length places)
 
   pub chains-none : (links made : List Link) → links ≡ [] → Appends (IsEntering c places hot cold groups) (length hot) links made → Appends (IsLinkSoFar []) (most_so_far 0) [] made
   chains-none links made none h =
@@ -173,24 +262,24 @@ module _ (c : Case) (places : List ℤ) (hot cold : List Part) (groups : List Gr
 
   module _ (done : List Group) (g : Group) where
     abbrev IsOfGroup : Link → Type 0
-    IsOfGroup l = IsStep g.first_node (rank_count places) l ⊎ IsLeaving c places hot cold (g ∷ []) l
+    IsOfGroup l = IsStep strides g.first_node (rank_count places) l ⊎ IsLeaving c places hot cold (g ∷ []) l
 
     onward_stays : (l : Link) → IsOnward c places hot cold done l → IsOnward c places hot cold (done ++ g ∷ []) l
-    onward_stays l e = record { group = e.group; rank = e.rank; group_is = Contains-append_left done (g ∷ []) e.group e.group_is; within = e.within; is = e.is }
+    onward_stays l e = record { group = e.group; rank = e.rank; stride = e.stride; group_is = Contains-append_left done (g ∷ []) e.group e.group_is; stride_is = e.stride_is; starts = e.starts; within = e.within; is = e.is }
 
     leaving_kept : (l : Link) → IsLeaving c places hot cold done l → IsLeaving c places hot cold (done ++ g ∷ []) l
     leaving_kept l e = record { index = e.index; part = e.part; group = e.group; part_is = e.part_is; group_is = Contains-append_left done (g ∷ []) e.group e.group_is; permitted = e.permitted; is = e.is }
 
-    step_onward : (l : Link) → IsStep g.first_node (rank_count places) l → IsOnward c places hot cold (done ++ g ∷ []) l
-    step_onward l e = record { group = g; rank = e.rank; group_is = Contains-push done g; within = e.within; is = e.is }
+    step_onward : (l : Link) → IsStep strides g.first_node (rank_count places) l → IsOnward c places hot cold (done ++ g ∷ []) l
+    step_onward l e = record { group = g; rank = e.rank; stride = e.stride; group_is = Contains-push done g; stride_is = e.stride_is; starts = e.starts; within = e.within; is = e.is }
 
     leaving_of : (l : Link) → IsLeaving c places hot cold (g ∷ []) l → IsLeaving c places hot cold (done ++ g ∷ []) l
     leaving_of l e = record { index = e.index; part = e.part; group = e.group; part_is = e.part_is; group_is = Contains-append_right done (g ∷ []) e.group e.group_is; permitted = e.permitted; is = e.is }
 
-    onward_cases : (l : Link) → IsOnward c places hot cold (done ++ g ∷ []) l → IsOnward c places hot cold done l ⊎ IsStep g.first_node (rank_count places) l
+    onward_cases : (l : Link) → IsOnward c places hot cold (done ++ g ∷ []) l → IsOnward c places hot cold done l ⊎ IsStep strides g.first_node (rank_count places) l
     onward_cases l e =
-        ⊎_elim (λ early. inl (record { group = e.group; rank = e.rank; group_is = early; within = e.within; is = e.is }))
-        (λ last. inr (record { rank = e.rank; within = e.within; is = e.is ∙ ap (λ f. open_link (f.first_node + e.rank) (f.first_node + (e.rank + 1))) (sym last) }))
+        ⊎_elim (λ early. inl (record { group = e.group; rank = e.rank; stride = e.stride; group_is = early; stride_is = e.stride_is; starts = e.starts; within = e.within; is = e.is }))
+        (λ last. inr (record { rank = e.rank; stride = e.stride; stride_is = e.stride_is; starts = e.starts; within = e.within; is = e.is ∙ ap (λ f. open_link (f.first_node + e.rank) (f.first_node + (e.rank + e.stride))) (sym last) }))
         (Contains-push_cases done g e.group e.group_is)
 
     leaving_cases : (l : Link) → IsLeaving c places hot cold (done ++ g ∷ []) l → IsLeaving c places hot cold done l ⊎ IsLeaving c places hot cold (g ∷ []) l
@@ -199,18 +288,18 @@ module _ (c : Case) (places : List ℤ) (hot cold : List Part) (groups : List Gr
         (λ last. inr (record { index = e.index; part = e.part; group = e.group; part_is = e.part_is; group_is = subst (Contains (g ∷ [])) last (Contains-push [] g); permitted = e.permitted; is = e.is }))
         (Contains-push_cases done g e.group e.group_is)
 
-    pub chains-push : (before between after : List Link) → Appends (IsLinkSoFar done) (most_so_far (length done)) [] before → Appends (IsStep g.first_node (rank_count places)) (rank_count places - 1) before between
+    pub chains-push : (before between after : List Link) → Appends (IsLinkSoFar done) (most_so_far (length done)) [] before → Appends (IsStep strides g.first_node (rank_count places)) (most_onward places) before between
         → Appends (IsLeaving c places hot cold (g ∷ [])) (length cold) between after → Appends (IsLinkSoFar (done ++ g ∷ [])) (most_so_far (length done + 1)) [] after
     chains-push before between after so_far steps leaves =
-        let own = appends-then (IsStep g.first_node (rank_count places)) (IsLeaving c places hot cold (g ∷ [])) IsOfGroup (rank_count places - 1) (length cold) before between after steps leaves (λ l e. inl e) (λ l e. inr e) (λ l e. e) in
-        let both = appends-then (IsLinkSoFar done) IsOfGroup (IsLinkSoFar (done ++ g ∷ [])) (most_so_far (length done)) (rank_count places - 1 + length cold) [] before after so_far own
+        let own = appends-then (IsStep strides g.first_node (rank_count places)) (IsLeaving c places hot cold (g ∷ [])) IsOfGroup (most_onward places) (length cold) before between after steps leaves (λ l e. inl e) (λ l e. inr e) (λ l e. e) in
+        let both = appends-then (IsLinkSoFar done) IsOfGroup (IsLinkSoFar (done ++ g ∷ [])) (most_so_far (length done)) (most_onward places + length cold) [] before after so_far own
         (λ l e. ⊎_elim (λ enters. inl enters) (λ other. inr (⊎_elim (λ onward. inl (onward_stays l onward)) (λ leaving. inr (leaving_kept l leaving)) other)) e)
         (λ l e. inr (⊎_elim (λ step. inl (step_onward l step)) (λ leaving. inr (leaving_of l leaving)) e))
         (λ l e. ⊎_elim (λ enters. inl (inl enters)) (λ other. ⊎_elim (λ onward. ⊎_elim (λ early. inl (inr (inl early))) (λ step. inr (inl step)) (onward_cases l onward)) (λ leaving. ⊎_elim (λ early. inl (inr (inr early))) (λ own. inr (inr own)) (leaving_cases l leaving)) other) e) in
-        appends-same (IsLinkSoFar (done ++ g ∷ [])) (IsLinkSoFar (done ++ g ∷ [])) (most_so_far (length done) + (rank_count places - 1 + length cold)) (most_so_far (length done + 1)) [] after (λ l e. e) (λ l e. e) (one_more (length done)) both
+        appends-same (IsLinkSoFar (done ++ g ∷ [])) (IsLinkSoFar (done ++ g ∷ [])) (most_so_far (length done) + (most_onward places + length cold)) (most_so_far (length done + 1)) [] after (λ l e. e) (λ l e. e) (one_more (length done)) both
       where
-        one_more : (n : ℕ) → most_so_far n + (rank_count places - 1 + length cold) ≤ most_so_far (n + 1)
-        one_more n = omega arith
+        one_more : (n : ℕ) → most_so_far n + (most_onward places + length cold) ≤ most_so_far (n + 1)
+        one_more n = let half = div-mul-le_self (rank_count places - 1) 2 in omega (arith, half)
 
   pub HoldsChains-all : (links : List Link) → Appends (IsLinkSoFar groups) (most_so_far (length groups)) [] links → HoldsChains c places hot cold groups links
   HoldsChains-all links h = record { each = subst (All (IsChainLink c places hot cold groups)) (sym h.is) h.each; every = λ l e. subst (λ ls. Contains ls l) (sym h.is) (h.every l e) }
@@ -219,7 +308,7 @@ module _ (c : Case) (places : List ℤ) (hot cold : List Part) (groups : List Gr
   few-all links h = omega (arith, h.few, ap length h.is)
 
   -- the step of the loop over the groups
-  pub chains-more : (i : ℕ) → i < length groups → (g : Group) → g ≡ get_or groups i g → (before between after : List Link) → Appends (IsLinkSoFar (take i groups)) (most_so_far i) [] before → Appends (IsStep g.first_node (rank_count places)) (rank_count places - 1) before between
+  pub chains-more : (i : ℕ) → i < length groups → (g : Group) → g ≡ get_or groups i g → (before between after : List Link) → Appends (IsLinkSoFar (take i groups)) (most_so_far i) [] before → Appends (IsStep strides g.first_node (rank_count places)) (most_onward places) before between
       → Appends (IsLeaving c places hot cold (g ∷ [])) (length cold) between after → Appends (IsLinkSoFar (take (i + 1) groups)) (most_so_far (i + 1)) [] after
   chains-more i within g is before between after so_far steps leaves =
       let count : length (take i groups) ≡ i = length-take-le i groups (omega (arith, within)) in

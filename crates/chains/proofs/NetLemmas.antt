@@ -2,7 +2,7 @@
 use Rattle.std.proofs.Common.{◌≡◌, ◌⊎◌, ⊎_elim, inl, inr, refl, sym, subst, subst₂, ℕ, ◌+◌, ◌-◌, ◌*◌, ◌<◌, ◌≤◌, List, [], length, get_or, take, arith}
 use Rattle.std.specs.Prelude.{ℤ, All, Contains}
 use Rattle.std.proofs.lemmas.List.{take_all}
-use Rattle.std.proofs.lemmas.List.Elements.{All-weaker, Contains-get_or}
+use Rattle.std.proofs.lemmas.List.Elements.{All-contains, All-weaker, Contains-get_or}
 use Rattle.std.proofs.lemmas.Nat.{mul-add-lt, mul-le}
 use Rattle.std.proofs.lemmas.Option.{slice_get_read, slice_get_within}
 use Rattle.stream_case.specs.declared.limits.TheConstants.{ALL_UTILITIES, MOST_PARTS, MOST_PLACES, MOST_STREAMS}
@@ -20,7 +20,7 @@ use Rattle.flow_net.specs.declared.net.Net.{Net}
 use Rattle.chains.specs.declared.net.Chains.{Chains}
 use Rattle.chains.specs.declared.net.Group.{Group}
 use Rattle.chains.specs.declared.net.TheConstants.{MOST_INNER_LINKS, MOST_INNER_NODES}
-use Rattle.chains.specs.ChainNet.{open_link, IsEntering, IsOnward, IsLeaving, IsChainLink, HoldsChains, StandInLine}
+use Rattle.chains.specs.ChainNet.{open_link, strides, IsEntering, IsOnward, IsLeaving, IsChainLink, HoldsChains, StandInLine}
 use Rattle.chains.specs.Groups.{AreGroups, StartsChain}
 use Rattle.chains.specs.Inner.{IsInner, IsInnerLink}
 use Rattle.chains.specs.Making.{Appends}
@@ -29,7 +29,7 @@ use Rattle.chains.specs.Path.{PathsAreReaches}
 use Rattle.chains.specs.Ranks.{rank_count}
 use Rattle.chains.specs.Sizes.{IsSmall}
 use Rattle.chains.proofs.GroupLemmas.{few_chain_nodes}
-use Rattle.chains.proofs.LinkLemmas.{IsLinkSoFar, most_so_far, HoldsChains-all, few-all}
+use Rattle.chains.proofs.LinkLemmas.{IsLinkSoFar, strides_positive, most_so_far, HoldsChains-all, few-all}
 use Rattle.chains.proofs.PathLemmas.{paths_are_reaches, starts_chain}
 use Rattle.chains.proofs.RankLemmas.{rank_within}
 
@@ -78,9 +78,10 @@ module _ (c : Case) (places : List ℤ) (hot cold : List Part) (groups : List Gr
       onward : IsOnward c places hot cold groups l → IsAmong l
       onward e =
           let below = e.within in
+          let some = All-contains (λ stride. 0 < stride) strides e.stride strides_positive e.stride_is in
           let first = chain_node (length hot + length cold) (rank_count places) groups in_line e.group e.rank e.group_is (omega (arith, below)) in
-          let second = chain_node (length hot + length cold) (rank_count places) groups in_line e.group (e.rank + 1) e.group_is below in
-          among l _ _ e.is (omega (arith, first)) (omega (arith, second)) (inr (omega (arith, first))) (omega (arith, second)) (λ _ _. omega arith)
+          let second = chain_node (length hot + length cold) (rank_count places) groups in_line e.group (e.rank + e.stride) e.group_is below in
+          among l _ _ e.is (omega (arith, first)) (omega (arith, second)) (inr (omega (arith, first))) (omega (arith, second)) (λ _ _. omega (arith, some))
 
       leaves : IsLeaving c places hot cold groups l → IsAmong l
       leaves e =
@@ -109,13 +110,13 @@ chain_nodes g p =
     let fewer = mul-le g (2 * p - 1) g (2 * p) (omega arith) (omega arith) in
     omega (arith, fewer)
 
-few_links : (g p k h n : ℕ) → AreFew g p k h → n ≤ h + g * (k + 2 * p) → n ≤ MOST_INNER_LINKS
+few_links : (g p k h n : ℕ) → AreFew g p k h → n ≤ h + g * (k + 3 * p) → n ≤ MOST_INNER_LINKS
 few_links g p k h n few most =
-    let product = mul-le g (k + 2 * p) (MOST_STREAMS + ALL_UTILITIES) (MOST_PARTS + 2 * MOST_PLACES) few.groups_few (omega (arith, few)) in
+    let product = mul-le g (k + 3 * p) (MOST_STREAMS + ALL_UTILITIES) (MOST_PARTS + 3 * MOST_PLACES) few.groups_few (omega (arith, few)) in
     omega (arith, few, most, product)
 
 module _ (c : Case) (places : List ℤ) (hot cold : List Part) (complete : IsComplete c) (is_grid : IsGrid c places) (few_hot : length hot ≤ MOST_PARTS) (few_cold : length cold ≤ MOST_PARTS) where
-  pub IsSmall-chains : (chains : Chains) → length chains.groups ≤ MOST_STREAMS + ALL_UTILITIES → length chains.net.links ≤ length hot + length chains.groups * (length cold + 2 * length places)
+  pub IsSmall-chains : (chains : Chains) → length chains.groups ≤ MOST_STREAMS + ALL_UTILITIES → length chains.net.links ≤ length hot + length chains.groups * (length cold + 3 * length places)
       → chains.net.nodes ≡ (length hot + length cold) + length chains.groups * rank_count places → IsSmall c (length hot) (length cold) chains
   IsSmall-chains chains few links nodes =
       let few_places = length-grid c places complete is_grid in
@@ -123,7 +124,7 @@ module _ (c : Case) (places : List ℤ) (hot cold : List Part) (complete : IsCom
       let most_nodes = chain_nodes (length chains.groups) (length places) in
       let all_nodes = few_chain_nodes (length chains.groups) (rank_count places) few (omega (arith, few_places)) in
       record {
-        links = λ other grid. subst (λ ps. length chains.net.links ≤ length hot + length chains.groups * (length cold + 2 * length ps)) (same other grid) links;
+        links = λ other grid. subst (λ ps. length chains.net.links ≤ length hot + length chains.groups * (length cold + 3 * length ps)) (same other grid) links;
         nodes = λ other grid. subst (λ ps. chains.net.nodes ≤ (length hot + length cold) + 2 * length chains.groups * length ps) (same other grid) (omega (arith, nodes, most_nodes));
         few_links = few_links (length chains.groups) (length places) (length cold) (length hot) (length chains.net.links) (record { groups_few = few; places_few = few_places; hots_few = few_hot; colds_few = few_cold }) links;
         few_nodes = omega (arith, nodes, all_nodes, few_hot, few_cold);

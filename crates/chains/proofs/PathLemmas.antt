@@ -1,7 +1,8 @@
 -- In a net of chains a path leads from part to part exactly where the two reach.
 use Rattle.std.proofs.Common.{◌≡◌, ◌⊎◌, ⊎_elim, inl, inr, ◌∙◌, refl, sym, ap, ap₂, subst, ℕ, zero, suc, ◌+◌, ◌-◌, ◌*◌, ◌<◌, ◌≤◌, true, false, not, List, [], ◌∷◌, length, Option, Some, None, ℤ, All, Contains, IsTrue, slice_get, arith}
+use Rattle.std.proofs.Math.Nat.{mod-one}
 use Rattle.std.proofs.lemmas.Bool.{and_from, and_parts, false≢true, not-true, not_from_false}
-use Rattle.std.proofs.lemmas.List.Elements.{All-contains}
+use Rattle.std.proofs.lemmas.List.Elements.{All-contains, Contains-append_left, Contains-push}
 use Rattle.std.proofs.lemmas.Nat.{row_fits, same_from_place}
 use Rattle.std.proofs.lemmas.Option.{same_Some, slice_get_read, slice_get_within}
 use Rattle.sums.proofs.ListLemmas.{All-slice_get, Contains-slice_get}
@@ -118,7 +119,7 @@ module _ (c : Case) (places : List ℤ) (hot cold : List Part) (groups : List Gr
         let same : r + k + 1 ≡ r + suc k = omega arith in
         let next = open_link (g.first_node + (r + k)) (g.first_node + (r + k + 1)) in
         subst (λ n. LeadsTo links (g.first_node + r) (g.first_node + n)) same
-        (LeadsTo-link links (g.first_node + r) next (down g is r k (omega (arith, within))) (holds.every next (inr (inl (record { group = g; rank = r + k; group_is = is; within = omega (arith, within); is = refl })))))
+        (LeadsTo-link links (g.first_node + r) next (down g is r k (omega (arith, within))) (holds.every next (inr (inl (record { group = g; rank = r + k; stride = 1; group_is = is; stride_is = Contains-append_left (1 ∷ []) (3 ∷ 9 ∷ 27 ∷ 81 ∷ []) 1 (Contains-push [] 1); starts = mod-one (r + k); within = omega (arith, within); is = refl })))))
 
     to_cold : (g : Group) → Contains groups g → (source : Source) → Contains g.sources source → (r b : ℕ) (q : Part) → slice_get cold b ≡ Some q → r ≤ rank_of places q → is_forbidden c.forbids source q.source ≡ false → LeadsTo links (g.first_node + r) (length hot + b)
     to_cold g is source stands r b q at le free =
@@ -154,8 +155,8 @@ module _ (c : Case) (places : List ℤ) (hot cold : List Part) (groups : List Gr
         absurd (omega (arith, from, within, node, here.is))
     below_step g g_in p stands l here (inr (inl onward)) =
         let from = ap (λ (k : Link). k.from) onward.is in
-        let e = same_node g onward.group g_in onward.group_is here.rank onward.rank here.within (omega (arith, onward.within)) (sym here.is ∙ from) in
-        inl (record { rank = onward.rank + 1; is = ap (λ (k : Link). k.to) onward.is ∙ ap (λ (h : Group). h.first_node + (onward.rank + 1)) (sym e.0); within = onward.within; from = (let same = e.1 in omega (arith, same, here.from)) })
+        let e = same_node g onward.group g_in onward.group_is here.rank onward.rank here.within (let within = onward.within in omega (arith, within)) (sym here.is ∙ from) in
+        inl (record { rank = onward.rank + onward.stride; is = ap (λ (k : Link). k.to) onward.is ∙ ap (λ (h : Group). h.first_node + (onward.rank + onward.stride)) (sym e.0); within = onward.within; from = (let same = e.1 in omega (arith, same, here.from)) })
     below_step g g_in p stands l here (inr (inr leaving)) =
         let from = ap (λ (k : Link). k.from) leaving.is in
         let e = same_node g leaving.group g_in leaving.group_is here.rank (rank_of places leaving.part) here.within (cold_rank leaving.index leaving.part leaving.part_is) (sym here.is ∙ from) in

@@ -1,5 +1,5 @@
 -- The links of a net of chains. The chain of a group has a node for each rank, in order.
-use Rattle.std.specs.Prelude.{◌≡◌, ◌⊎◌, ℕ, ◌+◌, ◌*◌, ◌<◌, false, ℤ, pos, List, length, All, Contains, Some, slice_get}
+use Rattle.std.specs.Prelude.{◌≡◌, ◌⊎◌, ℕ, ◌+◌, ◌*◌, ◌%◌, ◌<◌, false, ℤ, pos, List, [], ◌∷◌, length, All, Contains, Some, slice_get}
 use Rattle.stream_case.specs.declared.source.Source.{Source}
 use Rattle.stream_case.specs.declared.case.Case.{Case}
 use Rattle.stream_case.specs.Case.{is_forbidden}
@@ -12,6 +12,10 @@ use Rattle.chains.specs.Ranks.{rank_of, rank_count}
 -- a link with room for all heat, at no cost
 abbrev pub open_link : ℕ → ℕ → Link
 open_link from to = record { from = from; to = to; room = MOST_ROOM; cost = pos 0 }
+
+-- how many ranks the links down a chain lead on
+abbrev pub strides : List ℕ
+strides = 1 ∷ 3 ∷ 9 ∷ 27 ∷ 81 ∷ []
 
 -- the chains stand one after the other, the first one from this node, each with so many nodes
 abbrev pub StandInLine : ℕ → ℕ → List Group → Type 0
@@ -28,13 +32,16 @@ module _ (c : Case) (places : List ℤ) (hot cold : List Part) (groups : List Gr
     pub stands : Contains group.sources part.source
     pub is : l ≡ open_link index (group.first_node + rank_of places part)
 
-  -- from a node of a chain to the next one
+  -- from a node of a chain to the next one, and from each multiple of a longer stride to the next multiple
   pub record IsOnward (l : Link) : Type 0 where
     pub group : Group
     pub rank : ℕ
+    pub stride : ℕ
     pub group_is : Contains groups group
-    pub within : (rank + 1) < rank_count places
-    pub is : l ≡ open_link (group.first_node + rank) (group.first_node + (rank + 1))
+    pub stride_is : Contains strides stride
+    pub starts : rank % stride ≡ 0
+    pub within : (rank + stride) < rank_count places
+    pub is : l ≡ open_link (group.first_node + rank) (group.first_node + (rank + stride))
 
   -- from a chain, at the rank of a cold part, to that part, whose source is permitted to the sources of the group
   pub record IsLeaving (l : Link) : Type 0 where

@@ -1,5 +1,5 @@
 -- How a net of chains is made: the sources of a side, the groups, and the links that are appended.
-use Rattle.std.specs.Prelude.{◌≡◌, ◌≢◌, ℕ, ◌+◌, ◌<◌, ◌≤◌, Some, List, ◌++◌, length, All, Contains}
+use Rattle.std.specs.Prelude.{◌≡◌, ◌≢◌, ℕ, ◌+◌, ◌%◌, ◌<◌, ◌≤◌, Some, List, ◌++◌, length, All, Contains}
 use Rattle.stream_case.specs.declared.source.Side.{Side}
 use Rattle.stream_case.specs.declared.source.Side.TheVariants.{Hot}
 use Rattle.stream_case.specs.declared.source.Source.{Source}
@@ -35,8 +35,11 @@ pub record Appends (P : Link → Type 0) (most : ℕ) (before after : List Link)
   pub every : (l : Link) → P l → Contains made l
   pub few : length made ≤ most
 
--- a link from a node of the chain that begins here, with so many nodes, to the next one
-pub record IsStep (first ranks : ℕ) (l : Link) : Type 0 where
+-- a link down the chain that begins here, with so many nodes, from a multiple of one of these strides to the next multiple
+pub record IsStep (strides : List ℕ) (first ranks : ℕ) (l : Link) : Type 0 where
   pub rank : ℕ
-  pub within : (rank + 1) < ranks
-  pub is : l ≡ open_link (first + rank) (first + (rank + 1))
+  pub stride : ℕ
+  pub stride_is : Contains strides stride
+  pub starts : rank % stride ≡ 0
+  pub within : (rank + stride) < ranks
+  pub is : l ≡ open_link (first + rank) (first + (rank + stride))

@@ -1,5 +1,5 @@
 //! The links of a net of chains.
-ghost use Rattle.std.specs.Prelude.{◌≡◌, ◌↔◌, ◌≤◌, ◌+◌, ◌-◌, ◌*◌, ◌∷◌, [], false, List, length, IsTrue, IfOk, IfSome, IfNone, OnOk, All, Any, Contains, Some};
+ghost use Rattle.std.specs.Prelude.{◌≡◌, ◌↔◌, ◌≤◌, ◌+◌, ◌-◌, ◌*◌, ◌/◌, ◌∷◌, [], false, List, length, IsTrue, IfOk, IfSome, IfNone, OnOk, All, Any, Contains, Some};
 ghost use Rattle.stream_case.specs.declared.case.Case.{Case};
 ghost use Rattle.stream_case.specs.declared.limits.TheConstants.{MOST_PARTS, MOST_PLACES};
 ghost use Rattle.stream_case.specs.declared.source.Source.{Source};
@@ -7,7 +7,7 @@ ghost use Rattle.stream_case.specs.declared.source.Side.TheVariants.{Cold};
 ghost use Rattle.stream_case.specs.Case.{side_of, is_forbidden, IsComplete};
 ghost use Rattle.grid.specs.declared.part.Part.{Part};
 ghost use Rattle.chains.specs.declared.net.TheConstants.{MOST_INNER_NODES};
-ghost use Rattle.chains.specs.ChainNet.{open_link, IsEntering, IsLeaving};
+ghost use Rattle.chains.specs.ChainNet.{open_link, strides, IsEntering, IsLeaving};
 ghost use Rattle.chains.specs.Groups.{AreGroups};
 ghost use Rattle.chains.specs.Making.{Appends, IsStep};
 
@@ -67,7 +67,30 @@ pub(crate) fn push_entering(
     Ok(())
 }
 
-/// Appends a link from each node of a group's chain, of so many nodes, to the next one.
+/// Appends a link from each multiple of the stride in a group's chain, of so many nodes, to the
+/// next multiple.
+fn push_stride(
+    links: &mut Vec<Link>,
+    group: &Group,
+    ranks: u32,
+    stride: u32,
+) -> Result<(), AllocError>
+    requires node { group.now.first_node ≤ MOST_INNER_NODES }
+    requires some { 1 ≤ ranks }
+    requires ranks { ranks ≤ 2 * MOST_PLACES }
+    requires stride { 1 ≤ stride }
+    ensures { OnOk result
+        (Appends (IsStep (stride ∷ []) group.now.first_node ranks) ((ranks - 1) / stride) links.old.items links.new.items) }
+{
+    for step in 0..(ranks - 1) / stride {
+        let node = group.first_node + step * stride;
+        links.push(open_link(node, node + stride))?;
+    }
+    Ok(())
+}
+
+/// Appends the links down a group's chain, of so many nodes: from each node to the next one, and
+/// longer ones beside them, so that heat goes far down in few links.
 pub(crate) fn push_onward(
     links: &mut Vec<Link>,
     group: &Group,
@@ -76,13 +99,14 @@ pub(crate) fn push_onward(
     requires node { group.now.first_node ≤ MOST_INNER_NODES }
     requires some { 1 ≤ ranks }
     requires ranks { ranks ≤ 2 * MOST_PLACES }
-    ensures { OnOk result (Appends (IsStep group.now.first_node ranks) (ranks - 1) links.old.items links.new.items) }
+    ensures { OnOk result
+        (Appends (IsStep strides group.now.first_node ranks) ((ranks - 1) + (ranks - 1) / 2) links.old.items links.new.items) }
 {
-    for rank in 1..ranks {
-        let node = group.first_node + rank;
-        links.push(open_link(node - 1, node))?;
-    }
-    Ok(())
+    push_stride(links, group, ranks, 1)?;
+    push_stride(links, group, ranks, 3)?;
+    push_stride(links, group, ranks, 9)?;
+    push_stride(links, group, ranks, 27)?;
+    push_stride(links, group, ranks, 81)
 }
 
 /// Whether a cold source is permitted to each source of a group.

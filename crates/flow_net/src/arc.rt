@@ -1,5 +1,5 @@
 //! The arcs of a net: each link is one way forward, and one way back.
-ghost use Rattle.std.specs.Prelude.{◌≡◌, true};
+ghost use Rattle.std.specs.Prelude.{◌≡◌};
 ghost use Rattle.flow_net.specs.Arc.{arc_of, turned, carry, way_of};
 ghost use Rattle.flow_net.specs.Net.{IsCost, IsRoom};
 
@@ -28,17 +28,19 @@ pub(crate) struct Way {
 }
 
 impl Arc {
-    /// The way forward along a link, given with its index.
-    pub fn along(link: &Link, index: u32) -> Arc
-        ensures { result ≡ arc_of link.now index true }
+    /// The way along a link, given with its index, forward or back.
+    pub fn along(link: &Link, index: u32, forward: bool) -> Arc
+        requires { IsCost link.now.cost }
+        ensures { result ≡ arc_of link.now index forward }
     {
-        Arc {
+        let arc = Arc {
             tail: link.from,
             head: link.to,
             link: index,
             forward: true,
             cost: link.cost,
-        }
+        };
+        if forward { arc } else { arc.turned() }
     }
 
     /// The other way along the same link.

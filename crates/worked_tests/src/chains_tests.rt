@@ -39,7 +39,7 @@ const CASES: [(&str, Table, Wanted); 6] = [
         Wanted {
             groups: &[(&[Stream(1), Stream(3), Utility(0)], 15)],
             nodes: 26,
-            links: 9 + 10 + 6,
+            links: 9 + (10 + 3 + 1) + 6,
         },
     ),
     (
@@ -60,7 +60,7 @@ const CASES: [(&str, Table, Wanted); 6] = [
         Wanted {
             groups: &[(&[Stream(1)], 15), (&[Stream(3)], 26), (&[Utility(0)], 37)],
             nodes: 48,
-            links: 9 + 30 + (3 + 4 + 6),
+            links: 9 + 3 * (10 + 3 + 1) + (3 + 4 + 6),
         },
     ),
     (
@@ -81,7 +81,7 @@ const CASES: [(&str, Table, Wanted); 6] = [
         Wanted {
             groups: &[(&[Stream(1), Stream(3)], 15), (&[Utility(0)], 26)],
             nodes: 37,
-            links: 9 + 20 + (3 + 6),
+            links: 9 + 2 * (10 + 3 + 1) + (3 + 6),
         },
     ),
     (
@@ -95,7 +95,7 @@ const CASES: [(&str, Table, Wanted); 6] = [
                 (&[Utility(2)], 51),
             ],
             nodes: 64,
-            links: 6 + 48 + (5 + 5 + 3 + 6),
+            links: 6 + 4 * (12 + 4 + 1) + (5 + 5 + 3 + 6),
         },
     ),
     (
@@ -125,7 +125,7 @@ const CASES: [(&str, Table, Wanted); 6] = [
         Wanted {
             groups: &[(&[Stream(0), Utility(0)], 6)],
             nodes: 17,
-            links: 3 + 10,
+            links: 3 + (10 + 3 + 1),
         },
     ),
     (
@@ -147,7 +147,7 @@ const CASES: [(&str, Table, Wanted); 6] = [
         Wanted {
             groups: &[(&[Stream(0)], 6), (&[Utility(0)], 17)],
             nodes: 28,
-            links: 3 + 20 + (0 + 3),
+            links: 3 + 2 * (10 + 3 + 1) + (0 + 3),
         },
     ),
 ];
@@ -176,16 +176,18 @@ const ONE_LEVEL: Table = Table {
 /// The ends of the links of a net, in rising order.
 const TWO_PLACES_LINKS: [(u32, u32); 5] = [(0, 3), (1, 4), (3, 4), (4, 5), (5, 2)];
 
-const ONE_LEVEL_LINKS: [(u32, u32); 16] = [
+const ONE_LEVEL_LINKS: [(u32, u32); 18] = [
     (0, 9),
     (1, 11),
     (2, 12),
     (3, 13),
     (8, 9),
+    (8, 11),
     (9, 10),
     (10, 11),
     (11, 4),
     (11, 12),
+    (11, 14),
     (12, 5),
     (12, 13),
     (13, 6),

@@ -1,4 +1,4 @@
-use Rattle.std.proofs.Common.{sym}
+use Rattle.std.proofs.Common.{◌∙◌, sym}
 use Rattle.certify.specs.Answers.{index_of}
 use Rattle.certify.proofs.Moves.{one_more_given, one_more_known}
 use Rattle.certify.proofs.cut.members_of.Goals as goal
@@ -10,7 +10,7 @@ loop-span-preserved c =
     let i = c.loop-span.span-index in
     let s = c.span-item.result in
     let member = c.in-Some.member in
-    let is = sym c.in-Some.ensures in
+    let is = sym (c.in_ok-table.ensures s) ∙ sym c.in-Some.ensures in
     record {
       known = one_more_known h spans i s member c.loop-span-test.true c.span-item.is c.loop-span.invariant.known is;
       members =

@@ -1,19 +1,16 @@
--- One node more of the chain.
-use Rattle.std.proofs.Common.{◌≡◌, ◌∙◌, ◌+◌, ◌-◌, ap, subst, arith}
-use Rattle.chains.specs.ChainNet.{open_link}
-use Rattle.chains.specs.Making.{Appends, IsStep}
-use Rattle.chains.proofs.LinkLemmas.{steps-push}
+-- The links of one stride after the other.
+use Rattle.std.proofs.lemmas.Result.{on_ok_weaker}
+use Rattle.chains.proofs.LinkLemmas.{steps-all}
 use Rattle.chains.proofs.links.push_onward.Goals as goal
-
-pub loop-rank-preserved : goal.loop-rank-preserved
-loop-rank-preserved c =
-    let first = c.args.group.now.first_node in
-    let rank = c.loop-rank.rank in
-    let some = c.loop-rank.auto.rank in
-    let from : first + rank - 1 ≡ first + (rank - 1) = omega (arith, some) in
-    steps-push first rank c.args.links.now.items c.loop-rank.links.items c.push.new.self.items c.open_link.result some c.loop-rank.invariant c.in_ok-push.ensures.items (c.open_link.ensures ∙ ap (λ n. open_link n (first + rank)) from)
 
 pub returns : goal.returns
 returns c =
-    let all : c.loop-rank.rank ≡ c.args.ranks = omega (arith, c.loop-rank-test.false, c.requires.some, c.loop-rank.auto.rank-end) in
-    subst (λ n. Appends (IsStep c.args.group.now.first_node n) (n - 1) c.args.links.now.items c.loop-rank.links.items) all c.loop-rank.invariant
+    let links = c.args.links.now.items in
+    let ones = c.push_stride.new.links.items in
+    let threes = c.push_stride-2.new.links.items in
+    let nines = c.push_stride-3.new.links.items in
+    let further = c.push_stride-4.new.links.items in
+    let furthest = c.push_stride-5.new.links.items in
+    on_ok_weaker c.push_stride-5.result
+    (steps-all c.args.group.now.first_node c.args.ranks links ones threes nines further furthest c.in_ok-push_stride.ensures c.in_ok-push_stride-2.ensures c.in_ok-push_stride-3.ensures c.in_ok-push_stride-4.ensures)
+    c.push_stride-5.ensures

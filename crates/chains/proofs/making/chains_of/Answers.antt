@@ -1,12 +1,12 @@
 -- The net of the chains of a case, group by group.
-use Rattle.std.proofs.Common.{◌≡◌, ◌∙◌, ◌+◌, ◌-◌, ◌*◌, ◌<◌, ◌≤◌, length, get_or, sym, ap, ap₂, subst, subst₂, arith}
+use Rattle.std.proofs.Common.{◌≡◌, ◌∙◌, ◌+◌, ◌-◌, ◌*◌, ◌/◌, ◌<◌, ◌≤◌, length, get_or, sym, ap, ap₂, subst, subst₂, arith}
 use Rattle.std.specs.Prelude.{All}
 use Rattle.stream_case.specs.declared.limits.TheConstants.{MOST_PARTS, MOST_PLACES}
 use Rattle.grid.specs.Grid.{IsGrid}
 use Rattle.grid.proofs.SizeLemmas.{length-grid}
 use Rattle.chains.specs.declared.net.Group.{Group}
 use Rattle.chains.specs.declared.net.TheConstants.{MOST_INNER_NODES}
-use Rattle.chains.specs.ChainNet.{IsEntering, StandInLine}
+use Rattle.chains.specs.ChainNet.{strides, IsEntering, StandInLine}
 use Rattle.chains.specs.Groups.{AreGroups}
 use Rattle.chains.specs.Making.{Appends, IsStep}
 use Rattle.chains.specs.Ranks.{rank_count}
@@ -92,7 +92,7 @@ loop-group-preserved c =
     let g = c.group-item.result in
     let before = c.loop-group.links.items in
     let between = c.push_onward.new.links.items in
-    let steps = subst (λ n. Appends (IsStep g.first_node n) (n - 1) before between) c.rank_count-ranks.ensures c.in_ok-push_onward.ensures in
+    let steps = subst (λ n. Appends (IsStep strides g.first_node n) ((n - 1) + (n - 1) / 2) before between) c.rank_count-ranks.ensures c.in_ok-push_onward.ensures in
     chains-more case places hot cold c.deref-group-items.result.now c.loop-group.group-index c.loop-group-test.true g c.group-item.is before between c.push_leaving.new.links.items c.loop-group.invariant steps c.in_ok-push_leaving.ensures
 
 few_nodes : (c : After-len-3) → 2 * MOST_PARTS + c.len-3.result * c.rank_count-ranks.result < MOST_INNER_NODES

@@ -1,0 +1,60 @@
+//! A table of the parts of a side, by what a report names them by.
+
+ghost use Rattle.std.specs.Prelude.{◌≡◌, ◌≤◌, All, IfOk, OnOk, length};
+ghost use Rattle.stream_case.specs.Case.{IsSourceOf};
+ghost use Rattle.stream_case.specs.declared.limits.TheConstants.{MOST_PARTS};
+ghost use Rattle.certify.specs.Answers.{span_of};
+ghost use Rattle.certify.specs.Table.{IsTableOf, IsWithSpan, index_in};
+
+use crate::report::Span;
+use grid::Part;
+use indexmap::IndexMap;
+use std::alloc::{AllocError, Global};
+use stream_case::Case;
+
+/// The index of the first part with each span.
+pub type PartTable = IndexMap<Span, u32>;
+
+/// A part as a report names it.
+fn span_of(case: &Case, part: &Part) -> Span
+    requires { IsSourceOf case.now part.now.source }
+    ensures { result ≡ span_of case.now part.now }
+{
+    Span {
+        name: case.name_of(part.source),
+        high: part.high,
+        low: part.low,
+    }
+}
+
+/// Adds the span of a part. A span that is there keeps its index.
+fn add_span(table: &mut PartTable, span: Span, index: u32) -> Result<(), AllocError>
+    ensures { OnOk result (IsWithSpan span index table.old table.new) }
+{
+    if table.contains_key(&span) {
+        return Ok(());
+    }
+    table.insert(span, index)?;
+    Ok(())
+}
+
+/// The table of these parts.
+pub fn table_of(alloc: Global, case: &Case, parts: &[Part]) -> Result<PartTable, AllocError>
+    requires few { length parts.now ≤ MOST_PARTS }
+    requires sources { All (λ p. IsSourceOf case.now p.source) parts.now }
+    ensures { IfOk result (IsTableOf case.now parts.now) }
+{
+    let mut table = IndexMap::new(alloc);
+    for (index, part) in parts.iter().enumerate() {
+        let span = span_of(case, part);
+        add_span(&mut table, span, index as u32)?;
+    }
+    Ok(table)
+}
+
+/// The index of the part that a report names.
+pub fn index_in(table: &PartTable, span: &Span) -> Option<u32>
+    ensures { result ≡ index_in table.now span.now }
+{
+    table.get(span).copied()
+}
