@@ -1,33 +1,14 @@
 -- Shares in order, gathered into transfers one after the other.
-use Rattle.std.proofs.Common.{◌≡◌, ◌∙◌, ◌⊎◌, ⊎_elim, inl, inr, refl, sym, ap, subst, ℕ, zero, suc, ◌+◌, ◌-◌, ◌<◌, ◌≤◌, ◌==◌, false, Some, List, [], ◌∷◌, ◌++◌, length, take, get_or, arith}
-use Rattle.std.specs.Prelude.{ℤ, pos, ◌+ℤ◌, ◌<ℤ◌, ◌≤ℤ◌, All, AllPairs, Contains, if◌then◌else◌}
-use Rattle.std.specs.Fn.{Called, ComputesKey}
-use Rattle.std.specs.Ordering.{is_lt, nat_cmp, ordering_then}
-use Rattle.std.proofs.Math.ListN.{set}
-use Rattle.std.proofs.Math.Path.{subst₂}
-use Rattle.std.proofs.lemmas.Bool.{cases_eq, eq-eqb, false≢true, ne_eqb}
-use Rattle.std.proofs.lemmas.Cmp.{by_ranked, ranked}
-use Rattle.std.proofs.lemmas.Int.{ints}
-use Rattle.std.proofs.lemmas.List.{get_or-take, get_or_default, length-set, length-take-le, take_all, take_more, take_more_set}
-use Rattle.std.proofs.lemmas.List.Elements.{All-contains, All-head, All-pop, All-push, All-weaker, Contains-append_left, Contains-push}
-use Rattle.std.proofs.lemmas.List.Quantifiers.{all_pairs_push}
-use Rattle.std.specs.List.Sorted.{IsPermutation, IsSortedByKey}
-use denote.Param.Members.{Mut}
-use denote.Ref.{Bor}
-use Rattle.std.proofs.lemmas.Fn.{always_returns_same}
-use Rattle.std.proofs.lemmas.List.Sorted.{All-permutation, Contains-permutation, IsPermutation-sym}
-use Rattle.stream_case.specs.declared.source.Side.{Side}
-use Rattle.stream_case.specs.declared.source.Side.TheVariants.{Hot, Cold}
-use Rattle.sums.specs.Sum.{int_sum_by}
-use Rattle.sums.proofs.IntegerLemmas.{if_between}
-use Rattle.sums.proofs.OrderLemmas.{AllPairs-across, AllPairs-front}
-use Rattle.sums.proofs.SumLemmas.{int_sum_by-append, int_sum_by-more}
-use Rattle.heat_flow.specs.declared.flow.Transfer.{Transfer}
-use Rattle.heat_flow.specs.Flow.{heat_at, part_index, precedes}
-use Rattle.chains.specs.declared.stock.Share.{Share}
-use Rattle.chains.specs.Gathered.{transfer_of, AreOfOnePair, IsNotAfter, IsJoined, IsPushed, IsAdded, AreGathered}
-use Rattle.chains.specs.Stock.{held_of, held_at}
 use Rattle.chains.proofs.ListSums.{if_add, int_sum_by-front, int_sum_by-permutation, int_sum_by-term}
+use Rattle.chains.proofs.Words.{All, All-contains, All-head, All-permutation, All-pop, All-push, All-weaker, AllPairs, AllPairs-across, AllPairs-front}
+use Rattle.chains.proofs.Words.{AreGathered, AreOfOnePair, Bor, Called, Cold, ComputesKey, Contains, Contains-append_left, Contains-permutation, Contains-push}
+use Rattle.chains.proofs.Words.{Hot, IsAdded, IsJoined, IsNotAfter, IsPermutation, IsPermutation-sym, IsPushed, IsSortedByKey, Mut, Share, Side, Transfer}
+use Rattle.chains.proofs.Words.{all_pairs_push, always_returns_same, by_ranked, cases_eq, eq-eqb, false≢true, get_or-take, get_or_default, held_at, held_of}
+use Rattle.chains.proofs.Words.{if_between, if◌then◌else◌, int_sum_by, int_sum_by-append, int_sum_by-more, ints, is_lt, length-set, length-take-le, nat_cmp}
+use Rattle.chains.proofs.Words.{ne_eqb, ordering_then, pos, ranked, set, subst₂, take_all, take_more, take_more_set, transfer_of, ℤ, ◌+ℤ◌, ◌<ℤ◌, ◌≤ℤ◌}
+use Rattle.heat_flow.specs.Flow.{heat_at, part_index, precedes}
+use Rattle.std.proofs.Common.{List, Some, [], ap, arith, false, get_or, inl, inr, length, refl, subst, suc, sym, take, zero, ℕ, ⊎_elim, ◌++◌, ◌+◌, ◌-◌, ◌<◌}
+use Rattle.std.proofs.Common.{◌==◌, ◌∙◌, ◌∷◌, ◌≡◌, ◌≤◌, ◌⊎◌}
 
 -- ---- shares in order
 
@@ -58,14 +39,23 @@ Neighbours shares = (k : ℕ) (d : Share) → k + 1 < length shares → IsNotAft
 pub neighbours_from_sort : {F : Type 0} {g : Mut F (Bor Share × Unit {0}) (ℕ × ℕ)} {f : F} (shares : List Share)
     → ((key : Share → ℕ × ℕ) → ComputesKey g key f → IsSortedByKey key (λ x y. ordering_then (nat_cmp x.0 y.0) (nat_cmp x.1 y.1)) shares)
     → ((a : Bor Share × Unit {0}) (r : ℕ × ℕ) (f' : F) → Called g f a r f' → (r ≡ (a.0.now.hot, a.0.now.node)) × (f' ≡ f)) → Neighbours shares
-neighbours_from_sort {g = g} {f = f} shares sorted h k d within = not_after (get_or shares k d) (get_or shares (k + 1) d) (sorted (λ s. (s.hot, s.node)) (always_returns_same g (λ a r. r ≡ (a.0.now.hot, a.0.now.node)) f h) k d (omega arith) within)
+neighbours_from_sort {g = g} {f = f} shares sorted h k d within =
+    not_after (get_or shares k d) (get_or shares (k + 1) d)
+    (sorted (λ s. (s.hot, s.node)) (always_returns_same g (λ a r. r ≡ (a.0.now.hot, a.0.now.node)) f h) k d (omega arith) within)
 
-not_after_later : (shares : List Share) → Neighbours shares → (n i : ℕ) (d : Share) → i + n < length shares → IsNotAfter (get_or shares i d) (get_or shares (i + n) d)
-not_after_later shares next zero i d within = inr (ap (λ k. (get_or shares k d).hot) {x = i} {y = i + zero} (omega arith), let same = ap (λ k. (get_or shares k d).node) {x = i} {y = i + zero} (omega arith) in omega (arith, same))
+not_after_later : (shares : List Share) → Neighbours shares → (n i : ℕ) (d : Share) → i + n < length shares
+    → IsNotAfter (get_or shares i d) (get_or shares (i + n) d)
+not_after_later shares next zero i d within =
+    inr (
+      ap (λ k. (get_or shares k d).hot) {x = i} {y = i + zero} (omega arith),
+      let same =
+          ap (λ k. (get_or shares k d).node) {x = i} {y = i + zero} (omega arith) in omega (arith, same),
+    )
 not_after_later shares next (suc n) i d within =
     let step : i + suc n ≡ i + n + 1 = omega arith in
     subst (λ k. IsNotAfter (get_or shares i d) (get_or shares k d)) (sym step)
-    (not_after-trans (get_or shares i d) (get_or shares (i + n) d) (get_or shares (i + n + 1) d) (not_after_later shares next n i d (omega (arith, within))) (next (i + n) d (omega (arith, within))))
+    (not_after-trans (get_or shares i d) (get_or shares (i + n) d) (get_or shares (i + n + 1) d) (not_after_later shares next n i d (omega (arith, within)))
+    (next (i + n) d (omega (arith, within))))
 
 -- the shares in front of one are not after it
 earlier : (shares : List Share) → Neighbours shares → (i : ℕ) (d : Share) → i < length shares → All (λ u. IsNotAfter u (get_or shares i d)) (take i shares)
@@ -80,7 +70,8 @@ earlier shares next i d within k e early =
 -- the same cold part, by its node
 same_cold : (node hots b : ℕ) → hots ≤ node → ((node - hots) == b) ≡ (node == (hots + b))
 same_cold node hots b behind =
-    ⊎_elim (λ e. eq-eqb (node - hots) b (omega (arith, e)) ∙ sym (eq-eqb node (hots + b) e)) (λ other. ne_eqb (node - hots) b (λ e. other (omega (arith, e, behind))) ∙ sym (ne_eqb node (hots + b) other)) (cases_eq node (hots + b))
+    ⊎_elim (λ e. eq-eqb (node - hots) b (omega (arith, e)) ∙ sym (eq-eqb node (hots + b) e))
+    (λ other. ne_eqb (node - hots) b (λ e. other (omega (arith, e, behind))) ∙ sym (ne_eqb node (hots + b) other)) (cases_eq node (hots + b))
 
 index_with_heat : (side : Side) (t : Transfer) (heat : ℤ) → part_index side (record t { heat = heat }) ≡ part_index side t
 index_with_heat Hot t heat = refl
@@ -91,7 +82,8 @@ index_of_pair Hot s t same = same.0
 index_of_pair Cold s t same = same.1
 
 -- a part has the heat of the transfer more
-added_heat : (side : Side) (a : ℕ) (old : List Transfer) (t : Transfer) (new : List Transfer) → IsAdded old t new → heat_at side new a ≡ heat_at side old a +ℤ (if part_index side t == a then t.heat else pos 0)
+added_heat : (side : Side) (a : ℕ) (old : List Transfer) (t : Transfer) (new : List Transfer) → IsAdded old t new
+    → heat_at side new a ≡ heat_at side old a +ℤ (if part_index side t == a then t.heat else pos 0)
 added_heat side a old t new (inr pushed) =
     let f = λ (u : Transfer). if part_index side u == a then u.heat else pos 0 in
     let is = ap (int_sum_by f) pushed.new_is in
@@ -111,7 +103,8 @@ added_heat side a old t new (inl joined) =
     omega (arith, ints)
 
 -- a transfer of the last pair, written into the last transfer
-pub is_joined : (old : List Transfer) (n : ℕ) (last t : Transfer) (heat : ℤ) → n + 1 ≡ length old → last ≡ get_or old n last → AreOfOnePair last t → heat ≡ last.heat +ℤ t.heat → IsJoined old t (set old n (record { hot = last.hot; cold = last.cold; heat = heat }))
+pub is_joined : (old : List Transfer) (n : ℕ) (last t : Transfer) (heat : ℤ) → n + 1 ≡ length old → last ≡ get_or old n last → AreOfOnePair last t
+    → heat ≡ last.heat +ℤ t.heat → IsJoined old t (set old n (record { hot = last.hot; cold = last.cold; heat = heat }))
 is_joined old n last t heat long read one_pair sum =
     let within : n < length old = omega (arith, long) in
     let more : Transfer = record { hot = last.hot; cold = last.cold; heat = heat } in
@@ -120,7 +113,8 @@ is_joined old n last t heat long read one_pair sum =
       last = last;
       one_pair = one_pair;
       old_is = sym (take_all (n + 1) old (omega (arith, long))) ∙ (take_more old n last within ∙ ap (λ x. take n old ++ x ∷ []) (sym read));
-      new_is = sym (take_all (n + 1) (set old n more) (omega (arith, long, length-set old n more))) ∙ (take_more_set old n more within ∙ ap (λ z. take n old ++ record { hot = last.hot; cold = last.cold; heat = z } ∷ []) sum);
+      new_is = sym (take_all (n + 1) (set old n more) (omega (arith, long, length-set old n more)))
+          ∙ (take_more_set old n more within ∙ ap (λ z. take n old ++ record { hot = last.hot; cold = last.cold; heat = z } ∷ []) sum);
     }
 
 -- the share at an index of shares in order
@@ -133,7 +127,9 @@ pub record IsShareAt (hots : ℕ) (most : ℤ) (shares : List Share) (i : ℕ) (
   pub positive : All (λ u. pos 0 <ℤ u.heat) shares
   pub fits : held_of shares s.hot ≤ℤ most
 
-pub share_at : (hots : ℕ) (most : ℤ) (unsorted shares : List Share) → IsPermutation unsorted shares → Neighbours shares → All (λ u. hots ≤ u.node) unsorted → All (λ u. pos 0 <ℤ u.heat) unsorted → All (λ u. held_of unsorted u.hot ≤ℤ most) unsorted → (i : ℕ) (d : Share) → i < length shares → IsShareAt hots most shares i (get_or shares i d)
+pub share_at : (hots : ℕ) (most : ℤ) (unsorted shares : List Share) → IsPermutation unsorted shares → Neighbours shares → All (λ u. hots ≤ u.node) unsorted
+    → All (λ u. pos 0 <ℤ u.heat) unsorted → All (λ u. held_of unsorted u.hot ≤ℤ most) unsorted → (i : ℕ) (d : Share) → i < length shares
+    → IsShareAt hots most shares i (get_or shares i d)
 share_at hots most unsorted shares same next at_cold positive fits i d within =
     let s = get_or shares i d in
     let some = All-permutation (λ (u : Share). pos 0 <ℤ u.heat) unsorted shares same positive in
@@ -154,7 +150,8 @@ module _ (hots : ℕ) where
   abbrev HasShare : List Share → Transfer → Type 0
   HasShare shares t = (s : Share) × Contains shares s × (s.hot ≡ t.hot) × (s.node ≡ hots + t.cold)
 
-  module _ (most : ℤ) (shares : List Share) (i : ℕ) (s : Share) (at : IsShareAt hots most shares i s) (transfers new : List Transfer) (before : AreGathered hots (take i shares) transfers) where
+  module _ (most : ℤ) (shares : List Share) (i : ℕ) (s : Share) (at : IsShareAt hots most shares i s) (transfers new : List Transfer)
+      (before : AreGathered hots (take i shares) transfers) where
     abbrev t : Transfer
     t = transfer_of hots s
 
@@ -166,13 +163,15 @@ module _ (hots : ℕ) where
     more_shares u (r, stands, hot, node) = (r, subst (λ xs. Contains xs r) (sym front_is) (Contains-append_left (take i shares) (s ∷ []) r stands), hot, node)
 
     this_share : (u : Transfer) → AreOfOnePair u t → HasShare (take (i + 1) shares) u
-    this_share u pair = let cold = pair.1 in (s, subst (λ xs. Contains xs s) (sym front_is) (Contains-push (take i shares) s), sym pair.0, omega (arith, cold, at.at_cold))
+    this_share u pair = let cold = pair.1 in
+        (s, subst (λ xs. Contains xs s) (sym front_is) (Contains-push (take i shares) s), sym pair.0, omega (arith, cold, at.at_cold))
 
     -- the transfers so far are not after it
     so_far : All (λ u. (u.hot < t.hot) ⊎ ((u.hot ≡ t.hot) × (u.cold ≤ t.cold))) transfers
     so_far k d k_in =
         let (r, stands, hot, node) = before.pairs k d k_in in
-        let order = All-contains (λ v. IsNotAfter v s) (take i shares) r (subst (λ v. All (λ w. IsNotAfter w v) (take i shares)) (at.is s) (earlier shares at.next i s at.within)) stands in
+        let order = All-contains (λ v. IsNotAfter v s) (take i shares) r
+        (subst (λ v. All (λ w. IsNotAfter w v) (take i shares)) (at.is s) (earlier shares at.next i s at.within)) stands in
         ⊎_elim (λ less. inl (omega (arith, less, hot))) (λ same. let low = same.1 in inr (sym hot ∙ same.0, omega (arith, low, node, at.at_cold))) order
 
     sum_more : (f : Share → ℤ) → int_sum_by f (take (i + 1) shares) ≡ int_sum_by f (take i shares) +ℤ f s
@@ -200,9 +199,14 @@ module _ (hots : ℕ) where
     behind pushed k d k_in =
         let last = length transfers - 1 in
         let another = pushed.another_pair d (omega (arith, k_in)) in
-        let by_last : precedes (get_or transfers last d) t = ⊎_elim (λ less. inl less) (λ same. let low = same.1 in inr (same.0, ⊎_elim (λ e. absurd (another (same.0, e))) (λ other. omega (arith, low, other)) (cases_eq (get_or transfers last d).cold t.cold))) (so_far last d (omega (arith, k_in))) in
+        let by_last : precedes (get_or transfers last d) t =
+        ⊎_elim (λ less. inl less)
+        (λ same. let low = same.1 in
+        inr (same.0, ⊎_elim (λ e. absurd (another (same.0, e))) (λ other. omega (arith, low, other)) (cases_eq (get_or transfers last d).cold t.cold)))
+        (so_far last d (omega (arith, k_in))) in
         ⊎_elim (λ e. subst (λ n. precedes (get_or transfers n d) t) (sym e) by_last)
-        (λ other. precedes-trans (get_or transfers k d) (get_or transfers last d) t (before.ordered k last d (omega (arith, k_in, other)) (omega (arith, k_in))) by_last) (cases_eq k last)
+        (λ other. precedes-trans (get_or transfers k d) (get_or transfers last d) t (before.ordered k last d (omega (arith, k_in, other)) (omega (arith, k_in)))
+        by_last) (cases_eq k last)
       where
         precedes-trans : (u v w : Transfer) → precedes u v → precedes v w → precedes u w
         precedes-trans u v w (inl less) (inl more) = inl (omega (arith, less, more))
@@ -215,7 +219,8 @@ module _ (hots : ℕ) where
       positive = subst (All (λ u. pos 0 <ℤ u.heat)) (sym pushed.new_is) (All-push (λ u. pos 0 <ℤ u.heat) transfers t before.positive at.some);
       ordered = subst (AllPairs precedes) (sym pushed.new_is) (all_pairs_push precedes transfers t before.ordered (behind pushed));
       pairs = subst (All (HasShare (take (i + 1) shares))) (sym pushed.new_is)
-          (All-push (HasShare (take (i + 1) shares)) transfers t (All-weaker (HasShare (take i shares)) (HasShare (take (i + 1) shares)) more_shares transfers before.pairs) (this_share t (refl, refl)));
+          (All-push (HasShare (take (i + 1) shares)) transfers t
+          (All-weaker (HasShare (take i shares)) (HasShare (take (i + 1) shares)) more_shares transfers before.pairs) (this_share t (refl, refl)));
       given = given_more (inr pushed);
       taken = taken_more (inr pushed);
     }
@@ -227,10 +232,14 @@ module _ (hots : ℕ) where
         let pairs = All-pop (HasShare (take i shares)) transfers front (Some last) joined.old_is before.pairs in
         let ordered = subst (AllPairs precedes) joined.old_is before.ordered in
         record {
-          positive = subst (All (λ u. pos 0 <ℤ u.heat)) (sym joined.new_is) (All-push (λ u. pos 0 <ℤ u.heat) front more positive.0 (let had = positive.1 in omega (arith, ints, had, at.some)));
-          ordered = subst (AllPairs precedes) (sym joined.new_is) (all_pairs_push precedes front more (AllPairs-front precedes front (last ∷ []) ordered) (λ k d k_in. All-head (precedes (get_or front k d)) last [] (AllPairs-across precedes front (last ∷ []) k d ordered k_in)));
+          positive = subst (All (λ u. pos 0 <ℤ u.heat)) (sym joined.new_is)
+              (All-push (λ u. pos 0 <ℤ u.heat) front more positive.0 (let had = positive.1 in omega (arith, ints, had, at.some)));
+          ordered = subst (AllPairs precedes) (sym joined.new_is)
+              (all_pairs_push precedes front more (AllPairs-front precedes front (last ∷ []) ordered)
+              (λ k d k_in. All-head (precedes (get_or front k d)) last [] (AllPairs-across precedes front (last ∷ []) k d ordered k_in)));
           pairs = subst (All (HasShare (take (i + 1) shares))) (sym joined.new_is)
-              (All-push (HasShare (take (i + 1) shares)) front more (All-weaker (HasShare (take i shares)) (HasShare (take (i + 1) shares)) more_shares front pairs.0) (this_share more joined.one_pair));
+              (All-push (HasShare (take (i + 1) shares)) front more
+              (All-weaker (HasShare (take i shares)) (HasShare (take (i + 1) shares)) more_shares front pairs.0) (this_share more joined.one_pair));
           given = given_more (inl joined);
           taken = taken_more (inl joined);
         }
@@ -241,21 +250,26 @@ module _ (hots : ℕ) where
         let u = get_or transfers k d in
         let f = λ (v : Transfer). if v.hot == s.hot then v.heat else pos 0 in
         let g = λ (v : Share). if v.hot == s.hot then v.heat else pos 0 in
-        let term = int_sum_by-term f transfers (λ j c j_in. let had = before.positive j c j_in in (if_between ((get_or transfers j c).hot == s.hot) (get_or transfers j c).heat (omega (arith, ints, had))).0) k d k_in in
+        let term = int_sum_by-term f transfers
+        (λ j c j_in. let had = before.positive j c j_in in
+        (if_between ((get_or transfers j c).hot == s.hot) (get_or transfers j c).heat (omega (arith, ints, had))).0) k d k_in in
         let one = ap (λ b. if b then u.heat else pos 0) (eq-eqb u.hot s.hot same) in
         let two = ap (λ b. if b then s.heat else pos 0) (eq-eqb s.hot s.hot refl) in
         let gathered = before.given s.hot in
         let more = held_more s.hot in
         let fits = at.fits in
-        let upto = int_sum_by-front g (i + 1) shares (λ j c j_in. let had = at.positive j c j_in in (if_between ((get_or shares j c).hot == s.hot) (get_or shares j c).heat (omega (arith, ints, had))).0) in
+        let upto = int_sum_by-front g (i + 1) shares
+        (λ j c j_in. let had = at.positive j c j_in in (if_between ((get_or shares j c).hot == s.hot) (get_or shares j c).heat (omega (arith, ints, had))).0) in
         omega (arith, ints)
 
   -- gathered in one order, gathered in any
-  pub AreGathered-permutation : (shares sorted : List Share) (transfers : List Transfer) → IsPermutation shares sorted → AreGathered hots sorted transfers → AreGathered hots shares transfers
+  pub AreGathered-permutation : (shares sorted : List Share) (transfers : List Transfer) → IsPermutation shares sorted → AreGathered hots sorted transfers
+      → AreGathered hots shares transfers
   AreGathered-permutation shares sorted transfers same gathered = record {
     positive = gathered.positive;
     ordered = gathered.ordered;
-    pairs = All-weaker (HasShare sorted) (HasShare shares) (λ t has. (has.0, Contains-permutation sorted shares has.0 (IsPermutation-sym shares sorted same) has.1, has.2, has.3)) transfers gathered.pairs;
+    pairs = All-weaker (HasShare sorted) (HasShare shares)
+        (λ t has. (has.0, Contains-permutation sorted shares has.0 (IsPermutation-sym shares sorted same) has.1, has.2, has.3)) transfers gathered.pairs;
     given = λ a. gathered.given a ∙ int_sum_by-permutation (λ s. if s.hot == a then s.heat else pos 0) shares sorted same;
     taken = λ b. gathered.taken b ∙ int_sum_by-permutation (λ s. if s.node == (hots + b) then s.heat else pos 0) shares sorted same;
   }

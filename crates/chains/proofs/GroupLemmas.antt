@@ -1,35 +1,25 @@
 -- Groups of hot sources, one hot source after another.
-use Rattle.std.proofs.Common.{◌≡◌, ◌≢◌, ◌∙◌, ⊎_elim, refl, sym, ap, subst, subst₂, ℕ, ◌+◌, ◌*◌, ◌<◌, ◌≤◌, List, [], ◌∷◌, ◌++◌, length, get_or, take, Some, arith}
-use Rattle.std.specs.Prelude.{All, AllPairs, Any, Contains, slice_get}
-use Rattle.std.proofs.lemmas.Bool.{cases_order}
-use Rattle.std.proofs.lemmas.List.{get_or_default, length-take, length_push, take_all, take_more}
-use Rattle.std.proofs.lemmas.List.Elements.{All-append, All-cons, All-contains, All-nil, All-weaker, Contains-append_left, Contains-push}
-use Rattle.std.proofs.lemmas.List.Quantifiers.{Any-push, all_pairs_push}
-use Rattle.std.proofs.lemmas.Nat.{mul-le}
-use Rattle.std.proofs.lemmas.Option.{get_or_from_slice_get, same_Some, slice_get_within, slice_get_read}
-use Rattle.stream_case.specs.declared.limits.TheConstants.{ALL_UTILITIES, MOST_PARTS, MOST_PLACES, MOST_STREAMS}
-use Rattle.stream_case.specs.declared.source.Side.TheVariants.{Hot, Cold}
-use Rattle.stream_case.specs.declared.source.Source.{Source}
-use Rattle.stream_case.specs.declared.case.Case.{Case}
-use Rattle.stream_case.specs.Case.{side_of, is_forbidden, IsComplete}
-use Rattle.stream_case.proofs.CompleteLemmas.{AreStreams-IsComplete, length-utilities}
-use Rattle.sums.proofs.ListLemmas.{All-slice_get, slice_get_push}
-use Rattle.sums.proofs.OrderLemmas.{Lists-same}
-use Rattle.chains.specs.declared.net.Group.{Group}
-use Rattle.chains.specs.declared.net.TheConstants.{MOST_INNER_NODES}
-use Rattle.chains.specs.ChainNet.{StandInLine}
-use Rattle.chains.specs.Groups.{AreGroups, HaveSamePartners, StandsIn}
-use Rattle.chains.specs.Making.{AreSources, IsLike, ListsOnce}
 use Rattle.chains.proofs.OnceLemmas.{KeptSoFar}
+use Rattle.chains.proofs.Words.{ALL_UTILITIES, All, All-append, All-cons, All-contains, All-nil, All-slice_get, All-weaker, AllPairs, Any, Any-push, AreGroups}
+use Rattle.chains.proofs.Words.{AreSources, AreStreams-IsComplete, Case, Cold, Contains, Contains-append_left, Contains-push, Group, HaveSamePartners, Hot}
+use Rattle.chains.proofs.Words.{IsComplete, IsLike, Lists-same, ListsOnce, MOST_INNER_NODES, MOST_PARTS, MOST_PLACES, MOST_STREAMS, Source, StandInLine}
+use Rattle.chains.proofs.Words.{StandsIn, all_pairs_push, cases_order, get_or_default, get_or_from_slice_get, is_forbidden, length-take, length-utilities}
+use Rattle.chains.proofs.Words.{length_push, mul-le, same_Some, side_of, slice_get, slice_get_push, slice_get_read, slice_get_within, take_all, take_more}
+use Rattle.std.proofs.Common.{List, Some, [], ap, arith, get_or, length, refl, subst, subst₂, sym, take, ℕ, ⊎_elim, ◌*◌, ◌++◌, ◌+◌, ◌<◌, ◌∙◌, ◌∷◌, ◌≡◌, ◌≢◌}
+use Rattle.std.proofs.Common.{◌≤◌}
 
 -- ---- partners
 
 -- the tests of all cold sources are those of a list of them
-pub HaveSamePartners-all : (c : Case) (cold : List Source) (p q : Source) → ListsOnce (λ source. side_of c source ≡ Some Cold) cold → All (λ source. is_forbidden c.forbids p source ≡ is_forbidden c.forbids q source) cold → HaveSamePartners c p q
-HaveSamePartners-all c cold p q lists same source side = All-contains (λ s. is_forbidden c.forbids p s ≡ is_forbidden c.forbids q s) cold source same (lists.every source side)
+pub HaveSamePartners-all : (c : Case) (cold : List Source) (p q : Source) → ListsOnce (λ source. side_of c source ≡ Some Cold) cold
+    → All (λ source. is_forbidden c.forbids p source ≡ is_forbidden c.forbids q source) cold → HaveSamePartners c p q
+HaveSamePartners-all c cold p q lists same source side =
+    All-contains (λ s. is_forbidden c.forbids p s ≡ is_forbidden c.forbids q s) cold source same (lists.every source side)
 
-pub all-HaveSamePartners : (c : Case) (cold : List Source) (p q : Source) → ListsOnce (λ source. side_of c source ≡ Some Cold) cold → HaveSamePartners c p q → All (λ source. is_forbidden c.forbids p source ≡ is_forbidden c.forbids q source) cold
-all-HaveSamePartners c cold p q lists same = All-weaker (λ s. side_of c s ≡ Some Cold) (λ s. is_forbidden c.forbids p s ≡ is_forbidden c.forbids q s) (λ s side. same s side) cold lists.each
+pub all-HaveSamePartners : (c : Case) (cold : List Source) (p q : Source) → ListsOnce (λ source. side_of c source ≡ Some Cold) cold → HaveSamePartners c p q
+    → All (λ source. is_forbidden c.forbids p source ≡ is_forbidden c.forbids q source) cold
+all-HaveSamePartners c cold p q lists same =
+    All-weaker (λ s. side_of c s ≡ Some Cold) (λ s. is_forbidden c.forbids p s ≡ is_forbidden c.forbids q s) (λ s side. same s side) cold lists.each
 
 same_itself : (c : Case) (p : Source) → HaveSamePartners c p p
 same_itself c p cold side = refl
@@ -76,7 +66,8 @@ module _ (c : Case) (early : List Source) (first ranks : ℕ) (groups : List Gro
     few = omega (arith, h.few, length_push early source);
   }
 
-  module _ (g : Group) (hot : side_of c source ≡ Some Hot) (sources : ListsOnce (IsLike c source) g.sources) (node : g.first_node ≡ first + length groups * ranks) (new : StandsInOne groups source → ⊥) where
+  module _ (g : Group) (hot : side_of c source ≡ Some Hot) (sources : ListsOnce (IsLike c source) g.sources)
+      (node : g.first_node ≡ first + length groups * ranks) (new : StandsInOne groups source → ⊥) where
     own : Contains g.sources source
     own = sources.every source (record { side = hot; alike = same_itself c source })
 
@@ -99,30 +90,42 @@ module _ (c : Case) (early : List Source) (first ranks : ℕ) (groups : List Gro
     -- one that begins a group
     pub groups-push : HoldsGroups c (early ++ source ∷ []) first ranks (groups ++ g ∷ [])
     groups-push = record {
-      each = All-append (IsGroupFrom c (early ++ source ∷ [])) groups (g ∷ []) (All-weaker (IsGroupFrom c early) (IsGroupFrom c (early ++ source ∷ [])) more_early groups h.each)
-          (All-cons (IsGroupFrom c (early ++ source ∷ [])) g [] (record { first = source; is_early = Contains-push early source; sources = sources }) (All-nil (IsGroupFrom c (early ++ source ∷ []))));
-      every = All-append (StandsInOne (groups ++ g ∷ [])) early (source ∷ []) (All-weaker (StandsInOne groups) (StandsInOne (groups ++ g ∷ [])) still early h.every)
-          (All-cons (StandsInOne (groups ++ g ∷ [])) source [] (Any-push (λ f. Contains f.sources source) groups g own) (All-nil (StandsInOne (groups ++ g ∷ []))));
-      apart = all_pairs_push (AreApart c) groups g h.apart (λ k d within. apart_from (get_or groups k d) (k, within, get_or_default groups k (get_or groups k d) d within));
-      in_line = λ i f at. ⊎_elim (λ here. h.in_line i f here) (λ last. ap (λ f. f.first_node) last.1 ∙ node ∙ ap (λ n. first + n * ranks) (sym last.0)) (slice_get_push groups g i f at);
+      each = All-append (IsGroupFrom c (early ++ source ∷ [])) groups (g ∷ [])
+          (All-weaker (IsGroupFrom c early) (IsGroupFrom c (early ++ source ∷ [])) more_early groups h.each)
+          (All-cons (IsGroupFrom c (early ++ source ∷ [])) g [] (record { first = source; is_early = Contains-push early source; sources = sources })
+          (All-nil (IsGroupFrom c (early ++ source ∷ []))));
+      every = All-append (StandsInOne (groups ++ g ∷ [])) early (source ∷ [])
+          (All-weaker (StandsInOne groups) (StandsInOne (groups ++ g ∷ [])) still early h.every)
+          (All-cons (StandsInOne (groups ++ g ∷ [])) source [] (Any-push (λ f. Contains f.sources source) groups g own)
+          (All-nil (StandsInOne (groups ++ g ∷ []))));
+      apart = all_pairs_push (AreApart c) groups g h.apart
+          (λ k d within. apart_from (get_or groups k d) (k, within, get_or_default groups k (get_or groups k d) d within));
+      in_line = λ i f at. ⊎_elim (λ here. h.in_line i f here) (λ last. ap (λ f. f.first_node) last.1 ∙ node ∙ ap (λ n. first + n * ranks) (sym last.0))
+          (slice_get_push groups g i f at);
       few = omega (arith, h.few, length_push early source, length_push groups g);
     }
 
 -- ---- steps of the loop
 
-module _ (c : Case) (hot : List Source) (first ranks : ℕ) (i : ℕ) (within : i < length hot) (source : Source) (is : source ≡ get_or hot i source) (groups : List Group) (h : HoldsGroups c (take i hot) first ranks groups) where
+module _ (c : Case) (hot : List Source) (first ranks : ℕ) (i : ℕ) (within : i < length hot) (source : Source) (is : source ≡ get_or hot i source)
+    (groups : List Group) (h : HoldsGroups c (take i hot) first ranks groups) where
   more_hot : take i hot ++ source ∷ [] ≡ take (i + 1) hot
   more_hot = sym (subst (λ x. take (i + 1) hot ≡ take i hot ++ x ∷ []) (sym is) (take_more hot i source within))
 
   pub groups-old : (now : List Group) → now ≡ groups → StandsInOne groups source → HoldsGroups c (take (i + 1) hot) first ranks now
-  groups-old now same stands = subst₂ (λ early gs. HoldsGroups c early first ranks gs) more_hot (sym same) (groups-pass c (take i hot) first ranks groups h source stands)
+  groups-old now same stands =
+      subst₂ (λ early gs. HoldsGroups c early first ranks gs) more_hot (sym same) (groups-pass c (take i hot) first ranks groups h source stands)
 
-  pub groups-new : (now : List Group) (g : Group) → now ≡ groups ++ g ∷ [] → side_of c source ≡ Some Hot → ListsOnce (IsLike c source) g.sources → g.first_node ≡ first + length groups * ranks → (StandsInOne groups source → ⊥) → HoldsGroups c (take (i + 1) hot) first ranks now
-  groups-new now g pushed side sources node new = subst₂ (λ early gs. HoldsGroups c early first ranks gs) more_hot (sym pushed) (groups-push c (take i hot) first ranks groups h source g side sources node new)
+  pub groups-new : (now : List Group) (g : Group) → now ≡ groups ++ g ∷ [] → side_of c source ≡ Some Hot → ListsOnce (IsLike c source) g.sources
+      → g.first_node ≡ first + length groups * ranks → (StandsInOne groups source → ⊥) → HoldsGroups c (take (i + 1) hot) first ranks now
+  groups-new now g pushed side sources node new =
+      subst₂ (λ early gs. HoldsGroups c early first ranks gs) more_hot (sym pushed)
+      (groups-push c (take i hot) first ranks groups h source g side sources node new)
 
 -- ---- the whole
 
-module _ (c : Case) (hot : List Source) (lists : ListsOnce (λ source. side_of c source ≡ Some Hot) hot) (first ranks : ℕ) (groups : List Group) (h : HoldsGroups c hot first ranks groups) where
+module _ (c : Case) (hot : List Source) (lists : ListsOnce (λ source. side_of c source ≡ Some Hot) hot) (first ranks : ℕ) (groups : List Group)
+    (h : HoldsGroups c hot first ranks groups) where
   from_of : (i : ℕ) (g : Group) → slice_get groups i ≡ Some g → IsGroupFrom c hot g
   from_of i g at = All-slice_get (IsGroupFrom c hot) groups i g h.each at
 
@@ -130,12 +133,14 @@ module _ (c : Case) (hot : List Source) (lists : ListsOnce (λ source. side_of c
   never_same i j p q before (f, f_at, in_f) (g, g_at, in_g) same =
       let late = slice_get_within groups j g g_at in
       let pair = h.apart i j f before late in
-      pair p q (subst (λ k. Contains k.sources p) (sym (get_or_from_slice_get groups i f f f_at)) in_f) (subst (λ k. Contains k.sources q) (sym (get_or_from_slice_get groups j g f g_at)) in_g) same
+      pair p q (subst (λ k. Contains k.sources p) (sym (get_or_from_slice_get groups i f f f_at)) in_f)
+      (subst (λ k. Contains k.sources q) (sym (get_or_from_slice_get groups j g f g_at)) in_g) same
 
   pub AreGroups-holds : AreGroups c groups
   AreGroups-holds = record {
     hot = λ i source (g, at, found). let from = from_of i g at in (All-contains (IsLike c from.first) g.sources source from.sources.each found).side;
-    some = λ source side. let (k, g, within, is, found) = All-contains (StandsInOne groups) hot source h.every (lists.every source side) in (k, (g, slice_get_read groups (length groups) k g refl within (sym is), found));
+    some = λ source side. let (k, g, within, is, found) = All-contains (StandsInOne groups) hot source h.every (lists.every source side) in
+        (k, (g, slice_get_read groups (length groups) k g refl within (sym is), found));
     once = All-weaker (IsGroupFrom c hot) (λ g. AllPairs (λ p q. p ≢ q) g.sources) (λ g from. from.sources.ordered) groups h.each;
     alike = λ i j p q in_i in_j. (together i j p q in_i in_j, apart i j p q in_i in_j);
   }
@@ -150,13 +155,15 @@ module _ (c : Case) (hot : List Source) (lists : ListsOnce (λ source. side_of c
 
       apart : (i j : ℕ) (p q : Source) → StandsIn groups i p → StandsIn groups j q → HaveSamePartners c p q → i ≡ j
       apart i j p q in_i in_j same =
-          ⊎_elim (λ e. e) (λ other. ⊎_elim (λ less. absurd (never_same i j p q less in_i in_j same)) (λ more. absurd (never_same j i q p more in_j in_i (λ cold side. sym (same cold side)))) other)
+          ⊎_elim (λ e. e) (λ other. ⊎_elim (λ less. absurd (never_same i j p q less in_i in_j same))
+          (λ more. absurd (never_same j i q p more in_j in_i (λ cold side. sym (same cold side)))) other)
           (cases_order i j)
 
 -- ---- sizes
 
 -- the hot sources of a completed case are few
-pub few_groups : (c : Case) (hot items : List Source) (first ranks i : ℕ) (groups : List Group) → IsComplete c → AreSources c.streams c.utilities Hot hot → items ≡ hot → HoldsGroups c (take i items) first ranks groups → length groups ≤ MOST_STREAMS + ALL_UTILITIES
+pub few_groups : (c : Case) (hot items : List Source) (first ranks i : ℕ) (groups : List Group) → IsComplete c → AreSources c.streams c.utilities Hot hot
+    → items ≡ hot → HoldsGroups c (take i items) first ranks groups → length groups ≤ MOST_STREAMS + ALL_UTILITIES
 few_groups c hot items first ranks i groups complete sources is h =
     let streams = (AreStreams-IsComplete c complete).few Hot in
     omega (arith, sources.few, h.few, streams, length-utilities c complete, length-take i items, ap length is)
@@ -169,9 +176,13 @@ few_chain_nodes groups ranks few_groups few_ranks =
 
 -- ---- a list of hot sources that are like one
 
-pub likes-all : (c : Case) (hot : List Source) (first : Source) (i : ℕ) (kept : List Source) → ListsOnce (λ source. side_of c source ≡ Some Hot) hot → length hot ≤ i → KeptSoFar (HaveSamePartners c first) hot i kept → ListsOnce (IsLike c first) kept
+pub likes-all : (c : Case) (hot : List Source) (first : Source) (i : ℕ) (kept : List Source) → ListsOnce (λ source. side_of c source ≡ Some Hot) hot
+    → length hot ≤ i → KeptSoFar (HaveSamePartners c first) hot i kept → ListsOnce (IsLike c first) kept
 likes-all c hot first i kept lists past h =
     Lists-same (λ a b. a ≢ b) (λ s. Contains (take i hot) s × HaveSamePartners c first s) (IsLike c first) kept
-    (λ s both. record { side = All-contains (λ x. side_of c x ≡ Some Hot) hot s lists.each (subst (λ xs. Contains xs s) (take_all i hot past) both.0); alike = both.1 })
+    (λ s both. record {
+      side = All-contains (λ x. side_of c x ≡ Some Hot) hot s lists.each (subst (λ xs. Contains xs s) (take_all i hot past) both.0);
+      alike = both.1;
+    })
     (λ s like. (subst (λ xs. Contains xs s) (sym (take_all i hot past)) (lists.every s like.side), like.alike))
     h

@@ -1,7 +1,6 @@
 -- Paths of links: none, a link more, two paths one after the other, and what the links of a path keep.
-use Rattle.std.proofs.Common.{refl, sym, subst, ℕ, List, [], ◌∷◌, ◌++◌, Contains}
-use Rattle.flow_net.specs.declared.net.Link.{Link}
-use Rattle.chains.specs.Path.{IsPath, LeadsTo}
+use Rattle.chains.proofs.Words.{IsPath, LeadsTo, Link}
+use Rattle.std.proofs.Common.{Contains, List, [], refl, subst, sym, ℕ, ◌++◌, ◌∷◌}
 
 module _ (links : List Link) where
   pub LeadsTo-none : (u : ℕ) → LeadsTo links u u

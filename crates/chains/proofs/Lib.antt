@@ -1,4 +1,4 @@
-mod Appending
+pub mod FlatMaps
 mod GatherLemmas
 mod GroupLemmas
 pub mod LeadsToLemmas
@@ -13,3 +13,4 @@ mod SetOutLemmas
 mod SourceLists
 mod SpreadLemmas
 mod WayLemmas
+pub mod Words

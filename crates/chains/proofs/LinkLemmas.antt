@@ -1,317 +1,246 @@
--- The links of a net of chains, part by part and group by group.
-use Rattle.std.proofs.Common.{◌≡◌, ◌∙◌, ◌⊎◌, ⊎_elim, inl, inr, refl, sym, ap, ap₂, subst, subst₂, ℕ, ◌+◌, ◌-◌, ◌*◌, ◌/◌, ◌%◌, ◌<◌, ◌≤◌, ◌↔◌, false, List, [], ◌∷◌, ◌++◌, length, get_or, take, Some, arith}
-use Rattle.std.specs.Prelude.{ℤ, All, Any, Contains, slice_get}
-use Rattle.std.proofs.Math.Nat.{div-mul-le_self, le-div_iff_mul-le, mul-mod_left}
-use Rattle.std.proofs.lemmas.Bool.{cases_lt}
-use Rattle.std.proofs.lemmas.List.{length-take-le, take_more}
-use Rattle.std.proofs.lemmas.List.Elements.{All-contains, All-push, Contains-append_left, Contains-append_right, Contains-get_or, Contains-push, Contains-push_cases}
-use Rattle.std.proofs.lemmas.Nat.{div-add-mod', le-div}
-use Rattle.std.proofs.lemmas.Option.{same_Some, slice_get_read}
-use Rattle.stream_case.specs.declared.source.Source.{Source}
-use Rattle.stream_case.specs.declared.case.Case.{Case}
-use Rattle.stream_case.specs.Case.{is_forbidden}
-use Rattle.sums.proofs.ListLemmas.{slice_get-append, slice_get_push}
-use Rattle.grid.specs.declared.part.Part.{Part}
-use Rattle.flow_net.specs.declared.net.Link.{Link}
-use Rattle.chains.specs.declared.net.Group.{Group}
-use Rattle.chains.specs.ChainNet.{open_link, strides, IsEntering, IsOnward, IsLeaving, IsChainLink, HoldsChains}
-use Rattle.chains.specs.Groups.{AreGroups}
-use Rattle.chains.specs.Making.{Appends, IsStep}
-use Rattle.chains.specs.Ranks.{rank_of, rank_count}
-use Rattle.chains.proofs.Appending.{appends-push, appends-same, appends-then}
+-- The links of a net of chains: how loops append them, which ones they are, and how many.
+use Rattle.chains.proofs.FlatMaps.{Contains-enumerated, length-flat_map-le}
+use Rattle.chains.proofs.Words.{All, All-append, All-cons, All-cons_if, All-contains, All-enumerated, All-flat_map, All-map, All-nil, All-weaker}
+use Rattle.chains.proofs.Words.{AllPass-from_list_all, Any-from_list_any, Case, Contains, Contains-append_left, Contains-append_right, Contains-cons}
+use Rattle.chains.proofs.Words.{Contains-flat_map, Contains-get_or, Group, Link, Part, Source, append-nil, chain_links, cons_if, div-mul-le_self, entering}
+use Rattle.chains.proofs.Words.{entering_at, enumerate_from, false≢true, find, first_node_of, flat_map, has_source, is_forbidden, is_permitted, le-div}
+use Rattle.chains.proofs.Words.{le-div_iff_mul-le, leaving, leaving_at, length-enumerate_from, length-flat_map, links_of_group, list_all-from_AllPass}
+use Rattle.chains.proofs.Words.{list_any-from_Any, not-true, not_from_false, onward, open_link, range_with_len, rank_count, rank_of, same_Some, same_source}
+use Rattle.chains.proofs.Words.{same_source-same, same_source-true, slice_get, stride_link, stride_links, strides, ℤ}
+use Rattle.std.proofs.Common.{Bool, List, None, Option, Some, [], ap, append_assoc, ap₂, arith, cond, false, get_or, length, length-append, not, option_map}
+use Rattle.std.proofs.Common.{option_to_list, refl, subst, suc, sym, true, zero, ℕ, ⊎_elim, ◌*◌, ◌++◌, ◌+◌, ◌-◌, ◌/◌, ◌<◌, ◌∙◌, ◌∷◌, ◌≡◌, ◌≤◌}
+use Rattle.std.proofs.lemmas.List.FromFn.{get_or-map-range_with_len, get_or-range_with_len, length-map-range_with_len, length-range_with_len}
 
-slice_get-end : {X : Type 0} (xs : List X) (x : X) → slice_get (xs ++ x ∷ []) (length xs) ≡ Some x
-slice_get-end [] x = refl
-slice_get-end (a ∷ xs) x = slice_get-end xs x
+-- the links of all strides, one after the other
+pub strides-all : (first ranks : ℕ) (a b c d e f : List Link) → b ≡ a ++ stride_links first ranks 1 → c ≡ b ++ stride_links first ranks 3
+    → d ≡ c ++ stride_links first ranks 9 → e ≡ d ++ stride_links first ranks 27 → f ≡ e ++ stride_links first ranks 81 → f ≡ a ++ onward first ranks
+unfolding onward
+strides-all first ranks a b c d e f by1 by3 by9 by27 by81 =
+    let more = λ (n : ℕ) (links : List Link). links ++ stride_links first ranks n in
+    by81 ∙ ap (more 81) (by27 ∙ ap (more 27) (by9 ∙ ap (more 9) (by3 ∙ ap (more 3) by1))) ∙ simp (append_assoc, append-nil)
 
-none_in_nil : {X : Type 0} (x : X) → Contains [] x → ⊥
-none_in_nil x (k, within, is) = omega (arith, within)
+-- ---- general lists
 
-only_one : {X : Type 0} (x y : X) → Contains (y ∷ []) x → x ≡ y
-only_one x y found = ⊎_elim (λ none. absurd (none_in_nil x none)) (λ e. sym e) (Contains-push_cases [] y x found)
-
--- ---- entering links
-
-module _ (c : Case) (places : List ℤ) (hot cold : List Part) (groups : List Group) (p : Part) where
-  entering_stays : (l : Link) → IsEntering c places hot cold groups l → IsEntering c places (hot ++ p ∷ []) cold groups l
-  entering_stays l e = record { index = e.index; part = e.part; group = e.group; part_is = slice_get-append hot (p ∷ []) e.index e.part e.part_is; group_is = e.group_is; stands = e.stands; is = e.is }
-
-  -- a part more, whose source stands in a group with this first node
-  pub entering-push : (k : Case) → AreGroups k groups → (node m : ℕ) (before after now : List Link) → Appends (IsEntering c places hot cold groups) m before after → Any (λ g. (g.first_node ≡ node) × Contains g.sources p.source) groups
-      → now ≡ after ++ open_link (length hot) (node + rank_of places p) ∷ [] → Appends (IsEntering c places (hot ++ p ∷ []) cold groups) (m + 1) before now
-  entering-push of are node m before after now h (k, g, within, g_is, (starts, stands)) is =
-      appends-push (IsEntering c places hot cold groups) (IsEntering c places (hot ++ p ∷ []) cold groups) m before after now (open_link (length hot) (node + rank_of places p)) h is
-      (record { index = length hot; part = p; group = g; part_is = slice_get-end hot p; group_is = (k, within, g_is); stands = stands; is = ap (λ n. open_link (length hot) (n + rank_of places p)) (sym starts) })
-      entering_stays back
+module _ {X : Type 0} where
+  -- what is found stands in the list and passes, and where one passes some is found
+  find-some : (test : X → Bool) (xs : List X) (x : X) → find test xs ≡ Some x → Contains xs x × (test x ≡ true)
+  find-some test [] x found = cc
+  find-some test (y ∷ ys) x found = at (find-some test ys x) (test y) refl found
     where
-      -- the group of a source is one
-      one_group : (f : Group) → Contains groups f → Contains f.sources p.source → f.first_node ≡ node
-      one_group f (i, in_i, f_is) found =
-          let at_i : slice_get groups i ≡ Some f = slice_get_read groups (length groups) i f refl in_i (sym f_is) in
-          let at_k : slice_get groups k ≡ Some g = slice_get_read groups (length groups) k g refl within (sym g_is) in
-          let same : i ≡ k = (are.alike i k p.source p.source (f, at_i, found) (g, at_k, stands)).1 (λ s side. refl) in
-          ap (λ x. x.first_node) (same_Some f g (sym at_i ∙ ap (slice_get groups) same ∙ at_k)) ∙ starts
+      at : (find test ys ≡ Some x → Contains ys x × (test x ≡ true)) → (b : Bool) → test y ≡ b → cond b (Some y) (find test ys) ≡ Some x → Contains (y ∷ ys) x
+          × (test x ≡ true)
+      at later true passes same = let e = same_Some y x same in ((0, omega arith, e), ap test (sym e) ∙ passes)
+      at later false fails same = let (there, passes) = later same in (Contains-append_right (y ∷ []) ys x there, passes)
 
-      back : (l : Link) → IsEntering c places (hot ++ p ∷ []) cold groups l → IsEntering c places hot cold groups l ⊎ (l ≡ open_link (length hot) (node + rank_of places p))
-      back l e =
-          ⊎_elim
-          (λ early. inl (record { index = e.index; part = e.part; group = e.group; part_is = early; group_is = e.group_is; stands = e.stands; is = e.is }))
-          (λ last.
-          let found : Contains e.group.sources p.source = subst (λ q. Contains e.group.sources q.source) last.1 e.stands in
-          inr (e.is ∙ ap₂ open_link last.0 (ap₂ (λ n q. n + rank_of places q) (one_group e.group e.group_is found) last.1)))
-          (slice_get_push hot p e.index e.part e.part_is)
-
-  -- a part more, whose source stands in no group
-  pub entering-pass : (m : ℕ) (before after : List Link) → Appends (IsEntering c places hot cold groups) m before after → All (λ g. Contains g.sources p.source → ⊥) groups → Appends (IsEntering c places (hot ++ p ∷ []) cold groups) (m + 1) before after
-  entering-pass m before after h nowhere = appends-same (IsEntering c places hot cold groups) (IsEntering c places (hot ++ p ∷ []) cold groups) m (m + 1) before after entering_stays back (omega arith) h
+  find-there : (test : X → Bool) (xs : List X) (x : X) → Contains xs x → test x ≡ true → (y : X) × (find test xs ≡ Some y)
+  find-there test [] x (k, within, is) passes = absurd (omega (arith, within))
+  find-there test (z ∷ zs) x found passes = at (λ rest. find-there test zs x rest passes) (test z) refl
     where
-      back : (l : Link) → IsEntering c places (hot ++ p ∷ []) cold groups l → IsEntering c places hot cold groups l
-      back l e =
-          ⊎_elim
-          (λ early. record { index = e.index; part = e.part; group = e.group; part_is = early; group_is = e.group_is; stands = e.stands; is = e.is })
-          (λ last. absurd (All-contains (λ g. Contains g.sources p.source → ⊥) groups e.group nowhere e.group_is (subst (λ q. Contains e.group.sources q.source) last.1 e.stands)))
-          (slice_get_push hot p e.index e.part e.part_is)
+      at : (Contains zs x → (y : X) × (find test zs ≡ Some y)) → (b : Bool) → test z ≡ b → (y : X) × (cond b (Some z) (find test zs) ≡ Some y)
+      at rest true e = (z, refl)
+      at rest false e = rest (⊎_elim (λ same. absurd (false≢true (sym e ∙ ap test same ∙ passes))) (λ later. later) (Contains-cons z zs x found))
+
+has_source-true : (source : Source) (g : Group) → has_source source g ≡ true → Contains g.sources source
+has_source-true source g has =
+    let (k, other, within, is, same) = Any-from_list_any (λ s. same_source s source) g.sources has in
+    subst (Contains g.sources) (same_source-true other source same) (k, within, is)
 
 -- the first node of a group is at most that of all groups
-pub node_at_most : (P : Group → Type 0) (groups : List Group) (node n : ℕ) → All (λ g. g.first_node ≤ n) groups → Any (λ g. (g.first_node ≡ node) × P g) groups → node ≤ n
-node_at_most P groups node n most (k, g, within, is, (starts, stands)) = subst (λ m. m ≤ n) starts (All-contains (λ f. f.first_node ≤ n) groups g most (k, within, is))
-
--- ---- onward links
-
--- each stride leads on
-pub strides_positive : All (λ stride. 0 < stride) strides
-strides_positive =
-    let P = λ (stride : ℕ). 0 < stride in
-    let ones = All-push P [] 1 (λ k d within. absurd (omega (arith, within))) (omega arith) in
-    let nines = All-push P (1 ∷ 3 ∷ []) 9 (All-push P (1 ∷ []) 3 ones (omega arith)) (omega arith) in
-    All-push P (1 ∷ 3 ∷ 9 ∷ 27 ∷ []) 81 (All-push P (1 ∷ 3 ∷ 9 ∷ []) 27 nines (omega arith)) (omega arith)
-
--- the first so many links of a stride
-pub record IsStride (first stride steps : ℕ) (l : Link) : Type 0 where
-  pub step : ℕ
-  pub within : step < steps
-  pub is : l ≡ open_link (first + step * stride) (first + step * stride + stride)
-
--- one more
-pub stride-push : (first stride step : ℕ) (before after now : List Link) (l : Link) → Appends (IsStride first stride step) step before after → now ≡ after ++ l ∷ [] → l ≡ open_link (first + step * stride) (first + step * stride + stride) → Appends (IsStride first stride (step + 1)) (step + 1) before now
-stride-push first stride step before after now l h is link_is =
-    appends-push (IsStride first stride step) (IsStride first stride (step + 1)) step before after now l h is
-    (record { step = step; within = omega arith; is = link_is })
-    (λ k s. let within = s.within in record { step = s.step; within = omega (arith, within); is = s.is })
-    (λ k s. ⊎_elim (λ early. inl (record { step = s.step; within = early; is = s.is })) (λ late. inr (s.is ∙ here s.step s.within late ∙ sym link_is)) (cases_lt s.step step))
+pub node_at_most : (groups : List Group) (source : Source) (node most : ℕ) → All (λ g. g.first_node ≤ most) groups → first_node_of groups source ≡ Some node
+    → node ≤ most
+node_at_most groups source node most each is = at (find (has_source source) groups) refl is
   where
-    here : (r : ℕ) → r < (step + 1) → step ≤ r → open_link (first + r * stride) (first + r * stride + stride) ≡ open_link (first + step * stride) (first + step * stride + stride)
-    here r within late =
-        let same : r ≡ step = omega (arith, within, late) in
-        ap (λ n. open_link (first + n * stride) (first + n * stride + stride)) same
+    at : (o : Option Group) → find (has_source source) groups ≡ o → option_map (λ g. g.first_node) o ≡ Some node → node ≤ most
+    at None none same = cc same
+    at (Some g) found same =
+        subst (λ n. n ≤ most) (same_Some g.first_node node same)
+        (All-contains (λ f. f.first_node ≤ most) groups g each (find-some (has_source source) groups g found).0)
 
--- all of them
-pub stride-all : (first ranks stride : ℕ) (before after : List Link) → 1 ≤ ranks → 1 ≤ stride → Appends (IsStride first stride ((ranks - 1) / stride)) ((ranks - 1) / stride) before after → Appends (IsStep (stride ∷ []) first ranks) ((ranks - 1) / stride) before after
-stride-all first ranks stride before after some positive h =
-    appends-same (IsStride first stride count) (IsStep (stride ∷ []) first ranks) count count before after there back (omega arith) h
-  where
-    count : ℕ
-    count = (ranks - 1) / stride
+has_source-there : (source : Source) (g : Group) → Contains g.sources source → has_source source g ≡ true
+has_source-there source g (k, within, is) = list_any-from_Any (λ s. same_source s source) g.sources (k, source, within, is, same_source-same source)
 
-    fits : (k : ℕ) → (k + 1 ≤ count) ↔ ((k + 1) * stride ≤ ranks - 1)
-    fits k = le-div_iff_mul-le {k = stride} {x = k + 1} {y = ranks - 1} positive
+abbrev pub IsPermitted : Case → Group → Source → Type 0
+IsPermitted c g cold = is_permitted c g cold ≡ true
 
-    there : (l : Link) → IsStride first stride count l → IsStep (stride ∷ []) first ranks l
-    there l s =
-        let upto = (fits s.step).0 (let within = s.within in omega (arith, within)) in
-        let to : first + s.step * stride + stride ≡ first + (s.step * stride + stride) = omega arith in
-        record {
-          rank = s.step * stride;
-          stride = stride;
-          stride_is = Contains-push [] stride;
-          starts = mul-mod_left s.step stride;
-          within = omega (arith, upto, some);
-          is = s.is ∙ ap (open_link (first + s.step * stride)) to;
-        }
+-- what is permitted to a group is permitted to each of its sources
+permitted-each : (c : Case) (g : Group) (cold source : Source) → is_permitted c g cold ≡ true → Contains g.sources source
+    → is_forbidden c.forbids source cold ≡ false
+permitted-each c g cold source free_of found =
+    let free = λ (hot : Source). not (is_forbidden c.forbids hot cold) in
+    not-true (is_forbidden c.forbids source cold) (All-contains (λ hot. free hot ≡ true) g.sources source (AllPass-from_list_all free g.sources free_of) found)
 
-    back : (l : Link) → IsStep (stride ∷ []) first ranks l → IsStride first stride count l
-    back l s =
-        let own : s.stride ≡ stride = only_one s.stride stride s.stride_is in
-        let starts : s.rank % stride ≡ 0 = subst (λ n. s.rank % n ≡ 0) own s.starts in
-        let rank : s.rank / stride * stride ≡ s.rank = (let split = div-add-mod' s.rank stride in omega (arith, split, starts)) in
-        let within = s.within in
-        let upto = (fits (s.rank / stride)).1 (omega (arith, rank, within, own)) in
-        let to : s.rank + stride ≡ s.rank / stride * stride + stride = omega (arith, rank) in
-        record {
-          step = s.rank / stride;
-          within = omega (arith, upto);
-          is = s.is ∙ ap₂ (λ r n. open_link (first + r) (first + n)) (sym rank) (ap (λ n. s.rank + n) own ∙ to) ∙ ap (open_link (first + s.rank / stride * stride)) (omega arith);
-        }
+pub permitted-all : (c : Case) (g : Group) (cold : Source) → ((source : Source) → Contains g.sources source → is_forbidden c.forbids source cold ≡ false)
+    → is_permitted c g cold ≡ true
+permitted-all c g cold each =
+    let free = λ (hot : Source). not (is_forbidden c.forbids hot cold) in
+    list_all-from_AllPass free g.sources
+    (λ k d within. let hot = get_or g.sources k d in not_from_false (is_forbidden c.forbids hot cold) (each hot (Contains-get_or g.sources k d within)))
 
--- the links of one stride more
-pub strides-push : (done : List ℕ) (first ranks stride m n : ℕ) (before between after : List Link) → Appends (IsStep done first ranks) m before between → Appends (IsStep (stride ∷ []) first ranks) n between after → Appends (IsStep (done ++ stride ∷ []) first ranks) (m + n) before after
-strides-push done first ranks stride m n before between after h k =
-    appends-then (IsStep done first ranks) (IsStep (stride ∷ []) first ranks) (IsStep (done ++ stride ∷ []) first ranks) m n before between after h k
-    (λ l s. record { rank = s.rank; stride = s.stride; stride_is = Contains-append_left done (stride ∷ []) s.stride s.stride_is; starts = s.starts; within = s.within; is = s.is })
-    (λ l s. record { rank = s.rank; stride = s.stride; stride_is = Contains-append_right done (stride ∷ []) s.stride s.stride_is; starts = s.starts; within = s.within; is = s.is })
-    (λ l s.
-    ⊎_elim
-    (λ early. inl (record { rank = s.rank; stride = s.stride; stride_is = early; starts = s.starts; within = s.within; is = s.is }))
-    (λ last. inr (record { rank = s.rank; stride = s.stride; stride_is = subst (Contains (stride ∷ [])) last (Contains-push [] stride); starts = s.starts; within = s.within; is = s.is }))
-    (Contains-push_cases done stride s.stride s.stride_is))
+-- ---- down a chain
 
--- the links of all strides
-module _ (first ranks : ℕ) where
-  abbrev AddsStride : ℕ → List Link → List Link → Type 0
-  AddsStride stride before after = Appends (IsStep (stride ∷ []) first ranks) ((ranks - 1) / stride) before after
+strides_positive : All (λ stride. 0 < stride) strides
+strides_positive zero d within = omega arith
+strides_positive (suc zero) d within = omega arith
+strides_positive (suc (suc zero)) d within = omega arith
+strides_positive (suc (suc (suc zero))) d within = omega arith
+strides_positive (suc (suc (suc (suc zero)))) d within = omega arith
+strides_positive (suc (suc (suc (suc (suc k))))) d within = absurd (omega (arith, within))
 
-  pub steps-all : (a b c d e f : List Link) → AddsStride 1 a b → AddsStride 3 b c → AddsStride 9 c d → AddsStride 27 d e → AddsStride 81 e f → Appends (IsStep strides first ranks) ((ranks - 1) + (ranks - 1) / 2) a f
-  steps-all a b c d e f by1 by3 by9 by27 by81 =
-      let n = ranks - 1 in
-      let to3 = strides-push (1 ∷ []) first ranks 3 (n / 1) (n / 3) a b c by1 by3 in
-      let to9 = strides-push (1 ∷ 3 ∷ []) first ranks 9 (n / 1 + n / 3) (n / 9) a c d to3 by9 in
-      let to27 = strides-push (1 ∷ 3 ∷ 9 ∷ []) first ranks 27 (n / 1 + n / 3 + n / 9) (n / 27) a d e to9 by27 in
-      let to81 = strides-push (1 ∷ 3 ∷ 9 ∷ 27 ∷ []) first ranks 81 (n / 1 + n / 3 + n / 9 + n / 27) (n / 81) a e f to27 by81 in
-      appends-same (IsStep strides first ranks) (IsStep strides first ranks) (n / 1 + n / 3 + n / 9 + n / 27 + n / 81) (n + n / 2) a f (λ l s. s) (λ l s. s) (few n) to81
-    where
-      few : (n : ℕ) → n / 1 + n / 3 + n / 9 + n / 27 + n / 81 ≤ n + n / 2
-      few n =
-          let ones = div-mul-le_self n 1 in
-          let half = le-div (n / 3 + n / 9 + n / 27 + n / 81) n 2 (omega arith) (omega (arith, div-mul-le_self n 3, div-mul-le_self n 9, div-mul-le_self n 27, div-mul-le_self n 81)) in
-          omega (arith, ones, half)
+next_onward : (first ranks r : ℕ) → (r + 1) < ranks → Contains (onward first ranks) (open_link (first + r) (first + (r + 1)))
+unfolding onward
+next_onward first ranks r within =
+    let next = open_link (first + r) (first + (r + 1)) in
+    let same : stride_link first 1 r ≡ next = ap₂ open_link (omega arith) (omega arith) in
+    let count = (ranks - 1) / 1 in
+    let early : r < count = omega (arith, within) in
+    let stands = get_or-map-range_with_len (stride_link first 1) 0 count r r next early (omega arith) in
+    let among : r < length (stride_links first ranks 1) = omega (arith, early, length-map-range_with_len (stride_link first 1) 0 count) in
+    Contains-flat_map (stride_links first ranks) strides 1 next (0, omega arith, refl) (r, among, stands ∙ same)
 
--- ---- leaving links
+few_onward : (first ranks : ℕ) → length (onward first ranks) ≤ (ranks - 1) + (ranks - 1) / 2
+unfolding onward
+few_onward first ranks =
+    let n = ranks - 1 in
+    let each = λ (stride : ℕ). length-map-range_with_len (stride_link first stride) 0 (n / stride) in
+    let half = le-div (n / 3 + n / 9 + n / 27 + n / 81) n 2 (omega arith)
+    (omega (arith, div-mul-le_self n 3, div-mul-le_self n 9, div-mul-le_self n 27, div-mul-le_self n 81)) in
+    omega (arith, half, div-mul-le_self n 1, each 1, each 3, each 9, each 27, each 81, length-flat_map (stride_links first ranks) strides)
 
-abbrev pub IsFree : Case → Group → Source → Type 0
-IsFree c g cold = All (λ hot. is_forbidden c.forbids hot cold ≡ false) g.sources
-
-module _ (c : Case) (places : List ℤ) (hot cold : List Part) (g : Group) (p : Part) (m : ℕ) (before after : List Link) (h : Appends (IsLeaving c places hot cold (g ∷ [])) m before after) where
-  leaving_stays : (l : Link) → IsLeaving c places hot cold (g ∷ []) l → IsLeaving c places hot (cold ++ p ∷ []) (g ∷ []) l
-  leaving_stays l e = record { index = e.index; part = e.part; group = e.group; part_is = slice_get-append cold (p ∷ []) e.index e.part e.part_is; group_is = e.group_is; permitted = e.permitted; is = e.is }
-
-  only : (f : Group) → Contains (g ∷ []) f → f ≡ g
-  only f found = only_one f g found
-
-  -- a part more, whose source is permitted to the group
-  pub leaving-push : (now : List Link) → IsFree c g p.source → now ≡ after ++ open_link (g.first_node + rank_of places p) (length hot + length cold) ∷ [] → Appends (IsLeaving c places hot (cold ++ p ∷ []) (g ∷ [])) (m + 1) before now
-  leaving-push now free is =
-      appends-push (IsLeaving c places hot cold (g ∷ [])) (IsLeaving c places hot (cold ++ p ∷ []) (g ∷ [])) m before after now (open_link (g.first_node + rank_of places p) (length hot + length cold)) h is
-      (record { index = length cold; part = p; group = g; part_is = slice_get-end cold p; group_is = Contains-push [] g; permitted = λ source found. All-contains (λ s. is_forbidden c.forbids s p.source ≡ false) g.sources source free found; is = refl })
-      leaving_stays
-      (λ l e.
-      ⊎_elim (λ early. inl (record { index = e.index; part = e.part; group = e.group; part_is = early; group_is = e.group_is; permitted = e.permitted; is = e.is }))
-      (λ last. inr (e.is ∙ ap₂ open_link (ap₂ (λ f q. f.first_node + rank_of places q) (only e.group e.group_is) last.1) (ap (λ n. length hot + n) last.0)))
-      (slice_get_push cold p e.index e.part e.part_is))
-
-  -- a part more, whose source is not
-  pub leaving-pass : (IsFree c g p.source → ⊥) → Appends (IsLeaving c places hot (cold ++ p ∷ []) (g ∷ [])) (m + 1) before after
-  leaving-pass barred = appends-same (IsLeaving c places hot cold (g ∷ [])) (IsLeaving c places hot (cold ++ p ∷ []) (g ∷ [])) m (m + 1) before after leaving_stays back (omega arith) h
-    where
-      free : (f : Group) (q : Part) → f ≡ g → q ≡ p → ((source : Source) → Contains f.sources source → is_forbidden c.forbids source q.source ≡ false) → IsFree c g p.source
-      free f q e d permitted k s within =
-          let source = get_or g.sources k s in
-          subst (λ r. is_forbidden c.forbids source r.source ≡ false) d (permitted source (subst (λ x. Contains x.sources source) (sym e) (Contains-get_or g.sources k s within)))
-
-      back : (l : Link) → IsLeaving c places hot (cold ++ p ∷ []) (g ∷ []) l → IsLeaving c places hot cold (g ∷ []) l
-      back l e =
-          ⊎_elim (λ early. record { index = e.index; part = e.part; group = e.group; part_is = early; group_is = e.group_is; permitted = e.permitted; is = e.is })
-          (λ last. absurd (barred (free e.group e.part (only e.group e.group_is) last.1 e.permitted)))
-          (slice_get_push cold p e.index e.part e.part_is)
-
--- ---- steps of loops over parts
-
--- one part more
-part_more : (parts : List Part) (i : ℕ) (p : Part) → i < length parts → p ≡ get_or parts i p → take i parts ++ p ∷ [] ≡ take (i + 1) parts
-part_more parts i p within is = sym (subst (λ q. take (i + 1) parts ≡ take i parts ++ q ∷ []) (sym is) (take_more parts i p within))
-
-module _ (c : Case) (places : List ℤ) (hot cold : List Part) (groups : List Group) (i : ℕ) (within : i < length hot) (p : Part) (is : p ≡ get_or hot i p) (before after now : List Link) (so_far : Appends (IsEntering c places (take i hot) cold groups) i before after) where
-  pub entering-more : (k : Case) → AreGroups k groups → (node : ℕ) → Any (λ g. (g.first_node ≡ node) × Contains g.sources p.source) groups → now ≡ after ++ open_link i (node + rank_of places p) ∷ [] → Appends (IsEntering c places (take (i + 1) hot) cold groups) (i + 1) before now
-  entering-more k are node stands pushed =
-      let count : length (take i hot) ≡ i = length-take-le i hot (omega (arith, within)) in
-      subst (λ ps. Appends (IsEntering c places ps cold groups) (i + 1) before now) (part_more hot i p within is)
-      (entering-push c places (take i hot) cold groups p k are node i before after now so_far stands (pushed ∙ ap (λ n. after ++ open_link n (node + rank_of places p) ∷ []) (sym count)))
-
-  pub entering-other : All (λ g. Contains g.sources p.source → ⊥) groups → now ≡ after → Appends (IsEntering c places (take (i + 1) hot) cold groups) (i + 1) before now
-  entering-other nowhere same =
-      subst₂ (λ ps ls. Appends (IsEntering c places ps cold groups) (i + 1) before ls) (part_more hot i p within is) (sym same) (entering-pass c places (take i hot) cold groups p i before after so_far nowhere)
-
-module _ (c : Case) (places : List ℤ) (hot cold : List Part) (g : Group) (i : ℕ) (within : i < length cold) (p : Part) (is : p ≡ get_or cold i p) (before after now : List Link) (so_far : Appends (IsLeaving c places hot (take i cold) (g ∷ [])) i before after) where
-  pub leaving-more : IsFree c g p.source → now ≡ after ++ open_link (g.first_node + rank_of places p) (length hot + i) ∷ [] → Appends (IsLeaving c places hot (take (i + 1) cold) (g ∷ [])) (i + 1) before now
-  leaving-more free pushed =
-      let count : length (take i cold) ≡ i = length-take-le i cold (omega (arith, within)) in
-      subst (λ ps. Appends (IsLeaving c places hot ps (g ∷ [])) (i + 1) before now) (part_more cold i p within is)
-      (leaving-push c places hot (take i cold) g p i before after so_far now free (pushed ∙ ap (λ n. after ++ open_link (g.first_node + rank_of places p) (length hot + n) ∷ []) (sym count)))
-
-  pub leaving-other : (IsFree c g p.source → ⊥) → now ≡ after → Appends (IsLeaving c places hot (take (i + 1) cold) (g ∷ [])) (i + 1) before now
-  leaving-other barred same = subst₂ (λ ps ls. Appends (IsLeaving c places hot ps (g ∷ [])) (i + 1) before ls) (part_more cold i p within is) (sym same) (leaving-pass c places hot (take i cold) g p i before after so_far barred)
-
--- ---- group by group
-
--- the links down a chain at most
-abbrev pub most_onward : List ℤ → ℕ
-most_onward places = (rank_count places - 1) + (rank_count places - 1) / 2
+-- ---- which links they are
 
 module _ (c : Case) (places : List ℤ) (hot cold : List Part) (groups : List Group) where
-  -- the entering links of all groups, the onward and the leaving ones of those that are done
-  abbrev pub IsLinkSoFar : List Group → Link → Type 0
-  IsLinkSoFar done l = IsEntering c places hot cold groups l ⊎ IsOnward c places hot cold done l ⊎ IsLeaving c places hot cold done l
+  -- what holds of the links from hot parts, down the chains, and to cold parts
+  abbrev pub Enters : (Link → Type 0) → Type 0
+  Enters P = (i : ℕ) (p : Part) (g : Group) → slice_get hot i ≡ Some p → Contains groups g → Contains g.sources p.source
+      → P (open_link i (g.first_node + rank_of places p))
 
-  abbrev pub most_so_far : ℕ → ℕ
-  most_so_far n = length hot + n * (length cold + 3 * length places)
+  abbrev pub Descends : (Link → Type 0) → Type 0
+  Descends P = (g : Group) (r stride : ℕ) → Contains groups g → 0 < stride → (r + stride) < rank_count places
+      → P (open_link (g.first_node + r) (g.first_node + (r + stride)))
 
-  pub chains-none : (links made : List Link) → links ≡ [] → Appends (IsEntering c places hot cold groups) (length hot) links made → Appends (IsLinkSoFar []) (most_so_far 0) [] made
-  chains-none links made none h =
-      appends-same (IsEntering c places hot cold groups) (IsLinkSoFar []) (length hot) (most_so_far 0) [] made (λ l e. inl e)
-      (λ l e. ⊎_elim (λ enters. enters) (λ other. ⊎_elim (λ onward. absurd (none_in_nil onward.group onward.group_is)) (λ leaves. absurd (none_in_nil leaves.group leaves.group_is)) other) e) (omega arith)
-      (subst (λ ls. Appends (IsEntering c places hot cold groups) (length hot) ls made) none h)
+  abbrev pub Leaves : (Link → Type 0) → Type 0
+  Leaves P = (g : Group) (i : ℕ) (q : Part) → Contains groups g → slice_get cold i ≡ Some q
+      → ((source : Source) → Contains g.sources source → is_forbidden c.forbids source q.source ≡ false)
+      → P (open_link (g.first_node + rank_of places q) (length hot + i))
 
-  module _ (done : List Group) (g : Group) where
-    abbrev IsOfGroup : Link → Type 0
-    IsOfGroup l = IsStep strides g.first_node (rank_count places) l ⊎ IsLeaving c places hot cold (g ∷ []) l
-
-    onward_stays : (l : Link) → IsOnward c places hot cold done l → IsOnward c places hot cold (done ++ g ∷ []) l
-    onward_stays l e = record { group = e.group; rank = e.rank; stride = e.stride; group_is = Contains-append_left done (g ∷ []) e.group e.group_is; stride_is = e.stride_is; starts = e.starts; within = e.within; is = e.is }
-
-    leaving_kept : (l : Link) → IsLeaving c places hot cold done l → IsLeaving c places hot cold (done ++ g ∷ []) l
-    leaving_kept l e = record { index = e.index; part = e.part; group = e.group; part_is = e.part_is; group_is = Contains-append_left done (g ∷ []) e.group e.group_is; permitted = e.permitted; is = e.is }
-
-    step_onward : (l : Link) → IsStep strides g.first_node (rank_count places) l → IsOnward c places hot cold (done ++ g ∷ []) l
-    step_onward l e = record { group = g; rank = e.rank; stride = e.stride; group_is = Contains-push done g; stride_is = e.stride_is; starts = e.starts; within = e.within; is = e.is }
-
-    leaving_of : (l : Link) → IsLeaving c places hot cold (g ∷ []) l → IsLeaving c places hot cold (done ++ g ∷ []) l
-    leaving_of l e = record { index = e.index; part = e.part; group = e.group; part_is = e.part_is; group_is = Contains-append_right done (g ∷ []) e.group e.group_is; permitted = e.permitted; is = e.is }
-
-    onward_cases : (l : Link) → IsOnward c places hot cold (done ++ g ∷ []) l → IsOnward c places hot cold done l ⊎ IsStep strides g.first_node (rank_count places) l
-    onward_cases l e =
-        ⊎_elim (λ early. inl (record { group = e.group; rank = e.rank; stride = e.stride; group_is = early; stride_is = e.stride_is; starts = e.starts; within = e.within; is = e.is }))
-        (λ last. inr (record { rank = e.rank; stride = e.stride; stride_is = e.stride_is; starts = e.starts; within = e.within; is = e.is ∙ ap (λ f. open_link (f.first_node + e.rank) (f.first_node + (e.rank + e.stride))) (sym last) }))
-        (Contains-push_cases done g e.group e.group_is)
-
-    leaving_cases : (l : Link) → IsLeaving c places hot cold (done ++ g ∷ []) l → IsLeaving c places hot cold done l ⊎ IsLeaving c places hot cold (g ∷ []) l
-    leaving_cases l e =
-        ⊎_elim (λ early. inl (record { index = e.index; part = e.part; group = e.group; part_is = e.part_is; group_is = early; permitted = e.permitted; is = e.is }))
-        (λ last. inr (record { index = e.index; part = e.part; group = e.group; part_is = e.part_is; group_is = subst (Contains (g ∷ [])) last (Contains-push [] g); permitted = e.permitted; is = e.is }))
-        (Contains-push_cases done g e.group e.group_is)
-
-    pub chains-push : (before between after : List Link) → Appends (IsLinkSoFar done) (most_so_far (length done)) [] before → Appends (IsStep strides g.first_node (rank_count places)) (most_onward places) before between
-        → Appends (IsLeaving c places hot cold (g ∷ [])) (length cold) between after → Appends (IsLinkSoFar (done ++ g ∷ [])) (most_so_far (length done + 1)) [] after
-    chains-push before between after so_far steps leaves =
-        let own = appends-then (IsStep strides g.first_node (rank_count places)) (IsLeaving c places hot cold (g ∷ [])) IsOfGroup (most_onward places) (length cold) before between after steps leaves (λ l e. inl e) (λ l e. inr e) (λ l e. e) in
-        let both = appends-then (IsLinkSoFar done) IsOfGroup (IsLinkSoFar (done ++ g ∷ [])) (most_so_far (length done)) (most_onward places + length cold) [] before after so_far own
-        (λ l e. ⊎_elim (λ enters. inl enters) (λ other. inr (⊎_elim (λ onward. inl (onward_stays l onward)) (λ leaving. inr (leaving_kept l leaving)) other)) e)
-        (λ l e. inr (⊎_elim (λ step. inl (step_onward l step)) (λ leaving. inr (leaving_of l leaving)) e))
-        (λ l e. ⊎_elim (λ enters. inl (inl enters)) (λ other. ⊎_elim (λ onward. ⊎_elim (λ early. inl (inr (inl early))) (λ step. inr (inl step)) (onward_cases l onward)) (λ leaving. ⊎_elim (λ early. inl (inr (inr early))) (λ own. inr (inr own)) (leaving_cases l leaving)) other) e) in
-        appends-same (IsLinkSoFar (done ++ g ∷ [])) (IsLinkSoFar (done ++ g ∷ [])) (most_so_far (length done) + (most_onward places + length cold)) (most_so_far (length done + 1)) [] after (λ l e. e) (λ l e. e) (one_more (length done)) both
+  module _ (P : Link → Type 0) (enter : Enters P) (descend : Descends P) (leave : Leaves P) where
+    all_entering : (i : ℕ) (p : Part) → slice_get hot i ≡ Some p → All P (entering_at places groups (i, p))
+    all_entering i p at = each (find (has_source p.source) groups) refl
       where
-        one_more : (n : ℕ) → most_so_far n + (most_onward places + length cold) ≤ most_so_far (n + 1)
-        one_more n = let half = div-mul-le_self (rank_count places - 1) 2 in omega (arith, half)
+        into : ℕ → Link
+        into node = open_link i (node + rank_of places p)
 
-  pub HoldsChains-all : (links : List Link) → Appends (IsLinkSoFar groups) (most_so_far (length groups)) [] links → HoldsChains c places hot cold groups links
-  HoldsChains-all links h = record { each = subst (All (IsChainLink c places hot cold groups)) (sym h.is) h.each; every = λ l e. subst (λ ls. Contains ls l) (sym h.is) (h.every l e) }
+        each : (o : Option Group) → find (has_source p.source) groups ≡ o → All P (option_to_list (option_map into (option_map (λ g. g.first_node) o)))
+        each None none = All-nil P
+        each (Some g) found =
+            let (there, has) = find-some (has_source p.source) groups g found in
+            All-cons P (into g.first_node) [] (enter i p g at there (has_source-true p.source g has)) (All-nil P)
 
-  pub few-all : (links : List Link) → Appends (IsLinkSoFar groups) (most_so_far (length groups)) [] links → length links ≤ most_so_far (length groups)
-  few-all links h = omega (arith, h.few, ap length h.is)
+    all_of_stride : (g : Group) → Contains groups g → (stride : ℕ) → 0 < stride → All P (stride_links g.first_node (rank_count places) stride)
+    all_of_stride g found stride some =
+        let count = (rank_count places - 1) / stride in
+        All-map P (stride_link g.first_node stride) (range_with_len 0 count)
+        (λ k d within.
+        let early : k < count = omega (arith, within, length-range_with_len 0 count) in
+        let step : k ≡ get_or (range_with_len 0 count) k d = omega (arith, get_or-range_with_len 0 count k d early) in
+        let upto = (le-div_iff_mul-le {k = stride} {x = k + 1} {y = rank_count places - 1} some).0 (omega (arith, early)) in
+        let to : g.first_node + (k * stride + stride) ≡ g.first_node + k * stride + stride = omega arith in
+        let link = descend g (k * stride) stride found some (omega (arith, upto, some)) in
+        subst (λ n. P (stride_link g.first_node stride n)) step (subst (λ n. P (open_link (g.first_node + k * stride) n)) to link))
 
-  -- the step of the loop over the groups
-  pub chains-more : (i : ℕ) → i < length groups → (g : Group) → g ≡ get_or groups i g → (before between after : List Link) → Appends (IsLinkSoFar (take i groups)) (most_so_far i) [] before → Appends (IsStep strides g.first_node (rank_count places)) (most_onward places) before between
-      → Appends (IsLeaving c places hot cold (g ∷ [])) (length cold) between after → Appends (IsLinkSoFar (take (i + 1) groups)) (most_so_far (i + 1)) [] after
-  chains-more i within g is before between after so_far steps leaves =
-      let count : length (take i groups) ≡ i = length-take-le i groups (omega (arith, within)) in
-      let more : take i groups ++ g ∷ [] ≡ take (i + 1) groups = sym (subst (λ f. take (i + 1) groups ≡ take i groups ++ f ∷ []) (sym is) (take_more groups i g within)) in
-      subst₂ (λ done n. Appends (IsLinkSoFar done) (most_so_far (n + 1)) [] after) more count
-      (chains-push (take i groups) g before between after (subst (λ n. Appends (IsLinkSoFar (take i groups)) (most_so_far n) [] before) (sym count) so_far) steps leaves)
+    all_leaving : (g : Group) → Contains groups g → (i : ℕ) (q : Part) → slice_get cold i ≡ Some q → All P (leaving_at c places (length hot) g (i, q))
+    all_leaving g found i q at =
+        All-cons_if P (is_permitted c g q.source) (open_link (g.first_node + rank_of places q) (length hot + i)) []
+        (λ free. leave g i q found at (λ source there. permitted-each c g q.source source free there)) (All-nil P)
+
+    all_of_group : (g : Group) → Contains groups g → All P (links_of_group c places (length hot) cold g)
+    unfolding onward
+    all_of_group g found =
+        let ranks = rank_count places in
+        All-append P (onward g.first_node ranks) (leaving c places (length hot) g cold)
+        (All-flat_map P (stride_links g.first_node ranks) strides
+        (All-weaker (λ stride. 0 < stride) (λ stride. All P (stride_links g.first_node ranks stride)) (all_of_stride g found) strides strides_positive))
+        (All-flat_map P (leaving_at c places (length hot) g) (enumerate_from 0 cold)
+        (All-enumerated (λ p. All P (leaving_at c places (length hot) g p)) cold (all_leaving g found)))
+
+    -- what holds of each of them holds of all links
+    pub All-chain_links : All P (chain_links c places hot cold groups)
+    All-chain_links =
+        All-append P (entering places groups hot) (flat_map (links_of_group c places (length hot) cold) groups)
+        (All-flat_map P (entering_at places groups) (enumerate_from 0 hot) (All-enumerated (λ p. All P (entering_at places groups p)) hot all_entering))
+        (All-flat_map P (links_of_group c places (length hot) cold) groups
+        (λ k d within. all_of_group (get_or groups k d) (Contains-get_or groups k d within)))
+
+  -- ---- links that stand among them
+
+  abbrev links : List Link
+  links = chain_links c places hot cold groups
+
+  in_entering : (l : Link) → Contains (entering places groups hot) l → Contains links l
+  in_entering l there = Contains-append_left (entering places groups hot) (flat_map (links_of_group c places (length hot) cold) groups) l there
+
+  in_group : (g : Group) (l : Link) → Contains groups g → Contains (links_of_group c places (length hot) cold g) l → Contains links l
+  in_group g l there link =
+      Contains-append_right (entering places groups hot) (flat_map (links_of_group c places (length hot) cold) groups) l
+      (Contains-flat_map (links_of_group c places (length hot) cold) groups g l there link)
+
+  -- the one link that a part has here
+  of_part : (f : ℕ × Part → List Link) (parts : List Part) (i : ℕ) (p : Part) (l : Link) → slice_get parts i ≡ Some p → f (i, p) ≡ l ∷ []
+      → Contains (flat_map f (enumerate_from 0 parts)) l
+  of_part f parts i p l at is =
+      Contains-flat_map f (enumerate_from 0 parts) (i, p) l (Contains-enumerated parts i p at) (subst (λ ls. Contains ls l) (sym is) (0, omega arith, refl))
+
+  -- the group whose chain a part enters
+  pub record EntersBy (a : ℕ) (p : Part) (g : Group) : Type 0 where
+    pub group_is : Contains groups g
+    pub stands : Contains g.sources p.source
+    pub link : Contains links (open_link a (g.first_node + rank_of places p))
+
+  pub entered : (a : ℕ) (p : Part) (f : Group) → slice_get hot a ≡ Some p → Contains groups f → Contains f.sources p.source → (g : Group) × EntersBy a p g
+  entered a p f at there stands =
+      let (g, found) = find-there (has_source p.source) groups f there (has_source-there p.source f stands) in
+      let (first, has) = find-some (has_source p.source) groups g found in
+      let into = λ (node : ℕ). open_link a (node + rank_of places p) in
+      let is = ap (λ o. option_to_list (option_map into (option_map (λ (h : Group). h.first_node) o))) found in
+      let link = in_entering (into g.first_node) (of_part (entering_at places groups) hot a p (into g.first_node) at is) in
+      (g, record { group_is = first; stands = has_source-true p.source g has; link = link })
+
+  pub led_on : (g : Group) (r : ℕ) → Contains groups g → (r + 1) < rank_count places → Contains links (open_link (g.first_node + r) (g.first_node + (r + 1)))
+  led_on g r there within =
+      let next = open_link (g.first_node + r) (g.first_node + (r + 1)) in
+      let ranks = rank_count places in
+      in_group g next there
+      (Contains-append_left (onward g.first_node ranks) (leaving c places (length hot) g cold) next (next_onward g.first_node ranks r within))
+
+  pub left : (g : Group) (b : ℕ) (q : Part) → Contains groups g → slice_get cold b ≡ Some q → is_permitted c g q.source ≡ true
+      → Contains links (open_link (g.first_node + rank_of places q) (length hot + b))
+  left g b q there at permitted =
+      let out = open_link (g.first_node + rank_of places q) (length hot + b) in
+      let is : leaving_at c places (length hot) g (b, q) ≡ out ∷ [] = ap (λ b. cons_if b out []) permitted in
+      in_group g out there
+      (Contains-append_right (onward g.first_node (rank_count places)) (leaving c places (length hot) g cold) out
+      (of_part (leaving_at c places (length hot) g) cold b q out at is))
+
+  -- ---- how many there are
+
+  pub few_chain_links : length links ≤ length hot + length groups * (length cold + 3 * length places)
+  few_chain_links =
+      let into = length-flat_map-le (entering_at places groups) 1 (enumerate_from 0 hot) (λ p. at_most_one p.0 p.1 (first_node_of groups p.1.source)) in
+      let rest = length-flat_map-le (links_of_group c places (length hot) cold) (length cold + 3 * length places) groups few in
+      let both = length-append (entering places groups hot) (flat_map (links_of_group c places (length hot) cold) groups) in
+      omega (arith, into, rest, length-enumerate_from 0 hot, both)
+    where
+      at_most_one : (i : ℕ) (p : Part) (o : Option ℕ) → length (option_to_list (option_map (λ node. open_link i (node + rank_of places p)) o)) ≤ 1
+      at_most_one i p None = omega arith
+      at_most_one i p (Some node) = omega arith
+
+      one_or_none : (l : Link) (b : Bool) → length (cons_if b l []) ≤ 1
+      one_or_none l true = omega arith
+      one_or_none l false = omega arith
+
+      few : (g : Group) → length (links_of_group c places (length hot) cold g) ≤ length cold + 3 * length places
+      few g =
+          let out = length-flat_map-le (leaving_at c places (length hot) g) 1 (enumerate_from 0 cold) (λ p. one_or_none _ (is_permitted c g p.1.source)) in
+          let down = few_onward g.first_node (rank_count places) in
+          let both = length-append (onward g.first_node (rank_count places)) (leaving c places (length hot) g cold) in
+          omega (arith, out, down, length-enumerate_from 0 cold, both)

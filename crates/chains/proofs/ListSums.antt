@@ -1,16 +1,8 @@
 -- Sums over lists that are written to or put in another order, and sums of terms that are not negative.
-use Rattle.std.proofs.Common.{◌≡◌, ◌∙◌, ⊎_elim, refl, sym, ap, ℕ, zero, suc, ◌<◌, List, [], ◌∷◌, length, get_or, take, drop, arith, Bool, true, false}
-use Rattle.std.specs.Prelude.{ℤ, pos, ◌+ℤ◌, ◌-ℤ◌, ◌≤ℤ◌, ◌<ℤ◌, All, if◌then◌else◌}
-use Rattle.std.specs.List.{swap}
-use Rattle.std.specs.List.Sorted.{IsPermutation}
-use Rattle.std.proofs.Math.ListN.{set}
-use Rattle.std.proofs.lemmas.Bool.{cases_eq}
-use Rattle.std.proofs.lemmas.Int.{ints, by_lt_z}
-use Rattle.std.proofs.lemmas.List.{length-set, get_or-set_same, get_or-set_other}
-use Rattle.std.proofs.lemmas.List.Elements.{All-drop, All-head, All-tail, All-weaker}
-use Rattle.std.proofs.lemmas.List.Sorted.{IsPermutation-keeps}
-use Rattle.sums.specs.Sum.{int_sum_by}
-use Rattle.sums.proofs.SumLemmas.{int_sum_by-equal, int_sum_by-not_negative, int_sum_by-split, int_sum_by-zero}
+use Rattle.std.proofs.Common.{Bool, List, [], ap, arith, drop, false, get_or, length, refl, suc, sym, take, true, zero, ℕ, ⊎_elim, ◌<◌, ◌∙◌, ◌∷◌, ◌≡◌}
+use Rattle.chains.proofs.Words.{All, All-drop, All-head, All-tail, All-weaker, IsPermutation, IsPermutation-keeps, by_lt_z, cases_eq, get_or-set_other}
+use Rattle.chains.proofs.Words.{get_or-set_same, if◌then◌else◌, int_sum_by, int_sum_by-equal, int_sum_by-not_negative, int_sum_by-split, int_sum_by-zero, ints}
+use Rattle.chains.proofs.Words.{length-set, pos, set, swap, ℤ, ◌+ℤ◌, ◌-ℤ◌, ◌<ℤ◌, ◌≤ℤ◌}
 
 module _ {X : Type 0} (f : X → ℤ) where
   -- one element written
@@ -23,7 +15,8 @@ module _ {X : Type 0} (f : X → ℤ) where
   exchanged l i j d early late =
       let w : List X = set l i (get_or l j d) in
       let long = length-set l i (get_or l j d) in
-      let there : get_or w j d ≡ get_or l j d = ⊎_elim (λ e. ap (λ n. get_or w n d) e ∙ get_or-set_same l i (get_or l j d) d early) (λ n. get_or-set_other l i j (get_or l j d) d n) (cases_eq j i) in
+      let there : get_or w j d ≡ get_or l j d =
+      ⊎_elim (λ e. ap (λ n. get_or w n d) e ∙ get_or-set_same l i (get_or l j d) d early) (λ n. get_or-set_other l i j (get_or l j d) d n) (cases_eq j i) in
       let read = ap f there in
       let first = int_sum_by-set l i (get_or l j d) d early in
       let second = int_sum_by-set w j (get_or l i d) d (omega (arith, long, late)) in

@@ -1,43 +1,35 @@
 -- A part of a flow under way: a share passes on along a way, or has come to a cold part.
-use Rattle.std.proofs.Common.{◌≡◌, ◌∙◌, append_assoc, refl, sym, ap, ap₂, subst, ℕ, ◌+◌, ◌<◌, ◌≤◌, ◌==◌, Bool, true, false, Some, List, [], ◌∷◌, ◌++◌, length, get_or, arith}
-use Rattle.std.specs.Prelude.{ℤ, pos, ◌+ℤ◌, ◌-ℤ◌, ◌≤ℤ◌, ◌<ℤ◌, int_lt, All, if◌then◌else◌}
-use Rattle.std.proofs.lemmas.Bool.{eq-eqb, false_from_ne_true}
-use Rattle.std.proofs.lemmas.Int.{ints, by_lt_z}
-use Rattle.std.proofs.lemmas.List.{length-append}
-use Rattle.std.proofs.lemmas.List.Elements.{All-append, All-contains, All-cons, All-nil, All-pop, All-push, All-set}
-use Rattle.sums.specs.Pairing.{cons_if}
-use Rattle.sums.specs.Sum.{int_sum_by}
-use Rattle.sums.proofs.ConsLemmas.{All-cons_if}
-use Rattle.sums.proofs.IntegerLemmas.{if_between, int_lt-from, int_lt-true}
-use Rattle.sums.proofs.SumLemmas.{int_sum_by-append, int_sum_by-cons_if, int_sum_by-not_negative}
-use Rattle.flow_net.specs.declared.net.Link.{Link}
-use Rattle.flow_net.specs.declared.net.Net.{Net}
-use Rattle.flow_net.specs.Net.{inflow, outflow}
-use Rattle.chains.specs.declared.stock.Share.{Share}
-use Rattle.chains.specs.declared.ways.Way.{Way}
-use Rattle.chains.specs.Inner.{IsInner, IsInnerLink}
-use Rattle.chains.specs.Path.{LeadsTo}
-use Rattle.chains.specs.Stock.{held_of, held_at, moved, IsShare, HasPassed, IsUnderWay}
-use Rattle.chains.specs.Ways.{way_at, left_from, left_into, left_in_all, IsWay, IsCarried}
 use Rattle.chains.proofs.LeadsToLemmas.{LeadsTo-link}
-use Rattle.chains.proofs.ListSums.{int_sum_by-set, if_sub}
+use Rattle.chains.proofs.ListSums.{if_sub, int_sum_by-set}
 use Rattle.chains.proofs.WayLemmas.{no_way}
+use Rattle.chains.proofs.Words.{All, All-append, All-cons, All-cons_if, All-contains, All-nil, All-pop, All-push, All-set, HasPassed, IsCarried, IsInner}
+use Rattle.chains.proofs.Words.{IsInnerLink, IsShare, IsUnderWay, IsWay, LeadsTo, Link, Net, Share, Way, by_lt_z, cons_if, eq-eqb, false_from_ne_true, held_at}
+use Rattle.chains.proofs.Words.{held_of, if_between, if◌then◌else◌, inflow, int_lt, int_lt-from, int_lt-true, int_sum_by, int_sum_by-append, int_sum_by-cons_if}
+use Rattle.chains.proofs.Words.{int_sum_by-not_negative, ints, left_from, left_in_all, left_into, length-append, moved, outflow, pos, way_at, ℤ, ◌+ℤ◌, ◌-ℤ◌}
+use Rattle.chains.proofs.Words.{◌<ℤ◌, ◌≤ℤ◌}
+use Rattle.std.proofs.Common.{Bool, List, Some, [], ap, append_assoc, ap₂, arith, false, get_or, length, refl, subst, sym, true, ℕ, ◌++◌, ◌+◌, ◌<◌, ◌==◌, ◌∙◌}
+use Rattle.std.proofs.Common.{◌∷◌, ◌≡◌, ◌≤◌}
 
 -- ---- sums over the shares and the ways once a share has passed on
 
 -- what a share leaves at its node is the rest of its heat, or nothing
-rest_is : (b : Bool) (heat part : ℤ) → part ≤ℤ heat → (if int_lt part heat then (if b then (heat -ℤ part) else pos 0) else pos 0) ≡ (if b then heat else pos 0) -ℤ (if b then part else pos 0)
+rest_is : (b : Bool) (heat part : ℤ) → part ≤ℤ heat
+    → (if int_lt part heat then (if b then (heat -ℤ part) else pos 0) else pos 0) ≡ (if b then heat else pos 0) -ℤ (if b then part else pos 0)
 rest_is b heat part le =
     by_lt_z part heat (λ less. ap (λ t. if t then (if b then (heat -ℤ part) else pos 0) else pos 0) (int_lt-from part heat less) ∙ if_sub b heat part)
     (λ most. none b (int_lt part heat) (omega (arith, ints, le, most)))
   where
-    none : (b t : Bool) → heat ≡ part → (if t then (if b then (heat -ℤ part) else pos 0) else pos 0) ≡ (if b then heat else pos 0) -ℤ (if b then part else pos 0)
+    none : (b t : Bool) → heat ≡ part
+        → (if t then (if b then (heat -ℤ part) else pos 0) else pos 0) ≡ (if b then heat else pos 0) -ℤ (if b then part else pos 0)
     none true true same = omega (arith, ints, same)
     none true false same = omega (arith, ints, same)
     none false true same = refl
     none false false same = refl
 
-sum_moved : (f : Share → ℤ) (shares : List Share) (s : Share) (part : Way) → int_sum_by f (shares ++ moved s part) ≡ int_sum_by f shares +ℤ ((if int_lt part.left s.heat then f (record s { heat = s.heat -ℤ part.left }) else pos 0) +ℤ f (record s { node = part.to; heat = part.left }))
+sum_moved : (f : Share → ℤ) (shares : List Share) (s : Share) (part : Way)
+    → int_sum_by f (shares ++ moved s part)
+    ≡ int_sum_by f shares +ℤ ((if int_lt part.left s.heat then f (record s { heat = s.heat -ℤ part.left }) else pos 0)
+    +ℤ f (record s { node = part.to; heat = part.left }))
 sum_moved f shares s part =
     let both = int_sum_by-append f shares (moved s part) in
     let last = int_sum_by-cons_if f (int_lt part.left s.heat) (record s { heat = s.heat -ℤ part.left }) (record s { node = part.to; heat = part.left } ∷ []) in
@@ -53,7 +45,8 @@ module _ (shares : List Share) (s : Share) (part : Way) (le : part.left ≤ℤ s
       omega (arith, ints)
 
   -- what the way carries goes from the one node to the other
-  moved_at : (v : ℕ) → held_at (shares ++ moved s part) v ≡ (held_at (shares ++ s ∷ []) v -ℤ (if s.node == v then part.left else pos 0)) +ℤ (if part.to == v then part.left else pos 0)
+  moved_at : (v : ℕ) → held_at (shares ++ moved s part) v ≡ (held_at (shares ++ s ∷ []) v -ℤ (if s.node == v then part.left else pos 0))
+      +ℤ (if part.to == v then part.left else pos 0)
   moved_at v =
       let new = sum_moved (λ t. if t.node == v then t.heat else pos 0) shares s part in
       let old = int_sum_by-append (λ t. if t.node == v then t.heat else pos 0) shares (s ∷ []) in
@@ -91,19 +84,36 @@ module _ (ways after : List Way) (node : ℕ) (most : ℤ) (part : Way) (carried
   carried_ways hots links stand =
       let old = stand carried.index no_way carried.within in
       subst (All (IsWay hots links)) (sym carried.is)
-      (All-set (IsWay hots links) ways carried.index new_way (record { link = old.link; stands = old.stands; from_is = old.from_is; to_is = old.to_is; later = old.later; not_negative = let spared = carried.spared in omega (arith, ints) }) stand)
+      (All-set (IsWay hots links) ways carried.index new_way
+      (record {
+        link = old.link;
+        stands = old.stands;
+        from_is = old.from_is;
+        to_is = old.to_is;
+        later = old.later;
+        not_negative = let spared = carried.spared in
+            omega (arith, ints);
+      }) stand)
 
 -- the shares that a step leaves, as the code pushes them
-pub moved_two : (s : Share) (part : Way) (shares first last : List Share) (rest gone : ℤ) → part.left <ℤ s.heat → first ≡ shares ++ record { hot = s.hot; node = s.node; heat = rest } ∷ [] → last ≡ first ++ record { hot = s.hot; node = part.to; heat = gone } ∷ [] → rest ≡ s.heat -ℤ part.left → gone ≡ part.left → last ≡ shares ++ moved s part
+pub moved_two : (s : Share) (part : Way) (shares first last : List Share) (rest gone : ℤ) → part.left <ℤ s.heat
+    → first ≡ shares ++ record { hot = s.hot; node = s.node; heat = rest } ∷ [] → last ≡ first ++ record { hot = s.hot; node = part.to; heat = gone } ∷ []
+    → rest ≡ s.heat -ℤ part.left → gone ≡ part.left → last ≡ shares ++ moved s part
 moved_two s part shares first last rest gone less one two rest_is gone_is =
-    two ∙ ap₂ (λ xs z. xs ++ record { hot = s.hot; node = part.to; heat = z } ∷ []) (one ∙ ap (λ z. shares ++ record { hot = s.hot; node = s.node; heat = z } ∷ []) rest_is) gone_is
-    ∙ append_assoc shares (record { hot = s.hot; node = s.node; heat = s.heat -ℤ part.left } ∷ []) (record { hot = s.hot; node = part.to; heat = part.left } ∷ [])
-    ∙ ap (λ b. shares ++ cons_if b (record { hot = s.hot; node = s.node; heat = s.heat -ℤ part.left }) (record { hot = s.hot; node = part.to; heat = part.left } ∷ [])) (sym (int_lt-from part.left s.heat less))
+    two ∙ ap₂ (λ xs z. xs ++ record { hot = s.hot; node = part.to; heat = z } ∷ [])
+    (one ∙ ap (λ z. shares ++ record { hot = s.hot; node = s.node; heat = z } ∷ []) rest_is) gone_is
+    ∙ append_assoc shares (record { hot = s.hot; node = s.node; heat = s.heat -ℤ part.left } ∷ [])
+    (record { hot = s.hot; node = part.to; heat = part.left } ∷ [])
+    ∙ ap (λ b. shares ++ cons_if b (record { hot = s.hot; node = s.node; heat = s.heat -ℤ part.left })
+    (record { hot = s.hot; node = part.to; heat = part.left } ∷ [])) (sym (int_lt-from part.left s.heat less))
 
-pub moved_one : (s : Share) (part : Way) (shares first last : List Share) (gone : ℤ) → s.heat ≤ℤ part.left → first ≡ shares → last ≡ first ++ record { hot = s.hot; node = part.to; heat = gone } ∷ [] → gone ≡ part.left → last ≡ shares ++ moved s part
+pub moved_one : (s : Share) (part : Way) (shares first last : List Share) (gone : ℤ) → s.heat ≤ℤ part.left → first ≡ shares
+    → last ≡ first ++ record { hot = s.hot; node = part.to; heat = gone } ∷ [] → gone ≡ part.left → last ≡ shares ++ moved s part
 moved_one s part shares first last gone most one two gone_is =
     two ∙ ap₂ (λ xs z. xs ++ record { hot = s.hot; node = part.to; heat = z } ∷ []) one gone_is
-    ∙ ap (λ b. shares ++ cons_if b (record { hot = s.hot; node = s.node; heat = s.heat -ℤ part.left }) (record { hot = s.hot; node = part.to; heat = part.left } ∷ [])) (sym (false_from_ne_true (int_lt part.left s.heat) (λ e. let less = int_lt-true part.left s.heat e in absurd (omega (arith, ints, less, most)))))
+    ∙ ap (λ b. shares ++ cons_if b (record { hot = s.hot; node = s.node; heat = s.heat -ℤ part.left })
+    (record { hot = s.hot; node = part.to; heat = part.left } ∷ []))
+    (sym (false_from_ne_true (int_lt part.left s.heat) (λ e. let less = int_lt-true part.left s.heat e in absurd (omega (arith, ints, less, most)))))
 
 length_moved : (s : Share) (part : Way) → length (moved s part) ≤ 2
 length_moved s part = by (int_lt part.left s.heat)
@@ -112,7 +122,8 @@ length_moved s part = by (int_lt part.left s.heat)
     by true = omega arith
     by false = omega arith
 
-pub length_passed : (s : Share) (shares after : List Share) (ways ways_after : List Way) → HasPassed s shares after ways ways_after → length after ≤ length shares + 2
+pub length_passed : (s : Share) (shares after : List Share) (ways ways_after : List Way) → HasPassed s shares after ways ways_after
+    → length after ≤ length shares + 2
 length_passed s shares after ways ways_after passed =
     let is = ap length passed.is in
     let both = length-append shares (moved s passed.part) in
@@ -123,14 +134,19 @@ length_passed s shares after ways ways_after passed =
 
 module _ (hots colds : ℕ) (net : Net) (flow : List ℤ) where
   -- a way leads to a node behind the hot parts
-  way_on : IsInner hots colds net → (s : Share) → IsShare hots net s → (w : Way) → IsWay hots net.links w → w.from ≡ s.node → (hots ≤ w.to) × (w.to < net.nodes) × LeadsTo net.links s.hot w.to
+  way_on : IsInner hots colds net → (s : Share) → IsShare hots net s → (w : Way) → IsWay hots net.links w → w.from ≡ s.node → (hots ≤ w.to) × (w.to < net.nodes)
+      × LeadsTo net.links s.hot w.to
   way_on inner s share w way from_is =
       let is = All-contains (IsInnerLink hots colds net.nodes) net.links way.link inner.links way.stands in
       let before : LeadsTo net.links s.hot way.link.from = subst (LeadsTo net.links s.hot) (sym (way.from_is ∙ from_is)) share.leads in
       let same = way.to_is in
       let enters = is.enters in
-      let within = is.to_in in
-      (omega (arith, same, enters), omega (arith, same, within), subst (LeadsTo net.links s.hot) way.to_is (LeadsTo-link net.links s.hot way.link before way.stands))
+      let within = is.to_in in (
+        omega (arith, same, enters),
+        omega (arith, same, within),
+        subst (LeadsTo net.links s.hot) way.to_is
+            (LeadsTo-link net.links s.hot way.link before way.stands),
+      )
 
   module _ (moving there : List Share) (s : Share) (ways : List Way) (under_way : IsUnderWay hots colds net flow (moving ++ s ∷ []) there ways) where
     popped : All (IsShare hots net) moving × IsShare hots net s
@@ -157,7 +173,8 @@ module _ (hots colds : ℕ) (net : Net) (flow : List ℤ) where
           omega (arith, ints);
     }
 
-    pub IsUnderWay-passed : IsInner hots colds net → (after : List Share) (ways_after : List Way) → HasPassed s moving after ways ways_after → IsUnderWay hots colds net flow after there ways_after
+    pub IsUnderWay-passed : IsInner hots colds net → (after : List Share) (ways_after : List Way) → HasPassed s moving after ways ways_after
+        → IsUnderWay hots colds net flow after there ways_after
     IsUnderWay-passed inner after ways_after passed =
         let part = passed.part in
         let carried = passed.carried in
@@ -173,8 +190,21 @@ module _ (hots colds : ℕ) (net : Net) (flow : List ℤ) where
           moving_shares = subst (All (IsShare hots net)) (sym passed.is)
               (All-append (IsShare hots net) moving (moved s part) popped.0
               (All-cons_if (IsShare hots net) (int_lt part.left s.heat) left (gone ∷ [])
-              (λ less. record { hot_in = share.hot_in; behind = share.behind; node_in = share.node_in; positive = (let some = int_lt-true part.left s.heat less in omega (arith, ints)); leads = share.leads })
-              (All-cons (IsShare hots net) gone [] (record { hot_in = share.hot_in; behind = omega (arith, enters, same); node_in = omega (arith, within, same); positive = positive; leads = subst (LeadsTo net.links s.hot) same leads }) (All-nil (IsShare hots net)))));
+              (λ less. record {
+                hot_in = share.hot_in;
+                behind = share.behind;
+                node_in = share.node_in;
+                positive = (let some = int_lt-true part.left s.heat less in omega (arith, ints));
+                leads = share.leads;
+              })
+              (All-cons (IsShare hots net) gone []
+              (record {
+                hot_in = share.hot_in;
+                behind = omega (arith, enters, same);
+                node_in = omega (arith, within, same);
+                positive = positive;
+                leads = subst (LeadsTo net.links s.hot) same leads;
+              }) (All-nil (IsShare hots net)))));
           there_shares = under_way.there_shares;
           at_cold = under_way.at_cold;
           ways_stand = carried_ways ways ways_after s.node s.heat part carried hots net.links under_way.ways_stand;
@@ -201,8 +231,13 @@ module _ (hots colds : ℕ) (net : Net) (flow : List ℤ) where
         let into = λ (w : Way). if w.to == s.node then w.left else pos 0 in
         let both = int_sum_by-append at moving (s ∷ []) in
         let here = ap (λ b. if b then s.heat else pos 0) (eq-eqb s.node s.node refl) in
-        let others = int_sum_by-not_negative at moving (λ k d within. let t = popped.0 k d within in let some = t.positive in (if_between ((get_or moving k d).node == s.node) (get_or moving k d).heat (omega (arith, ints))).0) in
-        let arrived = int_sum_by-not_negative at there (λ k d within. let t = under_way.there_shares k d within in let some = t.positive in (if_between ((get_or there k d).node == s.node) (get_or there k d).heat (omega (arith, ints))).0) in
-        let coming = int_sum_by-not_negative into ways (λ k d within. let w = under_way.ways_stand k d within in (if_between ((get_or ways k d).to == s.node) (get_or ways k d).left w.not_negative).0) in
+        let others = int_sum_by-not_negative at moving
+        (λ k d within. let t = popped.0 k d within in let some = t.positive in
+        (if_between ((get_or moving k d).node == s.node) (get_or moving k d).heat (omega (arith, ints))).0) in
+        let arrived = int_sum_by-not_negative at there
+        (λ k d within. let t = under_way.there_shares k d within in let some = t.positive in
+        (if_between ((get_or there k d).node == s.node) (get_or there k d).heat (omega (arith, ints))).0) in
+        let coming = int_sum_by-not_negative into ways
+        (λ k d within. let w = under_way.ways_stand k d within in (if_between ((get_or ways k d).to == s.node) (get_or ways k d).left w.not_negative).0) in
         let positive = share.positive in
         omega (arith, ints)

@@ -1,27 +1,10 @@
 -- Ranks of parts: heat passes from one part to another exactly where the rank of the first is not greater.
-use Rattle.std.proofs.Common.{◌≡◌, ⊎_elim, ◌∙◌, refl, sym, ap, ap₂, subst, subst₂, ℕ, zero, suc, ◌+◌, ◌*◌, ◌<◌, ◌≤◌, true, ◌&&◌, if◌then◌else◌, List, [], ◌∷◌, ◌++◌, length, Some, ℤ, ◌<ℤ◌, ◌≤ℤ◌, int_le, AllPairs, Contains, slice_get, map, arith}
-use Rattle.std.specs.Ordering.{int_eq}
-use Rattle.std.proofs.lemmas.Bool.{and_from, and_parts, cases_eq, cases_lt, or_cases, or_left, or_right}
-use Rattle.std.proofs.lemmas.Bool.Decides.{Decides-int_eq}
-use Rattle.std.proofs.lemmas.Int.{ints}
-use Rattle.std.proofs.lemmas.Option.{get_or_from_slice_get, none-some, same_Some, slice_get_read, slice_get_within}
-use Rattle.sums.proofs.IntegerLemmas.{int_eq-false, int_le-from, int_le-true}
-use Rattle.sums.proofs.ListLemmas.{All-slice_get}
-use Rattle.sums.proofs.OrderLemmas.{AllPairs-head, AllPairs-tail}
-use Rattle.stream_case.specs.declared.source.Side.{Side}
-use Rattle.stream_case.specs.declared.stream.Stream.{Stream}
-use Rattle.stream_case.specs.declared.case.Case.{Case}
-use Rattle.stream_case.specs.Case.{IsComplete}
-use Rattle.stream_case.specs.Stream.{high_end, stream_ends}
-use Rattle.stream_case.specs.Utility.{shifted_level}
-use Rattle.stream_case.proofs.CompleteLemmas.{StaysValid-IsComplete}
-use Rattle.grid.specs.declared.part.Part.{Part}
-use Rattle.grid.specs.Grid.{IsGrid}
-use Rattle.grid.specs.Part.{IsInterval}
-use Rattle.grid.proofs.PlaceLemmas.{interval_falls}
-use Rattle.heat_flow.specs.Reach.{passes_heat}
-use Rattle.grid.specs.OnGrid.{IsOnPlaces}
-use Rattle.chains.specs.Ranks.{place_index, rank_of, rank_count}
+use Rattle.chains.proofs.Words.{All-slice_get, AllPairs-head, AllPairs-tail, Case, Decides-int_eq, IsComplete, IsGrid, IsInterval, IsOnPlaces, Part, Side}
+use Rattle.chains.proofs.Words.{StaysValid-IsComplete, Stream, and_from, and_parts, cases_eq, cases_lt, get_or_from_slice_get, high_end, int_eq, int_eq-false}
+use Rattle.chains.proofs.Words.{int_le-from, int_le-true, interval_falls, ints, none-some, or_cases, or_left, or_right, passes_heat, place_index, rank_count}
+use Rattle.chains.proofs.Words.{rank_of, same_Some, shifted_level, slice_get_read, slice_get_within, stream_ends}
+use Rattle.std.proofs.Common.{AllPairs, Contains, List, Some, [], ap, ap₂, arith, if◌then◌else◌, int_le, length, map, refl, slice_get, subst, subst₂, suc, sym}
+use Rattle.std.proofs.Common.{true, zero, ℕ, ℤ, ⊎_elim, ◌&&◌, ◌*◌, ◌++◌, ◌+◌, ◌<ℤ◌, ◌<◌, ◌∙◌, ◌∷◌, ◌≡◌, ◌≤ℤ◌, ◌≤◌}
 
 -- ---- places
 
@@ -49,7 +32,8 @@ module _ (places : List ℤ) (falls : AllPairs (λ a b. b <ℤ a) places) where
   -- the earlier of two places is the higher
   higher : (i j : ℕ) (x y : ℤ) → slice_get places i ≡ Some x → slice_get places j ≡ Some y → i < j → y <ℤ x
   higher i j x y from to before =
-      subst₂ (λ a b. b <ℤ a) (get_or_from_slice_get places i x x from) (get_or_from_slice_get places j y x to) (falls i j x before (slice_get_within places j y to))
+      subst₂ (λ a b. b <ℤ a) (get_or_from_slice_get places i x x from) (get_or_from_slice_get places j y x to)
+      (falls i j x before (slice_get_within places j y to))
 
   as_high : (i j : ℕ) (x y : ℤ) → slice_get places i ≡ Some x → slice_get places j ≡ Some y → i ≤ j → y ≤ℤ x
   as_high i j x y from to before =
@@ -77,13 +61,25 @@ module _ (c : Case) (places : List ℤ) (falls : AllPairs (λ a b. b <ℤ a) pla
       at_place : (p.high ≡ p.low) × Contains places p.high → (upper : ℕ) × (lower : ℕ) × StandsAt places p upper lower
       at_place (level, (k, within, is)) =
           let at : slice_get places k ≡ Some p.high = slice_get_read places (length places) k p.high refl within (sym is) in
-          let rank : rank_of places p ≡ 2 * k + 0 = ap₂ (λ n b. 2 * n + (if b then 0 else 1)) (place_index-at places falls k p.high at) ((Decides-int_eq p.high p.low).1 level) in
-          (k, k, record { high_at = at; low_at = subst (λ t. slice_get places k ≡ Some t) level at; from = omega arith; upto = omega arith; rank = omega (arith, rank) })
+          let rank : rank_of places p ≡ 2 * k + 0 =
+          ap₂ (λ n b. 2 * n + (if b then 0 else 1)) (place_index-at places falls k p.high at) ((Decides-int_eq p.high p.low).1 level) in (
+            k,
+            k,
+            record {
+              high_at = at;
+              low_at = subst (λ t. slice_get places k ≡ Some t) level at;
+              from = omega arith;
+              upto = omega arith;
+              rank = omega (arith, rank);
+            },
+          )
 
       between : IsInterval places p.high p.low → (upper : ℕ) × (lower : ℕ) × StandsAt places p upper lower
       between i =
           let less = interval_falls places p.high p.low falls i in
-          let rank : rank_of places p ≡ 2 * i.index + 1 = ap₂ (λ n b. 2 * n + (if b then 0 else 1)) (place_index-at places falls i.index p.high i.from) (int_eq-false p.high p.low (λ e. absurd (omega (arith, ints)))) in
+          let rank : rank_of places p ≡ 2 * i.index + 1 =
+          ap₂ (λ n b. 2 * n + (if b then 0 else 1)) (place_index-at places falls i.index p.high i.from)
+          (int_eq-false p.high p.low (λ e. absurd (omega (arith, ints)))) in
           (i.index, i.index + 1, record { high_at = i.from; low_at = i.to; from = omega arith; upto = omega arith; rank = omega (arith, rank) })
 
   pub rank_within : (side : Side) (p : Part) → IsOnPlaces c places side p → rank_of places p < rank_count places
@@ -93,7 +89,8 @@ module _ (c : Case) (places : List ℤ) (falls : AllPairs (λ a b. b <ℤ a) pla
       omega (arith, within, at.from, at.rank)
 
   -- heat passes downward by rank
-  pub passes-rank : (side other : Side) (p q : Part) → IsOnPlaces c places side p → IsOnPlaces c places other q → passes_heat p q ≡ true → rank_of places p ≤ rank_of places q
+  pub passes-rank : (side other : Side) (p q : Part) → IsOnPlaces c places side p → IsOnPlaces c places other q → passes_heat p q ≡ true
+      → rank_of places p ≤ rank_of places q
   passes-rank side other p q h k passes =
       ⊎_elim
       (λ down.
@@ -103,11 +100,14 @@ module _ (c : Case) (places : List ℤ) (falls : AllPairs (λ a b. b <ℤ a) pla
       omega (arith, le, at.from, at.rank, to.from, to.rank))
       (λ same.
       let ends = and_parts (int_eq p.high q.high) (int_eq p.low q.low) same in
-      let rank : rank_of places p ≡ rank_of places q = ap₂ (λ high low. 2 * place_index places high + (if int_eq high low then 0 else 1)) ((Decides-int_eq p.high q.high).0 ends.0) ((Decides-int_eq p.low q.low).0 ends.1) in
+      let rank : rank_of places p ≡ rank_of places q =
+      ap₂ (λ high low. 2 * place_index places high + (if int_eq high low then 0 else 1)) ((Decides-int_eq p.high q.high).0 ends.0)
+      ((Decides-int_eq p.low q.low).0 ends.1) in
       omega (arith, rank))
       (or_cases (int_le q.high p.low) (int_eq p.high q.high && int_eq p.low q.low) passes)
 
-  pub rank-passes : (side other : Side) (p q : Part) → IsOnPlaces c places side p → IsOnPlaces c places other q → rank_of places p ≤ rank_of places q → passes_heat p q ≡ true
+  pub rank-passes : (side other : Side) (p q : Part) → IsOnPlaces c places side p → IsOnPlaces c places other q → rank_of places p ≤ rank_of places q
+      → passes_heat p q ≡ true
   rank-passes side other p q h k le =
       let (upper, lower, at) = stands_at side p h in
       let (high, low, to) = stands_at other q k in
@@ -117,6 +117,8 @@ module _ (c : Case) (places : List ℤ) (falls : AllPairs (λ a b. b <ℤ a) pla
       let same_lower : lower ≡ low = omega (arith, late, le, at.from, at.upto, at.rank, to.from, to.upto, to.rank) in
       let highs : p.high ≡ q.high = same_Some p.high q.high (sym at.high_at ∙ ap (slice_get places) same_upper ∙ to.high_at) in
       let lows : p.low ≡ q.low = same_Some p.low q.low (sym at.low_at ∙ ap (slice_get places) same_lower ∙ to.low_at) in
-      or_right (int_le q.high p.low) (int_eq p.high q.high && int_eq p.low q.low) (and_from (int_eq p.high q.high) (int_eq p.low q.low) ((Decides-int_eq p.high q.high).1 highs) ((Decides-int_eq p.low q.low).1 lows)))
-      (λ early. or_left (int_le q.high p.low) (int_eq p.high q.high && int_eq p.low q.low) (int_le-from q.high p.low (as_high places falls lower high p.low q.high at.low_at to.high_at early)))
+      or_right (int_le q.high p.low) (int_eq p.high q.high && int_eq p.low q.low)
+      (and_from (int_eq p.high q.high) (int_eq p.low q.low) ((Decides-int_eq p.high q.high).1 highs) ((Decides-int_eq p.low q.low).1 lows)))
+      (λ early. or_left (int_le q.high p.low) (int_eq p.high q.high && int_eq p.low q.low)
+      (int_le-from q.high p.low (as_high places falls lower high p.low q.high at.low_at to.high_at early)))
       (cases_lt high lower)

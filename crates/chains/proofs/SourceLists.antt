@@ -1,133 +1,113 @@
--- The sources of a side, one stream or utility after another.
-use Rattle.std.proofs.Common.{◌≡◌, ◌≢◌, ◌∙◌, ◌⊎◌, ⊎_elim, inl, inr, refl, sym, ap, subst, subst₂, ℕ, zero, suc, ◌+◌, ◌<◌, true, cond, List, [], ◌∷◌, ◌++◌, length, take, get_or, Some, arith}
-use Rattle.std.specs.Prelude.{slice_get, option_map}
-use Rattle.std.proofs.lemmas.List.{length-take-le, length_push, take_more}
-use Rattle.stream_case.specs.declared.source.Side.{Side}
-use Rattle.stream_case.specs.declared.source.Source.{Source}
-use Rattle.stream_case.specs.declared.source.Source.TheVariants.{Stream as of_stream, Utility as of_utility}
-use Rattle.stream_case.specs.declared.stream.Stream.{Stream}
-use Rattle.stream_case.specs.declared.utility.Utility.{Utility}
-use Rattle.stream_case.specs.Case.{side_among}
-use Rattle.stream_case.specs.Source.{same_side}
-use Rattle.stream_case.specs.Stream.{count_on}
-use Rattle.stream_case.proofs.SourceLemmas.{own_side}
-use Rattle.sums.proofs.CountLemmas.{count_by-cons}
-use Rattle.sums.proofs.ListLemmas.{option_map-slice_get-append}
-use Rattle.sums.proofs.OrderLemmas.{Lists-same}
-use Rattle.chains.specs.Making.{AreSources}
-use Rattle.chains.proofs.OnceLemmas.{once-push}
+-- The lists of the sources on a side.
+use Rattle.chains.proofs.FlatMaps.{Contains-enumerated}
+use Rattle.chains.proofs.Words.{All, All-append, All-cons_if, All-enumerated, All-flat_map, All-nil, All-weaker, AllPairs, AllPairs-append, AllPairs-cons_if}
+use Rattle.chains.proofs.Words.{AllPairs-nil, AreSources, Contains, Contains-append_left, Contains-append_right, Contains-flat_map, Side, Source, Stream}
+use Rattle.chains.proofs.Words.{Utility, cons_if, count_by, count_by-cons, count_by-le-length, enumerate_from, flat_map, own_side, same_Some, same_side}
+use Rattle.chains.proofs.Words.{same_side-true, side_among, streams_on, utilities_on}
+use Rattle.std.proofs.Common.{Bool, List, None, Option, Some, [], ap, arith, cond, false, length, length-append, option_map, refl, slice_get, subst, sym, true}
+use Rattle.std.proofs.Common.{ℕ, ◌++◌, ◌+◌, ◌∙◌, ◌∷◌, ◌≡◌, ◌≢◌, ◌≤◌}
+use Rattle.stream_case.specs.declared.source.Source.TheVariants.{Stream as of_stream}
+use Rattle.stream_case.specs.declared.source.Source.TheVariants.{Utility as of_utility}
 
--- ---- the side at an index, with one element more
+abbrev Differ : Source → Source → Type 0
+Differ a b = a ≢ b
 
-module _ {X Y : Type 0} (f : X → Y) where
-  abbrev Is : List X → ℕ → Y → Type 0
-  Is xs i y = option_map f (slice_get xs i) ≡ Some y
+-- of items that have a side, the sources by their indexes
+module _ {X : Type 0} (side_in : X → Side) (source : ℕ → Source) (side : Side) where
+  abbrev on : X → Bool
+  on x = same_side (side_in x) side
 
-  at_end : (xs : List X) (x : X) → Is (xs ++ x ∷ []) (length xs) (f x)
-  at_end [] x = refl
-  at_end (a ∷ xs) x = at_end xs x
+  abbrev of_item : ℕ × X → List Source
+  of_item p = cons_if (on p.1) (source p.0) []
 
-  none_at_end : (xs : List X) (y : Y) → Is xs (length xs) y → ⊥
-  none_at_end [] y at = cc at
-  none_at_end (a ∷ xs) y at = none_at_end xs y at
+  abbrev from : ℕ → List X → List Source
+  from n xs = flat_map of_item (enumerate_from n xs)
 
-  early_or_end : (xs : List X) (x : X) (i : ℕ) (y : Y) → Is (xs ++ x ∷ []) i y → Is xs i y ⊎ ((i ≡ length xs) × (f x ≡ y))
-  early_or_end [] x zero y at = inr (refl, cc at)
-  early_or_end [] x (suc i) y at = cc at
-  early_or_end (a ∷ xs) x zero y at = inl at
-  early_or_end (a ∷ xs) x (suc i) y at = ⊎_elim (λ here. inl here) (λ last. inr (ap suc last.0, last.1)) (early_or_end xs x i y at)
+  abbrev IsAt : List X → Source → Type 0
+  IsAt xs s = (i : ℕ) × (s ≡ source i) × (option_map side_in (slice_get xs i) ≡ Some side)
 
-  early : (xs : List X) (x : X) (i : ℕ) (y : Y) → Is xs i y → Is (xs ++ x ∷ []) i y
-  early xs x i y at = option_map-slice_get-append f xs (x ∷ []) i y at
+  each_is : (xs : List X) → All (IsAt xs) (from 0 xs)
+  each_is xs =
+      All-flat_map (IsAt xs) of_item (enumerate_from 0 xs)
+      (All-enumerated (λ p. All (IsAt xs) (of_item p)) xs
+      (λ i x at.
+      All-cons_if (IsAt xs) (on x) (source i) [] (λ is. (i, refl, ap (option_map side_in) at ∙ ap Some (same_side-true (side_in x) side is)))
+      (All-nil (IsAt xs))))
 
--- ---- how many are on a side
+  every_is : (xs : List X) (i : ℕ) → option_map side_in (slice_get xs i) ≡ Some side → Contains (from 0 xs) (source i)
+  every_is xs i = at (slice_get xs i) refl
+    where
+      at : (o : Option X) → slice_get xs i ≡ o → option_map side_in o ≡ Some side → Contains (from 0 xs) (source i)
+      at None none is = cc is
+      at (Some x) there is =
+          let test : on x ≡ true = ap (λ a. same_side a side) (same_Some (side_in x) side is) ∙ own_side side in
+          Contains-flat_map of_item (enumerate_from 0 xs) (i, x) (source i) (Contains-enumerated xs i x there)
+          (subst (λ b. Contains (cons_if b (source i) []) (source i)) (sym test) (0, omega arith, refl))
 
-count_push : (side : Side) (streams : List Stream) (s : Stream) → count_on side (streams ++ s ∷ []) ≡ count_on side streams + cond (same_side s.side side) 1 0
-count_push side [] s = let one = count_by-cons (λ (x : Stream). same_side x.side side) s [] in omega (arith, one)
-count_push side (x ∷ streams) s =
-    let before = count_by-cons (λ (y : Stream). same_side y.side side) x streams in
-    let after = count_by-cons (λ (y : Stream). same_side y.side side) x (streams ++ s ∷ []) in
-    let rest = count_push side streams s in
-    omega (arith, before, after, rest)
+  few_on : (n : ℕ) (xs : List X) → length (from n xs) ≤ count_by on xs
+  few_on n [] = omega arith
+  few_on n (x ∷ xs) =
+      omega (arith, count_by-cons on x xs, length-append (of_item (n, x)) (from (n + 1) xs), few_on (n + 1) xs, one_or_none (on x) (source n))
+    where
+      one_or_none : (b : Bool) (s : Source) → length (cons_if b s []) ≡ cond b 1 0
+      one_or_none true s = refl
+      one_or_none false s = refl
 
--- ---- streams
+  -- the later ones have greater indexes
+  abbrev IsLate : ℕ → Source → Type 0
+  IsLate n s = (i : ℕ) × (n ≤ i) × (s ≡ source i)
 
-module _ (side : Side) (streams : List Stream) (s : Stream) (sources : List Source) (h : AreSources streams [] side sources) where
-  abbrev Among : List Stream → Source → Type 0
-  Among these source = side_among these [] source ≡ Some side
+  each_late : (n : ℕ) (xs : List X) → All (IsLate n) (from n xs)
+  each_late n [] = All-nil (IsLate n)
+  each_late n (x ∷ xs) =
+      All-append (IsLate n) (of_item (n, x)) (from (n + 1) xs)
+      (All-cons_if (IsLate n) (on x) (source n) [] (λ is. (n, omega arith, refl)) (All-nil (IsLate n)))
+      (All-weaker (IsLate (n + 1)) (IsLate n) (λ s h. (h.0, omega (arith, h.1), h.2)) (from (n + 1) xs) (each_late (n + 1) xs))
 
-  stream_stays : (source : Source) → Among streams source → Among (streams ++ s ∷ []) source
-  stream_stays (of_stream i) e = early (λ (x : Stream). x.side) streams s i side e
-  stream_stays (of_utility i) e = cc e
+  once : ((i j : ℕ) → source i ≡ source j → i ≡ j) → (n : ℕ) (xs : List X) → AllPairs Differ (from n xs)
+  once one n [] = AllPairs-nil Differ
+  once one n (x ∷ xs) =
+      let later = from (n + 1) xs in
+      let differ = λ (s : Source) (h : IsLate (n + 1) s) (e : source n ≡ s). absurd (omega (arith, h.1, one n h.0 (e ∙ h.2))) in
+      AllPairs-append Differ (of_item (n, x)) later (AllPairs-cons_if Differ (on x) (source n) [] (λ is. All-nil (Differ (source n))) (AllPairs-nil Differ))
+      (once one (n + 1) xs)
+      (All-cons_if (λ a. All (Differ a) later) (on x) (source n) []
+      (λ is. All-weaker (IsLate (n + 1)) (Differ (source n)) differ later (each_late (n + 1) xs)) (All-nil (λ a. All (Differ a) later)))
 
-  stream_cases : (source : Source) → Among (streams ++ s ∷ []) source → Among streams source ⊎ ((source ≡ of_stream (length streams)) × (s.side ≡ side))
-  stream_cases (of_stream i) e = ⊎_elim (λ here. inl here) (λ last. inr (ap of_stream last.0, last.1)) (early_or_end (λ (x : Stream). x.side) streams s i side e)
-  stream_cases (of_utility i) e = cc e
+module _ (streams : List Stream) (utilities : List Utility) (side : Side) where
+  abbrev IsOn : Source → Type 0
+  IsOn source = side_among streams utilities source ≡ Some side
 
-  pub stream-push : s.side ≡ side → AreSources (streams ++ s ∷ []) [] side (sources ++ of_stream (length streams) ∷ [])
-  stream-push own = record {
-    listed = once-push (Among streams) (Among (streams ++ s ∷ [])) sources (of_stream (length streams)) h.listed (none_at_end (λ (x : Stream). x.side) streams side) (at_end (λ (x : Stream). x.side) streams s ∙ ap Some own) stream_stays
-        (λ source e. ⊎_elim (λ here. inl here) (λ last. inr last.0) (stream_cases source e));
-    few = (let test : same_side s.side side ≡ true = ap (λ a. same_side a side) own ∙ own_side side in
-        let one : ◌≡◌ {A = ℕ} (cond (same_side s.side side) 1 0) 1 = ap (λ b. cond b 1 0) test in
-        omega (arith, h.few, one, count_push side streams s, length_push sources (of_stream (length streams))));
-  }
+  every_on : (source : Source) → IsOn source → Contains (streams_on side streams ++ utilities_on side utilities) source
+  every_on (of_stream i) is =
+      Contains-append_left (streams_on side streams) (utilities_on side utilities) (of_stream i) (every_is (λ (s : Stream). s.side) of_stream side streams i is)
+  every_on (of_utility i) is =
+      Contains-append_right (streams_on side streams) (utilities_on side utilities) (of_utility i)
+      (every_is (λ (u : Utility). u.side) of_utility side utilities i is)
 
-  pub stream-pass : (s.side ≡ side → ⊥) → AreSources (streams ++ s ∷ []) [] side sources
-  stream-pass other = record {
-    listed = Lists-same (λ a b. a ≢ b) (Among streams) (Among (streams ++ s ∷ [])) sources stream_stays (λ source e. ⊎_elim (λ here. here) (λ last. absurd (other last.1)) (stream_cases source e)) h.listed;
-    few = omega (arith, h.few, count_push side streams s);
-  }
-
--- ---- utilities
-
-module _ (side : Side) (streams : List Stream) (utilities : List Utility) (u : Utility) (sources : List Source) (h : AreSources streams utilities side sources) where
-  abbrev Beside : List Utility → Source → Type 0
-  Beside these source = side_among streams these source ≡ Some side
-
-  utility_stays : (source : Source) → Beside utilities source → Beside (utilities ++ u ∷ []) source
-  utility_stays (of_stream i) e = e
-  utility_stays (of_utility i) e = early (λ (x : Utility). x.side) utilities u i side e
-
-  utility_cases : (source : Source) → Beside (utilities ++ u ∷ []) source → Beside utilities source ⊎ ((source ≡ of_utility (length utilities)) × (u.side ≡ side))
-  utility_cases (of_stream i) e = inl e
-  utility_cases (of_utility i) e = ⊎_elim (λ here. inl here) (λ last. inr (ap of_utility last.0, last.1)) (early_or_end (λ (x : Utility). x.side) utilities u i side e)
-
-  pub utility-push : u.side ≡ side → AreSources streams (utilities ++ u ∷ []) side (sources ++ of_utility (length utilities) ∷ [])
-  utility-push own = record {
-    listed = once-push (Beside utilities) (Beside (utilities ++ u ∷ [])) sources (of_utility (length utilities)) h.listed (none_at_end (λ (x : Utility). x.side) utilities side) (at_end (λ (x : Utility). x.side) utilities u ∙ ap Some own) utility_stays
-        (λ source e. ⊎_elim (λ here. inl here) (λ last. inr last.0) (utility_cases source e));
-    few = omega (arith, h.few, length_push utilities u, length_push sources (of_utility (length utilities)));
-  }
-
-  pub utility-pass : (u.side ≡ side → ⊥) → AreSources streams (utilities ++ u ∷ []) side sources
-  utility-pass other = record {
-    listed = Lists-same (λ a b. a ≢ b) (Beside utilities) (Beside (utilities ++ u ∷ [])) sources utility_stays (λ source e. ⊎_elim (λ here. here) (λ last. absurd (other last.1)) (utility_cases source e)) h.listed;
-    few = omega (arith, h.few, length_push utilities u);
-  }
-
--- ---- steps of loops
-
-module _ (side : Side) (streams : List Stream) (i : ℕ) (within : i < length streams) (s : Stream) (is : s ≡ get_or streams i s) (sources now : List Source) (so_far : AreSources (take i streams) [] side sources) where
-  more_streams : take i streams ++ s ∷ [] ≡ take (i + 1) streams
-  more_streams = sym (subst (λ x. take (i + 1) streams ≡ take i streams ++ x ∷ []) (sym is) (take_more streams i s within))
-
-  pub stream-more : s.side ≡ side → now ≡ sources ++ of_stream i ∷ [] → AreSources (take (i + 1) streams) [] side now
-  stream-more own pushed =
-      let count : length (take i streams) ≡ i = length-take-le i streams (omega (arith, within)) in
-      subst₂ (λ these those. AreSources these [] side those) more_streams (ap (λ n. sources ++ of_stream n ∷ []) count ∙ sym pushed) (stream-push side (take i streams) s sources so_far own)
-
-  pub stream-other : (s.side ≡ side → ⊥) → now ≡ sources → AreSources (take (i + 1) streams) [] side now
-  stream-other other same = subst₂ (λ these those. AreSources these [] side those) more_streams (sym same) (stream-pass side (take i streams) s sources so_far other)
-
-module _ (side : Side) (streams : List Stream) (utilities : List Utility) (i : ℕ) (within : i < length utilities) (u : Utility) (is : u ≡ get_or utilities i u) (sources now : List Source) (so_far : AreSources streams (take i utilities) side sources) where
-  more_utilities : take i utilities ++ u ∷ [] ≡ take (i + 1) utilities
-  more_utilities = sym (subst (λ x. take (i + 1) utilities ≡ take i utilities ++ x ∷ []) (sym is) (take_more utilities i u within))
-
-  pub utility-more : u.side ≡ side → now ≡ sources ++ of_utility i ∷ [] → AreSources streams (take (i + 1) utilities) side now
-  utility-more own pushed =
-      let count : length (take i utilities) ≡ i = length-take-le i utilities (omega (arith, within)) in
-      subst₂ (λ these those. AreSources streams these side those) more_utilities (ap (λ n. sources ++ of_utility n ∷ []) count ∙ sym pushed) (utility-push side streams (take i utilities) u sources so_far own)
-
-  pub utility-other : (u.side ≡ side → ⊥) → now ≡ sources → AreSources streams (take (i + 1) utilities) side now
-  utility-other other same = subst₂ (λ these those. AreSources streams these side those) more_utilities (sym same) (utility-pass side streams (take i utilities) u sources so_far other)
+  pub AreSources-on : AreSources streams utilities side (streams_on side streams ++ utilities_on side utilities)
+  AreSources-on =
+      let firsts = streams_on side streams in
+      let others = utilities_on side utilities in
+      let of_streams = each_is (λ (s : Stream). s.side) of_stream side streams in
+      let of_utilities = each_is (λ (u : Utility). u.side) of_utility side utilities in
+      let IsFirst = IsAt (λ (s : Stream). s.side) of_stream side streams in
+      let IsOther = IsAt (λ (u : Utility). u.side) of_utility side utilities in
+      let differ = λ (s : Source) (h : IsFirst s). All-weaker IsOther (Differ s) (λ u k e. (cc (e, h.1, k.1))) others of_utilities in
+      record {
+        listed = record {
+          ordered =
+              AllPairs-append Differ firsts others (once (λ (s : Stream). s.side) of_stream side (λ i j e. (cc)) 0 streams)
+              (once (λ (u : Utility). u.side) of_utility side (λ i j e. (cc)) 0 utilities)
+              (All-weaker IsFirst (λ a. All (Differ a) others) differ firsts of_streams);
+          each =
+              All-append IsOn firsts others (All-weaker IsFirst IsOn (λ s h. subst IsOn (sym h.1) h.2) firsts of_streams)
+              (All-weaker IsOther IsOn (λ u h. subst IsOn (sym h.1) h.2) others of_utilities);
+          every = every_on;
+        };
+        few =
+            (let streams_few = few_on (λ (s : Stream). s.side) of_stream side 0 streams in
+            let utilities_few = few_on (λ (u : Utility). u.side) of_utility side 0 utilities in
+            let all = count_by-le-length (λ (u : Utility). same_side u.side side) utilities in
+            omega (arith, streams_few, utilities_few, all, length-append firsts others));
+      }

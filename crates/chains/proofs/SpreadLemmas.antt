@@ -1,32 +1,14 @@
 -- A flow that is under way no more: all ways have carried their heat, and the transfers of the shares are those of the flow.
-use Rattle.std.proofs.Common.{◌≡◌, ◌∙◌, ⊎_elim, sym, ap, subst, ℕ, zero, suc, ◌+◌, ◌<◌, ◌≤◌, ◌==◌, List, [], ◌∷◌, length, get_or, arith}
-use Rattle.std.specs.Int.RustNames.{unsigned_abs}
-use Rattle.std.specs.Prelude.{◌*◌, ◌<ℤ◌, ℤ, negsuc, pos, ◌≤ℤ◌, All, if◌then◌else◌}
-use Rattle.std.proofs.lemmas.Bool.{cases_eq, eq-eqb, ne_eqb}
-use Rattle.std.proofs.lemmas.Int.{ints}
-use Rattle.std.proofs.lemmas.List.Elements.{All-contains}
-use Rattle.std.proofs.lemmas.Option.{slice_get-get_or}
-use Rattle.stream_case.specs.declared.limits.TheConstants.{MOST_HEAT}
-use Rattle.sums.proofs.IntegerLemmas.{if_between, if_zero}
-use Rattle.sums.proofs.SumLemmas.{int_sum_by-not_negative, int_sum_by-zero}
-use Rattle.grid.specs.declared.part.Part.{Part}
-use Rattle.grid.specs.Bounds.{IsBounded}
-use Rattle.heat_flow.specs.declared.flow.Transfer.{Transfer}
-use Rattle.flow_net.specs.declared.net.Link.{Link}
-use Rattle.flow_net.specs.declared.net.Net.{Net}
-use Rattle.flow_net.specs.Net.{link_at, flow_on, inflow, outflow}
-use Rattle.flow_net.proofs.Sums.{sum_below-zero}
-use Rattle.chains.specs.declared.stock.Share.{Share}
-use Rattle.chains.specs.declared.ways.Way.{Way}
-use Rattle.chains.specs.Gathered.{AreGathered}
-use Rattle.chains.specs.Inner.{IsInner, IsInnerLink, IsHeatOf}
-use Rattle.chains.specs.Path.{LeadsTo}
-use Rattle.chains.specs.Spread.{IsSpread}
-use Rattle.chains.specs.Stock.{held_of, held_at, IsShare, IsUnderWay}
-use Rattle.chains.specs.Ways.{left_from, left_in_all, left_into, IsWay}
 use Rattle.chains.proofs.ListSums.{int_sum_by-none}
+use Rattle.chains.proofs.Words.{All, All-contains, AreGathered, IsBounded, IsHeatOf, IsInner, IsInnerLink, IsShare, IsSpread, IsUnderWay, IsWay, LeadsTo, Link}
+use Rattle.chains.proofs.Words.{MOST_HEAT, Net, Part, Share, Transfer, Way, cases_eq, eq-eqb, flow_on, held_at, held_of, if_between, if_zero, if◌then◌else◌}
+use Rattle.chains.proofs.Words.{inflow, int_sum_by-not_negative, int_sum_by-zero, ints, left_from, left_in_all, left_into, link_at, ne_eqb, negsuc, outflow}
+use Rattle.chains.proofs.Words.{pos, slice_get-get_or, sum_below-zero, unsigned_abs, ℤ, ◌*◌, ◌<ℤ◌, ◌≤ℤ◌}
+use Rattle.std.proofs.Common.{List, [], ap, arith, get_or, length, subst, suc, sym, zero, ℕ, ⊎_elim, ◌+◌, ◌<◌, ◌==◌, ◌∙◌, ◌∷◌, ◌≡◌, ◌≤◌}
 
-module _ (hots colds : ℕ) (net : Net) (flow : List ℤ) (inner : IsInner hots colds net) (balances : (v : ℕ) → (hots + colds) ≤ v → v < net.nodes → inflow net.links flow v ≡ outflow net.links flow v) (there : List Share) (ways : List Way) (ended : IsUnderWay hots colds net flow [] there ways) where
+module _ (hots colds : ℕ) (net : Net) (flow : List ℤ) (inner : IsInner hots colds net)
+    (balances : (v : ℕ) → (hots + colds) ≤ v → v < net.nodes → inflow net.links flow v ≡ outflow net.links flow v) (there : List Share) (ways : List Way)
+    (ended : IsUnderWay hots colds net flow [] there ways) where
   -- a way leaves a chain node, and goes on to later ones alone
   record IsChainWay (w : Way) : Type 0 where
     chain : (hots + colds) ≤ w.from
@@ -41,23 +23,31 @@ module _ (hots colds : ℕ) (net : Net) (flow : List ℤ) (inner : IsInner hots 
       let later = way.later in
       let from_in = is.from_in in
       let chain : (hots + colds) ≤ w.from = ⊎_elim (λ hot. absurd (omega (arith, hot, from, later))) (λ behind. omega (arith, behind, from)) is.leaves in
-      record { chain = chain; from_in = omega (arith, from_in, from); onward = λ ends. let on = is.onward (omega (arith, chain, from)) (omega (arith, ends, to)) in omega (arith, on, from, to) }
+      record {
+        chain = chain;
+        from_in = omega (arith, from_in, from);
+        onward = λ ends. let on = is.onward (omega (arith, chain, from)) (omega (arith, ends, to)) in omega (arith, on, from, to);
+      }
 
   -- the shares stand at cold parts
   none_at_chains : (v : ℕ) → (hots + colds) ≤ v → held_at there v ≡ pos 0
-  none_at_chains v chain = int_sum_by-zero (λ s. if s.node == v then s.heat else pos 0) there (λ k d within. let cold = ended.at_cold k d within in ap (λ b. if b then (get_or there k d).heat else pos 0) (ne_eqb (get_or there k d).node v (λ e. absurd (omega (arith, cold, chain, e)))))
+  none_at_chains v chain = int_sum_by-zero (λ s. if s.node == v then s.heat else pos 0) there
+      (λ k d within. let cold = ended.at_cold k d within in
+      ap (λ b. if b then (get_or there k d).heat else pos 0) (ne_eqb (get_or there k d).node v (λ e. absurd (omega (arith, cold, chain, e)))))
 
   -- the ways from the nodes below a number have nothing left
   abbrev NoneLeftBelow : ℕ → Type 0
   NoneLeftBelow n = All (λ w. w.from < n → w.left ≡ pos 0) ways
 
   none_into : (n : ℕ) → (hots + colds) ≤ n → NoneLeftBelow n → left_into ways n ≡ pos 0
-  none_into n chain below = int_sum_by-zero (λ w. if w.to == n then w.left else pos 0) ways (λ k d within. by (get_or ways k d) (ended.ways_stand k d within) (below k d within))
+  none_into n chain below =
+      int_sum_by-zero (λ w. if w.to == n then w.left else pos 0) ways (λ k d within. by (get_or ways k d) (ended.ways_stand k d within) (below k d within))
     where
       by : (w : Way) → IsWay hots net.links w → (w.from < n → w.left ≡ pos 0) → (if w.to == n then w.left else pos 0) ≡ pos 0
       by w way none =
           let is = chain_way w way in
-          ⊎_elim (λ e. let on = is.onward (omega (arith, chain, e)) in if_zero (w.to == n) w.left (none (omega (arith, on, e)))) (λ other. ap (λ b. if b then w.left else pos 0) (ne_eqb w.to n other)) (cases_eq w.to n)
+          ⊎_elim (λ e. let on = is.onward (omega (arith, chain, e)) in if_zero (w.to == n) w.left (none (omega (arith, on, e))))
+          (λ other. ap (λ b. if b then w.left else pos 0) (ne_eqb w.to n other)) (cases_eq w.to n)
 
   none_from : (n : ℕ) → (hots + colds) ≤ n → n < net.nodes → NoneLeftBelow n → left_from ways n ≡ pos 0
   none_from n chain within below =
@@ -74,7 +64,8 @@ module _ (hots colds : ℕ) (net : Net) (flow : List ℤ) (inner : IsInner hots 
       let chain = is.chain in
       let from_in = is.from_in in
       let none = none_from n (omega (arith, chain, e)) (omega (arith, from_in, e)) below in
-      let terms = int_sum_by-none (λ (x : Way). if x.from == n then x.left else pos 0) ways (λ j c inside. (if_between ((get_or ways j c).from == n) (get_or ways j c).left (ended.ways_stand j c inside).not_negative).0) none in
+      let terms = int_sum_by-none (λ (x : Way). if x.from == n then x.left else pos 0) ways
+      (λ j c inside. (if_between ((get_or ways j c).from == n) (get_or ways j c).left (ended.ways_stand j c inside).not_negative).0) none in
       ap (λ b. if b then w.left else pos 0) (sym (eq-eqb w.from n e)) ∙ terms k d within
 
   none_below : (n : ℕ) → NoneLeftBelow n
@@ -92,14 +83,18 @@ module _ (hots colds : ℕ) (net : Net) (flow : List ℤ) (inner : IsInner hots 
       sum_below-zero (length net.links) (λ k. if (link_at net.links k).from == (hots + b) then flow_on flow k else pos 0)
       (λ k within.
       let leaves = (inner.links k (record { from = 0; to = 0; room = pos 0; cost = pos 0 }) within).leaves in
-      ap (λ t. if t then flow_on flow k else pos 0) (ne_eqb (link_at net.links k).from (hots + b) (λ e. ⊎_elim (λ hot. absurd (omega (arith, hot, e))) (λ chain. absurd (omega (arith, chain, e, cold))) leaves)))
+      ap (λ t. if t then flow_on flow k else pos 0)
+      (ne_eqb (link_at net.links k).from (hots + b)
+      (λ e. ⊎_elim (λ hot. absurd (omega (arith, hot, e))) (λ chain. absurd (omega (arith, chain, e, cold))) leaves)))
 
   -- so all that enters a cold part is there
   all_there : (b : ℕ) → b < colds → held_at there (hots + b) ≡ inflow net.links flow (hots + b)
   all_there b cold =
       let balance = ended.balance (hots + b) (omega arith) in
-      let into = int_sum_by-zero (λ w. if w.to == (hots + b) then w.left else pos 0) ways (λ k d within. if_zero ((get_or ways k d).to == (hots + b)) (get_or ways k d).left (none_left k d within)) in
-      let from = int_sum_by-zero (λ w. if w.from == (hots + b) then w.left else pos 0) ways (λ k d within. if_zero ((get_or ways k d).from == (hots + b)) (get_or ways k d).left (none_left k d within)) in
+      let into = int_sum_by-zero (λ w. if w.to == (hots + b) then w.left else pos 0) ways
+      (λ k d within. if_zero ((get_or ways k d).to == (hots + b)) (get_or ways k d).left (none_left k d within)) in
+      let from = int_sum_by-zero (λ w. if w.from == (hots + b) then w.left else pos 0) ways
+      (λ k d within. if_zero ((get_or ways k d).from == (hots + b)) (get_or ways k d).left (none_left k d within)) in
       let leaves = none_leaves b cold in
       omega (arith, ints)
 
@@ -110,16 +105,22 @@ module _ (hots colds : ℕ) (net : Net) (flow : List ℤ) (inner : IsInner hots 
   IsSpread-gathered transfers gathered = record {
     positive = gathered.positive;
     ordered = gathered.ordered;
-    hot_indexes = λ k d within. let (s, stands, hot, node) = gathered.pairs k d within in let share = All-contains (IsShare hots net) there s ended.there_shares stands in let hot_in = share.hot_in in omega (arith, hot, hot_in);
-    cold_indexes = λ k d within. let (s, stands, hot, node) = gathered.pairs k d within in let cold = All-contains (λ t. t.node < (hots + colds)) there s ended.at_cold stands in omega (arith, node, cold);
-    joined = λ k d within. let (s, stands, hot, node) = gathered.pairs k d within in let share = All-contains (IsShare hots net) there s ended.there_shares stands in subst (λ a. LeadsTo net.links a (hots + (get_or transfers k d).cold)) hot (subst (LeadsTo net.links s.hot) node share.leads);
+    hot_indexes = λ k d within. let (s, stands, hot, node) = gathered.pairs k d within in
+        let share = All-contains (IsShare hots net) there s ended.there_shares stands in let hot_in = share.hot_in in omega (arith, hot, hot_in);
+    cold_indexes = λ k d within. let (s, stands, hot, node) = gathered.pairs k d within in
+        let cold = All-contains (λ t. t.node < (hots + colds)) there s ended.at_cold stands in omega (arith, node, cold);
+    joined = λ k d within. let (s, stands, hot, node) = gathered.pairs k d within in
+        let share = All-contains (IsShare hots net) there s ended.there_shares stands in
+        subst (λ a. LeadsTo net.links a (hots + (get_or transfers k d).cold)) hot (subst (LeadsTo net.links s.hot) node share.leads);
     given = λ a within. gathered.given a ∙ all_given a within;
     taken = λ b within. gathered.taken b ∙ all_there b within;
   }
 
 -- what a hot part gives is within the limits
-pub given_fits : (hot cold : List Part) (net : Net) (flow : List ℤ) (there : List Share) (ways : List Way) → All IsBounded hot → IsHeatOf hot cold net flow → IsUnderWay (length hot) (length cold) net flow [] there ways → All (λ s. held_of there s.hot ≤ℤ MOST_HEAT) there
-given_fits [] cold net flow there ways bounded heat ended k d within = let share = ended.there_shares k d within in let none = share.hot_in in absurd (omega (arith, none))
+pub given_fits : (hot cold : List Part) (net : Net) (flow : List ℤ) (there : List Share) (ways : List Way) → All IsBounded hot → IsHeatOf hot cold net flow
+    → IsUnderWay (length hot) (length cold) net flow [] there ways → All (λ s. held_of there s.hot ≤ℤ MOST_HEAT) there
+given_fits [] cold net flow there ways bounded heat ended k d within = let share = ended.there_shares k d within in let none = share.hot_in in
+    absurd (omega (arith, none))
 given_fits (q ∷ hot) cold net flow there ways bounded heat ended k d within =
     let a = (get_or there k d).hot in
     let a_in = (ended.there_shares k d within).hot_in in

@@ -1,8 +1,11 @@
--- The links of a net of chains. The chain of a group has a node for each rank, in order.
-use Rattle.std.specs.Prelude.{◌≡◌, ◌⊎◌, ℕ, ◌+◌, ◌*◌, ◌%◌, ◌<◌, false, ℤ, pos, List, [], ◌∷◌, length, All, Contains, Some, slice_get}
+-- The links of a net of chains, as one list. The chain of a group has a node for each rank, in order.
+use Rattle.std.specs.Prelude.{◌≡◌, ℕ, ◌+◌, ◌-◌, ◌*◌, ◌/◌, Bool, not, ℤ, pos, List, [], ◌∷◌, ◌++◌, length, map, Option, Some, option_map, option_to_list, slice_get}
+use Rattle.std.specs.List.{enumerate_from, find, flat_map, list_all, list_any, range_with_len}
 use Rattle.stream_case.specs.declared.source.Source.{Source}
 use Rattle.stream_case.specs.declared.case.Case.{Case}
 use Rattle.stream_case.specs.Case.{is_forbidden}
+use Rattle.stream_case.specs.Source.{same_source}
+use Rattle.sums.specs.Pairing.{cons_if}
 use Rattle.grid.specs.declared.part.Part.{Part}
 use Rattle.flow_net.specs.declared.limits.TheConstants.{MOST_ROOM}
 use Rattle.flow_net.specs.declared.net.Link.{Link}
@@ -13,50 +16,60 @@ use Rattle.chains.specs.Ranks.{rank_of, rank_count}
 abbrev pub open_link : ℕ → ℕ → Link
 open_link from to = record { from = from; to = to; room = MOST_ROOM; cost = pos 0 }
 
--- how many ranks the links down a chain lead on
-abbrev pub strides : List ℕ
-strides = 1 ∷ 3 ∷ 9 ∷ 27 ∷ 81 ∷ []
-
 -- the chains stand one after the other, the first one from this node, each with so many nodes
 abbrev pub StandInLine : ℕ → ℕ → List Group → Type 0
 StandInLine first ranks groups = (i : ℕ) (g : Group) → slice_get groups i ≡ Some g → g.first_node ≡ first + i * ranks
 
-module _ (c : Case) (places : List ℤ) (hot cold : List Part) (groups : List Group) where
-  -- from a hot part into the chain of its group, at the rank of the part
-  pub record IsEntering (l : Link) : Type 0 where
-    pub index : ℕ
-    pub part : Part
-    pub group : Group
-    pub part_is : slice_get hot index ≡ Some part
-    pub group_is : Contains groups group
-    pub stands : Contains group.sources part.source
-    pub is : l ≡ open_link index (group.first_node + rank_of places part)
+-- ---- from hot parts into the chains
 
-  -- from a node of a chain to the next one, and from each multiple of a longer stride to the next multiple
-  pub record IsOnward (l : Link) : Type 0 where
-    pub group : Group
-    pub rank : ℕ
-    pub stride : ℕ
-    pub group_is : Contains groups group
-    pub stride_is : Contains strides stride
-    pub starts : rank % stride ≡ 0
-    pub within : (rank + stride) < rank_count places
-    pub is : l ≡ open_link (group.first_node + rank) (group.first_node + (rank + stride))
+abbrev pub has_source : Source → Group → Bool
+has_source source g = list_any (λ other. same_source other source) g.sources
 
-  -- from a chain, at the rank of a cold part, to that part, whose source is permitted to the sources of the group
-  pub record IsLeaving (l : Link) : Type 0 where
-    pub index : ℕ
-    pub part : Part
-    pub group : Group
-    pub part_is : slice_get cold index ≡ Some part
-    pub group_is : Contains groups group
-    pub permitted : (source : Source) → Contains group.sources source → is_forbidden c.forbids source part.source ≡ false
-    pub is : l ≡ open_link (group.first_node + rank_of places part) (length hot + index)
+-- the first node of the first group in which a source stands
+abbrev pub first_node_of : List Group → Source → Option ℕ
+first_node_of groups source = option_map (λ g. g.first_node) (find (has_source source) groups)
 
-  abbrev pub IsChainLink : Link → Type 0
-  IsChainLink l = IsEntering l ⊎ IsOnward l ⊎ IsLeaving l
+-- from a hot part, which stands beside its index, into the chain of its source's group, at the rank of the part
+abbrev pub entering_at : List ℤ → List Group → ℕ × Part → List Link
+entering_at places groups p = option_to_list (option_map (λ node. open_link p.0 (node + rank_of places p.1)) (first_node_of groups p.1.source))
 
-  -- exactly these links
-  pub record HoldsChains (links : List Link) : Type 0 where
-    pub each : All IsChainLink links
-    pub every : (l : Link) → IsChainLink l → Contains links l
+abbrev pub entering : List ℤ → List Group → List Part → List Link
+entering places groups hot = flat_map (entering_at places groups) (enumerate_from 0 hot)
+
+-- ---- down the chain that begins at a node, with so many nodes
+
+-- how many ranks the links down a chain lead on
+abbrev pub strides : List ℕ
+strides = 1 ∷ 3 ∷ 9 ∷ 27 ∷ 81 ∷ []
+
+-- the link from a multiple of the stride to the next one
+abbrev pub stride_link : ℕ → ℕ → ℕ → Link
+stride_link first stride step = open_link (first + step * stride) (first + step * stride + stride)
+
+abbrev pub stride_links : ℕ → ℕ → ℕ → List Link
+stride_links first ranks stride = map (stride_link first stride) (range_with_len 0 ((ranks - 1) / stride))
+
+unfoldable pub onward : ℕ → ℕ → List Link
+onward first ranks = flat_map (stride_links first ranks) strides
+
+-- ---- from the chain of a group to cold parts
+
+-- whether a cold source is permitted to each source of the group
+abbrev pub is_permitted : Case → Group → Source → Bool
+is_permitted c g cold = list_all (λ hot. not (is_forbidden c.forbids hot cold)) g.sources
+
+-- to a cold part, which stands beside its index, behind so many hot parts, at the rank of the part
+abbrev pub leaving_at : Case → List ℤ → ℕ → Group → ℕ × Part → List Link
+leaving_at c places hots g p =
+    cons_if (is_permitted c g p.1.source) (open_link (g.first_node + rank_of places p.1) (hots + p.0)) []
+
+abbrev pub leaving : Case → List ℤ → ℕ → Group → List Part → List Link
+leaving c places hots g cold = flat_map (leaving_at c places hots g) (enumerate_from 0 cold)
+
+-- ---- all of them
+
+abbrev pub links_of_group : Case → List ℤ → ℕ → List Part → Group → List Link
+links_of_group c places hots cold g = onward g.first_node (rank_count places) ++ leaving c places hots g cold
+
+abbrev pub chain_links : Case → List ℤ → List Part → List Part → List Group → List Link
+chain_links c places hot cold groups = entering places groups hot ++ flat_map (links_of_group c places (length hot) cold) groups

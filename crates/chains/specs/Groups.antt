@@ -30,4 +30,5 @@ pub record AreGroups (c : Case) (groups : List Group) : Type 0 where
 pub record StartsChain (c : Case) (hot cold : List Part) (net : Net) (g : Group) : Type 0 where
   pub from : (length hot + length cold) ≤ g.first_node
   pub within : g.first_node < net.nodes
-  pub leads : (a b : ℕ) (p : Part) → slice_get hot a ≡ Some p → Contains g.sources p.source → IsTrue (reach_between c hot cold a b) → LeadsTo net.links g.first_node (length hot + b)
+  pub leads : (a b : ℕ) (p : Part) → slice_get hot a ≡ Some p → Contains g.sources p.source → IsTrue (reach_between c hot cold a b)
+      → LeadsTo net.links g.first_node (length hot + b)

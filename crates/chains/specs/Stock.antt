@@ -62,4 +62,5 @@ pub record IsUnderWay (hots colds : ℕ) (net : Net) (flow : List ℤ) (moving t
   pub at_cold : All (λ s. s.node < (hots + colds)) there
   pub ways_stand : All (IsWay hots net.links) ways
   pub given : (a : ℕ) → a < hots → held_of moving a +ℤ held_of there a ≡ outflow net.links flow a
-  pub balance : (v : ℕ) → hots ≤ v → (held_at moving v +ℤ held_at there v) +ℤ (left_into ways v +ℤ outflow net.links flow v) ≡ inflow net.links flow v +ℤ left_from ways v
+  pub balance : (v : ℕ) → hots ≤ v → (held_at moving v +ℤ held_at there v) +ℤ (left_into ways v +ℤ outflow net.links flow v)
+      ≡ inflow net.links flow v +ℤ left_from ways v

@@ -1,11 +1,11 @@
 //! The groups of the hot sources of a case.
-ghost use Rattle.std.specs.Prelude.{◌≡◌, ◌↔◌, ◌≤◌, ◌<◌, ◌+◌, ◌*◌, ◌^◌, [], length, IsTrue, All, Any, Contains, IfOk, OnOk, Some};
+ghost use Rattle.std.specs.Prelude.{◌≡◌, ◌↔◌, ◌≤◌, ◌<◌, ◌+◌, ◌*◌, ◌^◌, ◌++◌, length, IsTrue, All, Any, Contains, IfOk, OnOk, Some};
 ghost use Rattle.stream_case.specs.declared.limits.TheConstants.{ALL_UTILITIES, MOST_PARTS, MOST_PLACES, MOST_STREAMS};
 ghost use Rattle.stream_case.specs.declared.source.Side.TheVariants.{Hot, Cold};
 ghost use Rattle.stream_case.specs.Case.{side_of, is_forbidden, IsComplete};
-ghost use Rattle.chains.specs.ChainNet.{StandInLine};
+ghost use Rattle.chains.specs.ChainNet.{has_source, StandInLine};
 ghost use Rattle.chains.specs.Groups.{AreGroups};
-ghost use Rattle.chains.specs.Making.{AreSources, IsLike, ListsOnce};
+ghost use Rattle.chains.specs.Making.{streams_on, utilities_on, AreSources, IsLike, ListsOnce};
 
 use crate::net::Group;
 use std::alloc::{AllocError, Global};
@@ -14,8 +14,8 @@ use stream_case::{Case, Items, Side, Source};
 /// Appends the streams of a side.
 fn push_streams(sources: &mut Vec<Source>, case: &Case, side: Side) -> Result<(), AllocError>
     requires few { length case.now.streams < 2 ^ 32 }
-    requires none { sources.old.items ≡ [] }
-    ensures { OnOk result (AreSources case.now.streams [] side sources.new.items) }
+    ensures { OnOk result
+        (sources.new.items ≡ sources.old.items ++ streams_on side case.now.streams) }
 {
     let streams = case.streams.as_slice();
     for (index, stream) in streams.iter().enumerate() {
@@ -26,11 +26,11 @@ fn push_streams(sources: &mut Vec<Source>, case: &Case, side: Side) -> Result<()
     Ok(())
 }
 
-/// Appends the utilities of a side to the streams of the side.
+/// Appends the utilities of a side.
 fn push_utilities(sources: &mut Vec<Source>, case: &Case, side: Side) -> Result<(), AllocError>
     requires few { length case.now.utilities < 2 ^ 32 }
-    requires streams { AreSources case.now.streams [] side sources.old.items }
-    ensures { OnOk result (AreSources case.now.streams case.now.utilities side sources.new.items) }
+    ensures { OnOk result
+        (sources.new.items ≡ sources.old.items ++ utilities_on side case.now.utilities) }
 {
     let utilities = case.utilities.as_slice();
     for (index, utility) in utilities.iter().enumerate() {
@@ -44,7 +44,8 @@ fn push_utilities(sources: &mut Vec<Source>, case: &Case, side: Side) -> Result<
 /// The sources of a side, streams before utilities, each in the order of the case.
 pub(crate) fn sources_of(alloc: Global, case: &Case, side: Side) -> Result<Vec<Source>, AllocError>
     requires { IsComplete case.now }
-    ensures { IfOk result (λ sources. AreSources case.now.streams case.now.utilities side sources.items) }
+    ensures { IfOk result (λ sources. AreSources case.now.streams case.now.utilities side
+        sources.items) }
 {
     let mut sources = Vec::new(alloc);
     push_streams(&mut sources, case, side)?;
@@ -55,7 +56,8 @@ pub(crate) fn sources_of(alloc: Global, case: &Case, side: Side) -> Result<Vec<S
 /// Whether a cold source is permitted to both hot sources or to none of them.
 fn is_shared(case: &Case, first: Source, second: Source, cold: &Source) -> bool
     ensures { IsTrue result
-        ↔ (is_forbidden case.now.forbids first cold.now ≡ is_forbidden case.now.forbids second cold.now) }
+        ↔ (is_forbidden case.now.forbids first cold.now
+        ≡ is_forbidden case.now.forbids second cold.now) }
 {
     case.is_forbidden(first, *cold) == case.is_forbidden(second, *cold)
 }
@@ -63,7 +65,8 @@ fn is_shared(case: &Case, first: Source, second: Source, cold: &Source) -> bool
 /// Whether the same of these cold sources are permitted to two hot sources.
 fn are_alike(case: &Case, cold: &[Source], first: Source, second: Source) -> bool
     ensures { IsTrue result
-        ↔ All (λ source. is_forbidden case.now.forbids first source ≡ is_forbidden case.now.forbids second source) cold.now }
+        ↔ All (λ source. is_forbidden case.now.forbids first source
+        ≡ is_forbidden case.now.forbids second source) cold.now }
 {
     cold.iter()
         .all(|source| is_shared(case, first, second, source))
@@ -92,9 +95,14 @@ fn sources_like(
 
 /// Whether a source stands in a group.
 pub(crate) fn has_source(group: &Group, source: Source) -> bool
-    ensures { IsTrue result ↔ Contains group.now.sources source }
+    ensures value { result ≡ has_source source group.now }
+    ensures stands { IsTrue result ↔ Contains group.now.sources source }
 {
-    group.sources.as_slice().contains(&source)
+    group
+        .sources
+        .as_slice()
+        .iter()
+        .any(|other| *other == source)
 }
 
 /// Whether a source stands in one of the groups.

@@ -1,15 +1,11 @@
 //! The links of a net of chains.
-ghost use Rattle.std.specs.Prelude.{◌≡◌, ◌↔◌, ◌≤◌, ◌+◌, ◌-◌, ◌*◌, ◌/◌, ◌∷◌, [], false, List, length, IsTrue, IfOk, IfSome, IfNone, OnOk, All, Any, Contains, Some};
-ghost use Rattle.stream_case.specs.declared.case.Case.{Case};
-ghost use Rattle.stream_case.specs.declared.limits.TheConstants.{MOST_PARTS, MOST_PLACES};
+ghost use Rattle.std.specs.Prelude.{◌≡◌, ◌↔◌, ◌≤◌, ◌*◌, ◌++◌, true, length, IsTrue, IfOk, OnOk, All, Contains, Some};
 ghost use Rattle.stream_case.specs.declared.source.Source.{Source};
+ghost use Rattle.stream_case.specs.declared.limits.TheConstants.{MOST_PARTS, MOST_PLACES};
 ghost use Rattle.stream_case.specs.declared.source.Side.TheVariants.{Cold};
-ghost use Rattle.stream_case.specs.Case.{side_of, is_forbidden, IsComplete};
-ghost use Rattle.grid.specs.declared.part.Part.{Part};
+ghost use Rattle.stream_case.specs.Case.{side_of, IsComplete};
 ghost use Rattle.chains.specs.declared.net.TheConstants.{MOST_INNER_NODES};
-ghost use Rattle.chains.specs.ChainNet.{open_link, strides, IsEntering, IsLeaving};
-ghost use Rattle.chains.specs.Groups.{AreGroups};
-ghost use Rattle.chains.specs.Making.{Appends, IsStep};
+ghost use Rattle.chains.specs.ChainNet.{entering, first_node_of, is_permitted, leaving, onward, open_link, stride_links};
 
 use crate::groups::{has_source, sources_of};
 use crate::net::Group;
@@ -31,17 +27,14 @@ fn open_link(from: u32, to: u32) -> Link
     }
 }
 
-/// The first node of the group in which a source stands, if it stands in one.
+/// The first node of the first group in which a source stands, if it stands in one.
 fn first_node_of(groups: &[Group], source: Source) -> Option<u32>
-    ensures some { IfSome result (λ node. Any (λ g. (g.first_node ≡ node) × Contains g.sources source) groups.now) }
-    ensures none { IfNone result (All (λ g. Contains g.sources source → ⊥) groups.now) }
+    ensures { result ≡ first_node_of groups.now source }
 {
-    for group in groups {
-        if has_source(group, source) {
-            return Some(group.first_node);
-        }
-    }
-    None
+    groups
+        .iter()
+        .find(|group| has_source(group, source))
+        .map(|group| group.first_node)
 }
 
 /// Appends a link from each hot part into the chain of its source's group, at the part's rank.
@@ -53,10 +46,9 @@ pub(crate) fn push_entering(
 ) -> Result<(), AllocError>
     requires few_places { length places.now ≤ MOST_PLACES }
     requires few_parts { length hot.now ≤ MOST_PARTS }
-    requires groups { (c : Case) × AreGroups c groups.now }
     requires nodes { All (λ g. g.first_node ≤ MOST_INNER_NODES) groups.now }
     ensures { OnOk result
-        ((c : Case) (cold : List Part) → Appends (IsEntering c places.now hot.now cold groups.now) (length hot.now) links.old.items links.new.items) }
+        (links.new.items ≡ links.old.items ++ entering places.now groups.now hot.now) }
 {
     for (index, part) in hot.iter().enumerate() {
         if let Some(first_node) = first_node_of(groups, part.source) {
@@ -80,7 +72,7 @@ fn push_stride(
     requires ranks { ranks ≤ 2 * MOST_PLACES }
     requires stride { 1 ≤ stride }
     ensures { OnOk result
-        (Appends (IsStep (stride ∷ []) group.now.first_node ranks) ((ranks - 1) / stride) links.old.items links.new.items) }
+        (links.new.items ≡ links.old.items ++ stride_links group.now.first_node ranks stride) }
 {
     for step in 0..(ranks - 1) / stride {
         let node = group.first_node + step * stride;
@@ -100,7 +92,7 @@ pub(crate) fn push_onward(
     requires some { 1 ≤ ranks }
     requires ranks { ranks ≤ 2 * MOST_PLACES }
     ensures { OnOk result
-        (Appends (IsStep strides group.now.first_node ranks) ((ranks - 1) + (ranks - 1) / 2) links.old.items links.new.items) }
+        (links.new.items ≡ links.old.items ++ onward group.now.first_node ranks) }
 {
     push_stride(links, group, ranks, 1)?;
     push_stride(links, group, ranks, 3)?;
@@ -111,8 +103,7 @@ pub(crate) fn push_onward(
 
 /// Whether a cold source is permitted to each source of a group.
 fn is_permitted(case: &Case, group: &Group, cold: Source) -> bool
-    ensures { IsTrue result
-        ↔ All (λ hot. is_forbidden case.now.forbids hot cold ≡ false) group.now.sources }
+    ensures { result ≡ is_permitted case.now group.now cold }
 {
     group
         .sources
@@ -125,7 +116,7 @@ fn is_permitted(case: &Case, group: &Group, cold: Source) -> bool
 fn permitted_to(alloc: Global, case: &Case, group: &Group) -> Result<Vec<Source>, AllocError>
     requires { IsComplete case.now }
     ensures { IfOk result (λ permitted. (cold : Source) → side_of case.now cold ≡ Some Cold
-        → (Contains permitted.items cold ↔ All (λ hot. is_forbidden case.now.forbids hot cold ≡ false) group.now.sources)) }
+        → (Contains permitted.items cold ↔ (is_permitted case.now group.now cold ≡ true))) }
 {
     let cold = sources_of(alloc, case, Side::Cold)?;
     let mut permitted = Vec::new(alloc);
@@ -159,7 +150,8 @@ pub(crate) fn push_leaving(
     requires node { group.now.first_node ≤ MOST_INNER_NODES }
     requires cold { All (λ part. side_of case.now part.source ≡ Some Cold) parts.now.cold }
     ensures { OnOk result
-        (Appends (IsLeaving case.now places.now parts.now.hot parts.now.cold (group.now ∷ [])) (length parts.now.cold) links.old.items links.new.items) }
+        (links.new.items ≡ links.old.items ++ leaving case.now places.now
+        (length parts.now.hot) group.now parts.now.cold) }
 {
     let permitted = permitted_to(alloc, case, group)?;
     let hots = parts.hot.len() as u32;

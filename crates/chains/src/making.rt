@@ -25,10 +25,16 @@ pub fn chains_of(alloc: Global, case: &Case, parts: &Parts) -> Result<Chains, Al
     requires complete { IsComplete case.now }
     requires parts { AreOnGrid case.now parts.now.hot parts.now.cold }
     ensures groups { IfOk result (λ chains. AreGroups case.now chains.groups) }
-    ensures first_nodes { IfOk result (λ chains. All (StartsChain case.now parts.now.hot parts.now.cold chains.net) chains.groups) }
-    ensures inner { IfOk result (λ chains. IsInner (length parts.now.hot) (length parts.now.cold) chains.net) }
-    ensures paths { IfOk result (λ chains. PathsAreReaches (length parts.now.hot) (length parts.now.cold) chains.net.links (reach_between case.now parts.now.hot parts.now.cold)) }
-    ensures small { IfOk result (λ chains. IsSmall case.now (length parts.now.hot) (length parts.now.cold) chains) }
+    ensures first_nodes { IfOk result
+        (λ chains. All (StartsChain case.now parts.now.hot parts.now.cold chains.net)
+        chains.groups) }
+    ensures inner { IfOk result
+        (λ chains. IsInner (length parts.now.hot) (length parts.now.cold) chains.net) }
+    ensures paths { IfOk result
+        (λ chains. PathsAreReaches (length parts.now.hot) (length parts.now.cold) chains.net.links
+        (reach_between case.now parts.now.hot parts.now.cold)) }
+    ensures small { IfOk result
+        (λ chains. IsSmall case.now (length parts.now.hot) (length parts.now.cold) chains) }
 {
     let grid = grid_of(alloc, case)?;
     let places = grid.places.as_slice();

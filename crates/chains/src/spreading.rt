@@ -24,7 +24,8 @@ pub fn spread(
 ) -> Result<Flow, AllocError>
     requires inner { IsInner (length parts.now.hot) (length parts.now.cold) chains.now.net }
     requires heat { IsHeatOf parts.now.hot parts.now.cold chains.now.net flow.now }
-    ensures { IfOk result (λ spread. IsSpread (length parts.now.hot) (length parts.now.cold) chains.now.net.links flow.now spread.transfers) }
+    ensures { IfOk result (λ spread. IsSpread (length parts.now.hot)
+        (length parts.now.cold) chains.now.net.links flow.now spread.transfers) }
 {
     let hots = parts.hot.len() as u32;
     let first_chain_node = (parts.hot.len() + parts.cold.len()) as u32;

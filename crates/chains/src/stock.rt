@@ -32,7 +32,8 @@ pub(crate) fn set_out(
     flow: &[i64],
 ) -> Result<Departure, AllocError>
     requires { IsWithinRooms links.now flow.now }
-    ensures { IfOk result (λ d. HaveSetOut hots links.now flow.now (length links.now) d.shares.items d.ways.items) }
+    ensures { IfOk result (λ d. HaveSetOut hots links.now flow.now (length links.now) d.shares.items
+        d.ways.items) }
 {
     let mut shares = Vec::new(alloc);
     let mut ways = Vec::new(alloc);
@@ -69,7 +70,9 @@ pub(crate) fn pass_on(
     requires some_heat { pos 0 <ℤ share.heat }
     ensures open { OnOk result (AreOpen ways.new.sorted.items ways.new.next.items) }
     ensures one_each { OnOk result (length ways.new.next.items ≡ length ways.old.next.items) }
-    ensures passed { OnOk result (HasPassed share shares.old.items shares.new.items ways.old.sorted.items ways.new.sorted.items) }
+    ensures passed { OnOk result
+        (HasPassed share shares.old.items shares.new.items ways.old.sorted.items
+        ways.new.sorted.items) }
 {
     let part = ways.carry(share.node, share.heat);
     if part.left < share.heat {

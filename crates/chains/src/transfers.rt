@@ -33,8 +33,10 @@ pub(crate) fn transfers_of(alloc: Global, hots: u32, shares: Vec<Share>) -> Resu
 fn add_share(transfers: &mut Vec<Transfer>, hots: u32, share: &Share) -> Result<(), AllocError>
     requires at_cold { hots ≤ share.now.node }
     requires positive { pos 0 <ℤ share.now.heat }
-    requires fits { All (λ (t : Transfer). t.hot ≡ share.now.hot → (t.heat +ℤ share.now.heat) ≤ℤ i64.MAX) transfers.old.items }
-    ensures { OnOk result (IsAdded transfers.old.items (transfer_of hots share.now) transfers.new.items) }
+    requires fits { All (λ (t : Transfer). t.hot ≡ share.now.hot
+        → (t.heat +ℤ share.now.heat) ≤ℤ i64.MAX) transfers.old.items }
+    ensures { OnOk result (IsAdded transfers.old.items
+        (transfer_of hots share.now) transfers.new.items) }
 {
     let cold = share.node - hots;
     let count = transfers.len();

@@ -1,14 +1,10 @@
 -- Why potentials prove a routing to cost least, and a cut that there is none.
-use Rattle.std.proofs.Common.{◌≡◌, ◌≢◌, ◌==◌, ℕ, ◌<◌, zero, suc, Bool, true, false, not, ◌&&◌, List, length, ℤ, pos, negsuc, ◌+ℤ◌, ◌-ℤ◌, ◌*ℤ◌, ◌≤ℤ◌, ◌<ℤ◌, ap, ap₂, ◌∙◌, sym, subst, refl, inl, inr, arith, if◌then◌else◌}
-use Rattle.std.proofs.Math.IntN.{*ℤ-zero, zero-*ℤ}
-use Rattle.std.proofs.lemmas.Int.{ints, by_lt_z}
-use Rattle.std.proofs.lemmas.Bool.{cases_eq, eq-eqb, ne_eqb}
-use Rattle.sums.proofs.ProductLemmas.{+ℤ-*ℤ, *ℤ-≤ℤ_left, *ℤ--ℤ, -ℤ-*ℤ, product_not_negative}
-use Rattle.flow_net.specs.declared.net.Link.{Link}
-use Rattle.flow_net.specs.declared.net.Net.{Net}
-use Rattle.flow_net.specs.Sum.{sum_below}
-use Rattle.flow_net.specs.Net.{link_at, flow_on, potential_at, is_in, outflow, inflow, IsWithinRooms, IsRouting, cost_of, reduced_cost, AreProofOfLeast, leaves, IsCutBelow, IsWithinLimits, AreEnds}
-use Rattle.flow_net.proofs.Sums.{sum_below-same, sum_below-le, sum_below-add, sum_below-sub, sum_below-scale, sum_below-single, sum_below-exchange}
+use Rattle.flow_net.proofs.Sums.{sum_below-add, sum_below-exchange, sum_below-le, sum_below-same, sum_below-scale, sum_below-single, sum_below-sub}
+use Rattle.flow_net.proofs.Words.{*ℤ--ℤ, *ℤ-zero, *ℤ-≤ℤ_left, +ℤ-*ℤ, -ℤ-*ℤ, AreEnds, AreProofOfLeast, IsCutBelow, IsRouting, IsWithinLimits, IsWithinRooms}
+use Rattle.flow_net.proofs.Words.{Link, Net, by_lt_z, cases_eq, cost_of, eq-eqb, flow_on, inflow, ints, is_in, leaves, link_at, ne_eqb, outflow, potential_at}
+use Rattle.flow_net.proofs.Words.{product_not_negative, reduced_cost, sum_below, zero-*ℤ}
+use Rattle.std.proofs.Common.{Bool, List, ap, ap₂, arith, false, if◌then◌else◌, inl, inr, length, negsuc, not, pos, refl, subst, suc, sym, true, zero, ℕ, ℤ}
+use Rattle.std.proofs.Common.{◌&&◌, ◌*ℤ◌, ◌+ℤ◌, ◌-ℤ◌, ◌<ℤ◌, ◌<◌, ◌==◌, ◌∙◌, ◌≡◌, ◌≢◌, ◌≤ℤ◌}
 
 -- x where a test holds, and else 0
 abbrev pub when : Bool → ℤ → ℤ
@@ -43,23 +39,28 @@ fall links flow c k = (c (link_at links k).from -ℤ c (link_at links k).to) *�
 
 module _ (net : Net) (limits : IsWithinLimits net) where
   -- a factor of the node times its surplus
-  surplus_by_links : (flow : List ℤ) (c : ℕ → ℤ) → sum_below net.nodes (λ v. c v *ℤ surplus net.links flow v) ≡ sum_below (length net.links) (fall net.links flow c)
+  surplus_by_links : (flow : List ℤ) (c : ℕ → ℤ)
+      → sum_below net.nodes (λ v. c v *ℤ surplus net.links flow v) ≡ sum_below (length net.links) (fall net.links flow c)
   surplus_by_links flow c =
       let m = length net.links in
       sum_below-same net.nodes _ _ (λ v l. *ℤ--ℤ (c v) (outflow net.links flow v) (inflow net.links flow v))
       ∙ (sum_below-sub net.nodes (λ v. c v *ℤ outflow net.links flow v) (λ v. c v *ℤ inflow net.links flow v)
-      ∙ (ap₂ ◌-ℤ◌ (regrouped net.nodes m (λ k. (link_at net.links k).from) (λ k l. (limits.links k l).from_in) c (flow_on flow)) (regrouped net.nodes m (λ k. (link_at net.links k).to) (λ k l. (limits.links k l).to_in) c (flow_on flow))
-      ∙ sym (sum_below-same m (fall net.links flow c) _ (λ k l. -ℤ-*ℤ (c (link_at net.links k).from) (c (link_at net.links k).to) (flow_on flow k)) ∙ sum_below-sub m (λ k. c (link_at net.links k).from *ℤ flow_on flow k) (λ k. c (link_at net.links k).to *ℤ flow_on flow k))))
+      ∙ (ap₂ ◌-ℤ◌ (regrouped net.nodes m (λ k. (link_at net.links k).from) (λ k l. (limits.links k l).from_in) c (flow_on flow))
+      (regrouped net.nodes m (λ k. (link_at net.links k).to) (λ k l. (limits.links k l).to_in) c (flow_on flow))
+      ∙ sym (sum_below-same m (fall net.links flow c) _ (λ k l. -ℤ-*ℤ (c (link_at net.links k).from) (c (link_at net.links k).to) (flow_on flow k))
+      ∙ sum_below-sub m (λ k. c (link_at net.links k).from *ℤ flow_on flow k) (λ k. c (link_at net.links k).to *ℤ flow_on flow k))))
 
 -- the reduced cost of a link times its flow
 reduced_part : List Link → List ℤ → List ℤ → ℕ → ℤ
 reduced_part links potentials flow k = reduced_cost (link_at links k) potentials *ℤ flow_on flow k
 
 -- the reduced cost is the cost and the fall of the potential
-cost_and_fall : (links : List Link) (flow potentials : List ℤ) → sum_below (length links) (reduced_part links potentials flow) ≡ cost_of links flow +ℤ sum_below (length links) (fall links flow (potential_at potentials))
+cost_and_fall : (links : List Link) (flow potentials : List ℤ)
+    → sum_below (length links) (reduced_part links potentials flow) ≡ cost_of links flow +ℤ sum_below (length links) (fall links flow (potential_at potentials))
 unfolding reduced_part
 cost_and_fall links flow potentials =
-    sum_below-same (length links) (reduced_part links potentials flow) (λ k. (link_at links k).cost *ℤ flow_on flow k +ℤ fall links flow (potential_at potentials) k)
+    sum_below-same (length links) (reduced_part links potentials flow)
+    (λ k. (link_at links k).cost *ℤ flow_on flow k +ℤ fall links flow (potential_at potentials) k)
     (λ k l. split (link_at links k).cost (potential_at potentials (link_at links k).from) (potential_at potentials (link_at links k).to) (flow_on flow k))
     ∙ sum_below-add (length links) (λ k. (link_at links k).cost *ℤ flow_on flow k) (fall links flow (potential_at potentials))
   where
@@ -103,7 +104,8 @@ crossing_term true false x room from upto = omega (arith, ints)
 crossing_term false true x room from upto = omega (arith, ints)
 crossing_term false false x room from upto = omega (arith, ints)
 
-full_term : (p q : Bool) (x room : ℤ) → (p ≡ true → q ≡ false → x ≡ room) → (p ≡ false → q ≡ true → x ≡ pos 0) → (when p (pos 1) -ℤ when q (pos 1)) *ℤ x ≡ (if (p && not q) then room else pos 0)
+full_term : (p q : Bool) (x room : ℤ) → (p ≡ true → q ≡ false → x ≡ room) → (p ≡ false → q ≡ true → x ≡ pos 0)
+    → (when p (pos 1) -ℤ when q (pos 1)) *ℤ x ≡ (if (p && not q) then room else pos 0)
 full_term true true x room full empty = omega (arith, ints)
 full_term true false x room full empty = let e = full refl refl in omega (arith, ints)
 full_term false true x room full empty = let e = empty refl refl in omega (arith, ints)
@@ -111,12 +113,14 @@ full_term false false x room full empty = omega (arith, ints)
 
 module _ (net : Net) (limits : IsWithinLimits net) (source sink : ℕ) (ends : AreEnds net source sink) where
   -- a flow within the rooms is a routing just where its surpluses are those of one
-  pub surplus_is : (amount : ℤ) (flow : List ℤ) → IsRouting net source sink amount flow → (v : ℕ) → v < net.nodes → surplus net.links flow v ≡ surplus_of_routing source sink amount v
+  pub surplus_is : (amount : ℤ) (flow : List ℤ) → IsRouting net source sink amount flow → (v : ℕ) → v < net.nodes
+      → surplus net.links flow v ≡ surplus_of_routing source sink amount v
   surplus_is amount flow routing v within =
       elim (cases_eq source v) [
         | inl e ↦
             let other : sink ≢ v = (λ d. ends.apart (e ∙ sym d)) in
-            rw (eq-eqb source v e, ne_eqb sink v other) (subst (λ u. surplus net.links flow u ≡ amount -ℤ pos 0) e (let gives = routing.source_gives in omega (arith, ints)))
+            rw (eq-eqb source v e, ne_eqb sink v other)
+            (subst (λ u. surplus net.links flow u ≡ amount -ℤ pos 0) e (let gives = routing.source_gives in omega (arith, ints)))
         | inr ne ↦
             rw (ne_eqb source v ne)
             (elim (cases_eq sink v) [
@@ -126,31 +130,41 @@ module _ (net : Net) (limits : IsWithinLimits net) (source sink : ℕ) (ends : A
             ])
       ]
 
-  pub routing_from_surplus : (amount : ℤ) (flow : List ℤ) → IsWithinRooms net.links flow → ((v : ℕ) → v < net.nodes → surplus net.links flow v ≡ surplus_of_routing source sink amount v) → IsRouting net source sink amount flow
+  pub routing_from_surplus : (amount : ℤ) (flow : List ℤ) → IsWithinRooms net.links flow
+      → ((v : ℕ) → v < net.nodes → surplus net.links flow v ≡ surplus_of_routing source sink amount v) → IsRouting net source sink amount flow
   routing_from_surplus amount flow rooms is = record {
     rooms = rooms;
     balances = λ v within not_source not_sink.
         let here = is v within in
-        let none : surplus_of_routing source sink amount v ≡ pos 0 = rw (ne_eqb source v (λ e. not_source (sym e)), ne_eqb sink v (λ e. not_sink (sym e))) (omega (arith, ints)) in
+        let none : surplus_of_routing source sink amount v ≡ pos 0 =
+        rw (ne_eqb source v (λ e. not_source (sym e)), ne_eqb sink v (λ e. not_sink (sym e))) (omega (arith, ints)) in
         omega (arith, ints);
     source_gives =
         (let here = is source ends.source_in in
-        let whole : surplus_of_routing source sink amount source ≡ amount = rw (eq-eqb source source refl, ne_eqb sink source (λ e. ends.apart (sym e))) (omega (arith, ints)) in
+        let whole : surplus_of_routing source sink amount source ≡ amount =
+        rw (eq-eqb source source refl, ne_eqb sink source (λ e. ends.apart (sym e))) (omega (arith, ints)) in
         omega (arith, ints));
     sink_takes =
         (let here = is sink ends.sink_in in
-        let whole : surplus_of_routing source sink amount sink ≡ pos 0 -ℤ amount = rw (ne_eqb source sink ends.apart, eq-eqb sink sink refl) (omega (arith, ints)) in
+        let whole : surplus_of_routing source sink amount sink ≡ pos 0 -ℤ amount =
+        rw (ne_eqb source sink ends.apart, eq-eqb sink sink refl) (omega (arith, ints)) in
         omega (arith, ints));
   }
 
   module _ (amount : ℤ) (flow : List ℤ) (routing : IsRouting net source sink amount flow) where
     -- a routing with such potentials costs least
-    pub least_from_potentials : (potentials other : List ℤ) → AreProofOfLeast net.links flow potentials → IsRouting net source sink amount other → cost_of net.links flow ≤ℤ cost_of net.links other
+    pub least_from_potentials : (potentials other : List ℤ) → AreProofOfLeast net.links flow potentials → IsRouting net source sink amount other
+        → cost_of net.links flow ≤ℤ cost_of net.links other
     unfolding reduced_part
     least_from_potentials potentials other proof other_routing =
-        let terms = sum_below-le (length net.links) (reduced_part net.links potentials flow) (reduced_part net.links potentials other) (λ k l. least_term (reduced_cost (link_at net.links k) potentials) (flow_on flow k) (flow_on other k) (link_at net.links k).room (other_routing.rooms.not_negative k l) (other_routing.rooms.upto_room k l) (proof.left_to_add k l) (proof.flowing k l) (routing.rooms.upto_room k l)) in
-        let same_nodes = sum_below-same net.nodes (λ v. potential_at potentials v *ℤ surplus net.links flow v) (λ v. potential_at potentials v *ℤ surplus net.links other v) (λ v b. ap (λ s. potential_at potentials v *ℤ s) (surplus_is amount flow routing v b ∙ sym (surplus_is amount other other_routing v b))) in
-        let falls = sym (surplus_by_links net limits flow (potential_at potentials)) ∙ (same_nodes ∙ surplus_by_links net limits other (potential_at potentials)) in
+        let terms = sum_below-le (length net.links) (reduced_part net.links potentials flow) (reduced_part net.links potentials other)
+        (λ k l. least_term (reduced_cost (link_at net.links k) potentials) (flow_on flow k) (flow_on other k) (link_at net.links k).room
+        (other_routing.rooms.not_negative k l) (other_routing.rooms.upto_room k l) (proof.left_to_add k l) (proof.flowing k l) (routing.rooms.upto_room k l)) in
+        let same_nodes = sum_below-same net.nodes (λ v. potential_at potentials v *ℤ surplus net.links flow v)
+        (λ v. potential_at potentials v *ℤ surplus net.links other v)
+        (λ v b. ap (λ s. potential_at potentials v *ℤ s) (surplus_is amount flow routing v b ∙ sym (surplus_is amount other other_routing v b))) in
+        let falls = sym (surplus_by_links net limits flow (potential_at potentials))
+        ∙ (same_nodes ∙ surplus_by_links net limits other (potential_at potentials)) in
         let here = cost_and_fall net.links flow potentials in
         let there = cost_and_fall net.links other potentials in
         omega (arith, ints, terms, falls, here, there)
@@ -160,7 +174,8 @@ module _ (net : Net) (limits : IsWithinLimits net) (source sink : ℕ) (ends : A
     falls_of_routing c =
         let n = net.nodes in
         sym (surplus_by_links net limits flow c)
-        ∙ (sum_below-same n (λ v. c v *ℤ surplus net.links flow v) (λ v. when (source == v) (c v *ℤ amount) -ℤ when (sink == v) (c v *ℤ amount)) (λ v b. ap (λ s. c v *ℤ s) (surplus_is amount flow routing v b) ∙ inside (c v) (source == v) (sink == v))
+        ∙ (sum_below-same n (λ v. c v *ℤ surplus net.links flow v) (λ v. when (source == v) (c v *ℤ amount) -ℤ when (sink == v) (c v *ℤ amount))
+        (λ v b. ap (λ s. c v *ℤ s) (surplus_is amount flow routing v b) ∙ inside (c v) (source == v) (sink == v))
         ∙ (sum_below-sub n (λ v. when (source == v) (c v *ℤ amount)) (λ v. when (sink == v) (c v *ℤ amount))
         ∙ ap₂ ◌-ℤ◌ (sum_below-single n (λ v. c v *ℤ amount) source ends.source_in) (sum_below-single n (λ v. c v *ℤ amount) sink ends.sink_in)))
       where
@@ -179,13 +194,20 @@ module _ (net : Net) (limits : IsWithinLimits net) (source sink : ℕ) (ends : A
       pub amount_within_rooms : amount ≤ℤ sum_below (length net.links) (leaving_room net.links set)
       amount_within_rooms =
           let crossing = crossing_is in
-          let terms = sum_below-le (length net.links) (fall net.links flow (indicator set)) (leaving_room net.links set) (λ k l. crossing_term (is_in set (link_at net.links k).from) (is_in set (link_at net.links k).to) (flow_on flow k) (link_at net.links k).room (routing.rooms.not_negative k l) (routing.rooms.upto_room k l)) in
+          let terms = sum_below-le (length net.links) (fall net.links flow (indicator set)) (leaving_room net.links set)
+          (λ k l. crossing_term (is_in set (link_at net.links k).from) (is_in set (link_at net.links k).to) (flow_on flow k) (link_at net.links k).room
+          (routing.rooms.not_negative k l) (routing.rooms.upto_room k l)) in
           omega (arith, ints, crossing, terms)
 
       -- and just the amount where the links that leave are full and those that enter are empty
-      pub rooms_of_closed : ((k : ℕ) → k < length net.links → is_in set (link_at net.links k).from ≡ true → is_in set (link_at net.links k).to ≡ false → flow_on flow k ≡ (link_at net.links k).room) → ((k : ℕ) → k < length net.links → is_in set (link_at net.links k).from ≡ false → is_in set (link_at net.links k).to ≡ true → flow_on flow k ≡ pos 0) → sum_below (length net.links) (leaving_room net.links set) ≡ amount
+      pub rooms_of_closed : ((k : ℕ) → k < length net.links → is_in set (link_at net.links k).from ≡ true → is_in set (link_at net.links k).to ≡ false
+          → flow_on flow k ≡ (link_at net.links k).room)
+          → ((k : ℕ) → k < length net.links → is_in set (link_at net.links k).from ≡ false → is_in set (link_at net.links k).to ≡ true → flow_on flow k ≡ pos 0)
+          → sum_below (length net.links) (leaving_room net.links set) ≡ amount
       rooms_of_closed full empty =
-          sym (sum_below-same (length net.links) (fall net.links flow (indicator set)) (leaving_room net.links set) (λ k l. full_term (is_in set (link_at net.links k).from) (is_in set (link_at net.links k).to) (flow_on flow k) (link_at net.links k).room (full k l) (empty k l)))
+          sym (sum_below-same (length net.links) (fall net.links flow (indicator set)) (leaving_room net.links set)
+          (λ k l. full_term (is_in set (link_at net.links k).from) (is_in set (link_at net.links k).to) (flow_on flow k) (link_at net.links k).room (full k l)
+          (empty k l)))
           ∙ crossing_is
 
   -- nothing routes an amount past a cut

@@ -1,33 +1,25 @@
 -- The arcs of a net, and what an amount sent along an arc, or along a path, keeps and changes.
-use Rattle.std.proofs.Common.{◌≡◌, ◌≢◌, ◌==◌, ◌↔◌, IsTrue, ℕ, ◌+◌, ◌<◌, ◌≤◌, Bool, true, false, List, [], ◌∷◌, length, get_or, set, take, drop, ℤ, pos, ◌+ℤ◌, ◌-ℤ◌, ◌≤ℤ◌, ◌<ℤ◌, ap, ◌∙◌, sym, subst, refl, inl, inr, arith}
-use Rattle.std.specs.List.{All}
-use Rattle.std.specs.Int.RustNames.{unsigned_abs}
-use Rattle.std.proofs.Math.IntN.{neg_ℤ-neg_ℤ}
-use Rattle.std.proofs.lemmas.Int.{ints}
-use Rattle.std.proofs.lemmas.Bool.{cases_eq}
-use Rattle.std.proofs.lemmas.List.{length-set, get_or-set_same, get_or-set_other, get_or_read, drop_more}
-use Rattle.std.proofs.lemmas.List.Sums.{fold_more}
-use Rattle.std.proofs.lemmas.List.Elements.{All-head, All-tail}
-use Rattle.flow_net.specs.declared.net.Link.{Link}
-use Rattle.flow_net.specs.declared.net.Net.{Net}
-use Rattle.flow_net.specs.declared.arc.Arc.{Arc}
-use Rattle.flow_net.specs.declared.opening.Opening.{Opening}
-use Rattle.flow_net.specs.Sum.{sum_below}
-use Rattle.flow_net.specs.Net.{link_at, flow_on, IsWithinRooms, reduced_cost, AreProofOfLeast, IsCost, IsWithinLimits, largest_cost}
-use Rattle.flow_net.specs.Arc.{arc_of, turned, carry, IsArc}
-use Rattle.flow_net.specs.Flow.{residual_of, is_open, opening_at, IsOpening, AreOpenings, sent_along, sent_along_path, reduced_cost_of, IsWalk, CanCarry}
-use Rattle.flow_net.proofs.Sizes.{sizes, size-le-greatest}
+use Rattle.flow_net.proofs.Duality.{surplus, when}
+use Rattle.flow_net.proofs.Sizes.{size-le-greatest, sizes}
 use Rattle.flow_net.proofs.Sums.{sum_below-change}
-use Rattle.flow_net.proofs.Duality.{when, surplus}
+use Rattle.flow_net.proofs.Words.{All, All-head, All-tail, Arc, AreOpenings, AreProofOfLeast, CanCarry, IsArc, IsCost, IsOpening, IsWalk, IsWithinLimits}
+use Rattle.flow_net.proofs.Words.{IsWithinRooms, Link, Net, Opening, arc_of, carry, cases_eq, drop_more, flow_on, fold_more, get_or-set_other, get_or-set_same}
+use Rattle.flow_net.proofs.Words.{get_or_read, ints, is_open, largest_cost, length-set, link_at, neg_ℤ-neg_ℤ, opening_at, reduced_cost, reduced_cost_of}
+use Rattle.flow_net.proofs.Words.{residual_of, sent_along, sent_along_path, sum_below, turned, unsigned_abs}
+use Rattle.std.proofs.Common.{Bool, IsTrue, List, [], ap, arith, drop, false, get_or, inl, inr, length, pos, refl, set, subst, sym, take, true, ℕ, ℤ, ◌+ℤ◌, ◌+◌}
+use Rattle.std.proofs.Common.{◌-ℤ◌, ◌<ℤ◌, ◌<◌, ◌==◌, ◌↔◌, ◌∙◌, ◌∷◌, ◌≡◌, ◌≢◌, ◌≤ℤ◌, ◌≤◌}
 
 -- what holds of both ways along each link holds of each arc
-arc_cases : (links : List Link) (P : Arc → Type 0) → ((k : ℕ) (way : Bool) → k < length links → P (arc_of (link_at links k) k way)) → (a : Arc) → IsArc links a → P a
+abbrev OfWays : List Link → (Arc → Type 0) → Type 0
+OfWays links P = (k : ℕ) (way : Bool) → k < length links → P (arc_of (link_at links k) k way)
+
+arc_cases : (links : List Link) (P : Arc → Type 0) → OfWays links P → (a : Arc) → IsArc links a → P a
 arc_cases links P each a is = subst P (sym is.is) (each a.link a.forward is.below)
 
 pub turned-arc : (links : List Link) (a : Arc) → IsArc links a → IsArc links (turned a)
 turned-arc links = arc_cases links (λ a. IsArc links (turned a)) way
   where
-    way : (k : ℕ) (w : Bool) → k < length links → IsArc links (turned (arc_of (link_at links k) k w))
+    way : OfWays links (λ a. IsArc links (turned a))
     way k true below = record { below = below; is = refl }
     way k false below = record { below = below; is = ap (λ z. record (arc_of (link_at links k) k true) { cost = z }) (neg_ℤ-neg_ℤ (link_at links k).cost) }
 
@@ -36,14 +28,14 @@ module _ (net : Net) (limits : IsWithinLimits net) where
   pub arc-nodes : (a : Arc) → IsArc net.links a → (a.tail < net.nodes) × (a.head < net.nodes)
   arc-nodes = arc_cases net.links (λ a. (a.tail < net.nodes) × (a.head < net.nodes)) way
     where
-      way : (k : ℕ) (w : Bool) → k < length net.links → ((arc_of (link_at net.links k) k w).tail < net.nodes) × ((arc_of (link_at net.links k) k w).head < net.nodes)
+      way : OfWays net.links (λ a. (a.tail < net.nodes) × (a.head < net.nodes))
       way k true below = let l = limits.links k below in (l.from_in, l.to_in)
       way k false below = let l = limits.links k below in (l.to_in, l.from_in)
 
   pub arc-cost : (a : Arc) → IsArc net.links a → (unsigned_abs a.cost ≤ largest_cost net) × IsCost a.cost
   arc-cost = arc_cases net.links (λ a. (unsigned_abs a.cost ≤ largest_cost net) × IsCost a.cost) way
     where
-      way : (k : ℕ) (w : Bool) → k < length net.links → (unsigned_abs (arc_of (link_at net.links k) k w).cost ≤ largest_cost net) × IsCost (arc_of (link_at net.links k) k w).cost
+      way : OfWays net.links (λ a. (unsigned_abs a.cost ≤ largest_cost net) × IsCost a.cost)
       way k true below = (size-le-greatest (λ (l : Link). l.cost) net.links k _ below, (limits.links k below).cost)
       way k false below =
           let h = size-le-greatest (λ (l : Link). l.cost) net.links k (record { from = 0; to = 0; room = pos 0; cost = pos 0 }) below in
@@ -51,18 +43,20 @@ module _ (net : Net) (limits : IsWithinLimits net) where
           (omega (arith, sizes), omega (arith, sizes))
 
 -- a residual arc has no negative reduced cost at potentials that prove the flow
-pub reduced-not_negative : (links : List Link) (flow potentials : List ℤ) → AreProofOfLeast links flow potentials → (a : Arc) → IsArc links a → pos 0 <ℤ residual_of links flow a → pos 0 ≤ℤ reduced_cost_of potentials a
+pub reduced-not_negative : (links : List Link) (flow potentials : List ℤ) → AreProofOfLeast links flow potentials → (a : Arc) → IsArc links a
+    → pos 0 <ℤ residual_of links flow a → pos 0 ≤ℤ reduced_cost_of potentials a
 reduced-not_negative links flow potentials proof = arc_cases links (λ a. pos 0 <ℤ residual_of links flow a → pos 0 ≤ℤ reduced_cost_of potentials a) way
   where
-    way : (k : ℕ) (w : Bool) → k < length links → pos 0 <ℤ residual_of links flow (arc_of (link_at links k) k w) → pos 0 ≤ℤ reduced_cost_of potentials (arc_of (link_at links k) k w)
+    way : OfWays links (λ a. pos 0 <ℤ residual_of links flow a → pos 0 ≤ℤ reduced_cost_of potentials a)
     way k true below residual = proof.left_to_add k below (omega (arith, ints))
     way k false below residual = let h = proof.flowing k below residual in omega (arith, ints)
 
 -- an arc can carry more where its way is open
-pub open-residual : (links : List Link) (flow : List ℤ) (openings : List Opening) → AreOpenings links flow openings → (a : Arc) → IsArc links a → IsTrue (is_open (opening_at openings a.link) a.forward) ↔ (pos 0 <ℤ residual_of links flow a)
+pub open-residual : (links : List Link) (flow : List ℤ) (openings : List Opening) → AreOpenings links flow openings → (a : Arc) → IsArc links a
+    → IsTrue (is_open (opening_at openings a.link) a.forward) ↔ (pos 0 <ℤ residual_of links flow a)
 open-residual links flow openings are = arc_cases links (λ a. IsTrue (is_open (opening_at openings a.link) a.forward) ↔ (pos 0 <ℤ residual_of links flow a)) way
   where
-    way : (k : ℕ) (w : Bool) → k < length links → IsTrue (is_open (opening_at openings (arc_of (link_at links k) k w).link) (arc_of (link_at links k) k w).forward) ↔ (pos 0 <ℤ residual_of links flow (arc_of (link_at links k) k w))
+    way : OfWays links (λ a. IsTrue (is_open (opening_at openings a.link) a.forward) ↔ (pos 0 <ℤ residual_of links flow a))
     way k true below =
         let o = (are.each k below).forward in
         (λ h. let left = o.0 h in omega (arith, ints, left), λ h. o.1 (omega (arith, ints, h)))
@@ -76,23 +70,25 @@ module _ (links : List Link) (flow : List ℤ) (k : ℕ) (below : k < length lin
   flow_there : (j : ℕ) → j ≢ k → flow_on (set flow k x) j ≡ flow_on flow j
   flow_there j ne = get_or-set_other flow k j x (pos 0) ne
 
+  -- what holds of that link, and of each other one, holds of all
+  each_link : (P : ℕ → Type 0) → P k → (j : ℕ) → (j ≢ k → P j) → P j
+  each_link P here j there = elim (cases_eq j k) [ inl e ↦ subst P (sym e) here | inr ne ↦ there ne ]
+
   changed_rooms : IsWithinRooms links flow → pos 0 ≤ℤ x → x ≤ℤ (link_at links k).room → IsWithinRooms links (set flow k x)
   changed_rooms rooms from upto = record {
     one_each = length-set flow k x ∙ one_each;
-    not_negative = λ j l. elim (cases_eq j k) [
-      | inl e ↦ subst (λ i. pos 0 ≤ℤ flow_on (set flow k x) i) (sym e) (rw flow_here from)
-      | inr ne ↦ rw (flow_there j ne) (rooms.not_negative j l)
-    ];
-    upto_room = λ j l. elim (cases_eq j k) [
-      | inl e ↦ subst (λ i. flow_on (set flow k x) i ≤ℤ (link_at links i).room) (sym e) (rw flow_here upto)
-      | inr ne ↦ rw (flow_there j ne) (rooms.upto_room j l)
-    ];
+    not_negative = λ j l. each_link (λ i. pos 0 ≤ℤ flow_on (set flow k x) i) (rw flow_here from) j (λ ne. rw (flow_there j ne) (rooms.not_negative j l));
+    upto_room = λ j l.
+        each_link (λ i. flow_on (set flow k x) i ≤ℤ (link_at links i).room) (rw flow_here upto) j (λ ne. rw (flow_there j ne) (rooms.upto_room j l));
   }
 
   -- a link that counts at node v by a test
-  changed_sum : (test : ℕ → Bool) → sum_below (length links) (λ j. when (test j) (flow_on (set flow k x) j)) ≡ sum_below (length links) (λ j. when (test j) (flow_on flow j)) +ℤ when (test k) (x -ℤ flow_on flow k)
+  changed_sum : (test : ℕ → Bool)
+      → sum_below (length links) (λ j. when (test j) (flow_on (set flow k x) j))
+      ≡ sum_below (length links) (λ j. when (test j) (flow_on flow j)) +ℤ when (test k) (x -ℤ flow_on flow k)
   changed_sum test =
-      let change = sum_below-change (length links) (λ j. when (test j) (flow_on flow j)) (λ j. when (test j) (flow_on (set flow k x) j)) k below (λ j l ne. ap (when (test j)) (flow_there j ne)) in
+      let change = sum_below-change (length links) (λ j. when (test j) (flow_on flow j)) (λ j. when (test j) (flow_on (set flow k x) j)) k below
+      (λ j l ne. ap (when (test j)) (flow_there j ne)) in
       let here = ap (when (test k)) flow_here in
       let difference = less (test k) x (flow_on flow k) in
       omega (arith, ints, change, here, difference)
@@ -101,39 +97,35 @@ module _ (links : List Link) (flow : List ℤ) (k : ℕ) (below : k < length lin
       less true a b = refl
       less false a b = omega (arith, ints)
 
-  changed_surplus : (v : ℕ) → surplus links (set flow k x) v ≡ surplus links flow v +ℤ (when ((link_at links k).from == v) (x -ℤ flow_on flow k) -ℤ when ((link_at links k).to == v) (x -ℤ flow_on flow k))
+  changed_surplus : (v : ℕ)
+      → surplus links (set flow k x) v
+      ≡ surplus links flow v +ℤ (when ((link_at links k).from == v) (x -ℤ flow_on flow k) -ℤ when ((link_at links k).to == v) (x -ℤ flow_on flow k))
   changed_surplus v =
       let out = changed_sum (λ j. (link_at links j).from == v) in
       let into = changed_sum (λ j. (link_at links j).to == v) in
       omega (arith, ints, out, into)
 
-  changed_openings : (openings : List Opening) (o : Opening) → IsOpening (link_at links k) x o → AreOpenings links flow openings → AreOpenings links (set flow k x) (set openings k o)
+  changed_openings : (openings : List Opening) (o : Opening) → IsOpening (link_at links k) x o → AreOpenings links flow openings
+      → AreOpenings links (set flow k x) (set openings k o)
   changed_openings openings o here are =
       let none : Opening = record { forward = false; back = false } in
       let opening_here = get_or-set_same openings k o none (let e = are.one_each in omega arith) in
       record {
         one_each = length-set openings k o ∙ are.one_each;
-        each = λ j l. elim (cases_eq j k) [
-          | inl e ↦
-              subst (λ i. IsOpening (link_at links i) (flow_on (set flow k x) i) (opening_at (set openings k o) i)) (sym e)
-              (subst (λ z. IsOpening (link_at links k) z (opening_at (set openings k o) k)) (sym flow_here)
-              (subst (IsOpening (link_at links k) x) (sym opening_here) here))
-          | inr ne ↦
-              subst (λ z. IsOpening (link_at links j) z (opening_at (set openings k o) j)) (sym (flow_there j ne))
-              (subst (IsOpening (link_at links j) (flow_on flow j)) (sym (get_or-set_other openings k j o none ne)) (are.each j l))
-        ];
+        each = λ j l.
+            each_link (λ i. IsOpening (link_at links i) (flow_on (set flow k x) i) (opening_at (set openings k o) i)) (rw (flow_here, opening_here) here) j
+            (λ ne. rw (flow_there j ne, get_or-set_other openings k j o none ne) (are.each j l));
       }
 
-  changed_proof : (potentials : List ℤ) → AreProofOfLeast links flow potentials → reduced_cost (link_at links k) potentials ≡ pos 0 → AreProofOfLeast links (set flow k x) potentials
+  changed_proof : (potentials : List ℤ) → AreProofOfLeast links flow potentials → reduced_cost (link_at links k) potentials ≡ pos 0
+      → AreProofOfLeast links (set flow k x) potentials
   changed_proof potentials proof none = record {
-    left_to_add = λ j l left. elim (cases_eq j k) [
-      | inl e ↦ subst (λ i. pos 0 ≤ℤ reduced_cost (link_at links i) potentials) (sym e) (omega (arith, ints))
-      | inr ne ↦ proof.left_to_add j l (rw (flow_there j ne) at left)
-    ];
-    flowing = λ j l some. elim (cases_eq j k) [
-      | inl e ↦ subst (λ i. reduced_cost (link_at links i) potentials ≤ℤ pos 0) (sym e) (omega (arith, ints))
-      | inr ne ↦ proof.flowing j l (rw (flow_there j ne) at some)
-    ];
+    left_to_add = λ j l.
+        each_link (λ i. flow_on (set flow k x) i <ℤ (link_at links i).room → pos 0 ≤ℤ reduced_cost (link_at links i) potentials) (λ left. omega (arith, ints)) j
+        (λ ne. rw (flow_there j ne) (proof.left_to_add j l));
+    flowing = λ j l.
+        each_link (λ i. pos 0 <ℤ flow_on (set flow k x) i → reduced_cost (link_at links i) potentials ≤ℤ pos 0) (λ some. omega (arith, ints)) j
+        (λ ne. rw (flow_there j ne) (proof.flowing j l));
   }
 
 -- what ends of a path get more of an amount: its first node more to give, its last node less
@@ -145,7 +137,7 @@ module _ (links : List Link) (flow : List ℤ) (m : ℤ) (rooms : IsWithinRooms 
   sent-rooms : (a : Arc) → IsArc links a → pos 0 ≤ℤ m → m ≤ℤ residual_of links flow a → IsWithinRooms links (sent_along flow a m)
   sent-rooms = arc_cases links (λ a. pos 0 ≤ℤ m → m ≤ℤ residual_of links flow a → IsWithinRooms links (sent_along flow a m)) way
     where
-      way : (k : ℕ) (w : Bool) → k < length links → pos 0 ≤ℤ m → m ≤ℤ residual_of links flow (arc_of (link_at links k) k w) → IsWithinRooms links (sent_along flow (arc_of (link_at links k) k w) m)
+      way : OfWays links (λ a. pos 0 ≤ℤ m → m ≤ℤ residual_of links flow a → IsWithinRooms links (sent_along flow a m))
       way k true below from upto =
           let carried = rooms.not_negative k below in
           changed_rooms links flow k below rooms.one_each (flow_on flow k +ℤ m) rooms (omega (arith, ints)) (omega (arith, ints))
@@ -165,7 +157,7 @@ module _ (links : List Link) (flow : List ℤ) (m : ℤ) (rooms : IsWithinRooms 
       less false true x = omega (arith, ints)
       less false false x = omega (arith, ints)
 
-      way : (k : ℕ) (w : Bool) → k < length links → surplus links (sent_along flow (arc_of (link_at links k) k w) m) v ≡ surplus links flow v +ℤ ends_gain (arc_of (link_at links k) k w).tail (arc_of (link_at links k) k w).head m v
+      way : OfWays links (λ a. surplus links (sent_along flow a m) v ≡ surplus links flow v +ℤ ends_gain a.tail a.head m v)
       way k true below =
           changed_surplus links flow k below rooms.one_each (flow_on flow k +ℤ m) v
           ∙ ap (λ d. surplus links flow v +ℤ ends_gain (link_at links k).from (link_at links k).to d v) (more (flow_on flow k))
@@ -173,15 +165,17 @@ module _ (links : List Link) (flow : List ℤ) (m : ℤ) (rooms : IsWithinRooms 
           changed_surplus links flow k below rooms.one_each (flow_on flow k -ℤ m) v
           ∙ ap (λ d. surplus links flow v +ℤ d) (less ((link_at links k).from == v) ((link_at links k).to == v) (flow_on flow k))
 
-  sent-proof : (potentials : List ℤ) → AreProofOfLeast links flow potentials → (a : Arc) → IsArc links a → reduced_cost_of potentials a ≡ pos 0 → AreProofOfLeast links (sent_along flow a m) potentials
+  sent-proof : (potentials : List ℤ) → AreProofOfLeast links flow potentials → (a : Arc) → IsArc links a → reduced_cost_of potentials a ≡ pos 0
+      → AreProofOfLeast links (sent_along flow a m) potentials
   sent-proof potentials proof = arc_cases links (λ a. reduced_cost_of potentials a ≡ pos 0 → AreProofOfLeast links (sent_along flow a m) potentials) way
     where
-      way : (k : ℕ) (w : Bool) → k < length links → reduced_cost_of potentials (arc_of (link_at links k) k w) ≡ pos 0 → AreProofOfLeast links (sent_along flow (arc_of (link_at links k) k w) m) potentials
+      way : OfWays links (λ a. reduced_cost_of potentials a ≡ pos 0 → AreProofOfLeast links (sent_along flow a m) potentials)
       way k true below none = changed_proof links flow k below rooms.one_each (flow_on flow k +ℤ m) potentials proof none
       way k false below none = changed_proof links flow k below rooms.one_each (flow_on flow k -ℤ m) potentials proof (omega (arith, ints))
 
 -- a path whose first arc carries the amount: the rest can carry it still
-module _ (links : List Link) (flow : List ℤ) (a : Arc) (path : List Arc) (m : ℤ) (rooms : IsWithinRooms links flow) (can : CanCarry links flow (a ∷ path) m) where
+module _ (links : List Link) (flow : List ℤ) (a : Arc) (path : List Arc) (m : ℤ) (rooms : IsWithinRooms links flow)
+    (can : CanCarry links flow (a ∷ path) m) where
   pub first_arc : IsArc links a
   first_arc = All-head (IsArc links) a path can.arcs
 
@@ -200,24 +194,30 @@ module _ (links : List Link) (flow : List ℤ) (a : Arc) (path : List Arc) (m : 
   }
 
 -- the flow after an amount is sent along a path
-pub path-rooms : (links : List Link) (flow : List ℤ) (path : List Arc) (m : ℤ) → pos 0 ≤ℤ m → IsWithinRooms links flow → CanCarry links flow path m → IsWithinRooms links (sent_along_path flow path m)
+pub path-rooms : (links : List Link) (flow : List ℤ) (path : List Arc) (m : ℤ) → pos 0 ≤ℤ m → IsWithinRooms links flow → CanCarry links flow path m
+    → IsWithinRooms links (sent_along_path flow path m)
 path-rooms links flow [] m from rooms can = rooms
 path-rooms links flow (a ∷ path) m from rooms can =
     path-rooms links (sent_along flow a m) path m from (first_rooms links flow a path m rooms can from) (CanCarry-rest links flow a path m rooms can)
 
-pub path-proof : (links : List Link) (flow potentials : List ℤ) (path : List Arc) (m : ℤ) → pos 0 ≤ℤ m → IsWithinRooms links flow → CanCarry links flow path m → All (λ a. reduced_cost_of potentials a ≡ pos 0) path → AreProofOfLeast links flow potentials → AreProofOfLeast links (sent_along_path flow path m) potentials
+pub path-proof : (links : List Link) (flow potentials : List ℤ) (path : List Arc) (m : ℤ) → pos 0 ≤ℤ m → IsWithinRooms links flow → CanCarry links flow path m
+    → All (λ a. reduced_cost_of potentials a ≡ pos 0) path → AreProofOfLeast links flow potentials
+    → AreProofOfLeast links (sent_along_path flow path m) potentials
 path-proof links flow potentials [] m from rooms can none proof = proof
 path-proof links flow potentials (a ∷ path) m from rooms can none proof =
     path-proof links (sent_along flow a m) potentials path m from (first_rooms links flow a path m rooms can from) (CanCarry-rest links flow a path m rooms can)
     (All-tail (λ b. reduced_cost_of potentials b ≡ pos 0) a path none)
-    (sent-proof links flow m rooms potentials proof a (first_arc links flow a path m rooms can) (All-head (λ b. reduced_cost_of potentials b ≡ pos 0) a path none))
+    (sent-proof links flow m rooms potentials proof a (first_arc links flow a path m rooms can)
+    (All-head (λ b. reduced_cost_of potentials b ≡ pos 0) a path none))
 
 -- only the ends of a path have another surplus
-pub path-surplus : (links : List Link) (flow : List ℤ) (path : List Arc) (m : ℤ) (u w v : ℕ) → pos 0 ≤ℤ m → IsWithinRooms links flow → CanCarry links flow path m → IsWalk path u w → surplus links (sent_along_path flow path m) v ≡ surplus links flow v +ℤ ends_gain u w m v
+pub path-surplus : (links : List Link) (flow : List ℤ) (path : List Arc) (m : ℤ) (u w v : ℕ) → pos 0 ≤ℤ m → IsWithinRooms links flow
+    → CanCarry links flow path m → IsWalk path u w → surplus links (sent_along_path flow path m) v ≡ surplus links flow v +ℤ ends_gain u w m v
 path-surplus links flow [] m u w v from rooms can walk =
     subst (λ x. surplus links flow v ≡ surplus links flow v +ℤ ends_gain u x m v) walk (omega (arith, ints))
 path-surplus links flow (a ∷ path) m u w v from rooms can walk =
-    let rest = path-surplus links (sent_along flow a m) path m a.head w v from (first_rooms links flow a path m rooms can from) (CanCarry-rest links flow a path m rooms can) walk.1 in
+    let rest = path-surplus links (sent_along flow a m) path m a.head w v from (first_rooms links flow a path m rooms can from)
+    (CanCarry-rest links flow a path m rooms can) walk.1 in
     let first = sent-surplus links flow m rooms v a (first_arc links flow a path m rooms can) in
     let begins = ap (λ x. when (x == v) m) walk.0 in
     omega (arith, ints, rest, first, begins)
@@ -227,7 +227,8 @@ abbrev pub no_arc : Arc
 no_arc = record { tail = 0; head = 0; link = 0; forward = false; cost = pos 0 }
 
 -- a loop's step along a path
-module _ (links : List Link) (flow : List ℤ) (path : List Arc) (m : ℤ) (i : ℕ) (within : i < length path) (rooms : IsWithinRooms links flow) (can : CanCarry links flow (drop i path) m) where
+module _ (links : List Link) (flow : List ℤ) (path : List Arc) (m : ℤ) (i : ℕ) (within : i < length path) (rooms : IsWithinRooms links flow)
+    (can : CanCarry links flow (drop i path) m) where
   next_can : CanCarry links flow (get_or path i no_arc ∷ drop (i + 1) path) m
   next_can = subst (λ p. CanCarry links flow p m) (drop_more path i no_arc within) can
 
@@ -244,10 +245,13 @@ module _ (links : List Link) (flow : List ℤ) (path : List Arc) (m : ℤ) (i : 
   pub next_carries : CanCarry links (sent_along flow (get_or path i no_arc) m) (drop (i + 1) path) m
   next_carries = CanCarry-rest links flow (get_or path i no_arc) (drop (i + 1) path) m rooms next_can
 
-  pub next_openings : (openings : List Opening) (o : Opening) → IsOpening (link_at links (get_or path i no_arc).link) (carry (get_or path i no_arc) (flow_on flow (get_or path i no_arc).link) m) o → AreOpenings links flow openings → AreOpenings links (sent_along flow (get_or path i no_arc) m) (set openings (get_or path i no_arc).link o)
+  pub next_openings : (openings : List Opening) (o : Opening)
+      → IsOpening (link_at links (get_or path i no_arc).link) (carry (get_or path i no_arc) (flow_on flow (get_or path i no_arc).link) m) o
+      → AreOpenings links flow openings → AreOpenings links (sent_along flow (get_or path i no_arc) m) (set openings (get_or path i no_arc).link o)
   next_openings openings o here are =
       let a = get_or path i no_arc in
       changed_openings links flow a.link next_arc.below rooms.one_each (carry a (flow_on flow a.link) m) openings o here are
 
-  pub next_sent : (first : List ℤ) → flow ≡ sent_along_path first (take i path) m → sent_along flow (get_or path i no_arc) m ≡ sent_along_path first (take (i + 1) path) m
+  pub next_sent : (first : List ℤ) → flow ≡ sent_along_path first (take i path) m
+      → sent_along flow (get_or path i no_arc) m ≡ sent_along_path first (take (i + 1) path) m
   next_sent first e = ap (λ f. sent_along f (get_or path i no_arc) m) e ∙ sym (fold_more (λ f a. sent_along f a m) first path i no_arc within)

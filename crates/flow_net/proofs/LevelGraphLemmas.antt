@@ -1,19 +1,9 @@
 -- Paths through a level graph, found from the sink.
-use Rattle.std.proofs.Common.{◌≡◌, ◌≢◌, ℕ, ◌+◌, ◌<◌, ◌≤◌, true, cond, is_some, count_by, Option, Some, None, List, get_or, reverse, set, ap, ◌∙◌, sym, arith}
-use Rattle.std.specs.List.{All}
-use Rattle.std.proofs.lemmas.Bool.{false≢true}
-use Rattle.std.proofs.lemmas.List.{get_or-set_other}
-use Rattle.std.proofs.lemmas.List.Elements.{All-weaker}
-use Rattle.std.proofs.lemmas.List.Sorted.{All-permutation, IsPermutation-sym, IsPermutation-reverse}
-use Rattle.std.proofs.lemmas.List.Sums.{sum_by-set}
-use Rattle.flow_net.specs.declared.arc.Arc.{Arc}
-use Rattle.flow_net.specs.declared.problem.Problem.{Problem}
-use Rattle.flow_net.specs.declared.routing.Routing.{Routing}
-use Rattle.flow_net.specs.Flow.{IsWalk}
-use Rattle.flow_net.specs.Problem.{IsFreeArc}
-use Rattle.flow_net.specs.LevelGraph.{level_at, StepsUp}
 use Rattle.flow_net.proofs.Lists.{within_from}
 use Rattle.flow_net.proofs.PathLemmas.{rising_above}
+use Rattle.flow_net.proofs.Words.{All, All-permutation, All-weaker, Arc, IsFreeArc, IsPermutation-reverse, IsPermutation-sym, IsWalk, Problem, Routing, StepsUp}
+use Rattle.flow_net.proofs.Words.{false≢true, get_or-set_other, level_at, sum_by-set}
+use Rattle.std.proofs.Common.{List, None, Option, Some, ap, arith, cond, count_by, get_or, is_some, reverse, set, sym, true, ℕ, ◌+◌, ◌<◌, ◌∙◌, ◌≡◌, ◌≢◌, ◌≤◌}
 
 -- the level of a node, and 0 where it has none
 abbrev pub height_of : Option ℕ → ℕ
@@ -45,7 +35,8 @@ module _ (p : Problem) (r : Routing) (levels : List (Option ℕ)) (path : List A
   IsStep-closed walk steps =
       let up = step.up in
       let turned = All-permutation (IsStep p r levels) _ _ (IsPermutation-reverse path) steps in
-      let above = rising_above (height_at levels) (reverse path) a.head w walk (All-weaker (IsStep p r levels) (λ b. height_at levels b.tail < height_at levels b.head) (λ b h. let e = h.up in omega arith) (reverse path) turned) in
+      let above = rising_above (height_at levels) (reverse path) a.head w walk
+      (All-weaker (IsStep p r levels) (λ b. height_at levels b.tail < height_at levels b.head) (λ b h. let e = h.up in omega arith) (reverse path) turned) in
       let higher = All-permutation (λ b. height_at levels a.head ≤ height_at levels b.tail) _ _ (IsPermutation-sym _ _ (IsPermutation-reverse path)) above in
       λ k d l.
       let b = get_or path k d in

@@ -11,3 +11,4 @@ pub mod SearchLemmas
 pub mod Sizes
 pub mod StandingLemmas
 pub mod Sums
+pub mod Words

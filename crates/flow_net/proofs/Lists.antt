@@ -1,10 +1,10 @@
 -- Lists read past their ends, and with one element written.
-use Rattle.std.proofs.Common.{◌≡◌, ◌≢◌, ℕ, ◌<◌, List, length, get_or, set, replicate, sym, subst, inl, inr, arith}
-use Rattle.std.proofs.lemmas.Bool.{cases_eq, cases_lt}
-use Rattle.std.proofs.lemmas.List.{length-replicate, get_or-replicate, get_or-set_same, get_or-set_other, get_or_past}
+use Rattle.std.proofs.Common.{List, arith, get_or, inl, inr, length, replicate, set, subst, sym, ℕ, ◌<◌, ◌≡◌, ◌≢◌}
+use Rattle.flow_net.proofs.Words.{cases_eq, cases_lt, get_or-replicate, get_or-set_other, get_or-set_same, get_or_past, length-replicate}
 
 -- what holds of the element written, and of each other element, holds of each
-pub set_cases : {X : Type 0} (xs : List X) (i : ℕ) (x d : X) → i < length xs → (P : ℕ → X → Type 0) → P i x → ((v : ℕ) → v ≢ i → P v (get_or xs v d)) → (v : ℕ) → P v (get_or (set xs i x) v d)
+pub set_cases : {X : Type 0} (xs : List X) (i : ℕ) (x d : X) → i < length xs → (P : ℕ → X → Type 0) → P i x → ((v : ℕ) → v ≢ i → P v (get_or xs v d)) → (v : ℕ)
+    → P v (get_or (set xs i x) v d)
 set_cases xs i x d within P here there v = elim (cases_eq v i) [
   | inl e ↦ subst (λ u. P u (get_or (set xs i x) u d)) (sym e) (subst (P i) (sym (get_or-set_same xs i x d within)) here)
   | inr ne ↦ subst (P v) (sym (get_or-set_other xs i v x d ne)) (there v ne)

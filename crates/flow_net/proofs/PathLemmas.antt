@@ -1,18 +1,7 @@
 -- Walks whose arcs rise by a rank of their nodes, and the tree of a search.
-use Rattle.std.proofs.Common.{◌≡◌, ◌⊎◌, ℕ, ◌<◌, ◌≤◌, Bool, true, false, List, [], ◌∷◌, ◌++◌, get_or, reverse, ap, ◌∙◌, sym, subst, inl, inr, refl, arith}
-use Rattle.std.specs.List.{All}
-use Rattle.std.proofs.lemmas.List.{reverse-append}
-use Rattle.std.proofs.lemmas.List.Elements.{All-head, All-tail, All-cons, All-nil, All-weaker}
-use Rattle.flow_net.specs.declared.net.Link.{Link}
-use Rattle.flow_net.specs.declared.arc.Arc.{Arc}
-use Rattle.flow_net.specs.declared.problem.Problem.{Problem}
-use Rattle.flow_net.specs.declared.routing.Routing.{Routing}
-use Rattle.flow_net.specs.declared.search.Search.{Search}
-use Rattle.flow_net.specs.Net.{link_at}
-use Rattle.flow_net.specs.Arc.{arc_of, IsArc}
-use Rattle.flow_net.specs.Flow.{IsWalk, AreApart}
-use Rattle.flow_net.specs.Problem.{IsFreeArc, IsFreePath}
-use Rattle.flow_net.specs.Search.{HasArrived, IsTree, IsTreeArc, IsTreePath, depth_at}
+use Rattle.flow_net.proofs.Words.{All, All-cons, All-head, All-nil, All-tail, All-weaker, Arc, AreApart, HasArrived, IsArc, IsFreeArc, IsFreePath, IsTree}
+use Rattle.flow_net.proofs.Words.{IsTreeArc, IsTreePath, IsWalk, Link, Problem, Routing, Search, arc_of, depth_at, link_at, reverse-append}
+use Rattle.std.proofs.Common.{Bool, List, [], ap, arith, false, get_or, inl, inr, refl, reverse, subst, sym, true, ℕ, ◌++◌, ◌<◌, ◌∙◌, ◌∷◌, ◌≡◌, ◌≤◌, ◌⊎◌}
 
 -- a walk that is found from its end: an arc before it, and its first arc off again
 pub walk-push : (path : List Arc) (a : Arc) (w : ℕ) → IsWalk (reverse path) a.head w → IsWalk (reverse (path ++ a ∷ [])) a.tail w
@@ -22,7 +11,8 @@ pub walk-pop : (path : List Arc) (a : Arc) (u w : ℕ) → IsWalk (reverse (path
 walk-pop path a u w walk = subst (λ xs. IsWalk xs u w) (reverse-append path (a ∷ [])) walk
 
 -- the arcs of a walk that rises begin no lower than the walk
-pub rising_above : (rank : ℕ → ℕ) (path : List Arc) (u w : ℕ) → IsWalk path u w → All (λ a. rank a.tail < rank a.head) path → All (λ a. rank u ≤ rank a.tail) path
+pub rising_above : (rank : ℕ → ℕ) (path : List Arc) (u w : ℕ) → IsWalk path u w → All (λ a. rank a.tail < rank a.head) path
+    → All (λ a. rank u ≤ rank a.tail) path
 rising_above rank [] u w walk rising = All-nil (λ a. rank u ≤ rank a.tail)
 rising_above rank (a ∷ path) u w walk rising =
     let first = All-head (λ b. rank b.tail < rank b.head) a path rising in
@@ -47,7 +37,8 @@ same_ends links a b p q same =
     ]
 
 -- so no two arcs of a walk that rises are ways along one link
-apart_by_rank : (links : List Link) (rank : ℕ → ℕ) (path : List Arc) (u w : ℕ) → IsWalk path u w → All (IsArc links) path → All (λ a. rank a.tail < rank a.head) path → AreApart path
+apart_by_rank : (links : List Link) (rank : ℕ → ℕ) (path : List Arc) (u w : ℕ) → IsWalk path u w → All (IsArc links) path
+    → All (λ a. rank a.tail < rank a.head) path → AreApart path
 apart_by_rank links rank [] u w walk arcs rising = tt
 apart_by_rank links rank (a ∷ path) u w walk arcs rising =
     let first = All-head (λ b. rank b.tail < rank b.head) a path rising in
@@ -66,7 +57,8 @@ apart_by_rank links rank (a ∷ path) u w walk arcs rising =
     )
 
 -- a walk from the source to the sink along free arcs that rise by a rank of their nodes
-pub IsFreePath-rising : (p : Problem) (r : Routing) (rank : ℕ → ℕ) (path : List Arc) → IsWalk path p.source p.sink → All (λ a. IsFreeArc p r a × (rank a.tail < rank a.head)) path → IsFreePath p r path
+pub IsFreePath-rising : (p : Problem) (r : Routing) (rank : ℕ → ℕ) (path : List Arc) → IsWalk path p.source p.sink
+    → All (λ a. IsFreeArc p r a × (rank a.tail < rank a.head)) path → IsFreePath p r path
 IsFreePath-rising p r rank path walk arcs = record {
   walk = walk;
   arcs = All-weaker (λ a. IsFreeArc p r a × (rank a.tail < rank a.head)) (IsFreeArc p r) (λ a h. h.0) path arcs;
@@ -89,7 +81,9 @@ IsTree-arrived p r s h =
     }
 
 -- the path of the tree is a path along free arcs, where its arcs are free
-pub IsFreePath-tree : (p : Problem) (r : Routing) (s : Search) (path : List Arc) → IsTree p s → ((a : Arc) → IsTreeArc s a → IsFreeArc p r a) → IsTreePath p s path → IsFreePath p r path
+pub IsFreePath-tree : (p : Problem) (r : Routing) (s : Search) (path : List Arc) → IsTree p s → ((a : Arc) → IsTreeArc s a → IsFreeArc p r a)
+    → IsTreePath p s path → IsFreePath p r path
 IsFreePath-tree p r s path tree free h =
     IsFreePath-rising p r (depth_at s.labels.items) path h.walk
-    (All-weaker (IsTreeArc s) (λ a. IsFreeArc p r a × (depth_at s.labels.items a.tail < depth_at s.labels.items a.head)) (λ a is. (free a is, (let e = tree.depth a.head a is.is_last in omega (arith, e)))) path h.arcs)
+    (All-weaker (IsTreeArc s) (λ a. IsFreeArc p r a × (depth_at s.labels.items a.tail < depth_at s.labels.items a.head))
+    (λ a is. (free a is, (let e = tree.depth a.head a is.is_last in omega (arith, e)))) path h.arcs)

@@ -1,27 +1,15 @@
 -- What stands after the potentials are raised.
-use Rattle.std.proofs.Common.{◌≡◌, ℕ, ◌*◌, ◌<◌, ◌≤◌, Bool, true, false, Option, Some, None, is_some, List, length, ℤ, pos, ◌+ℤ◌, ◌-ℤ◌, ◌≤ℤ◌, FitsSigned, w64, ap, ◌∙◌, sym, refl, inl, inr, arith}
-use Rattle.std.proofs.lemmas.Int.{ints}
-use Rattle.std.proofs.lemmas.Bool.{cases_Bool, cases_eq, false≢true}
-use Rattle.std.proofs.lemmas.Nat.{mul-le}
-use Rattle.std.proofs.lemmas.List.Elements.{All-contains}
-use Rattle.std.proofs.lemmas.List.Sums.{count_by-le-length}
-use Rattle.std.specs.declared.cmp.Reverse.{Reverse}
-use Rattle.flow_net.specs.declared.arc.Arc.{Arc}
-use Rattle.flow_net.specs.declared.problem.Problem.{Problem}
-use Rattle.flow_net.specs.declared.routing.Routing.{Routing}
-use Rattle.flow_net.specs.declared.search.Label.{Label}
-use Rattle.flow_net.specs.declared.search.Search.{Search}
-use Rattle.flow_net.specs.Net.{link_at, potential_at, is_in, largest_cost, AreBounded, AreProofOfLeast}
-use Rattle.flow_net.specs.Arc.{arc_of, IsArc}
-use Rattle.flow_net.specs.Flow.{reduced_cost_of}
-use Rattle.flow_net.specs.Problem.{Stands, IsStanding, IsResidualArc, IsFreeArc}
-use Rattle.flow_net.specs.Queue.{entry, entries_of}
-use Rattle.flow_net.specs.Search.{label_at, is_labelled, rise_of_label, rise_at, depth_at, rise_or, rise_of, HasArrived, IsTreeArc}
-use Rattle.flow_net.proofs.Sizes.{sizes, size-le-greatest}
 use Rattle.flow_net.proofs.FlowLemmas.{arc-nodes}
-use Rattle.flow_net.proofs.StandingLemmas.{IsPotential-standing, reduced-residual}
-use Rattle.flow_net.proofs.SearchLemmas.{IsSmall-reached}
 use Rattle.flow_net.proofs.QueueLemmas.{above-entries}
+use Rattle.flow_net.proofs.SearchLemmas.{IsSmall-reached}
+use Rattle.flow_net.proofs.Sizes.{size-le-greatest, sizes}
+use Rattle.flow_net.proofs.StandingLemmas.{IsPotential-standing, reduced-residual}
+use Rattle.flow_net.proofs.Words.{All-contains, Arc, AreBounded, AreProofOfLeast, HasArrived, IsArc, IsFreeArc, IsResidualArc, IsStanding, IsTreeArc, Label}
+use Rattle.flow_net.proofs.Words.{Problem, Reverse, Routing, Search, Stands, arc_of, cases_Bool, cases_eq, count_by-le-length, depth_at, entries_of, entry}
+use Rattle.flow_net.proofs.Words.{false≢true, ints, is_in, is_labelled, label_at, largest_cost, link_at, mul-le, potential_at, reduced_cost_of, rise_at}
+use Rattle.flow_net.proofs.Words.{rise_of, rise_of_label, rise_or}
+use Rattle.std.proofs.Common.{Bool, FitsSigned, List, None, Option, Some, ap, arith, false, inl, inr, is_some, length, pos, refl, sym, true, w64, ℕ, ℤ, ◌*◌}
+use Rattle.std.proofs.Common.{◌+ℤ◌, ◌-ℤ◌, ◌<◌, ◌∙◌, ◌≡◌, ◌≤ℤ◌, ◌≤◌}
 
 reached_rise : (o : Option Label) (b : Bool) (level : ℤ) → is_some o ≡ true → b ≡ true → rise_or o b level ≡ rise_of_label o
 reached_rise (Some l) true level h k = refl
@@ -56,7 +44,9 @@ module _ (p : Problem) (r : Routing) (s : Search) (standing : IsStanding p r) (a
             record {
               from = omega (arith, ints, same, sink, level);
               upto = omega (arith, ints, same);
-              low = λ labelled. (let above = All-contains (λ (e : Reverse ℤ × ℕ). s.queue.level ≤ℤ e.0.0) (entries_of s.queue) (entry (rise_at s.labels.items v) v) (above-entries s.queue) (arrived.search.queue.queued v labelled miss) in omega (arith, ints, same, above));
+              low = λ labelled. (let above = All-contains (λ (e : Reverse ℤ × ℕ). s.queue.level ≤ℤ e.0.0) (entries_of s.queue)
+                  (entry (rise_at s.labels.items v) v) (above-entries s.queue) (arrived.search.queue.queued v labelled miss) in
+                  omega (arith, ints, same, above));
             }
       ]
 
@@ -77,11 +67,13 @@ module _ (p : Problem) (r : Routing) (s : Search) (standing : IsStanding p r) (a
       let level = arrived.level in
       omega (arith, sizes)
 
-  module _ (potentials : List ℤ) (one_each : length potentials ≡ length r.potentials.items) (raised : (v : ℕ) → v < length r.potentials.items → potential_at potentials v ≡ potential_at r.potentials.items v +ℤ rise_of s v) where
+  module _ (potentials : List ℤ) (one_each : length potentials ≡ length r.potentials.items)
+      (raised : (v : ℕ) → v < length r.potentials.items → potential_at potentials v ≡ potential_at r.potentials.items v +ℤ rise_of s v) where
     raised_at : (v : ℕ) → v < p.net.now.nodes → potential_at potentials v ≡ potential_at r.potentials.items v +ℤ rise_of s v
     raised_at v within = raised v (let e = standing.bounded.one_each in omega arith)
 
-    raised_ends : (a : Arc) → IsArc p.net.now.links a → reduced_cost_of potentials a ≡ (reduced_cost_of r.potentials.items a +ℤ rise_of s a.tail) -ℤ rise_of s a.head
+    raised_ends : (a : Arc) → IsArc p.net.now.links a
+        → reduced_cost_of potentials a ≡ (reduced_cost_of r.potentials.items a +ℤ rise_of s a.tail) -ℤ rise_of s a.head
     raised_ends a is =
         let nodes = arc-nodes p.net.now standing.problem.net a is in
         let tail = raised_at a.tail nodes.0 in
@@ -95,7 +87,8 @@ module _ (p : Problem) (r : Routing) (s : Search) (standing : IsStanding p r) (a
         let was = reduced-residual p r standing a residual in
         let head = (rises a.head).upto in
         elim (cases_Bool (is_in s.reached.items a.tail)) [
-          | inr miss ↦ let tail = other_rise (label_at s.labels.items a.tail) (is_in s.reached.items a.tail) s.queue.level miss in omega (arith, ints, ends, was, head, tail)
+          | inr miss ↦ let tail = other_rise (label_at s.labels.items a.tail) (is_in s.reached.items a.tail) s.queue.level miss in
+              omega (arith, ints, ends, was, head, tail)
           | inl hit ↦ elim (cases_eq a.tail p.sink) [
             | inl same ↦ let tail = ap (rise_of s) same ∙ sink_rise in omega (arith, ints, ends, was, head, tail)
             | inr ne ↦
@@ -120,7 +113,8 @@ module _ (p : Problem) (r : Routing) (s : Search) (standing : IsStanding p r) (a
     raised_proof : AreProofOfLeast p.net.now.links r.flow.items potentials
     raised_proof = record {
       left_to_add = λ k b left.
-          let h = raised_residual (arc_of (link_at p.net.now.links k) k true) (record { arc = record { below = b; is = refl }; residual = omega (arith, ints, left) }) in
+          let h = raised_residual (arc_of (link_at p.net.now.links k) k true)
+          (record { arc = record { below = b; is = refl }; residual = omega (arith, ints, left) }) in
           omega (arith, ints, h);
       flowing = λ k b some.
           let h = raised_residual (arc_of (link_at p.net.now.links k) k false) (record { arc = record { below = b; is = refl }; residual = some }) in
@@ -146,7 +140,8 @@ module _ (p : Problem) (r : Routing) (s : Search) (standing : IsStanding p r) (a
         let count = count_by-le-length (λ b. b) s.reached.items in
         let each = labels.one_mark_each in
         let depth = depth_at s.labels.items p.sink in
-        let times : depth * largest_cost p.net.now ≤ n * largest_cost p.net.now = mul-le depth (largest_cost p.net.now) n (largest_cost p.net.now) (omega (arith, deep, count, each)) (omega arith) in
+        let times : depth * largest_cost p.net.now ≤ n * largest_cost p.net.now =
+        mul-le depth (largest_cost p.net.now) n (largest_cost p.net.now) (omega (arith, deep, count, each)) (omega arith) in
         let at = raised_at p.sink standing.problem.ends.sink_in in
         let rise = as_labelled p.sink arrived.sink_reached in
         omega (arith, ints, near, times, at, rise)
@@ -155,7 +150,8 @@ module _ (p : Problem) (r : Routing) (s : Search) (standing : IsStanding p r) (a
     raised_bounded = record {
       one_each = one_each ∙ standing.bounded.one_each;
       bounded = λ v within.
-          let size = λ (u : ℕ) (b : u < p.net.now.nodes). size-le-greatest (λ (x : ℤ). x) p.start.now u (pos 0) (let e = standing.problem.start.one_each in omega (arith, b, e)) in
+          let size = λ (u : ℕ) (b : u < p.net.now.nodes). size-le-greatest (λ (x : ℤ). x) p.start.now u (pos 0)
+          (let e = standing.problem.start.one_each in omega (arith, b, e)) in
           let at_v = size v within in
           let at_sink = size p.sink standing.problem.ends.sink_in in
           let at_source = size p.source standing.problem.ends.source_in in
@@ -192,7 +188,9 @@ module _ (p : Problem) (r : Routing) (s : Search) (standing : IsStanding p r) (a
     }
 
 -- where the sink rises by nothing, the tree's arcs have no reduced cost as it is
-pub tree_free : (p : Problem) (r : Routing) (s : Search) (standing : IsStanding p r) (arrived : HasArrived p r s) → s.queue.level ≡ pos 0 → (a : Arc) → IsTreeArc s a → IsFreeArc p r a
+pub tree_free : (p : Problem) (r : Routing) (s : Search) (standing : IsStanding p r) (arrived : HasArrived p r s) → s.queue.level ≡ pos 0 → (a : Arc)
+    → IsTreeArc s a → IsFreeArc p r a
 tree_free p r s standing arrived level a last =
-    let tree = tree_reduced p r s standing arrived r.potentials.items refl (λ v _. let h = rises p r s standing arrived v in let from = h.from in let upto = h.upto in omega (arith, ints, level, from, upto)) a last in
+    let tree = tree_reduced p r s standing arrived r.potentials.items refl
+    (λ v _. let h = rises p r s standing arrived v in let from = h.from in let upto = h.upto in omega (arith, ints, level, from, upto)) a last in
     record { residual = tree.0; free = tree.1 }

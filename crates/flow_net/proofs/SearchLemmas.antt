@@ -1,32 +1,18 @@
 -- A search as it begins, as a node is reached, and as a label is given.
-use Rattle.std.proofs.Common.{◌≡◌, ◌≢◌, ℕ, ◌+◌, ◌*◌, ◌<◌, ◌≤◌, Bool, true, false, cond, Option, Some, None, is_some, List, [], ◌∷◌, length, set, replicate, ℤ, pos, ◌+ℤ◌, ◌≤ℤ◌, ◌<ℤ◌, ap, ◌∙◌, sym, subst, refl, inl, inr, arith}
-use Rattle.std.specs.List.{All, Contains}
-use Rattle.std.specs.declared.cmp.Reverse.{Reverse}
-use Rattle.std.proofs.lemmas.Int.{ints}
-use Rattle.std.proofs.lemmas.Bool.{cases_Bool, false≢true}
-use Rattle.std.proofs.lemmas.Option.{same_Some, none-some}
-use Rattle.std.proofs.lemmas.List.{length-set, length-replicate, get_or-set_same, get_or-set_other}
-use Rattle.std.proofs.lemmas.List.Elements.{All-head, All-tail, All-weaker, All-contains, All-cons, All-nil, Contains-append_right}
-use Rattle.std.proofs.lemmas.List.Sorted.{All-permutation, Contains-permutation}
-use Rattle.std.proofs.lemmas.List.Sums.{sum_by-set, count_by-le-length}
-use Rattle.std.proofs.lemmas.Nat.{mul-le}
-use Rattle.sums.proofs.OrderLemmas.{Contains-cons}
-use Rattle.flow_net.specs.declared.limits.TheConstants.{MOST_NODES, MOST_COST}
-use Rattle.flow_net.specs.declared.arc.Arc.{Arc}
-use Rattle.flow_net.specs.declared.problem.Problem.{Problem}
-use Rattle.flow_net.specs.declared.queue.Queue.{Queue}
-use Rattle.flow_net.specs.declared.routing.Routing.{Routing}
-use Rattle.flow_net.specs.declared.search.Label.{Label}
-use Rattle.flow_net.specs.declared.search.Search.{Search}
-use Rattle.flow_net.specs.Net.{is_in, largest_cost}
-use Rattle.flow_net.specs.Flow.{reduced_cost_of, most_path_cost, most_rise}
-use Rattle.flow_net.specs.Problem.{IsStanding, IsResidualArc}
-use Rattle.flow_net.specs.Queue.{entry, entries_of, IsNext}
-use Rattle.flow_net.specs.Search.{label_at, is_labelled, rise_of_label, rise_at, depth_of_label, depth_at, arc_of_label, arc_at, reached_count, source_label, IsLabelledBy, IsNear, AreLabels, IsEntry, IsQueued, HasQueue, IsSearch, IsFresh, IsDrained, IsReaching, IsAt, IsEntered, Improves, IsClosedAt, IsRelaxed}
-use Rattle.flow_net.proofs.Lists.{set_cases, within_from, replicate_same}
+use Rattle.flow_net.proofs.FlowLemmas.{arc-cost, arc-nodes}
+use Rattle.flow_net.proofs.Lists.{replicate_same, set_cases, within_from}
 use Rattle.flow_net.proofs.Sizes.{sizes}
-use Rattle.flow_net.proofs.FlowLemmas.{arc-nodes, arc-cost}
-use Rattle.flow_net.proofs.StandingLemmas.{largest_cost-small, IsPotential-standing, reduced-residual}
+use Rattle.flow_net.proofs.StandingLemmas.{IsPotential-standing, largest_cost-small, reduced-residual}
+use Rattle.flow_net.proofs.Words.{All, All-cons, All-contains, All-head, All-nil, All-permutation, All-tail, All-weaker, Arc, Contains, Contains-append_right}
+use Rattle.flow_net.proofs.Words.{Contains-cons, Contains-permutation, HasQueue, Improves, IsAt, IsClosedAt, IsNext, IsQueued, IsResidualArc, IsSearch}
+use Rattle.flow_net.proofs.Words.{IsStanding, Label, MOST_COST, MOST_NODES, Problem, Queue, Reverse, Routing, Search, arc_at, cases_Bool, count_by-le-length}
+use Rattle.flow_net.proofs.Words.{depth_at, entries_of, entry, false≢true, get_or-set_other, get_or-set_same, ints, is_in, is_labelled, label_at, largest_cost}
+use Rattle.flow_net.proofs.Words.{length-replicate, length-set, most_path_cost, most_rise, mul-le, reduced_cost_of, rise_at, rise_of_label, sum_by-set}
+use Rattle.flow_net.specs.Search.{AreLabels, IsDrained, IsEntered, IsEntry, IsFresh, IsLabelledBy, IsNear, IsReaching, IsRelaxed, arc_of_label, depth_of_label}
+use Rattle.flow_net.specs.Search.{reached_count, source_label}
+use Rattle.std.proofs.Common.{Bool, List, None, Option, Some, [], ap, arith, cond, false, inl, inr, is_some, length, pos, refl, replicate, set, subst, sym}
+use Rattle.std.proofs.Common.{true, ℕ, ℤ, ◌*◌, ◌+ℤ◌, ◌+◌, ◌<ℤ◌, ◌<◌, ◌∙◌, ◌∷◌, ◌≡◌, ◌≢◌, ◌≤ℤ◌, ◌≤◌}
+use Rattle.std.proofs.lemmas.Option.{none-some, same_Some}
 
 pub labelled_within : (labels : List (Option Label)) (v : ℕ) → is_labelled labels v ≡ true → v < length labels
 labelled_within labels v labelled = within_from labels v None (λ none. false≢true (sym (ap is_some none) ∙ labelled))
@@ -35,7 +21,8 @@ pub reached_within : (reached : List Bool) (v : ℕ) → is_in reached v ≡ tru
 reached_within reached v hit = within_from reached v false (λ miss. false≢true (sym miss ∙ hit))
 
 -- node v leaves the queue
-module _ (labels : List (Option Label)) (reached : List Bool) (old new : Queue) (v : ℕ) (next : IsNext old new v) (queued : IsQueued labels reached old.level (entries_of old)) where
+module _ (labels : List (Option Label)) (reached : List Bool) (old new : Queue) (v : ℕ) (next : IsNext old new v)
+    (queued : IsQueued labels reached old.level (entries_of old)) where
   entries_now : All (IsEntry labels) (entry new.level v ∷ entries_of new)
   entries_now = All-permutation (IsEntry labels) _ _ next.taken queued.rises
 
@@ -44,7 +31,8 @@ module _ (labels : List (Option Label)) (reached : List Bool) (old new : Queue) 
 
   still_queued : (u : ℕ) → u ≢ v → is_labelled labels u ≡ true → is_in reached u ≡ false → Contains (entries_of new) (entry (rise_at labels u) u)
   still_queued u ne labelled free =
-      elim (Contains-cons (entry new.level v) (entries_of new) (entry (rise_at labels u) u) (Contains-permutation _ _ (entry (rise_at labels u) u) next.taken (queued.queued u labelled free))) [
+      elim (Contains-cons (entry new.level v) (entries_of new) (entry (rise_at labels u) u)
+      (Contains-permutation _ _ (entry (rise_at labels u) u) next.taken (queued.queued u labelled free))) [
         | inl e ↦ absurd (ne (sym (ap (λ x. x.1) e)))
         | inr left ↦ left
       ]
@@ -63,7 +51,8 @@ module _ (labels : List (Option Label)) (reached : List Bool) (old new : Queue) 
     IsQueued-reached = record {
       upto_level = set_cases reached v true false within (λ u b. b ≡ true → rise_at labels u ≤ℤ new.level) (λ _. next-entry.no_less)
           (λ u ne hit. let upto = queued.upto_level u hit in let level = next.level in omega (arith, ints));
-      queued = λ u labelled. set_cases reached v true false within (λ w b. w ≡ u → b ≡ false → Contains (entries_of new) (entry (rise_at labels u) u)) (λ _ e. absurd (false≢true (sym e)))
+      queued = λ u labelled. set_cases reached v true false within (λ w b. w ≡ u → b ≡ false → Contains (entries_of new) (entry (rise_at labels u) u))
+          (λ _ e. absurd (false≢true (sym e)))
           (λ w ne e miss. still_queued u (λ d. ne (e ∙ d)) labelled (sym (ap (is_in reached) e) ∙ miss)) u refl;
       rises = All-tail (IsEntry labels) (entry new.level v) (entries_of new) entries_now;
     }
@@ -72,11 +61,13 @@ module _ (labels : List (Option Label)) (reached : List Bool) (old new : Queue) 
     reached-level =
         let no_less = next-entry.no_less in
         let among = Contains-permutation _ _ (entry (rise_at labels v) v) next.taken (queued.queued v next-entry.labelled free) in
-        let least = All-contains (λ (e : Reverse ℤ × ℕ). new.level ≤ℤ e.0.0) (entry new.level v ∷ entries_of new) (entry (rise_at labels v) v) (All-cons (λ (e : Reverse ℤ × ℕ). new.level ≤ℤ e.0.0) (entry new.level v) (entries_of new) (omega (arith, ints)) next.least) among in
+        let least = All-contains (λ (e : Reverse ℤ × ℕ). new.level ≤ℤ e.0.0) (entry new.level v ∷ entries_of new) (entry (rise_at labels v) v)
+        (All-cons (λ (e : Reverse ℤ × ℕ). new.level ≤ℤ e.0.0) (entry new.level v) (entries_of new) (omega (arith, ints)) next.least) among in
         omega (arith, ints)
 
 -- a labelled node more is reached
-pub AreLabels-reached : (p : Problem) (r : Routing) (labels : List (Option Label)) (reached : List Bool) (v : ℕ) → is_labelled labels v ≡ true → is_in reached v ≡ false → AreLabels p r labels reached → AreLabels p r labels (set reached v true)
+pub AreLabels-reached : (p : Problem) (r : Routing) (labels : List (Option Label)) (reached : List Bool) (v : ℕ) → is_labelled labels v ≡ true
+    → is_in reached v ≡ false → AreLabels p r labels reached → AreLabels p r labels (set reached v true)
 AreLabels-reached p r labels reached v labelled free h =
     record {
       one_each = h.one_each;
@@ -84,10 +75,12 @@ AreLabels-reached p r labels reached v labelled free h =
       source = h.source;
       reached_labelled = set_cases reached v true false within (λ u b. b ≡ true → is_labelled labels u ≡ true) (λ _. labelled) (λ u ne. h.reached_labelled u);
       root = h.root;
-      by_arc = λ u a e. let by = h.by_arc u a e in record { residual = by.residual; head = by.head; tail_reached = still a.tail by.tail_reached; rise = by.rise; depth = by.depth };
+      by_arc = λ u a e. let by = h.by_arc u a e in
+          record { residual = by.residual; head = by.head; tail_reached = still a.tail by.tail_reached; rise = by.rise; depth = by.depth };
       risen = h.risen;
       near = h.near;
-      depths = set_cases reached v true false within (λ u b. b ≡ true → depth_at labels u < reached_count (set reached v true)) (λ _. deep (arc_at labels v) refl)
+      depths = set_cases reached v true false within (λ u b. b ≡ true → depth_at labels u < reached_count (set reached v true))
+          (λ _. deep (arc_at labels v) refl)
           (λ u ne hit. let below = h.depths u hit in let more = one_more in omega arith);
     }
   where
@@ -121,7 +114,8 @@ pub record IsSmall (l : Option Label) : Type 0 where
   pub rise : rise_of_label l ≤ℤ pos most_rise
   pub depth : depth_of_label l < MOST_NODES
 
-pub IsSmall-reached : (p : Problem) (r : Routing) → IsStanding p r → (labels : List (Option Label)) (reached : List Bool) → AreLabels p r labels reached → (v : ℕ) → is_in reached v ≡ true → IsSmall (label_at labels v)
+pub IsSmall-reached : (p : Problem) (r : Routing) → IsStanding p r → (labels : List (Option Label)) (reached : List Bool) → AreLabels p r labels reached
+    → (v : ℕ) → is_in reached v ≡ true → IsSmall (label_at labels v)
 IsSmall-reached p r standing labels reached h v hit =
     let net = p.net.now in
     let deep = h.depths v hit in
@@ -130,7 +124,8 @@ IsSmall-reached p r standing labels reached h v hit =
     let few = standing.problem.net.few_nodes in
     let cost = largest_cost-small net standing.problem.net in
     let shallow : depth_at labels v < MOST_NODES = omega (arith, deep, count, each, few) in
-    let times : depth_at labels v * largest_cost net ≤ most_path_cost = mul-le (depth_at labels v) (largest_cost net) MOST_NODES MOST_COST (omega (arith, shallow)) cost in
+    let times : depth_at labels v * largest_cost net ≤ most_path_cost =
+    mul-le (depth_at labels v) (largest_cost net) MOST_NODES MOST_COST (omega (arith, shallow)) cost in
     let within = reached_within reached v hit in
     let here = IsPotential-standing p r standing v (omega (arith, within, each)) in
     let source = IsPotential-standing p r standing p.source standing.problem.ends.source_in in
@@ -163,12 +158,14 @@ module _ (p : Problem) (r : Routing) (standing : IsStanding p r) (s : Search) (s
   -- its head gets a label
   module _ (rise : ℤ) (rise_is : rise ≡ l.rise +ℤ reduced_cost_of r.potentials.items a) where
     pub IsRelaxed-low : (is_labelled s.labels.items a.head ≡ true) × (rise_at s.labels.items a.head ≤ℤ rise) → IsRelaxed p r s s a
-    IsRelaxed-low low = IsRelaxed-same (λ _. let tail = tail_rise in let upto = low.1 in record { labelled = low.0; low = omega (arith, ints, rise_is, tail, upto) })
+    IsRelaxed-low low = IsRelaxed-same
+        (λ _. let tail = tail_rise in let upto = low.1 in record { labelled = low.0; low = omega (arith, ints, rise_is, tail, upto) })
 
     pub above-level : IsResidualArc p r a → s.queue.level ≤ℤ rise
     above-level residual = let more = reduced-residual p r standing a residual in let level = at.level in omega (arith, ints, rise_is, more, level)
 
-    module _ (residual : IsResidualArc p r a) (free : is_in s.reached.items a.head ≡ false) (better : is_labelled s.labels.items a.head ≡ true → rise <ℤ rise_at s.labels.items a.head)
+    module _ (residual : IsResidualArc p r a) (free : is_in s.reached.items a.head ≡ false)
+        (better : is_labelled s.labels.items a.head ≡ true → rise <ℤ rise_at s.labels.items a.head)
         (t : Search) (entered : IsEntered s t a.head (record { rise = rise; depth = l.depth + 1; arc = Some a })) where
       abbrev label_by : Label
       label_by = record { rise = rise; depth = l.depth + 1; arc = Some a }
@@ -176,27 +173,31 @@ module _ (p : Problem) (r : Routing) (standing : IsStanding p r) (s : Search) (s
       head_in : a.head < length s.labels.items
       head_in = let e = search.labels.one_each in let nodes = arc-nodes p.net.now standing.problem.net a residual.arc in omega arith
 
-      by_node : (P : ℕ → Option Label → Type 0) → P a.head (Some label_by) → ((v : ℕ) → v ≢ a.head → P v (label_at s.labels.items v)) → (v : ℕ) → P v (label_at t.labels.items v)
+      by_node : (P : ℕ → Option Label → Type 0) → P a.head (Some label_by) → ((v : ℕ) → v ≢ a.head → P v (label_at s.labels.items v)) → (v : ℕ)
+          → P v (label_at t.labels.items v)
       by_node P here there = rw entered.labels (set_cases s.labels.items a.head (Some label_by) None head_in P here there)
 
       at_head : label_at t.labels.items a.head ≡ Some label_by
       at_head = ap (λ xs. label_at xs a.head) entered.labels ∙ get_or-set_same s.labels.items a.head (Some label_by) None head_in
 
       kept : (v : ℕ) → is_in s.reached.items v ≡ true → label_at t.labels.items v ≡ label_at s.labels.items v
-      kept v hit = ap (λ xs. label_at xs v) entered.labels ∙ get_or-set_other s.labels.items a.head v (Some label_by) None (λ e. false≢true (sym free ∙ (ap (is_in s.reached.items) (sym e) ∙ hit)))
+      kept v hit = ap (λ xs. label_at xs v) entered.labels
+          ∙ get_or-set_other s.labels.items a.head v (Some label_by) None (λ e. false≢true (sym free ∙ (ap (is_in s.reached.items) (sym e) ∙ hit)))
 
       mark : (v : ℕ) → is_in t.reached.items v ≡ is_in s.reached.items v
       mark v = ap (λ xs. is_in xs v) entered.reached
 
       rise_from : pos 0 ≤ℤ rise
-      rise_from = let more = reduced-residual p r standing a residual in let from = search.labels.risen a.tail in let tail = tail_rise in omega (arith, ints, rise_is, more, from, tail)
+      rise_from = let more = reduced-residual p r standing a residual in let from = search.labels.risen a.tail in let tail = tail_rise in
+          omega (arith, ints, rise_is, more, from, tail)
 
       -- other labels only fell
       labelled : (v : ℕ) → is_labelled s.labels.items v ≡ true → is_labelled t.labels.items v ≡ true
       labelled = by_node (λ v o. is_labelled s.labels.items v ≡ true → is_some o ≡ true) (λ _. refl) (λ v _ h. h)
 
       fell : (v : ℕ) → is_labelled s.labels.items v ≡ true → rise_at t.labels.items v ≤ℤ rise_at s.labels.items v
-      fell = by_node (λ v o. is_labelled s.labels.items v ≡ true → rise_of_label o ≤ℤ rise_at s.labels.items v) (λ h. let less = better h in omega (arith, ints, less)) (λ v _ _. omega (arith, ints))
+      fell = by_node (λ v o. is_labelled s.labels.items v ≡ true → rise_of_label o ≤ℤ rise_at s.labels.items v)
+          (λ h. let less = better h in omega (arith, ints, less)) (λ v _ _. omega (arith, ints))
 
       by_arc_now : IsLabelledBy p r t.labels.items t.reached.items a.head (Some label_by) a
       by_arc_now = record {
@@ -229,12 +230,21 @@ module _ (p : Problem) (r : Routing) (standing : IsStanding p r) (s : Search) (s
       relaxed-labels = record {
         one_each = ap length entered.labels ∙ (length-set s.labels.items a.head (Some label_by) ∙ search.labels.one_each);
         one_mark_each = ap length entered.reached ∙ search.labels.one_mark_each;
-        source = by_node (λ v o. v ≡ p.source → o ≡ Some source_label) (λ e. absurd (not_source e)) (λ v _ e. ap (label_at s.labels.items) e ∙ search.labels.source) p.source refl;
+        source = by_node (λ v o. v ≡ p.source → o ≡ Some source_label) (λ e. absurd (not_source e))
+            (λ v _ e. ap (label_at s.labels.items) e ∙ search.labels.source) p.source refl;
         reached_labelled = λ v hit. labelled v (search.labels.reached_labelled v (sym (mark v) ∙ hit));
-        root = by_node (λ v o. is_some o ≡ true → arc_of_label o ≡ None → v ≡ p.source) (λ _ none. absurd (none-some a (sym none))) (λ v _. search.labels.root v);
+        root = by_node (λ v o. is_some o ≡ true → arc_of_label o ≡ None → v ≡ p.source) (λ _ none. absurd (none-some a (sym none)))
+            (λ v _. search.labels.root v);
         by_arc = by_node (λ v o. (b : Arc) → arc_of_label o ≡ Some b → IsLabelledBy p r t.labels.items t.reached.items v o b)
             (λ b e. subst (IsLabelledBy p r t.labels.items t.reached.items a.head (Some label_by)) (same_Some a b e) by_arc_now)
-            (λ v _ b e. let by = search.labels.by_arc v b e in record { residual = by.residual; head = by.head; tail_reached = mark b.tail ∙ by.tail_reached; rise = rw (kept b.tail by.tail_reached) by.rise; depth = rw (kept b.tail by.tail_reached) by.depth });
+            (λ v _ b e. let by = search.labels.by_arc v b e in
+            record {
+              residual = by.residual;
+              head = by.head;
+              tail_reached = mark b.tail ∙ by.tail_reached;
+              rise = rw (kept b.tail by.tail_reached) by.rise;
+              depth = rw (kept b.tail by.tail_reached) by.depth;
+            });
         risen = by_node (λ v o. pos 0 ≤ℤ rise_of_label o) rise_from (λ v _. search.labels.risen v);
         near = by_node (λ v o. is_some o ≡ true → IsNear p r v (rise_of_label o) (depth_of_label o)) (λ _. near) (λ v _. search.labels.near v);
         depths = λ v hit. rw (kept v (sym (mark v) ∙ hit), entered.reached) (search.labels.depths v (sym (mark v) ∙ hit));
@@ -245,7 +255,8 @@ module _ (p : Problem) (r : Routing) (standing : IsStanding p r) (s : Search) (s
         upto_level = λ v hit. rw (kept v (sym (mark v) ∙ hit), entered.level) (search.queue.upto_level v (sym (mark v) ∙ hit));
         queued = by_node (λ v o. is_some o ≡ true → is_in t.reached.items v ≡ false → Contains (entries_of t.queue) (entry (rise_of_label o) v))
             (λ _ _. Contains-permutation _ _ (entry rise a.head) entered.entries (0, omega arith, refl))
-            (λ v _ h miss. Contains-permutation _ _ (entry (rise_at s.labels.items v) v) entered.entries (Contains-append_right (entry rise a.head ∷ []) (entries_of s.queue) _ (search.queue.queued v h (sym (mark v) ∙ miss))));
+            (λ v _ h miss. Contains-permutation _ _ (entry (rise_at s.labels.items v) v) entered.entries
+            (Contains-append_right (entry rise a.head ∷ []) (entries_of s.queue) _ (search.queue.queued v h (sym (mark v) ∙ miss))));
         rises = All-permutation (IsEntry t.labels.items) _ _ entered.entries
             (All-cons (IsEntry t.labels.items) (entry rise a.head) (entries_of s.queue)
             (record { labelled = ap is_some at_head; no_less = rw at_head (omega (arith, ints)) })
@@ -274,7 +285,8 @@ module _ (p : Problem) (r : Routing) (standing : IsStanding p r) (s : Search) (f
   source_in = let e = length-replicate {A = Option Label} p.net.now.nodes None in let within = standing.problem.ends.source_in in omega arith
 
   by_source : (P : ℕ → Option Label → Type 0) → P p.source (Some source_label) → ((v : ℕ) → P v None) → (v : ℕ) → P v (label_at s.labels.items v)
-  by_source P here there = rw fresh.labels (set_cases (replicate p.net.now.nodes None) p.source (Some source_label) None source_in P here (λ v _. subst (P v) (sym (none_labelled v)) (there v)))
+  by_source P here there = rw fresh.labels
+      (set_cases (replicate p.net.now.nodes None) p.source (Some source_label) None source_in P here (λ v _. subst (P v) (sym (none_labelled v)) (there v)))
 
   at_source : label_at s.labels.items p.source ≡ Some source_label
   at_source = ap (λ xs. label_at xs p.source) fresh.labels ∙ get_or-set_same (replicate p.net.now.nodes None) p.source (Some source_label) None source_in
@@ -288,21 +300,26 @@ module _ (p : Problem) (r : Routing) (standing : IsStanding p r) (s : Search) (f
   pub IsSearch-fresh : IsSearch p r s
   IsSearch-fresh = record {
     labels = record {
-      one_each = ap length fresh.labels ∙ (length-set (replicate p.net.now.nodes None) p.source (Some source_label) ∙ length-replicate {A = Option Label} p.net.now.nodes None);
+      one_each = ap length fresh.labels
+          ∙ (length-set (replicate p.net.now.nodes None) p.source (Some source_label) ∙ length-replicate {A = Option Label} p.net.now.nodes None);
       one_mark_each = ap length fresh.reached ∙ length-replicate {A = Bool} p.net.now.nodes false;
       source = at_source;
       reached_labelled = λ v hit. absurd (never v hit);
       root = by_source (λ v o. is_some o ≡ true → arc_of_label o ≡ None → v ≡ p.source) (λ _ _. refl) (λ v labelled. absurd (false≢true labelled));
-      by_arc = by_source (λ v o. (a : Arc) → arc_of_label o ≡ Some a → IsLabelledBy p r s.labels.items s.reached.items v o a) (λ a e. absurd (none-some a e)) (λ v a e. absurd (none-some a e));
+      by_arc = by_source (λ v o. (a : Arc) → arc_of_label o ≡ Some a → IsLabelledBy p r s.labels.items s.reached.items v o a) (λ a e. absurd (none-some a e))
+          (λ v a e. absurd (none-some a e));
       risen = by_source (λ v o. pos 0 ≤ℤ rise_of_label o) (omega (arith, ints)) (λ v. omega (arith, ints));
-      near = by_source (λ v o. is_some o ≡ true → IsNear p r v (rise_of_label o) (depth_of_label o)) (λ _. record { from = omega (arith, ints); upto = omega (arith, ints) }) (λ v labelled. absurd (false≢true labelled));
+      near = by_source (λ v o. is_some o ≡ true → IsNear p r v (rise_of_label o) (depth_of_label o))
+          (λ _. record { from = omega (arith, ints); upto = omega (arith, ints) }) (λ v labelled. absurd (false≢true labelled));
       depths = λ v hit. absurd (never v hit);
     };
     queue = record {
       upto_level = λ v hit. absurd (never v hit);
       queued = by_source (λ v o. is_some o ≡ true → is_in s.reached.items v ≡ false → Contains (entries_of s.queue) (entry (rise_of_label o) v))
           (λ _ _. Contains-permutation _ _ (entry (pos 0) p.source) fresh.entries (0, omega arith, refl)) (λ v labelled. absurd (false≢true labelled));
-      rises = All-permutation (IsEntry s.labels.items) _ _ fresh.entries (All-cons (IsEntry s.labels.items) (entry (pos 0) p.source) [] (record { labelled = ap is_some at_source; no_less = rw at_source (omega (arith, ints)) }) (All-nil (IsEntry s.labels.items)));
+      rises = All-permutation (IsEntry s.labels.items) _ _ fresh.entries
+          (All-cons (IsEntry s.labels.items) (entry (pos 0) p.source) []
+          (record { labelled = ap is_some at_source; no_less = rw at_source (omega (arith, ints)) }) (All-nil (IsEntry s.labels.items)));
     };
   }
 
@@ -325,7 +342,8 @@ IsAt-improves s t v l h at = record {
 }
 
 -- a closed arc stays closed
-pub IsClosedAt-improves : (p : Problem) (r : Routing) (s t : Search) (a : Arc) → Improves s t → is_in s.reached.items a.tail ≡ true → IsClosedAt p r s a → IsClosedAt p r t a
+pub IsClosedAt-improves : (p : Problem) (r : Routing) (s t : Search) (a : Arc) → Improves s t → is_in s.reached.items a.tail ≡ true → IsClosedAt p r s a
+    → IsClosedAt p r t a
 IsClosedAt-improves p r s t a h hit closed residual =
     let was = closed residual in
     let low = was.low in
@@ -343,7 +361,8 @@ module _ (p : Problem) (r : Routing) (s t : Search) (v : ℕ) (l : Label) (reach
 
   -- what holds of v, and of each node reached before, holds of each node reached
   pub reached_cases : (P : ℕ → Type 0) → P v → ((u : ℕ) → is_in s.reached.items u ≡ true → P u) → (u : ℕ) → is_in t.reached.items u ≡ true → P u
-  reached_cases P here before u hit = set_cases s.reached.items v true false v_in (λ w b. b ≡ true → P w) (λ _. here) (λ w _. before w) u (rw reaching.reached at hit)
+  reached_cases P here before u hit =
+      set_cases s.reached.items v true false v_in (λ w b. b ≡ true → P w) (λ _. here) (λ w _. before w) u (rw reaching.reached at hit)
 
   pub IsSearch-reaching : IsSearch p r t
   IsSearch-reaching = record {

@@ -1,9 +1,6 @@
 -- Absolute values.
-use Rattle.std.proofs.Common.{◌≡◌, ℕ, ◌+◌, ◌<◌, ◌≤◌, zero, suc, min, List, [], ◌∷◌, length, get_or, ℤ, ◌-ℤ◌, ◌<ℤ◌, ◌≤ℤ◌, pos, negsuc, arith}
-use Rattle.std.specs.Int.RustNames.{unsigned_abs}
-use Rattle.std.proofs.lemmas.Int.{ints}
-use borrow.Author.Differences.{up, down}
-use Rattle.flow_net.specs.Net.{greatest_size}
+use Rattle.flow_net.proofs.Words.{down, greatest_size, ints, unsigned_abs, up}
+use Rattle.std.proofs.Common.{List, [], arith, get_or, length, min, negsuc, pos, suc, zero, ℕ, ℤ, ◌+◌, ◌-ℤ◌, ◌<ℤ◌, ◌<◌, ◌∷◌, ◌≡◌, ◌≤ℤ◌, ◌≤◌}
 
 -- an integer z is read as `up z - down z`, one of which is 0
 pub abs_is : (z : ℤ) → unsigned_abs z ≡ up z + down z
@@ -26,7 +23,8 @@ size-le-greatest f [] k d l = absurd (omega arith)
 size-le-greatest f (x ∷ xs) zero d l = omega arith
 size-le-greatest f (x ∷ xs) (suc k) d l = let rest = size-le-greatest f xs k d (omega arith) in omega arith
 
-pub greatest-le : {X : Type 0} (f : X → ℤ) (xs : List X) (n : ℕ) (d : X) → ((k : ℕ) → k < length xs → unsigned_abs (f (get_or xs k d)) ≤ n) → greatest_size f xs ≤ n
+pub greatest-le : {X : Type 0} (f : X → ℤ) (xs : List X) (n : ℕ) (d : X) → ((k : ℕ) → k < length xs → unsigned_abs (f (get_or xs k d)) ≤ n)
+    → greatest_size f xs ≤ n
 greatest-le f [] n d h = omega arith
 greatest-le f (x ∷ xs) n d h =
     let first = h 0 (omega arith) in

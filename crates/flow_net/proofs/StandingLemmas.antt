@@ -1,34 +1,26 @@
 -- What stands while a part of the amount is routed, before the first step and after each.
-use Rattle.std.proofs.Common.{◌≡◌, ◌==◌, ℕ, ◌*◌, ◌<◌, ◌≤◌, Bool, true, false, List, length, replicate, ℤ, pos, ◌+ℤ◌, ◌≤ℤ◌, ◌∙◌, sym, subst, refl, inl, inr, arith}
-use Rattle.std.proofs.lemmas.Int.{ints}
-use Rattle.std.proofs.lemmas.Bool.{cases_lt}
-use Rattle.std.proofs.lemmas.Nat.{mul-le}
-use Rattle.std.proofs.lemmas.List.{length-replicate, get_or-replicate, get_or_past}
-use Rattle.std.proofs.lemmas.List.Elements.{All-weaker}
-use Rattle.flow_net.specs.declared.limits.TheConstants.{MOST_NODES, MOST_COST, MOST_INITIAL_POTENTIAL}
-use Rattle.flow_net.specs.declared.net.Link.{Link}
-use Rattle.flow_net.specs.declared.net.Net.{Net}
-use Rattle.flow_net.specs.declared.arc.Arc.{Arc}
-use Rattle.flow_net.specs.declared.opening.Opening.{Opening}
-use Rattle.flow_net.specs.declared.problem.Problem.{Problem}
-use Rattle.flow_net.specs.declared.routing.Routing.{Routing}
-use Rattle.flow_net.specs.Net.{link_at, flow_on, potential_at, outflow, inflow, largest_cost, IsWithinLimits}
-use Rattle.flow_net.specs.Arc.{IsArc}
-use Rattle.flow_net.specs.Flow.{reduced_cost_of, sent_along_path, CanCarry, AreOpenings, IsPotential, IsPriced}
-use Rattle.flow_net.specs.Problem.{IsProblem, Stands, IsStanding, IsResidualArc, IsFreeArc, IsFreePath, IsBottleneck}
-use Rattle.flow_net.proofs.Sizes.{size-le-greatest, greatest-le}
+use Rattle.flow_net.proofs.Duality.{routing_from_surplus, surplus_is, when}
+use Rattle.flow_net.proofs.FlowLemmas.{arc-cost, arc-nodes, path-proof, path-rooms, path-surplus, reduced-not_negative}
+use Rattle.flow_net.proofs.Sizes.{greatest-le, size-le-greatest}
 use Rattle.flow_net.proofs.Sums.{sum_below-zero}
-use Rattle.flow_net.proofs.Duality.{when, surplus_is, routing_from_surplus}
-use Rattle.flow_net.proofs.FlowLemmas.{arc-nodes, arc-cost, reduced-not_negative, path-rooms, path-proof, path-surplus}
+use Rattle.flow_net.proofs.Words.{All-weaker, Arc, AreOpenings, CanCarry, IsArc, IsBottleneck, IsFreeArc, IsFreePath, IsPotential, IsPriced, IsProblem}
+use Rattle.flow_net.proofs.Words.{IsResidualArc, IsStanding, IsWithinLimits, Link, MOST_COST, MOST_INITIAL_POTENTIAL, MOST_NODES, Net, Opening, Problem}
+use Rattle.flow_net.proofs.Words.{Routing, Stands, cases_lt, flow_on, get_or-replicate, get_or_past, inflow, ints, largest_cost, length-replicate, link_at}
+use Rattle.flow_net.proofs.Words.{mul-le, outflow, potential_at, reduced_cost_of, sent_along_path}
+use Rattle.std.proofs.Common.{Bool, List, arith, false, inl, inr, length, pos, refl, replicate, subst, sym, true, ℕ, ℤ, ◌*◌, ◌+ℤ◌, ◌<◌, ◌==◌, ◌∙◌, ◌≡◌, ◌≤ℤ◌}
+use Rattle.std.proofs.Common.{◌≤◌}
 
 -- the largest cost of a net within the limits
 pub largest_cost-small : (net : Net) → IsWithinLimits net → largest_cost net ≤ MOST_COST
-largest_cost-small net limits = greatest-le (λ (l : Link). l.cost) net.links MOST_COST (record { from = 0; to = 0; room = pos 0; cost = pos 0 }) (λ k l. (limits.links k l).cost)
+largest_cost-small net limits =
+    greatest-le (λ (l : Link). l.cost) net.links MOST_COST (record { from = 0; to = 0; room = pos 0; cost = pos 0 }) (λ k l. (limits.links k l).cost)
 
 -- the same lists and the same amount stand alike
-pub Stands-same : (p : Problem) (flow flow' potentials potentials' : List ℤ) (routed routed' : ℤ) (openings : List Opening) → flow' ≡ flow → potentials' ≡ potentials → routed' ≡ routed → Stands p flow potentials routed openings → Stands p flow' potentials' routed' openings
+pub Stands-same : (p : Problem) (flow flow' potentials potentials' : List ℤ) (routed routed' : ℤ) (openings : List Opening) → flow' ≡ flow
+    → potentials' ≡ potentials → routed' ≡ routed → Stands p flow potentials routed openings → Stands p flow' potentials' routed' openings
 Stands-same p flow flow' potentials potentials' routed routed' openings e f g h =
-    subst (λ x. Stands p x potentials' routed' openings) (sym e) (subst (λ x. Stands p flow x routed' openings) (sym f) (subst (λ x. Stands p flow potentials x openings) (sym g) h))
+    subst (λ x. Stands p x potentials' routed' openings) (sym e)
+    (subst (λ x. Stands p flow x routed' openings) (sym f) (subst (λ x. Stands p flow potentials x openings) (sym g) h))
 
 module _ (p : Problem) (r : Routing) (standing : IsStanding p r) where
   pub IsPotential-standing : (v : ℕ) → v < p.net.now.nodes → IsPotential (potential_at r.potentials.items v)
@@ -37,7 +29,8 @@ module _ (p : Problem) (r : Routing) (standing : IsStanding p r) where
       let start = standing.problem.start in
       let bound = standing.bounded.bounded v within in
       let largest = greatest-le (λ (s : ℤ). s) p.start.now MOST_INITIAL_POTENTIAL (pos 0) (λ k b. start.within k (let e = start.one_each in omega arith)) in
-      let times : net.nodes * largest_cost net ≤ MOST_NODES * MOST_COST = mul-le net.nodes (largest_cost net) MOST_NODES MOST_COST standing.problem.net.few_nodes (largest_cost-small net standing.problem.net) in
+      let times : net.nodes * largest_cost net ≤ MOST_NODES * MOST_COST =
+      mul-le net.nodes (largest_cost net) MOST_NODES MOST_COST standing.problem.net.few_nodes (largest_cost-small net standing.problem.net) in
       omega (arith, bound, largest, times)
 
   pub IsPriced-arc : (a : Arc) → IsArc p.net.now.links a → IsPriced r.potentials.items a
@@ -64,7 +57,8 @@ module _ (p : Problem) (r : Routing) (standing : IsStanding p r) where
       residual = most.residual;
     }
 
-    pub Stands-augmented : (openings : List Opening) → AreOpenings p.net.now.links (sent_along_path r.flow.items path m) openings → Stands p (sent_along_path r.flow.items path m) r.potentials.items (r.routed +ℤ m) openings
+    pub Stands-augmented : (openings : List Opening) → AreOpenings p.net.now.links (sent_along_path r.flow.items path m) openings
+        → Stands p (sent_along_path r.flow.items path m) r.potentials.items (r.routed +ℤ m) openings
     Stands-augmented openings are =
         let net = p.net.now in
         let some = most.some in
@@ -77,14 +71,16 @@ module _ (p : Problem) (r : Routing) (standing : IsStanding p r) where
           routed_from = omega (arith, ints);
           routed_upto = omega (arith, ints);
           opened = are;
-          routes = routing_from_surplus net standing.problem.net p.source p.sink standing.problem.ends (r.routed +ℤ m) (sent_along_path r.flow.items path m) (path-rooms net.links r.flow.items path m from rooms path_carries)
+          routes = routing_from_surplus net standing.problem.net p.source p.sink standing.problem.ends (r.routed +ℤ m) (sent_along_path r.flow.items path m)
+              (path-rooms net.links r.flow.items path m from rooms path_carries)
               (λ v within.
               let before = surplus_is net standing.problem.net p.source p.sink standing.problem.ends r.routed r.flow.items standing.routes v within in
               let change = path-surplus net.links r.flow.items path m p.source p.sink v from rooms path_carries free.walk in
               let split_source = when-sum (p.source == v) r.routed in
               let split_sink = when-sum (p.sink == v) r.routed in
               omega (arith, ints, before, change, split_source, split_sink));
-          proof = path-proof net.links r.flow.items r.potentials.items path m from rooms path_carries (All-weaker (IsFreeArc p r) (λ a. reduced_cost_of r.potentials.items a ≡ pos 0) (λ a h. h.free) path free.arcs) standing.proof;
+          proof = path-proof net.links r.flow.items r.potentials.items path m from rooms path_carries
+              (All-weaker (IsFreeArc p r) (λ a. reduced_cost_of r.potentials.items a ≡ pos 0) (λ a h. h.free) path free.arcs) standing.proof;
           bounded = standing.bounded;
           at_source = standing.at_source;
           risen = standing.risen;
@@ -96,7 +92,8 @@ module _ (p : Problem) (r : Routing) (standing : IsStanding p r) where
         when-sum false x = refl
 
 -- nothing is routed yet
-pub Stands-none : (p : Problem) (openings : List Opening) → IsProblem p → AreOpenings p.net.now.links (replicate (length p.net.now.links) (pos 0)) openings → Stands p (replicate (length p.net.now.links) (pos 0)) p.start.now (pos 0) openings
+pub Stands-none : (p : Problem) (openings : List Opening) → IsProblem p → AreOpenings p.net.now.links (replicate (length p.net.now.links) (pos 0)) openings
+    → Stands p (replicate (length p.net.now.links) (pos 0)) p.start.now (pos 0) openings
 Stands-none p openings h are =
     let amount = h.amount.from in
     record {
@@ -120,7 +117,8 @@ Stands-none p openings h are =
       };
       bounded = record {
         one_each = h.start.one_each;
-        bounded = λ v within. let size = size-le-greatest (λ (x : ℤ). x) p.start.now v (pos 0) (let e = h.start.one_each in omega (arith, within, e)) in omega (arith, size);
+        bounded = λ v within. let size = size-le-greatest (λ (x : ℤ). x) p.start.now v (pos 0) (let e = h.start.one_each in omega (arith, within, e)) in
+            omega (arith, size);
       };
       at_source = refl;
       risen = λ v within. omega (arith, ints);
@@ -130,7 +128,8 @@ Stands-none p openings h are =
     nothing : (k : ℕ) → flow_on (replicate (length p.net.now.links) (pos 0)) k ≡ pos 0
     nothing k = elim (cases_lt k (length p.net.now.links)) [
       | inl lt ↦ get_or-replicate (length p.net.now.links) k (pos 0) (pos 0) lt
-      | inr le ↦ get_or_past (replicate (length p.net.now.links) (pos 0)) k (pos 0) (let e = length-replicate {A = ℤ} (length p.net.now.links) (pos 0) in omega (arith, e, le))
+      | inr le ↦ get_or_past (replicate (length p.net.now.links) (pos 0)) k (pos 0)
+          (let e = length-replicate {A = ℤ} (length p.net.now.links) (pos 0) in omega (arith, e, le))
     ]
 
     none_when : (b : Bool) (x : ℤ) → x ≡ pos 0 → when b x ≡ pos 0

@@ -1,10 +1,6 @@
 -- Laws of sums over the numbers below a bound.
-use Rattle.std.proofs.Common.{◌≡◌, ◌≢◌, ◌==◌, ℕ, ◌<◌, zero, suc, ℤ, pos, ◌+ℤ◌, ◌-ℤ◌, ◌*ℤ◌, ◌≤ℤ◌, ap, ap₂, ◌∙◌, sym, refl, inl, inr, arith, if◌then◌else◌}
-use Rattle.std.proofs.lemmas.Int.{ints}
-use Rattle.std.proofs.lemmas.Bool.{cases_eq, eq-eqb, ne_eqb}
-use Rattle.flow_net.specs.Sum.{sum_below}
-use Rattle.sums.proofs.ProductLemmas.{*ℤ-+ℤ}
-use Rattle.std.proofs.Math.IntN.{*ℤ-zero}
+use Rattle.flow_net.proofs.Words.{*ℤ-+ℤ, *ℤ-zero, cases_eq, eq-eqb, ints, ne_eqb, sum_below}
+use Rattle.std.proofs.Common.{ap, ap₂, arith, if◌then◌else◌, inl, inr, pos, refl, suc, sym, zero, ℕ, ℤ, ◌*ℤ◌, ◌+ℤ◌, ◌-ℤ◌, ◌<◌, ◌==◌, ◌∙◌, ◌≡◌, ◌≢◌, ◌≤ℤ◌}
 
 pub sum_below-same : (n : ℕ) (f g : ℕ → ℤ) → ((k : ℕ) → k < n → f k ≡ g k) → sum_below n f ≡ sum_below n g
 sum_below-same zero f g h = refl

@@ -28,7 +28,8 @@ pub record Stands (p : Problem) (flow potentials : List ℤ) (routed : ℤ) (ope
   pub bounded : AreBounded p.net.now p.start.now potentials
   pub at_source : potential_at potentials p.source ≡ potential_at p.start.now p.source
   pub risen : (v : ℕ) → v < p.net.now.nodes → potential_at p.start.now v ≤ℤ potential_at potentials v
-  pub sink_most : (v : ℕ) → v < p.net.now.nodes → (potential_at potentials v -ℤ potential_at p.start.now v) ≤ℤ (potential_at potentials p.sink -ℤ potential_at p.start.now p.sink)
+  pub sink_most : (v : ℕ) → v < p.net.now.nodes
+      → (potential_at potentials v -ℤ potential_at p.start.now v) ≤ℤ (potential_at potentials p.sink -ℤ potential_at p.start.now p.sink)
 
 abbrev pub IsStanding : Problem → Routing → Type 0
 IsStanding p r = Stands p r.flow.items r.potentials.items r.routed r.openings.items

@@ -37,11 +37,16 @@ pub fn solve(
     requires ends { AreEnds net.now source sink }
     requires amount { IsRoom amount }
     requires start { AreInitialPotentials net.now start.now }
-    ensures routed { IfOk result (λ s. IfRouted s (λ flow potentials. IsLeastRouting net.now source sink amount flow)) }
-    ensures certified { IfOk result (λ s. IfRouted s (λ flow potentials. AreProofOfLeast net.now.links flow potentials)) }
-    ensures bounded { IfOk result (λ s. IfRouted s (λ flow potentials. AreBounded net.now start.now potentials)) }
-    ensures blocked { IfOk result (λ s. IfBlocked s (λ set. IsCutBelow net.now source sink amount set)) }
-    ensures blocked_only { IfOk result (λ s. IfBlocked s (λ set. ¬ IsRoutable net.now source sink amount)) }
+    ensures routed { IfOk result
+        (λ s. IfRouted s (λ flow potentials. IsLeastRouting net.now source sink amount flow)) }
+    ensures certified { IfOk result
+        (λ s. IfRouted s (λ flow potentials. AreProofOfLeast net.now.links flow potentials)) }
+    ensures bounded { IfOk result
+        (λ s. IfRouted s (λ flow potentials. AreBounded net.now start.now potentials)) }
+    ensures blocked { IfOk result
+        (λ s. IfBlocked s (λ set. IsCutBelow net.now source sink amount set)) }
+    ensures blocked_only { IfOk result
+        (λ s. IfBlocked s (λ set. ¬ IsRoutable net.now source sink amount)) }
 {
     let problem = Problem {
         net,

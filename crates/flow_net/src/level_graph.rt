@@ -107,7 +107,8 @@ impl LevelGraph {
         requires standing { IsStanding problem.now routing.now }
         requires graph { IsLevelGraph problem.now self.old }
         ensures graph { OnOk result (IsLevelGraph problem.now self.new) }
-        ensures path { IfOk result (λ o. IfSome o (λ path. IsFreePath problem.now routing.now path.items)) }
+        ensures path { IfOk result
+            (λ o. IfSome o (λ path. IsFreePath problem.now routing.now path.items)) }
     {
         let mut path = Vec::new(alloc);
         let mut node = problem.sink;

@@ -25,7 +25,8 @@ impl Problem<'_> {
         requires node { node < self.now.net.now.nodes }
         ensures range { result.now ≡ arcs_at self.now.adjacency node }
         ensures arcs { All (λ a. IsArc self.now.net.now.links a × (a.tail ≡ node)) result.now }
-        ensures complete { (a : Arc) → IsArc self.now.net.now.links a → a.tail ≡ node → Contains result.now a }
+        ensures complete { (a : Arc) → IsArc self.now.net.now.links a → a.tail ≡ node
+            → Contains result.now a }
     {
         self.adjacency.arcs_from(node)
     }

@@ -37,7 +37,9 @@ impl Queue {
     pub fn push(&mut self, rise: i64, node: u32) -> Result<(), AllocError>
         requires { self.old.level ≤ℤ rise }
         ensures level { OnOk result (self.new.level ≡ self.old.level) }
-        ensures entries { OnOk result (IsPermutation ((record { 0 = rise }, node) ∷ entries_of self.old) (entries_of self.new)) }
+        ensures entries { OnOk result
+            (IsPermutation ((record { 0 = rise }, node) ∷ entries_of self.old)
+            (entries_of self.new)) }
     {
         if rise == self.level {
             self.near.push_back(node)?;
@@ -49,7 +51,8 @@ impl Queue {
 
     /// Takes out the next node, whose rise is the level from then on.
     pub fn pop(&mut self) -> Option<u32>
-        ensures { MatchOption result (IsEmptied self.old self.new) (λ v. IsNext self.old self.new v) }
+        ensures { MatchOption result (IsEmptied self.old self.new)
+            (λ v. IsNext self.old self.new v) }
     {
         if let Some(node) = self.near.pop_front() {
             return Some(node);

@@ -88,7 +88,8 @@ impl Routing {
         requires path { IsFreePath problem.now self.old path.now }
         requires short { self.old.routed <ℤ problem.now.amount }
         ensures standing { IsStanding problem.now self.new }
-        ensures amount { IsBottleneck problem.now self.old path.now (self.new.routed -ℤ self.old.routed) }
+        ensures amount { IsBottleneck problem.now self.old path.now
+            (self.new.routed -ℤ self.old.routed) }
     {
         let amount = self.bottleneck(problem, path);
         for arc in path {
@@ -117,7 +118,8 @@ impl Routing {
 
 /// The openings of the links of a net where nothing flows.
 fn openings_of(alloc: Global, net: &Net) -> Result<Vec<Opening>, AllocError>
-    ensures { IfOk result (λ o. AreOpenings net.now.links (replicate (length net.now.links) (pos 0)) o.items) }
+    ensures { IfOk result (λ o. AreOpenings net.now.links (replicate (length net.now.links) (pos 0))
+        o.items) }
 {
     let mut openings = Vec::with_capacity(alloc, net.links.len())?;
     for link in net.links.as_slice() {

@@ -59,7 +59,8 @@ impl Search {
     pub fn run(&mut self, problem: &Problem, routing: &Routing) -> Result<bool, AllocError>
         requires standing { IsStanding problem.now routing.now }
         requires fresh { IsFresh problem.now self.old }
-        ensures { IfOk result (λ b. MatchBool b (HasArrived problem.now routing.now self.new) (IsStuck problem.now routing.now self.new)) }
+        ensures { IfOk result (λ b. MatchBool b (HasArrived problem.now routing.now self.new)
+            (IsStuck problem.now routing.now self.new)) }
     {
         while let Some((node, label)) = self.nearest() {
             if node == problem.sink {
@@ -73,7 +74,8 @@ impl Search {
     /// Reaches the node whose potential has to rise least, of those that are labelled and not reached.
     fn nearest(&mut self) -> Option<(u32, Label)>
         requires { HasQueue self.old }
-        ensures { MatchOption result (IsDrained self.old self.new) (λ r. IsReaching self.old self.new r.0 r.1) }
+        ensures { MatchOption result (IsDrained self.old self.new)
+            (λ r. IsReaching self.old self.new r.0 r.1) }
     {
         while let Some(node) = self.queue.pop() {
             if !self.reached[node as usize] {
@@ -99,7 +101,9 @@ impl Search {
         requires at { IsAt self.old node label.now }
         ensures search { OnOk result (IsSearch problem.now routing.now self.new) }
         ensures improves { OnOk result (Improves self.old self.new) }
-        ensures closed { OnOk result ((a : Arc) → IsArc problem.now.net.now.links a → a.tail ≡ node → IsClosedAt problem.now routing.now self.new a) }
+        ensures closed { OnOk result
+            ((a : Arc) → IsArc problem.now.net.now.links a → a.tail ≡ node
+            → IsClosedAt problem.now routing.now self.new a) }
     {
         for arc in problem.arcs_from(node) {
             self.relax(problem, routing, arc, label)?;
@@ -139,8 +143,10 @@ impl Search {
     /// Whether a node has no label, or one that rises more than this.
     fn is_lower(&self, node: u32, rise: i64) -> bool
         requires { node < length self.now.labels.items }
-        ensures lower { result ≡ true → is_labelled self.now.labels.items node ≡ true → rise <ℤ rise_at self.now.labels.items node }
-        ensures no_lower { result ≡ false → (is_labelled self.now.labels.items node ≡ true) × (rise_at self.now.labels.items node ≤ℤ rise) }
+        ensures lower { result ≡ true → is_labelled self.now.labels.items node ≡ true
+            → rise <ℤ rise_at self.now.labels.items node }
+        ensures no_lower { result ≡ false → (is_labelled self.now.labels.items node ≡ true)
+            × (rise_at self.now.labels.items node ≤ℤ rise) }
     {
         match self.labels[node as usize] {
             Some(label) => rise < label.rise,

@@ -1,22 +1,11 @@
 -- What any number given to the nodes of a net around an inner net falls along its links, times their flows: the one law from
 -- which all sums over a routing follow.
-use Rattle.std.proofs.Common.{◌≡◌, ◌∙◌, refl, sym, ap, ap₂, ℕ, suc, ◌+◌, ◌<◌, List, length, arith}
-use Rattle.std.specs.Prelude.{◌==◌, if◌then◌else◌, ℤ, pos, ◌+ℤ◌, ◌-ℤ◌, ◌*ℤ◌}
-use Rattle.std.proofs.lemmas.Bool.{eq-eqb, ne_eqb}
-use Rattle.std.proofs.lemmas.Int.{ints}
-use Rattle.std.proofs.lemmas.Option.{slice_get_within}
-use Rattle.stream_case.specs.declared.source.Side.TheVariants.{Hot, Cold}
-use Rattle.sums.specs.Sum.{int_sum_from}
-use Rattle.sums.proofs.ListLemmas.{All-slice_get}
-use Rattle.sums.proofs.SumLemmas.{int_sum_from-same_each}
-use Rattle.grid.specs.declared.part.Part.{Part}
-use Rattle.flow_net.specs.declared.net.Link.{Link}
-use Rattle.flow_net.specs.declared.net.Net.{Net}
-use Rattle.flow_net.specs.Net.{flow_on, IsRouting, IsWithinLimits, AreEnds}
-use Rattle.flow_net.proofs.Duality.{falls_of_routing}
-use Rattle.chains.specs.Inner.{IsInner, IsInnerLink}
-use Rattle.transport.specs.Around.{net_around}
-use Rattle.transport.proofs.LinkSums.{ends, first_node, whole_at, spare_at, between_at, parts_sum, sum_around, sum_over_links}
+use Rattle.transport.proofs.Words.{All-slice_get, Cold, Hot, IsInnerLink, Link, Net, Part, Side, eq-eqb, falls_of_routing, flow_on, if◌then◌else◌, int_sum_from}
+use Rattle.transport.proofs.Words.{int_sum_from-same_each, int_sum_from-zero, ints, most_of, ne_eqb, net_around, pos, slice_get_within, ℤ, ◌*ℤ◌, ◌+ℤ◌, ◌-ℤ◌}
+use Rattle.transport.proofs.Words.{◌==◌}
+use Rattle.std.proofs.Common.{List, ap, ap₂, arith, length, refl, suc, sym, ℕ, ◌+◌, ◌<◌, ◌∙◌, ◌≡◌}
+use Rattle.transport.proofs.Limits.{IsFullRouting, ends_around, limits_around}
+use Rattle.transport.proofs.LinkSums.{between_at, ends, parts_sum, spare_at, sum_around, sum_over_links, whole_at}
 
 -- a number for each node: one for each of the four further nodes, and those of an inner net
 abbrev pub given_to : ℕ → (ℕ → ℤ) → ℤ → ℤ → ℤ → ℤ → ℕ → ℤ
@@ -26,7 +15,13 @@ given_to nodes inside source sink filler spill v =
 module _ (nodes : ℕ) (inside : ℕ → ℤ) (s t f p : ℤ) where
   at_inner : (v : ℕ) → v < nodes → given_to nodes inside s t f p v ≡ inside v
   at_inner v within =
-      rw (ne_eqb v nodes (λ e. omega (arith, e)), ne_eqb v (nodes + 1) (λ e. omega (arith, e)), ne_eqb v (nodes + 2) (λ e. omega (arith, e)), ne_eqb v (nodes + 3) (λ e. omega (arith, e))) refl
+      rw (
+        ne_eqb v nodes (λ e. omega (arith, e)),
+        ne_eqb v (nodes + 1) (λ e. omega (arith, e)),
+        ne_eqb v (nodes + 2) (λ e. omega (arith, e)),
+        ne_eqb v
+            (nodes + 3) (λ e. omega (arith, e)),
+      ) refl
 
   at_source : given_to nodes inside s t f p nodes ≡ s
   at_source = rw (eq-eqb nodes nodes refl) refl
@@ -35,46 +30,100 @@ module _ (nodes : ℕ) (inside : ℕ → ℤ) (s t f p : ℤ) where
   at_sink = rw (ne_eqb (nodes + 1) nodes (λ e. omega (arith, e)), eq-eqb (nodes + 1) (nodes + 1) refl) refl
 
   at_filler : given_to nodes inside s t f p (nodes + 2) ≡ f
-  at_filler = rw (ne_eqb (nodes + 2) nodes (λ e. omega (arith, e)), ne_eqb (nodes + 2) (nodes + 1) (λ e. omega (arith, e)), eq-eqb (nodes + 2) (nodes + 2) refl) refl
+  at_filler =
+      let later = λ (k : ℕ) (less : k < nodes + 2). ne_eqb (nodes + 2) k (λ e. omega (arith, e, less)) in
+      rw (later nodes (omega arith), later (nodes + 1) (omega arith), eq-eqb (nodes + 2) (nodes + 2) refl) refl
 
   at_spill : given_to nodes inside s t f p (nodes + 3) ≡ p
   at_spill =
-      rw (ne_eqb (nodes + 3) nodes (λ e. omega (arith, e)), ne_eqb (nodes + 3) (nodes + 1) (λ e. omega (arith, e)), ne_eqb (nodes + 3) (nodes + 2) (λ e. omega (arith, e)), eq-eqb (nodes + 3) (nodes + 3) refl) refl
+      let later = λ (k : ℕ) (less : k < nodes + 3). ne_eqb (nodes + 3) k (λ e. omega (arith, e, less)) in
+      rw (later nodes (omega arith), later (nodes + 1) (omega arith), later (nodes + 2) (omega arith), eq-eqb (nodes + 3) (nodes + 3) refl) refl
 
 -- the fall from a to b, times a flow
 abbrev pub term : ℤ → ℤ → ℤ → ℤ
 term a b x = (a -ℤ b) *ℤ x
 
 -- six sums, each equal to another one
-sum_up : (a a' b b' c c' d d' e e' f f' g : ℤ) → a +ℤ (b +ℤ (c +ℤ (d +ℤ (e +ℤ (f +ℤ pos 0))))) ≡ g → a ≡ a' → b ≡ b' → c ≡ c' → d ≡ d' → e ≡ e' → f ≡ f' → a' +ℤ (b' +ℤ (c' +ℤ (d' +ℤ (e' +ℤ f')))) ≡ g
+sum_up : (a a' b b' c c' d d' e e' f f' g : ℤ) → a +ℤ (b +ℤ (c +ℤ (d +ℤ (e +ℤ (f +ℤ pos 0))))) ≡ g → a ≡ a' → b ≡ b' → c ≡ c' → d ≡ d' → e ≡ e' → f ≡ f'
+    → a' +ℤ (b' +ℤ (c' +ℤ (d' +ℤ (e' +ℤ f')))) ≡ g
 sum_up a a' b b' c c' d d' e e' f f' g all ha hb hc hd he hf = omega (arith, ints)
 
-module _ (hot cold : List Part) (inner : Net) (is_inner : IsInner (length hot) (length cold) inner) (amount : ℤ) (flow : List ℤ) (limits : IsWithinLimits (net_around hot cold inner)) (are_ends : AreEnds (net_around hot cold inner) (ends hot cold inner).source (ends hot cold inner).sink) (routing : IsRouting (net_around hot cold inner) (ends hot cold inner).source (ends hot cold inner).sink amount flow) where
+module _ {hot cold : List Part} {inner : Net} {flow : List ℤ} (r : IsFullRouting hot cold inner flow) where
+  -- what the two links of the part at an index carry, and the links between the further nodes
+  abbrev pub whole : Side → ℕ → ℤ
+  whole side i = flow_on flow (whole_at hot cold inner side i)
+
+  abbrev pub spare : Side → ℕ → ℤ
+  spare side i = flow_on flow (spare_at hot cold inner side i)
+
+  abbrev pub between : ℕ → ℤ
+  between j = flow_on flow (between_at hot cold inner + j)
+
+  -- what numbers at the nodes fall along the two links of the part at an index
+  abbrev pub hot_fall : (ℕ → ℤ) → ℤ → ℤ → ℕ → ℤ
+  hot_fall inside s p i = term s (inside (0 + i)) (whole Hot i) +ℤ term (inside (0 + i)) p (spare Hot i)
+
+  abbrev pub cold_fall : (ℕ → ℤ) → ℤ → ℤ → ℕ → ℤ
+  cold_fall inside t f i = term (inside (length hot + i)) t (whole Cold i) +ℤ term f (inside (length hot + i)) (spare Cold i)
+
   pub falls_around : (inside : ℕ → ℤ) (s t f p : ℤ) →
       int_sum_from (λ k l. term (inside l.from) (inside l.to) (flow_on flow k)) 0 inner.links
-      +ℤ (int_sum_from (λ i q. term s (inside (first_node hot cold inner Hot + i)) (flow_on flow (whole_at hot cold inner Hot i)) +ℤ term (inside (first_node hot cold inner Hot + i)) p (flow_on flow (spare_at hot cold inner Hot i))) 0 hot
-      +ℤ (int_sum_from (λ i q. term (inside (first_node hot cold inner Cold + i)) t (flow_on flow (whole_at hot cold inner Cold i)) +ℤ term f (inside (first_node hot cold inner Cold + i)) (flow_on flow (spare_at hot cold inner Cold i))) 0 cold
-      +ℤ (term s f (flow_on flow (between_at hot cold inner)) +ℤ (term p t (flow_on flow (between_at hot cold inner + 1)) +ℤ term f p (flow_on flow (between_at hot cold inner + 2))))))
-      ≡ s *ℤ amount -ℤ t *ℤ amount
+      +ℤ (int_sum_from (λ i (q : Part). hot_fall inside s p i) 0 hot
+      +ℤ (int_sum_from (λ i (q : Part). cold_fall inside t f i) 0 cold
+      +ℤ (term s f (between 0) +ℤ (term p t (between 1) +ℤ term f p (between 2)))))
+      ≡ s *ℤ (most_of hot +ℤ most_of cold) -ℤ t *ℤ (most_of hot +ℤ most_of cold)
   falls_around inside s t f p =
       let n = inner.nodes in
+      let net = net_around hot cold inner in
+      let amount = most_of hot +ℤ most_of cold in
       let c = given_to n inside s t f p in
       let x = flow_on flow in
+      let k = between_at hot cold inner in
       let along = λ (k : ℕ) (l : Link). term (c l.from) (c l.to) (x k) in
-      let room = is_inner.nodes in
-      let all = sym (sum_over_links along (net_around hot cold inner).links) ∙ falls_of_routing (net_around hot cold inner) limits (ends hot cold inner).source (ends hot cold inner).sink are_ends amount flow routing c in
+      let room = r.around.inner_net.nodes in
+      let source = at_source n inside s t f p in
+      let sink = at_sink n inside s t f p in
+      let filler = at_filler n inside s t f p in
+      let spill = at_spill n inside s t f p in
+      let same = λ (a a' b b' y : ℤ) (from : a ≡ a') (to : b ≡ b'). ap₂ (λ u v. term u v y) from to in
+      let limits = limits_around hot cold inner r.around in
+      let all = sym (sum_over_links along net.links)
+      ∙ falls_of_routing net limits (ends inner).source (ends inner).sink (ends_around hot cold inner r.around) amount flow r.routing c in
       let split = sum_around hot cold inner along in
-      let within = int_sum_from-same_each along (λ k l. term (inside l.from) (inside l.to) (x k)) inner.links (λ k l at. let h = All-slice_get (IsInnerLink (length hot) (length cold) n) inner.links k l is_inner.links at in ap₂ (λ a b. term a b (x k)) (at_inner n inside s t f p l.from h.from_in) (at_inner n inside s t f p l.to h.to_in)) in
-      let hots = int_sum_from-same_each (λ i q. term (c n) (c (0 + i)) (x (whole_at hot cold inner Hot i)) +ℤ term (c (0 + i)) (c (n + 3)) (x (spare_at hot cold inner Hot i))) (λ i q. term s (inside (0 + i)) (x (whole_at hot cold inner Hot i)) +ℤ term (inside (0 + i)) p (x (spare_at hot cold inner Hot i))) hot
-      (λ i q at. let here = at_inner n inside s t f p (0 + i) (omega (arith, room, slice_get_within hot i q at)) in ap₂ ◌+ℤ◌ (ap₂ (λ a b. term a b (x (whole_at hot cold inner Hot i))) (at_source n inside s t f p) here) (ap₂ (λ a b. term a b (x (spare_at hot cold inner Hot i))) here (at_spill n inside s t f p))) in
-      let colds = int_sum_from-same_each (λ i q. term (c (length hot + i)) (c (n + 1)) (x (whole_at hot cold inner Cold i)) +ℤ term (c (n + 2)) (c (length hot + i)) (x (spare_at hot cold inner Cold i))) (λ i q. term (inside (length hot + i)) t (x (whole_at hot cold inner Cold i)) +ℤ term f (inside (length hot + i)) (x (spare_at hot cold inner Cold i))) cold
-      (λ i q at. let here = at_inner n inside s t f p (length hot + i) (omega (arith, room, slice_get_within cold i q at)) in ap₂ ◌+ℤ◌ (ap₂ (λ a b. term a b (x (whole_at hot cold inner Cold i))) here (at_sink n inside s t f p)) (ap₂ (λ a b. term a b (x (spare_at hot cold inner Cold i))) (at_filler n inside s t f p) here)) in
-      let one = ap₂ (λ a b. term a b (x (between_at hot cold inner))) (at_source n inside s t f p) (at_filler n inside s t f p) in
-      let two = ap₂ (λ a b. term a b (x (between_at hot cold inner + 1))) (at_spill n inside s t f p) (at_sink n inside s t f p) in
-      let three = ap₂ (λ a b. term a b (x (between_at hot cold inner + 2))) (at_filler n inside s t f p) (at_spill n inside s t f p) in
-      let second = ap (λ k. term (c (n + 3)) (c (n + 1)) (x k)) {x = suc (between_at hot cold inner)} {y = between_at hot cold inner + 1} (omega arith) in
-      let third = ap (λ k. term (c (n + 2)) (c (n + 3)) (x k)) {x = suc (suc (between_at hot cold inner))} {y = between_at hot cold inner + 2} (omega arith) in
-      let ends_are = ap₂ (λ a b. a *ℤ amount -ℤ b *ℤ amount) (at_source n inside s t f p) (at_sink n inside s t f p) in
+      let within = int_sum_from-same_each along (λ k l. term (inside l.from) (inside l.to) (x k)) inner.links
+      (λ k l at.
+      let h = All-slice_get (IsInnerLink (length hot) (length cold) n) inner.links k l r.around.inner_net.links at in
+      same _ _ _ _ (x k) (at_inner n inside s t f p l.from h.from_in) (at_inner n inside s t f p l.to h.to_in)) in
+      let hots = int_sum_from-same_each (λ i (q : Part). hot_fall c (c n) (c (n + 3)) i) (λ i q. hot_fall inside s p i) hot
+      (λ i q at.
+      let here = at_inner n inside s t f p (0 + i) (omega (arith, room, slice_get_within hot i q at)) in
+      ap₂ ◌+ℤ◌ (same _ _ _ _ (whole Hot i) source here) (same _ _ _ _ (spare Hot i) here spill)) in
+      let colds = int_sum_from-same_each (λ i (q : Part). cold_fall c (c (n + 1)) (c (n + 2)) i) (λ i q. cold_fall inside t f i) cold
+      (λ i q at.
+      let here = at_inner n inside s t f p (length hot + i) (omega (arith, room, slice_get_within cold i q at)) in
+      ap₂ ◌+ℤ◌ (same _ _ _ _ (whole Cold i) here sink) (same _ _ _ _ (spare Cold i) filler here)) in
+      let first = ap (λ j. term (c n) (c (n + 2)) (x j)) {x = k} {y = k + 0} (omega arith) in
+      let second = ap (λ j. term (c (n + 3)) (c (n + 1)) (x j)) {x = suc k} {y = k + 1} (omega arith) in
+      let third = ap (λ j. term (c (n + 2)) (c (n + 3)) (x j)) {x = suc (suc k)} {y = k + 2} (omega arith) in
       sum_up (int_sum_from along 0 inner.links) _ (parts_sum hot cold inner Hot along hot) _ (parts_sum hot cold inner Cold along cold) _
-      (term (c n) (c (n + 2)) (x (between_at hot cold inner))) _ (term (c (n + 3)) (c (n + 1)) (x (suc (between_at hot cold inner)))) _ (term (c (n + 2)) (c (n + 3)) (x (suc (suc (between_at hot cold inner))))) _ _
-      (sym split ∙ all ∙ ends_are) within hots colds one (second ∙ two) (third ∙ three)
+      (term (c n) (c (n + 2)) (x k)) _ (term (c (n + 3)) (c (n + 1)) (x (suc k))) _ (term (c (n + 2)) (c (n + 3)) (x (suc (suc k)))) _ _
+      (sym split ∙ all ∙ ap₂ (λ a b. a *ℤ amount -ℤ b *ℤ amount) source sink) within hots colds (first ∙ same _ _ _ _ (between 0) source filler)
+      (second ∙ same _ _ _ _ (between 1) spill sink) (third ∙ same _ _ _ _ (between 2) filler spill)
+
+  -- where the numbers at the parts of a side are 0, nothing falls
+  none : (a b c d x y : ℤ) → a ≡ pos 0 → b ≡ pos 0 → c ≡ pos 0 → d ≡ pos 0 → term a b x +ℤ term c d y ≡ pos 0
+  none a b c d x y ha hb hc hd = rw (ha, hb, hc, hd) (omega (arith, ints))
+
+  pub hot_none : (inside : ℕ → ℤ) → ((i : ℕ) → i < length hot → inside (0 + i) ≡ pos 0)
+      → int_sum_from (λ i (q : Part). hot_fall inside (pos 0) (pos 0) i) 0 hot ≡ pos 0
+  hot_none inside each =
+      int_sum_from-same_each (λ i (q : Part). hot_fall inside (pos 0) (pos 0) i) (λ i q. pos 0) hot
+      (λ i q at. let here = each i (slice_get_within hot i q at) in none _ _ _ _ (whole Hot i) (spare Hot i) refl here here refl)
+      ∙ int_sum_from-zero (λ i (q : Part). pos 0) 0 hot (λ i q le. refl)
+
+  pub cold_none : (inside : ℕ → ℤ) → ((i : ℕ) → i < length cold → inside (length hot + i) ≡ pos 0)
+      → int_sum_from (λ i (q : Part). cold_fall inside (pos 0) (pos 0) i) 0 cold ≡ pos 0
+  cold_none inside each =
+      int_sum_from-same_each (λ i (q : Part). cold_fall inside (pos 0) (pos 0) i) (λ i q. pos 0) cold
+      (λ i q at. let here = each i (slice_get_within cold i q at) in none _ _ _ _ (whole Cold i) (spare Cold i) here refl refl here)
+      ∙ int_sum_from-zero (λ i (q : Part). pos 0) 0 cold (λ i q le. refl)

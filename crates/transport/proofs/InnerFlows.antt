@@ -1,31 +1,15 @@
 -- What an inner net carries where the most of all parts is routed: its chain nodes pass on what they take, and none of its links
 -- is full, since all that leaves the hot parts is less than the room of a link.
-use Rattle.std.proofs.Common.{◌≡◌, ◌∙◌, ◌⊎◌, ⊎_elim, inl, inr, refl, ℕ, ◌+◌, ◌<◌, ◌≤◌, Bool, true, false, List, length, arith}
-use Rattle.std.specs.Prelude.{◌==◌, if◌then◌else◌, nat_lt, ℤ, pos, ◌+ℤ◌, ◌-ℤ◌, ◌≤ℤ◌, ◌<ℤ◌, Some, slice_get}
-use Rattle.std.proofs.lemmas.Bool.{cases_lt, lt-ltb, le-ltb}
-use Rattle.std.proofs.lemmas.Int.{ints}
-use Rattle.std.proofs.lemmas.Option.{slice_get-get_or, slice_get_within}
-use Rattle.stream_case.specs.declared.source.Side.{Side}
-use Rattle.stream_case.specs.declared.source.Side.TheVariants.{Hot, Cold}
-use Rattle.sums.specs.Sum.{int_sum_from}
-use Rattle.sums.proofs.ListLemmas.{All-slice_get}
-use Rattle.sums.proofs.SumLemmas.{int_sum_from-by, int_sum_from-le_each, int_sum_from-same_each, int_sum_from-sub, int_sum_from-zero}
-use Rattle.grid.specs.declared.part.Part.{Part}
-use Rattle.flow_net.specs.declared.limits.TheConstants.{MOST_ROOM}
-use Rattle.flow_net.specs.declared.net.Link.{Link}
-use Rattle.flow_net.specs.declared.net.Net.{Net}
-use Rattle.flow_net.specs.Net.{link_at, flow_on, inflow, outflow, IsRouting}
-use Rattle.chains.specs.Inner.{IsInnerLink}
-use Rattle.transport.specs.Around.{most_of, net_around}
-use Rattle.transport.proofs.Balances.{mark, mark_other, two_terms, law, whole_within, spare_within}
-use Rattle.transport.proofs.Falls.{term}
-use Rattle.transport.proofs.Limits.{IsAround, limits_around, ends_around, most_within}
-use Rattle.transport.proofs.LinkPlaces.{inner_at}
-use Rattle.transport.proofs.LinkSums.{ends, whole_at, spare_at, sum_over_links}
+use Rattle.transport.proofs.Words.{All-slice_get, Hot, IsInnerLink, Link, MOST_ROOM, Net, Part, Some, cases_lt, flow_on, if◌then◌else◌, inflow, int_sum_from-by}
+use Rattle.transport.proofs.Words.{int_sum_from-le_each, int_sum_from-same_each, int_sum_from-sub, int_sum_from-zero, ints, le-ltb, link_at, lt-ltb, nat_lt}
+use Rattle.transport.proofs.Words.{outflow, pos, slice_get, slice_get-get_or, slice_get_within, ℤ, ◌+ℤ◌, ◌-ℤ◌, ◌<ℤ◌, ◌==◌, ◌≤ℤ◌}
+use Rattle.std.proofs.Common.{Bool, List, arith, false, inl, inr, length, refl, true, ℕ, ⊎_elim, ◌+◌, ◌<◌, ◌∙◌, ◌≡◌, ◌≤◌, ◌⊎◌}
+use Rattle.transport.proofs.Balances.{mark, mark_other, spare_within, whole_within}
+use Rattle.transport.proofs.Falls.{cold_none, falls_around, hot_fall, hot_none, spare, term, whole}
+use Rattle.transport.proofs.Limits.{IsFullRouting, most_within}
+use Rattle.transport.proofs.LinkPlaces.{inner_at, no_link}
+use Rattle.transport.proofs.LinkSums.{sum_over_links}
 use Rattle.transport.proofs.SumsFrom.{int_sum_from-term}
-
-abbrev no_link : Link
-no_link = record { from = 0; to = 0; room = pos 0; cost = pos 0 }
 
 -- what leaves a node, less what enters it
 term_both : (b c : Bool) (x : ℤ) → term (if b then pos 1 else pos 0) (if c then pos 1 else pos 0) x ≡ (if b then x else pos 0) -ℤ (if c then x else pos 0)
@@ -41,7 +25,8 @@ term_both false false x = omega (arith, ints)
 abbrev gathered : ℕ → ℕ → ℕ → ℕ → ℤ
 gathered hots first last v = if nat_lt v hots then pos 1 else if nat_lt v first then pos 0 else if nat_lt last v then pos 0 else pos 1
 
-one_or_none : (a b c : Bool) → ((if a then pos 1 else if b then pos 0 else if c then pos 0 else pos 1) ≡ pos 1) ⊎ ((if a then pos 1 else if b then pos 0 else if c then pos 0 else pos 1) ≡ pos 0)
+one_or_none : (a b c : Bool) → ((if a then pos 1 else if b then pos 0 else if c then pos 0 else pos 1) ≡ pos 1)
+    ⊎ ((if a then pos 1 else if b then pos 0 else if c then pos 0 else pos 1) ≡ pos 0)
 one_or_none true b c = inl refl
 one_or_none false true c = inr refl
 one_or_none false false true = inr refl
@@ -75,7 +60,8 @@ module _ (hots colds nodes last : ℕ) where
   -- a link that does not begin inside does not enter
   stays_out : (l : Link) → IsInnerLink hots colds nodes l → (hots + colds) ≤ l.from → last < l.from → inside l.to ≡ pos 0
   stays_out l h behind above =
-      ⊎_elim (λ cold. outside_cold l.to h.enters cold) (λ chain. let on = h.onward behind chain in outside_chain l.to chain (omega (arith, on, above))) (cases_lt l.to (hots + colds))
+      ⊎_elim (λ cold. outside_cold l.to h.enters cold) (λ chain. let on = h.onward behind chain in outside_chain l.to chain (omega (arith, on, above)))
+      (cases_lt l.to (hots + colds))
 
   none_enters : (l : Link) (x : ℤ) → IsInnerLink hots colds nodes l → pos 0 ≤ℤ x → pos 0 ≤ℤ term (inside l.from) (inside l.to) x
   none_enters l x h some =
@@ -83,7 +69,8 @@ module _ (hots colds nodes last : ℕ) where
       (λ hot. from_inside (inside_hot l.from hot))
       (λ behind.
       ⊎_elim
-      (λ above. let none = term_none (inside l.from) (inside l.to) (pos 0) x (outside_chain l.from behind above) (stays_out l h behind above) in omega (arith, ints, none))
+      (λ above. let none = term_none (inside l.from) (inside l.to) (pos 0) x (outside_chain l.from behind above) (stays_out l h behind above) in
+      omega (arith, ints, none))
       (λ upto. from_inside (inside_chain l.from behind upto))
       (cases_lt last l.from))
       h.leaves
@@ -108,40 +95,28 @@ module _ (hots colds nodes last : ℕ) where
 
 -- ---- the flow of an inner net
 
-module _ (hot cold : List Part) (inner : Net) (g : IsAround hot cold inner) (flow : List ℤ) (routing : IsRouting (net_around hot cold inner) (ends hot cold inner).source (ends hot cold inner).sink (most_of hot +ℤ most_of cold) flow) where
-  abbrev whole : Side → ℕ → ℤ
-  whole side i = flow_on flow (whole_at hot cold inner side i)
-
-  abbrev spare : Side → ℕ → ℤ
-  spare side i = flow_on flow (spare_at hot cold inner side i)
-
+module _ {hot cold : List Part} {inner : Net} {flow : List ℤ} (r : IsFullRouting hot cold inner flow) where
   inner_link : (k : ℕ) (l : Link) → slice_get inner.links k ≡ Some l → IsInnerLink (length hot) (length cold) inner.nodes l
-  inner_link k l at = All-slice_get (IsInnerLink (length hot) (length cold) inner.nodes) inner.links k l g.inner_net.links at
+  inner_link k l at = All-slice_get (IsInnerLink (length hot) (length cold) inner.nodes) inner.links k l r.around.inner_net.links at
 
   pub carries_some : (k : ℕ) → k < length inner.links → pos 0 ≤ℤ flow_on flow k
-  carries_some k within = routing.rooms.not_negative k (inner_at hot cold inner k within).within
-
-  nothing : (parts : List Part) → int_sum_from (λ i (q : Part). pos 0) 0 parts ≡ pos 0
-  nothing parts = int_sum_from-zero (λ i (q : Part). pos 0) 0 parts (λ i q le. refl)
+  carries_some k within = r.routing.rooms.not_negative k (inner_at hot cold inner k within).within
 
   -- a chain node passes on what it takes
   pub passes_on : (v : ℕ) → (length hot + length cold) ≤ v → inflow inner.links flow v ≡ outflow inner.links flow v
   passes_on v behind =
       let here = mark (pos 1) v in
-      let all = law hot cold inner g.inner_net flow (limits_around hot cold inner g) (ends_around hot cold inner g) routing here (pos 0) (pos 0) (pos 0) (pos 0) in
+      let all = falls_around r here (pos 0) (pos 0) (pos 0) (pos 0) in
       let links =
-      int_sum_from-same_each (λ k l. term (here l.from) (here l.to) (flow_on flow k)) (λ k l. (if l.from == v then flow_on flow k else pos 0) -ℤ (if l.to == v then flow_on flow k else pos 0)) inner.links
+      int_sum_from-same_each (λ k l. term (here l.from) (here l.to) (flow_on flow k))
+      (λ k l. (if l.from == v then flow_on flow k else pos 0) -ℤ (if l.to == v then flow_on flow k else pos 0)) inner.links
       (λ k l there. term_both (l.from == v) (l.to == v) (flow_on flow k))
       ∙ int_sum_from-sub (λ k l. if l.from == v then flow_on flow k else pos 0) (λ k l. if l.to == v then flow_on flow k else pos 0) 0 inner.links in
       let out = sum_over_links (λ k l. if l.from == v then flow_on flow k else pos 0) inner.links in
       let taken = sum_over_links (λ k l. if l.to == v then flow_on flow k else pos 0) inner.links in
-      let hots =
-      int_sum_from-same_each (λ i (q : Part). term (pos 0) (here (0 + i)) (whole Hot i) +ℤ term (here (0 + i)) (pos 0) (spare Hot i)) (λ i q. pos 0) hot
-      (λ i q there. let row = slice_get_within hot i q there in let none = mark_other (pos 1) v (0 + i) (λ e. omega (arith, row, e, behind)) in two_terms (pos 0) (here (0 + i)) (here (0 + i)) (pos 0) (whole Hot i) (spare Hot i) refl none none refl) in
-      let colds =
-      int_sum_from-same_each (λ i (q : Part). term (here (length hot + i)) (pos 0) (whole Cold i) +ℤ term (pos 0) (here (length hot + i)) (spare Cold i)) (λ i q. pos 0) cold
-      (λ i q there. let column = slice_get_within cold i q there in let none = mark_other (pos 1) v (length hot + i) (λ e. omega (arith, column, e, behind)) in two_terms (here (length hot + i)) (pos 0) (pos 0) (here (length hot + i)) (whole Cold i) (spare Cold i) none refl refl none) in
-      omega (arith, ints, all, links, out, taken, hots, colds, nothing hot, nothing cold)
+      let hots = hot_none r here (λ i early. mark_other (pos 1) v (0 + i) (λ e. omega (arith, early, e, behind))) in
+      let colds = cold_none r here (λ i early. mark_other (pos 1) v (length hot + i) (λ e. omega (arith, early, e, behind))) in
+      omega (arith, ints, all, links, out, taken, hots, colds)
 
   -- what a link carries leaves the hot nodes and the chain nodes up to its own together with all else that leaves them, which the
   -- hot parts give
@@ -150,27 +125,24 @@ module _ (hot cold : List Part) (inner : Net) (g : IsAround hot cold inner) (flo
       let l = link_at inner.links k in
       let at = slice_get-get_or inner.links k no_link within in
       let here = gathered (length hot) (length hot + length cold) l.from in
-      let all = law hot cold inner g.inner_net flow (limits_around hot cold inner g) (ends_around hot cold inner g) routing here (pos 0) (pos 0) (pos 0) (pos 0) in
+      let all = falls_around r here (pos 0) (pos 0) (pos 0) (pos 0) in
       let least =
       int_sum_from-term (λ j n. term (here n.from) (here n.to) (flow_on flow j)) inner.links
-      (λ j n there. none_enters (length hot) (length cold) inner.nodes l.from n (flow_on flow j) (inner_link j n there) (carries_some j (slice_get_within inner.links j n there))) k l at in
+      (λ j n there. none_enters (length hot) (length cold) inner.nodes l.from n (flow_on flow j) (inner_link j n there)
+      (carries_some j (slice_get_within inner.links j n there))) k l at in
       let own = leaves_last (length hot) (length cold) inner.nodes l.from l (flow_on flow k) (inner_link k l at) refl in
       let hots =
-      int_sum_from-le_each (λ i (q : Part). pos 0 -ℤ q.most) (λ i q. term (pos 0) (here (0 + i)) (whole Hot i) +ℤ term (here (0 + i)) (pos 0) (spare Hot i)) hot
+      int_sum_from-le_each (λ i (q : Part). pos 0 -ℤ q.most) (λ i q. hot_fall r here (pos 0) (pos 0) i) hot
       (λ i q there.
       let one = inside_hot (length hot) (length cold) inner.nodes l.from (0 + i) (let row = slice_get_within hot i q there in omega (arith, row)) in
-      let given = whole_within hot cold inner g.inner_net flow (limits_around hot cold inner g) (ends_around hot cold inner g) routing Hot i q there in
-      let spared = spare_within hot cold inner g.inner_net flow (limits_around hot cold inner g) (ends_around hot cold inner g) routing Hot i q there in
-      gives_most (here (0 + i)) q.most (whole Hot i) (spare Hot i) one given.upto spared.from) in
+      gives_most (here (0 + i)) q.most (whole r Hot i) (spare r Hot i) one (whole_within r Hot i q there).upto (spare_within r Hot i q there).from) in
+      let none = int_sum_from-zero (λ i (q : Part). pos 0) 0 hot (λ i q le. refl) in
       let mosts = int_sum_from-sub (λ i (q : Part). pos 0) (λ i q. q.most) 0 hot in
       let sum = int_sum_from-by (λ (q : Part). q.most) 0 hot in
-      let colds =
-      int_sum_from-same_each (λ i (q : Part). term (here (length hot + i)) (pos 0) (whole Cold i) +ℤ term (pos 0) (here (length hot + i)) (spare Cold i)) (λ i q. pos 0) cold
-      (λ i q there.
-      let none = outside_cold (length hot) (length cold) inner.nodes l.from (length hot + i) (omega arith) (let column = slice_get_within cold i q there in omega (arith, column)) in
-      two_terms (here (length hot + i)) (pos 0) (pos 0) (here (length hot + i)) (whole Cold i) (spare Cold i) none refl refl none) in
-      let small = (most_within hot g.few_hot g.hot_bounded).upto in
-      omega (arith, ints, all, least, own, hots, mosts, sum, colds, nothing hot, nothing cold, small)
+      let colds = cold_none r here
+      (λ i early. outside_cold (length hot) (length cold) inner.nodes l.from (length hot + i) (omega arith) (omega (arith, early))) in
+      let small = (most_within hot r.around.few_hot r.around.hot_bounded).upto in
+      omega (arith, ints, all, least, own, hots, mosts, sum, colds, none, small)
     where
       gives_most : (one most x y : ℤ) → one ≡ pos 1 → x ≤ℤ most → pos 0 ≤ℤ y → (pos 0 -ℤ most) ≤ℤ (term (pos 0) one x +ℤ term one (pos 0) y)
       gives_most one most x y is upto from = rw is (omega (arith, ints, upto, from))

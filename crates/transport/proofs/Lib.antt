@@ -10,10 +10,9 @@ pub mod LinkPlaces
 pub mod LinkSums
 pub mod LoopLemmas
 pub mod OfferLemmas
-pub mod PairFlows
 pub mod PairLemmas
 pub mod SlackLemmas
 pub mod StuckLemmas
 pub mod SumsFrom
-pub mod TransferLemmas
 pub mod Worth
+pub mod Words

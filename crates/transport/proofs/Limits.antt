@@ -1,33 +1,15 @@
 -- A net around an inner net is within the limits of nets, and so are what is routed and the initial potentials.
-use Rattle.std.proofs.Common.{◌≡◌, ◌∙◌, sym, ap, subst, ℕ, zero, suc, ◌+◌, ◌-◌, ◌*◌, ◌<◌, ◌≤◌, ⊎_elim, List, [], ◌∷◌, length, length-append, get_or, replicate, arith}
-use Rattle.std.specs.Prelude.{ℤ, pos, neg_ℤ, ◌+ℤ◌, ◌-ℤ◌, ◌*ℤ◌, ◌≤ℤ◌, ◌<ℤ◌, Some, slice_get, All}
-use Rattle.std.specs.Int.RustNames.{unsigned_abs}
-use Rattle.std.proofs.lemmas.Bool.{cases_lt}
-use Rattle.std.proofs.lemmas.Int.{ints}
-use Rattle.std.proofs.lemmas.Nat.{mul-le}
-use Rattle.std.proofs.lemmas.List.{length-replicate, get_or-replicate, get_or_append_left, get_or-append-add, get_or_default}
-use Rattle.std.proofs.lemmas.List.Elements.{All-nil, All-cons, All-weaker}
-use Rattle.std.proofs.lemmas.Option.{slice_get_within}
-use Rattle.stream_case.specs.declared.limits.TheConstants.{MOST_HEAT, MOST_PARTS, MOST_PRICE}
-use Rattle.stream_case.specs.declared.source.Side.{Side}
-use Rattle.stream_case.specs.declared.source.Side.TheVariants.{Hot, Cold}
-use Rattle.stream_case.specs.Limits.{IsBetween, IsPrice}
-use Rattle.sums.proofs.ListLemmas.{All-slice_get}
-use Rattle.sums.proofs.SumLemmas.{int_sum_by-at_most, int_sum_by-not_negative}
-use Rattle.grid.specs.declared.part.Part.{Part}
-use Rattle.grid.specs.declared.parts.Parts.{Parts}
-use Rattle.grid.specs.Bounds.{IsBounded}
-use Rattle.heat_flow.specs.Cuts.{parts_of}
-use Rattle.flow_net.specs.declared.limits.TheConstants.{MOST_ROOM}
-use Rattle.flow_net.specs.declared.net.Link.{Link}
-use Rattle.flow_net.specs.declared.net.Net.{Net}
-use Rattle.flow_net.specs.Net.{potential_at, reduced_cost, largest_cost, IsRoom, IsLinkWithin, IsWithinLimits, AreEnds, AreInitialPotentials, AreBounded}
-use Rattle.flow_net.proofs.Sizes.{sizes, greatest-le}
+use Rattle.transport.proofs.Words.{All, All-cons, All-nil, All-slice_get, All-weaker, AreBounded, AreEnds, AreInitialPotentials, Cold, Hot, IsBetween}
+use Rattle.transport.proofs.Words.{IsBounded, IsInner, IsInnerLink, IsLinkWithin, IsNodePotential, IsPrice, IsRoom, IsRouting, IsWithinLimits, Link, MOST_HEAT}
+use Rattle.transport.proofs.Words.{MOST_PARTS, MOST_PRICE, MOST_ROOM, Net, Part, Parts, Side, Some, cases_lt, get_or-append-add, get_or-replicate}
+use Rattle.transport.proofs.Words.{get_or_append_left, get_or_default, greatest-le, int_sum_by-at_most, int_sum_by-not_negative, ints, largest_cost}
+use Rattle.transport.proofs.Words.{length-replicate, links_between, most_of, mul-le, neg_ℤ, net_around, parts_of, pos, potential_at, reduced_cost, sizes}
+use Rattle.transport.proofs.Words.{slice_get, slice_get_within, spare_link, start_of, unsigned_abs, whole_link, ℤ, ◌*ℤ◌, ◌+ℤ◌, ◌-ℤ◌, ◌<ℤ◌, ◌≤ℤ◌}
 use Rattle.chains.specs.declared.net.TheConstants.{MOST_INNER_LINKS, MOST_INNER_NODES}
-use Rattle.chains.specs.Inner.{IsInner, IsInnerLink}
-use Rattle.transport.specs.Around.{whole_link, spare_link, links_between, most_of, net_around, start_of, IsNodePotential}
+use Rattle.std.proofs.Common.{List, [], ap, arith, get_or, length, length-append, replicate, subst, suc, sym, zero, ℕ, ⊎_elim, ◌*◌, ◌+◌, ◌-◌, ◌<◌, ◌∙◌, ◌∷◌}
+use Rattle.std.proofs.Common.{◌≡◌, ◌≤◌}
+use Rattle.transport.proofs.LinkPlaces.{All-net_around, length-net_around, no_link}
 use Rattle.transport.proofs.LinkSums.{ends, first_node}
-use Rattle.transport.proofs.LinkPlaces.{All-net_around, length-net_around}
 
 -- parts within the limits, and an inner net for them
 pub record IsAround (hot cold : List Part) (inner : Net) : Type 0 where
@@ -39,7 +21,8 @@ pub record IsAround (hot cold : List Part) (inner : Net) : Type 0 where
   pub hot_bounded : All IsBounded hot
   pub cold_bounded : All IsBounded cold
 
-pub IsAround-parts : (parts : Parts) (inner : Net) → IsInner (length parts.hot) (length parts.cold) inner → inner.nodes ≤ MOST_INNER_NODES → length inner.links ≤ MOST_INNER_LINKS → IsAround parts.hot parts.cold inner
+pub IsAround-parts : (parts : Parts) (inner : Net) → IsInner (length parts.hot) (length parts.cold) inner → inner.nodes ≤ MOST_INNER_NODES
+    → length inner.links ≤ MOST_INNER_LINKS → IsAround parts.hot parts.cold inner
 IsAround-parts parts inner inner_net few_nodes few_links = record {
   inner_net = inner_net;
   few_nodes = few_nodes;
@@ -53,8 +36,14 @@ IsAround-parts parts inner inner_net few_nodes few_links = record {
 pub most_within : (parts : List Part) → length parts ≤ MOST_PARTS → All IsBounded parts → IsBetween (pos 0) (pos MOST_PARTS *ℤ MOST_HEAT) (most_of parts)
 most_within parts few bounded =
     let upto = int_sum_by-at_most (λ (p : Part). p.most) (unsigned_abs MOST_HEAT) parts (λ k d within. (bounded k d within).most.upto) in
-    let from = int_sum_by-not_negative (λ (p : Part). p.most) parts (λ k d within. let b = bounded k d within in let least = b.least.from in let most = b.most.from in omega (arith, ints)) in
+    let from = int_sum_by-not_negative (λ (p : Part). p.most) parts
+    (λ k d within. let b = bounded k d within in let least = b.least.from in let most = b.most.from in omega (arith, ints)) in
     record { from = from; upto = omega (arith, ints) }
+
+-- the most of all parts, routed through the net around their inner net
+pub record IsFullRouting (hot cold : List Part) (inner : Net) (flow : List ℤ) : Type 0 where
+  pub around : IsAround hot cold inner
+  pub routing : IsRouting (net_around hot cold inner) (ends inner).source (ends inner).sink (most_of hot +ℤ most_of cold) flow
 
 -- a link between two of n nodes, within the limits of nets and with the cost of a price
 record IsNear (n : ℕ) (l : Link) : Type 0 where
@@ -86,16 +75,17 @@ spare_cost p b =
     record { from = omega (arith, ints); upto = omega (arith, ints) }
 
 module _ (hot cold : List Part) (inner : Net) (g : IsAround hot cold inner) where
-  bounded_of : (side : Side) → All IsBounded (parts_of side hot cold)
-  bounded_of Hot = g.hot_bounded
-  bounded_of Cold = g.cold_bounded
+  bounded_at : (side : Side) (i : ℕ) (p : Part) → slice_get (parts_of side hot cold) i ≡ Some p → IsBounded p
+  bounded_at Hot i p at = All-slice_get IsBounded hot i p g.hot_bounded at
+  bounded_at Cold i p at = All-slice_get IsBounded cold i p g.cold_bounded at
 
   node_within : (side : Side) (i : ℕ) (p : Part) → slice_get (parts_of side hot cold) i ≡ Some p → (first_node hot cold inner side + i) < inner.nodes
   node_within Hot i p at = let nodes = g.inner_net.nodes in omega (arith, nodes, slice_get_within hot i p at)
   node_within Cold i p at = let nodes = g.inner_net.nodes in omega (arith, nodes, slice_get_within cold i p at)
 
   near : (l : Link) → l.from < inner.nodes + 4 → l.to < inner.nodes + 4 → IsRoom l.room → IsPrice l.cost → IsNear (inner.nodes + 4) l
-  near l from to room price = record { limits = record { from_in = from; to_in = to; room = room; cost = omega (arith, sizes, price.from, price.upto) }; price = price }
+  near l from to room price =
+      record { limits = record { from_in = from; to_in = to; room = room; cost = omega (arith, sizes, price.from, price.upto) }; price = price }
 
   near_inner : (l : Link) → IsInnerLink (length hot) (length cold) inner.nodes l → IsNear (inner.nodes + 4) l
   near_inner l h =
@@ -103,17 +93,18 @@ module _ (hot cold : List Part) (inner : Net) (g : IsAround hot cold inner) wher
       let to_in = h.to_in in
       let room = h.room in
       let cost = h.cost in
-      near l (omega (arith, from_in)) (omega (arith, to_in)) (record { from = omega (arith, ints, room); upto = omega (arith, ints, room) }) (record { from = omega (arith, ints, cost); upto = omega (arith, ints, cost) })
+      near l (omega (arith, from_in)) (omega (arith, to_in)) (record { from = omega (arith, ints, room); upto = omega (arith, ints, room) })
+      (record { from = omega (arith, ints, cost); upto = omega (arith, ints, cost) })
 
-  near_whole : (side : Side) (node : ℕ) (p : Part) → node < inner.nodes → IsBounded p → IsNear (inner.nodes + 4) (whole_link side (ends hot cold inner) node p)
-  near_whole Hot node p within b = near (whole_link Hot (ends hot cold inner) node p) (omega arith) (omega (arith, within)) (whole_room p b) no_cost
-  near_whole Cold node p within b = near (whole_link Cold (ends hot cold inner) node p) (omega (arith, within)) (omega arith) (whole_room p b) no_cost
+  near_whole : (side : Side) (node : ℕ) (p : Part) → node < inner.nodes → IsBounded p → IsNear (inner.nodes + 4) (whole_link side (ends inner) node p)
+  near_whole Hot node p within b = near (whole_link Hot (ends inner) node p) (omega arith) (omega (arith, within)) (whole_room p b) no_cost
+  near_whole Cold node p within b = near (whole_link Cold (ends inner) node p) (omega (arith, within)) (omega arith) (whole_room p b) no_cost
 
-  near_spare : (side : Side) (node : ℕ) (p : Part) → node < inner.nodes → IsBounded p → IsNear (inner.nodes + 4) (spare_link side (ends hot cold inner) node p)
-  near_spare Hot node p within b = near (spare_link Hot (ends hot cold inner) node p) (omega (arith, within)) (omega arith) (spare_room p b) (spare_cost p b)
-  near_spare Cold node p within b = near (spare_link Cold (ends hot cold inner) node p) (omega arith) (omega (arith, within)) (spare_room p b) (spare_cost p b)
+  near_spare : (side : Side) (node : ℕ) (p : Part) → node < inner.nodes → IsBounded p → IsNear (inner.nodes + 4) (spare_link side (ends inner) node p)
+  near_spare Hot node p within b = near (spare_link Hot (ends inner) node p) (omega (arith, within)) (omega arith) (spare_room p b) (spare_cost p b)
+  near_spare Cold node p within b = near (spare_link Cold (ends inner) node p) (omega arith) (omega (arith, within)) (spare_room p b) (spare_cost p b)
 
-  near_between : All (IsNear (inner.nodes + 4)) (links_between (ends hot cold inner) (most_of hot) (most_of cold))
+  near_between : All (IsNear (inner.nodes + 4)) (links_between (ends inner) (most_of hot) (most_of cold))
   near_between =
       let given = most_within hot g.few_hot g.hot_bounded in
       let taken = most_within cold g.few_cold g.cold_bounded in
@@ -121,15 +112,20 @@ module _ (hot cold : List Part) (inner : Net) (g : IsAround hot cold inner) wher
       let one : Link = record { from = inner.nodes; to = inner.nodes + 2; room = most_of cold; cost = pos 0 } in
       let two : Link = record { from = inner.nodes + 3; to = inner.nodes + 1; room = most_of hot; cost = pos 0 } in
       let three : Link = record { from = inner.nodes + 2; to = inner.nodes + 3; room = MOST_ROOM; cost = pos 0 } in
-      All-cons P one (two ∷ three ∷ []) (near one (omega arith) (omega arith) (record { from = omega (arith, ints, taken.from); upto = omega (arith, ints, taken.upto) }) no_cost)
-      (All-cons P two (three ∷ []) (near two (omega arith) (omega arith) (record { from = omega (arith, ints, given.from); upto = omega (arith, ints, given.upto) }) no_cost)
+      All-cons P one (two ∷ three ∷ [])
+      (near one (omega arith) (omega arith) (record { from = omega (arith, ints, taken.from); upto = omega (arith, ints, taken.upto) }) no_cost)
+      (All-cons P two (three ∷ [])
+      (near two (omega arith) (omega arith) (record { from = omega (arith, ints, given.from); upto = omega (arith, ints, given.upto) }) no_cost)
       (All-cons P three [] (near three (omega arith) (omega arith) (record { from = omega (arith, ints); upto = omega (arith, ints) }) no_cost) (All-nil P)))
 
   near_all : All (IsNear (inner.nodes + 4)) (net_around hot cold inner).links
   near_all =
-      All-net_around hot cold inner (IsNear (inner.nodes + 4)) (All-weaker (IsInnerLink (length hot) (length cold) inner.nodes) (IsNear (inner.nodes + 4)) near_inner inner.links g.inner_net.links)
-      (λ side i p at. near_whole side (first_node hot cold inner side + i) p (node_within side i p at) (All-slice_get IsBounded (parts_of side hot cold) i p (bounded_of side) at))
-      (λ side i p at. near_spare side (first_node hot cold inner side + i) p (node_within side i p at) (All-slice_get IsBounded (parts_of side hot cold) i p (bounded_of side) at))
+      All-net_around hot cold inner (IsNear (inner.nodes + 4))
+      (All-weaker (IsInnerLink (length hot) (length cold) inner.nodes) (IsNear (inner.nodes + 4)) near_inner inner.links g.inner_net.links)
+      (λ side i p at.
+      let node = first_node hot cold inner side + i in
+      let bounded = bounded_at side i p at in
+      (near_whole side node p (node_within side i p at) bounded, near_spare side node p (node_within side i p at) bounded))
       near_between
 
   pub limits_around : IsWithinLimits (net_around hot cold inner)
@@ -141,10 +137,10 @@ module _ (hot cold : List Part) (inner : Net) (g : IsAround hot cold inner) wher
       record {
         few_nodes = omega (arith, nodes);
         few_links = omega (arith, links, hots, colds, length-net_around hot cold inner);
-        links = λ k within. (near_all k (record { from = 0; to = 0; room = pos 0; cost = pos 0 }) within).limits;
+        links = λ k within. (near_all k no_link within).limits;
       }
 
-  pub ends_around : AreEnds (net_around hot cold inner) (ends hot cold inner).source (ends hot cold inner).sink
+  pub ends_around : AreEnds (net_around hot cold inner) (ends inner).source (ends inner).sink
   ends_around = record { source_in = omega arith; sink_in = omega arith; apart = λ e. omega (arith, e) }
 
   pub room_around : IsRoom (most_of hot +ℤ most_of cold)
@@ -168,7 +164,8 @@ module _ (hot cold : List Part) (inner : Net) (g : IsAround hot cold inner) wher
 
   start_further : (j : ℕ) → potential_at (start_of inner.nodes) (inner.nodes + j) ≡ get_or further j (pos 0)
   start_further j =
-      ap (λ n. potential_at (start_of inner.nodes) n) {x = inner.nodes + j} {y = length (replicate inner.nodes (pos 0)) + j} (omega (arith, length-replicate {A = ℤ} inner.nodes (pos 0)))
+      ap (λ n. potential_at (start_of inner.nodes) n) {x = inner.nodes + j} {y = length (replicate inner.nodes (pos 0)) + j}
+      (omega (arith, length-replicate {A = ℤ} inner.nodes (pos 0)))
       ∙ get_or-append-add (replicate inner.nodes (pos 0)) further j (pos 0)
 
   at_source : potential_at (start_of inner.nodes) inner.nodes ≡ MOST_PRICE
@@ -177,10 +174,12 @@ module _ (hot cold : List Part) (inner : Net) (g : IsAround hot cold inner) wher
   -- the initial potential of each node is a price
   start_within : (v : ℕ) → v < inner.nodes + 4 → IsBetween (neg_ℤ MOST_PRICE) MOST_PRICE (potential_at (start_of inner.nodes) v)
   start_within v within =
-      ⊎_elim (λ early. subst (IsBetween (neg_ℤ MOST_PRICE) MOST_PRICE) (sym (start_inner v early)) (record { from = omega (arith, ints); upto = omega (arith, ints) }))
+      ⊎_elim (λ early. subst (IsBetween (neg_ℤ MOST_PRICE) MOST_PRICE) (sym (start_inner v early))
+      (record { from = omega (arith, ints); upto = omega (arith, ints) }))
       (λ late.
       let is : inner.nodes + (v - inner.nodes) ≡ v = omega (arith, late) in
-      subst (λ u. IsBetween (neg_ℤ MOST_PRICE) MOST_PRICE (potential_at (start_of inner.nodes) u)) is (subst (IsBetween (neg_ℤ MOST_PRICE) MOST_PRICE) (sym (start_further (v - inner.nodes))) (four (v - inner.nodes) (omega (arith, within, late)))))
+      subst (λ u. IsBetween (neg_ℤ MOST_PRICE) MOST_PRICE (potential_at (start_of inner.nodes) u)) is
+      (subst (IsBetween (neg_ℤ MOST_PRICE) MOST_PRICE) (sym (start_further (v - inner.nodes))) (four (v - inner.nodes) (omega (arith, within, late)))))
       (cases_lt v inner.nodes)
     where
       four : (j : ℕ) → j < 4 → IsBetween (neg_ℤ MOST_PRICE) MOST_PRICE (get_or further j (pos 0))
@@ -203,15 +202,15 @@ module _ (hot cold : List Part) (inner : Net) (g : IsAround hot cold inner) wher
   abbrev Fits : Link → Type 0
   Fits l = pos 0 ≤ℤ reduced_cost l (start_of inner.nodes)
 
-  fits_whole : (side : Side) (node : ℕ) (p : Part) → node < inner.nodes → Fits (whole_link side (ends hot cold inner) node p)
+  fits_whole : (side : Side) (node : ℕ) (p : Part) → node < inner.nodes → Fits (whole_link side (ends inner) node p)
   fits_whole Hot node p within = rw (at_source, start_inner node within) (omega (arith, ints))
   fits_whole Cold node p within = rw (at_sink, start_inner node within) (omega (arith, ints))
 
-  fits_spare : (side : Side) (node : ℕ) (p : Part) → node < inner.nodes → IsBounded p → Fits (spare_link side (ends hot cold inner) node p)
+  fits_spare : (side : Side) (node : ℕ) (p : Part) → node < inner.nodes → IsBounded p → Fits (spare_link side (ends inner) node p)
   fits_spare Hot node p within b = let upto = b.price.upto in rw (at_spill, start_inner node within) (omega (arith, ints, upto))
   fits_spare Cold node p within b = let upto = b.price.upto in rw (at_filler, start_inner node within) (omega (arith, ints, upto))
 
-  fits_between : All Fits (links_between (ends hot cold inner) (most_of hot) (most_of cold))
+  fits_between : All Fits (links_between (ends inner) (most_of hot) (most_of cold))
   fits_between =
       let one : Link = record { from = inner.nodes; to = inner.nodes + 2; room = most_of cold; cost = pos 0 } in
       let two : Link = record { from = inner.nodes + 3; to = inner.nodes + 1; room = most_of hot; cost = pos 0 } in
@@ -229,9 +228,10 @@ module _ (hot cold : List Part) (inner : Net) (g : IsAround hot cold inner) wher
     within = λ v within. let bound = start_within v within in omega (arith, sizes, bound.from, bound.upto);
     fits = λ k within some.
         All-net_around hot cold inner Fits (All-weaker (IsInnerLink (length hot) (length cold) inner.nodes) Fits fits_inner inner.links g.inner_net.links)
-        (λ side i p at. fits_whole side (first_node hot cold inner side + i) p (node_within side i p at))
-        (λ side i p at. fits_spare side (first_node hot cold inner side + i) p (node_within side i p at) (All-slice_get IsBounded (parts_of side hot cold) i p (bounded_of side) at))
-        fits_between k (record { from = 0; to = 0; room = pos 0; cost = pos 0 }) within;
+        (λ side i p at.
+        let node = first_node hot cold inner side + i in
+        (fits_whole side node p (node_within side i p at), fits_spare side node p (node_within side i p at) (bounded_at side i p at)))
+        fits_between k no_link within;
   }
 
   -- ---- the size of the potentials
@@ -247,10 +247,13 @@ module _ (hot cold : List Part) (inner : Net) (g : IsAround hot cold inner) wher
       let net = net_around hot cold inner in
       let node : k < net.nodes = (let e = bounded.one_each in omega (arith, e, within)) in
       let bound = bounded.bounded k node in
-      let starts = greatest-le (λ (s : ℤ). s) (start_of inner.nodes) most_price (pos 0) (λ j early. let h = start_within j (let e = start_around.one_each in omega (arith, e, early)) in omega (arith, sizes, h.from, h.upto)) in
-      let costs = greatest-le (λ (l : Link). l.cost) net.links most_price (record { from = 0; to = 0; room = pos 0; cost = pos 0 }) (λ j early. let h = (near_all j (record { from = 0; to = 0; room = pos 0; cost = pos 0 }) early).price in omega (arith, sizes, h.from, h.upto)) in
+      let starts = greatest-le (λ (s : ℤ). s) (start_of inner.nodes) most_price (pos 0)
+      (λ j early. let h = start_within j (let e = start_around.one_each in omega (arith, e, early)) in omega (arith, sizes, h.from, h.upto)) in
+      let costs = greatest-le (λ (l : Link). l.cost) net.links most_price no_link
+      (λ j early. let h = (near_all j no_link early).price in omega (arith, sizes, h.from, h.upto)) in
       let nodes = g.few_nodes in
-      let times : net.nodes * largest_cost net ≤ most_nodes * most_price = mul-le net.nodes (largest_cost net) most_nodes most_price (omega (arith, nodes)) costs in
+      let times : net.nodes * largest_cost net ≤ most_nodes * most_price =
+      mul-le net.nodes (largest_cost net) most_nodes most_price (omega (arith, nodes)) costs in
       let same = get_or_default potentials k d (pos 0) within in
       let small : unsigned_abs (get_or potentials k d) ≤ 3 * most_price + most_nodes * most_price = rw same (omega (arith, bound, starts, times)) in
       record { from = omega (arith, sizes, small); upto = omega (arith, sizes, small) }

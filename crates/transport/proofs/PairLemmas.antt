@@ -1,19 +1,11 @@
--- The net of the pairs that reach, row by row, and that it is an inner net.
-use Rattle.std.proofs.Common.{◌≡◌, ◌∙◌, ◌⊎◌, ⊎_elim, inl, inr, refl, sym, ap, subst, subst₂, ℕ, ◌+◌, ◌*◌, ◌<◌, ◌≤◌, Bool, true, false, ◌&&◌, List, [], ◌∷◌, ◌++◌, length, length-append, nat_lt, arith}
-use Rattle.std.specs.Prelude.{IsTrue, All, Contains, slice_index_or}
-use Rattle.std.proofs.lemmas.Bool.{cases_eq, false≢true, ltb-true}
-use Rattle.std.proofs.lemmas.List.Elements.{All-nil, All-cons, All-append, All-weaker, Contains-append_left, Contains-push}
-use Rattle.sums.proofs.OrderLemmas.{AllPairs-nil, AllPairs-append}
-use Rattle.std.proofs.lemmas.List.Kept.{AllPairs-cons}
-use Rattle.flow_net.specs.declared.net.Link.{Link}
-use Rattle.flow_net.specs.declared.net.Net.{Net}
-use Rattle.heat_flow.specs.declared.reach.Reach.{Reach}
-use Rattle.grid.specs.declared.parts.Parts.{Parts}
+-- The links of the net of the pairs that reach, and that it is an inner net whose paths are those pairs.
+use Rattle.transport.proofs.Words.{All, All-cons_if, All-contains, All-flat_map, All-nil, Contains, Contains-flat_map, IsInner, IsInnerLink, IsPath, IsTrue}
+use Rattle.transport.proofs.Words.{Link, MOST_PAIRS, Net, Part, Parts, PathsAreReaches, Reach, cons_if, false≢true, get_or-range_with_len, length-flat_map-le}
+use Rattle.transport.proofs.Words.{length-range_with_len, link_between, ltb-true, pair_link, pair_links, pair_net, range_with_len, row_links, slice_index_or}
 use Rattle.heat_flow.specs.Table.{HasSizes, reaches}
-use Rattle.chains.specs.Inner.{IsInner, IsInnerLink}
-use Rattle.transport.specs.declared.least_cost.TheConstants.{MOST_PAIRS}
+use Rattle.std.proofs.Common.{Bool, List, [], arith, false, get_or, inl, length, nat_lt, refl, subst, subst₂, sym, true, zero-add, ℕ, ◌&&◌, ◌*◌, ◌+◌, ◌<◌, ◌∙◌}
+use Rattle.std.proofs.Common.{◌∷◌, ◌≡◌, ◌≤◌}
 use Rattle.transport.proofs.Limits.{IsAround, IsAround-parts}
-use Rattle.transport.specs.Pairs.{pair_link, pair_before, nodes_before, IsPairLink, HoldsPairs, IsPairNet}
 
 -- ---- the indexes of parts that reach
 
@@ -28,111 +20,109 @@ hot_within r a b h = ltb-true a r.hots (both_within (nat_lt a r.hots) (nat_lt b 
 pub cold_within : (r : Reach) (a b : ℕ) → IsTrue (reaches r a b) → b < r.colds
 cold_within r a b h = ltb-true b r.colds (both_within (nat_lt a r.hots) (nat_lt b r.colds) (slice_index_or r.cells (a * r.colds + b) false) h).1
 
--- ---- one pair more, and one row more
+-- ---- the links
 
-pub HoldsPairs-none : (r : Reach) → HoldsPairs r 0 0 []
-HoldsPairs-none r = record {
-  ordered = AllPairs-nil pair_before;
-  each = All-nil (IsPairLink r);
-  before = All-nil (λ l. nodes_before l.from l.to 0 (r.hots + 0));
-  every = λ hot cold joined early. ⊎_elim (λ less. absurd (omega (arith, less))) (λ same. let less = same.1 in absurd (omega (arith, less))) early;
-  few = omega arith;
-}
+module _ (r : Reach) where
+  -- what holds of the link of each pair holds of all
+  All-pair_links : (P : Link → Type 0) → ((a b : ℕ) → IsTrue (reaches r a b) → P (pair_link r a b)) → All P (pair_links r)
+  All-pair_links P each =
+      All-flat_map P (row_links r) (range_with_len 0 r.hots)
+      (λ k d _.
+      let a = get_or (range_with_len 0 r.hots) k d in
+      All-flat_map P (link_between r a) (range_with_len 0 r.colds)
+      (λ j e _.
+      let b = get_or (range_with_len 0 r.colds) j e in
+      All-cons_if P (reaches r a b) (pair_link r a b) [] (each a b) (All-nil P)))
 
--- a node before another one is before the next one
-before_next : (x y a h b : ℕ) → nodes_before x y a (h + b) → nodes_before x y a (h + (b + 1))
-before_next x y a h b (inl less) = inl less
-before_next x y a h b (inr same) = let less = same.1 in inr (same.0, omega (arith, less))
+  in_range : (n i : ℕ) → i < n → Contains (range_with_len 0 n) i
+  in_range n i within = (i, omega (arith, within, length-range_with_len 0 n), get_or-range_with_len 0 n i i within ∙ zero-add i)
 
--- and one before the next one is before it or is the same
-early_or_here : (x y a b : ℕ) → nodes_before x y a (b + 1) → nodes_before x y a b ⊎ ((x ≡ a) × (y ≡ b))
-early_or_here x y a b (inl less) = inl (inl less)
-early_or_here x y a b (inr same) = let less = same.1 in ⊎_elim (λ e. inr (same.0, e)) (λ other. inl (inr (same.0, omega (arith, less, other)))) (cases_eq y b)
+  Contains-pair_links : (a b : ℕ) → IsTrue (reaches r a b) → Contains (pair_links r) (pair_link r a b)
+  Contains-pair_links a b joined =
+      let l = pair_link r a b in
+      Contains-flat_map (row_links r) (range_with_len 0 r.hots) a l (in_range r.hots a (hot_within r a b joined))
+      (Contains-flat_map (link_between r a) (range_with_len 0 r.colds) b l (in_range r.colds b (cold_within r a b joined))
+      (subst (λ t. Contains (cons_if t l []) l) (sym joined) (0, omega arith, refl)))
 
-module _ (r : Reach) (a b : ℕ) (links : List Link) (h : HoldsPairs r a b links) where
-  pub HoldsPairs-push : IsTrue (reaches r a b) → HoldsPairs r a (b + 1) (links ++ pair_link r a b ∷ [])
-  HoldsPairs-push joined = record {
-    ordered = AllPairs-append pair_before links (pair_link r a b ∷ []) h.ordered (AllPairs-cons pair_before (pair_link r a b) [] (All-nil (pair_before (pair_link r a b))) (AllPairs-nil pair_before))
-        (All-weaker (λ l. nodes_before l.from l.to a (r.hots + b)) (λ l. All (pair_before l) (pair_link r a b ∷ [])) (λ l early. All-cons (pair_before l) (pair_link r a b) [] early (All-nil (pair_before l))) links h.before);
-    each = All-append (IsPairLink r) links (pair_link r a b ∷ []) h.each (All-cons (IsPairLink r) (pair_link r a b) [] (record { cold = b; joined = joined; is = refl }) (All-nil (IsPairLink r)));
-    before = All-append (λ l. nodes_before l.from l.to a (r.hots + (b + 1))) links (pair_link r a b ∷ [])
-        (All-weaker (λ l. nodes_before l.from l.to a (r.hots + b)) (λ l. nodes_before l.from l.to a (r.hots + (b + 1))) (λ l early. before_next l.from l.to a r.hots b early) links h.before)
-        (All-cons (λ l. nodes_before l.from l.to a (r.hots + (b + 1))) (pair_link r a b) [] (inr (refl, omega arith)) (All-nil (λ l. nodes_before l.from l.to a (r.hots + (b + 1)))));
-    every = λ hot cold there early.
-        ⊎_elim (λ old. Contains-append_left links (pair_link r a b ∷ []) (pair_link r hot cold) (h.every hot cold there old))
-        (λ here. let same : pair_link r a b ≡ pair_link r hot cold = cc (here.0, here.1) in subst (Contains (links ++ pair_link r a b ∷ [])) same (Contains-push links (pair_link r a b)))
-        (early_or_here hot cold a b early);
-    few = (let few = h.few in let more = length-append links (pair_link r a b ∷ []) in let one : length (pair_link r a b ∷ []) ≡ 1 = refl in omega (arith, few, more, one));
+  few_pair_links : length (pair_links r) ≤ r.hots * r.colds
+  few_pair_links =
+      let rows = length-flat_map-le (row_links r) r.colds (range_with_len 0 r.hots) row in
+      let count : length (range_with_len 0 r.hots) ≡ r.hots = length-range_with_len 0 r.hots in
+      subst (λ n. length (pair_links r) ≤ n * r.colds) count rows
+    where
+      at_most_one : (t : Bool) (l : Link) → length (cons_if t l []) ≤ 1
+      at_most_one true l = omega arith
+      at_most_one false l = omega arith
+
+      row : (a : ℕ) → length (row_links r a) ≤ r.colds
+      row a =
+          let ones = length-flat_map-le (link_between r a) 1 (range_with_len 0 r.colds) (λ b. at_most_one (reaches r a b) (pair_link r a b)) in
+          omega (arith, ones, length-range_with_len 0 r.colds)
+
+  inner_links : All (IsInnerLink r.hots r.colds (r.hots + r.colds)) (pair_links r)
+  inner_links = All-pair_links (IsInnerLink r.hots r.colds (r.hots + r.colds))
+      (λ a b joined.
+      let row = hot_within r a b joined in
+      let column = cold_within r a b joined in
+      record {
+        from_in = omega (arith, row);
+        to_in = omega (arith, column);
+        leaves = inl row;
+        enters = omega arith;
+        onward = λ behind later. absurd (omega (arith, row, behind));
+        room = refl;
+        cost = refl;
+      })
+
+  -- ---- the paths
+
+  -- no path leaves the node of a cold part
+  stays_at : (path : List Link) (u v : ℕ) → r.hots ≤ u → IsPath (pair_links r) path u v → u ≡ v
+  stays_at [] u v cold is = is
+  stays_at (l ∷ path) u v cold is =
+      let from = is.1 in
+      let rows = All-pair_links (λ m. m.from < r.hots) (λ a b joined. hot_within r a b joined) in
+      absurd (omega (arith, cold, from, All-contains (λ (m : Link). m.from < r.hots) (pair_links r) l rows is.0))
+
+  -- so one from a hot part's node is one link
+  abbrev LeadsRight : Link → Type 0
+  LeadsRight l = (b : ℕ) (path : List Link) → IsPath (pair_links r) path l.to (r.hots + b) → IsTrue (reaches r l.from b)
+
+  path_reaches : (path : List Link) (a b : ℕ) → a < r.hots → IsPath (pair_links r) path a (r.hots + b) → IsTrue (reaches r a b)
+  path_reaches [] a b row is = absurd (omega (arith, row, is))
+  path_reaches (l ∷ path) a b row is =
+      let right = All-pair_links LeadsRight
+      (λ x y joined z rest to.
+      let end = stays_at rest (r.hots + y) (r.hots + z) (omega arith) to in
+      let same : y ≡ z = omega (arith, end) in
+      subst (λ w. IsTrue (reaches r x w)) same joined) in
+      subst (λ x. IsTrue (reaches r x b)) is.1 (All-contains LeadsRight (pair_links r) l right is.0 b path is.2)
+
+  pub paths_of_pairs : PathsAreReaches r.hots r.colds (pair_links r) (reaches r)
+  paths_of_pairs = record {
+    hot_within = hot_within r;
+    cold_within = cold_within r;
+    leads = λ a b joined. (pair_link r a b ∷ [], (Contains-pair_links a b joined, refl, refl));
+    reaches = λ a b row column path. path_reaches path.0 a b row path.1;
   }
 
-  pub HoldsPairs-pass : reaches r a b ≡ false → HoldsPairs r a (b + 1) links
-  HoldsPairs-pass apart = record {
-    ordered = h.ordered;
-    each = h.each;
-    before = All-weaker (λ l. nodes_before l.from l.to a (r.hots + b)) (λ l. nodes_before l.from l.to a (r.hots + (b + 1))) (λ l early. before_next l.from l.to a r.hots b early) links h.before;
-    every = λ hot cold there early.
-        ⊎_elim (λ old. h.every hot cold there old)
-        (λ here. absurd (false≢true (sym apart ∙ subst (λ x. reaches r x b ≡ true) here.0 (subst (λ y. reaches r hot y ≡ true) here.1 there))))
-        (early_or_here hot cold a b early);
-    few = (let few = h.few in omega (arith, few));
-  }
+-- ---- the net of the pairs of parts
 
-pub HoldsPairs-row : (r : Reach) (a : ℕ) (links : List Link) → HoldsPairs r a r.colds links → HoldsPairs r (a + 1) 0 links
-HoldsPairs-row r a links h = record {
-  ordered = h.ordered;
-  each = h.each;
-  before = All-weaker (λ l. nodes_before l.from l.to a (r.hots + r.colds)) (λ l. nodes_before l.from l.to (a + 1) (r.hots + 0)) (λ l early. ⊎_elim (λ less. inl (omega (arith, less))) (λ same. let e = same.0 in inl (omega (arith, e))) early) links h.before;
-  every = λ hot cold there early.
-      h.every hot cold there
-      (⊎_elim
-      (λ less. ⊎_elim (λ e. inr (e, cold_within r hot cold there)) (λ other. inl (omega (arith, less, other))) (cases_eq hot a))
-      (λ same. let none = same.1 in absurd (omega (arith, none)))
-      early);
-  few = (let few = h.few in omega (arith, few));
-}
+module _ (r : Reach) (net : Net) (is : net ≡ pair_net r) where
+  pub PathsAreReaches-pairs : (hot cold : List Part) → HasSizes r (length hot) (length cold) → PathsAreReaches (length hot) (length cold) net.links (reaches r)
+  PathsAreReaches-pairs hot cold sizes =
+      subst (λ n. PathsAreReaches (length hot) (length cold) n.links (reaches r)) (sym is)
+      (subst₂ (λ h k. PathsAreReaches h k (pair_links r) (reaches r)) sizes.hots sizes.colds (paths_of_pairs r))
 
--- ---- the whole net
-
-pub IsPairNet-whole : (r : Reach) (net : Net) → net.nodes ≡ r.hots + r.colds → HoldsPairs r r.hots 0 net.links → IsPairNet r net
-IsPairNet-whole r net nodes h = record {
-  nodes = nodes;
-  links = record {
-    ordered = h.ordered;
-    each = h.each;
-    every = λ l pair. subst (Contains net.links) (sym pair.is) (h.every l.from pair.cold pair.joined (inl (hot_within r l.from pair.cold pair.joined)));
-  };
-  few = (let few = h.few in omega (arith, few));
-}
-
-pub IsInner-pairs : (r : Reach) (net : Net) → IsPairNet r net → IsInner r.hots r.colds net
-IsInner-pairs r net h = record {
-  nodes = (let nodes = h.nodes in omega (arith, nodes));
-  links = All-weaker (IsPairLink r) (IsInnerLink r.hots r.colds net.nodes) inner net.links h.links.each;
-}
-  where
-    inner : (l : Link) → IsPairLink r l → IsInnerLink r.hots r.colds net.nodes l
-    inner l pair =
-        let nodes = h.nodes in
-        let row = hot_within r l.from pair.cold pair.joined in
-        let column = cold_within r l.from pair.cold pair.joined in
-        let to = ap (λ m. m.to) pair.is in
-        record {
-          from_in = omega (arith, nodes, row);
-          to_in = omega (arith, nodes, column, to);
-          leaves = inl row;
-          enters = omega (arith, to);
-          onward = λ behind later. absurd (omega (arith, row, behind));
-          room = ap (λ m. m.room) pair.is;
-          cost = ap (λ m. m.cost) pair.is;
-        }
-
--- the net of the pairs of parts that are few
-pub IsAround-pairs : (parts : Parts) (r : Reach) (net : Net) → HasSizes r (length parts.hot) (length parts.cold) → IsPairNet r net → r.hots * r.colds ≤ MOST_PAIRS → IsAround parts.hot parts.cold net
-IsAround-pairs parts r net sizes pairs few =
-    let nodes = pairs.nodes in
-    let hots = sizes.hots in
-    let colds = sizes.colds in
-    let links = pairs.few in
-    let few_hot = parts.few_hot in
-    let few_cold = parts.few_cold in
-    IsAround-parts parts net (subst₂ (λ h k. IsInner h k net) hots colds (IsInner-pairs r net pairs)) (omega (arith, nodes, hots, colds, few_hot, few_cold)) (omega (arith, links, few))
+  -- where they are few
+  pub IsAround-pairs : (parts : Parts) → HasSizes r (length parts.hot) (length parts.cold) → r.hots * r.colds ≤ MOST_PAIRS → IsAround parts.hot parts.cold net
+  IsAround-pairs parts sizes few =
+      let hots = sizes.hots in
+      let colds = sizes.colds in
+      let inner : IsInner r.hots r.colds (pair_net r) = record { nodes = omega arith; links = inner_links r } in
+      let few_hot = parts.few_hot in
+      let few_cold = parts.few_cold in
+      let links = few_pair_links r in
+      subst (IsAround parts.hot parts.cold) (sym is)
+      (IsAround-parts parts (pair_net r) (subst₂ (λ h k. IsInner h k (pair_net r)) hots colds inner) (omega (arith, hots, colds, few_hot, few_cold))
+      (omega (arith, links, few)))

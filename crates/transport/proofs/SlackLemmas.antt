@@ -1,18 +1,8 @@
 -- Prices at which no part could exchange its heat for less: then the cost of a heat flow is their value.
-use Rattle.std.proofs.Common.{◌≡◌, ◌∙◌, sym, subst, refl, ℕ, zero, suc, Bool, List, arith}
-use Rattle.std.specs.Prelude.{ℤ, pos, negsuc, ◌-ℤ◌, ◌*ℤ◌, ◌≤ℤ◌, ◌<ℤ◌, Some, slice_get}
-use Rattle.std.proofs.lemmas.Int.{ints, clamps, by_lt_z}
-use Rattle.stream_case.specs.declared.source.Side.{Side}
-use Rattle.stream_case.specs.declared.source.Side.TheVariants.{Hot, Cold}
-use Rattle.stream_case.specs.Limits.{IsBetween}
-use Rattle.sums.specs.Sum.{int_sum_from}
-use Rattle.sums.proofs.ProductLemmas.{*ℤ-≤ℤ_left}
-use Rattle.sums.proofs.SumLemmas.{int_sum_from-same_each}
-use Rattle.grid.specs.declared.part.Part.{Part}
-use Rattle.heat_flow.specs.declared.flow.Transfer.{Transfer}
-use Rattle.heat_flow.specs.Flow.{heat_at, KeepsRanges, IsHeatFlow, IsLeastCost, side_cost, cost_of}
-use Rattle.heat_flow.specs.Prices.{price_at, IsSupporting, least_product, excess_price, side_value, value_of}
-use Rattle.heat_flow.proofs.Duality.{excess_price-*ℤ, int_sum_from-excess, weak_duality}
+use Rattle.transport.proofs.Words.{*ℤ-≤ℤ_left, Cold, Hot, IsBetween, IsHeatFlow, IsLeastCost, IsSupporting, KeepsRanges, Part, Side, Some, Transfer, by_lt_z}
+use Rattle.transport.proofs.Words.{clamps, cost_of, excess_price, excess_price-*ℤ, heat_at, int_sum_from, int_sum_from-excess, int_sum_from-same_each, ints}
+use Rattle.transport.proofs.Words.{least_product, negsuc, pos, price_at, side_cost, side_value, slice_get, value_of, weak_duality, ℤ, ◌*ℤ◌, ◌-ℤ◌, ◌<ℤ◌, ◌≤ℤ◌}
+use Rattle.std.proofs.Common.{Bool, List, arith, refl, subst, suc, sym, zero, ℕ, ◌∙◌, ◌≡◌}
 
 -- a part that could have more heat would not pay less for it, and one that could have less would not either
 pub record IsSlack (excess low high heat : ℤ) : Type 0 where
@@ -41,20 +31,25 @@ slack_least (pos (suc n)) low high s h k =
     let le = *ℤ-≤ℤ_left (pos (suc n)) low high (omega (arith, ints)) (omega (arith, ints, h.from, h.upto)) in
     subst (λ z. least_product (pos (suc n)) low high ≡ pos (suc n) *ℤ z) (sym same) (omega (arith, ints, clamps))
 slack_least (negsuc n) low high s h k =
-    let same : s ≡ high = by_lt_z s high (λ less. let no = k.left_to_add less in absurd (omega (arith, ints))) (λ le. let upto = h.upto in omega (arith, ints)) in
+    let same : s ≡ high = by_lt_z s high (λ less. let no = k.left_to_add less in absurd (omega (arith, ints)))
+    (λ le. let upto = h.upto in omega (arith, ints)) in
     let le = *ℤ-≤ℤ_left (pos (suc n)) low high (omega (arith, ints)) (omega (arith, ints, h.from, h.upto)) in
     subst (λ z. least_product (negsuc n) low high ≡ negsuc n *ℤ z) (sym same) (omega (arith, ints, clamps))
 
 -- the value of a side is its cost beyond what its heat is worth
-side_value-is : (side : Side) (parts : List Part) (prices : List ℤ) (ts : List Transfer) → KeepsRanges side parts ts → AreSlack side parts prices ts → side_value side parts prices ≡ excess_price side (side_cost side parts ts) (worth_of side parts prices ts)
+side_value-is : (side : Side) (parts : List Part) (prices : List ℤ) (ts : List Transfer) → KeepsRanges side parts ts → AreSlack side parts prices ts
+    → side_value side parts prices ≡ excess_price side (side_cost side parts ts) (worth_of side parts prices ts)
 side_value-is side parts prices ts ranges slack =
     let excess = λ (i : ℕ) (p : Part). excess_price side p.price (price_at prices i) in
-    int_sum_from-same_each (λ i p. least_product (excess i p) p.least p.most) (λ i p. excess_price side (p.price *ℤ heat_at side ts i) (price_at prices i *ℤ heat_at side ts i)) parts
-    (λ i p at. slack_least (excess i p) p.least p.most (heat_at side ts i) (ranges i p at) (slack i p at) ∙ excess_price-*ℤ side p.price (price_at prices i) (heat_at side ts i))
+    int_sum_from-same_each (λ i p. least_product (excess i p) p.least p.most)
+    (λ i p. excess_price side (p.price *ℤ heat_at side ts i) (price_at prices i *ℤ heat_at side ts i)) parts
+    (λ i p at. slack_least (excess i p) p.least p.most (heat_at side ts i) (ranges i p at) (slack i p at)
+    ∙ excess_price-*ℤ side p.price (price_at prices i) (heat_at side ts i))
     ∙ int_sum_from-excess side (λ i p. p.price *ℤ heat_at side ts i) (λ i p. price_at prices i *ℤ heat_at side ts i) parts
 
 -- a certified heat flow costs the value of the prices
-pub value-is_cost : (reach : ℕ → ℕ → Bool) (hot cold : List Part) (ts : List Transfer) (y z : List ℤ) → IsHeatFlow reach hot cold ts → Certifies hot cold ts y z → value_of hot cold y z ≡ cost_of hot cold ts
+pub value-is_cost : (reach : ℕ → ℕ → Bool) (hot cold : List Part) (ts : List Transfer) (y z : List ℤ) → IsHeatFlow reach hot cold ts → Certifies hot cold ts y z
+    → value_of hot cold y z ≡ cost_of hot cold ts
 value-is_cost reach hot cold ts y z flow prices =
     let given = side_value-is Hot hot y ts flow.hot_ranges prices.hot_slack in
     let taken = side_value-is Cold cold z ts flow.cold_ranges prices.cold_slack in
@@ -62,7 +57,8 @@ value-is_cost reach hot cold ts y z flow prices =
     omega (arith, ints)
 
 -- and none costs less, where the prices support every heat flow
-pub IsLeastCost-certified : (reach : ℕ → ℕ → Bool) (hot cold : List Part) (ts : List Transfer) (y z : List ℤ) → IsSupporting reach y z → IsHeatFlow reach hot cold ts → Certifies hot cold ts y z → IsLeastCost reach hot cold (cost_of hot cold ts)
+pub IsLeastCost-certified : (reach : ℕ → ℕ → Bool) (hot cold : List Part) (ts : List Transfer) (y z : List ℤ) → IsSupporting reach y z
+    → IsHeatFlow reach hot cold ts → Certifies hot cold ts y z → IsLeastCost reach hot cold (cost_of hot cold ts)
 IsLeastCost-certified reach hot cold ts y z supports flow prices =
     let same = value-is_cost reach hot cold ts y z flow prices in
     record {

@@ -1,27 +1,14 @@
 -- The cut of parts that a cut of the net gives, wherever the paths of the inner net are the pairs that reach.
-use Rattle.std.proofs.Common.{◌≡◌, ◌∙◌, sym, ap₂, subst, subst₂, ℕ, ◌+◌, Bool, true, false, not, List, length, arith}
-use Rattle.std.proofs.lemmas.Int.{ints}
-use Rattle.stream_case.specs.declared.source.Side.{Side}
-use Rattle.stream_case.specs.declared.source.Side.TheVariants.{Hot, Cold}
-use Rattle.grid.specs.declared.part.Part.{Part}
-use Rattle.heat_flow.specs.declared.cut.Cut.{Cut}
-use Rattle.heat_flow.specs.declared.cut.CutKind.{CutKind}
-use Rattle.heat_flow.specs.declared.cut.CutKind.TheVariants.{Demand, Supply}
-use Rattle.heat_flow.specs.Cuts.{opposite, parts_of, cut_side, need_of, offer_of, IsCut}
-use Rattle.heat_flow.proofs.CutLemmas.{cuts_refuse_flows}
-use Rattle.flow_net.specs.declared.net.Net.{Net}
-use Rattle.flow_net.specs.Net.{is_in}
-use Rattle.chains.specs.Path.{PathsAreReaches}
-use Rattle.heat_flow.specs.Certificate.{IsCutOf}
-use Rattle.transport.specs.Answer.{IsAnswer}
-use Rattle.transport.specs.declared.answer.Answer.TheVariants.{Stuck}
-use Rattle.transport.specs.Around.{BlocksMost, ends_behind, most_of}
-use Rattle.transport.specs.Members.{needing_from, members_of, IsSideHeat, IsCutWithin}
+use Rattle.transport.proofs.Words.{BlocksMost, Cold, Cut, CutKind, Demand, Hot, IsAnswer, IsCut, IsCutOf, IsCutWithin, IsSideHeat, Net, Part, PathsAreReaches}
+use Rattle.transport.proofs.Words.{Side, Stuck, Supply, cut_side, cuts_refuse_flows, ends_behind, ints, is_in, members_of, most_of, need_of, needing_from}
+use Rattle.transport.proofs.Words.{offer_of, opposite, parts_of}
+use Rattle.std.proofs.Common.{Bool, List, ap₂, arith, false, length, not, subst, subst₂, sym, true, ℕ, ◌+◌, ◌∙◌, ◌≡◌}
 use Rattle.transport.proofs.BlockedLemmas.{demand, supply}
 use Rattle.transport.proofs.CutLemmas.{IsCutFrom, IsCutFrom-short}
 use Rattle.transport.proofs.Limits.{IsAround, most_within}
 
-IsCutWithin-from : (side : Side) (reach : ℕ → ℕ → Bool) (hot cold : List Part) (picked near : ℕ → Bool) → IsSideHeat (most_of (parts_of side hot cold)) → IsCutFrom side reach hot cold picked near → IsCutWithin side reach hot cold (needing_from picked 0 (parts_of side hot cold))
+IsCutWithin-from : (side : Side) (reach : ℕ → ℕ → Bool) (hot cold : List Part) (picked near : ℕ → Bool) → IsSideHeat (most_of (parts_of side hot cold))
+    → IsCutFrom side reach hot cold picked near → IsCutWithin side reach hot cold (needing_from picked 0 (parts_of side hot cold))
 IsCutWithin-from side reach hot cold picked near most h =
     let short = h.cut.short in
     let upto = h.need_upto in
@@ -32,9 +19,11 @@ IsCutWithin-from side reach hot cold picked near most h =
       offer = record { from = from; upto = omega (arith, ints, short, upto, most.upto) };
     }
 
-module _ (hot cold : List Part) (inner : Net) (g : IsAround hot cold inner) (set : List Bool) (cut : BlocksMost hot cold inner set) (reach : ℕ → ℕ → Bool) (paths : PathsAreReaches (length hot) (length cold) inner.links reach) where
+module _ (hot cold : List Part) (inner : Net) (g : IsAround hot cold inner) (set : List Bool) (cut : BlocksMost hot cold inner set) (reach : ℕ → ℕ → Bool)
+    (paths : PathsAreReaches (length hot) (length cold) inner.links reach) where
   -- where the filler is in the set
-  pub within_demand : (members : List ℕ) → is_in set (ends_behind inner.nodes).filler ≡ true → members ≡ members_of Demand (length hot) set cold → IsCutWithin Cold reach hot cold members
+  pub within_demand : (members : List ℕ) → is_in set (ends_behind inner.nodes).filler ≡ true → members ≡ members_of Demand (length hot) set cold
+      → IsCutWithin Cold reach hot cold members
   within_demand members filler same =
       let picked = λ (i : ℕ). not (is_in set (length hot + i)) in
       let near = λ (j : ℕ). not (is_in set j) in
@@ -43,7 +32,8 @@ module _ (hot cold : List Part) (inner : Net) (g : IsAround hot cold inner) (set
       (IsCutFrom-short Cold reach hot cold picked near g.cold_bounded g.hot_bounded (demand hot cold inner g set cut reach paths filler)))
 
   -- and where it is not
-  pub within_supply : (members : List ℕ) → is_in set (ends_behind inner.nodes).filler ≡ false → members ≡ members_of Supply 0 set hot → IsCutWithin Hot reach hot cold members
+  pub within_supply : (members : List ℕ) → is_in set (ends_behind inner.nodes).filler ≡ false → members ≡ members_of Supply 0 set hot
+      → IsCutWithin Hot reach hot cold members
   within_supply members filler same =
       let picked = λ (i : ℕ). is_in set (0 + i) in
       let near = λ (j : ℕ). is_in set (length hot + j) in
@@ -52,7 +42,10 @@ module _ (hot cold : List Part) (inner : Net) (g : IsAround hot cold inner) (set
       (IsCutFrom-short Hot reach hot cold picked near g.hot_bounded g.cold_bounded (supply hot cold inner g set cut reach paths filler)))
 
 -- a cut with these members, their need and their offer
-pub IsCutOf-members : (reach : ℕ → ℕ → Bool) (hot cold : List Part) (kind : CutKind) (members : List ℕ) (cut : Cut) → IsCutWithin (cut_side kind) reach hot cold members → cut.kind ≡ kind → cut.parts ≡ members → cut.need ≡ need_of (parts_of (cut_side kind) hot cold) members → cut.offer ≡ offer_of (cut_side kind) reach (parts_of (opposite (cut_side kind)) hot cold) members → IsCutOf reach hot cold cut
+pub IsCutOf-members : (reach : ℕ → ℕ → Bool) (hot cold : List Part) (kind : CutKind) (members : List ℕ) (cut : Cut)
+    → IsCutWithin (cut_side kind) reach hot cold members → cut.kind ≡ kind → cut.parts ≡ members
+    → cut.need ≡ need_of (parts_of (cut_side kind) hot cold) members
+    → cut.offer ≡ offer_of (cut_side kind) reach (parts_of (opposite (cut_side kind)) hot cold) members → IsCutOf reach hot cold cut
 IsCutOf-members reach hot cold kind members cut h kind_is parts_are need offer = record {
   parts = subst₂ (λ k ms. IsCut (cut_side k) reach hot cold ms) (sym kind_is) (sym parts_are) h.cut;
   need = need ∙ ap₂ (λ k ms. need_of (parts_of (cut_side k) hot cold) ms) (sym kind_is) (sym parts_are);
@@ -61,4 +54,5 @@ IsCutOf-members reach hot cold kind members cut h kind_is parts_are need offer =
 
 -- a cut answers, since it proves that there is no heat flow
 pub IsAnswer-cut : (reach : ℕ → ℕ → Bool) (hot cold : List Part) (cut : Cut) → IsCutOf reach hot cold cut → IsAnswer reach hot cold (Stuck cut)
-IsAnswer-cut reach hot cold cut is = record { certified = tt; least = tt; cut = is; stuck_only = cuts_refuse_flows reach hot cold (cut_side cut.kind) cut.parts is.parts }
+IsAnswer-cut reach hot cold cut is =
+    record { certified = tt; least = tt; cut = is; stuck_only = cuts_refuse_flows reach hot cold (cut_side cut.kind) cut.parts is.parts }

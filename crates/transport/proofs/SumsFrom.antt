@@ -1,11 +1,6 @@
 -- Laws of sums over lists with indices.
-use Rattle.std.proofs.Common.{◌≡◌, refl, sym, ap, subst, ℕ, zero, suc, List, [], ◌∷◌, arith}
-use Rattle.std.specs.Prelude.{ℤ, pos, ◌+ℤ◌, ◌*ℤ◌, ◌≤ℤ◌, Some, slice_get}
-use Rattle.std.proofs.Math.IntN.{*ℤ-zero}
-use Rattle.std.proofs.lemmas.Int.{ints}
-use Rattle.sums.specs.Sum.{int_sum_from}
-use Rattle.sums.proofs.ProductLemmas.{*ℤ-+ℤ}
-use Rattle.sums.proofs.SumLemmas.{int_sum_from-le_each, int_sum_from-zero}
+use Rattle.std.proofs.Common.{List, [], ap, arith, refl, subst, suc, sym, zero, ℕ, ◌∷◌, ◌≡◌}
+use Rattle.transport.proofs.Words.{*ℤ-+ℤ, *ℤ-zero, Some, int_sum_from, int_sum_from-le_each, int_sum_from-zero, ints, pos, slice_get, ℤ, ◌*ℤ◌, ◌+ℤ◌, ◌≤ℤ◌}
 
 module _ {X : Type 0} where
   -- the indices one further
@@ -27,7 +22,8 @@ module _ {X : Type 0} where
       omega (arith, ints)
 
   -- a sum of terms that are not negative is at least each of them
-  pub int_sum_from-term : (f : ℕ → X → ℤ) (xs : List X) → ((i : ℕ) (x : X) → slice_get xs i ≡ Some x → pos 0 ≤ℤ f i x) → (i : ℕ) (x : X) → slice_get xs i ≡ Some x → f i x ≤ℤ int_sum_from f 0 xs
+  pub int_sum_from-term : (f : ℕ → X → ℤ) (xs : List X) → ((i : ℕ) (x : X) → slice_get xs i ≡ Some x → pos 0 ≤ℤ f i x) → (i : ℕ) (x : X)
+      → slice_get xs i ≡ Some x → f i x ≤ℤ int_sum_from f 0 xs
   int_sum_from-term f [] h i x at = cc at
   int_sum_from-term f (y ∷ ys) h zero x at =
       let rest = int_sum_from-not_negative (λ j z. f (suc j) z) ys (λ j z there. h (suc j) z there) in
@@ -41,7 +37,8 @@ module _ {X : Type 0} where
       omega (arith, ints)
 
   -- where no term of a sum is greater than that of another one, and the sum is not less, the terms are equal
-  pub int_sum_from-equal : (f g : ℕ → X → ℤ) (xs : List X) → ((i : ℕ) (x : X) → slice_get xs i ≡ Some x → f i x ≤ℤ g i x) → int_sum_from g 0 xs ≤ℤ int_sum_from f 0 xs → (i : ℕ) (x : X) → slice_get xs i ≡ Some x → f i x ≡ g i x
+  pub int_sum_from-equal : (f g : ℕ → X → ℤ) (xs : List X) → ((i : ℕ) (x : X) → slice_get xs i ≡ Some x → f i x ≤ℤ g i x)
+      → int_sum_from g 0 xs ≤ℤ int_sum_from f 0 xs → (i : ℕ) (x : X) → slice_get xs i ≡ Some x → f i x ≡ g i x
   int_sum_from-equal f g [] le sum i x at = cc at
   int_sum_from-equal f g (y ∷ ys) le sum zero x at =
       let first = le 0 y refl in

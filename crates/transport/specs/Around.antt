@@ -66,7 +66,8 @@ pub record RoutesMost (hot cold : List Part) (inner : Net) (flow potentials : Li
 
 -- a cut of the net that the most of all parts cannot pass
 abbrev pub BlocksMost : List Part → List Part → Net → List Bool → Type 0
-BlocksMost hot cold inner set = IsCutBelow (net_around hot cold inner) (ends_behind inner.nodes).source (ends_behind inner.nodes).sink (most_of hot +ℤ most_of cold) set
+BlocksMost hot cold inner set =
+    IsCutBelow (net_around hot cold inner) (ends_behind inner.nodes).source (ends_behind inner.nodes).sink (most_of hot +ℤ most_of cold) set
 
 -- twice the potential of a node is within the limits of a price, and so the difference of two
 abbrev pub IsNodePotential : ℤ → Type 0

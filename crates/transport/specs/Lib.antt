@@ -4,4 +4,3 @@ pub mod Members
 pub mod Offer
 pub mod Pairs
 pub mod Priced
-pub mod Transfers

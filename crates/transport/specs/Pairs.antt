@@ -1,6 +1,7 @@
 -- The inner net with a link for each pair of parts that reach.
-use Rattle.std.specs.Prelude.{◌≡◌, ◌⊎◌, ℕ, ◌+◌, ◌*◌, ◌<◌, ◌≤◌, IsTrue, pos, List, length, All, AllPairs, Contains}
-use Rattle.sums.specs.Order.{Lists}
+use Rattle.std.specs.Prelude.{ℕ, ◌+◌, pos, List, []}
+use Rattle.std.specs.List.{flat_map, range_with_len}
+use Rattle.sums.specs.Pairing.{cons_if}
 use Rattle.flow_net.specs.declared.limits.TheConstants.{MOST_ROOM}
 use Rattle.flow_net.specs.declared.net.Link.{Link}
 use Rattle.flow_net.specs.declared.net.Net.{Net}
@@ -11,29 +12,17 @@ use Rattle.heat_flow.specs.Table.{reaches}
 abbrev pub pair_link : Reach → ℕ → ℕ → Link
 pair_link r a b = record { from = a; to = r.hots + b; room = MOST_ROOM; cost = pos 0 }
 
--- the link of a hot part and a cold part that it reaches
-pub record IsPairLink (r : Reach) (l : Link) : Type 0 where
-  pub cold : ℕ
-  pub joined : IsTrue (reaches r l.from cold)
-  pub is : l ≡ pair_link r l.from cold
+-- it, if the one reaches the other
+abbrev pub link_between : Reach → ℕ → ℕ → List Link
+link_between r a b = cons_if (reaches r a b) (pair_link r a b) []
 
--- nodes a, b before c, d: by the first node, then by the second
-abbrev pub nodes_before : ℕ → ℕ → ℕ → ℕ → Type 0
-nodes_before a b c d = (a < c) ⊎ ((a ≡ c) × (b < d))
+-- the links of a hot part to the cold parts that it reaches, in order
+abbrev pub row_links : Reach → ℕ → List Link
+row_links r a = flat_map (link_between r a) (range_with_len 0 r.colds)
 
-abbrev pub pair_before : Link → Link → Type 0
-pair_before l m = nodes_before l.from l.to m.from m.to
+-- a node for each part, and a link for each pair that reaches, row by row
+abbrev pub pair_links : Reach → List Link
+pair_links r = flat_map (row_links r) (range_with_len 0 r.hots)
 
--- a link for each pair that stands before hot part a and cold part b, in order
-pub record HoldsPairs (r : Reach) (a b : ℕ) (links : List Link) : Type 0 where
-  pub ordered : AllPairs pair_before links
-  pub each : All (IsPairLink r) links
-  pub before : All (λ l. nodes_before l.from l.to a (r.hots + b)) links
-  pub every : (hot cold : ℕ) → IsTrue (reaches r hot cold) → nodes_before hot cold a b → Contains links (pair_link r hot cold)
-  pub few : length links ≤ a * r.colds + b
-
--- a node for each part, and a link for each pair that reaches, in order
-pub record IsPairNet (r : Reach) (net : Net) : Type 0 where
-  pub nodes : net.nodes ≡ r.hots + r.colds
-  pub links : Lists pair_before (IsPairLink r) net.links
-  pub few : length net.links ≤ r.hots * r.colds
+abbrev pub pair_net : Reach → Net
+pair_net r = record { nodes = r.hots + r.colds; links = pair_links r }

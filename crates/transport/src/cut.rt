@@ -70,7 +70,9 @@ pub(crate) fn blocked_members(
     requires few_nodes { inner.now.nodes ≤ MOST_INNER_NODES }
     requires few_links { length inner.now.links ≤ MOST_INNER_LINKS }
     requires blocked { BlocksMost parts.now.hot parts.now.cold inner.now reached.now }
-    ensures { IfOk result (λ members. (reach : ℕ → ℕ → Bool) → PathsAreReaches (length parts.now.hot) (length parts.now.cold) inner.now.links reach → IsCutWithin (cut_side members.kind) reach parts.now.hot parts.now.cold members.indexes) }
+    ensures { IfOk result (λ members. (reach : ℕ → ℕ → Bool)
+        → PathsAreReaches (length parts.now.hot) (length parts.now.cold) inner.now.links reach
+        → IsCutWithin (cut_side members.kind) reach parts.now.hot parts.now.cold members.indexes) }
 {
     let hot = parts.hot.as_slice();
     let cold = parts.cold.as_slice();
@@ -109,11 +111,13 @@ pub(crate) fn other_parts(kind: CutKind, parts: &Parts) -> &[Part]
 
 /// The cut that names these parts, with what they need and this offer, in W.
 pub(crate) fn cut_of(parts: &Parts, members: Members, offer: i128) -> Cut
-    requires needed { IsSideHeat (need_of (parts_of (cut_side members.kind) parts.now.hot parts.now.cold) members.indexes) }
+    requires needed { IsSideHeat
+        (need_of (parts_of (cut_side members.kind) parts.now.hot parts.now.cold) members.indexes) }
     requires offered { IsSideHeat offer }
     ensures kind { result.kind ≡ members.kind }
     ensures parts { result.parts ≡ members.indexes }
-    ensures need { result.need ≡ need_of (parts_of (cut_side members.kind) parts.now.hot parts.now.cold) members.indexes }
+    ensures need { result.need
+        ≡ need_of (parts_of (cut_side members.kind) parts.now.hot parts.now.cold) members.indexes }
     ensures offer { result.offer ≡ offer }
 {
     let need = need_of(own_parts(members.kind, parts), members.indexes.as_slice());

@@ -1,28 +1,30 @@
 //! The heat flow of least cost, or a cut.
-ghost use Rattle.std.specs.Prelude.{◌≡◌, ◌+◌, ◌*◌, ◌≤◌, length, All, IfOk};
+ghost use Rattle.std.specs.Prelude.{◌≡◌, ℕ, Bool, ◌+◌, ◌*◌, ◌≤◌, length, All, IfOk};
 ghost use Rattle.stream_case.specs.Case.{IsComplete};
 ghost use Rattle.heat_flow.specs.Checks.{HasCost};
 ghost use Rattle.heat_flow.specs.Reach.{reach_between};
 ghost use Rattle.heat_flow.specs.Table.{HasSizes, reaches};
-ghost use Rattle.chains.specs.declared.net.TheConstants.{MOST_INNER_NODES};
+ghost use Rattle.chains.specs.declared.net.TheConstants.{MOST_INNER_LINKS, MOST_INNER_NODES};
+ghost use Rattle.chains.specs.Inner.{IsInner};
+ghost use Rattle.chains.specs.Path.{PathsAreReaches};
 ghost use Rattle.grid.specs.OnGrid.{AreOnGrid};
 ghost use Rattle.transport.specs.Answer.{IsAnswer};
 ghost use Rattle.transport.specs.Priced.{priced};
-ghost use Rattle.transport.specs.Around.{IsNodePotential};
+ghost use Rattle.transport.specs.Around.{IsNodePotential, RoutesMost};
 
 use crate::answer::Answer;
 use crate::cut::{blocked_members, cut_of, other_parts};
-use crate::flow::{flow_of, front_of};
+use crate::flow::front_of;
 use crate::offer::case_offer;
 use crate::pairs::pairs_of;
 use crate::prices::part_prices;
 use crate::route::route;
-use chains::{chains_of, spread};
+use chains::{Chains, chains_of, spread};
 use flow_net::Solved;
 use grid::Parts;
 use heat_flow::{Flow, Reach, cost_of, offer_of};
 use std::alloc::{AllocError, Global};
-use stream_case::Case;
+use stream_case::{Case, Items};
 
 /// The most pairs of a hot and a cold part that `least` takes.
 pub const MOST_PAIRS: usize = 900_000;
@@ -41,11 +43,37 @@ fn priced(
     requires one_each { length potentials.now ≡ nodes + 4 }
     requires bounded { All IsNodePotential potentials.now }
     requires has_cost { HasCost parts.now.hot parts.now.cold flow.transfers }
-    ensures { IfOk result (λ answer. answer ≡ priced parts.now.hot parts.now.cold nodes potentials.now flow) }
+    ensures { IfOk result (λ answer. answer
+        ≡ priced parts.now.hot parts.now.cold nodes potentials.now flow) }
 {
     let prices = part_prices(alloc, parts.hot.len(), parts.cold.len(), nodes, potentials)?;
     let cost = cost_of(parts, &flow);
     Ok(Answer::Least { flow, prices, cost })
+}
+
+/// The answer where the most of all parts is routed through the net around one of chains: what its
+/// flow carries from part to part, and the prices from its potentials.
+fn routed(
+    alloc: Global,
+    parts: &Parts,
+    chains: &Chains,
+    flow: &Items<i64>,
+    potentials: &[i64],
+) -> Result<Answer, AllocError>
+    requires inner { IsInner (length parts.now.hot) (length parts.now.cold) chains.now.net }
+    requires few_nodes { chains.now.net.nodes ≤ MOST_INNER_NODES }
+    requires few_links { length chains.now.net.links ≤ MOST_INNER_LINKS }
+    requires paths { (reach : ℕ → ℕ → Bool) × PathsAreReaches (length parts.now.hot)
+        (length parts.now.cold) chains.now.net.links reach }
+    requires routes { RoutesMost parts.now.hot parts.now.cold chains.now.net flow.now
+        potentials.now }
+    ensures { IfOk result (λ answer. (reach : ℕ → ℕ → Bool)
+        → PathsAreReaches (length parts.now.hot) (length parts.now.cold) chains.now.net.links reach
+        → IsAnswer reach parts.now.hot parts.now.cold answer) }
+{
+    let front = front_of(alloc, flow, chains.net.links.len())?;
+    let heat = spread(alloc, chains, parts, &front)?;
+    priced(alloc, parts, chains.net.nodes, potentials, heat)
 }
 
 /// The heat flow of least cost between parts, where the table tells which reach each other, or a
@@ -61,8 +89,9 @@ pub fn least(alloc: Global, parts: &Parts, reach: &Reach) -> Result<Answer, Allo
     let net = pairs_of(alloc, reach)?;
     match route(alloc, parts, &net)? {
         Solved::Routed { flow, potentials } => {
-            let flow = flow_of(alloc, reach.hots, net.links.as_slice(), flow.as_slice())?;
-            priced(alloc, parts, net.nodes, potentials.as_slice(), flow)
+            let groups = Items::new(alloc);
+            let pairs = Chains { groups, net };
+            routed(alloc, parts, &pairs, &flow, potentials.as_slice())
         }
         Solved::Blocked { reached } => {
             let members = blocked_members(alloc, parts, &net, reached.as_slice())?;
@@ -81,14 +110,13 @@ pub fn least(alloc: Global, parts: &Parts, reach: &Reach) -> Result<Answer, Allo
 pub fn least_case(alloc: Global, case: &Case, parts: &Parts) -> Result<Answer, AllocError>
     requires complete { IsComplete case.now }
     requires parts { AreOnGrid case.now parts.now.hot parts.now.cold }
-    ensures { IfOk result (IsAnswer (reach_between case.now parts.now.hot parts.now.cold) parts.now.hot parts.now.cold) }
+    ensures { IfOk result (IsAnswer (reach_between case.now parts.now.hot parts.now.cold)
+        parts.now.hot parts.now.cold) }
 {
     let chains = chains_of(alloc, case, parts)?;
     match route(alloc, parts, &chains.net)? {
         Solved::Routed { flow, potentials } => {
-            let front = front_of(alloc, &flow, chains.net.links.len())?;
-            let flow = spread(alloc, &chains, parts, &front)?;
-            priced(alloc, parts, chains.net.nodes, potentials.as_slice(), flow)
+            routed(alloc, parts, &chains, &flow, potentials.as_slice())
         }
         Solved::Blocked { reached } => {
             let members = blocked_members(alloc, parts, &chains.net, reached.as_slice())?;

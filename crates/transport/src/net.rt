@@ -87,7 +87,8 @@ fn push_parts(
 ) -> Result<(), AllocError>
     requires bounded { All IsBounded parts.now }
     requires few { first + length parts.now ≤ MOST_INNER_NODES }
-    ensures { OnOk result (links.new.items ≡ links.old.items ++ links_of_parts side ends first parts.now) }
+    ensures { OnOk result (links.new.items
+        ≡ links.old.items ++ links_of_parts side ends first parts.now) }
 {
     for (index, part) in parts.iter().enumerate() {
         let node = first + index as u32;

@@ -93,7 +93,8 @@ fn meets(side: Side, own: &[Part], members: &[u32], other: &Part, forbids: &[For
 /// The most that a part of the other side can take or give in W, if it meets a member.
 fn part_offer(side: Side, own: &[Part], members: &[u32], other: &Part, forbids: &[Forbid]) -> i64
     requires { IsBounded other.now }
-    ensures value { result ≡ if meets_part side forbids.now own.now members.now other.now then other.now.most else pos 0 }
+    ensures value { result ≡ if meets_part side forbids.now own.now members.now other.now then
+        other.now.most else pos 0 }
     ensures range { IsHeat result }
 {
     if meets(side, own, members, other, forbids) {
@@ -111,7 +112,10 @@ pub(crate) fn case_offer(
     parts: &Parts,
     members: &Members,
 ) -> Result<i128, AllocError>
-    ensures { IfOk result (λ offer. offer ≡ offer_of (cut_side members.now.kind) (reach_between case.now parts.now.hot parts.now.cold) (parts_of (opposite (cut_side members.now.kind)) parts.now.hot parts.now.cold) members.now.indexes) }
+    ensures { IfOk result (λ offer. offer
+        ≡ offer_of (cut_side members.now.kind) (reach_between case.now parts.now.hot parts.now.cold)
+        (parts_of (opposite (cut_side members.now.kind)) parts.now.hot parts.now.cold)
+        members.now.indexes) }
 {
     let own = own_parts(members.kind, parts);
     let others = other_parts(members.kind, parts);

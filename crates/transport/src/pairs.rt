@@ -1,18 +1,16 @@
 //! The inner net with a link for each pair of parts that reach.
-ghost use Rattle.std.specs.Prelude.{◌+◌, ◌<◌, IfOk, OnOk};
-ghost use Rattle.transport.specs.Pairs.{HoldsPairs, IsPairNet};
+ghost use Rattle.std.specs.Prelude.{◌≡◌, ◌<◌, ◌++◌, IfOk, OnOk};
+ghost use Rattle.transport.specs.Pairs.{pair_net, row_links};
 
 use flow_net::{Link, MOST_ROOM, Net};
 use heat_flow::{Reach, reaches};
 use std::alloc::{AllocError, Global};
 use stream_case::Items;
 
-/// Appends a link for each cold part that a hot part reaches. The pairs before are those of the
-/// hot parts before this one.
+/// Appends a link for each cold part that a hot part reaches.
 fn push_row(links: &mut Vec<Link>, reach: &Reach, hot: u32) -> Result<(), AllocError>
     requires hot { hot < reach.now.hots }
-    requires pairs { HoldsPairs reach.now hot 0 links.old.items }
-    ensures { OnOk result (HoldsPairs reach.now hot reach.now.colds links.new.items) }
+    ensures { OnOk result (links.new.items ≡ links.old.items ++ row_links reach.now hot) }
 {
     for cold in 0..reach.colds {
         if reaches(reach, hot, cold) {
@@ -29,7 +27,7 @@ fn push_row(links: &mut Vec<Link>, reach: &Reach, hot: u32) -> Result<(), AllocE
 
 /// The net with a node for each part, the hot parts first, and a link for each pair that reaches.
 pub(crate) fn pairs_of(alloc: Global, reach: &Reach) -> Result<Net, AllocError>
-    ensures { IfOk result (λ net. IsPairNet reach.now net) }
+    ensures { IfOk result (λ net. net ≡ pair_net reach.now) }
 {
     let mut links = Vec::new(alloc);
     for hot in 0..reach.hots {

@@ -41,8 +41,10 @@ pub(crate) fn part_prices(
     requires few { nodes ≤ MOST_INNER_NODES }
     requires one_each { length potentials.now ≡ nodes + 4 }
     requires bounded { All IsNodePotential potentials.now }
-    ensures hot { IfOk result (λ prices. prices.hot ≡ prices_of potentials.now 0 hots (ends_behind nodes).spill) }
-    ensures cold { IfOk result (λ prices. prices.cold ≡ prices_of potentials.now hots colds (ends_behind nodes).filler) }
+    ensures hot { IfOk result
+        (λ prices. prices.hot ≡ prices_of potentials.now 0 hots (ends_behind nodes).spill) }
+    ensures cold { IfOk result
+        (λ prices. prices.cold ≡ prices_of potentials.now hots colds (ends_behind nodes).filler) }
 {
     let ends = ends_behind(nodes);
     Ok(Prices {

@@ -30,8 +30,10 @@ pub(crate) fn route(alloc: Global, parts: &Parts, inner: &Net) -> Result<Solved,
     requires inner { IsInner (length parts.now.hot) (length parts.now.cold) inner.now }
     requires few_nodes { inner.now.nodes ≤ MOST_INNER_NODES }
     requires few_links { length inner.now.links ≤ MOST_INNER_LINKS }
-    ensures routed { IfOk result (λ s. IfRouted s (RoutesMost parts.now.hot parts.now.cold inner.now)) }
-    ensures blocked { IfOk result (λ s. IfBlocked s (BlocksMost parts.now.hot parts.now.cold inner.now)) }
+    ensures routed { IfOk result
+        (λ s. IfRouted s (RoutesMost parts.now.hot parts.now.cold inner.now)) }
+    ensures blocked { IfOk result
+        (λ s. IfBlocked s (BlocksMost parts.now.hot parts.now.cold inner.now)) }
 {
     let net = net_around(alloc, parts, inner)?;
     let start = start_of(alloc, inner.nodes)?;

@@ -1,30 +1,28 @@
 -- A source that stands in no group begins one.
-use Rattle.std.proofs.Common.{◌≡◌, ◌∙◌, ◌+◌, ◌*◌, sym, ap, subst, length, get_or, Some, arith}
-use Rattle.std.specs.Prelude.{All}
-use Rattle.std.proofs.lemmas.Bool.Decides.{not_from_Decides}
-use Rattle.std.proofs.lemmas.List.{get_or_default, take_all}
-use Rattle.stream_case.specs.declared.source.Side.TheVariants.{Hot}
-use Rattle.stream_case.specs.declared.source.Source.TheVariants.{Stream as of_stream}
-use Rattle.stream_case.specs.Case.{side_of}
-use Rattle.chains.specs.Making.{IsLike, ListsOnce}
 use Rattle.chains.proofs.GroupLemmas.{AreGroups-holds, HoldsGroups, StandsInOne, few_chain_nodes, few_groups, groups-new, groups-old}
+use Rattle.chains.proofs.groups.groups_of.Goals.{else-not-stands_in_one, then-not-stands_in_one+in_ok-sources+in_ok-push}
+use Rattle.chains.proofs.Words.{All, Hot, IsLike, ListsOnce, get_or_default, not_from_Decides, side_of, take_all}
+use Rattle.std.proofs.Common.{Some, ap, arith, get_or, length, subst, sym, ◌*◌, ◌+◌, ◌∙◌, ◌≡◌}
 use Rattle.chains.proofs.groups.groups_of.Goals as goal
-use Rattle.chains.proofs.groups.groups_of.Goals.{then-not-stands_in_one+in_ok-sources+in_ok-push, else-not-stands_in_one}
+use Rattle.stream_case.specs.declared.source.Source.TheVariants.{Stream as of_stream}
 
 pub overflow_cast-first_node : goal.overflow_cast-first_node
 overflow_cast-first_node c =
-    let few = few_groups c.args.case.now c.in_ok-hot.hot.items c.deref-source-items.result.now c.args.first c.args.ranks c.loop-source.source-index c.loop-source.groups.items c.requires.complete c.in_ok-hot.ensures c.deref-source-items.ensures.value c.loop-source.invariant in
+    let few = few_groups c.args.case.now c.in_ok-hot.hot.items c.deref-source-items.result.now c.args.first c.args.ranks c.loop-source.source-index
+    c.loop-source.groups.items c.requires.complete c.in_ok-hot.ensures c.deref-source-items.ensures.value c.loop-source.invariant in
     omega (arith, few, c.len.ensures)
 
 pub overflow_mul-first_node : goal.overflow_mul-first_node
 overflow_mul-first_node c =
-    let few = few_groups c.args.case.now c.in_ok-hot.hot.items c.deref-source-items.result.now c.args.first c.args.ranks c.loop-source.source-index c.loop-source.groups.items c.requires.complete c.in_ok-hot.ensures c.deref-source-items.ensures.value c.loop-source.invariant in
+    let few = few_groups c.args.case.now c.in_ok-hot.hot.items c.deref-source-items.result.now c.args.first c.args.ranks c.loop-source.source-index
+    c.loop-source.groups.items c.requires.complete c.in_ok-hot.ensures c.deref-source-items.ensures.value c.loop-source.invariant in
     let nodes = few_chain_nodes c.len.result c.args.ranks (omega (arith, few, c.len.ensures)) c.requires.ranks in
     omega (arith, nodes)
 
 pub overflow_add-first_node : goal.overflow_add-first_node
 overflow_add-first_node c =
-    let few = few_groups c.args.case.now c.in_ok-hot.hot.items c.deref-source-items.result.now c.args.first c.args.ranks c.loop-source.source-index c.loop-source.groups.items c.requires.complete c.in_ok-hot.ensures c.deref-source-items.ensures.value c.loop-source.invariant in
+    let few = few_groups c.args.case.now c.in_ok-hot.hot.items c.deref-source-items.result.now c.args.first c.args.ranks c.loop-source.source-index
+    c.loop-source.groups.items c.requires.complete c.in_ok-hot.ensures c.deref-source-items.ensures.value c.loop-source.invariant in
     let nodes = few_chain_nodes c.len.result c.args.ranks (omega (arith, few, c.len.ensures)) c.requires.ranks in
     omega (arith, nodes, c.requires.first)
 
@@ -40,11 +38,15 @@ loop-source-preserved c =
     let each = subst (All (λ s. side_of case s ≡ Some Hot)) (sym c.deref-source-items.ensures.value) c.in_ok-hot.ensures.listed.each in
     elim c.if-not-stands_in_one.branch [
       | then-not-stands_in_one+in_ok-sources+in_ok-push w ↦
-          groups-new case hot c.args.first c.args.ranks i within source is groups c.loop-source.invariant _ _ (ap (λ v. v.items) w.groups-is ∙ w.in_ok-push.ensures.items) (each i (of_stream 0) within)
-          (subst (ListsOnce (IsLike case source)) (sym w.from_vec.ensures) w.in_ok-sources.ensures) (let count : w.len.result ≡ length groups = omega (arith, w.len.ensures) in ap (λ n. c.args.first + n * c.args.ranks) count)
-          (λ stands. not_from_Decides _ c.stands_in_one.ensures w.if-not-stands_in_one.true (subst (λ gs. StandsInOne gs source) (sym c.as_slice.ensures.value) stands))
+          groups-new case hot c.args.first c.args.ranks i within source is groups c.loop-source.invariant
+          _ _ (ap (λ v. v.items) w.groups-is ∙ w.in_ok-push.ensures.items) (each i (of_stream 0) within)
+          (subst (ListsOnce (IsLike case source)) (sym w.from_vec.ensures) w.in_ok-sources.ensures)
+          (let count : w.len.result ≡ length groups = omega (arith, w.len.ensures) in ap (λ n. c.args.first + n * c.args.ranks) count)
+          (λ stands. not_from_Decides _ c.stands_in_one.ensures w.if-not-stands_in_one.true
+          (subst (λ gs. StandsInOne gs source) (sym c.as_slice.ensures.value) stands))
       | else-not-stands_in_one w ↦
-          groups-old case hot c.args.first c.args.ranks i within source is groups c.loop-source.invariant _ (ap (λ v. v.items) w.groups-is) (subst (λ gs. StandsInOne gs source) c.as_slice.ensures.value (c.stands_in_one.ensures.0 w.if-not-stands_in_one.false))
+          groups-old case hot c.args.first c.args.ranks i within source is groups c.loop-source.invariant _ (ap (λ v. v.items) w.groups-is)
+          (subst (λ gs. StandsInOne gs source) c.as_slice.ensures.value (c.stands_in_one.ensures.0 w.if-not-stands_in_one.false))
     ]
 
 pub returns-clause-groups : goal.returns-clause-groups
@@ -52,8 +54,10 @@ returns-clause-groups c =
     let case = c.args.case.now in
     let groups = c.loop-source.groups.items in
     let whole = take_all c.loop-source.source-index c.deref-source-items.result.now c.loop-source-test.false ∙ c.deref-source-items.ensures.value in
-    AreGroups-holds case c.in_ok-hot.hot.items c.in_ok-hot.ensures.listed c.args.first c.args.ranks groups (subst (λ hot. HoldsGroups case hot c.args.first c.args.ranks groups) whole c.loop-source.invariant)
+    AreGroups-holds case c.in_ok-hot.hot.items c.in_ok-hot.ensures.listed c.args.first c.args.ranks groups
+    (subst (λ hot. HoldsGroups case hot c.args.first c.args.ranks groups) whole c.loop-source.invariant)
 
 pub returns-clause-few : goal.returns-clause-few
 returns-clause-few c =
-    few_groups c.args.case.now c.in_ok-hot.hot.items c.deref-source-items.result.now c.args.first c.args.ranks c.loop-source.source-index c.loop-source.groups.items c.requires.complete c.in_ok-hot.ensures c.deref-source-items.ensures.value c.loop-source.invariant
+    few_groups c.args.case.now c.in_ok-hot.hot.items c.deref-source-items.result.now c.args.first c.args.ranks c.loop-source.source-index
+    c.loop-source.groups.items c.requires.complete c.in_ok-hot.ensures c.deref-source-items.ensures.value c.loop-source.invariant

@@ -1,5 +1,5 @@
-use Rattle.std.proofs.Common.{take}
 use Rattle.chains.proofs.GroupLemmas.{HoldsGroups}
+use Rattle.std.proofs.Common.{take}
 use Rattle.chains.proofs.groups.groups_of.Given as goal
 
 abbrev pub invariant-loop-source : goal.invariant-loop-source

@@ -1,25 +1,34 @@
 -- One stream more.
-use Rattle.std.proofs.Common.{◌≡◌, ◌∙◌, [], sym, ap, subst, rules}
-use Rattle.std.proofs.lemmas.Bool.{false≢true}
-use Rattle.std.proofs.lemmas.List.{take_all}
+use Rattle.chains.proofs.FlatMaps.{enumerated-step}
+use Rattle.chains.proofs.groups.push_streams.Goals.{else-eq, then-eq+in_ok-push}
+use Rattle.chains.proofs.Words.{append-nil, cons_if, false_from_ne_true, false≢true, own_side, same_side, same_side-true, streams_on, take_all, true_same}
+use Rattle.std.proofs.Common.{Bool, [], ap, rules, sym, true, ◌++◌, ◌∙◌, ◌≡◌}
 use Rattle.stream_case.specs.contracts.source.Side.{the_type}
-use Rattle.chains.specs.Making.{AreSources}
-use Rattle.chains.proofs.SourceLists.{stream-more, stream-other}
 use Rattle.chains.proofs.groups.push_streams.Goals as goal
-use Rattle.chains.proofs.groups.push_streams.Goals.{then-eq+in_ok-push, else-eq}
-use denote.Enum.Bare.{true_same}
+use Rattle.stream_case.specs.declared.source.Source.TheVariants.{Stream as of_stream}
 
 pub loop-index-preserved : goal.loop-index-preserved
 loop-index-preserved c =
-    let s = c.index-streams-index.result in
+    let item = c.index-streams-index.result in
     let side = c.args.side in
+    let i = c.loop-index.index in
+    let after = c.loop-index.sources.items in
+    let pushes = λ (b : Bool). after ++ cons_if b (of_stream i) [] in
+    let step = enumerated-step c.as_slice-streams.result.now i item c.args.sources.now.items after _ c.loop-index-test.true c.index-streams-index.is
+    (λ p. cons_if (same_side p.1.side side) (of_stream p.0) []) c.loop-index.invariant in
     elim c.if-eq.branch [
       | then-eq+in_ok-push w ↦
-          let own : s.side ≡ side = search (rules, w.if-eq.true, c.eq.ensures) in
-          stream-more side c.as_slice-streams.result.now c.loop-index.index c.loop-index-test.true s c.index-streams-index.is c.loop-index.sources.items _ c.loop-index.invariant own (ap (λ v. v.items) w.sources-is ∙ w.in_ok-push.ensures.items)
+          let own : item.side ≡ side = search (rules, w.if-eq.true, c.eq.ensures) in
+          let test : same_side item.side side ≡ true = ap (λ a. same_side a side) own ∙ own_side side in
+          step (ap (λ v. v.items) w.sources-is ∙ w.in_ok-push.ensures.items ∙ ap pushes (sym test))
       | else-eq w ↦
-          stream-other side c.as_slice-streams.result.now c.loop-index.index c.loop-index-test.true s c.index-streams-index.is c.loop-index.sources.items _ c.loop-index.invariant (λ own. false≢true (sym w.if-eq.false ∙ c.eq.ensures ∙ true_same the_type s.side side own)) (ap (λ v. v.items) w.sources-is)
+          let other = λ (e : same_side item.side side ≡ true). false≢true
+          (sym w.if-eq.false ∙ c.eq.ensures ∙ true_same the_type item.side side (same_side-true item.side side e)) in
+          let test = false_from_ne_true (same_side item.side side) other in
+          step (ap (λ v. v.items) w.sources-is ∙ sym (append-nil after) ∙ ap pushes (sym test))
     ]
 
 pub returns : goal.returns
-returns c = subst (λ streams. AreSources streams [] c.args.side c.loop-index.sources.items) (take_all c.loop-index.index c.as_slice-streams.result.now c.loop-index-test.false ∙ c.as_slice-streams.ensures) c.loop-index.invariant
+returns c =
+    let whole = take_all c.loop-index.index c.as_slice-streams.result.now c.loop-index-test.false ∙ c.as_slice-streams.ensures in
+    c.loop-index.invariant ∙ ap (λ items. c.args.sources.now.items ++ streams_on c.args.side items) whole

@@ -1,5 +1,5 @@
-use Rattle.chains.specs.Groups.{HaveSamePartners}
 use Rattle.chains.proofs.OnceLemmas.{KeptSoFar}
+use Rattle.chains.proofs.Words.{HaveSamePartners}
 use Rattle.chains.proofs.groups.sources_like.Given as goal
 
 abbrev pub invariant-loop-source : goal.invariant-loop-source

@@ -1,6 +1,6 @@
-use Rattle.chains.proofs.LinkLemmas.{IsFree}
+use Rattle.chains.proofs.LinkLemmas.{IsPermitted}
 use Rattle.chains.proofs.OnceLemmas.{KeptSoFar}
 use Rattle.chains.proofs.links.permitted_to.Given as goal
 
 abbrev pub invariant-loop-source : goal.invariant-loop-source
-invariant-loop-source l = KeptSoFar (IsFree l.case l.group) l.source-items l.source-index l.permitted.items
+invariant-loop-source l = KeptSoFar (IsPermitted l.case l.group) l.source-items l.source-index l.permitted.items

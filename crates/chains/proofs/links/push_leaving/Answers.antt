@@ -1,15 +1,10 @@
 -- One cold part more.
-use Rattle.std.proofs.Common.{◌≡◌, ◌∙◌, ◌+◌, ◌<◌, ◌∷◌, ◌++◌, [], length, get_or, sym, ap, ap₂, subst, Some, arith}
-use Rattle.std.specs.Prelude.{Contains}
-use Rattle.std.proofs.lemmas.Bool.Decides.{not_from_Decides}
-use Rattle.std.proofs.lemmas.List.{get_or_default}
-use Rattle.stream_case.specs.declared.source.Side.TheVariants.{Cold}
-use Rattle.stream_case.specs.Case.{side_of}
-use Rattle.heat_flow.proofs.Blanks.{blank}
-use Rattle.chains.specs.ChainNet.{open_link}
-use Rattle.chains.proofs.LinkLemmas.{leaving-more, leaving-other}
+use Rattle.chains.proofs.FlatMaps.{enumerated-step}
+use Rattle.chains.proofs.links.push_leaving.Goals.{else-is_one_of, then-is_one_of+in_ok-push}
+use Rattle.chains.proofs.Words.{Cold, Contains, append-nil, blank, cons_if, false_from_ne_true, get_or_default, is_permitted, leaving_at, not_from_Decides}
+use Rattle.chains.proofs.Words.{open_link, rank_of, side_of}
+use Rattle.std.proofs.Common.{Bool, Some, [], ap, ap₂, arith, get_or, length, subst, sym, true, ◌++◌, ◌+◌, ◌<◌, ◌∙◌, ◌∷◌, ◌≡◌}
 use Rattle.chains.proofs.links.push_leaving.Goals as goal
-use Rattle.chains.proofs.links.push_leaving.Goals.{then-is_one_of+in_ok-push, else-is_one_of}
 
 pub overflow_add-node : goal.overflow_add-node
 overflow_add-node c = omega (arith, c.requires.node, c.rank_of.ensures.within, c.requires.few_places)
@@ -28,15 +23,18 @@ loop-index-preserved c =
     let is = get_or_default slice.result.now i blank p c.loop-index-test.true ∙ ap (λ xs. get_or xs i p) slice.ensures in
     let side = subst (λ q. side_of case q.source ≡ Some Cold) (sym is) (c.requires.cold i p within) in
     let permitted = c.in_ok-permitted.ensures p.source side in
-    let before = c.args.links.now.items in
     let after = c.loop-index.links.items in
+    let out = open_link (g.first_node + rank_of places p) (length hot + i) in
+    let pushes = λ (b : Bool). after ++ cons_if b out [] in
     elim c.if-is_one_of.branch [
       | then-is_one_of+in_ok-push w ↦
-          leaving-more case places hot cold g i within p is before after _ c.loop-index.invariant
-          (permitted.0 (subst (λ xs. Contains xs p.source) c.as_slice.ensures.value (c.is_one_of.ensures.0 w.if-is_one_of.true)))
-          (ap (λ v. v.items) w.links-is ∙ w.in_ok-push.ensures.items ∙ ap (λ l. after ++ l ∷ []) (w.open_link.ensures ∙ ap₂ (λ r n. open_link (g.first_node + r) (n + i)) w.rank_of.ensures.value c.len-hots.ensures))
+          let found = subst (λ xs. Contains xs p.source) c.as_slice.ensures.value (c.is_one_of.ensures.0 w.if-is_one_of.true) in
+          let link = w.open_link.ensures ∙ ap₂ (λ r n. open_link (g.first_node + r) (n + i)) w.rank_of.ensures.value c.len-hots.ensures in
+          enumerated-step cold i p _ after _ within is (leaving_at case places (length hot) g) c.loop-index.invariant
+          (ap (λ v. v.items) w.links-is ∙ w.in_ok-push.ensures.items ∙ ap (λ l. after ++ l ∷ []) link ∙ ap pushes (sym (permitted.0 found)))
       | else-is_one_of w ↦
-          leaving-other case places hot cold g i within p is before after _ c.loop-index.invariant
-          (λ free. not_from_Decides _ c.is_one_of.ensures w.if-is_one_of.false (subst (λ xs. Contains xs p.source) (sym c.as_slice.ensures.value) (permitted.1 free)))
-          (ap (λ v. v.items) w.links-is)
+          let other = λ (free : is_permitted case g p.source ≡ true). not_from_Decides _ c.is_one_of.ensures w.if-is_one_of.false
+          (subst (λ xs. Contains xs p.source) (sym c.as_slice.ensures.value) (permitted.1 free)) in
+          enumerated-step cold i p _ after _ within is (leaving_at case places (length hot) g) c.loop-index.invariant
+          (ap (λ v. v.items) w.links-is ∙ sym (append-nil after) ∙ ap pushes (sym (false_from_ne_true (is_permitted case g p.source) other)))
     ]

@@ -1,17 +1,17 @@
 -- One step more.
-use Rattle.std.proofs.Common.{◌≡◌, ◌-◌, ◌/◌, subst, arith}
-use Rattle.chains.specs.Making.{Appends}
-use Rattle.chains.proofs.LinkLemmas.{IsStride, stride-push, stride-all}
+use Rattle.chains.proofs.Words.{map-range_with_len_more, range_with_len, stride_link}
+use Rattle.std.proofs.Common.{[], append_assoc, arith, map, ◌-◌, ◌/◌, ◌∷◌, ◌≡◌}
 use Rattle.chains.proofs.links.push_stride.Goals as goal
 
 pub loop-step-preserved : goal.loop-step-preserved
 loop-step-preserved c =
-    stride-push c.args.group.now.first_node c.args.stride c.loop-step.step c.args.links.now.items c.loop-step.links.items c.push.new.self.items c.open_link.result c.loop-step.invariant c.in_ok-push.ensures.items c.open_link.ensures
+    let link = stride_link c.args.group.now.first_node c.args.stride in
+    let n = c.loop-step.step in
+    let more = map-range_with_len_more link 0 n n (omega arith) in
+    let joined = append_assoc c.args.links.now.items (map link (range_with_len 0 n)) (link n ∷ []) in
+    cc (c.in_ok-push.ensures.items, more, joined)
 
 pub returns : goal.returns
 returns c =
-    let first = c.args.group.now.first_node in
-    let stride = c.args.stride in
-    let all : c.loop-step.step ≡ (c.args.ranks - 1) / stride = omega (arith, c.loop-step-test.false, c.loop-step.auto.step-end) in
-    stride-all first c.args.ranks stride c.args.links.now.items c.loop-step.links.items c.requires.some c.requires.stride
-    (subst (λ n. Appends (IsStride first stride n) n c.args.links.now.items c.loop-step.links.items) all c.loop-step.invariant)
+    let all : c.loop-step.step ≡ (c.args.ranks - 1) / c.args.stride = omega (arith, c.loop-step-test.false, c.loop-step.auto.step-end) in
+    rw (← all) c.loop-step.invariant

@@ -1,21 +1,15 @@
 -- The net of the chains of a case, group by group.
-use Rattle.std.proofs.Common.{◌≡◌, ◌∙◌, ◌+◌, ◌-◌, ◌*◌, ◌/◌, ◌<◌, ◌≤◌, length, get_or, sym, ap, ap₂, subst, subst₂, arith}
-use Rattle.std.specs.Prelude.{All}
-use Rattle.stream_case.specs.declared.limits.TheConstants.{MOST_PARTS, MOST_PLACES}
-use Rattle.grid.specs.Grid.{IsGrid}
-use Rattle.grid.proofs.SizeLemmas.{length-grid}
-use Rattle.chains.specs.declared.net.Group.{Group}
-use Rattle.chains.specs.declared.net.TheConstants.{MOST_INNER_NODES}
-use Rattle.chains.specs.ChainNet.{strides, IsEntering, StandInLine}
-use Rattle.chains.specs.Groups.{AreGroups}
-use Rattle.chains.specs.Making.{Appends, IsStep}
-use Rattle.chains.specs.Ranks.{rank_count}
+use Rattle.chains.proofs.FlatMaps.{flat_map-step}
 use Rattle.chains.proofs.GroupLemmas.{few_chain_nodes}
-use Rattle.chains.proofs.LinkLemmas.{chains-none, chains-more}
-use Rattle.chains.proofs.NetLemmas.{AreChains, AreChains-made, chains-done, first_nodes_few}
+use Rattle.chains.proofs.NetLemmas.{AreChains, AreChains-made, cold_on_places, first_nodes_few, hot_on_places}
+use Rattle.chains.proofs.PathLemmas.{AreForChains}
 use Rattle.chains.proofs.RankLemmas.{places_some}
+use Rattle.chains.proofs.making.chains_of.Goals.{After-as_slice-places, After-drop-grid-2, After-len-2, After-len-3, After-rank_count-ranks, In-loop-group}
+use Rattle.chains.proofs.making.chains_of.Goals.{In_ok-groups}
+use Rattle.chains.proofs.Words.{All, AreGroups, Group, IsGrid, MOST_INNER_NODES, MOST_PARTS, MOST_PLACES, StandInLine, append-nil, chain_links, entering}
+use Rattle.chains.proofs.Words.{flat_map, leaving, length-grid, links_of_group, onward, rank_count, take_all}
+use Rattle.std.proofs.Common.{ap, append_assoc, ap₂, arith, get_or, length, subst, subst₂, sym, ◌*◌, ◌++◌, ◌+◌, ◌<◌, ◌∙◌, ◌≡◌, ◌≤◌}
 use Rattle.chains.proofs.making.chains_of.Goals as goal
-use Rattle.chains.proofs.making.chains_of.Goals.{After-as_slice-places, After-rank_count-ranks, After-len-2, In_ok-groups, In-loop-group, After-len-3, After-drop-grid-2}
 
 grid : (c : After-as_slice-places) → IsGrid c.args.case.now c.as_slice-places.result.now
 grid c = subst (IsGrid c.args.case.now) (sym c.as_slice-places.ensures) c.in_ok-grid.ensures
@@ -38,28 +32,30 @@ groups_of-requires-clause-ranks c = few_ranks (goal.at.groups_of-requires-clause
 -- each chain begins within the limits
 first_nodes : (c : In_ok-groups) → All (λ (g : Group). g.first_node ≤ MOST_INNER_NODES) c.in_ok-groups.groups.items
 first_nodes c =
-    first_nodes_few (c.len.result + c.len-2.result) c.rank_count-ranks.result c.in_ok-groups.groups.items c.in_ok-groups.ensures.chains c.in_ok-groups.ensures.few (few_parts (goal.at.In_ok-groups c).After-len-2) (few_ranks (goal.at.In_ok-groups c).After-rank_count-ranks)
+    first_nodes_few (c.len.result + c.len-2.result) c.rank_count-ranks.result c.in_ok-groups.groups.items c.in_ok-groups.ensures.chains
+    c.in_ok-groups.ensures.few (few_parts (goal.at.In_ok-groups c).After-len-2) (few_ranks (goal.at.In_ok-groups c).After-rank_count-ranks)
 
 pub push_entering-requires-clause-few_places : goal.push_entering-requires-clause-few_places
 push_entering-requires-clause-few_places c = few_places (goal.at.push_entering-requires-clause-few_places c).After-as_slice-places
 
 pub push_entering-requires-clause-nodes : goal.push_entering-requires-clause-nodes
-push_entering-requires-clause-nodes c = subst (All (λ (g : Group). g.first_node ≤ MOST_INNER_NODES)) (sym c.as_slice.ensures.value) (first_nodes (goal.at.push_entering-requires-clause-nodes c).In_ok-groups)
+push_entering-requires-clause-nodes c =
+    subst (All (λ (g : Group). g.first_node ≤ MOST_INNER_NODES)) (sym c.as_slice.ensures.value)
+    (first_nodes (goal.at.push_entering-requires-clause-nodes c).In_ok-groups)
 
 pub loop-group-init : goal.loop-group-init
 loop-group-init c =
-    let case = c.args.case.now in
+    let hot = c.args.parts.now.hot in
     let places = c.as_slice-places.result.now in
-    let cold = c.args.parts.now.cold in
-    let links = c.new-links.result.items in
-    let made = c.push_entering.new.links.items in
-    let entering = subst₂ (λ hot groups. Appends (IsEntering case places hot cold groups) (length hot) links made) c.as_slice-2.ensures (c.as_slice.ensures.value ∙ sym c.deref-group-items.ensures.value) (c.in_ok-push_entering.ensures case cold) in
-    chains-none case places c.args.parts.now.hot cold c.deref-group-items.result.now links made c.new-links.ensures.items entering
+    let groups = c.deref-group-items.result.now in
+    let whole = ap₂ (entering places) (c.as_slice.ensures.value ∙ sym c.deref-group-items.ensures.value) c.as_slice-2.ensures in
+    c.in_ok-push_entering.ensures ∙ ap₂ ◌++◌ c.new-links.ensures.items whole ∙ sym (append-nil (entering places groups hot))
 
 -- and so does the one of this group
 first_node : (c : In-loop-group) (g : Group) → g ≡ get_or c.deref-group-items.result.now c.loop-group.group-index g → g.first_node ≤ MOST_INNER_NODES
 first_node c g is =
-    let here = subst (All (λ (h : Group). h.first_node ≤ MOST_INNER_NODES)) (sym c.deref-group-items.ensures.value) (first_nodes (goal.at.In-loop-group c).In_ok-groups) c.loop-group.group-index g c.loop-group-test.true in
+    let here = subst (All (λ (h : Group). h.first_node ≤ MOST_INNER_NODES)) (sym c.deref-group-items.ensures.value)
+    (first_nodes (goal.at.In-loop-group c).In_ok-groups) c.loop-group.group-index g c.loop-group-test.true in
     subst (λ (h : Group). h.first_node ≤ MOST_INNER_NODES) (sym is) here
 
 pub push_onward-requires-clause-node : goal.push_onward-requires-clause-node
@@ -67,7 +63,8 @@ push_onward-requires-clause-node c = first_node (goal.at.push_onward-requires-cl
 
 pub push_onward-requires-clause-some : goal.push_onward-requires-clause-some
 push_onward-requires-clause-some c =
-    let some = places_some c.args.case.now c.as_slice-places.result.now c.requires.complete (grid (goal.at.push_onward-requires-clause-some c).After-as_slice-places) in
+    let some = places_some c.args.case.now c.as_slice-places.result.now c.requires.complete
+    (grid (goal.at.push_onward-requires-clause-some c).After-as_slice-places) in
     omega (arith, some, c.rank_count-ranks.ensures)
 
 pub push_onward-requires-clause-ranks : goal.push_onward-requires-clause-ranks
@@ -89,14 +86,19 @@ loop-group-preserved c =
     let places = c.as_slice-places.result.now in
     let hot = c.args.parts.now.hot in
     let cold = c.args.parts.now.cold in
+    let groups = c.deref-group-items.result.now in
     let g = c.group-item.result in
-    let before = c.loop-group.links.items in
-    let between = c.push_onward.new.links.items in
-    let steps = subst (λ n. Appends (IsStep strides g.first_node n) ((n - 1) + (n - 1) / 2) before between) c.rank_count-ranks.ensures c.in_ok-push_onward.ensures in
-    chains-more case places hot cold c.deref-group-items.result.now c.loop-group.group-index c.loop-group-test.true g c.group-item.is before between c.push_leaving.new.links.items c.loop-group.invariant steps c.in_ok-push_leaving.ensures
+    let after = c.loop-group.links.items in
+    let out = leaving case places (length hot) g cold in
+    let ranks = ap (λ n. after ++ (onward g.first_node n ++ out)) c.rank_count-ranks.ensures in
+    let pushed = c.in_ok-push_leaving.ensures ∙ ap (λ links. links ++ out) c.in_ok-push_onward.ensures
+    ∙ append_assoc after (onward g.first_node c.rank_count-ranks.result) out ∙ ranks in
+    flat_map-step groups c.loop-group.group-index g (entering places groups hot) after _ c.loop-group-test.true c.group-item.is
+    (links_of_group case places (length hot) cold) c.loop-group.invariant pushed
 
 few_nodes : (c : After-len-3) → 2 * MOST_PARTS + c.len-3.result * c.rank_count-ranks.result < MOST_INNER_NODES
-few_nodes c = few_chain_nodes c.len-3.result c.rank_count-ranks.result (omega (arith, c.len-3.ensures, c.in_ok-groups.ensures.few)) (few_ranks (goal.at.After-len-3 c).After-rank_count-ranks)
+few_nodes c = few_chain_nodes c.len-3.result c.rank_count-ranks.result (omega (arith, c.len-3.ensures, c.in_ok-groups.ensures.few))
+    (few_ranks (goal.at.After-len-3 c).After-rank_count-ranks)
 
 pub overflow_mul-result : goal.overflow_mul-result
 overflow_mul-result c = let most = few_nodes (goal.at.overflow_mul-result c).After-len-3 in omega (arith, most)
@@ -107,7 +109,12 @@ overflow_add-result c =
     let parts = few_parts (goal.at.overflow_add-result c).After-len-2 in
     omega (arith, most, parts)
 
-made : (c : After-drop-grid-2) → AreChains c.args.case.now c.args.parts.now.hot c.args.parts.now.cold (record { groups = c.from_vec-2.result; net = record { nodes = (c.len.result + c.len-2.result) + c.len-3.result * c.rank_count-ranks.result; links = c.from_vec.result } })
+made : (c : After-drop-grid-2)
+    → AreChains c.args.case.now c.args.parts.now.hot c.args.parts.now.cold
+    (record {
+      groups = c.from_vec-2.result;
+      net = record { nodes = (c.len.result + c.len-2.result) + c.len-3.result * c.rank_count-ranks.result; links = c.from_vec.result };
+    })
 made c =
     let case = c.args.case.now in
     let places = c.as_slice-places.result.now in
@@ -116,11 +123,27 @@ made c =
     let answer = c.in_ok-groups.ensures in
     let same = sym c.from_vec-2.ensures in
     let first : c.len.result + c.len-2.result ≡ length hot + length cold = ap₂ ◌+◌ c.len.ensures c.len-2.ensures in
-    let in_line = subst₂ (λ n ranks. StandInLine n ranks c.from_vec-2.result) first c.rank_count-ranks.ensures (subst (StandInLine (c.len.result + c.len-2.result) c.rank_count-ranks.result) same answer.chains) in
-    let links = chains-done case places hot cold c.deref-group-items.result.now c.from_vec-2.result c.loop-group.group-index c.loop-group.links.items c.from_vec.result (c.deref-group-items.ensures.value ∙ same) (sym c.from_vec.ensures) c.loop-group-test.false c.loop-group.auto.group-index-end c.loop-group.invariant in
+    let in_line = subst₂ (λ n ranks. StandInLine n ranks c.from_vec-2.result) first c.rank_count-ranks.ensures
+    (subst (StandInLine (c.len.result + c.len-2.result) c.rank_count-ranks.result) same answer.chains) in
+    let all = take_all c.loop-group.group-index c.deref-group-items.result.now c.loop-group-test.false in
+    let links =
+    c.from_vec.ensures ∙ c.loop-group.invariant
+    ∙ ap (λ gs. entering places c.deref-group-items.result.now hot ++ flat_map (links_of_group case places (length hot) cold) gs) all
+    ∙ ap (chain_links case places hot cold) (c.deref-group-items.ensures.value ∙ same) in
     let count : c.len-3.result ≡ length c.from_vec-2.result = omega (arith, c.len-3.ensures, ap length c.from_vec-2.ensures) in
-    let nodes : (c.len.result + c.len-2.result) + c.len-3.result * c.rank_count-ranks.result ≡ (length hot + length cold) + length c.from_vec-2.result * rank_count places = ap₂ ◌+◌ first (ap₂ ◌*◌ count c.rank_count-ranks.ensures) in
-    AreChains-made case places hot cold _ c.requires.complete (grid (goal.at.After-drop-grid-2 c).After-as_slice-places) c.requires.parts c.args.parts.now.few_hot c.args.parts.now.few_cold (subst (AreGroups case) same answer.groups) in_line (omega (arith, answer.few, ap length c.from_vec-2.ensures)) links nodes
+    let nodes : (c.len.result + c.len-2.result) + c.len-3.result * c.rank_count-ranks.result
+    ≡ (length hot + length cold) + length c.from_vec-2.result * rank_count places = ap₂ ◌+◌ first (ap₂ ◌*◌ count c.rank_count-ranks.ensures) in
+    let is_grid = grid (goal.at.After-drop-grid-2 c).After-as_slice-places in
+    let on = c.requires.parts in
+    let for : AreForChains case places hot cold c.from_vec-2.result = record {
+      is_grid = is_grid;
+      hot_on = hot_on_places case places hot cold is_grid on;
+      cold_on = cold_on_places case places hot cold is_grid on;
+      are = subst (AreGroups case) same answer.groups;
+      in_line = in_line;
+    } in
+    AreChains-made case places hot cold _ c.requires.complete for c.args.parts.now.few_hot c.args.parts.now.few_cold
+    (omega (arith, answer.few, ap length c.from_vec-2.ensures)) links nodes
 
 pub returns-clause-groups : goal.returns-clause-groups
 returns-clause-groups c = (made c).groups

@@ -1,9 +1,8 @@
-use Rattle.std.proofs.Common.{[], take}
-use Rattle.chains.specs.Making.{Appends}
-use Rattle.chains.proofs.LinkLemmas.{IsLinkSoFar, most_so_far}
+use Rattle.chains.proofs.Words.{entering, flat_map, links_of_group}
+use Rattle.std.proofs.Common.{length, take, ◌++◌, ◌≡◌}
 use Rattle.chains.proofs.making.chains_of.Given as goal
 
 abbrev pub invariant-loop-group : goal.invariant-loop-group
 invariant-loop-group l =
-    Appends (IsLinkSoFar l.case l.places l.parts.hot l.parts.cold l.group-items (take l.group-index l.group-items))
-    (most_so_far l.case l.places l.parts.hot l.parts.cold l.group-items l.group-index) [] l.links.items
+    l.links.items ≡ entering l.places l.group-items l.parts.hot ++ flat_map (links_of_group l.case l.places (length l.parts.hot) l.parts.cold)
+    (take l.group-index l.group-items)

@@ -1,7 +1,5 @@
-use Rattle.std.proofs.Common.{◌≡◌, ◌+◌, ◌*◌, length}
-use Rattle.std.specs.Int.RustNames.{unsigned_abs}
-use Rattle.chains.specs.Stock.{IsUnderWay}
-use Rattle.chains.specs.Ways.{left_in_all, AreOpen}
+use Rattle.chains.proofs.Words.{AreOpen, IsUnderWay, left_in_all, unsigned_abs}
+use Rattle.std.proofs.Common.{length, ◌*◌, ◌+◌, ◌≡◌}
 use Rattle.chains.proofs.spreading.spread.Given as goal
 
 abbrev pub decreases-loop-share : goal.decreases-loop-share

@@ -1,15 +1,15 @@
-use Rattle.std.proofs.Common.{◌≡◌, ◌∙◌, ap, subst, w64, to_z, of_z, rules, arith}
-use Rattle.std.proofs.lemmas.Int.{ints, to_z-of_z}
-use Rattle.chains.specs.Ways.{IsCarried}
 use Rattle.chains.proofs.PassLemmas.{moved_one, moved_two}
+use Rattle.chains.proofs.stock.pass_on.Goals.{else-part-share, then-part-share+in_ok-push}
+use Rattle.chains.proofs.Words.{IsCarried, ints, to_z-of_z}
+use Rattle.std.proofs.Common.{ap, arith, of_z, rules, subst, to_z, w64, ◌∙◌, ◌≡◌}
 use Rattle.chains.proofs.stock.pass_on.Goals as goal
-use Rattle.chains.proofs.stock.pass_on.Goals.{then-part-share+in_ok-push, else-part-share}
 
 pub returns-clause-passed : goal.returns-clause-passed
 returns-clause-passed c =
     let s = c.args.share in
     let part = c.carry-part.result in
-    let carried = subst (λ z. IsCarried c.args.ways.now.sorted.items c.carry-part.new.self.sorted.items s.node z part) (to_z-of_z w64 s.heat (search rules)) c.carry-part.ensures.carried in
+    let carried = subst (λ z. IsCarried c.args.ways.now.sorted.items c.carry-part.new.self.sorted.items s.node z part)
+    (to_z-of_z w64 s.heat (search rules)) c.carry-part.ensures.carried in
     let positive = carried.positive in
     let limited = carried.limited in
     let shares = c.args.shares.now.items in
@@ -20,7 +20,9 @@ returns-clause-passed c =
       carried = carried;
       is = elim c.if-part-share.branch [
         | then-part-share+in_ok-push w ↦
-            moved_two s part shares c.if-part-share.shares.items c.push-2.new.self.items _ _ (let less = w.if-part-share.true in omega (arith, ints, less)) (ap (λ v. v.items) w.shares-is ∙ w.in_ok-push.ensures.items) c.in_ok-push-2.ensures.items (omega (arith, ints)) left_is
-        | else-part-share w ↦ moved_one s part shares c.if-part-share.shares.items c.push-2.new.self.items _ (let most = w.if-part-share.false in omega (arith, ints, most)) (ap (λ v. v.items) w.shares-is) c.in_ok-push-2.ensures.items left_is
+            moved_two s part shares c.if-part-share.shares.items c.push-2.new.self.items _ _ (let less = w.if-part-share.true in omega (arith, ints, less))
+            (ap (λ v. v.items) w.shares-is ∙ w.in_ok-push.ensures.items) c.in_ok-push-2.ensures.items (omega (arith, ints)) left_is
+        | else-part-share w ↦ moved_one s part shares c.if-part-share.shares.items c.push-2.new.self.items
+            _ (let most = w.if-part-share.false in omega (arith, ints, most)) (ap (λ v. v.items) w.shares-is) c.in_ok-push-2.ensures.items left_is
       ];
     }

@@ -1,4 +1,4 @@
-use Rattle.chains.specs.Stock.{HaveSetOut}
+use Rattle.chains.proofs.Words.{HaveSetOut}
 use Rattle.chains.proofs.stock.set_out.Given as goal
 
 abbrev pub invariant-loop-index : goal.invariant-loop-index

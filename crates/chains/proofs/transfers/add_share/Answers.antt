@@ -1,9 +1,6 @@
-use Rattle.std.proofs.Common.{◌≡◌, ◌∙◌, FitsSigned, inl, sym, ap, ◌+◌, ◌-◌, ◌<◌, length, w64, rules, arith}
-use Rattle.std.proofs.lemmas.Int.{ints, to_z-of_z}
-use Rattle.std.proofs.lemmas.List.{get_or_read}
-use Rattle.heat_flow.specs.declared.flow.Transfer.{Transfer}
-use Rattle.chains.specs.Gathered.{transfer_of}
 use Rattle.chains.proofs.GatherLemmas.{is_joined}
+use Rattle.chains.proofs.Words.{Transfer, get_or_read, ints, to_z-of_z, transfer_of}
+use Rattle.std.proofs.Common.{FitsSigned, ap, arith, inl, length, rules, sym, w64, ◌+◌, ◌-◌, ◌<◌, ◌∙◌, ◌≡◌}
 use Rattle.chains.proofs.transfers.add_share.Goals as goal
 
 pub returns-then-index-cold : goal.returns-then-index-cold
@@ -17,7 +14,8 @@ returns-then-index-cold c =
     let last = c.index_mut.result.now in
     let read = c.index_mut.ensures.value in
     let one : c.index.result.now ≡ last = get_or_read old n c.index.result.now within c.index.ensures last ∙ sym read in
-    let two : c.index-then-index-share.result.now ≡ last = get_or_read old n c.index-then-index-share.result.now within c.index-then-index-share.ensures last ∙ sym read in
+    let two : c.index-then-index-share.result.now ≡ last = get_or_read old n c.index-then-index-share.result.now within c.index-then-index-share.ensures last
+    ∙ sym read in
     let same_hot = ap (λ (t : Transfer). t.hot) (sym one) ∙ c.if-index-share.true in
     let same_cold = ap (λ (t : Transfer). t.cold) (sym two) ∙ c.if-index-cold.true in
     let upto = c.requires.fits n last within (ap (λ (t : Transfer). t.hot) (sym read) ∙ same_hot) in

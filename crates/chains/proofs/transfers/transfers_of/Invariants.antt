@@ -1,5 +1,5 @@
+use Rattle.chains.proofs.Words.{AreGathered}
 use Rattle.std.proofs.Common.{take}
-use Rattle.chains.specs.Gathered.{AreGathered}
 use Rattle.chains.proofs.transfers.transfers_of.Given as goal
 
 abbrev pub invariant-loop-share : goal.invariant-loop-share

@@ -1,9 +1,7 @@
-use Rattle.std.proofs.Common.{of_z, w64, ap, sym, subst, arith}
-use Rattle.std.proofs.lemmas.Int.{ints}
-use Rattle.sums.proofs.IntegerLemmas.{strictly}
-use Rattle.flow_net.specs.Problem.{IsFreePath}
+use Rattle.flow_net.proofs.PathLemmas.{IsFreePath-tree, IsTree-arrived}
 use Rattle.flow_net.proofs.Sizes.{less_left}
-use Rattle.flow_net.proofs.PathLemmas.{IsTree-arrived, IsFreePath-tree}
+use Rattle.flow_net.proofs.Words.{IsFreePath, ints, strictly}
+use Rattle.std.proofs.Common.{ap, arith, of_z, subst, sym, w64}
 use Rattle.flow_net.proofs.least_cost.advance.Goals as goal
 
 pub path-requires : goal.path-requires
@@ -24,7 +22,8 @@ returns-then-rises-clause-rises c =
 pub loop-routing-smaller : goal.loop-routing-smaller
 loop-routing-smaller c =
     less_left c.args.problem.now.amount c.loop-routing.routing.routed c.augment_by_levels.new.routing.routed
-    (strictly c.loop-routing.routing.routed c.augment_by_levels.new.routing.routed c.in_ok-augment_by_levels.ensures.no_less (λ e. c.if-routing-before.false (ap (of_z w64) (sym e))))
+    (strictly c.loop-routing.routing.routed c.augment_by_levels.new.routing.routed c.in_ok-augment_by_levels.ensures.no_less
+    (λ e. c.if-routing-before.false (ap (of_z w64) (sym e))))
     c.in_ok-augment_by_levels.ensures.standing.routed_upto
 
 pub loop-routing-preserved : goal.loop-routing-preserved

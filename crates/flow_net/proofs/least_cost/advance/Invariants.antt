@@ -1,6 +1,5 @@
+use Rattle.flow_net.proofs.Words.{IsStanding, unsigned_abs}
 use Rattle.std.proofs.Common.{◌-ℤ◌, ◌≤ℤ◌}
-use Rattle.std.specs.Int.RustNames.{unsigned_abs}
-use Rattle.flow_net.specs.Problem.{IsStanding}
 use Rattle.flow_net.proofs.least_cost.advance.Given as goal
 
 abbrev pub decreases-loop-routing : goal.decreases-loop-routing

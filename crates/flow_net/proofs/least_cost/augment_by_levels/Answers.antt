@@ -1,6 +1,6 @@
-use Rattle.std.proofs.Common.{arith}
-use Rattle.std.proofs.lemmas.Int.{ints}
 use Rattle.flow_net.proofs.Sizes.{sizes}
+use Rattle.std.proofs.Common.{arith}
+use Rattle.flow_net.proofs.Words.{ints}
 use Rattle.flow_net.proofs.least_cost.augment_by_levels.Goals as goal
 
 pub loop-routing-smaller : goal.loop-routing-smaller

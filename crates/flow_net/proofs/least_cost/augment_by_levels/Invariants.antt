@@ -1,7 +1,5 @@
+use Rattle.flow_net.proofs.Words.{IsLevelGraph, IsStanding, unsigned_abs}
 use Rattle.std.proofs.Common.{◌-ℤ◌, ◌≤ℤ◌}
-use Rattle.std.specs.Int.RustNames.{unsigned_abs}
-use Rattle.flow_net.specs.LevelGraph.{IsLevelGraph}
-use Rattle.flow_net.specs.Problem.{IsStanding}
 use Rattle.flow_net.proofs.least_cost.augment_by_levels.Given as goal
 
 abbrev pub decreases-loop-routing : goal.decreases-loop-routing

@@ -1,21 +1,24 @@
-use Rattle.std.proofs.Common.{◌≡◌, w64, sym, subst, arith}
-use Rattle.std.proofs.lemmas.Int.{ints, to_z-of_z}
-use Rattle.flow_net.specs.Net.{IsRouting, IsCutBelow, IsLeastRouting}
 use Rattle.flow_net.proofs.CutLemmas.{IsCutBelow-stuck}
 use Rattle.flow_net.proofs.Duality.{least_from_potentials, none_past_cut}
+use Rattle.flow_net.proofs.Words.{IsCutBelow, IsLeastRouting, IsRouting, ints, to_z-of_z}
+use Rattle.std.proofs.Common.{arith, subst, sym, w64, ◌≡◌}
 use Rattle.flow_net.proofs.least_cost.solve.Goals as goal
 
 pub returns-then-not-branch-clause-blocked : goal.returns-then-not-branch-clause-blocked
 returns-then-not-branch-clause-blocked c =
     let whole = to_z-of_z w64 c.args.amount c.ranges.amount in
-    let cut = IsCutBelow-stuck _ c.loop-routing.routing c.run.new.self c.loop-routing.invariant (rw c.if-not-branch.true at c.in_ok-run.ensures) (let short = c.loop-routing-test.true in omega (arith, ints)) in
-    subst (IsCutBelow c.args.net.now c.args.source c.args.sink c.args.amount) (sym c.from_vec.ensures) (subst (λ z. IsCutBelow c.args.net.now c.args.source c.args.sink z c.run.new.self.reached.items) whole cut)
+    let cut = IsCutBelow-stuck _ c.loop-routing.routing c.run.new.self c.loop-routing.invariant (rw c.if-not-branch.true at c.in_ok-run.ensures)
+    (let short = c.loop-routing-test.true in omega (arith, ints)) in
+    subst (IsCutBelow c.args.net.now c.args.source c.args.sink c.args.amount) (sym c.from_vec.ensures)
+    (subst (λ z. IsCutBelow c.args.net.now c.args.source c.args.sink z c.run.new.self.reached.items) whole cut)
 
 pub returns-then-not-branch-clause-blocked_only : goal.returns-then-not-branch-clause-blocked_only
 returns-then-not-branch-clause-blocked_only c = λ routable.
     let whole = to_z-of_z w64 c.args.amount c.ranges.amount in
-    let cut = IsCutBelow-stuck _ c.loop-routing.routing c.run.new.self c.loop-routing.invariant (rw c.if-not-branch.true at c.in_ok-run.ensures) (let short = c.loop-routing-test.true in omega (arith, ints)) in
-    none_past_cut c.args.net.now c.requires.net c.args.source c.args.sink c.requires.ends _ routable.0 c.run.new.self.reached.items cut (subst (λ z. IsRouting c.args.net.now c.args.source c.args.sink z routable.0) (sym whole) routable.1)
+    let cut = IsCutBelow-stuck _ c.loop-routing.routing c.run.new.self c.loop-routing.invariant (rw c.if-not-branch.true at c.in_ok-run.ensures)
+    (let short = c.loop-routing-test.true in omega (arith, ints)) in
+    none_past_cut c.args.net.now c.requires.net c.args.source c.args.sink c.requires.ends _ routable.0 c.run.new.self.reached.items cut
+    (subst (λ z. IsRouting c.args.net.now c.args.source c.args.sink z routable.0) (sym whole) routable.1)
 
 pub returns-clause-routed : goal.returns-clause-routed
 returns-clause-routed c =
@@ -28,5 +31,6 @@ returns-clause-routed c =
     subst (IsLeastRouting c.args.net.now c.args.source c.args.sink c.args.amount) (sym c.from_vec-2.ensures)
     (record {
       routing = routes;
-      least = λ other. least_from_potentials c.args.net.now c.requires.net c.args.source c.args.sink c.requires.ends c.args.amount r.flow.items routes r.potentials.items other standing.proof;
+      least = λ other. least_from_potentials c.args.net.now c.requires.net c.args.source c.args.sink c.requires.ends c.args.amount r.flow.items routes
+          r.potentials.items other standing.proof;
     })

@@ -1,6 +1,5 @@
-use Rattle.std.proofs.Common.{◌≡◌, ℕ, ◌<◌, length, pos}
-use Rattle.flow_net.specs.Net.{link_at}
-use Rattle.flow_net.specs.Flow.{IsOpening, opening_at}
+use Rattle.flow_net.proofs.Words.{IsOpening, link_at, opening_at}
+use Rattle.std.proofs.Common.{length, pos, ℕ, ◌<◌, ◌≡◌}
 use Rattle.flow_net.proofs.routing.openings_of.Given as goal
 
 abbrev pub invariant-loop-link : goal.invariant-loop-link

@@ -1,5 +1,5 @@
-use Rattle.std.proofs.Common.{◌≡◌, take}
-use Rattle.transport.specs.Members.{members_of}
+use Rattle.std.proofs.Common.{take, ◌≡◌}
+use Rattle.transport.proofs.Words.{members_of}
 use Rattle.transport.proofs.cut.members_of.Given as goal
 
 abbrev pub invariant-loop-index : goal.invariant-loop-index

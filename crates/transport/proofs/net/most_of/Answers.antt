@@ -1,7 +1,5 @@
-use Rattle.std.proofs.Common.{get_or, arith}
-use Rattle.std.proofs.lemmas.Int.{ints}
-use Rattle.sums.proofs.SumLemmas.{int_sum_by-more}
-use Rattle.heat_flow.proofs.Blanks.{blank}
+use Rattle.transport.proofs.Words.{blank, int_sum_by-more, ints}
+use Rattle.std.proofs.Common.{arith, get_or}
 use Rattle.transport.proofs.net.most_of.Goals as goal
 
 pub loop-part-preserved : goal.loop-part-preserved

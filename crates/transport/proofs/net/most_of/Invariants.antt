@@ -1,7 +1,5 @@
-use Rattle.std.proofs.Common.{◌≡◌, take}
-use Rattle.std.specs.Prelude.{pos, ◌*ℤ◌, ◌≤ℤ◌}
-use Rattle.stream_case.specs.declared.limits.TheConstants.{MOST_HEAT}
-use Rattle.transport.specs.Around.{most_of}
+use Rattle.std.proofs.Common.{take, ◌≡◌}
+use Rattle.transport.proofs.Words.{MOST_HEAT, most_of, pos, ◌*ℤ◌, ◌≤ℤ◌}
 use Rattle.transport.proofs.net.most_of.Given as goal
 
 abbrev pub invariant-loop-part : goal.invariant-loop-part

@@ -1,7 +1,6 @@
-use Rattle.std.proofs.Common.{◌∙◌, ◌+◌, ◌++◌, sym, ap, ap₂, get_or, take, [], ◌∷◌}
-use Rattle.heat_flow.proofs.Blanks.{blank}
-use Rattle.transport.specs.Around.{whole_link, spare_link, links_of_parts}
-use Rattle.transport.proofs.LoopLemmas.{two_more, links_of_parts-more}
+use Rattle.transport.proofs.Words.{blank, links_of_parts, spare_link, whole_link}
+use Rattle.std.proofs.Common.{[], ap, ap₂, get_or, sym, take, ◌++◌, ◌+◌, ◌∙◌, ◌∷◌}
+use Rattle.transport.proofs.LoopLemmas.{links_of_parts-more, two_more}
 use Rattle.transport.proofs.net.push_parts.Goals as goal
 
 pub loop-index-preserved : goal.loop-index-preserved
@@ -16,5 +15,6 @@ loop-index-preserved c =
     let grown =
     c.in_ok-push-2.ensures.items
     ∙ ap₂ (λ xs m. xs ++ m ∷ []) (c.in_ok-push.ensures.items ∙ ap (λ l. old ++ l ∷ []) c.whole_link.ensures) c.spare_link.ensures in
-    two_more c.args.links.now.items made old _ (whole_link side c.args.ends (first + i) p) (spare_link side c.args.ends (first + i) p) c.loop-index.invariant grown
+    two_more c.args.links.now.items made old _ (whole_link side c.args.ends (first + i) p) (spare_link side c.args.ends (first + i) p) c.loop-index.invariant
+    grown
     ∙ ap (λ xs. c.args.links.now.items ++ xs) (sym (links_of_parts-more side c.args.ends first parts i c.loop-index-test.true))

@@ -1,5 +1,5 @@
-use Rattle.std.proofs.Common.{◌≡◌, ◌++◌, take}
-use Rattle.transport.specs.Around.{links_of_parts}
+use Rattle.std.proofs.Common.{take, ◌++◌, ◌≡◌}
+use Rattle.transport.proofs.Words.{links_of_parts}
 use Rattle.transport.proofs.net.push_parts.Given as goal
 
 abbrev pub invariant-loop-index : goal.invariant-loop-index

@@ -1,8 +1,4 @@
-use Rattle.std.specs.Prelude.{pos, if◌then◌else◌}
-use Rattle.stream_case.specs.declared.limits.TheConstants.{MOST_HEAT}
-use Rattle.heat_flow.specs.Cuts.{opposite, parts_of, cut_side, meets}
-use Rattle.heat_flow.specs.Reach.{reach_between}
-use Rattle.heat_flow.proofs.LoopSums.{SumSoFar}
+use Rattle.transport.proofs.Words.{MOST_HEAT, SumSoFar, cut_side, if◌then◌else◌, meets, opposite, parts_of, pos, reach_between}
 use Rattle.transport.proofs.offer.case_offer.Given as goal
 
 abbrev pub invariant-loop-part : goal.invariant-loop-part

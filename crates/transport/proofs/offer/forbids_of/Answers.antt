@@ -1,10 +1,9 @@
-use Rattle.std.proofs.Common.{◌∙◌, ◌+◌, sym, ap, subst, take}
+use Rattle.std.proofs.Common.{ap, subst, sym, take, ◌+◌, ◌∙◌}
+use Rattle.transport.proofs.Words.{Forbid, ForbidAlike}
+use Rattle.transport.proofs.OfferLemmas.{forbid_pass, forbid_push}
+use Rattle.transport.proofs.offer.forbids_of.Goals.{else-names, then-names+in_ok-push}
 use Rattle.stream_case.specs.declared.source.Source.TheVariants.{Stream as of_stream}
-use Rattle.stream_case.specs.declared.case.Forbid.{Forbid}
-use Rattle.transport.specs.Offer.{ForbidAlike}
-use Rattle.transport.proofs.OfferLemmas.{forbid_push, forbid_pass}
 use Rattle.transport.proofs.offer.forbids_of.Goals as goal
-use Rattle.transport.proofs.offer.forbids_of.Goals.{then-names+in_ok-push, else-names}
 
 pub loop-forbid-preserved : goal.loop-forbid-preserved
 loop-forbid-preserved c =

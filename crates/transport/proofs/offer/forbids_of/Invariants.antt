@@ -1,5 +1,5 @@
 use Rattle.std.proofs.Common.{take}
-use Rattle.transport.specs.Offer.{ForbidAlike}
+use Rattle.transport.proofs.Words.{ForbidAlike}
 use Rattle.transport.proofs.offer.forbids_of.Given as goal
 
 abbrev pub invariant-loop-forbid : goal.invariant-loop-forbid

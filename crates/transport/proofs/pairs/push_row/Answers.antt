@@ -1,17 +1,26 @@
-use Rattle.std.proofs.Common.{◌∙◌, ◌+◌, sym, ap, subst}
-use Rattle.transport.specs.Pairs.{HoldsPairs}
-use Rattle.transport.proofs.PairLemmas.{HoldsPairs-push, HoldsPairs-pass}
+use Rattle.std.proofs.Common.{Bool, [], ap, arith, sym, ◌++◌, ◌∙◌, ◌≡◌}
+use Rattle.transport.proofs.Words.{append-nil, cons_if, flat_map, link_between, pair_link, range_with_len}
+use Rattle.transport.proofs.LoopLemmas.{range-step}
+use Rattle.transport.proofs.pairs.push_row.Goals.{else-reaches, then-reaches+in_ok-push}
 use Rattle.transport.proofs.pairs.push_row.Goals as goal
-use Rattle.transport.proofs.pairs.push_row.Goals.{then-reaches+in_ok-push, else-reaches}
 
 pub loop-cold-preserved : goal.loop-cold-preserved
 loop-cold-preserved c =
     let r = c.args.reach.now in
     let a = c.args.hot in
     let b = c.loop-cold.cold in
+    let after = c.loop-cold.links.items in
+    let pushes = λ (t : Bool). after ++ cons_if t (pair_link r a b) [] in
     elim c.if-reaches.branch [
       | then-reaches+in_ok-push w ↦
-          subst (HoldsPairs r a (b + 1)) (sym (ap (λ v. v.items) w.links-is ∙ w.in_ok-push.ensures.items)) (HoldsPairs-push r a b c.loop-cold.links.items c.loop-cold.invariant (sym c.reaches.ensures ∙ w.if-reaches.true))
+          range-step (link_between r a) b _ after _ c.loop-cold.invariant
+          (ap (λ v. v.items) w.links-is ∙ w.in_ok-push.ensures.items ∙ ap pushes (sym w.if-reaches.true ∙ c.reaches.ensures))
       | else-reaches w ↦
-          subst (HoldsPairs r a (b + 1)) (sym (ap (λ v. v.items) w.links-is)) (HoldsPairs-pass r a b c.loop-cold.links.items c.loop-cold.invariant (sym c.reaches.ensures ∙ w.if-reaches.false))
+          range-step (link_between r a) b _ after _ c.loop-cold.invariant
+          (ap (λ v. v.items) w.links-is ∙ sym (append-nil after) ∙ ap pushes (sym w.if-reaches.false ∙ c.reaches.ensures))
     ]
+
+pub returns : goal.returns
+returns c =
+    let all : c.loop-cold.cold ≡ c.args.reach.now.colds = omega (arith, c.loop-cold-test.false, c.loop-cold.auto.cold-end) in
+    c.loop-cold.invariant ∙ ap (λ n. c.args.links.now.items ++ flat_map (link_between c.args.reach.now c.args.hot) (range_with_len 0 n)) all

@@ -1,5 +1,5 @@
 use Rattle.std.proofs.Common.{◌≡◌}
-use Rattle.transport.specs.Around.{prices_of}
+use Rattle.transport.proofs.Words.{prices_of}
 use Rattle.transport.proofs.prices.prices_of.Given as goal
 
 abbrev pub invariant-loop-index : goal.invariant-loop-index

@@ -1,16 +1,11 @@
-use Rattle.std.proofs.Common.{◌≡◌, ◌+◌, ◌*◌, ◌<◌, Some, None, length, set, reverse, ap, ◌∙◌, sym, subst, arith}
-use Rattle.std.specs.List.{All}
-use Rattle.std.proofs.lemmas.List.{length-set}
-use Rattle.std.proofs.lemmas.List.Elements.{All-push, All-pop, All-weaker}
-use Rattle.std.proofs.lemmas.List.Sorted.{All-permutation, IsPermutation-reverse}
-use Rattle.flow_net.specs.Flow.{IsWalk}
-use Rattle.flow_net.specs.Problem.{IsFreeArc, IsFreePath}
-use Rattle.flow_net.specs.LevelGraph.{StepsUp}
 use Rattle.flow_net.proofs.FlowLemmas.{arc-nodes}
-use Rattle.flow_net.proofs.PathLemmas.{walk-push, walk-pop, IsFreePath-rising}
-use Rattle.flow_net.proofs.LevelGraphLemmas.{height_at, level_count, IsStep, IsStep-up, IsStep-closed, fewer_levels, height_kept}
-use Rattle.flow_net.proofs.level_graph.LevelGraph.find_path.Goals as goal
+use Rattle.flow_net.proofs.LevelGraphLemmas.{IsStep, IsStep-closed, IsStep-up, fewer_levels, height_at, height_kept, level_count}
+use Rattle.flow_net.proofs.PathLemmas.{IsFreePath-rising, walk-pop, walk-push}
 use Rattle.flow_net.proofs.level_graph.LevelGraph.find_path.Goals.{In-Some-pop}
+use Rattle.flow_net.proofs.Words.{All, All-permutation, All-pop, All-push, All-weaker, IsFreeArc, IsFreePath, IsPermutation-reverse, IsWalk, StepsUp}
+use Rattle.flow_net.proofs.Words.{length-set}
+use Rattle.std.proofs.Common.{None, Some, ap, arith, length, reverse, set, subst, sym, ◌*◌, ◌+◌, ◌<◌, ◌∙◌, ◌≡◌}
+use Rattle.flow_net.proofs.level_graph.LevelGraph.find_path.Goals as goal
 
 pub loop-node-preserved-in-Some : goal.loop-node-preserved-in-Some
 loop-node-preserved-in-Some c =
@@ -24,9 +19,13 @@ loop-node-preserved-in-Some c =
     let steps = subst (λ t. All (IsStep p r t.items) c.loop-node.path.items) (sym last.levels) inv.steps in
     let step = IsStep-up p r levels a last.free (subst (λ t. StepsUp t.items a) (sym last.levels) last.steps_up) in
     record {
-      graph = record { one_level_each = ap (λ t. length t.items) last.levels ∙ inv.graph.one_level_each; one_cursor_each = last.cursors ∙ inv.graph.one_cursor_each };
+      graph = record {
+        one_level_each = ap (λ t. length t.items) last.levels ∙ inv.graph.one_level_each;
+        one_cursor_each = last.cursors ∙ inv.graph.one_cursor_each;
+      };
       node_in = (arc-nodes p.net.now c.requires.standing.problem.net a last.free.residual.arc).0;
-      walk = subst (λ xs. IsWalk (reverse xs) a.tail p.sink) (sym grown) (walk-push c.loop-node.path.items a p.sink (subst (λ v. IsWalk (reverse c.loop-node.path.items) v p.sink) (sym last.head) inv.walk));
+      walk = subst (λ xs. IsWalk (reverse xs) a.tail p.sink) (sym grown)
+          (walk-push c.loop-node.path.items a p.sink (subst (λ v. IsWalk (reverse c.loop-node.path.items) v p.sink) (sym last.head) inv.walk));
       steps = subst (All (IsStep p r levels)) (sym grown) (All-push (IsStep p r levels) c.loop-node.path.items a steps step);
     }
 
@@ -45,7 +44,8 @@ popped c =
     let items = c.in-Some-pop.ensures.items in
     let steps = subst (λ t. All (IsStep p r t.items) c.loop-node.path.items) (sym c.in_default.ensures.levels) c.loop-node.invariant.steps in
     let parts = All-pop (IsStep p r levels) c.loop-node.path.items c.pop.new.self.items (Some c.in-Some-pop.arc) items steps in
-    let walk = walk-pop c.pop.new.self.items c.in-Some-pop.arc c.loop-node.node p.sink (subst (λ xs. IsWalk (reverse xs) c.loop-node.node p.sink) items c.loop-node.invariant.walk) in
+    let walk = walk-pop c.pop.new.self.items c.in-Some-pop.arc c.loop-node.node p.sink
+    (subst (λ xs. IsWalk (reverse xs) c.loop-node.node p.sink) items c.loop-node.invariant.walk) in
     record { tail = walk.0; walk = walk.1; step = parts.1; steps = parts.0 }
 
 pub loop-node-smaller : goal.loop-node-smaller
@@ -53,8 +53,10 @@ loop-node-smaller c =
     let levels = c.last_arc.new.self.levels.items in
     let a = c.in-Some-pop.arc in
     let at = popped c in
-    let fewer = subst (λ v. level_count (set levels v None) + 1 ≡ level_count levels) at.tail (fewer_levels c.args.problem.now c.args.routing.now levels c.pop.new.self.items a c.args.problem.now.sink at.step) in
-    let kept = subst (λ v. height_at (set levels v None) a.head ≡ height_at levels a.head) at.tail (height_kept c.args.problem.now c.args.routing.now levels c.pop.new.self.items a c.args.problem.now.sink at.step) in
+    let fewer = subst (λ v. level_count (set levels v None) + 1 ≡ level_count levels) at.tail
+    (fewer_levels c.args.problem.now c.args.routing.now levels c.pop.new.self.items a c.args.problem.now.sink at.step) in
+    let kept = subst (λ v. height_at (set levels v None) a.head ≡ height_at levels a.head) at.tail
+    (height_kept c.args.problem.now c.args.routing.now levels c.pop.new.self.items a c.args.problem.now.sink at.step) in
     let same = ap (λ t. 2 * level_count t.items + height_at t.items c.loop-node.node) c.in_default.ensures.levels in
     let up = at.step.up in
     let tail = ap (height_at levels) at.tail in
@@ -70,10 +72,14 @@ loop-node-preserved c =
     let last = c.in_default.ensures in
     let at = popped c in
     record {
-      graph = record { one_level_each = length-set levels c.loop-node.node None ∙ (ap (λ t. length t.items) last.levels ∙ inv.graph.one_level_each); one_cursor_each = last.cursors ∙ inv.graph.one_cursor_each };
+      graph = record {
+        one_level_each = length-set levels c.loop-node.node None ∙ (ap (λ t. length t.items) last.levels ∙ inv.graph.one_level_each);
+        one_cursor_each = last.cursors ∙ inv.graph.one_cursor_each;
+      };
       node_in = (arc-nodes p.net.now c.requires.standing.problem.net a at.step.free.residual.arc).1;
       walk = at.walk;
-      steps = subst (λ v. All (IsStep p r (set levels v None)) c.pop.new.self.items) at.tail (IsStep-closed p r levels c.pop.new.self.items a p.sink at.step at.walk at.steps);
+      steps = subst (λ v. All (IsStep p r (set levels v None)) c.pop.new.self.items) at.tail
+          (IsStep-closed p r levels c.pop.new.self.items a p.sink at.step at.walk at.steps);
     }
 
 pub returns-clause-path : goal.returns-clause-path
@@ -84,5 +90,7 @@ returns-clause-path c =
     let inv = c.loop-node.invariant in
     let path = c.loop-node.path.items in
     let turned = All-permutation (IsStep p r levels) _ _ (IsPermutation-reverse path) inv.steps in
-    subst (IsFreePath p r) (sym c.reverse.ensures.items) (IsFreePath-rising p r (height_at levels) (reverse path) (subst (λ v. IsWalk (reverse path) v p.sink) c.loop-node-test.false inv.walk)
-    (All-weaker (IsStep p r levels) (λ a. IsFreeArc p r a × (height_at levels a.tail < height_at levels a.head)) (λ a h. (h.free, (let e = h.up in omega arith))) (reverse path) turned))
+    subst (IsFreePath p r) (sym c.reverse.ensures.items)
+    (IsFreePath-rising p r (height_at levels) (reverse path) (subst (λ v. IsWalk (reverse path) v p.sink) c.loop-node-test.false inv.walk)
+    (All-weaker (IsStep p r levels) (λ a. IsFreeArc p r a × (height_at levels a.tail < height_at levels a.head))
+    (λ a h. (h.free, (let e = h.up in omega arith))) (reverse path) turned))

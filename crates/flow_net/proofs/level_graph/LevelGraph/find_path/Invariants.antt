@@ -1,8 +1,6 @@
-use Rattle.std.proofs.Common.{◌+◌, ◌*◌, ◌<◌, reverse}
-use Rattle.std.specs.List.{All}
-use Rattle.flow_net.specs.Flow.{IsWalk}
-use Rattle.flow_net.specs.LevelGraph.{IsLevelGraph}
 use Rattle.flow_net.proofs.LevelGraphLemmas.{IsStep, height_at, level_count}
+use Rattle.flow_net.proofs.Words.{All, IsLevelGraph, IsWalk}
+use Rattle.std.proofs.Common.{reverse, ◌*◌, ◌+◌, ◌<◌}
 use Rattle.flow_net.proofs.level_graph.LevelGraph.find_path.Given as goal
 
 abbrev pub decreases-loop-node : goal.decreases-loop-node

@@ -1,11 +1,13 @@
-use Rattle.std.proofs.Common.{sym, subst}
-use Rattle.flow_net.specs.Arc.{IsArc}
-use Rattle.flow_net.proofs.FlowLemmas.{no_arc, arc-cost, turned-arc}
+use Rattle.flow_net.proofs.FlowLemmas.{arc-cost, no_arc, turned-arc}
+use Rattle.flow_net.proofs.Words.{IsArc}
+use Rattle.std.proofs.Common.{subst, sym}
 use Rattle.flow_net.proofs.level_graph.LevelGraph.last_arc.Goals as goal
 
 pub turned-arc-requires : goal.turned-arc-requires
-turned-arc-requires c = (arc-cost c.args.problem.now.net.now c.requires.standing.problem.net _ (c.arcs_from-arcs.ensures.arcs c.loop-index.index no_arc c.loop-index-test.true).0).1
+turned-arc-requires c = (arc-cost c.args.problem.now.net.now c.requires.standing.problem.net
+    _ (c.arcs_from-arcs.ensures.arcs c.loop-index.index no_arc c.loop-index-test.true).0).1
 
 pub is_free-requires-clause-arc : goal.is_free-requires-clause-arc
 is_free-requires-clause-arc c =
-    subst (IsArc c.args.problem.now.net.now.links) (sym c.turned-arc.ensures) (turned-arc c.args.problem.now.net.now.links _ (c.arcs_from-arcs.ensures.arcs c.loop-index.index no_arc c.loop-index-test.true).0)
+    subst (IsArc c.args.problem.now.net.now.links) (sym c.turned-arc.ensures)
+    (turned-arc c.args.problem.now.net.now.links _ (c.arcs_from-arcs.ensures.arcs c.loop-index.index no_arc c.loop-index-test.true).0)

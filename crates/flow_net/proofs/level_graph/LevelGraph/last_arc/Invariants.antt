@@ -1,4 +1,4 @@
-use Rattle.std.proofs.Common.{◌≡◌, length}
+use Rattle.std.proofs.Common.{length, ◌≡◌}
 use Rattle.flow_net.proofs.level_graph.LevelGraph.last_arc.Given as goal
 
 abbrev pub invariant-loop-index : goal.invariant-loop-index

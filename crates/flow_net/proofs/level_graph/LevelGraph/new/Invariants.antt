@@ -1,6 +1,5 @@
+use Rattle.flow_net.proofs.Words.{All, IsLevelGraph}
 use Rattle.std.proofs.Common.{◌<◌}
-use Rattle.std.specs.List.{All}
-use Rattle.flow_net.specs.LevelGraph.{IsLevelGraph}
 use Rattle.flow_net.proofs.level_graph.LevelGraph.new.Given as goal
 
 abbrev pub invariant-loop-level : goal.invariant-loop-level

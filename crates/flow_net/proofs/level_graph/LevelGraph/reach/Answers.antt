@@ -1,14 +1,9 @@
-use Rattle.std.proofs.Common.{◌<◌, false, Some, length, get_or, ap, ◌∙◌, sym, subst, arith}
-use Rattle.std.specs.List.{All}
-use Rattle.std.proofs.lemmas.List.{length-map, length-set}
-use Rattle.std.proofs.lemmas.List.Elements.{All-push}
-use Rattle.flow_net.specs.declared.arc.Way.{Way}
-use Rattle.flow_net.specs.Arc.{arcs_at, way_of}
-use Rattle.flow_net.specs.LevelGraph.{IsLevelGraph}
 use Rattle.flow_net.proofs.FlowLemmas.{no_arc}
 use Rattle.flow_net.proofs.StandingLemmas.{IsPriced-arc}
+use Rattle.flow_net.proofs.level_graph.LevelGraph.reach.Goals.{else-is_none, then-is_none+then-is_open+then-reduced_cost-eq0+in_ok-push}
+use Rattle.flow_net.proofs.Words.{All, All-push, IsLevelGraph, Way, arcs_at, length-map, length-set, way_of}
+use Rattle.std.proofs.Common.{Some, ap, arith, false, get_or, length, subst, sym, ◌<◌, ◌∙◌}
 use Rattle.flow_net.proofs.level_graph.LevelGraph.reach.Goals as goal
-use Rattle.flow_net.proofs.level_graph.LevelGraph.reach.Goals.{then-is_none+then-is_open+then-reduced_cost-eq0+in_ok-push, else-is_none}
 
 -- what the code reads past the end of a list of ways
 abbrev no_way : Way

@@ -1,5 +1,5 @@
-use Rattle.std.proofs.Common.{refl}
 use Rattle.flow_net.proofs.QueueLemmas.{next-near}
+use Rattle.std.proofs.Common.{refl}
 use Rattle.flow_net.proofs.queue.Queue.pop.Goals as goal
 
 pub returns-in-Some : goal.returns-in-Some

@@ -1,6 +1,6 @@
-use Rattle.std.proofs.Common.{◌≡◌, w64, sym, rules, arith}
-use Rattle.std.proofs.lemmas.Int.{ints, to_z-of_z}
-use Rattle.flow_net.proofs.QueueLemmas.{pushed-near, pushed-far}
+use Rattle.flow_net.proofs.QueueLemmas.{pushed-far, pushed-near}
+use Rattle.std.proofs.Common.{arith, rules, sym, w64, ◌≡◌}
+use Rattle.flow_net.proofs.Words.{ints, to_z-of_z}
 use Rattle.flow_net.proofs.queue.Queue.push.Goals as goal
 
 pub returns-in_ok-push_back-clause-entries : goal.returns-in_ok-push_back-clause-entries

@@ -1,12 +1,8 @@
-use Rattle.std.proofs.Common.{◌≡◌, ◌+◌, get_or, drop, set, pos, ◌+ℤ◌, ◌-ℤ◌, ◌≤ℤ◌, to_z, of_z, w64, ap, ◌∙◌, sym, subst, rules, arith}
-use Rattle.std.proofs.lemmas.Int.{ints, to_z-of_z}
-use Rattle.std.proofs.lemmas.List.{take_all}
-use Rattle.flow_net.specs.Arc.{carry}
-use Rattle.flow_net.specs.Flow.{sent_along, sent_along_path, CanCarry, IsOpening, AreOpenings}
-use Rattle.flow_net.specs.Net.{link_at, IsWithinRooms}
-use Rattle.flow_net.specs.Problem.{IsBottleneck}
-use Rattle.flow_net.proofs.FlowLemmas.{no_arc, next_arc, next_carried, next_rooms, next_carries, next_openings, next_sent}
-use Rattle.flow_net.proofs.StandingLemmas.{Stands-same, Stands-augmented}
+use Rattle.flow_net.proofs.FlowLemmas.{next_arc, next_carried, next_carries, next_openings, next_rooms, next_sent, no_arc}
+use Rattle.flow_net.proofs.StandingLemmas.{Stands-augmented, Stands-same}
+use Rattle.flow_net.proofs.Words.{AreOpenings, CanCarry, IsBottleneck, IsOpening, IsWithinRooms, carry, ints, link_at, sent_along, sent_along_path, take_all}
+use Rattle.flow_net.proofs.Words.{to_z-of_z}
+use Rattle.std.proofs.Common.{ap, arith, drop, get_or, of_z, pos, rules, set, subst, sym, to_z, w64, ◌+ℤ◌, ◌+◌, ◌-ℤ◌, ◌∙◌, ◌≡◌, ◌≤ℤ◌}
 use Rattle.flow_net.proofs.routing.Routing.augment.Goals as goal
 
 pub carry-carried-requires-clause-carried : goal.carry-carried-requires-clause-carried
@@ -60,7 +56,8 @@ returns-clause-standing c =
     let most = c.bottleneck-amount.ensures in
     let kept : to_z w64 (of_z w64 m) ≡ m = to_z-of_z w64 m (search rules) in
     let inv = c.loop-arc.invariant in
-    let flow = inv.sent ∙ (ap (λ xs. sent_along_path r.flow.items xs (to_z w64 (of_z w64 m))) (take_all c.loop-arc.arc-index path c.loop-arc-test.false) ∙ ap (sent_along_path r.flow.items path) kept) in
+    let flow = inv.sent ∙ (ap (λ xs. sent_along_path r.flow.items xs (to_z w64 (of_z w64 m))) (take_all c.loop-arc.arc-index path c.loop-arc-test.false)
+    ∙ ap (sent_along_path r.flow.items path) kept) in
     let same = inv.routed in
     let some = most.some in
     let limited = most.limited in

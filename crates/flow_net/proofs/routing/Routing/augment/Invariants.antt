@@ -1,6 +1,5 @@
-use Rattle.std.proofs.Common.{◌≡◌, take, drop}
-use Rattle.flow_net.specs.Flow.{sent_along_path, CanCarry, AreOpenings}
-use Rattle.flow_net.specs.Net.{IsWithinRooms}
+use Rattle.flow_net.proofs.Words.{AreOpenings, CanCarry, IsWithinRooms, sent_along_path}
+use Rattle.std.proofs.Common.{drop, take, ◌≡◌}
 use Rattle.flow_net.proofs.routing.Routing.augment.Given as goal
 
 abbrev pub invariant-loop-arc : goal.invariant-loop-arc

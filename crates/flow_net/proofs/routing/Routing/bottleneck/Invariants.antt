@@ -1,5 +1,5 @@
+use Rattle.flow_net.proofs.Words.{IsBottleneck}
 use Rattle.std.proofs.Common.{take}
-use Rattle.flow_net.specs.Problem.{IsBottleneck}
 use Rattle.flow_net.proofs.routing.Routing.bottleneck.Given as goal
 
 abbrev pub invariant-loop-arc : goal.invariant-loop-arc

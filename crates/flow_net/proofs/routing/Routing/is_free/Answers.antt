@@ -1,6 +1,6 @@
-use Rattle.std.proofs.Common.{arith}
-use Rattle.std.proofs.lemmas.Int.{ints}
 use Rattle.flow_net.proofs.StandingLemmas.{IsPriced-arc}
+use Rattle.std.proofs.Common.{arith}
+use Rattle.flow_net.proofs.Words.{ints}
 use Rattle.flow_net.proofs.routing.Routing.is_free.Goals as goal
 
 pub reduced_cost-requires : goal.reduced_cost-requires

@@ -1,5 +1,5 @@
-use Rattle.std.proofs.Common.{IsTrue, sym, subst, arith}
 use Rattle.flow_net.proofs.FlowLemmas.{open-residual}
+use Rattle.std.proofs.Common.{IsTrue, arith, subst, sym}
 use Rattle.flow_net.proofs.routing.Routing.is_residual.Goals as goal
 
 pub is_open-requires : goal.is_open-requires

@@ -1,6 +1,6 @@
-use Rattle.std.proofs.Common.{pos, arith}
-use Rattle.std.proofs.lemmas.List.{get_or_read}
 use Rattle.flow_net.proofs.Sizes.{sizes}
+use Rattle.std.proofs.Common.{arith, pos}
+use Rattle.flow_net.proofs.Words.{get_or_read}
 use Rattle.flow_net.proofs.routing.Routing.reduced_cost.Goals as goal
 
 pub returns : goal.returns

@@ -1,9 +1,7 @@
-use Rattle.std.proofs.Common.{◌≡◌, pos, ap, arith}
-use Rattle.std.proofs.lemmas.Int.{ints}
-use Rattle.std.proofs.lemmas.List.{get_or_read}
-use Rattle.flow_net.specs.Net.{link_at, flow_on}
-use Rattle.flow_net.proofs.routing.Routing.residual.Goals as goal
 use Rattle.flow_net.proofs.routing.Routing.residual.Goals.{After-as_slice}
+use Rattle.flow_net.proofs.Words.{flow_on, get_or_read, ints, link_at}
+use Rattle.std.proofs.Common.{ap, arith, pos, ◌≡◌}
+use Rattle.flow_net.proofs.routing.Routing.residual.Goals as goal
 
 -- the room of the arc's link, and the flow on it, as the code has them
 record IsRead (c : After-as_slice) : Type 0 where
@@ -12,7 +10,8 @@ record IsRead (c : After-as_slice) : Type 0 where
 
 read : (c : After-as_slice) → IsRead c
 read c = record {
-  flow = get_or_read c.args.self.now.flow.items c.args.arc.now.link c.index-carried.result.now (let e = c.requires.standing.routes.rooms.one_each in let b = c.requires.arc.below in omega arith) c.index-carried.ensures (pos 0);
+  flow = get_or_read c.args.self.now.flow.items c.args.arc.now.link c.index-carried.result.now
+      (let e = c.requires.standing.routes.rooms.one_each in let b = c.requires.arc.below in omega arith) c.index-carried.ensures (pos 0);
   link = ap (λ xs. link_at xs c.args.arc.now.link) c.as_slice.ensures;
 }
 

@@ -1,13 +1,8 @@
-use Rattle.std.proofs.Common.{◌<◌, true, false, None, is_some, length, set, ap, ◌∙◌, sym, subst, arith}
-use Rattle.std.proofs.lemmas.Bool.{false≢true}
-use Rattle.std.proofs.lemmas.List.{get_or_read}
-use Rattle.std.proofs.lemmas.List.Sorted.{length_permutation}
-use Rattle.flow_net.specs.Net.{is_in}
-use Rattle.flow_net.specs.Queue.{entries_of}
-use Rattle.flow_net.specs.Search.{label_at, rise_of_label, IsQueued}
-use Rattle.flow_net.proofs.SearchLemmas.{labelled_within, next-entry, IsQueued-stale, IsQueued-reached, reached-level}
-use Rattle.flow_net.proofs.search.Search.nearest.Goals as goal
+use Rattle.flow_net.proofs.SearchLemmas.{IsQueued-reached, IsQueued-stale, labelled_within, next-entry, reached-level}
 use Rattle.flow_net.proofs.search.Search.nearest.Goals.{In-Some}
+use Rattle.flow_net.proofs.Words.{IsQueued, entries_of, false≢true, get_or_read, is_in, label_at, length_permutation, rise_of_label}
+use Rattle.std.proofs.Common.{None, ap, arith, false, is_some, length, set, subst, sym, true, ◌<◌, ◌∙◌}
+use Rattle.flow_net.proofs.search.Search.nearest.Goals as goal
 
 -- the node that leaves the queue is labelled, and so it is in range
 node_in : (c : In-Some) → (c.in-Some.node < length c.loop-node.self.labels.items) × (c.in-Some.node < length c.loop-node.self.reached.items)
@@ -21,7 +16,8 @@ pub index-requires : goal.index-requires
 index-requires c = let w = node_in (goal.at.index-requires c).In-Some in let e = c.loop-node.self.reached.ok.0 in omega (arith, w, e)
 
 pub index-requires-then-not-index : goal.index-requires-then-not-index
-index-requires-then-not-index c = let w = node_in (goal.at.index-requires-then-not-index c).In-Some in let e = c.loop-node.self.labels.ok.0 in omega (arith, w, e)
+index-requires-then-not-index c = let w = node_in (goal.at.index-requires-then-not-index c).In-Some in let e = c.loop-node.self.labels.ok.0 in
+    omega (arith, w, e)
 
 pub index_mut-requires : goal.index_mut-requires
 index_mut-requires c = let w = node_in (goal.at.index_mut-requires c).In-Some in let e = c.loop-node.self.reached.ok.0 in omega (arith, w, e)
@@ -60,7 +56,11 @@ loop-node-preserved c =
     let inv = c.loop-node.invariant in
     let w = node_in (goal.at.loop-node-preserved c).In-Some in
     let stale = sym (get_or_read s.reached.items v c.index.result.now w.1 c.index.ensures false) ∙ c.if-not-index.false in
-    record { labels = inv.labels; reached = inv.reached; queue = IsQueued-stale s.labels.items s.reached.items s.queue c.pop.new.self v c.in-Some.ensures inv.queue stale }
+    record {
+      labels = inv.labels;
+      reached = inv.reached;
+      queue = IsQueued-stale s.labels.items s.reached.items s.queue c.pop.new.self v c.in-Some.ensures inv.queue stale;
+    }
 
 pub loop-node-preserved-in_default-index : goal.loop-node-preserved-in_default-index
 loop-node-preserved-in_default-index c =
@@ -79,6 +79,7 @@ returns c =
     record {
       labels = ap (λ xs. xs.items) inv.labels;
       reached = ap (λ xs. xs.items) inv.reached;
-      queue = subst (IsQueued s.labels.items s.reached.items _) (empty.was_empty ∙ sym empty.is_empty) (subst (λ z. IsQueued s.labels.items s.reached.items z (entries_of s.queue)) (sym empty.level) inv.queue);
+      queue = subst (IsQueued s.labels.items s.reached.items _) (empty.was_empty ∙ sym empty.is_empty)
+          (subst (λ z. IsQueued s.labels.items s.reached.items z (entries_of s.queue)) (sym empty.level) inv.queue);
       entries = empty.is_empty;
     }

@@ -1,6 +1,5 @@
-use Rattle.std.proofs.Common.{◌≡◌, length}
-use Rattle.flow_net.specs.Queue.{entries_of}
-use Rattle.flow_net.specs.Search.{HasQueue}
+use Rattle.flow_net.proofs.Words.{HasQueue, entries_of}
+use Rattle.std.proofs.Common.{length, ◌≡◌}
 use Rattle.flow_net.proofs.search.Search.nearest.Given as goal
 
 abbrev pub decreases-loop-node : goal.decreases-loop-node

@@ -1,15 +1,12 @@
-use Rattle.std.proofs.Common.{◌≡◌, Some, reverse, ap, ◌∙◌, sym, subst, arith}
-use Rattle.std.specs.List.{All}
-use Rattle.std.proofs.lemmas.List.Elements.{All-push}
-use Rattle.flow_net.specs.Flow.{IsWalk}
-use Rattle.flow_net.specs.Net.{is_in}
-use Rattle.flow_net.specs.Search.{arc_at, IsTreeArc}
 use Rattle.flow_net.proofs.PathLemmas.{walk-push}
 use Rattle.flow_net.proofs.SearchLemmas.{reached_within}
+use Rattle.flow_net.proofs.Words.{All, All-push, IsTreeArc, IsWalk, arc_at, is_in}
+use Rattle.std.proofs.Common.{Some, ap, arith, reverse, subst, sym, ◌∙◌, ◌≡◌}
 use Rattle.flow_net.proofs.search.Search.path.Goals as goal
 
 pub last_arc-requires : goal.last_arc-requires
-last_arc-requires c = let within = reached_within c.args.self.now.reached.items c.loop-arc.node c.loop-arc.invariant.reached in let e = c.args.self.now.one_mark_each in omega arith
+last_arc-requires c = let within = reached_within c.args.self.now.reached.items c.loop-arc.node c.loop-arc.invariant.reached in
+    let e = c.args.self.now.one_mark_each in omega arith
 
 pub loop-arc-smaller : goal.loop-arc-smaller
 loop-arc-smaller c =
@@ -27,7 +24,9 @@ loop-arc-preserved c =
     let grown = c.in_ok-push.ensures.items in
     record {
       reached = c.requires.tail_reached c.loop-arc.node a last;
-      walk = subst (λ xs. IsWalk (reverse xs) a.tail c.args.problem.now.sink) (sym grown) (walk-push c.loop-arc.path.items a c.args.problem.now.sink (subst (λ v. IsWalk (reverse c.loop-arc.path.items) v c.args.problem.now.sink) (sym head) inv.walk));
+      walk = subst (λ xs. IsWalk (reverse xs) a.tail c.args.problem.now.sink) (sym grown)
+          (walk-push c.loop-arc.path.items a c.args.problem.now.sink
+          (subst (λ v. IsWalk (reverse c.loop-arc.path.items) v c.args.problem.now.sink) (sym head) inv.walk));
       arcs = subst (All (IsTreeArc s)) (sym grown) (All-push (IsTreeArc s) c.loop-arc.path.items a inv.arcs
           (record { is_last = ap (arc_at s.labels.items) head ∙ last; head_reached = ap (is_in s.reached.items) head ∙ inv.reached }));
     }

@@ -1,8 +1,5 @@
-use Rattle.std.proofs.Common.{◌≡◌, true, reverse}
-use Rattle.std.specs.List.{All}
-use Rattle.flow_net.specs.Flow.{IsWalk}
-use Rattle.flow_net.specs.Net.{is_in}
-use Rattle.flow_net.specs.Search.{depth_at, IsTreeArc}
+use Rattle.flow_net.proofs.Words.{All, IsTreeArc, IsWalk, depth_at, is_in}
+use Rattle.std.proofs.Common.{reverse, true, ◌≡◌}
 use Rattle.flow_net.proofs.search.Search.path.Given as goal
 
 abbrev pub decreases-loop-arc : goal.decreases-loop-arc

@@ -1,25 +1,22 @@
-use Rattle.std.proofs.Common.{◌≡◌, ◌+◌, ◌<◌, ◌≤◌, length, pos, ◌+ℤ◌, ◌<ℤ◌, to_z, of_z, w64, FitsSigned, ap, ap₂, ◌∙◌, sym, subst, refl, rules, arith}
-use Rattle.std.proofs.lemmas.Int.{ints, to_z-of_z}
-use Rattle.std.proofs.lemmas.List.{get_or_read, length-set}
-use Rattle.flow_net.specs.Net.{potential_at}
-use Rattle.flow_net.specs.Flow.{residual_of}
-use Rattle.flow_net.specs.Problem.{Stands}
-use Rattle.flow_net.specs.Search.{rise_of}
 use Rattle.flow_net.proofs.Lists.{set_cases}
+use Rattle.flow_net.proofs.RaiseLemmas.{Stands-raised, rise_fits, tree_free, tree_reduced}
 use Rattle.flow_net.proofs.Sizes.{sizes}
 use Rattle.flow_net.proofs.StandingLemmas.{IsPotential-standing, Stands-same}
-use Rattle.flow_net.proofs.RaiseLemmas.{rise_fits, tree_reduced, tree_free, Stands-raised}
-use Rattle.flow_net.proofs.search.Search.raise.Goals as goal
 use Rattle.flow_net.proofs.search.Search.raise.Goals.{After-index_mut}
+use Rattle.flow_net.proofs.Words.{Stands, get_or_read, ints, length-set, potential_at, residual_of, rise_of, to_z-of_z}
+use Rattle.std.proofs.Common.{FitsSigned, ap, ap₂, arith, length, of_z, pos, refl, rules, subst, sym, to_z, w64, ◌+ℤ◌, ◌+◌, ◌<ℤ◌, ◌<◌, ◌∙◌, ◌≡◌, ◌≤◌}
+use Rattle.flow_net.proofs.search.Search.raise.Goals as goal
 
 pub returns-then-self-eq0-clause-free : goal.returns-then-self-eq0-clause-free
 returns-then-self-eq0-clause-free c =
-    tree_free c.args.problem.now c.args.routing.now c.args.self.now c.requires.standing c.requires.arrived (let none = c.if-self-eq0.true in omega (arith, ints))
+    tree_free c.args.problem.now c.args.routing.now c.args.self.now c.requires.standing c.requires.arrived
+    (let none = c.if-self-eq0.true in omega (arith, ints))
 
 -- the potential that is raised, and the sum, as the code has them
 record IsSum (c : After-index_mut) : Type 0 where
   within : c.loop-node.node < length c.args.routing.now.potentials.items
-  is : to_z w64 (of_z w64 c.index_mut.result.now) +ℤ to_z w64 (of_z w64 c.rise.result) ≡ potential_at c.args.routing.now.potentials.items c.loop-node.node +ℤ rise_of c.args.self.now c.loop-node.node
+  is : to_z w64 (of_z w64 c.index_mut.result.now) +ℤ to_z w64 (of_z w64 c.rise.result)
+      ≡ potential_at c.args.routing.now.potentials.items c.loop-node.node +ℤ rise_of c.args.self.now c.loop-node.node
   fits : FitsSigned w64 (to_z w64 (of_z w64 c.index_mut.result.now) +ℤ to_z w64 (of_z w64 c.rise.result))
 
 sum : (c : After-index_mut) → IsSum c
@@ -27,7 +24,8 @@ sum c =
     let p = c.args.problem.now in
     let r = c.args.routing.now in
     let v = c.loop-node.node in
-    let within : v < length r.potentials.items = (let e = c.len-node-end.ensures in let l = c.loop-node-test.true in let ok = r.potentials.ok.0 in omega arith) in
+    let within : v < length r.potentials.items =
+    (let e = c.len-node-end.ensures in let l = c.loop-node-test.true in let ok = r.potentials.ok.0 in omega arith) in
     let each = c.loop-node.invariant.one_each in
     let v_in : v < p.net.now.nodes = (let e = c.requires.standing.bounded.one_each in omega arith) in
     let read = get_or_read c.loop-node.routing.potentials.items v c.index_mut.result.now (omega arith) c.index_mut.ensures.value (pos 0) in
@@ -56,22 +54,30 @@ loop-node-preserved c =
       openings = inv.openings;
       routed = inv.routed;
       one_each = length-set potentials v _ ∙ inv.one_each;
-      raised = set_cases potentials v _ (pos 0) within (λ u z. u < v + 1 → z ≡ potential_at r.potentials.items u +ℤ rise_of s u) (λ _. value) (λ u ne l. inv.raised u (omega (arith, ne, l)));
-      left = set_cases potentials v _ (pos 0) within (λ u z. v + 1 ≤ u → z ≡ potential_at r.potentials.items u) (λ l. absurd (omega (arith, l))) (λ u ne l. inv.left u (omega (arith, l)));
+      raised = set_cases potentials v _ (pos 0) within (λ u z. u < v + 1 → z ≡ potential_at r.potentials.items u +ℤ rise_of s u) (λ _. value)
+          (λ u ne l. inv.raised u (omega (arith, ne, l)));
+      left = set_cases potentials v _ (pos 0) within (λ u z. v + 1 ≤ u → z ≡ potential_at r.potentials.items u) (λ l. absurd (omega (arith, l)))
+          (λ u ne l. inv.left u (omega (arith, l)));
     }
 
 pub returns-clause-standing : goal.returns-clause-standing
 returns-clause-standing c =
     let inv = c.loop-node.invariant in
     let all = c.loop-node-test.false in
-    subst (λ v. Stands c.args.problem.now c.loop-node.routing.flow.items c.loop-node.routing.potentials.items c.loop-node.routing.routed v.items) (sym inv.openings)
+    subst (λ v. Stands c.args.problem.now c.loop-node.routing.flow.items c.loop-node.routing.potentials.items c.loop-node.routing.routed v.items)
+    (sym inv.openings)
     (Stands-same c.args.problem.now _ _ _ _ _ _ _ (ap (λ v. v.items) inv.flow) refl inv.routed
-    (Stands-raised c.args.problem.now c.args.routing.now c.args.self.now c.requires.standing c.requires.arrived c.loop-node.routing.potentials.items inv.one_each (λ v within. inv.raised v (let e = c.len-node-end.ensures in let ok = c.args.routing.now.potentials.ok.0 in omega arith))))
+    (Stands-raised c.args.problem.now c.args.routing.now c.args.self.now c.requires.standing c.requires.arrived c.loop-node.routing.potentials.items
+    inv.one_each (λ v within. inv.raised v (let e = c.len-node-end.ensures in let ok = c.args.routing.now.potentials.ok.0 in omega arith))))
 
 pub returns-clause-free : goal.returns-clause-free
 returns-clause-free c = λ a last.
     let inv = c.loop-node.invariant in
     let all = c.loop-node-test.false in
     let links = c.args.problem.now.net.now.links in
-    let tree = tree_reduced c.args.problem.now c.args.routing.now c.args.self.now c.requires.standing c.requires.arrived c.loop-node.routing.potentials.items inv.one_each (λ v within. inv.raised v (let e = c.len-node-end.ensures in let ok = c.args.routing.now.potentials.ok.0 in omega arith)) a last in
-    record { residual = record { arc = tree.0.arc; residual = subst (λ v. pos 0 <ℤ residual_of links v.items a) (sym inv.flow) tree.0.residual }; free = tree.1 }
+    let tree = tree_reduced c.args.problem.now c.args.routing.now c.args.self.now c.requires.standing c.requires.arrived c.loop-node.routing.potentials.items
+    inv.one_each (λ v within. inv.raised v (let e = c.len-node-end.ensures in let ok = c.args.routing.now.potentials.ok.0 in omega arith)) a last in
+    record {
+      residual = record { arc = tree.0.arc; residual = subst (λ v. pos 0 <ℤ residual_of links v.items a) (sym inv.flow) tree.0.residual };
+      free = tree.1;
+    }

@@ -1,6 +1,5 @@
-use Rattle.std.proofs.Common.{◌≡◌, ℕ, ◌<◌, ◌≤◌, length, ◌+ℤ◌}
-use Rattle.flow_net.specs.Net.{potential_at}
-use Rattle.flow_net.specs.Search.{rise_of}
+use Rattle.flow_net.proofs.Words.{potential_at, rise_of}
+use Rattle.std.proofs.Common.{length, ℕ, ◌+ℤ◌, ◌<◌, ◌≡◌, ◌≤◌}
 use Rattle.flow_net.proofs.search.Search.raise.Given as goal
 
 abbrev pub invariant-loop-node : goal.invariant-loop-node

@@ -1,17 +1,12 @@
-use Rattle.std.proofs.Common.{◌≡◌, false, pos, ◌<◌, ◌+ℤ◌, ◌≤ℤ◌, w64, to_z, of_z, FitsSigned, sym, subst, ◌∙◌, arith}
-use Rattle.std.proofs.lemmas.Bool.{false≢true}
-use Rattle.std.proofs.lemmas.List.{get_or_read}
-use Rattle.std.proofs.lemmas.Result.{on_ok_weaker}
-use Rattle.flow_net.specs.Flow.{reduced_cost_of}
-use Rattle.flow_net.specs.Net.{is_in}
-use Rattle.flow_net.specs.Problem.{IsResidualArc}
-use Rattle.flow_net.specs.Search.{rise_of_label}
-use Rattle.flow_net.proofs.Sizes.{sizes}
 use Rattle.flow_net.proofs.FlowLemmas.{arc-nodes}
+use Rattle.flow_net.proofs.SearchLemmas.{IsRelaxed-entered, IsRelaxed-low, IsRelaxed-reached, IsRelaxed-same, IsSmall-tail, above-level}
+use Rattle.flow_net.proofs.Sizes.{sizes}
 use Rattle.flow_net.proofs.StandingLemmas.{IsPriced-arc}
-use Rattle.flow_net.proofs.SearchLemmas.{IsSmall-tail, IsRelaxed-same, IsRelaxed-reached, IsRelaxed-low, IsRelaxed-entered, above-level}
+use Rattle.flow_net.proofs.search.Search.relax.Goals.{After-index, After-reduced_cost, Else-not-is_lower, Start, then-index-via-else-index+then-not-is_residual}
+use Rattle.flow_net.proofs.search.Search.relax.Goals.{then-index-via-then-index}
+use Rattle.flow_net.proofs.Words.{IsResidualArc, false≢true, get_or_read, is_in, on_ok_weaker, reduced_cost_of, rise_of_label}
+use Rattle.std.proofs.Common.{FitsSigned, arith, false, of_z, pos, subst, sym, to_z, w64, ◌+ℤ◌, ◌<◌, ◌∙◌, ◌≡◌, ◌≤ℤ◌}
 use Rattle.flow_net.proofs.search.Search.relax.Goals as goal
-use Rattle.flow_net.proofs.search.Search.relax.Goals.{Start, After-index, then-index-via-then-index, then-index-via-else-index+then-not-is_residual, After-reduced_cost, Else-not-is_lower}
 
 head_in : (c : Start) → c.args.arc.now.head < c.args.problem.now.net.now.nodes
 head_in c = (arc-nodes c.args.problem.now.net.now c.requires.standing.problem.net c.args.arc.now c.requires.arc).1
@@ -29,8 +24,12 @@ returns-then-index c =
     let s = c.args.self.now in
     let a = c.args.arc.now in
     elim c.then-index.branch [
-      | then-index-via-then-index w ↦ IsRelaxed-reached p c.args.routing.now c.requires.standing s c.requires.search a c.args.label.now c.requires.at (sym (mark (goal.at.returns-then-index c).After-index) ∙ w.if-index.true)
-      | then-index-via-else-index+then-not-is_residual w ↦ IsRelaxed-same p c.args.routing.now c.requires.standing s c.requires.search a c.args.label.now c.requires.at (λ residual. absurd (false≢true (sym w.if-not-is_residual.true ∙ w.is_residual.ensures.1 residual)))
+      | then-index-via-then-index w ↦
+          IsRelaxed-reached p c.args.routing.now c.requires.standing s c.requires.search a c.args.label.now c.requires.at
+          (sym (mark (goal.at.returns-then-index c).After-index) ∙ w.if-index.true)
+      | then-index-via-else-index+then-not-is_residual w ↦
+          IsRelaxed-same p c.args.routing.now c.requires.standing s c.requires.search a c.args.label.now c.requires.at
+          (λ residual. absurd (false≢true (sym w.if-not-is_residual.true ∙ w.is_residual.ensures.1 residual)))
     ]
 
 pub reduced_cost-requires : goal.reduced_cost-requires
@@ -39,7 +38,8 @@ reduced_cost-requires c = IsPriced-arc c.args.problem.now c.args.routing.now c.r
 -- the rise, as the code has it, is the sum, which fits
 record IsSum (c : After-reduced_cost) : Type 0 where
   fits : FitsSigned w64 (to_z w64 (of_z w64 c.args.label.now.rise) +ℤ to_z w64 (of_z w64 c.reduced_cost.result))
-  is : to_z w64 (of_z w64 (to_z w64 (of_z w64 c.args.label.now.rise) +ℤ to_z w64 (of_z w64 c.reduced_cost.result))) ≡ c.args.label.now.rise +ℤ reduced_cost_of c.args.routing.now.potentials.items c.args.arc.now
+  is : to_z w64 (of_z w64 (to_z w64 (of_z w64 c.args.label.now.rise) +ℤ to_z w64 (of_z w64 c.reduced_cost.result)))
+      ≡ c.args.label.now.rise +ℤ reduced_cost_of c.args.routing.now.potentials.items c.args.arc.now
 
 sum : (c : After-reduced_cost) → IsSum c
 sum c =
@@ -62,11 +62,13 @@ overflow_add-rise c = (sum (goal.at.overflow_add-rise c).After-reduced_cost).fit
 
 pub returns-then-not-is_lower : goal.returns-then-not-is_lower
 returns-then-not-is_lower c =
-    IsRelaxed-low c.args.problem.now c.args.routing.now c.requires.standing c.args.self.now c.requires.search c.args.arc.now c.args.label.now c.requires.at _ (sum (goal.at.returns-then-not-is_lower c).After-reduced_cost).is (c.is_lower.ensures.no_lower c.if-not-is_lower.true)
+    IsRelaxed-low c.args.problem.now c.args.routing.now c.requires.standing c.args.self.now c.requires.search c.args.arc.now c.args.label.now c.requires.at
+    _ (sum (goal.at.returns-then-not-is_lower c).After-reduced_cost).is (c.is_lower.ensures.no_lower c.if-not-is_lower.true)
 
 pub overflow_add-label : goal.overflow_add-label
 overflow_add-label c =
-    let small = IsSmall-tail c.args.problem.now c.args.routing.now c.requires.standing c.args.self.now c.requires.search c.args.arc.now c.args.label.now c.requires.at in
+    let small = IsSmall-tail c.args.problem.now c.args.routing.now c.requires.standing c.args.self.now c.requires.search c.args.arc.now c.args.label.now
+    c.requires.at in
     omega (arith, small.depth)
 
 -- the arc is a residual arc to a node that is not reached
@@ -85,9 +87,12 @@ enter-requires-clause-node c = let within = head_in (goal.at.enter-requires-clau
 
 pub enter-requires-clause-rise : goal.enter-requires-clause-rise
 enter-requires-clause-rise c =
-    above-level c.args.problem.now c.args.routing.now c.requires.standing c.args.self.now c.requires.search c.args.arc.now c.args.label.now c.requires.at _ (sum (goal.at.enter-requires-clause-rise c).After-reduced_cost).is (open_arc (goal.at.enter-requires-clause-rise c).Else-not-is_lower).residual
+    above-level c.args.problem.now c.args.routing.now c.requires.standing c.args.self.now c.requires.search c.args.arc.now c.args.label.now c.requires.at
+    _ (sum (goal.at.enter-requires-clause-rise c).After-reduced_cost).is (open_arc (goal.at.enter-requires-clause-rise c).Else-not-is_lower).residual
 
 pub returns : goal.returns
 returns c =
     let o = open_arc (goal.at.returns c).Else-not-is_lower in
-    on_ok_weaker c.enter.result (IsRelaxed-entered c.args.problem.now c.args.routing.now c.requires.standing c.args.self.now c.requires.search c.args.arc.now c.args.label.now c.requires.at _ (sum (goal.at.returns c).After-reduced_cost).is o.residual o.free (c.is_lower.ensures.lower c.if-not-is_lower.false) c.enter.new.self) c.enter.ensures
+    on_ok_weaker c.enter.result
+    (IsRelaxed-entered c.args.problem.now c.args.routing.now c.requires.standing c.args.self.now c.requires.search c.args.arc.now c.args.label.now c.requires.at
+    _ (sum (goal.at.returns c).After-reduced_cost).is o.residual o.free (c.is_lower.ensures.lower c.if-not-is_lower.false) c.enter.new.self) c.enter.ensures

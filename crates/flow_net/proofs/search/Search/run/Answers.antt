@@ -1,12 +1,9 @@
-use Rattle.std.proofs.Common.{◌≡◌, ◌≢◌, true, ap, ◌∙◌, sym, subst, refl, inl, inr}
-use Rattle.std.proofs.lemmas.Bool.{cases_eq, false≢true}
-use Rattle.flow_net.specs.declared.arc.Arc.{Arc}
-use Rattle.flow_net.specs.Arc.{IsArc}
-use Rattle.flow_net.specs.Net.{is_in}
-use Rattle.flow_net.specs.Search.{rise_of_label, rise_at, IsClosed, IsClosedAt}
-use Rattle.flow_net.proofs.SearchLemmas.{none_reached, IsSearch-fresh, reached_cases, IsSearch-reaching, IsAt-reaching, miss-reaching, all_reached-drained, IsClosedAt-improves}
-use Rattle.flow_net.proofs.search.Search.run.Goals as goal
+use Rattle.flow_net.proofs.SearchLemmas.{IsAt-reaching, IsClosedAt-improves, IsSearch-fresh, IsSearch-reaching, all_reached-drained, miss-reaching}
+use Rattle.flow_net.proofs.SearchLemmas.{none_reached, reached_cases}
 use Rattle.flow_net.proofs.search.Search.run.Goals.{In-Some}
+use Rattle.flow_net.proofs.Words.{Arc, IsArc, IsClosed, IsClosedAt, cases_eq, false≢true, is_in, rise_at, rise_of_label}
+use Rattle.std.proofs.Common.{ap, inl, inr, refl, subst, sym, true, ◌∙◌, ◌≡◌, ◌≢◌}
+use Rattle.flow_net.proofs.search.Search.run.Goals as goal
 
 pub loop-node-init : goal.loop-node-init
 loop-node-init c =
@@ -21,24 +18,32 @@ loop-node-init c =
     }
 
 -- the arcs from the nodes that were reached before are closed still
-closed_before : (c : In-Some) (a : Arc) → IsArc c.args.problem.now.net.now.links a → a.tail ≢ c.in-Some.node → is_in c.nearest.new.self.reached.items a.tail ≡ true → IsClosedAt c.args.problem.now c.args.routing.now c.nearest.new.self a
+closed_before : (c : In-Some) (a : Arc) → IsArc c.args.problem.now.net.now.links a → a.tail ≢ c.in-Some.node
+    → is_in c.nearest.new.self.reached.items a.tail ≡ true → IsClosedAt c.args.problem.now c.args.routing.now c.nearest.new.self a
 closed_before c a is ne hit residual =
     let inv = c.loop-node.invariant in
-    let before = reached_cases c.args.problem.now c.args.routing.now c.loop-node.self c.nearest.new.self c.in-Some.node c.in-Some.label c.in-Some.ensures inv.search (λ u. u ≢ c.in-Some.node → is_in c.loop-node.self.reached.items u ≡ true) (λ no. absurd (no refl)) (λ u h _. h) a.tail hit ne in
+    let before = reached_cases c.args.problem.now c.args.routing.now c.loop-node.self c.nearest.new.self c.in-Some.node c.in-Some.label c.in-Some.ensures
+    inv.search (λ u. u ≢ c.in-Some.node → is_in c.loop-node.self.reached.items u ≡ true) (λ no. absurd (no refl)) (λ u h _. h) a.tail hit ne in
     subst (λ labels. IsClosed c.args.routing.now labels a) (sym c.in-Some.ensures.labels) (inv.closed a is before residual)
 
 pub scan-requires-clause-search : goal.scan-requires-clause-search
-scan-requires-clause-search c = IsSearch-reaching c.args.problem.now c.args.routing.now c.loop-node.self c.nearest.new.self c.in-Some.node c.in-Some.label c.in-Some.ensures c.loop-node.invariant.search
+scan-requires-clause-search c =
+    IsSearch-reaching c.args.problem.now c.args.routing.now c.loop-node.self c.nearest.new.self c.in-Some.node c.in-Some.label c.in-Some.ensures
+    c.loop-node.invariant.search
 
 pub scan-requires-clause-at : goal.scan-requires-clause-at
-scan-requires-clause-at c = IsAt-reaching c.args.problem.now c.args.routing.now c.loop-node.self c.nearest.new.self c.in-Some.node c.in-Some.label c.in-Some.ensures c.loop-node.invariant.search
+scan-requires-clause-at c =
+    IsAt-reaching c.args.problem.now c.args.routing.now c.loop-node.self c.nearest.new.self c.in-Some.node c.in-Some.label c.in-Some.ensures
+    c.loop-node.invariant.search
 
 pub returns-then-node-problem : goal.returns-then-node-problem
 returns-then-node-problem c =
     let t = c.nearest.new.self in
     let at_sink = c.if-node-problem.true in
-    let search = IsSearch-reaching c.args.problem.now c.args.routing.now c.loop-node.self t c.in-Some.node c.in-Some.label c.in-Some.ensures c.loop-node.invariant.search in
-    let at = IsAt-reaching c.args.problem.now c.args.routing.now c.loop-node.self t c.in-Some.node c.in-Some.label c.in-Some.ensures c.loop-node.invariant.search in
+    let search = IsSearch-reaching c.args.problem.now c.args.routing.now c.loop-node.self t c.in-Some.node c.in-Some.label c.in-Some.ensures
+    c.loop-node.invariant.search in
+    let at = IsAt-reaching c.args.problem.now c.args.routing.now c.loop-node.self t c.in-Some.node c.in-Some.label c.in-Some.ensures
+    c.loop-node.invariant.search in
     record {
       search = search;
       sink_reached = subst (λ v. is_in t.reached.items v ≡ true) at_sink at.reached;
@@ -65,7 +70,8 @@ loop-node-preserved c =
             let before = ap (λ xs. is_in xs a.tail) (sym scan.improves.reached) ∙ hit in
             IsClosedAt-improves p r t u a scan.improves before (closed_before (goal.at.loop-node-preserved c).In-Some a is ne before)
       ];
-      sink_out = ap (λ xs. is_in xs p.sink) scan.improves.reached ∙ miss-reaching p r s t v c.in-Some.label reaching inv.search p.sink (λ e. c.if-node-problem.false (sym e)) inv.sink_out;
+      sink_out = ap (λ xs. is_in xs p.sink) scan.improves.reached
+          ∙ miss-reaching p r s t v c.in-Some.label reaching inv.search p.sink (λ e. c.if-node-problem.false (sym e)) inv.sink_out;
     }
 
 pub returns : goal.returns
@@ -78,6 +84,7 @@ returns c =
     record {
       labels = rw (drained.labels, drained.reached) inv.search.labels;
       all_reached = all_reached-drained c.loop-node.self t drained;
-      closed = λ a is hit residual. subst (λ labels. IsClosed r labels a) (sym drained.labels) (inv.closed a is (ap (λ xs. is_in xs a.tail) (sym drained.reached) ∙ hit) residual);
+      closed = λ a is hit residual. subst (λ labels. IsClosed r labels a) (sym drained.labels)
+          (inv.closed a is (ap (λ xs. is_in xs a.tail) (sym drained.reached) ∙ hit) residual);
       sink_out = ap (λ xs. is_in xs p.sink) drained.reached ∙ inv.sink_out;
     }

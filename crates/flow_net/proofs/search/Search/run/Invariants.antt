@@ -1,8 +1,5 @@
-use Rattle.std.proofs.Common.{◌≡◌, true, false, not, count_by}
-use Rattle.flow_net.specs.declared.arc.Arc.{Arc}
-use Rattle.flow_net.specs.Arc.{IsArc}
-use Rattle.flow_net.specs.Net.{is_in}
-use Rattle.flow_net.specs.Search.{IsSearch, IsClosedAt}
+use Rattle.flow_net.proofs.Words.{Arc, IsArc, IsClosedAt, IsSearch, is_in}
+use Rattle.std.proofs.Common.{count_by, false, not, true, ◌≡◌}
 use Rattle.flow_net.proofs.search.Search.run.Given as goal
 
 abbrev pub decreases-loop-node : goal.decreases-loop-node

@@ -1,12 +1,7 @@
-use Rattle.std.proofs.Common.{◌≡◌, take, get_or, ap, ◌∙◌, sym, subst}
-use Rattle.std.specs.List.{All}
-use Rattle.std.proofs.lemmas.List.{take_all}
-use Rattle.std.proofs.lemmas.List.Elements.{All-nil, All-more, All-take, All-contains}
-use Rattle.flow_net.specs.Arc.{IsArc}
-use Rattle.flow_net.specs.Net.{is_in}
-use Rattle.flow_net.specs.Search.{IsClosedAt, IsAt}
 use Rattle.flow_net.proofs.FlowLemmas.{no_arc}
 use Rattle.flow_net.proofs.SearchLemmas.{Improves-refl, Improves-trans, IsAt-improves, IsClosedAt-improves}
+use Rattle.flow_net.proofs.Words.{All, All-contains, All-more, All-nil, All-take, IsArc, IsAt, IsClosedAt, is_in, take_all}
+use Rattle.std.proofs.Common.{ap, get_or, subst, sym, take, ◌∙◌, ◌≡◌}
 use Rattle.flow_net.proofs.search.Search.scan.Goals as goal
 
 pub loop-arc-init : goal.loop-arc-init
@@ -21,7 +16,8 @@ relax-requires-clause-search c = c.loop-arc.invariant.search
 pub relax-requires-clause-at : goal.relax-requires-clause-at
 relax-requires-clause-at c =
     let tail = (c.arcs_from-arc-items.ensures.arcs c.loop-arc.arc-index no_arc c.loop-arc-test.true).1 in
-    subst (λ v. IsAt c.loop-arc.self v c.args.label.now) (sym tail) (IsAt-improves c.args.self.now c.loop-arc.self c.args.node c.args.label.now c.loop-arc.invariant.improves c.requires.at)
+    subst (λ v. IsAt c.loop-arc.self v c.args.label.now) (sym tail)
+    (IsAt-improves c.args.self.now c.loop-arc.self c.args.node c.args.label.now c.loop-arc.invariant.improves c.requires.at)
 
 pub loop-arc-preserved : goal.loop-arc-preserved
 loop-arc-preserved c =
@@ -46,5 +42,7 @@ loop-arc-preserved c =
 
 pub returns-clause-closed : goal.returns-clause-closed
 returns-clause-closed c = λ a is tail.
-    let closed = subst (All (IsClosedAt c.args.problem.now c.args.routing.now c.loop-arc.self)) (take_all c.loop-arc.arc-index c.arcs_from-arc-items.result.now c.loop-arc-test.false) c.loop-arc.invariant.closed in
-    All-contains (IsClosedAt c.args.problem.now c.args.routing.now c.loop-arc.self) c.arcs_from-arc-items.result.now a closed (c.arcs_from-arc-items.ensures.complete a is tail)
+    let closed = subst (All (IsClosedAt c.args.problem.now c.args.routing.now c.loop-arc.self))
+    (take_all c.loop-arc.arc-index c.arcs_from-arc-items.result.now c.loop-arc-test.false) c.loop-arc.invariant.closed in
+    All-contains (IsClosedAt c.args.problem.now c.args.routing.now c.loop-arc.self) c.arcs_from-arc-items.result.now a closed
+    (c.arcs_from-arc-items.ensures.complete a is tail)

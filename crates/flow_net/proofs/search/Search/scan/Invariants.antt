@@ -1,6 +1,5 @@
+use Rattle.flow_net.proofs.Words.{All, Improves, IsClosedAt, IsSearch}
 use Rattle.std.proofs.Common.{take}
-use Rattle.std.specs.List.{All}
-use Rattle.flow_net.specs.Search.{IsSearch, Improves, IsClosedAt}
 use Rattle.flow_net.proofs.search.Search.scan.Given as goal
 
 abbrev pub invariant-loop-arc : goal.invariant-loop-arc
