@@ -1,25 +1,10 @@
--- The parts of a sensible stream lie on intervals, that of a latent one at its level. The heat of each is the full size times the width, as the state changes by the width.
-use Rattle.std.proofs.Common.{◌≡◌, ◌∙◌, ◌≤◌, inl, inr, ◌⊎◌, ⊎_elim, ℕ, ℤ, pos, ◌≤ℤ◌, ◌<ℤ◌, List, AllPairs, refl, sym, ap, arith, unsigned_abs, if◌then◌else◌}
-use Rattle.std.specs.Prelude.{◌+ℤ◌, ◌-ℤ◌, ◌*ℤ◌}
-use Rattle.std.proofs.lemmas.Int.{ints}
-use Rattle.stream_case.specs.Shift.{shifted}
-use Rattle.stream_case.specs.Source.{is_hot}
-use Rattle.stream_case.specs.Stream.{IsLatent, IsSensible, IsValidStream, high_end, low_end}
-use Rattle.stream_case.specs.declared.limits.TheConstants.{LONGEST_RANGE}
-use Rattle.stream_case.specs.declared.source.Side.{Side}
+-- The parts of a sensible stream lie on intervals, that of a latent one at its level. The heat of each is the full size times its width.
+use Rattle.interval_design.proofs.Words.{IsInterval, IsLatent, IsPiece, IsSensible, IsStreamPart, IsValidStream, LONGEST_RANGE, Part, Rational, Side, Stream}
+use Rattle.interval_design.proofs.Words.{change, entered_at, entered_state, first_part_of_load, first_state, first_state-latent, high_end, interval_falls, ints}
+use Rattle.interval_design.proofs.Words.{is_hot, is_latent-latent, is_latent-sensible, last_part_of_load, last_state, last_state-latent, left_at, left_state}
+use Rattle.interval_design.proofs.Words.{level-latent, low_end, piece_heat, range-length, shifted, unshifted, whole, whole-minus, width_of, ◌*ℤ◌, ◌+ℤ◌, ◌-ℤ◌}
+use Rattle.std.proofs.Common.{AllPairs, List, ap, arith, if◌then◌else◌, inl, inr, pos, refl, sym, unsigned_abs, ℕ, ℤ, ⊎_elim, ◌<ℤ◌, ◌∙◌, ◌≡◌, ◌≤ℤ◌, ◌≤◌, ◌⊎◌}
 use Rattle.stream_case.specs.declared.source.Side.TheVariants as side
-use Rattle.stream_case.specs.declared.stream.Stream.{Stream}
-use Rattle.stream_case.proofs.EndLemmas.{level-latent}
-use Rattle.stream_case.proofs.HeatLemmas.{is_latent-latent, is_latent-sensible, range-length}
-use Rattle.fractions.specs.Rationals.{whole}
-use Rattle.fractions.proofs.Wholes.{whole-minus}
-use Rattle.network_values.specs.Values.{change, first_part_of_load, first_state, last_part_of_load, last_state}
-use Rattle.network_values.proofs.StreamStates.{first_state-latent, last_state-latent}
-use Rattle.grid.specs.Part.{IsInterval, IsPiece, IsStreamPart, piece_heat}
-use Rattle.grid.specs.declared.part.Part.{Part}
-use Rattle.grid.proofs.PlaceLemmas.{interval_falls}
-use Rattle.interval_design.specs.Courses.{width_of}
-use Rattle.interval_design.specs.Values.{actual, entered_at, entered_state, left_at, left_state}
 
 -- ---- the two kinds of parts
 
@@ -32,24 +17,23 @@ pub record LiesAtLevel (s : Stream) (p : Part) : Type 0 where
   pub high : p.high ≡ high_end s
   pub low : p.low ≡ high_end s
 
-pub sensible_interval : (places : List ℤ) (s : Stream) (high low : ℤ) → IsSensible s → IsPiece places s high low
-    → IsInterval places high low
+pub sensible_interval : (places : List ℤ) (s : Stream) (high low : ℤ) → IsSensible s → IsPiece places s high low → IsInterval places high low
 sensible_interval places s high low sensible (inl interval) = interval
 sensible_interval places s high low sensible (inr latent) =
-    let none = sensible.load in let some = latent.0.load.from in absurd (omega (arith, ints, none, some))
+    let none = sensible.load in let some = latent.0.load.from in absurd (omega (arith, ints))
 
 pub latent_level : (places : List ℤ) (s : Stream) (p : Part) → IsLatent s → AllPairs (λ a b. b <ℤ a) places → IsPiece places s p.high p.low
     → low_end s ≤ℤ p.low → p.high ≤ℤ high_end s → LiesAtLevel s p
 latent_level places s p latent falls (inl interval) from upto =
     let level = level-latent s latent in
     let less = interval_falls places p.high p.low falls interval in
-    absurd (omega (arith, ints, level, less, from, upto))
+    absurd (omega (arith, ints))
 latent_level places s p latent falls (inr is) from upto =
     let level = level-latent s latent in let same = is.1 in
-    record { latent = latent; high = omega (arith, ints, level, same, from, upto); low = omega (arith, ints, level, same, from, upto) }
+    record { latent = latent; high = omega (arith, ints); low = omega (arith, ints) }
 
-pub lies : {streams : List Stream} {of : Side} {number : ℕ} (places : List ℤ) (s : Stream) (p : Part) → IsValidStream s → AllPairs (λ a b. b <ℤ a) places
-    → IsStreamPart streams places of number s p → LiesOnInterval places s p ⊎ LiesAtLevel s p
+pub lies : {streams : List Stream} {of : Side} {number : ℕ} (places : List ℤ) (s : Stream) (p : Part) → IsValidStream s
+    → AllPairs (λ a b. b <ℤ a) places → IsStreamPart streams places of number s p → LiesOnInterval places s p ⊎ LiesAtLevel s p
 lies places s p valid falls is =
     ⊎_elim (λ sensible. inl (record { sensible = sensible; interval = sensible_interval places s p.high p.low sensible is.piece }))
     (λ latent. inr (latent_level places s p latent falls is.piece is.from is.upto)) valid.heat
@@ -65,19 +49,24 @@ high_end-latent s h = by s.side s.supply s.target s.contribution h.level
 
 -- ---- states
 
-pub entered-sensible : (s : Stream) (p : Part) → IsSensible s → entered_state s p ≡ whole (actual s.side (entered_at s.side p) s.contribution)
-entered-sensible s p h = ap (λ b. if b then first_state s else whole (actual s.side (entered_at s.side p) s.contribution)) (is_latent-sensible s h)
+-- the temperature of a stream at a place of the shifted scale
+abbrev pub own_temperature : Stream → ℤ → Rational
+own_temperature s place = whole (unshifted s.side place s.contribution)
 
-pub left-sensible : (s : Stream) (p : Part) → IsSensible s → left_state s p ≡ whole (actual s.side (left_at s.side p) s.contribution)
-left-sensible s p h = ap (λ b. if b then last_state s else whole (actual s.side (left_at s.side p) s.contribution)) (is_latent-sensible s h)
+pub entered-sensible : (s : Stream) (p : Part) → IsSensible s → entered_state p s ≡ own_temperature s (entered_at s.side p)
+entered-sensible s p h = ap (λ b. if b then first_state s else own_temperature s (entered_at s.side p)) (is_latent-sensible s h)
 
-pub entered-latent : (s : Stream) (p : Part) → IsLatent s → entered_state s p ≡ first_state s
-entered-latent s p h = ap (λ b. if b then first_state s else whole (actual s.side (entered_at s.side p) s.contribution)) (is_latent-latent s h)
+pub left-sensible : (s : Stream) (p : Part) → IsSensible s → left_state p s ≡ own_temperature s (left_at s.side p)
+left-sensible s p h = ap (λ b. if b then last_state s else own_temperature s (left_at s.side p)) (is_latent-sensible s h)
 
-pub left-latent : (s : Stream) (p : Part) → IsLatent s → left_state s p ≡ last_state s
-left-latent s p h = ap (λ b. if b then last_state s else whole (actual s.side (left_at s.side p) s.contribution)) (is_latent-latent s h)
+pub entered-latent : (s : Stream) (p : Part) → IsLatent s → entered_state p s ≡ first_state s
+entered-latent s p h = ap (λ b. if b then first_state s else own_temperature s (entered_at s.side p)) (is_latent-latent s h)
 
-change_over : (of : Side) (p : Part) (c : ℤ) → change of (whole (actual of (entered_at of p) c)) (whole (actual of (left_at of p) c)) ≡ whole (p.high -ℤ p.low)
+pub left-latent : (s : Stream) (p : Part) → IsLatent s → left_state p s ≡ last_state s
+left-latent s p h = ap (λ b. if b then last_state s else own_temperature s (left_at s.side p)) (is_latent-latent s h)
+
+change_over : (of : Side) (p : Part) (c : ℤ)
+    → change of (whole (unshifted of (entered_at of p) c)) (whole (unshifted of (left_at of p) c)) ≡ whole (p.high -ℤ p.low)
 change_over side.Hot p c =
     let same : (p.high +ℤ c) -ℤ (p.low +ℤ c) ≡ p.high -ℤ p.low = omega (arith, ints) in
     whole-minus (p.high +ℤ c) (p.low +ℤ c) ∙ ap whole same
@@ -97,12 +86,12 @@ pub record FitsStream (s : Stream) (p : Part) : Type 0 where
   pub least : p.least ≡ (s.cp +ℤ s.load) *ℤ pos (width_of p)
   pub most : p.most ≡ (s.cp +ℤ s.load) *ℤ pos (width_of p)
   pub some : pos 0 <ℤ (s.cp +ℤ s.load)
-  pub change_is : change s.side (entered_state s p) (left_state s p) ≡ whole (pos (width_of p))
+  pub change_is : change s.side (entered_state p s) (left_state p s) ≡ whole (pos (width_of p))
   pub narrow : width_of p ≤ unsigned_abs LONGEST_RANGE
 
-fits_heat : {streams : List Stream} {places : List ℤ} {of : Side} {number : ℕ} (s : Stream) (p : Part) → IsStreamPart streams places of number s p
-    → pos 0 <ℤ (s.cp +ℤ s.load) → piece_heat p.high p.low s ≡ (s.cp +ℤ s.load) *ℤ pos (width_of p)
-    → change s.side (entered_state s p) (left_state s p) ≡ whole (pos (width_of p)) → width_of p ≤ unsigned_abs LONGEST_RANGE → FitsStream s p
+fits_heat : {streams : List Stream} {places : List ℤ} {of : Side} {number : ℕ} (s : Stream) (p : Part)
+    → IsStreamPart streams places of number s p → pos 0 <ℤ (s.cp +ℤ s.load) → piece_heat p.high p.low s ≡ (s.cp +ℤ s.load) *ℤ pos (width_of p)
+    → change s.side (entered_state p s) (left_state p s) ≡ whole (pos (width_of p)) → width_of p ≤ unsigned_abs LONGEST_RANGE → FitsStream s p
 fits_heat s p is some heat change_is narrow = record {
   least = ap (λ (q : Part). q.least) is.is ∙ heat;
   most = ap (λ (q : Part). q.most) is.is ∙ heat;
@@ -111,8 +100,8 @@ fits_heat s p is some heat change_is narrow = record {
   narrow = narrow;
 }
 
-pub fits : {streams : List Stream} {of : Side} {number : ℕ} (places : List ℤ) (s : Stream) (p : Part) → IsValidStream s → AllPairs (λ a b. b <ℤ a) places
-    → IsStreamPart streams places of number s p → FitsStream s p
+pub fits : {streams : List Stream} {of : Side} {number : ℕ} (places : List ℤ) (s : Stream) (p : Part) → IsValidStream s
+    → AllPairs (λ a b. b <ℤ a) places → IsStreamPart streams places of number s p → FitsStream s p
 fits places s p valid falls is = by (lies places s p valid falls is)
   where
     by : LiesOnInterval places s p ⊎ LiesAtLevel s p → FitsStream s p
@@ -128,8 +117,9 @@ fits places s p valid falls is = by (lies places s p valid falls is)
         let size : s.cp ≡ s.cp +ℤ s.load = omega (arith, ints, none) in
         let entered = entered-sensible s p on.sensible in
         let left = left-sensible s p on.sensible in
-        fits_heat s p is (omega (arith, ints, flow, none)) (no_load ∙ ap (λ w. s.cp *ℤ w) width ∙ ap (λ c. c *ℤ pos (width_of p)) size)
-        ((λ i. change s.side (entered i) (left i)) ∙ change_over s.side p s.contribution ∙ ap whole width) (omega (arith, ints, less, from, upto, long))
+        fits_heat s p is (omega (arith, ints, flow, none)) (no_load ∙ (λ i. size i *ℤ width i))
+        ((λ i. change s.side (entered i) (left i)) ∙ change_over s.side p s.contribution ∙ ap whole width)
+        (omega (arith, ints, less, from, upto, long))
     by (inr at) =
         let some = at.latent.load.from in
         let none = at.latent.cp in

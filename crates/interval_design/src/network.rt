@@ -1,9 +1,7 @@
 //! The network of a heat flow.
 
-ghost use Rattle.std.specs.Prelude.{◌≡◌, ◌+◌, ◌-◌, ◌<◌, ◌≤◌, ◌^◌, ◌++◌, length, map, slice_get, All, IfOk, OnOk};
+ghost use Rattle.std.specs.Prelude.{◌≡◌, ◌+◌, ◌-◌, ◌≤◌, length, map, IfOk};
 ghost use Rattle.std.specs.List.{enumerate_from};
-ghost use Rattle.stream_case.specs.Limits.{IsHeat};
-ghost use Rattle.heat_flow.specs.Cuts.{parts_of};
 ghost use Rattle.stream_case.specs.Case.{IsComplete, IsStandard};
 ghost use Rattle.grid.specs.Part.{AreCaseParts};
 ghost use Rattle.problem_table.specs.Deficit.{hot_target};
@@ -15,77 +13,17 @@ ghost use Rattle.networks.specs.Shape.{HasShape, KeepsCounts};
 ghost use Rattle.network_audit.specs.Balance.{balance_of};
 ghost use Rattle.network_audit.specs.Findings.{HasNoFinding};
 ghost use Rattle.network_audit.specs.Valid.{IsValidNetwork};
-ghost use Rattle.design_lines.specs.Drawn.{all_branches, courses_lines, made_branches, HasFewLines};
+ghost use Rattle.design_lines.specs.Drawn.{HasFewLines};
 ghost use Rattle.interval_design.specs.Balance.{flow_balance};
-ghost use Rattle.interval_design.specs.Courses.{AllCanBeLed, courses_of, exchanger_of, network_of};
+ghost use Rattle.interval_design.specs.Courses.{exchanger_of, network_of};
 
-use crate::courses::push_course;
-use crate::exchangers::exchanger_lines;
-use design_lines::{own_branches, push_branches};
-use grid::{Part, Parts};
+use crate::exchanges::{exchanges_of, part_sources};
+use grid::Parts;
 use heat_flow::Flow;
-use networks::{Branch, Line, Network};
+use networks::Network;
+use pieces::lead;
 use std::alloc::{AllocError, Global};
-use stream_case::{Case, Items, Side, Stream};
-
-/// The parts of a side.
-fn parts_of(parts: &Parts, side: Side) -> &[Part]
-    ensures { result.now ≡ parts_of side parts.now.hot parts.now.cold }
-{
-    match side {
-        Side::Hot => parts.hot.as_slice(),
-        Side::Cold => parts.cold.as_slice(),
-    }
-}
-
-/// The stream with a number, from 0.
-fn stream_at(case: &Case, number: usize) -> Stream
-    requires { number < length case.now.streams }
-    ensures { slice_get case.now.streams number ≡ Some result }
-{
-    case.streams.as_slice()[number]
-}
-
-/// Appends the courses of all streams in their order, and the branches that they make.
-fn push_courses(
-    alloc: Global,
-    lines: &mut Vec<Line>,
-    branches: &mut Vec<Branch>,
-    case: &Case,
-    parts: &Parts,
-    flow: &Flow,
-) -> Result<(), AllocError>
-    requires heats { All (λ t. IsHeat t.heat) flow.now.transfers }
-    requires few_transfers { length flow.now.transfers < 2 ^ 32 }
-    requires led { AllCanBeLed case.now parts.now.hot parts.now.cold flow.now.transfers }
-    requires own { length branches.old.items ≡ length case.now.streams }
-    requires fits { length case.now.streams + all_branches
-        (courses_of case.now parts.now.hot parts.now.cold flow.now.transfers) + 3 < 2 ^ 32 }
-    ensures lines { OnOk result (lines.new.items ≡ lines.old.items
-        ++ courses_lines (length case.now.streams) 0
-        (courses_of case.now parts.now.hot parts.now.cold flow.now.transfers)) }
-    ensures branches { OnOk result (branches.new.items ≡ branches.old.items ++ made_branches 0 0
-        (courses_of case.now parts.now.hot parts.now.cold flow.now.transfers)) }
-{
-    let own = case.streams.len() as u32;
-    let transfers = flow.transfers.as_slice();
-    for number in 0..case.streams.len() {
-        let side = stream_at(case, number).side;
-        let next = branches.len() as u32;
-        let stream = number as u32;
-        let free = push_course(
-            alloc,
-            lines,
-            next,
-            stream,
-            side,
-            parts_of(parts, side),
-            transfers,
-        )?;
-        push_branches(alloc, branches, next - own, stream, free - next)?;
-    }
-    Ok(())
-}
+use stream_case::Case;
 
 /// The network of a heat flow of a completed case. Each transfer becomes one exchanger, between the
 /// sources of its two parts and with its heat as duty, in W, and each stream is led through its
@@ -123,17 +61,20 @@ pub fn design(alloc: Global, case: &Case, parts: &Parts, flow: &Flow) -> Result<
         → cost_of parts.now.hot parts.now.cold flow.now.transfers ≡ hot_target case.now.streams
         → (balance_of case.now network).excess ≡ rational_zero) }
 {
-    let transfers = flow.transfers.as_slice();
-    let mut lines = exchanger_lines(
+    let hot = part_sources(alloc, parts.hot.as_slice())?;
+    let cold = part_sources(alloc, parts.cold.as_slice())?;
+    let exchanges = exchanges_of(
         alloc,
         parts.hot.as_slice(),
         parts.cold.as_slice(),
-        transfers,
+        flow.transfers.as_slice(),
     )?;
-    let mut branches = own_branches(alloc, case)?;
-    push_courses(alloc, &mut lines, &mut branches, case, parts, flow)?;
-    Ok(Network {
-        branches: Items::from_vec(branches),
-        lines: Items::from_vec(lines),
-    })
+    let network = lead(
+        alloc,
+        case,
+        hot.as_slice(),
+        cold.as_slice(),
+        exchanges.as_slice(),
+    )?;
+    Ok(network)
 }

@@ -1,100 +1,60 @@
 -- Where the two shifted curves have one heat, the hot temperature is at least the cold one, if a stream runs there on the right side.
-use Rattle.std.proofs.Common.{◌≡◌, ◌∙◌, ⊎_elim, ◌<◌, ◌*ℤ◌, ℕ, ℤ, pos, ◌≤ℤ◌, ◌<ℤ◌, List, refl, sym, ap, subst, arith}
-use Rattle.std.specs.Prelude.{Contains}
-use Rattle.std.specs.Int.{int_max, int_min}
-use Rattle.std.proofs.lemmas.Int.{clamps, ints}
-use Rattle.sums.proofs.IntegerLemmas.{int_lt_cases}
-use Rattle.sums.proofs.ProductLemmas.{*ℤ_cancel_right}
-use Rattle.stream_case.specs.Stream.{high_end, low_end}
-use Rattle.stream_case.specs.declared.source.Side.{Side}
-use Rattle.stream_case.specs.declared.source.Side.TheVariants as side
-use Rattle.stream_case.specs.declared.stream.Stream.{Stream}
-use Rattle.design_lines.proofs.SensibleStreams.{AreSensibleStreams}
-use Rattle.fractions.specs.Integers.{pos_above}
-use Rattle.fractions.specs.Rationals.{IsAtMost, IsBelow, Rational, ratio, whole}
-use Rattle.fractions.proofs.Comparisons.{at_most-ratio, at_most_from_ratio, below_from_ratio}
-use Rattle.fractions.proofs.Ratios.{by_two, same_from_ratio}
-use Rattle.fractions.proofs.Wholes.{ratio-multiple}
-use Rattle.vertical_design.specs.Vertical.{curve_heat}
+use Rattle.vertical_design.proofs.Words.{AreSensibleStreams, Contains, IsAtMost, IsBelow, Rational, Side, Stream, at_most_below_trans, below-ratio}
+use Rattle.vertical_design.proofs.Words.{below_at_most_trans, by_one, by_two, curve_heat, high_end, low_end, ratio, ratio-multiple, subst₂, whole}
+use Rattle.fractions.proofs.Comparisons.{at_most-ratio, at_most_antisymm, at_most_from_not_below, below_from_ratio, below_not_same}
+use Rattle.std.proofs.Common.{List, subst, sym, ◌≡◌}
 use Rattle.vertical_design.proofs.CurveOrder.{curves_in_order}
-use Rattle.vertical_design.proofs.ScaledCurve.{curve_heat-ratio, curve_parts, curve_rises, curve_rises_inside}
+use Rattle.vertical_design.proofs.ScaledCurve.{curve_heat-ratio, curve_parts, curve_rises_along, high_parts, low_parts}
+use Rattle.stream_case.specs.declared.source.Side.TheVariants as side
 
--- ---- in parts
+module _ (streams : List Stream) (are : AreSensibleStreams streams) where
+  -- the hot curve has at most the heat of the cold one
+  in_order : (t : Rational) → IsAtMost (curve_heat side.Hot streams t) (curve_heat side.Cold streams t)
+  in_order = by_one (λ t. IsAtMost (curve_heat side.Hot streams t) (curve_heat side.Cold streams t)) (λ n d some.
+      subst₂ IsAtMost (sym (curve_heat-ratio d some side.Hot streams n are.each)) (sym (curve_heat-ratio d some side.Cold streams n are.each))
+      (at_most-ratio (curve_parts d side.Hot streams n) (curve_parts d side.Cold streams n) d some (curves_in_order streams are d some n)))
 
-module _ (d : ℕ) (some : 0 < d) (streams : List Stream) (are : AreSensibleStreams streams) (r : Stream) (member : Contains streams r) where
-  -- below the cold temperature a cold stream runs
-  approach-below : (hot cold : ℤ) → r.side ≡ side.Cold → (low_end r *ℤ pos d) <ℤ cold → cold ≤ℤ (high_end r *ℤ pos d) → curve_parts d side.Hot streams hot ≡ curve_parts d side.Cold streams cold → cold ≤ℤ hot
-  approach-below hot cold on_side from upto same =
-      ⊎_elim
-      (λ less.
-      let last = int_max hot (low_end r *ℤ pos d) in
-      let order = curves_in_order d some streams are hot in
-      let rise = curve_rises d side.Cold streams hot last are.each (omega (arith, ints, clamps)) in
-      let more = curve_rises_inside d side.Cold streams last cold r are.each member on_side (omega (arith, ints, clamps)) (omega (arith, ints, clamps, less, from)) upto in
-      absurd (omega (arith, ints, order, rise, more, same)))
-      (λ most. most)
-      (int_lt_cases hot cold)
+  module _ (r : Stream) (member : Contains streams r) where
+    -- a curve rises where a stream has a part of its range
+    abbrev RisesAlong : Rational → Rational → Type 0
+    RisesAlong t u =
+        IsBelow t u → IsBelow (whole (low_end r)) u → IsBelow t (whole (high_end r)) → IsBelow (curve_heat r.side streams t) (curve_heat r.side streams u)
 
-  -- above the hot temperature a hot stream runs
-  approach-above : (hot cold : ℤ) → r.side ≡ side.Hot → (low_end r *ℤ pos d) ≤ℤ hot → hot <ℤ (high_end r *ℤ pos d) → curve_parts d side.Hot streams hot ≡ curve_parts d side.Cold streams cold → cold ≤ℤ hot
-  approach-above hot cold on_side from upto same =
-      ⊎_elim
-      (λ less.
-      let next = int_min cold (high_end r *ℤ pos d) in
-      let more = curve_rises_inside d side.Hot streams hot next r are.each member on_side from (omega (arith, ints, clamps, less, upto)) (omega (arith, ints, clamps)) in
-      let rise = curve_rises d side.Hot streams next cold are.each (omega (arith, ints, clamps)) in
-      let order = curves_in_order d some streams are cold in
-      absurd (omega (arith, ints, order, rise, more, same)))
-      (λ most. most)
-      (int_lt_cases hot cold)
+    rises_along : (t u : Rational) → RisesAlong t u
+    rises_along = by_two RisesAlong (λ n m d some less from upto.
+        let above = below_from_ratio (low_parts d r) m d some (subst (λ x. IsBelow x (ratio m d)) (sym (ratio-multiple (low_end r) d some)) from) in
+        let under = below_from_ratio n (high_parts d r) d some (subst (IsBelow (ratio n d)) (sym (ratio-multiple (high_end r) d some)) upto) in
+        subst₂ IsBelow (sym (curve_heat-ratio d some r.side streams n are.each)) (sym (curve_heat-ratio d some r.side streams m are.each))
+        (below-ratio (curve_parts d r.side streams n) (curve_parts d r.side streams m) d some
+        (curve_rises_along d some streams n m r are.each member (below_from_ratio n m d some less) above under)))
 
-  -- two places of a running stream with one heat are one
-  one-place : (of : Side) (n m : ℤ) → r.side ≡ of → (low_end r *ℤ pos d) ≤ℤ n → n ≤ℤ (high_end r *ℤ pos d) → (low_end r *ℤ pos d) ≤ℤ m → m ≤ℤ (high_end r *ℤ pos d) → curve_parts d of streams n ≡ curve_parts d of streams m → n ≡ m
-  one-place of n m on_side n_from n_upto m_from m_upto same =
-      ⊎_elim
-      (λ less. let more = curve_rises_inside d of streams n m r are.each member on_side n_from less m_upto in absurd (omega (arith, ints, more, same)))
-      (λ upto.
-      ⊎_elim
-      (λ less. let more = curve_rises_inside d of streams m n r are.each member on_side m_from less n_upto in absurd (omega (arith, ints, more, same)))
-      (λ least. omega (arith, ints, upto, least))
-      (int_lt_cases m n))
-      (int_lt_cases n m)
+    -- two temperatures with one heat of both curves, of which the cold one is above and the stream has a part of its range there
+    clash : (hot cold : Rational) → curve_heat side.Hot streams hot ≡ curve_heat side.Cold streams cold
+        → (of : Side) → IsBelow (curve_heat of streams hot) (curve_heat of streams cold) → ⊥
+    clash hot cold same side.Hot rise =
+        below_not_same (curve_heat side.Hot streams hot) (curve_heat side.Cold streams cold)
+        (below_at_most_trans (curve_heat side.Hot streams hot) (curve_heat side.Hot streams cold) (curve_heat side.Cold streams cold) rise (in_order cold)) same
+    clash hot cold same side.Cold rise =
+        below_not_same (curve_heat side.Hot streams hot) (curve_heat side.Cold streams cold)
+        (at_most_below_trans (curve_heat side.Hot streams hot) (curve_heat side.Cold streams hot) (curve_heat side.Cold streams cold) (in_order hot) rise) same
 
--- ---- at any temperatures
+    pub approach_below : (hot cold : Rational) → r.side ≡ side.Cold → IsBelow (whole (low_end r)) cold → IsAtMost cold (whole (high_end r))
+        → curve_heat side.Hot streams hot ≡ curve_heat side.Cold streams cold → IsAtMost cold hot
+    approach_below hot cold on_side from upto same = at_most_from_not_below hot cold (λ less.
+        clash hot cold same r.side (rises_along hot cold less from (below_at_most_trans hot cold (whole (high_end r)) less upto)))
 
-same_heats : (d : ℕ) (some : 0 < d) (streams : List Stream) (of other : Side) (n m : ℤ) → AreSensibleStreams streams
-    → curve_heat of streams (ratio n d) ≡ curve_heat other streams (ratio m d) → curve_parts d of streams n ≡ curve_parts d other streams m
-same_heats d some streams of other n m are same =
-    let x = curve_parts d of streams n in
-    let y = curve_parts d other streams m in
-    let ratios = sym (curve_heat-ratio d some of streams n are.each) ∙ same ∙ curve_heat-ratio d some other streams m are.each in
-    *ℤ_cancel_right (pos d) x y (pos_above d some) (same_from_ratio x y d d some some ratios)
+    pub approach_above : (hot cold : Rational) → r.side ≡ side.Hot → IsAtMost (whole (low_end r)) hot → IsBelow hot (whole (high_end r))
+        → curve_heat side.Hot streams hot ≡ curve_heat side.Cold streams cold → IsAtMost cold hot
+    approach_above hot cold on_side from upto same = at_most_from_not_below hot cold (λ less.
+        clash hot cold same r.side (rises_along hot cold less (at_most_below_trans (whole (low_end r)) hot cold from less) upto))
 
-module _ (streams : List Stream) (are : AreSensibleStreams streams) (r : Stream) (member : Contains streams r) where
-  pub approach_below : (hot cold : Rational) → r.side ≡ side.Cold → IsBelow (whole (low_end r)) cold → IsAtMost cold (whole (high_end r)) → curve_heat side.Hot streams hot ≡ curve_heat side.Cold streams cold → IsAtMost cold hot
-  approach_below hot cold on_side =
-      by_two (λ h c. IsBelow (whole (low_end r)) c → IsAtMost c (whole (high_end r)) → curve_heat side.Hot streams h ≡ curve_heat side.Cold streams c → IsAtMost c h)
-      (λ n m d some from upto same.
-      let below = below_from_ratio (low_end r *ℤ pos d) m d some (subst (λ x. IsBelow x (ratio m d)) (sym (ratio-multiple (low_end r) d some)) from) in
-      let most = at_most_from_ratio m (high_end r *ℤ pos d) d some (subst (IsAtMost (ratio m d)) (sym (ratio-multiple (high_end r) d some)) upto) in
-      at_most-ratio m n d some (approach-below d some streams are r member n m on_side below most (same_heats d some streams side.Hot side.Cold n m are same)))
-      hot cold
-
-  pub approach_above : (hot cold : Rational) → r.side ≡ side.Hot → IsAtMost (whole (low_end r)) hot → IsBelow hot (whole (high_end r)) → curve_heat side.Hot streams hot ≡ curve_heat side.Cold streams cold → IsAtMost cold hot
-  approach_above hot cold on_side =
-      by_two (λ h c. IsAtMost (whole (low_end r)) h → IsBelow h (whole (high_end r)) → curve_heat side.Hot streams h ≡ curve_heat side.Cold streams c → IsAtMost c h)
-      (λ n m d some from upto same.
-      let least = at_most_from_ratio (low_end r *ℤ pos d) n d some (subst (λ x. IsAtMost x (ratio n d)) (sym (ratio-multiple (low_end r) d some)) from) in
-      let below = below_from_ratio n (high_end r *ℤ pos d) d some (subst (IsBelow (ratio n d)) (sym (ratio-multiple (high_end r) d some)) upto) in
-      at_most-ratio m n d some (approach-above d some streams are r member n m on_side least below (same_heats d some streams side.Hot side.Cold n m are same)))
-      hot cold
-
-  -- two temperatures of a stream's range with one heat on its curve are one
-  pub one_place : (t u : Rational) → IsAtMost (whole (low_end r)) t → IsAtMost t (whole (high_end r)) → IsAtMost (whole (low_end r)) u → IsAtMost u (whole (high_end r)) → curve_heat r.side streams t ≡ curve_heat r.side streams u → t ≡ u
-  one_place =
-      by_two (λ t u. IsAtMost (whole (low_end r)) t → IsAtMost t (whole (high_end r)) → IsAtMost (whole (low_end r)) u → IsAtMost u (whole (high_end r)) → curve_heat r.side streams t ≡ curve_heat r.side streams u → t ≡ u)
-      (λ n m d some t_from t_upto u_from u_upto same.
-      let low = λ (x : ℤ) (from : IsAtMost (whole (low_end r)) (ratio x d)). at_most_from_ratio (low_end r *ℤ pos d) x d some (subst (λ z. IsAtMost z (ratio x d)) (sym (ratio-multiple (low_end r) d some)) from) in
-      let high = λ (x : ℤ) (upto : IsAtMost (ratio x d) (whole (high_end r))). at_most_from_ratio x (high_end r *ℤ pos d) d some (subst (IsAtMost (ratio x d)) (sym (ratio-multiple (high_end r) d some)) upto) in
-      let heats = same_heats d some streams r.side r.side n m are same in
-      ap (λ x. ratio x d) (one-place d some streams are r member r.side n m refl (low n t_from) (high n t_upto) (low m u_from) (high m u_upto) heats))
+    -- two temperatures of a stream's range with one heat on its curve are one
+    pub one_place : (t u : Rational) → IsAtMost (whole (low_end r)) t → IsAtMost t (whole (high_end r))
+        → IsAtMost (whole (low_end r)) u → IsAtMost u (whole (high_end r)) → curve_heat r.side streams t ≡ curve_heat r.side streams u → t ≡ u
+    one_place t u t_from t_upto u_from u_upto same = at_most_antisymm t u (no_less u t u_from t_upto (sym same)) (no_less t u t_from u_upto same)
+      where
+        no_less : (a b : Rational) → IsAtMost (whole (low_end r)) a → IsAtMost b (whole (high_end r))
+            → curve_heat r.side streams a ≡ curve_heat r.side streams b → IsAtMost b a
+        no_less a b from upto is = at_most_from_not_below a b (λ less.
+            below_not_same (curve_heat r.side streams a) (curve_heat r.side streams b)
+            (rises_along a b less (at_most_below_trans (whole (low_end r)) a b from less) (below_at_most_trans a b (whole (high_end r)) less upto)) is)

@@ -1,27 +1,15 @@
 -- Flows between two cuts, and shares of them, within the limits.
-use Rattle.std.proofs.Common.{◌≡◌, ◌∙◌, ⊎_elim, ◌<◌, ◌^◌, ◌≤◌, ◌+◌, ◌*◌, ◌∷◌, ◌++◌, ℕ, ℤ, pos, ◌≤ℤ◌, ◌<ℤ◌, Bool, true, false, if◌then◌else◌, List, [], All, get_or, length, map, take, sym, ap, arith}
-use Rattle.std.specs.Prelude.{◌*ℤ◌, ◌-ℤ◌, ◌&&◌, int_le}
-use Rattle.std.proofs.Math.IntN.{*ℤ-zero}
-use Rattle.std.proofs.Math.Nat.{mul-le-mul_right}
-use Rattle.std.proofs.lemmas.Int.{ints}
-use Rattle.std.proofs.lemmas.List.{get_or-map, length-map, length-take, map-append, take_more}
-use Rattle.std.proofs.lemmas.List.Elements.{All-map, All-take, All-weaker}
-use Rattle.sums.specs.Spans.{IsOverlap, NotNegative}
-use Rattle.sums.specs.Sum.{int_sum_by}
-use Rattle.sums.specs.declared.pairs.Pair.{Pair}
-use Rattle.sums.proofs.IntegerLemmas.{int_lt_cases}
-use Rattle.sums.proofs.ProductLemmas.{product_between, product_positive}
-use Rattle.sums.proofs.SumLemmas.{int_sum_by-at_most, int_sum_by-not_negative}
-use Rattle.stream_case.specs.Limits.{IsBetween}
-use Rattle.stream_case.specs.declared.limits.TheConstants.{MOST_CP}
-use Rattle.vertical_design.specs.Limits.{AreSpans, IsFlow, IsGap, IsPlace, IsSideFlow, IsSpan}
-use Rattle.vertical_design.specs.Matches.{amounts_in, flow_in, flows_in, side_flow}
-use Rattle.vertical_design.specs.declared.limits.TheConstants.{MOST_FLOW, MOST_SPANS}
-use Rattle.vertical_design.specs.declared.span.Span.{Span}
+use Rattle.std.proofs.Common.{All, Bool, List, [], ap, arith, false, get_or, if◌then◌else◌, length, map, pos, sym, take, true, ℕ, ℤ, ⊎_elim, ◌*◌, ◌++◌, ◌+◌}
+use Rattle.std.proofs.Common.{◌<ℤ◌, ◌<◌, ◌^◌, ◌∙◌, ◌∷◌, ◌≡◌, ◌≤ℤ◌, ◌≤◌}
+use Rattle.vertical_design.proofs.Words.{*ℤ-zero, All-map, All-take, All-weaker, AreSpans, IsBetween, IsFlow, IsGap, IsOverlap, IsPlace, IsSideFlow, IsSpan}
+use Rattle.vertical_design.proofs.Words.{MOST_CP, MOST_FLOW, MOST_SPANS, NotNegative, Pair, Span, amounts_in, flow_in, flows_in, get_or-map, int_le}
+use Rattle.vertical_design.proofs.Words.{int_lt_cases, int_sum_by, int_sum_by-at_most, int_sum_by-not_negative, ints, length-map, length-take, map-append}
+use Rattle.vertical_design.proofs.Words.{mul-le-mul_right, product_between, product_positive, side_flow, take_more, ◌&&◌, ◌*ℤ◌, ◌-ℤ◌}
 use Rattle.vertical_design.proofs.OverlapLists.{overlap-within}
 
 -- one item more of a list that is made item by item
-pub map_more : {X Y : Type 0} (f : X → Y) (xs : List X) (i : ℕ) (x : X) → i < length xs → x ≡ get_or xs i x → map f (take (i + 1) xs) ≡ map f (take i xs) ++ f x ∷ []
+pub map_more : {X Y : Type 0} (f : X → Y) (xs : List X) (i : ℕ) (x : X) → i < length xs → x ≡ get_or xs i x → map f (take (i + 1) xs)
+    ≡ map f (take i xs) ++ f x ∷ []
 map_more f xs i x within is = ap (map f) (take_more xs i x within ∙ ap (λ y. take i xs ++ y ∷ []) (sym is)) ∙ map-append f (take i xs) (x ∷ [])
 
 flow-either : (b : Bool) (cp : ℤ) → IsFlow cp → IsFlow (if b then cp else pos 0)
@@ -34,7 +22,8 @@ flows-within low high spans each =
     (All-weaker IsSpan (λ s. IsFlow (flow_in low high s)) (λ s is. flow-either (int_le s.from low && int_le high s.to) s.cp is.flow) spans each)
 
 -- of few flows
-sum-between : {m n : ℕ} (flows : List ℤ) → All (IsBetween (pos 0) (pos m)) flows → length flows ≤ n → IsBetween (pos 0) (pos (n * m)) (int_sum_by (λ f. f) flows)
+sum-between : {m n : ℕ} (flows : List ℤ) → All (IsBetween (pos 0) (pos m)) flows → length flows ≤ n
+    → IsBetween (pos 0) (pos (n * m)) (int_sum_by (λ f. f) flows)
 sum-between {m} flows each few =
     let P : ℤ → Type 0 = IsBetween (pos 0) (pos m) in
     let least = int_sum_by-not_negative (λ (f : ℤ). f) flows (All-weaker P (λ f. pos 0 ≤ℤ f) (λ f is. is.from) flows each) in
@@ -49,12 +38,14 @@ pub sum-so_far : (flows : List ℤ) (i : ℕ) → All IsFlow flows → length fl
 sum-so_far flows i each few = sum-within (take i flows) (All-take IsFlow i flows each) (omega (arith, few, length-take i flows))
 
 pub side-within : (low high : ℤ) (spans : List Span) → AreSpans spans → IsSideFlow (side_flow low high spans)
-side-within low high spans are = sum-within (flows_in low high spans) (flows-within low high spans are.each) (omega (arith, are.few, length-map spans (flow_in low high)))
+side-within low high spans are = sum-within (flows_in low high spans) (flows-within low high spans are.each)
+    (omega (arith, are.few, length-map spans (flow_in low high)))
 
 -- ---- shares
 
 product-between : {m n : ℕ} (a b : ℤ) → IsBetween (pos 0) (pos m) a → IsBetween (pos 0) (pos n) b → IsBetween (pos 0) (pos (m * n)) (a *ℤ b)
-product-between {m} {n} a b is_a is_b = let product = product_between a b m n is_a.from is_a.upto is_b.from is_b.upto in record { from = product.0; upto = product.1 }
+product-between {m} {n} a b is_a is_b =
+    let product = product_between a b m n is_a.from is_a.upto is_b.from is_b.upto in record { from = product.0; upto = product.1 }
 
 -- what a source offers or asks for
 abbrev pub IsAmount : ℤ → Type 0
@@ -69,7 +60,13 @@ scaled-positive flows side each is_side =
 
 -- a factor of a product above 0
 factor-above : (flow side : ℤ) → pos 0 ≤ℤ side → pos 0 <ℤ (flow *ℤ side) → pos 0 <ℤ side
-factor-above flow side from above = ⊎_elim (λ less. less) (λ most. let none : side ≡ pos 0 = omega (arith, ints, from, most) in let product = ap (λ z. flow *ℤ z) none ∙ *ℤ-zero flow in absurd (omega (arith, ints, product, above))) (int_lt_cases (pos 0) side)
+factor-above flow side from above =
+    ⊎_elim (λ less. less)
+    (λ most.
+    let none : side ≡ pos 0 = omega (arith, ints, from, most) in
+    let product = ap (λ z. flow *ℤ z) none ∙ *ℤ-zero flow in
+    absurd (omega (arith, ints, product, above)))
+    (int_lt_cases (pos 0) side)
 
 -- a share of what an index offers
 record IsPartly (low high : ℤ) (spans others : List Span) (index : ℕ) (share : ℤ) : Type 0 where
@@ -77,7 +74,8 @@ record IsPartly (low high : ℤ) (spans others : List Span) (index : ℕ) (share
   flow : pos 0 <ℤ side_flow low high others
   upto : share ≤ℤ (MOST_CP *ℤ MOST_FLOW)
 
-partly : (low high : ℤ) (spans others : List Span) (index : ℕ) (share : ℤ) → AreSpans spans → AreSpans others → index < length (amounts_in low high spans others) → pos 0 <ℤ share
+partly : (low high : ℤ) (spans others : List Span) (index : ℕ) (share : ℤ) → AreSpans spans → AreSpans others
+    → index < length (amounts_in low high spans others) → pos 0 <ℤ share
     → share ≤ℤ get_or (amounts_in low high spans others) index (pos 0) → IsPartly low high spans others index share
 partly low high spans others index share are are_others inside above upto =
     let flows = flows_in low high spans in
@@ -103,7 +101,8 @@ pub record IsShare (low high : ℤ) (hot cold : List Span) (p : Pair) : Type 0 w
   pub above : pos 0 <ℤ p.amount
   pub upto : p.amount ≤ℤ (MOST_CP *ℤ MOST_FLOW)
 
-pub share-within : (low high : ℤ) (hot cold : List Span) (p : Pair) → AreSpans hot → AreSpans cold → IsOverlap (amounts_in low high hot cold) (amounts_in low high cold hot) p → IsShare low high hot cold p
+pub share-within : (low high : ℤ) (hot cold : List Span) (p : Pair) → AreSpans hot → AreSpans cold
+    → IsOverlap (amounts_in low high hot cold) (amounts_in low high cold hot) p → IsShare low high hot cold p
 share-within low high hot cold p are_hot are_cold is =
     let upto = overlap-within (amounts_in low high hot cold) (amounts_in low high cold hot) p.first p.second in
     let amount = is.amount in
@@ -128,9 +127,13 @@ pub record IsFraction (num den : ℤ) : Type 0 where
   pub den_from : pos 0 <ℤ den
   pub den_upto : den ≤ℤ pos (2 ^ 48)
 
-pub duty-within : (low high share one other : ℤ) → IsGap low high → pos 0 <ℤ share → share ≤ℤ (MOST_CP *ℤ MOST_FLOW) → IsBetween (pos 1) MOST_FLOW one → IsBetween (pos 1) MOST_FLOW other → IsFraction ((high -ℤ low) *ℤ share) (one *ℤ other)
+pub duty-within : (low high share one other : ℤ) → IsGap low high → pos 0 <ℤ share → share ≤ℤ (MOST_CP *ℤ MOST_FLOW) → IsBetween (pos 1) MOST_FLOW one
+    → IsBetween (pos 1) MOST_FLOW other → IsFraction ((high -ℤ low) *ℤ share) (one *ℤ other)
 duty-within low high share one other gap above upto is_one is_other =
-    let wide : IsPlace (high -ℤ low) = let from = gap.low_place.from in let to = gap.high_place.upto in let falls = gap.falls in record { from = omega (arith, ints, falls); upto = omega (arith, ints, from, to) } in
+    let from = gap.low_place.from in
+    let to = gap.high_place.upto in
+    let falls = gap.falls in
+    let wide : IsPlace (high -ℤ low) = record { from = omega (arith, ints, falls); upto = omega (arith, ints, from, to) } in
     let some : IsAmount share = record { from = omega (arith, ints, above); upto = upto } in
     let num = product-between (high -ℤ low) share wide some in
     let first : IsSideFlow one = record { from = let h = is_one.from in omega (arith, ints, h); upto = is_one.upto } in

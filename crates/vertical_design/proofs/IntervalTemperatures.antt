@@ -1,66 +1,146 @@
 -- The temperatures of a side between two neighbouring cuts of the heat axis.
-use Rattle.std.proofs.Common.{◌≡◌, ◌∙◌, ◌<◌, ◌-◌, ◌+ℤ◌, ◌-ℤ◌, ◌*ℤ◌, ℕ, ℤ, pos, negsuc, ◌≤ℤ◌, ◌<ℤ◌, List, get_or, length, refl, sym, ap, arith}
-use Rattle.std.specs.Prelude.{unsigned_abs}
-use Rattle.std.proofs.lemmas.Int.{ints}
-use Rattle.stream_case.specs.Stream.{high_end, low_end}
-use Rattle.stream_case.specs.declared.case.Case.{Case}
-use Rattle.stream_case.specs.declared.source.Side.{Side}
-use Rattle.stream_case.specs.declared.source.Side.TheVariants as side
-use Rattle.stream_case.specs.declared.stream.Stream.{Stream}
-use Rattle.design_lines.proofs.SensibleStreams.{AreSensibleStreams}
-use Rattle.fractions.specs.Rationals.{IsAtMost, IsBelow, Rational, minus, ratio, whole}
-use Rattle.fractions.proofs.Wholes.{ratio-multiple}
-use Rattle.design_lines.proofs.StageSizes.{IsOver}
-use Rattle.vertical_design.specs.Axis.{AreCuts, heat_at, spans_of}
-use Rattle.vertical_design.specs.Matches.{side_flow}
-use Rattle.vertical_design.specs.Vertical.{curve_heat}
-use Rattle.vertical_design.proofs.CurveSegments.{Runs, segment}
-use Rattle.vertical_design.proofs.ScaledCurve.{curve_heat-ratio, curve_parts-whole}
-use Rattle.vertical_design.proofs.SegmentTemperatures.{flow_positive, flow_running, temperature, temperature_change, temperature_heat, temperature_rises, within_range}
-use Rattle.vertical_design.proofs.SpanRuns.{cut_below, no_end_between, side_flow-running}
+use Rattle.vertical_design.proofs.Words.{*ℤ_cancel_right, *ℤ_comm, -ℤ-*ℤ, AreSensibleStreams, Case, IsAtMost, IsBelow, IsOver, Rational, Side, Stream}
+use Rattle.vertical_design.proofs.Words.{at_most-ratio_whole, at_most-whole_ratio, begin_of, below-ratio, curve_heat, heat_at, high_end, int_lt_cases, ints}
+use Rattle.vertical_design.proofs.Words.{low_end, minus, minus-ratio_same_den, pos_above, ratio, ratio-multiple, rational_zero, side_flow, spans_of}
+use Rattle.vertical_design.proofs.Words.{unsigned_abs, whole}
+use Rattle.std.proofs.Common.{List, ap, arith, get_or, inl, inr, length, negsuc, pos, refl, subst, sym, ℕ, ℤ, ◌*ℤ◌, ◌+ℤ◌, ◌-ℤ◌, ◌-◌, ◌<ℤ◌, ◌<◌, ◌∙◌, ◌≡◌, ◌≤ℤ◌}
+use Rattle.std.proofs.Common.{◌⊎◌}
+use Rattle.vertical_design.proofs.CurveLemmas.{end_of, on_curve}
+use Rattle.vertical_design.proofs.CurveSegments.{HaveNoEnd, IsSegment, Runs, flow_positive, flow_running, gap_segment, line}
+use Rattle.vertical_design.proofs.ScaledCurve.{curve_heat-ratio, curve_parts, curve_parts-whole, scaled, whole_heat}
+use Rattle.vertical_design.proofs.SpanRuns.{AreCaseCuts, cut_below, no_end_between, side_flow-curve}
 
 -- at whole temperatures the curve is the one of the axis
 pub curve_heat-whole : (of : Side) (streams : List Stream) (t : ℤ) → AreSensibleStreams streams → curve_heat of streams (whole t) ≡ whole (heat_at of streams t)
-curve_heat-whole of streams t are =
-    ap (curve_heat of streams) (sym (ratio-multiple t 1 (omega arith))) ∙ curve_heat-ratio 1 (omega arith) of streams (t *ℤ pos 1) are.each
-    ∙ ap (λ z. ratio z 1) (curve_parts-whole 1 of streams t (omega arith))
-    ∙ ratio-multiple (heat_at of streams t) 1 (omega arith)
+curve_heat-whole of streams t are = whole_heat of streams t are.each
 
 pub size_is : (x : ℤ) → pos 0 <ℤ x → x ≡ pos (unsigned_abs x)
 size_is (pos n) above = refl
 size_is (negsuc n) above = absurd (omega (arith, ints, above))
 
--- the temperature of a side at each heat from the lower cut to the higher one: the curve has that heat there, each stream that runs has it in its range, it changes by the heat over the flow, and it is a whole number over the flow
+-- a temperature in the range of a stream
+abbrev pub IsInRange : Stream → Rational → Type 0
+IsInRange r t = IsAtMost (whole (low_end r)) t × IsAtMost t (whole (high_end r))
+
+-- the temperature of a side at each heat from the lower cut to the higher one: the curve has that heat there, each stream that runs has it in its
+-- range, it changes by the heat over the flow, and it is a whole number over the flow
 pub record IsScale (of : Side) (streams : List Stream) (are : AreSensibleStreams streams) (low high flow : ℤ) (scale : ℤ → Rational) : Type 0 where
   pub heat : (q : ℤ) → low ≤ℤ q → q ≤ℤ high → curve_heat of streams (scale q) ≡ whole q
-  pub range : (q : ℤ) → low ≤ℤ q → q ≤ℤ high → (r : Stream) → Runs of streams are low high r → IsAtMost (whole (low_end r)) (scale q) × IsAtMost (scale q) (whole (high_end r))
+  pub range : (q : ℤ) → low ≤ℤ q → q ≤ℤ high → (r : Stream) → Runs of streams are low high r → IsInRange r (scale q)
   pub change : (q p : ℤ) → minus (scale p) (scale q) ≡ ratio (p -ℤ q) (unsigned_abs flow)
   pub rises : (q p : ℤ) → q <ℤ p → IsBelow (scale q) (scale p)
   pub over : (q : ℤ) → IsOver (unsigned_abs flow) (scale q)
 
--- an interval in which a stream of the side runs has one
-pub interval_scale : (case : Case) (cuts : List ℤ) (are_cuts : AreCuts (spans_of side.Hot case) (spans_of side.Cold case) cuts) (at : ℕ) (later : 0 < at) (within : at < length cuts) (are : AreSensibleStreams case.streams) (of : Side) (r : Stream)
-    → Runs of case.streams are (get_or cuts at (pos 0)) (get_or cuts (at - 1) (pos 0)) r
-    → (scale : ℤ → Rational) × IsScale of case.streams are (get_or cuts at (pos 0)) (get_or cuts (at - 1) (pos 0)) (side_flow (get_or cuts at (pos 0)) (get_or cuts (at - 1) (pos 0)) (spans_of of case)) scale
-interval_scale case cuts are_cuts at later within are of r runs =
-    let streams = case.streams in
-    let low = get_or cuts at (pos 0) in
-    let high = get_or cuts (at - 1) (pos 0) in
-    let gap = cut_below case cuts are_cuts at later within are in
-    let none = no_end_between case cuts are_cuts at later within are of in
-    let flow = flow_running of streams are low high gap in
-    let (begin, end, is) = segment of streams are low high gap r runs in
-    let above = flow_positive of streams are low high gap begin end is none in
-    let size = size_is flow above in
-    let some : 0 < unsigned_abs flow = omega (arith, ints, above, size) in
-    let same = side_flow-running case cuts are_cuts at later within are of r runs in
-    let d = unsigned_abs flow in (
-      temperature of streams are low high gap begin end is none d size some,
-      record {
-        heat = λ q from upto. temperature_heat of streams are low high gap begin end is none d size some q from upto;
-        range = λ q from upto s s_runs. within_range of streams are low high gap begin end is none d size some q from upto s s_runs;
-        change = λ q p. temperature_change of streams are low high gap begin end is none d size some q p ∙ ap (λ f. ratio (p -ℤ q) (unsigned_abs f)) (sym same);
-        rises = λ q p less. temperature_rises of streams are low high gap begin end is none d size some q p less;
-        over = λ q. let num = begin *ℤ pos d +ℤ (q -ℤ heat_at of streams begin) in record { num = num; is = ap (λ f. ratio num (unsigned_abs f)) (sym same) };
-      },
-    )
+-- ---- along a segment
+
+module _ (of : Side) (streams : List Stream) (are : AreSensibleStreams streams) (low high : ℤ) (gap : low <ℤ high) (begin end : ℤ)
+    (is : IsSegment (heat_at of streams) low high begin end) (none : HaveNoEnd of streams are low high) where
+  abbrev flow : ℤ
+  flow = flow_running of streams are low high
+
+  abbrev d : ℕ
+  d = unsigned_abs flow
+
+  flow_is : flow ≡ pos d
+  flow_is = size_is flow (flow_positive of streams are low high gap begin end is none)
+
+  some : 0 < d
+  some = above flow (flow_positive of streams are low high gap begin end is none)
+    where
+      above : (x : ℤ) → pos 0 <ℤ x → 0 < unsigned_abs x
+      above x more = omega (arith, ints)
+
+  -- in parts of the flow, by as much above the begin of the segment as the heat exceeds the one there
+  abbrev place : ℤ → ℤ
+  place q = begin *ℤ pos d +ℤ (q -ℤ heat_at of streams begin)
+
+  -- there the curve has d times the heat
+  on_line : (q : ℤ) → (begin *ℤ pos d) ≤ℤ place q → place q ≤ℤ (end *ℤ pos d) → curve_parts d of streams (place q) ≡ q *ℤ pos d
+  on_line q from upto =
+      let more = q -ℤ heat_at of streams begin in
+      let further : place q -ℤ begin *ℤ pos d ≡ more = omega (arith, ints) in
+      let product = ap (λ z. flow *ℤ z) further ∙ *ℤ_comm flow more ∙ ap (λ z. more *ℤ z) flow_is in
+      omega (arith, ints, line of streams are low high gap begin end is none d some (place q) from upto, product, -ℤ-*ℤ q (heat_at of streams begin) (pos d))
+
+  -- the end of the segment
+  end_place : place (heat_at of streams end) ≡ end *ℤ pos d
+  end_place =
+      let last = heat_at of streams begin +ℤ (end *ℤ pos d -ℤ begin *ℤ pos d) in
+      let same : place last ≡ end *ℤ pos d = omega (arith, ints) in
+      let rise = scaled d begin end (omega (arith, ints, is.rises)) in
+      let whole = ap (curve_parts d of streams) same ∙ curve_parts-whole d of streams end some are.each in
+      let heat : heat_at of streams end ≡ last = *ℤ_cancel_right (pos d) (heat_at of streams end) last (pos_above d some)
+      (sym whole ∙ on_line last (omega (arith, ints, same, rise)) (omega (arith, ints, same))) in
+      omega (arith, ints, heat)
+
+  module _ (q : ℤ) (from : low ≤ℤ q) (upto : q ≤ℤ high) where
+    after_begin : (begin *ℤ pos d) ≤ℤ place q
+    after_begin = omega (arith, ints, is.begin_is, from)
+
+    before_end : place q ≤ℤ (end *ℤ pos d)
+    before_end = omega (arith, ints, is.end_is, end_place, upto)
+
+    heat_there : curve_heat of streams (ratio (place q) d) ≡ whole q
+    heat_there =
+        curve_heat-ratio d some of streams (place q) are.each ∙ ap (λ z. ratio z d) (on_line q after_begin before_end) ∙ ratio-multiple q d some
+
+    in_range : (r : Stream) → Runs of streams are low high r → IsInRange r (ratio (place q) d)
+    in_range r runs =
+        let lower = scaled d (low_end r) begin (is.begun (low_end r) runs.from) in
+        let upper = scaled d end (high_end r) (is.ended (high_end r) runs.upto) in
+        let least = at_most-whole_ratio (low_end r) (place q) d some (omega (arith, ints, lower, after_begin)) in
+        (least, at_most-ratio_whole (place q) (high_end r) d some (omega (arith, ints, upper, before_end)))
+
+  change_over : (q p : ℤ) → minus (ratio (place p) d) (ratio (place q) d) ≡ ratio (p -ℤ q) d
+  change_over q p = let apart : place p -ℤ place q ≡ p -ℤ q = omega (arith, ints) in minus-ratio_same_den (place p) (place q) d ∙ ap (λ z. ratio z d) apart
+
+  segment_scale : (scale : ℤ → Rational) × IsScale of streams are low high flow scale
+  segment_scale = (
+    λ q. ratio (place q) d,
+    record {
+      heat = heat_there;
+      range = in_range;
+      change = change_over;
+      rises = λ q p less. below-ratio (place q) (place p) d some (omega (arith, ints, less));
+      over = λ q. record { num = place q; is = refl };
+    },
+  )
+
+-- ---- in an interval
+
+module _ (case : Case) (cuts : List ℤ) (are_cuts : AreCaseCuts case cuts) (at : ℕ) (later : 0 < at) (within : at < length cuts)
+    (are : AreSensibleStreams case.streams) (of : Side) where
+  abbrev low_here : ℤ
+  low_here = get_or cuts at (pos 0)
+
+  abbrev high_here : ℤ
+  high_here = get_or cuts (at - 1) (pos 0)
+
+  abbrev IsScaleHere : (ℤ → Rational) → Type 0
+  IsScaleHere scale = IsScale of case.streams are low_here high_here (side_flow low_here high_here (spans_of of case)) scale
+
+  -- numbers that are the temperatures of the side, if a stream of it runs
+  abbrev pub SideScaleOf : Type 0
+  SideScaleOf = (scale : ℤ → Rational) × ((r : Stream) → Runs of case.streams are low_here high_here r → IsScaleHere scale)
+
+  none_runs : ((r : Stream) → Runs of case.streams are low_here high_here r → ⊥) → SideScaleOf
+  none_runs rests = (λ q. rational_zero, λ r runs. absurd (rests r runs))
+
+  pub side_scale : SideScaleOf
+  side_scale = by (int_lt_cases low_here (begin_of of case.streams)) (int_lt_cases (end_of of case.streams) high_here)
+    where
+      by : (low_here <ℤ begin_of of case.streams) ⊎ (begin_of of case.streams ≤ℤ low_here)
+          → (end_of of case.streams <ℤ high_here) ⊎ (high_here ≤ℤ end_of of case.streams) → SideScaleOf
+      by (inl early) any = none_runs (λ r runs. let from = runs.from in omega (arith, ints, early, from, (on_curve of case.streams are (low_end r)).from))
+      by (inr from) (inl late) = none_runs (λ r runs. let upto = runs.upto in omega (arith, ints, late, upto, (on_curve of case.streams are (high_end r)).upto))
+      by (inr from) (inr upto) =
+          let gap = cut_below case cuts are_cuts at later within are in
+          let none = no_end_between case cuts are_cuts at later within are of in
+          let (begin, end, is) = gap_segment of case.streams are low_here high_here gap from upto in
+          let scale = segment_scale of case.streams are low_here high_here gap begin end is none in
+          let flow = side_flow-curve case cuts are_cuts at later within are of from upto in
+          (scale.0, λ r runs. subst (λ f. IsScale of case.streams are low_here high_here f scale.0) (sym flow) scale.1)
+
+  -- where one runs
+  pub interval_scale : (r : Stream) → Runs of case.streams are low_here high_here r → (scale : ℤ → Rational) × IsScaleHere scale
+  interval_scale r runs = let (scale, is) = side_scale in (scale, is r runs)

@@ -1,83 +1,55 @@
--- The matches between the cuts of a standard case draw a network, which has the shape of one.
-use Rattle.std.proofs.Common.{◌<◌, ◌≤◌, ◌+◌, ◌*◌, ◌^◌, ◌∷◌, ℕ, ℤ, ◌<ℤ◌, List, [], All, AllPairs, length, sym, subst, arith}
-use Rattle.std.proofs.Math.Nat.{mul-le-mul, mul-le-mul_right}
-use Rattle.std.proofs.lemmas.List.Elements.{All-append, All-head, All-nil, All-tail, All-weaker}
-use Rattle.sums.proofs.OrderLemmas.{AllPairs-head, AllPairs-tail}
-use Rattle.stream_case.specs.Case.{IsStandard}
-use Rattle.stream_case.specs.declared.case.Case.{Case}
+-- What holds of the network of the vertical design, which the pieces of the intervals draw.
+use Rattle.vertical_design.proofs.Words.{Case, Exchange, HasFewLines, HasNoFinding, HasShape, IsValidNetwork, IsVertical, IsVerticalDesign, KeepsCounts}
+use Rattle.vertical_design.proofs.Words.{LedPiecesDrawLedNetworks, Network, Source, balance_of, enumerate_from, exchanger_of, exchangers_for, exchangers_of}
+use Rattle.vertical_design.proofs.Words.{length-enumerate_from, length-map, network_of, target_balance}
+use Rattle.std.proofs.Common.{List, ap, arith, length, subst, ◌*◌, ◌+◌, ◌∙◌, ◌≡◌, ◌≤◌}
+use Rattle.vertical_design.proofs.Balances.{balance-network}
+use Rattle.vertical_design.proofs.Exchanges.{exchanges}
+use Rattle.vertical_design.proofs.Intervals.{Axis, pieces, sources_are}
+use Rattle.vertical_design.proofs.LedPieces.{are_led, can_be_led, is_vertical, sources}
+use Rattle.pieces.specs.Pieces as led
 use Rattle.stream_case.specs.declared.source.Side.TheVariants as side
-use Rattle.stream_case.proofs.CaseLemmas.{length-AreStreams}
-use Rattle.design_lines.proofs.SensibleStreams.{AreSensibleStreams-case, IsSensibleCase}
-use Rattle.networks.specs.Shape.{HasShape, KeepsCounts}
-use Rattle.design_lines.specs.Drawn.{all_branches, HasFewLines}
-use Rattle.vertical_design.specs.Axis.{AreCuts, spans_of}
-use Rattle.vertical_design.specs.Courses.{AreIntervals, courses_of, network_of}
-use Rattle.vertical_design.specs.Limits.{AreSpans, IsGap, IsPlace}
-use Rattle.vertical_design.specs.Matches.{intervals_below, intervals_of, matches_in, matches_of}
-use Rattle.vertical_design.specs.declared.interval.Interval.{Interval}
-use Rattle.vertical_design.specs.declared.limits.TheConstants.{MOST_SPANS}
-use Rattle.vertical_design.specs.declared.span.Span.{Span}
-use Rattle.vertical_design.proofs.CourseLemmas.{few_all, few_intervals}
-use Rattle.vertical_design.proofs.DesignShape.{CanBeDrawn, HasShape-matches, KeepsCounts-matches, few-lines}
-use Rattle.vertical_design.proofs.IntervalLemmas.{cuts-places, few_cuts}
-use Rattle.vertical_design.proofs.MatchShape.{IsMatch, IsOn, matches-are, spans_on}
-use Rattle.vertical_design.proofs.SpanLimits.{AreSpans-spans_of}
-use Rattle.vertical_design.proofs.TurnLemmas.{numbered-intervals}
 
-module _ (case : Case) (hot cold : List Span) (are_hot : AreSpans hot) (are_cold : AreSpans cold) (hots : All (IsOn case side.Hot) hot) (colds : All (IsOn case side.Cold) cold) where
-  matches-below : (first : ℕ) (high : ℤ) (cuts : List ℤ) → AllPairs (λ a b. b <ℤ a) (high ∷ cuts) → All IsPlace (high ∷ cuts) → All (IsMatch case) (matches_of (intervals_below hot cold first high cuts))
-  matches-below first high [] falls places = All-nil (IsMatch case)
-  matches-below first high (low ∷ cuts) falls places =
-      let later = All-tail IsPlace high (low ∷ cuts) places in
-      let gap : IsGap low high = record { low_place = All-head IsPlace low cuts later; high_place = All-head IsPlace high (low ∷ cuts) places; falls = All-head (λ b. b <ℤ high) low cuts (AllPairs-head (λ (a b : ℤ). b <ℤ a) high (low ∷ cuts) falls) } in
-      let ms = matches_in low high hot cold in
-      All-append (IsMatch case) ms (matches_of (intervals_below hot cold (first + length ms) low cuts)) (matches-are case low high hot cold are_hot are_cold hots colds gap)
-      (matches-below (first + length ms) low cuts (AllPairs-tail (λ (a b : ℤ). b <ℤ a) high (low ∷ cuts) falls) later)
+-- what leading some pieces gives
+pub record IsLed (case : Case) (hot cold : List Source) (es : List Exchange) (network : Network) : Type 0 where
+  pub drawn : network ≡ led.network_of case hot cold es
+  pub exchangers : exchangers_of network.lines ≡ exchangers_for hot cold es
+  pub few_lines : length network.lines ≤ 7 * length es + length case.streams
+  pub law : LedPiecesDrawLedNetworks case hot cold es network
 
-  all-matches : (cuts : List ℤ) → AllPairs (λ a b. b <ℤ a) cuts → All IsPlace cuts → All (IsMatch case) (matches_of (intervals_of hot cold cuts))
-  all-matches [] falls places = All-nil (IsMatch case)
-  all-matches (high ∷ cuts) falls places = matches-below 0 high cuts falls places
+pub record IsVerticalNetwork (case : Case) (network : Network) : Type 0 where
+  pub drawn : IsVerticalDesign case network
+  pub shape : HasShape case network
+  pub counts : KeepsCounts network
+  pub few_lines : HasFewLines network
+  pub valid : IsValidNetwork case network
+  pub vertical : IsVertical case network
+  pub accepted : HasNoFinding case network
+  pub balance : balance_of case network ≡ target_balance case
 
--- what is asked before the network is drawn, and its shape
-pub record IsBuilt (case : Case) (intervals : List Interval) : Type 0 where
-  pub few : length (matches_of intervals) < 2 ^ 32
-  pub numbers : All (λ i. i.first + length i.matches < 2 ^ 32) intervals
-  pub streams : length case.streams < 2 ^ 32
-  pub fits : length case.streams + all_branches (courses_of case intervals) + 3 < 2 ^ 32
-  pub shape : HasShape case (network_of case intervals)
-  pub counts : KeepsCounts (network_of case intervals)
-  pub few_lines : HasFewLines (network_of case intervals)
+-- what holds of three lists holds of three that are the same
+pub moved : (P : List Source → List Source → List Exchange → Type 0) {a b x y : List Source} {es fs : List Exchange} → a ≡ x → b ≡ y → es ≡ fs → P a b es
+    → P x y fs
+moved P {a} {b} {x} {y} {es} {fs} p q r is = subst (P x y) r (subst (λ u. P x u es) q (subst (λ u. P u b es) p is))
 
-built : (case : Case) (cuts : List ℤ) → IsSensibleCase case → IsStandard case → AreCuts (spans_of side.Hot case) (spans_of side.Cold case) cuts → IsBuilt case (intervals_of (spans_of side.Hot case) (spans_of side.Cold case) cuts)
+pub vertical_network : (axis : Axis) (network : Network)
+    → IsLed axis.case (sources axis side.Hot) (sources axis side.Cold) (exchanges axis) network → IsVerticalNetwork axis.case network
 unfolding network_of
-built case cuts complete standard are =
-    let hot = spans_of side.Hot case in
-    let cold = spans_of side.Cold case in
-    let are_hot = AreSpans-spans_of side.Hot case complete standard in
-    let are_cold = AreSpans-spans_of side.Cold case complete standard in
-    let intervals = intervals_of hot cold cuts in
-    let most = 2 * MOST_SPANS in
-    let cuts_few = mul-le-mul_right most (few_cuts hot cold cuts are_hot are_cold are) in
-    let counts = few_intervals hot cold are_hot are_cold cuts in
-    let few : length (matches_of intervals) ≤ 4 * MOST_SPANS * most = omega (arith, counts.all, cuts_few) in
-    let streams = length-AreStreams case.streams (AreSensibleStreams-case case complete).are in
-    let branches = few_all case intervals in
-    let product = mul-le-mul streams few in
-    let can : CanBeDrawn case intervals = record {
-      numbered = numbered-intervals hot cold cuts;
-      matches = all-matches case hot cold are_hot are_cold (spans_on case side.Hot) (spans_on case side.Cold) cuts are.ordered (cuts-places hot cold cuts are_hot are_cold are);
-      few = few;
-      few_streams = streams;
-    } in
+vertical_network axis network is =
+    let hot = sources axis side.Hot in
+    let cold = sources axis side.Cold in
+    let es = exchanges axis in
+    let law = is.law (pieces axis side.Hot) (pieces axis side.Cold) (sources_are axis side.Hot) (sources_are axis side.Cold) (are_led axis) in
+    let few = (can_be_led axis).few in
+    let lines = is.few_lines in
+    let declared = ap length is.exchangers ∙ length-map (enumerate_from 0 es) (exchanger_of hot cold) ∙ length-enumerate_from 0 es in
     record {
-      few = omega (arith, few);
-      numbers = All-weaker (λ (i : Interval). i.first + length i.matches ≤ length cuts * most) (λ i. i.first + length i.matches < 2 ^ 32) (λ i le. omega (arith, le, cuts_few)) intervals counts.each;
-      streams = omega (arith, streams);
-      fits = omega (arith, branches, product, streams);
-      shape = HasShape-matches case intervals can complete.complete;
-      counts = KeepsCounts-matches case intervals can;
-      few_lines = few-lines case intervals can;
+      drawn = (axis.cuts, axis.are_cuts, is.drawn);
+      shape = law.shape;
+      counts = record { lines = omega (arith, few, lines); exchangers = omega (arith, few, declared) };
+      few_lines = omega (arith, few, lines);
+      valid = law.valid;
+      vertical = is_vertical axis network is.exchangers law;
+      accepted = law.accepted;
+      balance = balance-network axis network is.exchangers law.shape;
     }
-
-pub is_built : (case : Case) (intervals : List Interval) → IsSensibleCase case → IsStandard case → AreIntervals case intervals → IsBuilt case intervals
-is_built case intervals complete standard (cuts, are, made) = subst (IsBuilt case) (sym made) (built case cuts complete standard are)

@@ -1,21 +1,12 @@
 -- The pairs of two lists of amounts, as a list, and how many they are.
-use Rattle.std.proofs.Common.{◌≡◌, ⊎_elim, inl, inr, ◌<◌, ◌≤◌, ◌+◌, ◌-◌, ◌∷◌, ◌++◌, ℕ, zero, suc, ℤ, pos, ◌≤ℤ◌, ◌<ℤ◌, Bool, true, false, if◌then◌else◌, List, [], All, AllPairs, Some, None, get_or, length, refl, sym, subst, arith}
-use Rattle.std.specs.Prelude.{◌+ℤ◌, int_lt, Contains}
-use Rattle.std.specs.List.{cons_option, filter_map, flat_map, range_with_len}
-use Rattle.std.proofs.lemmas.Bool.{cases_lt}
-use Rattle.std.proofs.lemmas.Int.{clamps, ints}
-use Rattle.std.proofs.lemmas.List.Elements.{All-append, All-head, All-nil, All-tail, All-weaker, Contains-append_left, Contains-append_right}
-use Rattle.sums.specs.Pairing.{cons_if}
-use Rattle.sums.specs.Spans.{IsOverlap, ListsOverlaps, NotNegative, begin_of, overlap, pair_before}
-use Rattle.sums.specs.declared.pairs.Pair.{Pair}
-use Rattle.sums.proofs.ConsLemmas.{All-cons_if, AllPairs-cons_if, Contains-cons_if, Contains-cons_if_here}
-use Rattle.sums.proofs.IntegerLemmas.{int_lt-from, int_lt-true}
-use Rattle.sums.proofs.OrderLemmas.{AllPairs-append, AllPairs-head, AllPairs-nil, AllPairs-tail, Lists-unique}
-use Rattle.vertical_design.specs.Matches.{pair_of, pairs_of}
-
-kept : {X : Type 0} (b : Bool) (x : X) (xs : List X) → cons_option (if b then Some x else None) xs ≡ cons_if b x xs
-kept true x xs = refl
-kept false x xs = refl
+use Rattle.std.proofs.Common.{All, AllPairs, Bool, List, None, Some, [], ap, arith, false, get_or, if◌then◌else◌, inl, inr, length, pos, refl, suc, sym, take}
+use Rattle.std.proofs.Common.{true, zero, zero-add, ℕ, ℤ, ⊎_elim, ◌++◌, ◌+◌, ◌<ℤ◌, ◌<◌, ◌∙◌, ◌∷◌, ◌≡◌, ◌≤ℤ◌, ◌≤◌}
+use Rattle.vertical_design.proofs.Words.{All-cons, All-flat_map, All-head, All-nil, All-tail, All-take, All-weaker, AllPairs-append, AllPairs-cons}
+use Rattle.vertical_design.proofs.Words.{AllPairs-nil, Contains-flat_map, IsOverlap, Lists, ListsOverlaps, NotNegative, Option, Pair, cases_lt, clamps}
+use Rattle.vertical_design.proofs.Words.{cons_option, filter_map, flat_map, get_or-range_with_len, int_lt, int_lt-from, int_lt-true, int_sum_by-not_negative}
+use Rattle.vertical_design.proofs.Words.{ints, length-range_with_len, option_to_list, overlap, pair_before, pair_of, pairs_of, range_with_len, ◌+ℤ◌}
+use Rattle.sums.proofs.OrderLemmas.{AllPairs-head, AllPairs-tail, Lists-same, Lists-unique}
+use Rattle.sums.specs.Spans.{begin_of}
 
 pair_one_way : (p q : Pair) → pair_before p q → pair_before q p → ⊥
 pair_one_way p q (inl h) (inl k) = omega arith
@@ -23,103 +14,93 @@ pair_one_way p q (inl h) (inr k) = omega (arith, k.0)
 pair_one_way p q (inr h) (inl k) = omega (arith, h.0)
 pair_one_way p q (inr h) (inr k) = omega (arith, h.1, k.1)
 
+-- ---- a list that is made item by item of another one
+
+module _ {X Y : Type 0} (R : X → X → Type 0) (S : Y → Y → Type 0) (P : X → Type 0) (Q : X → Y → Type 0) (f : X → List Y)
+    (inner : (x : X) → P x → Lists S (Q x) (f x)) (cross : (x z : X) → R x z → (y w : Y) → Q x y → Q z w → S y w) where
+  ordered_flat : (xs : List X) → All P xs → AllPairs R xs → AllPairs S (flat_map f xs)
+  ordered_flat [] each ordered = AllPairs-nil S
+  ordered_flat (x ∷ xs) each ordered =
+      let here = inner x (All-head P x xs each) in
+      AllPairs-append S (f x) (flat_map f xs) here.ordered (ordered_flat xs (All-tail P x xs each) (AllPairs-tail R x xs ordered))
+      (All-weaker (Q x) (λ y. All (S y) (flat_map f xs)) (λ y q. All-flat_map (S y) f xs (λ k o within.
+      let z = get_or xs k o in
+      All-weaker (Q z) (S y) (λ w r. cross x z (AllPairs-head R x xs ordered k o within) y w q r) (f z)
+      (inner z (All-tail P x xs each k o within)).each)) (f x) here.each)
+
+  abbrev IsInner : Y → Type 0
+  IsInner y = (x : X) × P x × Q x y
+
+  lists_flat : (xs : List X) → Lists R P xs → Lists S IsInner (flat_map f xs)
+  lists_flat xs lists = record {
+    ordered = ordered_flat xs lists.each lists.ordered;
+    each = All-flat_map IsInner f xs
+        (All-weaker P (λ x. All IsInner (f x)) (λ x p. All-weaker (Q x) IsInner (λ y q. (x, p, q)) (f x) (inner x p).each) xs lists.each);
+    every = λ y (x, p, q). Contains-flat_map f xs x y (lists.every x p) ((inner x p).every y q);
+  }
+
+lists_range : (n : ℕ) → Lists (λ a b. a < b) (λ i. i < n) (range_with_len 0 n)
+lists_range n =
+    let long = length-range_with_len 0 n in
+    let item = get_or-range_with_len 0 n in
+    record {
+      ordered = λ i j d before within. omega (arith, before, item i d (omega (arith, long, before, within)), item j d (omega (arith, long, within)));
+      each = λ i d within. omega (arith, long, within, item i d (omega (arith, long, within)));
+      every = λ i less. (i, omega (arith, long, less), item i i less ∙ zero-add i);
+    }
+
+filter_map-flat : {X Y : Type 0} (h : X → Option Y) (xs : List X) → filter_map h xs ≡ flat_map (λ x. option_to_list (h x)) xs
+filter_map-flat h [] = refl
+filter_map-flat {X} {Y} h (x ∷ xs) = by (h x) (filter_map-flat h xs)
+  where
+    by : {ys zs : List Y} (o : Option Y) → ys ≡ zs → cons_option o ys ≡ option_to_list o ++ zs
+    by None rest = rest
+    by (Some y) rest = ap (λ ys. y ∷ ys) rest
+
 -- ---- exactly the pairs that overlap, in order
 
 module _ (us vs : List ℤ) where
   abbrev pair_at : ℕ → ℕ → Pair
   pair_at i j = record { first = i; second = j; amount = overlap us vs i j }
 
-  -- the pairs of one index of the first list, and indices of the second from `low` to below `high`
-  record IsInRow (i low high : ℕ) (p : Pair) : Type 0 where
-    first : p.first ≡ i
-    from : low ≤ p.second
-    upto : p.second < high
-    amount : p.amount ≡ overlap us vs p.first p.second
-    positive : pos 0 <ℤ p.amount
+  abbrev IsPairAt : ℕ → ℕ → Pair → Type 0
+  IsPairAt i j p = (pos 0 <ℤ overlap us vs i j) × (p ≡ pair_at i j)
 
-  record IsRow (i low high : ℕ) (ps : List Pair) : Type 0 where
-    each : All (IsInRow i low high) ps
-    ordered : AllPairs pair_before ps
-    every : (j : ℕ) → low ≤ j → j < high → pos 0 <ℤ overlap us vs i j → Contains ps (pair_at i j)
-
-  row_more : (i low high : ℕ) (ps : List Pair) → low < high → IsRow i (low + 1) high ps → IsRow i low high (cons_if (int_lt (pos 0) (overlap us vs i low)) (pair_at i low) ps)
-  row_more i low high ps within row =
-      let b = int_lt (pos 0) (overlap us vs i low) in
-      let here = pair_at i low in
-      record {
-        each = All-cons_if (IsInRow i low high) b here ps
-            (λ e. record { first = refl; from = omega arith; upto = within; amount = refl; positive = int_lt-true (pos 0) (overlap us vs i low) e })
-            (All-weaker (IsInRow i (low + 1) high) (IsInRow i low high) (λ p is. record { first = is.first; from = omega (arith, is.from); upto = is.upto; amount = is.amount; positive = is.positive }) ps row.each);
-        ordered = AllPairs-cons_if pair_before b here ps
-            (λ e. All-weaker (IsInRow i (low + 1) high) (pair_before here) (λ p is. inr (sym is.first, omega (arith, is.from))) ps row.each) row.ordered;
-        every = λ j from upto some. ⊎_elim
-            (λ later. Contains-cons_if b here (pair_at i j) ps (row.every j (omega (arith, later)) upto some))
-            (λ most. let same : low ≡ j = omega (arith, from, most) in
-            let some_here : pos 0 <ℤ overlap us vs i low = subst (λ k. pos 0 <ℤ overlap us vs i k) (sym same) some in
-            subst (λ k. Contains (cons_if b here ps) (pair_at i k)) same (Contains-cons_if_here b here ps (int_lt-from (pos 0) (overlap us vs i low) some_here)))
-            (cases_lt low j);
+  lists_one : (i j : ℕ) → Lists pair_before (IsPairAt i j) (option_to_list (pair_of us vs i j))
+  lists_one i j = by (int_lt (pos 0) (overlap us vs i j)) refl
+    where
+      by : (b : Bool) → int_lt (pos 0) (overlap us vs i j) ≡ b → Lists pair_before (IsPairAt i j) (option_to_list (if b then Some (pair_at i j) else None))
+      by true is = record {
+        ordered = AllPairs-cons pair_before (pair_at i j) [] (All-nil (pair_before (pair_at i j))) (AllPairs-nil pair_before);
+        each = All-cons (IsPairAt i j) (pair_at i j) [] (int_lt-true (pos 0) (overlap us vs i j) is, refl) (All-nil (IsPairAt i j));
+        every = λ p own. (0, omega arith, sym own.1);
+      }
+      by false is = record {
+        ordered = AllPairs-nil pair_before;
+        each = All-nil (IsPairAt i j);
+        every = λ p own. let holds = sym (int_lt-from (pos 0) (overlap us vs i j) own.0) ∙ is in cc holds;
       }
 
-  row_of : (i low n : ℕ) → IsRow i low (low + n) (filter_map (pair_of us vs i) (range_with_len low n))
-  row_of i low zero = record { each = All-nil (IsInRow i low (low + 0)); ordered = AllPairs-nil pair_before; every = λ j from upto some. absurd (omega (arith, from, upto)) }
-  row_of i low (suc n) =
-      let same : low + 1 + n ≡ low + suc n = omega arith in
-      let ps = filter_map (pair_of us vs i) (range_with_len (low + 1) n) in
-      subst (IsRow i low (low + suc n)) (sym (kept (int_lt (pos 0) (overlap us vs i low)) (pair_at i low) ps))
-      (row_more i low (low + suc n) ps (omega arith) (subst (λ h. IsRow i (low + 1) h ps) same (row_of i (low + 1) n)))
+  -- those of one index of the first list
+  abbrev IsInRow : ℕ → Pair → Type 0
+  IsInRow i p = (j : ℕ) × (j < length vs) × IsPairAt i j p
 
-  -- those of all indices of the first list from `low` to below `high`
-  record IsInRows (low high : ℕ) (p : Pair) : Type 0 where
-    from : low ≤ p.first
-    upto : p.first < high
-    second : p.second < length vs
-    amount : p.amount ≡ overlap us vs p.first p.second
-    positive : pos 0 <ℤ p.amount
-
-  record AreRows (low high : ℕ) (ps : List Pair) : Type 0 where
-    each : All (IsInRows low high) ps
-    ordered : AllPairs pair_before ps
-    every : (i j : ℕ) → low ≤ i → i < high → j < length vs → pos 0 <ℤ overlap us vs i j → Contains ps (pair_at i j)
-
-  rows_more : (low high : ℕ) (row rest : List Pair) → low < high → IsRow low 0 (length vs) row → AreRows (low + 1) high rest → AreRows low high (row ++ rest)
-  rows_more low high row rest within one more = record {
-    each = All-append (IsInRows low high) row rest
-        (All-weaker (IsInRow low 0 (length vs)) (IsInRows low high) (λ p is. record { from = omega (arith, is.first); upto = omega (arith, is.first, within); second = is.upto; amount = is.amount; positive = is.positive }) row one.each)
-        (All-weaker (IsInRows (low + 1) high) (IsInRows low high) (λ p is. record { from = omega (arith, is.from); upto = is.upto; second = is.second; amount = is.amount; positive = is.positive }) rest more.each);
-    ordered = AllPairs-append pair_before row rest one.ordered more.ordered
-        (All-weaker (IsInRow low 0 (length vs)) (λ p. All (pair_before p) rest) (λ p is. All-weaker (IsInRows (low + 1) high) (pair_before p) (λ q there. inl (omega (arith, is.first, there.from))) rest more.each) row one.each);
-    every = λ i j from upto inside some. ⊎_elim
-        (λ later. Contains-append_right row rest (pair_at i j) (more.every i j (omega (arith, later)) upto inside some))
-        (λ most. let same : low ≡ i = omega (arith, from, most) in
-        let some_here : pos 0 <ℤ overlap us vs low j = subst (λ k. pos 0 <ℤ overlap us vs k j) (sym same) some in
-        Contains-append_left row rest (pair_at i j) (subst (λ k. Contains row (pair_at k j)) same (one.every j (omega arith) inside some_here)))
-        (cases_lt low i);
-  }
-
-  rows_of : (low n : ℕ) → AreRows low (low + n) (flat_map (λ i. filter_map (pair_of us vs i) (range_with_len 0 (length vs))) (range_with_len low n))
-  rows_of low zero = record { each = All-nil (IsInRows low (low + 0)); ordered = AllPairs-nil pair_before; every = λ i j from upto inside some. absurd (omega (arith, from, upto)) }
-  rows_of low (suc n) =
-      let same : low + 1 + n ≡ low + suc n = omega arith in
-      let all : 0 + length vs ≡ length vs = omega arith in
-      let row = filter_map (pair_of us vs low) (range_with_len 0 (length vs)) in
-      let rest = flat_map (λ i. filter_map (pair_of us vs i) (range_with_len 0 (length vs))) (range_with_len (low + 1) n) in
-      rows_more low (low + suc n) row rest (omega arith) (subst (λ h. IsRow low 0 h row) all (row_of low 0 (length vs))) (subst (λ h. AreRows (low + 1) h rest) same (rows_of (low + 1) n))
+  lists_row : (i : ℕ) → Lists pair_before (IsInRow i) (filter_map (pair_of us vs i) (range_with_len 0 (length vs)))
+  lists_row i =
+      rw filter_map-flat (lists_flat (λ a b. a < b) pair_before (λ j. j < length vs) (IsPairAt i) (λ j. option_to_list (pair_of us vs i j))
+      (λ j within. lists_one i j) (λ j k less p q one other. rw (one.1, other.1) (inr (refl, less))) (range_with_len 0 (length vs)) (lists_range (length vs)))
 
   pub ListsOverlaps-pairs_of : ListsOverlaps us vs (pairs_of us vs)
   unfolding pairs_of
   ListsOverlaps-pairs_of =
-      let all : 0 + length us ≡ length us = omega arith in
-      let rows = subst (λ h. AreRows 0 h (pairs_of us vs)) all (rows_of 0 (length us)) in
-      record {
-        ordered = rows.ordered;
-        each = All-weaker (IsInRows 0 (length us)) (IsOverlap us vs) (λ p is. record { first_within = is.upto; second_within = is.second; amount = is.amount; positive = is.positive }) (pairs_of us vs) rows.each;
-        every = λ p is.
-            let amount = is.amount in
-            let positive = is.positive in
-            let some : pos 0 <ℤ overlap us vs p.first p.second = omega (arith, ints) in
-            let there = rows.every p.first p.second (omega arith) is.first_within is.second_within some in
-            subst (λ z. Contains (pairs_of us vs) (record { first = p.first; second = p.second; amount = z })) (sym amount) there;
-      }
+      Lists-same pair_before (λ p. (i : ℕ) × (i < length us) × IsInRow i p) (IsOverlap us vs) (pairs_of us vs)
+      (λ p (i, first, (j, second, (some, is))). rw is (record { first_within = first; second_within = second; amount = refl; positive = some }))
+      (λ p is.
+      let same : p ≡ pair_at p.first p.second = ap (λ x. record { first = p.first; second = p.second; amount = x }) is.amount in
+      let here : IsPairAt p.first p.second p = (omega (arith, ints, is.amount, is.positive), same) in
+      (p.first, is.first_within, (p.second, is.second_within, here)))
+      (lists_flat (λ a b. a < b) pair_before (λ i. i < length us) IsInRow (λ i. filter_map (pair_of us vs i) (range_with_len 0 (length vs)))
+      (λ i within. lists_row i) (λ i k less p q one other. rw (one.2.1, other.2.1) (inl less)) (range_with_len 0 (length us)) (lists_range (length us)))
 
   pub pairs_are : (ps : List Pair) → ListsOverlaps us vs ps → ps ≡ pairs_of us vs
   pairs_are ps lists = Lists-unique pair_before pair_one_way (IsOverlap us vs) ps (pairs_of us vs) lists ListsOverlaps-pairs_of
@@ -141,21 +122,12 @@ overlap-within us vs i j =
 -- ---- few pairs
 
 begin_of-rises : (xs : List ℤ) → NotNegative xs → (a b : ℕ) → a ≤ b → begin_of xs a ≤ℤ begin_of xs b
-begin_of-rises xs some a b le = let same : a + (b - a) ≡ b = omega (arith, le) in subst (λ c. begin_of xs a ≤ℤ begin_of xs c) same (further (b - a))
-  where
-    not_negative : (ys : List ℤ) → NotNegative ys → (i : ℕ) → pos 0 ≤ℤ get_or ys i (pos 0)
-    not_negative [] h i = omega (arith, ints)
-    not_negative (y ∷ ys) h zero = h 0 y (omega arith)
-    not_negative (y ∷ ys) h (suc i) = not_negative ys (All-tail (λ z. pos 0 ≤ℤ z) y ys h) i
-
-    further : (n : ℕ) → begin_of xs a ≤ℤ begin_of xs (a + n)
-    further zero = let none : a + 0 ≡ a = omega arith in subst (λ c. begin_of xs a ≤ℤ begin_of xs c) (sym none) (omega (arith, ints))
-    further (suc n) =
-        let before = further n in
-        let step = begin_of-next xs (a + n) in
-        let item = not_negative xs some (a + n) in
-        let same : suc (a + n) ≡ a + suc n = omega arith in
-        subst (λ c. begin_of xs a ≤ℤ begin_of xs c) same (omega (arith, ints))
+begin_of-rises xs some zero b le = int_sum_by-not_negative (λ x. x) (take b xs) (All-take (λ x. pos 0 ≤ℤ x) b xs some)
+begin_of-rises xs some (suc a) zero le = absurd (omega (arith, le))
+begin_of-rises [] some (suc a) (suc b) le = omega (arith, ints)
+begin_of-rises (x ∷ xs) some (suc a) (suc b) le =
+    let rest = begin_of-rises xs (All-tail (λ z. pos 0 ≤ℤ z) x xs some) a b (omega (arith, le)) in
+    omega (arith, ints, rest)
 
 abbrev steps : Pair → ℕ
 steps p = p.first + p.second
@@ -163,32 +135,29 @@ steps p = p.first + p.second
 -- along the staircase each pair is further than the one before it
 further_on : (us vs : List ℤ) → NotNegative us → NotNegative vs → (p q : Pair) → IsOverlap us vs p → IsOverlap us vs q → pair_before p q → steps p < steps q
 further_on us vs some_us some_vs p q one other (inr (same, less)) = omega (arith, same, less)
-further_on us vs some_us some_vs p q one other (inl less) = ⊎_elim (λ back. absurd (never back)) (λ upto. omega (arith, less, upto)) (cases_lt q.second p.second)
+further_on us vs some_us some_vs p q one other (inl less) =
+    ⊎_elim (λ back. absurd (never back)) (λ upto. omega (arith, less, upto)) (cases_lt q.second p.second)
   where
     never : q.second < p.second → ⊥
     never back =
         let u = begin_of-rises us some_us (suc p.first) q.first (omega (arith, less)) in
         let v = begin_of-rises vs some_vs (suc q.second) p.second (omega (arith, back)) in
-        let one_amount = one.amount in
-        let one_some = one.positive in
-        let other_amount = other.amount in
-        let other_some = other.positive in
         omega (arith, ints, clamps)
 
-few_steps : (low high : ℕ) (ps : List Pair) → AllPairs (λ p q. steps p < steps q) ps → All (λ p. low ≤ steps p) ps → All (λ p. steps p < high) ps → low ≤ high → length ps + low ≤ high
-few_steps low high [] rise from upto le = omega (arith, le)
-few_steps low high (p ∷ ps) rise from upto le =
-    let first = All-head (λ q. low ≤ steps q) p ps from in
+few_steps : (high : ℕ) (ps : List Pair) → AllPairs (λ p q. steps p < steps q) ps → All (λ p. steps p < high) ps
+    → (low : ℕ) → All (λ p. low ≤ steps p) ps → low ≤ high → length ps + low ≤ high
+few_steps high [] rise upto low from le = omega (arith, le)
+few_steps high (p ∷ ps) rise upto low from le =
     let last = All-head (λ q. steps q < high) p ps upto in
-    let later = All-weaker (λ q. steps p < steps q) (λ q. low + 1 ≤ steps q) (λ q less. omega (arith, first, less)) ps (AllPairs-head (λ a b. steps a < steps b) p ps rise) in
-    let rest = few_steps (low + 1) high ps (AllPairs-tail (λ a b. steps a < steps b) p ps rise) later (All-tail (λ q. steps q < high) p ps upto) (omega (arith, first, last)) in
-    omega (arith, rest)
+    let rest = few_steps high ps (AllPairs-tail (λ a b. steps a < steps b) p ps rise) (All-tail (λ q. steps q < high) p ps upto)
+    (steps p + 1) (λ k o within. let less = AllPairs-head (λ a b. steps a < steps b) p ps rise k o within in omega (arith, less)) (omega (arith, last)) in
+    omega (arith, rest, All-head (λ q. low ≤ steps q) p ps from)
 
 pub few_pairs : (us vs : List ℤ) → NotNegative us → NotNegative vs → length (pairs_of us vs) ≤ length us + length vs
 few_pairs us vs some_us some_vs =
     let lists = ListsOverlaps-pairs_of us vs in
-    let rise : AllPairs (λ p q. steps p < steps q) (pairs_of us vs) = λ i j d before within.
-    further_on us vs some_us some_vs (get_or (pairs_of us vs) i d) (get_or (pairs_of us vs) j d) (lists.each i d (omega (arith, before, within))) (lists.each j d within) (lists.ordered i j d before within) in
-    let few = few_steps 0 (length us + length vs) (pairs_of us vs) rise (λ i d within. omega arith)
-    (λ i d within. let is = lists.each i d within in omega (arith, is.first_within, is.second_within)) (omega arith) in
+    let few = few_steps (length us + length vs) (pairs_of us vs)
+    (λ i j d before within.
+    further_on us vs some_us some_vs _ _ (lists.each i d (omega (arith, before, within))) (lists.each j d within) (lists.ordered i j d before within))
+    (λ i d within. let is = lists.each i d within in omega (arith, is.first_within, is.second_within)) 0 (λ i d within. omega arith) (omega arith) in
     omega (arith, few)

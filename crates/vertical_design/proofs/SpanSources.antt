@@ -1,30 +1,21 @@
 -- The spans of a side, source by source: each is that of a stream or of a utility of the side, and each of these has one.
-use Rattle.std.proofs.Common.{◌≡◌, ◌≢◌, ◌∙◌, ◌⊎◌, inl, inr, ⊎_elim, ◌<◌, ◌≤◌, ◌+◌, ◌==◌, ◌∷◌, ◌++◌, ℕ, zero, suc, Bool, true, false, if◌then◌else◌, List, [], All, AllPairs, Some, None, get_or, slice_get, length, refl, sym, ap, ap₂, subst, arith}
-use Rattle.std.specs.List.{cons_option, enumerate_from, filter_map}
-use Rattle.std.specs.Option.{option_map_or}
-use Rattle.std.specs.Prelude.{pos}
-use Rattle.std.proofs.lemmas.Bool.{cases_eq, cases_order, eq-eqb, false_from_ne_true, ne_eqb}
-use Rattle.std.proofs.lemmas.List.Elements.{All-append, All-weaker}
-use Rattle.std.proofs.lemmas.List.Kept.{AllPairs-cons}
-use Rattle.std.proofs.lemmas.Option.{get_or_from_slice_get, same_Some, slice_get-get_or, slice_get_within}
-use Rattle.sums.proofs.OrderLemmas.{AllPairs-append, AllPairs-nil}
-use Rattle.stream_case.specs.Source.{same_side, same_source}
-use Rattle.stream_case.specs.declared.case.Case.{Case}
-use Rattle.stream_case.specs.declared.source.Side.{Side}
+use Rattle.vertical_design.proofs.Words.{All-append, All-cons, All-contains, All-flat_map, All-nil, AllPairs-append, AllPairs-cons, AllPairs-nil, AreCuts, Case}
+use Rattle.vertical_design.proofs.Words.{IsStandard, Option, Side, Span, Stream, Utility, cases_order, cons_option, count_by, count_by-cons, ends_of}
+use Rattle.vertical_design.proofs.Words.{enumerate_from, eq-eqb, false_from_ne_true, filter_map, get_or_from_slice_get, heat_at, high_end, int_sum_by, ints}
+use Rattle.vertical_design.proofs.Words.{kept_hold, low_end, ne_eqb, own_side, pos, same_Some, same_side, same_side-true, same_source, same_source-same}
+use Rattle.vertical_design.proofs.Words.{same_source-true, slice_get-append, slice_get_within, spans_of, standard_utility, utility_from, utility_to}
+use Rattle.std.proofs.Common.{All, AllPairs, Bool, List, None, Some, [], ap, ap₂, arith, false, get_or, if◌then◌else◌, inl, inr, length, refl, slice_get, subst}
+use Rattle.std.proofs.Common.{suc, sym, true, zero, zero-add, ℕ, ℤ, ⊎_elim, ◌++◌, ◌+ℤ◌, ◌+◌, ◌<◌, ◌==◌, ◌∙◌, ◌∷◌, ◌≡◌, ◌≢◌, ◌⊎◌}
+use Rattle.stream_case.specs.declared.source.Side.TheVariants as side
 use Rattle.stream_case.specs.declared.source.Source.TheVariants as source
-use Rattle.stream_case.specs.declared.stream.Stream.{Stream}
-use Rattle.stream_case.specs.declared.utility.Utility.{Utility}
-use Rattle.stream_case.proofs.SourceLemmas.{own_side, same_side-true, same_source-same, same_source-true}
-use Rattle.design_lines.proofs.ListLemmas.{kept_hold}
-use Rattle.vertical_design.specs.Axis.{spans_of, stream_span, utility_from, utility_span, utility_to}
-use Rattle.vertical_design.specs.Matches.{source_at}
-use Rattle.vertical_design.specs.declared.span.Span.{Span}
-use Rattle.vertical_design.proofs.SpanRuns.{span_of}
+
+-- the span of a stream, and that of a utility, of a side
+abbrev pub span_of : Side → List Stream → ℕ → Stream → Span
+span_of of streams n s = record { source = source.Stream n; from = heat_at of streams (low_end s); to = heat_at of streams (high_end s); cp = s.cp }
 
 abbrev pub utility_span_of : Side → List Stream → ℕ → Span
 utility_span_of of streams number = record { source = source.Utility number; from = utility_from of streams; to = utility_to of streams; cp = pos 1 }
 
--- the span of a stream, and that of a utility, of a side
 pub record IsStreamSpan (case : Case) (of : Side) (number : ℕ) (s : Stream) (a : Span) : Type 0 where
   pub here : slice_get case.streams number ≡ Some s
   pub side_is : s.side ≡ of
@@ -36,178 +27,170 @@ pub record IsUtilitySpan (case : Case) (of : Side) (number : ℕ) (u : Utility) 
   pub is : a ≡ utility_span_of of case.streams number
 
 abbrev pub IsSourceSpan : Case → Side → Span → Type 0
-IsSourceSpan case of a = ((number : ℕ) × (s : Stream) × IsStreamSpan case of number s a) ⊎ ((number : ℕ) × (u : Utility) × IsUtilitySpan case of number u a)
+IsSourceSpan case of a =
+    ((number : ℕ) × (s : Stream) × IsStreamSpan case of number s a) ⊎ ((number : ℕ) × (u : Utility) × IsUtilitySpan case of number u a)
 
--- ---- each span has a source
-
-module _ (case : Case) (of : Side) where
-  pub span_sources : All (IsSourceSpan case of) (spans_of of case)
-  unfolding spans_of
-  span_sources =
-      let first : (i : ℕ) → 0 + i ≡ i = λ i. omega arith in
-      All-append (IsSourceSpan case of) (filter_map (stream_span of case.streams) (enumerate_from 0 case.streams)) (filter_map (utility_span of case.streams) (enumerate_from 0 case.utilities))
-      (kept_hold (λ (s : Stream). same_side s.side of) (stream_span of case.streams) (span_of of case.streams) (λ k s. refl) (IsSourceSpan case of) 0 case.streams
-      (λ i s at own. inl (0 + i, s, record { here = ap (slice_get case.streams) (first i) ∙ at; side_is = same_side-true s.side of own; is = refl })))
-      (kept_hold (λ (u : Utility). same_side u.side of) (utility_span of case.streams) (λ k (u : Utility). utility_span_of of case.streams k) (λ k u. refl) (IsSourceSpan case of) 0 case.utilities
-      (λ i u at own. inr (0 + i, u, record { here = ap (slice_get case.utilities) (first i) ∙ at; side_is = same_side-true u.side of own; is = refl })))
-
--- ---- different spans have different sources
-
+-- different spans have different sources
 abbrev pub Differ : Span → Span → Type 0
 Differ a b = a.source ≢ b.source
-
--- the spans of streams from one number on, and of utilities
-abbrev StreamFrom : ℕ → Span → Type 0
-StreamFrom n a = (k : ℕ) × (a.source ≡ source.Stream k) × (n ≤ k)
-
-abbrev UtilityFrom : ℕ → Span → Type 0
-UtilityFrom n a = (k : ℕ) × (a.source ≡ source.Utility k) × (n ≤ k)
-
-one_differs : (b : Bool) (a : Span) (rest : List Span) → All (Differ a) rest → AllPairs Differ rest → AllPairs Differ (cons_option (if b then Some a else None) rest)
-one_differs true a rest one more = AllPairs-cons Differ a rest one more
-one_differs false a rest one more = more
-
-stream_before : (n : ℕ) (a b : Span) → a.source ≡ source.Stream n → StreamFrom (n + 1) b → Differ a b
-stream_before n a b is later same =
-    let both : source.Stream n ≡ source.Stream later.0 = sym is ∙ same ∙ later.1 in
-    let number : n ≡ later.0 = cc both in
-    let from = later.2 in
-    absurd (omega (arith, number, from))
-
-utility_before : (n : ℕ) (a b : Span) → a.source ≡ source.Utility n → UtilityFrom (n + 1) b → Differ a b
-utility_before n a b is later same =
-    let both : source.Utility n ≡ source.Utility later.0 = sym is ∙ same ∙ later.1 in
-    let number : n ≡ later.0 = cc both in
-    let from = later.2 in
-    absurd (omega (arith, number, from))
-
-stream_or_utility : (n m : ℕ) (a b : Span) → StreamFrom n a → UtilityFrom m b → Differ a b
-stream_or_utility n m a b one other same = let both : source.Stream one.0 ≡ source.Utility other.0 = sym one.1 ∙ same ∙ other.1 in cc both
-
-module _ (streams : List Stream) (of : Side) where
-  streams_from : (n : ℕ) (ss : List Stream) → All (StreamFrom n) (filter_map (stream_span of streams) (enumerate_from n ss))
-  streams_from n ss = kept_hold (λ (s : Stream). same_side s.side of) (stream_span of streams) (span_of of streams) (λ k s. refl) (StreamFrom n) n ss (λ i s at own. (n + i, refl, omega arith))
-
-  utilities_from : (n : ℕ) (us : List Utility) → All (UtilityFrom n) (filter_map (utility_span of streams) (enumerate_from n us))
-  utilities_from n us = kept_hold (λ (u : Utility). same_side u.side of) (utility_span of streams) (λ k (u : Utility). utility_span_of of streams k) (λ k u. refl) (UtilityFrom n) n us (λ i u at own. (n + i, refl, omega arith))
-
-  streams_differ : (n : ℕ) (ss : List Stream) → AllPairs Differ (filter_map (stream_span of streams) (enumerate_from n ss))
-  streams_differ n [] = AllPairs-nil Differ
-  streams_differ n (s ∷ ss) =
-      let here = span_of of streams n s in
-      let rest = filter_map (stream_span of streams) (enumerate_from (n + 1) ss) in
-      one_differs (same_side s.side of) here rest (All-weaker (StreamFrom (n + 1)) (Differ here) (λ a later. stream_before n here a refl later) rest (streams_from (n + 1) ss)) (streams_differ (n + 1) ss)
-
-  utilities_differ : (n : ℕ) (us : List Utility) → AllPairs Differ (filter_map (utility_span of streams) (enumerate_from n us))
-  utilities_differ n [] = AllPairs-nil Differ
-  utilities_differ n (u ∷ us) =
-      let here = utility_span_of of streams n in
-      let rest = filter_map (utility_span of streams) (enumerate_from (n + 1) us) in
-      one_differs (same_side u.side of) here rest (All-weaker (UtilityFrom (n + 1)) (Differ here) (λ a later. utility_before n here a refl later) rest (utilities_from (n + 1) us)) (utilities_differ (n + 1) us)
-
-pub sources_differ : (case : Case) (of : Side) → AllPairs Differ (spans_of of case)
-unfolding spans_of
-sources_differ case of =
-    let streams = case.streams in
-    let own = filter_map (stream_span of streams) (enumerate_from 0 streams) in
-    let others = filter_map (utility_span of streams) (enumerate_from 0 case.utilities) in
-    AllPairs-append Differ own others (streams_differ streams of 0 streams) (utilities_differ streams of 0 case.utilities)
-    (All-weaker (StreamFrom 0) (λ a. All (Differ a) others) (λ a one. All-weaker (UtilityFrom 0) (Differ a) (λ b other. stream_or_utility 0 0 a b one other) others (utilities_from streams of 0 case.utilities)) own (streams_from streams of 0 streams))
-
--- ---- the place of a source
-
-module _ (spans : List Span) (differ : AllPairs Differ spans) where
-  -- a source stands at one index
-  same_place : (i k : ℕ) (a b : Span) → slice_get spans i ≡ Some a → slice_get spans k ≡ Some b → a.source ≡ b.source → i ≡ k
-  same_place i k a b first second same =
-      ⊎_elim (λ equal. equal)
-      (⊎_elim (λ less. absurd (apart i k a b first second less same)) (λ more. absurd (apart k i b a second first more (sym same))))
-      (cases_order i k)
-    where
-      apart : (m n : ℕ) (x y : Span) → slice_get spans m ≡ Some x → slice_get spans n ≡ Some y → m < n → x.source ≡ y.source → ⊥
-      apart m n x y one other less is =
-          let here = ap (λ (z : Span). z.source) (get_or_from_slice_get spans m x x one) in
-          let there = ap (λ (z : Span). z.source) (get_or_from_slice_get spans n y x other) in
-          differ m n x less (slice_get_within spans n y other) (here ∙ is ∙ sym there)
-
-  pub own_place : (k : ℕ) (a : Span) → slice_get spans k ≡ Some a → (i : ℕ) → i < length spans → same_source (source_at spans i) a.source ≡ (i == k)
-  own_place k a there i within =
-      let b = get_or spans i a in
-      let here : slice_get spans i ≡ Some b = slice_get-get_or spans i a within in
-      let source_is : source_at spans i ≡ b.source = ap (λ o. option_map_or (λ (r : Span). r.source) o (source.Stream 0)) here in
-      ap (λ x. same_source x a.source) source_is
-      ∙ ⊎_elim
-      (λ same.
-      let span_is : b ≡ a = same_Some b a (sym here ∙ ap (slice_get spans) same ∙ there) in
-      ap (λ (r : Span). same_source r.source a.source) span_is ∙ same_source-same a.source ∙ sym (eq-eqb i k same))
-      (λ other.
-      false_from_ne_true (same_source b.source a.source) (λ holds. other (same_place i k b a here there (same_source-true b.source a.source holds))) ∙ sym (ne_eqb i k other))
-      (cases_eq i k)
-
--- ---- each source has a span
 
 -- a span among others
 abbrev pub HasSpan : List Span → Span → Type 0
 HasSpan spans a = (k : ℕ) × (slice_get spans k ≡ Some a)
 
-module _ (streams : List Stream) (of : Side) where
-  has_later : (b : Bool) (a x : Span) (rest : List Span) → HasSpan rest a → HasSpan (cons_option (if b then Some x else None) rest) a
-  has_later true a x rest there = (suc there.0, there.1)
-  has_later false a x rest there = there
+-- what holds of both ends of each span holds of each cut
+ends_hold : (P : ℤ → Type 0) (spans : List Span) → All (λ a. P a.from × P a.to) spans → All P (ends_of spans)
+ends_hold P spans each = All-flat_map P (λ (a : Span). a.from ∷ a.to ∷ []) spans (λ k o within.
+    let a = get_or spans k o in
+    let both = each k o within in
+    All-cons P a.from (a.to ∷ []) both.0 (All-cons P a.to [] both.1 (All-nil P)))
 
-  has_here : (b : Bool) (a : Span) (rest : List Span) → b ≡ true → HasSpan (cons_option (if b then Some a else None) rest) a
-  has_here true a rest is = (0, refl)
-  has_here false a rest is = cc is
+pub cuts_hold : (hot cold : List Span) (cuts : List ℤ) → AreCuts hot cold cuts → (P : ℤ → Type 0) → All (λ a. P a.from × P a.to) hot
+    → All (λ a. P a.from × P a.to) cold → All P cuts
+cuts_hold hot cold cuts are P hots colds k o within =
+    let all = All-append P (ends_of hot) (ends_of cold) (ends_hold P hot hots) (ends_hold P cold colds) in
+    All-contains P (ends_of hot ++ ends_of cold) (get_or cuts k o) all (are.each k o within)
 
-  stream_there : (n i : ℕ) (ss : List Stream) (s : Stream) → slice_get ss i ≡ Some s → s.side ≡ of → HasSpan (filter_map (stream_span of streams) (enumerate_from n ss)) (span_of of streams (n + i) s)
-  stream_there n i [] s at side_is = cc at
-  stream_there n zero (r ∷ ss) s at side_is =
-      let same : r ≡ s = cc at in
-      let none : n ≡ n + 0 = omega arith in
-      let own : same_side r.side of ≡ true = ap (λ (x : Stream). same_side x.side of) same ∙ ap (λ d. same_side d of) side_is ∙ own_side of in
-      let rest = filter_map (stream_span of streams) (enumerate_from (n + 1) ss) in
-      subst (HasSpan (cons_option (if same_side r.side of then Some (span_of of streams n r) else None) rest)) (ap₂ (span_of of streams) none same) (has_here (same_side r.side of) (span_of of streams n r) rest own)
-  stream_there n (suc i) (r ∷ ss) s at side_is =
-      let further : n + 1 + i ≡ n + suc i = omega arith in
-      let rest = filter_map (stream_span of streams) (enumerate_from (n + 1) ss) in
-      has_later (same_side r.side of) (span_of of streams (n + suc i) s) (span_of of streams n r) rest
-      (subst (λ m. HasSpan rest (span_of of streams m s)) further (stream_there (n + 1) i ss s at side_is))
+-- what holds of both utilities in either order holds of those of a standard case
+pub standard_hold : (case : Case) → IsStandard case → (P : List Utility → Type 0) → P (standard_utility side.Hot case ∷ standard_utility side.Cold case ∷ [])
+    → P (standard_utility side.Cold case ∷ standard_utility side.Hot case ∷ []) → P case.utilities
+standard_hold case standard P one other = ⊎_elim (λ e. subst P (sym e) one) (λ e. subst P (sym e) other) standard.utilities
 
-  utility_there : (n i : ℕ) (us : List Utility) (u : Utility) → slice_get us i ≡ Some u → u.side ≡ of → HasSpan (filter_map (utility_span of streams) (enumerate_from n us)) (utility_span_of of streams (n + i))
-  utility_there n i [] u at side_is = cc at
-  utility_there n zero (v ∷ us) u at side_is =
-      let same : v ≡ u = cc at in
-      let none : n ≡ n + 0 = omega arith in
-      let own : same_side v.side of ≡ true = ap (λ (x : Utility). same_side x.side of) same ∙ ap (λ d. same_side d of) side_is ∙ own_side of in
-      let rest = filter_map (utility_span of streams) (enumerate_from (n + 1) us) in
-      subst (HasSpan (cons_option (if same_side v.side of then Some (utility_span_of of streams n) else None) rest)) (ap (utility_span_of of streams) none) (has_here (same_side v.side of) (utility_span_of of streams n) rest own)
-  utility_there n (suc i) (v ∷ us) u at side_is =
-      let further : n + 1 + i ≡ n + suc i = omega arith in
-      let rest = filter_map (utility_span of streams) (enumerate_from (n + 1) us) in
-      has_later (same_side v.side of) (utility_span_of of streams (n + suc i)) (utility_span_of of streams n) rest
-      (subst (λ m. HasSpan rest (utility_span_of of streams m)) further (utility_there (n + 1) i us u at side_is))
+-- ---- of numbered things each own one has a span
 
-has_left : (xs ys : List Span) (a : Span) → HasSpan xs a → HasSpan (xs ++ ys) a
-has_left [] ys a (k, is) = cc is
-has_left (x ∷ xs) ys a (zero, is) = (0, is)
-has_left (x ∷ xs) ys a (suc k, is) = let rest = has_left xs ys a (k, is) in (suc rest.0, rest.1)
+module _ {X : Type 0} (own : X → Bool) (item : ℕ → X → Span) where
+  abbrev kept : ℕ × X → Option Span
+  kept (n, x) = if own x then Some (item n x) else None
 
-has_right : (xs ys : List Span) (a : Span) → HasSpan ys a → HasSpan (xs ++ ys) a
-has_right [] ys a there = there
-has_right (x ∷ xs) ys a there = let rest = has_right xs ys a there in (suc rest.0, rest.1)
+  abbrev pub kept_spans : ℕ → List X → List Span
+  kept_spans n xs = filter_map kept (enumerate_from n xs)
 
-pub stream_place : (case : Case) (of : Side) (number : ℕ) (s : Stream) → slice_get case.streams number ≡ Some s → s.side ≡ of → HasSpan (spans_of of case) (span_of of case.streams number s)
-unfolding spans_of
-stream_place case of number s here side_is =
-    let none : 0 + number ≡ number = omega arith in
-    let own = filter_map (stream_span of case.streams) (enumerate_from 0 case.streams) in
-    has_left own (filter_map (utility_span of case.streams) (enumerate_from 0 case.utilities)) (span_of of case.streams number s)
-    (subst (λ m. HasSpan own (span_of of case.streams m s)) none (stream_there case.streams of 0 number case.streams s here side_is))
+  pub kept_each : (P : Span → Type 0) (n : ℕ) (xs : List X) → ((i : ℕ) (x : X) → slice_get xs i ≡ Some x → own x ≡ true → P (item (n + i) x))
+      → All P (kept_spans n xs)
+  kept_each = kept_hold own kept item (λ n x. refl)
 
-pub utility_place : (case : Case) (of : Side) (number : ℕ) (u : Utility) → slice_get case.utilities number ≡ Some u → u.side ≡ of → HasSpan (spans_of of case) (utility_span_of of case.streams number)
-unfolding spans_of
-utility_place case of number u here side_is =
-    let none : 0 + number ≡ number = omega arith in
-    let others = filter_map (utility_span of case.streams) (enumerate_from 0 case.utilities) in
-    has_right (filter_map (stream_span of case.streams) (enumerate_from 0 case.streams)) others (utility_span_of of case.streams number)
-    (subst (λ m. HasSpan others (utility_span_of of case.streams m)) none (utility_there case.streams of 0 number case.utilities u here side_is))
+  has_later : (o : Option Span) (rest : List Span) (a : Span) → HasSpan rest a → HasSpan (cons_option o rest) a
+  has_later None rest a there = there
+  has_later (Some b) rest a (k, is) = (suc k, is)
+
+  pub kept_there : (n i : ℕ) (xs : List X) (x : X) → slice_get xs i ≡ Some x → own x ≡ true → HasSpan (kept_spans n xs) (item (n + i) x)
+  kept_there n i [] x at is_own = cc at
+  kept_there n zero (y ∷ xs) x at is_own = let same : y ≡ x = cc at in let first : n + 0 ≡ n = omega arith in rw (same, is_own, first) (0, refl)
+  kept_there n (suc i) (y ∷ xs) x at is_own =
+      let next : n + suc i ≡ n + 1 + i = omega arith in
+      rw next (has_later (kept (n, y)) (kept_spans (n + 1) xs) (item (n + 1 + i) x) (kept_there (n + 1) i xs x at is_own))
+
+  pub kept_differ : ((k m : ℕ) (x y : X) → k < m → Differ (item k x) (item m y)) → (n : ℕ) (xs : List X) → AllPairs Differ (kept_spans n xs)
+  kept_differ differ n [] = AllPairs-nil Differ
+  kept_differ differ n (x ∷ xs) = by (own x) (kept_differ differ (n + 1) xs)
+    where
+      by : (b : Bool) → AllPairs Differ (kept_spans (n + 1) xs) → AllPairs Differ (cons_option (if b then Some (item n x) else None) (kept_spans (n + 1) xs))
+      by true rest =
+          AllPairs-cons Differ (item n x) (kept_spans (n + 1) xs)
+          (kept_each (Differ (item n x)) (n + 1) xs (λ i y at is_own. differ n (n + 1 + i) x y (omega arith))) rest
+      by false rest = rest
+
+  pub kept_sum : (f : Span → ℤ) (g : X → ℤ) → ((n : ℕ) (x : X) → f (item n x) ≡ g x) → (n : ℕ) (xs : List X)
+      → int_sum_by f (kept_spans n xs) ≡ int_sum_by (λ x. if own x then g x else pos 0) xs
+  kept_sum f g each n [] = refl
+  kept_sum f g each n (x ∷ xs) = by (own x) (kept_sum f g each (n + 1) xs)
+    where
+      by : (b : Bool) → int_sum_by f (kept_spans (n + 1) xs) ≡ int_sum_by (λ y. if own y then g y else pos 0) xs
+          → int_sum_by f (cons_option (if b then Some (item n x) else None) (kept_spans (n + 1) xs))
+          ≡ (if b then g x else pos 0) +ℤ int_sum_by (λ y. if own y then g y else pos 0) xs
+      by true rest = ap₂ ◌+ℤ◌ (each n x) rest
+      by false rest = omega (arith, ints, rest)
+
+  pub kept_count : (n : ℕ) (xs : List X) → length (kept_spans n xs) ≡ count_by own xs
+  kept_count n [] = refl
+  kept_count n (x ∷ xs) = rw (count_by-cons own x xs) (by (own x) (kept_count (n + 1) xs))
+    where
+      by : (b : Bool) → length (kept_spans (n + 1) xs) ≡ count_by own xs
+          → length (cons_option (if b then Some (item n x) else None) (kept_spans (n + 1) xs)) ≡ (if b then 1 else 0) + count_by own xs
+      by true rest = omega (arith, rest)
+      by false rest = omega (arith, rest)
+
+-- ---- the spans of a case
+
+module _ (case : Case) (of : Side) where
+  abbrev pub own_stream : Stream → Bool
+  own_stream s = same_side s.side of
+
+  abbrev pub own_utility : Utility → Bool
+  own_utility u = same_side u.side of
+
+  abbrev pub stream_item : ℕ → Stream → Span
+  stream_item n s = span_of of case.streams n s
+
+  abbrev pub utility_item : ℕ → Utility → Span
+  utility_item n u = utility_span_of of case.streams n
+
+  abbrev pub stream_spans : List Span
+  stream_spans = kept_spans own_stream stream_item 0 case.streams
+
+  abbrev pub utility_spans : List Span
+  utility_spans = kept_spans own_utility utility_item 0 case.utilities
+
+  pub spans-parts : spans_of of case ≡ stream_spans ++ utility_spans
+  unfolding spans_of
+  spans-parts = refl
+
+  -- each span has a source
+  pub span_sources : All (IsSourceSpan case of) (spans_of of case)
+  span_sources =
+      rw spans-parts (All-append (IsSourceSpan case of) stream_spans utility_spans
+      (kept_each own_stream stream_item (IsSourceSpan case of) 0 case.streams
+      (λ i s at own. rw zero-add (inl (i, s, record { here = at; side_is = same_side-true s.side of own; is = refl }))))
+      (kept_each own_utility utility_item (IsSourceSpan case of) 0 case.utilities
+      (λ i u at own. rw zero-add (inr (i, u, record { here = at; side_is = same_side-true u.side of own; is = refl })))))
+
+  pub sources_differ : AllPairs Differ (spans_of of case)
+  sources_differ =
+      rw spans-parts (AllPairs-append Differ stream_spans utility_spans
+      (kept_differ own_stream stream_item (λ k m x y less same. let is : k ≡ m = cc same in absurd (omega (arith, is, less))) 0 case.streams)
+      (kept_differ own_utility utility_item (λ k m x y less same. let is : k ≡ m = cc same in absurd (omega (arith, is, less))) 0 case.utilities)
+      (kept_each own_stream stream_item (λ a. All (Differ a) utility_spans) 0 case.streams (λ i s at own.
+      kept_each own_utility utility_item (Differ (stream_item (0 + i) s)) 0 case.utilities (λ j u there of_side same. cc same))))
+
+  -- and each source has a span
+  pub stream_place : (number : ℕ) (s : Stream) → slice_get case.streams number ≡ Some s → s.side ≡ of
+      → HasSpan (spans_of of case) (span_of of case.streams number s)
+  stream_place number s here side_is =
+      let own : same_side s.side of ≡ true = ap (λ d. same_side d of) side_is ∙ own_side of in
+      let (k, there) = kept_there own_stream stream_item 0 number case.streams s here own in
+      (k, rw spans-parts (slice_get-append stream_spans utility_spans k (stream_item number s) (rw zero-add at there)))
+
+  pub utility_place : (number : ℕ) (u : Utility) → slice_get case.utilities number ≡ Some u → u.side ≡ of
+      → HasSpan (spans_of of case) (utility_span_of of case.streams number)
+  utility_place number u here side_is =
+      let own : same_side u.side of ≡ true = ap (λ d. same_side d of) side_is ∙ own_side of in
+      let there = kept_there own_utility utility_item 0 number case.utilities u here own in
+      rw spans-parts (behind stream_spans utility_spans (utility_item number u) (rw zero-add at there))
+    where
+      behind : (xs ys : List Span) (a : Span) → HasSpan ys a → HasSpan (xs ++ ys) a
+      behind [] ys a there = there
+      behind (x ∷ xs) ys a there = let (k, is) = behind xs ys a there in (suc k, is)
+
+-- ---- the place of a source
+
+-- it stands at one index
+pub own_place : (spans : List Span) → AllPairs Differ spans → (k : ℕ) (a : Span) → slice_get spans k ≡ Some a
+    → (i : ℕ) (b : Span) → slice_get spans i ≡ Some b → same_source b.source a.source ≡ (i == k)
+own_place spans differ k a there i b here =
+    ⊎_elim
+    (λ same.
+    let itself : b ≡ a = same_Some b a (sym here ∙ ap (slice_get spans) same ∙ there) in
+    rw itself (same_source-same a.source ∙ sym (eq-eqb i k same)))
+    (⊎_elim (λ less. unequal (omega (arith, less)) (apart i k b a here there less))
+    (λ more. unequal (omega (arith, more)) (λ same. apart k i a b there here more (sym same))))
+    (cases_order i k)
+  where
+    apart : (m n : ℕ) (x y : Span) → slice_get spans m ≡ Some x → slice_get spans n ≡ Some y → m < n → x.source ≢ y.source
+    apart m n x y one other less same =
+        let source = λ (r : Span). r.source in
+        differ m n x less (slice_get_within spans n y other)
+        (ap source (get_or_from_slice_get spans m x x one) ∙ same ∙ sym (ap source (get_or_from_slice_get spans n y x other)))
+
+    unequal : i ≢ k → b.source ≢ a.source → same_source b.source a.source ≡ (i == k)
+    unequal other differs =
+        false_from_ne_true (same_source b.source a.source) (λ holds. differs (same_source-true b.source a.source holds)) ∙ sym (ne_eqb i k other)

@@ -35,7 +35,9 @@ heat_at of streams t = begin_of of streams +ℤ sum_side of (heat_below t) strea
 -- a stream covers what lies between its two ends on the curve of its side
 abbrev pub stream_span : Side → List Stream → ℕ × Stream → Option Span
 stream_span of streams (number, s) =
-    if same_side s.side of then Some (record { source = source.Stream number; from = heat_at of streams (low_end s); to = heat_at of streams (high_end s); cp = s.cp }) else None
+    if same_side s.side of
+    then Some (record { source = source.Stream number; from = heat_at of streams (low_end s); to = heat_at of streams (high_end s); cp = s.cp })
+    else None
 
 -- the hot utility covers the hot target above the hot curve, and the cold one the cold target below the cold curve
 abbrev pub utility_from : Side → List Stream → ℤ
@@ -49,11 +51,15 @@ utility_to side.Cold streams = cold_target streams
 -- it stands alone there, so that any flow will do for it
 abbrev pub utility_span : Side → List Stream → ℕ × Utility → Option Span
 utility_span of streams (number, u) =
-    if same_side u.side of then Some (record { source = source.Utility number; from = utility_from of streams; to = utility_to of streams; cp = pos 1 }) else None
+    if same_side u.side of
+    then Some (record { source = source.Utility number; from = utility_from of streams; to = utility_to of streams; cp = pos 1 })
+    else None
 
 -- the spans of a side: those of its streams, then that of its utility
 unfoldable pub spans_of : Side → Case → List Span
-spans_of of case = filter_map (stream_span of case.streams) (enumerate_from 0 case.streams) ++ filter_map (utility_span of case.streams) (enumerate_from 0 case.utilities)
+spans_of of case =
+    filter_map (stream_span of case.streams) (enumerate_from 0 case.streams)
+    ++ filter_map (utility_span of case.streams) (enumerate_from 0 case.utilities)
 
 -- ---- the cuts
 

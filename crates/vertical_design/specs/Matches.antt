@@ -1,15 +1,12 @@
--- The matches of each interval between two cuts of the heat axis.
-use Rattle.std.specs.Prelude.{ℕ, ◌+◌, ℤ, pos, ◌-ℤ◌, ◌*ℤ◌, ◌&&◌, int_le, int_lt, unsigned_abs, List, [], ◌∷◌, length, map, Option, Some, None, slice_get, if◌then◌else◌}
+-- What both sides exchange in each interval between two cuts of the heat axis.
+use Rattle.std.specs.Prelude.{ℕ, ◌+◌, ◌-◌, ◌*◌, ℤ, pos, ◌-ℤ◌, ◌*ℤ◌, ◌&&◌, int_le}
+use Rattle.std.specs.Prelude.{int_lt, unsigned_abs, List, get_or, length, map, Option, Some, None, if◌then◌else◌}
 use Rattle.std.specs.List.{filter_map, flat_map, range_with_len}
-use Rattle.std.specs.Option.{option_map_or}
-use Rattle.stream_case.specs.declared.source.Source.{Source}
-use Rattle.stream_case.specs.declared.source.Source.TheVariants as source
-use Rattle.sums.specs.Spans.{overlap}
+use Rattle.sums.specs.Spans.{IsOverlap, overlap}
 use Rattle.sums.specs.Sum.{int_sum_by}
 use Rattle.sums.specs.declared.pairs.Pair.{Pair}
 use Rattle.fractions.specs.Rationals.{ratio}
-use Rattle.vertical_design.specs.declared.interval.Interval.{Interval}
-use Rattle.vertical_design.specs.declared.matches.Match.{Match}
+use Rattle.pieces.specs.declared.exchange.Exchange.{Exchange}
 use Rattle.vertical_design.specs.declared.span.Span.{Span}
 
 -- ---- what runs in an interval
@@ -25,49 +22,58 @@ flows_in low high spans = map (flow_in low high) spans
 abbrev pub side_flow : ℤ → ℤ → List Span → ℤ
 side_flow low high spans = int_sum_by (λ f. f) (flows_in low high spans)
 
+-- amounts times a flow
+abbrev pub scaled : ℤ → List ℤ → List ℤ
+scaled by flows = map (λ f. f *ℤ by) flows
+
 -- each source offers or asks for its flow times that of the other side, so that both sides have one sum
 abbrev pub amounts_in : ℤ → ℤ → List Span → List Span → List ℤ
-amounts_in low high spans others = map (λ f. f *ℤ side_flow low high others) (flows_in low high spans)
+amounts_in low high spans others = scaled (side_flow low high others) (flows_in low high spans)
 
 -- ---- who meets whom
 
 -- the pair of two amounts, if their spans overlap
 abbrev pub pair_of : List ℤ → List ℤ → ℕ → ℕ → Option Pair
-pair_of firsts seconds i j = if int_lt (pos 0) (overlap firsts seconds i j) then Some (record { first = i; second = j; amount = overlap firsts seconds i j }) else None
+pair_of firsts seconds i j =
+    if int_lt (pos 0) (overlap firsts seconds i j) then Some (record { first = i; second = j; amount = overlap firsts seconds i j }) else None
 
 -- all such pairs, by the first index and then by the second
 unfoldable pub pairs_of : List ℤ → List ℤ → List Pair
 pairs_of firsts seconds = flat_map (λ i. filter_map (pair_of firsts seconds i) (range_with_len 0 (length seconds))) (range_with_len 0 (length firsts))
 
--- the source of the span at an index; the first stream, of which no rule speaks, where there is none
-abbrev pub source_at : List Span → ℕ → Source
-source_at spans index = option_map_or (λ s. s.source) (slice_get spans index) (source.Stream 0)
+-- a pair of sources of both sides that meet between two cuts
+abbrev pub IsMet : ℤ → ℤ → List Span → List Span → Pair → Type 0
+IsMet low high hot cold p = IsOverlap (amounts_in low high hot cold) (amounts_in low high cold hot) p
 
--- a share p of F times G, the flows of the two sides, makes a match: its branches have the flows p/G and p/F, and its duty is that part of the heat between the cuts
-abbrev pub match_of : ℤ → ℤ → List Span → List Span → Pair → Match
-match_of low high hot cold p = record {
-  hot = source_at hot p.first;
-  cold = source_at cold p.second;
-  hot_cp = ratio p.amount (unsigned_abs (side_flow low high cold));
-  cold_cp = ratio p.amount (unsigned_abs (side_flow low high hot));
-  duty = ratio ((high -ℤ low) *ℤ p.amount) (unsigned_abs (side_flow low high hot *ℤ side_flow low high cold));
+-- a share p of F times G, the flows of the two sides, makes an exchange: its branches have the flows p/G and p/F, and its heat is that part
+-- of the heat between the cuts. Each interval has a piece for each span of a side.
+abbrev pub match_of : ℕ → ℤ → ℤ → List Span → List Span → Pair → Exchange
+match_of number low high hot cold p = record {
+  hot = number * length hot + p.first;
+  cold = number * length cold + p.second;
+  hot_size = ratio p.amount (unsigned_abs (side_flow low high cold));
+  cold_size = ratio p.amount (unsigned_abs (side_flow low high hot));
+  heat = ratio ((high -ℤ low) *ℤ p.amount) (unsigned_abs (side_flow low high hot *ℤ side_flow low high cold));
 }
 
-unfoldable pub matches_in : ℤ → ℤ → List Span → List Span → List Match
-matches_in low high hot cold = map (match_of low high hot cold) (pairs_of (amounts_in low high hot cold) (amounts_in low high cold hot))
+unfoldable pub matches_in : ℕ → ℤ → ℤ → List Span → List Span → List Exchange
+matches_in number low high hot cold =
+    map (match_of number low high hot cold) (pairs_of (amounts_in low high hot cold) (amounts_in low high cold hot))
 
 -- ---- the intervals
 
--- those below a cut, from the greatest heat down; the matches of the first one are numbered from `first` on
-abbrev pub intervals_below : List Span → List Span → ℕ → ℤ → List ℤ → List Interval
-intervals_below hot cold first high [] = []
-intervals_below hot cold first high (low ∷ cuts) =
-    record { first = first; matches = matches_in low high hot cold } ∷ intervals_below hot cold (first + length (matches_in low high hot cold)) low cuts
+-- the numbers of the intervals between neighbouring cuts, from the topmost down, and the cuts of each
+abbrev pub intervals_of : List ℤ → List ℕ
+intervals_of cuts = range_with_len 0 (length cuts - 1)
 
-abbrev pub intervals_of : List Span → List Span → List ℤ → List Interval
-intervals_of hot cold [] = []
-intervals_of hot cold (high ∷ cuts) = intervals_below hot cold 0 high cuts
+abbrev pub lower_cut : List ℤ → ℕ → ℤ
+lower_cut cuts number = get_or cuts (number + 1) (pos 0)
 
--- the matches of all intervals, in their order
-abbrev pub matches_of : List Interval → List Match
-matches_of intervals = flat_map (λ i. i.matches) intervals
+abbrev pub upper_cut : List ℤ → ℕ → ℤ
+upper_cut cuts number = get_or cuts number (pos 0)
+
+abbrev pub exchanges_at : List Span → List Span → List ℤ → ℕ → List Exchange
+exchanges_at hot cold cuts number = matches_in number (lower_cut cuts number) (upper_cut cuts number) hot cold
+
+abbrev pub exchanges_between : List Span → List Span → List ℤ → List Exchange
+exchanges_between hot cold cuts = flat_map (exchanges_at hot cold cuts) (intervals_of cuts)

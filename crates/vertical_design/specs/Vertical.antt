@@ -41,7 +41,8 @@ pub record IsAtUtility (of : Side) (streams : List Stream) (heat : Rational) : T
   pub from : IsAtMost (whole (utility_from of streams)) heat
   pub upto : IsAtMost heat (whole (utility_to of streams))
 
--- two sources face each other at these shifted temperatures: two streams at one heat of both curves; and at a utility the heat of the other side lies where that utility does, be it that of a stream or of the other side's utility at its level
+-- two sources face each other at these shifted temperatures: two streams at one heat of both curves; and at a utility the heat of the other side lies where
+-- that utility does, be it that of a stream or of the other side's utility at its level
 abbrev pub AreFacing : List Stream → Source → Source → Rational → Rational → Type 0
 AreFacing streams (source.Stream i) (source.Stream j) hot cold = curve_heat side.Hot streams hot ≡ curve_heat side.Cold streams cold
 AreFacing streams (source.Stream i) (source.Utility j) hot cold = IsAtUtility side.Cold streams (curve_heat side.Hot streams hot)
@@ -62,7 +63,8 @@ pub record IsVerticalAt (case : Case) (network : Network) (values : Valuation) (
   pub cold_end : AreFacing case.streams e.hot e.cold (exit case network values number side.Hot e.hot) (entry case network values number side.Cold e.cold)
 
 abbrev pub AreVertical : Case → Network → Valuation → Type 0
-AreVertical case network values = (number : ℕ) (e : Exchanger) → slice_get (exchangers_of network.lines) number ≡ Some e → IsVerticalAt case network values number e
+AreVertical case network values = (number : ℕ) (e : Exchanger) → slice_get (exchangers_of network.lines) number ≡ Some e
+    → IsVerticalAt case network values number e
 
 -- all exchangers of the network do, over what its branches carry
 pub record IsVertical (case : Case) (network : Network) : Type 0 where

@@ -1,9 +1,9 @@
 //! What runs between two cuts of the heat axis.
 
-ghost use Rattle.std.specs.Prelude.{◌≡◌, ◌≤◌, ◌*ℤ◌, All, length, map, IfOk};
+ghost use Rattle.std.specs.Prelude.{◌≡◌, ◌≤◌, All, length, IfOk};
 ghost use Rattle.sums.specs.Sum.{int_sum_by};
 ghost use Rattle.vertical_design.specs.Limits.{AreSpans, IsFlow, IsSideFlow};
-ghost use Rattle.vertical_design.specs.Matches.{flow_in, flows_in};
+ghost use Rattle.vertical_design.specs.Matches.{flow_in, flows_in, scaled};
 ghost use Rattle.vertical_design.specs.declared.limits.TheConstants.{MOST_SPANS};
 
 use crate::span::Span;
@@ -58,7 +58,7 @@ pub(crate) fn sum_of(flows: &[i64]) -> i64
 pub(crate) fn scaled(alloc: Global, flows: &[i64], by: i64) -> Result<Vec<i64>, AllocError>
     requires each { All IsFlow flows.now }
     requires by { IsSideFlow by }
-    ensures { IfOk result (λ amounts. amounts.items ≡ map (λ f. f *ℤ by) flows.now) }
+    ensures { IfOk result (λ amounts. amounts.items ≡ scaled by flows.now) }
 {
     let mut amounts = Vec::new(alloc);
     for flow in flows {

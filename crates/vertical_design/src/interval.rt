@@ -1,42 +1,74 @@
-//! The intervals of the heat axis.
+//! The intervals of the heat axis, and what both sides exchange in them.
 
-ghost use Rattle.std.specs.Prelude.{◌≡◌, ◌+◌, ◌≤◌, ◌*◌, ◌<◌, ◌^◌, ℕ, All, AllPairs, length, IfOk};
+ghost use Rattle.std.specs.Prelude.{◌≡◌, ◌-◌, ◌++◌, length, map, IfOk, OnOk};
 ghost use Rattle.vertical_design.specs.Axis.{AreCuts};
 ghost use Rattle.vertical_design.specs.Limits.{AreSpans};
-ghost use Rattle.vertical_design.specs.Matches.{intervals_of};
+ghost use Rattle.vertical_design.specs.Matches.{exchanges_between};
+ghost use Rattle.vertical_design.specs.Courses.{sources_between};
 
-use crate::matches::{Match, matches_in};
+use crate::matches::push_matches;
 use crate::span::Span;
+use pieces::Exchange;
 use std::alloc::{AllocError, Global};
-use stream_case::Items;
+use stream_case::Source;
 
-/// An interval between two neighbouring cuts of the heat axis.
-#[derive(Debug, Drop)]
-pub struct Interval {
-    /// The number of its first match among those of all intervals, from 0.
-    pub first: u32,
-    pub matches: Items<Match>,
+/// How many intervals there are between neighbouring cuts.
+fn count_of(cuts: &[i64]) -> usize
+    ensures { result ≡ length cuts.now - 1 }
+{
+    cuts.len().saturating_sub(1)
 }
 
-/// The intervals between the cuts, from the greatest heat down.
-pub(crate) fn intervals_of(
+/// The exchanges of all intervals between two neighbouring cuts, from the greatest heat down.
+pub(crate) fn exchanges_between(
     alloc: Global,
     hot: &[Span],
     cold: &[Span],
     cuts: &[i64],
-) -> Result<Vec<Interval>, AllocError>
+) -> Result<Vec<Exchange>, AllocError>
     requires hot { AreSpans hot.now }
     requires cold { AreSpans cold.now }
     requires cuts { AreCuts hot.now cold.now cuts.now }
-    ensures { IfOk result (λ intervals. intervals.items ≡ intervals_of hot.now cold.now cuts.now) }
+    ensures { IfOk result (λ exchanges. exchanges.items
+        ≡ exchanges_between hot.now cold.now cuts.now) }
 {
-    let mut intervals = Vec::new(alloc);
-    let mut first = 0;
-    for at in 1..cuts.len() {
-        let matches = matches_in(alloc, hot, cold, cuts[at], cuts[at - 1])?;
-        let count = matches.len() as u32;
-        intervals.push(Interval { first, matches })?;
-        first += count;
+    let mut exchanges = Vec::new(alloc);
+    for number in 0..count_of(cuts) {
+        push_matches(
+            alloc,
+            &mut exchanges,
+            number as u32,
+            hot,
+            cold,
+            cuts[number + 1],
+            cuts[number],
+        )?;
     }
-    Ok(intervals)
+    Ok(exchanges)
+}
+
+/// Appends the sources of spans.
+fn push_sources(sources: &mut Vec<Source>, spans: &[Span]) -> Result<(), AllocError>
+    ensures { OnOk result (sources.new.items
+        ≡ sources.old.items ++ map (λ s. s.source) spans.now) }
+{
+    for span in spans {
+        sources.push(span.source)?;
+    }
+    Ok(())
+}
+
+/// The sources of the pieces of a side: those of its spans, in each interval anew.
+pub(crate) fn sources_between(
+    alloc: Global,
+    spans: &[Span],
+    cuts: &[i64],
+) -> Result<Vec<Source>, AllocError>
+    ensures { IfOk result (λ sources. sources.items ≡ sources_between spans.now cuts.now) }
+{
+    let mut sources = Vec::new(alloc);
+    for _number in 0..count_of(cuts) {
+        push_sources(&mut sources, spans)?;
+    }
+    Ok(sources)
 }

@@ -6,10 +6,8 @@
 //! 2007): what one side gives there the other side takes there.
 #![tactic(auto)]
 
-mod courses;
 mod curve;
 mod cuts;
-mod exchangers;
 mod flows;
 mod interval;
 mod limits;

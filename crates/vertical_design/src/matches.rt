@@ -1,73 +1,45 @@
 //! The matches between two cuts of the heat axis.
 
-ghost use Rattle.std.specs.Prelude.{◌≡◌, ◌≤◌, ◌<ℤ◌, ◌≤ℤ◌, ◌<◌, ◌^◌, pos, ◌-ℤ◌, ◌*ℤ◌, unsigned_abs, length, map, All, IfOk};
+ghost use Rattle.std.specs.Prelude.{◌≡◌, ◌+◌, ◌*◌, ◌≤◌, ◌<◌, ◌^◌, ◌++◌, All, length, IfOk, OnOk};
+ghost use Rattle.std.specs.Prelude.{◌<ℤ◌, ◌≤ℤ◌, ◌-ℤ◌, ◌*ℤ◌, pos, unsigned_abs};
 ghost use Rattle.fractions.specs.Rationals.{ratio};
 ghost use Rattle.stream_case.specs.Limits.{IsBetween};
 ghost use Rattle.stream_case.specs.declared.limits.TheConstants.{MOST_CP};
-ghost use Rattle.sums.specs.Spans.{IsOverlap, ListsOverlaps};
-ghost use Rattle.vertical_design.specs.Courses.{cp_on, source_on};
+ghost use Rattle.sums.specs.Spans.{ListsOverlaps};
 ghost use Rattle.vertical_design.specs.Limits.{AreSpans, IsFlow, IsGap, IsSideFlow};
-ghost use Rattle.vertical_design.specs.Matches.{amounts_in, match_of, matches_in, side_flow, source_at};
-ghost use Rattle.vertical_design.specs.declared.limits.TheConstants.{MOST_FLOW, MOST_SPANS};
+ghost use Rattle.vertical_design.specs.Matches.{IsMet, match_of, matches_in, scaled, side_flow};
+ghost use Rattle.vertical_design.specs.declared.limits.TheConstants.{
+  MOST_CUTS,
+  MOST_FLOW,
+  MOST_SPANS,
+};
 
 use crate::flows::{flows_in, scaled, sum_of};
 use crate::span::Span;
 use fractions::Frac;
+use pieces::Exchange;
 use std::alloc::{AllocError, Global};
-use stream_case::{Items, Side, Source};
 use sums::{Pair, pair_amounts};
 
-/// A hot and a cold source that run between the same two cuts, and the heat that passes from the
-/// one to the other.
-#[derive(Clone, Copy, Debug, PartialEq, Eq)]
-pub struct Match {
-    pub hot: Source,
-    pub cold: Source,
-    /// The heat-capacity flow of the hot branch, in 10 W/K.
-    pub hot_cp: Frac,
-    /// The heat-capacity flow of the cold branch, in 10 W/K.
-    pub cold_cp: Frac,
-    /// The heat, in W.
-    pub duty: Frac,
-}
-
-impl Match {
-    /// The source on a side.
-    pub(crate) fn source_on(&self, side: Side) -> Source
-        ensures { result ≡ source_on side self.now }
-    {
-        match side {
-            Side::Hot => self.hot,
-            Side::Cold => self.cold,
-        }
-    }
-
-    /// The heat-capacity flow of the branch on a side, in 10 W/K.
-    pub(crate) fn cp_on(&self, side: Side) -> Frac
-        ensures { result ≡ cp_on side self.now }
-    {
-        match side {
-            Side::Hot => self.hot_cp,
-            Side::Cold => self.cold_cp,
-        }
-    }
-}
-
-/// Two cuts of the heat axis, in W, and the flow of each side between them, in 10 W/K.
+/// An interval between two cuts of the heat axis, in W: its number, from 0 for the topmost, and the
+/// flow of each side in it, in 10 W/K.
 #[derive(Clone, Copy)]
 struct Gap {
+    number: u32,
     low: i64,
     high: i64,
     hot: i64,
     cold: i64,
 }
 
-/// The source of the span at an index.
-fn source_at(spans: &[Span], index: u32) -> Source
-    requires { index < length spans.now }
-    ensures { result ≡ source_at spans.now index }
+/// The index of the piece of a source in an interval.
+fn piece_at(number: u32, spans: &[Span], index: u32) -> u32
+    requires number { number < MOST_CUTS }
+    requires few { length spans.now ≤ MOST_SPANS }
+    requires index { index < length spans.now }
+    ensures { result ≡ number * length spans.now + index }
 {
-    spans[index as usize].source
+    number * spans.len() as u32 + index
 }
 
 /// A quotient of two whole numbers.
@@ -99,23 +71,24 @@ fn duty_of(gap: Gap, share: i64) -> Frac
     quotient(heat, flows)
 }
 
-/// The match that a share makes.
-fn match_of(gap: Gap, hot: &[Span], cold: &[Span], pair: Pair) -> Match
+/// The exchange that a share makes.
+fn match_of(gap: Gap, hot: &[Span], cold: &[Span], pair: Pair) -> Exchange
     requires hot { AreSpans hot.now }
     requires cold { AreSpans cold.now }
+    requires number { gap.number < MOST_CUTS }
     requires gap { IsGap gap.low gap.high }
     requires hot_flow { gap.hot ≡ side_flow gap.low gap.high hot.now }
     requires cold_flow { gap.cold ≡ side_flow gap.low gap.high cold.now }
-    requires pair { IsOverlap (amounts_in gap.low gap.high hot.now cold.now) (amounts_in gap.low gap.high cold.now hot.now) pair }
-    ensures { result ≡ match_of gap.low gap.high hot.now cold.now pair }
+    requires pair { IsMet gap.low gap.high hot.now cold.now pair }
+    ensures { result ≡ match_of gap.number gap.low gap.high hot.now cold.now pair }
 {
     let share = i128::from(pair.amount);
-    Match {
-        hot: source_at(hot, pair.first),
-        cold: source_at(cold, pair.second),
-        hot_cp: quotient(share, gap.cold),
-        cold_cp: quotient(share, gap.hot),
-        duty: duty_of(gap, pair.amount),
+    Exchange {
+        hot: piece_at(gap.number, hot, pair.first),
+        cold: piece_at(gap.number, cold, pair.second),
+        hot_size: quotient(share, gap.cold),
+        cold_size: quotient(share, gap.hot),
+        heat: duty_of(gap, pair.amount),
     }
 }
 
@@ -133,39 +106,43 @@ fn pairs_in(
     requires few_cold { length cold_flows.now ≤ MOST_SPANS }
     requires hot_flow { IsSideFlow gap.hot }
     requires cold_flow { IsSideFlow gap.cold }
-    ensures { IfOk result (λ pairs. ListsOverlaps (map (λ f. f *ℤ gap.cold) hot_flows.now) (map (λ f. f *ℤ gap.hot) cold_flows.now) pairs.items) }
+    ensures { IfOk result (λ pairs.
+        ListsOverlaps (scaled gap.cold hot_flows.now) (scaled gap.hot cold_flows.now) pairs.items) }
 {
     let offered = scaled(alloc, hot_flows, gap.cold)?;
     let asked = scaled(alloc, cold_flows, gap.hot)?;
     pair_amounts(alloc, offered.as_slice(), asked.as_slice())
 }
 
-/// The matches between two cuts, by the hot source and then by the cold one.
-#[tactic(auto, unfolding(crate::specs::Matches::matches_in))]
-pub(crate) fn matches_in(
+/// Appends the exchanges between two cuts, by the hot source and then by the cold one.
+pub(crate) fn push_matches(
     alloc: Global,
+    exchanges: &mut Vec<Exchange>,
+    number: u32,
     hot: &[Span],
     cold: &[Span],
     low: i64,
     high: i64,
-) -> Result<Items<Match>, AllocError>
+) -> Result<(), AllocError>
     requires hot { AreSpans hot.now }
     requires cold { AreSpans cold.now }
+    requires number { number < MOST_CUTS }
     requires gap { IsGap low high }
-    ensures { IfOk result (λ matches. matches ≡ matches_in low high hot.now cold.now) }
+    ensures { OnOk result (exchanges.new.items
+        ≡ exchanges.old.items ++ matches_in number low high hot.now cold.now) }
 {
     let hot_flows = flows_in(alloc, hot, low, high)?;
     let cold_flows = flows_in(alloc, cold, low, high)?;
     let gap = Gap {
+        number,
         low,
         high,
         hot: sum_of(&hot_flows),
         cold: sum_of(&cold_flows),
     };
     let pairs = pairs_in(alloc, gap, &hot_flows, &cold_flows)?;
-    let mut matches = Items::new(alloc);
     for pair in &pairs {
-        matches.push(match_of(gap, hot, cold, *pair))?;
+        exchanges.push(match_of(gap, hot, cold, *pair))?;
     }
-    Ok(matches)
+    Ok(())
 }

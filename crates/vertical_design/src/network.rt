@@ -12,28 +12,38 @@ ghost use Rattle.vertical_design.specs.Balance.{target_balance};
 ghost use Rattle.vertical_design.specs.Courses.{AreIntervals, IsVerticalDesign};
 ghost use Rattle.vertical_design.specs.Vertical.{IsVertical};
 
-use crate::courses::courses_of;
 use crate::cuts::cuts_of;
-use crate::exchangers::exchanger_lines;
-use crate::interval::{Interval, intervals_of};
+use crate::interval::{exchanges_between, sources_between};
 use crate::span::spans_of;
-use design_lines::draw;
 use networks::Network;
+use pieces::{Exchange, lead};
 use std::alloc::{AllocError, Global};
-use stream_case::{Case, Side};
+use stream_case::{Case, Side, Source};
 
-/// The intervals of a standard case without latent streams, with their matches, from the greatest heat down.
-fn intervals_for(alloc: Global, case: &Case) -> Result<Vec<Interval>, AllocError>
+/// The intervals of a case: the sources of the pieces of both sides, and what they exchange.
+#[derive(Debug, Drop)]
+struct Intervals {
+    hot: Vec<Source>,
+    cold: Vec<Source>,
+    exchanges: Vec<Exchange>,
+}
+
+/// The intervals of a standard case without latent streams, from the greatest heat down.
+fn intervals_for(alloc: Global, case: &Case) -> Result<Intervals, AllocError>
     requires complete { IsComplete case.now }
     requires standard { IsStandard case.now }
     requires sensible { AreSensible case.now.streams }
-    ensures { IfOk result (λ intervals. AreIntervals case.now intervals.items) }
+    ensures { IfOk result (λ i. AreIntervals case.now i.hot.items i.cold.items i.exchanges.items) }
 {
     let hot = spans_of(alloc, case, Side::Hot)?;
     let cold = spans_of(alloc, case, Side::Cold)?;
     let cuts = cuts_of(alloc, hot.as_slice(), cold.as_slice())?;
-    let intervals = intervals_of(alloc, hot.as_slice(), cold.as_slice(), cuts.as_slice())?;
-    Ok(intervals)
+    let exchanges = exchanges_between(alloc, &hot, &cold, &cuts)?;
+    Ok(Intervals {
+        hot: sources_between(alloc, &hot, &cuts)?,
+        cold: sources_between(alloc, &cold, &cuts)?,
+        exchanges,
+    })
 }
 
 /// The network of a standard case without latent streams, from its shifted composite curves (Kemp
@@ -57,11 +67,16 @@ pub fn vertical(alloc: Global, case: &Case) -> Result<Network, AllocError>
     ensures valid { IfOk result (λ network. IsValidNetwork case.now network) }
     ensures vertical { IfOk result (λ network. IsVertical case.now network) }
     ensures accepted { IfOk result (λ network. HasNoFinding case.now network) }
-    ensures balance { IfOk result (λ network. balance_of case.now network ≡ target_balance case.now) }
+    ensures balance { IfOk result (λ network.
+        balance_of case.now network ≡ target_balance case.now) }
 {
     let intervals = intervals_for(alloc, case)?;
-    let declarations = exchanger_lines(alloc, intervals.as_slice())?;
-    let courses = courses_of(alloc, case, intervals.as_slice())?;
-    let network = draw(alloc, case, declarations, courses.as_slice())?;
+    let network = lead(
+        alloc,
+        case,
+        intervals.hot.as_slice(),
+        intervals.cold.as_slice(),
+        intervals.exchanges.as_slice(),
+    )?;
     Ok(network)
 }

@@ -5,7 +5,8 @@ ghost use Rattle.std.specs.List.{enumerate_from, filter_map};
 ghost use Rattle.stream_case.specs.Source.{same_side};
 ghost use Rattle.stream_case.specs.Stream.{AreSensible, AreStreams};
 ghost use Rattle.problem_table.specs.Deficit.{cold_target, hot_target};
-ghost use Rattle.vertical_design.specs.Axis.{spans_of, stream_span, utility_from, utility_span, utility_to};
+ghost use Rattle.vertical_design.specs.Axis.{spans_of, stream_span, utility_span};
+ghost use Rattle.vertical_design.specs.Axis.{utility_from, utility_to};
 
 use crate::curve::{heat_at, side_heat};
 use problem_table::{Target, targets};
@@ -33,7 +34,8 @@ fn push_streams(
 ) -> Result<(), AllocError>
     requires streams { AreStreams streams.now }
     requires cold_target { targets.cold ≡ cold_target streams.now }
-    ensures { OnOk result (spans.new.items ≡ spans.old.items ++ filter_map (stream_span side streams.now) (enumerate_from 0 streams.now)) }
+    ensures { OnOk result (spans.new.items ≡ spans.old.items
+        ++ filter_map (stream_span side streams.now) (enumerate_from 0 streams.now)) }
 {
     for (number, stream) in streams.iter().enumerate() {
         if !stream.is_on(side) {
@@ -88,7 +90,8 @@ fn push_utilities(
     requires few { length case.now.utilities < 2 ^ 32 }
     requires hot_target { targets.hot ≡ hot_target case.now.streams }
     requires cold_target { targets.cold ≡ cold_target case.now.streams }
-    ensures { OnOk result (spans.new.items ≡ spans.old.items ++ filter_map (utility_span side case.now.streams) (enumerate_from 0 case.now.utilities)) }
+    ensures { OnOk result (spans.new.items ≡ spans.old.items
+        ++ filter_map (utility_span side case.now.streams) (enumerate_from 0 case.now.utilities)) }
 {
     let (from, to) = utility_range(case.streams.as_slice(), side, targets);
     for (number, utility) in case.utilities.as_slice().iter().enumerate() {

@@ -1,9 +1,6 @@
 -- The part of the range below `t` ends where `t` is held within the range.
-use Rattle.std.proofs.Common.{ap, ◌∙◌, w64, rules, arith}
-use Rattle.std.specs.Prelude.{◌*ℤ◌}
-use Rattle.std.proofs.lemmas.Int.{ints, clamps, to_z-of_z}
-use Rattle.stream_case.proofs.EndLemmas.{AreEnds-IsValidStream}
-use Rattle.stream_case.proofs.HeatLemmas.{range-length}
+use Rattle.std.proofs.Common.{ap, arith, rules, w64, ◌∙◌}
+use Rattle.vertical_design.proofs.Words.{AreEnds-IsValidStream, clamps, ints, range-length, to_z-of_z, ◌*ℤ◌}
 use Rattle.vertical_design.proofs.curve.heat_below.Goals as goal
 
 pub heat_between-requires-clause-within : goal.heat_between-requires-clause-within

@@ -1,14 +1,7 @@
 -- No stream reaches above the highest shifted temperature.
-use Rattle.std.proofs.Common.{w64, ◌∙◌, rules}
-use Rattle.std.proofs.lemmas.Int.{to_z-of_z}
-use Rattle.std.proofs.lemmas.List.Elements.{All-weaker}
-use Rattle.std.specs.Prelude.{◌≡◌}
-use Rattle.stream_case.specs.Stream.{heat_of}
-use Rattle.stream_case.specs.declared.limits.TheConstants.{HIGHEST_SHIFTED}
-use Rattle.stream_case.proofs.EndLemmas.{AreEnds-IsValidStream}
-use Rattle.design_lines.proofs.SensibleStreams.{AreSensibleStreams-both, IsSensibleStream}
-use Rattle.problem_table.proofs.SideLemmas.{sum_side-same}
-use Rattle.vertical_design.specs.Axis.{heat_below}
+use Rattle.vertical_design.proofs.Words.{All-weaker, AreEnds-IsValidStream, AreSensibleStreams-both, HIGHEST_SHIFTED, IsSensibleStream, heat_below, heat_of}
+use Rattle.vertical_design.proofs.Words.{sum_side-same, to_z-of_z, ◌≡◌}
+use Rattle.std.proofs.Common.{rules, w64, ◌∙◌}
 use Rattle.vertical_design.proofs.CurveLemmas.{heat_below-all}
 use Rattle.vertical_design.proofs.curve.side_heat.Goals as goal
 
@@ -17,4 +10,6 @@ returns-clause-value c =
     let streams = c.args.streams.now in
     to_z-of_z w64 c.side_heat_below.result (search rules) ∙ c.side_heat_below.ensures.value
     ∙ sum_side-same c.args.side (heat_below HIGHEST_SHIFTED) heat_of streams
-    (All-weaker IsSensibleStream (λ s. heat_below HIGHEST_SHIFTED s ≡ heat_of s) (λ s h. heat_below-all HIGHEST_SHIFTED s h (AreEnds-IsValidStream s h.valid).upto) streams (AreSensibleStreams-both streams c.requires.streams c.requires.sensible).each)
+    (All-weaker IsSensibleStream (λ s. heat_below HIGHEST_SHIFTED s ≡ heat_of s)
+    (λ s h. heat_below-all HIGHEST_SHIFTED s h (AreEnds-IsValidStream s h.valid).upto) streams
+    (AreSensibleStreams-both streams c.requires.streams c.requires.sensible).each)

@@ -1,12 +1,9 @@
 -- A stream of the side adds its heat.
-use Rattle.std.proofs.Common.{Bool, pos, to_z, of_z, w32, ap, sym, ◌∙◌, arith}
-use Rattle.std.specs.Prelude.{if◌then◌else◌}
-use Rattle.std.proofs.lemmas.Int.{ints}
-use Rattle.vertical_design.specs.Axis.{heat_below}
+use Rattle.vertical_design.proofs.Words.{heat_below, if◌then◌else◌, ints, sum_side-more, sum_side-so_far}
+use Rattle.std.proofs.Common.{Bool, ap, arith, of_z, pos, sym, to_z, w32, ◌∙◌}
 use Rattle.vertical_design.proofs.CurveLemmas.{heat_below-between}
-use Rattle.problem_table.proofs.SideLemmas.{sum_side-more, sum_side-so_far}
+use Rattle.vertical_design.proofs.curve.side_heat_below.Goals.{else-is_on, then-is_on}
 use Rattle.vertical_design.proofs.curve.side_heat_below.Goals as goal
-use Rattle.vertical_design.proofs.curve.side_heat_below.Goals.{then-is_on, else-is_on}
 
 pub overflow_add-heat : goal.overflow_add-heat
 overflow_add-heat c =

@@ -1,5 +1,5 @@
-use Rattle.std.proofs.Common.{◌≡◌, ◌++◌, take}
-use Rattle.vertical_design.specs.Axis.{ends_of}
+use Rattle.std.proofs.Common.{take, ◌++◌, ◌≡◌}
+use Rattle.vertical_design.proofs.Words.{ends_of}
 use Rattle.vertical_design.proofs.cuts.push_ends.Given as goal
 
 abbrev pub invariant-loop-span : goal.invariant-loop-span

@@ -1,11 +1,7 @@
-use Rattle.std.proofs.Common.{◌≡◌, ◌∙◌, ◌∷◌, ◌++◌, ℤ, [], All, get_or, pos, w64, ap, sym, subst, to_z, of_z, rules}
-use Rattle.std.proofs.lemmas.Int.{to_z-of_z}
-use Rattle.std.proofs.lemmas.List.{get_or_default, take_all}
-use Rattle.stream_case.specs.declared.source.Source.TheVariants as source
-use Rattle.vertical_design.specs.declared.span.Span.{Span}
-use Rattle.vertical_design.specs.Limits.{IsFlow}
-use Rattle.vertical_design.specs.Matches.{flow_in, flows_in}
+use Rattle.std.proofs.Common.{All, [], ap, get_or, of_z, pos, rules, subst, sym, to_z, w64, ℤ, ◌++◌, ◌∙◌, ◌∷◌, ◌≡◌}
+use Rattle.vertical_design.proofs.Words.{IsFlow, Span, flow_in, flows_in, get_or_default, take_all, to_z-of_z}
 use Rattle.vertical_design.proofs.FlowLemmas.{flows-within, map_more}
+use Rattle.stream_case.specs.declared.source.Source.TheVariants as source
 use Rattle.vertical_design.proofs.flows.flows_in.Goals as goal
 
 pub loop-span-preserved : goal.loop-span-preserved

@@ -1,5 +1,5 @@
-use Rattle.std.proofs.Common.{◌≡◌, take}
-use Rattle.vertical_design.specs.Matches.{flows_in}
+use Rattle.std.proofs.Common.{take, ◌≡◌}
+use Rattle.vertical_design.proofs.Words.{flows_in}
 use Rattle.vertical_design.proofs.flows.flows_in.Given as goal
 
 abbrev pub invariant-loop-span : goal.invariant-loop-span

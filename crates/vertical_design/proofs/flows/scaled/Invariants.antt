@@ -1,5 +1,5 @@
-use Rattle.std.proofs.Common.{◌≡◌, map, take}
-use Rattle.std.specs.Prelude.{◌*ℤ◌}
+use Rattle.std.proofs.Common.{map, take, ◌≡◌}
+use Rattle.vertical_design.proofs.Words.{◌*ℤ◌}
 use Rattle.vertical_design.proofs.flows.scaled.Given as goal
 
 abbrev pub invariant-loop-flow : goal.invariant-loop-flow

@@ -1,6 +1,5 @@
-use Rattle.std.proofs.Common.{pos, arith}
-use Rattle.std.proofs.lemmas.Int.{ints}
-use Rattle.sums.proofs.SumLemmas.{int_sum_by-more}
+use Rattle.std.proofs.Common.{arith, pos}
+use Rattle.vertical_design.proofs.Words.{int_sum_by-more, ints}
 use Rattle.vertical_design.proofs.FlowLemmas.{sum-so_far}
 use Rattle.vertical_design.proofs.flows.sum_of.Goals as goal
 

@@ -1,5 +1,5 @@
-use Rattle.std.proofs.Common.{◌≡◌, take}
-use Rattle.sums.specs.Sum.{int_sum_by}
+use Rattle.std.proofs.Common.{take, ◌≡◌}
+use Rattle.vertical_design.proofs.Words.{int_sum_by}
 use Rattle.vertical_design.proofs.flows.sum_of.Given as goal
 
 abbrev pub invariant-loop-flow : goal.invariant-loop-flow

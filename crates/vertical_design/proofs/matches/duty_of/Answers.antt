@@ -1,14 +1,12 @@
-use Rattle.std.proofs.Common.{◌≡◌, ◌∙◌, ℤ, sym, ap₂, subst₂, w64, to_z, of_z, arith}
-use Rattle.std.specs.Prelude.{◌-ℤ◌, ◌*ℤ◌, unsigned_abs}
-use Rattle.std.specs.Int.{w128}
-use Rattle.std.proofs.lemmas.Int.{ints}
-use Rattle.fractions.specs.Rationals.{ratio}
+use Rattle.vertical_design.proofs.Words.{ints, ratio, unsigned_abs, w128, ◌*ℤ◌, ◌-ℤ◌}
+use Rattle.std.proofs.Common.{ap₂, arith, of_z, subst₂, sym, to_z, w64, ℤ, ◌∙◌, ◌≡◌}
 use Rattle.vertical_design.proofs.FlowLemmas.{IsFraction, duty-within}
-use Rattle.vertical_design.proofs.matches.duty_of.Goals as goal
 use Rattle.vertical_design.proofs.matches.duty_of.Goals.{After-from-part}
+use Rattle.vertical_design.proofs.matches.duty_of.Goals as goal
 
 -- the two products, as the code forms them, and that they are within the limits of a fraction
-heat_is : (c : After-from-part) → to_z w128 (of_z w128 c.from-width.result) *ℤ to_z w128 (of_z w128 c.from-part.result) ≡ (c.args.gap.high -ℤ c.args.gap.low) *ℤ c.args.share
+heat_is : (c : After-from-part) → to_z w128 (of_z w128 c.from-width.result) *ℤ to_z w128 (of_z w128 c.from-part.result)
+    ≡ (c.args.gap.high -ℤ c.args.gap.low) *ℤ c.args.share
 heat_is c =
     let falls = c.requires.gap.falls in
     let low = c.requires.gap.low_place in
@@ -25,11 +23,14 @@ flows_are c =
     let cold : to_z w64 (of_z w64 c.args.gap.cold) ≡ c.args.gap.cold = omega (arith, ints) in
     ap₂ ◌*ℤ◌ hot cold
 
-formed : (c : After-from-part) → IsFraction (to_z w128 (of_z w128 c.from-width.result) *ℤ to_z w128 (of_z w128 c.from-part.result)) (to_z w64 (of_z w64 c.args.gap.hot) *ℤ to_z w64 (of_z w64 c.args.gap.cold))
+formed : (c : After-from-part) → IsFraction (to_z w128 (of_z w128 c.from-width.result) *ℤ to_z w128 (of_z w128 c.from-part.result))
+    (to_z w64 (of_z w64 c.args.gap.hot) *ℤ to_z w64 (of_z w64 c.args.gap.cold))
 formed c =
     let gap = c.args.gap in
     let from = c.requires.share.from in
-    subst₂ IsFraction (sym (heat_is c)) (sym (flows_are c)) (duty-within gap.low gap.high c.args.share gap.hot gap.cold c.requires.gap (omega (arith, ints, from)) c.requires.share.upto c.requires.hot c.requires.cold)
+    subst₂ IsFraction (sym (heat_is c)) (sym (flows_are c))
+    (duty-within gap.low gap.high c.args.share gap.hot gap.cold c.requires.gap
+    (omega (arith, ints, from)) c.requires.share.upto c.requires.hot c.requires.cold)
 
 pub overflow_mul-heat : goal.overflow_mul-heat
 overflow_mul-heat c = let d = formed (goal.at.overflow_mul-heat c).After-from-part in omega (arith, ints, d.num_above, d.num_upto)
@@ -53,6 +54,8 @@ returns c =
     let d = formed before in
     let heats = heat_is before in
     let flows = flows_are before in
-    let num : to_z w128 (of_z w128 (to_z w128 (of_z w128 c.from-width.result) *ℤ to_z w128 (of_z w128 c.from-part.result))) ≡ (gap.high -ℤ gap.low) *ℤ c.args.share = omega (arith, ints, heats, d.num_above, d.num_upto) in
-    let den : to_z w64 (of_z w64 (to_z w64 (of_z w64 gap.hot) *ℤ to_z w64 (of_z w64 gap.cold))) ≡ gap.hot *ℤ gap.cold = omega (arith, ints, flows, d.den_from, d.den_upto) in
+    let num : to_z w128 (of_z w128 (to_z w128 (of_z w128 c.from-width.result) *ℤ to_z w128 (of_z w128 c.from-part.result)))
+    ≡ (gap.high -ℤ gap.low) *ℤ c.args.share = omega (arith, ints, heats, d.num_above, d.num_upto) in
+    let den : to_z w64 (of_z w64 (to_z w64 (of_z w64 gap.hot) *ℤ to_z w64 (of_z w64 gap.cold))) ≡ gap.hot *ℤ gap.cold =
+    omega (arith, ints, flows, d.den_from, d.den_upto) in
     c.quotient.ensures ∙ ap₂ (λ (n m : ℤ). ratio n (unsigned_abs m)) num den

@@ -1,37 +1,41 @@
 use Rattle.std.proofs.Common.{arith}
-use Rattle.std.proofs.lemmas.Int.{ints}
+use Rattle.vertical_design.proofs.Words.{ints}
 use Rattle.vertical_design.proofs.FlowLemmas.{IsShare, share-within}
+use Rattle.vertical_design.proofs.matches.match_of.Goals.{After-piece_at-2}
 use Rattle.vertical_design.proofs.matches.match_of.Goals as goal
-use Rattle.vertical_design.proofs.matches.match_of.Goals.{After-source_at-2}
 
-share : (c : After-source_at-2) → IsShare c.args.gap.low c.args.gap.high c.args.hot.now c.args.cold.now c.args.pair
+share : (c : After-piece_at-2) → IsShare c.args.gap.low c.args.gap.high c.args.hot.now c.args.cold.now c.args.pair
 share c = share-within c.args.gap.low c.args.gap.high c.args.hot.now c.args.cold.now c.args.pair c.requires.hot c.requires.cold c.requires.pair
 
 pub quotient-requires-clause-above : goal.quotient-requires-clause-above
-quotient-requires-clause-above c = let h = (share (goal.at.quotient-requires-clause-above c).After-source_at-2).cold_flow.from in omega (arith, ints, c.requires.cold_flow)
+quotient-requires-clause-above c = let h = (share (goal.at.quotient-requires-clause-above c).After-piece_at-2).cold_flow.from in omega
+    (arith, ints, c.requires.cold_flow)
 
 pub quotient-requires-clause-den : goal.quotient-requires-clause-den
-quotient-requires-clause-den c = let h = (share (goal.at.quotient-requires-clause-den c).After-source_at-2).cold_flow.upto in omega (arith, ints, c.requires.cold_flow)
+quotient-requires-clause-den c = let h = (share (goal.at.quotient-requires-clause-den c).After-piece_at-2).cold_flow.upto in omega
+    (arith, ints, c.requires.cold_flow)
 
 pub quotient-requires-2-clause-above : goal.quotient-requires-2-clause-above
-quotient-requires-2-clause-above c = let h = (share (goal.at.quotient-requires-2-clause-above c).After-source_at-2).hot_flow.from in omega (arith, ints, c.requires.hot_flow)
+quotient-requires-2-clause-above c = let h = (share (goal.at.quotient-requires-2-clause-above c).After-piece_at-2).hot_flow.from in omega
+    (arith, ints, c.requires.hot_flow)
 
 pub quotient-requires-2-clause-den : goal.quotient-requires-2-clause-den
-quotient-requires-2-clause-den c = let h = (share (goal.at.quotient-requires-2-clause-den c).After-source_at-2).hot_flow.upto in omega (arith, ints, c.requires.hot_flow)
+quotient-requires-2-clause-den c = let h = (share (goal.at.quotient-requires-2-clause-den c).After-piece_at-2).hot_flow.upto in omega
+    (arith, ints, c.requires.hot_flow)
 
 pub duty_of-requires-clause-hot : goal.duty_of-requires-clause-hot
 duty_of-requires-clause-hot c =
-    let h = (share (goal.at.duty_of-requires-clause-hot c).After-source_at-2).hot_flow in
+    let h = (share (goal.at.duty_of-requires-clause-hot c).After-piece_at-2).hot_flow in
     record { from = omega (arith, ints, h.from, c.requires.hot_flow); upto = omega (arith, ints, h.upto, c.requires.hot_flow) }
 
 pub duty_of-requires-clause-cold : goal.duty_of-requires-clause-cold
 duty_of-requires-clause-cold c =
-    let h = (share (goal.at.duty_of-requires-clause-cold c).After-source_at-2).cold_flow in
+    let h = (share (goal.at.duty_of-requires-clause-cold c).After-piece_at-2).cold_flow in
     record { from = omega (arith, ints, h.from, c.requires.cold_flow); upto = omega (arith, ints, h.upto, c.requires.cold_flow) }
 
 pub duty_of-requires-clause-share : goal.duty_of-requires-clause-share
 duty_of-requires-clause-share c =
-    let s = share (goal.at.duty_of-requires-clause-share c).After-source_at-2 in
+    let s = share (goal.at.duty_of-requires-clause-share c).After-piece_at-2 in
     let above = s.above in
     let upto = s.upto in
     record { from = omega (arith, ints, above, upto); upto = omega (arith, ints, above, upto) }

@@ -1,7 +1,5 @@
-use Rattle.std.proofs.Common.{◌∙◌, w64, to_z, of_z, sym, subst, arith}
-use Rattle.std.proofs.lemmas.Int.{ints}
-use Rattle.sums.specs.Spans.{NotNegative}
-use Rattle.vertical_design.specs.Limits.{IsSideFlow}
+use Rattle.std.proofs.Common.{arith, of_z, subst, sym, to_z, w64, ◌∙◌}
+use Rattle.vertical_design.proofs.Words.{IsSideFlow, NotNegative, ints}
 use Rattle.vertical_design.proofs.FlowLemmas.{scaled-positive}
 use Rattle.vertical_design.proofs.matches.pairs_in.Goals as goal
 

@@ -1,6 +1,5 @@
-use Rattle.std.proofs.Common.{◌≡◌, ◌++◌, take}
-use Rattle.std.specs.List.{enumerate_from, filter_map}
-use Rattle.vertical_design.specs.Axis.{stream_span}
+use Rattle.std.proofs.Common.{take, ◌++◌, ◌≡◌}
+use Rattle.vertical_design.proofs.Words.{enumerate_from, filter_map, stream_span}
 use Rattle.vertical_design.proofs.span.push_streams.Given as goal
 
 abbrev pub invariant-loop-number : goal.invariant-loop-number

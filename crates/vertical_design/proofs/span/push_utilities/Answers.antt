@@ -1,12 +1,8 @@
 -- The utility of the side has its span.
-use Rattle.std.proofs.Common.{◌≡◌, ◌∙◌, ◌∷◌, ◌++◌, [], ap, sym, pos, w64, to_z, of_z, Some, None, rules}
-use Rattle.std.specs.Prelude.{Bool, if◌then◌else◌}
-use Rattle.std.proofs.lemmas.Int.{to_z-of_z}
-use Rattle.stream_case.specs.declared.source.Source.TheVariants as source
-use Rattle.design_lines.proofs.ListLemmas.{item_there}
-use Rattle.vertical_design.specs.Axis.{utility_from, utility_span, utility_to}
-use Rattle.vertical_design.specs.declared.span.Span.{Span}
+use Rattle.vertical_design.proofs.Words.{Bool, Span, if◌then◌else◌, item_there, to_z-of_z, utility_from, utility_span, utility_to}
+use Rattle.std.proofs.Common.{None, Some, [], ap, of_z, pos, rules, sym, to_z, w64, ◌++◌, ◌∙◌, ◌∷◌, ◌≡◌}
 use Rattle.vertical_design.proofs.SpanLemmas.{span_more, span_skip}
+use Rattle.stream_case.specs.declared.source.Source.TheVariants as source
 use Rattle.vertical_design.proofs.span.push_utilities.Goals as goal
 
 pub loop-number-preserved-then-not-is_on : goal.loop-number-preserved-then-not-is_on
@@ -31,9 +27,17 @@ loop-number-preserved c =
     let before = c.loop-number.spans.items in
     let span : Span = record { source = source.Utility number; from = utility_from side streams; to = utility_to side streams; cp = pos 1 } in
     let (within, is) = item_there number u c.as_slice-utility-items.ensures c.loop-number-test.true c.utility-item.is in
-    let from : to_z w64 (of_z w64 c.utility_range-from.result.0) ≡ span.from = to_z-of_z w64 c.utility_range-from.result.0 (search rules) ∙ c.utility_range-from.ensures.from ∙ ap (utility_from side) c.as_slice.ensures in
-    let to : to_z w64 (of_z w64 c.utility_range-from.result.1) ≡ span.to = to_z-of_z w64 c.utility_range-from.result.1 (search rules) ∙ c.utility_range-from.ensures.to ∙ ap (utility_to side) c.as_slice.ensures in
-    let raw : Span = record { source = source.Utility number; from = to_z w64 (of_z w64 c.utility_range-from.result.0); to = to_z w64 (of_z w64 c.utility_range-from.result.1); cp = pos 1 } in
+    let from : to_z w64 (of_z w64 c.utility_range-from.result.0) ≡ span.from = to_z-of_z w64 c.utility_range-from.result.0 (search rules)
+    ∙ c.utility_range-from.ensures.from ∙ ap (utility_from side) c.as_slice.ensures in
+    let to : to_z w64 (of_z w64 c.utility_range-from.result.1) ≡ span.to = to_z-of_z w64 c.utility_range-from.result.1 (search rules)
+    ∙ c.utility_range-from.ensures.to ∙ ap (utility_to side) c.as_slice.ensures in
+    let raw : Span = record {
+      source = source.Utility number;
+      from = to_z w64 (of_z w64 c.utility_range-from.result.0);
+      to =
+          to_z w64 (of_z w64 c.utility_range-from.result.1);
+      cp = pos 1;
+    } in
     let same : raw ≡ span = λ j. record { source = source.Utility number; from = from j; to = to j; cp = pos 1 } in
     let added : c.push.new.self.items ≡ before ++ raw ∷ [] = cc c.in_ok-push.ensures.items in
     let pushed = added ∙ ap (λ (x : Span). before ++ x ∷ []) same in

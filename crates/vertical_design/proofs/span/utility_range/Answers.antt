@@ -1,7 +1,6 @@
 -- The hot target is a heat of streams.
+use Rattle.vertical_design.proofs.Words.{hot_target-between, ints}
 use Rattle.std.proofs.Common.{arith}
-use Rattle.std.proofs.lemmas.Int.{ints}
-use Rattle.problem_table.proofs.DeficitLemmas.{hot_target-between}
 use Rattle.vertical_design.proofs.span.utility_range.Goals as goal
 
 pub overflow_add-result : goal.overflow_add-result

@@ -1,0 +1,165 @@
+-- The stages of streams: pieces that exchange heat, with a share for each of their exchanges.
+use Rattle.pieces.proofs.Words.{All-cons, All-enumerated, All-head, All-map, All-nil, All-tail, AreStages, Case, Course, Exchange, LedStage, Piece, Share, Side}
+use Rattle.pieces.proofs.Words.{Source, Stream, and_parts, append-nil, cond_some, cons_option, course_of, courses_along, courses_of, enumerate_from, eqb-true}
+use Rattle.pieces.proofs.Words.{filter_map, filter_map-append, filter_map-enumerate_more, get_or-reverse, is_stage, kept_hold, led_course, led_courses}
+use Rattle.pieces.proofs.Words.{led_piece, led_stage, length-reverse, ltb-true, map-map, nat_lt, numbered-item, on_side, on_the_way, option_map, option_to_list}
+use Rattle.pieces.proofs.Words.{piece_on, reverse, reverse-append, same_source, same_source-true, share_of, shares_along, shares_of, size_on, slice_get-map}
+use Rattle.pieces.proofs.Words.{source_at, sources_of, stage_of, stream_course, unwrap_or}
+use Rattle.std.proofs.Common.{All, Bool, List, None, Option, Some, [], ap, arith, false, get_or, if◌then◌else◌, length, map, refl, slice_get, subst, sym, take}
+use Rattle.std.proofs.Common.{true, ℕ, ◌&&◌, ◌++◌, ◌+◌, ◌-◌, ◌<◌, ◌==◌, ◌∙◌, ◌∷◌, ◌≡◌}
+use Rattle.stream_case.specs.declared.source.Side.TheVariants as side
+use Rattle.stream_case.specs.declared.source.Source.TheVariants as source
+
+-- ---- numbered items
+
+module _ {X Y : Type 0} (h : ℕ × X → Option Y) (xs : List X) (i : ℕ) (x : X) (within : i < length xs) (here : x ≡ get_or xs i x) where
+  pub kept-skip : h (i, x) ≡ None → filter_map h (enumerate_from 0 (take (i + 1) xs)) ≡ filter_map h (enumerate_from 0 (take i xs))
+  kept-skip none =
+      let before = filter_map h (enumerate_from 0 (take i xs)) in
+      filter_map-enumerate_more h xs i x within here ∙ ap (λ o. before ++ option_to_list o) none ∙ append-nil before
+
+  pub kept-more : (y : Y) → h (i, x) ≡ Some y → filter_map h (enumerate_from 0 (take (i + 1) xs)) ≡ filter_map h (enumerate_from 0 (take i xs)) ++ y ∷ []
+  kept-more y some =
+      filter_map-enumerate_more h xs i x within here ∙ ap (λ o. filter_map h (enumerate_from 0 (take i xs)) ++ option_to_list o) some
+
+-- what is kept of turned items is what is kept of them, turned
+pub filter_map-reverse : {X Y : Type 0} (h : X → Option Y) (xs : List X) → filter_map h (reverse xs) ≡ reverse (filter_map h xs)
+filter_map-reverse h [] = refl
+filter_map-reverse {X} {Y} h (x ∷ xs) =
+    ap (filter_map h) (reverse-append (x ∷ []) xs) ∙ filter_map-append h (reverse xs) (x ∷ [])
+    ∙ ap (λ ys. ys ++ filter_map h (x ∷ [])) (filter_map-reverse h xs) ∙ by (h x)
+  where
+    by : (o : Option Y) → reverse (filter_map h xs) ++ cons_option o [] ≡ reverse (cons_option o (filter_map h xs))
+    by None = append-nil (reverse (filter_map h xs))
+    by (Some y) = sym (reverse-append (y ∷ []) (filter_map h xs))
+
+pub filter_map-way : {X Y : Type 0} (h : X → Option Y) (of : Side) (xs : List X) → filter_map h (on_the_way of xs) ≡ on_the_way of (filter_map h xs)
+filter_map-way h side.Hot xs = refl
+filter_map-way h side.Cold xs = filter_map-reverse h xs
+
+-- what holds of each item that is kept holds of all of them, along the way too
+pub All-reverse : {X : Type 0} (P : X → Type 0) (xs : List X) → All P xs → All P (reverse xs)
+All-reverse P xs all k d inside =
+    let within : k < length xs = omega (arith, inside, length-reverse xs) in
+    subst P (sym (get_or-reverse xs k d within)) (all (length xs - 1 - k) d (omega (arith, within)))
+
+pub All-way : {X : Type 0} (P : X → Type 0) (of : Side) (xs : List X) → All P xs → All P (on_the_way of xs)
+All-way P side.Hot xs all = all
+All-way P side.Cold xs all = All-reverse P xs all
+
+module _ {X Y : Type 0} (P : Y → Type 0) (h : ℕ × X → Option Y) where
+  one-kept : (o : Option Y) (rest : List Y) → ((y : Y) → o ≡ Some y → P y) → All P rest → All P (cons_option o rest)
+  one-kept None rest here all = all
+  one-kept (Some y) rest here all = All-cons P y rest (here y refl) all
+
+  abbrev Gives : ℕ × X → Type 0
+  Gives e = (y : Y) → h e ≡ Some y → P y
+
+  kept-each : (es : List (ℕ × X)) → All Gives es → All P (filter_map h es)
+  kept-each [] each = All-nil P
+  kept-each (e ∷ es) each = one-kept (h e) (filter_map h es) (All-head Gives e es each) (kept-each es (All-tail Gives e es each))
+
+  pub kept-all : (of : Side) (xs : List X) → ((i : ℕ) (x : X) (y : Y) → slice_get xs i ≡ Some x → h (i, x) ≡ Some y → P y)
+      → All P (filter_map h (on_the_way of (enumerate_from 0 xs)))
+  kept-all of xs each =
+      kept-each (on_the_way of (enumerate_from 0 xs)) (All-way Gives of (enumerate_from 0 xs) (All-enumerated Gives xs (λ i x at. λ y is. each i x y at is)))
+
+-- what each item makes with its number
+module _ {X Y : Type 0} (f : ℕ × X → Y) (xs : List X) where
+  pub numbered-each : (P : ℕ → Y → Type 0) → ((i : ℕ) (x : X) → slice_get xs i ≡ Some x → P i (f (i, x)))
+      → (i : ℕ) (y : Y) → slice_get (map f (enumerate_from 0 xs)) i ≡ Some y → P i y
+  numbered-each P each i y at =
+      let (x, here, is) = numbered-item f 0 xs i y at in
+      let first : i ≡ 0 + i = omega arith in
+      subst (P i) (ap (λ (k : ℕ). f (k, x)) first ∙ is) (each i x here)
+
+  pub All-numbered : (P : Y → Type 0) → ((i : ℕ) (x : X) → slice_get xs i ≡ Some x → P (f (i, x))) → All P (map f (enumerate_from 0 xs))
+  All-numbered P each = All-map P f (enumerate_from 0 xs) (All-enumerated (λ e. P (f e)) xs each)
+
+-- ---- the source of a piece
+
+module _ (pieces : List Piece) (index : ℕ) (p : Piece) (there : slice_get pieces index ≡ Some p) where
+  pub source_there : slice_get (sources_of pieces) index ≡ Some p.source
+  source_there = slice_get-map (λ (q : Piece). q.source) pieces index ∙ ap (option_map (λ (q : Piece). q.source)) there
+
+  pub source_at-piece : source_at (sources_of pieces) index ≡ p.source
+  source_at-piece = ap (λ o. unwrap_or o (source.Stream 0)) source_there
+
+-- ---- what holds of each share and of each stage
+
+module _ (exchanges : List Exchange) where
+  pub each-share : (P : Share → Type 0) (of : Side) (index : ℕ)
+      → ((number : ℕ) (e : Exchange) → slice_get exchanges number ≡ Some e → piece_on of e ≡ index
+      → P (record { exchanger = number; cp = size_on of e }))
+      → All P (shares_of of index exchanges)
+  unfolding shares_of
+  each-share P of index each =
+      let share : ℕ → Exchange → Share = λ k e. record { exchanger = k; cp = size_on of e } in
+      kept_hold (λ (e : Exchange). piece_on of e == index) (share_of of index) share (λ k e. refl) P 0 exchanges (λ i e at own.
+      let number : i ≡ 0 + i = omega arith in
+      subst (λ k. P (share k e)) number (each i e at (eqb-true (piece_on of e) index own)))
+
+  stages-used : (of : Side) (sources : List Source) (stream : ℕ) → AreStages (course_of of sources exchanges stream)
+  stages-used of sources stream =
+      let IsUsed : List Share → Type 0 = λ ss. 0 < length ss in
+      kept-all IsUsed (stage_of of exchanges stream) of sources (λ i a kept at is.
+      let shares = shares_of of i exchanges in
+      let (holds, same) = cond_some (is_stage of exchanges stream i a) shares kept is in
+      subst IsUsed same (ltb-true 0 (length shares) (and_parts (same_source a (source.Stream stream)) (nat_lt 0 (length shares)) holds).1))
+
+  pub courses-used : (case : Case) (hot cold : List Source) → All AreStages (courses_of case hot cold exchanges)
+  courses-used case hot cold =
+      All-numbered (stream_course hot cold exchanges) case.streams AreStages (λ k s here. stages-used s.side (on_side s.side hot cold) k)
+
+  pub each-stage : (P : LedStage → Type 0) (of : Side) (pieces : List Piece) (stream : ℕ)
+      → ((index : ℕ) (p : Piece) → slice_get pieces index ≡ Some p → p.source ≡ source.Stream stream → 0 < length (shares_of of index exchanges)
+      → P (led_piece of exchanges (index, p)))
+      → All P (filter_map (led_stage of exchanges stream) (on_the_way of (enumerate_from 0 pieces)))
+  each-stage P of pieces stream each =
+      kept-all P (led_stage of exchanges stream) of pieces (λ i p stage at is.
+      let shares = shares_of of i exchanges in
+      let (holds, same) = cond_some (is_stage of exchanges stream i p.source) (led_piece of exchanges (i, p)) stage is in
+      let (own, some) = and_parts (same_source p.source (source.Stream stream)) (nat_lt 0 (length shares)) holds in
+      subst P same (each i p at (same_source-true p.source (source.Stream stream) own) (ltb-true 0 (length shares) some)))
+
+  -- ---- the courses that are led are those that are drawn
+
+  led_shares : (of : Side) (stream : ℕ) (es : List (ℕ × Piece))
+      → shares_along (filter_map (led_stage of exchanges stream) es) ≡ filter_map (λ e. stage_of of exchanges stream (e.0, e.1.source)) es
+  led_shares of stream [] = refl
+  led_shares of stream ((i, p) ∷ es) =
+      by (is_stage of exchanges stream i p.source) (led_piece of exchanges (i, p)) (filter_map (led_stage of exchanges stream) es)
+      ∙ ap (cons_option (stage_of of exchanges stream (i, p.source))) (led_shares of stream es)
+    where
+      by : (b : Bool) (stage : LedStage) (rest : List LedStage)
+          → shares_along (cons_option (if b then Some stage else None) rest) ≡ cons_option (if b then Some stage.shares else None) (shares_along rest)
+      by true stage rest = refl
+      by false stage rest = refl
+
+  source_stages : (of : Side) (stream n : ℕ) (pieces : List Piece)
+      → filter_map (λ e. stage_of of exchanges stream (e.0, e.1.source)) (enumerate_from n pieces)
+      ≡ filter_map (stage_of of exchanges stream) (enumerate_from n (sources_of pieces))
+  source_stages of stream n [] = refl
+  source_stages of stream n (p ∷ pieces) = ap (cons_option (stage_of of exchanges stream (n, p.source))) (source_stages of stream (n + 1) pieces)
+
+  shares_along-led : (of : Side) (pieces : List Piece) (stream : ℕ)
+      → shares_along (filter_map (led_stage of exchanges stream) (on_the_way of (enumerate_from 0 pieces))) ≡ course_of of (sources_of pieces) exchanges stream
+  shares_along-led of pieces stream =
+      let h = λ (e : ℕ × Piece). stage_of of exchanges stream (e.0, e.1.source) in
+      led_shares of stream (on_the_way of (enumerate_from 0 pieces)) ∙ filter_map-way h of (enumerate_from 0 pieces)
+      ∙ ap (on_the_way of) (source_stages of stream 0 pieces) ∙ sym (filter_map-way (stage_of of exchanges stream) of (enumerate_from 0 (sources_of pieces)))
+
+  module _ (hot cold : List Piece) where
+    pub sources-on_side : (of : Side) → sources_of (on_side of hot cold) ≡ on_side of (sources_of hot) (sources_of cold)
+    sources-on_side side.Hot = refl
+    sources-on_side side.Cold = refl
+
+    pub shares_along-course : (stream : ℕ) (s : Stream)
+        → shares_along (led_course hot cold exchanges (stream, s)) ≡ stream_course (sources_of hot) (sources_of cold) exchanges (stream, s)
+    shares_along-course stream s =
+        shares_along-led s.side (on_side s.side hot cold) stream ∙ ap (λ ss. course_of s.side ss exchanges stream) (sources-on_side s.side)
+
+    pub courses_along-led : (case : Case) → courses_along (led_courses case hot cold exchanges) ≡ courses_of case (sources_of hot) (sources_of cold) exchanges
+    courses_along-led case =
+        let es = enumerate_from 0 case.streams in
+        map-map shares_along (led_course hot cold exchanges) es ∙ (λ i. map (λ e. shares_along-course e.0 e.1 i) es)
