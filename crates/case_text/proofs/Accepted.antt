@@ -1,49 +1,24 @@
 -- The case of a file that is accepted is valid.
-use Rattle.std.proofs.Common.{◌≡◌, ◌≢◌, ◌∙◌, ◌⊎◌, inl, inr, ◌∷◌, ◌++◌, ◌<◌, ◌≤◌, ℕ, zero, suc, ℤ, pos, true, not, List, [], All, AllPairs, Option, Some, None, is_some, if◌then◌else◌, Result, Ok, Err, IfOk, IfSome, option_map, unwrap_or, length, slice_get, refl, sym, arith, append_assoc, length-append}
-use Rattle.first_fault.specs.Outcome.{given_by}
-use Rattle.std.specs.Map.{keys_of}
-use Rattle.std.proofs.lemmas.Bool.Decides.{Decides-and, Decides-int_eq, nat_tests}
-use Rattle.std.proofs.lemmas.List.{length-map, map-append}
-use Rattle.std.proofs.lemmas.List.Elements.{All-map, All-nil, All-push, All-weaker}
-use Rattle.std.proofs.lemmas.List.Quantifiers.{all_pairs_push}
-use Rattle.rows.specs.declared.fault.RowFault.{RowFault}
-use Rattle.rows.specs.Rows.{Row}
-use Rattle.first_fault.proofs.CheckLemmas.{Passes}
-use Rattle.first_fault.proofs.Steps.{IsKept, given_has}
-use Rattle.stream_case.specs.Case.{IsRightlyNamed, IsUnreserved, IsValid, IsValidForbid}
-use Rattle.stream_case.specs.Limits.{IsContribution}
-use Rattle.stream_case.specs.Name.{is_name}
-use Rattle.stream_case.specs.Stream.{IsLatent, IsSensible, IsValidStream, count_on}
-use Rattle.stream_case.specs.Utility.{IsValidUtility}
-use Rattle.stream_case.specs.declared.case.Case.{Case}
-use Rattle.stream_case.specs.declared.case.Forbid.{Forbid}
-use Rattle.stream_case.specs.declared.limits.TheConstants.{MOST_FORBIDS, MOST_STREAMS, MOST_UTILITIES}
-use Rattle.stream_case.specs.declared.source.Side.{Side}
-use Rattle.stream_case.specs.declared.source.Side.TheVariants as side
-use Rattle.stream_case.specs.declared.source.Source.{Source}
-use Rattle.stream_case.specs.declared.source.Source.TheVariants as source
-use Rattle.stream_case.specs.declared.stream.Stream.{Stream}
-use Rattle.stream_case.proofs.NameTests.{passed-name}
-use Rattle.rows.specs.Numbers.{is_flow_rate_beside, is_own_contribution, is_own_load}
-use Rattle.rows.specs.Fields.{field, number, optional_number}
-use Rattle.rows.proofs.Seams.{All-back}
-use Rattle.rows.proofs.Streams.{no_contribution, passed-latent, passed-sensible, range_of, stream-is_valid}
-use Rattle.rows.proofs.Tests.{Decides-int_le, Decides-is_own_contribution, passed-room, passed-within}
-use Rattle.case_text.specs.Rows.{kind_of}
-use Rattle.case_text.specs.Given.{Given, case_of, entry_by, nothing, source_at, stream_data, stream_of, utility_data, utility_of, with_entry}
-use Rattle.case_text.specs.Checks.{checks, contribution_checks, end_checks, forbid_checks, heat_checks, is_reserved, is_reserved_from, is_taken, kind_checks, latent_checks, sensible_checks, stream_checks, stream_number_checks, utility_checks, utility_number_checks}
-use Rattle.case_text.specs.Answers.{HasFewSources}
-use Rattle.case_text.specs.Outcome.{IsCase, IsOutcome, end_fault, grammar}
-use Rattle.case_text.specs.declared.fault.CaseWhy.{CaseWhy}
-use Rattle.case_text.specs.declared.entry.Entry.{Entry}
-use Rattle.case_text.specs.declared.entry.Entry.TheVariants as entry
-use Rattle.case_text.specs.declared.entry.StreamData.{StreamData}
-use Rattle.case_text.specs.declared.entry.UtilityData.{UtilityData}
-use Rattle.case_text.specs.declared.kind.Kind.{Kind}
-use Rattle.case_text.specs.declared.kind.Kind.TheVariants as kind
-use Rattle.case_text.proofs.ListLemmas.{All-front, AllPairs-insert}
+use Rattle.case_text.proofs.ListLemmas.{AllPairs-insert}
 use Rattle.case_text.proofs.Sources.{Streams, Utilities, count_on-case, few_with_stream, names_of-case, side_in, side_of-case}
 use Rattle.case_text.proofs.Tests.{Decides-is_forbidden, Decides-is_reserved, Decides-is_reserved_from, Decides-is_taken, IsRightNameOf, source_on}
+use Rattle.case_text.proofs.Words.{All-back, All-front, All-map, All-nil, All-push, All-weaker, Case, CaseWhy, Decides-and, Decides-int_eq, Decides-int_le}
+use Rattle.case_text.proofs.Words.{Decides-is_own_contribution, Entry, Forbid, Given, HasFewSources, IsCase, IsContribution, IsKept, IsLatent, IsOutcome}
+use Rattle.case_text.proofs.Words.{IsRightlyNamed, IsSensible, IsUnreserved, IsValid, IsValidForbid, IsValidStream, IsValidUtility, Kind, MOST_FORBIDS}
+use Rattle.case_text.proofs.Words.{MOST_STREAMS, MOST_UTILITIES, Passes, Row, RowFault, Side, Source, Stream, StreamData, UtilityData, all_pairs_push, case_of}
+use Rattle.case_text.proofs.Words.{count_on, end_checks, end_fault, entry_by, field, given_by, given_has, grammar, is_flow_rate_beside, is_name}
+use Rattle.case_text.proofs.Words.{is_own_contribution, is_own_load, is_reserved, is_reserved_from, is_taken, keys_of, kind_of, length-map, map-append}
+use Rattle.case_text.proofs.Words.{nat_tests, no_contribution, nothing, number, optional_number, passed-latent, passed-name, passed-room, passed-sensible}
+use Rattle.case_text.proofs.Words.{passed-within, range_of, source_at, stream-is_valid, stream_data, stream_of, utility_data, utility_of, with_entry}
+use Rattle.case_text.specs.Checks.{checks, contribution_checks, forbid_checks, heat_checks, kind_checks, latent_checks, sensible_checks, stream_checks}
+use Rattle.case_text.specs.Checks.{stream_number_checks, utility_checks, utility_number_checks}
+use Rattle.std.proofs.Common.{All, AllPairs, Err, IfOk, IfSome, List, None, Ok, Option, Result, Some, [], append_assoc, arith, if◌then◌else◌, inl, inr, is_some}
+use Rattle.std.proofs.Common.{length, length-append, not, option_map, pos, refl, slice_get, suc, sym, true, unwrap_or, zero, ℕ, ℤ, ◌++◌, ◌<◌, ◌∙◌, ◌∷◌, ◌≡◌}
+use Rattle.std.proofs.Common.{◌≢◌, ◌≤◌, ◌⊎◌}
+use Rattle.case_text.specs.declared.entry.Entry.TheVariants as entry
+use Rattle.case_text.specs.declared.kind.Kind.TheVariants as kind
+use Rattle.stream_case.specs.declared.source.Side.TheVariants as side
+use Rattle.stream_case.specs.declared.source.Source.TheVariants as source
 
 -- a stream, a utility and a forbidden match of a valid case, whatever its contribution
 record StreamFits (s : List ℕ × StreamData) : Type 0 where
@@ -78,7 +53,8 @@ record Fits (given : Given) : Type 0 where
 -- ---- one entry more
 
 -- a source keeps its index and side
-side_front : {X : Type 0} (side_of_item : X → Side) (xs ys : List X) (i : ℕ) (of : Side) → option_map side_of_item (slice_get xs i) ≡ Some of → option_map side_of_item (slice_get (xs ++ ys) i) ≡ Some of
+side_front : {X : Type 0} (side_of_item : X → Side) (xs ys : List X) (i : ℕ) (of : Side) → option_map side_of_item (slice_get xs i) ≡ Some of
+    → option_map side_of_item (slice_get (xs ++ ys) i) ≡ Some of
 side_front side_of_item [] ys i of on = cc on
 side_front side_of_item (x ∷ xs) ys zero of on = on
 side_front side_of_item (x ∷ xs) ys (suc i) of on = side_front side_of_item xs ys i of on
@@ -96,12 +72,14 @@ side_stays given (entry.Forbid forbid) (source.Utility i) of on = on
 
 forbids_stay : (given : Given) (e : Entry) → ForbidsFit given given.forbids → ForbidsFit (with_entry given e) given.forbids
 forbids_stay given e fits = record {
-  each = All-weaker (ForbidFits given) (ForbidFits (with_entry given e)) (λ f fit. record { hot = side_stays given e f.hot side.Hot fit.hot; cold = side_stays given e f.cold side.Cold fit.cold }) given.forbids fits.each;
+  each = All-weaker (ForbidFits given) (ForbidFits (with_entry given e))
+      (λ f fit. record { hot = side_stays given e f.hot side.Hot fit.hot; cold = side_stays given e f.cold side.Cold fit.cold }) given.forbids fits.each;
   few = fits.few;
   distinct = fits.distinct;
 }
 
-contribution_kept : (given : Given) (row : Row) → Fits given → Passes (contribution_checks given row) → Fits (with_entry given (entry.Contribution (number row 2)))
+contribution_kept : (given : Given) (row : Row) → Fits given → Passes (contribution_checks given row)
+    → Fits (with_entry given (entry.Contribution (number row 2)))
 unfolding contribution_checks
 contribution_kept given row fits (_, (_, (_, (range, _)))) = record {
   contribution = passed-within _ _ _ range;
@@ -109,7 +87,8 @@ contribution_kept given row fits (_, (_, (_, (range, _)))) = record {
   forbids = forbids_stay given (entry.Contribution (number row 2)) fits.forbids;
 }
 
-own_range : (row : Row) (contribution : ℤ) → is_own_contribution (optional_number row 6) ≡ true → IsContribution contribution → IsContribution (unwrap_or (optional_number row 6) contribution)
+own_range : (row : Row) (contribution : ℤ) → is_own_contribution (optional_number row 6) ≡ true → IsContribution contribution
+    → IsContribution (unwrap_or (optional_number row 6) contribution)
 own_range row contribution own range = range_of (optional_number row 6) contribution ((Decides-is_own_contribution (optional_number row 6)).0 own) range
 
 -- a stream that gives this load, where its numbers pass the checks
@@ -118,14 +97,16 @@ heat_of : (s : List ℕ × StreamData) (contribution : ℤ) → is_flow_rate_bes
 unfolding is_own_load heat_checks
 heat_of s contribution = by s.1.load refl
   where
-    by : (load : Option ℤ) → s.1.load ≡ load → is_flow_rate_beside load s.1.cp ≡ true → is_own_load load ≡ true → Passes (if is_some load then latent_checks s.1 else sensible_checks s.1)
+    by : (load : Option ℤ) → s.1.load ≡ load → is_flow_rate_beside load s.1.cp ≡ true → is_own_load load ≡ true
+        → Passes (if is_some load then latent_checks s.1 else sensible_checks s.1)
         → IsSensible (stream_of contribution s) ⊎ IsLatent (stream_of contribution s)
     by None is cp range (differs, (way, _)) = inl (passed-sensible (stream_of contribution s) cp (rw is refl) way)
     by (Some load) is cp range (latent, _) =
         let (level, none) = (Decides-and _ _ (Decides-int_eq s.1.supply s.1.target) (Decides-int_eq s.1.cp (pos 0))).0 latent in
         inr (passed-latent (stream_of contribution s) level none (rw is range))
 
-stream_fits : (of : Side) (row : Row) → is_name (field row 1) ≡ true → not (is_reserved (field row 1)) ≡ true → Passes (stream_number_checks of row) → StreamFits (field row 1, stream_data of row)
+stream_fits : (of : Side) (row : Row) → is_name (field row 1) ≡ true → not (is_reserved (field row 1)) ≡ true → Passes (stream_number_checks of row)
+    → StreamFits (field row 1, stream_data of row)
 unfolding stream_number_checks
 stream_fits of row name unreserved (_, (_, (_, (_, (_, (supply, (target, (cp, (load, (own, heat)))))))))) = record {
   valid = λ contribution range.
@@ -138,19 +119,22 @@ keys_push : {V : Type 0} (es : List (List ℕ × V)) (e : List ℕ × V) → key
 keys_push {V = V} es e = map-append (λ (f : List ℕ × V). f.0) es (e ∷ [])
 
 -- a new name differs from that of each source
-new_name : (given : Given) (name : List ℕ) → not (is_taken (case_of given) name) ≡ true → All (λ other. other ≢ name) (keys_of given.streams ++ keys_of given.utilities)
+new_name : (given : Given) (name : List ℕ) → not (is_taken (case_of given) name) ≡ true
+    → All (λ other. other ≢ name) (keys_of given.streams ++ keys_of given.utilities)
 new_name given name new = rw (← names_of-case given) ((Decides-is_taken (case_of given) name).0 new)
 
-stream_kept : (given : Given) (row : Row) (of : Side) → Fits given → Passes (stream_checks of given row) → Fits (with_entry given (entry.Stream (field row 1) (stream_data of row)))
+stream_kept : (given : Given) (row : Row) (of : Side) → Fits given → Passes (stream_checks of given row)
+    → Fits (with_entry given (entry.Stream (field row 1) (stream_data of row)))
 unfolding stream_checks
 stream_kept given row of fits (few, (name, (unreserved, (free, numbers)))) =
     let s : List ℕ × StreamData = (field row 1, stream_data of row) in
     let streams = keys_of given.streams in
-    let utilities = keys_of given.utilities in
-    let new = new_name given s.0 free in
+    let utilities = keys_of given.utilities in let new = new_name given s.0 free in
     let before = All-front (λ (o : List ℕ). o ≢ s.0) streams utilities new in
-    let behind = All-weaker (λ (o : List ℕ). o ≢ s.0) (λ (o : List ℕ). s.0 ≢ o) (λ o differs same. differs (sym same)) utilities (All-back (λ (o : List ℕ). o ≢ s.0) streams utilities new) in
-    let place = rw (count_on-case of (unwrap_or given.contribution (pos 0)) given.streams) at (passed-room (count_on of (case_of given).streams) MOST_STREAMS few) in
+    let behind = All-weaker (λ (o : List ℕ). o ≢ s.0) (λ (o : List ℕ). s.0 ≢ o) (λ o differs same. differs (sym same)) utilities
+    (All-back (λ (o : List ℕ). o ≢ s.0) streams utilities new) in
+    let place =
+    rw (count_on-case of (unwrap_or given.contribution (pos 0)) given.streams) at (passed-room (count_on of (case_of given).streams) MOST_STREAMS few) in
     record {
       contribution = fits.contribution;
       sources = record {
@@ -162,7 +146,8 @@ stream_kept given row of fits (few, (name, (unreserved, (free, numbers)))) =
       forbids = forbids_stay given (entry.Stream s.0 s.1) fits.forbids;
     }
 
-utility_fits : (of : Side) (row : Row) → is_name (field row 1) ≡ true → not (is_reserved_from of (field row 1)) ≡ true → Passes (utility_number_checks row) → UtilityFits (field row 1, utility_data of row)
+utility_fits : (of : Side) (row : Row) → is_name (field row 1) ≡ true → not (is_reserved_from of (field row 1)) ≡ true → Passes (utility_number_checks row)
+    → UtilityFits (field row 1, utility_data of row)
 unfolding utility_number_checks
 utility_fits of row name unreserved (_, (_, (_, (_, (_, (level, (least, (most, (price, (own, (order, _))))))))))) = record {
   valid = λ contribution range. record {
@@ -176,7 +161,8 @@ utility_fits of row name unreserved (_, (_, (_, (_, (_, (level, (least, (most, (
   name = (Decides-is_reserved_from of (field row 1)).0 unreserved;
 }
 
-utility_kept : (given : Given) (row : Row) (of : Side) → Fits given → Passes (utility_checks of given row) → Fits (with_entry given (entry.Utility (field row 1) (utility_data of row)))
+utility_kept : (given : Given) (row : Row) (of : Side) → Fits given → Passes (utility_checks of given row)
+    → Fits (with_entry given (entry.Utility (field row 1) (utility_data of row)))
 unfolding utility_checks
 utility_kept given row of fits (few, (name, (unreserved, (free, numbers)))) =
     let u : List ℕ × UtilityData = (field row 1, utility_data of row) in
@@ -186,17 +172,21 @@ utility_kept given row of fits (few, (name, (unreserved, (free, numbers)))) =
       sources = record {
         streams = fits.sources.streams;
         utilities = All-push UtilityFits given.utilities u fits.sources.utilities (utility_fits of row name unreserved numbers);
-        few = record { streams_on = fits.sources.few.streams_on; few_utilities = omega (arith, passed-room (length given.utilities) MOST_UTILITIES few, length-append given.utilities (u ∷ [])) };
+        few =
+            record {
+              streams_on = fits.sources.few.streams_on;
+              few_utilities = omega (arith, passed-room (length given.utilities) MOST_UTILITIES few, length-append given.utilities (u ∷ []));
+            };
         names = rw (keys_push given.utilities u, ← append_assoc) names;
       };
       forbids = forbids_stay given (entry.Utility u.0 u.1) fits.forbids;
     }
 
-forbid_kept : (given : Given) (row : Row) → Fits given → Passes (forbid_checks given row) → Fits (with_entry given (entry.Forbid (record { hot = source_at given (field row 1); cold = source_at given (field row 2) })))
+forbid_kept : (given : Given) (row : Row) → Fits given → Passes (forbid_checks given row)
+    → Fits (with_entry given (entry.Forbid (record { hot = source_at given (field row 1); cold = source_at given (field row 2) })))
 unfolding forbid_checks
 forbid_kept given row fits (_, (few, (_, (_, (hot, (cold, (new, _))))))) =
-    let h = source_at given (field row 1) in
-    let c = source_at given (field row 2) in
+    let h = source_at given (field row 1) in let c = source_at given (field row 2) in
     let f : Forbid = record { hot = h; cold = c } in
     let fit : ForbidFits (with_entry given (entry.Forbid f)) f = record {
       hot = side_stays given (entry.Forbid f) h side.Hot (sym (side_of-case given h) ∙ source_on side.Hot given (field row 1) hot);
@@ -248,24 +238,28 @@ nothing_fits = record {
 
 case_valid : (given : Given) → Fits given → 0 < length given.streams → IsValid (case_of given)
 case_valid given fits some =
-    let contribution = unwrap_or given.contribution (pos 0) in
-    let sources = fits.sources in
+    let contribution = unwrap_or given.contribution (pos 0) in let sources = fits.sources in
     let range = range_of given.contribution (pos 0) fits.contribution no_contribution in
     record {
       contribution = range;
       streams = record {
         some = rw (length-map given.streams (stream_of contribution)) some;
         are_streams = record {
-          each = All-map IsValidStream (stream_of contribution) given.streams (All-weaker StreamFits (λ s. IsValidStream (stream_of contribution s)) (λ s fit. fit.valid contribution range) given.streams sources.streams);
+          each = All-map IsValidStream (stream_of contribution) given.streams
+              (All-weaker StreamFits (λ s. IsValidStream (stream_of contribution s)) (λ s fit. fit.valid contribution range) given.streams sources.streams);
           few = λ of. rw (count_on-case of contribution given.streams) (sources.few.streams_on of);
         };
       };
-      utilities = All-map IsValidUtility (utility_of contribution) given.utilities (All-weaker UtilityFits (λ u. IsValidUtility (utility_of contribution u)) (λ u fit. fit.valid contribution range) given.utilities sources.utilities);
+      utilities = All-map IsValidUtility (utility_of contribution) given.utilities
+          (All-weaker UtilityFits (λ u. IsValidUtility (utility_of contribution u)) (λ u fit. fit.valid contribution range) given.utilities sources.utilities);
       few_utilities = rw (length-map given.utilities (utility_of contribution)) sources.few.few_utilities;
       distinct_names = rw (names_of-case given) sources.names;
-      stream_names = All-map (λ (s : Stream). IsUnreserved s.name) (stream_of contribution) given.streams (All-weaker StreamFits (λ s. IsUnreserved s.0) (λ s fit. fit.name) given.streams sources.streams);
-      utility_names = All-map IsRightlyNamed (utility_of contribution) given.utilities (All-weaker UtilityFits (λ u. IsRightNameOf u.1.side u.0) (λ u fit. fit.name) given.utilities sources.utilities);
-      forbids = All-weaker (ForbidFits given) (IsValidForbid (case_of given)) (λ f fit. (side_of-case given f.hot ∙ fit.hot, side_of-case given f.cold ∙ fit.cold)) given.forbids fits.forbids.each;
+      stream_names = All-map (λ (s : Stream). IsUnreserved s.name) (stream_of contribution) given.streams
+          (All-weaker StreamFits (λ s. IsUnreserved s.0) (λ s fit. fit.name) given.streams sources.streams);
+      utility_names = All-map IsRightlyNamed (utility_of contribution) given.utilities
+          (All-weaker UtilityFits (λ u. IsRightNameOf u.1.side u.0) (λ u fit. fit.name) given.utilities sources.utilities);
+      forbids = All-weaker (ForbidFits given) (IsValidForbid (case_of given))
+          (λ f fit. (side_of-case given f.hot ∙ fit.hot, side_of-case given f.cold ∙ fit.cold)) given.forbids fits.forbids.each;
       few_forbids = fits.forbids.few;
       distinct_forbids = fits.forbids.distinct;
     }

@@ -3,3 +3,4 @@ pub mod Sources
 pub mod Tests
 pub mod Accepted
 pub mod Printed
+pub mod Words

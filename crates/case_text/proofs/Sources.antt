@@ -1,34 +1,13 @@
 -- The sources of the case so far, by the entries of the two maps.
-use Rattle.std.proofs.Common.{◌≡◌, ◌∙◌, ◌∷◌, ◌++◌, ◌<◌, ◌≤◌, ◌||◌, ℕ, ℤ, pos, false, cond, List, [], length, map, count_by, position, Option, None, is_some, option_map, unwrap_or, slice_get, sym, ap, arith}
-use Rattle.std.specs.Map.{keys_of, lookup}
-use Rattle.std.specs.Str.{bytes_eq}
-use Rattle.std.proofs.lemmas.Bool.{or_parts}
-use Rattle.std.proofs.lemmas.List.{length-map}
-use Rattle.std.proofs.lemmas.List.Folds.{list_any-append}
-use Rattle.std.proofs.lemmas.List.Sums.{sum_by_push}
-use Rattle.std.proofs.lemmas.Map.Made.{is_some-lookup}
-use Rattle.std.specs.List.{list_any}
-use Rattle.std.proofs.lemmas.Option.{slice_get-map}
-use Rattle.std.proofs.lemmas.Simd.{map-map}
-use Rattle.stream_case.specs.Case.{first_source, names_of, side_of, source_named}
-use Rattle.stream_case.specs.Source.{same_side}
-use Rattle.stream_case.specs.Stream.{count_on}
-use Rattle.stream_case.specs.declared.limits.TheConstants.{ALL_STREAMS, MOST_STREAMS}
-use Rattle.stream_case.specs.declared.source.Side.{Side}
+use Rattle.case_text.proofs.ListLemmas.{option_map-option_map}
+use Rattle.case_text.proofs.Words.{ALL_STREAMS, Given, HasFewSources, MOST_STREAMS, Side, Source, Stream, StreamData, Utility, UtilityData, bytes_eq, case_of}
+use Rattle.case_text.proofs.Words.{count_by-map, count_on, count_on-add, first_source, is_some-lookup, is_taken, keys_of, length-map, list_any, list_any-append}
+use Rattle.case_text.proofs.Words.{lookup, map-map, names_of, none_there, one_more_on, or_parts, position-map, same_side, side_of, slice_get-map, source_named}
+use Rattle.case_text.proofs.Words.{stream_of, sum_by_push, utility_of}
+use Rattle.std.proofs.Common.{List, None, Option, [], ap, arith, cond, count_by, false, is_some, length, map, option_map, pos, position, slice_get, sym}
+use Rattle.std.proofs.Common.{unwrap_or, ℕ, ℤ, ◌++◌, ◌+◌, ◌<◌, ◌||◌, ◌∙◌, ◌∷◌, ◌≡◌, ◌≤◌}
 use Rattle.stream_case.specs.declared.source.Side.TheVariants as side
-use Rattle.stream_case.specs.declared.source.Source.{Source}
 use Rattle.stream_case.specs.declared.source.Source.TheVariants as source
-use Rattle.stream_case.specs.declared.stream.Stream.{Stream}
-use Rattle.stream_case.specs.declared.utility.Utility.{Utility}
-use Rattle.stream_case.proofs.CaseLemmas.{count_on-add}
-use Rattle.stream_case.proofs.ListLemmas.{none_there, position-map}
-use Rattle.rows.proofs.Streams.{one_more_on}
-use Rattle.case_text.specs.Given.{Given, case_of, stream_of, utility_of}
-use Rattle.case_text.specs.Answers.{HasFewSources}
-use Rattle.case_text.specs.Checks.{is_taken}
-use Rattle.case_text.specs.declared.entry.StreamData.{StreamData}
-use Rattle.case_text.specs.declared.entry.UtilityData.{UtilityData}
-use Rattle.case_text.proofs.ListLemmas.{count_by-map, option_map-option_map}
 
 abbrev pub Streams : Type 0
 Streams = List (List ℕ × StreamData)
@@ -45,25 +24,32 @@ utility_names : (contribution : ℤ) (us : Utilities) → map (λ u. u.name) (ma
 utility_names contribution us = map-map (λ (u : Utility). u.name) (utility_of contribution) us
 
 pub names_of-case : (given : Given) → names_of (case_of given) ≡ keys_of given.streams ++ keys_of given.utilities
-names_of-case given = let contribution = unwrap_or given.contribution (pos 0) in λ i. stream_names contribution given.streams i ++ utility_names contribution given.utilities i
+names_of-case given = let contribution = unwrap_or given.contribution (pos 0) in
+    λ i. stream_names contribution given.streams i ++ utility_names contribution given.utilities i
 
-pub source_named-case : (given : Given) (name : List ℕ) → source_named (case_of given) name ≡ first_source (position (bytes_eq name) (keys_of given.streams)) (position (bytes_eq name) (keys_of given.utilities))
+pub source_named-case : (given : Given) (name : List ℕ)
+    → source_named (case_of given) name ≡ first_source (position (bytes_eq name) (keys_of given.streams)) (position (bytes_eq name) (keys_of given.utilities))
 unfolding source_named
 source_named-case given name =
     let contribution = unwrap_or given.contribution (pos 0) in
-    let streams = position-map (bytes_eq name) (λ (s : Stream). s.name) (map (stream_of contribution) given.streams) ∙ ap (position (bytes_eq name)) (stream_names contribution given.streams) in
-    let utilities = position-map (bytes_eq name) (λ (u : Utility). u.name) (map (utility_of contribution) given.utilities) ∙ ap (position (bytes_eq name)) (utility_names contribution given.utilities) in
+    let streams = position-map (bytes_eq name) (λ (s : Stream). s.name) (map (stream_of contribution) given.streams)
+    ∙ ap (position (bytes_eq name)) (stream_names contribution given.streams) in
+    let utilities = position-map (bytes_eq name) (λ (u : Utility). u.name) (map (utility_of contribution) given.utilities)
+    ∙ ap (position (bytes_eq name)) (utility_names contribution given.utilities) in
     λ i. first_source (streams i) (utilities i)
 
-pub is_taken-case : (given : Given) (name : List ℕ) → is_taken (case_of given) name ≡ (is_some (lookup (bytes_eq name) given.streams) || is_some (lookup (bytes_eq name) given.utilities))
+pub is_taken-case : (given : Given) (name : List ℕ)
+    → is_taken (case_of given) name ≡ (is_some (lookup (bytes_eq name) given.streams) || is_some (lookup (bytes_eq name) given.utilities))
 unfolding is_taken
 is_taken-case given name =
     let streams = sym (is_some-lookup (bytes_eq name) given.streams) in
     let utilities = sym (is_some-lookup (bytes_eq name) given.utilities) in
-    ap (list_any (bytes_eq name)) (names_of-case given) ∙ list_any-append (bytes_eq name) (keys_of given.streams) (keys_of given.utilities) ∙ (λ i. streams i || utilities i)
+    ap (list_any (bytes_eq name)) (names_of-case given) ∙ list_any-append (bytes_eq name) (keys_of given.streams) (keys_of given.utilities)
+    ∙ (λ i. streams i || utilities i)
 
 -- a name that is not taken is that of no stream and of no utility
-pub free_name : (given : Given) (name : List ℕ) → is_taken (case_of given) name ≡ false → (lookup (bytes_eq name) given.streams ≡ None) × (lookup (bytes_eq name) given.utilities ≡ None)
+pub free_name : (given : Given) (name : List ℕ) → is_taken (case_of given) name ≡ false
+    → (lookup (bytes_eq name) given.streams ≡ None) × (lookup (bytes_eq name) given.utilities ≡ None)
 free_name given name free =
     let each = or_parts _ _ (sym (is_taken-case given name) ∙ free) in
     (none_there _ each.0, none_there _ each.1)
@@ -76,8 +62,10 @@ side_in given (source.Stream i) = option_map (λ s. s.1.side) (slice_get given.s
 side_in given (source.Utility i) = option_map (λ u. u.1.side) (slice_get given.utilities i)
 
 pub side_of-case : (given : Given) (s : Source) → side_of (case_of given) s ≡ side_in given s
-side_of-case given (source.Stream i) = let make = stream_of (unwrap_or given.contribution (pos 0)) in ap (option_map (λ (s : Stream). s.side)) (slice_get-map make given.streams i) ∙ option_map-option_map (λ (s : Stream). s.side) make (slice_get given.streams i)
-side_of-case given (source.Utility i) = let make = utility_of (unwrap_or given.contribution (pos 0)) in ap (option_map (λ (u : Utility). u.side)) (slice_get-map make given.utilities i) ∙ option_map-option_map (λ (u : Utility). u.side) make (slice_get given.utilities i)
+side_of-case given (source.Stream i) = let make = stream_of (unwrap_or given.contribution (pos 0)) in ap (option_map (λ (s : Stream). s.side))
+    (slice_get-map make given.streams i) ∙ option_map-option_map (λ (s : Stream). s.side) make (slice_get given.streams i)
+side_of-case given (source.Utility i) = let make = utility_of (unwrap_or given.contribution (pos 0)) in ap (option_map (λ (u : Utility). u.side))
+    (slice_get-map make given.utilities i) ∙ option_map-option_map (λ (u : Utility). u.side) make (slice_get given.utilities i)
 
 -- ---- how many streams a side has
 
@@ -90,10 +78,20 @@ count_on-case of contribution ss = count_by-map (λ (s : Stream). same_side s.si
 pub few_streams : (ss : Streams) (us : Utilities) → HasFewSources ss us → length ss ≤ ALL_STREAMS
 few_streams ss us few =
     let streams = map (stream_of (pos 0)) ss in
-    omega (arith, count_on-case side.Hot (pos 0) ss, count_on-case side.Cold (pos 0) ss, count_on-add streams, length-map ss (stream_of (pos 0)), few.streams_on side.Hot, few.streams_on side.Cold)
+    omega (
+      arith,
+      count_on-case side.Hot (pos 0) ss,
+      count_on-case side.Cold (pos 0) ss,
+      count_on-add streams,
+      length-map ss (stream_of (pos 0)),
+      few.streams_on side.Hot,
+      few.streams_on side.Cold,
+    )
 
-pub few_with_stream : (ss : Streams) (us : Utilities) (s : List ℕ × StreamData) → HasFewSources ss us → count_of s.1.side ss < MOST_STREAMS → HasFewSources (ss ++ s ∷ []) us
+pub few_with_stream : (ss : Streams) (us : Utilities) (s : List ℕ × StreamData) → HasFewSources ss us → count_of s.1.side ss < MOST_STREAMS
+    → HasFewSources (ss ++ s ∷ []) us
 few_with_stream ss us s few room = record {
-  streams_on = λ of. rw (sum_by_push (λ (t : List ℕ × StreamData). cond (same_side t.1.side of) 1 0) ss s) (one_more_on s.1.side (λ own. count_of own ss) MOST_STREAMS few.streams_on room of);
+  streams_on = λ of. rw (sum_by_push (λ (t : List ℕ × StreamData). cond (same_side t.1.side of) 1 0) ss s)
+      (one_more_on s.1.side (λ own. count_of own ss) MOST_STREAMS few.streams_on room of);
   few_utilities = few.few_utilities;
 }

@@ -1,20 +1,9 @@
 -- What the tests of the checks decide.
-use Rattle.std.proofs.Common.{◌≡◌, ◌≢◌, ◌∙◌, inl, inr, ℕ, true, not, ◌&&◌, List, All, Decides, Option, Some, None, refl, sym, ap}
-use Rattle.std.specs.Prelude.{codes}
-use Rattle.std.specs.Str.{bytes_eq}
-use Rattle.std.specs.Cmp.Lexicographic.{bytes_decides}
-use Rattle.std.proofs.lemmas.Bool.Decides.{Decides-and, Decides-like, Decides-not, Decides-or}
-use Rattle.stream_case.specs.Case.{IsUnreserved, is_forbidden, names_of, side_of, source_named}
-use Rattle.stream_case.specs.Source.{same_source}
-use Rattle.stream_case.specs.declared.case.Case.{Case}
-use Rattle.stream_case.specs.declared.case.Forbid.{Forbid}
-use Rattle.stream_case.specs.declared.source.Side.{Side}
+use Rattle.case_text.proofs.Words.{Case, Decides-and, Decides-like, Decides-neither, Decides-none, Decides-not, Forbid, Given, IsUnreserved, Side, Source}
+use Rattle.case_text.proofs.Words.{bytes_decides, bytes_eq, case_of, codes, is_forbidden, is_on, is_reserved, is_reserved_from, is_source, is_taken, names_of}
+use Rattle.case_text.proofs.Words.{own_side, same_side-true, same_source, same_source-same, same_source-true, side_of, source_at, source_named}
+use Rattle.std.proofs.Common.{All, Decides, List, None, Option, Some, ap, not, refl, sym, true, ℕ, ◌&&◌, ◌∙◌, ◌≡◌, ◌≢◌}
 use Rattle.stream_case.specs.declared.source.Side.TheVariants as side
-use Rattle.stream_case.specs.declared.source.Source.{Source}
-use Rattle.stream_case.proofs.SourceLemmas.{own_side, same_side-true, same_source-same, same_source-true}
-use Rattle.case_text.specs.Given.{Given, case_of, source_at}
-use Rattle.rows.proofs.Tests.{Decides-none}
-use Rattle.case_text.specs.Checks.{is_on, is_reserved, is_reserved_from, is_source, is_taken}
 
 -- ---- names
 
@@ -25,9 +14,7 @@ Decides-is_taken c name = Decides-none (bytes_eq name) (λ other. other ≡ name
 
 pub Decides-is_reserved : (name : List ℕ) → Decides (not (is_reserved name)) (IsUnreserved name)
 unfolding is_reserved
-Decides-is_reserved name =
-    Decides-like _ (λ neither. (λ e. neither (inl e), λ e. neither (inr e))) (λ (hot, cold). elim [ inl e ↦ hot e | inr e ↦ cold e ])
-    (Decides-not _ (Decides-or _ _ (bytes_decides name (codes "HOT")) (bytes_decides name (codes "COLD"))))
+Decides-is_reserved name = Decides-neither name (codes "HOT") (codes "COLD")
 
 -- a utility of this side may have the name
 abbrev pub IsRightNameOf : Side → List ℕ → Type 0
@@ -35,13 +22,16 @@ IsRightNameOf of name = (name ≡ codes "HOT" → of ≡ side.Hot) × (name ≡ 
 
 pub Decides-is_reserved_from : (of : Side) (name : List ℕ) → Decides (not (is_reserved_from of name)) (IsRightNameOf of name)
 unfolding is_reserved_from
-Decides-is_reserved_from side.Hot name = Decides-like _ (λ other. (λ e. refl, λ e. absurd (other e))) (λ (hot, cold) e. cc (cold e)) (Decides-not _ (bytes_decides name (codes "COLD")))
-Decides-is_reserved_from side.Cold name = Decides-like _ (λ other. (λ e. absurd (other e), λ e. refl)) (λ (hot, cold) e. cc (hot e)) (Decides-not _ (bytes_decides name (codes "HOT")))
+Decides-is_reserved_from side.Hot name =
+    Decides-like _ (λ other. (λ e. refl, λ e. absurd (other e))) (λ (hot, cold) e. cc (cold e)) (Decides-not _ (bytes_decides name (codes "COLD")))
+Decides-is_reserved_from side.Cold name =
+    Decides-like _ (λ other. (λ e. absurd (other e), λ e. refl)) (λ (hot, cold) e. cc (hot e)) (Decides-not _ (bytes_decides name (codes "HOT")))
 
 -- ---- sources
 
 -- a source of this side has the name
-pub source_on : (of : Side) (given : Given) (name : List ℕ) → is_source of (case_of given) name ≡ true → side_of (case_of given) (source_at given name) ≡ Some of
+pub source_on : (of : Side) (given : Given) (name : List ℕ) → is_source of (case_of given) name ≡ true
+    → side_of (case_of given) (source_at given name) ≡ Some of
 unfolding is_source
 source_on of given name is = by (source_named (case_of given) name) refl
   where
@@ -67,5 +57,7 @@ same_forbid f hot cold =
     Decides-same_source : (a b : Source) → Decides (same_source a b) (a ≡ b)
     Decides-same_source a b = (same_source-true a b, λ e. ap (same_source a) (sym e) ∙ same_source-same a)
 
-pub Decides-is_forbidden : (forbids : List Forbid) (hot cold : Source) → Decides (not (is_forbidden forbids hot cold)) (All (λ f. f ≢ record { hot = hot; cold = cold }) forbids)
-Decides-is_forbidden forbids hot cold = Decides-none (λ (f : Forbid). same_source f.hot hot && same_source f.cold cold) (λ f. f ≡ record { hot = hot; cold = cold }) (λ f. same_forbid f hot cold) forbids
+pub Decides-is_forbidden : (forbids : List Forbid) (hot cold : Source)
+    → Decides (not (is_forbidden forbids hot cold)) (All (λ f. f ≢ record { hot = hot; cold = cold }) forbids)
+Decides-is_forbidden forbids hot cold = Decides-none (λ (f : Forbid). same_source f.hot hot && same_source f.cold cold)
+    (λ f. f ≡ record { hot = hot; cold = cold }) (λ f. same_forbid f hot cold) forbids

@@ -16,7 +16,8 @@ use stream_case::{Forbid, MOST_FORBIDS, Side};
 /// What a row of that kind gives.
 #[tactic(auto, unfolding(crate::specs::Checks::forbid_checks))]
 pub fn forbid_entry(found: &Found, row: &ByteRecord) -> Result<Entry, CaseWhy>
-    ensures { Checked (forbid_checks found.now (fields_of row.now)) (λ e. e ≡ Entry.Forbid (forbid_in found.now (fields_of row.now))) result }
+    ensures { Checked (forbid_checks found.now (fields_of row.now))
+        (λ e. e ≡ Entry.Forbid (forbid_in found.now (fields_of row.now))) result }
 {
     if !are_empty(row, &[3, 4, 5, 6]) {
         return Err(CaseWhy::FieldCount);

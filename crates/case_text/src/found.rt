@@ -88,7 +88,9 @@ impl Found {
 
     /// The earlier source with this name, and its side.
     fn source_named(&self, name: &Name) -> Option<(Source, Side)>
-        ensures { MatchOption result (source_named (case_of self.now) name.now ≡ None) (λ s. (source_named (case_of self.now) name.now ≡ Some s.0) × (side_of (case_of self.now) s.0 ≡ Some s.1)) }
+        ensures { MatchOption result (source_named (case_of self.now) name.now ≡ None)
+            (λ s. (source_named (case_of self.now) name.now ≡ Some s.0)
+            × (side_of (case_of self.now) s.0 ≡ Some s.1)) }
     {
         if let Some((index, _, stream)) = self.streams.get_full(name) {
             return Some((Source::Stream(index as u32), stream.side));
@@ -100,7 +102,8 @@ impl Found {
     /// The earlier source with this name, if it is one of this side.
     #[tactic(auto, unfolding(crate::specs::Checks::is_source))]
     pub fn source(&self, side: Side, name: &Name) -> Result<Source, CaseWhy>
-        ensures { Checked ((is_source side (case_of self.now) name.now, CaseWhy.UnknownName) ∷ []) (λ source. source ≡ source_at self.now name.now) result }
+        ensures { Checked ((is_source side (case_of self.now) name.now, CaseWhy.UnknownName) ∷ [])
+            (λ source. source ≡ source_at self.now name.now) result }
     {
         match self.source_named(name) {
             Some((source, own)) if own == side => Ok(source),
@@ -162,7 +165,8 @@ impl Found {
 
     /// The streams, in a case with this contribution.
     fn streams(&self, alloc: Global, contribution: i32) -> Result<Vec<Stream>, AllocError>
-        ensures { IfOk result (λ streams. streams.items ≡ map (stream_of contribution) self.now.streams) }
+        ensures { IfOk result
+            (λ streams. streams.items ≡ map (stream_of contribution) self.now.streams) }
     {
         self.streams
             .iter()
@@ -172,7 +176,8 @@ impl Found {
 
     /// The utilities, in a case with this contribution.
     fn utilities(&self, alloc: Global, contribution: i32) -> Result<Vec<Utility>, AllocError>
-        ensures { IfOk result (λ utilities. utilities.items ≡ map (utility_of contribution) self.now.utilities) }
+        ensures { IfOk result
+            (λ utilities. utilities.items ≡ map (utility_of contribution) self.now.utilities) }
     {
         self.utilities
             .iter()

@@ -15,7 +15,8 @@ use stream_case::{Case, Forbid, Side, Stream, Utility};
 /// The line of the contribution.
 #[tactic(auto, unfolding(rows::specs::Text::fields_text))]
 fn contribution_line(alloc: Global, case: &Case) -> Result<String, AllocError>
-    ensures { IfOk result (λ line. string_bytes line ≡ row_text (contribution_row case.now.contribution)) }
+    ensures { IfOk result
+        (λ line. string_bytes line ≡ row_text (contribution_row case.now.contribution)) }
 {
     format!(in alloc; "contribution,,{},,,,\n", case.contribution)
 }
@@ -46,7 +47,8 @@ fn load_field(alloc: Global, load: i64) -> Result<String, AllocError>
 /// contribution.
 #[tactic(auto, unfolding(rows::specs::Text::fields_text))]
 fn stream_end(alloc: Global, case: &Case, stream: &Stream) -> Result<String, AllocError>
-    ensures { IfOk result (λ end. string_bytes end ≡ fields_text (drop 4 (stream_row case.now stream.now))) }
+    ensures { IfOk result
+        (λ end. string_bytes end ≡ fields_text (drop 4 (stream_row case.now stream.now))) }
 {
     let load = load_field(alloc, stream.load)?;
     let own = contribution_field(alloc, case, stream.contribution)?;
@@ -72,7 +74,8 @@ fn stream_line(alloc: Global, case: &Case, stream: &Stream) -> Result<String, Al
 /// The end of a utility's line, behind its level: the heats, the price and the contribution.
 #[tactic(auto, unfolding(rows::specs::Text::fields_text))]
 fn utility_end(alloc: Global, case: &Case, utility: &Utility) -> Result<String, AllocError>
-    ensures { IfOk result (λ end. string_bytes end ≡ fields_text (drop 3 (utility_row case.now utility.now))) }
+    ensures { IfOk result
+        (λ end. string_bytes end ≡ fields_text (drop 3 (utility_row case.now utility.now))) }
 {
     let own = contribution_field(alloc, case, utility.contribution)?;
     format!(in alloc;
@@ -84,7 +87,8 @@ fn utility_end(alloc: Global, case: &Case, utility: &Utility) -> Result<String, 
 /// The line of a utility.
 #[tactic(auto, unfolding(rows::specs::Text::fields_text))]
 fn utility_line(alloc: Global, case: &Case, utility: &Utility) -> Result<String, AllocError>
-    ensures { IfOk result (λ line. string_bytes line ≡ row_text (utility_row case.now utility.now)) }
+    ensures { IfOk result
+        (λ line. string_bytes line ≡ row_text (utility_row case.now utility.now)) }
 {
     let kind = match utility.side {
         Side::Hot => "heater",
@@ -112,7 +116,8 @@ fn push_streams(
     case: &Case,
     streams: &[Stream],
 ) -> Result<(), AllocError>
-    ensures { OnOk result (text.new.items ≡ text.old.items ++ flat_map (λ s. row_text (stream_row case.now s)) streams.now) }
+    ensures { OnOk result (text.new.items
+        ≡ text.old.items ++ flat_map (λ s. row_text (stream_row case.now s)) streams.now) }
 {
     for stream in streams {
         text.extend_from_slice(stream_line(alloc, case, stream)?.as_bytes())?;
@@ -127,7 +132,8 @@ fn push_utilities(
     case: &Case,
     utilities: &[Utility],
 ) -> Result<(), AllocError>
-    ensures { OnOk result (text.new.items ≡ text.old.items ++ flat_map (λ u. row_text (utility_row case.now u)) utilities.now) }
+    ensures { OnOk result (text.new.items
+        ≡ text.old.items ++ flat_map (λ u. row_text (utility_row case.now u)) utilities.now) }
 {
     for utility in utilities {
         text.extend_from_slice(utility_line(alloc, case, utility)?.as_bytes())?;
@@ -143,7 +149,8 @@ fn push_forbids(
     forbids: &[Forbid],
 ) -> Result<(), AllocError>
     requires { All (IsValidForbid case.now) forbids.now }
-    ensures { OnOk result (text.new.items ≡ text.old.items ++ flat_map (λ f. row_text (forbid_row case.now f)) forbids.now) }
+    ensures { OnOk result (text.new.items
+        ≡ text.old.items ++ flat_map (λ f. row_text (forbid_row case.now f)) forbids.now) }
 {
     for forbid in forbids {
         text.extend_from_slice(forbid_line(alloc, case, forbid)?.as_bytes())?;

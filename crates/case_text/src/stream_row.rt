@@ -52,7 +52,8 @@ fn check_heat(stream: &StreamData) -> Result<(), CaseWhy>
 /// What the numbers of a stream's row say.
 #[tactic(auto, unfolding(crate::specs::Checks::stream_number_checks))]
 fn stream_data(side: Side, row: &ByteRecord) -> Result<StreamData, CaseWhy>
-    ensures { Checked (stream_number_checks side (fields_of row.now)) (λ s. s ≡ stream_data side (fields_of row.now)) result }
+    ensures { Checked (stream_number_checks side (fields_of row.now))
+        (λ s. s ≡ stream_data side (fields_of row.now)) result }
 {
     let supply = number_in(row, 2, CaseWhy::BadNumber)?;
     let target = number_in(row, 3, CaseWhy::BadNumber)?;
@@ -80,7 +81,9 @@ fn stream_data(side: Side, row: &ByteRecord) -> Result<StreamData, CaseWhy>
 #[tactic(auto, unfolding(crate::specs::Checks::stream_checks))]
 pub fn stream_entry(found: &Found, side: Side, row: &ByteRecord) -> Result<Entry, CaseWhy>
     ensures fresh { IfOk result (IsFresh found.now) }
-    ensures checked { Checked (stream_checks side found.now (fields_of row.now)) (λ e. e ≡ Entry.Stream (field (fields_of row.now) 1) (stream_data side (fields_of row.now))) result }
+    ensures checked { Checked (stream_checks side found.now (fields_of row.now))
+        (λ e. e ≡ Entry.Stream (field (fields_of row.now) 1)
+        (stream_data side (fields_of row.now))) result }
 {
     if found.count_streams(side) >= MOST_STREAMS {
         return Err(CaseWhy::TooMany);

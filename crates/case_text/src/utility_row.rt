@@ -29,7 +29,8 @@ fn is_reserved_from(side: Side, name: &[u8]) -> bool
 /// What the numbers of a utility's row say.
 #[tactic(auto, unfolding(crate::specs::Checks::utility_number_checks))]
 fn utility_data(side: Side, row: &ByteRecord) -> Result<UtilityData, CaseWhy>
-    ensures { Checked (utility_number_checks (fields_of row.now)) (λ u. u ≡ utility_data side (fields_of row.now)) result }
+    ensures { Checked (utility_number_checks (fields_of row.now))
+        (λ u. u ≡ utility_data side (fields_of row.now)) result }
 {
     let level = number_in(row, 2, CaseWhy::BadNumber)?;
     let least = number_in(row, 3, CaseWhy::BadNumber)?;
@@ -58,7 +59,9 @@ fn utility_data(side: Side, row: &ByteRecord) -> Result<UtilityData, CaseWhy>
 #[tactic(auto, unfolding(crate::specs::Checks::utility_checks))]
 pub fn utility_entry(found: &Found, side: Side, row: &ByteRecord) -> Result<Entry, CaseWhy>
     ensures fresh { IfOk result (IsFresh found.now) }
-    ensures checked { Checked (utility_checks side found.now (fields_of row.now)) (λ e. e ≡ Entry.Utility (field (fields_of row.now) 1) (utility_data side (fields_of row.now))) result }
+    ensures checked { Checked (utility_checks side found.now (fields_of row.now))
+        (λ e. e ≡ Entry.Utility (field (fields_of row.now) 1)
+        (utility_data side (fields_of row.now))) result }
 {
     if found.count_utilities() >= MOST_UTILITIES {
         return Err(CaseWhy::TooMany);

@@ -1,24 +1,10 @@
 -- The first sentence that fails, and what a report proves of which none does.
-use Rattle.std.proofs.Common.{◌≡◌, inr, List, ℤ, subst, Result, Ok, Err, IfOk}
-use Rattle.std.specs.Prelude.{All, IsTrue, is_some, ◌≤ℤ◌}
-use Rattle.stream_case.specs.declared.case.Case.{Case}
-use Rattle.grid.specs.declared.part.Part.{Part}
-use Rattle.grid.specs.Part.{AreCaseParts}
-use Rattle.heat_flow.specs.declared.flow.Transfer.{Transfer}
-use Rattle.heat_flow.specs.Cuts.{HasNoFlow, cut_side}
-use Rattle.heat_flow.specs.Flow.{IsLeastCost, cost_of}
-use Rattle.heat_flow.specs.Reach.{reach_between}
-use Rattle.heat_flow.proofs.CutLemmas.{cuts_refuse_flows}
-use Rattle.heat_flow.proofs.Duality.{weak_duality}
-use Rattle.heat_flow.proofs.PartLemmas.{HoldsOfParts-some}
-use Rattle.certify.specs.Answers.{ArePricesOf, HoldsOfFlow, HoldsOfTransfers, IsAnswer, IsAnswerOver, IsFirstOf, Proves, cut_of, flow_causes, prices_of, transfer_causes, transfer_of, transfers_of}
-use Rattle.certify.specs.declared.report.Checked.{Checked}
-use Rattle.certify.specs.declared.report.Checked.TheVariants.{Yes, No}
-use Rattle.certify.specs.declared.report.Moved.{Moved}
-use Rattle.certify.specs.declared.report.Priced.{Priced}
-use Rattle.certify.specs.declared.report.Report.{Report}
+use Rattle.certify.proofs.Words.{All, AreCaseParts, ArePricesOf, Case, Checked, HasNoFlow, HoldsOfFlow, HoldsOfParts-some, HoldsOfTransfers, IsAnswerOver}
+use Rattle.certify.proofs.Words.{IsFirstOf, IsLeastCost, IsTrue, Moved, No, Part, Priced, Report, Transfer, Used, Yes, cost_of, cut_side, cuts_refuse_flows}
+use Rattle.certify.proofs.Words.{flow_causes, is_some, prices_of, reach_between, transfer_causes, transfer_of, transfers_of, weak_duality, ◌≤ℤ◌}
+use Rattle.certify.specs.Answers.{IsAnswer, Proves, cut_of}
+use Rattle.std.proofs.Common.{Err, IfOk, List, Ok, Result, inr, subst, ℤ, ◌≡◌}
 use Rattle.certify.specs.declared.report.Report.TheVariants as report
-use Rattle.certify.specs.declared.report.Used.{Used}
 
 -- behind the two checks of names come those of the transfers
 pub flow_first : (c : Case) (hot cold : List Part) (cost : ℤ) (uses : List Used) (moves : List Moved) (gives takes : List Priced) (transfers : List Transfer)

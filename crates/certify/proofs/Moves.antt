@@ -1,9 +1,6 @@
 -- The parts that a report names, and its moves one after the other.
-use Rattle.std.proofs.Common.{◌≡◌, ◌∙◌, ◌∷◌, ◌++◌, ◌<◌, ℕ, ◌+◌, List, [], Option, Some, None, length, get_or, take, refl, sym, ap, ap₂}
-use Rattle.std.specs.Prelude.{All, IsTrue, is_some}
-use Rattle.std.specs.List.{filter_map}
-use Rattle.std.proofs.lemmas.List.{take_more}
-use Rattle.std.proofs.lemmas.List.Elements.{All-push, filter_map-append}
+use Rattle.std.proofs.Common.{List, None, Option, Some, [], ap, ap₂, get_or, length, refl, sym, take, ℕ, ◌++◌, ◌+◌, ◌<◌, ◌∙◌, ◌∷◌, ◌≡◌}
+use Rattle.certify.proofs.Words.{All, All-push, IsTrue, filter_map, filter_map-append, is_some, take_more}
 
 -- one more of what h gives
 pub one_more_given : {X Y : Type 0} (h : X → Option Y) (xs : List X) (i : ℕ) (x : X) (given next : List Y) (y : Y) → i < length xs → x ≡ get_or xs i x

@@ -1,19 +1,7 @@
--- Printed names and numbers are plain fields, and pass the checks of the grammar.
-use Rattle.std.proofs.Common.{◌≡◌, ◌<◌, ◌^◌, ℕ, ℤ, pos, negsuc, true, List, [], ◌∷◌, is_some, unwrap_or, unsigned_abs, refl, ap, arith}
-use Rattle.std.specs.Fmt.{signed_decimal}
-use Rattle.std.proofs.lemmas.Bool.{and_from}
-use Rattle.std.proofs.lemmas.Bool.Decides.{nat_tests}
-use Rattle.std.proofs.lemmas.Int.{ints}
-use Rattle.std.proofs.lemmas.List.Elements.{All-cons, All-weaker}
-use Rattle.stream_case.specs.Name.{IsName, is_name_byte}
-use Rattle.sums.proofs.IntegerLemmas.{int_le-from}
-use Rattle.heat_flow.specs.Ranges.{IsWithin}
-use Rattle.statements.specs.Numbers.{number_in}
-use Rattle.statements.specs.Statements.{IsPlainField, IsVisible}
-use Rattle.statements.proofs.PlainNumbers.{number-back, number_plain}
-use Rattle.certify.proofs.Words.{number}
-use Rattle.certify.specs.Checks.{is_within}
-use Rattle.certify.specs.declared.limits.TheConstants.{MOST_AMOUNT, MOST_COST, MOST_DIGITS, MOST_LEVEL}
+-- Printed numbers are plain fields, and pass the checks of the grammar.
+use Rattle.certify.proofs.Words.{IsPlainField, IsWithin, MOST_AMOUNT, MOST_COST, MOST_DIGITS, MOST_LEVEL, and_from, int_le-from, ints, is_within, number}
+use Rattle.certify.proofs.Words.{number-back, number_in, number_plain, signed_decimal}
+use Rattle.std.proofs.Common.{ap, arith, is_some, negsuc, pos, true, unsigned_abs, unwrap_or, ℤ, ◌<◌, ◌^◌, ◌≡◌}
 
 -- a number whose text is read as itself, and is in range
 pub record IsNumber (most z : ℤ) : Type 0 where
@@ -46,16 +34,3 @@ amount_number z h = let from = h.from in let upto = h.upto in as_number MOST_AMO
 
 pub level_number : (z : ℤ) → IsWithin MOST_LEVEL z → IsNumber MOST_LEVEL z
 level_number z h = let from = h.from in let upto = h.upto in as_number MOST_LEVEL z h (record { from = omega (arith, ints); upto = omega (arith, ints) })
-
--- ---- names
-
-name_byte_visible : (b : ℕ) → is_name_byte b ≡ true → IsVisible b
-name_byte_visible b is = grind (arith, nat_tests)
-
-pub name_plain : (name : List ℕ) → IsName name → IsPlainField name
-name_plain [] is = absurd is
-name_plain (b ∷ bs) is =
-    let first : is_name_byte b ≡ true = rw is.0 refl in record {
-      some = omega arith;
-      visible = All-cons IsVisible b bs (name_byte_visible b first) (All-weaker (λ (c : ℕ). is_name_byte c ≡ true) IsVisible name_byte_visible bs is.1);
-    }

@@ -1,38 +1,12 @@
 -- How large sums over the parts of a side are: there is one part for each utility, and the parts of streams are small or free.
-use Rattle.std.proofs.Common.{◌≡◌, ⊎_elim, inl, inr, ◌∙◌, refl, sym, ap, subst, ℕ, suc, ◌+◌, ◌*◌, ◌<◌, ◌≤◌, List, [], ◌∷◌, length, get_or, Some, slice_get, arith, add-zero, zero-add}
-use Rattle.std.specs.Prelude.{ℤ, pos, ◌+ℤ◌, ◌-ℤ◌, ◌*ℤ◌, ◌<ℤ◌, ◌≤ℤ◌, if◌then◌else◌, Contains}
-use Rattle.std.proofs.lemmas.Bool.{cases_Bool, cases_lt}
-use Rattle.std.proofs.lemmas.Int.{ints}
-use Rattle.std.proofs.lemmas.Option.{slice_get_past}
-use Rattle.stream_case.specs.Case.{IsComplete}
-use Rattle.stream_case.specs.Source.{is_stream, same_side}
-use Rattle.stream_case.specs.Stream.{IsValidStream}
-use Rattle.stream_case.specs.Utility.{shifted_level}
-use Rattle.stream_case.specs.declared.case.Case.{Case}
-use Rattle.stream_case.specs.declared.limits.TheConstants.{ALL_UTILITIES}
-use Rattle.stream_case.specs.declared.source.Side.{Side}
-use Rattle.stream_case.specs.declared.stream.Stream.{Stream}
-use Rattle.stream_case.specs.declared.utility.Utility.{Utility}
-use Rattle.stream_case.proofs.CompleteLemmas.{AreStreams-IsComplete, IsPlaced-IsComplete, length-utilities}
-use Rattle.stream_case.proofs.HeatLemmas.{heat-between}
-use Rattle.sums.specs.Sum.{int_sum_by, int_sum_from}
-use Rattle.sums.proofs.IntegerLemmas.{if_zero}
-use Rattle.sums.proofs.ListLemmas.{All-slice_get}
-use Rattle.sums.proofs.ProductLemmas.{product_within, zero_times}
-use Rattle.sums.proofs.SumLemmas.{int_sum_by-at_most, int_sum_by-zero}
-use Rattle.grid.specs.Bounds.{IsBounded}
-use Rattle.grid.specs.Grid.{IsGrid}
-use Rattle.grid.specs.Making.{covers, made_parts, stands_at}
-use Rattle.grid.specs.Part.{AreParts, IsPartOf, IsPiece}
-use Rattle.grid.specs.declared.part.Part.{Part}
-use Rattle.grid.proofs.MakingLemmas.{AreParts-made, HoldsPlaces-IsGrid, holds_levels}
-use Rattle.grid.proofs.PlaceLemmas.{interval_falls}
-use Rattle.grid.proofs.RunLemmas.{latent_run, level_run, level_run-is, stream_run, sum-made}
-use Rattle.grid.proofs.SizeLemmas.{IsLength-covered, IsSide, IsSide-made, length-grid, load-between}
-use Rattle.heat_flow.specs.Cuts.{least_at}
-use Rattle.heat_flow.specs.Flow.{KeepsRanges, heat_at, side_cost}
-use Rattle.heat_flow.specs.Ranges.{IsWithin}
-use Rattle.heat_flow.specs.declared.flow.Transfer.{Transfer}
+use Rattle.certify.proofs.Words.{ALL_UTILITIES, All-slice_get, AreParts, AreParts-made, AreStreams-IsComplete, Case, Contains, HoldsPlaces-IsGrid, IsBounded}
+use Rattle.certify.proofs.Words.{IsComplete, IsGrid, IsLength-covered, IsPartOf, IsPiece, IsPlaced-IsComplete, IsSide, IsSide-made, IsValidStream, IsWithin}
+use Rattle.certify.proofs.Words.{KeepsRanges, Part, Side, Stream, Transfer, Utility, cases_Bool, cases_lt, covers, heat-between, heat_at, holds_levels, if_zero}
+use Rattle.certify.proofs.Words.{if◌then◌else◌, int_sum_by, int_sum_by-at_most, int_sum_by-zero, int_sum_from, interval_falls, ints, is_stream, latent_run}
+use Rattle.certify.proofs.Words.{least_at, length-grid, length-utilities, level_run, level_run-is, load-between, made_parts, pos, product_within, same_side}
+use Rattle.certify.proofs.Words.{shifted_level, side_cost, slice_get_past, stands_at, stream_run, sum-made, zero_times, ℤ, ◌*ℤ◌, ◌+ℤ◌, ◌-ℤ◌, ◌<ℤ◌, ◌≤ℤ◌}
+use Rattle.std.proofs.Common.{List, Some, [], add-zero, ap, arith, get_or, inl, inr, length, refl, slice_get, subst, suc, sym, zero-add, ℕ, ⊎_elim, ◌*◌, ◌+◌}
+use Rattle.std.proofs.Common.{◌<◌, ◌∙◌, ◌∷◌, ◌≡◌, ◌≤◌}
 
 -- ---- sums of weights
 
@@ -52,7 +26,6 @@ sum_within f a b n (p ∷ ps) each =
     let first : IsWithin (weight a b p) (f n p) = subst (λ k. IsWithin (weight a b p) (f k p)) (add-zero n) (each 0 p refl) in
     let rest = sum_within f a b (suc n) ps (λ i q at.
     subst (λ k. IsWithin (weight a b q) (f k q)) {x = n + suc i} {y = suc n + i} (omega arith) (each (suc i) q at)) in
-    let rest_from = rest.from in let rest_upto = rest.upto in
     ⊎_elim
     (λ stream.
     let bound : IsWithin (pos a) (f n p) = subst (λ s. IsWithin (if s then pos a else pos b) (f n p)) stream first in
@@ -156,7 +129,7 @@ module _ (c : Case) (complete : IsComplete c) (grid : List ℤ) (is_grid : IsGri
       let own = All-slice_get IsValidStream c.streams i s valid h.stream in
       let length = IsLength-covered s p.high p.low own (order h.piece) h.from h.upto in
       let product = heat-between s (p.high -ℤ p.low) own length in let load = load-between s own.heat in
-      let upto = product.upto in let most = load.upto in
+      let most = load.upto in
       let is = ap (λ (q : Part). q.most) h.is in
       let stream = ap (λ (q : Part). weight most_of_stream most_of_utility q) h.is in
       omega (arith, ints)
@@ -180,8 +153,7 @@ module _ (c : Case) (complete : IsComplete c) (grid : List ℤ) (is_grid : IsGri
       let bound : IsWithin (weight most_of_stream most_of_utility p) (f i p) =
       let from = own.0 in let upto = own.1 in record { from = omega (arith, ints); upto = omega (arith, ints) } in
       subst (λ k. IsWithin (weight most_of_stream most_of_utility p) (f k p)) (sym (zero-add i)) bound) in
-      let few = of_side.few in let few_utilities = few_utility_parts in
-      let from = sum.from in let upto = sum.upto in
+      let few = of_side.few in let few_utilities = few_utility_parts in let from = sum.from in let upto = sum.upto in
       record { from = omega (arith, ints); upto = omega (arith, ints) }
 
   -- ---- costs
@@ -199,17 +171,14 @@ module _ (c : Case) (complete : IsComplete c) (grid : List ℤ) (is_grid : IsGri
           let stream = ap (λ (q : Part). weight 0 most_cost_of_utility q) h.is in
           record { from = omega (arith, ints); upto = omega (arith, ints) }
       by (inr (j, u, h)) own from upto =
-          let least = own.least.from in let most = own.most.upto in
           let bound = product_within p.price (heat_at side ts i) 1000000 1000000000000 own.price.from own.price.upto
           (omega (arith, ints)) (omega (arith, ints)) in
           let utility = ap (λ (q : Part). weight 0 most_cost_of_utility q) h.is in
-          let low = bound.0 in let high = bound.1 in
           record { from = omega (arith, ints); upto = omega (arith, ints) }
 
   pub side_cost_within : (ts : List Transfer) → KeepsRanges side parts ts → IsWithin (pos 13000000000000000000) (side_cost side parts ts)
   side_cost_within ts ranges =
       let sum = sum_within (λ a p. p.price *ℤ heat_at side ts a) 0 most_cost_of_utility 0 parts (λ i p at.
       subst (λ k. IsWithin (weight 0 most_cost_of_utility p) (p.price *ℤ heat_at side ts k)) (sym (zero-add i)) (cost_within ts ranges i p at)) in
-      let few_utilities = few_utility_parts in
-      let from = sum.from in let upto = sum.upto in
+      let few_utilities = few_utility_parts in let from = sum.from in let upto = sum.upto in
       record { from = omega (arith, ints); upto = omega (arith, ints) }

@@ -1,14 +1,8 @@
 -- The prices of a report that the grammar gives are within the limits of a certificate.
-use Rattle.std.proofs.Common.{◌≡◌, ◌∷◌, ◌++◌, ℤ, List, [], Option, Some, None, arith}
-use Rattle.std.proofs.lemmas.Bool.{and_parts}
-use Rattle.std.proofs.lemmas.List.Elements.{All-nil, All-push}
-use Rattle.sums.proofs.IntegerLemmas.{int_le-true}
-use Rattle.first_fault.specs.Checks.{Check}
-use Rattle.first_fault.specs.Outcome.{given_by}
-use Rattle.first_fault.proofs.CheckLemmas.{Passes}
-use Rattle.first_fault.proofs.Steps.{IsKept, given_has}
-use Rattle.stream_case.specs.Limits.{IsPartPrice}
-use Rattle.certify.proofs.Words.{CutKind, Draft, Entry, HasPartPrices, IsReport, Kind, Priced, Report, Span, Statement, checks, entry_as, entry_by, entry_in, field, field_checks, grammar, kind_checks, kind_of, lengthened, number, priced_checks, report_in, span_checks, with_any, with_entry}
+use Rattle.certify.proofs.Words.{All-nil, All-push, Check, CutKind, Draft, Entry, HasPartPrices, IsKept, IsPartPrice, IsReport, Kind, Passes, Priced, Report}
+use Rattle.certify.proofs.Words.{Span, Statement, and_parts, checks, entry_as, entry_by, entry_in, field, field_checks, given_by, given_has, grammar}
+use Rattle.certify.proofs.Words.{int_le-true, kind_checks, kind_of, lengthened, number, priced_checks, report_in, span_checks, with_any, with_entry}
+use Rattle.std.proofs.Common.{List, None, Option, Some, [], arith, ℤ, ◌++◌, ◌∷◌, ◌≡◌}
 use Rattle.certify.specs.declared.draft.Draft.TheVariants as draft
 use Rattle.certify.specs.declared.entry.Entry.TheVariants as entry
 use Rattle.certify.specs.declared.kind.Kind.TheVariants as kind
@@ -38,27 +32,17 @@ IsPriced e = Unit {0}
 
 entry_priced : (k : Kind) (s : Statement) → Passes (field_checks k s) → IsPriced (entry_as k s)
 unfolding field_checks
-entry_priced kind.Cost s h = tt
-entry_priced kind.Use s h = tt
-entry_priced kind.Move s h = tt
 entry_priced kind.Give s h = price_within s h
 entry_priced kind.Take s h = price_within s h
-entry_priced kind.Infeasible s h = tt
-entry_priced kind.Cut s h = tt
-entry_priced kind.Part s h = tt
+entry_priced other s h = tt
 
 cut_longer : (side : CutKind) (need offer : ℤ) (parts : List Span) (e : Entry) → HasPartPrices (lengthened (report.Cut side need offer parts) e)
 cut_longer = grind arith
 
 longer : (r : Report) (e : Entry) → HasPartPrices r → IsPriced e → HasPartPrices (lengthened r e)
-longer (report.Flow cost uses moves gives takes) (entry.Cost n) has priced = has
-longer (report.Flow cost uses moves gives takes) (entry.Use u) has priced = has
-longer (report.Flow cost uses moves gives takes) (entry.Move m) has priced = has
 longer (report.Flow cost uses moves gives takes) (entry.Give g) has priced = (All-push (λ x. IsPartPrice x.price) gives g has.0 priced, has.1)
 longer (report.Flow cost uses moves gives takes) (entry.Take t) has priced = (has.0, All-push (λ x. IsPartPrice x.price) takes t has.1 priced)
-longer (report.Flow cost uses moves gives takes) entry.Infeasible has priced = has
-longer (report.Flow cost uses moves gives takes) (entry.Cut side need offer) has priced = has
-longer (report.Flow cost uses moves gives takes) (entry.Part p) has priced = has
+longer (report.Flow cost uses moves gives takes) other has priced = has
 longer (report.Cut side need offer parts) e has priced = cut_longer side need offer parts e
 
 first : (e : Entry) → HasPrices (with_entry draft.Nothing e)
@@ -86,5 +70,4 @@ priced draft.Infeasible r has is = rw is (All-nil _, All-nil _)
 priced (draft.Whole w) r has is = rw is has
 
 pub report_prices : (statements : List Statement) (r : Report) → IsReport statements r → HasPartPrices r
-report_prices statements r is =
-    priced (given_by grammar statements) r (given_has grammar HasPrices tt kept statements is.sound) is.value_is
+report_prices statements r is = priced (given_by grammar statements) r (given_has grammar HasPrices tt kept statements is.sound) is.value_is

@@ -1,26 +1,17 @@
 -- The text of a report is read as the report.
-use Rattle.std.proofs.Common.{◌≡◌, ◌++◌, ◌∷◌, ℤ, List, [], None, Some, All, length, map, is_some, refl, sym, ap, subst, arith}
-use Rattle.std.specs.Prelude.{codes, true}
-use Rattle.std.proofs.lemmas.List.Elements.{All-append, All-cons, All-map, All-nil, All-weaker}
-use Rattle.stream_case.proofs.NameTests.{name-passes}
-use Rattle.first_fault.specs.Checks.{first_failing}
-use Rattle.first_fault.proofs.CheckLemmas.{Passes, none_fails}
-use Rattle.first_fault.proofs.Steps.{Follows, Give, all_give, nothing_gives, one_more_gives, slice_get-seam}
-use Rattle.sums.proofs.ListLemmas.{All-slice_get}
-use Rattle.heat_flow.specs.Ranges.{IsWithin}
-use Rattle.heat_flow.specs.declared.cut.CutKind.TheVariants as cut
-use Rattle.statements.specs.Statements.{IsPlainField, IsPlainStatement}
-use Rattle.statements.proofs.PlainStatements.{plain_statement, statements-back, word_plain}
-use Rattle.certify.specs.Given.{cut_kind_in}
-use Rattle.certify.specs.Printed.{IsMove, IsPrice, IsReadable, IsSpan, IsUse, PrintedReportsAreReadAgain, cost_statement, cut_statement, kind_word, move_statement, part_statement, priced_statement, statements_in, use_statement}
+use Rattle.certify.proofs.Numbers.{IsNumber, amount_number, cost_number, level_number}
+use Rattle.certify.proofs.Words.{All-append, All-cons, All-map, All-nil, All-slice_get, All-weaker, CutKind, Draft, Follows, Give, IsPlainField}
+use Rattle.certify.proofs.Words.{IsPlainStatement, IsReport, IsWithin, Kind, MOST_AMOUNT, MOST_COST, MOST_LEVEL, Moved, Passes, Priced, Report, Span, Statement}
+use Rattle.certify.proofs.Words.{Used, all_give, checks, codes, cut_kind, cut_kind_in, entry_in, field_checks, first_failing, grammar, is_name, kind_checks}
+use Rattle.certify.proofs.Words.{kind_of, name-passes, none_fails, nothing_gives, one_more_gives, slice_get-seam, span_at, span_checks, true}
+use Rattle.certify.specs.Printed.{IsMove, IsPrice, IsReadable, IsSpan, IsUse, PrintedReportsAreReadAgain, cost_statement, cut_statement, kind_word}
+use Rattle.certify.specs.Printed.{move_statement, part_statement, priced_statement, statements_in, use_statement}
+use Rattle.statements.proofs.PlainStatements.{name_plain, plain_statement, statements-back, word_plain}
+use Rattle.std.proofs.Common.{All, List, None, Some, [], ap, arith, false, get_or, is_some, length, map, refl, subst, sym, ℕ, ℤ, ◌++◌, ◌==◌, ◌∷◌, ◌≡◌}
 use Rattle.certify.specs.declared.draft.Draft.TheVariants as draft
 use Rattle.certify.specs.declared.kind.Kind.TheVariants as kind
-use Rattle.certify.specs.declared.limits.TheConstants.{MOST_AMOUNT, MOST_COST, MOST_LEVEL}
-use Rattle.certify.specs.declared.report.Moved.{Moved}
 use Rattle.certify.specs.declared.report.Report.TheVariants as report
-use Rattle.certify.specs.declared.report.Used.{Used}
-use Rattle.certify.proofs.Numbers.{IsNumber, amount_number, cost_number, level_number, name_plain}
-use Rattle.certify.proofs.Words.{CutKind, Draft, IsReport, Kind, Priced, Report, Span, Statement, checks, cut_kind, entry_in, field_checks, grammar, kind_checks, kind_of, span_at, span_checks}
+use Rattle.heat_flow.specs.declared.cut.CutKind.TheVariants as cut
 
 -- ---- the statements, one after the other
 
@@ -28,13 +19,14 @@ passes_of : (given : Draft) (s : Statement) (k : Kind) → kind_of s ≡ Some k 
 unfolding checks
 passes_of given s k is passes = let known : is_some (kind_of s) ≡ true = ap is_some is in rw (known, is) (none_fails (kind_checks (Some k) given s) passes)
 
--- the printed numbers of a part
+-- the printed name and numbers of a part
 record IsReadSpan (s : Span) : Type 0 where
+  name : is_name s.name ≡ true
   high : IsNumber MOST_LEVEL s.high
   low : IsNumber MOST_LEVEL s.low
 
 read_span : (s : Span) → IsSpan s → IsReadSpan s
-read_span s is = record { high = level_number s.high is.high; low = level_number s.low is.low }
+read_span s is = record { name = name-passes s.name is.name; high = level_number s.high is.high; low = level_number s.low is.low }
 
 cost_follows : (cost : ℤ) → IsWithin MOST_COST cost → Follows grammar draft.Nothing (cost_statement cost) (draft.Whole (report.Flow cost [] [] [] []))
 unfolding entry_in field_checks
@@ -58,29 +50,10 @@ move_follows : (cost : ℤ) (uses : List Used) (before : List Moved) (m : Moved)
 unfolding entry_in field_checks span_checks span_at
 move_follows cost uses before m is =
     let n = amount_number m.heat is.heat in let h = read_span m.hot is.hot in let k = read_span m.cold is.cold in
+    let a = h.high in let b = h.low in let d = k.high in let e = k.low in
     record {
-      passes = passes_of _ (move_statement m) kind.Move refl (
-        refl,
-        (
-          refl,
-          (
-            name-passes m.hot.name is.hot.name,
-            (
-              h.high.some,
-              (
-                h.high.within,
-                (
-                  h.low.some,
-                  (
-                    h.low.within,
-                    (name-passes m.cold.name is.cold.name, (k.high.some, (k.high.within, (k.low.some, (k.low.within, (n.some, (n.within, tt))))))),
-                  ),
-                ),
-              ),
-            ),
-          ),
-        ),
-      );
+      passes = passes_of _ (move_statement m) kind.Move refl
+          (refl, (refl, (h.name, (a.some, (a.within, (b.some, (b.within, (k.name, (d.some, (d.within, (e.some, (e.within, (n.some, (n.within, tt))))))))))))));
       next_is = λ i. draft.Whole (report.Flow cost uses (before ++ record {
         hot = record { name = m.hot.name; high = sym h.high.value i; low = sym h.low.value i };
         cold = record { name = m.cold.name; high = sym k.high.value i; low = sym k.low.value i };
@@ -95,7 +68,7 @@ unfolding entry_in field_checks span_checks span_at
 give_follows cost uses moves before g is =
     let n = amount_number g.price is.price in let p = read_span g.part is.part in record {
       passes = passes_of _ (priced_statement (codes "give") g) kind.Give refl
-          (refl, (refl, (name-passes g.part.name is.part.name, (p.high.some, (p.high.within, (p.low.some, (p.low.within, (n.some, (n.within, tt)))))))));
+          (refl, (refl, (p.name, (p.high.some, (p.high.within, (p.low.some, (p.low.within, (n.some, (n.within, tt)))))))));
       next_is = λ i. draft.Whole (report.Flow cost uses moves (before ++ record {
         part = record { name = g.part.name; high = sym p.high.value i; low = sym p.low.value i };
         price = sym n.value i;
@@ -109,7 +82,7 @@ unfolding entry_in field_checks span_checks span_at
 take_follows cost uses moves gives before g is =
     let n = amount_number g.price is.price in let p = read_span g.part is.part in record {
       passes = passes_of _ (priced_statement (codes "take") g) kind.Take refl
-          (refl, (refl, (name-passes g.part.name is.part.name, (p.high.some, (p.high.within, (p.low.some, (p.low.within, (n.some, (n.within, tt)))))))));
+          (refl, (refl, (p.name, (p.high.some, (p.high.within, (p.low.some, (p.low.within, (n.some, (n.within, tt)))))))));
       next_is = λ i. draft.Whole (report.Flow cost uses moves gives (before ++ record {
         part = record { name = g.part.name; high = sym p.high.value i; low = sym p.low.value i };
         price = sym n.value i;
@@ -145,7 +118,7 @@ unfolding entry_in field_checks span_checks span_at
 part_follows of need offer before s is =
     let p = read_span s is in record {
       passes = passes_of _ (part_statement s) kind.Part refl
-          (refl, (refl, (name-passes s.name is.name, (p.high.some, (p.high.within, (p.low.some, (p.low.within, tt)))))));
+          (refl, (refl, (p.name, (p.high.some, (p.high.within, (p.low.some, (p.low.within, tt)))))));
       next_is = λ i. draft.Whole (report.Cut of need offer (before ++ record { name = s.name; high = sym p.high.value i; low = sym p.low.value i } ∷ []));
     }
 
@@ -186,29 +159,14 @@ use_plain u is =
 
 move_plain : (m : Moved) → IsMove m → IsPlainStatement (move_statement m)
 move_plain m is =
-    let h = read_span m.hot is.hot in let k = read_span m.cold is.cold in
-    plain_statement _ _ (word_plain (codes "move") (omega arith) refl) refl (
-      name_plain m.hot.name is.hot.name,
-      (
-        h.high.plain,
-        (
-          h.low.plain,
-          (name_plain m.cold.name is.cold.name, (k.high.plain, (k.low.plain, ((amount_number m.heat is.heat).plain, tt)))),
-        ),
-      ),
-    )
+    let n = amount_number m.heat is.heat in let h = read_span m.hot is.hot in let k = read_span m.cold is.cold in
+    plain_statement _ _ (word_plain (codes "move") (omega arith) refl) refl
+    (name_plain m.hot.name is.hot.name, (h.high.plain, (h.low.plain, (name_plain m.cold.name is.cold.name, (k.high.plain, (k.low.plain, (n.plain, tt)))))))
 
-give_plain : (g : Priced) → IsPrice g → IsPlainStatement (priced_statement (codes "give") g)
-give_plain g is =
+priced_plain : (word : List ℕ) → IsPlainField word → (get_or word 0 0 == 35) ≡ false → (g : Priced) → IsPrice g → IsPlainStatement (priced_statement word g)
+priced_plain word first counts g is =
     let p = read_span g.part is.part in
-    plain_statement _ _ (word_plain (codes "give") (omega arith) refl) refl
-    (name_plain g.part.name is.part.name, (p.high.plain, (p.low.plain, ((amount_number g.price is.price).plain, tt))))
-
-take_plain : (g : Priced) → IsPrice g → IsPlainStatement (priced_statement (codes "take") g)
-take_plain g is =
-    let p = read_span g.part is.part in
-    plain_statement _ _ (word_plain (codes "take") (omega arith) refl) refl
-    (name_plain g.part.name is.part.name, (p.high.plain, (p.low.plain, ((amount_number g.price is.price).plain, tt))))
+    plain_statement _ _ first counts (name_plain g.part.name is.part.name, (p.high.plain, (p.low.plain, ((amount_number g.price is.price).plain, tt))))
 
 part_plain : (s : Span) → IsSpan s → IsPlainStatement (part_statement s)
 part_plain s is =
@@ -239,9 +197,10 @@ plain (report.Flow cost uses moves gives takes) is =
     let with_uses = with_more use_statement IsUse base uses use_plain is.1 first in
     let with_moves = with_more move_statement IsMove (base ++ map use_statement uses) moves move_plain is.2 with_uses in
     let with_gives = with_more (priced_statement (codes "give")) IsPrice ((base ++ map use_statement uses) ++ map move_statement moves) gives
-    give_plain is.3 with_moves in
+    (priced_plain (codes "give") (word_plain (codes "give") (omega arith) refl) refl) is.3 with_moves in
     with_more (priced_statement (codes "take")) IsPrice
-    (((base ++ map use_statement uses) ++ map move_statement moves) ++ map (priced_statement (codes "give")) gives) takes take_plain is.4 with_gives
+    (((base ++ map use_statement uses) ++ map move_statement moves) ++ map (priced_statement (codes "give")) gives) takes
+    (priced_plain (codes "take") (word_plain (codes "take") (omega arith) refl) refl) is.4 with_gives
 plain (report.Cut of need offer parts) is =
     let word : Statement = codes "infeasible" ∷ [] in
     let first : IsPlainStatement word = plain_statement (codes "infeasible") [] (word_plain (codes "infeasible") (omega arith) refl) refl tt in

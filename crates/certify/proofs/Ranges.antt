@@ -1,51 +1,19 @@
 -- The reports of a certified heat flow and of a cut have undotted names, and numbers within their ranges.
-use Rattle.std.proofs.Common.{◌≡◌, ◌⊎◌, ⊎_elim, inl, inr, ◌∙◌, ◌<◌, ◌+◌, ◌==◌, refl, sym, ap, subst, ℕ, suc, Bool, true, false, List, [], ◌∷◌, length, map, get_or, Some, slice_get, is_some, arith, add-zero, zero-add}
-use Rattle.std.specs.Prelude.{ℤ, pos, ◌*ℤ◌, ◌<ℤ◌, if◌then◌else◌, All, AllPairs, Contains}
-use Rattle.std.specs.Option.{option_map_or}
-use Rattle.std.proofs.lemmas.Bool.{cases_Bool}
-use Rattle.std.proofs.lemmas.Bool.Decides.{nat_tests}
-use Rattle.std.proofs.lemmas.Int.{ints}
-use Rattle.std.proofs.lemmas.List.Elements.{All-append, All-cons, All-contains, All-map, All-nil, All-weaker}
-use Rattle.std.proofs.lemmas.Option.{slice_get-get_or, slice_get_within}
-use Rattle.stream_case.specs.Case.{IsComplete}
-use Rattle.stream_case.specs.Limits.{IsPartPrice, IsShifted}
-use Rattle.stream_case.specs.Stream.{stream_ends}
-use Rattle.stream_case.specs.Utility.{IsPlaced, shifted_level}
-use Rattle.stream_case.specs.declared.case.Case.{Case}
-use Rattle.stream_case.specs.declared.source.Side.{Side}
-use Rattle.stream_case.specs.declared.source.Side.TheVariants.{Hot, Cold}
-use Rattle.stream_case.specs.declared.utility.Utility.{Utility}
-use Rattle.stream_case.proofs.CaseLemmas.{IsName-source_name, IsSourceOf-side}
-use Rattle.stream_case.proofs.CompleteLemmas.{AreStreams-IsComplete, IsPlaced-IsComplete, IsUtility, StaysValid-IsComplete}
-use Rattle.stream_case.proofs.EndLemmas.{stream_ends-between}
-use Rattle.sums.specs.Sum.{int_sum_by}
-use Rattle.sums.proofs.IntegerLemmas.{if_between}
-use Rattle.sums.proofs.ListLemmas.{All-slice_get}
-use Rattle.sums.proofs.OrderLemmas.{AllPairs-head, AllPairs-tail}
-use Rattle.sums.proofs.SumLemmas.{int_sum_by-same, int_sum_by-zero, int_sum_from-grouped}
-use Rattle.grid.specs.Bounds.{IsBounded}
-use Rattle.grid.specs.Grid.{IsGrid, places_of}
-use Rattle.grid.specs.OnGrid.{IsOnPlaces}
-use Rattle.grid.specs.Part.{AreCaseParts, AreParts}
-use Rattle.grid.specs.declared.part.Part.{Part}
-use Rattle.grid.proofs.OnGridLemmas.{parts_on_grid}
-use Rattle.grid.proofs.PlaceLemmas.{interval_ends}
-use Rattle.heat_flow.specs.Certificate.{heat_of_utility, is_of_utility, utility_heat}
-use Rattle.heat_flow.specs.Cuts.{cut_side, least_at, meets, need_of, offer_of, opposite, parts_of}
-use Rattle.heat_flow.specs.Flow.{HaveParts, KeepsRanges, heat_at, part_index}
-use Rattle.heat_flow.specs.Prices.{price_at}
-use Rattle.heat_flow.specs.Ranges.{IsWithin}
-use Rattle.heat_flow.specs.Reach.{reach_between}
-use Rattle.heat_flow.specs.declared.cut.CutKind.{CutKind}
-use Rattle.heat_flow.specs.declared.cut.CutKind.TheVariants.{Demand, Supply}
-use Rattle.heat_flow.specs.declared.flow.Transfer.{Transfer}
-use Rattle.heat_flow.proofs.Blanks.{blank}
-use Rattle.heat_flow.proofs.CostLemmas.{HasCost-flow, heats_within as transfers_within}
-use Rattle.certify.specs.Answers.{own_parts, span_of, use_of}
+use Rattle.certify.proofs.PartSums.{heats_within, needing-within, of_side, side_cost_within}
+use Rattle.certify.proofs.Words.{All, All-append, All-cons, All-contains, All-map, All-nil, All-slice_get, All-weaker, AllPairs, AllPairs-head, AllPairs-tail}
+use Rattle.certify.proofs.Words.{AreCaseParts, AreParts, AreStreams-IsComplete, Case, Cold, Contains, CutKind, Demand, HasCost-flow, HaveParts, Hot, IsBounded}
+use Rattle.certify.proofs.Words.{IsComplete, IsGrid, IsName-source_name, IsOnPlaces, IsPartPrice, IsPlaced, IsPlaced-IsComplete, IsShifted, IsSourceOf-side}
+use Rattle.certify.proofs.Words.{IsUtility, IsWithin, KeepsRanges, MOST_AMOUNT, MOST_LEVEL, Part, Side, StaysValid-IsComplete, Supply, Transfer, Utility, blank}
+use Rattle.certify.proofs.Words.{cases_Bool, cut_side, heat_at, heat_of_utility, if_between, if_one-times, if◌then◌else◌, int_sum_by, int_sum_by-same}
+use Rattle.certify.proofs.Words.{int_sum_by-zero, int_sum_from-grouped, interval_ends, ints, is_of_utility, least_at, meets, nat_tests, need_of, offer_of}
+use Rattle.certify.proofs.Words.{opposite, option_map_or, own_parts, part_index, parts_of, places_of, pos, price_at, reach_between, shifted_level}
+use Rattle.certify.proofs.Words.{slice_get-get_or, slice_get_within, span_of, stream_ends, stream_ends-between, use_of, utility_heat, ℤ, ◌*ℤ◌, ◌<ℤ◌}
 use Rattle.certify.specs.Printed.{IsMove, IsPrice, IsSpan, IsUse}
 use Rattle.certify.specs.Said.{CertifiedFlowsAreReadable, CutsAreReadable, made_from, move_of, named_at, priced_by}
-use Rattle.certify.specs.declared.limits.TheConstants.{MOST_AMOUNT, MOST_LEVEL}
-use Rattle.certify.proofs.PartSums.{heats_within, needing-within, of_side, side_cost_within}
+use Rattle.grid.proofs.OnGridLemmas.{parts_on_grid}
+use Rattle.std.proofs.Common.{Bool, List, Some, [], add-zero, ap, arith, false, get_or, inl, inr, is_some, length, map, refl, slice_get, subst, suc, sym}
+use Rattle.std.proofs.Common.{zero-add, ℕ, ⊎_elim, ◌+◌, ◌<◌, ◌==◌, ◌∙◌, ◌∷◌, ◌≡◌, ◌⊎◌}
+use Rattle.heat_flow.proofs.CostLemmas.{heats_within as transfers_within}
 
 -- what holds of all that is made of a list
 All-made_from : {X Y : Type 0} (P : Y → Type 0) (f : ℕ → X → Y) (n : ℕ) (xs : List X)
@@ -102,10 +70,6 @@ module _ (c : Case) (complete : IsComplete c) where
 
 -- ---- the heat of a utility
 
-times_one : (b : Bool) (heat : ℤ) → (if b then pos 1 else pos 0) *ℤ heat ≡ (if b then heat else pos 0)
-times_one true heat = omega (arith, ints)
-times_one false heat = omega (arith, ints)
-
 module _ (c : Case) (complete : IsComplete c) (grid : List ℤ) (is_grid : IsGrid c grid) (side : Side) (parts : List Part)
     (are : AreParts c.streams c.utilities grid side parts) where
   utility_within : (number : ℕ) (ts : List Transfer) → HaveParts side parts ts → KeepsRanges side parts ts
@@ -114,13 +78,11 @@ module _ (c : Case) (complete : IsComplete c) (grid : List ℤ) (is_grid : IsGri
       let own = λ (a : ℕ). if is_of_utility number parts a then pos 1 else pos 0 in
       let grouped = int_sum_from-grouped (part_index side) (λ t. t.heat) own parts ts indexes in
       let same = int_sum_by-same (λ t. own (part_index side t) *ℤ t.heat) (heat_of_utility number side parts) ts
-      (λ k d within. times_one (is_of_utility number parts (part_index side (get_or ts k d))) (get_or ts k d).heat) in
+      (λ k d within. if_one-times (is_of_utility number parts (part_index side (get_or ts k d))) (get_or ts k d).heat) in
       subst (IsWithin MOST_AMOUNT) (grouped ∙ same) (heats_within c complete grid is_grid side parts are (λ a p. own a *ℤ heat_at side ts a) (λ i p at.
       let range = ranges i p at in let bounded = All-slice_get IsBounded parts i p (of_side c complete grid is_grid side parts are).bounded at in
-      let least = bounded.least.from in let from = range.from in let upto = range.upto in
-      let term = times_one (is_of_utility number parts i) (heat_at side ts i) in
+      let term = if_one-times (is_of_utility number parts i) (heat_at side ts i) in
       let between = if_between (is_of_utility number parts i) (heat_at side ts i) (omega (arith, ints)) in
-      let low = between.0 in let high = between.1 in
       (omega (arith, ints), omega (arith, ints))))
 
   -- ---- what members of a cut need
@@ -171,7 +133,6 @@ module _ (c : Case) (complete : IsComplete c) (grid : List ℤ) (is_grid : IsGri
   offer_within of reach members =
       heats_within c complete grid is_grid side parts are (λ j p. if meets of reach members j then p.most else pos 0) (λ i p at.
       let bounded = All-slice_get IsBounded parts i p (of_side c complete grid is_grid side parts are).bounded at in
-      let least = bounded.least.from in let most = bounded.most.from in
       if_between (meets of reach members i) p.most (omega (arith, ints)))
 
 -- ---- the reports
@@ -211,12 +172,9 @@ module _ (c : Case) (complete : IsComplete c) (hot cold : List Part) (are : AreC
 
 pub flows-readable : CertifiedFlowsAreReadable
 flows-readable c hot cold ts y z cost complete are h =
-    let flow = h.flow in
-    let on = parts_on_grid c hot cold are in
+    let flow = h.flow in let on = parts_on_grid c hot cold are in
     let hot_cost = side_cost_within c complete are.grid are.is_grid Hot hot are.hot_parts ts flow.hot_ranges in
     let cold_cost = side_cost_within c complete are.grid are.is_grid Cold cold are.cold_parts ts flow.cold_ranges in
-    let hot_from = hot_cost.from in let hot_upto = hot_cost.upto in let cold_from = cold_cost.from in let cold_upto = cold_cost.upto in
-    let costs = h.costs in
     let heats = transfers_within hot cold ts (of_side c complete are.grid are.is_grid Hot hot are.hot_parts).bounded
     (HasCost-flow (reach_between c hot cold) hot cold ts flow) in (
       record { from = omega (arith, ints); upto = omega (arith, ints) },

@@ -1,41 +1,17 @@
 -- The reports of a certified heat flow and of a cut pass every check.
-use Rattle.std.proofs.Common.{◌≡◌, ◌∙◌, ◌<◌, ◌+◌, ◌∷◌, ⊎_elim, ℕ, zero, suc, ℤ, pos, Bool, true, false, cond, List, [], Option, None, Some, All, get_or, slice_get, position, length, nat_lt, map, is_some, refl, sym, ap, ap₂, subst, arith, add-zero, zero-add}
-use Rattle.std.specs.Prelude.{IsTrue}
-use Rattle.std.specs.List.{filter_map}
-use Rattle.std.specs.Cmp.Lexicographic.{bytes_decides}
-use Rattle.std.specs.Ordering.{int_eq}
-use Rattle.std.proofs.lemmas.Bool.{and_from, and_parts, false_from_ne_true}
-use Rattle.std.proofs.lemmas.Bool.Decides.{Decides-int_eq, nat_tests}
-use Rattle.std.proofs.lemmas.Int.{ints}
-use Rattle.std.proofs.lemmas.List.Elements.{All-head, All-map, All-tail}
-use Rattle.std.proofs.lemmas.List.Sums.{position_or_len_is}
-use Rattle.std.proofs.lemmas.Option.{none-some, same_Some, slice_get-get_or}
-use Rattle.stream_case.specs.Case.{IsComplete, IsSourceOf, source_name, source_named}
-use Rattle.stream_case.specs.declared.case.Case.{Case}
-use Rattle.stream_case.specs.declared.source.Side.{Side}
-use Rattle.stream_case.specs.declared.source.Side.TheVariants.{Hot, Cold}
-use Rattle.stream_case.specs.declared.source.Source.{Source}
-use Rattle.stream_case.specs.declared.source.Source.TheVariants.{Stream as of_stream, Utility as of_utility}
-use Rattle.stream_case.proofs.CaseLemmas.{source_named-source_name}
-use Rattle.stream_case.proofs.CompleteLemmas.{StaysValid-IsComplete}
-use Rattle.grid.specs.Part.{AreCaseParts, AreParts, comes_before, comes_before_source}
-use Rattle.grid.specs.declared.part.Part.{Part}
-use Rattle.heat_flow.specs.Certificate.{IsCertified, IsCutOf}
-use Rattle.heat_flow.specs.Prices.{price_at}
-use Rattle.heat_flow.specs.Reach.{reach_between}
-use Rattle.heat_flow.specs.declared.cut.Cut.{Cut}
-use Rattle.heat_flow.specs.declared.cut.CutKind.{CutKind}
-use Rattle.heat_flow.specs.declared.cut.CutKind.TheVariants.{Demand, Supply}
-use Rattle.heat_flow.specs.declared.flow.Transfer.{Transfer}
-use Rattle.heat_flow.proofs.Blanks.{blank}
-use Rattle.heat_flow.proofs.PartLemmas.{HoldsOfParts-some}
-use Rattle.heat_flow.proofs.ReachLemmas.{sources_of_parts}
-use Rattle.certify.specs.Answers.{ArePricesOf, AreUsesOf, IsAnswerOver, index_of, is_span_of, own_parts, prices_of, span_of, transfer_of, use_of}
-use Rattle.certify.specs.Said.{CertifiedFlowsPass, CutsPass, cut_report, flow_report, made_from, move_of, named_at, priced_by}
-use Rattle.certify.specs.declared.report.Checked.TheVariants.{Yes}
-use Rattle.certify.specs.declared.report.Priced.{Priced}
 use Rattle.certify.proofs.Firsts.{flow_first}
 use Rattle.certify.proofs.PartSums.{needing-within}
+use Rattle.certify.proofs.Words.{All-head, All-map, All-tail, AreCaseParts, AreParts, ArePricesOf, AreUsesOf, Case, Cold, Cut, CutKind, Decides-int_eq, Demand}
+use Rattle.certify.proofs.Words.{HoldsOfParts-some, Hot, IsAnswerOver, IsCertified, IsComplete, IsCutOf, IsSourceOf, IsTrue, Part, Priced, Side, Source}
+use Rattle.certify.proofs.Words.{StaysValid-IsComplete, Supply, Transfer, Yes, and_from, and_parts, blank, bytes_decides, comes_before, comes_before_source}
+use Rattle.certify.proofs.Words.{false_from_ne_true, filter_map, index_of, int_eq, ints, is_span_of, nat_tests, none-some, own_parts, position_or_len_is}
+use Rattle.certify.proofs.Words.{price_at, prices_of, reach_between, same_Some, slice_get-get_or, source_name, source_named, source_named-source_name}
+use Rattle.certify.proofs.Words.{sources_of_parts, span_of, transfer_of, use_of}
+use Rattle.certify.specs.Said.{CertifiedFlowsPass, CutsPass, cut_report, flow_report, made_from, move_of, named_at, priced_by}
+use Rattle.std.proofs.Common.{All, Bool, List, None, Option, Some, [], add-zero, ap, ap₂, arith, cond, false, get_or, is_some, length, map, nat_lt, pos}
+use Rattle.std.proofs.Common.{position, refl, slice_get, subst, suc, sym, true, zero, zero-add, ℕ, ℤ, ⊎_elim, ◌+◌, ◌<◌, ◌∙◌, ◌∷◌, ◌≡◌}
+use Rattle.stream_case.specs.declared.source.Source.TheVariants.{Stream as of_stream}
+use Rattle.stream_case.specs.declared.source.Source.TheVariants.{Utility as of_utility}
 
 -- ---- lists that are made of others
 
@@ -92,14 +68,13 @@ other_span c complete q p is_q is_p before same =
     let name = (bytes_decides (source_name c p.source) (source_name c q.source)).0 outer.1 in
     let source = one_source c complete p.source q.source is_p is_q name in
     ⊎_elim (λ above. omega (arith, ints, above, high))
-    (λ further. ⊎_elim (λ lower. let falls = lower.1 in omega (arith, ints, falls, low))
+    (λ further. ⊎_elim (λ lower. omega (arith, ints, low))
     (λ level. not_before_itself p.source (subst (λ s. comes_before_source s p.source) (sym source) level.2)) further) before
 
 module _ (c : Case) (complete : IsComplete c) (grid : List ℤ) (side : Side) (parts : List Part) (are : AreParts c.streams c.utilities grid side parts) where
   own_index : (i : ℕ) → i < length parts → index_of c parts (named_at c parts i) ≡ Some i
   own_index i within =
-      let p = get_or parts i blank in
-      let sources = sources_of_parts c grid side parts are in
+      let p = get_or parts i blank in let sources = sources_of_parts c grid side parts are in
       let own : is_span_of c (span_of c p) p ≡ true =
       and_from _ _ (and_from _ _ (int_same p.high) (int_same p.low)) ((bytes_decides (source_name c p.source) (source_name c p.source)).1 refl) in
       let others : (k : ℕ) → k < i → is_span_of c (span_of c p) (get_or parts k blank) ≡ false =

@@ -1,15 +1,8 @@
 -- The rows of the table of sources, one after the other.
-use Rattle.std.proofs.Common.{◌≡◌, ◌∙◌, ⊎_elim, ◌∷◌, ◌++◌, ◌+◌, ◌<◌, ℕ, List, [], length, ap, arith, length-append}
-use Rattle.std.specs.Prelude.{Bool}
-use Rattle.std.proofs.Math.ListN.{get_or-append}
-use Rattle.std.proofs.Math.Seq.{get_or-append_seam}
-use Rattle.std.proofs.lemmas.Bool.{cases_lt}
-use Rattle.stream_case.specs.Case.{IsSourceOf}
-use Rattle.stream_case.specs.declared.case.Case.{Case}
-use Rattle.stream_case.specs.declared.source.Source.{Source}
-use Rattle.stream_case.specs.declared.source.Source.TheVariants.{Stream as of_stream, Utility as of_utility}
-use Rattle.heat_flow.specs.Cells.{ArePermissions, source_index}
-use Rattle.certify.specs.Permits.{HavePermits}
+use Rattle.certify.proofs.Words.{ArePermissions, Bool, Case, HavePermits, IsSourceOf, Source, cases_lt, get_or-append, get_or-append_seam, source_index}
+use Rattle.std.proofs.Common.{List, [], ap, arith, length, length-append, ℕ, ⊎_elim, ◌++◌, ◌+◌, ◌<◌, ◌∙◌, ◌∷◌, ◌≡◌}
+use Rattle.stream_case.specs.declared.source.Source.TheVariants.{Stream as of_stream}
+use Rattle.stream_case.specs.declared.source.Source.TheVariants.{Utility as of_utility}
 
 -- a row more, of the one source with the next index
 push : (c : Case) (rows : List (List Bool)) (row : List Bool) (source : Source)

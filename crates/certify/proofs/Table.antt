@@ -1,22 +1,9 @@
 -- The table of the parts of a side: the first part with a span keeps its index.
-use Rattle.std.proofs.Common.{◌≡◌, ◌∙◌, ◌<◌, ◌≤◌, ◌+◌, ◌∷◌, ◌++◌, ℕ, Bool, true, false, cond, List, [], Option, None, Some, get_or, take, position, length, nat_lt, eqb, is_some, refl, sym, ap, ap₂, arith, length-append}
-use Rattle.std.specs.List.{position_or_len}
-use Rattle.std.specs.Option.{option_or}
-use Rattle.std.specs.Cmp.{both_ways}
-use Rattle.std.specs.Cmp.Lexicographic.{bytes_decides}
-use Rattle.std.proofs.lemmas.Bool.{and_from, and_parts, false≢true, true≢false}
-use Rattle.std.proofs.lemmas.Bool.Decides.{Decides-int_eq, nat_tests}
-use Rattle.std.proofs.lemmas.List.{length-take-le, take_more}
-use Rattle.std.proofs.lemmas.List.Folds.{position_or_len_push}
-use Rattle.std.proofs.lemmas.List.Sums.{prefix_len-le-length}
-use Rattle.indexmap.specs.IndexMap.{IndexMap, Updates}
-use Rattle.stream_case.specs.Case.{source_name}
-use Rattle.stream_case.specs.declared.case.Case.{Case}
-use Rattle.grid.specs.declared.part.Part.{Part}
-use Rattle.heat_flow.proofs.Blanks.{blank}
-use Rattle.certify.specs.Answers.{index_of, is_span_of, span_of}
-use Rattle.certify.specs.Table.{IsTableOf, IsWithSpan, index_in, same_span}
-use Rattle.certify.specs.declared.report.Span.{Span}
+use Rattle.certify.proofs.Words.{Case, Decides-int_eq, IndexMap, IsTableOf, IsWithSpan, Part, Span, Updates, and_from, and_parts, blank, both_ways}
+use Rattle.certify.proofs.Words.{bytes_decides, false≢true, index_in, index_of, is_span_of, length-take-le, nat_tests, option_or, position_or_len}
+use Rattle.certify.proofs.Words.{position_or_len_push, prefix_len-le-length, same_span, source_name, span_of, take_more, true≢false}
+use Rattle.std.proofs.Common.{Bool, List, None, Option, Some, [], ap, ap₂, arith, cond, eqb, false, get_or, is_some, length, length-append, nat_lt, position}
+use Rattle.std.proofs.Common.{refl, sym, take, true, ℕ, ◌++◌, ◌+◌, ◌<◌, ◌∙◌, ◌∷◌, ◌≡◌, ◌≤◌}
 
 -- ---- spans
 

@@ -5,4 +5,5 @@ pub mod Outcome
 pub mod Permits
 pub mod Printed
 pub mod Said
+pub mod Setting
 pub mod Table

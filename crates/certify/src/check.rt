@@ -3,16 +3,16 @@
 ghost use Rattle.std.specs.Prelude.{◌≡◌, All, IfOk, length};
 ghost use Rattle.stream_case.specs.Case.{IsComplete};
 ghost use Rattle.certify.specs.Answers.{HasPartPrices, HoldsOfCut, HoldsOfFlow, HoldsOfTransfers, IsAnswer, IsAnswerOver, IsFirstOf, Proves, cut_causes, flow_causes, prices_of, transfer_causes};
-ghost use Rattle.certify.specs.Permits.{IsSetting};
+ghost use Rattle.certify.specs.Setting.{IsSound, cold_parts, hot_parts};
 ghost use Rattle.stream_case.specs.Limits.{IsPartPrice};
 
 use crate::certificate::{is_flow, is_supported};
 use crate::cut::{is_cut, members_of};
 use crate::naming::{are_prices_of, flow_of};
-use crate::permits::permits_of;
+use crate::permits::{Setting, permits_of};
 use crate::report::{Checked, Moved, NoWhy, Priced, Report, Span, Used};
 use crate::uses::are_uses_of;
-use grid::{Parts, case_parts};
+use grid::case_parts;
 use heat_flow::{Cut, CutKind, Flow, Prices, cost_of, parts_of, value_of};
 use std::alloc::{AllocError, Global};
 use stream_case::{Case, Items};
@@ -33,38 +33,37 @@ fn prices_of(alloc: Global, prices: &[Priced]) -> Result<Vec<i64>, AllocError>
 
 /// The first check that fails of transfers and prices.
 fn check_transfers(
-    case: &Case,
-    parts: &Parts,
-    permits: &Items<Items<bool>>,
+    setting: &Setting,
     cost: i128,
     uses: &[Used],
     flow: &Flow,
     prices: &Prices,
 ) -> Checked
-    requires setting { IsSetting case.now parts.now.hot parts.now.cold permits.now }
-    requires hot_count { length prices.now.hot ≡ length parts.now.hot }
-    requires cold_count { length prices.now.cold ≡ length parts.now.cold }
+    requires setting { IsSound setting.now }
+    requires hot_count { length prices.now.hot ≡ length (hot_parts setting.now) }
+    requires cold_count { length prices.now.cold ≡ length (cold_parts setting.now) }
     requires hot_range { All IsPartPrice prices.now.hot }
     requires cold_range { All IsPartPrice prices.now.cold }
-    ensures { IsFirstOf transfer_causes (HoldsOfTransfers case.now parts.now.hot parts.now.cold
-        cost uses.now flow.now.transfers prices.now.hot prices.now.cold) result }
+    ensures { IsFirstOf transfer_causes (HoldsOfTransfers setting.now.case.now
+        (hot_parts setting.now) (cold_parts setting.now) cost uses.now flow.now.transfers
+        prices.now.hot prices.now.cold) result }
 {
     let transfers = flow.transfers.as_slice();
-    if !is_flow(case, parts, permits, transfers) {
+    if !is_flow(setting, transfers) {
         return Checked::No { why: NoWhy::Flow };
     }
-    if cost_of(parts, flow) != cost {
+    if cost_of(setting.parts, flow) != cost {
         return Checked::No { why: NoWhy::Cost };
     }
-    if !are_uses_of(case, parts, transfers, uses) {
+    if !are_uses_of(setting.case, setting.parts, transfers, uses) {
         return Checked::No { why: NoWhy::Uses };
     }
-    if !is_supported(case, parts, permits, prices) {
+    if !is_supported(setting, prices) {
         return Checked::No {
             why: NoWhy::Support,
         };
     }
-    if value_of(parts, prices) != cost {
+    if value_of(setting.parts, prices) != cost {
         return Checked::No { why: NoWhy::Value };
     }
     Checked::Yes
@@ -73,53 +72,50 @@ fn check_transfers(
 /// The first check that fails of a report of a heat flow.
 fn check_flow(
     alloc: Global,
-    case: &Case,
-    parts: &Parts,
-    permits: &Items<Items<bool>>,
+    setting: &Setting,
     cost: i128,
     uses: &[Used],
     moves: &[Moved],
     gives: &[Priced],
     takes: &[Priced],
 ) -> Result<Checked, AllocError>
-    requires setting { IsSetting case.now parts.now.hot parts.now.cold permits.now }
+    requires setting { IsSound setting.now }
     requires gives { All (λ g. IsPartPrice g.price) gives.now }
     requires takes { All (λ g. IsPartPrice g.price) takes.now }
-    ensures { IfOk result (IsFirstOf flow_causes (HoldsOfFlow case.now parts.now.hot parts.now.cold
-        cost uses.now moves.now gives.now takes.now)) }
+    ensures { IfOk result (IsFirstOf flow_causes (HoldsOfFlow setting.now.case.now
+        (hot_parts setting.now) (cold_parts setting.now) cost uses.now moves.now gives.now
+        takes.now)) }
 {
-    let hot = parts.hot.as_slice();
-    let cold = parts.cold.as_slice();
-    if !are_prices_of(case, hot, gives) || !are_prices_of(case, cold, takes) {
+    let hot = setting.parts.hot.as_slice();
+    let cold = setting.parts.cold.as_slice();
+    if !are_prices_of(setting.case, hot, gives) || !are_prices_of(setting.case, cold, takes) {
         return Ok(Checked::No { why: NoWhy::Parts });
     }
-    let Some(flow) = flow_of(alloc, case, parts, moves)? else {
+    let Some(flow) = flow_of(alloc, setting.case, setting.parts, moves)? else {
         return Ok(Checked::No { why: NoWhy::Moves });
     };
     let prices = Prices {
         hot: Items::from_vec(prices_of(alloc, gives)?),
         cold: Items::from_vec(prices_of(alloc, takes)?),
     };
-    Ok(check_transfers(case, parts, permits, cost, uses, &flow, &prices))
+    Ok(check_transfers(setting, cost, uses, &flow, &prices))
 }
 
 /// The first check that fails of a report of a cut.
 fn check_cut(
     alloc: Global,
-    case: &Case,
-    parts: &Parts,
-    permits: &Items<Items<bool>>,
+    setting: &Setting,
     kind: CutKind,
     need: i64,
     offer: i64,
     spans: &[Span],
 ) -> Result<Checked, AllocError>
-    requires { IsSetting case.now parts.now.hot parts.now.cold permits.now }
-    ensures { IfOk result (IsFirstOf cut_causes (HoldsOfCut case.now parts.now.hot parts.now.cold
-        kind need offer spans.now)) }
+    requires { IsSound setting.now }
+    ensures { IfOk result (IsFirstOf cut_causes (HoldsOfCut setting.now.case.now
+        (hot_parts setting.now) (cold_parts setting.now) kind need offer spans.now)) }
 {
-    let own = parts_of(kind.side(), parts);
-    let Some(members) = members_of(alloc, case, own, spans)? else {
+    let own = parts_of(kind.side(), setting.parts);
+    let Some(members) = members_of(alloc, setting.case, own, spans)? else {
         return Ok(Checked::No { why: NoWhy::Parts });
     };
     let cut = Cut {
@@ -128,23 +124,18 @@ fn check_cut(
         need,
         offer,
     };
-    if !is_cut(case, parts, permits, &cut) {
+    if !is_cut(setting, &cut) {
         return Ok(Checked::No { why: NoWhy::Cut });
     }
     Ok(Checked::Yes)
 }
 
-/// The first check that fails of a report, where these are the parts of the case.
-fn check_over(
-    alloc: Global,
-    case: &Case,
-    parts: &Parts,
-    permits: &Items<Items<bool>>,
-    report: &Report,
-) -> Result<Checked, AllocError>
-    requires setting { IsSetting case.now parts.now.hot parts.now.cold permits.now }
+/// The first check that fails of a report.
+fn check_over(alloc: Global, setting: &Setting, report: &Report) -> Result<Checked, AllocError>
+    requires setting { IsSound setting.now }
     requires prices { HasPartPrices report.now }
-    ensures { IfOk result (IsAnswerOver case.now parts.now.hot parts.now.cold report.now) }
+    ensures { IfOk result (IsAnswerOver setting.now.case.now
+        (hot_parts setting.now) (cold_parts setting.now) report.now) }
 {
     match report {
         Report::Flow {
@@ -156,9 +147,7 @@ fn check_over(
         } => {
             let (uses, moves) = (uses.as_slice(), moves.as_slice());
             let (gives, takes) = (gives.as_slice(), takes.as_slice());
-            check_flow(
-                alloc, case, parts, permits, *cost, uses, moves, gives, takes,
-            )
+            check_flow(alloc, setting, *cost, uses, moves, gives, takes)
         }
         Report::Cut {
             kind,
@@ -167,7 +156,7 @@ fn check_over(
             parts: spans,
         } => {
             let spans = spans.as_slice();
-            check_cut(alloc, case, parts, permits, *kind, *need, *offer, spans)
+            check_cut(alloc, setting, *kind, *need, *offer, spans)
         }
     }
 }
@@ -183,5 +172,10 @@ pub fn check_report(alloc: Global, case: &Case, report: &Report) -> Result<Check
 {
     let parts = case_parts(alloc, case)?;
     let permits = permits_of(alloc, case)?;
-    check_over(alloc, case, &parts, &permits, report)
+    let setting = Setting {
+        case,
+        parts: &parts,
+        permits: &permits,
+    };
+    check_over(alloc, &setting, report)
 }

@@ -8,14 +8,13 @@ ghost use Rattle.stream_case.specs.Case.{IsSourceOf};
 ghost use Rattle.grid.specs.Bounds.{IsBounded};
 ghost use Rattle.heat_flow.specs.Certificate.{IsCutOf};
 ghost use Rattle.heat_flow.specs.Cuts.{joins, meets, offer_of};
-ghost use Rattle.heat_flow.specs.Reach.{reach_between};
 ghost use Rattle.certify.specs.Answers.{index_of};
-ghost use Rattle.certify.specs.Permits.{IsSetting};
+ghost use Rattle.certify.specs.Setting.{IsSound, cold_parts, hot_parts, reach_of};
 
 use crate::part_table::{index_in, table_of};
-use crate::permits::reaches;
+use crate::permits::Setting;
 use crate::report::Span;
-use grid::{Part, Parts};
+use grid::Part;
 use heat_flow::{Cut, are_needing, are_rising, is_short, need_of, opposite, parts_of};
 use std::alloc::{AllocError, Global};
 use stream_case::{Case, Items, Side};
@@ -46,60 +45,36 @@ pub fn members_of(
 }
 
 /// Whether a part of this side and one of the other side reach.
-fn joins(
-    side: Side,
-    case: &Case,
-    parts: &Parts,
-    permits: &Items<Items<bool>>,
-    member: u32,
-    other: u32,
-) -> bool
-    requires { IsSetting case.now parts.now.hot parts.now.cold permits.now }
-    ensures { result ≡ joins side
-        (reach_between case.now parts.now.hot parts.now.cold) member other }
+fn joins(side: Side, setting: &Setting, member: u32, other: u32) -> bool
+    requires { IsSound setting.now }
+    ensures { result ≡ joins side (reach_of setting.now) member other }
 {
     let (hot, cold) = match side {
         Side::Hot => (member, other),
         Side::Cold => (other, member),
     };
-    reaches(case, parts, permits, hot, cold)
+    setting.reaches(hot, cold)
 }
 
 /// Whether a part of the other side reaches one of the members, or one of them reaches it.
-fn meets(
-    side: Side,
-    case: &Case,
-    parts: &Parts,
-    permits: &Items<Items<bool>>,
-    members: &[u32],
-    other: u32,
-) -> bool
-    requires { IsSetting case.now parts.now.hot parts.now.cold permits.now }
-    ensures { result ≡ meets side
-        (reach_between case.now parts.now.hot parts.now.cold) members.now other }
+fn meets(side: Side, setting: &Setting, members: &[u32], other: u32) -> bool
+    requires { IsSound setting.now }
+    ensures { result ≡ meets side (reach_of setting.now) members.now other }
 {
     members
         .iter()
-        .any(|member| joins(side, case, parts, permits, *member, other))
+        .any(|member| joins(side, setting, *member, other))
 }
 
 /// The most that a part of the other side can take or give, if it meets a member.
-fn part_offer(
-    side: Side,
-    case: &Case,
-    parts: &Parts,
-    permits: &Items<Items<bool>>,
-    members: &[u32],
-    index: u32,
-    part: &Part,
-) -> i64
-    requires setting { IsSetting case.now parts.now.hot parts.now.cold permits.now }
+fn part_offer(side: Side, setting: &Setting, members: &[u32], index: u32, part: &Part) -> i64
+    requires setting { IsSound setting.now }
     requires bounded { IsBounded part.now }
-    ensures value { result ≡ if meets side (reach_between case.now parts.now.hot parts.now.cold)
+    ensures value { result ≡ if meets side (reach_of setting.now)
         members.now index then part.now.most else pos 0 }
     ensures range { IsHeat result }
 {
-    if meets(side, case, parts, permits, members, index) {
+    if meets(side, setting, members, index) {
         part.most
     } else {
         0
@@ -108,42 +83,34 @@ fn part_offer(
 
 /// The offer of a cut whose parts are of this side: the most that all parts of the other side can
 /// take or give that reach one of them, or that one of them reaches, in W.
-fn offer_of(
-    side: Side,
-    case: &Case,
-    parts: &Parts,
-    permits: &Items<Items<bool>>,
-    others: &[Part],
-    members: &[u32],
-) -> i128
-    requires setting { IsSetting case.now parts.now.hot parts.now.cold permits.now }
+fn offer_of(side: Side, setting: &Setting, others: &[Part], members: &[u32]) -> i128
+    requires setting { IsSound setting.now }
     requires few { length others.now ≤ MOST_PARTS }
     requires bounded { All IsBounded others.now }
-    ensures { result ≡ offer_of side
-        (reach_between case.now parts.now.hot parts.now.cold) others.now members.now }
+    ensures { result ≡ offer_of side (reach_of setting.now) others.now members.now }
 {
     let mut offer = 0i128;
     for (index, part) in others.iter().enumerate() {
-        let most = part_offer(side, case, parts, permits, members, index as u32, part);
+        let most = part_offer(side, setting, members, index as u32, part);
         offer += i128::from(most);
     }
     offer
 }
 
 /// Whether a cut is one of these parts, with its need and its offer.
-pub fn is_cut(case: &Case, parts: &Parts, permits: &Items<Items<bool>>, cut: &Cut) -> bool
-    requires { IsSetting case.now parts.now.hot parts.now.cold permits.now }
-    ensures { IsTrue result ↔ IsCutOf (reach_between case.now parts.now.hot parts.now.cold)
-        parts.now.hot parts.now.cold cut.now }
+pub fn is_cut(setting: &Setting, cut: &Cut) -> bool
+    requires { IsSound setting.now }
+    ensures { IsTrue result ↔ IsCutOf (reach_of setting.now)
+        (hot_parts setting.now) (cold_parts setting.now) cut.now }
 {
     let side = cut.kind.side();
-    let own = parts_of(side, parts);
-    let others = parts_of(opposite(side), parts);
+    let own = parts_of(side, setting.parts);
+    let others = parts_of(opposite(side), setting.parts);
     let members = cut.parts.as_slice();
     if !are_rising(members) || !are_needing(own, members) {
         return false;
     }
     let need = need_of(own, members);
-    let offer = offer_of(side, case, parts, permits, others, members);
+    let offer = offer_of(side, setting, others, members);
     is_short(cut, need, offer)
 }

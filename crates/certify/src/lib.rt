@@ -32,4 +32,3 @@ pub use laws::{
 pub use limits::{MOST_AMOUNT, MOST_COST, MOST_DIGITS, MOST_LEVEL};
 pub use reader::read_report;
 pub use report::{Checked, Moved, NoWhy, Priced, Report, Span, Used};
-pub use uses::utility_heat;

@@ -40,7 +40,8 @@ pub fn are_prices_of(case: &Case, parts: &[Part], prices: &[Priced]) -> bool
 /// The transfer between the parts that a move names, by the tables of the two sides.
 fn transfer_of(hot: &PartTable, cold: &PartTable, moved: &Moved) -> Option<Transfer>
     ensures { result ≡
-        transfer_by moved.now.heat (index_in hot.now moved.now.hot) (index_in cold.now moved.now.cold) }
+        transfer_by moved.now.heat (index_in hot.now moved.now.hot)
+        (index_in cold.now moved.now.cold) }
 {
     Some(Transfer {
         hot: index_in(hot, &moved.hot)?,

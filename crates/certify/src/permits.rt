@@ -2,13 +2,21 @@
 
 ghost use Rattle.std.specs.Prelude.{◌≡◌, ◌+◌, [], length, IfOk, OnOk};
 ghost use Rattle.stream_case.specs.Case.{IsComplete, IsSourceOf};
-ghost use Rattle.heat_flow.specs.Reach.{part_reaches, reach_between};
-ghost use Rattle.certify.specs.Permits.{ArePermits, HavePermits, IsSetting};
+ghost use Rattle.heat_flow.specs.Reach.{part_reaches};
+ghost use Rattle.certify.specs.Permits.{ArePermits, HavePermits};
 
 use grid::{Part, Parts};
 use heat_flow::{passes_heat, permissions, source_index};
 use std::alloc::{AllocError, Global};
 use stream_case::{Case, Items, Source};
+
+/// A completed case with its parts, and which of its sources may take heat from which.
+#[derive(Clone, Copy)]
+pub(crate) struct Setting<'a> {
+    pub case: &'a Case,
+    pub parts: &'a Parts,
+    pub permits: &'a Items<Items<bool>>,
+}
 
 /// Appends the rows of the streams.
 fn push_streams(alloc: Global, case: &Case, rows: &mut Items<Items<bool>>) -> Result<(), AllocError>
@@ -68,22 +76,20 @@ fn part_reaches(case: &Case, permits: &Items<Items<bool>>, hot: &Part, cold: &Pa
     passes_heat(hot, cold) && row.as_slice()[source_index(case, cold.source)]
 }
 
-/// Whether the hot part of index `hot` reaches the cold part of index `cold`.
-pub fn reaches(
-    case: &Case,
-    parts: &Parts,
-    permits: &Items<Items<bool>>,
-    hot: u32,
-    cold: u32,
-) -> bool
-    requires { IsSetting case.now parts.now.hot parts.now.cold permits.now }
-    ensures { result ≡ reach_between case.now parts.now.hot parts.now.cold hot cold }
-{
-    let Some(hot) = parts.hot.get(hot as usize) else {
-        return false;
-    };
-    let Some(cold) = parts.cold.get(cold as usize) else {
-        return false;
-    };
-    part_reaches(case, permits, hot, cold)
+impl<'a> Setting<'a> {
+    ghost use Rattle.certify.specs.Setting.{IsSound, reach_of};
+
+    /// Whether the hot part of index `hot` reaches the cold part of index `cold`.
+    pub fn reaches(&self, hot: u32, cold: u32) -> bool
+        requires { IsSound self.now }
+        ensures { result ≡ reach_of self.now hot cold }
+    {
+        let Some(hot) = self.parts.hot.get(hot as usize) else {
+            return false;
+        };
+        let Some(cold) = self.parts.cold.get(cold as usize) else {
+            return false;
+        };
+        part_reaches(self.case, self.permits, hot, cold)
+    }
 }

@@ -1,26 +1,14 @@
 -- There are fewer overlaps of two rows of spans than spans: from each one to the next at least one of the indices rises, and none falls.
-use Rattle.std.proofs.Common.{⊎_elim, inl, inr, ap, ℕ, zero, suc, ◌+◌, ◌-◌, ◌<◌, ◌≤◌, List, [], ◌∷◌, All, AllPairs, length, get_or, take, drop, map, arith}
-use Rattle.std.specs.Prelude.{ℤ, pos, ◌≤ℤ◌}
-use Rattle.std.proofs.lemmas.Bool.{cases_lt}
-use Rattle.std.proofs.lemmas.Int.{ints, clamps}
-use Rattle.std.proofs.lemmas.List.{length-map, take-take}
-use Rattle.std.proofs.lemmas.List.Elements.{All-drop, All-take}
-use Rattle.corner_flow.proofs.Words.{Case, IsCornerFlow, IsOverlap, ListsOverlaps, NotNegative, Pair, Part, Transfer, as_pair, begin_of, cold_target, heats_of, hot_target, int_sum_by, pair_before, part_heat}
-use Rattle.sums.proofs.SumLemmas.{int_sum_by-not_negative, int_sum_by-split}
-
-spans_rise : (xs : List ℤ) → NotNegative xs → (a b : ℕ) → a ≤ b → begin_of xs a ≤ℤ begin_of xs b
-spans_rise xs some a b order =
-    let split = int_sum_by-split (λ x. x) a (take b xs) in
-    let front = ap (int_sum_by (λ x. x)) (take-take a b xs order) in
-    let rest = int_sum_by-not_negative (λ x. x) (drop a (take b xs)) (All-drop (λ x. pos 0 ≤ℤ x) a (take b xs) (All-take (λ x. pos 0 ≤ℤ x) b xs some)) in
-    omega (arith, ints, split, front, rest)
+use Rattle.corner_flow.proofs.Words.{Case, IsCornerFlow, IsOverlap, ListsOverlaps, NotNegative, Pair, Part, Transfer, as_pair, begin_of-rises, cases_lt, clamps}
+use Rattle.corner_flow.proofs.Words.{cold_target, heats_of, hot_target, ints, length-map, pair_before, part_heat, ℤ}
+use Rattle.std.proofs.Common.{All, AllPairs, List, [], arith, get_or, inl, inr, length, map, suc, zero, ℕ, ⊎_elim, ◌+◌, ◌-◌, ◌<◌, ◌∷◌, ◌≤◌}
 
 module _ (us vs : List ℤ) (us_some : NotNegative us) (vs_some : NotNegative vs) where
   -- where the first index rises, the second does not fall
   not_back : (p q : Pair) → IsOverlap us vs p → IsOverlap us vs q → p.first < q.first → q.second < p.second → ⊥
   not_back p q one other rises falls =
-      let firsts = spans_rise us us_some (suc p.first) q.first (omega (arith, rises)) in
-      let seconds = spans_rise vs vs_some (suc q.second) p.second (omega (arith, falls)) in
+      let firsts = begin_of-rises us us_some (suc p.first) q.first (omega (arith, rises)) in
+      let seconds = begin_of-rises vs vs_some (suc q.second) p.second (omega (arith, falls)) in
       let p_some = one.positive in
       let p_is = one.amount in
       let q_some = other.positive in
@@ -28,14 +16,17 @@ module _ (us vs : List ℤ) (us_some : NotNegative us) (vs_some : NotNegative vs
       omega (arith, ints, clamps, firsts, seconds, p_some, p_is, q_some, q_is)
 
   both_rise : (p q : Pair) → IsOverlap us vs p → IsOverlap us vs q → pair_before p q → p.first + p.second < q.first + q.second
-  both_rise p q one other (inl rises) = ⊎_elim (λ falls. absurd (not_back p q one other rises falls)) (λ order. omega (arith, rises, order)) (cases_lt q.second p.second)
+  both_rise p q one other (inl rises) =
+      ⊎_elim (λ falls. absurd (not_back p q one other rises falls)) (λ order. omega (arith, rises, order)) (cases_lt q.second p.second)
   both_rise p q one other (inr same) = omega (arith, same.0, same.1)
 
-  index_upto : (ps : List Pair) → AllPairs pair_before ps → All (IsOverlap us vs) ps → (i : ℕ) (d : Pair) → i < length ps → i ≤ (get_or ps i d).first + (get_or ps i d).second
+  index_upto : (ps : List Pair) → AllPairs pair_before ps → All (IsOverlap us vs) ps → (i : ℕ) (d : Pair) → i < length ps
+      → i ≤ (get_or ps i d).first + (get_or ps i d).second
   index_upto ps ordered each zero d within = omega arith
   index_upto ps ordered each (suc i) d within =
       let before = index_upto ps ordered each i d (omega (arith, within)) in
-      let rise = both_rise (get_or ps i d) (get_or ps (suc i) d) (each i d (omega (arith, within))) (each (suc i) d within) (ordered i (suc i) d (omega arith) within) in
+      let rise =
+      both_rise (get_or ps i d) (get_or ps (suc i) d) (each i d (omega (arith, within))) (each (suc i) d within) (ordered i (suc i) d (omega arith) within) in
       omega (arith, before, rise)
 
   few_overlaps : (ps : List Pair) → ListsOverlaps us vs ps → length ps ≤ length us + length vs - 1
@@ -48,7 +39,8 @@ module _ (us vs : List ℤ) (us_some : NotNegative us) (vs_some : NotNegative vs
       omega (arith, upto, last.first_within, last.second_within)
 
 -- the corner flow has fewer transfers than there are parts
-pub fewer_than_parts : (c : Case) (hot cold : List Part) (transfers : List Transfer) → NotNegative (heats_of (hot_target c.streams) hot) → NotNegative (heats_of (cold_target c.streams) cold) → IsCornerFlow c hot cold transfers
+pub fewer_than_parts : (c : Case) (hot cold : List Part) (transfers : List Transfer) → NotNegative (heats_of (hot_target c.streams) hot)
+    → NotNegative (heats_of (cold_target c.streams) cold) → IsCornerFlow c hot cold transfers
     → length transfers ≤ length hot + length cold - 1
 fewer_than_parts c hot cold transfers hot_some cold_some corner =
     omega (

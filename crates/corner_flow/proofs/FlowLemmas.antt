@@ -1,20 +1,16 @@
 -- The corner flow is a heat flow in which the utilities give and take the targets, and it is of least cost.
-use Rattle.std.proofs.Common.{◌≡◌, ⊎_elim, ◌∙◌, refl, sym, ap, ap₂, subst, subst₂, ℕ, ◌<◌, true, not, ◌&&◌, List, [], ◌∷◌, length, get_or, map, Some, arith}
-use Rattle.std.specs.Prelude.{◌==◌, ℤ, pos, ◌+ℤ◌, ◌≤ℤ◌, ◌<ℤ◌, if◌then◌else◌, slice_get}
-use Rattle.std.proofs.lemmas.Int.{ints}
-use Rattle.std.proofs.lemmas.Bool.{not-true}
-use Rattle.std.proofs.lemmas.List.{get_or-map, length-map}
-use Rattle.std.proofs.lemmas.List.Elements.{All-map}
-use Rattle.std.proofs.lemmas.Option.{slice_get-get_or, slice_get_within, get_or_from_slice_get}
-use Rattle.corner_flow.proofs.Words.{Case, Cold, Hot, IsBetween, IsCornerFlow, IsFlowOf, IsHeat, IsLeastCost, IsOverlap, KeepsRanges, ListsOverlaps, NotNegative, Pair, Part, Side, Transfer, UtilityHeat, as_pair, as_transfer, both_reach, cold_target, cost_of, heat_at, heat_over, heats_of, hot_target, int_sum_by, is_forbidden, is_stream, pair_before, part_heat, parts_of, reach_between, sum_side}
-use Rattle.sums.proofs.SumLemmas.{int_sum_by-map, int_sum_from-by}
-use Rattle.sums.proofs.WalkLemmas.{overlaps_first, overlaps_second, some_overlaps}
-use Rattle.problem_table.proofs.DeficitLemmas.{hot_target-between, cold_target-between}
-use Rattle.heat_flow.proofs.Blanks.{blank}
-use Rattle.corner_flow.proofs.StandardLemmas.{end_of}
-use Rattle.corner_flow.proofs.SideLemmas.{IsStandardPart, AreStandardParts}
-use Rattle.corner_flow.proofs.HeatLemmas.{target_of, above, from_place, is_reached, one_times, from_stream, from_utility, sum_above, cost-hot_utility, cost-at_least}
+use Rattle.corner_flow.proofs.HeatLemmas.{above, cost-at_least, cost-hot_utility, from_place, from_stream, from_utility, is_reached, one_times, sum_above}
+use Rattle.corner_flow.proofs.HeatLemmas.{target_of}
 use Rattle.corner_flow.proofs.ReachLemmas.{heat_of_stream, heat_of_utility, overlap-passes}
+use Rattle.corner_flow.proofs.SideLemmas.{AreStandardParts, IsStandardPart}
+use Rattle.corner_flow.proofs.StandardLemmas.{end_of}
+use Rattle.corner_flow.proofs.Words.{All-map, Case, Cold, Hot, IsBetween, IsCornerFlow, IsFlowOf, IsHeat, IsLeastCost, IsOverlap, KeepsRanges, ListsOverlaps}
+use Rattle.corner_flow.proofs.Words.{NotNegative, Pair, Part, Side, Transfer, UtilityHeat, as_pair, as_transfer, blank, both_reach, cold_target}
+use Rattle.corner_flow.proofs.Words.{cold_target-between, cost_of, get_or-map, get_or_from_slice_get, heat_at, heat_over, heats_of, hot_target}
+use Rattle.corner_flow.proofs.Words.{hot_target-between, if◌then◌else◌, int_sum_by, int_sum_by-map, int_sum_from-by, ints, is_forbidden, is_stream, length-map}
+use Rattle.corner_flow.proofs.Words.{not-true, overlaps_first, overlaps_second, pair_before, part_heat, parts_of, pos, reach_between, slice_get}
+use Rattle.corner_flow.proofs.Words.{slice_get-get_or, slice_get_within, some_overlaps, sum_side, ℤ, ◌+ℤ◌, ◌<ℤ◌, ◌==◌, ◌≤ℤ◌}
+use Rattle.std.proofs.Common.{List, Some, [], ap, ap₂, arith, get_or, length, map, not, refl, subst, subst₂, sym, true, ℕ, ⊎_elim, ◌&&◌, ◌<◌, ◌∙◌, ◌∷◌, ◌≡◌}
 
 pub as_pair-as_transfer : (ps : List Pair) → map as_pair (map as_transfer ps) ≡ ps
 as_pair-as_transfer [] = refl
@@ -60,7 +56,9 @@ module _ {c : Case} {hot cold : List Part} (s : AreStandardParts c hot cold) whe
       int_sum_by-map (λ x. x) (part_heat target) parts ∙ sym (int_sum_from-by (part_heat target) 0 parts)
       ∙ sum_above s side (λ a p. part_heat target p) true bottom target (s.ends Cold)
       (λ a p at h. ⊎_elim
-      (λ k. heat_of_stream target p k.source_is ∙ sym (from_stream true bottom target p k.source_is ∙ one_times (above true bottom p) p.least (is_reached true bottom p.low (from_place bottom p.low h.from))))
+      (λ k. heat_of_stream target p k.source_is
+      ∙ sym (from_stream true bottom target p k.source_is
+      ∙ one_times (above true bottom p) p.least (is_reached true bottom p.low (from_place bottom p.low h.from))))
       (λ k. heat_of_utility target p k.source_is ∙ sym (from_utility true bottom target p k.source_is))
       h.kind)
 
@@ -72,16 +70,19 @@ module _ {c : Case} {hot cold : List Part} (s : AreStandardParts c hot cold) whe
   module _ (ts : List Transfer) (lists : IsCornerFlow c hot cold ts) where
     transfer_heat : (side : Side) (a : ℕ) → a < length (heats side) → heat_at side ts a ≡ get_or (heats side) a (pos 0)
     transfer_heat Hot a within =
-        sym (int_sum_by-map (λ p. if p.first == a then p.amount else pos 0) as_pair ts) ∙ overlaps_first (heats Hot) (heats Cold) (map as_pair ts) (heats-not_negative Hot) (heats-not_negative Cold) same_total lists a within
+        sym (int_sum_by-map (λ p. if p.first == a then p.amount else pos 0) as_pair ts)
+        ∙ overlaps_first (heats Hot) (heats Cold) (map as_pair ts) (heats-not_negative Hot) (heats-not_negative Cold) same_total lists a within
     transfer_heat Cold b within =
-        sym (int_sum_by-map (λ p. if p.second == b then p.amount else pos 0) as_pair ts) ∙ overlaps_second (heats Hot) (heats Cold) (map as_pair ts) (heats-not_negative Hot) (heats-not_negative Cold) same_total lists b within
+        sym (int_sum_by-map (λ p. if p.second == b then p.amount else pos 0) as_pair ts)
+        ∙ overlaps_second (heats Hot) (heats Cold) (map as_pair ts) (heats-not_negative Hot) (heats-not_negative Cold) same_total lists b within
 
     -- each part gives or takes its heat
     gives : (side : Side) (a : ℕ) (p : Part) → slice_get (parts_of side hot cold) a ≡ Some p → heat_at side ts a ≡ part_heat (target_of side c.streams) p
     gives side a p at =
         let parts = parts_of side hot cold in
         let within = slice_get_within parts a p at in
-        transfer_heat side a (rw length-map within) ∙ get_or-map (part_heat (target_of side c.streams)) parts a p (pos 0) within ∙ ap (part_heat (target_of side c.streams)) (get_or_from_slice_get parts a p p at)
+        transfer_heat side a (rw length-map within) ∙ get_or-map (part_heat (target_of side c.streams)) parts a p (pos 0) within
+        ∙ ap (part_heat (target_of side c.streams)) (get_or_from_slice_get parts a p p at)
 
     ranges : (side : Side) → KeepsRanges side (parts_of side hot cold) ts
     ranges side a p at = subst (IsBetween p.least p.most) (sym (gives side a p at)) (part_range side p ((s.sides side).each a p at))
@@ -91,7 +92,9 @@ module _ {c : Case} {hot cold : List Part} (s : AreStandardParts c hot cold) whe
 
     pub corner-is_flow : IsFlowOf c hot cold ts
     corner-is_flow =
-        let each = λ (k : ℕ) (d : Transfer) (within : k < length ts). subst (IsOverlap (heats Hot) (heats Cold)) (get_or-map as_pair ts k d (as_pair d) within) (lists.each k (as_pair d) (rw length-map within)) in
+        let each =
+        λ (k : ℕ) (d : Transfer) (within : k < length ts). subst (IsOverlap (heats Hot) (heats Cold)) (get_or-map as_pair ts k d (as_pair d) within)
+        (lists.each k (as_pair d) (rw length-map within)) in
         record {
           positive = λ k d within. (each k d within).positive;
           hot_indexes = λ k d within. rw length-map at (each k d within).first_within;
@@ -106,7 +109,8 @@ module _ {c : Case} {hot cold : List Part} (s : AreStandardParts c hot cold) whe
               let passes = overlap-passes s t.hot t.cold p q from to (subst (λ z. pos 0 <ℤ z) e.amount e.positive) in
               ap₂ (both_reach c) from to ∙ ap₂ (λ x y. x && not y) passes (ap (λ fs. is_forbidden fs p.source q.source) s.standard.free);
           ordered = λ i j d before within.
-              subst₂ pair_before (get_or-map as_pair ts i d (as_pair d) (omega (arith, before, within))) (get_or-map as_pair ts j d (as_pair d) within) (lists.ordered i j (as_pair d) before (rw length-map within));
+              subst₂ pair_before (get_or-map as_pair ts i d (as_pair d) (omega (arith, before, within))) (get_or-map as_pair ts j d (as_pair d) within)
+              (lists.ordered i j (as_pair d) before (rw length-map within));
           hot_ranges = ranges Hot;
           cold_ranges = ranges Cold;
         }

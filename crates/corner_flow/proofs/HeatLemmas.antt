@@ -1,22 +1,15 @@
 -- Heat goes down: what the cold parts take above a place is at most what the hot parts give above it.
-use Rattle.std.proofs.Common.{◌≡◌, ⊎_elim, ◌∙◌, refl, sym, ap, ap₂, subst₂, ℕ, Bool, true, false, not, ◌&&◌, List, map, Option, Some, None, arith}
-use Rattle.std.specs.Prelude.{ℤ, pos, ◌+ℤ◌, ◌*ℤ◌, ◌≤ℤ◌, ◌<ℤ◌, int_le, int_lt, ◌==◌, if◌then◌else◌, All, Contains, slice_get}
-use Rattle.std.specs.Ordering.{int_eq}
-use Rattle.std.proofs.Math.IntN.{*ℤ-zero, *ℤ_comm}
-use Rattle.std.proofs.lemmas.Int.{ints}
-use Rattle.std.proofs.lemmas.Bool.{and_parts, false≢true, or_cases, not-true}
-use Rattle.std.proofs.lemmas.Bool.Decides.{Decides-int_eq}
-use Rattle.std.proofs.lemmas.List.{get_or-map}
-use Rattle.std.proofs.lemmas.Option.{slice_get_within, get_or_from_slice_get}
-use Rattle.corner_flow.proofs.Words.{Case, Cold, HaveParts, Hot, IsFlowOf, IsSupporting, IsTightOver, KeepsRanges, NeedsHeat, Part, Side, Stream, Transfer, UtilityHeat, both_reach, cold_target, cost_of, counts_above, heat_at, heat_over, hot_target, int_sum_by, int_sum_from, is_forbidden, is_stream, part_index, part_reaches, parts_of, passes_heat, price_at, reach_between, side_cost, stands_above, sum_side}
-use Rattle.sums.proofs.IntegerLemmas.{int_le-false, int_le-from, int_lt-from}
-use Rattle.sums.proofs.SumLemmas.{int_sum_by-le, int_sum_by-not_negative, int_sum_from-add, int_sum_from-by, int_sum_from-grouped, int_sum_from-same_each}
-use Rattle.problem_table.proofs.DeficitLemmas.{some_tight}
-use Rattle.grid.proofs.HeatLemmas.{part_over}
-use Rattle.heat_flow.proofs.CostLemmas.{heats_at-not_negative}
-use Rattle.heat_flow.proofs.Duality.{side_worth, side_worth-parts, worth-le}
+use Rattle.corner_flow.proofs.SideLemmas.{AreStandardParts, IsStandardPart, unit_price}
 use Rattle.corner_flow.proofs.StandardLemmas.{end_of}
-use Rattle.corner_flow.proofs.SideLemmas.{unit_price, IsStandardPart, AreStandardParts}
+use Rattle.corner_flow.proofs.Words.{*ℤ-zero, *ℤ_comm, All, Case, Cold, Contains, Decides-int_eq, HaveParts, Hot, IsFlowOf, IsSupporting, IsTightOver}
+use Rattle.corner_flow.proofs.Words.{KeepsRanges, NeedsHeat, Part, Side, Stream, Transfer, UtilityHeat, and_parts, both_parts, cold_target, cost_of}
+use Rattle.corner_flow.proofs.Words.{counts_above, false≢true, get_or-map, get_or_from_slice_get, heat_at, heat_over, heats_at-not_negative, hot_target}
+use Rattle.corner_flow.proofs.Words.{if◌then◌else◌, int_eq, int_le, int_le-false, int_le-from, int_lt, int_lt-false, int_lt-from, int_sum_by, int_sum_by-le}
+use Rattle.corner_flow.proofs.Words.{int_sum_by-not_negative, int_sum_from, int_sum_from-add, int_sum_from-by, int_sum_from-grouped, int_sum_from-same_each}
+use Rattle.corner_flow.proofs.Words.{ints, is_forbidden, is_stream, not-true, or_cases, part_index, part_over, parts_of, passes_heat, pos, price_at}
+use Rattle.corner_flow.proofs.Words.{reach_between, side_cost, side_worth, side_worth-parts, slice_get, slice_get_within, some_tight, stands_above, sum_side}
+use Rattle.corner_flow.proofs.Words.{worth-le, ℤ, ◌*ℤ◌, ◌+ℤ◌, ◌<ℤ◌, ◌==◌, ◌≤ℤ◌}
+use Rattle.std.proofs.Common.{Bool, List, Some, ap, ap₂, arith, false, map, not, refl, subst₂, sym, true, ℕ, ⊎_elim, ◌&&◌, ◌∙◌, ◌≡◌}
 
 -- the target of a side
 abbrev pub target_of : Side → List Stream → ℤ
@@ -43,9 +36,6 @@ pub stands-level : (from : Bool) (place level : ℤ) (p : Part) → p.high ≡ l
 stands-level false place level p high low = ap (int_lt place) high
 stands-level true place level p high low = ap (int_le place) low
 
-pub int_lt-false : (a b : ℤ) → b ≤ℤ a → int_lt a b ≡ false
-int_lt-false a b h = grind (arith, ints)
-
 -- a level that is higher counts as above a place, and a lower one does not
 pub counts_higher : (from : Bool) (place level : ℤ) → place <ℤ level → counts_above from place level ≡ true
 counts_higher false place level less = int_lt-from place level less
@@ -70,7 +60,8 @@ chosen true x = omega (arith, ints)
 chosen false x = sym (zero_times (pos 0) x refl)
 
 pub from_stream : (from : Bool) (place each : ℤ) (p : Part) → is_stream p.source ≡ true → part_over from place each p ≡ above from place p *ℤ p.least
-from_stream from place each p e = ap (λ b. if b then (if stands_above from place p then p.least else pos 0) else each) e ∙ chosen (stands_above from place p) p.least
+from_stream from place each p e =
+    ap (λ b. if b then (if stands_above from place p then p.least else pos 0) else each) e ∙ chosen (stands_above from place p) p.least
 
 pub from_utility : (from : Bool) (place each : ℤ) (p : Part) → is_stream p.source ≡ false → part_over from place each p ≡ each
 from_utility from place each p e = ap (λ b. if b then (if stands_above from place p then p.least else pos 0) else each) e
@@ -86,11 +77,6 @@ price_at-map f parts a p at = get_or-map f parts a p (pos 0) (slice_get_within p
 
 -- ---- parts that reach
 
-both_parts : (c : Case) (x y : Option Part) → both_reach c x y ≡ true → (p : Part) × (q : Part) × (x ≡ Some p) × (y ≡ Some q) × (part_reaches c p q ≡ true)
-both_parts c None y h = cc
-both_parts c (Some p) None h = cc
-both_parts c (Some p) (Some q) h = (p, q, refl, refl, h)
-
 passes_down : (p q : Part) → passes_heat p q ≡ true → p.low ≤ℤ p.high → q.low ≤ℤ q.high → (q.high ≤ℤ p.high) × (q.low ≤ℤ p.low)
 passes_down p q h order other =
     ⊎_elim (λ e. (omega (arith, ints), omega (arith, ints)))
@@ -101,7 +87,8 @@ passes_down p q h order other =
     (omega (arith, ints), omega (arith, ints)))
     (or_cases (int_le q.high p.low) (int_eq p.high q.high && int_eq p.low q.low) h)
 
-pub stands_falls : (from : Bool) (place : ℤ) (p q : Part) → q.high ≤ℤ p.high → q.low ≤ℤ p.low → stands_above from place q ≡ true → stands_above from place p ≡ true
+pub stands_falls : (from : Bool) (place : ℤ) (p q : Part) → q.high ≤ℤ p.high → q.low ≤ℤ p.low → stands_above from place q ≡ true
+    → stands_above from place p ≡ true
 stands_falls false place p q high low e = int_lt-from place p.high (omega (arith, ints))
 stands_falls true place p q high low e = int_le-from place p.low (omega (arith, ints))
 
@@ -116,7 +103,8 @@ above_falls from place p q high low = either_falls (stands_above from place q) (
 
 module _ {c : Case} {hot cold : List Part} (s : AreStandardParts c hot cold) where
   -- prices that do not rise downward support each heat flow
-  pub supports_down : (f : Part → ℤ) → ((p q : Part) → q.high ≤ℤ p.high → q.low ≤ℤ p.low → f q ≤ℤ f p) → IsSupporting (reach_between c hot cold) (map f hot) (map f cold)
+  pub supports_down : (f : Part → ℤ) → ((p q : Part) → q.high ≤ℤ p.high → q.low ≤ℤ p.low → f q ≤ℤ f p)
+      → IsSupporting (reach_between c hot cold) (map f hot) (map f cold)
   supports_down f falls a b reach =
       let (p, q, from, to, both) = both_parts c (slice_get hot a) (slice_get cold b) reach in
       let passes = (and_parts (passes_heat p q) (not (is_forbidden c.forbids p.source q.source)) both).0 in
@@ -124,14 +112,17 @@ module _ {c : Case} {hot cold : List Part} (s : AreStandardParts c hot cold) whe
       subst₂ (λ y z. z ≤ℤ y) (sym (price_at-map f hot a p from)) (sym (price_at-map f cold b q to)) (falls p q down.0 down.1)
 
   -- a sum over the parts of a side that each add what stands above a place of the grid, and something for the utility
-  pub sum_above : (side : Side) (f : ℕ → Part → ℤ) (from : Bool) (place each : ℤ) → Contains s.grid place → ((a : ℕ) (p : Part) → slice_get (parts_of side hot cold) a ≡ Some p → IsStandardPart c s.grid side p → f a p ≡ part_over from place each p) → int_sum_from f 0 (parts_of side hot cold) ≡ each +ℤ sum_side side (heat_over from place) c.streams
+  pub sum_above : (side : Side) (f : ℕ → Part → ℤ) (from : Bool) (place each : ℤ) → Contains s.grid place
+      → ((a : ℕ) (p : Part) → slice_get (parts_of side hot cold) a ≡ Some p → IsStandardPart c s.grid side p → f a p ≡ part_over from place each p)
+      → int_sum_from f 0 (parts_of side hot cold) ≡ each +ℤ sum_side side (heat_over from place) c.streams
   sum_above side f from place each on h =
       let parts = parts_of side hot cold in
       int_sum_from-same_each f (λ a p. part_over from place each p) parts (λ a p at. h a p at ((s.sides side).each a p at))
       ∙ int_sum_from-by (part_over from place each) 0 parts ∙ (s.sides side).sum from place each on
 
   -- what a side costs is what its utility costs
-  side_cost-standard : (side : Side) (ts : List Transfer) (heat : ℤ) → UtilityHeat side (parts_of side hot cold) ts heat → side_cost side (parts_of side hot cold) ts ≡ unit_price side *ℤ heat
+  side_cost-standard : (side : Side) (ts : List Transfer) (heat : ℤ) → UtilityHeat side (parts_of side hot cold) ts heat
+      → side_cost side (parts_of side hot cold) ts ≡ unit_price side *ℤ heat
   side_cost-standard side ts heat utility =
       let place = end_of c Cold in
       let each = unit_price side *ℤ heat in
@@ -174,7 +165,10 @@ module _ {c : Case} {hot cold : List Part} (s : AreStandardParts c hot cold) whe
     on_side Cold = (flow.cold_indexes, flow.cold_ranges)
 
     -- the heats of the parts of a side above a place
-    heats_above : (side : Side) (w : ℕ → Part → ℤ) (from : Bool) (place each : ℤ) → Contains s.grid place → UtilityHeat side (parts_of side hot cold) ts each → ((a : ℕ) (p : Part) → slice_get (parts_of side hot cold) a ≡ Some p → w a p ≡ above from place p) → int_sum_from (λ a p. w a p *ℤ heat_at side ts a) 0 (parts_of side hot cold) ≡ reached from place (end_of c side) *ℤ each +ℤ sum_side side (heat_over from place) c.streams
+    heats_above : (side : Side) (w : ℕ → Part → ℤ) (from : Bool) (place each : ℤ) → Contains s.grid place → UtilityHeat side (parts_of side hot cold) ts each
+        → ((a : ℕ) (p : Part) → slice_get (parts_of side hot cold) a ≡ Some p → w a p ≡ above from place p)
+        → int_sum_from (λ a p. w a p *ℤ heat_at side ts a) 0 (parts_of side hot cold)
+        ≡ reached from place (end_of c side) *ℤ each +ℤ sum_side side (heat_over from place) c.streams
     heats_above side w from place each on utility weight =
         sum_above side (λ a p. w a p *ℤ heat_at side ts a) from place (reached from place (end_of c side) *ℤ each) on
         (λ a p at h. ap (λ z. z *ℤ heat_at side ts a) (weight a p at) ∙ ⊎_elim
@@ -188,28 +182,37 @@ module _ {c : Case} {hot cold : List Part} (s : AreStandardParts c hot cold) whe
         h.kind)
 
     -- the same, transfer by transfer
-    pub worth_above : (side : Side) (from : Bool) (place each : ℤ) → Contains s.grid place → UtilityHeat side (parts_of side hot cold) ts each → side_worth side (map (above from place) (parts_of side hot cold)) ts ≡ reached from place (end_of c side) *ℤ each +ℤ sum_side side (heat_over from place) c.streams
+    pub worth_above : (side : Side) (from : Bool) (place each : ℤ) → Contains s.grid place → UtilityHeat side (parts_of side hot cold) ts each
+        → side_worth side (map (above from place) (parts_of side hot cold)) ts
+        ≡ reached from place (end_of c side) *ℤ each +ℤ sum_side side (heat_over from place) c.streams
     worth_above side from place each on utility =
         let parts = parts_of side hot cold in
         sym (side_worth-parts side (map (above from place) parts) parts ts (on_side side).0)
         ∙ heats_above side (λ a p. price_at (map (above from place) parts) a) from place each on utility (price_at-map (above from place) parts)
 
-    pub taken-le : (from : Bool) (place : ℤ) → All (λ t. (price_at (map (above from place) cold) t.cold *ℤ t.heat) ≤ℤ (price_at (map (above from place) hot) t.hot *ℤ t.heat)) ts
-    taken-le from place = worth-le (reach_between c hot cold) (map (above from place) hot) (map (above from place) cold) ts (supports_down (above from place) (above_falls from place)) flow.positive flow.joined
+    pub taken-le : (from : Bool) (place : ℤ)
+        → All (λ t. (price_at (map (above from place) cold) t.cold *ℤ t.heat) ≤ℤ (price_at (map (above from place) hot) t.hot *ℤ t.heat)) ts
+    taken-le from place =
+        worth-le (reach_between c hot cold) (map (above from place) hot) (map (above from place) cold) ts
+        (supports_down (above from place) (above_falls from place)) flow.positive flow.joined
 
     -- all heat of a side: that of its streams and of its utility
     whole_heat : (side : Side) → int_sum_by (λ t. pos 1 *ℤ t.heat) ts ≡ heat side ts +ℤ sum_side side (heat_over true (end_of c Cold)) c.streams
     whole_heat side =
         let bottom = end_of c Cold in
-        let all = one_times (reached true bottom (end_of c side)) (heat side ts) (is_reached true bottom (end_of c side) (from_place bottom (end_of c side) (s.within Cold (end_of c side) (s.ends side)))) in
+        let all =
+        one_times (reached true bottom (end_of c side)) (heat side ts)
+        (is_reached true bottom (end_of c side) (from_place bottom (end_of c side) (s.within Cold (end_of c side) (s.ends side)))) in
         let sum =
         heats_above side (λ a p. pos 1) true bottom (heat side ts) (s.ends Cold) (utility_heat side ts)
         (λ a p at. sym (is_reached true bottom p.low (from_place bottom p.low ((s.sides side).each a p at).from))) in
-        sym (int_sum_from-grouped (part_index side) (λ t. t.heat) (λ a. pos 1) (parts_of side hot cold) ts (on_side side).0) ∙ sum ∙ ap (λ z. z +ℤ sum_side side (heat_over true bottom) c.streams) all
+        sym (int_sum_from-grouped (part_index side) (λ t. t.heat) (λ a. pos 1) (parts_of side hot cold) ts (on_side side).0) ∙ sum
+        ∙ ap (λ z. z +ℤ sum_side side (heat_over true bottom) c.streams) all
 
     utility-not_negative : (side : Side) → pos 0 ≤ℤ heat side ts
     utility-not_negative side =
-        int_sum_by-not_negative (λ t. if part_index side t == (s.sides side).utility then t.heat else pos 0) ts (heats_at-not_negative side ts (s.sides side).utility flow.positive)
+        int_sum_by-not_negative (λ t. if part_index side t == (s.sides side).utility then t.heat else pos 0) ts
+        (heats_at-not_negative side ts (s.sides side).utility flow.positive)
 
     -- above a place where a deficit is the hot target the cold parts need that much more than the hot streams give
     hot-at_least : hot_target c.streams ≤ℤ heat Hot ts
@@ -224,7 +227,9 @@ module _ {c : Case} {hot cold : List Part} (s : AreStandardParts c hot cold) whe
             let colds = worth_above Cold from place (heat Cold ts) on (utility_heat Cold ts) in
             let most = (share (counts_above from place (end_of c Hot)) (heat Hot ts) (utility-not_negative Hot)).1 in
             let some = (share (counts_above from place (end_of c Cold)) (heat Cold ts) (utility-not_negative Cold)).0 in
-            let le = int_sum_by-le (λ t. price_at (map (above from place) cold) t.cold *ℤ t.heat) (λ t. price_at (map (above from place) hot) t.hot *ℤ t.heat) ts (taken-le from place) in
+            let le =
+            int_sum_by-le (λ t. price_at (map (above from place) cold) t.cold *ℤ t.heat) (λ t. price_at (map (above from place) hot) t.hot *ℤ t.heat) ts
+            (taken-le from place) in
             omega (arith, ints)
 
     -- the utilities give and take at least the targets
@@ -233,7 +238,9 @@ module _ {c : Case} {hot cold : List Part} (s : AreStandardParts c hot cold) whe
     at_least Cold = let least = hot-at_least in let hots = whole_heat Hot in let colds = whole_heat Cold in let targets = s.lowest in omega (arith, ints)
 
     pub cost-at_least : hot_target c.streams ≤ℤ cost_of hot cold ts
-    cost-at_least = let least = hot-at_least in let cost = cost-hot_utility ts (heat Hot ts) (heat Cold ts) (utility_heat Hot ts) (utility_heat Cold ts) in omega (arith, ints)
+    cost-at_least =
+        let least = hot-at_least in let cost = cost-hot_utility ts (heat Hot ts) (heat Cold ts) (utility_heat Hot ts) (utility_heat Cold ts) in
+        omega (arith, ints)
 
   pub needs_heat : (side : Side) → NeedsHeat c hot cold side (target_of side c.streams)
   needs_heat side ts flow a p at utility = let least = at_least ts flow side in let one = utility_heat side ts a p at utility in omega (arith, ints)

@@ -1,14 +1,12 @@
 -- No heat crosses a pinch: what is needed above it is all that the hot parts above it give.
-use Rattle.std.proofs.Common.{◌≡◌, ◌∙◌, ap, Bool, List, [], ◌∷◌, get_or, map, arith}
-use Rattle.std.specs.Prelude.{ℤ, pos, ◌*ℤ◌, ◌≤ℤ◌, ◌<ℤ◌, if◌then◌else◌, All, Contains}
-use Rattle.std.proofs.lemmas.Bool.{not-true}
-use Rattle.std.proofs.lemmas.Int.{ints}
-use Rattle.std.proofs.lemmas.List.Elements.{All-nil, All-cons, All-head, All-tail}
-use Rattle.corner_flow.proofs.Words.{Case, Cold, Hot, IsFlowOf, IsPinch, IsTightOver, NoHeatCrosses, NoHeatCrossesPinch, Part, Transfer, UtilityHeat, hot_target, int_sum_by, price_at, stands_above}
-use Rattle.sums.proofs.SumLemmas.{int_sum_by-le}
-use Rattle.corner_flow.proofs.StandardLemmas.{end_of}
+use Rattle.corner_flow.proofs.HeatLemmas.{above, counts_higher, counts_lower, heat, is_missed, is_reached, one_times, price_at-map, reached, taken-le}
+use Rattle.corner_flow.proofs.HeatLemmas.{utility_heat, worth_above, zero_times}
 use Rattle.corner_flow.proofs.SideLemmas.{AreStandardParts}
-use Rattle.corner_flow.proofs.HeatLemmas.{above, counts_higher, counts_lower, reached, is_reached, is_missed, zero_times, one_times, price_at-map, taken-le, worth_above, heat, utility_heat}
+use Rattle.corner_flow.proofs.StandardLemmas.{end_of}
+use Rattle.corner_flow.proofs.Words.{All, All-cons, All-head, All-nil, All-tail, Case, Cold, Contains, Hot, IsFlowOf, IsPinch, IsTightOver, NoHeatCrosses}
+use Rattle.corner_flow.proofs.Words.{NoHeatCrossesPinch, Part, Transfer, UtilityHeat, hot_target, if◌then◌else◌, int_sum_by, int_sum_by-le, ints, not-true, pos}
+use Rattle.corner_flow.proofs.Words.{price_at, stands_above, ℤ, ◌*ℤ◌, ◌<ℤ◌, ◌≤ℤ◌}
+use Rattle.std.proofs.Common.{Bool, List, [], ap, arith, get_or, map, ◌∙◌, ◌∷◌, ◌≡◌}
 
 -- where two sums are equal and no term of the one is greater, the terms are equal
 equal_terms : {X : Type 0} (f g : X → ℤ) (xs : List X) → All (λ x. f x ≤ℤ g x) xs → int_sum_by f xs ≡ int_sum_by g xs → All (λ x. f x ≡ g x) xs
@@ -20,7 +18,9 @@ equal_terms f g (x ∷ xs) le e =
     let is : f x ≡ g x = omega (arith, ints) in
     All-cons (λ y. f y ≡ g y) x xs is (equal_terms f g xs others (omega (arith, ints)))
 
-module _ {c : Case} {hot cold : List Part} (s : AreStandardParts c hot cold) (place : ℤ) (pinch : IsPinch c.streams place) (from : Bool) (tight : IsTightOver from c.streams place) (ts : List Transfer) (flow : IsFlowOf c hot cold ts) (given : UtilityHeat Hot hot ts (hot_target c.streams)) where
+module _ {c : Case} {hot cold : List Part} (s : AreStandardParts c hot cold) (place : ℤ) (pinch : IsPinch c.streams place) (from : Bool)
+    (tight : IsTightOver from c.streams place) (ts : List Transfer) (flow : IsFlowOf c hot cold ts)
+    (given : UtilityHeat Hot hot ts (hot_target c.streams)) where
   -- the hot utility stands above the pinch, and the cold one below it
   top_above : place <ℤ end_of c Hot
   top_above = let (k, x, within, is, less) = pinch.inside.below_some in let highest = s.within Hot x (s.stream_end x (k, within, is)) in omega (arith, ints)
@@ -35,9 +35,13 @@ module _ {c : Case} {hot cold : List Part} (s : AreStandardParts c hot cold) (pl
       let target = hot_target c.streams in
       let hots = worth_above s ts flow Hot from place target on given in
       let colds = worth_above s ts flow Cold from place (heat s Cold ts) on (utility_heat s Cold ts) in
-      let all = one_times (reached from place (end_of c Hot)) target (is_reached from place (end_of c Hot) (counts_higher from place (end_of c Hot) top_above)) in
-      let none = zero_times (reached from place (end_of c Cold)) (heat s Cold ts) (is_missed from place (end_of c Cold) (counts_lower from place (end_of c Cold) bottom_below)) in
-      equal_terms (λ t. price_at (map (above from place) cold) t.cold *ℤ t.heat) (λ t. price_at (map (above from place) hot) t.hot *ℤ t.heat) ts (taken-le s ts flow from place) (omega (arith, ints))
+      let all =
+      one_times (reached from place (end_of c Hot)) target (is_reached from place (end_of c Hot) (counts_higher from place (end_of c Hot) top_above)) in
+      let none =
+      zero_times (reached from place (end_of c Cold)) (heat s Cold ts)
+      (is_missed from place (end_of c Cold) (counts_lower from place (end_of c Cold) bottom_below)) in
+      equal_terms (λ t. price_at (map (above from place) cold) t.cold *ℤ t.heat) (λ t. price_at (map (above from place) hot) t.hot *ℤ t.heat) ts
+      (taken-le s ts flow from place) (omega (arith, ints))
 
   -- so nothing is left to give below it
   none_crosses : NoHeatCrosses from hot cold place ts
@@ -45,10 +49,13 @@ module _ {c : Case} {hot cold : List Part} (s : AreStandardParts c hot cold) (pl
       let t = get_or ts k d in
       let p = crossing.hot_part in
       let q = crossing.cold_part in
-      let gives = one_times (price_at (map (above from place) hot) t.hot) t.heat (price_at-map (above from place) hot t.hot p crossing.hot_at ∙ ap (λ b. if b then pos 1 else pos 0) crossing.above) in
+      let gives =
+      one_times (price_at (map (above from place) hot) t.hot) t.heat
+      (price_at-map (above from place) hot t.hot p crossing.hot_at ∙ ap (λ b. if b then pos 1 else pos 0) crossing.above) in
       let takes =
       zero_times (price_at (map (above from place) cold) t.cold) t.heat
-      (price_at-map (above from place) cold t.cold q crossing.cold_at ∙ ap (λ b. if b then pos 1 else pos 0) (not-true (stands_above from place q) crossing.not_above)) in
+      (price_at-map (above from place) cold t.cold q crossing.cold_at
+      ∙ ap (λ b. if b then pos 1 else pos 0) (not-true (stands_above from place q) crossing.not_above)) in
       let same = same_above k d within in
       omega (arith, ints, flow.positive k d within)
 

@@ -1,31 +1,30 @@
 -- Two parts whose spans overlap reach.
-use Rattle.std.proofs.Common.{◌≡◌, ⊎_elim, inl, inr, ◌∙◌, refl, sym, ap, ap₂, ℕ, zero, suc, ◌+◌, Bool, true, false, ◌&&◌, List, [], ◌∷◌, take, Some, arith, zero-add}
-use Rattle.std.specs.Prelude.{ℤ, pos, ◌+ℤ◌, ◌≤ℤ◌, ◌<ℤ◌, int_le, nat_lt, if◌then◌else◌, Contains, slice_get}
-use Rattle.std.specs.Ordering.{int_eq}
-use Rattle.std.proofs.lemmas.Int.{ints, clamps, by_lt_z}
-use Rattle.std.proofs.lemmas.Bool.{or_parts, and_from, cases_Bool, cases_lt, both_ways, false_from_ne_true, false≢true, lt-ltb, le-ltb}
-use Rattle.std.proofs.lemmas.Bool.Decides.{Decides-int_eq}
-use Rattle.std.proofs.lemmas.List.{take-map}
-use Rattle.corner_flow.proofs.Words.{Case, Cold, Hot, IsInterval, Part, begin_of, cold_target, counts_above, heat_over, heats_of, hot_target, int_sum_by, int_sum_from, is_stream, overlap, part_heat, passes_heat, stands_above, sum_side}
-use Rattle.sums.proofs.SumLemmas.{int_sum_by-map, int_sum_from-by, int_sum_from-zero, int_sum_from-le_each}
-use Rattle.sums.proofs.IntegerLemmas.{int_le-false, int_le-from, int_lt-from}
-use Rattle.problem_table.proofs.DeficitLemmas.{deficit_over-bound, hot_target-between}
-use Rattle.grid.proofs.PlaceLemmas.{interval_falls, interval_ends, interval_below, interval_above}
-use Rattle.grid.proofs.HeatLemmas.{part_over}
+use Rattle.corner_flow.proofs.HeatLemmas.{above, counts_higher, counts_lower, from_place, from_stream, one_times, stands-level, stands_falls, zero_times}
+use Rattle.corner_flow.proofs.SideLemmas.{AreStandardParts, IsStandardPart, StandsOn, ends_on}
 use Rattle.corner_flow.proofs.StandardLemmas.{end_of}
-use Rattle.corner_flow.proofs.SideLemmas.{IsStandardPart, AreStandardParts, StandsOn, ends_on}
-use Rattle.corner_flow.proofs.HeatLemmas.{above, counts_higher, counts_lower, from_place, from_stream, int_lt-false, one_times, stands-level, stands_falls, zero_times}
+use Rattle.corner_flow.proofs.Words.{Case, Cold, Contains, Decides-int_eq, Hot, IsInterval, Part, and_from, begin_of, both_ways, by_lt_z, cases_Bool, cases_lt}
+use Rattle.corner_flow.proofs.Words.{clamps, cold_target, counts_above, deficit_over-bound, false_from_ne_true, false≢true, heat_over, heats_of, hot_target}
+use Rattle.corner_flow.proofs.Words.{hot_target-between, if◌then◌else◌, int_eq, int_le, int_le-false, int_le-from, int_lt-false, int_lt-from, int_sum_by}
+use Rattle.corner_flow.proofs.Words.{int_sum_by-map, int_sum_from, int_sum_from-by, int_sum_from-le_each, int_sum_from-zero, interval_above, interval_below}
+use Rattle.corner_flow.proofs.Words.{interval_ends, interval_falls, ints, is_stream, le-ltb, lt-ltb, nat_lt, or_parts, overlap, part_heat, part_over}
+use Rattle.corner_flow.proofs.Words.{passes_heat, pos, slice_get, stands_above, sum_side, take-map, ℤ, ◌+ℤ◌, ◌<ℤ◌, ◌≤ℤ◌}
+use Rattle.std.proofs.Common.{Bool, List, Some, [], ap, ap₂, arith, false, inl, inr, refl, suc, sym, take, true, zero, zero-add, ℕ, ⊎_elim, ◌&&◌, ◌+◌, ◌∙◌, ◌∷◌}
+use Rattle.std.proofs.Common.{◌≡◌}
 
 -- ---- the spans before an index
 
-int_sum_by-take : {X : Type 0} (f : X → ℤ) (n m : ℕ) (xs : List X) → int_sum_by f (take n xs) ≡ int_sum_from (λ k x. if nat_lt k (m + n) then f x else pos 0) m xs
+int_sum_by-take : {X : Type 0} (f : X → ℤ) (n m : ℕ) (xs : List X)
+    → int_sum_by f (take n xs) ≡ int_sum_from (λ k x. if nat_lt k (m + n) then f x else pos 0) m xs
 int_sum_by-take f zero m [] = refl
 int_sum_by-take f (suc n) m [] = refl
 int_sum_by-take f zero m (x ∷ xs) =
-    sym (int_sum_from-zero (λ k y. if nat_lt k (m + zero) then f y else pos 0) m (x ∷ xs) (λ k y le. ap (λ b. if b then f y else pos 0) (le-ltb k (m + zero) (omega arith))))
+    sym
+    (int_sum_from-zero (λ k y. if nat_lt k (m + zero) then f y else pos 0) m (x ∷ xs)
+    (λ k y le. ap (λ b. if b then f y else pos 0) (le-ltb k (m + zero) (omega arith))))
 int_sum_by-take f (suc n) m (x ∷ xs) =
     ap₂ ◌+ℤ◌ (sym (ap (λ b. if b then f x else pos 0) (lt-ltb m (m + suc n) (omega arith))))
-    (int_sum_by-take f n (suc m) xs ∙ ap (λ e. int_sum_from (λ k y. if nat_lt k e then f y else pos 0) (suc m) xs) {x = suc m + n} {y = m + suc n} (omega arith))
+    (int_sum_by-take f n (suc m) xs
+    ∙ ap (λ e. int_sum_from (λ k y. if nat_lt k e then f y else pos 0) (suc m) xs) {x = suc m + n} {y = m + suc n} (omega arith))
 
 -- what the parts before an index have
 abbrev pub heat_before : ℤ → ℕ → ℕ → Part → ℤ
@@ -44,7 +43,8 @@ apart p q h =
     let parts = or_parts (int_le q.high p.low) (int_eq p.high q.high && int_eq p.low q.low) h in
     let lower = parts.0 in (
       omega (arith, ints),
-      λ e f. both_ways (int_eq p.high q.high && int_eq p.low q.low) parts.1 (and_from (int_eq p.high q.high) (int_eq p.low q.low) ((Decides-int_eq p.high q.high).1 e) ((Decides-int_eq p.low q.low).1 f)),
+      λ e f. both_ways (int_eq p.high q.high && int_eq p.low q.low) parts.1
+          (and_from (int_eq p.high q.high) (int_eq p.low q.low) ((Decides-int_eq p.high q.high).1 e) ((Decides-int_eq p.low q.low).1 f)),
     )
 
 pub heat_of_stream : (target : ℤ) (p : Part) → is_stream p.source ≡ true → part_heat target p ≡ p.least
@@ -53,17 +53,20 @@ heat_of_stream target p e = ap (λ b. if b then p.least else target) e
 pub heat_of_utility : (target : ℤ) (p : Part) → is_stream p.source ≡ false → part_heat target p ≡ target
 heat_of_utility target p e = ap (λ b. if b then p.least else target) e
 
-part_over-le : (from : Bool) (place target : ℤ) (p : Part) → pos 0 ≤ℤ p.least → pos 0 ≤ℤ target → (pos 0 ≤ℤ part_over from place target p) × (part_over from place target p ≤ℤ part_heat target p)
+part_over-le : (from : Bool) (place target : ℤ) (p : Part) → pos 0 ≤ℤ p.least → pos 0 ≤ℤ target
+    → (pos 0 ≤ℤ part_over from place target p) × (part_over from place target p ≤ℤ part_heat target p)
 part_over-le from place target p h k = either (is_stream p.source) (stands_above from place p)
   where
-    either : (b d : Bool) → (pos 0 ≤ℤ (if b then (if d then p.least else pos 0) else target)) × ((if b then (if d then p.least else pos 0) else target) ≤ℤ (if b then p.least else target))
+    either : (b d : Bool) → (pos 0 ≤ℤ (if b then (if d then p.least else pos 0) else target))
+        × ((if b then (if d then p.least else pos 0) else target) ≤ℤ (if b then p.least else target))
     either true true = (omega (arith, ints), omega (arith, ints))
     either true false = (omega (arith, ints), omega (arith, ints))
     either false d = (omega (arith, ints), omega (arith, ints))
 
 module _ {c : Case} {hot cold : List Part} (s : AreStandardParts c hot cold) (from : Bool) (place : ℤ) (on : Contains s.grid place) where
   -- the hot heat above a place stands before a hot part that does not stand above it
-  hot_before : (i : ℕ) (p : Part) → slice_get hot i ≡ Some p → stands_above from place p ≡ false → counts_above from place (end_of c Hot) ≡ true → (hot_target c.streams +ℤ sum_side Hot (heat_over from place) c.streams) ≤ℤ begin_of (heats_of (hot_target c.streams) hot) i
+  hot_before : (i : ℕ) (p : Part) → slice_get hot i ≡ Some p → stands_above from place p ≡ false → counts_above from place (end_of c Hot) ≡ true
+      → (hot_target c.streams +ℤ sum_side Hot (heat_over from place) c.streams) ≤ℤ begin_of (heats_of (hot_target c.streams) hot) i
   hot_before i p at missed top =
       let target = hot_target c.streams in
       let each =
@@ -81,7 +84,8 @@ module _ {c : Case} {hot cold : List Part} (s : AreStandardParts c hot cold) (fr
       let not_above : stands_above from place q ≡ true → ⊥ = λ e. false≢true (sym missed ∙ stands_falls from place p q falls.0 falls.1 e) in
       let none : part_over from place target q ≡ pos 0 =
       ⊎_elim
-      (λ h. from_stream from place target q h.source_is ∙ zero_times (above from place q) q.least (ap (λ b. if b then pos 1 else pos 0) (false_from_ne_true (stands_above from place q) not_above)))
+      (λ h. from_stream from place target q h.source_is
+      ∙ zero_times (above from place q) q.least (ap (λ b. if b then pos 1 else pos 0) (false_from_ne_true (stands_above from place q) not_above)))
       (λ h. absurd (not_above (stands-level from place (end_of c Hot) q h.high h.low ∙ top)))
       part.kind in
       omega (arith, ints))
@@ -92,7 +96,8 @@ module _ {c : Case} {hot cold : List Part} (s : AreStandardParts c hot cold) (fr
       omega (arith, ints)
 
   -- the cold heat up to a part that stands above a place lies above the place
-  cold_upto : (j : ℕ) (q : Part) → slice_get cold j ≡ Some q → stands_above from place q ≡ true → counts_above from place (end_of c Cold) ≡ false → begin_of (heats_of (cold_target c.streams) cold) (suc j) ≤ℤ sum_side Cold (heat_over from place) c.streams
+  cold_upto : (j : ℕ) (q : Part) → slice_get cold j ≡ Some q → stands_above from place q ≡ true → counts_above from place (end_of c Cold) ≡ false
+      → begin_of (heats_of (cold_target c.streams) cold) (suc j) ≤ℤ sum_side Cold (heat_over from place) c.streams
   cold_upto j q at stands bottom =
       let target = cold_target c.streams in
       let each =
@@ -122,7 +127,8 @@ module _ {c : Case} {hot cold : List Part} (s : AreStandardParts c hot cold) (fr
       omega (arith, ints)
 
   -- so the spans of two parts with a place between them do not overlap
-  no_overlap : (i j : ℕ) (p q : Part) → slice_get hot i ≡ Some p → slice_get cold j ≡ Some q → stands_above from place p ≡ false → stands_above from place q ≡ true → counts_above from place (end_of c Hot) ≡ true → counts_above from place (end_of c Cold) ≡ false
+  no_overlap : (i j : ℕ) (p q : Part) → slice_get hot i ≡ Some p → slice_get cold j ≡ Some q → stands_above from place p ≡ false
+      → stands_above from place q ≡ true → counts_above from place (end_of c Hot) ≡ true → counts_above from place (end_of c Cold) ≡ false
       → pos 0 <ℤ overlap (heats_of (hot_target c.streams) hot) (heats_of (cold_target c.streams) cold) i j → ⊥
   no_overlap i j p q at other missed stands top bottom positive =
       let begin = hot_before i p at missed top in
@@ -152,8 +158,10 @@ module _ {c : Case} {hot cold : List Part} (s : AreStandardParts c hot cold) whe
       absurd (differ (omega (arith, ints)) (omega (arith, ints))))
 
   -- two parts whose spans overlap reach
-  pub overlap-passes : (i j : ℕ) (p q : Part) → slice_get hot i ≡ Some p → slice_get cold j ≡ Some q → pos 0 <ℤ overlap (heats_of (hot_target c.streams) hot) (heats_of (cold_target c.streams) cold) i j → passes_heat p q ≡ true
-  overlap-passes i j p q at other positive = ⊎_elim (λ e. e) (λ missed. absurd (never missed ((s.sides Hot).each i p at) ((s.sides Cold).each j q other))) (cases_Bool (passes_heat p q))
+  pub overlap-passes : (i j : ℕ) (p q : Part) → slice_get hot i ≡ Some p → slice_get cold j ≡ Some q
+      → pos 0 <ℤ overlap (heats_of (hot_target c.streams) hot) (heats_of (cold_target c.streams) cold) i j → passes_heat p q ≡ true
+  overlap-passes i j p q at other positive =
+      ⊎_elim (λ e. e) (λ missed. absurd (never missed ((s.sides Hot).each i p at) ((s.sides Cold).each j q other))) (cases_Bool (passes_heat p q))
     where
       never : passes_heat p q ≡ false → IsStandardPart c s.grid Hot p → IsStandardPart c s.grid Cold q → ⊥
       never missed x y = split y.ends
@@ -169,7 +177,8 @@ module _ {c : Case} {hot cold : List Part} (s : AreStandardParts c hot cold) whe
               let same = level.0 in
               let from = x.from in
               let upto = y.upto in
-              no_overlap s true q.low on i j p q at other (int_le-false q.low p.low (omega (arith, ints, below))) (int_le-from q.low q.low (omega (arith, ints)))
+              no_overlap s true q.low on i j p q at other (int_le-false q.low p.low (omega (arith, ints, below)))
+              (int_le-from q.low q.low (omega (arith, ints)))
               (from_place q.low (end_of c Hot) (omega (arith, ints))) (counts_lower true q.low (end_of c Cold) (omega (arith, ints, below))) positive
           split (inr interval) =
               let falls = interval_falls s.grid q.high q.low s.grid_falls interval in

@@ -1,21 +1,14 @@
 -- The parts of a side of a standard case.
-use Rattle.std.proofs.Common.{◌≡◌, ◌⊎◌, inl, inr, ◌∙◌, refl, sym, ap, ap₂, subst, subst₂, ⊎_elim, ℕ, ◌<◌, ◌≤◌, Bool, true, false, List, arith}
-use Rattle.std.specs.Prelude.{ℤ, pos, ◌+ℤ◌, ◌-ℤ◌, ◌≤ℤ◌, ◌<ℤ◌, AllPairs, Contains, Some, slice_get}
-use Rattle.std.proofs.lemmas.Int.{ints}
-use Rattle.std.proofs.lemmas.Bool.{cases_eq, cases_order, both_ways}
-use Rattle.std.proofs.lemmas.Option.{same_Some, slice_get-get_or, slice_get_within, get_or_from_slice_get}
-use Rattle.corner_flow.proofs.Words.{AreCaseParts, AreParts, Case, Cold, HasValidStreams, HoldsPlaces, Hot, IsBounded, IsComplete, IsGrid, IsInterval, IsPartOf, IsPiece, IsStandard, MOST_HEAT, Part, Side, Stream, cold_target, comes_before, deficit_from, heat_over, high_end, hot_target, int_sum_by, is_stream, low_end, parts_of, standard_utility, stream_ends, sum_side, utility_part}
-use Rattle.stream_case.proofs.CompleteLemmas.{HasValidStreams-IsComplete, IsPlaced-IsComplete, shifted_level-standard}
-use Rattle.stream_case.proofs.EndLemmas.{level-latent}
-use Rattle.stream_case.proofs.SourceLemmas.{each_side}
-use Rattle.sums.proofs.ListLemmas.{All-slice_get}
-use Rattle.problem_table.proofs.EndLemmas.{IsOutside}
-use Rattle.grid.proofs.HeatLemmas.{part_over, sum-part_over}
-use Rattle.grid.proofs.MakingLemmas.{HoldsPlaces-IsGrid, AreParts-made, holds_ends}
-use Rattle.grid.proofs.PlaceLemmas.{interval_below, interval_ends, interval_falls}
-use Rattle.grid.proofs.SizeLemmas.{IsBounded-part}
-use Rattle.grid.proofs.StandardUtilities.{own_utility, some_utility, one_utility, sum_utilities}
-use Rattle.corner_flow.proofs.StandardLemmas.{end_of, grid_is_ends, grid_within, stream_end_on_grid, end_on_grid, cold_target-lowest_end}
+use Rattle.corner_flow.proofs.StandardLemmas.{cold_target-lowest_end, end_of, end_on_grid, grid_is_ends, grid_within, stream_end_on_grid}
+use Rattle.corner_flow.proofs.Words.{All-slice_get, AllPairs, AreCaseParts, AreParts, Case, Cold, Contains, HasValidStreams, HasValidStreams-IsComplete}
+use Rattle.corner_flow.proofs.Words.{HoldsPlaces, Hot, IsBounded, IsBounded-part, IsComplete, IsGrid, IsInterval, IsOutside, IsPartOf, IsPiece}
+use Rattle.corner_flow.proofs.Words.{IsPlaced-IsComplete, IsStandard, MOST_HEAT, Part, Side, Some, Stream, both_ways, cases_eq, cases_order, cold_target}
+use Rattle.corner_flow.proofs.Words.{comes_before, deficit_from, each_side, get_or_from_slice_get, heat_over, high_end, hot_target, int_sum_by, interval_below}
+use Rattle.corner_flow.proofs.Words.{interval_ends, interval_falls, ints, is_stream, level-latent, low_end, one_utility, own_utility, part_over, parts_of, pos}
+use Rattle.corner_flow.proofs.Words.{same_Some, shifted_level-standard, slice_get, slice_get-get_or, slice_get_within, some_utility, standard_side}
+use Rattle.corner_flow.proofs.Words.{standard_utility, stream_ends, sum-part_over, sum_side, sum_utilities, utility_part, ℤ, ◌+ℤ◌, ◌-ℤ◌, ◌<ℤ◌, ◌≤ℤ◌}
+use Rattle.grid.proofs.MakingLemmas.{AreParts-made, HoldsPlaces-IsGrid, holds_ends}
+use Rattle.std.proofs.Common.{Bool, List, ap, ap₂, arith, false, inl, inr, refl, subst, subst₂, sym, true, ℕ, ⊎_elim, ◌<◌, ◌∙◌, ◌≡◌, ◌≤◌, ◌⊎◌}
 
 -- ---- one part
 
@@ -77,13 +70,23 @@ pub record AreStandardParts (c : Case) (hot cold : List Part) : Type 0 where
 
 -- ---- they are so
 
-standard_side : (side : Side) (c : Case) → (standard_utility side c).side ≡ side
-standard_side Hot c = refl
-standard_side Cold c = refl
-
 IsUtilityHere-standard : (c : Case) (side : Side) (i : ℕ) → IsUtilityHere c side (utility_part i (standard_utility side c))
-IsUtilityHere-standard c Hot i = record { source_is = refl; high = shifted_level-standard Hot c; low = shifted_level-standard Hot c; least = refl; most = refl; price = refl }
-IsUtilityHere-standard c Cold i = record { source_is = refl; high = shifted_level-standard Cold c; low = shifted_level-standard Cold c; least = refl; most = refl; price = refl }
+IsUtilityHere-standard c Hot i = record {
+  source_is = refl;
+  high = shifted_level-standard Hot c;
+  low = shifted_level-standard Hot c;
+  least = refl;
+  most = refl;
+  price = refl;
+}
+IsUtilityHere-standard c Cold i = record {
+  source_is = refl;
+  high = shifted_level-standard Cold c;
+  low = shifted_level-standard Cold c;
+  least = refl;
+  most = refl;
+  price = refl;
+}
 
 -- a place that is below the high of a part is at most its low
 pub low_reached : (grid : List ℤ) (p : Part) (x : ℤ) → AllPairs (λ a b. b <ℤ a) grid → StandsOn grid p → Contains grid x → x <ℤ p.high → x ≤ℤ p.low
@@ -95,12 +98,15 @@ pub ends_on : (grid : List ℤ) (p : Part) → StandsOn grid p → Contains grid
 ends_on grid p (inl level) = (level.1, subst (Contains grid) level.0 level.1)
 ends_on grid p (inr interval) = interval_ends grid p.high p.low interval
 
-in_order_of : (grid : List ℤ) (p q : Part) → AllPairs (λ a b. b <ℤ a) grid → StandsOn grid p → StandsOn grid q → q.low ≤ℤ q.high → comes_before p q → (q.high ≤ℤ p.high) × (q.low ≤ℤ p.low)
-in_order_of grid p q falls on other order (inl h) = let low = low_reached grid p q.high falls on (ends_on grid q other).0 h in (omega (arith, ints), omega (arith, ints))
+in_order_of : (grid : List ℤ) (p q : Part) → AllPairs (λ a b. b <ℤ a) grid → StandsOn grid p → StandsOn grid q → q.low ≤ℤ q.high → comes_before p q
+    → (q.high ≤ℤ p.high) × (q.low ≤ℤ p.low)
+in_order_of grid p q falls on other order (inl h) =
+    let low = low_reached grid p q.high falls on (ends_on grid q other).0 h in (omega (arith, ints), omega (arith, ints))
 in_order_of grid p q falls on other order (inr (inl h)) = (omega (arith, ints, h.0), omega (arith, ints, h.1))
 in_order_of grid p q falls on other order (inr (inr h)) = (omega (arith, ints, h.0), omega (arith, ints, h.1))
 
-module _ (c : Case) (grid : List ℤ) (complete : IsComplete c) (standard : IsStandard c) (on_grid : IsGrid c grid) (side : Side) (parts : List Part) (are : AreParts c.streams c.utilities grid side parts) where
+module _ (c : Case) (grid : List ℤ) (complete : IsComplete c) (standard : IsStandard c) (on_grid : IsGrid c grid) (side : Side) (parts : List Part)
+    (are : AreParts c.streams c.utilities grid side parts) where
   valid : HasValidStreams c.streams
   valid = HasValidStreams-IsComplete c complete
 
@@ -114,7 +120,9 @@ module _ (c : Case) (grid : List ℤ) (complete : IsComplete c) (standard : IsSt
   on_side a p at = subst OnSide (get_or_from_slice_get parts a p p at) (are.each a p (slice_get_within parts a p at))
 
   in_order : (a b : ℕ) (p q : Part) → slice_get parts a ≡ Some p → slice_get parts b ≡ Some q → a < b → comes_before p q
-  in_order a b p q at other less = subst₂ comes_before (get_or_from_slice_get parts a p q at) (get_or_from_slice_get parts b q q other) (are.ordered a b q less (slice_get_within parts b q other))
+  in_order a b p q at other less =
+      subst₂ comes_before (get_or_from_slice_get parts a p q at) (get_or_from_slice_get parts b q q other)
+      (are.ordered a b q less (slice_get_within parts b q other))
 
   -- the part of the utility of the side
   own : Part
@@ -140,9 +148,12 @@ module _ (c : Case) (grid : List ℤ) (complete : IsComplete c) (standard : IsSt
   kind : (p : Part) → OnSide p → IsStreamHere p ⊎ IsUtilityHere c side p
   unfolding own
   kind p (inl (i, s, h)) =
-      inl (record { source_is = ap (λ q. is_stream q.source) h.is; fixed = ap (λ q. q.least) h.is ∙ sym (ap (λ q. q.most) h.is); price = ap (λ q. q.price) h.is })
+      inl
+      (record { source_is = ap (λ q. is_stream q.source) h.is; fixed = ap (λ q. q.least) h.is ∙ sym (ap (λ q. q.most) h.is); price = ap (λ q. q.price) h.is })
   kind p (inr (i, u, h)) =
-      inr (subst (IsUtilityHere c side) (sym (own-is p (inr (i, u, h)) (ap (λ q. is_stream q.source) h.is))) (IsUtilityHere-standard c side (some_utility c standard side).0))
+      inr
+      (subst (IsUtilityHere c side) (sym (own-is p (inr (i, u, h)) (ap (λ q. is_stream q.source) h.is)))
+      (IsUtilityHere-standard c side (some_utility c standard side).0))
 
   -- a part of a stream is on an interval, or at its level, and one of a utility at its own
   on_places : (p : Part) → OnSide p → StandsOn grid p
@@ -151,7 +162,9 @@ module _ (c : Case) (grid : List ℤ) (complete : IsComplete c) (standard : IsSt
       of_piece : IsPiece grid s p.high p.low → StandsOn grid p
       of_piece (inl interval) = inr interval
       of_piece (inr (latent, same)) =
-          let held = All-slice_get (λ (x : Stream). Contains grid (high_end x) × Contains grid (low_end x)) c.streams i s (holds_ends c.streams c.utilities grid holds) h.stream in
+          let held =
+          All-slice_get (λ (x : Stream). Contains grid (high_end x) × Contains grid (low_end x)) c.streams i s
+          (holds_ends c.streams c.utilities grid holds) h.stream in
           let level = level-latent s latent in
           let is : high_end s ≡ p.high = omega (arith, ints, h.from, h.upto) in
           inl (same, subst (Contains grid) is held.0)
@@ -170,7 +183,9 @@ module _ (c : Case) (grid : List ℤ) (complete : IsComplete c) (standard : IsSt
   unfolding own
   own-at =
       let (i, at) = some_utility c standard side in
-      let (a, within, is) = are.every (utility_part i (standard_utility side c)) (inr (i, standard_utility side c, record { utility = at; side_is = standard_side side c; is = refl })) in
+      let (a, within, is) =
+      are.every (utility_part i (standard_utility side c))
+      (inr (i, standard_utility side c, record { utility = at; side_is = standard_side side c; is = refl })) in
       (a, slice_get-get_or parts a (utility_part i (standard_utility side c)) within ∙ ap Some is)
 
   IsStandardSide-parts : IsStandardSide c grid side parts

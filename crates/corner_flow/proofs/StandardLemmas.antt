@@ -1,16 +1,9 @@
 -- The ends and the grid of a standard case.
-use Rattle.std.proofs.Common.{◌≡◌, ⊎_elim, ◌∙◌, sym, ap, subst, ◌<◌, List, length, get_or, map, arith}
-use Rattle.std.specs.Prelude.{ℤ, ◌-ℤ◌, ◌≤ℤ◌, Contains}
-use Rattle.std.proofs.lemmas.Int.{ints}
-use Rattle.std.proofs.lemmas.List.{get_or-map, length-map}
-use Rattle.std.proofs.lemmas.List.Elements.{All-weaker, All-contains, Contains-append_left, Contains-append_cases}
-use Rattle.std.proofs.lemmas.Option.{slice_get-get_or}
-use Rattle.corner_flow.proofs.Words.{Case, Cold, HasValidStreams, Hot, IsGrid, IsStandard, Side, cold_target, deficit_from, high_end, hot_target, low_end, outermost, places_of, shifted_level, standard_utility, stream_ends}
-use Rattle.stream_case.proofs.CompleteLemmas.{shifted_level-standard}
-use Rattle.stream_case.proofs.EndLemmas.{length-stream_ends, each_end}
-use Rattle.problem_table.proofs.DeficitLemmas.{deficit_from-lowest}
-use Rattle.problem_table.proofs.EndLemmas.{IsOutside, IsOutermost, IsOutermost-outermost}
-use Rattle.grid.proofs.StandardUtilities.{own_utility}
+use Rattle.corner_flow.proofs.Words.{All-contains, All-weaker, Case, Cold, Contains, Contains-append_cases, Contains-append_left, HasValidStreams, Hot, IsGrid}
+use Rattle.corner_flow.proofs.Words.{IsOutermost, IsOutermost-outermost, IsOutside, IsStandard, Side, cold_target, deficit_from, deficit_from-lowest, each_end}
+use Rattle.corner_flow.proofs.Words.{get_or-map, high_end, hot_target, ints, length-map, length-stream_ends, low_end, outermost, own_utility, places_of}
+use Rattle.corner_flow.proofs.Words.{shifted_level, shifted_level-standard, slice_get-get_or, standard_utility, stream_ends, ℤ, ◌-ℤ◌, ◌≤ℤ◌}
+use Rattle.std.proofs.Common.{List, ap, arith, get_or, length, map, subst, sym, ⊎_elim, ◌<◌, ◌∙◌, ◌≡◌}
 
 -- the place of the utility of a side: the outermost stream end
 abbrev pub end_of : Case → Side → ℤ
@@ -28,9 +21,12 @@ module _ (c : Case) (grid : List ℤ) (valid : HasValidStreams c.streams) (stand
       let inside : k < length c.utilities = rw length-map at within in
       let u = get_or c.utilities k (standard_utility Hot c) in
       let own = own_utility c standard k u (slice_get-get_or c.utilities k (standard_utility Hot c) inside) in
-      let level : end_of c u.side ≡ x = sym (shifted_level-standard u.side c) ∙ sym (ap shifted_level own) ∙ sym (get_or-map shifted_level c.utilities k (standard_utility Hot c) x inside) ∙ is in
+      let level : end_of c u.side ≡ x =
+      sym (shifted_level-standard u.side c) ∙ sym (ap shifted_level own) ∙ sym (get_or-map shifted_level c.utilities k (standard_utility Hot c) x inside)
+      ∙ is in
       subst (Contains (stream_ends c.streams)) level (outer u.side).member)
-      (Contains-append_cases (stream_ends c.streams) (map shifted_level c.utilities) x (All-contains (Contains (places_of c.streams c.utilities)) grid x on_grid.each at))
+      (Contains-append_cases (stream_ends c.streams) (map shifted_level c.utilities) x
+      (All-contains (Contains (places_of c.streams c.utilities)) grid x on_grid.each at))
 
   -- and lies between the outermost ones, which are on the grid
   pub grid_within : (side : Side) (x : ℤ) → Contains grid x → IsOutside side (end_of c side) x
@@ -47,5 +43,7 @@ module _ (c : Case) (grid : List ℤ) (valid : HasValidStreams c.streams) (stand
   cold_target-lowest_end =
       let bottom = end_of c Cold in
       let ends = each_end (λ e. bottom ≤ℤ e) c.streams (outer Cold).bound in
-      let lowest = deficit_from-lowest bottom c.streams valid.are_streams.each (All-weaker (λ s. (bottom ≤ℤ high_end s) × (bottom ≤ℤ low_end s)) (λ s. bottom ≤ℤ low_end s) (λ s h. h.1) c.streams ends) in
+      let lowest =
+      deficit_from-lowest bottom c.streams valid.are_streams.each
+      (All-weaker (λ s. (bottom ≤ℤ high_end s) × (bottom ≤ℤ low_end s)) (λ s. bottom ≤ℤ low_end s) (λ s h. h.1) c.streams ends) in
       omega (arith, ints)

@@ -1,12 +1,12 @@
 -- The corner flow of a standard case, and prices that prove it least.
-use Rattle.std.specs.Prelude.{◌≡◌, ◌↔◌, ℕ, Bool, IsTrue, not, ◌||◌, ◌&&◌, ℤ, pos, ◌≤ℤ◌, int_lt, List, map, Some, slice_get, if◌then◌else◌, All}
+use Rattle.std.specs.Prelude.{◌≡◌, ◌↔◌, ℕ, Bool, IsTrue, not, ◌||◌, ℤ, pos, ◌≤ℤ◌, List, map, Some, slice_get, if◌then◌else◌, All}
 use Rattle.std.specs.List.{list_any}
 use Rattle.std.specs.Ordering.{int_eq}
 use Rattle.stream_case.specs.declared.source.Side.{Side}
 use Rattle.stream_case.specs.declared.source.Side.TheVariants.{Hot}
 use Rattle.stream_case.specs.declared.case.Case.{Case}
 use Rattle.stream_case.specs.declared.stream.Stream.{Stream}
-use Rattle.stream_case.specs.Stream.{high_end}
+use Rattle.stream_case.specs.Stream.{is_level_at}
 use Rattle.sums.specs.declared.pairs.Pair.{Pair}
 use Rattle.sums.specs.Spans.{ListsOverlaps}
 use Rattle.problem_table.specs.Deficit.{hot_target, cold_target, IsPinch, IsReferencePlace, IsTightOver, CountsFromItself}
@@ -40,10 +40,7 @@ abbrev pub IsCornerFlow : Case → List Part → List Part → List Transfer →
 IsCornerFlow c hot cold transfers =
     ListsOverlaps (heats_of (hot_target c.streams) hot) (heats_of (cold_target c.streams) cold) (map as_pair transfers)
 
--- a latent stream, as its load tells, at this place
-abbrev pub is_level_at : ℤ → Stream → Bool
-is_level_at place s = int_lt (pos 0) s.load && int_eq (high_end s) place
-
+-- a latent stream stands at this place
 abbrev pub has_level : List Stream → ℤ → Bool
 has_level streams place = list_any (is_level_at place) streams
 

@@ -52,7 +52,8 @@ fn transfers_of(alloc: Global, pairs: &[Pair]) -> Result<Vec<Transfer>, AllocErr
 fn overlaps_of(alloc: Global, parts: &Parts, targets: Target) -> Result<Vec<Pair>, AllocError>
     requires hot { NotNegative (heats_of targets.hot parts.now.hot) }
     requires cold { NotNegative (heats_of targets.cold parts.now.cold) }
-    ensures { IfOk result (λ pairs. ListsOverlaps (heats_of targets.hot parts.now.hot) (heats_of targets.cold parts.now.cold) pairs.items) }
+    ensures { IfOk result (λ pairs. ListsOverlaps (heats_of targets.hot parts.now.hot)
+        (heats_of targets.cold parts.now.cold) pairs.items) }
 {
     let hot = heats_of(alloc, parts.hot.as_slice(), targets.hot)?;
     let cold = heats_of(alloc, parts.cold.as_slice(), targets.cold)?;
@@ -77,14 +78,22 @@ pub fn corner(
     requires parts { AreCaseParts case.now parts.now.hot parts.now.cold }
     requires hot_target { targets.hot ≡ hot_target case.now.streams }
     requires cold_target { targets.cold ≡ cold_target case.now.streams }
-    ensures spans { IfOk result (λ flow. IsCornerFlow case.now parts.now.hot parts.now.cold flow.transfers) }
-    ensures flow { IfOk result (λ flow. IsFlowOf case.now parts.now.hot parts.now.cold flow.transfers) }
-    ensures few { IfOk result (λ flow. length flow.transfers ≤ length parts.now.hot + length parts.now.cold - 1) }
-    ensures hot_heat { IfOk result (λ flow. UtilityHeat Hot parts.now.hot flow.transfers targets.hot) }
-    ensures cold_heat { IfOk result (λ flow. UtilityHeat Cold parts.now.cold flow.transfers targets.cold) }
-    ensures cost { IfOk result (λ flow. cost_of parts.now.hot parts.now.cold flow.transfers ≡ targets.hot) }
-    ensures least_hot { IfOk result (λ _. NeedsHeat case.now parts.now.hot parts.now.cold Hot targets.hot) }
-    ensures least_cold { IfOk result (λ _. NeedsHeat case.now parts.now.hot parts.now.cold Cold targets.cold) }
+    ensures spans { IfOk result (λ flow.
+        IsCornerFlow case.now parts.now.hot parts.now.cold flow.transfers) }
+    ensures flow { IfOk result (λ flow.
+        IsFlowOf case.now parts.now.hot parts.now.cold flow.transfers) }
+    ensures few { IfOk result (λ flow. length flow.transfers
+        ≤ length parts.now.hot + length parts.now.cold - 1) }
+    ensures hot_heat { IfOk result (λ flow.
+        UtilityHeat Hot parts.now.hot flow.transfers targets.hot) }
+    ensures cold_heat { IfOk result (λ flow.
+        UtilityHeat Cold parts.now.cold flow.transfers targets.cold) }
+    ensures cost { IfOk result (λ flow. cost_of parts.now.hot parts.now.cold flow.transfers
+        ≡ targets.hot) }
+    ensures least_hot { IfOk result (λ _.
+        NeedsHeat case.now parts.now.hot parts.now.cold Hot targets.hot) }
+    ensures least_cold { IfOk result (λ _.
+        NeedsHeat case.now parts.now.hot parts.now.cold Cold targets.cold) }
     ensures pinch { IfOk result (λ _. NoHeatCrossesPinch case.now parts.now.hot parts.now.cold) }
 {
     let pairs = overlaps_of(alloc, parts, targets)?;

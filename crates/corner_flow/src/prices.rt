@@ -2,12 +2,12 @@
 ghost use Rattle.std.specs.Prelude.{◌≡◌, ◌↔◌, map, All, IfOk, IsTrue};
 ghost use Rattle.stream_case.specs.Case.{IsComplete, IsStandard};
 ghost use Rattle.stream_case.specs.Limits.{IsPartPrice};
-ghost use Rattle.stream_case.specs.Stream.{IsValidStream};
+ghost use Rattle.stream_case.specs.Stream.{IsValidStream, is_level_at};
 ghost use Rattle.problem_table.specs.Deficit.{hot_target, cold_target, IsReferencePlace, CountsFromItself};
 ghost use Rattle.grid.specs.Part.{stands_above, AreCaseParts};
 ghost use Rattle.heat_flow.specs.Prices.{IsSupporting, value_of};
 ghost use Rattle.heat_flow.specs.Reach.{reach_between};
-ghost use Rattle.corner_flow.specs.Corner.{is_level_at, has_level, counts_low, corner_price};
+ghost use Rattle.corner_flow.specs.Corner.{has_level, counts_low, corner_price};
 
 use grid::{Part, Parts};
 use heat_flow::Prices;
@@ -99,8 +99,10 @@ pub fn corner_prices(
         IfOk result (λ made. made.cold ≡ map (corner_price targets.hot low place) parts.now.cold) }
     ensures hot_range { IfOk result (λ prices. All IsPartPrice prices.hot) }
     ensures cold_range { IfOk result (λ prices. All IsPartPrice prices.cold) }
-    ensures supporting { IfOk result (λ prices. IsSupporting (reach_between case.now parts.now.hot parts.now.cold) prices.hot prices.cold) }
-    ensures value { IfOk result (λ prices. value_of parts.now.hot parts.now.cold prices.hot prices.cold ≡ targets.hot) }
+    ensures supporting { IfOk result (λ prices.
+        IsSupporting (reach_between case.now parts.now.hot parts.now.cold) prices.hot prices.cold) }
+    ensures value { IfOk result (λ prices.
+        value_of parts.now.hot parts.now.cold prices.hot prices.cold ≡ targets.hot) }
 {
     let low = counts_low(case.streams.as_slice(), from, place);
     let hot = side_prices(alloc, parts.hot.as_slice(), targets.hot, low, place)?;

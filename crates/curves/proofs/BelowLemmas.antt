@@ -1,18 +1,9 @@
 -- The heat of streams below an actual temperature, and the ends of a side's streams.
-use Rattle.std.proofs.Common.{◌≡◌, ◌⊎◌, inl, inr, ℕ, ◌+◌, ◌<◌, Bool, true, false, List, [], ◌∷◌, ◌++◌, length, get_or, take, refl, ap, sym, ◌∙◌, arith, ℤ, pos, ◌-ℤ◌, if◌then◌else◌, filter, flat_map}
-use Rattle.std.proofs.lemmas.Int.{ints, clamps}
-use Rattle.std.proofs.lemmas.Grind.{flat_map-append}
-use Rattle.std.proofs.lemmas.List.{take_more}
-use Rattle.std.proofs.lemmas.List.Elements.{filter-append}
-use Rattle.stream_case.specs.declared.source.Side.{Side}
-use Rattle.stream_case.specs.declared.source.Side.TheVariants.{Hot, Cold}
-use Rattle.stream_case.specs.declared.stream.Stream.{Stream}
-use Rattle.sums.proofs.IntegerLemmas.{if_zero, if_between}
-use Rattle.stream_case.specs.Limits.{IsLength, IsSensibleHeat, IsStreamHeat}
-use Rattle.stream_case.specs.Source.{is_hot, same_side}
-use Rattle.stream_case.specs.Stream.{lower_temperature, higher_temperature, counts_above, IsSensible, IsLatent, IsValidStream}
-use Rattle.stream_case.proofs.HeatLemmas.{HasLength-sensible, heat-between}
-use Rattle.curves.specs.Below.{length_below, sensible_below, load_under, heat_under, temperatures_of}
+use Rattle.curves.proofs.Words.{Cold, HasLength-sensible, Hot, IsLatent, IsLength, IsSensible, IsSensibleHeat, IsStreamHeat, IsValidStream, Side, Stream}
+use Rattle.curves.proofs.Words.{clamps, counts_above, filter-append, flat_map-append, heat-between, heat_under, higher_temperature, if_between, if_zero, ints}
+use Rattle.curves.proofs.Words.{is_hot, length_below, load_under, lower_temperature, same_side, sensible_below, take_more, temperatures_of}
+use Rattle.std.proofs.Common.{Bool, List, [], ap, arith, false, filter, flat_map, get_or, if◌then◌else◌, inl, inr, length, pos, refl, sym, take, true, ℕ, ℤ}
+use Rattle.std.proofs.Common.{◌++◌, ◌+◌, ◌-ℤ◌, ◌<◌, ◌∙◌, ◌∷◌, ◌≡◌, ◌⊎◌}
 
 -- the length of the actual range: a latent stream has one temperature
 pub actual-length : (s : Stream) → IsValidStream s → IsLength (higher_temperature s -ℤ lower_temperature s)

@@ -1,8 +1,6 @@
 -- Curves, temperature after temperature.
-use Rattle.std.proofs.Common.{◌≡◌, ℕ, ◌+◌, ◌<◌, List, [], ◌∷◌, ◌++◌, length, get_or, take, ap, ap₂, sym, ◌∙◌, ℤ, flat_map, append-nil, append_assoc}
-use Rattle.std.proofs.lemmas.Grind.{flat_map-append}
-use Rattle.std.proofs.lemmas.List.{take_more}
-use Rattle.curves.specs.declared.point.Point.{Point}
+use Rattle.curves.proofs.Words.{Point, flat_map-append, take_more}
+use Rattle.std.proofs.Common.{List, [], ap, append-nil, append_assoc, ap₂, flat_map, get_or, length, sym, take, ℕ, ℤ, ◌++◌, ◌+◌, ◌<◌, ◌∙◌, ◌∷◌, ◌≡◌}
 
 -- a loop's step: the points at the next temperature, as the code makes them
 pub points-more : (points_at : ℤ → List Point) (ts : List ℤ) (i : ℕ) (d : ℤ) (before now : List Point) → i < length ts

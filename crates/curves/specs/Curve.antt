@@ -7,7 +7,7 @@ use Rattle.sums.specs.Pairing.{cons_if}
 use Rattle.stream_case.specs.declared.source.Side.{Side}
 use Rattle.stream_case.specs.declared.stream.Stream.{Stream}
 use Rattle.stream_case.specs.Source.{same_side}
-use Rattle.stream_case.specs.Stream.{stream_ends, high_end, is_latent}
+use Rattle.stream_case.specs.Stream.{is_latent, is_level_at, stream_ends}
 use Rattle.problem_table.specs.Deficit.{deficit_above, deficit_from, hot_target}
 use Rattle.curves.specs.declared.point.Point.{Point}
 use Rattle.problem_table.specs.Sides.{sum_side}
@@ -16,10 +16,6 @@ use Rattle.curves.specs.Below.{heat_below, heat_upto, temperatures_of}
 -- a stream of a side is latent and has the actual temperature t
 abbrev pub is_latent_at : Side → ℤ → Stream → Bool
 is_latent_at side t s = same_side s.side side && is_latent s && int_eq s.supply t
-
--- a stream is latent and has the shifted level t
-abbrev pub is_level_at : ℤ → Stream → Bool
-is_level_at t s = is_latent s && int_eq (high_end s) t
 
 -- the point at t with the first heat and, if there are two, that with the second
 abbrev pub one_or_two : Bool → ℤ → ℤ → ℤ → List Point

@@ -1,8 +1,8 @@
 //! The grand composite curve.
 ghost use Rattle.std.specs.Prelude.{◌≡◌, All, IfOk};
 ghost use Rattle.std.specs.List.{list_any};
-ghost use Rattle.stream_case.specs.Stream.{AreStreams, IsValidStream};
-ghost use Rattle.curves.specs.Curve.{is_level_at, IsGrandCurve};
+ghost use Rattle.stream_case.specs.Stream.{AreStreams, IsValidStream, is_level_at};
+ghost use Rattle.curves.specs.Curve.{IsGrandCurve};
 
 use crate::point::Point;
 use problem_table::{deficit_above, deficit_from, targets};

@@ -1,80 +1,99 @@
 -- The streams of the branches of a drawn network, so that the streams of its courses are led.
-use Rattle.std.proofs.Common.{◌≡◌, ◌∙◌, ◌<◌, ◌+◌, ◌-◌, ◌∷◌, ◌++◌, ℕ, zero, suc, List, [], All, Some, get_or, slice_get, length, map, refl, sym, ap, append_assoc, arith, length-append}
-use Rattle.std.specs.List.{enumerate_from, range_with_len}
-use Rattle.std.proofs.lemmas.List.{get_or-append-add, get_or_append_left, length-map}
-use Rattle.std.proofs.lemmas.List.Elements.{All-map}
-use Rattle.std.proofs.lemmas.List.FromFn.{length-enumerate_from, length-range_with_len}
-use Rattle.std.proofs.lemmas.Option.{slice_get_within}
-use Rattle.stream_case.specs.declared.case.Case.{Case}
-use Rattle.stream_case.specs.declared.stream.Stream.{Stream}
-use Rattle.networks.specs.Lines.{own_branch, own_branches, stream_at}
-use Rattle.networks.specs.declared.network.Branch.{Branch}
-use Rattle.networks.specs.declared.network.Network.{Network}
-use Rattle.networks.proofs.OfShape.{stream_at-get_or}
-use Rattle.design_lines.specs.Drawn.{course_branches, made_branches, numbered}
-use Rattle.design_lines.specs.Names.{branch_name}
-use Rattle.design_lines.specs.Values.{AreLed, AreOfStream, IsLedStream, LedStage, courses_along, shares_along}
-
--- a branch, of which no rule speaks
-no_branch : Branch
-no_branch = record { name = []; stream = 0 }
+use Rattle.design_lines.proofs.Walks.{Follow}
+use Rattle.design_lines.proofs.Words.{Branch, Case, Course, Network, Stream, branch_name, course_branches, enumerate_from, get_or-append-add}
+use Rattle.design_lines.proofs.Words.{get_or-map-range_with_len, get_or_append_left, length-map, length-map-range_with_len, made_branches, many_own, numbered}
+use Rattle.design_lines.proofs.Words.{own_branch, own_branches, slice_get-get_or, slice_get_within, stream_at, stream_at-get_or}
+use Rattle.design_lines.specs.Values.{AreLed, IsLedStream, LedStage, courses_along, shares_along}
+use Rattle.std.proofs.Common.{List, Some, [], ap, append_assoc, arith, get_or, length, length-append, map, refl, slice_get, subst, suc, sym, zero, ℕ, ◌++◌, ◌+◌}
+use Rattle.std.proofs.Common.{◌-◌, ◌<◌, ◌∙◌, ◌∷◌, ◌≡◌, ◌≤◌}
 
 pub length-own_branches : (case : Case) → length (own_branches case) ≡ length case.streams
-unfolding own_branches
-length-own_branches case = length-map (enumerate_from 0 case.streams) own_branch ∙ length-enumerate_from 0 case.streams
+length-own_branches case = many_own case
 
 -- a stream's own branch is its
 pub stream_at-own : (case : Case) (more : List Branch) (number : ℕ) → number < length case.streams → stream_at (own_branches case ++ more) number ≡ number
 unfolding own_branches
 stream_at-own case more number within =
     let own = map own_branch (enumerate_from 0 case.streams) in
-    let long : length own ≡ length case.streams = length-map (enumerate_from 0 case.streams) own_branch ∙ length-enumerate_from 0 case.streams in
-    let inside : number < length own = omega (arith, within, long) in
+    let no_branch : Branch = record { name = []; stream = 0 } in
+    let inside : number < length own = omega (arith, within, many_own case) in
     let none : 0 + number ≡ number = omega arith in
-    stream_at-get_or (own ++ more) number no_branch (omega (arith, inside, length-append own more)) ∙ ap (λ (b : Branch). b.stream) (get_or_append_left own more no_branch number inside)
-    ∙ numbers 0 case.streams number no_branch within ∙ none
+    stream_at-get_or (own ++ more) number no_branch (omega (arith, inside, length-append own more))
+    ∙ ap (λ (b : Branch). b.stream) (get_or_append_left own more no_branch number inside) ∙ numbers 0 case.streams number no_branch within ∙ none
   where
-    numbers : (n : ℕ) (streams : List Stream) (k : ℕ) (d : Branch) → k < length streams → (get_or (map own_branch (enumerate_from n streams)) k d).stream ≡ n + k
+    numbers : (n : ℕ) (streams : List Stream) (k : ℕ) (d : Branch) → k < length streams
+        → (get_or (map own_branch (enumerate_from n streams)) k d).stream ≡ n + k
     numbers n [] k d inside = absurd (omega (arith, inside))
     numbers n (s ∷ streams) zero d inside = omega arith
     numbers n (s ∷ streams) (suc k) d inside = let rest = numbers (n + 1) streams k d (omega (arith, inside)) in omega (arith, rest)
 
 pub length-numbered : (first stream count : ℕ) → length (numbered first stream count) ≡ count
-length-numbered first stream count = length-map (range_with_len first count) (λ k. record { name = branch_name k; stream = stream }) ∙ length-range_with_len first count
+length-numbered first stream count = length-map-range_with_len {X = Branch} (λ k. record { name = branch_name k; stream = stream }) first count
 
 -- the branches that a course makes are its stream's
-of_stream : (network : Network) (before more : List Branch) (first next stream count : ℕ) → network.branches ≡ before ++ (numbered first stream count ++ more) → length before ≡ next → AreOfStream network stream next count
-of_stream network before more first next stream count are long branch low high =
-    let made = numbered first stream count in
-    let size = length-numbered first stream count in
-    let k = branch - next in
-    let inside : k < length made = omega (arith, size, low, high) in
-    let number : branch ≡ length before + k = omega (arith, long, low) in
-    let all : branch < length (before ++ (made ++ more)) = omega (arith, number, inside, length-append before (made ++ more), length-append made more) in
-    let here : get_or (before ++ (made ++ more)) branch no_branch ≡ get_or made k no_branch =
-    ap (λ i. get_or (before ++ (made ++ more)) i no_branch) number ∙ get_or-append-add before (made ++ more) k no_branch ∙ get_or_append_left made more no_branch k inside in
-    ap (λ bs. stream_at bs branch) are ∙ stream_at-get_or (before ++ (made ++ more)) branch no_branch all ∙ ap (λ (b : Branch). b.stream) here ∙ own k no_branch inside
-  where
-    own : All (λ (b : Branch). b.stream ≡ stream) (numbered first stream count)
-    own = All-map (λ (b : Branch). b.stream ≡ stream) (λ k. record { name = branch_name k; stream = stream }) (range_with_len first count) (λ k d inside. refl)
+numbered-stream : (front later : List Branch) (first stream count k : ℕ) → length front ≤ k → k < length front + count
+    → stream_at (front ++ (numbered first stream count ++ later)) k ≡ stream
+numbered-stream front later first stream count k low high =
+    let make : ℕ → Branch = λ n. record { name = branch_name n; stream = stream } in
+    let here = numbered first stream count in
+    let long = length-numbered first stream count in
+    let j = k - length front in
+    let index : length front + j ≡ k = omega (arith, low) in
+    let inside : j < count = omega (arith, low, high) in
+    let within : length front + j < length (front ++ (here ++ later)) =
+    omega (arith, length-append front (here ++ later), length-append here later, long, inside) in
+    let item : get_or (front ++ (here ++ later)) (length front + j) (make 0) ≡ make (first + j) =
+    get_or-append-add front (here ++ later) j (make 0) ∙ get_or_append_left here later (make 0) j (omega (arith, inside, long))
+    ∙ get_or-map-range_with_len make first count j (first + j) (make 0) inside refl in
+    ap (stream_at (front ++ (here ++ later))) (sym index) ∙ stream_at-get_or (front ++ (here ++ later)) (length front + j) (make 0) within
+    ∙ ap (λ (b : Branch). b.stream) item
+
+-- each branch of a course is one of its stream
+abbrev pub AreOfStreams : List Branch → ℕ → ℕ → List Course → Type 0
+AreOfStreams branches next stream courses = Follow (λ k n b. stream_at branches b ≡ k) next stream courses
+
+pub are_of_streams : (branches front : List Branch) (next first stream : ℕ) (courses : List Course) → branches ≡ front ++ made_branches first stream courses
+    → length front ≡ next → ((i : ℕ) → i < length courses → stream_at branches (stream + i) ≡ stream + i) → AreOfStreams branches next stream courses
+are_of_streams branches front next first stream [] all here own = tt
+are_of_streams branches front next first stream (course ∷ courses) all here own =
+    let k = course_branches course in
+    let made = numbered first stream k in
+    let later = made_branches (first + k) (stream + 1) courses in
+    let none : stream + 0 ≡ stream = omega arith in (
+      λ n low high. subst (λ m. stream_at branches m ≡ m) none (own 0 (omega arith)),
+      λ j low n more high. ap (λ bs. stream_at bs j) all ∙ numbered-stream front later first stream k j (omega (arith, low, here))
+          (omega (arith, more, high, here)),
+      are_of_streams branches (front ++ made) (next + k) (first + k) (stream + 1) courses (all ∙ sym (append_assoc front made later))
+          (omega (arith, here, length-append front made, length-numbered first stream k)) (λ i inside.
+          let further : stream + suc i ≡ stream + 1 + i = omega arith in
+          subst (λ n. stream_at branches n ≡ n) further (own (suc i) (omega (arith, inside)))),
+    )
 
 -- the course at each index is one of the stream with that number
 abbrev pub IsEachLed : Case → Network → ℕ → List (List LedStage) → Type 0
-IsEachLed case network stream courses = (k : ℕ) (course : List LedStage) → slice_get courses k ≡ Some course → (s : Stream) × (slice_get case.streams (stream + k) ≡ Some s) × IsLedStream network s course
+IsEachLed case network stream courses = (k : ℕ) (course : List LedStage) → slice_get courses k ≡ Some course → (s : Stream)
+    × (slice_get case.streams (stream + k) ≡ Some s) × IsLedStream network s course
 
-pub are_led : (case : Case) (network : Network) (courses : List (List LedStage)) (before : List Branch) (first next stream : ℕ) → network.branches ≡ before ++ made_branches first stream (courses_along courses) → length before ≡ next
-    → ((number : ℕ) → number < length case.streams → stream_at network.branches number ≡ number) → IsEachLed case network stream courses → AreLed case network next stream courses
-are_led case network [] before first next stream are long own each = tt
-are_led case network (course ∷ courses) before first next stream are long own each =
-    let count = course_branches (shares_along course) in
-    let made = numbered first stream count in
-    let more = made_branches (first + count) (stream + 1) (courses_along courses) in
-    let (s, at, led) = each 0 course refl in
-    let number : stream + 0 ≡ stream = omega arith in
-    let here = ap (slice_get case.streams) (sym number) ∙ at in (
-      (s, here, led),
-      own stream (slice_get_within case.streams stream s here),
-      of_stream network before more first next stream count are long,
-      are_led case network courses (before ++ made) (first + count) (next + count) (stream + 1) (are ∙ sym (append_assoc before made more)) (omega (arith, long, length-append before made, length-numbered first stream count)) own
-          (λ k other there. let (r, found, is) = each (suc k) other there in let same : stream + 1 + k ≡ stream + suc k = omega arith in (r, ap (slice_get case.streams) same ∙ found, is)),
+led_of_streams : (case : Case) (network : Network) (courses : List (List LedStage)) (next stream : ℕ)
+    → AreOfStreams network.branches next stream (courses_along courses) → IsEachLed case network stream courses → AreLed case network next stream courses
+led_of_streams case network [] next stream own each = tt
+led_of_streams case network (course ∷ courses) next stream own each =
+    let last = next + course_branches (shares_along course) in
+    let none : stream + 0 ≡ stream = omega arith in (
+      subst (λ k. (s : Stream) × (slice_get case.streams k ≡ Some s) × IsLedStream network s course) none (each 0 course refl),
+      own.0 next (omega arith) (omega arith),
+      λ branch low high. own.1 branch low last (omega (arith, high)) (omega arith),
+      led_of_streams case network courses last (stream + 1) own.2 (λ k other there.
+          let further : stream + suc k ≡ stream + 1 + k = omega arith in
+          subst (λ n. (s : Stream) × (slice_get case.streams n ≡ Some s) × IsLedStream network s other) further (each (suc k) other there)),
     )
+
+pub are_led : (case : Case) (network : Network) (courses : List (List LedStage)) (before : List Branch) (first next stream : ℕ)
+    → network.branches ≡ before ++ made_branches first stream (courses_along courses) → length before ≡ next
+    → ((number : ℕ) → number < length case.streams → stream_at network.branches number ≡ number) → IsEachLed case network stream courses
+    → AreLed case network next stream courses
+are_led case network courses before first next stream are long own each =
+    led_of_streams case network courses next stream (are_of_streams network.branches before next first stream (courses_along courses) are long (λ i inside.
+    let within : i < length courses = omega (arith, inside, length-map courses shares_along) in
+    let (s, at, led) = each i (get_or courses i []) (slice_get-get_or courses i [] within) in
+    own (stream + i) (slice_get_within case.streams (stream + i) s at))) each

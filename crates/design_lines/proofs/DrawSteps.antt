@@ -1,11 +1,8 @@
 -- A network is drawn course by course, and a course stage by stage.
-use Rattle.std.proofs.Common.{◌≡◌, ◌∙◌, ◌<◌, ◌≤◌, ◌+◌, ◌-◌, ◌∷◌, ◌++◌, ℕ, suc, List, get_or, length, drop, sym, ap, arith, append_assoc, length-append}
-use Rattle.std.proofs.Math.Seq.{drop-cons}
-use Rattle.std.proofs.lemmas.List.{append-nil, drop_all}
-use Rattle.networks.specs.declared.network.Branch.{Branch}
-use Rattle.networks.specs.declared.network.Line.{Line}
-use Rattle.design_lines.specs.Drawn.{Course, all_branches, course_branches, course_lines, courses_lines, made_branches, numbered}
 use Rattle.design_lines.proofs.BranchStreams.{length-numbered}
+use Rattle.design_lines.proofs.Words.{Branch, Course, Line, all_branches, append-nil, course_branches, course_lines, courses_lines, drop-cons, drop_all}
+use Rattle.design_lines.proofs.Words.{made_branches, numbered}
+use Rattle.std.proofs.Common.{List, ap, append_assoc, arith, drop, get_or, length, length-append, suc, sym, ℕ, ◌++◌, ◌+◌, ◌-◌, ◌<◌, ◌∙◌, ◌∷◌, ◌≡◌, ◌≤◌}
 
 -- the item of a loop is the next one of those that are left
 pub next_item : {X : Type 0} (xs : List X) (i : ℕ) (x : X) → i < length xs → x ≡ get_or xs i x → drop i xs ≡ x ∷ drop (i + 1) xs
@@ -23,7 +20,8 @@ pub record IsCourseLed (course : Course) (stream next : ℕ) (old : List Line) (
 -- ---- all courses
 
 -- the lines and branches so far and those that are left are those of all courses
-pub record AreCoursesLed (courses : List Course) (own : ℕ) (old_lines : List Line) (old_branches : List Branch) (number : ℕ) (lines : List Line) (branches : List Branch) : Type 0 where
+pub record AreCoursesLed (courses : List Course) (own : ℕ) (old_lines : List Line) (old_branches : List Branch) (number : ℕ) (lines : List Line)
+    (branches : List Branch) : Type 0 where
   pub drawn : lines ++ courses_lines (length branches) number (drop number courses) ≡ old_lines ++ courses_lines own 0 courses
   pub made : branches ++ made_branches (length branches - own) number (drop number courses) ≡ old_branches ++ made_branches 0 0 courses
   pub many : length branches + all_branches (drop number courses) ≡ own + all_branches courses
@@ -41,16 +39,18 @@ module _ (courses : List Course) (own : ℕ) (old_lines : List Line) (old_branch
       }
 
   module _ (number : ℕ) (lines : List Line) (branches : List Branch) (led : AreCoursesLed courses own old_lines old_branches number lines branches) where
-    pub courses_next : (after_lines : List Line) (after_branches : List Branch) (course : Course) (free : ℕ) → drop number courses ≡ course ∷ drop (number + 1) courses
-        → after_lines ≡ lines ++ course_lines (length branches) number course → free ≡ length branches + course_branches course
-        → after_branches ≡ branches ++ numbered (length branches - own) number (free - length branches) → AreCoursesLed courses own old_lines old_branches (number + 1) after_lines after_branches
+    pub courses_next : (after_lines : List Line) (after_branches : List Branch) (course : Course) (free : ℕ)
+        → drop number courses ≡ course ∷ drop (number + 1) courses → after_lines ≡ lines ++ course_lines (length branches) number course
+        → free ≡ length branches + course_branches course → after_branches ≡ branches ++ numbered (length branches - own) number (free - length branches)
+        → AreCoursesLed courses own old_lines old_branches (number + 1) after_lines after_branches
     courses_next after_lines after_branches course free left drawn frees made =
         let rest = drop (number + 1) courses in
         let n = length branches in
         let k = course_branches course in
         let count : free - n ≡ k = omega (arith, frees) in
         let parts : after_branches ≡ branches ++ numbered (n - own) number k = made ∙ ap (λ (j : ℕ). branches ++ numbered (n - own) number j) count in
-        let long : length after_branches ≡ n + k = ap length parts ∙ length-append branches (numbered (n - own) number k) ∙ ap (λ (j : ℕ). n + j) (length-numbered (n - own) number k) in
+        let long : length after_branches ≡ n + k = ap length parts ∙ length-append branches (numbered (n - own) number k)
+        ∙ ap (λ (j : ℕ). n + j) (length-numbered (n - own) number k) in
         let later : length after_branches - own ≡ n - own + k = omega (arith, long, led.least) in
         let many : n + (k + all_branches rest) ≡ own + all_branches courses = ap (λ (cs : List Course). n + all_branches cs) (sym left) ∙ led.many in
         record {

@@ -1,10 +1,7 @@
 -- A drawn network has few lines: three for each share at most, one for each stream, and the declarations.
-use Rattle.std.proofs.Common.{◌≤◌, ◌+◌, ◌-◌, ◌*◌, ◌∷◌, ◌++◌, ℕ, zero, suc, List, [], length, arith, length-append}
-use Rattle.std.specs.Prelude.{sum_by}
-use Rattle.std.proofs.lemmas.List.Sums.{sum_by-cons}
-use Rattle.design_lines.specs.Drawn.{Course, course_branches, course_lines, courses_lines}
-use Rattle.design_lines.specs.Stages.{behind_splits, mixes, passes, rest_branch, share_branches, splits, stage_end, stage_lines}
-use Rattle.design_lines.specs.declared.stage.Share.{Share}
+use Rattle.design_lines.proofs.Words.{Course, Share, behind_splits, course_branches, course_lines, courses_lines, mixes, passes, rest_branch, share_branches}
+use Rattle.design_lines.proofs.Words.{splits, stage_end, stage_lines, sum_by, sum_by-cons}
+use Rattle.std.proofs.Common.{List, [], arith, length, length-append, suc, zero, ℕ, ◌*◌, ◌++◌, ◌+◌, ◌-◌, ◌∷◌, ◌≤◌}
 
 few-splits : (next from : ℕ) (shares : List Share) → length (splits next from shares) ≤ length shares
 few-splits next from [] = omega arith
@@ -29,7 +26,8 @@ few-stage next from shares =
     let ss = splits next from shares in
     let ps = passes behind divided shares in
     let ms = mixes (n - 1) (behind + n) behind (behind + 1) in
-    omega (arith, length-append ss (ps ++ ms), length-append ps ms, few-splits next from shares, few-passes behind divided shares, few-mixes (n - 1) (behind + n) behind (behind + 1))
+    let mixed = few-mixes (n - 1) (behind + n) behind (behind + 1) in
+    omega (arith, length-append ss (ps ++ ms), length-append ps ms, few-splits next from shares, few-passes behind divided shares, mixed)
 
 few-course : (next from : ℕ) (course : Course) → length (course_lines next from course) ≤ 3 * sum_by (λ ss. length ss) course + 1
 few-course next from [] = omega arith
@@ -37,13 +35,16 @@ few-course next from (shares ∷ stages) =
     let last = stage_end next shares in
     let here = stage_lines next from shares in
     let later = course_lines (last + 1) last stages in
-    omega (arith, length-append here later, few-stage next from shares, few-course (last + 1) last stages, sum_by-cons (λ (ss : List Share). length ss) shares stages)
+    let sum = sum_by-cons (λ (ss : List Share). length ss) shares stages in
+    omega (arith, length-append here later, few-stage next from shares, few-course (last + 1) last stages, sum)
 
 -- the lines of courses, by their shares together
-pub few-courses : (next stream : ℕ) (courses : List Course) → length (courses_lines next stream courses) ≤ 3 * sum_by (λ course. sum_by (λ ss. length ss) course) courses + length courses
+pub few-courses : (next stream : ℕ) (courses : List Course)
+    → length (courses_lines next stream courses) ≤ 3 * sum_by (λ course. sum_by (λ ss. length ss) course) courses + length courses
 few-courses next stream [] = omega arith
 few-courses next stream (course ∷ courses) =
     let k = course_branches course in
     let here = course_lines next stream course in
     let later = courses_lines (next + k) (stream + 1) courses in
-    omega (arith, length-append here later, few-course next stream course, few-courses (next + k) (stream + 1) courses, sum_by-cons (λ (c : Course). sum_by (λ ss. length ss) c) course courses)
+    let sum = sum_by-cons (λ (c : Course). sum_by (λ ss. length ss) c) course courses in
+    omega (arith, length-append here later, few-course next stream course, few-courses (next + k) (stream + 1) courses, sum)

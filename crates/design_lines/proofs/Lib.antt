@@ -10,8 +10,7 @@ pub mod BranchStreams
 pub mod Made
 pub mod UsedOnce
 pub mod Named
-pub mod EachLine
-pub mod MadeFirst
+pub mod Walks
 pub mod OneStream
 pub mod PassedOnce
 pub mod Declared
@@ -23,3 +22,4 @@ pub mod DrawSteps
 pub mod NumberedItems
 pub mod NumberedShares
 pub mod SensibleStreams
+pub mod Words

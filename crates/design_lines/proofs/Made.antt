@@ -1,116 +1,125 @@
--- The branches that the lines of stages and courses make, in the order of their numbers.
-use Rattle.std.proofs.Common.{◌≡◌, ◌∙◌, ◌<◌, ◌+◌, ◌-◌, ◌*◌, ◌∷◌, ◌++◌, ℕ, zero, suc, List, [], All, length, map, take, refl, sym, ap, arith, length-append}
-use Rattle.std.specs.List.{flat_map, range_with_len}
-use Rattle.std.proofs.Math.Seq.{take-append_seam}
-use Rattle.std.proofs.lemmas.List.Concat.{flat_map-append}
-use Rattle.std.proofs.lemmas.List.Elements.{All-head, All-tail}
-use Rattle.std.proofs.lemmas.List.FromFn.{length-map-range_with_len}
-use Rattle.sums.proofs.EnumerationLemmas.{range_with_len-append}
-use Rattle.stream_case.specs.declared.case.Case.{Case}
-use Rattle.networks.specs.Lines.{Exchanger, made_by, makes, own_branches}
-use Rattle.networks.specs.Shape.{AreMadeInOrder}
-use Rattle.networks.specs.declared.network.Branch.{Branch}
-use Rattle.networks.proofs.OfShape.{many_own}
-use Rattle.design_lines.specs.Drawn.{Course, all_branches, course_branches, course_lines, courses_lines, declared_line, drawn, made_branches, numbered, stage_branches}
-use Rattle.design_lines.specs.Led.{AreStages}
-use Rattle.design_lines.specs.Names.{branch_name}
-use Rattle.design_lines.specs.Stages.{behind_splits, mixes, passes, rest_branch, share_branches, splits, stage_end, stage_lines}
-use Rattle.design_lines.specs.declared.stage.Share.{Share}
+-- The branches that the lines of courses make, in the order of their numbers, and that a line uses branches that were made before it.
+use Rattle.design_lines.proofs.BranchStreams.{length-numbered}
+use Rattle.design_lines.proofs.Walks.{Follow, KeepAll, Simple, walk_courses, walk_simply}
+use Rattle.design_lines.proofs.Words.{All-cons, All-nil, AreMadeBeforeUse, AreMadeInOrder, AreStages, Case, Course, Exchanger, Line, all_branches}
+use Rattle.design_lines.proofs.Words.{course_branches, courses_lines, declared_line, drawn, flat_map, flat_map-append, made_branches, made_by, makes, many_own}
+use Rattle.design_lines.proofs.Words.{numbered, own_branches, range_with_len, take-append_seam, uses}
+use Rattle.std.proofs.Common.{All, List, Some, [], ap, arith, length, length-append, map, refl, slice_get, subst, suc, sym, take, zero, ℕ, ◌++◌, ◌+◌, ◌-◌, ◌<◌}
+use Rattle.std.proofs.Common.{◌∙◌, ◌∷◌, ◌≡◌, ◌≤◌}
 
--- ---- a stage
+-- the numbers that lines make count on from n, up to `last`
+record MakeUpTo (last n : ℕ) (lines : List Line) : Type 0 where
+  count : ℕ
+  is : flat_map makes lines ≡ range_with_len n count
+  all : n + count ≡ last
 
-pub made-splits : (next from : ℕ) (shares : List Share) → flat_map makes (splits next from shares) ≡ range_with_len next (2 * (length shares - 1))
-made-splits next from [] = refl
-made-splits next from (s ∷ []) = refl
-made-splits next from (s ∷ t ∷ shares) =
-    let m = 2 * (length (t ∷ shares) - 1) in
-    let long : suc (suc m) ≡ 2 * (length (s ∷ t ∷ shares) - 1) = omega arith in
-    let further : next + 2 ≡ next + 1 + 1 = omega arith in
-    ap (λ ns. next ∷ (next + 1) ∷ ns) (made-splits (next + 2) (next + 1) (t ∷ shares)) ∙ ap (λ b. next ∷ (next + 1) ∷ range_with_len b m) further ∙ ap (range_with_len next) long
+made_keep : (last : ℕ) → Simple (MakeUpTo last) (λ shares. 0 < length shares)
+made_keep last = record {
+  split = λ n from cp lines more.
+      let further : n + 2 ≡ n + 1 + 1 = omega arith in
+      let is = ap (λ ns. n ∷ (n + 1) ∷ ns) (more.is ∙ ap (λ k. range_with_len k more.count) further) in
+      record { count = suc (suc more.count); is = is; all = omega (arith, more.all) };
+  pass = λ n from exchanger lines more. record { count = suc more.count; is = ap (λ ns. n ∷ ns) more.is; all = omega (arith, more.all) };
+  mix = λ n first second lines more. record { count = suc more.count; is = ap (λ ns. n ∷ ns) more.is; all = omega (arith, more.all) };
+  end = λ n from lines more. record { count = more.count; is = more.is; all = more.all };
+  none = λ some n lines more. absurd (omega (arith, some));
+}
 
-pub length-share_branches : (next rest : ℕ) (shares : List Share) → length (share_branches next rest shares) ≡ length shares
-length-share_branches next rest [] = refl
-length-share_branches next rest (s ∷ []) = refl
-length-share_branches next rest (s ∷ t ∷ shares) = ap suc (length-share_branches (next + 2) rest (t ∷ shares))
-
-pub made-passes : (to : ℕ) (branches : List ℕ) (shares : List Share) → length branches ≡ length shares → flat_map makes (passes to branches shares) ≡ range_with_len to (length shares)
-made-passes to [] [] many = refl
-made-passes to [] (s ∷ shares) many = absurd (omega (arith, many))
-made-passes to (b ∷ branches) [] many = absurd (omega (arith, many))
-made-passes to (b ∷ branches) (s ∷ shares) many = ap (λ ns. to ∷ ns) (made-passes (to + 1) branches shares (omega (arith, many)))
-
-pub made-mixes : (n to first second : ℕ) → flat_map makes (mixes n to first second) ≡ range_with_len to n
-made-mixes zero to first second = refl
-made-mixes (suc n) to first second = ap (λ ns. to ∷ ns) (made-mixes n (to + 1) to (second + 1))
-
-pub made-stage : (next from : ℕ) (shares : List Share) → 0 < length shares → flat_map makes (stage_lines next from shares) ≡ range_with_len next (stage_branches shares)
-unfolding stage_lines
-made-stage next from shares some =
-    let n = length shares in
-    let more = n - 1 in
-    let behind = behind_splits next shares in
-    let rest = rest_branch next from shares in
-    let ss = splits next from shares in
-    let ps = passes behind (share_branches next rest shares) shares in
-    let ms = mixes more (behind + n) behind (behind + 1) in
-    let last : flat_map makes (ps ++ ms) ≡ range_with_len behind (n + more) =
-    flat_map-append makes ps ms ∙ ap (λ ns. ns ++ flat_map makes ms) (made-passes behind (share_branches next rest shares) shares (length-share_branches next rest shares))
-    ∙ ap (λ ns. range_with_len behind n ++ ns) (made-mixes more (behind + n) behind (behind + 1)) ∙ range_with_len-append behind n more in
-    let long : 2 * more + (n + more) ≡ stage_branches shares = omega (arith, some) in
-    flat_map-append makes ss (ps ++ ms) ∙ ap (λ ns. ns ++ flat_map makes (ps ++ ms)) (made-splits next from shares) ∙ ap (λ ns. range_with_len next (2 * more) ++ ns) last
-    ∙ range_with_len-append next (2 * more) (n + more) ∙ ap (range_with_len next) long
-
--- ---- courses
-
-pub made-course : (next from : ℕ) (course : Course) → AreStages course → flat_map makes (course_lines next from course) ≡ range_with_len next (course_branches course)
-made-course next from [] used = refl
-made-course next from (shares ∷ stages) used =
-    let here = stage_lines next from shares in
-    let later = course_lines (stage_end next shares + 1) (stage_end next shares) stages in
-    let k = stage_branches shares in
-    let m = course_branches stages in
-    let further : stage_end next shares + 1 ≡ next + k = omega arith in
-    flat_map-append makes here later ∙ ap (λ ns. ns ++ flat_map makes later) (made-stage next from shares (All-head (λ ss. 0 < length ss) shares stages used))
-    ∙ ap (λ ns. range_with_len next k ++ ns) (made-course (stage_end next shares + 1) (stage_end next shares) stages (All-tail (λ ss. 0 < length ss) shares stages used))
-    ∙ ap (λ b. range_with_len next k ++ range_with_len b m) further ∙ range_with_len-append next k m
-
-pub made-courses : (next stream : ℕ) (courses : List Course) → All AreStages courses → flat_map makes (courses_lines next stream courses) ≡ range_with_len next (all_branches courses)
-made-courses next stream [] used = refl
-made-courses next stream (course ∷ courses) used =
-    let here = course_lines next stream course in
-    let k = course_branches course in
-    let later = courses_lines (next + k) (stream + 1) courses in
-    flat_map-append makes here later ∙ ap (λ ns. ns ++ flat_map makes later) (made-course next stream course (All-head AreStages course courses used))
-    ∙ ap (λ ns. range_with_len next k ++ ns) (made-courses (next + k) (stream + 1) courses (All-tail AreStages course courses used)) ∙ range_with_len-append next k (all_branches courses)
+pub made-courses : (next stream : ℕ) (courses : List Course) → All AreStages courses
+    → flat_map makes (courses_lines next stream courses) ≡ range_with_len next (all_branches courses)
+made-courses next stream courses used =
+    let last = next + all_branches courses in
+    let made = walk_simply (MakeUpTo last) (λ shares. 0 < length shares) (made_keep last) next stream courses used
+    (record { count = 0; is = refl; all = omega arith }) in
+    let many : made.count ≡ all_branches courses = omega (arith, made.all) in
+    made.is ∙ ap (range_with_len next) many
 
 -- ---- the drawn network
 
-pub made-declared : (exchangers : List Exchanger) → flat_map makes (map declared_line exchangers) ≡ []
+made-declared : (exchangers : List Exchanger) → flat_map makes (map declared_line exchangers) ≡ []
 made-declared [] = refl
 made-declared (e ∷ exchangers) = made-declared exchangers
 
-pub length-made_branches : (first stream : ℕ) (courses : List Course) → length (made_branches first stream courses) ≡ all_branches courses
+length-made_branches : (first stream : ℕ) (courses : List Course) → length (made_branches first stream courses) ≡ all_branches courses
 length-made_branches first stream [] = refl
 length-made_branches first stream (course ∷ courses) =
     let k = course_branches course in
-    let here : length (numbered first stream k) ≡ k = length-map-range_with_len {X = Branch} (λ j. record { name = branch_name j; stream = stream }) first k in
-    let later = length-made_branches (first + k) (stream + 1) courses in
-    omega (arith, length-append (numbered first stream k) (made_branches (first + k) (stream + 1) courses), here, later)
+    let both = length-append (numbered first stream k) (made_branches (first + k) (stream + 1) courses) in
+    omega (arith, both, length-numbered first stream k, length-made_branches (first + k) (stream + 1) courses)
 
-pub made-drawn : (case : Case) (exchangers : List Exchanger) (courses : List Course) → All AreStages courses → made_by (drawn case exchangers courses).lines ≡ range_with_len (length case.streams) (all_branches courses)
+pub made-drawn : (case : Case) (exchangers : List Exchanger) (courses : List Course) → All AreStages courses
+    → made_by (drawn case exchangers courses).lines ≡ range_with_len (length case.streams) (all_branches courses)
 unfolding made_by
 made-drawn case exchangers courses used =
     let later = courses_lines (length case.streams) 0 courses in
-    flat_map-append makes (map declared_line exchangers) later ∙ ap (λ ns. ns ++ flat_map makes later) (made-declared exchangers) ∙ made-courses (length case.streams) 0 courses used
+    flat_map-append makes (map declared_line exchangers) later ∙ ap (λ ns. ns ++ flat_map makes later) (made-declared exchangers)
+    ∙ made-courses (length case.streams) 0 courses used
 
-pub length-drawn : (case : Case) (exchangers : List Exchanger) (courses : List Course) → length (drawn case exchangers courses).branches ≡ length case.streams + all_branches courses
-length-drawn case exchangers courses =
-    omega (arith, length-append (own_branches case) (made_branches 0 0 courses), many_own case, length-made_branches 0 0 courses)
-
-pub AreMadeInOrder-drawn : (case : Case) (exchangers : List Exchanger) (courses : List Course) → All AreStages courses → AreMadeInOrder case (drawn case exchangers courses)
+pub AreMadeInOrder-drawn : (case : Case) (exchangers : List Exchanger) (courses : List Course) → All AreStages courses
+    → AreMadeInOrder case (drawn case exchangers courses)
 AreMadeInOrder-drawn case exchangers courses used =
-    let many : all_branches courses ≡ length (drawn case exchangers courses).branches - length case.streams = omega (arith, length-drawn case exchangers courses) in
+    let all = length-append (own_branches case) (made_branches 0 0 courses) in
+    let many : all_branches courses ≡ length (drawn case exchangers courses).branches - length case.streams =
+    omega (arith, all, many_own case, length-made_branches 0 0 courses) in
     record {
-      own = ap (λ n. take n (own_branches case ++ made_branches 0 0 courses)) (sym (many_own case)) ∙ take-append_seam (own_branches case) (made_branches 0 0 courses);
+      own = ap (λ n. take n (own_branches case ++ made_branches 0 0 courses)) (sym (many_own case))
+          ∙ take-append_seam (own_branches case) (made_branches 0 0 courses);
       made = made-drawn case exchangers courses used ∙ ap (range_with_len (length case.streams)) many;
     }
+
+-- ---- made before use
+
+-- where there are m branches, each line uses some of those and of what lines before it make
+abbrev AreKnown : ℕ → List Line → Type 0
+AreKnown m [] = Unit {0}
+AreKnown m (l ∷ lines) = All (λ b. b < m) (uses l) × AreKnown (m + length (makes l)) lines
+
+known_at : (m : ℕ) (lines : List Line) (index : ℕ) (l : Line) → AreKnown m lines → slice_get lines index ≡ Some l
+    → All (λ b. b < m + length (flat_map makes (take index lines))) (uses l)
+known_at m [] index l known at = cc at
+known_at m (a ∷ lines) zero l known at =
+    let same : a ≡ l = cc at in
+    let used = subst (λ x. All (λ b. b < m) (uses x)) same known.0 in
+    λ j d within. omega (arith, used j d within)
+known_at m (a ∷ lines) (suc index) l known at =
+    let rest = known_at (m + length (makes a)) lines index l known.1 at in
+    let long = length-append (makes a) (flat_map makes (take index lines)) in
+    λ j d within. omega (arith, rest j d within, long)
+
+one_known : (m b : ℕ) → b < m → All (λ k. k < m) (b ∷ [])
+one_known m b less = All-cons (λ k. k < m) b [] less (All-nil (λ k. k < m))
+
+-- a line that makes nothing
+nothing_made : (m : ℕ) (lines : List Line) → AreKnown m lines → AreKnown (m + 0) lines
+nothing_made m lines known = let none : m ≡ m + 0 = omega arith in subst (λ k. AreKnown k lines) none known
+
+known_keep : KeepAll (λ n w lines. AreKnown n lines) (λ stream n b. b < n) (λ stream s. Unit {0}) (λ b. 0) (λ stream s. 0) (λ shares. 0 < length shares)
+known_keep = record {
+  keeps = λ stream. record {
+    split = λ n from w all left s lines share early one two sum sums more. (one_known n from early, more);
+    pass = λ n from w all left s lines share early one sum sums more. (one_known n from early, more);
+    mix = λ n first second w all left lines early other one sum sums more. (All-cons (λ k. k < n) first (second ∷ []) early (one_known n second other), more);
+    none = λ some n w all lines more. absurd (omega (arith, some));
+  };
+  end = λ stream n from w all lines early sum more. (one_known n from early, nothing_made n lines more);
+}
+
+early_follow : (next stream : ℕ) (courses : List Course) → stream + length courses ≤ next → Follow (λ k n b. b < n) next stream courses
+early_follow next stream [] own = tt
+early_follow next stream (course ∷ courses) own =
+    let rest = early_follow (next + course_branches course) (stream + 1) courses (omega (arith, own)) in
+    (λ n low high. omega (arith, own, low), λ k low n more high. omega (arith, more), rest)
+
+known-declared : (m : ℕ) (exchangers : List Exchanger) (lines : List Line) → AreKnown m lines → AreKnown m (map declared_line exchangers ++ lines)
+known-declared m [] lines known = known
+known-declared m (e ∷ exchangers) lines known = (All-nil (λ b. b < m), known-declared (m + 0) exchangers lines (nothing_made m lines known))
+
+pub AreMadeBeforeUse-drawn : (case : Case) (exchangers : List Exchanger) (courses : List Course) → length courses ≡ length case.streams → All AreStages courses
+    → AreMadeBeforeUse case (drawn case exchangers courses)
+unfolding made_by
+AreMadeBeforeUse-drawn case exchangers courses each used index l at =
+    let n = length case.streams in
+    let later = courses_lines n 0 courses in
+    let known = walk_courses (λ n w lines. AreKnown n lines) (λ stream n b. b < n) (λ stream s. Unit {0}) (λ b. 0) (λ stream s. 0)
+    (λ shares. 0 < length shares) known_keep n 0 courses used (λ i course at k d within j e inside. tt) (early_follow n 0 courses (omega (arith, each))) tt in
+    known_at n (map declared_line exchangers ++ later) index l (known-declared n exchangers later known) at

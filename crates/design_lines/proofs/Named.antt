@@ -1,30 +1,11 @@
 -- The names of the branches of a drawn network: those of the streams, and dotted ones that differ by their numbers.
-use Rattle.std.proofs.Common.{◌≡◌, ◌≢◌, ◌∙◌, ◌<◌, ◌+◌, ◌^◌, ◌∷◌, ◌++◌, ℕ, List, [], All, AllPairs, get_or, map, refl, sym, ap, subst, arith, inl, inr}
-use Rattle.std.specs.Prelude.{IsTrue}
-use Rattle.std.specs.Char.{is_ascii_alphanumeric}
-use Rattle.std.specs.Fmt.{decimal}
-use Rattle.std.specs.List.{enumerate_from, range_with_len}
-use Rattle.std.proofs.lemmas.Fmt.{decimal_injective}
-use Rattle.std.proofs.lemmas.List.{map-append}
-use Rattle.std.proofs.lemmas.List.Elements.{All-append, All-map, All-weaker}
+use Rattle.design_lines.proofs.NameLemmas.{IsDottedName-branch_name, number_of_decimal}
+use Rattle.design_lines.proofs.Words.{All-append, All-front, All-map, All-weaker, AllPairs-append, AllPairs-front, AllPairs-map, AreNamed, Branch, Case, Course}
+use Rattle.design_lines.proofs.Words.{Exchanger, IsAnyName, IsComplete, IsDottedName, IsName, IsTrue, StaysValid-IsComplete, Stream, Utility, all_branches}
+use Rattle.design_lines.proofs.Words.{branch_name, course_branches, drawn, enumerate_from, is_ascii_alphanumeric, made_branches, map-append}
+use Rattle.design_lines.proofs.Words.{map-enumerate_from_item, map-map, names_of, numbered, own_branch, own_branches, range_with_len, range_with_len-append}
+use Rattle.std.proofs.Common.{All, AllPairs, List, [], ap, arith, get_or, inl, inr, map, refl, subst, sym, ℕ, ◌++◌, ◌+◌, ◌<◌, ◌^◌, ◌∙◌, ◌∷◌, ◌≡◌, ◌≢◌}
 use Rattle.std.proofs.lemmas.List.FromFn.{get_or-range_with_len, length-range_with_len}
-use Rattle.std.proofs.lemmas.Simd.{map-map}
-use Rattle.sums.proofs.EnumerationLemmas.{map-enumerate_from_item, range_with_len-append}
-use Rattle.sums.proofs.OrderLemmas.{AllPairs-append}
-use Rattle.stream_case.specs.Case.{IsComplete}
-use Rattle.stream_case.specs.Name.{IsAnyName, IsDottedName, IsName}
-use Rattle.stream_case.specs.declared.case.Case.{Case}
-use Rattle.stream_case.specs.declared.stream.Stream.{Stream}
-use Rattle.stream_case.specs.declared.utility.Utility.{Utility}
-use Rattle.stream_case.proofs.CompleteLemmas.{StaysValid-IsComplete}
-use Rattle.stream_case.proofs.DistinctLemmas.{AllPairs-front}
-use Rattle.networks.specs.Lines.{Exchanger, names_of, own_branch, own_branches}
-use Rattle.networks.specs.Shape.{AreNamed}
-use Rattle.networks.specs.declared.network.Branch.{Branch}
-use Rattle.networks.proofs.Lists.{All-front, AllPairs-map}
-use Rattle.design_lines.specs.Drawn.{Course, all_branches, course_branches, drawn, made_branches, numbered}
-use Rattle.design_lines.specs.Names.{branch_name}
-use Rattle.design_lines.proofs.NameLemmas.{IsDottedName-branch_name}
 
 -- ---- the names of the streams
 
@@ -42,7 +23,8 @@ numbered-names first stream count =
     let make : ℕ → Branch = λ k. record { name = branch_name k; stream = stream } in
     map-map (λ (b : Branch). b.name) make (range_with_len first count)
 
-made-names : (first stream : ℕ) (courses : List Course) → map (λ (b : Branch). b.name) (made_branches first stream courses) ≡ map branch_name (range_with_len first (all_branches courses))
+made-names : (first stream : ℕ) (courses : List Course)
+    → map (λ (b : Branch). b.name) (made_branches first stream courses) ≡ map branch_name (range_with_len first (all_branches courses))
 made-names first stream [] = refl
 made-names first stream (course ∷ courses) =
     let name : Branch → List ℕ = λ b. b.name in
@@ -51,13 +33,8 @@ made-names first stream (course ∷ courses) =
     let here = range_with_len first k in
     map-append name (numbered first stream k) later ∙ ap (λ ns. ns ++ map name later) (numbered-names first stream k)
     ∙ ap (λ ns. map branch_name here ++ ns) (made-names (first + k) (stream + 1) courses)
-    ∙ sym (map-append branch_name here (range_with_len (first + k) (all_branches courses))) ∙ ap (map branch_name) (range_with_len-append first k (all_branches courses))
-
-branch_name-injective : (m n : ℕ) → m < 2 ^ 33 → n < 2 ^ 33 → branch_name m ≡ branch_name n → m ≡ n
-branch_name-injective m n small_m small_n same =
-    let digits : decimal (m + 1) ≡ decimal (n + 1) = cc same in
-    let next = decimal_injective (m + 1) (n + 1) (omega (arith, small_m)) (omega (arith, small_n)) digits in
-    omega (arith, next)
+    ∙ sym (map-append branch_name here (range_with_len (first + k) (all_branches courses)))
+    ∙ ap (map branch_name) (range_with_len-append first k (all_branches courses))
 
 made-distinct : (first count : ℕ) → first + count < 2 ^ 33 → AllPairs (λ a b. a ≢ b) (map branch_name (range_with_len first count))
 made-distinct first count small =
@@ -65,7 +42,8 @@ made-distinct first count small =
     let inside : j < count = omega (arith, within, length-range_with_len first count) in
     let one = get_or-range_with_len first count i d (omega (arith, before, inside)) in
     let other = get_or-range_with_len first count j d inside in
-    λ same. let equal = branch_name-injective (get_or (range_with_len first count) i d) (get_or (range_with_len first count) j d) (omega (arith, one, before, inside, small)) (omega (arith, other, inside, small)) same in
+    λ same. let equal = number_of_decimal (get_or (range_with_len first count) i d) (get_or (range_with_len first count) j d)
+    (omega (arith, one, before, inside, small)) (omega (arith, other, inside, small)) (cc same) in
     absurd (omega (arith, equal, one, other, before)))
 
 made-dotted : (first count : ℕ) → first + count < 2 ^ 33 → All IsDottedName (map branch_name (range_with_len first count))
@@ -87,7 +65,8 @@ undotted (x ∷ a) (y ∷ b) name dotted = λ same. let first : x ≡ y = cc sam
 
 -- ---- the drawn network
 
-pub AreNamed-drawn : (case : Case) (exchangers : List Exchanger) (courses : List Course) → IsComplete case → all_branches courses < 2 ^ 33 → AreNamed (drawn case exchangers courses)
+pub AreNamed-drawn : (case : Case) (exchangers : List Exchanger) (courses : List Course) → IsComplete case → all_branches courses < 2 ^ 33
+    → AreNamed (drawn case exchangers courses)
 unfolding names_of
 AreNamed-drawn case exchangers courses complete small =
     let valid = StaysValid-IsComplete case complete in
@@ -95,12 +74,16 @@ AreNamed-drawn case exchangers courses complete small =
     let utilities = map (λ (u : Utility). u.name) case.utilities in
     let made = map branch_name (range_with_len 0 (all_branches courses)) in
     let all : map (λ (b : Branch). b.name) (own_branches case ++ made_branches 0 0 courses) ≡ own ++ made =
-    map-append (λ (b : Branch). b.name) (own_branches case) (made_branches 0 0 courses) ∙ ap (λ ns. ns ++ map (λ (b : Branch). b.name) (made_branches 0 0 courses)) (own-names case)
-    ∙ ap (λ ns. own ++ ns) (made-names 0 0 courses) in
+    map-append (λ (b : Branch). b.name) (own_branches case) (made_branches 0 0 courses)
+    ∙ ap (λ ns. ns ++ map (λ (b : Branch). b.name) (made_branches 0 0 courses)) (own-names case) ∙ ap (λ ns. own ++ ns) (made-names 0 0 courses) in
     let own_are = All-front IsName own utilities valid.names in
     let made_are = made-dotted 0 (all_branches courses) (omega (arith, small)) in
-    let apart : All (λ a. All (λ b. a ≢ b) made) own = λ i d within j e inside. undotted (get_or own i d) (get_or made j e) (own_are i d within) (made_are j e inside) in
+    let apart : All (λ a. All (λ b. a ≢ b) made) own = λ i d within j e inside. undotted (get_or own i d) (get_or made j e) (own_are i d within)
+    (made_are j e inside) in
     record {
-      names = subst (All IsAnyName) (sym all) (All-append IsAnyName own made (All-weaker IsName IsAnyName (λ n is. inl is) own own_are) (All-weaker IsDottedName IsAnyName (λ n is. inr is) made made_are));
-      distinct = subst (AllPairs (λ a b. a ≢ b)) (sym all) (AllPairs-append (λ a b. a ≢ b) own made (AllPairs-front (λ a b. a ≢ b) own utilities valid.distinct_names) (made-distinct 0 (all_branches courses) (omega (arith, small))) apart);
+      names = subst (All IsAnyName) (sym all) (All-append IsAnyName _ _ (All-weaker IsName IsAnyName (λ n is. inl is) own own_are)
+          (All-weaker IsDottedName IsAnyName (λ n is. inr is) made made_are));
+      distinct = subst (AllPairs (λ a b. a ≢ b)) (sym all)
+          (AllPairs-append (λ a b. a ≢ b) own made (AllPairs-front (λ a b. a ≢ b) own utilities valid.distinct_names)
+          (made-distinct 0 (all_branches courses) (omega (arith, small))) apart);
     }

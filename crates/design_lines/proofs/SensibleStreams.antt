@@ -1,10 +1,6 @@
 -- Streams that are valid and sensible, as the designs have them.
-use Rattle.std.proofs.Common.{List, All}
-use Rattle.stream_case.specs.Case.{IsComplete}
-use Rattle.stream_case.specs.Stream.{AreSensible, AreStreams, IsSensible, IsValidStream}
-use Rattle.stream_case.specs.declared.case.Case.{Case}
-use Rattle.stream_case.specs.declared.stream.Stream.{Stream}
-use Rattle.stream_case.proofs.CompleteLemmas.{AreStreams-IsComplete}
+use Rattle.std.proofs.Common.{All, List}
+use Rattle.design_lines.proofs.Words.{AreSensible, AreStreams, AreStreams-IsComplete, Case, IsComplete, IsSensible, IsValidStream, Stream}
 
 -- a valid stream that is not latent
 pub record IsSensibleStream (s : Stream) : Type 0 where

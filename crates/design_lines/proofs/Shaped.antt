@@ -1,31 +1,19 @@
 -- The network that led courses draw has the shape of a network.
-use Rattle.std.proofs.Common.{◌≡◌, ◌≢◌, ◌∙◌, ◌<◌, ◌≤◌, ◌+◌, ◌*◌, ◌^◌, ◌∷◌, inl, inr, ℕ, List, [], All, AllPairs, Some, get_or, slice_get, is_some, length, map, sym, ap, subst, arith, length-append}
-use Rattle.std.specs.List.{enumerate_from, flat_map, range_with_len}
-use Rattle.std.proofs.lemmas.List.Elements.{All-append, All-map, All-nil}
-use Rattle.std.proofs.lemmas.List.FromFn.{length-range_with_len}
-use Rattle.std.proofs.lemmas.Option.{slice_get-get_or, slice_get_within}
-use Rattle.sums.proofs.EnumerationLemmas.{All-enumerated}
-use Rattle.stream_case.specs.Case.{IsComplete, IsSourceOf}
-use Rattle.stream_case.specs.declared.case.Case.{Case}
-use Rattle.stream_case.specs.declared.stream.Stream.{Stream}
-use Rattle.stream_case.proofs.CaseLemmas.{IsSourceOf-side}
-use Rattle.networks.specs.Lines.{Exchanger, made_by, makes, own_branch, own_branches}
-use Rattle.networks.specs.Shape.{ArePassedOnce, HasPositiveFlow, HasShape, IsExchanger, IsOfOneStream, Joins}
-use Rattle.networks.specs.declared.network.Branch.{Branch}
-use Rattle.networks.specs.declared.network.Line.{Line}
-use Rattle.networks.specs.declared.network.Line.TheVariants as line
-use Rattle.networks.proofs.Lists.{all_at}
-use Rattle.networks.proofs.OfShape.{count-passages}
-use Rattle.design_lines.specs.Drawn.{Course, all_branches, course_branches, courses_lines, declared_line, drawn, made_branches, numbered}
-use Rattle.design_lines.specs.Led.{AreLed, AreStages}
-use Rattle.design_lines.specs.Names.{branch_name}
 use Rattle.design_lines.proofs.Declared.{ArePassedWhenDeclared-drawn, exchangers_of-drawn}
-use Rattle.design_lines.proofs.Made.{AreMadeInOrder-drawn, made-drawn}
-use Rattle.design_lines.proofs.MadeFirst.{AreMadeBeforeUse-drawn}
+use Rattle.design_lines.proofs.Made.{AreMadeBeforeUse-drawn, AreMadeInOrder-drawn, made-drawn}
 use Rattle.design_lines.proofs.Named.{AreNamed-drawn}
 use Rattle.design_lines.proofs.OneStream.{right-drawn}
 use Rattle.design_lines.proofs.PassedOnce.{counted-drawn}
 use Rattle.design_lines.proofs.UsedOnce.{AreUsedOnce-drawn}
+use Rattle.design_lines.proofs.Words.{All-append, All-enumerated, All-map, All-nil, ArePassedOnce, AreStages, Branch, Case, Course, Exchanger, HasPositiveFlow}
+use Rattle.design_lines.proofs.Words.{HasShape, IsComplete, IsExchanger, IsOfOneStream, IsSourceOf, IsSourceOf-side, Joins, Line, Stream, all_at, all_branches}
+use Rattle.design_lines.proofs.Words.{branch_name, count-passages, course_branches, courses_lines, declared_line, drawn, enumerate_from, flat_map}
+use Rattle.design_lines.proofs.Words.{made_branches, made_by, makes, own_branch, own_branches, range_with_len, slice_get-get_or, slice_get_within}
+use Rattle.design_lines.specs.Led.{AreLed}
+use Rattle.std.proofs.Common.{All, AllPairs, List, Some, [], ap, arith, get_or, inl, inr, is_some, length, length-append, map, slice_get, subst, sym, ℕ, ◌*◌}
+use Rattle.std.proofs.Common.{◌+◌, ◌<◌, ◌^◌, ◌∙◌, ◌∷◌, ◌≡◌, ◌≢◌, ◌≤◌}
+use Rattle.std.proofs.lemmas.List.FromFn.{length-range_with_len}
+use Rattle.networks.specs.declared.network.Line.TheVariants as line
 
 -- ---- the streams of branches are those of the case
 
@@ -41,7 +29,7 @@ made-within n first stream (course ∷ courses) few =
     let k = course_branches course in
     let make : ℕ → Branch = λ j. record { name = branch_name j; stream = stream } in
     let less : stream < n = omega (arith, few) in
-    All-append (λ (b : Branch). b.stream < n) (numbered first stream k) (made_branches (first + k) (stream + 1) courses) (All-map (λ (b : Branch). b.stream < n) make (range_with_len first k) (λ j d within. less))
+    All-append (λ (b : Branch). b.stream < n) _ _ (All-map (λ (b : Branch). b.stream < n) make (range_with_len first k) (λ j d within. less))
     (made-within n (first + k) (stream + 1) courses (omega (arith, few)))
 
 -- ---- a line makes two branches at most
@@ -57,7 +45,8 @@ few_made : (lines : List Line) → length (flat_map makes lines) ≤ 2 * length 
 few_made [] = omega arith
 few_made (l ∷ lines) = omega (arith, length-append (makes l) (flat_map makes lines), two_at_most l, few_made lines)
 
-few-branches : (case : Case) (exchangers : List Exchanger) (courses : List Course) → AreLed case exchangers courses → All AreStages courses → all_branches courses < 2 ^ 33
+few-branches : (case : Case) (exchangers : List Exchanger) (courses : List Course) → AreLed case exchangers courses → All AreStages courses
+    → all_branches courses < 2 ^ 33
 unfolding made_by
 few-branches case exchangers courses led used =
     let made = ap length (made-drawn case exchangers courses used) in
@@ -73,7 +62,8 @@ side-within : (case : Case) (e : Exchanger) (stream : ℕ) → IsExchanger case 
 side-within case e stream is (inl hot) = subst (IsSourceOf case) hot (IsSourceOf-side case e.hot (ap is_some is.hot))
 side-within case e stream is (inr cold) = subst (IsSourceOf case) cold (IsSourceOf-side case e.cold (ap is_some is.cold))
 
-passed-once : (case : Case) (exchangers : List Exchanger) (courses : List Course) → AreLed case exchangers courses → ArePassedOnce (drawn case exchangers courses)
+passed-once : (case : Case) (exchangers : List Exchanger) (courses : List Course) → AreLed case exchangers courses
+    → ArePassedOnce (drawn case exchangers courses)
 passed-once case exchangers courses led number stream e at joins =
     let network = drawn case exchangers courses in
     let used = all-stages case exchangers courses led in
@@ -82,11 +72,13 @@ passed-once case exchangers courses led number stream e at joins =
     let within : stream < length courses = omega (arith, side-within case e stream is joins, led.all) in
     let course = get_or courses stream [] in
     let of_stream = slice_get-get_or courses stream [] within in
-    count-passages network.branches number stream network.lines ∙ counted-drawn case exchangers courses led.all used number stream course of_stream ∙ led.once number stream e course here joins of_stream
+    count-passages network.branches number stream network.lines ∙ counted-drawn case exchangers courses led.all used number stream course of_stream
+    ∙ led.once number stream e course here joins of_stream
 
 -- ---- the shape
 
-pub HasShape-drawn : (case : Case) (exchangers : List Exchanger) (courses : List Course) → IsComplete case → AreLed case exchangers courses → HasShape case (drawn case exchangers courses)
+pub HasShape-drawn : (case : Case) (exchangers : List Exchanger) (courses : List Course) → IsComplete case → AreLed case exchangers courses
+    → HasShape case (drawn case exchangers courses)
 HasShape-drawn case exchangers courses complete led =
     let network = drawn case exchangers courses in
     let branches = network.branches in
@@ -101,9 +93,12 @@ HasShape-drawn case exchangers courses complete led =
       made_first = AreMadeBeforeUse-drawn case exchangers courses led.all used;
       used_once = AreUsedOnce-drawn case exchangers courses led.all used;
       named = AreNamed-drawn case exchangers courses complete (few-branches case exchangers courses led used);
-      streams = All-append (λ (b : Branch). b.stream < length case.streams) (own_branches case) (made_branches 0 0 courses) (own-within case) (made-within (length case.streams) 0 0 courses (omega (arith, led.all)));
-      one_stream = All-append (IsOfOneStream branches) declared later (All-map (IsOfOneStream branches) declared_line exchangers (λ k d within. tt)) (λ k d within. (right k d within).one_stream);
-      flows = All-append HasPositiveFlow declared later (All-map HasPositiveFlow declared_line exchangers (λ k d within. tt)) (λ k d within. (right k d within).flow);
+      streams = All-append (λ (b : Branch). b.stream < length case.streams) _ _ (own-within case)
+          (made-within (length case.streams) 0 0 courses (omega (arith, led.all)));
+      one_stream = All-append (IsOfOneStream branches) _ _ (All-map (IsOfOneStream branches) declared_line exchangers (λ k d within. tt))
+          (λ k d within. (right k d within).one_stream);
+      flows = All-append HasPositiveFlow _ _ (All-map HasPositiveFlow declared_line exchangers (λ k d within. tt))
+          (λ k d within. (right k d within).flow);
       exchangers = record {
         each = subst (All (IsExchanger case)) known led.declared;
         distinct = subst (AllPairs (λ a b. a.name ≢ b.name)) known led.distinct;

@@ -1,14 +1,10 @@
 -- The branches of a stage whose shares have one denominator: sizes over it, at most the whole size, in the state before the stage or in that after it.
-use Rattle.std.proofs.Common.{◌≡◌, ◌∙◌, ◌∷◌, ◌++◌, ◌⊎◌, inl, inr, ℕ, ℤ, pos, ◌+ℤ◌, List, [], All, refl, sym, ap₂, subst}
-use Rattle.std.proofs.lemmas.List.Elements.{All-append, All-cons, All-head, All-nil, All-tail}
-use Rattle.fractions.specs.Rationals.{IsAtMost, Rational, plus, ratio, rational_zero}
-use Rattle.fractions.proofs.Comparisons.{at_most-plus_left, at_most-plus_right, at_most_from_below, at_most_from_same, at_most_trans, not_negative-plus}
-use Rattle.fractions.proofs.Ratios.{plus-ratio_same_den, ratio-zero}
-use Rattle.fractions.proofs.Sums.{plus_assoc}
-use Rattle.network_values.specs.declared.values.BranchValue.{BranchValue}
-use Rattle.design_lines.specs.Values.{LedStage, course_values, courses_values, joined_values, mix_values, pass_values, size_of, split_values, stage_values}
-use Rattle.design_lines.specs.declared.stage.Share.{Share}
 use Rattle.design_lines.proofs.ValueSteps.{ArePositive, first_positive, others_positive, share_value, size_not_negative}
+use Rattle.design_lines.specs.Values.{LedStage, course_values, courses_values, joined_values, mix_values, pass_values, size_of, split_values, stage_values}
+use Rattle.design_lines.proofs.Words.{All-append, All-cons, All-head, All-nil, All-tail, BranchValue, IsAtMost, Rational, Share, plus, plus-ratio_same_den}
+use Rattle.design_lines.proofs.Words.{plus_assoc, ratio, ratio-zero, rational_zero}
+use Rattle.fractions.proofs.Comparisons.{at_most-plus_left, at_most-plus_right, at_most_from_below, at_most_from_same, at_most_trans, not_negative-plus}
+use Rattle.std.proofs.Common.{All, List, [], ap₂, inl, inr, pos, refl, subst, sym, ℕ, ℤ, ◌+ℤ◌, ◌∙◌, ◌∷◌, ◌≡◌, ◌⊎◌}
 
 -- a whole number over d
 pub record IsOver (d : ℕ) (a : Rational) : Type 0 where
@@ -23,7 +19,8 @@ AreOver d shares = All (λ s. IsOver d s.cp) shares
 
 over-size : (d : ℕ) (shares : List Share) → AreOver d shares → IsOver d (size_of shares)
 over-size d [] over = record { num = pos 0; is = sym (ratio-zero d) }
-over-size d (s ∷ shares) over = over-plus d s.cp (size_of shares) (All-head (λ (a : Share). IsOver d a.cp) s shares over) (over-size d shares (All-tail (λ (a : Share). IsOver d a.cp) s shares over))
+over-size d (s ∷ shares) over = over-plus d s.cp (size_of shares) (All-head (λ (a : Share). IsOver d a.cp) s shares over)
+    (over-size d shares (All-tail (λ (a : Share). IsOver d a.cp) s shares over))
 
 -- a branch that a stage makes
 pub record IsStageBranch (d : ℕ) (full before after : Rational) (v : BranchValue) : Type 0 where
@@ -67,18 +64,20 @@ module _ (d : ℕ) (full before after : Rational) where
       let rest = t ∷ shares in
       let is = is_first s rest over positive most in
       let left : BranchValue = record { cp = size_of rest; t = before } in
-      All-cons (IsStageBranch d full before after) (share_value before s) (left ∷ split_values before rest) (record { over = is.first_over; least = is.first_least; most = is.first_most; state = inl refl })
-      (All-cons (IsStageBranch d full before after) left (split_values before rest) (record { over = over-size d rest is.rest_over; least = is.rest_least; most = is.rest_most; state = inl refl })
+      All-cons (IsStageBranch d full before after) (share_value before s) (left ∷ split_values before rest)
+      (record { over = is.first_over; least = is.first_least; most = is.first_most; state = inl refl }) (All-cons (IsStageBranch d full before after) _ _
+      (record { over = over-size d rest is.rest_over; least = is.rest_least; most = is.rest_most; state = inl refl })
       (splits_sized (t ∷ shares) is.rest_over is.rest_positive is.rest_most))
 
   passes_sized : (shares : List Share) → AreOver d shares → ArePositive shares → IsAtMost (size_of shares) full → AreBranches (pass_values after shares)
   passes_sized [] over positive most = All-nil (IsStageBranch d full before after)
   passes_sized (s ∷ shares) over positive most =
       let is = is_first s shares over positive most in
-      All-cons (IsStageBranch d full before after) (share_value after s) (pass_values after shares) (record { over = is.first_over; least = is.first_least; most = is.first_most; state = inr refl })
+      All-cons (IsStageBranch d full before after) _ _ (record { over = is.first_over; least = is.first_least; most = is.first_most; state = inr refl })
       (passes_sized shares is.rest_over is.rest_positive is.rest_most)
 
-  mixes_sized : (size : Rational) (shares : List Share) → IsOver d size → IsAtMost rational_zero size → AreOver d shares → ArePositive shares → IsAtMost (plus size (size_of shares)) full → AreBranches (mix_values after size shares)
+  mixes_sized : (size : Rational) (shares : List Share) → IsOver d size → IsAtMost rational_zero size → AreOver d shares → ArePositive shares
+      → IsAtMost (plus size (size_of shares)) full → AreBranches (mix_values after size shares)
   mixes_sized size [] size_over least over positive most = All-nil (IsStageBranch d full before after)
   mixes_sized size (s ∷ shares) size_over least over positive most =
       let both = plus size s.cp in
@@ -88,19 +87,20 @@ module _ (d : ℕ) (full before after : Rational) where
       let both_least = not_negative-plus size s.cp least (at_most_from_below rational_zero s.cp (first_positive s shares positive)) in
       let all_most = subst (λ a. IsAtMost a full) (sym (plus_assoc size s.cp (size_of shares))) most in
       let both_most = at_most_trans both (plus both (size_of shares)) full (at_most-plus_right both (size_of shares) later) all_most in
-      All-cons (IsStageBranch d full before after) mixed (mix_values after both shares) (record { over = both_over; least = both_least; most = both_most; state = inr refl })
+      All-cons (IsStageBranch d full before after) _ _ (record { over = both_over; least = both_least; most = both_most; state = inr refl })
       (mixes_sized both shares both_over both_least (All-tail (λ (a : Share). IsOver d a.cp) s shares over) (others_positive s shares positive) all_most)
 
   joins_sized : (shares : List Share) → AreOver d shares → ArePositive shares → IsAtMost (size_of shares) full → AreBranches (joined_values after shares)
   joins_sized [] over positive most = All-nil (IsStageBranch d full before after)
-  joins_sized (s ∷ shares) over positive most = let is = is_first s shares over positive most in mixes_sized s.cp shares is.first_over is.first_least is.rest_over is.rest_positive most
+  joins_sized (s ∷ shares) over positive most = let is = is_first s shares over positive most in mixes_sized s.cp shares is.first_over is.first_least
+      is.rest_over is.rest_positive most
 
   -- the branches of a stage that is led
   pub stage_sized : (shares : List Share) → AreOver d shares → ArePositive shares → size_of shares ≡ full → AreBranches (stage_values before after shares)
   stage_sized shares over positive sizes =
       let most = at_most_from_same (size_of shares) full sizes in
-      All-append (IsStageBranch d full before after) (split_values before shares) (pass_values after shares ++ joined_values after shares) (splits_sized shares over positive most)
-      (All-append (IsStageBranch d full before after) (pass_values after shares) (joined_values after shares) (passes_sized shares over positive most) (joins_sized shares over positive most))
+      All-append (IsStageBranch d full before after) _ _ (splits_sized shares over positive most)
+      (All-append (IsStageBranch d full before after) _ _ (passes_sized shares over positive most) (joins_sized shares over positive most))
 
 -- ---- all stages
 
@@ -115,9 +115,9 @@ module _ (P : BranchValue → Type 0) where
   pub course_holds : (stages : List LedStage) → All StageHolds stages → CourseHolds stages
   course_holds [] each = All-nil P
   course_holds (stage ∷ stages) each =
-      All-append P (stage_values stage.before stage.after stage.shares) (course_values stages) (All-head StageHolds stage stages each) (course_holds stages (All-tail StageHolds stage stages each))
+      All-append P _ _ (All-head StageHolds stage stages each) (course_holds stages (All-tail StageHolds stage stages each))
 
   pub courses_hold : (courses : List (List LedStage)) → All CourseHolds courses → All P (courses_values courses)
   courses_hold [] each = All-nil P
   courses_hold (course ∷ courses) each =
-      All-append P (course_values course) (courses_values courses) (All-head CourseHolds course courses each) (courses_hold courses (All-tail CourseHolds course courses each))
+      All-append P _ _ (All-head CourseHolds course courses each) (courses_hold courses (All-tail CourseHolds course courses each))

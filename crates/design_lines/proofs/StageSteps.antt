@@ -1,12 +1,8 @@
 -- One split, one pass and one mix of a stage.
-use Rattle.std.proofs.Common.{◌≡◌, ◌∙◌, ◌<◌, ◌+◌, ◌-◌, ◌*◌, ◌∷◌, ◌++◌, ℕ, suc, List, [], get_or, length, drop, sym, ap, arith}
-use Rattle.std.proofs.Math.Seq.{drop-cons}
-use Rattle.std.proofs.lemmas.List.{append_assoc, drop_all}
-use Rattle.fractions.specs.Rationals.{rational_zero}
-use Rattle.networks.specs.declared.network.Line.{Line}
+use Rattle.design_lines.proofs.Words.{Line, Share, append_assoc, behind_splits, drop-cons, drop_all, mixes, passes, rational_zero, rest_branch, share_branches}
+use Rattle.design_lines.proofs.Words.{splits, stage_lines}
+use Rattle.std.proofs.Common.{List, [], ap, arith, drop, get_or, length, suc, sym, ℕ, ◌*◌, ◌++◌, ◌+◌, ◌-◌, ◌<◌, ◌∙◌, ◌∷◌, ◌≡◌}
 use Rattle.networks.specs.declared.network.Line.TheVariants as line
-use Rattle.design_lines.specs.Stages.{behind_splits, mixes, passes, rest_branch, share_branches, splits, stage_lines}
-use Rattle.design_lines.specs.declared.stage.Share.{Share}
 
 -- nothing, of which no rule speaks
 no_share : Share
@@ -25,16 +21,17 @@ rest_all free rest shares i last = ap (rest_branch free rest) (one_left shares i
 abbrev pub passes_from : ℕ → ℕ → ℕ → List Share → List Line
 passes_from to branch rest shares = passes to (share_branches branch rest shares) shares
 
-pub mixes_more : (n to first second m after beside : ℕ) → n ≡ suc m → after ≡ to + 1 → beside ≡ second + 1 → mixes n to first second ≡ line.Mix first second to ∷ mixes m after to beside
+pub mixes_more : (n to first second m after beside : ℕ) → n ≡ suc m → after ≡ to + 1 → beside ≡ second + 1
+    → mixes n to first second ≡ line.Mix first second to ∷ mixes m after to beside
 mixes_more n to first second m after beside one two three =
-    ap (λ k. mixes k to first second) one ∙ ap (λ k. line.Mix first second to ∷ mixes m k to (second + 1)) (sym two) ∙ ap (λ k. line.Mix first second to ∷ mixes m after to k) (sym three)
+    ap (λ k. mixes k to first second) one ∙ ap (λ k. line.Mix first second to ∷ mixes m k to (second + 1)) (sym two)
+    ∙ ap (λ k. line.Mix first second to ∷ mixes m after to k) (sym three)
 
 -- the three kinds of lines, one behind the other
 pub stage_joined : (next from rest more : ℕ) (shares : List Share) (old one two three : List Line) → 0 < length shares → more ≡ length shares - 1
     → one ≡ old ++ splits next from shares → rest ≡ rest_branch next from shares
     → two ≡ one ++ passes (behind_splits next shares) (share_branches next rest shares) shares
-    → three ≡ two ++ mixes more (next + 2 * more + more + 1) (next + 2 * more) (next + 2 * more + 1)
-    → three ≡ old ++ stage_lines next from shares
+    → three ≡ two ++ mixes more (next + 2 * more + more + 1) (next + 2 * more) (next + 2 * more + 1) → three ≡ old ++ stage_lines next from shares
 unfolding stage_lines
 stage_joined next from rest more shares old one two three some all split left pass mix =
     let behind = behind_splits next shares in

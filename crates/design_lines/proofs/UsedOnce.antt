@@ -1,19 +1,10 @@
 -- Each branch is used once: what lines use and leave open is what was open before them and what they make.
-use Rattle.std.proofs.Common.{◌≡◌, ◌≢◌, ◌∙◌, ◌<◌, ◌≤◌, ◌+◌, ◌-◌, ◌*◌, ◌==◌, ◌∷◌, ◌++◌, ℕ, zero, suc, Bool, true, false, cond, List, [], All, AllPairs, get_or, length, map, refl, ap, arith}
-use Rattle.std.specs.List.{flat_map, range_with_len}
-use Rattle.std.proofs.lemmas.Bool.Decides.{nat_tests}
-use Rattle.std.proofs.lemmas.List.Concat.{flat_map-append}
-use Rattle.std.proofs.lemmas.List.Elements.{All-head, All-tail}
-use Rattle.sums.proofs.EnumerationLemmas.{range_with_len-append}
-use Rattle.stream_case.specs.declared.case.Case.{Case}
-use Rattle.networks.specs.Lines.{Exchanger, makes, used_by, uses}
-use Rattle.networks.specs.Shape.{AreUsedOnce}
-use Rattle.networks.specs.declared.network.Line.{Line}
-use Rattle.design_lines.specs.Drawn.{Course, all_branches, course_branches, course_lines, courses_lines, declared_line, drawn}
-use Rattle.design_lines.specs.Led.{AreStages}
-use Rattle.design_lines.specs.Stages.{behind_splits, mixes, passes, rest_branch, share_branches, splits, stage_end, stage_lines}
-use Rattle.design_lines.specs.declared.stage.Share.{Share}
-use Rattle.design_lines.proofs.Made.{length-share_branches, made-courses, made-passes}
+use Rattle.design_lines.proofs.Made.{made-courses}
+use Rattle.design_lines.proofs.Walks.{KeepAll, follow_always, walk_courses, weight}
+use Rattle.design_lines.proofs.Words.{AreStages, AreUsedOnce, Case, Course, Exchanger, Line, Share, all_branches, courses_lines, declared_line, drawn, flat_map}
+use Rattle.design_lines.proofs.Words.{flat_map-append, makes, nat_tests, range_with_len, range_with_len-append, sum_by, sum_by-le, used_by, uses}
+use Rattle.std.proofs.Common.{All, AllPairs, Bool, List, [], ap, arith, cond, false, get_or, length, map, refl, suc, true, zero, ℕ, ◌++◌, ◌+◌, ◌<◌, ◌==◌, ◌∙◌}
+use Rattle.std.proofs.Common.{◌∷◌, ◌≡◌, ◌≢◌, ◌≤◌}
 
 -- ---- how many times a number stands in a list
 
@@ -67,89 +58,44 @@ differ (x ∷ xs) once zero (suc j) d before within =
 differ (x ∷ xs) once (suc i) zero d before within = absurd (omega (arith, before))
 differ (x ∷ xs) once (suc i) (suc j) d before within = differ xs (λ b. omega (arith, once b)) i j d (omega (arith, before)) (omega (arith, within))
 
--- ---- a stage
-
-used-splits : (b next from : ℕ) (shares : List Share) → 0 < length shares
-    → times b (flat_map uses (splits next from shares)) + times b (share_branches next (rest_branch next from shares) shares) ≡ times b (from ∷ []) + times b (flat_map makes (splits next from shares))
-used-splits b next from [] some = absurd (omega (arith, some))
-used-splits b next from (s ∷ []) some = omega arith
-used-splits b next from (s ∷ t ∷ shares) some =
-    let rest = used-splits b (next + 2) (next + 1) (t ∷ shares) (omega arith) in
-    omega (arith, rest)
-
-used-passes : (b to : ℕ) (branches : List ℕ) (shares : List Share) → length branches ≡ length shares → times b (flat_map uses (passes to branches shares)) ≡ times b branches
-used-passes b to [] shares many = refl
-used-passes b to (n ∷ branches) [] many = absurd (omega (arith, many))
-used-passes b to (n ∷ branches) (s ∷ shares) many = omega (arith, used-passes b (to + 1) branches shares (omega (arith, many)))
-
--- the last branch that mixes leave
-abbrev mixed : ℕ → ℕ → ℕ → ℕ
-mixed zero to first = first
-mixed (suc n) to first = mixed n (to + 1) to
-
-mixed-more : (n to first : ℕ) → mixed (suc n) to first ≡ to + n
-mixed-more zero to first = omega arith
-mixed-more (suc n) to first = mixed-more n (to + 1) to ∙ omega arith
-
-used-mixes : (b n to first second : ℕ) → times b (flat_map uses (mixes n to first second)) + times b (mixed n to first ∷ []) ≡ times b (first ∷ []) + times b (range_with_len second n) + times b (flat_map makes (mixes n to first second))
-used-mixes b zero to first second = omega arith
-used-mixes b (suc n) to first second = omega (arith, used-mixes b n (to + 1) to (second + 1))
-
-mixed-stage : (next more : ℕ) → mixed more (next + 2 * more + suc more) (next + 2 * more) ≡ next + 4 * more
-mixed-stage next zero = omega arith
-mixed-stage next (suc n) = mixed-more n (next + 2 * suc n + suc (suc n)) (next + 2 * suc n) ∙ omega arith
-
-used-stage : (b next from : ℕ) (shares : List Share) → 0 < length shares
-    → times b (flat_map uses (stage_lines next from shares)) + times b (stage_end next shares ∷ []) ≡ times b (from ∷ []) + times b (flat_map makes (stage_lines next from shares))
-unfolding stage_lines
-used-stage b next from shares some =
-    let more = length shares - 1 in
-    let behind = behind_splits next shares in
-    let divided = share_branches next (rest_branch next from shares) shares in
-    let many = length-share_branches next (rest_branch next from shares) shares in
-    let ss = splits next from shares in
-    let ps = passes behind divided shares in
-    let ms = mixes more (behind + length shares) behind (behind + 1) in
-    let count : length shares ≡ suc more = omega (arith, some) in
-    let end : mixed more (behind + length shares) behind ≡ stage_end next shares = ap (λ n. mixed more (behind + n) behind) count ∙ mixed-stage next more in
-    let left : times b (mixed more (behind + length shares) behind ∷ []) ≡ times b (stage_end next shares ∷ []) = ap (λ n. times b (n ∷ [])) end in
-    let passed : times b (flat_map makes ps) ≡ times b (behind ∷ []) + times b (range_with_len (behind + 1) more) =
-    ap (times b) (made-passes behind divided shares many ∙ ap (range_with_len behind) count) ∙ times-append b (behind ∷ []) (range_with_len (behind + 1) more) in
-    omega (
-      arith,
-      times-flat_map b uses ss (ps ++ ms),
-      times-flat_map b uses ps ms,
-      times-flat_map b makes ss (ps ++ ms),
-      times-flat_map b makes ps ms,
-      used-splits b next from shares some,
-      used-passes b behind divided shares many,
-      used-mixes b more (behind + length shares) behind (behind + 1),
-      left,
-      passed,
-    )
-
 -- ---- courses
 
-used-course : (b next from : ℕ) (course : Course) → AreStages course → times b (flat_map uses (course_lines next from course)) ≡ times b (from ∷ []) + times b (flat_map makes (course_lines next from course))
-used-course b next from [] used = omega arith
-used-course b next from (shares ∷ stages) used =
-    let end = stage_end next shares in
-    let here = stage_lines next from shares in
-    let later = course_lines (end + 1) end stages in
-    let stage = used-stage b next from shares (All-head (λ ss. 0 < length ss) shares stages used) in
-    let rest = used-course b (end + 1) end stages (All-tail (λ ss. 0 < length ss) shares stages used) in
-    omega (arith, times-flat_map b uses here later, times-flat_map b makes here later, stage, rest)
+-- a branch is used as often as it is open before the lines and made by them
+module _ (b : ℕ) where
+  abbrev is_it : ℕ → ℕ
+  is_it x = cond (b == x) 1 0
 
-used-courses : (b next stream : ℕ) (courses : List Course) → All AreStages courses
-    → times b (flat_map uses (courses_lines next stream courses)) ≡ times b (range_with_len stream (length courses)) + times b (flat_map makes (courses_lines next stream courses))
-used-courses b next stream [] used = refl
-used-courses b next stream (course ∷ courses) used =
-    let here = course_lines next stream course in
-    let later = courses_lines (next + course_branches course) (stream + 1) courses in
-    let first = used-course b next stream course (All-head AreStages course courses used) in
-    let rest = used-courses b (next + course_branches course) (stream + 1) courses (All-tail AreStages course courses used) in
-    let own = times-append b (stream ∷ []) (range_with_len (stream + 1) (length courses)) in
-    omega (arith, times-flat_map b uses here later, times-flat_map b makes here later, first, rest, own)
+  abbrev IsUsed : ℕ → ℕ → List Line → Type 0
+  IsUsed n w lines = times b (flat_map uses lines) ≡ w + times b (flat_map makes lines)
+
+  used_keep : KeepAll IsUsed (λ stream n x. Unit {0}) (λ stream s. Unit {0}) is_it (λ stream s. 0) (λ shares. 0 < length shares)
+  used_keep = record {
+    keeps = λ stream. record {
+      split = λ n from w all left s lines share of_from of_first of_second sum sums more. omega (arith, sum, sums, more);
+      pass = λ n from w all left s lines share of_from of_to sum sums more. omega (arith, sum, sums, more);
+      mix = λ n first second w all left lines of_first of_second of_to sum sums more. omega (arith, sum, sums, more);
+      none = λ some n w all lines more. absurd (omega (arith, some));
+    };
+    end = λ stream n from w all lines of_from sum more. omega (arith, sum, more);
+  }
+
+  abbrev still_open : ℕ → List Course → ℕ
+  still_open stream courses = weight IsUsed (λ k n x. Unit {0}) (λ k s. Unit {0}) is_it (λ k s. 0) (λ shares. 0 < length shares) stream courses
+
+  own-open : (stream : ℕ) (courses : List Course) → still_open stream courses ≡ times b (range_with_len stream (length courses))
+  own-open stream [] = refl
+  own-open stream (course ∷ courses) =
+      let none = sum_by-le (λ shares. sum_by (λ (s : Share). 0) shares) 0 course
+      (λ k d inside. omega (arith, sum_by-le (λ (s : Share). 0) 0 (get_or course k d) (λ i e within. omega arith))) in
+      omega (arith, none, own-open (stream + 1) courses)
+
+  used-courses : (next stream : ℕ) (courses : List Course) → All AreStages courses
+      → times b (flat_map uses (courses_lines next stream courses)) ≡ times b (range_with_len stream (length courses)) + times b
+      (flat_map makes (courses_lines next stream courses))
+  used-courses next stream courses used =
+      let walked = walk_courses IsUsed (λ k n x. Unit {0}) (λ k s. Unit {0}) is_it (λ k s. 0) (λ shares. 0 < length shares) used_keep next stream courses used
+      (λ i c at k d within j e inside. tt) (follow_always (λ k n x. Unit {0}) (λ k n x. tt) next stream courses) refl in
+      omega (arith, walked, own-open stream courses)
 
 -- ---- the drawn network
 
@@ -157,12 +103,14 @@ used-declared : (exchangers : List Exchanger) → flat_map uses (map declared_li
 used-declared [] = refl
 used-declared (e ∷ exchangers) = used-declared exchangers
 
-pub AreUsedOnce-drawn : (case : Case) (exchangers : List Exchanger) (courses : List Course) → length courses ≡ length case.streams → All AreStages courses → AreUsedOnce (drawn case exchangers courses)
+pub AreUsedOnce-drawn : (case : Case) (exchangers : List Exchanger) (courses : List Course) → length courses ≡ length case.streams → All AreStages courses
+    → AreUsedOnce (drawn case exchangers courses)
 unfolding used_by
 AreUsedOnce-drawn case exchangers courses each used =
     let n = length case.streams in
     let later = courses_lines n 0 courses in
     differ (flat_map uses (map declared_line exchangers ++ later)) (λ b.
+    let parts = times-flat_map b uses (map declared_line exchangers) later in
     let none = ap (times b) (used-declared exchangers) in
     let all = used-courses b n 0 courses used in
     let own = ap (λ k. times b (range_with_len 0 k)) each in
@@ -170,4 +118,5 @@ AreUsedOnce-drawn case exchangers courses each used =
     let range = ap (times b) (range_with_len-append 0 n (all_branches courses)) in
     let none_before : 0 + n ≡ n = omega arith in
     let zero_first = ap (λ k. times b (range_with_len k (all_branches courses))) none_before in
-    omega (arith, times-flat_map b uses (map declared_line exchangers) later, none, all, own, made, range, zero_first, times-append b (range_with_len 0 n) (range_with_len (0 + n) (all_branches courses)), once-range b 0 (n + all_branches courses)))
+    let both = times-append b (range_with_len 0 n) (range_with_len (0 + n) (all_branches courses)) in
+    omega (arith, parts, none, all, own, made, range, zero_first, both, once-range b 0 (n + all_branches courses)))

@@ -1,23 +1,13 @@
 -- The values that the splits, the passes and the mixes of a stage make.
-use Rattle.std.proofs.Common.{◌≡◌, ◌∙◌, ◌<◌, ◌+◌, ◌∷◌, ◌++◌, ℕ, zero, suc, List, [], All, get_or, length, refl, sym, ap, subst, append-nil, append_assoc, arith, length-append}
-use Rattle.std.proofs.lemmas.List.{get_or-append-add, get_or_append_left}
-use Rattle.std.proofs.lemmas.List.Elements.{All-head, All-tail}
-use Rattle.stream_case.specs.declared.case.Case.{Case}
-use Rattle.stream_case.specs.declared.source.Side.{Side}
-use Rattle.fractions.specs.Rationals.{IsAtMost, IsBelow, Rational, minus, plus, rational_zero, times}
+use Rattle.design_lines.proofs.Words.{All-cons, All-head, All-nil, All-tail, BranchValue, Case, IsAtMost, IsBelow, IsMix, IsPass, Line, Network, Rational}
+use Rattle.design_lines.proofs.Words.{Share, Side, Valuation, branch_side, change, duty_at, first_part, get_or-append-add, get_or_append_left, made_values}
+use Rattle.design_lines.proofs.Words.{minus, minus-plus, mix_determined, mixed_positive, mixed_value, mixes, no_value, pass_determined, passed_value, passes}
+use Rattle.design_lines.proofs.Words.{plus, plus-times, plus_comm, range_with_len, rational_zero, second_part, splits, stream_at, times, value_at, zero-plus}
+use Rattle.design_lines.specs.Values.{AllCanFollow, CanFollow, LedStage, Make, mix_values, pass_values, size_of, split_values, values_after}
 use Rattle.fractions.proofs.Comparisons.{at_most_from_below, at_most_refl, below-plus, not_negative-plus, positive-plus}
-use Rattle.fractions.proofs.Products.{plus-times}
-use Rattle.fractions.proofs.Sums.{minus-plus, plus_comm, zero-plus}
-use Rattle.networks.specs.declared.network.Line.{Line}
+use Rattle.std.proofs.Common.{All, List, [], ap, append-nil, append_assoc, arith, get_or, length, length-append, refl, subst, suc, sym, zero, ℕ, ◌++◌, ◌+◌, ◌<◌}
+use Rattle.std.proofs.Common.{◌∙◌, ◌∷◌, ◌≡◌}
 use Rattle.networks.specs.declared.network.Line.TheVariants as line
-use Rattle.networks.specs.declared.network.Network.{Network}
-use Rattle.network_values.specs.Made.{first_part, made_values, mixed_value, passed_value, second_part}
-use Rattle.network_values.specs.Values.{IsMix, IsPass, Valuation, branch_side, change, duty_at, no_value, value_at}
-use Rattle.network_values.specs.declared.values.BranchValue.{BranchValue}
-use Rattle.network_values.proofs.LineLemmas.{mix_determined, mixed_positive, pass_determined}
-use Rattle.design_lines.specs.Stages.{mixes, passes, splits}
-use Rattle.design_lines.specs.Values.{AllCanFollow, CanFollow, Make, mix_values, pass_values, size_of, split_values, values_after}
-use Rattle.design_lines.specs.declared.stage.Share.{Share}
 
 -- ---- what a branch carries
 
@@ -27,11 +17,14 @@ pub record Carries (values : Valuation) (branch : ℕ) (v : BranchValue) : Type 
 
 pub carries_more : (values more : Valuation) (branch : ℕ) (v : BranchValue) → Carries values branch v → Carries (values ++ more) branch v
 carries_more values more branch v carries =
-    record { within = omega (arith, carries.within, length-append values more); is = get_or_append_left values more no_value branch carries.within ∙ carries.is }
+    let same = get_or_append_left values more no_value branch carries.within in
+    record { within = omega (arith, carries.within, length-append values more); is = same ∙ carries.is }
 
-pub carries_new : (values more : Valuation) (k branch : ℕ) → branch ≡ length values + k → k < length more → Carries (values ++ more) branch (get_or more k no_value)
+pub carries_new : (values more : Valuation) (k branch : ℕ) → branch ≡ length values + k → k < length more
+    → Carries (values ++ more) branch (get_or more k no_value)
 carries_new values more k branch number inside =
-    record { within = omega (arith, number, inside, length-append values more); is = ap (value_at (values ++ more)) number ∙ get_or-append-add values more k no_value }
+    let here = ap (value_at (values ++ more)) number ∙ get_or-append-add values more k no_value in
+    record { within = omega (arith, number, inside, length-append values more); is = here }
 
 -- a share in some state
 abbrev pub share_value : Rational → Share → BranchValue
@@ -44,20 +37,17 @@ CarryShares values t [] (s ∷ shares) = ⊥
 CarryShares values t (branch ∷ branches) [] = ⊥
 CarryShares values t (branch ∷ branches) (s ∷ shares) = Carries values branch (share_value t s) × CarryShares values t branches shares
 
-pub carry_more : (values more : Valuation) (t : Rational) (branches : List ℕ) (shares : List Share) → CarryShares values t branches shares → CarryShares (values ++ more) t branches shares
+pub carry_more : (values more : Valuation) (t : Rational) (branches : List ℕ) (shares : List Share) → CarryShares values t branches shares
+    → CarryShares (values ++ more) t branches shares
 carry_more values more t [] [] carry = tt
 carry_more values more t [] (s ∷ shares) carry = absurd carry
 carry_more values more t (branch ∷ branches) [] carry = absurd carry
-carry_more values more t (branch ∷ branches) (s ∷ shares) carry = (carries_more values more branch (share_value t s) carry.0, carry_more values more t branches shares carry.1)
+carry_more values more t (branch ∷ branches) (s ∷ shares) carry =
+    (carries_more values more branch (share_value t s) carry.0, carry_more values more t branches shares carry.1)
 
 -- the same of branches one behind the other
 abbrev pub CarryFrom : Valuation → Rational → ℕ → List Share → Type 0
-CarryFrom values t branch [] = Unit {0}
-CarryFrom values t branch (s ∷ shares) = Carries values branch (share_value t s) × CarryFrom values t (branch + 1) shares
-
-pub carry_from_more : (values more : Valuation) (t : Rational) (branch : ℕ) (shares : List Share) → CarryFrom values t branch shares → CarryFrom (values ++ more) t branch shares
-carry_from_more values more t branch [] carry = tt
-carry_from_more values more t branch (s ∷ shares) carry = (carries_more values more branch (share_value t s) carry.0, carry_from_more values more t (branch + 1) shares carry.1)
+CarryFrom values t branch shares = CarryShares values t (range_with_len branch (length shares)) shares
 
 -- ---- sizes
 
@@ -73,10 +63,12 @@ others_positive s shares positive = All-tail (λ (a : Share). IsBelow rational_z
 pub size_not_negative : (shares : List Share) → ArePositive shares → IsAtMost rational_zero (size_of shares)
 size_not_negative [] positive = at_most_refl rational_zero
 size_not_negative (s ∷ shares) positive =
-    not_negative-plus s.cp (size_of shares) (at_most_from_below rational_zero s.cp (first_positive s shares positive)) (size_not_negative shares (others_positive s shares positive))
+    not_negative-plus s.cp (size_of shares) (at_most_from_below rational_zero s.cp (first_positive s shares positive))
+    (size_not_negative shares (others_positive s shares positive))
 
 size_positive : (s : Share) (shares : List Share) → ArePositive (s ∷ shares) → IsBelow rational_zero (size_of (s ∷ shares))
-size_positive s shares positive = positive-plus s.cp (size_of shares) (first_positive s shares positive) (size_not_negative shares (others_positive s shares positive))
+size_positive s shares positive = positive-plus s.cp (size_of shares) (first_positive s shares positive)
+    (size_not_negative shares (others_positive s shares positive))
 
 less_than_both : (a b : Rational) → IsBelow rational_zero b → IsBelow a (plus a b)
 less_than_both a b positive =
@@ -91,22 +83,25 @@ module _ (case : Case) (network : Network) where
   pub make_none : (values : Valuation) → Make case network values [] []
   make_none values = record { made_is = sym (append-nil values); follow = tt }
 
-  pub make_line : (values : Valuation) (l : Line) (lines : List Line) (one rest : List BranchValue) → made_values case network values l ≡ one → CanFollow case network values l → Make case network (values ++ one) lines rest
-      → Make case network values (l ∷ lines) (one ++ rest)
+  pub make_line : (values : Valuation) (l : Line) (lines : List Line) (one rest : List BranchValue) → made_values case network values l ≡ one
+      → CanFollow case network values l → Make case network (values ++ one) lines rest → Make case network values (l ∷ lines) (one ++ rest)
   make_line values l lines one rest makes can make = record {
     made_is = ap (λ vs. values_after case network (values ++ vs) lines) makes ∙ make.made_is ∙ append_assoc values one rest;
     follow = (can, subst (λ vs. AllCanFollow case network (values ++ vs) lines) (sym makes) make.follow);
   }
 
-  values_after-append : (values : Valuation) (lines more : List Line) → values_after case network values (lines ++ more) ≡ values_after case network (values_after case network values lines) more
+  values_after-append : (values : Valuation) (lines more : List Line)
+      → values_after case network values (lines ++ more) ≡ values_after case network (values_after case network values lines) more
   values_after-append values [] more = refl
   values_after-append values (l ∷ lines) more = values_after-append (values ++ made_values case network values l) lines more
 
-  AllCanFollow-append : (values : Valuation) (lines more : List Line) → AllCanFollow case network values lines → AllCanFollow case network (values_after case network values lines) more → AllCanFollow case network values (lines ++ more)
+  AllCanFollow-append : (values : Valuation) (lines more : List Line) → AllCanFollow case network values lines
+      → AllCanFollow case network (values_after case network values lines) more → AllCanFollow case network values (lines ++ more)
   AllCanFollow-append values [] more one two = two
   AllCanFollow-append values (l ∷ lines) more one two = (one.0, AllCanFollow-append (values ++ made_values case network values l) lines more one.1 two)
 
-  pub make_append : (values : Valuation) (lines more : List Line) (one two : List BranchValue) → Make case network values lines one → Make case network (values ++ one) more two → Make case network values (lines ++ more) (one ++ two)
+  pub make_append : (values : Valuation) (lines more : List Line) (one two : List BranchValue) → Make case network values lines one
+      → Make case network (values ++ one) more two → Make case network values (lines ++ more) (one ++ two)
   make_append values lines more one two first second = record {
     made_is = values_after-append values lines more ∙ ap (λ vs. values_after case network vs more) first.made_is ∙ second.made_is ∙ append_assoc values one two;
     follow = AllCanFollow-append values lines more first.follow (subst (λ vs. AllCanFollow case network vs more) (sym first.made_is) second.follow);
@@ -114,7 +109,8 @@ module _ (case : Case) (network : Network) where
 
   -- ---- splits
 
-  pub splits_make : (before : Rational) (shares : List Share) (values : Valuation) (next from : ℕ) → next ≡ length values → Carries values from (record { cp = size_of shares; t = before }) → ArePositive shares
+  pub splits_make : (before : Rational) (shares : List Share) (values : Valuation) (next from : ℕ) → next ≡ length values
+      → Carries values from (record { cp = size_of shares; t = before }) → ArePositive shares
       → Make case network values (splits next from shares) (split_values before shares)
   splits_make before [] values next from start carries positive = make_none values
   splits_make before (s ∷ []) values next from start carries positive = make_none values
@@ -122,15 +118,20 @@ module _ (case : Case) (network : Network) where
       let rest = size_of (t ∷ shares) in
       let both : List BranchValue = share_value before s ∷ record { cp = rest; t = before } ∷ [] in
       let divided : made_values case network values (line.Split from next s.cp (next + 1)) ≡ both =
-      ap (λ (v : BranchValue). first_part v s.cp ∷ second_part v s.cp ∷ []) carries.is ∙ ap (λ (a : Rational). share_value before s ∷ record { cp = a; t = before } ∷ []) (rest_left s.cp rest) in
-      let room = subst (λ (v : BranchValue). IsBelow s.cp v.cp) (sym carries.is) (less_than_both s.cp rest (size_positive t shares (others_positive s (t ∷ shares) positive))) in
+      ap (λ (v : BranchValue). first_part v s.cp ∷ second_part v s.cp ∷ []) carries.is
+      ∙ ap (λ (a : Rational). share_value before s ∷ record { cp = a; t = before } ∷ []) (rest_left s.cp rest) in
+      let room = subst (λ (v : BranchValue). IsBelow s.cp v.cp) (sym carries.is)
+      (less_than_both s.cp rest (size_positive t shares (others_positive s (t ∷ shares) positive))) in
       make_line values (line.Split from next s.cp (next + 1)) (splits (next + 2) (next + 1) (t ∷ shares)) both (split_values before (t ∷ shares)) divided room
-      (splits_make before (t ∷ shares) (values ++ both) (next + 2) (next + 1) (omega (arith, start, length-append values both)) (carries_new values both 1 (next + 1) (omega (arith, start)) (omega arith)) (others_positive s (t ∷ shares) positive))
+      (splits_make before (t ∷ shares) (values ++ both) (next + 2) (next + 1) (omega (arith, start, length-append values both))
+      (carries_new values both 1 (next + 1) (omega (arith, start)) (omega arith)) (others_positive s (t ∷ shares) positive))
 
   -- ---- passes
 
-  pub passes_make : (of : Side) (before after : Rational) (to : ℕ) (branches : List ℕ) (shares : List Share) (values : Valuation) → CarryShares values before branches shares → All (λ b. branch_side case network b ≡ of) branches
-      → ArePositive shares → All (λ s. times s.cp (change of before after) ≡ duty_at network s.exchanger) shares → Make case network values (passes to branches shares) (pass_values after shares)
+  pub passes_make : (of : Side) (before after : Rational) (to : ℕ) (branches : List ℕ) (shares : List Share) (values : Valuation)
+      → CarryShares values before branches shares → All (λ b. branch_side case network b ≡ of) branches
+      → ArePositive shares → All (λ s. times s.cp (change of before after) ≡ duty_at network s.exchanger) shares
+      → Make case network values (passes to branches shares) (pass_values after shares)
   passes_make of before after to [] [] values carry sides positive duties = make_none values
   passes_make of before after to [] (s ∷ shares) values carry sides positive duties = absurd carry
   passes_make of before after to (branch ∷ branches) [] values carry sides positive duties = absurd carry
@@ -143,13 +144,16 @@ module _ (case : Case) (network : Network) where
       let one : passed_value (branch_side case network branch) (value_at values branch) duty ≡ behind =
       ap (λ side. passed_value side (value_at values branch) duty) (All-head S branch branches sides) ∙ ap (λ v. passed_value of v duty) carry.0.is
       ∙ sym (pass_determined of (share_value before s) behind duty (first_positive s shares positive) pass) in
-      make_line values (line.Pass branch s.exchanger to) (passes (to + 1) branches shares) (behind ∷ []) (pass_values after shares) (ap (λ (v : BranchValue). v ∷ []) one) tt
-      (passes_make of before after (to + 1) branches shares (values ++ behind ∷ []) (carry_more values (behind ∷ []) before branches shares carry.1) (All-tail S branch branches sides) (others_positive s shares positive) (All-tail D s shares duties))
+      make_line values (line.Pass branch s.exchanger to) (passes (to + 1) branches shares) (behind ∷ []) (pass_values after shares)
+      (ap (λ (v : BranchValue). v ∷ []) one) tt
+      (passes_make of before after (to + 1) branches shares (values ++ behind ∷ []) (carry_more values (behind ∷ []) before branches shares carry.1)
+      (All-tail S branch branches sides) (others_positive s shares positive) (All-tail D s shares duties))
 
   -- ---- mixes
 
-  pub mixes_make : (after : Rational) (n to first second : ℕ) (size : Rational) (shares : List Share) (values : Valuation) → n ≡ length shares → to ≡ length values → Carries values first (record { cp = size; t = after })
-      → CarryFrom values after second shares → IsBelow rational_zero size → ArePositive shares → Make case network values (mixes n to first second) (mix_values after size shares)
+  pub mixes_make : (after : Rational) (n to first second : ℕ) (size : Rational) (shares : List Share) (values : Valuation) → n ≡ length shares
+      → to ≡ length values → Carries values first (record { cp = size; t = after }) → CarryFrom values after second shares → IsBelow rational_zero size
+      → ArePositive shares → Make case network values (mixes n to first second) (mix_values after size shares)
   mixes_make after zero to first second size [] values many start one others above positive = make_none values
   mixes_make after zero to first second size (s ∷ shares) values many start one others above positive = absurd (omega (arith, many))
   mixes_make after (suc n) to first second size [] values many start one others above positive = absurd (omega (arith, many))
@@ -159,7 +163,53 @@ module _ (case : Case) (network : Network) where
       let above_both = mixed_positive branch (share_value after s) above (first_positive s shares positive) in
       let mix : IsMix branch (share_value after s) both = record { size = refl; heat = plus-times size s.cp after } in
       let made : mixed_value (value_at values first) (value_at values second) ≡ both =
-      ap (λ v. mixed_value v (value_at values second)) one.is ∙ ap (mixed_value branch) others.0.is ∙ sym (mix_determined branch (share_value after s) both above_both mix) in
-      make_line values (line.Mix first second to) (mixes n (to + 1) to (second + 1)) (both ∷ []) (mix_values after (plus size s.cp) shares) (ap (λ (v : BranchValue). v ∷ []) made) tt
-      (mixes_make after n (to + 1) to (second + 1) (plus size s.cp) shares (values ++ both ∷ []) (omega (arith, many)) (omega (arith, start, length-append values (both ∷ []))) (carries_new values (both ∷ []) 0 to (omega (arith, start)) (omega arith))
-      (carry_from_more values (both ∷ []) after (second + 1) shares others.1) above_both (others_positive s shares positive))
+      ap (λ v. mixed_value v (value_at values second)) one.is ∙ ap (mixed_value branch) others.0.is
+      ∙ sym (mix_determined branch (share_value after s) both above_both mix) in
+      make_line values (line.Mix first second to) (mixes n (to + 1) to (second + 1)) (both ∷ []) (mix_values after (plus size s.cp) shares)
+      (ap (λ (v : BranchValue). v ∷ []) made) tt
+      (mixes_make after n (to + 1) to (second + 1) (plus size s.cp) shares (values ++ both ∷ []) (omega (arith, many))
+      (omega (arith, start, length-append values (both ∷ []))) (carries_new values (both ∷ []) 0 to (omega (arith, start)) (omega arith))
+      (carry_more values (both ∷ []) after (range_with_len (second + 1) (length shares)) shares others.1) above_both (others_positive s shares positive))
+
+-- ---- the states between which passes run
+
+-- what `R` asks of a stream, an exchanger that it passes, and its states before and behind it
+module _ (case : Case) (network : Network) (R : ℕ → ℕ → Rational → Rational → Type 0) where
+  abbrev pub RunsAs : Valuation → Line → Type 0
+  RunsAs values (line.Exchanger name hot cold duty) = Unit {0}
+  RunsAs values (line.Split from first cp second) = Unit {0}
+  RunsAs values (line.Pass from exchanger to) = R (stream_at network.branches from) exchanger (value_at values from).t (value_at values to).t
+  RunsAs values (line.Mix first second to) = Unit {0}
+  RunsAs values (line.End branch) = Unit {0}
+
+  -- the same of each share of a stage
+  abbrev pub StageRuns : ℕ → LedStage → Type 0
+  StageRuns stream stage = All (λ a. R stream a.exchanger stage.before stage.after) stage.shares
+
+  pub splits_run : (values : Valuation) (next from : ℕ) (shares : List Share) → All (RunsAs values) (splits next from shares)
+  splits_run values next from [] = All-nil _
+  splits_run values next from (s ∷ []) = All-nil (RunsAs values)
+  splits_run values next from (s ∷ t ∷ shares) =
+      All-cons (RunsAs values) _ _ tt (splits_run values (next + 2) (next + 1) (t ∷ shares))
+
+  pub mixes_run : (values : Valuation) (n to first second : ℕ) → All (RunsAs values) (mixes n to first second)
+  mixes_run values zero to first second = All-nil (RunsAs values)
+  mixes_run values (suc n) to first second = All-cons (RunsAs values) _ _ tt
+      (mixes_run values n (to + 1) to (second + 1))
+
+  pub passes_run : (stream : ℕ) (before after : Rational) (to : ℕ) (branches : List ℕ) (shares : List Share) (values : Valuation)
+      → CarryShares values before branches shares → CarryFrom values after to shares → All (λ b. stream_at network.branches b ≡ stream) branches
+      → All (λ a. R stream a.exchanger before after) shares → All (RunsAs values) (passes to branches shares)
+  passes_run stream before after to [] shares values start ends own runs = All-nil (RunsAs values)
+  passes_run stream before after to (branch ∷ branches) [] values start ends own runs = All-nil (RunsAs values)
+  passes_run stream before after to (branch ∷ branches) (s ∷ shares) values start ends own runs =
+      let S : ℕ → Type 0 = λ b. stream_at network.branches b ≡ stream in
+      let Q : Share → Type 0 = λ a. R stream a.exchanger before after in
+      let from_is : before ≡ (value_at values branch).t = sym (ap (λ (v : BranchValue). v.t) start.0.is) in
+      let to_is : after ≡ (value_at values to).t = sym (ap (λ (v : BranchValue). v.t) ends.0.is) in
+      let own_is : stream ≡ stream_at network.branches branch = sym (All-head S branch branches own) in
+      let run : R (stream_at network.branches branch) s.exchanger (value_at values branch).t (value_at values to).t =
+      subst (λ k. R k s.exchanger (value_at values branch).t (value_at values to).t) own_is
+      (subst (λ x. R stream s.exchanger x (value_at values to).t) from_is (subst (λ x. R stream s.exchanger before x) to_is (All-head Q s shares runs))) in
+      All-cons (RunsAs values) _ _ run
+      (passes_run stream before after (to + 1) branches shares values start.1 ends.1 (All-tail S branch branches own) (All-tail Q s shares runs))

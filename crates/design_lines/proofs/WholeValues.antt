@@ -1,40 +1,31 @@
 -- The values that all lines make are a valuation, in which each end is a full one.
-use Rattle.std.proofs.Common.{◌≡◌, ◌∙◌, ◌<◌, ◌+◌, ◌∷◌, ◌++◌, ℕ, suc, List, [], All, Some, get_or, length, map, refl, sym, ap, subst, append-nil, append_assoc, arith, length-append}
-use Rattle.std.specs.Prelude.{option_map}
-use Rattle.std.specs.List.{flat_map}
-use Rattle.std.proofs.lemmas.List.{get_or-append-add, get_or_append_left, length-map}
-use Rattle.std.proofs.lemmas.List.Elements.{All-append, All-cons, All-nil}
-use Rattle.std.proofs.lemmas.Option.{get_or_from_slice_get, slice_get-get_or, slice_get-map, slice_get_within}
-use Rattle.stream_case.specs.Case.{IsComplete}
-use Rattle.stream_case.specs.declared.case.Case.{Case}
-use Rattle.networks.specs.Lines.{Exchanger, uses}
-use Rattle.networks.specs.Shape.{HasShape}
-use Rattle.networks.specs.declared.network.Line.{Line}
-use Rattle.networks.specs.declared.network.Line.TheVariants as line
-use Rattle.networks.specs.declared.network.Network.{Network}
-use Rattle.networks.proofs.OfShape.{line_of}
-use Rattle.network_values.specs.Made.{LeavesRoom, made_values}
-use Rattle.network_values.specs.Values.{IsFullEnd, IsValuation, IsWholeValuation, Valuation, ended_by, ends, first_value, no_value, value_at}
-use Rattle.network_values.specs.declared.values.BranchValue.{BranchValue}
-use Rattle.network_values.proofs.ValuationLemmas.{valuation_more, valuation_start}
-use Rattle.design_lines.specs.Drawn.{declared_line}
-use Rattle.design_lines.specs.Values.{AllCanFollow, CanFollow, Make, values_after}
-use Rattle.design_lines.proofs.ValueSteps.{make_line, make_none}
 use Rattle.design_lines.proofs.CourseValues.{HaveOwn}
+use Rattle.design_lines.proofs.ValueSteps.{make_line, make_none}
+use Rattle.design_lines.proofs.Words.{All-append, All-cons, All-nil, BranchValue, Case, Exchanger, HasShape, IsComplete, IsFullEnd, IsValuation}
+use Rattle.design_lines.proofs.Words.{IsWholeValuation, LeavesRoom, Line, Network, Valuation, declared_line, ended_by, ends, first_value, flat_map}
+use Rattle.design_lines.proofs.Words.{get_or-append-add, get_or_append_left, get_or_from_slice_get, length-map, line_of, made_values, no_value, option_map}
+use Rattle.design_lines.proofs.Words.{slice_get-get_or, slice_get-map, slice_get_within, uses, valuation_more, valuation_start, value_at}
+use Rattle.design_lines.specs.Values.{AllCanFollow, CanFollow, Make, values_after}
+use Rattle.std.proofs.Common.{All, List, Some, [], ap, append-nil, append_assoc, arith, get_or, length, length-append, map, refl, subst, suc, sym, ℕ, ◌++◌, ◌+◌}
+use Rattle.std.proofs.Common.{◌<◌, ◌∙◌, ◌∷◌, ◌≡◌}
+use Rattle.networks.specs.declared.network.Line.TheVariants as line
 
 -- the streams' own branches carry their first values
 pub own_start : (case : Case) → HaveOwn case (map first_value case.streams)
 own_start case = record {
   each = λ stream s here. record {
     within = omega (arith, slice_get_within case.streams stream s here, length-map case.streams first_value);
-    is = get_or_from_slice_get (map first_value case.streams) stream (first_value s) no_value (slice_get-map first_value case.streams stream ∙ ap (option_map first_value) here);
+    is = get_or_from_slice_get (map first_value case.streams) stream (first_value s) no_value
+        (slice_get-map first_value case.streams stream ∙ ap (option_map first_value) here);
   };
 }
 
 -- the lines that declare exchangers make nothing
-pub declared_make : (case : Case) (network : Network) (values : Valuation) (exchangers : List Exchanger) → Make case network values (map declared_line exchangers) []
+pub declared_make : (case : Case) (network : Network) (values : Valuation) (exchangers : List Exchanger)
+    → Make case network values (map declared_line exchangers) []
 declared_make case network values [] = make_none case network values
-declared_make case network values (e ∷ exchangers) = make_line case network values (declared_line e) (map declared_line exchangers) [] [] refl tt (declared_make case network (values ++ []) exchangers)
+declared_make case network values (e ∷ exchangers) = make_line case network values (declared_line e) (map declared_line exchangers) [] [] refl tt
+    (declared_make case network (values ++ []) exchangers)
 
 module _ (case : Case) (network : Network) (shape : HasShape case network) where
   can_leave : (values : Valuation) (l : Line) → CanFollow case network values l → LeavesRoom values l
@@ -45,14 +36,15 @@ module _ (case : Case) (network : Network) (shape : HasShape case network) where
   can_leave values (line.End branch) can = tt
 
   -- later values stand behind the earlier ones
-  stays : (lines : List Line) (values : Valuation) (branch : ℕ) → branch < length values → value_at (values_after case network values lines) branch ≡ value_at values branch
+  stays : (lines : List Line) (values : Valuation) (branch : ℕ) → branch < length values
+      → value_at (values_after case network values lines) branch ≡ value_at values branch
   stays [] values branch early = refl
   stays (l ∷ lines) values branch early =
       let made = made_values case network values l in
       stays lines (values ++ made) branch (omega (arith, early, length-append values made)) ∙ get_or_append_left values made no_value branch early
 
-  end_stays : (l : Line) (values final : Valuation) → ((branch : ℕ) → branch < length values → value_at final branch ≡ value_at values branch) → All (λ b. b < length values) (uses l) → CanFollow case network values l
-      → All (IsFullEnd case network final) (ends l)
+  end_stays : (l : Line) (values final : Valuation) → ((branch : ℕ) → branch < length values → value_at final branch ≡ value_at values branch)
+      → All (λ b. b < length values) (uses l) → CanFollow case network values l → All (IsFullEnd case network final) (ends l)
   end_stays (line.Exchanger name hot cold duty) values final same used can = All-nil (IsFullEnd case network final)
   end_stays (line.Split from first cp second) values final same used can = All-nil (IsFullEnd case network final)
   end_stays (line.Pass from exchanger to) values final same used can = All-nil (IsFullEnd case network final)
@@ -64,7 +56,8 @@ module _ (case : Case) (network : Network) (shape : HasShape case network) where
     valuation : IsWholeValuation case network (values_after case network values lines)
     full : All (IsFullEnd case network (values_after case network values lines)) (flat_map ends lines)
 
-  valued : (lines before : List Line) (values : Valuation) → network.lines ≡ before ++ lines → IsValuation case network (length before) values → AllCanFollow case network values lines → AreValued values lines
+  valued : (lines before : List Line) (values : Valuation) → network.lines ≡ before ++ lines → IsValuation case network (length before) values
+      → AllCanFollow case network values lines → AreValued values lines
   valued [] before values parts is follow = record {
     valuation = subst (λ n. IsValuation case network n values) (ap length (sym (parts ∙ append-nil before))) is;
     full = All-nil (IsFullEnd case network values);
@@ -74,18 +67,21 @@ module _ (case : Case) (network : Network) (shape : HasShape case network) where
       let long = ap length parts ∙ length-append before (l ∷ lines) in
       let within : n < length network.lines = omega (arith, long) in
       let number : n ≡ length before + 0 = omega arith in
-      let at : get_or network.lines n l ≡ l = ap (λ ls. get_or ls n l) parts ∙ ap (λ k. get_or (before ++ l ∷ lines) k l) number ∙ get_or-append-add before (l ∷ lines) 0 l in
+      let at : get_or network.lines n l ≡ l = ap (λ ls. get_or ls n l) parts ∙ ap (λ k. get_or (before ++ l ∷ lines) k l) number
+      ∙ get_or-append-add before (l ∷ lines) 0 l in
       let here = slice_get-get_or network.lines n l within ∙ ap (λ (a : Line). Some a) at in
       let made = made_values case network values l in
       let next = valuation_more case network n values l shape here is (can_leave values l follow.0) in
       let one_more = length-append before (l ∷ []) in
       let count : suc n ≡ length (before ++ l ∷ []) = omega (arith, one_more) in
-      let rest = valued lines (before ++ l ∷ []) (values ++ made) (parts ∙ sym (append_assoc before (l ∷ []) lines)) (subst (λ k. IsValuation case network k (values ++ made)) count next) follow.1 in
+      let rest = valued lines (before ++ l ∷ []) (values ++ made) (parts ∙ sym (append_assoc before (l ∷ []) lines))
+      (subst (λ k. IsValuation case network k (values ++ made)) count next) follow.1 in
       let final = values_after case network (values ++ made) lines in
       let used = subst (λ m. All (λ b. b < m) (uses l)) (sym is.count) (line_of shape n l here).numbers.used in
       record {
         valuation = rest.valuation;
-        full = All-append (IsFullEnd case network final) (ends l) (flat_map ends lines) (end_stays l values final (stays (l ∷ lines) values) used follow.0) rest.full;
+        full = All-append (IsFullEnd case network final) _ _
+            (end_stays l values final (stays (l ∷ lines) values) used follow.0) rest.full;
       }
 
   -- what all lines make, behind the streams' own values, is the valuation of the network, and each end has its whole stream in its last state

@@ -1,14 +1,16 @@
 -- The first failing check of two groups, and checks that all hold.
-use Rattle.std.proofs.Common.{◌≡◌, ◌++◌, Bool, true, false, List, [], ◌∷◌, None, refl}
-use Rattle.std.specs.Option.{option_or}
 use Rattle.first_fault.specs.Checks.{Check, first_failing}
+use Rattle.std.proofs.Common.{Bool, List, None, [], false, refl, true, ◌++◌, ◌∷◌, ◌≡◌}
+use Rattle.std.specs.Option.{option_or}
 
 -- the first failing one of two groups is that of the first, or else that of the second
-pub then_others : {Cause : Type 0} → (group others : List (Check Cause)) → first_failing (group ++ others) ≡ option_or (first_failing group) (first_failing others)
+pub then_others : {Cause : Type 0} → (group others : List (Check Cause))
+    → first_failing (group ++ others) ≡ option_or (first_failing group) (first_failing others)
 then_others [] others = refl
 then_others (check ∷ group) others = by check.0 refl (then_others group others)
   where
-    by : (b : Bool) → check.0 ≡ b → first_failing (group ++ others) ≡ option_or (first_failing group) (first_failing others) → first_failing ((check ∷ group) ++ others) ≡ option_or (first_failing (check ∷ group)) (first_failing others)
+    by : (b : Bool) → check.0 ≡ b → first_failing (group ++ others) ≡ option_or (first_failing group) (first_failing others)
+        → first_failing ((check ∷ group) ++ others) ≡ option_or (first_failing (check ∷ group)) (first_failing others)
     by true holds rest = rw holds rest
     by false fails rest = rw fails refl
 

@@ -1,19 +1,22 @@
 -- Reading items one after the other, as a loop does.
-use Rattle.std.proofs.Common.{◌≡◌, ◌∙◌, ℕ, ◌+◌, ◌∷◌, ◌++◌, List, [], length, Some, None, inl, inr, refl, sym, ap, append_assoc, length-append, append-nil}
+use Rattle.first_fault.proofs.Steps.{Give, fault_at-front, fault_at-seam, nothing_gives, one_more_gives}
 use Rattle.first_fault.specs.Checks.{first_failing}
 use Rattle.first_fault.specs.Outcome.{Grammar, IsFault, IsValue}
-use Rattle.first_fault.proofs.Steps.{Give, fault_at-front, fault_at-seam, nothing_gives, one_more_gives}
+use Rattle.std.proofs.Common.{List, None, Some, [], ap, append-nil, append_assoc, inl, inr, length, length-append, refl, sym, ℕ, ◌++◌, ◌+◌, ◌∙◌, ◌∷◌, ◌≡◌}
 
 -- so many of the items are read, none of which is at fault, they gave this, and these items are left
-pub record Reads {Item Given Value Cause : Type 0} (grammar : Grammar Item Given Value Cause) (items left : List Item) (given : Given) (number : ℕ) : Type 0 where
+pub record Reads {Item Given Value Cause : Type 0} (grammar : Grammar Item Given Value Cause) (items left : List Item) (given : Given)
+    (number : ℕ) : Type 0 where
   pub done : List Item
   pub items_are : items ≡ done ++ left
   pub number_is : number ≡ length done
   pub give : Give grammar done given
 
-module _ {Item Given Value Cause : Type 0} {grammar : Grammar Item Given Value Cause} {items left : List Item} {given : Given} {number : ℕ} (reads : Reads grammar items left given number) where
+module _ {Item Given Value Cause : Type 0} {grammar : Grammar Item Given Value Cause} {items left : List Item} {given : Given} {number : ℕ}
+    (reads : Reads grammar items left given number) where
   -- the next item is not at fault
-  pub one_more : {item : Item} {rest : List Item} {next : Given} → left ≡ item ∷ rest → first_failing (grammar.checks given item) ≡ None → next ≡ grammar.next given item → Reads grammar items rest next (number + 1)
+  pub one_more : {item : Item} {rest : List Item} {next : Given} → left ≡ item ∷ rest → first_failing (grammar.checks given item) ≡ None
+      → next ≡ grammar.next given item → Reads grammar items rest next (number + 1)
   one_more {item = item} {rest = rest} {next = next} at passes next_is = record {
     done = reads.done ++ item ∷ [];
     items_are = reads.items_are ∙ ap (λ l. reads.done ++ l) at ∙ sym (append_assoc reads.done (item ∷ []) rest);
@@ -22,7 +25,8 @@ module _ {Item Given Value Cause : Type 0} {grammar : Grammar Item Given Value C
   }
 
   -- the next item is
-  pub fault_here : {item : Item} {rest : List Item} {cause : Cause} → left ≡ item ∷ rest → first_failing (grammar.checks given item) ≡ Some cause → IsFault grammar items (number + 1) cause
+  pub fault_here : {item : Item} {rest : List Item} {cause : Cause} → left ≡ item ∷ rest → first_failing (grammar.checks given item) ≡ Some cause
+      → IsFault grammar items (number + 1) cause
   fault_here {item = item} {rest = rest} at fault =
       let all = reads.items_are ∙ ap (λ l. reads.done ++ l) at in
       inl (
@@ -46,8 +50,13 @@ module _ {Item Given Value Cause : Type 0} {grammar : Grammar Item Given Value C
   pub value_here : {value : Value} → left ≡ [] → grammar.end_fault number given ≡ None → value ≡ grammar.value given → IsValue grammar items value
   value_here none complete is_value =
       let (give, is) = all_read none in
-      record { sound = give.sound; complete = (λ i. grammar.end_fault (sym is i) (sym give.given_is i)) ∙ complete; value_is = is_value ∙ ap grammar.value give.given_is }
+      record {
+        sound = give.sound;
+        complete = (λ i. grammar.end_fault (sym is i) (sym give.given_is i)) ∙ complete;
+        value_is = is_value ∙ ap grammar.value give.given_is;
+      }
 
 -- before the first item
-pub none_read : {Item Given Value Cause : Type 0} {grammar : Grammar Item Given Value Cause} (items : List Item) {given : Given} → given ≡ grammar.start → Reads grammar items items given 0
+pub none_read : {Item Given Value Cause : Type 0} {grammar : Grammar Item Given Value Cause} (items : List Item) {given : Given} → given ≡ grammar.start
+    → Reads grammar items items given 0
 none_read {grammar = grammar} items {given = given} is = record { done = []; items_are = refl; number_is = refl; give = nothing_gives grammar given is }

@@ -14,6 +14,9 @@ ghost use Rattle.first_fault.specs.Outcome.{Grammar, IsOutcome};
 /// Items have an outcome, and only one: never two faults, two causes of one fault, two values, or
 /// a fault and a value.
 pub fn items_have_one_outcome<Item, Given, Value, Cause>()
-    ensures some { (grammar : Grammar Item Given Value Cause) (items : List Item) → (outcome : Result Value (ℕ × Cause)) × IsOutcome grammar items outcome }
-    ensures one { (grammar : Grammar Item Given Value Cause) (items : List Item) (outcome other : Result Value (ℕ × Cause)) → IsOutcome grammar items outcome → IsOutcome grammar items other → outcome ≡ other }
+    ensures some { (grammar : Grammar Item Given Value Cause) (items : List Item)
+        → (outcome : Result Value (ℕ × Cause)) × IsOutcome grammar items outcome }
+    ensures one { (grammar : Grammar Item Given Value Cause) (items : List Item)
+        (outcome other : Result Value (ℕ × Cause)) → IsOutcome grammar items outcome
+        → IsOutcome grammar items other → outcome ≡ other }
 {}

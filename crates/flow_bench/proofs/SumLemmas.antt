@@ -1,22 +1,9 @@
 -- What leaves each node of a net less what enters it, and what the flow costs, link by link.
-use Rattle.std.proofs.Common.{◌≡◌, ◌≢◌, ◌==◌, ℕ, ◌+◌, ◌*◌, ◌<◌, ◌≤◌, zero, suc, Bool, true, false, List, length, set, ℤ, pos, ◌+ℤ◌, ◌-ℤ◌, ◌*ℤ◌, ◌≤ℤ◌, FitsSigned, ◌∙◌, sym, refl, inl, inr, arith}
-use Rattle.std.specs.Int.{w128}
-use Rattle.std.specs.Int.RustNames.{unsigned_abs}
-use Rattle.std.proofs.Math.Numerals.{add-one}
-use Rattle.std.proofs.lemmas.Int.{ints, unsigned_abs-mul}
-use Rattle.std.proofs.lemmas.Nat.{mul-le}
-use Rattle.std.proofs.lemmas.Bool.{cases_eq, eq-eqb, ne_eqb}
-use Rattle.std.proofs.lemmas.List.{length-set}
-use Rattle.flow_net.specs.declared.limits.TheConstants.{MOST_LINKS, MOST_ROOM, MOST_COST}
-use Rattle.flow_net.specs.declared.net.Link.{Link}
-use Rattle.flow_net.specs.declared.net.Net.{Net}
-use Rattle.flow_net.specs.Sum.{sum_below}
-use Rattle.flow_net.specs.Net.{link_at, flow_on, IsWithinRooms, IsWithinLimits}
-use Rattle.flow_net.proofs.Duality.{when, surplus_of_routing}
-use Rattle.flow_net.proofs.Lists.{set_cases}
-use Rattle.flow_net.proofs.Sizes.{sizes}
-use Rattle.flow_bench.specs.declared.problem.Problem.{Problem}
-use Rattle.flow_bench.specs.Certificate.{surplus_at, due}
+use Rattle.flow_bench.proofs.Words.{IsWithinLimits, IsWithinRooms, Link, Net, Problem, add-one, cases_eq, due, eq-eqb, flow_on, ints, length-set, link_at}
+use Rattle.flow_bench.proofs.Words.{mul-le, ne_eqb, set_cases, sizes, sum_below, surplus_at, surplus_of_routing, unsigned_abs, unsigned_abs-mul, w128, when}
+use Rattle.flow_net.specs.declared.limits.TheConstants.{MOST_COST, MOST_LINKS, MOST_ROOM}
+use Rattle.std.proofs.Common.{Bool, FitsSigned, List, arith, false, inl, inr, length, pos, refl, set, suc, sym, true, zero, ℕ, ℤ, ◌*ℤ◌, ◌*◌, ◌+ℤ◌, ◌+◌, ◌-ℤ◌}
+use Rattle.std.proofs.Common.{◌<◌, ◌==◌, ◌∙◌, ◌≡◌, ◌≢◌, ◌≤ℤ◌, ◌≤◌}
 
 -- what leaves node v by the first n links less what enters it by them
 abbrev pub surplus_below : List Link → List ℤ → ℕ → ℕ → ℤ

@@ -1,17 +1,12 @@
 -- The laws of the order.
-use Rattle.std.proofs.Common.{◌≡◌, ◌≢◌, ◌∙◌, ◌*◌, ◌<◌, ◌⊎◌, ⊎_elim, inl, inr, ◌+ℤ◌, ◌-ℤ◌, ◌*ℤ◌, ◌<ℤ◌, ◌≤ℤ◌, ◌↔◌, ℕ, ℤ, pos, Bool, true, false, not, int_lt, refl, sym, ap, subst, arith, Decides, MatchBool, int_cmp, is_le, is_lt}
-use Rattle.std.specs.Int.Signed.{≤ℤ_refl, clash_ℤ}
-use Rattle.std.proofs.lemmas.Bool.Decides.{Decides-like, Decides-not, same_from_decides}
-use Rattle.std.proofs.lemmas.Int.{by_lt_z, ints}
-use mathlib.Core.Path.{subst₂}
-use Rattle.std.proofs.Math.Nat.{mul-pos}
-use Rattle.sums.proofs.ProductLemmas.{*ℤ-<ℤ_right, *ℤ-≤ℤ_right, <ℤ_from_*ℤ, ≤ℤ_from_*ℤ}
-use Rattle.fractions.specs.Integers.{pos_above}
-use Rattle.fractions.specs.LowestForms.{same_from_value}
-use Rattle.fractions.specs.Rationals.{IsAtMost, IsBelow, Rational, is_below, minus, plus, ratio, rational_cmp, rational_zero, times, whole}
 use Rattle.fractions.proofs.Products.{times-minus, times-zero, times_comm, zero-times}
 use Rattle.fractions.proofs.Ratios.{by_four, by_three, by_two, one_denominator, ratio-one, ratio-zero, rational_cmp-ratio, times-ratio}
 use Rattle.fractions.proofs.Wholes.{ratio-multiple}
+use Rattle.fractions.proofs.Words.{Decides-like, Decides-not, IsAtMost, IsBelow, Rational, by_lt_z, clash_ℤ, ints, is_below, minus, mul-pos, plus, pos_above}
+use Rattle.fractions.proofs.Words.{ratio, rational_cmp, rational_zero, same_from_decides, same_from_value, subst₂, times, whole, ≤ℤ_refl}
+use Rattle.std.proofs.Common.{Bool, Decides, MatchBool, ap, arith, false, inl, inr, int_cmp, int_lt, is_le, is_lt, not, pos, refl, subst, sym, true, ℕ, ℤ}
+use Rattle.std.proofs.Common.{⊎_elim, ◌*ℤ◌, ◌*◌, ◌+ℤ◌, ◌-ℤ◌, ◌<ℤ◌, ◌<◌, ◌↔◌, ◌∙◌, ◌≡◌, ◌≢◌, ◌≤ℤ◌, ◌⊎◌}
+use Rattle.sums.proofs.ProductLemmas.{*ℤ-<ℤ_right, *ℤ-≤ℤ_right, <ℤ_from_*ℤ, ≤ℤ_from_*ℤ}
 
 -- ---- a total order
 
@@ -77,10 +72,12 @@ one_test : {P Q : Type 0} (b : Bool) → Decides b P → Decides b Q → P ↔ Q
 one_test b p q = (λ h. q.0 (p.1 h), λ h. p.0 (q.1 h))
 
 pub below-cross : (n m : ℤ) (d e : ℕ) → 0 < d → 0 < e → IsBelow (ratio n d) (ratio m e) ↔ ((n *ℤ pos e) <ℤ (m *ℤ pos d))
-below-cross n m d e hd he = one_test _ (Decides-is_below (ratio n d) (ratio m e)) (rw (rational_cmp-ratio n m d e hd he) (int_lt-decides (n *ℤ pos e) (m *ℤ pos d)))
+below-cross n m d e hd he =
+    one_test _ (Decides-is_below (ratio n d) (ratio m e)) (rw (rational_cmp-ratio n m d e hd he) (int_lt-decides (n *ℤ pos e) (m *ℤ pos d)))
 
 pub at_most-cross : (n m : ℤ) (d e : ℕ) → 0 < d → 0 < e → IsAtMost (ratio n d) (ratio m e) ↔ ((n *ℤ pos e) ≤ℤ (m *ℤ pos d))
-at_most-cross n m d e hd he = one_test _ (Decides-is_le (ratio n d) (ratio m e)) (rw (rational_cmp-ratio n m d e hd he) (int_le-decides (n *ℤ pos e) (m *ℤ pos d)))
+at_most-cross n m d e hd he =
+    one_test _ (Decides-is_le (ratio n d) (ratio m e)) (rw (rational_cmp-ratio n m d e hd he) (int_le-decides (n *ℤ pos e) (m *ℤ pos d)))
 
 pub at_most-ratio : (n m : ℤ) (d : ℕ) → 0 < d → n ≤ℤ m → IsAtMost (ratio n d) (ratio m d)
 at_most-ratio n m d some h = (at_most-cross n m d d some some).1 (*ℤ-≤ℤ_right (pos d) n m (omega (arith, ints)) h)
@@ -97,42 +94,63 @@ below_from_ratio n m d some h = <ℤ_from_*ℤ (pos d) n m (omega (arith, ints))
 -- ---- from one to the next
 
 pub at_most_trans : (a b c : Rational) → IsAtMost a b → IsAtMost b c → IsAtMost a c
-at_most_trans = by_three _ (λ n m l d some h k. let x = at_most_from_ratio n m d some h in let y = at_most_from_ratio m l d some k in at_most-ratio n l d some (omega (arith, ints, x, y)))
+at_most_trans =
+    by_three _ (λ n m l d some h k. let x = at_most_from_ratio n m d some h in let y = at_most_from_ratio m l d some k in
+    at_most-ratio n l d some (omega (arith, ints, x, y)))
 
 pub below_at_most_trans : (a b c : Rational) → IsBelow a b → IsAtMost b c → IsBelow a c
-below_at_most_trans = by_three _ (λ n m l d some h k. let x = below_from_ratio n m d some h in let y = at_most_from_ratio m l d some k in below-ratio n l d some (omega (arith, ints, x, y)))
+below_at_most_trans =
+    by_three _ (λ n m l d some h k. let x = below_from_ratio n m d some h in let y = at_most_from_ratio m l d some k in
+    below-ratio n l d some (omega (arith, ints, x, y)))
 
 pub at_most_below_trans : (a b c : Rational) → IsAtMost a b → IsBelow b c → IsBelow a c
-at_most_below_trans = by_three _ (λ n m l d some h k. let x = at_most_from_ratio n m d some h in let y = below_from_ratio m l d some k in below-ratio n l d some (omega (arith, ints, x, y)))
+at_most_below_trans =
+    by_three _ (λ n m l d some h k. let x = at_most_from_ratio n m d some h in let y = below_from_ratio m l d some k in
+    below-ratio n l d some (omega (arith, ints, x, y)))
 
 -- ---- sums and differences
 
 pub at_most_from_plus : (a b c : Rational) → IsAtMost (plus a c) (plus b c) → IsAtMost a b
-at_most_from_plus = by_three _ (λ n m l d some h. let x = at_most_from_ratio (n +ℤ l) (m +ℤ l) d some (simp one_denominator at h) in at_most-ratio n m d some (omega (arith, ints, x)))
+at_most_from_plus =
+    by_three _ (λ n m l d some h. let x = at_most_from_ratio (n +ℤ l) (m +ℤ l) d some (simp one_denominator at h) in
+    at_most-ratio n m d some (omega (arith, ints, x)))
 
 pub at_most-plus_plus : (a b c e : Rational) → IsAtMost a b → IsAtMost c e → IsAtMost (plus a c) (plus b e)
-at_most-plus_plus = by_four _ (λ n m l k d some h g. let x = at_most_from_ratio n m d some h in let y = at_most_from_ratio l k d some g in simp one_denominator (at_most-ratio (n +ℤ l) (m +ℤ k) d some (omega (arith, ints, x, y))))
+at_most-plus_plus =
+    by_four _ (λ n m l k d some h g. let x = at_most_from_ratio n m d some h in let y = at_most_from_ratio l k d some g in
+    simp one_denominator (at_most-ratio (n +ℤ l) (m +ℤ k) d some (omega (arith, ints, x, y))))
 
 pub below-plus : (a b c : Rational) → IsBelow a b → IsBelow (plus a c) (plus b c)
-below-plus = by_three _ (λ n m l d some h. let x = below_from_ratio n m d some h in simp one_denominator (below-ratio (n +ℤ l) (m +ℤ l) d some (omega (arith, ints, x))))
+below-plus =
+    by_three _ (λ n m l d some h. let x = below_from_ratio n m d some h in simp one_denominator (below-ratio (n +ℤ l) (m +ℤ l) d some (omega (arith, ints, x))))
 
 -- a lesser value less a greater one
 pub at_most-minus_minus : (a b c e : Rational) → IsAtMost a b → IsAtMost c e → IsAtMost (minus a e) (minus b c)
-at_most-minus_minus = by_four _ (λ n m l k d some h g. let x = at_most_from_ratio n m d some h in let y = at_most_from_ratio l k d some g in simp one_denominator (at_most-ratio (n -ℤ k) (m -ℤ l) d some (omega (arith, ints, x, y))))
+at_most-minus_minus =
+    by_four _ (λ n m l k d some h g. let x = at_most_from_ratio n m d some h in let y = at_most_from_ratio l k d some g in
+    simp one_denominator (at_most-ratio (n -ℤ k) (m -ℤ l) d some (omega (arith, ints, x, y))))
 
 -- a is at most b less c where a and c together are at most b
 pub at_most-minus_right : (a b c : Rational) → IsAtMost (plus a c) b → IsAtMost a (minus b c)
-at_most-minus_right = by_three _ (λ n m l d some h. let x = at_most_from_ratio (n +ℤ l) m d some (simp one_denominator at h) in simp one_denominator (at_most-ratio n (m -ℤ l) d some (omega (arith, ints, x))))
+at_most-minus_right =
+    by_three _ (λ n m l d some h. let x = at_most_from_ratio (n +ℤ l) m d some (simp one_denominator at h) in
+    simp one_denominator (at_most-ratio n (m -ℤ l) d some (omega (arith, ints, x))))
 
 pub at_most_from_minus_right : (a b c : Rational) → IsAtMost a (minus b c) → IsAtMost (plus a c) b
-at_most_from_minus_right = by_three _ (λ n m l d some h. let x = at_most_from_ratio n (m -ℤ l) d some (simp one_denominator at h) in simp one_denominator (at_most-ratio (n +ℤ l) m d some (omega (arith, ints, x))))
+at_most_from_minus_right =
+    by_three _ (λ n m l d some h. let x = at_most_from_ratio n (m -ℤ l) d some (simp one_denominator at h) in
+    simp one_denominator (at_most-ratio (n +ℤ l) m d some (omega (arith, ints, x))))
 
 -- what is taken away turns the order
 pub at_most_from_minus_turned : (a b c : Rational) → IsAtMost (minus c b) (minus c a) → IsAtMost a b
-at_most_from_minus_turned = by_three _ (λ n m l d some h. let x = at_most_from_ratio (l -ℤ m) (l -ℤ n) d some (simp one_denominator at h) in at_most-ratio n m d some (omega (arith, ints, x)))
+at_most_from_minus_turned =
+    by_three _ (λ n m l d some h. let x = at_most_from_ratio (l -ℤ m) (l -ℤ n) d some (simp one_denominator at h) in
+    at_most-ratio n m d some (omega (arith, ints, x)))
 
 pub at_most-minus_swap : (h c x y : Rational) → IsAtMost (minus y x) (minus h c) → IsAtMost (minus c x) (minus h y)
-at_most-minus_swap = by_four _ (λ n m l k d some h. let x = at_most_from_ratio (k -ℤ l) (n -ℤ m) d some (simp one_denominator at h) in simp one_denominator (at_most-ratio (m -ℤ l) (n -ℤ k) d some (omega (arith, ints, x))))
+at_most-minus_swap =
+    by_four _ (λ n m l k d some h. let x = at_most_from_ratio (k -ℤ l) (n -ℤ m) d some (simp one_denominator at h) in
+    simp one_denominator (at_most-ratio (m -ℤ l) (n -ℤ k) d some (omega (arith, ints, x))))
 
 -- ---- against 0
 
@@ -144,7 +162,9 @@ pub positive_num : (a : Rational) → IsBelow rational_zero a → pos 0 <ℤ a.n
 positive_num a h = let less = h.cross in omega (arith, ints)
 
 pub is_below-zero : (a : Rational) → is_below rational_zero a ≡ int_lt (pos 0) a.num
-is_below-zero a = same_from_decides (is_below rational_zero a) (int_lt (pos 0) a.num) (Decides-is_below rational_zero a) (λ e. positive-is a (omega (arith, ints)), λ h. let less = positive_num a h in grind (arith, ints))
+is_below-zero a =
+    same_from_decides (is_below rational_zero a) (int_lt (pos 0) a.num) (Decides-is_below rational_zero a)
+    (λ e. positive-is a (omega (arith, ints)), λ h. let less = positive_num a h in grind (arith, ints))
 
 -- 0 as a ratio over any denominator
 pub not_negative-ratio : (n : ℤ) (d : ℕ) → 0 < d → pos 0 ≤ℤ n → IsAtMost rational_zero (ratio n d)
@@ -164,36 +184,47 @@ positive-nonzero a some none = below_not_same rational_zero a some (sym none)
 
 -- a difference is not negative exactly where it goes down
 pub not_negative-minus : (a b : Rational) → IsAtMost a b → IsAtMost rational_zero (minus b a)
-not_negative-minus = by_two _ (λ n m d some h. let x = at_most_from_ratio n m d some h in simp one_denominator (not_negative-ratio (m -ℤ n) d some (omega (arith, ints, x))))
+not_negative-minus =
+    by_two _ (λ n m d some h. let x = at_most_from_ratio n m d some h in simp one_denominator (not_negative-ratio (m -ℤ n) d some (omega (arith, ints, x))))
 
 pub at_most_from_not_negative : (a b : Rational) → IsAtMost rational_zero (minus b a) → IsAtMost a b
-at_most_from_not_negative = by_two _ (λ n m d some h. let x = not_negative_from_ratio (m -ℤ n) d some (simp one_denominator at h) in at_most-ratio n m d some (omega (arith, ints, x)))
+at_most_from_not_negative =
+    by_two _ (λ n m d some h. let x = not_negative_from_ratio (m -ℤ n) d some (simp one_denominator at h) in at_most-ratio n m d some (omega (arith, ints, x)))
 
 pub positive-minus : (a b : Rational) → IsBelow a b → IsBelow rational_zero (minus b a)
-positive-minus = by_two _ (λ n m d some h. let x = below_from_ratio n m d some h in simp one_denominator (positive-ratio (m -ℤ n) d some (omega (arith, ints, x))))
+positive-minus =
+    by_two _ (λ n m d some h. let x = below_from_ratio n m d some h in simp one_denominator (positive-ratio (m -ℤ n) d some (omega (arith, ints, x))))
 
 pub below_from_positive : (a b : Rational) → IsBelow rational_zero (minus b a) → IsBelow a b
-below_from_positive = by_two _ (λ n m d some h. let x = positive_from_ratio (m -ℤ n) d some (simp one_denominator at h) in below-ratio n m d some (omega (arith, ints, x)))
+below_from_positive =
+    by_two _ (λ n m d some h. let x = positive_from_ratio (m -ℤ n) d some (simp one_denominator at h) in below-ratio n m d some (omega (arith, ints, x)))
 
 pub not_negative-plus : (a b : Rational) → IsAtMost rational_zero a → IsAtMost rational_zero b → IsAtMost rational_zero (plus a b)
-not_negative-plus = by_two _ (λ n m d some h k. let x = not_negative_from_ratio n d some h in let y = not_negative_from_ratio m d some k in simp one_denominator (not_negative-ratio (n +ℤ m) d some (omega (arith, ints, x, y))))
+not_negative-plus =
+    by_two _ (λ n m d some h k. let x = not_negative_from_ratio n d some h in let y = not_negative_from_ratio m d some k in
+    simp one_denominator (not_negative-ratio (n +ℤ m) d some (omega (arith, ints, x, y))))
 
 pub positive-plus : (a b : Rational) → IsBelow rational_zero a → IsAtMost rational_zero b → IsBelow rational_zero (plus a b)
-positive-plus = by_two _ (λ n m d some h k. let x = positive_from_ratio n d some h in let y = not_negative_from_ratio m d some k in simp one_denominator (positive-ratio (n +ℤ m) d some (omega (arith, ints, x, y))))
+positive-plus =
+    by_two _ (λ n m d some h k. let x = positive_from_ratio n d some h in let y = not_negative_from_ratio m d some k in
+    simp one_denominator (positive-ratio (n +ℤ m) d some (omega (arith, ints, x, y))))
 
 -- what is added, where it is not negative
 pub at_most-plus_right : (a b : Rational) → IsAtMost rational_zero b → IsAtMost a (plus a b)
-at_most-plus_right = by_two _ (λ n m d some h. let x = not_negative_from_ratio m d some h in simp one_denominator (at_most-ratio n (n +ℤ m) d some (omega (arith, ints, x))))
+at_most-plus_right =
+    by_two _ (λ n m d some h. let x = not_negative_from_ratio m d some h in simp one_denominator (at_most-ratio n (n +ℤ m) d some (omega (arith, ints, x))))
 
 pub at_most-plus_left : (a b : Rational) → IsAtMost rational_zero a → IsAtMost b (plus a b)
-at_most-plus_left = by_two _ (λ n m d some h. let x = not_negative_from_ratio n d some h in simp one_denominator (at_most-ratio m (n +ℤ m) d some (omega (arith, ints, x))))
+at_most-plus_left =
+    by_two _ (λ n m d some h. let x = not_negative_from_ratio n d some h in simp one_denominator (at_most-ratio m (n +ℤ m) d some (omega (arith, ints, x))))
 
 -- ---- products and quotients
 
 -- a factor that is not negative keeps the order
 pub at_most-times : (a b c : Rational) → IsAtMost rational_zero c → IsAtMost a b → IsAtMost (times a c) (times b c)
 at_most-times = by_three _ (λ n m l d some h k. let square = mul-pos some some in
-    simp times-ratio (at_most-ratio (n *ℤ l) (m *ℤ l) (d * d) square (*ℤ-≤ℤ_right l n m (not_negative_from_ratio l d some h) (at_most_from_ratio n m d some k))))
+    simp times-ratio
+    (at_most-ratio (n *ℤ l) (m *ℤ l) (d * d) square (*ℤ-≤ℤ_right l n m (not_negative_from_ratio l d some h) (at_most_from_ratio n m d some k))))
 
 pub at_most-times_left : (c a b : Rational) → IsAtMost rational_zero c → IsAtMost a b → IsAtMost (times c a) (times c b)
 at_most-times_left c a b some h = subst₂ IsAtMost (times_comm a c) (times_comm b c) (at_most-times a b c some h)
@@ -213,7 +244,8 @@ times-turned f h x more below =
 -- what is above 0 by a factor that is not negative
 pub positive_factor : (f x : Rational) → IsAtMost rational_zero f → IsBelow rational_zero (times f x) → IsBelow rational_zero x
 positive_factor f x some h =
-    below_from_not_at_most rational_zero x (λ none. below_not_at_most rational_zero (times f x) h (subst (IsAtMost (times f x)) (times-zero f) (at_most-times_left f x rational_zero some none)))
+    below_from_not_at_most rational_zero x
+    (λ none. below_not_at_most rational_zero (times f x) h (subst (IsAtMost (times f x)) (times-zero f) (at_most-times_left f x rational_zero some none)))
 
 -- ---- against whole numbers
 

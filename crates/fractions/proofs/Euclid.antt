@@ -1,11 +1,7 @@
 -- Euclid's algorithm takes a number of steps that is logarithmic: each but the first takes a binary digit from one of its two numbers.
-use Rattle.std.proofs.Common.{◌≡◌, ◌+◌, ◌*◌, ◌/◌, ◌%◌, ◌^◌, ◌<◌, ◌≤◌, ⊎_elim, ℕ, cond, length, ltb, subst, arith}
-use Rattle.std.specs.Int.Digits.{digits_of}
-use Rattle.std.proofs.lemmas.Bool.Decides.{nat_tests}
-use Rattle.std.proofs.lemmas.Bool.{cases_lt}
+use Rattle.std.proofs.Common.{arith, cond, length, ltb, subst, ℕ, ⊎_elim, ◌%◌, ◌*◌, ◌+◌, ◌/◌, ◌<◌, ◌^◌, ◌≡◌, ◌≤◌}
+use Rattle.fractions.proofs.Words.{cases_lt, digits_of, div-add-mod, le-div, mod-eq_of_lt, mul-le-mul_left, nat_tests}
 use Rattle.std.proofs.lemmas.Int.Digits.{all_below_base_digits_of, length-digits_of-le, length-digits_of_step, number_digits_of, number_lt}
-use Rattle.std.proofs.lemmas.Nat.{le-div}
-use Rattle.std.proofs.Math.Nat.{div-add-mod, mod-eq_of_lt, mul-le-mul_left}
 
 -- how many binary digits n has
 unfoldable pub binary_digits : ℕ → ℕ
@@ -13,7 +9,8 @@ binary_digits n = length (digits_of 2 n)
 
 below_power : (n : ℕ) → n < 2 ^ binary_digits n
 unfolding binary_digits
-below_power n = subst (λ m. m < 2 ^ length (digits_of 2 n)) (number_digits_of 2 n (omega arith)) (number_lt 2 (digits_of 2 n) (all_below_base_digits_of 2 n (omega arith)))
+below_power n =
+    subst (λ m. m < 2 ^ length (digits_of 2 n)) (number_digits_of 2 n (omega arith)) (number_lt 2 (digits_of 2 n) (all_below_base_digits_of 2 n (omega arith)))
 
 -- half of n or less has fewer
 fewer_digits : (m n : ℕ) → 0 < n → 2 * m ≤ n → binary_digits m < binary_digits n

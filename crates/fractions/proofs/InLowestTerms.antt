@@ -1,15 +1,9 @@
 -- Lowest terms: products crosswise, reciprocals, and which are within the limits.
-use Rattle.std.proofs.Common.{◌≡◌, ◌≢◌, ◌∙◌, ◌*◌, ◌/◌, ◌^◌, ◌<◌, ◌≤◌, ℕ, ℤ, zero, suc, pos, int_lt, unsigned_abs, Bool, true, false, not, refl, sym, ap, arith}
-use Rattle.std.specs.Bool.{beq}
-use Rattle.std.specs.Int.{IsGcd}
-use Rattle.std.proofs.lemmas.Bool.Decides.{nat_tests}
-use Rattle.std.proofs.Math.Nat.{mul-pos}
-use Rattle.fractions.specs.Fields.{IsFraction, IsInLowestTerms}
-use Rattle.fractions.specs.Integers.{signed, signed-*ℤ-signed, signed-sign, unsigned_abs-signed}
-use Rattle.fractions.specs.Lowest.{IsLowest, crosswise, divided}
-use Rattle.fractions.specs.LowestForms.{ratio-den, ratio-num, same_divided}
-use Rattle.fractions.specs.Rationals.{IsWithinLimits, Rational, ratio, rational_zero, reciprocal, times}
 use Rattle.fractions.proofs.Ratios.{ratio-same, ratio-zero, times-ratio}
+use Rattle.fractions.specs.Fields.{IsFraction, IsInLowestTerms}
+use Rattle.fractions.proofs.Words.{IsGcd, IsLowest, IsWithinLimits, Rational, beq, crosswise, divided, mul-pos, nat_tests, ratio, ratio-den, ratio-num}
+use Rattle.fractions.proofs.Words.{rational_zero, reciprocal, same_divided, signed, signed-*ℤ-signed, signed-sign, times, unsigned_abs-signed}
+use Rattle.std.proofs.Common.{Bool, ap, arith, false, int_lt, not, pos, refl, suc, sym, true, unsigned_abs, zero, ℕ, ℤ, ◌*◌, ◌/◌, ◌<◌, ◌^◌, ◌∙◌, ◌≡◌, ◌≢◌, ◌≤◌}
 
 signed-lowest : (negative : Bool) (size den : ℕ) → IsLowest size den → IsLowest (unsigned_abs (signed negative size)) den
 signed-lowest negative size den low = rw (unsigned_abs-signed negative size) low
@@ -26,13 +20,15 @@ terms-den negative size den is = ratio-den (signed negative size) den is.positiv
 
 -- ---- the limits
 
-pub terms-within : (negative : Bool) (size den : ℕ) (a : Rational) → IsInLowestTerms size den → ratio (signed negative size) den ≡ a → size ≤ 2 ^ 76 → den ≤ 2 ^ 48 → IsWithinLimits a
+pub terms-within : (negative : Bool) (size den : ℕ) (a : Rational) → IsInLowestTerms size den → ratio (signed negative size) den ≡ a → size ≤ 2 ^ 76
+    → den ≤ 2 ^ 48 → IsWithinLimits a
 terms-within negative size den a is same num_small den_small = rw (← same) (record {
   den = omega (arith, terms-den negative size den is);
   num = omega (arith, terms-size negative size den is);
 })
 
-pub terms-outside : (negative : Bool) (size den : ℕ) (a : Rational) → IsInLowestTerms size den → ratio (signed negative size) den ≡ a → (size ≤ 2 ^ 76 → den ≤ 2 ^ 48 → ⊥) → IsWithinLimits a → ⊥
+pub terms-outside : (negative : Bool) (size den : ℕ) (a : Rational) → IsInLowestTerms size den → ratio (signed negative size) den ≡ a
+    → (size ≤ 2 ^ 76 → den ≤ 2 ^ 48 → ⊥) → IsWithinLimits a → ⊥
 terms-outside negative size den a is same beyond =
     rw (← same) (λ within. beyond (omega (arith, within.num, terms-size negative size den is)) (omega (arith, within.den, terms-den negative size den is)))
 
@@ -72,7 +68,8 @@ product_by s t a b c d f g one two isf isg =
     record {
       terms = record { positive = parts.positive; lowest = parts.lowest };
       same =
-          ratio-same _ _ _ (b * d) parts.positive (mul-pos one.positive two.positive) (same_divided (not (beq s t)) (a * c) (b * d) (f * g) _ _ parts.whole parts.under)
+          ratio-same _ _ _ (b * d) parts.positive (mul-pos one.positive two.positive)
+          (same_divided (not (beq s t)) (a * c) (b * d) (f * g) _ _ parts.whole parts.under)
           ∙ ap (λ z. ratio z (b * d)) (sym (signed-*ℤ-signed s t a c)) ∙ sym (times-ratio (signed s a) (signed t c) b d one.positive two.positive);
     }
 
@@ -98,5 +95,7 @@ turned_over negative a b is some =
     let sign : int_lt x.num (pos 0) ≡ negative = ap (λ z. int_lt z (pos 0)) (terms-num negative a b is) ∙ sign-above negative a above in
     record {
       terms = record { positive = above; lowest = λ k kb ka. is.lowest k ka kb };
-      same = sym (ap (λ s. ratio (signed s x.den) (unsigned_abs x.num)) sign ∙ ap (λ d. ratio (signed negative d) (unsigned_abs x.num)) (terms-den negative a b is) ∙ ap (ratio (signed negative b)) (terms-size negative a b is));
+      same =
+          sym (ap (λ s. ratio (signed s x.den) (unsigned_abs x.num)) sign ∙ ap (λ d. ratio (signed negative d) (unsigned_abs x.num)) (terms-den negative a b is)
+          ∙ ap (ratio (signed negative b)) (terms-size negative a b is));
     }

@@ -8,3 +8,4 @@ pub mod Limits
 mod InLowestTerms
 mod Euclid
 mod OnValues
+pub mod Words

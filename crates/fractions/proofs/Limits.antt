@@ -1,9 +1,7 @@
 -- Rationals within the limits, and what a call gives.
-use Rattle.std.proofs.Common.{◌≡◌, ◌^◌, ◌<◌, ◌≤◌, ℕ, ℤ, pos, negsuc, unsigned_abs, SFits, true, false, Option, None, Some, if◌then◌else◌, ap, refl, arith, Decides, w64}
-use Rattle.std.proofs.lemmas.Bool.Decides.{nat_tests}
-use Rattle.std.proofs.lemmas.Bool.{false_from_ne_true}
-use Rattle.fractions.specs.LowestForms.{ratio-den_le, ratio-num_le}
-use Rattle.fractions.specs.Rationals.{Gives, IsWithinLimits, Rational, is_within_limits, ratio, whole}
+use Rattle.fractions.proofs.Words.{Gives, IsWithinLimits, Rational, false_from_ne_true, is_within_limits, nat_tests, ratio, ratio-den_le, ratio-num_le, whole}
+use Rattle.std.proofs.Common.{Decides, None, Option, SFits, Some, ap, arith, false, if◌then◌else◌, negsuc, pos, refl, true, unsigned_abs, w64, ℕ, ℤ, ◌<◌, ◌^◌}
+use Rattle.std.proofs.Common.{◌≡◌, ◌≤◌}
 
 -- a call that gives a: none where a is outside the limits, and a where it is within
 pub gives_none : (a : Rational) → (IsWithinLimits a → ⊥) → Gives None a

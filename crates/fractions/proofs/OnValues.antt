@@ -1,10 +1,8 @@
 -- The definitions compute on worked values.
-use Rattle.std.proofs.Common.{◌≡◌, ℕ, ℤ, pos, negsuc, refl}
-use Rattle.std.specs.Prelude.{codes}
-use Rattle.std.specs.Fmt.{digits}
-use Rattle.std.specs.declared.cmp.Ordering.TheVariants.{Less}
 use Rattle.fractions.specs.Lowest.{gcd, last_remainder}
-use Rattle.fractions.specs.Rationals.{Rational, fraction_text, lowest_form, minus, over, plus, ratio, rational_cmp, reciprocal, times, whole}
+use Rattle.std.specs.Fmt.{digits}
+use Rattle.fractions.proofs.Words.{Less, Rational, codes, fraction_text, lowest_form, minus, over, plus, ratio, rational_cmp, reciprocal, times, whole}
+use Rattle.std.proofs.Common.{negsuc, pos, refl, ℕ, ℤ, ◌≡◌}
 
 -- the two numbers of a rational
 abbrev numbers : Rational → ℤ × ℕ

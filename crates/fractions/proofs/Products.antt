@@ -1,12 +1,8 @@
 -- The laws of products and quotients.
-use Rattle.std.proofs.Common.{◌≡◌, ◌≢◌, ◌∙◌, ◌*◌, ◌<◌, ◌*ℤ◌, ⊎_elim, ℕ, pos, int_lt, unsigned_abs, Bool, true, false, sym, ap, ap₂, arith}
-use Rattle.std.proofs.Math.IntN.{*ℤ-zero, *ℤ_comm}
-use Rattle.std.proofs.Math.Nat.{eq-zero-or-pos, mul-one, mul-pos}
-use Rattle.sums.proofs.ProductLemmas.{*ℤ-+ℤ, *ℤ--ℤ, *ℤ-pos_one, *ℤ_assoc}
-use Rattle.fractions.specs.Integers.{signed, signed-*ℤ-signed, signed-sign, zero_from_size}
-use Rattle.fractions.specs.LowestForms.{ratio-self}
-use Rattle.fractions.specs.Rationals.{Rational, minus, over, plus, ratio, rational_one, rational_zero, reciprocal, times}
 use Rattle.fractions.proofs.Ratios.{by_one, by_three, by_two, one_denominator, ratio-one, ratio-same, ratio-zero, times-ratio}
+use Rattle.fractions.proofs.Words.{*ℤ-+ℤ, *ℤ--ℤ, *ℤ-pos_one, *ℤ-zero, *ℤ_assoc, *ℤ_comm, Rational, eq-zero-or-pos, minus, mul-one, mul-pos, over, plus, ratio}
+use Rattle.fractions.proofs.Words.{ratio-self, rational_one, rational_zero, reciprocal, signed, signed-*ℤ-signed, signed-sign, times, zero_from_size}
+use Rattle.std.proofs.Common.{Bool, ap, ap₂, arith, false, int_lt, pos, sym, true, unsigned_abs, ℕ, ⊎_elim, ◌*ℤ◌, ◌*◌, ◌<◌, ◌∙◌, ◌≡◌, ◌≢◌}
 
 -- ---- products
 
@@ -20,10 +16,14 @@ times_assoc = by_three _ (λ n m l d some.
     ∙ sym (times-ratio n (m *ℤ l) d (d * d) some square) ∙ ap (times (ratio n d)) (sym (times-ratio m l d d some some)))
 
 pub times-one : (a : Rational) → times a rational_one ≡ a
-times-one = by_one _ (λ n d some. ap (times (ratio n d)) (sym (ratio-one (pos 1))) ∙ times-ratio n (pos 1) d 1 some (omega arith) ∙ ap₂ ratio (*ℤ-pos_one n) (mul-one d))
+times-one =
+    by_one _ (λ n d some. ap (times (ratio n d)) (sym (ratio-one (pos 1))) ∙ times-ratio n (pos 1) d 1 some (omega arith)
+    ∙ ap₂ ratio (*ℤ-pos_one n) (mul-one d))
 
 pub times-zero : (a : Rational) → times a rational_zero ≡ rational_zero
-times-zero = by_one _ (λ n d some. ap (times (ratio n d)) (sym (ratio-one (pos 0))) ∙ times-ratio n (pos 0) d 1 some (omega arith) ∙ ap (λ z. ratio z (d * 1)) (*ℤ-zero n) ∙ ratio-zero (d * 1))
+times-zero =
+    by_one _ (λ n d some. ap (times (ratio n d)) (sym (ratio-one (pos 0))) ∙ times-ratio n (pos 0) d 1 some (omega arith)
+    ∙ ap (λ z. ratio z (d * 1)) (*ℤ-zero n) ∙ ratio-zero (d * 1))
 
 pub zero-times : (a : Rational) → times rational_zero a ≡ rational_zero
 zero-times a = times_comm rational_zero a ∙ times-zero a
@@ -56,8 +56,10 @@ pub times-reciprocal : (a : Rational) → a ≢ rational_zero → times a (recip
 unfolding reciprocal
 times-reciprocal a some =
     let negative = int_lt a.num (pos 0) in let size = unsigned_abs a.num in let above = size-positive a some in
-    let product : a.num *ℤ signed negative a.den ≡ pos (size * a.den) = ap (λ z. z *ℤ signed negative a.den) (sym (signed-sign a.num)) ∙ square_of_sign negative size a.den in
-    ap (λ x. times x (reciprocal a)) (sym (ratio-self a)) ∙ times-ratio a.num (signed negative a.den) a.den size a.positive above ∙ ap (λ z. ratio z (a.den * size)) product
+    let product : a.num *ℤ signed negative a.den ≡ pos (size * a.den) =
+    ap (λ z. z *ℤ signed negative a.den) (sym (signed-sign a.num)) ∙ square_of_sign negative size a.den in
+    ap (λ x. times x (reciprocal a)) (sym (ratio-self a)) ∙ times-ratio a.num (signed negative a.den) a.den size a.positive above
+    ∙ ap (λ z. ratio z (a.den * size)) product
     ∙ ratio-same (pos (size * a.den)) (pos 1) (a.den * size) 1 (mul-pos a.positive above) (omega arith) (ap pos (omega arith)) ∙ ratio-one (pos 1)
 
 -- ---- cancelling

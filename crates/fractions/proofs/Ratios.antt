@@ -1,12 +1,7 @@
 -- Ratios: two are one exactly where the cross products are equal; their order, sums, differences and products.
-use Rattle.std.proofs.Common.{◌≡◌, ◌∙◌, ◌*◌, ◌<◌, ◌+ℤ◌, ◌-ℤ◌, ◌*ℤ◌, ℕ, ℤ, zero, suc, pos, refl, sym, ap, ap₂, subst, arith, int_cmp}
-use Rattle.std.proofs.Math.Nat.{mul-pos, mul_comm}
-use mathlib.Core.Path.{subst₂}
-use Rattle.sums.proofs.ProductLemmas.{*ℤ-interchange, *ℤ_assoc, *ℤ_cancel_right, *ℤ_swap, +ℤ-*ℤ, -ℤ-*ℤ}
-use Rattle.fractions.specs.Integers.{pos_above}
-use Rattle.fractions.specs.LowestForms.{ratio-self, ratio-value, same_from_value}
-use Rattle.fractions.specs.Order.{cmp-scale}
-use Rattle.fractions.specs.Rationals.{Rational, SameValue, minus, plus, ratio, rational_cmp, rational_zero, times, whole}
+use Rattle.fractions.proofs.Words.{*ℤ-interchange, *ℤ_assoc, *ℤ_cancel_right, *ℤ_swap, +ℤ-*ℤ, -ℤ-*ℤ, Rational, SameValue, cmp-scale, minus, mul-pos, mul_comm}
+use Rattle.fractions.proofs.Words.{plus, pos_above, ratio, ratio-self, ratio-value, rational_cmp, rational_zero, same_from_value, subst₂, times, whole}
+use Rattle.std.proofs.Common.{ap, ap₂, arith, int_cmp, pos, refl, subst, suc, sym, zero, ℕ, ℤ, ◌*ℤ◌, ◌*◌, ◌+ℤ◌, ◌-ℤ◌, ◌<◌, ◌∙◌, ◌≡◌}
 
 -- ---- equality
 
@@ -52,13 +47,15 @@ crossed n n' d d' e e' same = *ℤ-interchange n (pos e) (pos d') (pos e') ∙ a
 -- the same steps for sums and for differences
 module _ (op : ℤ → ℤ → ℤ) (spread : (x y z : ℤ) → op x y *ℤ z ≡ op (x *ℤ z) (y *ℤ z)) where
   joined-ratio : (n m : ℤ) (d e : ℕ) → 0 < d → 0 < e
-      → ratio (op ((ratio n d).num *ℤ pos (ratio m e).den) ((ratio m e).num *ℤ pos (ratio n d).den)) ((ratio n d).den * (ratio m e).den) ≡ ratio (op (n *ℤ pos e) (m *ℤ pos d)) (d * e)
+      → ratio (op ((ratio n d).num *ℤ pos (ratio m e).den) ((ratio m e).num *ℤ pos (ratio n d).den)) ((ratio n d).den * (ratio m e).den)
+      ≡ ratio (op (n *ℤ pos e) (m *ℤ pos d)) (d * e)
   joined-ratio n m d e hd he =
       let a = ratio n d in let b = ratio m e in
       let first = crossed a.num n a.den d b.den e (ratio-value n d hd) in
       let second = crossed b.num m b.den e a.den d (ratio-value m e he) in
       ratio-same _ _ (a.den * b.den) (d * e) (mul-pos a.positive b.positive) (mul-pos hd he)
-      (spread _ _ _ ∙ ap₂ op first (ap (λ k. b.num *ℤ pos a.den *ℤ pos k) (mul_comm d e) ∙ second ∙ ap (λ k. m *ℤ pos d *ℤ pos k) (mul_comm b.den a.den)) ∙ sym (spread _ _ _))
+      (spread _ _ _ ∙ ap₂ op first (ap (λ k. b.num *ℤ pos a.den *ℤ pos k) (mul_comm d e) ∙ second ∙ ap (λ k. m *ℤ pos d *ℤ pos k) (mul_comm b.den a.den))
+      ∙ sym (spread _ _ _))
 
   joined-same_den : (n m : ℤ) (d : ℕ) → 0 < d → ratio (op (n *ℤ pos d) (m *ℤ pos d)) (d * d) ≡ ratio (op n m) d
   joined-same_den n m d some = ap (λ z. ratio z (d * d)) (sym (spread n m (pos d))) ∙ ratio-cancel (op n m) d d some some
@@ -73,11 +70,13 @@ minus-ratio = joined-ratio ◌-ℤ◌ -ℤ-*ℤ
 
 -- over one denominator, which may be 0 here too
 pub plus-ratio_same_den : (n m : ℤ) (d : ℕ) → plus (ratio n d) (ratio m d) ≡ ratio (n +ℤ m) d
-plus-ratio_same_den n m zero = rw (ratio-by_zero n, ratio-by_zero m, ratio-by_zero (n +ℤ m), ← ratio-one (pos 0)) (plus-ratio (pos 0) (pos 0) 1 1 (omega arith) (omega arith))
+plus-ratio_same_den n m zero =
+    rw (ratio-by_zero n, ratio-by_zero m, ratio-by_zero (n +ℤ m), ← ratio-one (pos 0)) (plus-ratio (pos 0) (pos 0) 1 1 (omega arith) (omega arith))
 plus-ratio_same_den n m (suc d) = let some : 0 < suc d = omega arith in plus-ratio n m (suc d) (suc d) some some ∙ joined-same_den ◌+ℤ◌ +ℤ-*ℤ n m (suc d) some
 
 pub minus-ratio_same_den : (n m : ℤ) (d : ℕ) → minus (ratio n d) (ratio m d) ≡ ratio (n -ℤ m) d
-minus-ratio_same_den n m zero = rw (ratio-by_zero n, ratio-by_zero m, ratio-by_zero (n -ℤ m), ← ratio-one (pos 0)) (minus-ratio (pos 0) (pos 0) 1 1 (omega arith) (omega arith))
+minus-ratio_same_den n m zero =
+    rw (ratio-by_zero n, ratio-by_zero m, ratio-by_zero (n -ℤ m), ← ratio-one (pos 0)) (minus-ratio (pos 0) (pos 0) 1 1 (omega arith) (omega arith))
 minus-ratio_same_den n m (suc d) = let some : 0 < suc d = omega arith in minus-ratio n m (suc d) (suc d) some some ∙ joined-same_den ◌-ℤ◌ -ℤ-*ℤ n m (suc d) some
 
 -- sums and differences over one denominator, for `simp`
@@ -109,14 +108,18 @@ by_one P h a = subst P (ratio-self a) (h a.num a.den a.positive)
 over_all : (a : Rational) (rest d : ℕ) → 0 < rest → a.den * rest ≡ d → ratio (a.num *ℤ pos rest) d ≡ a
 over_all a rest d some is = ap (ratio (a.num *ℤ pos rest)) (sym is) ∙ ratio-cancel a.num a.den rest a.positive some ∙ ratio-self a
 
-pub by_four : (P : Rational → Rational → Rational → Rational → Type 0) → ((n m l k : ℤ) (d : ℕ) → 0 < d → P (ratio n d) (ratio m d) (ratio l d) (ratio k d)) → (a b c e : Rational) → P a b c e
+pub by_four : (P : Rational → Rational → Rational → Rational → Type 0) → ((n m l k : ℤ) (d : ℕ) → 0 < d → P (ratio n d) (ratio m d) (ratio l d) (ratio k d))
+    → (a b c e : Rational) → P a b c e
 by_four P h a b c e =
     let ab = mul-pos a.positive b.positive in let ce = mul-pos c.positive e.positive in
     let d = a.den * b.den * (c.den * e.den) in
-    subst₂ (λ x y. P x y c e) (over_all a (b.den * (c.den * e.den)) d (mul-pos b.positive ce) (omega arith)) (over_all b (a.den * (c.den * e.den)) d (mul-pos a.positive ce) (omega arith))
-    (subst₂ (P _ _) (over_all c (a.den * b.den * e.den) d (mul-pos ab e.positive) (omega arith)) (over_all e (a.den * b.den * c.den) d (mul-pos ab c.positive) (omega arith)) (h _ _ _ _ d (mul-pos ab ce)))
+    subst₂ (λ x y. P x y c e) (over_all a (b.den * (c.den * e.den)) d (mul-pos b.positive ce) (omega arith))
+    (over_all b (a.den * (c.den * e.den)) d (mul-pos a.positive ce) (omega arith))
+    (subst₂ (P _ _) (over_all c (a.den * b.den * e.den) d (mul-pos ab e.positive) (omega arith))
+    (over_all e (a.den * b.den * c.den) d (mul-pos ab c.positive) (omega arith)) (h _ _ _ _ d (mul-pos ab ce)))
 
-pub by_three : (P : Rational → Rational → Rational → Type 0) → ((n m l : ℤ) (d : ℕ) → 0 < d → P (ratio n d) (ratio m d) (ratio l d)) → (a b c : Rational) → P a b c
+pub by_three : (P : Rational → Rational → Rational → Type 0) → ((n m l : ℤ) (d : ℕ) → 0 < d → P (ratio n d) (ratio m d) (ratio l d)) → (a b c : Rational)
+    → P a b c
 by_three P h a b c = by_four (λ x y z w. P x y z) (λ n m l k d some. h n m l d some) a b c c
 
 pub by_two : (P : Rational → Rational → Type 0) → ((n m : ℤ) (d : ℕ) → 0 < d → P (ratio n d) (ratio m d)) → (a b : Rational) → P a b

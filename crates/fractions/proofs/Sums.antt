@@ -1,8 +1,7 @@
 -- The laws of sums and differences.
-use Rattle.std.proofs.Common.{◌≡◌, ◌∙◌, pos, sym, ap, arith}
-use Rattle.std.proofs.lemmas.Int.{ints}
-use Rattle.fractions.specs.Rationals.{Rational, minus, plus, ratio, rational_zero}
 use Rattle.fractions.proofs.Ratios.{by_four, by_one, by_three, by_two, minus-ratio_same_den, one_denominator, plus-ratio_same_den, ratio-zero}
+use Rattle.fractions.proofs.Words.{Rational, ints, minus, plus, ratio, rational_zero}
+use Rattle.std.proofs.Common.{ap, arith, pos, sym, ◌∙◌, ◌≡◌}
 
 -- ---- sums
 
@@ -20,6 +19,9 @@ zero-plus a = plus_comm rational_zero a ∙ plus-zero a
 
 pub plus_swap_left : (a b c : Rational) → plus a (plus b c) ≡ plus b (plus a c)
 plus_swap_left = by_three _ (λ n m l d some. simp one_denominator (ap (λ k. ratio k d) (omega (arith, ints))))
+
+pub plus_swap_right : (a b c : Rational) → plus (plus a b) c ≡ plus (plus a c) b
+plus_swap_right = by_three _ (λ n m l d some. simp one_denominator (ap (λ k. ratio k d) (omega (arith, ints))))
 
 pub plus-interchange : (a b c e : Rational) → plus (plus a b) (plus c e) ≡ plus (plus a c) (plus b e)
 plus-interchange = by_four _ (λ n m l k d some. simp one_denominator (ap (λ z. ratio z d) (omega (arith, ints))))
@@ -49,6 +51,9 @@ minus-plus_plus = by_three _ (λ n m l d some. simp one_denominator (ap (λ k. r
 
 pub minus-interchange : (a b c e : Rational) → minus (plus a b) (plus c e) ≡ plus (minus a c) (minus b e)
 minus-interchange = by_four _ (λ n m l k d some. simp one_denominator (ap (λ z. ratio z d) (omega (arith, ints))))
+
+pub there_and_back : (a b : Rational) → plus (minus b a) (minus a b) ≡ rational_zero
+there_and_back a b = sym (minus-interchange b a a b) ∙ ap (minus (plus b a)) (plus_comm a b) ∙ minus-self (plus b a)
 
 -- ---- cancelling
 

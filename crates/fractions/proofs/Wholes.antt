@@ -1,7 +1,7 @@
 -- Whole numbers among the rationals, and ratios as quotients of them.
-use Rattle.std.proofs.Common.{◌≡◌, ◌≢◌, ◌∙◌, ◌<◌, ◌+ℤ◌, ◌-ℤ◌, ◌*ℤ◌, ℕ, ℤ, pos, sym, ap, arith}
-use Rattle.fractions.specs.Rationals.{minus, plus, ratio, rational_zero, times, whole}
 use Rattle.fractions.proofs.Ratios.{minus-ratio_same_den, plus-ratio_same_den, ratio-cancel, ratio-one, times-ratio}
+use Rattle.fractions.proofs.Words.{minus, plus, ratio, rational_zero, times, whole}
+use Rattle.std.proofs.Common.{ap, arith, pos, sym, ℕ, ℤ, ◌*ℤ◌, ◌+ℤ◌, ◌-ℤ◌, ◌<◌, ◌∙◌, ◌≡◌, ◌≢◌}
 
 pub whole-plus : (n m : ℤ) → plus (whole n) (whole m) ≡ whole (n +ℤ m)
 whole-plus n m = rw (← ratio-one n, ← ratio-one m, ← ratio-one (n +ℤ m)) (plus-ratio_same_den n m 1)
@@ -25,4 +25,5 @@ ratio-multiple n d some = ap (ratio (n *ℤ pos d)) (omega arith) ∙ ratio-canc
 -- a ratio times its denominator
 pub ratio-times_den : (n : ℤ) (d : ℕ) → 0 < d → times (ratio n d) (whole (pos d)) ≡ whole n
 ratio-times_den n d some =
-    ap (times (ratio n d)) (sym (ratio-one (pos d))) ∙ times-ratio n (pos d) d 1 some (omega arith) ∙ ap (ratio (n *ℤ pos d)) (omega arith) ∙ ratio-multiple n d some
+    ap (times (ratio n d)) (sym (ratio-one (pos d))) ∙ times-ratio n (pos d) d 1 some (omega arith) ∙ ap (ratio (n *ℤ pos d)) (omega arith)
+    ∙ ratio-multiple n d some

@@ -141,7 +141,8 @@ impl Frac {
     /// How the fraction compares with another, by the cross products.
     pub fn compare(&self, other: &Frac) -> Ordering
         ensures value { result ≡ rational_cmp self.now other.now }
-        ensures ranks { MatchOrdering result (IsBelow self.now other.now) (self.now ≡ other.now) (IsBelow other.now self.now) }
+        ensures ranks { MatchOrdering result (IsBelow self.now other.now)
+            (self.now ≡ other.now) (IsBelow other.now self.now) }
     {
         self.cross(other).cmp(&other.cross(self))
     }
@@ -149,7 +150,8 @@ impl Frac {
     /// Whether the fraction is below another.
     pub fn is_below(&self, other: &Frac) -> bool
         ensures value { result ≡ is_below self.now other.now }
-        ensures ranks { MatchBool result (IsBelow self.now other.now) (IsAtMost other.now self.now) }
+        ensures ranks { MatchBool result (IsBelow self.now other.now)
+            (IsAtMost other.now self.now) }
     {
         self.compare(other).is_lt()
     }
@@ -157,7 +159,8 @@ impl Frac {
     /// Whether the fraction is above 0.
     pub fn is_positive(&self) -> bool
         ensures value { result ≡ is_below rational_zero self.now }
-        ensures ranks { MatchBool result (IsBelow rational_zero self.now) (IsAtMost self.now rational_zero) }
+        ensures ranks { MatchBool result (IsBelow rational_zero self.now)
+            (IsAtMost self.now rational_zero) }
     {
         self.num() > 0
     }

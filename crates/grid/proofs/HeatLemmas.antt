@@ -1,41 +1,28 @@
 -- The parts of a side above a place add up to the heat of its streams above it; so do those from a place on.
-use Rattle.std.proofs.Common.{◌≡◌, ◌⊎◌, ⊎_elim, inl, inr, ◌∙◌, refl, sym, ap, ap₂, Bool, true, false, ◌&&◌, List, [], ◌∷◌, get_or, arith}
-use Rattle.std.specs.Prelude.{ℤ, pos, ◌+ℤ◌, ◌-ℤ◌, ◌*ℤ◌, ◌≤ℤ◌, ◌<ℤ◌, int_le, int_lt, if◌then◌else◌, All, AllPairs, Contains}
-use Rattle.std.specs.Int.{int_max}
-use Rattle.std.proofs.Math.IntN.{*ℤ-zero}
-use Rattle.std.proofs.lemmas.Int.{ints, clamps}
-use Rattle.std.proofs.lemmas.Bool.{cases_Bool, false_from_ne_true}
-use Rattle.std.proofs.lemmas.List.Elements.{All-contains}
-use Rattle.stream_case.specs.declared.source.Side.{Side}
-use Rattle.stream_case.specs.declared.stream.Stream.{Stream}
-use Rattle.stream_case.specs.declared.utility.Utility.{Utility}
-use Rattle.stream_case.specs.Source.{is_stream, same_side}
-use Rattle.stream_case.specs.Stream.{high_end, low_end, length_above, counts_above, sensible_above, heat_over, IsSensible, IsLatent, IsValidStream}
-use Rattle.stream_case.proofs.EndLemmas.{order-sensible}
-use Rattle.stream_case.proofs.HeatLemmas.{heat_over-latent, heat_over-sensible}
-use Rattle.sums.specs.Sum.{int_sum_by}
-use Rattle.sums.proofs.IntegerLemmas.{int_le-from, int_le-false, int_lt-from, int_lt-true}
-use Rattle.sums.proofs.OrderLemmas.{AllPairs-head, AllPairs-tail, Contains-cons}
-use Rattle.sums.proofs.ProductLemmas.{*ℤ--ℤ}
-use Rattle.sums.proofs.SumLemmas.{int_sum_by-same}
-use Rattle.grid.specs.declared.part.Part.{Part}
-use Rattle.grid.specs.Grid.{HoldsPlaces}
-use Rattle.grid.specs.Making.{is_latent, made_parts}
-use Rattle.grid.specs.Part.{piece_heat, stands_above}
 use Rattle.grid.proofs.MakingLemmas.{holds_ends, holds_levels, is_latent-true}
-use Rattle.grid.proofs.RunLemmas.{latent_run, latent_run-is, latent_run-none, latent_run-other, level_run, level_run-is, stream_run, stream_run-latent, stream_run-other, sum-made}
+use Rattle.grid.proofs.RunLemmas.{latent_run, latent_run-is, latent_run-none, latent_run-other, level_run, level_run-is, stream_run, stream_run-latent}
+use Rattle.grid.proofs.RunLemmas.{stream_run-other, sum-made}
+use Rattle.grid.proofs.Words.{*ℤ--ℤ, *ℤ-zero, All, All-contains, AllPairs, AllPairs-head, AllPairs-tail, Contains, Contains-cons, HoldsPlaces, IsLatent}
+use Rattle.grid.proofs.Words.{IsSensible, IsValidStream, Part, Side, Stream, Utility, cases_Bool, clamps, counts_above, false_from_ne_true, heat_over}
+use Rattle.grid.proofs.Words.{heat_over-latent, heat_over-sensible, high_end, if◌then◌else◌, int_le, int_le-false, int_le-from, int_lt, int_lt-from}
+use Rattle.grid.proofs.Words.{int_lt-true, int_max, int_sum_by, int_sum_by-same, ints, is_latent, is_stream, length_above, low_end, made_parts, order-sensible}
+use Rattle.grid.proofs.Words.{piece_heat, pos, same_side, sensible_above, stands_above, ℤ, ◌*ℤ◌, ◌+ℤ◌, ◌-ℤ◌, ◌<ℤ◌, ◌≤ℤ◌}
+use Rattle.std.proofs.Common.{Bool, List, [], ap, ap₂, arith, false, get_or, inl, inr, refl, sym, true, ⊎_elim, ◌&&◌, ◌∙◌, ◌∷◌, ◌≡◌, ◌⊎◌}
 
 -- ---- a stream's parts from the top down
 
 greatest_first : (g : ℤ) (places : List ℤ) → AllPairs (λ a b. b <ℤ a) (g ∷ places) → (x : ℤ) → Contains (g ∷ places) x → x ≤ℤ g
 greatest_first g places falls x found =
-    ⊎_elim (λ e. omega (arith, ints)) (λ later. let less = All-contains (λ z. z <ℤ g) places x (AllPairs-head (λ a b. b <ℤ a) g places falls) later in omega (arith, ints)) (Contains-cons g places x found)
+    ⊎_elim (λ e. omega (arith, ints))
+    (λ later. let less = All-contains (λ z. z <ℤ g) places x (AllPairs-head (λ a b. b <ℤ a) g places falls) later in omega (arith, ints))
+    (Contains-cons g places x found)
 
 -- x is a place from g down, or not below g; so it does not lie strictly between g and the next place
 abbrev Meets : ℤ → List ℤ → ℤ → Type 0
 Meets g places x = Contains (g ∷ places) x ⊎ (g ≤ℤ x)
 
-Meets-next : (g l : ℤ) (places : List ℤ) (x : ℤ) → AllPairs (λ a b. b <ℤ a) (g ∷ l ∷ places) → l <ℤ g → Meets g (l ∷ places) x → ((x ≤ℤ l) ⊎ (g ≤ℤ x)) × Meets l places x
+Meets-next : (g l : ℤ) (places : List ℤ) (x : ℤ) → AllPairs (λ a b. b <ℤ a) (g ∷ l ∷ places) → l <ℤ g → Meets g (l ∷ places) x
+    → ((x ≤ℤ l) ⊎ (g ≤ℤ x)) × Meets l places x
 Meets-next g l places x falls step (inl found) =
     ⊎_elim (λ e. (inr (omega (arith, ints)), inr (omega (arith, ints))))
     (λ later. (inl (greatest_first l places (AllPairs-tail (λ a b. b <ℤ a) g (l ∷ places) falls) x later), inl later)) (Contains-cons g (l ∷ places) x found)
@@ -45,11 +32,16 @@ Meets-next g l places x falls step (inr le) = (inr le, inr (omega (arith, ints))
 abbrev length_in : ℤ → ℤ → ℤ → ℤ → ℤ → ℤ
 length_in low high at g l = if (int_le low l && int_le g high) then (if int_le at l then g -ℤ l else pos 0) else pos 0
 
-length_in-is : (low high at g l : ℤ) → l <ℤ g → low ≤ℤ high → (low ≤ℤ l) ⊎ (g ≤ℤ low) → (high ≤ℤ l) ⊎ (g ≤ℤ high) → (at ≤ℤ l) ⊎ (g ≤ℤ at) → length_in low high at g l ≡ length_above low high (int_max at l) -ℤ length_above low high (int_max at g)
-length_in-is low high at g l step order (inl a) (inr b) (inl c) = rw (int_le-from low l a, int_le-from g high b, int_le-from at l c) (omega (arith, ints, clamps))
-length_in-is low high at g l step order (inl a) (inr b) (inr c) = rw (int_le-from low l a, int_le-from g high b, int_le-false at l (omega (arith, ints))) (omega (arith, ints, clamps))
-length_in-is low high at g l step order (inl a) (inl b) c = rw (int_le-from low l a, int_le-false g high (omega (arith, ints))) (⊎_elim (λ d. omega (arith, ints, clamps)) (λ d. omega (arith, ints, clamps)) c)
-length_in-is low high at g l step order (inr a) b c = rw (int_le-false low l (omega (arith, ints))) (⊎_elim (λ d. omega (arith, ints, clamps)) (λ d. omega (arith, ints, clamps)) c)
+length_in-is : (low high at g l : ℤ) → l <ℤ g → low ≤ℤ high → (low ≤ℤ l) ⊎ (g ≤ℤ low) → (high ≤ℤ l) ⊎ (g ≤ℤ high) → (at ≤ℤ l) ⊎ (g ≤ℤ at)
+    → length_in low high at g l ≡ length_above low high (int_max at l) -ℤ length_above low high (int_max at g)
+length_in-is low high at g l step order (inl a) (inr b) (inl c) =
+    rw (int_le-from low l a, int_le-from g high b, int_le-from at l c) (omega (arith, ints, clamps))
+length_in-is low high at g l step order (inl a) (inr b) (inr c) =
+    rw (int_le-from low l a, int_le-from g high b, int_le-false at l (omega (arith, ints))) (omega (arith, ints, clamps))
+length_in-is low high at g l step order (inl a) (inl b) c =
+    rw (int_le-from low l a, int_le-false g high (omega (arith, ints))) (⊎_elim (λ d. omega (arith, ints, clamps)) (λ d. omega (arith, ints, clamps)) c)
+length_in-is low high at g l step order (inr a) b c =
+    rw (int_le-false low l (omega (arith, ints))) (⊎_elim (λ d. omega (arith, ints, clamps)) (λ d. omega (arith, ints, clamps)) c)
 
 -- the heat of a piece of a stream that stands above a place
 abbrev pub piece_above : Bool → ℤ → ℤ → ℤ → Stream → ℤ
@@ -64,16 +56,20 @@ interval_above-is true at g l step place = refl
 interval_above-is false at g l step (inl below) = int_lt-from at g (omega (arith, ints)) ∙ sym (int_le-from at l below)
 interval_above-is false at g l step (inr above) = int_lt-false at g above ∙ sym (int_le-false at l (omega (arith, ints)))
 
-module _ (from : Bool) (at : ℤ) (side : Side) (s : Stream) (same : same_side s.side side ≡ true) (order : low_end s ≤ℤ high_end s) (no_load : s.load ≡ pos 0) where
+module _ (from : Bool) (at : ℤ) (side : Side) (s : Stream) (same : same_side s.side side ≡ true) (order : low_end s ≤ℤ high_end s)
+    (no_load : s.load ≡ pos 0) where
   scaled : (b c : Bool) (x : ℤ) → (if b then (if c then (s.cp *ℤ x +ℤ s.load) else pos 0) else pos 0) ≡ s.cp *ℤ (if b then (if c then x else pos 0) else pos 0)
   scaled true true x = omega (arith, ints)
   scaled true false x = sym (*ℤ-zero s.cp)
   scaled false c x = sym (*ℤ-zero s.cp)
 
   -- with the heat above the place where they begin the parts on intervals are the sensible heat above the place
-  run-is : (g : ℤ) (places : List ℤ) → AllPairs (λ a b. b <ℤ a) (g ∷ places) → Meets g places (low_end s) → Meets g places (high_end s) → Meets g places at → stream_run (piece_above from at) side s (g ∷ places) +ℤ sensible_above (int_max at g) s ≡ sensible_above at s
+  run-is : (g : ℤ) (places : List ℤ) → AllPairs (λ a b. b <ℤ a) (g ∷ places) → Meets g places (low_end s) → Meets g places (high_end s) → Meets g places at
+      → stream_run (piece_above from at) side s (g ∷ places) +ℤ sensible_above (int_max at g) s ≡ sensible_above at s
   run-is g [] falls low high place =
-      let here : int_max at g ≡ at = ⊎_elim (λ found. ⊎_elim (λ e. omega (arith, ints, clamps)) (λ (k, within, is). absurd (omega arith)) (Contains-cons g [] at found)) (λ le. omega (arith, ints, clamps)) place in
+      let here : int_max at g ≡ at =
+      ⊎_elim (λ found. ⊎_elim (λ e. omega (arith, ints, clamps)) (λ (k, within, is). absurd (omega arith)) (Contains-cons g [] at found))
+      (λ le. omega (arith, ints, clamps)) place in
       let heat = ap (λ t. sensible_above t s) here in
       omega (arith, ints)
   run-is g (l ∷ places) falls low high place =
@@ -85,7 +81,8 @@ module _ (from : Bool) (at : ℤ) (side : Side) (s : Stream) (same : same_side s
       let above = λ (t : ℤ). length_above (low_end s) (high_end s) t in
       let term =
       ap (λ b. if (b && (int_le (low_end s) l && int_le g (high_end s))) then piece_above from at g l s else pos 0) same
-      ∙ ap (λ b. if (int_le (low_end s) l && int_le g (high_end s)) then (if b then piece_heat g l s else pos 0) else pos 0) (interval_above-is from at g l step place_out)
+      ∙ ap (λ b. if (int_le (low_end s) l && int_le g (high_end s)) then (if b then piece_heat g l s else pos 0) else pos 0)
+      (interval_above-is from at g l step place_out)
       ∙ scaled (int_le (low_end s) l && int_le g (high_end s)) (int_le at l) (g -ℤ l)
       ∙ ap (λ x. s.cp *ℤ x) (length_in-is (low_end s) (high_end s) at g l step order low_out high_out place_out)
       ∙ *ℤ--ℤ s.cp (above (int_max at l)) (above (int_max at g)) in
@@ -95,7 +92,9 @@ is_latent-sensible : (s : Stream) → IsSensible s → is_latent s ≡ false
 is_latent-sensible s h = false_from_ne_true (is_latent s) (λ e. let load = (is_latent-true s e).load in let none = h.load in omega (arith, ints))
 
 -- on places that hold the ends of a sensible stream and the place, the parts above the place add up to the heat above it
-stream_run-is : (from : Bool) (place : ℤ) (side : Side) (s : Stream) (places : List ℤ) → IsSensible s → same_side s.side side ≡ true → AllPairs (λ a b. b <ℤ a) places → Contains places (low_end s) → Contains places (high_end s) → Contains places place → stream_run (piece_above from place) side s places ≡ sensible_above place s
+stream_run-is : (from : Bool) (place : ℤ) (side : Side) (s : Stream) (places : List ℤ) → IsSensible s → same_side s.side side ≡ true
+    → AllPairs (λ a b. b <ℤ a) places → Contains places (low_end s) → Contains places (high_end s) → Contains places place
+    → stream_run (piece_above from place) side s places ≡ sensible_above place s
 stream_run-is from place side s [] sensible same falls (k, within, is) high at = absurd (omega arith)
 stream_run-is from place side s (g ∷ places) sensible same falls low high at =
     let order = order-sensible s sensible in
@@ -106,9 +105,11 @@ stream_run-is from place side s (g ∷ places) sensible same falls low high at =
     omega (arith, ints)
 
 -- the one part of a latent stream is its load, if that stands above the place
-level_above-is : (from : Bool) (place level : ℤ) (s : Stream) → s.cp ≡ pos 0 → piece_above from place level level s ≡ (if counts_above from place level then s.load else pos 0)
+level_above-is : (from : Bool) (place level : ℤ) (s : Stream) → s.cp ≡ pos 0
+    → piece_above from place level level s ≡ (if counts_above from place level then s.load else pos 0)
 level_above-is from place level s no_flow =
-    ap (λ heat. if counts_above from place (if from then level else level) then heat else pos 0) heat ∙ ap (λ end. if counts_above from place end then s.load else pos 0) (either from)
+    ap (λ heat. if counts_above from place (if from then level else level) then heat else pos 0) heat
+    ∙ ap (λ end. if counts_above from place end then s.load else pos 0) (either from)
   where
     heat : piece_heat level level s ≡ s.load
     heat = let width : level -ℤ level ≡ pos 0 = omega (arith, ints) in let none = ap (λ x. s.cp *ℤ x) width ∙ *ℤ-zero s.cp in omega (arith, ints)
@@ -118,7 +119,10 @@ level_above-is from place level s no_flow =
     either false = refl
 
 -- the parts of a stream above a place are its heat above it
-runs-are : (from : Bool) (place : ℤ) (side : Side) (s : Stream) (places : List ℤ) → IsSensible s ⊎ IsLatent s → AllPairs (λ a b. b <ℤ a) places → Contains places (low_end s) → Contains places (high_end s) → Contains places place → latent_run (piece_above from place) side s places +ℤ stream_run (piece_above from place) side s places ≡ (if same_side s.side side then heat_over from place s else pos 0)
+runs-are : (from : Bool) (place : ℤ) (side : Side) (s : Stream) (places : List ℤ) → IsSensible s ⊎ IsLatent s → AllPairs (λ a b. b <ℤ a) places
+    → Contains places (low_end s) → Contains places (high_end s) → Contains places place
+    → latent_run (piece_above from place) side s places +ℤ stream_run (piece_above from place) side s places
+    ≡ (if same_side s.side side then heat_over from place s else pos 0)
 runs-are from place side s places heat falls low high at =
     ⊎_elim (λ same. own same heat ∙ sym (ap (λ b. if b then heat_over from place s else pos 0) same))
     (λ other.
@@ -128,7 +132,8 @@ runs-are from place side s places heat falls low high at =
     none ∙ sym (ap (λ b. if b then heat_over from place s else pos 0) other))
     (cases_Bool (same_side s.side side))
   where
-    own : same_side s.side side ≡ true → IsSensible s ⊎ IsLatent s → latent_run (piece_above from place) side s places +ℤ stream_run (piece_above from place) side s places ≡ heat_over from place s
+    own : same_side s.side side ≡ true → IsSensible s ⊎ IsLatent s
+        → latent_run (piece_above from place) side s places +ℤ stream_run (piece_above from place) side s places ≡ heat_over from place s
     own same (inl sensible) =
         let none = latent_run-none (piece_above from place) side s places (is_latent-sensible s sensible) in
         let run = stream_run-is from place side s places sensible same falls low high at in
@@ -146,14 +151,20 @@ runs-are from place side s places heat falls low high at =
 abbrev pub part_over : Bool → ℤ → ℤ → Part → ℤ
 part_over from place each p = if is_stream p.source then (if stands_above from place p then p.least else pos 0) else each
 
-pub sum-part_over : (streams : List Stream) (utilities : List Utility) (side : Side) (places : List ℤ) (from : Bool) (place each : ℤ) → All IsValidStream streams → HoldsPlaces streams utilities places → Contains places place → int_sum_by (part_over from place each) (made_parts streams utilities side places) ≡ int_sum_by (λ u. if same_side u.side side then each else pos 0) utilities +ℤ int_sum_by (λ s. if same_side s.side side then heat_over from place s else pos 0) streams
+pub sum-part_over : (streams : List Stream) (utilities : List Utility) (side : Side) (places : List ℤ) (from : Bool) (place each : ℤ)
+    → All IsValidStream streams → HoldsPlaces streams utilities places → Contains places place
+    → int_sum_by (part_over from place each) (made_parts streams utilities side places)
+    ≡ int_sum_by (λ u. if same_side u.side side then each else pos 0) utilities +ℤ int_sum_by
+    (λ s. if same_side s.side side then heat_over from place s else pos 0) streams
 sum-part_over streams utilities side places from place each valid holds at =
-    let exchanged = sum-made (part_over from place each) (piece_above from place) (λ u. each) (λ high low i s. refl) (λ i u. refl) streams utilities side places in
+    let exchanged =
+    sum-made (part_over from place each) (piece_above from place) (λ u. each) (λ high low i s. refl) (λ i u. refl) streams utilities side places in
     let levels =
     int_sum_by-same (λ u. level_run (λ v. each) side u places) (λ u. if same_side u.side side then each else pos 0) utilities
     (λ k d within. level_run-is (λ v. each) side (get_or utilities k d) places holds.falls (holds_levels streams utilities places holds k d within)) in
     let runs =
-    int_sum_by-same (λ s. latent_run (piece_above from place) side s places +ℤ stream_run (piece_above from place) side s places) (λ s. if same_side s.side side then heat_over from place s else pos 0) streams
+    int_sum_by-same (λ s. latent_run (piece_above from place) side s places +ℤ stream_run (piece_above from place) side s places)
+    (λ s. if same_side s.side side then heat_over from place s else pos 0) streams
     (λ k d within.
     let s = get_or streams k d in
     let held = holds_ends streams utilities places holds k d within in

@@ -6,3 +6,4 @@ pub mod PlaceLemmas
 pub mod RunLemmas
 pub mod SizeLemmas
 pub mod StandardUtilities
+pub mod Words

@@ -1,22 +1,8 @@
 -- The parts of a case stand on its grid.
-use Rattle.std.proofs.Common.{◌≡◌, ◌⊎◌, inl, inr, arith, ◌∙◌, sym, ap, subst, ℤ, List, Some, Contains, option_map}
-use Rattle.std.proofs.lemmas.Int.{ints}
-use Rattle.std.proofs.lemmas.List.Elements.{All-weaker}
-use Rattle.sums.proofs.ListLemmas.{All-slice_get}
-use Rattle.stream_case.specs.declared.source.Side.{Side}
-use Rattle.stream_case.specs.declared.source.Side.TheVariants.{Hot, Cold}
-use Rattle.stream_case.specs.declared.stream.Stream.{Stream}
-use Rattle.stream_case.specs.declared.utility.Utility.{Utility}
-use Rattle.stream_case.specs.declared.case.Case.{Case}
-use Rattle.stream_case.specs.Case.{side_of}
-use Rattle.stream_case.specs.Utility.{shifted_level}
-use Rattle.grid.specs.declared.part.Part.{Part}
-use Rattle.grid.specs.Grid.{IsGrid}
-use Rattle.stream_case.specs.Stream.{high_end, low_end}
-use Rattle.stream_case.proofs.EndLemmas.{level-latent}
-use Rattle.grid.specs.Part.{AreCaseParts, IsInterval, IsPartOf, IsPiece}
 use Rattle.grid.proofs.MakingLemmas.{HoldsPlaces-IsGrid, holds_ends, holds_levels}
-use Rattle.grid.specs.OnGrid.{AreOnGrid, IsOnPlaces}
+use Rattle.grid.proofs.Words.{All-slice_get, All-weaker, AreCaseParts, AreOnGrid, Case, Cold, Hot, IsGrid, IsInterval, IsOnPlaces, IsPartOf, IsPiece, Part}
+use Rattle.grid.proofs.Words.{Side, Stream, Utility, high_end, ints, level-latent, low_end, shifted_level, side_of}
+use Rattle.std.proofs.Common.{Contains, List, Some, ap, arith, inl, inr, option_map, subst, sym, ℤ, ◌∙◌, ◌≡◌, ◌⊎◌}
 
 module _ (c : Case) (places : List ℤ) (side : Side) where
   -- the source of a part is one of its side
@@ -30,7 +16,9 @@ module _ (c : Case) (places : List ℤ) (side : Side) where
       ends_of : IsPiece places s p.high p.low → ((p.high ≡ p.low) × Contains places p.high) ⊎ IsInterval places p.high p.low
       ends_of (inl interval) = inr interval
       ends_of (inr (latent, same)) =
-          let held = (All-slice_get (λ (x : Stream). Contains places (high_end x) × Contains places (low_end x)) c.streams i s (holds_ends c.streams c.utilities places (HoldsPlaces-IsGrid c places grid)) h.stream).0 in
+          let held =
+          (All-slice_get (λ (x : Stream). Contains places (high_end x) × Contains places (low_end x)) c.streams i s
+          (holds_ends c.streams c.utilities places (HoldsPlaces-IsGrid c places grid)) h.stream).0 in
           let level = level-latent s latent in
           let from = h.from in
           let upto = h.upto in
@@ -39,7 +27,9 @@ module _ (c : Case) (places : List ℤ) (side : Side) where
   part_on_places grid p (inr (i, u, h)) =
       let high : p.high ≡ shifted_level u = ap (λ (q : Part). q.high) h.is in
       let low : p.low ≡ shifted_level u = ap (λ (q : Part). q.low) h.is in
-      let level = All-slice_get (λ (v : Utility). Contains places (shifted_level v)) c.utilities i u (holds_levels c.streams c.utilities places (HoldsPlaces-IsGrid c places grid)) h.utility in
+      let level =
+      All-slice_get (λ (v : Utility). Contains places (shifted_level v)) c.utilities i u
+      (holds_levels c.streams c.utilities places (HoldsPlaces-IsGrid c places grid)) h.utility in
       record { source = side_of_part p (inr (i, u, h)); ends = inl (high ∙ sym low, subst (Contains places) (sym high) level) }
 
 pub parts_on_grid : (c : Case) (hot cold : List Part) → AreCaseParts c hot cold → AreOnGrid c hot cold
@@ -47,5 +37,6 @@ parts_on_grid c hot cold h = record {
   grid = h.grid;
   is_grid = h.is_grid;
   hot_parts = All-weaker (IsPartOf c.streams c.utilities h.grid Hot) (IsOnPlaces c h.grid Hot) (part_on_places c h.grid Hot h.is_grid) hot h.hot_parts.each;
-  cold_parts = All-weaker (IsPartOf c.streams c.utilities h.grid Cold) (IsOnPlaces c h.grid Cold) (part_on_places c h.grid Cold h.is_grid) cold h.cold_parts.each;
+  cold_parts =
+      All-weaker (IsPartOf c.streams c.utilities h.grid Cold) (IsOnPlaces c h.grid Cold) (part_on_places c h.grid Cold h.is_grid) cold h.cold_parts.each;
 }

@@ -1,20 +1,9 @@
 -- A case has parts, and no others.
-use Rattle.std.proofs.Common.{◌≡◌, ⊎_elim, ◌∙◌, refl, sym, ap, subst, Bool, true, false, cond, List, [], ◌∷◌, ◌++◌, arith}
-use Rattle.std.specs.Prelude.{ℤ, ◌<ℤ◌, int_lt, filter, All, Contains}
-use Rattle.std.proofs.lemmas.Int.{ints, by_lt_z}
-use Rattle.std.proofs.lemmas.List.Elements.{All-nil, All-cons, All-append, All-filter, All-weaker, filter_passes, Contains-append_left, Contains-append_right}
-use Rattle.std.proofs.lemmas.List.Kept.{AllPairs-filter}
-use Rattle.stream_case.specs.declared.source.Side.{Side}
-use Rattle.stream_case.specs.declared.source.Side.TheVariants.{Hot, Cold}
-use Rattle.stream_case.specs.declared.case.Case.{Case}
-use Rattle.sums.specs.Order.{ListsFalling}
-use Rattle.std.proofs.lemmas.List.Kept.{AllPairs-cons}
-use Rattle.sums.proofs.OrderLemmas.{AllPairs-nil, AllPairs-append, Contains-cons, ListsFalling-unique}
-use Rattle.grid.specs.declared.part.Part.{Part}
-use Rattle.grid.specs.Grid.{places_of, IsGrid}
-use Rattle.grid.specs.Making.{made_parts}
-use Rattle.grid.specs.Part.{AreParts, AreCaseParts}
-use Rattle.grid.proofs.MakingLemmas.{HoldsPlaces-IsGrid, made_parts-AreParts, AreParts-made}
+use Rattle.grid.proofs.MakingLemmas.{AreParts-made, HoldsPlaces-IsGrid, made_parts-AreParts}
+use Rattle.grid.proofs.Words.{All, All-append, All-cons, All-filter, All-nil, All-weaker, AllPairs-append, AllPairs-cons, AllPairs-filter, AllPairs-nil}
+use Rattle.grid.proofs.Words.{AreCaseParts, AreParts, Case, Cold, Contains, Contains-append_left, Contains-append_right, Contains-cons, Hot, IsGrid}
+use Rattle.grid.proofs.Words.{ListsFalling, ListsFalling-unique, Part, Side, by_lt_z, filter, filter_passes, int_lt, ints, made_parts, places_of, ℤ, ◌<ℤ◌}
+use Rattle.std.proofs.Common.{Bool, List, [], ap, arith, cond, false, refl, subst, sym, true, ⊎_elim, ◌++◌, ◌∙◌, ◌∷◌, ◌≡◌}
 
 one_more : {X : Type 0} (b : Bool) (y : X) (ys : List X) (x : X) → Contains ys x → Contains (cond b (y ∷ ys) ys) x
 one_more true y ys x found = Contains-append_right (y ∷ []) ys x found
@@ -41,9 +30,14 @@ ListsFalling-among x xs ys h =
     let each = All-weaker (Contains xs) (Contains (x ∷ xs)) (Contains-append_right (x ∷ []) xs) ys h.each in
     record {
       ordered =
-          AllPairs-append falls (filter high ys) (x ∷ filter low ys) (AllPairs-filter falls high ys h.ordered) (AllPairs-cons falls x (filter low ys) below (AllPairs-filter falls low ys h.ordered))
-          (All-weaker (λ y. x <ℤ y) (λ y. All (λ z. z <ℤ y) (x ∷ filter low ys)) (λ y more. All-cons (λ z. z <ℤ y) x (filter low ys) more (All-weaker (λ z. z <ℤ x) (λ z. z <ℤ y) (λ z less. omega (arith, ints)) (filter low ys) below)) (filter high ys) above);
-      each = All-append (Contains (x ∷ xs)) (filter high ys) (x ∷ filter low ys) (All-filter high (Contains (x ∷ xs)) ys each) (All-cons (Contains (x ∷ xs)) x (filter low ys) (0, omega arith, refl) (All-filter low (Contains (x ∷ xs)) ys each));
+          AllPairs-append falls (filter high ys) (x ∷ filter low ys) (AllPairs-filter falls high ys h.ordered)
+          (AllPairs-cons falls x (filter low ys) below (AllPairs-filter falls low ys h.ordered))
+          (All-weaker (λ y. x <ℤ y) (λ y. All (λ z. z <ℤ y) (x ∷ filter low ys))
+          (λ y more. All-cons (λ z. z <ℤ y) x (filter low ys) more
+          (All-weaker (λ z. z <ℤ x) (λ z. z <ℤ y) (λ z less. omega (arith, ints)) (filter low ys) below)) (filter high ys) above);
+      each =
+          All-append (Contains (x ∷ xs)) (filter high ys) (x ∷ filter low ys) (All-filter high (Contains (x ∷ xs)) ys each)
+          (All-cons (Contains (x ∷ xs)) x (filter low ys) (0, omega arith, refl) (All-filter low (Contains (x ∷ xs)) ys each));
       every = λ y found.
           let here = λ (e : x ≡ y). Contains-append_right (filter high ys) (x ∷ filter low ys) y (0, omega arith, e) in
           ⊎_elim here
@@ -51,7 +45,9 @@ ListsFalling-among x xs ys h =
           let old = h.every y later in
           by_lt_z x y (λ more. Contains-append_left (filter high ys) (x ∷ filter low ys) y (Contains-filter high ys y (grind (arith, ints)) old))
           (λ most.
-          by_lt_z y x (λ less. Contains-append_right (filter high ys) (x ∷ filter low ys) y (Contains-append_right (x ∷ []) (filter low ys) y (Contains-filter low ys y (grind (arith, ints)) old)))
+          by_lt_z y x
+          (λ less. Contains-append_right (filter high ys) (x ∷ filter low ys) y
+          (Contains-append_right (x ∷ []) (filter low ys) y (Contains-filter low ys y (grind (arith, ints)) old)))
           (λ same. here (omega (arith, ints)))))
           (Contains-cons x xs y found);
     }
@@ -75,7 +71,8 @@ some_parts c =
     )
 
 -- the parts of a side are fixed, since the grid is
-pub one_side : (c : Case) (places others : List ℤ) (side : Side) (parts more : List Part) → IsGrid c places → IsGrid c others → AreParts c.streams c.utilities places side parts → AreParts c.streams c.utilities others side more → parts ≡ more
+pub one_side : (c : Case) (places others : List ℤ) (side : Side) (parts more : List Part) → IsGrid c places → IsGrid c others
+    → AreParts c.streams c.utilities places side parts → AreParts c.streams c.utilities others side more → parts ≡ more
 one_side c places others side parts more grid other are are_more =
     AreParts-made c.streams c.utilities side places parts (HoldsPlaces-IsGrid c places grid) are
     ∙ ap (made_parts c.streams c.utilities side) (ListsFalling-unique (Contains (places_of c.streams c.utilities)) places others grid other)

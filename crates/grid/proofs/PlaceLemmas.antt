@@ -1,10 +1,6 @@
 -- Neighbours on a grid.
-use Rattle.std.proofs.Common.{◌≡◌, ⊎_elim, ◌+◌, List, get_or, sym, ap, ◌∙◌, subst₂, arith}
-use Rattle.std.specs.Prelude.{ℤ, ◌≤ℤ◌, ◌<ℤ◌, AllPairs, Contains}
-use Rattle.std.proofs.lemmas.Bool.{cases_lt, cases_eq}
-use Rattle.std.proofs.lemmas.Int.{ints, by_lt_z}
-use Rattle.std.proofs.lemmas.Option.{slice_get_within, get_or_from_slice_get}
-use Rattle.grid.specs.Part.{IsInterval}
+use Rattle.grid.proofs.Words.{AllPairs, Contains, IsInterval, by_lt_z, cases_eq, cases_lt, get_or_from_slice_get, ints, slice_get_within, ℤ, ◌<ℤ◌, ◌≤ℤ◌}
+use Rattle.std.proofs.Common.{List, ap, arith, get_or, subst₂, sym, ⊎_elim, ◌+◌, ◌∙◌, ◌≡◌}
 
 pub interval_falls : (grid : List ℤ) (high low : ℤ) → AllPairs (λ a b. b <ℤ a) grid → IsInterval grid high low → low <ℤ high
 interval_falls grid high low falls h =

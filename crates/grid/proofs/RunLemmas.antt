@@ -1,32 +1,18 @@
 -- Sums over the parts that are made are sums over utilities and streams: what each adds at the places, one after another.
-use Rattle.std.proofs.Common.{◌≡◌, ⊎_elim, ◌∙◌, refl, sym, ap, ap₂, ℕ, suc, Bool, true, false, ◌&&◌, List, [], ◌∷◌, ◌++◌, get_or, arith}
-use Rattle.std.specs.Prelude.{ℤ, pos, ◌+ℤ◌, ◌<ℤ◌, int_le, if◌then◌else◌, All, AllPairs, Contains}
-use Rattle.std.specs.Ordering.{int_eq}
-use Rattle.std.proofs.lemmas.Int.{ints}
-use Rattle.std.proofs.lemmas.Bool.{and_left, and_right, and_from, cases_Bool, false_from_ne_true}
-use Rattle.std.proofs.lemmas.Bool.Decides.{Decides-int_eq}
-use Rattle.std.proofs.lemmas.List.Elements.{All-head, All-tail, All-contains, All-weaker}
-use Rattle.stream_case.specs.declared.source.Side.{Side}
-use Rattle.stream_case.specs.declared.stream.Stream.{Stream}
-use Rattle.stream_case.specs.declared.utility.Utility.{Utility}
-use Rattle.stream_case.specs.Source.{same_side}
-use Rattle.stream_case.specs.Stream.{high_end, low_end, IsLatent}
-use Rattle.stream_case.specs.Utility.{shifted_level}
-use Rattle.stream_case.proofs.SourceLemmas.{same_side-true}
-use Rattle.sums.specs.Sum.{int_sum_by}
-use Rattle.sums.specs.Pairing.{cons_if}
-use Rattle.sums.proofs.OrderLemmas.{AllPairs-head, AllPairs-tail, Contains-cons}
-use Rattle.sums.proofs.SumLemmas.{int_sum_by-append, int_sum_by-zero, int_sum_by-add}
-use Rattle.grid.specs.declared.part.Part.{Part}
-use Rattle.grid.specs.Part.{stream_part, utility_part}
-use Rattle.grid.specs.Making.{picked, is_latent, stands_at, is_here, covers, interval_parts, made_parts}
 use Rattle.grid.proofs.MakingLemmas.{covers-latent, is_here-true, stands_at-from, stands_at-true}
+use Rattle.grid.proofs.Words.{All, All-contains, All-head, All-tail, All-weaker, AllPairs, AllPairs-head, AllPairs-tail, Contains, Contains-cons}
+use Rattle.grid.proofs.Words.{Decides-int_eq, IsLatent, Part, Side, Stream, Utility, and_from, and_left, and_right, cases_Bool, cons_if, covers}
+use Rattle.grid.proofs.Words.{false_from_ne_true, high_end, if◌then◌else◌, int_eq, int_le, int_sum_by, int_sum_by-add, int_sum_by-append, int_sum_by-zero}
+use Rattle.grid.proofs.Words.{interval_parts, ints, is_here, is_latent, low_end, made_parts, picked, pos, same_side, same_side-true, shifted_level, stands_at}
+use Rattle.grid.proofs.Words.{stream_part, utility_part, ℤ, ◌+ℤ◌, ◌<ℤ◌}
+use Rattle.std.proofs.Common.{Bool, List, [], ap, ap₂, arith, false, get_or, refl, suc, sym, true, ℕ, ⊎_elim, ◌&&◌, ◌++◌, ◌∙◌, ◌∷◌, ◌≡◌}
 
 sum-cons_if : (f : Part → ℤ) (b : Bool) (p : Part) (ps : List Part) → int_sum_by f (cons_if b p ps) ≡ (if b then f p else pos 0) +ℤ int_sum_by f ps
 sum-cons_if f true p ps = refl
 sum-cons_if f false p ps = omega (arith, ints)
 
-sum-picked : {X : Type 0} (f : Part → ℤ) (test : X → Bool) (make : ℕ → X → Part) (v : X → ℤ) (n : ℕ) (xs : List X) → ((i : ℕ) (x : X) → f (make i x) ≡ v x) → int_sum_by f (picked test make n xs) ≡ int_sum_by (λ x. if test x then v x else pos 0) xs
+sum-picked : {X : Type 0} (f : Part → ℤ) (test : X → Bool) (make : ℕ → X → Part) (v : X → ℤ) (n : ℕ) (xs : List X) → ((i : ℕ) (x : X) → f (make i x) ≡ v x)
+    → int_sum_by f (picked test make n xs) ≡ int_sum_by (λ x. if test x then v x else pos 0) xs
 sum-picked f test make v n [] h = refl
 sum-picked f test make v n (x ∷ xs) h =
     sum-cons_if f (test x) (make n x) (picked test make (suc n) xs)
@@ -52,13 +38,18 @@ abbrev pub stream_run : (ℤ → ℤ → Stream → ℤ) → Side → Stream →
 stream_run v side s [] = pos 0
 stream_run v side s (g ∷ places) = interval_run v side s g places +ℤ stream_run v side s places
 
-module _ (f : Part → ℤ) (v : ℤ → ℤ → Stream → ℤ) (w : Utility → ℤ) (of_streams : (high low : ℤ) (i : ℕ) (s : Stream) → f (stream_part high low i s) ≡ v high low s) (of_utilities : (i : ℕ) (u : Utility) → f (utility_part i u) ≡ w u) (streams : List Stream) (utilities : List Utility) (side : Side) where
-  sum-interval : (g : ℤ) (places : List ℤ) → int_sum_by f (interval_parts streams utilities side g places) ≡ int_sum_by (λ s. interval_run v side s g places) streams
+module _ (f : Part → ℤ) (v : ℤ → ℤ → Stream → ℤ) (w : Utility → ℤ)
+    (of_streams : (high low : ℤ) (i : ℕ) (s : Stream) → f (stream_part high low i s) ≡ v high low s)
+    (of_utilities : (i : ℕ) (u : Utility) → f (utility_part i u) ≡ w u) (streams : List Stream) (utilities : List Utility) (side : Side) where
+  sum-interval : (g : ℤ) (places : List ℤ)
+      → int_sum_by f (interval_parts streams utilities side g places) ≡ int_sum_by (λ s. interval_run v side s g places) streams
   sum-interval g [] = sym (int_sum_by-zero (λ s. pos 0) streams (λ k d within. refl))
   sum-interval g (low ∷ places) = sum-picked f (covers side g low) (stream_part g low) (v g low) 0 streams (of_streams g low)
 
   -- a sum over parts, exchanged
-  pub sum-made : (places : List ℤ) → int_sum_by f (made_parts streams utilities side places) ≡ int_sum_by (λ u. level_run w side u places) utilities +ℤ int_sum_by (λ s. latent_run v side s places +ℤ stream_run v side s places) streams
+  pub sum-made : (places : List ℤ)
+      → int_sum_by f (made_parts streams utilities side places)
+      ≡ int_sum_by (λ u. level_run w side u places) utilities +ℤ int_sum_by (λ s. latent_run v side s places +ℤ stream_run v side s places) streams
   sum-made [] =
       let none = int_sum_by-zero (λ u. pos 0) utilities (λ k d within. refl) in
       let nothing = int_sum_by-zero (λ s. pos 0) streams (λ k d within. refl) in
@@ -95,7 +86,8 @@ passed_run-none test v (g ∷ places) fails =
     let term : (if test g then v g else pos 0) ≡ pos 0 = ap (λ b. if b then v g else pos 0) (All-head (λ z. test z ≡ false) g places fails) in
     omega (arith, ints)
 
-passed_run-one : (test : ℤ → Bool) (v : ℤ → ℤ) (level : ℤ) (places : List ℤ) → test level ≡ true → ((g : ℤ) → test g ≡ true → g ≡ level) → AllPairs (λ a b. b <ℤ a) places → Contains places level → passed_run test v places ≡ v level
+passed_run-one : (test : ℤ → Bool) (v : ℤ → ℤ) (level : ℤ) (places : List ℤ) → test level ≡ true → ((g : ℤ) → test g ≡ true → g ≡ level)
+    → AllPairs (λ a b. b <ℤ a) places → Contains places level → passed_run test v places ≡ v level
 passed_run-one test v level [] here alone falls (k, within, is) = absurd (omega arith)
 passed_run-one test v level (g ∷ places) here alone falls found =
     let lower = AllPairs-head (λ a b. b <ℤ a) g places falls in
@@ -116,50 +108,61 @@ passed_run-one test v level (g ∷ places) here alone falls found =
 none_pass : (test : ℤ → Bool) (places : List ℤ) → ((g : ℤ) → test g ≡ false) → All (λ g. test g ≡ false) places
 none_pass test places fails k d within = fails (get_or places k d)
 
-pub level_run-is : (w : Utility → ℤ) (side : Side) (u : Utility) (places : List ℤ) → AllPairs (λ a b. b <ℤ a) places → Contains places (shifted_level u) → level_run w side u places ≡ (if same_side u.side side then w u else pos 0)
+pub level_run-is : (w : Utility → ℤ) (side : Side) (u : Utility) (places : List ℤ) → AllPairs (λ a b. b <ℤ a) places → Contains places (shifted_level u)
+    → level_run w side u places ≡ (if same_side u.side side then w u else pos 0)
 level_run-is w side u places falls found =
     let test = λ (g : ℤ). is_here side g u in
     ⊎_elim
     (λ same.
-    let here : test (shifted_level u) ≡ true = and_from (same_side u.side side) (int_eq (shifted_level u) (shifted_level u)) same ((Decides-int_eq (shifted_level u) (shifted_level u)).1 refl) in
-    passed_run-one test (λ g. w u) (shifted_level u) places here (λ g passes. sym (is_here-true side g u passes).level) falls found ∙ sym (ap (λ b. if b then w u else pos 0) same))
+    let here : test (shifted_level u) ≡ true =
+    and_from (same_side u.side side) (int_eq (shifted_level u) (shifted_level u)) same ((Decides-int_eq (shifted_level u) (shifted_level u)).1 refl) in
+    passed_run-one test (λ g. w u) (shifted_level u) places here (λ g passes. sym (is_here-true side g u passes).level) falls found
+    ∙ sym (ap (λ b. if b then w u else pos 0) same))
     (λ other.
     passed_run-none test (λ g. w u) places (none_pass test places (λ g. and_left (same_side u.side side) (int_eq (shifted_level u) g) other))
     ∙ sym (ap (λ b. if b then w u else pos 0) other))
     (cases_Bool (same_side u.side side))
 
-pub latent_run-is : (v : ℤ → ℤ → Stream → ℤ) (side : Side) (s : Stream) (places : List ℤ) → IsLatent s → same_side s.side side ≡ true → AllPairs (λ a b. b <ℤ a) places → Contains places (high_end s) → latent_run v side s places ≡ v (high_end s) (high_end s) s
+pub latent_run-is : (v : ℤ → ℤ → Stream → ℤ) (side : Side) (s : Stream) (places : List ℤ) → IsLatent s → same_side s.side side ≡ true
+    → AllPairs (λ a b. b <ℤ a) places → Contains places (high_end s) → latent_run v side s places ≡ v (high_end s) (high_end s) s
 latent_run-is v side s places latent same falls found =
-    passed_run-one (λ g. stands_at side g s) (λ g. v g g s) (high_end s) places (stands_at-from side (high_end s) s (same_side-true s.side side same) latent refl)
+    passed_run-one (λ g. stands_at side g s) (λ g. v g g s) (high_end s) places
+    (stands_at-from side (high_end s) s (same_side-true s.side side same) latent refl)
     (λ g passes. sym (stands_at-true side g s passes).high) falls found
 
 -- no other stream has a part at a place
 pub latent_run-none : (v : ℤ → ℤ → Stream → ℤ) (side : Side) (s : Stream) (places : List ℤ) → is_latent s ≡ false → latent_run v side s places ≡ pos 0
 latent_run-none v side s places sensible =
     passed_run-none (λ g. stands_at side g s) (λ g. v g g s) places
-    (none_pass (λ g. stands_at side g s) places (λ g. and_right (same_side s.side side) (is_latent s && int_eq (high_end s) g) (and_left (is_latent s) (int_eq (high_end s) g) sensible)))
+    (none_pass (λ g. stands_at side g s) places
+    (λ g. and_right (same_side s.side side) (is_latent s && int_eq (high_end s) g) (and_left (is_latent s) (int_eq (high_end s) g) sensible)))
 
 -- and a latent one has none on an interval
-pub stream_run-latent : (v : ℤ → ℤ → Stream → ℤ) (side : Side) (s : Stream) (places : List ℤ) → IsLatent s → AllPairs (λ a b. b <ℤ a) places → stream_run v side s places ≡ pos 0
+pub stream_run-latent : (v : ℤ → ℤ → Stream → ℤ) (side : Side) (s : Stream) (places : List ℤ) → IsLatent s → AllPairs (λ a b. b <ℤ a) places
+    → stream_run v side s places ≡ pos 0
 stream_run-latent v side s [] latent falls = refl
 stream_run-latent v side s (g ∷ []) latent falls = refl
 stream_run-latent v side s (g ∷ low ∷ places) latent falls =
     let rest = stream_run-latent v side s (low ∷ places) latent (AllPairs-tail (λ a b. b <ℤ a) g (low ∷ places) falls) in
     let lower = AllPairs-head (λ a b. b <ℤ a) g (low ∷ places) falls in
-    let term : (if covers side g low s then v g low s else pos 0) ≡ pos 0 = ap (λ b. if b then v g low s else pos 0) (covers-latent side g low s latent (All-head (λ z. z <ℤ g) low places lower)) in
+    let term : (if covers side g low s then v g low s else pos 0) ≡ pos 0 =
+    ap (λ b. if b then v g low s else pos 0) (covers-latent side g low s latent (All-head (λ z. z <ℤ g) low places lower)) in
     omega (arith, ints)
 
 -- ---- a stream of the other side has no part
 
-pub stream_run-other : (v : ℤ → ℤ → Stream → ℤ) (side : Side) (s : Stream) (places : List ℤ) → same_side s.side side ≡ false → stream_run v side s places ≡ pos 0
+pub stream_run-other : (v : ℤ → ℤ → Stream → ℤ) (side : Side) (s : Stream) (places : List ℤ) → same_side s.side side ≡ false
+    → stream_run v side s places ≡ pos 0
 stream_run-other v side s [] other = refl
 stream_run-other v side s (g ∷ []) other = refl
 stream_run-other v side s (g ∷ low ∷ places) other =
     let rest = stream_run-other v side s (low ∷ places) other in
-    let term : (if covers side g low s then v g low s else pos 0) ≡ pos 0 = ap (λ b. if b then v g low s else pos 0) (and_left (same_side s.side side) (int_le (low_end s) low && int_le g (high_end s)) other) in
+    let term : (if covers side g low s then v g low s else pos 0) ≡ pos 0 =
+    ap (λ b. if b then v g low s else pos 0) (and_left (same_side s.side side) (int_le (low_end s) low && int_le g (high_end s)) other) in
     omega (arith, ints)
 
-pub latent_run-other : (v : ℤ → ℤ → Stream → ℤ) (side : Side) (s : Stream) (places : List ℤ) → same_side s.side side ≡ false → latent_run v side s places ≡ pos 0
+pub latent_run-other : (v : ℤ → ℤ → Stream → ℤ) (side : Side) (s : Stream) (places : List ℤ) → same_side s.side side ≡ false
+    → latent_run v side s places ≡ pos 0
 latent_run-other v side s places other =
     passed_run-none (λ g. stands_at side g s) (λ g. v g g s) places
     (none_pass (λ g. stands_at side g s) places (λ g. and_left (same_side s.side side) (is_latent s && int_eq (high_end s) g) other))

@@ -1,37 +1,16 @@
 -- How many places a grid has, how many parts a side has, and what each part keeps.
-use Rattle.std.proofs.Common.{◌≡◌, ◌⊎◌, ⊎_elim, inl, inr, ◌∙◌, refl, sym, ap, subst, ℕ, ◌+◌, ◌*◌, ◌≤◌, Bool, true, false, cond, List, [], ◌∷◌, length, get_or, arith}
-use Rattle.std.specs.Prelude.{ℤ, pos, ◌+ℤ◌, ◌-ℤ◌, ◌≤ℤ◌, ◌<ℤ◌, if◌then◌else◌, All, AllPairs, Contains, map}
-use Rattle.std.proofs.Math.Nat.{mul-le-mul}
-use Rattle.std.proofs.lemmas.Bool.{cases_Bool}
-use Rattle.std.proofs.lemmas.Int.{ints}
-use Rattle.std.proofs.lemmas.List.{length-append, length-map}
-use Rattle.std.proofs.lemmas.List.Elements.{All-contains, All-weaker}
-use Rattle.std.proofs.lemmas.Option.{slice_get_within, get_or_from_slice_get}
-use Rattle.stream_case.specs.declared.limits.TheConstants.{ALL_UTILITIES, MOST_PARTS, MOST_PLACES}
-use Rattle.stream_case.specs.declared.source.Side.{Side}
-use Rattle.stream_case.specs.declared.stream.Stream.{Stream}
-use Rattle.stream_case.specs.declared.utility.Utility.{Utility}
-use Rattle.stream_case.specs.declared.case.Case.{Case}
-use Rattle.stream_case.specs.Case.{IsComplete}
-use Rattle.stream_case.specs.Limits.{IsHeat, IsLength, IsStreamHeat}
-use Rattle.stream_case.specs.Source.{same_side}
-use Rattle.stream_case.specs.Stream.{count_on, stream_ends, high_end, low_end, AreStreams, IsSensible, IsLatent, IsValidStream}
-use Rattle.stream_case.specs.Utility.{shifted_level, IsPlaced}
-use Rattle.stream_case.proofs.CaseLemmas.{length-AreStreams}
-use Rattle.stream_case.proofs.CompleteLemmas.{AreStreams-IsComplete, length-utilities}
-use Rattle.stream_case.proofs.EndLemmas.{length-stream_ends}
-use Rattle.stream_case.proofs.HeatLemmas.{heat-between, range-length}
-use Rattle.sums.specs.Sum.{int_sum_by}
-use Rattle.sums.proofs.CountLemmas.{length-le_falling, count_by-cons}
-use Rattle.sums.proofs.SumLemmas.{int_sum_by-at_most}
-use Rattle.grid.specs.declared.part.Part.{Part}
-use Rattle.grid.specs.Bounds.{IsBounded}
-use Rattle.grid.specs.Grid.{HoldsPlaces, IsGrid, places_of}
-use Rattle.grid.specs.Making.{is_latent, stands_at, covers, made_parts}
-use Rattle.grid.specs.Part.{IsPiece, IsPartOf, AreParts, piece_heat, stream_part, utility_part}
 use Rattle.grid.proofs.MakingLemmas.{holds_levels, is_latent-true, made_parts-AreParts}
 use Rattle.grid.proofs.PlaceLemmas.{interval_falls}
-use Rattle.grid.proofs.RunLemmas.{latent_run, latent_run-none, latent_run-other, level_run, level_run-is, stream_run, stream_run-latent, stream_run-other, sum-made}
+use Rattle.grid.proofs.RunLemmas.{latent_run, latent_run-none, latent_run-other, level_run, level_run-is, stream_run, stream_run-latent, stream_run-other}
+use Rattle.grid.proofs.RunLemmas.{sum-made}
+use Rattle.grid.specs.Bounds.{IsBounded}
+use Rattle.grid.proofs.Words.{ALL_UTILITIES, All, All-contains, All-weaker, AllPairs, AreParts, AreStreams, AreStreams-IsComplete, Case, Contains, HoldsPlaces}
+use Rattle.grid.proofs.Words.{IsComplete, IsGrid, IsHeat, IsLength, IsPartOf, IsPiece, IsPlaced, IsValidStream, MOST_PARTS, MOST_PLACES, Part, Side, Stream}
+use Rattle.grid.proofs.Words.{Utility, cases_Bool, count_by-cons, count_on, covers, get_or_from_slice_get, heat-between, high_end, if◌then◌else◌, int_sum_by}
+use Rattle.grid.proofs.Words.{int_sum_by-at_most, ints, is_latent, length-AreStreams, length-append, length-le_falling, length-map, length-stream_ends}
+use Rattle.grid.proofs.Words.{length-utilities, load-between, low_end, made_parts, map, mul-le-mul, piece_heat, places_of, pos, range-length, same_side}
+use Rattle.grid.proofs.Words.{shifted_level, slice_get_within, stands_at, stream_ends, stream_part, utility_part, ℤ, ◌+ℤ◌, ◌-ℤ◌, ◌<ℤ◌, ◌≤ℤ◌}
+use Rattle.std.proofs.Common.{Bool, List, [], ap, arith, cond, false, get_or, inl, inr, length, refl, subst, sym, true, ℕ, ⊎_elim, ◌*◌, ◌+◌, ◌∙◌, ◌∷◌, ◌≡◌, ◌≤◌}
 
 -- ---- counts
 
@@ -40,7 +19,13 @@ pub length-grid : (c : Case) (grid : List ℤ) → IsComplete c → IsGrid c gri
 length-grid c grid complete h =
     let few = length-le_falling grid (places_of c.streams c.utilities) h.ordered h.each in
     let streams = length-AreStreams c.streams (AreStreams-IsComplete c complete) in
-    omega (arith, length-append (stream_ends c.streams) (map shifted_level c.utilities), length-stream_ends c.streams, length-map c.utilities shifted_level, length-utilities c complete)
+    omega (
+      arith,
+      length-append (stream_ends c.streams) (map shifted_level c.utilities),
+      length-stream_ends c.streams,
+      length-map c.utilities shifted_level,
+      length-utilities c complete,
+    )
 
 one_each : (ps : List Part) → int_sum_by (λ p. pos 1) ps ≡ pos (length ps)
 one_each [] = refl
@@ -66,7 +51,8 @@ latent_run-at_most side s (g ∷ places) =
     omega (arith, ints)
 
 -- a stream has parts at places or on intervals
-runs-at_most : (side : Side) (places : List ℤ) → AllPairs (λ a b. b <ℤ a) places → (s : Stream) → (latent_run (λ high low x. pos 1) side s places +ℤ stream_run (λ high low x. pos 1) side s places) ≤ℤ pos (length places)
+runs-at_most : (side : Side) (places : List ℤ) → AllPairs (λ a b. b <ℤ a) places → (s : Stream)
+    → (latent_run (λ high low x. pos 1) side s places +ℤ stream_run (λ high low x. pos 1) side s places) ≤ℤ pos (length places)
 runs-at_most side places falls s =
     ⊎_elim
     (λ latent.
@@ -79,14 +65,16 @@ runs-at_most side places falls s =
     omega (arith, ints))
     (cases_Bool (is_latent s))
 
-runs-other : (side : Side) (places : List ℤ) (s : Stream) → same_side s.side side ≡ false → latent_run (λ high low x. pos 1) side s places +ℤ stream_run (λ high low x. pos 1) side s places ≡ pos 0
+runs-other : (side : Side) (places : List ℤ) (s : Stream) → same_side s.side side ≡ false
+    → latent_run (λ high low x. pos 1) side s places +ℤ stream_run (λ high low x. pos 1) side s places ≡ pos 0
 runs-other side places s other =
     let latent = latent_run-other (λ high low x. pos 1) side s places other in
     let on_intervals = stream_run-other (λ high low x. pos 1) side s places other in
     omega (arith, ints)
 
 -- a sum over streams, of at most m for each of a side and nothing for the others
-sum-at_most : (side : Side) (f : Stream → ℤ) (m : ℕ) (streams : List Stream) → ((s : Stream) → f s ≤ℤ pos m) → ((s : Stream) → same_side s.side side ≡ false → f s ≡ pos 0) → int_sum_by f streams ≤ℤ pos (m * count_on side streams)
+sum-at_most : (side : Side) (f : Stream → ℤ) (m : ℕ) (streams : List Stream) → ((s : Stream) → f s ≤ℤ pos m)
+    → ((s : Stream) → same_side s.side side ≡ false → f s ≡ pos 0) → int_sum_by f streams ≤ℤ pos (m * count_on side streams)
 sum-at_most side f m [] most none = omega (arith, ints)
 sum-at_most side f m (s ∷ ss) most none =
     let rest = sum-at_most side f m ss most none in
@@ -110,7 +98,9 @@ module _ (streams : List Stream) (utilities : List Utility) (side : Side) (place
   length-made =
       let count = one_each (made_parts streams utilities side places) in
       let exchanged = sum-made (λ p. pos 1) (λ high low s. pos 1) (λ u. pos 1) (λ high low i s. refl) (λ i u. refl) streams utilities side places in
-      let levels = int_sum_by-at_most (λ u. level_run (λ v. pos 1) side u places) 1 utilities (λ k d within. one_level (get_or utilities k d) (holds_levels streams utilities places holds k d within)) in
+      let levels =
+      int_sum_by-at_most (λ u. level_run (λ v. pos 1) side u places) 1 utilities
+      (λ k d within. one_level (get_or utilities k d) (holds_levels streams utilities places holds k d within)) in
       let runs =
       sum-at_most side (λ s. latent_run (λ high low x. pos 1) side s places +ℤ stream_run (λ high low x. pos 1) side s places) (length places) streams
       (runs-at_most side places holds.falls) (runs-other side places) in
@@ -119,10 +109,12 @@ module _ (streams : List Stream) (utilities : List Utility) (side : Side) (place
       one_level : (u : Utility) → Contains places (shifted_level u) → level_run (λ v. pos 1) side u places ≤ℤ pos 1
       one_level u found =
           let is = level_run-is (λ v. pos 1) side u places holds.falls found in
-          ⊎_elim (λ same. let here = ap (λ b. if b then pos 1 else pos 0) same in omega (arith, ints)) (λ other. let here = ap (λ b. if b then pos 1 else pos 0) other in omega (arith, ints)) (cases_Bool (same_side u.side side))
+          ⊎_elim (λ same. let here = ap (λ b. if b then pos 1 else pos 0) same in omega (arith, ints))
+          (λ other. let here = ap (λ b. if b then pos 1 else pos 0) other in omega (arith, ints)) (cases_Bool (same_side u.side side))
 
   -- so a side has few
-  pub length-made-few : AreStreams streams → length utilities ≤ ALL_UTILITIES → length places ≤ MOST_PLACES → length (made_parts streams utilities side places) ≤ MOST_PARTS
+  pub length-made-few : AreStreams streams → length utilities ≤ ALL_UTILITIES → length places ≤ MOST_PLACES
+      → length (made_parts streams utilities side places) ≤ MOST_PARTS
   length-made-few are_streams few_utilities few_places =
       let product = mul-le-mul few_places (are_streams.few side) in
       omega (arith, length-made, product)
@@ -133,10 +125,6 @@ pub IsLength-covered : (s : Stream) (high low : ℤ) → IsValidStream s → low
 IsLength-covered s high low valid order from upto =
     let range = range-length s valid in
     record { from = omega (arith, ints); upto = omega (arith, ints) }
-
-pub load-between : (s : Stream) → IsSensible s ⊎ IsLatent s → IsStreamHeat s.load
-load-between s (inl sensible) = let none = sensible.load in record { from = omega (arith, ints); upto = omega (arith, ints) }
-load-between s (inr latent) = record { from = omega (arith, ints, latent.load.from); upto = latent.load.upto }
 
 -- one summand of the heat of a piece is 0, but both together are little already
 piece_heat-between : (high low : ℤ) (s : Stream) → IsValidStream s → IsLength (high -ℤ low) → IsHeat (piece_heat high low s)
@@ -161,7 +149,8 @@ IsBounded-utility i u h = record {
   free = λ j e. absurd (cc);
 }
 
-module _ (streams : List Stream) (utilities : List Utility) (side : Side) (places : List ℤ) (valid : All IsValidStream streams) (placed : All IsPlaced utilities) (holds : HoldsPlaces streams utilities places) where
+module _ (streams : List Stream) (utilities : List Utility) (side : Side) (places : List ℤ) (valid : All IsValidStream streams)
+    (placed : All IsPlaced utilities) (holds : HoldsPlaces streams utilities places) where
   pub IsBounded-part : (p : Part) → IsPartOf streams utilities places side p → IsBounded p
   IsBounded-part p (inl (i, s, h)) =
       let own = All-contains IsValidStream streams s valid (i, slice_get_within streams i s h.stream, get_or_from_slice_get streams i s s h.stream) in
@@ -181,11 +170,15 @@ pub record IsSide (streams : List Stream) (utilities : List Utility) (side : Sid
   pub few : length parts ≤ MOST_PARTS
   pub bounded : All IsBounded parts
 
-pub IsSide-made : (streams : List Stream) (utilities : List Utility) (side : Side) (places : List ℤ) (parts : List Part) → AreStreams streams → All IsPlaced utilities → length utilities ≤ ALL_UTILITIES → HoldsPlaces streams utilities places → length places ≤ MOST_PLACES → parts ≡ made_parts streams utilities side places → IsSide streams utilities side places parts
+pub IsSide-made : (streams : List Stream) (utilities : List Utility) (side : Side) (places : List ℤ) (parts : List Part) → AreStreams streams
+    → All IsPlaced utilities → length utilities ≤ ALL_UTILITIES → HoldsPlaces streams utilities places → length places ≤ MOST_PLACES
+    → parts ≡ made_parts streams utilities side places → IsSide streams utilities side places parts
 IsSide-made streams utilities side places parts are_streams placed few_utilities holds few_places is =
     let made = made_parts-AreParts streams utilities side places holds in
     subst (IsSide streams utilities side places) (sym is) (record {
       are_parts = made;
       few = length-made-few streams utilities side places holds are_streams few_utilities few_places;
-      bounded = All-weaker (IsPartOf streams utilities places side) IsBounded (IsBounded-part streams utilities side places are_streams.each placed holds) (made_parts streams utilities side places) made.each;
+      bounded =
+          All-weaker (IsPartOf streams utilities places side) IsBounded (IsBounded-part streams utilities side places are_streams.each placed holds)
+          (made_parts streams utilities side places) made.each;
     })

@@ -1,52 +1,11 @@
--- The utilities of a standard case.
-use Rattle.std.proofs.Common.{◌≡◌, ◌≢◌, ⊎_elim, ◌∙◌, refl, sym, ap, subst, ℕ, zero, suc, List, [], ◌∷◌, Some, arith}
-use Rattle.std.specs.Prelude.{ℤ, pos, if◌then◌else◌, slice_get}
-use Rattle.std.proofs.lemmas.Int.{ints}
-use Rattle.std.proofs.lemmas.Option.{none-some, same_Some}
-use Rattle.stream_case.specs.declared.source.Side.{Side}
-use Rattle.stream_case.specs.declared.source.Side.TheVariants.{Hot, Cold}
-use Rattle.stream_case.specs.declared.utility.Utility.{Utility}
-use Rattle.stream_case.specs.declared.case.Case.{Case}
-use Rattle.stream_case.specs.Case.{standard_utility, IsStandard}
-use Rattle.stream_case.specs.Source.{same_side}
-use Rattle.sums.specs.Sum.{int_sum_by}
+-- Sums over the utilities of a standard case, and the laws of these utilities, passed on.
+use Rattle.std.proofs.Common.{List, arith, ◌≡◌}
+use Rattle.grid.proofs.Words.{Case, Cold, Hot, IsStandard, Side, Utility, if◌then◌else◌, in_order, int_sum_by, ints, pos, same_side, ℤ}
+pub use Rattle.stream_case.proofs.StandardUtilities.{one_utility, own_utility, some_utility, standard_side}
 
--- the utilities of a standard case stand in one of two orders
-in_order : (c : Case) → IsStandard c → (P : List Utility → Type 0) → P (standard_utility Hot c ∷ standard_utility Cold c ∷ []) → P (standard_utility Cold c ∷ standard_utility Hot c ∷ []) → P c.utilities
-in_order c standard P h k = ⊎_elim (λ e. subst P (sym e) h) (λ e. subst P (sym e) k) standard.utilities
+abbrev each_on : Side → ℤ → List Utility → ℤ
+each_on side each us = int_sum_by (λ u. if same_side u.side side then each else pos 0) us
 
-of_two : (P : Utility → Type 0) (a b : Utility) → P a → P b → (i : ℕ) (u : Utility) → slice_get (a ∷ b ∷ []) i ≡ Some u → P u
-of_two P a b h k zero u at = subst P (same_Some a u at) h
-of_two P a b h k (suc zero) u at = subst P (same_Some b u at) k
-of_two P a b h k (suc (suc i)) u at = absurd (none-some u at)
-
--- each is the standard one of its side
-pub own_utility : (c : Case) → IsStandard c → (i : ℕ) (u : Utility) → slice_get c.utilities i ≡ Some u → u ≡ standard_utility u.side c
-own_utility c standard =
-    in_order c standard (λ us. (i : ℕ) (u : Utility) → slice_get us i ≡ Some u → u ≡ standard_utility u.side c)
-    (of_two (λ u. u ≡ standard_utility u.side c) (standard_utility Hot c) (standard_utility Cold c) refl refl)
-    (of_two (λ u. u ≡ standard_utility u.side c) (standard_utility Cold c) (standard_utility Hot c) refl refl)
-
-one_of_two : (a b : Utility) → a.side ≢ b.side → (i j : ℕ) (u v : Utility) → slice_get (a ∷ b ∷ []) i ≡ Some u → slice_get (a ∷ b ∷ []) j ≡ Some v → u.side ≡ v.side → i ≡ j
-one_of_two a b differ zero zero u v at other same = refl
-one_of_two a b differ zero (suc zero) u v at other same = absurd (differ (ap (λ w. w.side) (same_Some a u at) ∙ same ∙ sym (ap (λ w. w.side) (same_Some b v other))))
-one_of_two a b differ (suc zero) zero u v at other same = absurd (differ (ap (λ w. w.side) (same_Some a v other) ∙ sym same ∙ sym (ap (λ w. w.side) (same_Some b u at))))
-one_of_two a b differ (suc zero) (suc zero) u v at other same = refl
-one_of_two a b differ (suc (suc i)) j u v at other same = absurd (none-some u at)
-one_of_two a b differ zero (suc (suc j)) u v at other same = absurd (none-some v other)
-one_of_two a b differ (suc zero) (suc (suc j)) u v at other same = absurd (none-some v other)
-
--- and each side has one
-pub some_utility : (c : Case) → IsStandard c → (side : Side) → (i : ℕ) × (slice_get c.utilities i ≡ Some (standard_utility side c))
-some_utility c standard Hot = in_order c standard (λ us. (i : ℕ) × (slice_get us i ≡ Some (standard_utility Hot c))) (0, refl) (1, refl)
-some_utility c standard Cold = in_order c standard (λ us. (i : ℕ) × (slice_get us i ≡ Some (standard_utility Cold c))) (1, refl) (0, refl)
-
-pub one_utility : (c : Case) → IsStandard c → (i j : ℕ) (u v : Utility) → slice_get c.utilities i ≡ Some u → slice_get c.utilities j ≡ Some v → u.side ≡ v.side → i ≡ j
-one_utility c standard =
-    in_order c standard (λ us. (i j : ℕ) (u v : Utility) → slice_get us i ≡ Some u → slice_get us j ≡ Some v → u.side ≡ v.side → i ≡ j)
-    (one_of_two (standard_utility Hot c) (standard_utility Cold c) (λ e. cc))
-    (one_of_two (standard_utility Cold c) (standard_utility Hot c) (λ e. cc))
-
-pub sum_utilities : (c : Case) → IsStandard c → (side : Side) (each : ℤ) → int_sum_by (λ u. if same_side u.side side then each else pos 0) c.utilities ≡ each
-sum_utilities c standard Hot each = in_order c standard (λ us. int_sum_by (λ u. if same_side u.side Hot then each else pos 0) us ≡ each) (omega (arith, ints)) (omega (arith, ints))
-sum_utilities c standard Cold each = in_order c standard (λ us. int_sum_by (λ u. if same_side u.side Cold then each else pos 0) us ≡ each) (omega (arith, ints)) (omega (arith, ints))
+pub sum_utilities : (c : Case) → IsStandard c → (side : Side) (each : ℤ) → each_on side each c.utilities ≡ each
+sum_utilities c standard Hot each = in_order c standard (λ us. each_on Hot each us ≡ each) (omega (arith, ints)) (omega (arith, ints))
+sum_utilities c standard Cold each = in_order c standard (λ us. each_on Cold each us ≡ each) (omega (arith, ints)) (omega (arith, ints))

@@ -116,7 +116,8 @@ fn push_utilities(
 ) -> Result<(), AllocError>
     requires placed { All IsPlaced utilities.now }
     requires few { length utilities.now < 2 ^ 32 }
-    ensures { OnOk result (parts.new.items ≡ parts.old.items ++ picked (is_here side place) utility_part 0 utilities.now) }
+    ensures { OnOk result (parts.new.items
+        ≡ parts.old.items ++ picked (is_here side place) utility_part 0 utilities.now) }
 {
     for (index, utility) in utilities.iter().enumerate() {
         if is_here(utility, side, place) {
@@ -137,7 +138,8 @@ fn push_streams(
     requires valid { All IsValidStream streams.now }
     requires few { length streams.now < 2 ^ 32 }
     requires order { low ≤ℤ high }
-    ensures { OnOk result (parts.new.items ≡ parts.old.items ++ picked (covers side high low) (stream_part high low) 0 streams.now) }
+    ensures { OnOk result (parts.new.items
+        ≡ parts.old.items ++ picked (covers side high low) (stream_part high low) 0 streams.now) }
 {
     for (index, stream) in streams.iter().enumerate() {
         if covers(stream, side, high, low) {
@@ -159,7 +161,8 @@ fn side_parts(
     requires utilities { All IsPlaced utilities.now }
     requires few_utilities { length utilities.now ≤ ALL_UTILITIES }
     requires falls { AllPairs (λ a b. b <ℤ a) places.now }
-    ensures { IfOk result (λ parts. parts.items ≡ made_parts streams.now utilities.now side places.now) }
+    ensures { IfOk result (λ parts. parts.items
+        ≡ made_parts streams.now utilities.now side places.now) }
 {
     let mut parts = Vec::new(alloc);
     for (index, place) in places.iter().enumerate() {
@@ -189,8 +192,10 @@ pub fn parts_on(
     requires few_utilities { length utilities.now ≤ ALL_UTILITIES }
     requires places { HoldsPlaces streams.now utilities.now places.now }
     requires few_places { length places.now ≤ MOST_PLACES }
-    ensures hot { IfOk result (λ parts. AreParts streams.now utilities.now places.now Hot parts.hot) }
-    ensures cold { IfOk result (λ parts. AreParts streams.now utilities.now places.now Cold parts.cold) }
+    ensures hot { IfOk result (λ parts.
+        AreParts streams.now utilities.now places.now Hot parts.hot) }
+    ensures cold { IfOk result (λ parts.
+        AreParts streams.now utilities.now places.now Cold parts.cold) }
 {
     let hot = side_parts(alloc, streams, utilities, places, Side::Hot)?;
     let cold = side_parts(alloc, streams, utilities, places, Side::Cold)?;
@@ -204,8 +209,10 @@ pub fn parts_on(
 pub fn parts_of(alloc: Global, case: &Case, grid: &Grid) -> Result<Parts, AllocError>
     requires complete { IsComplete case.now }
     requires grid { IsGrid case.now grid.now.places }
-    ensures hot { IfOk result (λ parts. AreParts case.now.streams case.now.utilities grid.now.places Hot parts.hot) }
-    ensures cold { IfOk result (λ parts. AreParts case.now.streams case.now.utilities grid.now.places Cold parts.cold) }
+    ensures hot { IfOk result (λ parts.
+        AreParts case.now.streams case.now.utilities grid.now.places Hot parts.hot) }
+    ensures cold { IfOk result (λ parts.
+        AreParts case.now.streams case.now.utilities grid.now.places Cold parts.cold) }
 {
     let streams = case.streams.as_slice();
     let utilities = case.utilities.as_slice();

@@ -1,9 +1,6 @@
 -- What stands for none, past the end of a list.
-use Rattle.std.specs.Prelude.{pos}
-use Rattle.stream_case.specs.declared.source.Side.TheVariants.{Hot}
+use Rattle.heat_flow.proofs.Words.{Hot, Part, Transfer, pos}
 use Rattle.stream_case.specs.declared.source.Source.TheVariants.{Stream as of_stream}
-use Rattle.grid.specs.declared.part.Part.{Part}
-use Rattle.heat_flow.specs.declared.flow.Transfer.{Transfer}
 
 abbrev pub blank : Part
 blank = record { source = of_stream 0; side = Hot; high = pos 0; low = pos 0; least = pos 0; most = pos 0; price = pos 0 }

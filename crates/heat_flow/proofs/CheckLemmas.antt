@@ -1,15 +1,8 @@
 -- The checks of a heat flow.
-use Rattle.std.proofs.Common.{◌≡◌, ⊎_elim, inl, inr, ◌∙◌, sym, subst, ℕ, ◌+◌, ◌-◌, ◌<◌, ◌≤◌, List, length, get_or, take, set, length-set, arith}
-use Rattle.std.specs.Prelude.{◌==◌, if◌then◌else◌, ℤ, pos, ◌+ℤ◌}
-use Rattle.std.proofs.lemmas.Int.{ints}
-use Rattle.std.proofs.lemmas.Bool.Decides.{nat_tests}
-use Rattle.std.proofs.lemmas.Bool.{cases_eq, cases_lt}
-use Rattle.std.proofs.lemmas.List.{get_or-set_same, get_or-set_other}
-use Rattle.stream_case.specs.declared.source.Side.{Side}
-use Rattle.sums.proofs.SumLemmas.{int_sum_by-more}
-use Rattle.heat_flow.specs.declared.flow.Transfer.{Transfer}
-use Rattle.heat_flow.specs.Flow.{part_index, heat_at, precedes}
 use Rattle.heat_flow.proofs.Blanks.{no_transfer}
+use Rattle.heat_flow.proofs.Words.{Side, Transfer, cases_eq, cases_lt, get_or-set_other, get_or-set_same, heat_at, if◌then◌else◌, int_sum_by-more, ints}
+use Rattle.heat_flow.proofs.Words.{nat_tests, part_index, pos, precedes, ℤ, ◌+ℤ◌, ◌==◌}
+use Rattle.std.proofs.Common.{List, arith, get_or, inl, inr, length, length-set, set, subst, sym, take, ℕ, ⊎_elim, ◌+◌, ◌-◌, ◌<◌, ◌∙◌, ◌≡◌, ◌≤◌}
 
 -- ---- the order
 
@@ -24,7 +17,8 @@ abbrev pub AllPairsBelow : {X : Type 0} → (X → X → Type 0) → List X → 
 AllPairsBelow {X} R xs i = (j k : ℕ) (d : X) → j < k → k < i → R (get_or xs j d) (get_or xs k d)
 
 -- a loop's step, where each element is compared with the one before it
-pub AllPairsBelow-more : {X : Type 0} (R : X → X → Type 0) → ((x y z : X) → R x y → R y z → R x z) → (xs : List X) (i : ℕ) → 1 ≤ i → AllPairsBelow R xs i → ((d : X) → R (get_or xs (i - 1) d) (get_or xs i d)) → AllPairsBelow R xs (i + 1)
+pub AllPairsBelow-more : {X : Type 0} (R : X → X → Type 0) → ((x y z : X) → R x y → R y z → R x z) → (xs : List X) (i : ℕ) → 1 ≤ i → AllPairsBelow R xs i
+    → ((d : X) → R (get_or xs (i - 1) d) (get_or xs i d)) → AllPairsBelow R xs (i + 1)
 AllPairsBelow-more R trans xs i from h next j k d before within =
     ⊎_elim (λ lt. h j k d before lt)
     (λ ge.
@@ -40,7 +34,9 @@ AllPairsBelow-more R trans xs i from h next j k d before within =
 abbrev pub AreHeats : Side → List Transfer → List ℤ → Type 0
 AreHeats side ts sums = (a : ℕ) → a < length sums → get_or sums a (pos 0) ≡ heat_at side ts a
 
-pub AreHeats-more : (side : Side) (ts : List Transfer) (i : ℕ) (sums : List ℤ) (index : ℕ) (next : ℤ) → i < length ts → index ≡ part_index side (get_or ts i no_transfer) → index < length sums → next ≡ get_or sums index (pos 0) +ℤ (get_or ts i no_transfer).heat → AreHeats side (take i ts) sums → AreHeats side (take (i + 1) ts) (set sums index next)
+pub AreHeats-more : (side : Side) (ts : List Transfer) (i : ℕ) (sums : List ℤ) (index : ℕ) (next : ℤ) → i < length ts
+    → index ≡ part_index side (get_or ts i no_transfer) → index < length sums → next ≡ get_or sums index (pos 0) +ℤ (get_or ts i no_transfer).heat
+    → AreHeats side (take i ts) sums → AreHeats side (take (i + 1) ts) (set sums index next)
 AreHeats-more side ts i sums index next within is room added so_far a inside =
     let here : a < length sums = rw length-set at inside in
     let t = get_or ts i no_transfer in

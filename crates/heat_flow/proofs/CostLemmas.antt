@@ -1,27 +1,16 @@
 -- The cost of a heat flow, transfer by transfer.
-use Rattle.std.proofs.Common.{◌≡◌, ◌∙◌, sym, ap, refl, ℕ, zero, suc, ◌<◌, Bool, true, false, List, [], ◌∷◌, length, get_or, arith}
-use Rattle.std.specs.Prelude.{◌==◌, if◌then◌else◌, ℤ, pos, ◌*ℤ◌, ◌≤ℤ◌, ◌<ℤ◌, All}
-use Rattle.std.proofs.lemmas.Int.{ints}
-use Rattle.std.proofs.lemmas.Bool.{eq-eqb}
-use Rattle.std.proofs.lemmas.List.Elements.{All-head, All-tail}
-use Rattle.std.proofs.lemmas.Option.{get_or_from_slice_get, slice_get-get_or}
-use Rattle.stream_case.specs.declared.source.Side.{Side}
-use Rattle.stream_case.specs.declared.source.Side.TheVariants.{Hot}
-use Rattle.stream_case.specs.Limits.{IsHeat}
-use Rattle.sums.specs.Sum.{int_sum_by}
-use Rattle.sums.proofs.SumLemmas.{int_sum_by-not_negative, int_sum_from-same_each, int_sum_from-grouped}
-use Rattle.grid.specs.declared.part.Part.{Part}
-use Rattle.grid.specs.Bounds.{IsBounded}
-use Rattle.heat_flow.specs.declared.flow.Transfer.{Transfer}
-use Rattle.heat_flow.specs.Flow.{part_index, heat_at, HaveParts, ArePositive, IsHeatFlow, side_cost}
-use Rattle.heat_flow.specs.Checks.{HasCost}
+use Rattle.heat_flow.proofs.Words.{All, All-head, All-tail, ArePositive, HasCost, HaveParts, Hot, IsBounded, IsHeat, IsHeatFlow, Part, Side, Transfer, eq-eqb}
+use Rattle.heat_flow.proofs.Words.{get_or_from_slice_get, heat_at, if◌then◌else◌, int_sum_by, int_sum_by-not_negative, int_sum_from-grouped}
+use Rattle.heat_flow.proofs.Words.{int_sum_from-same_each, ints, part_index, pos, side_cost, slice_get-get_or, ℤ, ◌*ℤ◌, ◌<ℤ◌, ◌==◌, ◌≤ℤ◌}
 use Rattle.heat_flow.proofs.Blanks.{blank}
+use Rattle.std.proofs.Common.{Bool, List, [], ap, arith, false, get_or, length, refl, suc, sym, true, zero, ℕ, ◌<◌, ◌∙◌, ◌∷◌, ◌≡◌}
 
 -- the price of the part at an index
 abbrev pub part_price : List Part → ℕ → ℤ
 part_price parts a = (get_or parts a blank).price
 
-pub side_cost-transfers : (side : Side) (parts : List Part) (ts : List Transfer) → HaveParts side parts ts → int_sum_by (λ t. part_price parts (part_index side t) *ℤ t.heat) ts ≡ side_cost side parts ts
+pub side_cost-transfers : (side : Side) (parts : List Part) (ts : List Transfer) → HaveParts side parts ts
+    → int_sum_by (λ t. part_price parts (part_index side t) *ℤ t.heat) ts ≡ side_cost side parts ts
 side_cost-transfers side parts ts indexes =
     sym (int_sum_from-grouped (part_index side) (λ t. t.heat) (part_price parts) parts ts indexes)
     ∙ int_sum_from-same_each (λ a p. part_price parts a *ℤ heat_at side ts a) (λ a p. p.price *ℤ heat_at side ts a) parts
@@ -42,7 +31,8 @@ one_or_none : (b : Bool) (heat : ℤ) → pos 0 <ℤ heat → pos 0 ≤ℤ (if b
 one_or_none true heat h = omega (arith, ints)
 one_or_none false heat h = omega (arith, ints)
 
-pub heats_at-not_negative : (side : Side) (ts : List Transfer) (a : ℕ) → ArePositive ts → All (λ t. pos 0 ≤ℤ (if part_index side t == a then t.heat else pos 0)) ts
+pub heats_at-not_negative : (side : Side) (ts : List Transfer) (a : ℕ) → ArePositive ts
+    → All (λ t. pos 0 ≤ℤ (if part_index side t == a then t.heat else pos 0)) ts
 heats_at-not_negative side ts a h k d within = one_or_none (part_index side (get_or ts k d) == a) (get_or ts k d).heat (h k d within)
 
 -- a transfer is at most what its hot part gives, and so within the limit of a part

@@ -1,22 +1,12 @@
 -- Where there is a cut there is no heat flow.
-use Rattle.std.proofs.Common.{◌≡◌, ⊎_elim, refl, subst, ℕ, ◌<◌, Bool, true, false, ◌||◌, List, [], ◌∷◌, length, get_or, arith}
-use Rattle.std.specs.Prelude.{◌==◌, if◌then◌else◌, ℤ, pos, ◌+ℤ◌, ◌*ℤ◌, ◌≤ℤ◌, ◌<ℤ◌, All, AllPairs}
-use Rattle.std.specs.List.{list_any}
-use Rattle.std.proofs.lemmas.Bool.{true≢false, eqb-true, ne_eqb, cases_lt}
-use Rattle.std.proofs.lemmas.Int.{ints}
-use Rattle.std.proofs.lemmas.List.Folds.{Any-from_list_any, list_any-from_Any, list_any_none}
-use Rattle.std.proofs.lemmas.Option.{slice_get-get_or, slice_get_past}
-use Rattle.stream_case.specs.declared.source.Side.{Side}
-use Rattle.stream_case.specs.declared.source.Side.TheVariants.{Hot, Cold}
-use Rattle.sums.specs.Sum.{int_sum_by}
-use Rattle.sums.proofs.OrderLemmas.{AllPairs-head, AllPairs-tail}
-use Rattle.sums.proofs.SumLemmas.{int_sum_by-le, int_sum_by-add, int_sum_by-not_negative, int_sum_from-le_each, int_sum_from-grouped}
-use Rattle.grid.specs.declared.part.Part.{Part}
-use Rattle.heat_flow.specs.declared.flow.Transfer.{Transfer}
-use Rattle.heat_flow.specs.Cuts.{opposite, joins, meets, least_at, need_of, offer_of, CutsRefuseFlows}
-use Rattle.heat_flow.specs.Flow.{part_index, heat_at, HaveParts, ArePositive, KeepsRanges}
+use Rattle.heat_flow.proofs.Words.{All, AllPairs, AllPairs-head, AllPairs-tail, ArePositive, Cold, CutsRefuseFlows, HaveParts, Hot, KeepsRanges, Part, Side}
+use Rattle.heat_flow.proofs.Words.{Transfer, cases_lt, eqb-true, heat_at, if◌then◌else◌, int_sum_by, int_sum_by-add, int_sum_by-le, int_sum_by-not_negative}
+use Rattle.heat_flow.proofs.Words.{int_sum_from-grouped, int_sum_from-le_each, ints, joins, least_at, list_any, meets, ne_eqb, need_of, offer_of, opposite}
+use Rattle.heat_flow.proofs.Words.{part_index, pos, slice_get-get_or, slice_get_past, true≢false, ℤ, ◌*ℤ◌, ◌+ℤ◌, ◌<ℤ◌, ◌==◌, ◌≤ℤ◌}
 use Rattle.heat_flow.proofs.Blanks.{blank}
 use Rattle.heat_flow.proofs.CostLemmas.{heats_at-not_negative}
+use Rattle.std.proofs.Common.{Bool, List, [], arith, false, get_or, length, refl, subst, true, ℕ, ⊎_elim, ◌<◌, ◌||◌, ◌∷◌, ◌≡◌}
+use Rattle.std.proofs.lemmas.List.Folds.{Any-from_list_any, list_any-from_Any, list_any_none}
 
 -- the heat of a transfer whose part is a member
 abbrev taken : Side → List ℕ → Transfer → ℤ
@@ -28,7 +18,8 @@ one_of true false w h = omega (arith, ints)
 one_of false y w h = omega (arith, ints)
 
 -- what the members give or take in all
-members_heat : (side : Side) (members : List ℕ) (ts : List Transfer) → AllPairs (λ i j. i < j) members → int_sum_by (heat_at side ts) members ≤ℤ int_sum_by (taken side members) ts
+members_heat : (side : Side) (members : List ℕ) (ts : List Transfer) → AllPairs (λ i j. i < j) members
+    → int_sum_by (heat_at side ts) members ≤ℤ int_sum_by (taken side members) ts
 members_heat side [] ts ordered = int_sum_by-not_negative (taken side []) ts (λ k d within. omega (arith, ints))
 members_heat side (i ∷ members) ts ordered =
     let above = AllPairs-head (λ a b. a < b) i members ordered in
@@ -41,7 +32,8 @@ members_heat side (i ∷ members) ts ordered =
     one_of (part_index side t == i) (list_any (λ j. part_index side t == j) members) t.heat
     (λ here.
     let is = eqb-true (part_index side t) i here in
-    list_any_none (λ j. part_index side t == j) members (λ n e inside. let less = above n e inside in ne_eqb (part_index side t) (get_or members n e) (λ same. omega (arith, less))))) in
+    list_any_none (λ j. part_index side t == j) members
+    (λ n e inside. let less = above n e inside in ne_eqb (part_index side t) (get_or members n e) (λ same. omega (arith, less))))) in
     omega (arith, ints)
 
 least_le : (side : Side) (parts : List Part) (ts : List Transfer) (i : ℕ) → KeepsRanges side parts ts → ArePositive ts → least_at parts i ≤ℤ heat_at side ts i
@@ -65,7 +57,9 @@ most_le : (b : Bool) (s most : ℤ) → s ≤ℤ most → (one_if b *ℤ s) ≤�
 most_le true s most h = omega (arith, ints)
 most_le false s most h = omega (arith, ints)
 
-offered : (side : Side) (reach : ℕ → ℕ → Bool) (others : List Part) (members : List ℕ) (ts : List Transfer) → ArePositive ts → HaveParts (opposite side) others ts → All (λ t. joins side reach (part_index side t) (part_index (opposite side) t) ≡ true) ts → KeepsRanges (opposite side) others ts → int_sum_by (taken side members) ts ≤ℤ offer_of side reach others members
+offered : (side : Side) (reach : ℕ → ℕ → Bool) (others : List Part) (members : List ℕ) (ts : List Transfer) → ArePositive ts
+    → HaveParts (opposite side) others ts → All (λ t. joins side reach (part_index side t) (part_index (opposite side) t) ≡ true) ts
+    → KeepsRanges (opposite side) others ts → int_sum_by (taken side members) ts ≤ℤ offer_of side reach others members
 offered side reach others members ts positive indexes joined ranges =
     let factor = λ (j : ℕ). one_if (meets side reach members j) in
     let each =
@@ -83,7 +77,9 @@ offered side reach others members ts positive indexes joined ranges =
     (λ j p at. most_le (meets side reach members j) (heat_at (opposite side) ts j) p.most (ranges j p at).upto) in
     omega (arith, ints)
 
-need_le_offer : (side : Side) (reach : ℕ → ℕ → Bool) (parts others : List Part) (members : List ℕ) (ts : List Transfer) → AllPairs (λ i j. i < j) members → ArePositive ts → HaveParts (opposite side) others ts → All (λ t. joins side reach (part_index side t) (part_index (opposite side) t) ≡ true) ts → KeepsRanges side parts ts → KeepsRanges (opposite side) others ts → need_of parts members ≤ℤ offer_of side reach others members
+need_le_offer : (side : Side) (reach : ℕ → ℕ → Bool) (parts others : List Part) (members : List ℕ) (ts : List Transfer) → AllPairs (λ i j. i < j) members
+    → ArePositive ts → HaveParts (opposite side) others ts → All (λ t. joins side reach (part_index side t) (part_index (opposite side) t) ≡ true) ts
+    → KeepsRanges side parts ts → KeepsRanges (opposite side) others ts → need_of parts members ≤ℤ offer_of side reach others members
 need_le_offer side reach parts others members ts ordered positive indexes joined own ranges =
     let least = int_sum_by-le (least_at parts) (heat_at side ts) members (λ k d within. least_le side parts ts (get_or members k d) own positive) in
     let given = members_heat side members ts ordered in

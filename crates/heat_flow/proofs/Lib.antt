@@ -7,3 +7,4 @@ pub mod LoopSums
 pub mod PartLemmas
 pub mod RangeLemmas
 pub mod ReachLemmas
+pub mod Words

@@ -1,15 +1,11 @@
 -- What holds of some parts of a case holds of its parts.
-use Rattle.std.proofs.Common.{subst₂, List}
-use Rattle.stream_case.specs.declared.source.Side.TheVariants.{Hot, Cold}
-use Rattle.stream_case.specs.declared.case.Case.{Case}
-use Rattle.grid.specs.declared.part.Part.{Part}
-use Rattle.grid.specs.Part.{AreCaseParts}
-use Rattle.grid.proofs.PartsExist.{one_side}
-use Rattle.heat_flow.specs.Certificate.{HoldsOfParts}
+use Rattle.heat_flow.proofs.Words.{AreCaseParts, Case, Cold, HoldsOfParts, Hot, Part, one_side}
+use Rattle.std.proofs.Common.{List, subst₂}
 
 pub HoldsOfParts-some : (c : Case) (P : List Part → List Part → Type 0) (hot cold : List Part) → AreCaseParts c hot cold → P hot cold → HoldsOfParts c P
 HoldsOfParts-some c P hot cold parts holds = record {
   some = (hot, cold, parts);
   each = λ others more other.
-      subst₂ P (one_side c parts.grid other.grid Hot hot others parts.is_grid other.is_grid parts.hot_parts other.hot_parts) (one_side c parts.grid other.grid Cold cold more parts.is_grid other.is_grid parts.cold_parts other.cold_parts) holds;
+      subst₂ P (one_side c parts.grid other.grid Hot hot others parts.is_grid other.is_grid parts.hot_parts other.hot_parts)
+      (one_side c parts.grid other.grid Cold cold more parts.is_grid other.is_grid parts.cold_parts other.cold_parts) holds;
 }

@@ -65,7 +65,8 @@ fn push_row(
     requires complete { IsComplete case.now }
     requires sources { All (λ q. IsSourceOf case.now q.source) cold.now }
     requires permissions { ArePermissions case.now case.now.forbids hot.now.source allowed.now }
-    ensures { OnOk result (cells.new.items ≡ cells.old.items ++ map (part_reaches case.now hot.now) cold.now) }
+    ensures { OnOk result (cells.new.items
+        ≡ cells.old.items ++ map (part_reaches case.now hot.now) cold.now) }
 {
     for part in cold {
         let is_allowed = allowed[source_index(case, part.source)];
@@ -84,7 +85,8 @@ pub fn reach_of(alloc: Global, case: &Case, parts: &Parts) -> Result<Reach, Allo
     requires cold_sources { All (λ p. IsSourceOf case.now p.source) parts.now.cold }
     ensures hots { IfOk result (λ reach. reach.hots ≡ length parts.now.hot) }
     ensures colds { IfOk result (λ reach. reach.colds ≡ length parts.now.cold) }
-    ensures cells { IfOk result (λ reach. (a b : ℕ) → reaches reach a b ≡ reach_between case.now parts.now.hot parts.now.cold a b) }
+    ensures cells { IfOk result (λ reach. (a b : ℕ) → reaches reach a b
+        ≡ reach_between case.now parts.now.hot parts.now.cold a b) }
 {
     let hot = parts.hot.as_slice();
     let cold = parts.cold.as_slice();

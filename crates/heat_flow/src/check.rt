@@ -53,7 +53,8 @@ fn add_heats(sums: &mut [i128], side: Side, transfers: &[Transfer])
     requires zeros { All (λ sum. sum ≡ pos 0) sums.old }
     requires indexes { All (λ t. part_index side t < length sums.old) transfers.now }
     requires positive { ArePositive transfers.now }
-    ensures { (a : ℕ) → a < length sums.new → slice_index_or sums.new a (pos 0) ≡ heat_at side transfers.now a }
+    ensures { (a : ℕ) → a < length sums.new → slice_index_or sums.new a (pos 0)
+        ≡ heat_at side transfers.now a }
 {
     for transfer in transfers {
         sums[transfer.part_index(side) as usize] += i128::from(transfer.heat);

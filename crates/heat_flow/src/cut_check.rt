@@ -97,7 +97,8 @@ fn meets(side: Side, reach: &Reach, members: &[u32], other: u32) -> bool
 /// The most that a part of the other side can take or give, if it meets a member.
 fn part_offer(side: Side, reach: &Reach, members: &[u32], index: u32, part: &Part) -> i64
     requires { IsBounded part.now }
-    ensures value { result ≡ if meets side (reaches reach.now) members.now index then part.now.most else pos 0 }
+    ensures value { result
+        ≡ if meets side (reaches reach.now) members.now index then part.now.most else pos 0 }
     ensures range { IsHeat result }
 {
     if meets(side, reach, members, index) {

@@ -15,6 +15,7 @@ mod prices;
 mod reach;
 mod support;
 mod table;
+mod utilities;
 
 pub use cells::{passes_heat, permissions, reach_of, source_index};
 pub use check::{are_ordered, is_flow, keeps_ranges};
@@ -28,3 +29,4 @@ pub use prices::{Prices, least_product_is_least, value_of};
 pub use reach::Reach;
 pub use support::is_supported;
 pub use table::reaches;
+pub use utilities::utility_heat;

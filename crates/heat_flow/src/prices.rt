@@ -52,14 +52,16 @@ fn least_product(price: i64, least: i64, most: i64) -> i128
 
 /// The least product is the product with one heat of the range, and at most that with any other.
 pub fn least_product_is_least()
-    ensures { (price low high : ℤ) → low ≤ℤ high → IsLeastProduct price low high (least_product price low high) }
+    ensures { (price low high : ℤ) → low ≤ℤ high
+        → IsLeastProduct price low high (least_product price low high) }
 {}
 
 /// The least that a part can cost at this price.
 fn part_value(part: &Part, part_price: i64, side: Side) -> i128
     requires part { IsBounded part.now }
     requires part_price { IsPartPrice part_price }
-    ensures value { result ≡ least_product (excess_price side part.now.price part_price) part.now.least part.now.most }
+    ensures value { result
+        ≡ least_product (excess_price side part.now.price part_price) part.now.least part.now.most }
     ensures range { IsWithin most_part_value result }
 {
     least_product(

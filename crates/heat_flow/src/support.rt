@@ -12,7 +12,8 @@ use crate::table::reaches;
 fn is_row_supported(reach: &Reach, hot: u32, price: i64, cold_prices: &[i64]) -> bool
     requires hot_index { hot < reach.now.hots }
     requires cold_count { length cold_prices.now ≡ reach.now.colds }
-    ensures { IsTrue result ↔ ((cold : ℕ) → IsTrue (reaches reach.now hot cold) → price_at cold_prices.now cold ≤ℤ price) }
+    ensures { IsTrue result ↔ ((cold : ℕ) → IsTrue (reaches reach.now hot cold)
+        → price_at cold_prices.now cold ≤ℤ price) }
 {
     for (cold, cold_price) in cold_prices.iter().enumerate() {
         if *cold_price > price && reaches(reach, hot, cold as u32) {

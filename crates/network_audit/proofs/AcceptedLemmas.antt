@@ -1,7 +1,7 @@
 -- What is known of a network that an auditor has accepted.
-use Rattle.std.proofs.Common.{Some, subst}
-use Rattle.network_audit.proofs.Words.{Audit, Case, HasAccepted, HasShape, IsComplete, IsFaultless, IsValidNetwork, KnowsItsNetwork, Network}
 use Rattle.network_audit.proofs.ValidLemmas.{valid_from_none}
+use Rattle.network_audit.proofs.Words.{Audit, Case, HasAccepted, HasShape, IsComplete, IsFaultless, IsValidNetwork, KnowsItsNetwork, Network}
+use Rattle.std.proofs.Common.{Some, subst}
 
 pub record IsKnown (case : Case) (network : Network) : Type 0 where
   pub complete : IsComplete case

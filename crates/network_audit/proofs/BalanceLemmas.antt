@@ -1,17 +1,16 @@
 -- The balance from the heats of the utilities is that of the network, and so are its steps.
-use Rattle.std.proofs.Common.{◌≡◌, ◌∙◌, ◌<◌, ◌+◌, ◌∷◌, ◌++◌, ℕ, true, false, List, [], Option, Some, None, All, slice_get, get_or, length, map, refl, sym, ap, ap₂, arith, if◌then◌else◌, filter_map}
-use Rattle.std.specs.List.{cons_option, enumerate_from}
-use Rattle.std.proofs.lemmas.List.{get_or_default}
-use Rattle.std.proofs.lemmas.List.FromFn.{get_or-enumerate_from}
-use Rattle.std.proofs.lemmas.List.Elements.{All-head, All-tail}
-use Rattle.sums.proofs.EnumerationLemmas.{All-enumerated}
-use Rattle.network_audit.proofs.Words.{Case, HasShape, Item, Network, Rational, Side, Step, Utility, balance_in, balance_items, balance_of, balance_steps_in, cost_of, cost_steps, duties_in, heat_at, heat_on, heat_on_in, heat_price, heat_with, heats_in, heats_on, heats_on_in, hot_target, joints_of, minus, price_in, prices_in, rational_sum, rational_zero, same_side, sum_steps, times, whole}
-use Rattle.stream_case.specs.declared.source.Side.TheVariants as side
-use Rattle.fractions.proofs.RationalSums.{rational_sum_by-map}
-use Rattle.network_audit.specs.declared.findings.Place.TheVariants as place
-use Rattle.network_audit.proofs.JointLemmas.{get_or-made}
+use Rattle.network_audit.proofs.Words.{All-enumerated, All-head, All-tail, Case, HasShape, Item, Network, Rational, Side, Step, Utility, balance_in}
+use Rattle.network_audit.proofs.Words.{balance_items, balance_of, balance_steps_in, cons_option, cost_of, cost_steps, duties_in, enumerate_from}
+use Rattle.network_audit.proofs.Words.{get_or-enumerate_from, get_or_default, heat_at, heat_on, heat_on_in, heat_price, heat_with, heats_in, heats_on}
+use Rattle.network_audit.proofs.Words.{heats_on_in, hot_target, joints_of, minus, price_in, prices_in, rational_sum, rational_sum_by-map, rational_zero}
+use Rattle.network_audit.proofs.Words.{same_side, sum_steps, times, whole}
 use Rattle.network_audit.proofs.HeatLemmas.{cold_heat-is, hot_heat-is}
+use Rattle.network_audit.proofs.JointLemmas.{get_or-made}
 use Rattle.network_audit.proofs.TableLemmas.{duties-are}
+use Rattle.std.proofs.Common.{All, List, None, Option, Some, [], ap, ap₂, arith, false, filter_map, get_or, if◌then◌else◌, length, map, refl, slice_get, sym}
+use Rattle.std.proofs.Common.{true, ℕ, ◌++◌, ◌+◌, ◌<◌, ◌∙◌, ◌∷◌, ◌≡◌}
+use Rattle.network_audit.specs.declared.findings.Place.TheVariants as place
+use Rattle.stream_case.specs.declared.source.Side.TheVariants as side
 
 -- ---- lists made of members
 
@@ -36,17 +35,19 @@ heats-are case network heats is = record {
   each = λ index u at.
       ap (λ hs. get_or hs index rational_zero) is
       ∙ get_or-made (λ (p : ℕ × Utility). rational_sum (duties_in (joints_of network) p.0)) 0 case.utilities index u rational_zero at
-      ∙ ap (λ n. rational_sum (duties_in (joints_of network) n)) (omega arith)
-      ∙ ap rational_sum (duties-are network index);
+      ∙ ap (λ n. rational_sum (duties_in (joints_of network) n)) (omega arith) ∙ ap rational_sum (duties-are network index);
 }
 
-heats_on-are : (on : Side) (case : Case) (network : Network) (heats : List Rational) → AreHeats case network heats → heats_on_in on case.utilities heats ≡ heats_on on case network
+heats_on-are : (on : Side) (case : Case) (network : Network) (heats : List Rational) → AreHeats case network heats
+    → heats_on_in on case.utilities heats ≡ heats_on on case network
 unfolding heats_on_in heats_on
 heats_on-are on case network heats are =
     filter_map-same (heat_on_in on heats) (heat_on on network) (enumerate_from 0 case.utilities)
-    (All-enumerated (λ p. heat_on_in on heats p ≡ heat_on on network p) case.utilities (λ index u at. ap (λ h. if same_side u.side on then Some h else None) (are.each index u at)))
+    (All-enumerated (λ p. heat_on_in on heats p ≡ heat_on on network p) case.utilities
+    (λ index u at. ap (λ h. if same_side u.side on then Some h else None) (are.each index u at)))
 
-prices-are : (case : Case) (network : Network) (heats : List Rational) → AreHeats case network heats → prices_in case.utilities heats ≡ map (heat_price network) (enumerate_from 0 case.utilities)
+prices-are : (case : Case) (network : Network) (heats : List Rational) → AreHeats case network heats
+    → prices_in case.utilities heats ≡ map (heat_price network) (enumerate_from 0 case.utilities)
 unfolding prices_in
 prices-are case network heats are =
     map-same (price_in heats) (heat_price network) (enumerate_from 0 case.utilities)
@@ -54,7 +55,8 @@ prices-are case network heats are =
 
 -- ---- the balance
 
-pub balance-is : (case : Case) (network : Network) (heats : List Rational) → HasShape case network → AreHeats case network heats → balance_in (whole (hot_target case.streams)) case.utilities heats ≡ balance_of case network
+pub balance-is : (case : Case) (network : Network) (heats : List Rational) → HasShape case network → AreHeats case network heats
+    → balance_in (whole (hot_target case.streams)) case.utilities heats ≡ balance_of case network
 unfolding cost_of
 balance-is case network heats shape are =
     let hot = ap rational_sum (heats_on-are side.Hot case network heats are) ∙ hot_heat-is case network shape in
@@ -69,7 +71,8 @@ steps_from case hot cold prices excess =
     ++ Step place.Balance (length hot + length cold + 1) excess
     ∷ cost_steps place.Balance (length hot + length cold + 1) rational_zero prices)
 
-pub balance_items-are : (case : Case) (network : Network) (heats : List Rational) → HasShape case network → AreHeats case network heats → balance_steps_in place.Balance (whole (hot_target case.streams)) case.utilities heats ≡ balance_items case network
+pub balance_items-are : (case : Case) (network : Network) (heats : List Rational) → HasShape case network → AreHeats case network heats
+    → balance_steps_in place.Balance (whole (hot_target case.streams)) case.utilities heats ≡ balance_items case network
 unfolding balance_items
 balance_items-are case network heats shape are =
     let hot = heats_on-are side.Hot case network heats are in
@@ -83,13 +86,17 @@ balance_items-are case network heats shape are =
 member-here : (us : List Utility) (n : ℕ) (u : Utility) → n < length us → u ≡ get_or us n u → get_or (enumerate_from 0 us) n (n, u) ≡ (n, u)
 member-here us n u within read = get_or-enumerate_from 0 us n (n, u) within ∙ (let at : 0 + n ≡ n = omega arith in λ i. (at i, sym read i))
 
-pub heat-here : (on : Side) (heats : List Rational) (us : List Utility) (n : ℕ) (u : Utility) (h : Rational) → n < length us → length heats ≡ length us → u ≡ get_or us n u → h ≡ get_or heats n h → same_side u.side on ≡ true
-    → heat_on_in on heats (get_or (enumerate_from 0 us) n (n, u)) ≡ Some h
+pub heat-here : (on : Side) (heats : List Rational) (us : List Utility) (n : ℕ) (u : Utility) (h : Rational) → n < length us → length heats ≡ length us
+    → u ≡ get_or us n u → h ≡ get_or heats n h → same_side u.side on ≡ true → heat_on_in on heats (get_or (enumerate_from 0 us) n (n, u)) ≡ Some h
 heat-here on heats us n u h within long read value is =
-    ap (heat_on_in on heats) (member-here us n u within read) ∙ ap (λ b. if b then Some (heat_at heats n) else None) is ∙ ap Some (get_or_default heats n rational_zero h (omega (arith, within, long)) ∙ sym value)
+    ap (heat_on_in on heats) (member-here us n u within read) ∙ ap (λ b. if b then Some (heat_at heats n) else None) is
+    ∙ ap Some (get_or_default heats n rational_zero h (omega (arith, within, long)) ∙ sym value)
 
-pub heat-other : (on : Side) (heats : List Rational) (us : List Utility) (n : ℕ) (u : Utility) → n < length us → u ≡ get_or us n u → same_side u.side on ≡ false → heat_on_in on heats (get_or (enumerate_from 0 us) n (n, u)) ≡ None
+pub heat-other : (on : Side) (heats : List Rational) (us : List Utility) (n : ℕ) (u : Utility) → n < length us → u ≡ get_or us n u → same_side u.side on ≡ false
+    → heat_on_in on heats (get_or (enumerate_from 0 us) n (n, u)) ≡ None
 heat-other on heats us n u within read is = ap (heat_on_in on heats) (member-here us n u within read) ∙ ap (λ b. if b then Some (heat_at heats n) else None) is
 
-pub price-here : (heats : List Rational) (us : List Utility) (n : ℕ) (u : Utility) (h : Rational) → n < length us → length heats ≡ length us → u ≡ get_or us n u → h ≡ get_or heats n h → price_in heats (get_or (enumerate_from 0 us) n (n, u)) ≡ times (whole u.price) h
-price-here heats us n u h within long read value = ap (price_in heats) (member-here us n u within read) ∙ ap (times (whole u.price)) (get_or_default heats n rational_zero h (omega (arith, within, long)) ∙ sym value)
+pub price-here : (heats : List Rational) (us : List Utility) (n : ℕ) (u : Utility) (h : Rational) → n < length us → length heats ≡ length us → u ≡ get_or us n u
+    → h ≡ get_or heats n h → price_in heats (get_or (enumerate_from 0 us) n (n, u)) ≡ times (whole u.price) h
+price-here heats us n u h within long read value = ap (price_in heats) (member-here us n u within read)
+    ∙ ap (times (whole u.price)) (get_or_default heats n rational_zero h (omega (arith, within, long)) ∙ sym value)

@@ -1,13 +1,9 @@
 -- The branch behind a pass of a network with a valuation: its number, what it carries, and whether it is latent.
-use Rattle.std.proofs.Common.{◌≡◌, ◌<◌, ℕ, false, Some, slice_get, length, ap, arith}
-use Rattle.std.specs.Option.{option_map_or}
-use Rattle.std.proofs.Math.Seq.{take-length}
-use Rattle.network_audit.proofs.Words.{Case, HasShape, IsWholeValuation, Network, Rational, Solves, Valuation, branch_side, duty_at, is_latent, is_latent_branch, made_by, moved, over, value_at}
+use Rattle.network_audit.proofs.Words.{Case, HasShape, IsLineOf, IsWholeValuation, Network, Rational, Solves, Valuation, all_at, all_made, all_solved}
+use Rattle.network_audit.proofs.Words.{branch_above, branch_side, duty_at, is_latent, is_latent_branch, line_of, made_by, moved, option_map_or, over}
+use Rattle.network_audit.proofs.Words.{pass_determined, take-length, value_at}
+use Rattle.std.proofs.Common.{Some, ap, arith, false, length, slice_get, ℕ, ◌<◌, ◌≡◌}
 use Rattle.networks.specs.declared.network.Line.TheVariants as line
-use Rattle.networks.proofs.Lists.{all_at}
-use Rattle.networks.proofs.OfShape.{IsLineOf, all_made, line_of}
-use Rattle.network_values.proofs.LineLemmas.{pass_determined}
-use Rattle.network_values.proofs.WholeLemmas.{all_solved, branch_above}
 
 -- the state that the schoolbook gives behind an exchanger
 abbrev pub state_behind : Case → Network → Valuation → ℕ → ℕ → Rational
@@ -17,12 +13,8 @@ state_behind case network values from exchanger =
 module _
     {case : Case}
     {network : Network}
-    {values : Valuation}
-    (shape : HasShape case network)
-    (valuation : IsWholeValuation case network values)
-    (k : ℕ)
-    {from exchanger to : ℕ}
-    (at : slice_get network.lines k ≡ Some (line.Pass from exchanger to))
+    {values : Valuation} (shape : HasShape case network) (valuation : IsWholeValuation case network values) (k : ℕ)
+    {from exchanger to : ℕ} (at : slice_get network.lines k ≡ Some (line.Pass from exchanger to))
   where
     line_here : IsLineOf case network k (line.Pass from exchanger to)
     line_here = line_of shape k (line.Pass from exchanger to) at
@@ -35,8 +27,7 @@ module _
 
     pub behind_state : (value_at values to).t ≡ state_behind case network values from exchanger
     behind_state =
-        ap (λ v. v.t)
-        (pass_determined (branch_side case network from) (value_at values from) (value_at values to) (duty_at network exchanger)
+        ap (λ v. v.t) (pass_determined (branch_side case network from) (value_at values from) (value_at values to) (duty_at network exchanger)
         (branch_above valuation shape from line_here.known.0)
         (all_at (Solves case network values) network.lines k (line.Pass from exchanger to) (all_solved valuation) at))
 

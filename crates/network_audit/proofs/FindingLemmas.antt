@@ -1,38 +1,38 @@
 -- A network has one finding at most, and none beside a whole valuation whose items are passed.
-use Rattle.std.proofs.Common.{◌≡◌, ◌∙◌, ◌<◌, ◌≤◌, ◌+◌, ◌-◌, ◌++◌, ◌==◌, ◌⊎◌, inl, inr, ℕ, zero, suc, List, [], Some, length, take, drop, sym, ap, subst, arith, if◌then◌else◌, flat_map, ne_eqb, append-nil, take-append-drop, take-take}
-use Rattle.std.specs.List.{enumerate_from}
-use Rattle.std.proofs.lemmas.Bool.{cases_lt}
-use Rattle.std.proofs.lemmas.List.Concat.{flat_map-append}
-use Rattle.sums.proofs.EnumerationLemmas.{enumerate_from-append}
-use Rattle.network_audit.proofs.Words.{Case, Finding, HasNoFinding, HasShape, IsFinding, IsValuation, IsVerdict, IsWholeValuation, Item, Network, Valuation, Verdict, first_finding, front, items, items_before, items_behind, made_before, statement_items}
-use Rattle.network_values.proofs.ValuationLemmas.{agree-take, one_valuation, valuation_front}
-use Rattle.network_audit.specs.declared.findings.Finding.TheVariants as finding
-use Rattle.network_audit.specs.declared.verdict.Verdict.TheVariants as verdict
 use Rattle.network_audit.proofs.FoundLemmas.{found-front}
 use Rattle.network_audit.proofs.WalkLemmas.{items_before-same, used_early}
+use Rattle.network_audit.proofs.Words.{Case, Finding, HasNoFinding, HasShape, IsFinding, IsValuation, IsVerdict, IsWholeValuation, Item, Network, Valuation}
+use Rattle.network_audit.proofs.Words.{Verdict, agree-take, cases_lt, enumerate_from, enumerate_from-append, first_finding, flat_map-append, front, items}
+use Rattle.network_audit.proofs.Words.{items_before, items_behind, made_before, one_valuation, statement_items, valuation_front}
+use Rattle.std.proofs.Common.{List, Some, [], ap, append-nil, arith, drop, flat_map, if◌then◌else◌, inl, inr, length, ne_eqb, subst, suc, sym, take}
+use Rattle.std.proofs.Common.{take-append-drop, take-take, zero, ℕ, ◌++◌, ◌+◌, ◌-◌, ◌<◌, ◌==◌, ◌∙◌, ◌≡◌, ◌≤◌, ◌⊎◌}
+use Rattle.network_audit.specs.declared.findings.Finding.TheVariants as finding
+use Rattle.network_audit.specs.declared.verdict.Verdict.TheVariants as verdict
 
 -- the items of more lines go on from those of the first ones
-items_before-front : (case : Case) (network : Network) (values : Valuation) (n k : ℕ) → (more : List Item) × (items_before case network values (n + k) ≡ items_before case network values n ++ more)
+items_before-front : (case : Case) (network : Network) (values : Valuation) (n k : ℕ)
+    → (more : List Item) × (items_before case network values (n + k) ≡ items_before case network values n ++ more)
 unfolding items_before
 items_before-front case network values n k =
     let f = statement_items case network values in let some = take (n + k) network.lines in
     let rest = enumerate_from (0 + length (take n some)) (drop n some) in (
       flat_map f rest,
       ap (λ ls. flat_map f (enumerate_from 0 ls)) (sym (take-append-drop n some))
-          ∙ ap (flat_map f) (enumerate_from-append 0 (take n some) (drop n some))
-          ∙ flat_map-append f (enumerate_from 0 (take n some)) rest
+          ∙ ap (flat_map f) (enumerate_from-append 0 (take n some) (drop n some)) ∙ flat_map-append f (enumerate_from 0 (take n some)) rest
           ∙ ap (λ ls. flat_map f (enumerate_from 0 ls) ++ flat_map f rest) (take-take n (n + k) network.lines (omega arith)),
     )
 
 -- before the last line only statements have items
-items-inside : (case : Case) (network : Network) (values : Valuation) (n : ℕ) → n < length network.lines → items case network values n ≡ items_before case network values (n + 1)
+items-inside : (case : Case) (network : Network) (values : Valuation) (n : ℕ) → n < length network.lines
+    → items case network values n ≡ items_before case network values (n + 1)
 unfolding items
 items-inside case network values n inside =
-    ap (λ b. items_before case network values (n + 1) ++ (if b then items_behind case network values else [])) (ne_eqb n (length network.lines) (λ same. omega (arith, same, inside)))
-    ∙ append-nil (items_before case network values (n + 1))
+    ap (λ b. items_before case network values (n + 1) ++ (if b then items_behind case network values else []))
+    (ne_eqb n (length network.lines) (λ same. omega (arith, same, inside))) ∙ append-nil (items_before case network values (n + 1))
 
 -- what a valuation of the first lines finds, one of more lines finds
-pub found-later : (case : Case) (network : Network) (n k : ℕ) (values other : Valuation) (found : Finding) → HasShape case network → IsValuation case network n values → IsValuation case network (n + k) other
+pub found-later : (case : Case) (network : Network) (n k : ℕ) (values other : Valuation) (found : Finding) → HasShape case network
+    → IsValuation case network n values → IsValuation case network (n + k) other
     → first_finding (items case network values n) ≡ Some found → first_finding (items case network other (n + k)) ≡ Some found
 unfolding items
 found-later case network n zero values other found shape one two some =
@@ -41,53 +41,70 @@ found-later case network n zero values other found shape one two some =
     ap (λ m. first_finding (items case network other m)) at ∙ ap (λ vs. first_finding (items case network vs n)) (sym same) ∙ some
 found-later case network n (suc j) values other found shape one two some =
     let within = two.within in let early = used_early case network n shape in
-    let first : values ≡ front case network n other = one_valuation case network n values (front case network n other) shape one (valuation_front case network n (suc j) other shape two) in
+    let first : values ≡ front case network n other = one_valuation case network n values (front case network n other) shape one
+    (valuation_front case network n (suc j) other shape two) in
     let same : items_before case network other (n + 1) ≡ items_before case network values (n + 1) =
-    items_before-same case network other (front case network n other) (n + 1) (made_before case network n) shape early (agree-take other (made_before case network n))
-    ∙ ap (λ vs. items_before case network vs (n + 1)) (sym first) in
+    items_before-same case network other (front case network n other) (n + 1) (made_before case network n) shape early
+    (agree-take other (made_before case network n)) ∙ ap (λ vs. items_before case network vs (n + 1)) (sym first) in
     let (more, parts) = items_before-front case network other (n + 1) (suc j) in
     let next : n + suc j + 1 ≡ n + 1 + suc j = omega arith in
     let here : first_finding (items_before case network other (n + 1)) ≡ Some found =
     ap first_finding (same ∙ sym (items-inside case network values n (omega (arith, within)))) ∙ some in
     let longer : first_finding (items_before case network other (n + suc j + 1)) ≡ Some found =
-    ap (λ m. first_finding (items_before case network other m)) next ∙ ap first_finding parts ∙ found-front (items_before case network other (n + 1)) more found here in
-    found-front (items_before case network other (n + suc j + 1)) (if n + suc j == length network.lines then items_behind case network other else []) found longer
+    ap (λ m. first_finding (items_before case network other m)) next ∙ ap first_finding parts
+    ∙ found-front (items_before case network other (n + 1)) more found here in
+    found-front (items_before case network other (n + suc j + 1)) (if n + suc j == length network.lines then items_behind case network other else []) found
+    longer
 
 -- the same, by the numbers of lines
-found-at : (case : Case) (network : Network) (n m : ℕ) (values other : Valuation) (found : Finding) → HasShape case network → n ≤ m → IsValuation case network n values → IsValuation case network m other
+found-at : (case : Case) (network : Network) (n m : ℕ) (values other : Valuation) (found : Finding) → HasShape case network → n ≤ m
+    → IsValuation case network n values → IsValuation case network m other
     → first_finding (items case network values n) ≡ Some found → first_finding (items case network other m) ≡ Some found
 found-at case network n m values other found shape early one two some =
     let at : n + (m - n) ≡ m = omega (arith, early) in
-    subst (λ k. first_finding (items case network other k) ≡ Some found) at (found-later case network n (m - n) values other found shape one (subst (λ k. IsValuation case network k other) (sym at) two) some)
+    subst (λ k. first_finding (items case network other k) ≡ Some found) at
+    (found-later case network n (m - n) values other found shape one (subst (λ k. IsValuation case network k other) (sym at) two) some)
 
 -- what is found, a whole valuation finds
-pub found-whole : (case : Case) (network : Network) (values : Valuation) (found : Finding) → HasShape case network → IsFinding case network found → IsWholeValuation case network values → first_finding (items case network values (length network.lines)) ≡ Some found
-found-whole case network values found shape is whole = let within = is.valuation.within in found-at case network is.n (length network.lines) is.values values found shape within is.valuation whole is.first
+pub found-whole : (case : Case) (network : Network) (values : Valuation) (found : Finding) → HasShape case network → IsFinding case network found
+    → IsWholeValuation case network values → first_finding (items case network values (length network.lines)) ≡ Some found
+found-whole case network values found shape is whole = let within = is.valuation.within in found-at case network is.n
+    (length network.lines) is.values values found shape within is.valuation whole is.first
 
-pub one_finding : (case : Case) (network : Network) (found other : Finding) → HasShape case network → IsFinding case network found → IsFinding case network other → found ≡ other
+pub one_finding : (case : Case) (network : Network) (found other : Finding) → HasShape case network → IsFinding case network found
+    → IsFinding case network other → found ≡ other
 one_finding case network found other shape one two = by (cases_lt one.n two.n)
   where
     by : (one.n < two.n) ⊎ (two.n ≤ one.n) → found ≡ other
-    by (inl before) = let later = found-at case network one.n two.n one.values two.values found shape (omega (arith, before)) one.valuation two.valuation one.first in cc (sym later, two.first)
-    by (inr behind) = let later = found-at case network two.n one.n two.values one.values other shape behind two.valuation one.valuation two.first in cc (sym later, one.first)
+    by (inl before) = let later = found-at case network one.n two.n one.values two.values found shape
+        (omega (arith, before)) one.valuation two.valuation one.first in cc (sym later, two.first)
+    by (inr behind) = let later = found-at case network two.n one.n two.values one.values other shape behind two.valuation one.valuation two.first in
+        cc (sym later, one.first)
 
 pub finding_or_none : (case : Case) (network : Network) (found : Finding) → HasShape case network → IsFinding case network found → HasNoFinding case network → ⊥
 finding_or_none case network found shape is none = let some = found-whole case network none.values found shape is none.valuation in cc (sym some, none.none)
 
 -- there is one verdict at most
-pub one_verdict : (case : Case) (network : Network) (one two : Verdict) → HasShape case network → IsVerdict case network one → IsVerdict case network two → one ≡ two
+pub one_verdict : (case : Case) (network : Network) (one two : Verdict) → HasShape case network → IsVerdict case network one → IsVerdict case network two
+    → one ≡ two
 one_verdict case network (verdict.Accepted balance) (verdict.Accepted other) shape one two = ap verdict.Accepted (one.1 ∙ sym two.1)
-one_verdict case network (verdict.Accepted balance) (verdict.Rejected place reason) shape one two = absurd (finding_or_none case network (finding.Failed place reason) shape two one.0)
-one_verdict case network (verdict.Accepted balance) (verdict.TooFine place step) shape one two = absurd (finding_or_none case network (finding.TooFine place step) shape two one.0)
-one_verdict case network (verdict.Rejected place reason) (verdict.Accepted other) shape one two = absurd (finding_or_none case network (finding.Failed place reason) shape one two.0)
-one_verdict case network (verdict.TooFine place step) (verdict.Accepted other) shape one two = absurd (finding_or_none case network (finding.TooFine place step) shape one two.0)
+one_verdict case network (verdict.Accepted balance) (verdict.Rejected place reason) shape one two = absurd
+    (finding_or_none case network (finding.Failed place reason) shape two one.0)
+one_verdict case network (verdict.Accepted balance) (verdict.TooFine place step) shape one two = absurd
+    (finding_or_none case network (finding.TooFine place step) shape two one.0)
+one_verdict case network (verdict.Rejected place reason) (verdict.Accepted other) shape one two = absurd
+    (finding_or_none case network (finding.Failed place reason) shape one two.0)
+one_verdict case network (verdict.TooFine place step) (verdict.Accepted other) shape one two = absurd
+    (finding_or_none case network (finding.TooFine place step) shape one two.0)
 one_verdict case network (verdict.Rejected place reason) (verdict.Rejected at because) shape one two =
     let same = one_finding case network (finding.Failed place reason) (finding.Failed at because) shape one two in
     let p : place ≡ at = cc same in
     let r : reason ≡ because = cc same in
     λ i. verdict.Rejected (p i) (r i)
-one_verdict case network (verdict.Rejected place reason) (verdict.TooFine at step) shape one two = cc (one_finding case network (finding.Failed place reason) (finding.TooFine at step) shape one two)
-one_verdict case network (verdict.TooFine place step) (verdict.Rejected at because) shape one two = cc (one_finding case network (finding.TooFine place step) (finding.Failed at because) shape one two)
+one_verdict case network (verdict.Rejected place reason) (verdict.TooFine at step) shape one two =
+    cc (one_finding case network (finding.Failed place reason) (finding.TooFine at step) shape one two)
+one_verdict case network (verdict.TooFine place step) (verdict.Rejected at because) shape one two =
+    cc (one_finding case network (finding.TooFine place step) (finding.Failed at because) shape one two)
 one_verdict case network (verdict.TooFine place step) (verdict.TooFine at number) shape one two =
     let same = one_finding case network (finding.TooFine place step) (finding.TooFine at number) shape one two in
     let p : place ≡ at = cc same in

@@ -1,14 +1,8 @@
 -- The first item that is not passed, of lists of items in a row and of the items of many members.
-use Rattle.std.proofs.Common.{◌≡◌, ◌∙◌, ◌∷◌, ◌++◌, ℕ, Bool, true, false, not, List, [], Option, Some, None, All, slice_get, refl, sym, ap}
-use Rattle.std.specs.List.{enumerate_from, flat_map}
-use Rattle.std.specs.Option.{option_or}
-use Rattle.std.proofs.lemmas.List.Elements.{All-head, All-tail}
-use Rattle.std.proofs.lemmas.Option.{same_Some}
-use Rattle.sums.proofs.EnumerationLemmas.{All-enumerated}
-use Rattle.sums.proofs.FirstLemmas.{first-append, first-behind, first-front}
-use Rattle.sums.proofs.ListLemmas.{All-flat_map}
-use Rattle.network_audit.proofs.Words.{Finding, Gives, Item, Place, Rational, Step, finding_of, first_finding, is_passed}
-use Rattle.fractions.proofs.Limits.{within_formed, within_not_formed}
+use Rattle.network_audit.proofs.Words.{All-enumerated, All-flat_map, All-head, All-tail, Finding, Gives, Item, Place, Rational, Step, enumerate_from}
+use Rattle.network_audit.proofs.Words.{finding_of, first-append, first-behind, first-front, first_finding, flat_map, is_passed, option_or, same_Some}
+use Rattle.network_audit.proofs.Words.{within_formed, within_not_formed}
+use Rattle.std.proofs.Common.{All, Bool, List, None, Option, Some, [], ap, false, not, refl, slice_get, sym, true, ℕ, ◌++◌, ◌∙◌, ◌∷◌, ◌≡◌}
 use Rattle.network_audit.specs.declared.findings.Finding.TheVariants as finding
 
 -- ---- one item
@@ -26,10 +20,12 @@ unfolding first_finding
 found-nothing = refl
 
 -- a step that a call formed, or did not form
-pub found-formed : (at : Place) (k : ℕ) (a b : Rational) (r : Option Rational) (items : List Item) → r ≡ Some b → Gives r a → first_finding (Step at k a ∷ items) ≡ first_finding items
+pub found-formed : (at : Place) (k : ℕ) (a b : Rational) (r : Option Rational) (items : List Item) → r ≡ Some b → Gives r a
+    → first_finding (Step at k a ∷ items) ≡ first_finding items
 found-formed at k a b r items formed gives = found-passed (Step at k a) items (within_formed a b r formed gives)
 
-pub found-not_formed : (at : Place) (k : ℕ) (a : Rational) (r : Option Rational) (items : List Item) → r ≡ None → Gives r a → first_finding (Step at k a ∷ items) ≡ Some (finding.TooFine at k)
+pub found-not_formed : (at : Place) (k : ℕ) (a : Rational) (r : Option Rational) (items : List Item) → r ≡ None → Gives r a
+    → first_finding (Step at k a ∷ items) ≡ Some (finding.TooFine at k)
 found-not_formed at k a r items none gives = found-failed (Step at k a) items (within_not_formed a r none gives)
 
 -- ---- items in a row
@@ -68,18 +64,22 @@ pub passed-rest : (item : Item) (items : List Item) → first_finding (item ∷ 
 passed-rest item items none = sym (found-passed item items (passed-item item items none)) ∙ none
 
 -- a finding is that of an item that is not passed, of which holds what holds of all
-pub found-item : (P : Item → Type 0) (items : List Item) (found : Finding) → All P items → first_finding items ≡ Some found → (item : Item) × P item × (is_passed item ≡ false) × (finding_of item ≡ found)
+pub found-item : (P : Item → Type 0) (items : List Item) (found : Finding) → All P items → first_finding items ≡ Some found
+    → (item : Item) × P item × (is_passed item ≡ false) × (finding_of item ≡ found)
 found-item P [] found all some = absurd (cc (found-nothing, some))
 found-item P (item ∷ items) found all some = by (is_passed item) refl (found-item P items found (All-tail P item items all))
   where
-    by : (b : Bool) → is_passed item ≡ b → (first_finding items ≡ Some found → (other : Item) × P other × (is_passed other ≡ false) × (finding_of other ≡ found)) → (other : Item) × P other × (is_passed other ≡ false) × (finding_of other ≡ found)
+    by : (b : Bool) → is_passed item ≡ b
+        → (first_finding items ≡ Some found → (other : Item) × P other × (is_passed other ≡ false) × (finding_of other ≡ found))
+        → (other : Item) × P other × (is_passed other ≡ false) × (finding_of other ≡ found)
     by true is later = later (sym (found-passed item items is) ∙ some)
     by false is later = (item, All-head P item items all, is, same_Some (finding_of item) found (sym (found-failed item items is) ∙ some))
 
 -- ---- the items of many members, each with its index
 
 -- what holds of the items of each member holds of those of all
-pub each-items : {X : Type 0} (P : Item → Type 0) (f : ℕ × X → List Item) (xs : List X) → ((i : ℕ) (x : X) → slice_get xs i ≡ Some x → All P (f (i, x))) → All P (flat_map f (enumerate_from 0 xs))
+pub each-items : {X : Type 0} (P : Item → Type 0) (f : ℕ × X → List Item) (xs : List X) → ((i : ℕ) (x : X) → slice_get xs i ≡ Some x → All P (f (i, x)))
+    → All P (flat_map f (enumerate_from 0 xs))
 each-items {X} P f xs each = All-flat_map P f (enumerate_from 0 xs) (All-enumerated (λ (e : ℕ × X). All P (f e)) xs each)
 
 pub flat_map-same : {X Y : Type 0} (f g : X → List Y) (xs : List X) → All (λ x. f x ≡ g x) xs → flat_map f xs ≡ flat_map g xs

@@ -1,23 +1,12 @@
 -- The heats of the utilities make up the hot and the cold heat, and the balance.
-use Rattle.std.proofs.Common.{◌≡◌, ◌≢◌, ◌∙◌, ◌<◌, ◌∷◌, ◌==◌, ◌||◌, ℕ, Bool, true, false, List, [], Option, Some, None, ◌⊎◌, inl, inr, slice_get, get_or, length, refl, sym, ap, ap₂, subst, arith, if◌then◌else◌, is_some, option_map, unwrap_or, filter_map, eq-eqb, ne_eqb}
-use Rattle.std.specs.List.{cons_option, enumerate_from, range_with_len}
-use Rattle.std.proofs.lemmas.Bool.{cases_eq}
-use Rattle.network_audit.proofs.Words.{Case, Exchanger, HasShape, IsExchanger, IsSourceOf, Network, Rational, Side, Source, Utility, cold_heat, duties_with, duty_with, exchangers_of, heat_on, heat_with, heats_on, hot_heat, plus, rational_sum, rational_sum_by, rational_zero, same_side, same_source, side_of, utility_part}
+use Rattle.fractions.proofs.RationalSums.{but_at, one_taken, rational_sum_by-same, rational_sum_by-swap, rational_sum_by-zero, sum-enumerate, sum-filter_map}
+use Rattle.network_audit.proofs.Words.{Case, Exchanger, HasShape, IsExchanger, IsSourceOf, IsSourceOf-side, Network, Rational, Side, Source, Utility, cases_eq}
+use Rattle.network_audit.proofs.Words.{cold_heat, duties_with, duty_with, enumerate_from, exchangers_of, heat_on, heat_with, heats_on, hot_heat, plus}
+use Rattle.network_audit.proofs.Words.{plus-zero, range_with_len, rational_sum, rational_sum_by, rational_zero, same_side, same_source, side_of, utility_part}
+use Rattle.std.proofs.Common.{Bool, None, Some, ap, ap₂, arith, eq-eqb, false, get_or, if◌then◌else◌, inl, inr, is_some, length, ne_eqb, option_map, refl}
+use Rattle.std.proofs.Common.{slice_get, subst, sym, true, unwrap_or, ℕ, ◌<◌, ◌==◌, ◌||◌, ◌∙◌, ◌≡◌, ◌≢◌, ◌⊎◌}
 use Rattle.stream_case.specs.declared.source.Side.TheVariants as side
 use Rattle.stream_case.specs.declared.source.Source.TheVariants as source
-use Rattle.stream_case.proofs.CaseLemmas.{IsSourceOf-side}
-use Rattle.fractions.proofs.RationalSums.{but_at, one_taken, rational_sum_by-same, rational_sum_by-swap, rational_sum_by-zero, sum-enumerate}
-use Rattle.fractions.proofs.Sums.{plus-zero, zero-plus}
-
--- ---- sums of what is there
-
-sum-filter_map : {X : Type 0} (f : X → Option Rational) (xs : List X) → rational_sum (filter_map f xs) ≡ rational_sum_by (λ x. unwrap_or (f x) rational_zero) xs
-sum-filter_map f [] = refl
-sum-filter_map f (x ∷ xs) = by (f x) ∙ ap (plus (unwrap_or (f x) rational_zero)) (sum-filter_map f xs)
-  where
-    by : (o : Option Rational) → rational_sum (cons_option o (filter_map f xs)) ≡ plus (unwrap_or o rational_zero) (rational_sum (filter_map f xs))
-    by None = sym (zero-plus (rational_sum (filter_map f xs)))
-    by (Some a) = refl
 
 -- ---- the source of an exchanger on a side
 
@@ -33,7 +22,8 @@ abbrev own_part : Side → Exchanger → ℕ → Rational
 own_part on e index = if same_source (source_on on e) (source.Utility index) then e.duty else rational_zero
 
 -- a source of another side is not this utility
-not_of : (case : Case) (of : Source) (index : ℕ) (u : Utility) (on : Side) → side_of case of ≡ Some on → slice_get case.utilities index ≡ Some u → same_side u.side on ≡ false → same_source of (source.Utility index) ≡ false
+not_of : (case : Case) (of : Source) (index : ℕ) (u : Utility) (on : Side) → side_of case of ≡ Some on → slice_get case.utilities index ≡ Some u
+    → same_side u.side on ≡ false → same_source of (source.Utility index) ≡ false
 not_of case (source.Stream stream) index u on is at other = refl
 not_of case (source.Utility k) index u on is at other = ne_eqb k index (λ same. clash same)
   where
@@ -47,66 +37,79 @@ not_of case (source.Utility k) index u on is at other = ne_eqb k index (λ same.
         let side_is : u.side ≡ on = cc here in
         cc (sym other, ap (λ s. same_side s on) side_is, own on)
 
-part-own : (case : Case) (e : Exchanger) (on : Side) (index : ℕ) (u : Utility) → IsExchanger case e → slice_get case.utilities index ≡ Some u → part_on on (index, u) e ≡ own_part on e index
+part-own : (case : Case) (e : Exchanger) (on : Side) (index : ℕ) (u : Utility) → IsExchanger case e → slice_get case.utilities index ≡ Some u
+    → part_on on (index, u) e ≡ own_part on e index
 part-own case e side.Hot index u is at = by u.side refl
   where
     by : (s : Side) → u.side ≡ s → (if same_side s side.Hot then unwrap_or (duty_with index e) rational_zero else rational_zero) ≡ own_part side.Hot e index
     by side.Hot is_hot =
-        let cold : same_source e.cold (source.Utility index) ≡ false = not_of case e.cold index u side.Cold is.cold at (ap (λ s. same_side s side.Cold) is_hot) in
-        ap (λ b. unwrap_or (if same_source e.hot (source.Utility index) || b then Some e.duty else None) rational_zero) cold ∙ one (same_source e.hot (source.Utility index))
+        let cold : same_source e.cold (source.Utility index) ≡ false = not_of case e.cold index u side.Cold is.cold at
+        (ap (λ s. same_side s side.Cold) is_hot) in
+        ap (λ b. unwrap_or (if same_source e.hot (source.Utility index) || b then Some e.duty else None) rational_zero) cold
+        ∙ one (same_source e.hot (source.Utility index))
       where
         one : (b : Bool) → unwrap_or (if b || false then Some e.duty else None) rational_zero ≡ (if b then e.duty else rational_zero)
         one true = refl
         one false = refl
-    by side.Cold is_cold = sym (ap (λ b. if b then e.duty else rational_zero) (not_of case e.hot index u side.Hot is.hot at (ap (λ s. same_side s side.Hot) is_cold)))
+    by side.Cold is_cold = sym (ap (λ b. if b then e.duty else rational_zero)
+        (not_of case e.hot index u side.Hot is.hot at (ap (λ s. same_side s side.Hot) is_cold)))
 part-own case e side.Cold index u is at = by u.side refl
   where
     by : (s : Side) → u.side ≡ s → (if same_side s side.Cold then unwrap_or (duty_with index e) rational_zero else rational_zero) ≡ own_part side.Cold e index
     by side.Cold is_cold =
         let hot : same_source e.hot (source.Utility index) ≡ false = not_of case e.hot index u side.Hot is.hot at (ap (λ s. same_side s side.Hot) is_cold) in
-        ap (λ b. unwrap_or (if b || same_source e.cold (source.Utility index) then Some e.duty else None) rational_zero) hot ∙ one (same_source e.cold (source.Utility index))
+        ap (λ b. unwrap_or (if b || same_source e.cold (source.Utility index) then Some e.duty else None) rational_zero) hot
+        ∙ one (same_source e.cold (source.Utility index))
       where
         one : (b : Bool) → unwrap_or (if b then Some e.duty else None) rational_zero ≡ (if b then e.duty else rational_zero)
         one true = refl
         one false = refl
-    by side.Hot is_hot = sym (ap (λ b. if b then e.duty else rational_zero) (not_of case e.cold index u side.Cold is.cold at (ap (λ s. same_side s side.Cold) is_hot)))
+    by side.Hot is_hot = sym (ap (λ b. if b then e.duty else rational_zero)
+        (not_of case e.cold index u side.Cold is.cold at (ap (λ s. same_side s side.Cold) is_hot)))
 
 -- the parts of one exchanger: its duty, where its source on the side is a utility
-own-sum : (n : ℕ) (duty : Rational) (of : Source) → ((k : ℕ) → of ≡ source.Utility k → k < n) → rational_sum_by (λ index. if same_source of (source.Utility index) then duty else rational_zero) (range_with_len 0 n) ≡ utility_part duty of
+own-sum : (n : ℕ) (duty : Rational) (of : Source) → ((k : ℕ) → of ≡ source.Utility k → k < n)
+    → rational_sum_by (λ index. if same_source of (source.Utility index) then duty else rational_zero) (range_with_len 0 n) ≡ utility_part duty of
 own-sum n duty (source.Stream stream) within = rational_sum_by-zero (λ index. rational_zero) (range_with_len 0 n) (λ k d inside. refl)
 own-sum n duty (source.Utility k) within =
     one_taken (λ index. if k == index then duty else rational_zero) k 0 n (omega arith) (omega (arith, within k refl))
-    ∙ ap₂ plus (ap (λ b. if b then duty else rational_zero) (eq-eqb k k refl)) (rational_sum_by-zero (but_at (λ index. if k == index then duty else rational_zero) k) (range_with_len 0 n) (λ j d inside. none (get_or (range_with_len 0 n) j d)))
-    ∙ plus-zero duty
+    ∙ ap₂ plus (ap (λ b. if b then duty else rational_zero) (eq-eqb k k refl))
+    (rational_sum_by-zero (but_at (λ index. if k == index then duty else rational_zero) k) (range_with_len 0 n)
+    (λ j d inside. none (get_or (range_with_len 0 n) j d))) ∙ plus-zero duty
   where
     none : (i : ℕ) → but_at (λ index. if k == index then duty else rational_zero) k i ≡ rational_zero
     none i = by (cases_eq i k)
       where
         by : (i ≡ k) ⊎ (i ≢ k) → but_at (λ index. if k == index then duty else rational_zero) k i ≡ rational_zero
         by (inl same) = ap (λ b. if b then rational_zero else (if k == i then duty else rational_zero)) (eq-eqb i k same)
-        by (inr other) = ap (λ b. if b then rational_zero else (if k == i then duty else rational_zero)) (ne_eqb i k other) ∙ ap (λ b. if b then duty else rational_zero) (ne_eqb k i (λ is. other (sym is)))
+        by (inr other) = ap (λ b. if b then rational_zero else (if k == i then duty else rational_zero)) (ne_eqb i k other)
+            ∙ ap (λ b. if b then duty else rational_zero) (ne_eqb k i (λ is. other (sym is)))
 
-side_heat-is : (case : Case) (network : Network) (on : Side) → HasShape case network → ((e : Exchanger) → IsExchanger case e → side_of case (source_on on e) ≡ Some on)
+side_heat-is : (case : Case) (network : Network) (on : Side) → HasShape case network
+    → ((e : Exchanger) → IsExchanger case e → side_of case (source_on on e) ≡ Some on)
     → rational_sum (heats_on on case network) ≡ rational_sum_by (λ e. utility_part e.duty (source_on on e)) (exchangers_of network.lines)
 unfolding heats_on duties_with
 side_heat-is case network on shape sides =
     let es = exchangers_of network.lines in let us = enumerate_from 0 case.utilities in
     sum-filter_map (heat_on on network) us
-    ∙ rational_sum_by-same (λ p. unwrap_or (heat_on on network p) rational_zero) (λ p. rational_sum_by (part_on on p) es) us (λ k d inside. heat (get_or us k d))
-    ∙ rational_sum_by-swap (part_on on) us es
-    ∙ rational_sum_by-same (λ e. rational_sum_by (λ p. part_on on p e) us) (λ e. utility_part e.duty (source_on on e)) es (λ k d inside. one (get_or es k d) (shape.exchangers.each k d inside))
+    ∙ rational_sum_by-same (λ p. unwrap_or (heat_on on network p) rational_zero) (λ p. rational_sum_by (part_on on p) es) us
+    (λ k d inside. heat (get_or us k d)) ∙ rational_sum_by-swap (part_on on) us es
+    ∙ rational_sum_by-same (λ e. rational_sum_by (λ p. part_on on p e) us) (λ e. utility_part e.duty (source_on on e)) es
+    (λ k d inside. one (get_or es k d) (shape.exchangers.each k d inside))
   where
     heat : (p : ℕ × Utility) → unwrap_or (heat_on on network p) rational_zero ≡ rational_sum_by (part_on on p) (exchangers_of network.lines)
     heat (index, u) = by (same_side u.side on)
       where
-        by : (b : Bool) → unwrap_or (if b then Some (heat_with network index) else None) rational_zero ≡ rational_sum_by (λ e. if b then unwrap_or (duty_with index e) rational_zero else rational_zero) (exchangers_of network.lines)
+        by : (b : Bool) → unwrap_or (if b then Some (heat_with network index) else None) rational_zero ≡ rational_sum_by
+            (λ e. if b then unwrap_or (duty_with index e) rational_zero else rational_zero) (exchangers_of network.lines)
         by true = sum-filter_map (duty_with index) (exchangers_of network.lines)
         by false = sym (rational_sum_by-zero (λ e. rational_zero) (exchangers_of network.lines) (λ k d inside. refl))
 
     one : (e : Exchanger) → IsExchanger case e → rational_sum_by (λ p. part_on on p e) (enumerate_from 0 case.utilities) ≡ utility_part e.duty (source_on on e)
     one e is =
         sum-enumerate (λ p. part_on on p e) (own_part on e) case.utilities (λ index u at. part-own case e on index u is at)
-        ∙ own-sum (length case.utilities) e.duty (source_on on e) (λ k is_k. let there = IsSourceOf-side case (source_on on e) (ap is_some (sides e is)) in subst (IsSourceOf case) is_k there)
+        ∙ own-sum (length case.utilities) e.duty (source_on on e)
+        (λ k is_k. let there = IsSourceOf-side case (source_on on e) (ap is_some (sides e is)) in subst (IsSourceOf case) is_k there)
 
 pub hot_heat-is : (case : Case) (network : Network) → HasShape case network → rational_sum (heats_on side.Hot case network) ≡ hot_heat network
 hot_heat-is case network shape = side_heat-is case network side.Hot shape (λ e is. is.hot)

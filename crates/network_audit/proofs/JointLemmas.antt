@@ -1,22 +1,18 @@
 -- The table of the exchangers: as it is filled, and what it holds.
-use Rattle.std.proofs.Common.{◌≡◌, ◌≢◌, ◌∙◌, ◌<◌, ◌+◌, ◌∷◌, ◌++◌, ◌==◌, ◌&&◌, ℕ, zero, suc, Bool, true, false, cond, List, [], Option, Some, None, All, slice_get, length, get_or, map, set, take, refl, sym, ap, ap₂, arith, if◌then◌else◌, filter_map, find, eq-eqb, ne_eqb, append-nil}
-use Rattle.std.specs.List.{cons_option, enumerate_from}
-use Rattle.std.specs.Option.{option_or}
-use Rattle.std.proofs.lemmas.List.{length-map, map-append, take_more}
-use Rattle.std.proofs.lemmas.List.Elements.{filter_map-append}
-use Rattle.std.proofs.lemmas.List.Folds.{find-append}
-use Rattle.std.proofs.lemmas.List.FromFn.{length-enumerate_from}
-use Rattle.std.proofs.lemmas.Option.{none-some, same_Some, slice_get-get_or}
-use Rattle.sums.proofs.EnumerationLemmas.{enumerate_from-append}
-use Rattle.network_audit.proofs.Words.{Branch, Case, Crossing, Exchanger, HasShape, Joint, Line, NamesKnown, Network, PassesBelow, Rational, Source, crossing_among, crossing_by, exchanger_of, exchangers_of, is_pass_of, joint_among, joints_among, noted, passed_joint, stream_at}
-use Rattle.stream_case.specs.declared.source.Source.TheVariants as source
+use Rattle.network_audit.proofs.Words.{Branch, Case, Crossing, Exchanger, HasShape, Joint, Line, NamesKnown, Network, PassesBelow, Rational, Source}
+use Rattle.network_audit.proofs.Words.{cons_option, crossing_among, crossing_by, enumerate_from, enumerate_from-append, exchanger_of, exchangers_of}
+use Rattle.network_audit.proofs.Words.{filter_map-append, find-append, is_pass_of, joint_among, joints_among, length-enumerate_from, length-map, map-append}
+use Rattle.network_audit.proofs.Words.{names-known, none-some, noted, option_or, passed_joint, same_Some, slice_get-get_or, stream_at, take_more}
+use Rattle.std.proofs.Common.{All, Bool, List, None, Option, Some, [], ap, append-nil, ap₂, arith, cond, eq-eqb, false, filter_map, find, get_or, if◌then◌else◌}
+use Rattle.std.proofs.Common.{length, map, ne_eqb, refl, set, slice_get, suc, sym, take, true, zero, ℕ, ◌&&◌, ◌++◌, ◌+◌, ◌<◌, ◌==◌, ◌∙◌, ◌∷◌, ◌≡◌, ◌≢◌}
 use Rattle.networks.specs.declared.network.Line.TheVariants as line
-use Rattle.networks.proofs.OfShape.{names-known}
+use Rattle.stream_case.specs.declared.source.Source.TheVariants as source
 
 -- ---- lists made of members with their indices
 
 module _ {X Y : Type 0} where
-  pub get_or-made : (f : ℕ × X → Y) (m : ℕ) (xs : List X) (i : ℕ) (x : X) (d : Y) → slice_get xs i ≡ Some x → get_or (map f (enumerate_from m xs)) i d ≡ f (m + i, x)
+  pub get_or-made : (f : ℕ × X → Y) (m : ℕ) (xs : List X) (i : ℕ) (x : X) (d : Y) → slice_get xs i ≡ Some x
+      → get_or (map f (enumerate_from m xs)) i d ≡ f (m + i, x)
   get_or-made f m [] i x d at = absurd (none-some x at)
   get_or-made f m (y ∷ ys) zero x d at = ap₂ (λ n z. f (n, z)) (omega arith) (same_Some y x at)
   get_or-made f m (y ∷ ys) (suc i) x d at = get_or-made f (m + 1) ys i x d at ∙ ap (λ n. f (n, x)) (omega arith)
@@ -31,10 +27,12 @@ none_among branches n (source.Stream stream) = refl
 none_among branches n (source.Utility index) = refl
 
 joint-unpassed : (branches : List Branch) (n : ℕ) (e : Exchanger) → joint_among branches [] (n, e) ≡ unpassed e
-joint-unpassed branches n e = λ i. record { hot = e.hot; cold = e.cold; duty = e.duty; given = none_among branches n e.hot i; taken = none_among branches n e.cold i }
+joint-unpassed branches n e =
+    λ i. record { hot = e.hot; cold = e.cold; duty = e.duty; given = none_among branches n e.hot i; taken = none_among branches n e.cold i }
 
 -- one exchanger more
-pub joints-push : (branches : List Branch) (es : List Exchanger) (e : Exchanger) → joints_among branches [] (es ++ e ∷ []) ≡ joints_among branches [] es ++ unpassed e ∷ []
+pub joints-push : (branches : List Branch) (es : List Exchanger) (e : Exchanger)
+    → joints_among branches [] (es ++ e ∷ []) ≡ joints_among branches [] es ++ unpassed e ∷ []
 unfolding joints_among
 joints-push branches es e =
     ap (map (joint_among branches [])) (enumerate_from-append 0 es (e ∷ []))
@@ -60,7 +58,8 @@ find_holds p (y ∷ ys) x found = by (p y) refl (find_holds p ys x) found
     by false is later found = later found
 
 -- a pass that was found is kept
-kept : (branches : List Branch) (n stream : ℕ) (l : Line) (more : ℕ) (crossing : Crossing) → is_pass_of branches n stream l ≡ true → noted (source.Stream stream) more crossing (crossing_by (Some l)) ≡ crossing_by (Some l)
+kept : (branches : List Branch) (n stream : ℕ) (l : Line) (more : ℕ) (crossing : Crossing) → is_pass_of branches n stream l ≡ true
+    → noted (source.Stream stream) more crossing (crossing_by (Some l)) ≡ crossing_by (Some l)
 kept branches n stream (line.Exchanger name hot cold duty) more crossing is = cc is
 kept branches n stream (line.Split from first cp second) more crossing is = cc is
 kept branches n stream (line.Pass from through to) more crossing is = refl
@@ -69,7 +68,8 @@ kept branches n stream (line.End branch) more crossing is = cc is
 
 -- the pass on the side of a source of the exchanger that one line more passes
 crossing-here : (branches : List Branch) (lines : List Line) (from n to : ℕ) (of : Source)
-    → crossing_among branches (lines ++ line.Pass from n to ∷ []) n of ≡ noted of (stream_at branches from) (record { from = from; to = to }) (crossing_among branches lines n of)
+    → crossing_among branches (lines ++ line.Pass from n to ∷ []) n of ≡ noted of (stream_at branches from) (record { from = from; to = to })
+    (crossing_among branches lines n of)
 crossing-here branches lines from n to (source.Utility index) = refl
 crossing-here branches lines from n to (source.Stream stream) =
     ap crossing_by (find-append (is_pass_of branches n stream) lines (line.Pass from n to ∷ [])) ∙ by (find (is_pass_of branches n stream) lines) refl
@@ -80,12 +80,15 @@ crossing-here branches lines from n to (source.Stream stream) =
     one false c is = cc is
 
     by : (o : Option Line) → find (is_pass_of branches n stream) lines ≡ o
-        → crossing_by (option_or o (find (is_pass_of branches n stream) (line.Pass from n to ∷ []))) ≡ noted (source.Stream stream) (stream_at branches from) (record { from = from; to = to }) (crossing_by o)
+        → crossing_by (option_or o (find (is_pass_of branches n stream) (line.Pass from n to ∷ []))) ≡ noted (source.Stream stream) (stream_at branches from)
+        (record { from = from; to = to }) (crossing_by o)
     by None is = one (n == n) (stream == stream_at branches from) (eq-eqb n n refl)
-    by (Some l) is = sym (kept branches n stream l (stream_at branches from) (record { from = from; to = to }) (find_holds (is_pass_of branches n stream) lines l is))
+    by (Some l) is = sym (kept branches n stream l (stream_at branches from) (record { from = from; to = to })
+        (find_holds (is_pass_of branches n stream) lines l is))
 
 -- a line that does not pass an exchanger on the side of a stream changes nothing there
-found_same : (branches : List Branch) (lines : List Line) (l : Line) (n stream : ℕ) → is_pass_of branches n stream l ≡ false → find (is_pass_of branches n stream) (lines ++ l ∷ []) ≡ find (is_pass_of branches n stream) lines
+found_same : (branches : List Branch) (lines : List Line) (l : Line) (n stream : ℕ) → is_pass_of branches n stream l ≡ false
+    → find (is_pass_of branches n stream) (lines ++ l ∷ []) ≡ find (is_pass_of branches n stream) lines
 found_same branches lines l n stream other = find-append (is_pass_of branches n stream) lines (l ∷ []) ∙ by (find (is_pass_of branches n stream) lines)
   where
     none : find (is_pass_of branches n stream) (l ∷ []) ≡ None
@@ -95,16 +98,23 @@ found_same branches lines l n stream other = find-append (is_pass_of branches n 
     by None = none
     by (Some m) = refl
 
-crossing-other : (branches : List Branch) (lines : List Line) (l : Line) (n : ℕ) (of : Source) → ((stream : ℕ) → is_pass_of branches n stream l ≡ false) → crossing_among branches (lines ++ l ∷ []) n of ≡ crossing_among branches lines n of
+crossing-other : (branches : List Branch) (lines : List Line) (l : Line) (n : ℕ) (of : Source) → ((stream : ℕ) → is_pass_of branches n stream l ≡ false)
+    → crossing_among branches (lines ++ l ∷ []) n of ≡ crossing_among branches lines n of
 crossing-other branches lines l n (source.Stream stream) other = ap crossing_by (found_same branches lines l n stream (other stream))
 crossing-other branches lines l n (source.Utility index) other = refl
 
-joint-other : (branches : List Branch) (lines : List Line) (l : Line) (n : ℕ) (e : Exchanger) → ((stream : ℕ) → is_pass_of branches n stream l ≡ false) → joint_among branches (lines ++ l ∷ []) (n, e) ≡ joint_among branches lines (n, e)
-joint-other branches lines l n e other = λ i. record { hot = e.hot; cold = e.cold; duty = e.duty; given = crossing-other branches lines l n e.hot other i; taken = crossing-other branches lines l n e.cold other i }
+joint-other : (branches : List Branch) (lines : List Line) (l : Line) (n : ℕ) (e : Exchanger) → ((stream : ℕ) → is_pass_of branches n stream l ≡ false)
+    → joint_among branches (lines ++ l ∷ []) (n, e) ≡ joint_among branches lines (n, e)
+joint-other branches lines l n e other =
+    let crossed = λ (side : Source). crossing-other branches lines l n side other in
+    λ i. record { hot = e.hot; cold = e.cold; duty = e.duty; given = crossed e.hot i; taken = crossed e.cold i }
 
 joint-here : (branches : List Branch) (lines : List Line) (from n to : ℕ) (e : Exchanger)
-    → joint_among branches (lines ++ line.Pass from n to ∷ []) (n, e) ≡ passed_joint (stream_at branches from) (record { from = from; to = to }) (joint_among branches lines (n, e))
-joint-here branches lines from n to e = λ i. record { hot = e.hot; cold = e.cold; duty = e.duty; given = crossing-here branches lines from n to e.hot i; taken = crossing-here branches lines from n to e.cold i }
+    → joint_among branches (lines ++ line.Pass from n to ∷ []) (n, e) ≡ passed_joint (stream_at branches from) (record { from = from; to = to })
+    (joint_among branches lines (n, e))
+joint-here branches lines from n to e =
+    let crossed = λ (side : Source). crossing-here branches lines from n to side in
+    λ i. record { hot = e.hot; cold = e.cold; duty = e.duty; given = crossed e.hot i; taken = crossed e.cold i }
 
 passes-other : (branches : List Branch) (from k to n stream : ℕ) → n ≢ k → is_pass_of branches n stream (line.Pass from k to) ≡ false
 passes-other branches from k to n stream other = ap (λ b. b && (stream == stream_at branches from)) (ne_eqb n k other)
@@ -114,9 +124,11 @@ passes-other branches from k to n stream other = ap (λ b. b && (stream == strea
 module _ {X Y : Type 0} (f g : ℕ × X → Y) where
   map-unchanged : (k m : ℕ) (xs : List X) → ((n : ℕ) (x : X) → n ≢ k → g (n, x) ≡ f (n, x)) → k < m → map g (enumerate_from m xs) ≡ map f (enumerate_from m xs)
   map-unchanged k m [] same before = refl
-  map-unchanged k m (x ∷ xs) same before = ap₂ (λ y ys. y ∷ ys) (same m x (λ is. omega (arith, is, before))) (map-unchanged k (m + 1) xs same (omega (arith, before)))
+  map-unchanged k m (x ∷ xs) same before = ap₂ (λ y ys. y ∷ ys) (same m x (λ is. omega (arith, is, before)))
+      (map-unchanged k (m + 1) xs same (omega (arith, before)))
 
-  map-changed : (change : Y → Y) (k m : ℕ) (xs : List X) (j : ℕ) (d : Y) → ((x : X) → g (k, x) ≡ change (f (k, x))) → ((n : ℕ) (x : X) → n ≢ k → g (n, x) ≡ f (n, x))
+  map-changed : (change : Y → Y) (k m : ℕ) (xs : List X) (j : ℕ) (d : Y) → ((x : X) → g (k, x) ≡ change (f (k, x)))
+      → ((n : ℕ) (x : X) → n ≢ k → g (n, x) ≡ f (n, x))
       → k ≡ m + j → j < length xs → map g (enumerate_from m xs) ≡ set (map f (enumerate_from m xs)) j (change (get_or (map f (enumerate_from m xs)) j d))
   map-changed change k m [] j d here same at within = absurd (omega (arith, within))
   map-changed change k m (x ∷ xs) zero d here same at within =
@@ -128,22 +140,24 @@ module _ {X Y : Type 0} (f g : ℕ × X → Y) where
 -- the table behind a line that passes an exchanger
 pub joints-passed : (branches : List Branch) (lines : List Line) (es : List Exchanger) (from k to : ℕ) (d : Joint) → k < length es
     → joints_among branches (lines ++ line.Pass from k to ∷ []) es
-    ≡ set (joints_among branches lines es) k (passed_joint (stream_at branches from) (record { from = from; to = to }) (get_or (joints_among branches lines es) k d))
+    ≡ set (joints_among branches lines es) k (passed_joint (stream_at branches from) (record { from = from; to = to })
+    (get_or (joints_among branches lines es) k d))
 unfolding joints_among
 joints-passed branches lines es from k to d within =
-    map-changed (joint_among branches lines) (joint_among branches (lines ++ line.Pass from k to ∷ [])) (passed_joint (stream_at branches from) (record { from = from; to = to })) k 0 es k d
-    (λ e. joint-here branches lines from k to e)
-    (λ n e other. joint-other branches lines (line.Pass from k to) n e (λ stream. passes-other branches from k to n stream other))
-    (omega arith) within
+    map-changed (joint_among branches lines) (joint_among branches (lines ++ line.Pass from k to ∷ []))
+    (passed_joint (stream_at branches from) (record { from = from; to = to })) k 0 es k d (λ e. joint-here branches lines from k to e)
+    (λ n e other. joint-other branches lines (line.Pass from k to) n e (λ stream. passes-other branches from k to n stream other)) (omega arith) within
 
 -- the table behind a line that passes none
 abbrev pub PassesNone : Line → Type 0
 PassesNone l = (branches : List Branch) (n stream : ℕ) → is_pass_of branches n stream l ≡ false
 
-pub joints-same : (branches : List Branch) (lines : List Line) (es : List Exchanger) (l : Line) → PassesNone l → joints_among branches (lines ++ l ∷ []) es ≡ joints_among branches lines es
+pub joints-same : (branches : List Branch) (lines : List Line) (es : List Exchanger) (l : Line) → PassesNone l
+    → joints_among branches (lines ++ l ∷ []) es ≡ joints_among branches lines es
 unfolding joints_among
 joints-same branches lines es l none =
-    let same : (p : ℕ × Exchanger) → joint_among branches (lines ++ l ∷ []) p ≡ joint_among branches lines p = λ p. joint-other branches lines l p.0 p.1 (none branches p.0) in
+    let same : (p : ℕ × Exchanger) → joint_among branches (lines ++ l ∷ []) p ≡ joint_among branches lines p = λ p. joint-other branches lines l p.0 p.1
+    (none branches p.0) in
     λ i. map (λ p. same p i) (enumerate_from 0 es)
 
 -- ---- line by line
@@ -163,23 +177,29 @@ no_pass (line.Mix first second to) other branches n stream = refl
 no_pass (line.End branch) other branches n stream = refl
 
 -- what the first lines declare, and the next one
-declared-next : (lines : List Line) (n : ℕ) (l : Line) → n < length lines → l ≡ get_or lines n l → exchangers_of (take (n + 1) lines) ≡ exchangers_of (take n lines) ++ exchangers_of (l ∷ [])
+declared-next : (lines : List Line) (n : ℕ) (l : Line) → n < length lines → l ≡ get_or lines n l
+    → exchangers_of (take (n + 1) lines) ≡ exchangers_of (take n lines) ++ exchangers_of (l ∷ [])
 unfolding exchangers_of
 declared-next lines n l within read =
-    ap (filter_map exchanger_of) (take_more lines n l within) ∙ filter_map-append exchanger_of (take n lines) (get_or lines n l ∷ []) ∙ ap (λ m. filter_map exchanger_of (take n lines) ++ filter_map exchanger_of (m ∷ [])) (sym read)
+    ap (filter_map exchanger_of) (take_more lines n l within) ∙ filter_map-append exchanger_of (take n lines) (get_or lines n l ∷ [])
+    ∙ ap (λ m. filter_map exchanger_of (take n lines) ++ filter_map exchanger_of (m ∷ [])) (sym read)
 
-pub declared-some : (branches : List Branch) (lines : List Line) (n : ℕ) (l : Line) (name : List ℕ) (hot cold : Source) (duty : Rational) → n < length lines → l ≡ get_or lines n l → l ≡ line.Exchanger name hot cold duty
-    → joints_among branches [] (exchangers_of (take (n + 1) lines)) ≡ joints_among branches [] (exchangers_of (take n lines)) ++ record { hot = hot; cold = cold; duty = duty; given = None; taken = None } ∷ []
+pub declared-some : (branches : List Branch) (lines : List Line) (n : ℕ) (l : Line) (name : List ℕ) (hot cold : Source) (duty : Rational) → n < length lines
+    → l ≡ get_or lines n l → l ≡ line.Exchanger name hot cold duty
+    → joints_among branches [] (exchangers_of (take (n + 1) lines)) ≡ joints_among branches []
+    (exchangers_of (take n lines)) ++ record { hot = hot; cold = cold; duty = duty; given = None; taken = None } ∷ []
 unfolding exchangers_of
 declared-some branches lines n l name hot cold duty within read is =
     ap (joints_among branches []) (declared-next lines n l within read ∙ ap (λ m. exchangers_of (take n lines) ++ exchangers_of (m ∷ [])) is)
     ∙ joints-push branches (exchangers_of (take n lines)) (record { name = name; hot = hot; cold = cold; duty = duty })
 
-pub declared-other : (branches : List Branch) (lines : List Line) (n : ℕ) (l : Line) → n < length lines → l ≡ get_or lines n l → ((name : List ℕ) (hot cold : Source) (duty : Rational) → l ≡ line.Exchanger name hot cold duty → ⊥)
+pub declared-other : (branches : List Branch) (lines : List Line) (n : ℕ) (l : Line) → n < length lines → l ≡ get_or lines n l
+    → ((name : List ℕ) (hot cold : Source) (duty : Rational) → l ≡ line.Exchanger name hot cold duty → ⊥)
     → joints_among branches [] (exchangers_of (take (n + 1) lines)) ≡ joints_among branches [] (exchangers_of (take n lines))
 unfolding exchangers_of
 declared-other branches lines n l within read other =
-    ap (joints_among branches []) (declared-next lines n l within read ∙ ap (λ o. exchangers_of (take n lines) ++ cons_option o []) (no_exchanger l other) ∙ append-nil (exchangers_of (take n lines)))
+    ap (joints_among branches []) (declared-next lines n l within read ∙ ap (λ o. exchangers_of (take n lines) ++ cons_option o []) (no_exchanger l other)
+    ∙ append-nil (exchangers_of (take n lines)))
 
 -- ---- passes of exchangers that are there
 
@@ -192,4 +212,5 @@ below_from_known case network (line.End branch) known = tt
 
 pub passes_below : (case : Case) (network : Network) → HasShape case network → All (PassesBelow (length (exchangers_of network.lines))) network.lines
 passes_below case network shape k d within =
-    below_from_known case network (get_or network.lines k d) (names-known case network shape k (get_or network.lines k d) (slice_get-get_or network.lines k d within))
+    below_from_known case network (get_or network.lines k d)
+    (names-known case network shape k (get_or network.lines k d) (slice_get-get_or network.lines k d within))

@@ -1,29 +1,23 @@
 -- The numbers that statements and exchangers form are within the limits where what the branches carry leaves room.
-use Rattle.std.proofs.Common.{◌≡◌, ◌∙◌, ◌∷◌, ◌+◌, ◌*◌, ◌<◌, ◌≤◌, ◌+ℤ◌, ⊎_elim, ℕ, ℤ, pos, Bool, true, false, List, [], Option, Some, None, All, slice_get, length, unsigned_abs, refl, sym, ap, subst, arith, if◌then◌else◌}
-use Rattle.std.specs.Option.{option_map_or}
-use Rattle.std.proofs.Math.Nat.{mul-le-mul, mul-pos}
-use Rattle.std.proofs.lemmas.Option.{same_Some}
-use Rattle.std.proofs.lemmas.Bool.{cases_lt}
-use Rattle.std.proofs.lemmas.Int.{ints}
-use Rattle.std.proofs.lemmas.List.{get_or_past}
-use Rattle.std.proofs.lemmas.List.Elements.{All-from_recursion}
-use Rattle.network_audit.proofs.Words.{BranchValue, Case, Exchanger, HasShape, IsBelow, IsBetween, IsComplete, IsContribution, IsFormed, IsLevel, IsMix, IsPass, IsSplit, IsTemperature, IsValidStream, IsWholeValuation, IsWithinLimits, Item, Line, MOST_CONTRIBUTION, Network, Place, Rational, Side, Solves, Source, Step, Stream, Utility, Valuation, approach_of, branch_side, change, contribution_of, duty_at, end_items, ends_of, exchanger_items_at, fixed_level, high_of, is_latent, is_latent_branch, level_or, line_items, load_items, low_of, mean_items, minus, mix_items, moved, no_value, over, pass_items, pass_of, pass_run, passed_run, plus, rational_eq, rational_zero, run_between, side_items, side_run, split_items, stream_at, stream_level, times, value_at, whole}
+use Rattle.network_audit.proofs.Words.{All-from_recursion, BranchValue, Case, Exchanger, HasShape, HasValidStreams-IsComplete, IsBelow, IsBetween, IsComplete}
+use Rattle.network_audit.proofs.Words.{IsContribution, IsFormed, IsLevel, IsMix, IsPass, IsSplit, IsTemperature, IsUtility, IsValidStream, IsWholeValuation}
+use Rattle.network_audit.proofs.Words.{IsWithinLimits, Item, Line, MOST_CONTRIBUTION, Network, Place, Rational, Side, Solves, Source, StaysValid-IsComplete}
+use Rattle.network_audit.proofs.Words.{Step, Stream, Utility, Valuation, all_at, all_solved, branch_above, branch_side, cases_lt, change, duty_at, end_items}
+use Rattle.network_audit.proofs.Words.{ends_of, exchanger_items_at, fixed_level, get_or_past, ints, is_latent, is_latent_branch, level_or, line_items}
+use Rattle.network_audit.proofs.Words.{load_items, mean_items, minus, mix_determined, mix_items, mixed_positive, moved, mul-le-mul, mul-pos, names-known}
+use Rattle.network_audit.proofs.Words.{no_value, option_map_or, over, over_from_times, pass_determined, pass_items, pass_of, pass_run, passed_run, plus}
+use Rattle.network_audit.proofs.Words.{positive-nonzero, rational_eq, rational_zero, run_between, same_Some, side_items, side_run, split_determined}
+use Rattle.network_audit.proofs.Words.{split_items, stream_at, times, times-zero, times_comm, value_at, whole, whole-plus, within-whole, zero-plus}
+use Rattle.network_audit.proofs.FormedLemmas.{AreFormed, formed-none, formed-step}
+use Rattle.network_audit.proofs.Sized.{IsSized, most_den, sized-minus, sized-plus, sized-times, sized-whole, sized-within}
+use Rattle.network_values.specs.Sides.{approach_of, contribution_of, high_of, low_of, stream_level}
+use Rattle.std.proofs.Common.{All, Bool, List, None, Option, Some, [], ap, arith, false, if◌then◌else◌, length, pos, refl, slice_get, subst, sym, true, ℕ, ℤ}
+use Rattle.std.proofs.Common.{⊎_elim, ◌*◌, ◌+ℤ◌, ◌+◌, ◌<◌, ◌∙◌, ◌∷◌, ◌≡◌, ◌≤◌}
+pub use Rattle.network_audit.specs.Sized.{AreSmall, most_approach}
+use Rattle.network_audit.specs.declared.findings.Place.TheVariants as place
+use Rattle.networks.specs.declared.network.Line.TheVariants as line
 use Rattle.stream_case.specs.declared.source.Side.TheVariants as side
 use Rattle.stream_case.specs.declared.source.Source.TheVariants as source
-use Rattle.stream_case.proofs.CompleteLemmas.{HasValidStreams-IsComplete, IsUtility, StaysValid-IsComplete}
-use Rattle.fractions.proofs.Comparisons.{positive-nonzero}
-use Rattle.fractions.proofs.Limits.{within-whole}
-use Rattle.fractions.proofs.Products.{over_from_times, times-zero, times_comm}
-use Rattle.fractions.proofs.Sums.{zero-plus}
-use Rattle.fractions.proofs.Wholes.{whole-plus}
-use Rattle.networks.specs.declared.network.Line.TheVariants as line
-use Rattle.networks.proofs.Lists.{all_at}
-use Rattle.networks.proofs.OfShape.{names-known}
-use Rattle.network_values.proofs.LineLemmas.{mix_determined, mixed_positive, pass_determined, split_determined}
-use Rattle.network_values.proofs.WholeLemmas.{all_solved, branch_above}
-use Rattle.network_audit.specs.declared.findings.Place.TheVariants as place
-use Rattle.network_audit.proofs.FormedLemmas.{AreFormed, formed-none, formed-step}
-use Rattle.network_audit.proofs.Sized.{IsSized, most_den, most_num, sized-minus, sized-plus, sized-times, sized-whole, sized-within}
 
 -- ---- what a branch carries
 
@@ -49,19 +43,6 @@ roomy_none = record {
   wanted = λ approach is. subst IsWithinLimits (sym (zero-plus (whole approach)))
       (within-whole approach (let from = is.from in let upto = is.upto in omega (arith, ints, from, upto)));
 }
-
--- the greatest approach
-abbrev pub most_approach : ℕ
-most_approach = unsigned_abs (MOST_CONTRIBUTION +ℤ MOST_CONTRIBUTION)
-
--- a size up to m over d and a state up to n over e are small enough together
-pub record AreSmall (d m e n : ℕ) : Type 0 where
-  pub size_den : 0 < d
-  pub state_den : 0 < e
-  pub dens : d * e ≤ most_den
-  pub size : m * d ≤ most_num
-  pub state : (n + n + most_approach) * e ≤ most_num
-  pub heat : m * n * (d * e) ≤ most_num
 
 factors : (d e most : ℕ) → 0 < d → 0 < e → d * e ≤ most → (d ≤ most) × (e ≤ most)
 factors d e most some_d some_e both =
@@ -128,8 +109,7 @@ load_formed at true state = All-from_recursion IsFormed (load_items at true stat
 
 -- a pass forms the change of the state, and the state behind it
 pub pass_formed : (at : Place) (of : Side) (latent : Bool) (duty : Rational) (from to : BranchValue) → IsBelow rational_zero from.cp → IsPass of duty from to
-    → IsRoomy to
-    → IsWithinLimits (change of from.t to.t) → AreFormed (pass_items at of latent from duty)
+    → IsRoomy to → IsWithinLimits (change of from.t to.t) → AreFormed (pass_items at of latent from duty)
 pass_formed at of latent duty from to positive pass roomy change_within =
     let by = change of from.t to.t in
     let after = moved of from.t (over duty from.cp) in
@@ -150,25 +130,22 @@ mix_formed at first second to positive mix one two both =
     let state = subst IsWithinLimits (ap (λ (v : BranchValue). v.t) (mix_determined first second to positive mix)) both.state in
     let means = mean_items at first second (plus first.cp second.cp) in
     let rest : AreFormed means = All-from_recursion IsFormed means (one.heat, (two.heat, (heat, (state, tt)))) in
-    formed-step at 1 (plus first.cp second.cp) (if rational_eq first.t second.t then [] else means) size (formed-if (rational_eq first.t second.t) means rest)
+    formed-step _ _ _ _ size (formed-if (rational_eq first.t second.t) means rest)
 
 end_formed : (at : Place) (value : BranchValue) (o : Option Stream) → AreFormed (end_items at value o)
 end_formed at value None = formed-none
 end_formed at value (Some s) = All-from_recursion IsFormed (end_items at value (Some s)) (tt, (tt, tt))
 
 pub lines_formed : (case : Case) (network : Network) (values : Valuation) → HasShape case network → IsWholeValuation case network values
-    → HasRoom case network values
-    → (k : ℕ) (l : Line) → slice_get network.lines k ≡ Some l → AreFormed (line_items case network values (place.Line (k + 1)) l)
+    → HasRoom case network values → (k : ℕ) (l : Line) → slice_get network.lines k ≡ Some l → AreFormed (line_items case network values (place.Line (k + 1)) l)
 lines_formed case network values shape valuation room k (line.Exchanger name hot cold duty) here = formed-none
 lines_formed case network values shape valuation room k (line.Split from first cp second) here =
     split_formed (place.Line (k + 1)) (value_at values from) (value_at values first) (value_at values second) cp
-    (all_at (Solves case network values) network.lines k (line.Split from first cp second) (all_solved valuation) here)
-    (roomy_at values room.branches second)
+    (all_at (Solves case network values) network.lines k (line.Split from first cp second) (all_solved valuation) here) (roomy_at values room.branches second)
 lines_formed case network values shape valuation room k (line.Pass from exchanger to) here =
     let known = names-known case network shape k (line.Pass from exchanger to) here in
     pass_formed (place.Line (k + 1)) (branch_side case network from) (is_latent_branch case network from) (duty_at network exchanger)
-    (value_at values from) (value_at values to)
-    (branch_above valuation shape from known.0)
+    (value_at values from) (value_at values to) (branch_above valuation shape from known.0)
     (all_at (Solves case network values) network.lines k (line.Pass from exchanger to) (all_solved valuation) here) (roomy_at values room.branches to)
     (room.changes k from exchanger to here)
 lines_formed case network values shape valuation room k (line.Mix first second to) here =
@@ -230,13 +207,8 @@ wanted-level level approach is asked =
 
 -- what holds of the states of all branches and of all levels holds of both ends of a side
 module _
-    (P : Rational → Type 0)
-    (case : Case)
-    (network : Network)
-    (values : Valuation)
-    (each : (branch : ℕ) → P (value_at values branch).t)
-    (levels : (s : Source) (level : ℤ) → fixed_level case s ≡ Some level → P (whole level))
-    (none : P rational_zero)
+    (P : Rational → Type 0) (case : Case) (network : Network) (values : Valuation) (each : (branch : ℕ) → P (value_at values branch).t)
+    (levels : (s : Source) (level : ℤ) → fixed_level case s ≡ Some level → P (whole level)) (none : P rational_zero)
   where
     between_keeps : (of : Side) (from to : ℕ)
         → P (low_of (run_between of (value_at values from) (value_at values to))) × P (high_of (run_between of (value_at values from) (value_at values to)))

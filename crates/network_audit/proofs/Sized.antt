@@ -1,25 +1,9 @@
 -- Numbers over a denominator, of a size up to some bound: what is made of them, and when they are within the limits of a fraction.
-use Rattle.std.proofs.Common.{◌≡◌, ◌∙◌, ◌+◌, ◌*◌, ◌^◌, ◌<◌, ◌≤◌, ◌+ℤ◌, ◌-ℤ◌, ◌*ℤ◌, ℕ, ℤ, pos, unsigned_abs, sym, ap₂, subst, arith}
-use Rattle.std.proofs.Math.Nat.{mul-le-mul}
-use Rattle.std.proofs.lemmas.Int.{ints, unsigned_abs-mul}
-use Rattle.fractions.specs.Rationals.{IsAtMost, IsWithinLimits, Rational, minus, plus, ratio, rational_zero, times, whole}
 use Rattle.fractions.proofs.Comparisons.{at_most_from_ratio_whole, not_negative_from_ratio}
-use Rattle.fractions.proofs.Limits.{within-ratio}
-use Rattle.fractions.proofs.Ratios.{minus-ratio_same_den, plus-ratio_same_den, times-ratio}
-use Rattle.fractions.proofs.Wholes.{ratio-multiple}
-
--- the limits of a fraction
-abbrev pub most_den : ℕ
-most_den = 2 ^ 48
-
-abbrev pub most_num : ℕ
-most_num = 2 ^ 76
-
--- a is a whole number over d, from -m to m
-pub record IsSized (d m : ℕ) (a : Rational) : Type 0 where
-  pub num : ℤ
-  pub is : a ≡ ratio num d
-  pub small : unsigned_abs num ≤ m * d
+use Rattle.network_audit.proofs.Words.{IsAtMost, IsWithinLimits, Rational, ints, minus, minus-ratio_same_den, mul-le-mul, plus, plus-ratio_same_den, ratio}
+use Rattle.network_audit.proofs.Words.{ratio-multiple, rational_zero, times, times-ratio, unsigned_abs-mul, whole, within-ratio}
+use Rattle.std.proofs.Common.{ap₂, arith, pos, subst, sym, unsigned_abs, ℕ, ℤ, ◌*ℤ◌, ◌*◌, ◌+ℤ◌, ◌+◌, ◌-ℤ◌, ◌<◌, ◌∙◌, ◌≡◌, ◌≤◌}
+pub use Rattle.network_audit.specs.Sized.{IsSized, most_den, most_num}
 
 pub sized-within : (d m : ℕ) (a : Rational) → 0 < d → d ≤ most_den → m * d ≤ most_num → IsSized d m a → IsWithinLimits a
 sized-within d m a some den most sized =
@@ -28,7 +12,8 @@ sized-within d m a some den most sized =
 -- a larger bound
 pub sized-more : (d m n : ℕ) (a : Rational) → m ≤ n → IsSized d m a → IsSized d n a
 sized-more d m n a more sized =
-    let small = sized.small in let larger : m * d ≤ n * d = mul-le-mul more (omega arith) in record { num = sized.num; is = sized.is; small = omega (arith, small, larger) }
+    let small = sized.small in let larger : m * d ≤ n * d = mul-le-mul more
+    (omega arith) in record { num = sized.num; is = sized.is; small = omega (arith, small, larger) }
 
 -- whole numbers, over any denominator
 pub sized-whole : (d m : ℕ) (n : ℤ) → 0 < d → unsigned_abs n ≤ m → IsSized d m (whole n)

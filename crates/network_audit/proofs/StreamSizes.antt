@@ -1,10 +1,9 @@
 -- The full size of a stream of a case and its first state are whole numbers within the limits of a case.
-use Rattle.std.proofs.Common.{◌≤◌, ◌⊎◌, inl, inr, ℕ, pos, ◌+ℤ◌, Bool, true, false, unsigned_abs, arith, if◌then◌else◌}
-use Rattle.std.proofs.lemmas.Int.{ints}
-use Rattle.network_audit.proofs.Words.{HIGHEST_LEVEL, IsAtMost, IsBetween, IsLatent, IsSensible, IsValidStream, MOST_LOAD, Side, Stream, first_part_of_load, first_state, full_size, is_latent, whole}
-use Rattle.stream_case.specs.declared.source.Side.TheVariants as side
-use Rattle.fractions.proofs.Comparisons.{at_most-whole}
+use Rattle.network_audit.proofs.Words.{HIGHEST_LEVEL, IsAtMost, IsBetween, IsLatent, IsSensible, IsValidStream, MOST_LOAD, Side, Stream, at_most-whole}
+use Rattle.network_audit.proofs.Words.{first_part_of_load, first_state, full_size, ints, is_latent, whole}
 use Rattle.network_audit.proofs.Sized.{IsSized, sized-whole}
+use Rattle.std.proofs.Common.{Bool, arith, false, if◌then◌else◌, inl, inr, pos, true, unsigned_abs, ℕ, ◌+ℤ◌, ◌≤◌, ◌⊎◌}
+use Rattle.stream_case.specs.declared.source.Side.TheVariants as side
 
 module _ (s : Stream) (valid : IsValidStream s) where
   size-between : IsBetween (pos 0) MOST_LOAD (s.cp +ℤ s.load)

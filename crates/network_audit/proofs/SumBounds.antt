@@ -1,35 +1,32 @@
 -- The sums of utilities and of the balance are within the limits where their numbers are few and small.
-use Rattle.std.proofs.Common.{◌≡◌, ◌<◌, ◌≤◌, ◌+◌, ◌*◌, ◌∷◌, ◌++◌, ◌||◌, ℕ, suc, ℤ, pos, unsigned_abs, Bool, true, false, List, [], Option, Some, None, All, get_or, slice_get, length, map, refl, subst, arith, if◌then◌else◌, filter_map}
-use Rattle.std.specs.List.{cons_option, enumerate_from}
-use Rattle.std.proofs.Math.Nat.{mul-le-mul}
-use Rattle.std.proofs.lemmas.Int.{ints}
-use Rattle.std.proofs.lemmas.List.{length-map}
-use Rattle.std.proofs.lemmas.List.Elements.{All-append, All-cons, All-from_recursion, All-head, All-map, All-nil, All-tail}
-use Rattle.std.proofs.lemmas.List.FromFn.{length-enumerate_from}
-use Rattle.sums.proofs.EnumerationLemmas.{All-enumerated}
-use Rattle.network_audit.proofs.Words.{ALL_STREAMS_HEAT, ALL_UTILITIES, Case, HasShape, IsComplete, IsFormed, IsInRange, IsPlaced, Item, MOST_HEAT, MOST_PRICE, Network, Place, Rational, Side, Step, Utility, balance_items, cost_steps, duties_with, duty_with, excess_of, exchangers_of, heat_on, heat_price, heat_with, heats_on, hot_heat, hot_target, plus, range_items, ratio, rational_sum, rational_zero, same_side, same_source, sum_steps, utility_items_at, whole}
-use Rattle.stream_case.specs.declared.source.Side.TheVariants as side
-use Rattle.stream_case.specs.declared.source.Source.TheVariants as source
-use Rattle.stream_case.proofs.CompleteLemmas.{AreStreams-IsComplete, IsPlaced-IsComplete, length-utilities}
-use Rattle.fractions.proofs.Comparisons.{at_most-whole, at_most_trans}
-use Rattle.networks.proofs.Lists.{all_at}
-use Rattle.problem_table.proofs.DeficitLemmas.{hot_target-between}
-use Rattle.network_audit.specs.declared.findings.Place.TheVariants as place
+use Rattle.network_audit.proofs.Words.{All-append, All-cons, All-enumerated, All-from_recursion, All-head, All-map, All-nil, All-tail, AreStreams-IsComplete}
+use Rattle.network_audit.proofs.Words.{Case, HasShape, IsComplete, IsFormed, IsInRange, IsPlaced, IsPlaced-IsComplete, Item, Network, Place, Rational, Side}
+use Rattle.network_audit.proofs.Words.{Step, Utility, all_at, at_most-whole, at_most_trans, balance_items, cons_option, cost_steps, duties_with, duty_with}
+use Rattle.network_audit.proofs.Words.{enumerate_from, excess_of, exchangers_of, heat_on, heat_price, heat_with, heats_on, hot_heat, hot_target}
+use Rattle.network_audit.proofs.Words.{hot_target-between, ints, length-enumerate_from, length-map, length-utilities, mul-le-mul, plus, range_items, ratio}
+use Rattle.network_audit.proofs.Words.{rational_sum, rational_zero, same_side, same_source, sum_steps, utility_items_at, whole}
 use Rattle.network_audit.proofs.FormedLemmas.{AreFormed, formed-none, formed-step}
 use Rattle.network_audit.proofs.HeatLemmas.{hot_heat-is}
 use Rattle.network_audit.proofs.Sized.{IsSized, most_den, most_num, sized-between, sized-minus, sized-more, sized-plus, sized-times, sized-whole, sized-within}
+use Rattle.std.proofs.Common.{All, Bool, List, None, Option, Some, [], arith, false, filter_map, get_or, if◌then◌else◌, length, map, pos, refl, slice_get}
+use Rattle.std.proofs.Common.{subst, suc, true, unsigned_abs, ℕ, ℤ, ◌*◌, ◌+◌, ◌<◌, ◌||◌, ◌∷◌, ◌≡◌, ◌≤◌}
+use Rattle.stream_case.specs.declared.limits.TheConstants.{ALL_STREAMS_HEAT, ALL_UTILITIES, MOST_HEAT, MOST_PRICE}
+use Rattle.network_audit.specs.declared.findings.Place.TheVariants as place
+use Rattle.stream_case.specs.declared.source.Side.TheVariants as side
+use Rattle.stream_case.specs.declared.source.Source.TheVariants as source
 
 -- ---- numbers that some members have
 
 module _ {X Y : Type 0} (P : Y → Type 0) (f : X → Option Y) where
   one_kept : (o : Option Y) (rest : List Y) → ((y : Y) → o ≡ Some y → P y) → All P rest → All P (cons_option o rest)
   one_kept None rest here all = all
-  one_kept (Some y) rest here all = All-cons P y rest (here y refl) all
+  one_kept (Some y) rest here all = All-cons P _ _ (here y refl) all
 
   All-kept : (xs : List X) → All (λ x. (y : Y) → f x ≡ Some y → P y) xs → All P (filter_map f xs)
   All-kept [] each = All-nil P
   All-kept (x ∷ xs) each =
-      one_kept (f x) (filter_map f xs) (All-head (λ z. (y : Y) → f z ≡ Some y → P y) x xs each) (All-kept xs (All-tail (λ z. (y : Y) → f z ≡ Some y → P y) x xs each))
+      one_kept (f x) (filter_map f xs) (All-head (λ z. (y : Y) → f z ≡ Some y → P y) x xs each)
+      (All-kept xs (All-tail (λ z. (y : Y) → f z ≡ Some y → P y) x xs each))
 
 module _ {X Y : Type 0} (f : X → Option Y) where
   one_more : (o : Option Y) (rest : List Y) (n : ℕ) → length rest ≤ n → length (cons_option o rest) ≤ suc n
@@ -45,9 +42,11 @@ some_if P true x y holds same = let is : x ≡ y = cc same in subst P is holds
 some_if P false x y holds same = cc same
 
 -- a utility forms the sum of its duties
-pub with_range : (network : Network) (index : ℕ) (u : Utility) → AreFormed (sum_steps (place.Utility index) 0 rational_zero (duties_with network index)) → AreFormed (utility_items_at network (index, u))
+pub with_range : (network : Network) (index : ℕ) (u : Utility) → AreFormed (sum_steps (place.Utility index) 0 rational_zero (duties_with network index))
+    → AreFormed (utility_items_at network (index, u))
 with_range network index u sums =
-    All-append IsFormed (sum_steps (place.Utility index) 0 rational_zero (duties_with network index)) (range_items (place.Utility index) u (heat_with network index)) sums
+    All-append IsFormed (sum_steps (place.Utility index) 0 rational_zero (duties_with network index))
+    (range_items (place.Utility index) u (heat_with network index)) sums
     (All-from_recursion IsFormed (range_items (place.Utility index) u (heat_with network index)) (tt, (tt, tt)))
 
 -- ---- sums over one denominator
@@ -58,26 +57,30 @@ module _ (d m : ℕ) (some : 0 < d) (den : d ≤ most_den) where
   sized-sum [] each = sized-whole d (0 * m) (pos 0) some (omega arith)
   sized-sum (a ∷ numbers) each =
       sized-more d (m + length numbers * m) (suc (length numbers) * m) (plus a (rational_sum numbers)) (omega arith)
-      (sized-plus d m (length numbers * m) a (rational_sum numbers) (All-head (IsSized d m) a numbers each) (sized-sum numbers (All-tail (IsSized d m) a numbers each)))
+      (sized-plus d m (length numbers * m) a (rational_sum numbers) (All-head (IsSized d m) a numbers each)
+      (sized-sum numbers (All-tail (IsSized d m) a numbers each)))
 
   -- the steps of a sum, from a total up to k on
-  pub sums_formed : (at : Place) (before k : ℕ) (total : Rational) (numbers : List Rational) → (k + length numbers * m) * d ≤ most_num → IsSized d k total → All (IsSized d m) numbers → AreFormed (sum_steps at before total numbers)
+  pub sums_formed : (at : Place) (before k : ℕ) (total : Rational) (numbers : List Rational) → (k + length numbers * m) * d ≤ most_num → IsSized d k total
+      → All (IsSized d m) numbers → AreFormed (sum_steps at before total numbers)
   sums_formed at before k total [] most sized each = formed-none
   sums_formed at before k total (a ∷ numbers) most sized each =
       let next = sized-plus d k m total a sized (All-head (IsSized d m) a numbers each) in
       let later : (k + m + length numbers * m) * d ≤ most_num = omega (arith, most) in
       let now : (k + m) * d ≤ most_num = omega (arith, later) in
-      formed-step at (before + 1) (plus total a) (sum_steps at (before + 1) (plus total a) numbers) (sized-within d (k + m) (plus total a) some den now next)
+      formed-step _ _ _ _ (sized-within d (k + m) (plus total a) some den now next)
       (sums_formed at (before + 1) (k + m) (plus total a) numbers later next (All-tail (IsSized d m) a numbers each))
 
   -- and of a cost
-  costs_formed : (at : Place) (before k : ℕ) (cost : Rational) (prices : List Rational) → m * d ≤ most_num → (k + length prices * m) * d ≤ most_num → IsSized d k cost → All (IsSized d m) prices → AreFormed (cost_steps at before cost prices)
+  costs_formed : (at : Place) (before k : ℕ) (cost : Rational) (prices : List Rational) → m * d ≤ most_num → (k + length prices * m) * d ≤ most_num
+      → IsSized d k cost → All (IsSized d m) prices → AreFormed (cost_steps at before cost prices)
   costs_formed at before k cost [] one most sized each = formed-none
   costs_formed at before k cost (a ∷ prices) one most sized each =
       let price = All-head (IsSized d m) a prices each in let next = sized-plus d k m cost a sized price in
       let later : (k + m + length prices * m) * d ≤ most_num = omega (arith, most) in
       let now : (k + m) * d ≤ most_num = omega (arith, later) in
-      formed-step at (before + 1) a (Step at (before + 2) (plus cost a) ∷ cost_steps at (before + 2) (plus cost a) prices) (sized-within d m a some den one price)
+      formed-step at (before + 1) a (Step at (before + 2) (plus cost a) ∷ cost_steps at (before + 2) (plus cost a) prices)
+      (sized-within d m a some den one price)
       (formed-step at (before + 2) (plus cost a) (cost_steps at (before + 2) (plus cost a) prices) (sized-within d (k + m) (plus cost a) some den now next)
       (costs_formed at (before + 2) (k + m) (plus cost a) prices one later next (All-tail (IsSized d m) a prices each)))
 
@@ -88,21 +91,26 @@ module _ (d m : ℕ) (some : 0 < d) (den : d ≤ most_den) where
   duties-sized network index each =
       let es = exchangers_of network.lines in
       All-kept (IsSized d m) (duty_with index) es (λ k e inside. λ duty is.
-      some_if (IsSized d m) (same_source (get_or es k e).hot (source.Utility index) || same_source (get_or es k e).cold (source.Utility index)) (get_or es k e).duty duty (each k e inside) is)
+      some_if (IsSized d m) (same_source (get_or es k e).hot (source.Utility index) || same_source (get_or es k e).cold (source.Utility index))
+      (get_or es k e).duty duty (each k e inside) is)
 
   few-duties : (network : Network) (index : ℕ) → length (duties_with network index) ≤ length (exchangers_of network.lines)
   unfolding duties_with
   few-duties network index = few-kept (duty_with index) (exchangers_of network.lines)
 
-  pub heat-over : (network : Network) (index : ℕ) → All (λ e. IsSized d m e.duty) (exchangers_of network.lines) → IsSized d (length (duties_with network index) * m) (heat_with network index)
+  pub heat-over : (network : Network) (index : ℕ) → All (λ e. IsSized d m e.duty) (exchangers_of network.lines)
+      → IsSized d (length (duties_with network index) * m) (heat_with network index)
   heat-over network index each = sized-sum (duties_with network index) (duties-sized network index each)
 
   -- the sum of the duties of a utility, where all exchangers together are few
-  pub utility_formed : (network : Network) (index : ℕ) (u : Utility) → (length (exchangers_of network.lines) * m) * d ≤ most_num → All (λ e. IsSized d m e.duty) (exchangers_of network.lines) → AreFormed (utility_items_at network (index, u))
+  pub utility_formed : (network : Network) (index : ℕ) (u : Utility) → (length (exchangers_of network.lines) * m) * d ≤ most_num
+      → All (λ e. IsSized d m e.duty) (exchangers_of network.lines) → AreFormed (utility_items_at network (index, u))
   utility_formed network index u most each =
       let duties = duties_with network index in
-      let fewer : (length duties * m) * d ≤ (length (exchangers_of network.lines) * m) * d = mul-le-mul (mul-le-mul (few-duties network index) (omega arith)) (omega arith) in
-      with_range network index u (sums_formed (place.Utility index) 0 0 rational_zero duties (omega (arith, fewer, most)) (sized-whole d 0 (pos 0) some (omega arith)) (duties-sized network index each))
+      let fewer : (length duties * m) * d ≤ (length (exchangers_of network.lines) * m) * d = mul-le-mul (mul-le-mul (few-duties network index) (omega arith))
+      (omega arith) in
+      with_range network index u (sums_formed (place.Utility index) 0 0 rational_zero duties (omega (arith, fewer, most))
+      (sized-whole d 0 (pos 0) some (omega arith)) (duties-sized network index each))
 
 -- ---- the heats of utilities
 
@@ -113,7 +121,8 @@ most_heat = unsigned_abs MOST_HEAT
 pub heat-sized : (d : ℕ) (u : Utility) (heat : Rational) (n : ℤ) → 0 < d → heat ≡ ratio n d → IsPlaced u → IsInRange u heat → IsSized d most_heat heat
 heat-sized d u heat n some is placed range =
     let least = placed.least in let most = placed.most in let from = least.from in let upto = most.upto in
-    sized-between d most_heat heat n some is (at_most_trans rational_zero (whole u.least) heat (at_most-whole (pos 0) u.least from) range.least) (at_most_trans heat (whole u.most) (whole (pos most_heat)) range.most (at_most-whole u.most (pos most_heat) upto))
+    sized-between d most_heat heat n some is (at_most_trans rational_zero (whole u.least) heat (at_most-whole (pos 0) u.least from) range.least)
+    (at_most_trans heat (whole u.most) (whole (pos most_heat)) range.most (at_most-whole u.most (pos most_heat) upto))
 
 -- ---- the balance
 
@@ -124,7 +133,8 @@ HaveWholeHeats case network = (index : ℕ) (u : Utility) → slice_get case.uti
 heats-sized : (on : Side) (case : Case) (network : Network) → HaveWholeHeats case network → All (IsSized 1 most_heat) (heats_on on case network)
 unfolding heats_on
 heats-sized on case network heats =
-    All-kept (IsSized 1 most_heat) (heat_on on network) (enumerate_from 0 case.utilities) (All-enumerated (λ (e : ℕ × Utility). (h : Rational) → heat_on on network e ≡ Some h → IsSized 1 most_heat h) case.utilities (λ index u at. λ h is.
+    All-kept (IsSized 1 most_heat) (heat_on on network) (enumerate_from 0 case.utilities)
+    (All-enumerated (λ (e : ℕ × Utility). (h : Rational) → heat_on on network e ≡ Some h → IsSized 1 most_heat h) case.utilities (λ index u at. λ h is.
     some_if (IsSized 1 most_heat) (same_side u.side on) (heat_with network index) h (heats index u at) is))
 
 few-heats : (on : Side) (case : Case) (network : Network) → length (heats_on on case network) ≤ length case.utilities
@@ -134,37 +144,48 @@ few-heats on case network = omega (arith, few-kept (heat_on on network) (enumera
 abbrev most_price : ℕ
 most_price = unsigned_abs MOST_PRICE * most_heat
 
-prices-sized : (case : Case) (network : Network) → IsComplete case → HaveWholeHeats case network → All (IsSized 1 most_price) (map (heat_price network) (enumerate_from 0 case.utilities))
+prices-sized : (case : Case) (network : Network) → IsComplete case → HaveWholeHeats case network
+    → All (IsSized 1 most_price) (map (heat_price network) (enumerate_from 0 case.utilities))
 prices-sized case network complete heats =
-    All-map (IsSized 1 most_price) (heat_price network) (enumerate_from 0 case.utilities) (All-enumerated (λ (e : ℕ × Utility). IsSized 1 most_price (heat_price network e)) case.utilities (λ index u at.
+    All-map (IsSized 1 most_price) (heat_price network) (enumerate_from 0 case.utilities)
+    (All-enumerated (λ (e : ℕ × Utility). IsSized 1 most_price (heat_price network e)) case.utilities (λ index u at.
     let placed = all_at IsPlaced case.utilities index u (IsPlaced-IsComplete case complete) at in
     let price = placed.price in let from = price.from in let upto = price.upto in
-    sized-times 1 1 (unsigned_abs MOST_PRICE) most_heat (whole u.price) (heat_with network index) (omega arith) (omega arith) (sized-whole 1 (unsigned_abs MOST_PRICE) u.price (omega arith) (omega (arith, ints, from, upto))) (heats index u at)))
+    sized-times 1 1 (unsigned_abs MOST_PRICE) most_heat (whole u.price) (heat_with network index) (omega arith) (omega arith)
+    (sized-whole 1 (unsigned_abs MOST_PRICE) u.price (omega arith) (omega (arith, ints, from, upto))) (heats index u at)))
 
 -- the excess
-excess-sized : (case : Case) (network : Network) → IsComplete case → HasShape case network → HaveWholeHeats case network → IsSized 1 (length (heats_on side.Hot case network) * most_heat + unsigned_abs ALL_STREAMS_HEAT) (excess_of case network)
+excess-sized : (case : Case) (network : Network) → IsComplete case → HasShape case network → HaveWholeHeats case network
+    → IsSized 1 (length (heats_on side.Hot case network) * most_heat + unsigned_abs ALL_STREAMS_HEAT) (excess_of case network)
 excess-sized case network complete shape heats =
     let hot = heats_on side.Hot case network in
     let sum = sized-sum 1 most_heat (omega arith) (omega arith) hot (heats-sized side.Hot case network heats) in
     let target = hot_target case.streams in
     let is = hot_target-between case.streams (AreStreams-IsComplete case complete) in
     let from = is.from in let upto = is.upto in
-    sized-minus 1 (length hot * most_heat) (unsigned_abs ALL_STREAMS_HEAT) (hot_heat network) (whole target) (subst (IsSized 1 (length hot * most_heat)) (hot_heat-is case network shape) sum) (sized-whole 1 (unsigned_abs ALL_STREAMS_HEAT) target (omega arith) (omega (arith, ints, from, upto)))
+    sized-minus 1 (length hot * most_heat) (unsigned_abs ALL_STREAMS_HEAT) (hot_heat network) (whole target)
+    (subst (IsSized 1 (length hot * most_heat)) (hot_heat-is case network shape) sum)
+    (sized-whole 1 (unsigned_abs ALL_STREAMS_HEAT) target (omega arith) (omega (arith, ints, from, upto)))
 
-pub balance_formed : (case : Case) (network : Network) → IsComplete case → HasShape case network → HaveWholeHeats case network → AreFormed (balance_items case network)
+pub balance_formed : (case : Case) (network : Network) → IsComplete case → HasShape case network → HaveWholeHeats case network
+    → AreFormed (balance_items case network)
 unfolding balance_items
 balance_formed case network complete shape heats =
     let hot = heats_on side.Hot case network in let cold = heats_on side.Cold case network in
     let prices = map (heat_price network) (enumerate_from 0 case.utilities) in
     let before = length hot + length cold + 1 in let few = length-utilities case complete in
     let few_hot = few-heats side.Hot case network in let few_cold = few-heats side.Cold case network in
-    let few_prices : length prices ≤ ALL_UTILITIES = omega (arith, few, length-map (enumerate_from 0 case.utilities) (heat_price network), length-enumerate_from 0 case.utilities) in
+    let few_prices : length prices ≤ ALL_UTILITIES =
+    omega (arith, few, length-map (enumerate_from 0 case.utilities) (heat_price network), length-enumerate_from 0 case.utilities) in
     let none = sized-whole 1 0 (pos 0) (omega arith) (omega arith) in
-    let excess = sized-within 1 (length hot * most_heat + unsigned_abs ALL_STREAMS_HEAT) (excess_of case network) (omega arith) (omega arith) (omega (arith, few, few_hot)) (excess-sized case network complete shape heats) in
-    let costs = costs_formed 1 most_price (omega arith) (omega arith) place.Balance before 0 rational_zero prices (omega arith) (omega (arith, few_prices)) none (prices-sized case network complete heats) in
+    let excess = sized-within 1 (length hot * most_heat + unsigned_abs ALL_STREAMS_HEAT) (excess_of case network) (omega arith) (omega arith)
+    (omega (arith, few, few_hot)) (excess-sized case network complete shape heats) in
+    let costs = costs_formed 1 most_price (omega arith) (omega arith) place.Balance before 0 rational_zero prices (omega arith) (omega (arith, few_prices)) none
+    (prices-sized case network complete heats) in
     let last = formed-step place.Balance before (excess_of case network) (cost_steps place.Balance before rational_zero prices) excess costs in
-    let colds = sums_formed 1 most_heat (omega arith) (omega arith) place.Balance (length hot) 0 rational_zero cold (omega (arith, few, few_cold)) none (heats-sized side.Cold case network heats) in
-    let hots = sums_formed 1 most_heat (omega arith) (omega arith) place.Balance 0 0 rational_zero hot (omega (arith, few, few_hot)) none (heats-sized side.Hot case network heats) in
+    let colds = sums_formed 1 most_heat (omega arith) (omega arith) place.Balance (length hot) 0 rational_zero cold (omega (arith, few, few_cold)) none
+    (heats-sized side.Cold case network heats) in
+    let hots = sums_formed 1 most_heat (omega arith) (omega arith) place.Balance 0 0 rational_zero hot (omega (arith, few, few_hot)) none
+    (heats-sized side.Hot case network heats) in
     let behind : List Item = Step place.Balance before (excess_of case network) ∷ cost_steps place.Balance before rational_zero prices in
-    All-append IsFormed (sum_steps place.Balance 0 rational_zero hot) (sum_steps place.Balance (length hot) rational_zero cold ++ behind) hots
-    (All-append IsFormed (sum_steps place.Balance (length hot) rational_zero cold) behind colds last)
+    All-append IsFormed _ _ hots (All-append IsFormed _ _ colds last)

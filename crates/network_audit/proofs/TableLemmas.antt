@@ -1,16 +1,18 @@
 -- What the audit reads of the table of exchangers is what the items say: the ends of the sides, and the duties of the utilities.
-use Rattle.std.proofs.Common.{◌≡◌, ◌∙◌, ◌<◌, ◌+◌, ◌∷◌, ◌++◌, ℕ, ℤ, List, [], Option, Some, None, ◌⊎◌, inl, inr, slice_get, get_or, length, map, take, refl, sym, ap, ap₂, arith, unwrap_or, filter_map, flat_map, length-take}
-use Rattle.std.specs.List.{cons_option, enumerate_from}
-use Rattle.std.proofs.lemmas.List.{map-append, take_more}
-use Rattle.sums.proofs.EnumerationLemmas.{All-enumerated, enumerate_from-append}
-use Rattle.network_audit.proofs.Words.{Case, Exchanger, HasShape, IsExchanger, Joint, Network, Rational, Side, SideRun, Source, Utility, Valuation, all_heat_items, branch_side, crossing_among, crossing_by, duties_in, duties_with, duty_with, ends_at, ends_of, exchanger_items, exchanger_items_at, exchangers_of, fixed_level, heat_items, heats_in, joint_among, joint_duty, joint_items, joint_items_at, joints_among, joints_of, level_ends, level_or, pass_of, pass_run, passed_ends, passed_run, range_items, rational_sum, rational_zero, run_between, side_items, side_of, side_run, stream_at, sum_steps, utility_items, utility_items_at, value_at}
+use Rattle.network_audit.proofs.Words.{All-enumerated, Case, Exchanger, HasShape, IsExchanger, Joint, Network, Rational, Side, SideRun, Source, Utility}
+use Rattle.network_audit.proofs.Words.{Valuation, all_at, all_heat_items, branch_side, cons_option, crossing_among, crossing_by, duties_in, duties_with}
+use Rattle.network_audit.proofs.Words.{duty_with, ends_of, enumerate_from, enumerate_from-append, exchanger_items, exchanger_items_at, exchangers_of}
+use Rattle.network_audit.proofs.Words.{fixed_level, heat_items, heats_in, joint_among, joint_duty, joint_items, joint_items_at, joints_among, joints_of}
+use Rattle.network_audit.proofs.Words.{level_or, map-append, pass_of, pass_run, passed_run, range_items, rational_sum, rational_zero, run_between, side_items}
+use Rattle.network_audit.proofs.Words.{side_of, side_run, stream_at, sum_steps, take_more, the_pass_of, utility_items, utility_items_at, value_at}
+use Rattle.network_audit.proofs.FoundLemmas.{flat_map-same}
+use Rattle.network_audit.specs.Table.{ends_at, level_ends, passed_ends}
+use Rattle.std.proofs.Common.{List, None, Option, Some, [], ap, ap₂, arith, filter_map, flat_map, get_or, inl, inr, length, length-take, map, refl, slice_get}
+use Rattle.std.proofs.Common.{sym, take, unwrap_or, ℕ, ℤ, ◌++◌, ◌+◌, ◌<◌, ◌∙◌, ◌∷◌, ◌≡◌, ◌⊎◌}
+use Rattle.network_audit.specs.declared.findings.Place.TheVariants as place
+use Rattle.networks.specs.declared.network.Line.TheVariants as line
 use Rattle.stream_case.specs.declared.source.Side.TheVariants as side
 use Rattle.stream_case.specs.declared.source.Source.TheVariants as source
-use Rattle.networks.specs.declared.network.Line.TheVariants as line
-use Rattle.networks.proofs.Lists.{all_at}
-use Rattle.networks.proofs.OfShape.{the_pass_of}
-use Rattle.network_audit.specs.declared.findings.Place.TheVariants as place
-use Rattle.network_audit.proofs.FoundLemmas.{flat_map-same}
 
 -- ---- the ends of the sides
 

@@ -1,12 +1,10 @@
 -- What follows from a verdict.
-use Rattle.std.proofs.Common.{◌≡◌, ◌∙◌, inl, inr, Some, length, sym, ap, subst}
-use Rattle.network_audit.proofs.Words.{Audit, Balance, Case, HasShape, IfAccepted, IsAtMost, IsComplete, IsValidNetwork, IsVerdict, IsWholeValuation, Leaves, Network, Says, SaysExactly, Valuation, Verdict, rational_zero}
-use Rattle.stream_case.proofs.CompleteLemmas.{AreStreams-IsComplete}
-use Rattle.network_values.proofs.SignLemmas.{targets_met}
-use Rattle.network_values.proofs.ValuationLemmas.{one_valuation}
-use Rattle.network_audit.specs.declared.verdict.Verdict.TheVariants as verdict
+use Rattle.network_audit.proofs.Words.{AreStreams-IsComplete, Audit, Balance, Case, HasShape, IfAccepted, IsAtMost, IsComplete, IsValidNetwork, IsVerdict}
+use Rattle.network_audit.proofs.Words.{IsWholeValuation, Leaves, Network, Says, SaysExactly, Valuation, Verdict, one_valuation, rational_zero, targets_met}
 use Rattle.network_audit.proofs.InvalidLemmas.{invalid_network}
 use Rattle.network_audit.proofs.ValidLemmas.{valid_network}
+use Rattle.std.proofs.Common.{Some, ap, inl, inr, length, subst, sym, ◌∙◌, ◌≡◌}
+use Rattle.network_audit.specs.declared.verdict.Verdict.TheVariants as verdict
 
 -- the valuation that is left is the only one
 pub one_valuation_left : (old new : Audit) (given : Verdict) → HasShape old.case old.network → Leaves old given new
@@ -30,8 +28,7 @@ says_exactly P (verdict.Rejected place reason) is = inr ((λ none. absurd none),
 says_exactly P (verdict.TooFine place step) is = inl tt
 
 -- what is accepted does not beat the target
-pub excess_of_verdict : (case : Case) (network : Network) (given : Verdict) → IsComplete case → HasShape case network
-    → IsVerdict case network given
+pub excess_of_verdict : (case : Case) (network : Network) (given : Verdict) → IsComplete case → HasShape case network → IsVerdict case network given
     → IfAccepted given (λ balance. IsAtMost rational_zero balance.excess)
 excess_of_verdict case network (verdict.Accepted balance) complete shape is =
     let valid = valid_network case network shape is.0 in

@@ -8,3 +8,4 @@ pub mod Table
 pub mod Audit
 pub mod Answers
 pub mod Walk
+pub mod Sized

@@ -1,7 +1,6 @@
 -- Fractions within the limits.
-use Rattle.std.proofs.Common.{◌≡◌, ◌<◌, ℕ, zero, suc, ℤ, Option, None, refl, arith}
-use Rattle.network_text.proofs.Words.{Gives, Rational, bounded_ratio, ratio}
-use Rattle.fractions.proofs.Limits.{Gives-is}
+use Rattle.network_text.proofs.Words.{Gives, Gives-is, Rational, bounded_ratio, ratio}
+use Rattle.std.proofs.Common.{None, Option, arith, refl, suc, zero, ℕ, ℤ, ◌<◌, ◌≡◌}
 
 -- what `Frac::from_parts` gives
 pub bounded-gives : (r : Option Rational) (n : ℤ) (d : ℕ) → (d ≡ 0 → r ≡ None) → (0 < d → Gives r (ratio n d)) → r ≡ bounded_ratio n d

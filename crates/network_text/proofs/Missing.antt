@@ -1,13 +1,9 @@
 -- The first exchanger with a side that is not passed.
-use Rattle.std.proofs.Common.{◌≡◌, ◌∙◌, ◌<◌, ◌≤◌, ◌+◌, ◌∷◌, ◌++◌, ℕ, Bool, true, false, cond, List, [], Option, Some, None, length, take, get_or, is_some, slice_get, refl, sym, ap, arith, length-append, option_to_list, length-take-le}
-use Rattle.std.specs.List.{range_with_len}
-use Rattle.std.proofs.lemmas.List.{take_more}
-use Rattle.std.proofs.lemmas.List.Folds.{find_at}
-use Rattle.std.proofs.lemmas.List.FromFn.{get_or-range_with_len, length-range_with_len}
-use Rattle.std.proofs.lemmas.List.Sums.{position_or_len_is}
-use Rattle.std.proofs.lemmas.Option.{slice_get_past, slice_get-get_or, slice_get_read}
-use Rattle.network_text.proofs.Words.{Exchanger, Line, Network, exchanger_of, exchangers_of, first_missing, misses_pass, misses_side}
-use Rattle.networks.proofs.LineLaws.{exchangers_of-push, few_exchangers}
+use Rattle.network_text.proofs.Words.{Exchanger, Line, Network, exchanger_of, exchangers_of, exchangers_of-push, few_exchangers, find_at, first_missing}
+use Rattle.network_text.proofs.Words.{get_or-range_with_len, length-range_with_len, misses_pass, misses_side, position_or_len_is, range_with_len, take_more}
+use Rattle.std.proofs.Common.{Bool, List, None, Option, Some, [], ap, arith, cond, false, get_or, is_some, length, length-append, length-take-le}
+use Rattle.std.proofs.Common.{option_to_list, refl, slice_get, sym, take, true, ℕ, ◌++◌, ◌+◌, ◌<◌, ◌∙◌, ◌∷◌, ◌≡◌, ◌≤◌}
+use Rattle.std.proofs.lemmas.Option.{slice_get-get_or, slice_get_past, slice_get_read}
 
 -- what the line at a index misses
 pub missing-at : (n : Network) (index count : ℕ) (l : Line) → index < length n.lines → l ≡ get_or n.lines index l

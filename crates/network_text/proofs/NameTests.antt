@@ -1,8 +1,8 @@
 -- The tests of names of branches.
-use Rattle.std.proofs.Common.{◌≡◌, ℕ, Bool, true, false, List, [], ◌∷◌, refl, sym, ap, ◌∙◌, inl, inr, ◌||◌, ◌==◌, Option, Some, None, SomeIff, IfSome, is_some, eqb-true}
-use Rattle.std.proofs.lemmas.Bool.{and_parts, false_from_ne_true, or_right}
-use Rattle.network_text.proofs.Words.{IsAnyName, IsDottedName, is_branch_name, is_dotted_name, is_name}
-use Rattle.stream_case.proofs.NameTests.{name-passes, passed-name}
+use Rattle.network_text.proofs.Words.{IsAnyName, and_parts, false_from_ne_true, is_branch_name, is_dotted_name, name-passes, or_right, passed-name}
+use Rattle.std.proofs.Common.{Bool, IfSome, List, None, Option, Some, SomeIff, [], ap, eqb-true, false, inl, inr, is_some, refl, sym, true, ℕ, ◌==◌, ◌||◌, ◌∙◌}
+use Rattle.std.proofs.Common.{◌∷◌, ◌≡◌}
+use Rattle.stream_case.specs.Name.{IsDottedName, is_name}
 
 dotted-passes : (text : List ℕ) → IsDottedName text → is_dotted_name text ≡ true
 unfolding is_dotted_name

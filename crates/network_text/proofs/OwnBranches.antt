@@ -1,19 +1,11 @@
 -- The branches of the streams themselves, and their table.
-use Rattle.std.proofs.Common.{◌≡◌, ◌≢◌, ◌∙◌, ◌<◌, ◌+◌, ◌∷◌, ◌++◌, ℕ, false, List, [], All, AllPairs, length, map, take, get_or, refl, sym, ap, subst, arith, inl, bytes_eq, length-take-le}
-use Rattle.std.specs.List.{enumerate_from, list_any}
-use Rattle.std.specs.Map.{keys_of}
-use Rattle.std.proofs.lemmas.List.{get_or-map, length-map, map-append, take-map, take_more}
-use Rattle.std.proofs.lemmas.List.Elements.{All-nil, All-weaker}
-use Rattle.std.proofs.lemmas.List.Folds.{list_any_none}
-use Rattle.std.proofs.lemmas.List.FromFn.{length-enumerate_from}
-use Rattle.std.proofs.lemmas.Simd.{map-map}
-use Rattle.sums.proofs.EnumerationLemmas.{map-enumerate_from_item}
-use Rattle.network_text.proofs.Words.{Case, IsAnyName, IsName, IsTracked, Stream, Utility, exchangers_of, named_branch, own_branches, own_entries, own_entry, passages_of, start, used_by}
-use Rattle.stream_case.proofs.CaseLemmas.{length-AreStreams}
-use Rattle.stream_case.proofs.CompleteLemmas.{StaysValid}
-use Rattle.stream_case.proofs.DistinctLemmas.{AllPairs-before, other_name}
-use Rattle.networks.proofs.Lists.{All-front, enumerate_from-push}
 use Rattle.network_text.proofs.Tables.{so_far}
+use Rattle.network_text.proofs.Words.{All-front, All-nil, All-weaker, AllPairs-before, Case, IsAnyName, IsName, IsTracked, StaysValid, Stream, Utility}
+use Rattle.network_text.proofs.Words.{enumerate_from, enumerate_from-push, exchangers_of, get_or-map, keys_of, length-AreStreams, length-enumerate_from}
+use Rattle.network_text.proofs.Words.{length-map, list_any, list_any_none, map-append, map-enumerate_from_item, map-map, named_branch, other_name, own_branches}
+use Rattle.network_text.proofs.Words.{own_entries, own_entry, passages_of, start, take-map, take_more, used_by}
+use Rattle.std.proofs.Common.{All, AllPairs, List, [], ap, arith, bytes_eq, false, get_or, inl, length, length-take-le, map, refl, subst, sym, take, ℕ, ◌++◌}
+use Rattle.std.proofs.Common.{◌+◌, ◌<◌, ◌∙◌, ◌∷◌, ◌≡◌, ◌≢◌}
 
 own_keys : (streams : List Stream) → keys_of (own_entries streams) ≡ map (λ (s : Stream). s.name) streams
 unfolding own_entries

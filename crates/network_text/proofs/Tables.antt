@@ -1,26 +1,14 @@
 -- The tables beside a network: look-ups in them, and what one entry more adds to each.
-use Rattle.std.proofs.Common.{◌≡◌, ◌≢◌, ◌∙◌, ◌<◌, ◌≤◌, ◌+◌, ◌∷◌, ◌++◌, ℕ, Bool, true, false, List, [], All, AllPairs, Option, Some, None, get_or, length, map, slice_get, refl, sym, ap, subst, arith, append_assoc, length-append, position, option_to_list, bytes_eq, map-id}
-use Rattle.std.specs.List.{list_any}
-use Rattle.std.specs.Map.{keys_of}
-use Rattle.std.specs.Option.{ForSome}
-use Rattle.std.specs.Cmp.Lexicographic.{bytes_decides}
-use Rattle.std.proofs.lemmas.Bool.{false_from_ne_true}
-use Rattle.std.proofs.lemmas.List.{length-map, map-append}
-use Rattle.std.proofs.lemmas.List.Elements.{All-append, All-cons, All-nil, All-weaker}
-use Rattle.std.proofs.lemmas.List.Folds.{list_any_none}
-use Rattle.std.proofs.lemmas.Map.Made.{is_some-lookup}
-use Rattle.std.proofs.lemmas.Option.{slice_get-map}
-use Rattle.std.proofs.lemmas.Simd.{map-map}
-use Rattle.indexmap.specs.IndexMap.{IndexMap, insert_entry}
-use Rattle.indexmap.proofs.CallerLemmas.{insert_entry-new}
-use Rattle.network_text.proofs.Words.{AtMostTwo, Branch, Entry, Exchanger, IsAnyName, IsFresh, IsTracked, Line, MOST_STATEMENTS, Network, Passage, Sides, branch_named, exchanger_named, exchanger_of, exchangers_of, first_stream, is_branch_name, is_passed, members, named_branch, named_sides, names_of, passage_of, passages_of, same_passage, stream_at, used_by, uses, with_entry}
-use Rattle.stream_case.proofs.DistinctLemmas.{AllPairs-across}
-use Rattle.stream_case.proofs.ListLemmas.{none_there}
-use Rattle.networks.specs.declared.few.AtMostTwo.TheVariants as few
-use Rattle.statements.proofs.Positions.{is_some-position}
-use Rattle.sums.proofs.OrderLemmas.{AllPairs-map}
-use Rattle.networks.proofs.LineLaws.{exchangers_of-push, passages_of-front, passages_of-push, used_by-push}
+use Rattle.network_text.proofs.Words.{All-append, All-cons, All-nil, All-weaker, AllPairs-across, AllPairs-map, AtMostTwo, Branch, Entry, Exchanger, ForSome}
+use Rattle.network_text.proofs.Words.{IndexMap, IsAnyName, IsFresh, IsTracked, Line, MOST_STATEMENTS, Network, Passage, Sides, branch_named, bytes_decides}
+use Rattle.network_text.proofs.Words.{exchanger_named, exchanger_of, exchangers_of, exchangers_of-push, false_from_ne_true, first_stream, insert_entry}
+use Rattle.network_text.proofs.Words.{insert_entry-new, is_branch_name, is_passed, is_some-lookup, is_some-position, keys_of, length-map, list_any}
+use Rattle.network_text.proofs.Words.{list_any_none, map-append, map-map, members, named_branch, named_sides, names_of, none_there, passage_of, passages_of}
+use Rattle.network_text.proofs.Words.{passages_of-front, passages_of-push, same_passage, slice_get-map, stream_at, used_by, used_by-push, uses, with_entry}
 use Rattle.network_text.proofs.NameTests.{branch_name-passes}
+use Rattle.std.proofs.Common.{All, AllPairs, Bool, List, None, Option, Some, [], ap, append_assoc, arith, bytes_eq, false, get_or, length, length-append, map}
+use Rattle.std.proofs.Common.{map-id, option_to_list, position, refl, slice_get, subst, sym, true, ℕ, ◌++◌, ◌+◌, ◌<◌, ◌∙◌, ◌∷◌, ◌≡◌, ◌≢◌, ◌≤◌}
+use Rattle.networks.specs.declared.few.AtMostTwo.TheVariants as few
 
 -- the network that the tables tell of
 abbrev pub so_far : List (List ℕ × ℕ) → List Line → Network

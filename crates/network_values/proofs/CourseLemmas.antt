@@ -1,12 +1,11 @@
 -- Heights and shares on the course of a stream.
-use Rattle.std.proofs.Common.{◌≡◌, ◌∙◌, Bool, true, false, refl, sym, ap, if◌then◌else◌}
-use mathlib.Core.Path.{subst₂}
-use Rattle.network_values.proofs.Words.{Between, BranchValue, Course, HasDuty, IsAtMost, IsBelow, IsBetweenValues, IsMix, Latent, Level, PassesTakeShares, Rational, Sensible, SharesRise, SideRun, height, height_on, high_of, is_above, low_of, minus, plus, positive_part, rational_zero, seen_from, share, side_on, times}
-use Rattle.fractions.proofs.Comparisons.{at_most-minus_minus, at_most_from_below, at_most_from_same, at_most_refl}
-use Rattle.fractions.proofs.Products.{plus-times, times-minus}
-use Rattle.fractions.proofs.Sums.{minus-minus_same, minus-self, plus-zero}
+use Rattle.network_values.proofs.Words.{Between, BranchValue, Course, HasDuty, IsAtMost, IsBelow, IsBetweenValues, IsMix, Latent, Level, PassesTakeShares}
+use Rattle.network_values.proofs.Words.{Rational, Sensible, SharesRise, SideRun, at_most-minus_minus, at_most_from_below, at_most_from_same, at_most_refl}
+use Rattle.network_values.proofs.Words.{height, height_on, high_of, is_above, low_of, minus, minus-minus_same, minus-self, plus, plus-times, plus-zero}
+use Rattle.network_values.proofs.Words.{positive_part, rational_zero, seen_from, share, side_on, subst₂, times, times-minus}
 use Rattle.network_values.proofs.MixLemmas.{mixes_lose}
-use Rattle.network_values.proofs.ShareLemmas.{HasDuty-seen, is_above-itself, high_of-seen, hot_share_at_least, low_of-seen}
+use Rattle.network_values.proofs.ShareLemmas.{HasDuty-seen, high_of-seen, hot_share_at_least, is_above-itself, low_of-seen}
+use Rattle.std.proofs.Common.{Bool, ap, false, if◌then◌else◌, refl, sym, true, ◌∙◌, ◌≡◌}
 
 has_duty-on : (course : Course) (duty : Rational) (low high : BranchValue) → IsBetweenValues duty low high → HasDuty duty (side_on course low high)
 has_duty-on (Sensible base) duty low high between = (between.some, ap (times high.cp) (minus-minus_same high.t low.t base) ∙ between.gives)
@@ -17,21 +16,24 @@ takes-on : (from_itself : Bool) (course : Course) (duty : Rational) (low high : 
 takes-on from_itself (Sensible base) duty low high between = ap (λ f. minus (height high.cp (minus high.t base)) (height f (minus low.t base))) between.size
 takes-on from_itself (Latent distance) duty low high between = by (is_above from_itself distance)
   where
-    by : (b : Bool) → minus (if b then times high.cp high.t else rational_zero) (if b then times low.cp low.t else rational_zero) ≡ (if b then duty else rational_zero)
+    by : (b : Bool) → minus (if b then times high.cp high.t else rational_zero)
+        (if b then times low.cp low.t else rational_zero) ≡ (if b then duty else rational_zero)
     by true = ap (λ f. minus (times high.cp high.t) (times f low.t)) between.size ∙ sym (times-minus high.cp high.t low.t) ∙ between.gives
     by false = minus-self rational_zero
 
-pub height_on-mixed : (from_itself : Bool) (course : Course) (first second to : BranchValue) → IsBelow rational_zero first.cp → IsBelow rational_zero second.cp → IsMix first second to
-    → IsAtMost (height_on from_itself course to) (plus (height_on from_itself course first) (height_on from_itself course second))
+pub height_on-mixed : (from_itself : Bool) (course : Course) (first second to : BranchValue) → IsBelow rational_zero first.cp → IsBelow rational_zero second.cp
+    → IsMix first second to → IsAtMost (height_on from_itself course to) (plus (height_on from_itself course first) (height_on from_itself course second))
 height_on-mixed from_itself (Sensible base) first second to some other mix = mixes_lose.mixes base first second to some other mix
 height_on-mixed from_itself (Latent distance) first second to some other mix = by (is_above from_itself distance)
   where
-    by : (b : Bool) → IsAtMost (if b then times to.cp to.t else rational_zero) (plus (if b then times first.cp first.t else rational_zero) (if b then times second.cp second.t else rational_zero))
+    by : (b : Bool) → IsAtMost (if b then times to.cp to.t else rational_zero)
+        (plus (if b then times first.cp first.t else rational_zero) (if b then times second.cp second.t else rational_zero))
     by true = at_most_from_same (times to.cp to.t) (plus (times first.cp first.t) (times second.cp second.t)) mix.heat
     by false = at_most_from_same rational_zero (plus rational_zero rational_zero) (sym (plus-zero rational_zero))
 
 pub height_on-additive : (from_itself : Bool) (course : Course) (f g t : Rational)
-    → height_on from_itself course (record { cp = plus f g; t = t }) ≡ plus (height_on from_itself course (record { cp = f; t = t })) (height_on from_itself course (record { cp = g; t = t }))
+    → height_on from_itself course (record { cp = plus f g; t = t }) ≡ plus (height_on from_itself course (record { cp = f; t = t }))
+    (height_on from_itself course (record { cp = g; t = t }))
 height_on-additive from_itself (Sensible base) f g t = plus-times f g (positive_part (minus t base))
 height_on-additive from_itself (Latent distance) f g t = by (is_above from_itself distance)
   where
@@ -47,9 +49,12 @@ passes_take = record { has_duty = has_duty-on; takes = takes-on; mixes = height_
 share-lower : (from_itself : Bool) (place other duty : Rational) (side : SideRun) → IsBelow rational_zero duty → HasDuty duty side → IsAtMost other place
     → IsAtMost (share from_itself duty (seen_from place side)) (share from_itself duty (seen_from other side))
 share-lower from_itself place other duty side positive has lower =
-    hot_share_at_least from_itself duty positive (seen_from other side) (seen_from place side) (HasDuty-seen other duty side has) (HasDuty-seen place duty side has) (record {
-      high = subst₂ IsAtMost (sym (high_of-seen place side)) (sym (high_of-seen other side)) (at_most-minus_minus (high_of side) (high_of side) other place (at_most_refl (high_of side)) lower);
-      low = subst₂ IsAtMost (sym (low_of-seen place side)) (sym (low_of-seen other side)) (at_most-minus_minus (low_of side) (low_of side) other place (at_most_refl (low_of side)) lower);
+    hot_share_at_least from_itself duty positive (seen_from other side) (seen_from place side) (HasDuty-seen other duty side has)
+    (HasDuty-seen place duty side has) (record {
+      high = subst₂ IsAtMost (sym (high_of-seen place side)) (sym (high_of-seen other side))
+          (at_most-minus_minus (high_of side) (high_of side) other place (at_most_refl (high_of side)) lower);
+      low = subst₂ IsAtMost (sym (low_of-seen place side)) (sym (low_of-seen other side))
+          (at_most-minus_minus (low_of side) (low_of side) other place (at_most_refl (low_of side)) lower);
     })
 
 share-itself : (duty : Rational) (side : SideRun) → IsBelow rational_zero duty → IsAtMost (share false duty side) (share true duty side)

@@ -1,30 +1,27 @@
 -- Each stream ends just once, and no branch is left over.
-use Rattle.std.proofs.Common.{◌≡◌, ◌≢◌, ◌∙◌, ◌<◌, ◌⊎◌, inl, inr, ℕ, zero, suc, Bool, true, false, List, [], ◌∷◌, get_or, slice_get, length, refl, sym, ap, ap₂, subst, arith, All, AllPairs, Contains, if◌then◌else◌, ◌==◌, eq-eqb, ne_eqb}
-use Rattle.std.specs.List.{list_any, range_with_len}
-use mathlib.Core.Path.{subst₂}
-use Rattle.std.proofs.lemmas.Bool.{cases_eq, false≢true}
-use Rattle.std.proofs.lemmas.Bool.Decides.{nat_tests}
-use Rattle.std.proofs.lemmas.List.{get_or-map, length-map}
-use Rattle.std.proofs.lemmas.List.Elements.{All-head, All-nil, All-tail, All-weaker, Contains-get_or}
-use Rattle.sums.proofs.CountLemmas.{found, none_any}
-use Rattle.sums.proofs.ListLemmas.{Contains-slice_get}
-use Rattle.network_values.proofs.Words.{AreEnded, BranchValue, Case, EndOnce, HasShape, IsAdditive, IsAtMost, IsBelow, IsOfOneStream, IsWholeValuation, Line, Network, Rational, Solves, StreamsEndOnce, Valuation, Weight, ended_by, ended_streams, ends, last_value, minus, mix_loss, pass_loss, plus, rational_sum_by, rational_zero, stream_at, used_by, uses, value_at, weight_at}
-use Rattle.fractions.proofs.Comparisons.{at_most-plus_left, at_most-plus_right, at_most_from_below, at_most_from_plus, at_most_refl, at_most_trans, below_not_at_most}
+use Rattle.network_values.proofs.Words.{All-flat_map, All-head, All-nil, All-tail, All-weaker, AreEnded, BranchValue, Case, Contains-get_or, Contains-slice_get}
+use Rattle.network_values.proofs.Words.{EndOnce, HasShape, IsAdditive, IsAtMost, IsBelow, IsOfOneStream, IsWholeValuation, Line, Network, Rational, Solves}
+use Rattle.network_values.proofs.Words.{StreamsEndOnce, Valuation, Weight, at_most-plus_left, at_most-plus_right, at_most_from_below, at_most_from_plus}
+use Rattle.network_values.proofs.Words.{at_most_refl, at_most_trans, below_not_at_most, cases_eq, ended_by, ended_streams, ends, false≢true, found, get_or-map}
+use Rattle.network_values.proofs.Words.{last_value, length-map, list_any, minus, minus-self, mix_loss, nat_tests, none_any, own_stream, pass_loss, plus}
+use Rattle.network_values.proofs.Words.{plus-zero, plus_comm, range_with_len, rational_sum_by, rational_zero, stream_at, stream_within, streams_first, subst₂}
+use Rattle.network_values.proofs.Words.{used_by, used_there, uses, value_at, weight_at, zero-plus}
 use Rattle.fractions.proofs.RationalSums.{but_at, left_of, left_of-unused, not_negative-rational_sum_by, one_taken, rational_sum_by-zero, term-at_most}
-use Rattle.fractions.proofs.Sums.{minus-self, plus-zero, plus_comm, zero-plus}
-use Rattle.networks.specs.declared.network.Line.TheVariants as line
-use Rattle.networks.proofs.Lists.{All-flat_map}
-use Rattle.networks.proofs.OfShape.{own_stream, stream_within, streams_first, used_there}
 use Rattle.network_values.proofs.FlowBalance.{IsEven, flow_balance}
 use Rattle.network_values.proofs.WholeLemmas.{All-range, Contains-range, all_solved, branch_above, item_at, own_value}
+use Rattle.std.proofs.Common.{All, AllPairs, Bool, Contains, List, [], ap, ap₂, arith, eq-eqb, false, get_or, if◌then◌else◌, inl, inr, length, ne_eqb, refl}
+use Rattle.std.proofs.Common.{slice_get, subst, suc, sym, true, zero, ℕ, ◌<◌, ◌==◌, ◌∙◌, ◌∷◌, ◌≡◌, ◌≢◌, ◌⊎◌}
+use Rattle.networks.specs.declared.network.Line.TheVariants as line
 
 -- ---- additive weights
 
-pub even : (weight : Weight) → IsAdditive weight → (case : Case) (network : Network) (values : Valuation) (l : Line) → IsOfOneStream network.branches l → Solves case network values l → IsEven (weight_at weight network values) l
+pub even : (weight : Weight) → IsAdditive weight → (case : Case) (network : Network) (values : Valuation) (l : Line) → IsOfOneStream network.branches l
+    → Solves case network values l → IsEven (weight_at weight network values) l
 even weight additive case network values (line.Exchanger name hot cold duty) one solves = tt
 even weight additive case network values (line.Split from first cp second) one solves =
     let i = stream_at network.branches from in let whole = value_at values from in
-    let part : (b : ℕ) → stream_at network.branches b ≡ i → (value_at values b).t ≡ whole.t → weight i (record { cp = (value_at values b).cp; t = whole.t }) ≡ weight_at weight network values b =
+    let part : (b : ℕ) → stream_at network.branches b ≡ i → (value_at values b).t ≡ whole.t → weight i
+    (record { cp = (value_at values b).cp; t = whole.t }) ≡ weight_at weight network values b =
     λ b of_stream state. ap₂ (λ n t. weight n (record { cp = (value_at values b).cp; t = t })) (sym of_stream) (sym state) in
     ap (λ f. weight i (record { cp = f; t = whole.t })) (sym solves.sizes) ∙ additive i (value_at values first).cp (value_at values second).cp whole.t
     ∙ ap₂ plus (part first one.0 solves.first_state) (part second one.1 solves.second_state)
@@ -34,7 +31,8 @@ even weight additive case network values (line.End branch) one solves = tt
 
 module _ {case : Case} {network : Network} {values : Valuation} (shape : HasShape case network) (whole : IsWholeValuation case network values) where
   pub all_even : (weight : Weight) → IsAdditive weight → All (IsEven (weight_at weight network values)) network.lines
-  all_even weight additive k d within = even weight additive case network values (get_or network.lines k d) (shape.one_stream k d within) (all_solved whole k d within)
+  all_even weight additive k d within = even weight additive case network values (get_or network.lines k d) (shape.one_stream k d within)
+      (all_solved whole k d within)
 
 -- ---- branches that end
 
@@ -42,7 +40,8 @@ pub ended_within : {case : Case} {network : Network} → HasShape case network �
 unfolding ended_by
 ended_within {case} {network} shape =
     All-flat_map (λ b. b < length network.branches) ends network.lines
-    (All-weaker (λ l. All (λ b. b < length network.branches) (uses l)) (λ l. All (λ b. b < length network.branches) (ends l)) of_line network.lines (used_there shape.made_once shape.made_first))
+    (All-weaker (λ l. All (λ b. b < length network.branches) (uses l)) (λ l. All (λ b. b < length network.branches) (ends l)) of_line network.lines
+    (used_there shape.made_once shape.made_first))
   where
     of_line : (l : Line) → All (λ b. b < length network.branches) (uses l) → All (λ b. b < length network.branches) (ends l)
     of_line (line.Exchanger name hot cold duty) within = within
@@ -87,23 +86,26 @@ unfolding sizes
 sizes-same i stream other a b same size = ap₂ (λ s f. if i == s then f else rational_zero) same size
 
 -- two numbers of the greatest value c don't fit into a sum of at most c
-no_two : (f : ℕ → Rational) (c : Rational) → IsBelow rational_zero c → (us : List ℕ) → All (λ u. IsAtMost rational_zero (f u)) us → IsAtMost (rational_sum_by f us) c
-    → (i j d : ℕ) → i < j → j < length us → f (get_or us i d) ≡ c → f (get_or us j d) ≡ c → ⊥
+no_two : (f : ℕ → Rational) (c : Rational) → IsBelow rational_zero c → (us : List ℕ) → All (λ u. IsAtMost rational_zero (f u)) us
+    → IsAtMost (rational_sum_by f us) c → (i j d : ℕ) → i < j → j < length us → f (get_or us i d) ≡ c → f (get_or us j d) ≡ c → ⊥
 no_two f c some [] least few i j d before within one two = absurd (omega (arith, within))
 no_two f c some (u ∷ us) least few i zero d before within one two = absurd (omega (arith, before))
 no_two f c some (u ∷ us) least few zero (suc j) d before within one two =
     let later = All-tail (λ v. IsAtMost rational_zero (f v)) u us least in
     let none : IsAtMost (rational_sum_by f us) rational_zero =
-    at_most_from_plus (rational_sum_by f us) rational_zero c (subst₂ IsAtMost (plus_comm (f u) (rational_sum_by f us) ∙ ap (plus (rational_sum_by f us)) one) (sym (zero-plus c)) few) in
+    at_most_from_plus (rational_sum_by f us) rational_zero c
+    (subst₂ IsAtMost (plus_comm (f u) (rational_sum_by f us) ∙ ap (plus (rational_sum_by f us)) one) (sym (zero-plus c)) few) in
     let here = subst (λ x. IsAtMost x (rational_sum_by f us)) two (term-at_most f us (get_or us j d) later (Contains-get_or us j d (omega (arith, within)))) in
     below_not_at_most rational_zero c some (at_most_trans c (rational_sum_by f us) rational_zero here none)
 no_two f c some (u ∷ us) least few (suc i) (suc j) d before within one two =
-    no_two f c some us (All-tail (λ v. IsAtMost rational_zero (f v)) u us least)
-    (at_most_trans (rational_sum_by f us) (plus (f u) (rational_sum_by f us)) c (at_most-plus_left (f u) (rational_sum_by f us) (All-head (λ v. IsAtMost rational_zero (f v)) u us least)) few) i j d (omega (arith, before)) (omega (arith, within)) one two
+    no_two f c some us (All-tail (λ v. IsAtMost rational_zero (f v)) u us least) (at_most_trans (rational_sum_by f us) (plus (f u) (rational_sum_by f us)) c
+    (at_most-plus_left (f u) (rational_sum_by f us) (All-head (λ v. IsAtMost rational_zero (f v)) u us least)) few) i j d (omega (arith, before))
+    (omega (arith, within)) one two
 
 -- ---- streams end once
 
-module _ {case : Case} {network : Network} {values : Valuation} (shape : HasShape case network) (whole : IsWholeValuation case network values) (ended : AreEnded case network values) where
+module _ {case : Case} {network : Network} {values : Valuation} (shape : HasShape case network) (whole : IsWholeValuation case network values)
+    (ended : AreEnded case network values) where
   -- the size of a branch, where it is one of the stream
   abbrev of : ℕ → ℕ → Rational
   of i = weight_at (sizes i) network values
@@ -122,7 +124,8 @@ module _ {case : Case} {network : Network} {values : Valuation} (shape : HasShap
   pass_loss-none i (line.Exchanger name hot cold duty) one solves = refl
   pass_loss-none i (line.Split from first cp second) one solves = refl
   pass_loss-none i (line.Pass from exchanger to) one solves =
-      ap (minus (of i from)) (sizes-same i (stream_at network.branches to) (stream_at network.branches from) (value_at values to) (value_at values from) one solves.size) ∙ minus-self (of i from)
+      ap (minus (of i from)) (sizes-same i (stream_at network.branches to) (stream_at network.branches from) (value_at values to)
+      (value_at values from) one solves.size) ∙ minus-self (of i from)
   pass_loss-none i (line.Mix first second to) one solves = refl
   pass_loss-none i (line.End branch) one solves = refl
 
@@ -134,11 +137,10 @@ module _ {case : Case} {network : Network} {values : Valuation} (shape : HasShap
       let s = stream_at network.branches first in
       let both : BranchValue = record { cp = plus (value_at values first).cp (value_at values second).cp; t = rational_zero } in
       let one_first = sizes-same i s s (value_at values first) (record { cp = (value_at values first).cp; t = rational_zero }) refl refl in
-      let one_second = sizes-same i (stream_at network.branches second) s (value_at values second) (record { cp = (value_at values second).cp; t = rational_zero }) one.0 refl in
-      ap₂ minus
-      (ap₂ plus one_first one_second ∙ sym (sizes-additive i s (value_at values first).cp (value_at values second).cp rational_zero))
-      (sizes-same i (stream_at network.branches to) s (value_at values to) both one.1 solves.size)
-      ∙ minus-self (sizes i s both)
+      let one_second = sizes-same i (stream_at network.branches second) s (value_at values second)
+      (record { cp = (value_at values second).cp; t = rational_zero }) one.0 refl in
+      ap₂ minus (ap₂ plus one_first one_second ∙ sym (sizes-additive i s (value_at values first).cp (value_at values second).cp rational_zero))
+      (sizes-same i (stream_at network.branches to) s (value_at values to) both one.1 solves.size) ∙ minus-self (sizes i s both)
   mix_loss-none i (line.End branch) one solves = refl
 
   -- a stream's own branch is the only one of them that is of the stream
@@ -146,8 +148,8 @@ module _ {case : Case} {network : Network} {values : Valuation} (shape : HasShap
   own_size i within =
       one_taken (of i) i 0 (length case.streams) (omega arith) (omega (arith, within))
       ∙ ap₂ plus (ap (λ s. sizes i s (value_at values i)) (own_stream shape.made_once i within) ∙ sizes-own i (value_at values i))
-      (rational_sum_by-zero (but_at (of i) i) (range_with_len 0 (length case.streams)) (All-range (λ k. but_at (of i) i k ≡ rational_zero) (length case.streams) others))
-      ∙ plus-zero (value_at values i).cp
+      (rational_sum_by-zero (but_at (of i) i) (range_with_len 0 (length case.streams))
+      (All-range (λ k. but_at (of i) i k ≡ rational_zero) (length case.streams) others)) ∙ plus-zero (value_at values i).cp
     where
       others : (k : ℕ) → k < length case.streams → but_at (of i) i k ≡ rational_zero
       others k inside = by (cases_eq k i)
@@ -165,10 +167,12 @@ module _ {case : Case} {network : Network} {values : Valuation} (shape : HasShap
       ∙ ap (λ x. plus x (left i)) (ap (λ x. plus x (all_ended i)) (ap₂ plus passes mixes ∙ plus-zero rational_zero) ∙ zero-plus (all_ended i))
     where
       passes : rational_sum_by (pass_loss (of i)) network.lines ≡ rational_zero
-      passes = rational_sum_by-zero (pass_loss (of i)) network.lines (λ k d inside. pass_loss-none i (get_or network.lines k d) (shape.one_stream k d inside) (all_solved whole k d inside))
+      passes = rational_sum_by-zero (pass_loss (of i)) network.lines
+          (λ k d inside. pass_loss-none i (get_or network.lines k d) (shape.one_stream k d inside) (all_solved whole k d inside))
 
       mixes : rational_sum_by (mix_loss (of i)) network.lines ≡ rational_zero
-      mixes = rational_sum_by-zero (mix_loss (of i)) network.lines (λ k d inside. mix_loss-none i (get_or network.lines k d) (shape.one_stream k d inside) (all_solved whole k d inside))
+      mixes = rational_sum_by-zero (mix_loss (of i)) network.lines
+          (λ k d inside. mix_loss-none i (get_or network.lines k d) (shape.one_stream k d inside) (all_solved whole k d inside))
 
   left_of-least : (i k : ℕ) → k < length network.branches → IsAtMost rational_zero (left_of (of i) (used_by network.lines) k)
   left_of-least i k within = by (list_any (λ u. k == u) (used_by network.lines))
@@ -181,17 +185,19 @@ module _ {case : Case} {network : Network} {values : Valuation} (shape : HasShap
   all_left-least i = All-range (λ k. IsAtMost rational_zero (left_of (of i) (used_by network.lines) k)) (length network.branches) (left_of-least i)
 
   all_ended-least : (i : ℕ) → All (λ u. IsAtMost rational_zero (of i u)) (ended_by network.lines)
-  all_ended-least i = All-weaker (λ b. b < length network.branches) (λ u. IsAtMost rational_zero (of i u)) (of-least i) (ended_by network.lines) (ended_within shape)
+  all_ended-least i = All-weaker (λ b. b < length network.branches) (λ u. IsAtMost rational_zero (of i u)) (of-least i) (ended_by network.lines)
+      (ended_within shape)
 
   -- an end of a stream has all of its size
-  end_size : (i : ℕ) → i < length case.streams → (k : ℕ) → k < length (ended_by network.lines) → stream_at network.branches (get_or (ended_by network.lines) k 0) ≡ i
-      → of i (get_or (ended_by network.lines) k 0) ≡ (value_at values i).cp
+  end_size : (i : ℕ) → i < length case.streams → (k : ℕ) → k < length (ended_by network.lines)
+      → stream_at network.branches (get_or (ended_by network.lines) k 0) ≡ i → of i (get_or (ended_by network.lines) k 0) ≡ (value_at values i).cp
   end_size i within k inside same =
       let (s, at) = item_at case.streams i within in
       let full = ended.full k 0 inside s (ap (slice_get case.streams) same ∙ at) in
       ap₂ (sizes i) same full ∙ sizes-own i (last_value s) ∙ ap (λ (v : BranchValue). v.cp) (sym (own_value whole i s at))
 
-  some_end : (i : ℕ) → Contains (ended_streams network) i → (k : ℕ) × (k < length (ended_by network.lines)) × (stream_at network.branches (get_or (ended_by network.lines) k 0) ≡ i)
+  some_end : (i : ℕ) → Contains (ended_streams network) i
+      → (k : ℕ) × (k < length (ended_by network.lines)) × (stream_at network.branches (get_or (ended_by network.lines) k 0) ≡ i)
   unfolding ended_streams
   some_end i (k, within, is) =
       let all = ended_by network.lines in
@@ -202,8 +208,10 @@ module _ {case : Case} {network : Network} {values : Valuation} (shape : HasShap
   nothing_left i within =
       let all = ended_by network.lines in
       let (k, inside, same) = some_end i (ended.each i within) in
-      let here = subst (λ x. IsAtMost x (all_ended i)) (end_size i within k inside same) (term-at_most (of i) all (get_or all k 0) (all_ended-least i) (Contains-get_or all k 0 inside)) in
-      at_most_from_plus (left i) rational_zero (all_ended i) (subst₂ IsAtMost (sizes_balance i within ∙ plus_comm (all_ended i) (left i)) (sym (zero-plus (all_ended i))) here)
+      let here = subst (λ x. IsAtMost x (all_ended i)) (end_size i within k inside same)
+      (term-at_most (of i) all (get_or all k 0) (all_ended-least i) (Contains-get_or all k 0 inside)) in
+      at_most_from_plus (left i) rational_zero (all_ended i)
+      (subst₂ IsAtMost (sizes_balance i within ∙ plus_comm (all_ended i) (left i)) (sym (zero-plus (all_ended i))) here)
 
   all_used : (branch : ℕ) → branch < length network.branches → Contains (used_by network.lines) branch
   all_used branch within = by (list_any (λ u. branch == u) (used_by network.lines)) refl
@@ -215,9 +223,11 @@ module _ {case : Case} {network : Network} {values : Valuation} (shape : HasShap
           subst (Contains (used_by network.lines)) same (Contains-slice_get (used_by network.lines) k u it.at)
       by false none =
           let i = stream_at network.branches branch in
-          let apart = All-weaker (λ u. (branch == u) ≡ false) (λ u. branch ≢ u) (λ u differ same. false≢true (sym differ ∙ eq-eqb branch u same)) (used_by network.lines) (none_any (λ u. branch == u) (used_by network.lines) none) in
+          let apart = All-weaker (λ u. (branch == u) ≡ false) (λ u. branch ≢ u) (λ u differ same. false≢true (sym differ ∙ eq-eqb branch u same))
+          (used_by network.lines) (none_any (λ u. branch == u) (used_by network.lines) none) in
           let here = left_of-unused (of i) (used_by network.lines) branch apart ∙ sizes-own i (value_at values branch) in
-          let term = term-at_most (left_of (of i) (used_by network.lines)) (range_with_len 0 (length network.branches)) branch (all_left-least i) (Contains-range (length network.branches) branch within) in
+          let term = term-at_most (left_of (of i) (used_by network.lines)) (range_with_len 0 (length network.branches)) branch (all_left-least i)
+          (Contains-range (length network.branches) branch within) in
           absurd (below_not_at_most rational_zero (value_at values branch).cp (branch_above whole shape branch within)
           (at_most_trans _ (left i) rational_zero (subst (λ x. IsAtMost x (left i)) here term) (nothing_left i (stream_within shape branch within))))
 
@@ -228,11 +238,14 @@ module _ {case : Case} {network : Network} {values : Valuation} (shape : HasShap
       let second : k < length all = omega (arith, within, length-map all (stream_at network.branches)) in
       let first : j < length all = omega (arith, before, second) in
       let i = stream_at network.branches (get_or all j 0) in
-      let other : stream_at network.branches (get_or all k 0) ≡ i = sym (get_or-map (stream_at network.branches) all k 0 d second) ∙ sym same ∙ get_or-map (stream_at network.branches) all j 0 d first in
+      let other : stream_at network.branches (get_or all k 0) ≡ i = sym (get_or-map (stream_at network.branches) all k 0 d second) ∙ sym same
+      ∙ get_or-map (stream_at network.branches) all j 0 d first in
       let inside = stream_within shape (get_or all j 0) (ended_within shape j 0 first) in
       let size = (value_at values i).cp in
-      let few = subst (IsAtMost (all_ended i)) (sym (sizes_balance i inside)) (at_most-plus_right (all_ended i) (left i) (not_negative-rational_sum_by (left_of (of i) (used_by network.lines)) (range_with_len 0 (length network.branches)) (all_left-least i))) in
-      no_two (of i) size (branch_above whole shape i (omega (arith, inside, streams_first shape.made_once))) all (all_ended-least i) few j k 0 before second (end_size i inside j first refl) (end_size i inside k second other)
+      let few = subst (IsAtMost (all_ended i)) (sym (sizes_balance i inside)) (at_most-plus_right (all_ended i) (left i)
+      (not_negative-rational_sum_by (left_of (of i) (used_by network.lines)) (range_with_len 0 (length network.branches)) (all_left-least i))) in
+      no_two (of i) size (branch_above whole shape i (omega (arith, inside, streams_first shape.made_once))) all (all_ended-least i) few j k 0 before second
+      (end_size i inside j first refl) (end_size i inside k second other)
 
   pub end_once : EndOnce network
   end_once = record { distinct = ends_differ; none_left = all_used }

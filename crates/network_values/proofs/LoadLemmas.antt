@@ -1,22 +1,20 @@
 -- The states of latent branches are parts of a load: of streams' own branches, behind splits, and of mixes.
-use Rattle.std.proofs.Common.{◌≡◌, ◌∙◌, ◌⊎◌, inl, inr, ◌<◌, ◌≤◌, ◌-◌, pos, ℕ, zero, suc, false, [], ◌∷◌, All, if◌then◌else◌, get_or, slice_get, length, take, sym, ap, subst, arith}
-use Rattle.std.specs.Prelude.{IsTrue}
-use Rattle.std.specs.Option.{option_map_or}
-use Rattle.std.proofs.lemmas.Int.{ints}
-use Rattle.std.proofs.lemmas.Bool.{cases_lt}
-use Rattle.std.proofs.lemmas.List.Elements.{All-cons, All-nil}
-use mathlib.Core.Path.{subst₂}
-use Rattle.stream_case.specs.declared.source.Side.TheVariants as side
-use Rattle.fractions.proofs.Comparisons.{at_most-plus_plus, at_most-times_left, at_most-whole, at_most_antisymm, at_most_from_below, at_most_from_not_below, at_most_from_not_negative, at_most_refl, below_not_same, not_negative-minus, positive-nonzero}
-use Rattle.fractions.proofs.Comparisons.{times-turned}
-use Rattle.fractions.proofs.Products.{plus-times, times-minus, times_cancel_right, times_comm, zero-times}
-use Rattle.networks.specs.declared.network.Line.TheVariants as line
-use Rattle.networks.proofs.OfShape.{HasNumbers, line_at, line_of, made_fewer, own_stream}
-use Rattle.network_values.proofs.Words.{BranchValue, Case, HasShape, IsAtMost, IsBelow, IsMix, IsOfOneStream, IsPartOfLoad, IsValuation, KeepsLoad, Line, LoadsAreKept, Network, PassKeepsLoad, Rational, Side, Solves, Stream, Valuation, first_part_of_load, first_state, is_latent, is_latent_branch, made_before, made_by, makes, minus, plus, rational_zero, stream_at, times, value_at, whole}
+use Rattle.network_values.proofs.Words.{All-cons, All-nil, BranchValue, Case, HasNumbers, HasShape, IsAtMost, IsBelow, IsMix, IsOfOneStream, IsPartOfLoad}
+use Rattle.network_values.proofs.Words.{IsValuation, KeepsLoad, Line, LoadsAreKept, Network, PassKeepsLoad, Rational, Side, Solves, Stream, Valuation}
+use Rattle.network_values.proofs.Words.{at_most-plus_plus, at_most-times_left, at_most-whole, at_most_antisymm, at_most_from_below, at_most_from_not_below}
+use Rattle.network_values.proofs.Words.{at_most_from_not_negative, at_most_refl, below_not_same, cases_lt, first_part_of_load, first_state, ints, is_latent}
+use Rattle.network_values.proofs.Words.{is_latent_branch, line_at, line_of, made_before, made_by, made_fewer, makes, minus, not_negative-minus, option_map_or}
+use Rattle.network_values.proofs.Words.{own_stream, plus, plus-times, positive-nonzero, rational_zero, stream_at, subst₂, times, times-minus, times-turned}
+use Rattle.network_values.proofs.Words.{times_cancel_right, times_comm, value_at, whole, zero-times}
 use Rattle.network_values.proofs.LineLemmas.{mixed_positive}
 use Rattle.network_values.proofs.StreamStates.{is_latent_branch-is}
 use Rattle.network_values.proofs.ValuationLemmas.{branch_positive, first_each}
 use Rattle.network_values.proofs.WholeLemmas.{item_at, own_value}
+use Rattle.std.proofs.Common.{All, [], ap, arith, false, get_or, if◌then◌else◌, inl, inr, length, pos, slice_get, subst, suc, sym, take, zero, ℕ, ◌-◌, ◌<◌, ◌∙◌}
+use Rattle.std.proofs.Common.{◌∷◌, ◌≡◌, ◌≤◌, ◌⊎◌}
+use Rattle.std.specs.Prelude.{IsTrue}
+use Rattle.networks.specs.declared.network.Line.TheVariants as line
+use Rattle.stream_case.specs.declared.source.Side.TheVariants as side
 
 -- ---- means
 
@@ -33,10 +31,7 @@ at_most_from_times c a b some h = at_most_from_not_negative a b
 
 -- the state of a mix is at most, and at least, what both states are
 module _
-    (first second to : BranchValue)
-    (some : IsBelow rational_zero first.cp)
-    (other : IsBelow rational_zero second.cp)
-    (mix : IsMix first second to)
+    (first second to : BranchValue) (some : IsBelow rational_zero first.cp) (other : IsBelow rational_zero second.cp) (mix : IsMix first second to)
   where
     size : IsBelow rational_zero to.cp
     size = subst (IsBelow rational_zero) (sym mix.size) (mixed_positive first second some other)
@@ -90,21 +85,18 @@ module _ (case : Case) (network : Network) (n : ℕ) (values : Valuation) (shape
   KeptBefore index = (branch : ℕ) → branch < made_before case network index → Kept branch
 
   -- a state that is that of another branch of the stream
-  kept_as : (a b : ℕ) → stream_at network.branches a ≡ stream_at network.branches b
-      → (value_at values a).t ≡ (value_at values b).t → Kept b → Kept a
+  kept_as : (a b : ℕ) → stream_at network.branches a ≡ stream_at network.branches b → (value_at values a).t ≡ (value_at values b).t → Kept b → Kept a
   kept_as a b stream state kept latent = subst IsPartOfLoad (sym state) (kept (sym (same_latent case network a b stream) ∙ latent))
 
   own_kept : (branch : ℕ) → branch < length case.streams → Kept branch
   own_kept branch early latent =
       let (s, at) = item_at case.streams branch early in
       let stream = ap (slice_get case.streams) (own_stream shape.made_once branch early) ∙ at in
-      subst IsPartOfLoad (sym (ap (λ v. v.t) (own_value is branch s at)))
-      (first_kept s (sym (is_latent_branch-is case network branch s stream) ∙ latent))
+      subst IsPartOfLoad (sym (ap (λ v. v.t) (own_value is branch s at))) (first_kept s (sym (is_latent_branch-is case network branch s stream) ∙ latent))
 
   -- the branches that the line at an index makes, where those before it have such states
-  made_kept : (index : ℕ) (l : Line) → KeptBefore index
-      → index < n → IsOfOneStream network.branches l → HasNumbers case network index l → Solves case network values l
-      → PassKeepsLoad case network values l → All Kept (makes l)
+  made_kept : (index : ℕ) (l : Line) → KeptBefore index → index < n → IsOfOneStream network.branches l → HasNumbers case network index l
+      → Solves case network values l → PassKeepsLoad case network values l → All Kept (makes l)
   made_kept index (line.Exchanger name hot cold duty) before early one_stream numbers solved passes = All-nil Kept
   made_kept index (line.Split from first cp second) before early one_stream numbers solved passes =
       let kept = before from (numbers.used 0 0 (omega arith)) in
@@ -119,14 +111,12 @@ module _ (case : Case) (network : Network) (n : ℕ) (values : Valuation) (shape
       let of_first = sym (same_latent case network to first one_stream.1) ∙ latent in
       let of_second = same_latent case network second first one_stream.0 ∙ of_first in
       mixed_part (value_at values first) (value_at values second) (value_at values to) (above first one) (above second two) solved
-      (before first one of_first) (before second two of_second))
-      (All-nil Kept)
+      (before first one of_first) (before second two of_second)) (All-nil Kept)
   made_kept index (line.End branch) before early one_stream numbers solved passes = All-nil Kept
 
   -- a branch made before a line or by it
-  known_kept : (index : ℕ) (l : Line) → KeptBefore index → HasNumbers case network index l
-      → All Kept (makes l) → (branch : ℕ) → branch < made_before case network (suc index)
-      → (branch < made_before case network index) ⊎ (made_before case network index ≤ branch) → Kept branch
+  known_kept : (index : ℕ) (l : Line) → KeptBefore index → HasNumbers case network index l → All Kept (makes l) → (branch : ℕ)
+      → branch < made_before case network (suc index) → (branch < made_before case network index) ⊎ (made_before case network index ≤ branch) → Kept branch
   known_kept index l before numbers made branch known (inl earlier) = before branch earlier
   known_kept index l before numbers made branch known (inr later) =
       let j = branch - made_before case network index in

@@ -1,31 +1,14 @@
 -- The definitions compute on a worked network: a cold stream is split, overheated beside an exchanger, and mixed again.
-use Rattle.std.proofs.Common.{◌≡◌, ◌<◌, ℕ, zero, suc, ℤ, pos, true, List, [], ◌∷◌, map, refl, ap, subst, arith}
-use Rattle.std.specs.Prelude.{All, Contains, codes}
-use Rattle.std.specs.List.{enumerate_from}
-use Rattle.std.specs.Ordering.{is_le}
-use Rattle.std.proofs.lemmas.Int.{ints}
-use Rattle.std.proofs.lemmas.List.Elements.{All-from_recursion}
-use Rattle.std.proofs.lemmas.Option.{same_Some}
-use Rattle.stream_case.specs.declared.case.Case.{Case}
+use Rattle.network_values.proofs.Words.{All, All-from_recursion, AreEnded, Branch, BranchValue, Case, Contains, Decides-is_le, IsAtMost, IsBelow, IsFullEnd}
+use Rattle.network_values.proofs.Words.{IsWholeValuation, KeepApproaches, KeepsApproach, Line, Network, Rational, Solves, Stream, Utility, Valuation}
+use Rattle.network_values.proofs.Words.{below-whole, branch_side, codes, duty_at, ended_by, ended_streams, enumerate_from, exchangers_of, gcd, hot_target, ints}
+use Rattle.network_values.proofs.Words.{is_le, last_remainder, last_value, lowest_form, made_by, minus, pass_of, plus, positive_part, ratio, rational_cmp}
+use Rattle.network_values.proofs.Words.{rational_zero, same_Some, same_from_fields, side_run, stream_at, times, view_above, whole}
+use Rattle.network_values.specs.Penalties.{height_at, heights, hot_heat, mix_penalties, penalty}
+use Rattle.std.proofs.Common.{List, [], ap, arith, map, pos, refl, subst, suc, true, zero, ℕ, ℤ, ◌<◌, ◌∷◌, ◌≡◌}
+use Rattle.networks.specs.declared.network.Line.TheVariants as line
 use Rattle.stream_case.specs.declared.source.Side.TheVariants as side
 use Rattle.stream_case.specs.declared.source.Source.TheVariants as source
-use Rattle.stream_case.specs.declared.stream.Stream.{Stream}
-use Rattle.stream_case.specs.declared.utility.Utility.{Utility}
-use Rattle.fractions.specs.Lowest.{gcd, last_remainder}
-use Rattle.fractions.specs.Rationals.{IsAtMost, IsBelow, Rational, lowest_form, minus, plus, ratio, rational_cmp, rational_zero, times, whole}
-use Rattle.fractions.specs.LowestForms.{same_from_fields}
-use Rattle.fractions.proofs.Comparisons.{Decides-is_le, below-whole}
-use Rattle.networks.specs.Lines.{exchangers_of, made_by, pass_of, stream_at}
-use Rattle.networks.specs.declared.network.Branch.{Branch}
-use Rattle.networks.specs.declared.network.Line.{Line}
-use Rattle.networks.specs.declared.network.Line.TheVariants as line
-use Rattle.networks.specs.declared.network.Network.{Network}
-use Rattle.network_values.specs.Heights.{positive_part, view_above}
-use Rattle.network_values.specs.Penalties.{height_at, heights, hot_heat, mix_penalties, penalty}
-use Rattle.network_values.specs.Sides.{KeepApproaches, KeepsApproach, side_run}
-use Rattle.network_values.specs.Values.{AreEnded, IsFullEnd, IsWholeValuation, Solves, Valuation, branch_side, duty_at, ended_by, ended_streams, last_value}
-use Rattle.network_values.specs.declared.values.BranchValue.{BranchValue}
-use Rattle.problem_table.specs.Deficit.{hot_target}
 
 -- the two numbers of a rational
 abbrev numbers : Rational → ℤ × ℕ
@@ -100,40 +83,16 @@ values_positive = All-from_recursion (λ v. IsBelow rational_zero v.cp) worked_v
 values_solve : All (Solves worked_case worked_network worked_values) lines
 unfolding exchangers_of stream_at branch_side duty_at plus minus times ratio lowest_form gcd last_remainder
 values_solve =
-    All-from_recursion (Solves worked_case worked_network worked_values) lines (
-      tt,
-      (
-        tt,
-        (
-          tt,
-          (
-            tt,
-            (
-              record { size = refl; heat = same_from_fields _ _ refl refl },
-              (
-                record { size = refl; heat = same_from_fields _ _ refl refl },
-                (
-                  tt,
-                  (
-                    record { first_size = refl; sizes = same_from_fields _ _ refl refl; first_state = refl; second_state = refl },
-                    (
-                      record { size = refl; heat = same_from_fields _ _ refl refl },
-                      (
-                        record { size = refl; heat = same_from_fields _ _ refl refl },
-                        (
-                          record { size = same_from_fields _ _ refl refl; heat = same_from_fields _ _ refl refl },
-                          (record { size = refl; heat = same_from_fields _ _ refl refl }, (tt, tt)),
-                        ),
-                      ),
-                    ),
-                  ),
-                ),
-              ),
-            ),
-          ),
-        ),
-      ),
-    )
+    let P : Line → Type 0 = Solves worked_case worked_network worked_values in
+    let one : P (line.Pass 0 0 2) = record { size = refl; heat = same_from_fields _ _ refl refl } in
+    let two : P (line.Pass 2 3 3) = record { size = refl; heat = same_from_fields _ _ refl refl } in
+    let divided : P (line.Split 1 4 (whole (pos 5)) 5) =
+    record { first_size = refl; sizes = same_from_fields _ _ refl refl; first_state = refl; second_state = refl } in
+    let three : P (line.Pass 4 0 6) = record { size = refl; heat = same_from_fields _ _ refl refl } in
+    let four : P (line.Pass 5 1 7) = record { size = refl; heat = same_from_fields _ _ refl refl } in
+    let mixed : P (line.Mix 6 7 8) = record { size = same_from_fields _ _ refl refl; heat = same_from_fields _ _ refl refl } in
+    let five : P (line.Pass 8 2 9) = record { size = refl; heat = same_from_fields _ _ refl refl } in
+    All-from_recursion P lines (tt, (tt, (tt, (tt, (one, (two, (tt, (divided, (three, (four, (mixed, (five, (tt, tt)))))))))))))
 
 whole_valuation : IsWholeValuation worked_case worked_network worked_values
 unfolding made_by

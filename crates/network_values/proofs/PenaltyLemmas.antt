@@ -1,27 +1,24 @@
 -- The sum of all penalties.
-use Rattle.std.proofs.Common.{◌≡◌, ◌↔◌, ◌∙◌, ⊎_elim, inl, inr, ◌+ℤ◌, ◌-ℤ◌, ◌*ℤ◌, ℕ, ℤ, pos, Bool, true, false, List, Option, Some, None, slice_get, refl, sym, ap, ap₂, arith, if◌then◌else◌}
-use Rattle.std.specs.Int.{int_max}
-use Rattle.std.specs.Bool.{IsTrue}
-use Rattle.std.specs.List.{enumerate_from}
-use Rattle.std.proofs.lemmas.Int.{by_lt_z, ints}
-use Rattle.network_values.proofs.Words.{AreStreams, Case, CountsFromItself, Exchanger, HasShape, IsAdditive, IsLatent, IsReferenceView, IsSensible, IsValidStream, Latent, Network, PenaltiesAddUp, PenaltiesAreTheExcess, Rational, Sensible, Side, Source, Stream, StreamsGiveTheirHeat, View, absorbed_heat, base_of, counts_above, course_of, deficit_above, deficit_over, exchangers_of, first_part_of_load, first_value, full_size, given_by, heat_over, height_at, height_on, heights, high_end, hot_duty, hot_heat, hot_target, inlet_height, int_sum_by, is_latent, last_part_of_load, last_value, load_over, minus, mix_penalties, outlet_height, pass_loss, pass_of, penalty, plus, ratio, rational_sum_by, rational_zero, released_heat, same_side, sensible_above, stream_height, stream_loss, sum_side, times, utility_part, whole}
-use Rattle.sums.proofs.ProductLemmas.{*ℤ--ℤ}
-use Rattle.sums.proofs.SumLemmas.{int_sum_by-sub}
-use Rattle.stream_case.proofs.HeatLemmas.{heat_over-latent, heat_over-sensible, is_latent-latent, is_latent-sensible}
-use Rattle.stream_case.specs.declared.source.Side.TheVariants as side
-use Rattle.stream_case.specs.declared.source.Source.TheVariants as source
 use Rattle.fractions.proofs.RationalSums.{rational_sum_by-plus, rational_sum_by-whole, sum-enumerated, sum-items}
-use Rattle.fractions.proofs.Ratios.{by_three, one_denominator}
-use Rattle.fractions.proofs.Sums.{minus-self, minus-zero, plus-zero, plus_assoc, zero-plus}
-use Rattle.fractions.proofs.Wholes.{whole-minus, whole-times}
-use Rattle.networks.proofs.Lists.{all_at}
-use Rattle.problem_table.specs.Deficit.{HasTightDeficit}
-use Rattle.problem_table.proofs.DeficitLemmas.{hot_target-bound}
+use Rattle.network_values.proofs.Words.{*ℤ--ℤ, Case, CountsFromItself, Exchanger, HasShape, HasTightDeficit, IsAdditive, IsLatent, IsSensible, IsTrue}
+use Rattle.network_values.proofs.Words.{IsValidStream, Latent, Network, Rational, Sensible, Side, Source, Stream, View, all_at, by_lt_z, by_three, counts_above}
+use Rattle.network_values.proofs.Words.{deficit_above, deficit_over, enumerate_from, exchangers_of, first_part_of_load, first_value, full_size}
+use Rattle.network_values.proofs.Words.{heat_over-latent, heat_over-sensible, height_on, high_end, hot_target, hot_target-bound, inlet_height, int_max}
+use Rattle.network_values.proofs.Words.{int_sum_by, int_sum_by-sub, ints, is_latent, is_latent-latent, is_latent-sensible, last_part_of_load, last_value, minus}
+use Rattle.network_values.proofs.Words.{minus-self, minus-zero, one_denominator, outlet_height, pass_loss, pass_of, plus, plus-zero, plus_assoc, ratio}
+use Rattle.network_values.proofs.Words.{rational_sum_by, rational_zero, same_side, stream_loss, sum_side, times, whole, whole-minus, whole-times, zero-plus}
 use Rattle.network_values.proofs.CourseLemmas.{height_on-additive}
 use Rattle.network_values.proofs.PassLemmas.{passes_by_side, side_taken, sides_taken}
 use Rattle.network_values.proofs.StreamStates.{full_size-latent, full_size-sensible}
 use Rattle.network_values.proofs.WeightLemmas.{weight_balance}
 use Rattle.network_values.proofs.WholeHeights.{height_lost, level_counts}
+use Rattle.network_values.specs.Penalties.{IsReferenceView, PenaltiesAddUp, PenaltiesAreTheExcess, StreamsGiveTheirHeat, absorbed_heat, base_of, course_of}
+use Rattle.network_values.specs.Penalties.{given_by, height_at, heights, hot_duty, hot_heat, mix_penalties, penalty, released_heat, stream_height, utility_part}
+use Rattle.std.proofs.Common.{Bool, List, None, Option, Some, ap, ap₂, arith, false, if◌then◌else◌, inl, inr, pos, refl, slice_get, sym, true, ℕ, ℤ, ⊎_elim}
+use Rattle.std.proofs.Common.{◌*ℤ◌, ◌+ℤ◌, ◌-ℤ◌, ◌↔◌, ◌∙◌, ◌≡◌}
+use Rattle.stream_case.specs.Stream.{AreStreams, heat_over, load_over, sensible_above}
+use Rattle.stream_case.specs.declared.source.Side.TheVariants as side
+use Rattle.stream_case.specs.declared.source.Source.TheVariants as source
 
 -- ---- what streams give away
 
@@ -103,10 +100,8 @@ streams_given case view streams =
     let less = λ (s : Stream). hot s -ℤ cold s in
     sum-items (stream_loss (heights case view)) (λ s. whole (less s)) case.streams
     (λ i s at. ap₂ minus (ap (λ o. stream_height view o (first_value s)) at) (ap (λ o. stream_height view o (last_value s)) at)
-    ∙ stream_given view s (all_at IsValidStream case.streams i s streams.each at)
-    ∙ ap whole (given_by-sides s.side (heat_over view.from_itself view.place s)))
-    ∙ rational_sum_by-whole less (int_sum_by less) refl (λ s ss. refl) case.streams
-    ∙ ap whole (int_sum_by-sub hot cold case.streams)
+    ∙ stream_given view s (all_at IsValidStream case.streams i s streams.each at) ∙ ap whole (given_by-sides s.side (heat_over view.from_itself view.place s)))
+    ∙ rational_sum_by-whole less (int_sum_by less) refl (λ s ss. refl) case.streams ∙ ap whole (int_sum_by-sub hot cold case.streams)
 
 pub heights-additive : (case : Case) (view : View) → IsAdditive (heights case view)
 unfolding heights
@@ -159,8 +154,7 @@ penalties_sum case network values view streams shape whole_values ended =
     let mixes = mix_penalties case view network values in
     let hot = sum_side side.Hot (heat_over view.from_itself view.place) case.streams in
     let cold = sum_side side.Cold (heat_over view.from_itself view.place) case.streams in
-    ap (λ x. plus x mixes) (exchangers_add_up height case network shape) ∙ plus_assoc (hot_heat network) passes mixes
-    ∙ ap (plus (hot_heat network))
+    ap (λ x. plus x mixes) (exchangers_add_up height case network shape) ∙ plus_assoc (hot_heat network) passes mixes ∙ ap (plus (hot_heat network))
     (sym (weight_balance case network values (heights case view) shape whole_values ended (heights-additive case view)) ∙ streams_given case view streams)
     ∙ less_deficit (hot_heat network) hot cold
 

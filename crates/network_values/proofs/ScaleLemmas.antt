@@ -1,22 +1,20 @@
 -- The two sides of an exchanger on the shifted scale, with the heights that streams lose and gain there.
-use Rattle.std.proofs.Common.{◌≡◌, ◌∙◌, inl, inr, ◌<◌, ◌+ℤ◌, ◌-ℤ◌, ℕ, ℤ, pos, Bool, true, false, if◌then◌else◌, Option, Some, None, slice_get, length, refl, sym, ap, ap₂, subst, arith, All, option_map, unwrap_or}
-use Rattle.std.specs.Option.{option_map_or}
-use mathlib.Core.Path.{subst₂}
-use Rattle.std.proofs.lemmas.Int.{ints}
-use Rattle.std.proofs.lemmas.Option.{same_Some}
-use Rattle.network_values.proofs.Words.{Between, BranchValue, Case, Exchanger, ExchangersRunOnOneScale, HasDuty, HasShape, IsAtMost, IsBelow, IsBetweenValues, IsExchanger, IsOfOneStream, IsWholeValuation, Joins, Latent, Level, Network, Rational, RunsOnOneScale, Sensible, Side, SideRun, Solves, Source, Stream, Valuation, View, absorbed_heat, base_of, branch_side, change, contribution_of, course_of, duty_at, duty_of, exchangers_of, height_at, height_in, heights, inlet_height, is_latent, level_or, minus, outlet_height, pass_of, pass_run, plus, ratio, rational_zero, released_heat, run_between, seen_from, share, share_in, shifted_run, side_of, side_on, side_run, stream_at, stream_height, stream_level, times, unshifted, uses, value_at, whole}
-use Rattle.stream_case.specs.declared.source.Side.TheVariants as side
-use Rattle.stream_case.specs.declared.source.Source.TheVariants as source
-use Rattle.fractions.proofs.Comparisons.{at_most-minus_right, at_most-minus_swap, positive-is}
-use Rattle.fractions.proofs.Ratios.{by_three, one_denominator}
-use Rattle.fractions.proofs.Sums.{plus_comm}
-use Rattle.fractions.proofs.Wholes.{whole-minus, whole-plus}
-use Rattle.networks.specs.declared.network.Line.TheVariants as line
-use Rattle.networks.proofs.Lists.{all_at}
-use Rattle.networks.proofs.OfShape.{the_pass_of, used_there}
+use Rattle.network_values.proofs.Words.{Between, BranchValue, Case, Exchanger, ExchangersRunOnOneScale, HasDuty, HasShape, IsAtMost, IsBelow, IsBetweenValues}
+use Rattle.network_values.proofs.Words.{IsExchanger, IsOfOneStream, IsWholeValuation, Joins, Latent, Level, Network, Rational, RunsOnOneScale, Sensible, Side}
+use Rattle.network_values.proofs.Words.{SideRun, Solves, Source, Stream, Valuation, View, all_at, at_most-minus_right, at_most-minus_swap, branch_side}
+use Rattle.network_values.proofs.Words.{by_three, change, contribution_of, duty_at, duty_of, exchangers_of, inlet_height, ints, is_latent, level_or, minus}
+use Rattle.network_values.proofs.Words.{one_denominator, option_map_or, outlet_height, pass_of, pass_run, plus, plus_comm, positive-is, ratio, rational_zero}
+use Rattle.network_values.proofs.Words.{run_between, same_Some, seen_from, share, share_in, shifted_run, side_of, side_on, side_run, stream_at, stream_level}
+use Rattle.network_values.proofs.Words.{subst₂, the_pass_of, times, used_there, uses, value_at, whole, whole-minus, whole-plus}
 use Rattle.network_values.proofs.CourseLemmas.{passes_take}
 use Rattle.network_values.proofs.ShareLemmas.{high_of-seen, low_of-seen}
 use Rattle.network_values.proofs.WholeLemmas.{all_solved, branch_above}
+use Rattle.network_values.specs.Penalties.{absorbed_heat, base_of, course_of, height_at, height_in, heights, released_heat, stream_height, unshifted}
+use Rattle.std.proofs.Common.{All, Bool, None, Option, Some, ap, ap₂, arith, false, if◌then◌else◌, inl, inr, length, option_map, pos, refl, slice_get, subst}
+use Rattle.std.proofs.Common.{sym, true, unwrap_or, ℕ, ℤ, ◌+ℤ◌, ◌-ℤ◌, ◌<◌, ◌∙◌, ◌≡◌}
+use Rattle.networks.specs.declared.network.Line.TheVariants as line
+use Rattle.stream_case.specs.declared.source.Side.TheVariants as side
+use Rattle.stream_case.specs.declared.source.Source.TheVariants as source
 
 -- ---- ends with the approach between them, as distances from a place
 
@@ -91,25 +89,25 @@ level_or-seen base level low high true = refl
 level_or-seen base level low high false = refl
 
 module _ {case : Case} {network : Network} {values : Valuation} (shape : HasShape case network) (whole_values : IsWholeValuation case network values) where
-  pub branch_height : (view : View) (i : ℕ) (s : Stream) (branch : ℕ)
-      → slice_get case.streams i ≡ Some s → stream_at network.branches branch ≡ i
+  pub branch_height : (view : View) (i : ℕ) (s : Stream) (branch : ℕ) → slice_get case.streams i ≡ Some s → stream_at network.branches branch ≡ i
       → height_at case view network values branch ≡ height_in view s (value_at values branch)
   unfolding heights
   branch_height view i s branch at of_stream = ap (λ o. stream_height view o (value_at values branch)) (ap (slice_get case.streams) of_stream ∙ at)
 
   -- the side of a stream: the one pass of its branches
-  record IsRun (number i : ℕ) (on : Side) (duty : Rational) (s : Stream) (from to : ℕ) : Type 0 where
-    at : slice_get case.streams i ≡ Some s
-    is_on : s.side ≡ on
-    of_from : stream_at network.branches from ≡ i
-    of_to : stream_at network.branches to ≡ i
-    found : pass_of network number i ≡ Some (line.Pass from number to)
+  pub record IsRun (number i : ℕ) (on : Side) (duty : Rational) (s : Stream) (from to : ℕ) : Type 0 where
+    pub at : slice_get case.streams i ≡ Some s
+    pub is_on : s.side ≡ on
+    pub of_from : stream_at network.branches from ≡ i
+    pub of_to : stream_at network.branches to ≡ i
+    pub found : pass_of network number i ≡ Some (line.Pass from number to)
+    pub size : (value_at values to).cp ≡ (value_at values from).cp
+    pub heat : times (value_at values from).cp (change on (value_at values from).t (value_at values to).t) ≡ duty
     between : IsBetweenValues duty (lower on (value_at values from) (value_at values to)) (higher on (value_at values from) (value_at values to))
     run : side_run case network values number (source.Stream i) ≡ level_or (between_both on (value_at values from) (value_at values to)) (stream_level (Some s))
 
-  run_of : (number i : ℕ) (e : Exchanger) (on : Side) → slice_get (exchangers_of network.lines) number ≡ Some e → Joins e i
-      → side_of case (source.Stream i) ≡ Some on
-      → (s : Stream) × (from : ℕ) × (to : ℕ) × IsRun number i on e.duty s from to
+  pub run_of : (number i : ℕ) (e : Exchanger) (on : Side) → slice_get (exchangers_of network.lines) number ≡ Some e → Joins e i
+      → side_of case (source.Stream i) ≡ Some on → (s : Stream) × (from : ℕ) × (to : ℕ) × IsRun number i on e.duty s from to
   unfolding side_run branch_side duty_at
   run_of number i e on at joins is =
       let (s, of_case, is_on) = stream_on case i on is in
@@ -117,8 +115,7 @@ module _ {case : Case} {network : Network} {values : Valuation} (shape : HasShap
       let l = line.Pass from number to in
       let solves = all_at (Solves case network values) network.lines index l (all_solved whole_values) pass.here in
       let one = all_at (IsOfOneStream network.branches) network.lines index l shape.one_stream pass.here in
-      let used = all_at (λ x. All (λ b. b < length network.branches) (uses x)) network.lines index l
-      (used_there shape.made_once shape.made_first) pass.here in
+      let used = all_at (λ x. All (λ b. b < length network.branches) (uses x)) network.lines index l (used_there shape.made_once shape.made_first) pass.here in
       let of_side : branch_side case network from ≡ on =
       ap (λ n. unwrap_or (side_of case (source.Stream n)) side.Hot) pass.of_stream ∙ ap (λ o. unwrap_or o side.Hot) is in
       let duty : duty_at network number ≡ e.duty = ap duty_of at in
@@ -134,6 +131,8 @@ module _ {case : Case} {network : Network} {values : Valuation} (shape : HasShap
           of_from = pass.of_stream;
           of_to = one ∙ pass.of_stream;
           found = pass.found;
+          size = solves.size;
+          heat = heat;
           between = values_between on e.duty (value_at values from) (value_at values to) some solves.size heat;
           run = ap₂ level_or (passed ∙ run_between-both on (value_at values from) (value_at values to) solves.size) (ap stream_level of_case);
         },

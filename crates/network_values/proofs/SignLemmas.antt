@@ -1,20 +1,22 @@
 -- No penalty is negative, and the targets are met.
-use Rattle.std.proofs.Common.{◌≡◌, ⊎_elim, ◌<◌, ℕ, ℤ, pos, Bool, true, false, Some, get_or, slice_get, length, map, refl, sym, ap₂, subst, arith, All}
-use mathlib.Core.Path.{subst₂}
-use Rattle.std.proofs.lemmas.Int.{fold-int_max_reached}
-use Rattle.std.proofs.lemmas.List.Elements.{All-append, All-map}
-use Rattle.network_values.proofs.Words.{Case, DeficitsAreMet, Exchanger, HasNoNegativePenalty, HasShape, IsAtMost, IsBelow, IsExchanger, IsOfOneStream, IsWholeValuation, KeepApproaches, KeepsApproach, Line, Network, PenaltiesAreNotNegative, Rational, RunsOnOneScale, Solves, Source, TargetsAreMet, Valuation, View, absorbed_heat, course_of, deficit_above, deficit_from, deficit_over, end_deficits, exchanger_penalties, exchangers_of, height_at, hot_duty, hot_heat, hot_target, mix_loss, mix_penalties, penalty, plus, rational_zero, released_heat, share_in, shifted_run, stream_at, stream_ends, uses, utility_part, value_at, whole}
-use Rattle.stream_case.specs.declared.source.Side.TheVariants as side
-use Rattle.stream_case.specs.declared.source.Source.TheVariants as source
-use Rattle.fractions.proofs.Comparisons.{at_most_from_below, at_most_from_not_negative, at_most_from_same, at_most_refl, at_most_trans, not_negative-minus, not_negative-plus, positive-is}
+use Rattle.network_values.proofs.Words.{All-append, All-map, Case, Exchanger, HasShape, IsAtMost, IsBelow, IsExchanger, IsOfOneStream, IsWholeValuation}
+use Rattle.network_values.proofs.Words.{KeepApproaches, KeepsApproach, Line, Network, Rational, RunsOnOneScale, Solves, Source, Valuation, View}
+use Rattle.network_values.proofs.Words.{at_most_from_below, at_most_from_not_negative, at_most_from_same, at_most_refl, at_most_trans, deficit_above}
+use Rattle.network_values.proofs.Words.{deficit_from, deficit_over, end_deficits, exchangers_of, fold-int_max_reached, hot_target, mix_loss, not_negative-minus}
+use Rattle.network_values.proofs.Words.{not_negative-plus, plus, positive-is, rational_zero, share_in, shifted_run, stream_at, stream_ends, stream_within}
+use Rattle.network_values.proofs.Words.{subst₂, used_there, uses, value_at, whole}
 use Rattle.fractions.proofs.RationalSums.{not_negative-enumerated, not_negative-rational_sum_by}
-use Rattle.networks.specs.declared.network.Line.TheVariants as line
-use Rattle.networks.proofs.OfShape.{stream_within, used_there}
 use Rattle.network_values.proofs.CourseLemmas.{height_on-mixed}
 use Rattle.network_values.proofs.PenaltyLemmas.{penalties_sum}
 use Rattle.network_values.proofs.ScaleLemmas.{branch_height, run_on_scale}
 use Rattle.network_values.proofs.ShareLemmas.{hot_shares_lead, shares_parts}
 use Rattle.network_values.proofs.WholeLemmas.{all_solved, branch_above, item_at}
+use Rattle.network_values.specs.Penalties.{DeficitsAreMet, HasNoNegativePenalty, PenaltiesAreNotNegative, TargetsAreMet, absorbed_heat, course_of}
+use Rattle.network_values.specs.Penalties.{exchanger_penalties, height_at, hot_duty, hot_heat, mix_penalties, penalty, released_heat, utility_part}
+use Rattle.std.proofs.Common.{All, Bool, Some, ap₂, arith, false, get_or, length, map, pos, refl, slice_get, subst, sym, true, ℕ, ℤ, ⊎_elim, ◌<◌, ◌≡◌}
+use Rattle.networks.specs.declared.network.Line.TheVariants as line
+use Rattle.stream_case.specs.declared.source.Side.TheVariants as side
+use Rattle.stream_case.specs.declared.source.Source.TheVariants as source
 
 module _ (case : Case) (network : Network) (values : Valuation) (view : View) (shape : HasShape case network)
     (whole_values : IsWholeValuation case network values) where
@@ -43,8 +45,7 @@ module _ (case : Case) (network : Network) (values : Valuation) (view : View) (s
   exchanger_sign number e at apart =
       let runs = run_on_scale shape whole_values number e at in
       let shares = hot_shares_lead view.from_itself (whole view.place) e.duty _ _ runs.positive runs.hot_duty runs.cold_duty (runs.apart apart) in
-      not_negative-minus _ _
-      (at_most_trans _ _ _ (absorbed-most number e e.cold runs) (at_most_trans _ _ _ shares (released-least number e e.hot runs)))
+      not_negative-minus _ _ (at_most_trans _ _ _ (absorbed-most number e e.cold runs) (at_most_trans _ _ _ shares (released-least number e e.hot runs)))
 
   mix_sign : (l : Line) → All (λ b. b < length network.branches) (uses l) → IsOfOneStream network.branches l → Solves case network values l
       → IsAtMost rational_zero (mix_loss height l)
@@ -57,9 +58,7 @@ module _ (case : Case) (network : Network) (values : Valuation) (view : View) (s
       let (s, at) = item_at case.streams i (stream_within shape first first_within) in
       let mixed = height_on-mixed view.from_itself (course_of view.place s) (value_at values first) (value_at values second) (value_at values to)
       (branch_above whole_values shape first first_within) (branch_above whole_values shape second second_within) solves in
-      not_negative-minus (height to)
-      (plus (height first) (height second))
-      (subst₂ IsAtMost (sym (branch_height shape whole_values view i s to at one.1))
+      not_negative-minus (height to) (plus (height first) (height second)) (subst₂ IsAtMost (sym (branch_height shape whole_values view i s to at one.1))
       (sym (ap₂ plus (branch_height shape whole_values view i s first at refl) (branch_height shape whole_values view i s second at one.0))) mixed)
   mix_sign (line.End branch) within one solves = at_most_refl rational_zero
 
@@ -111,7 +110,7 @@ targets_met case network values valid shape whole_values ended apart =
     λ from_itself t. deficits_met case network values (record { place = t; from_itself = from_itself }) valid shape whole_values ended apart in
     let all_met = λ (from_itself : Bool). All-map IsMet (deficit_over from_itself streams) ends (λ k d within. met from_itself (get_or ends k d)) in
     let each : All IsMet (end_deficits streams) =
-    All-append IsMet (map (deficit_above streams) ends) (map (deficit_from streams) ends) (all_met false) (all_met true) in
+    All-append IsMet _ _ (all_met false) (all_met true) in
     not_negative-minus (whole (hot_target streams)) (hot_heat network)
     (⊎_elim (λ none. subst IsMet (sym none) (hot_heat-least case network shape)) (λ (k, within, is). subst IsMet is (each k (hot_target streams) within))
     (fold-int_max_reached (pos 0) (end_deficits streams) (hot_target streams) refl))

@@ -1,13 +1,11 @@
 -- The sizes, states and levels of streams: sensible ones first, then latent ones.
-use Rattle.std.proofs.Common.{◌≡◌, ◌⊎◌, inl, inr, ◌∙◌, ℕ, ℤ, pos, ◌+ℤ◌, sym, ap, arith, false, if◌then◌else◌, Some, None, slice_get}
-use Rattle.std.specs.Option.{option_map_or}
-use Rattle.std.proofs.lemmas.Int.{ints}
-use Rattle.stream_case.specs.Stream.{IsLatent, IsValidStream}
+use Rattle.network_values.proofs.Words.{Case, IsBelow, IsLatent, IsSensible, IsValidStream, Network, Side, Stream, below-whole, first_part_of_load, first_state}
+use Rattle.network_values.proofs.Words.{fixed_level, full_size, high_end, ints, is_hot, is_latent, is_latent-latent, is_latent-sensible, is_latent_branch}
+use Rattle.network_values.proofs.Words.{last_part_of_load, last_state, low_end, option_map_or, rational_zero, shifted, stream_at, stream_level, whole}
+use Rattle.network_values.specs.Penalties.{unshifted}
+use Rattle.std.proofs.Common.{None, Some, ap, arith, false, if◌then◌else◌, inl, inr, pos, slice_get, sym, ℕ, ℤ, ◌+ℤ◌, ◌∙◌, ◌≡◌, ◌⊎◌}
 use Rattle.stream_case.specs.declared.source.Side.TheVariants as side
 use Rattle.stream_case.specs.declared.source.Source.TheVariants as source
-use Rattle.stream_case.proofs.HeatLemmas.{is_latent-latent, is_latent-sensible}
-use Rattle.fractions.proofs.Comparisons.{below-whole}
-use Rattle.network_values.proofs.Words.{Case, IsBelow, IsSensible, Network, Side, Stream, first_part_of_load, first_state, fixed_level, full_size, high_end, is_hot, is_latent, is_latent_branch, last_part_of_load, last_state, low_end, rational_zero, shifted, stream_at, stream_level, unshifted, whole}
 
 -- ---- sensible streams
 
@@ -34,7 +32,8 @@ first_state-latent s h = ap (λ b. if b then first_part_of_load s.side else whol
 pub last_state-latent : (s : Stream) → IsLatent s → last_state s ≡ last_part_of_load s.side
 last_state-latent s h = ap (λ b. if b then last_part_of_load s.side else whole s.target) (is_latent-latent s h)
 
-pub fixed_level-latent : (case : Case) (i : ℕ) (s : Stream) → slice_get case.streams i ≡ Some s → IsLatent s → fixed_level case (source.Stream i) ≡ Some s.supply
+pub fixed_level-latent : (case : Case) (i : ℕ) (s : Stream) → slice_get case.streams i ≡ Some s → IsLatent s
+    → fixed_level case (source.Stream i) ≡ Some s.supply
 fixed_level-latent case i s at h = ap stream_level at ∙ ap (λ b. if b then Some s.supply else None) (is_latent-latent s h)
 
 -- ---- all streams

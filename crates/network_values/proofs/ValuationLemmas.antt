@@ -1,16 +1,16 @@
 -- Valuations of the first lines: with one line less and with one more, and that there is at most one.
-use Rattle.std.proofs.Common.{◌≡◌, ◌∙◌, ◌<◌, ◌≤◌, ◌+◌, ◌-◌, ◌∷◌, ◌++◌, ℕ, zero, suc, List, [], All, Some, get_or, slice_get, length, map, take, drop, sym, ap, subst, refl, arith, length-append}
-use Rattle.std.proofs.lemmas.List.{ext_get_or, get_or-append-add, get_or-drop, length-drop, get_or_append_left, get_or-take, length-map, length-take, take-append-drop, take-append-le, take-take, take_all}
-use Rattle.std.proofs.lemmas.List.Elements.{All-append, All-cons, All-map, All-nil, All-push, All-take, All-weaker}
-use Rattle.std.proofs.lemmas.Option.{slice_get-get_or}
-use Rattle.network_values.proofs.Words.{BranchValue, Case, HasPositiveFlow, HasShape, IsBelow, IsComplete, IsMix, IsPass, IsSplit, IsValidStream, IsValuation, LeaveRoom, LeavesRoom, Line, Network, Solves, Valuation, branch_side, duty_at, first_part, first_value, front, full_size, made_before, made_by, made_values, makes, mixed_value, no_value, passed_value, rational_zero, second_part, uses, value_at}
-use Rattle.stream_case.proofs.CompleteLemmas.{AreStreams-IsComplete}
-use Rattle.fractions.proofs.Comparisons.{positive-is, positive-minus}
-use Rattle.networks.specs.declared.network.Line.TheVariants as line
-use Rattle.networks.proofs.Lists.{all_at, slice_get-take}
-use Rattle.networks.proofs.OfShape.{HasNumbers, line_at, line_of, made_fewer}
-use Rattle.network_values.proofs.StreamStates.{full_size-positive}
+use Rattle.network_values.proofs.Words.{All-append, All-cons, All-map, All-nil, All-push, All-take, All-weaker, AreStreams-IsComplete, BranchValue, Case}
+use Rattle.network_values.proofs.Words.{HasNumbers, HasPositiveFlow, HasShape, IsBelow, IsComplete, IsMix, IsPass, IsSplit, IsValidStream, IsValuation}
+use Rattle.network_values.proofs.Words.{LeaveRoom, LeavesRoom, Line, Network, Solves, Valuation, all_at, branch_side, duty_at, first_part, first_value, front}
+use Rattle.network_values.proofs.Words.{full_size, length-map, line_at, line_of, made_before, made_by, made_fewer, made_values, makes, mixed_value, no_value}
+use Rattle.network_values.proofs.Words.{passed_value, positive-is, positive-minus, rational_zero, second_part, slice_get-get_or, slice_get-take, uses, value_at}
 use Rattle.network_values.proofs.LineLemmas.{mix_determined, mix_solved, mixed_positive, pass_determined, pass_solved, split_determined, split_solved}
+use Rattle.network_values.proofs.StreamStates.{full_size-positive}
+use Rattle.std.proofs.Common.{All, List, Some, [], ap, arith, drop, get_or, length, length-append, map, refl, slice_get, subst, suc, sym, take, zero, ℕ, ◌++◌}
+use Rattle.std.proofs.Common.{◌+◌, ◌-◌, ◌<◌, ◌∙◌, ◌∷◌, ◌≡◌, ◌≤◌}
+use Rattle.std.proofs.lemmas.List.{ext_get_or, get_or-append-add, get_or-drop, get_or-take, get_or_append_left, length-drop, length-take, take-append-drop}
+use Rattle.std.proofs.lemmas.List.{take-append-le, take-take, take_all}
+use Rattle.networks.specs.declared.network.Line.TheVariants as line
 
 -- ---- lists
 
@@ -40,7 +40,8 @@ agree-take values m = record { same = λ branch early. sym (get_or-take m values
 pub agree-append : (values more : Valuation) → AgreeBelow values (values ++ more) (length values)
 agree-append values more = record { same = λ branch early. sym (get_or_append_left values more no_value branch early) }
 
-pub solves_same : (case : Case) (network : Network) (values other : Valuation) (m : ℕ) (l : Line) → AgreeBelow values other m → AreBelow m l → Solves case network values l → Solves case network other l
+pub solves_same : (case : Case) (network : Network) (values other : Valuation) (m : ℕ) (l : Line) → AgreeBelow values other m → AreBelow m l
+    → Solves case network values l → Solves case network other l
 solves_same case network values other m (line.Exchanger name hot cold duty) agree below solved = tt
 solves_same case network values other m (line.Split from first cp second) agree below solved =
     let one = subst (λ v. IsSplit v (value_at values first) (value_at values second) cp) (agree.same from (below.used 0 0 (omega arith))) solved in
@@ -70,7 +71,8 @@ line_below case network n m l numbers upto = record {
 
 -- ---- one line less
 
-pub valuation_less : (case : Case) (network : Network) (n : ℕ) (values : Valuation) → HasShape case network → IsValuation case network (suc n) values → IsValuation case network n (front case network n values)
+pub valuation_less : (case : Case) (network : Network) (n : ℕ) (values : Valuation) → HasShape case network → IsValuation case network (suc n) values
+    → IsValuation case network n (front case network n values)
 valuation_less case network n values shape is =
     let m = made_before case network n in
     let fewer : m ≤ length values = omega (arith, made_fewer case network n (suc n) (omega arith), is.count) in
@@ -89,7 +91,8 @@ valuation_less case network n values shape is =
 -- ---- one line more
 
 -- a branch that the first lines have made has a size above 0
-pub branch_positive : (case : Case) (network : Network) (n : ℕ) (values : Valuation) → IsValuation case network n values → (branch : ℕ) → branch < made_before case network n → IsBelow rational_zero (value_at values branch).cp
+pub branch_positive : (case : Case) (network : Network) (n : ℕ) (values : Valuation) → IsValuation case network n values → (branch : ℕ)
+    → branch < made_before case network n → IsBelow rational_zero (value_at values branch).cp
 branch_positive case network n values is branch early = is.positive branch no_value (omega (arith, early, is.count))
 
 pub length-made_values : (case : Case) (network : Network) (values : Valuation) (l : Line) → length (made_values case network values l) ≡ length (makes l)
@@ -100,25 +103,29 @@ length-made_values case network values (line.Mix first second to) = refl
 length-made_values case network values (line.End branch) = refl
 
 -- what a line makes has sizes above 0
-made_positive : (case : Case) (network : Network) (n : ℕ) (values : Valuation) (l : Line) → IsValuation case network n values → HasNumbers case network n l → HasPositiveFlow l → LeavesRoom values l
-    → All (λ v. IsBelow rational_zero v.cp) (made_values case network values l)
+made_positive : (case : Case) (network : Network) (n : ℕ) (values : Valuation) (l : Line) → IsValuation case network n values → HasNumbers case network n l
+    → HasPositiveFlow l → LeavesRoom values l → All (λ v. IsBelow rational_zero v.cp) (made_values case network values l)
 made_positive case network n values (line.Exchanger name hot cold duty) is numbers flow room = All-nil (λ v. IsBelow rational_zero v.cp)
 made_positive case network n values (line.Split from first cp second) is numbers flow room =
     let P : BranchValue → Type 0 = λ v. IsBelow rational_zero v.cp in
     let v = value_at values from in
-    All-cons P (first_part v cp) (second_part v cp ∷ []) (positive-is cp flow.above) (All-cons P (second_part v cp) [] (positive-minus cp v.cp room) (All-nil P))
+    All-cons P (first_part v cp) (second_part v cp ∷ []) (positive-is cp flow.above)
+    (All-cons P (second_part v cp) [] (positive-minus cp v.cp room) (All-nil P))
 made_positive case network n values (line.Pass from exchanger to) is numbers flow room =
     let P : BranchValue → Type 0 = λ v. IsBelow rational_zero v.cp in
-    All-cons P (passed_value (branch_side case network from) (value_at values from) (duty_at network exchanger)) [] (branch_positive case network n values is from (numbers.used 0 0 (omega arith))) (All-nil P)
+    All-cons P (passed_value (branch_side case network from) (value_at values from) (duty_at network exchanger)) []
+    (branch_positive case network n values is from (numbers.used 0 0 (omega arith))) (All-nil P)
 made_positive case network n values (line.Mix first second to) is numbers flow room =
     let P : BranchValue → Type 0 = λ v. IsBelow rational_zero v.cp in
     let one = branch_positive case network n values is first (numbers.used 0 0 (omega arith)) in
     let two = branch_positive case network n values is second (numbers.used 1 0 (omega arith)) in
-    All-cons P (mixed_value (value_at values first) (value_at values second)) [] (mixed_positive (value_at values first) (value_at values second) one two) (All-nil P)
+    All-cons P (mixed_value (value_at values first) (value_at values second)) [] (mixed_positive (value_at values first) (value_at values second) one two)
+    (All-nil P)
 made_positive case network n values (line.End branch) is numbers flow room = All-nil (λ v. IsBelow rational_zero v.cp)
 
 -- it has the next numbers
-made_place : (case : Case) (network : Network) (n : ℕ) (values : Valuation) (l : Line) → IsValuation case network n values → HasNumbers case network n l → (j : ℕ) → j < length (makes l) → get_or (makes l) j 0 ≡ length values + j
+made_place : (case : Case) (network : Network) (n : ℕ) (values : Valuation) (l : Line) → IsValuation case network n values → HasNumbers case network n l
+    → (j : ℕ) → j < length (makes l) → get_or (makes l) j 0 ≡ length values + j
 made_place case network n values l is numbers j inside = numbers.made j inside ∙ ap (λ k. k + j) (sym is.count)
 
 -- and solves the line's equations, behind the values before it
@@ -129,17 +136,21 @@ made_solves case network n values (line.Split from first cp second) is numbers =
     let v = value_at values from in
     let all = values ++ first_part v cp ∷ second_part v cp ∷ [] in
     let before = (agree-append values (first_part v cp ∷ second_part v cp ∷ [])).same from (omega (arith, numbers.used 0 0 (omega arith), is.count)) in
-    let one : value_at all first ≡ first_part v cp = ap (value_at all) (made_place case network n values (line.Split from first cp second) is numbers 0 (omega arith)) ∙ get_or-append-add values (first_part v cp ∷ second_part v cp ∷ []) 0 no_value in
-    let two : value_at all second ≡ second_part v cp = ap (value_at all) (made_place case network n values (line.Split from first cp second) is numbers 1 (omega arith)) ∙ get_or-append-add values (first_part v cp ∷ second_part v cp ∷ []) 1 no_value in
-    subst (λ a. IsSplit a (value_at all first) (value_at all second) cp) before
-    (subst (λ a. IsSplit v a (value_at all second) cp) (sym one)
+    let one : value_at all first ≡ first_part v cp = ap (value_at all)
+    (made_place case network n values (line.Split from first cp second) is numbers 0 (omega arith))
+    ∙ get_or-append-add values (first_part v cp ∷ second_part v cp ∷ []) 0 no_value in
+    let two : value_at all second ≡ second_part v cp = ap (value_at all)
+    (made_place case network n values (line.Split from first cp second) is numbers 1 (omega arith))
+    ∙ get_or-append-add values (first_part v cp ∷ second_part v cp ∷ []) 1 no_value in
+    subst (λ a. IsSplit a (value_at all first) (value_at all second) cp) before (subst (λ a. IsSplit v a (value_at all second) cp) (sym one)
     (subst (λ a. IsSplit v (first_part v cp) a cp) (sym two) (split_solved v cp)))
 made_solves case network n values (line.Pass from exchanger to) is numbers =
     let v = value_at values from in let of = branch_side case network from in let duty = duty_at network exchanger in
     let behind = passed_value of v duty in let all = values ++ behind ∷ [] in
     let used : from < made_before case network n = numbers.used 0 0 (omega arith) in
     let before = (agree-append values (behind ∷ [])).same from (omega (arith, used, is.count)) in
-    let one : value_at all to ≡ behind = ap (value_at all) (made_place case network n values (line.Pass from exchanger to) is numbers 0 (omega arith)) ∙ get_or-append-add values (behind ∷ []) 0 no_value in
+    let one : value_at all to ≡ behind = ap (value_at all) (made_place case network n values (line.Pass from exchanger to) is numbers 0 (omega arith))
+    ∙ get_or-append-add values (behind ∷ []) 0 no_value in
     subst (λ a. IsPass of duty a (value_at all to)) before
     (subst (λ a. IsPass of duty v a) (sym one) (pass_solved of v duty (branch_positive case network n values is from used)))
 made_solves case network n values (line.Mix first second to) is numbers =
@@ -148,15 +159,17 @@ made_solves case network n values (line.Mix first second to) is numbers =
     let first_used : first < made_before case network n = numbers.used 0 0 (omega arith) in
     let second_used : second < made_before case network n = numbers.used 1 0 (omega arith) in
     let agree = agree-append values (both ∷ []) in
-    let one : value_at all to ≡ both = ap (value_at all) (made_place case network n values (line.Mix first second to) is numbers 0 (omega arith)) ∙ get_or-append-add values (both ∷ []) 0 no_value in
-    let positive = mixed_positive a b (branch_positive case network n values is first first_used) (branch_positive case network n values is second second_used) in
+    let one : value_at all to ≡ both = ap (value_at all) (made_place case network n values (line.Mix first second to) is numbers 0 (omega arith))
+    ∙ get_or-append-add values (both ∷ []) 0 no_value in
+    let positive = mixed_positive a b (branch_positive case network n values is first first_used)
+    (branch_positive case network n values is second second_used) in
     subst (λ v. IsMix v (value_at all second) (value_at all to)) (agree.same first (omega (arith, first_used, is.count)))
     (subst (λ v. IsMix a v (value_at all to)) (agree.same second (omega (arith, second_used, is.count)))
     (subst (λ v. IsMix a b v) (sym one) (mix_solved a b positive)))
 made_solves case network n values (line.End branch) is numbers = tt
 
-pub valuation_more : (case : Case) (network : Network) (n : ℕ) (values : Valuation) (l : Line) → HasShape case network → slice_get network.lines n ≡ Some l → IsValuation case network n values → LeavesRoom values l
-    → IsValuation case network (suc n) (values ++ made_values case network values l)
+pub valuation_more : (case : Case) (network : Network) (n : ℕ) (values : Valuation) (l : Line) → HasShape case network → slice_get network.lines n ≡ Some l
+    → IsValuation case network n values → LeavesRoom values l → IsValuation case network (suc n) (values ++ made_values case network values l)
 valuation_more case network n values l shape here is room =
     let of = line_of shape n l here in let numbers = of.numbers in let made = made_values case network values l in
     let many = length-made_values case network values l in let agree = agree-append values made in
@@ -164,14 +177,15 @@ valuation_more case network n values l shape here is room =
       within = of.at.within;
       count = omega (arith, length-append values made, many, numbers.next, is.count);
       own = take-append-le (length case.streams) values made (omega (arith, is.count)) ∙ is.own;
-      positive = All-append (λ v. IsBelow rational_zero v.cp) values made is.positive (made_positive case network n values l is numbers of.flow room);
+      positive = All-append (λ v. IsBelow rational_zero v.cp) _ _ is.positive (made_positive case network n values l is numbers of.flow room);
       solved = subst (All (Solves case network (values ++ made))) (sym of.at.more)
           (All-push (Solves case network (values ++ made)) (take n network.lines) l
           (each_first (Solves case network (values ++ made)) network.lines n (λ k other early at.
           let numbers = (line_of shape k other at).numbers in
-          let below = line_below case network k (length values) other numbers (omega (arith, made_fewer case network (suc k) n (omega (arith, early)), is.count)) in
-          solves_same case network values (values ++ made) (length values) other agree below (first_each (Solves case network values) network.lines n is.solved k other early at)))
-          (made_solves case network n values l is numbers));
+          let below = line_below case network k (length values) other numbers
+          (omega (arith, made_fewer case network (suc k) n (omega (arith, early)), is.count)) in
+          solves_same case network values (values ++ made) (length values) other agree below
+          (first_each (Solves case network values) network.lines n is.solved k other early at))) (made_solves case network n values l is numbers));
     }
 
 -- ---- the last branches
@@ -186,18 +200,22 @@ record IsDetermined (case : Case) (network : Network) (values before : Valuation
   made : (j : ℕ) → j < length (makes l) → value_at values (get_or (makes l) j 0) ≡ get_or (made_values case network before l) j no_value
   room : LeavesRoom before l
 
-one_made : (values : Valuation) (branch : ℕ) (v : BranchValue) → value_at values branch ≡ v → (j : ℕ) → j < 1 → value_at values (get_or (branch ∷ []) j 0) ≡ get_or (v ∷ []) j no_value
+one_made : (values : Valuation) (branch : ℕ) (v : BranchValue) → value_at values branch ≡ v → (j : ℕ) → j < 1
+    → value_at values (get_or (branch ∷ []) j 0) ≡ get_or (v ∷ []) j no_value
 one_made values branch v is zero inside = is
 one_made values branch v is (suc j) inside = absurd (omega (arith, inside))
 
-two_made : (values : Valuation) (a b : ℕ) (v w : BranchValue) → value_at values a ≡ v → value_at values b ≡ w → (j : ℕ) → j < 2 → value_at values (get_or (a ∷ b ∷ []) j 0) ≡ get_or (v ∷ w ∷ []) j no_value
+two_made : (values : Valuation) (a b : ℕ) (v w : BranchValue) → value_at values a ≡ v → value_at values b ≡ w → (j : ℕ) → j < 2
+    → value_at values (get_or (a ∷ b ∷ []) j 0) ≡ get_or (v ∷ w ∷ []) j no_value
 two_made values a b v w one two zero inside = one
 two_made values a b v w one two (suc zero) inside = two
 two_made values a b v w one two (suc (suc j)) inside = absurd (omega (arith, inside))
 
-line_determined : (case : Case) (network : Network) (values before : Valuation) (l : Line) → AgreeBelow values before (length before) → All (λ b. b < length before) (uses l) → AreBelow (length values) l → All (λ v. IsBelow rational_zero v.cp) before → All (λ v. IsBelow rational_zero v.cp) values
-    → Solves case network values l → IsDetermined case network values before l
-line_determined case network values before (line.Exchanger name hot cold duty) agree used below early positive solved = record { made = λ j inside. absurd (omega (arith, inside)); room = tt }
+line_determined : (case : Case) (network : Network) (values before : Valuation) (l : Line) → AgreeBelow values before (length before)
+    → All (λ b. b < length before) (uses l) → AreBelow (length values) l → All (λ v. IsBelow rational_zero v.cp) before
+    → All (λ v. IsBelow rational_zero v.cp) values → Solves case network values l → IsDetermined case network values before l
+line_determined case network values before (line.Exchanger name hot cold duty) agree used below early positive solved =
+    record { made = λ j inside. absurd (omega (arith, inside)); room = tt }
 line_determined case network values before (line.Split from first cp second) agree used below early positive solved =
     let v = value_at before from in
     let split = subst (λ a. IsSplit a (value_at values first) (value_at values second) cp) (agree.same from (used 0 0 (omega arith))) solved in
@@ -217,9 +235,11 @@ line_determined case network values before (line.Mix first second to) agree used
     let mix = subst (λ v. IsMix a v (value_at values to)) (agree.same second (used 1 0 (omega arith))) one in
     let some = mixed_positive a b (early first no_value (used 0 0 (omega arith))) (early second no_value (used 1 0 (omega arith))) in
     record { made = one_made values to (mixed_value a b) (mix_determined a b (value_at values to) some mix); room = tt }
-line_determined case network values before (line.End branch) agree used below early positive solved = record { made = λ j inside. absurd (omega (arith, inside)); room = tt }
+line_determined case network values before (line.End branch) agree used below early positive solved =
+    record { made = λ j inside. absurd (omega (arith, inside)); room = tt }
 
-pub valuation_ends : (case : Case) (network : Network) (n : ℕ) (values : Valuation) (l : Line) → HasShape case network → slice_get network.lines n ≡ Some l → IsValuation case network (suc n) values → EndsIn case network n l values
+pub valuation_ends : (case : Case) (network : Network) (n : ℕ) (values : Valuation) (l : Line) → HasShape case network → slice_get network.lines n ≡ Some l
+    → IsValuation case network (suc n) values → EndsIn case network n l values
 valuation_ends case network n values l shape here is =
     let m = made_before case network n in let before = take m values in
     let numbers = (line_of shape n l here).numbers in
@@ -256,20 +276,22 @@ start_only : (case : Case) (network : Network) (values : Valuation) → IsValuat
 unfolding made_by
 start_only case network values is = sym (take_all (length case.streams) values (omega (arith, is.count))) ∙ is.own
 
-pub one_valuation : (case : Case) (network : Network) (n : ℕ) (values other : Valuation) → HasShape case network → IsValuation case network n values → IsValuation case network n other → values ≡ other
+pub one_valuation : (case : Case) (network : Network) (n : ℕ) (values other : Valuation) → HasShape case network → IsValuation case network n values
+    → IsValuation case network n other → values ≡ other
 one_valuation case network zero values other shape is is_other = start_only case network values is ∙ sym (start_only case network other is_other)
 one_valuation case network (suc n) values other shape is is_other =
     let l = get_or network.lines n (line.End 0) in
     let here = (line_at network.lines n (line.End 0) is.within).here in
-    let before = one_valuation case network n (front case network n values) (front case network n other) shape (valuation_less case network n values shape is) (valuation_less case network n other shape is_other) in
-    (valuation_ends case network n values l shape here is).parts
-    ∙ ap (λ vs. vs ++ made_values case network vs l) before
+    let before = one_valuation case network n (front case network n values) (front case network n other) shape (valuation_less case network n values shape is)
+    (valuation_less case network n other shape is_other) in
+    (valuation_ends case network n values l shape here is).parts ∙ ap (λ vs. vs ++ made_values case network vs l) before
     ∙ sym (valuation_ends case network n other l shape here is_other).parts
 
 -- ---- where there is one
 
 -- the front of a valuation of more lines
-pub valuation_front : (case : Case) (network : Network) (n more : ℕ) (values : Valuation) → HasShape case network → IsValuation case network (n + more) values → IsValuation case network n (front case network n values)
+pub valuation_front : (case : Case) (network : Network) (n more : ℕ) (values : Valuation) → HasShape case network → IsValuation case network (n + more) values
+    → IsValuation case network n (front case network n values)
 valuation_front case network n zero values shape is =
     let same : n + 0 ≡ n = omega arith in
     let own = subst (λ k. IsValuation case network k values) same is in
@@ -278,18 +300,21 @@ valuation_front case network n (suc more) values shape is =
     let next : n + suc more ≡ suc (n + more) = omega arith in
     let less = valuation_less case network (n + more) values shape (subst (λ k. IsValuation case network k values) next is) in
     let first = valuation_front case network n more (front case network (n + more) values) shape less in
-    subst (IsValuation case network n) (take-take (made_before case network n) (made_before case network (n + more)) values (made_fewer case network n (n + more) (omega arith))) first
+    subst (IsValuation case network n) (take-take (made_before case network n) (made_before case network (n + more)) values
+    (made_fewer case network n (n + more) (omega arith))) first
 
-pub room_left : (case : Case) (network : Network) (n : ℕ) (values : Valuation) → HasShape case network → IsValuation case network n values → LeaveRoom case network n
+pub room_left : (case : Case) (network : Network) (n : ℕ) (values : Valuation) → HasShape case network → IsValuation case network n values
+    → LeaveRoom case network n
 room_left case network n values shape is index l other early here is_other =
     let split : n ≡ suc index + (n - suc index) = omega (arith, early) in
     let more = valuation_front case network (suc index) (n - suc index) values shape (subst (λ k. IsValuation case network k values) split is) in
     let shorter = front case network (suc index) values in
-    let same = one_valuation case network index (front case network index shorter) other shape (valuation_less case network index shorter shape more) is_other in
+    let same = one_valuation case network index (front case network index shorter) other shape
+    (valuation_less case network index shorter shape more) is_other in
     subst (λ vs. LeavesRoom vs l) same (valuation_ends case network index shorter l shape here more).room
 
-pub valuation_from_room : (case : Case) (network : Network) (n : ℕ) → IsComplete case → HasShape case network → n ≤ length network.lines → LeaveRoom case network n
-    → (values : Valuation) × IsValuation case network n values
+pub valuation_from_room : (case : Case) (network : Network) (n : ℕ) → IsComplete case → HasShape case network → n ≤ length network.lines
+    → LeaveRoom case network n → (values : Valuation) × IsValuation case network n values
 valuation_from_room case network zero complete shape within room = (map first_value case.streams, valuation_start case network complete)
 valuation_from_room case network (suc n) complete shape within room =
     let l = get_or network.lines n (line.End 0) in

@@ -1,16 +1,12 @@
 -- Heights of whole numbers, and levels that count as above a place.
-use Rattle.std.proofs.Common.{◌≡◌, ◌∙◌, ◌-ℤ◌, ◌*ℤ◌, ℤ, pos, Bool, true, false, int_le, int_lt, if◌then◌else◌, refl, sym, ap, ap₂, arith}
-use Rattle.std.specs.Int.{int_max}
-use Rattle.std.specs.Ordering.{is_le}
-use Rattle.std.proofs.lemmas.Bool.Decides.{same_from_decides}
-use Rattle.std.proofs.lemmas.Int.{by_lt_z, clamps, ints}
-use Rattle.network_values.proofs.Words.{IsLatent, Side, Stream, base_of, counts_above, height, high_end, is_above, is_below, is_hot, minus, positive_part, rational_cmp, rational_zero, shifted, times, unshifted, whole}
-use Rattle.sums.proofs.IntegerLemmas.{int_le-from, int_le-true, int_lt-from, int_lt-true}
-use Rattle.sums.proofs.ProductLemmas.{*ℤ--ℤ}
-use Rattle.stream_case.specs.declared.source.Side.TheVariants as side
-use Rattle.fractions.proofs.Comparisons.{Decides-is_below, Decides-is_le, at_most-whole, at_most_from_not_negative, below-whole, below_from_positive, not_negative-minus, positive-minus}
-use Rattle.fractions.proofs.Wholes.{whole-minus, whole-times}
+use Rattle.network_values.proofs.Words.{*ℤ--ℤ, Decides-is_below, Decides-is_le, IsLatent, Side, Stream, at_most-whole, at_most_from_not_negative, below-whole}
+use Rattle.network_values.proofs.Words.{below_from_positive, by_lt_z, clamps, counts_above, height, high_end, int_le-from, int_le-true, int_lt-from}
+use Rattle.network_values.proofs.Words.{int_lt-true, int_max, ints, is_above, is_below, is_hot, is_le, minus, not_negative-minus, positive-minus, positive_part}
+use Rattle.network_values.proofs.Words.{rational_cmp, rational_zero, same_from_decides, shifted, times, whole, whole-minus, whole-times}
 use Rattle.network_values.proofs.HeightLemmas.{positive_part-above, positive_part-below}
+use Rattle.network_values.specs.Penalties.{base_of, unshifted}
+use Rattle.std.proofs.Common.{Bool, ap, ap₂, arith, false, if◌then◌else◌, int_le, int_lt, pos, refl, sym, true, ℤ, ◌*ℤ◌, ◌-ℤ◌, ◌∙◌, ◌≡◌}
+use Rattle.stream_case.specs.declared.source.Side.TheVariants as side
 
 whole_positive_part : (n : ℤ) → positive_part (whole n) ≡ whole (int_max n (pos 0))
 whole_positive_part n =
@@ -66,6 +62,5 @@ high_end-latent s h = by s.side
 pub level_counts : (from_itself : Bool) (place : ℤ) (s : Stream) → IsLatent s
     → is_above from_itself (minus (whole s.supply) (base_of place s)) ≡ counts_above from_itself place (high_end s)
 level_counts from_itself place s latent =
-    is_above-whole from_itself (unshifted s.side place s.contribution) s.supply
-    ∙ counts_above-unshifted from_itself s.side place s.supply s.contribution
+    is_above-whole from_itself (unshifted s.side place s.contribution) s.supply ∙ counts_above-unshifted from_itself s.side place s.supply s.contribution
     ∙ ap (counts_above from_itself place) (high_end-latent s latent)

@@ -1,13 +1,10 @@
 -- A valuation at a line, at a stream and at a branch; numbers of a range.
-use Rattle.std.proofs.Common.{◌≡◌, ◌∙◌, ◌<◌, ℕ, zero, suc, List, [], ◌∷◌, Some, get_or, slice_get, length, sym, refl, ap, subst, arith, All, Contains, get_or-take}
-use Rattle.std.specs.List.{range_with_len}
-use Rattle.std.proofs.Math.Seq.{take-length}
-use Rattle.std.proofs.lemmas.List.{get_or-map}
-use Rattle.std.proofs.lemmas.List.FromFn.{get_or-range_with_len, length-range_with_len}
-use Rattle.std.proofs.lemmas.Option.{get_or_from_slice_get, slice_get_within}
-use Rattle.network_values.proofs.Words.{Case, HasShape, IsBelow, IsValuation, IsWholeValuation, Network, Solves, Stream, Valuation, first_value, made_by, no_value, rational_zero, value_at}
-use Rattle.networks.proofs.OfShape.{all_made}
+use Rattle.network_values.proofs.Words.{Case, HasShape, IsBelow, IsValuation, IsWholeValuation, Network, Solves, Stream, Valuation, all_made, first_value}
+use Rattle.network_values.proofs.Words.{get_or-map, get_or-range_with_len, get_or_from_slice_get, length-range_with_len, made_by, no_value, range_with_len}
+use Rattle.network_values.proofs.Words.{rational_zero, slice_get_within, take-length, value_at}
 use Rattle.network_values.proofs.ValuationLemmas.{branch_positive}
+use Rattle.std.proofs.Common.{All, Contains, List, Some, [], ap, arith, get_or, get_or-take, length, refl, slice_get, subst, suc, sym, zero, ℕ, ◌<◌, ◌∙◌, ◌∷◌}
+use Rattle.std.proofs.Common.{◌≡◌}
 
 -- ---- ranges
 

@@ -1,11 +1,8 @@
 -- Tests of the items of a list: none that passes, some, and just one; the items of a filtered list before the filter.
-use Rattle.std.proofs.Common.{◌≡◌, ◌∙◌, ◌<◌, ◌≤◌, ◌∷◌, ◌⊎◌, inl, inr, ℕ, zero, suc, Bool, true, false, cond, List, [], All, Option, Some, None, slice_get, length, take, refl, sym, ap, arith, count_by, find, filter_map}
-use Rattle.std.specs.List.{cons_option, list_any}
-use Rattle.std.proofs.lemmas.Bool.{cases_lt, cases_order, false≢true}
-use Rattle.std.proofs.lemmas.List.Elements.{All-cons, All-head, All-nil, All-tail}
-use Rattle.std.proofs.lemmas.List.Folds.{list_any_at}
-use Rattle.std.proofs.lemmas.Option.{get_or_from_slice_get, slice_get_within}
-use Rattle.sums.proofs.CountLemmas.{count_by-cons}
+use Rattle.std.proofs.Common.{All, Bool, List, None, Option, Some, [], ap, arith, cond, count_by, false, filter_map, find, inl, inr, length, refl, slice_get}
+use Rattle.std.proofs.Common.{suc, sym, take, true, zero, ℕ, ◌<◌, ◌∙◌, ◌∷◌, ◌≡◌, ◌≤◌, ◌⊎◌}
+use Rattle.networks.proofs.Words.{All-cons, All-head, All-nil, All-tail, cases_lt, cases_order, cons_option, count_by-cons, false≢true, get_or_from_slice_get}
+use Rattle.networks.proofs.Words.{list_any, list_any_at, slice_get_within}
 
 -- ---- none passes
 

@@ -2,3 +2,4 @@ pub mod Lists
 pub mod Counts
 pub mod OfShape
 pub mod LineLaws
+pub mod Words

@@ -1,15 +1,10 @@
 -- What one line more declares, makes, uses and passes.
-use Rattle.std.proofs.Common.{◌≡◌, ◌<◌, ◌≤◌, ◌∷◌, ◌++◌, ℕ, suc, List, [], All, Option, Some, None, length, option_map, unwrap_or, refl, ap, arith, filter_map, flat_map, option_to_list}
-use Rattle.std.specs.List.{cons_option}
-use Rattle.std.proofs.lemmas.List.{map-append}
-use Rattle.std.proofs.lemmas.List.Elements.{All-head}
-use Rattle.networks.specs.Lines.{exchanger_of, exchangers_of, made_by, makes, names_of, passage_of, passages_of, stream_at, used_by, uses}
+use Rattle.networks.proofs.Words.{All-head, Branch, Line, cons_option, filter_map-push, map-append, slice_get-front}
 use Rattle.networks.proofs.Lists.{All-back, All-front, flat_map-push}
-use Rattle.networks.specs.declared.network.Branch.{Branch}
-use Rattle.networks.specs.declared.network.Line.{Line}
+use Rattle.networks.specs.Lines.{exchanger_of, exchangers_of, made_by, makes, names_of, passage_of, passages_of, stream_at, used_by, uses}
+use Rattle.std.proofs.Common.{All, List, None, Option, Some, [], ap, arith, filter_map, flat_map, length, option_map, option_to_list, refl, suc, unwrap_or, ℕ}
+use Rattle.std.proofs.Common.{◌++◌, ◌<◌, ◌∷◌, ◌≡◌, ◌≤◌}
 use Rattle.networks.specs.declared.network.Line.TheVariants as line
-use Rattle.first_fault.proofs.Steps.{slice_get-front}
-use Rattle.stream_case.proofs.ListLemmas.{filter_map-push}
 
 pub exchangers_of-push : (ls : List Line) (l : Line) → exchangers_of (ls ++ l ∷ []) ≡ exchangers_of ls ++ option_to_list (exchanger_of l)
 unfolding exchangers_of

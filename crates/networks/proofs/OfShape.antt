@@ -1,29 +1,18 @@
 -- What the shape says of a network, for crates above: its lines, the numbers and streams of its branches, and its passes.
-use Rattle.std.proofs.Common.{◌≡◌, ◌∙◌, ◌<◌, ◌≤◌, ◌+◌, ◌-◌, ◌∷◌, ◌++◌, ◌==◌, ℕ, zero, suc, true, List, [], All, Some, cond, get_or, slice_get, is_some, option_map, unwrap_or, length, map, take, drop, refl, sym, ap, arith, length-append, count_by, filter_map, flat_map, get_or-append-add, length-take, take-append-drop, take-take}
-use Rattle.std.specs.List.{cons_option, enumerate_from}
-use Rattle.std.proofs.Math.Seq.{drop-cons, take-suc}
-use Rattle.std.proofs.lemmas.Bool.{and_parts}
-use Rattle.std.proofs.lemmas.Bool.Decides.{nat_tests}
-use Rattle.std.proofs.lemmas.List.{get_or_append_left, get_or_at, get_or_default, length-map}
-use Rattle.std.proofs.lemmas.List.Concat.{flat_map-append}
-use Rattle.std.proofs.lemmas.List.Elements.{filter_map-append}
-use Rattle.std.proofs.lemmas.List.FromFn.{get_or-range_with_len, length-enumerate_from, length-range_with_len}
-use Rattle.std.proofs.lemmas.Option.{get_or_from_slice_get, slice_get-get_or, slice_get_read, slice_get_within}
-use Rattle.sums.proofs.CountLemmas.{count_by-cons}
-use Rattle.stream_case.specs.declared.case.Case.{Case}
-use Rattle.stream_case.specs.declared.source.Source.{Source}
-use Rattle.stream_case.specs.declared.stream.Stream.{Stream}
-use Rattle.stream_case.proofs.CaseLemmas.{IsSourceOf-side}
-use Rattle.fractions.specs.Rationals.{Rational}
-use Rattle.networks.specs.Lines.{Exchanger, exchanger_of, exchangers_of, is_pass_of, made_by, makes, own_branch, own_branches, pass_of, passage_of, passages_of, same_passage, stream_at, used_by, uses}
-use Rattle.networks.specs.Shape.{AreMadeBeforeUse, AreMadeInOrder, HasPositiveFlow, HasShape, IsExchanger, IsOfOneStream, Joins, NamesKnown, PassesDeclared, made_before}
-use Rattle.networks.specs.declared.network.Branch.{Branch}
-use Rattle.networks.specs.declared.network.Line.{Line}
-use Rattle.networks.specs.declared.network.Line.TheVariants as line
-use Rattle.networks.specs.declared.network.Network.{Network}
-use Rattle.networks.specs.declared.network.Passage.{Passage}
-use Rattle.networks.proofs.Lists.{All-flat_map, all_at, slice_get-take}
+use Rattle.networks.proofs.Words.{Branch, Case, IsSourceOf-side, Line, Network, Passage, Rational, Source, Stream, and_parts, cons_option, count_by-cons}
+use Rattle.networks.proofs.Words.{drop-cons, enumerate_from, filter_map-append, flat_map-append, get_or_append_left, get_or_at, get_or_default}
+use Rattle.networks.proofs.Words.{get_or_from_slice_get, length-map, nat_tests, slice_get-get_or, slice_get_read, slice_get_within, take-suc}
 use Rattle.networks.proofs.Counts.{IsOnly, found_once}
+use Rattle.networks.proofs.Lists.{All-flat_map, all_at, slice_get-take}
+use Rattle.networks.specs.Lines.{Exchanger, exchanger_of, exchangers_of, is_pass_of, made_by, makes, own_branch, own_branches, pass_of, passage_of, passages_of}
+use Rattle.networks.specs.Lines.{same_passage, stream_at, used_by, uses}
+use Rattle.networks.specs.Shape.{AreMadeBeforeUse, AreMadeInOrder, HasPositiveFlow, HasShape, IsExchanger, IsOfOneStream, Joins, NamesKnown, PassesDeclared}
+use Rattle.networks.specs.Shape.{made_before}
+use Rattle.std.proofs.Common.{All, List, Some, [], ap, arith, cond, count_by, drop, filter_map, flat_map, get_or, get_or-append-add, is_some, length}
+use Rattle.std.proofs.Common.{length-append, length-take, map, option_map, refl, slice_get, suc, sym, take, take-append-drop, take-take, true, unwrap_or, zero}
+use Rattle.std.proofs.Common.{ℕ, ◌++◌, ◌+◌, ◌-◌, ◌<◌, ◌==◌, ◌∙◌, ◌∷◌, ◌≡◌, ◌≤◌}
+use Rattle.std.proofs.lemmas.List.FromFn.{get_or-range_with_len, length-enumerate_from, length-range_with_len}
+use Rattle.networks.specs.declared.network.Line.TheVariants as line
 
 -- ---- a line, the lines before it and those behind it
 
@@ -230,8 +219,7 @@ stream_within {case} {network} shape b within =
 
 -- the exchanger that a line declares
 pub own_exchanger : {case : Case} {network : Network} → HasShape case network → (index : ℕ) (name : List ℕ) (hot cold : Source) (duty : Rational)
-    → slice_get network.lines index ≡ Some (line.Exchanger name hot cold duty)
-    → IsExchanger case (record { name = name; hot = hot; cold = cold; duty = duty })
+    → slice_get network.lines index ≡ Some (line.Exchanger name hot cold duty) → IsExchanger case (record { name = name; hot = hot; cold = cold; duty = duty })
 own_exchanger {case} {network} shape index name hot cold duty here =
     all_at (IsExchanger case) (exchangers_of network.lines) (length (exchangers_of (take index network.lines)))
     (record { name = name; hot = hot; cold = cold; duty = duty }) shape.exchangers.each (exchanger_at network.lines index name hot cold duty here)

@@ -1,15 +1,11 @@
 -- Listed penalties are not negative, and add up to the excess.
-use Rattle.std.proofs.Common.{◌≡◌, ◌∙◌, ◌+◌, ◌∷◌, ℕ, List, [], All, length, refl, sym, ap, ap₂, subst}
-use Rattle.std.specs.List.{enumerate_from, filter_map}
-use Rattle.std.proofs.lemmas.List.Elements.{All-append, All-cons, All-head, All-map, All-nil, All-same, All-tail}
-use Rattle.sums.proofs.EnumerationLemmas.{All-enumerated}
-use Rattle.penalties.proofs.Words.{AreEnded, AreStreams, Case, HasNoNegativePenalty, HasShape, IsAtMost, IsNotNegative, IsReferenceView, IsValidNetwork, IsWholeValuation, KeepApproaches, Line, ListsPenalties, Network, Penalty, Rational, Valuation, View, excess_of, exchanger_row, exchanger_rows, exchangers_of, height_at, mix_loss, mix_row, mix_rows, penalties_of, plus, rational_sum_by, rational_zero, sum_of}
-use Rattle.fractions.proofs.RationalSums.{rational_sum_by-append, rational_sum_by-map}
-use Rattle.fractions.proofs.Sums.{zero-plus}
+use Rattle.penalties.proofs.Words.{All-append, All-cons, All-enumerated, All-head, All-map, All-nil, All-same, All-tail, AreEnded, AreStreams, Case}
+use Rattle.penalties.proofs.Words.{HasNoNegativePenalty, HasShape, IsAtMost, IsNotNegative, IsReferenceView, IsValidNetwork, IsWholeValuation, KeepApproaches}
+use Rattle.penalties.proofs.Words.{Line, ListsPenalties, Network, Penalty, Rational, Valuation, View, enumerate_from, excess_of, exchanger_row, exchanger_rows}
+use Rattle.penalties.proofs.Words.{exchangers_of, filter_map, height_at, mix_loss, mix_row, mix_rows, one_valuation, penalties_excess, penalties_of}
+use Rattle.penalties.proofs.Words.{penalties_sign, plus, rational_sum_by, rational_sum_by-append, rational_sum_by-map, rational_zero, sum_of, zero-plus}
+use Rattle.std.proofs.Common.{All, List, [], ap, ap₂, length, refl, subst, sym, ℕ, ◌+◌, ◌∙◌, ◌∷◌, ◌≡◌}
 use Rattle.networks.specs.declared.network.Line.TheVariants as line
-use Rattle.network_values.proofs.PenaltyLemmas.{penalties_excess}
-use Rattle.network_values.proofs.SignLemmas.{penalties_sign}
-use Rattle.network_values.proofs.ValuationLemmas.{one_valuation}
 use Rattle.penalties.specs.declared.list.PenaltyList.TheVariants as list
 
 -- ---- the rows of mixes
@@ -55,8 +51,7 @@ module _ (case : Case) (network : Network) (streams : AreStreams case.streams) (
   rows_not_negative view values whole_values =
       let height = height_at case view network values in
       let signs : HasNoNegativePenalty case view network values =
-      penalties_sign case network values view shape whole_values
-      (subst (KeepApproaches case network) (same_values values whole_values) valid.approaches) in
+      penalties_sign case network values view shape whole_values (subst (KeepApproaches case network) (same_values values whole_values) valid.approaches) in
       All-append IsNotNegative (exchanger_rows height network) (mix_rows height network.lines)
       (All-map IsNotNegative (exchanger_row height network) (enumerate_from 0 (exchangers_of network.lines))
       (All-enumerated (λ p. IsNotNegative (exchanger_row height network p)) (exchangers_of network.lines) (λ number e at. signs.exchangers number e at)))
@@ -69,8 +64,7 @@ module _ (case : Case) (network : Network) (streams : AreStreams case.streams) (
       let height = height_at case view network values in
       rational_sum_by-append value_of (exchanger_rows height network) (mix_rows height network.lines)
       ∙ ap₂ plus (rational_sum_by-map value_of (exchanger_row height network) (enumerate_from 0 (exchangers_of network.lines)))
-      (sum-mixes height 0 network.lines)
-      ∙ penalties_excess case network values view streams shape whole_values
+      (sum-mixes height 0 network.lines) ∙ penalties_excess case network values view streams shape whole_values
       (subst (AreEnded case network) (same_values values whole_values) valid.ended) is_reference
 
   pub listed_not_negative : (listed : List Penalty) → ListsPenalties case network (list.Listed listed) → All IsNotNegative listed

@@ -1,11 +1,12 @@
 -- What the two loops answer is what is answered for the network.
-use Rattle.std.proofs.Common.{◌≡◌, ◌∙◌, ◌↔◌, ◌++◌, Bool, ℕ, ℤ, List, [], Option, Some, None, refl, sym, ap, ap₂, subst}
-use Rattle.std.specs.Bool.{IsTrue}
-use Rattle.penalties.proofs.Words.{Audit, Case, CountsFromItself, Finds, HasAccepted, IsReferencePlace, IsReferenceView, IsWholeValuation, Joint, KnowsItsNetwork, Line, ListsPenalties, Network, Penalty, Place, Rational, Step, Stream, TooFine, View, all_exchanger_steps, all_joint_steps, all_mix_steps, branch_steps, first_too_fine, height_at, joint_rows, joints_of, mix_rows, values_of}
+use Rattle.penalties.proofs.Words.{Audit, Case, CountsFromItself, Finds, HasAccepted, IsReferencePlace, IsReferenceView, IsTrue, IsWholeValuation, Joint}
+use Rattle.penalties.proofs.Words.{KnowsItsNetwork, Line, ListsPenalties, Network, Penalty, Place, Rational, Step, Stream, TooFine, View, all_exchanger_steps}
+use Rattle.penalties.proofs.Words.{all_joint_steps, all_mix_steps, branch_steps, first_too_fine, height_at, joint_rows, joints_of, mix_rows, values_of}
 use Rattle.network_audit.proofs.AcceptedLemmas.{faultless_values}
-use Rattle.penalties.specs.declared.list.PenaltyList.TheVariants as list
 use Rattle.penalties.proofs.StepLemmas.{first_behind, first_front}
 use Rattle.penalties.proofs.TableLemmas.{rows-joints, steps-joints}
+use Rattle.std.proofs.Common.{Bool, List, None, Option, Some, [], ap, ap₂, refl, subst, sym, ℕ, ℤ, ◌++◌, ◌↔◌, ◌∙◌, ◌≡◌}
+use Rattle.penalties.specs.declared.list.PenaltyList.TheVariants as list
 
 -- what a loop found, and what it found not
 pub found_some : (steps : List Step) (P : Type 0) (o : Option TooFine) (found : TooFine) → Finds steps P o → o ≡ Some found
@@ -25,15 +26,8 @@ reference_view streams place found from_itself same is counts =
     let there = subst (IsReferencePlace streams) (sym same) is in record { place = there; from_itself = counts place there }
 
 module _
-    (case : Case)
-    (network : Network)
-    (audit : Audit)
-    (view : View)
-    (joints : List Joint)
-    (accepted : HasAccepted audit case network)
-    (knows : KnowsItsNetwork audit)
-    (is_reference : IsReferenceView case.streams view)
-    (own_table : joints ≡ joints_of audit.network)
+    (case : Case) (network : Network) (audit : Audit) (view : View) (joints : List Joint) (accepted : HasAccepted audit case network)
+    (knows : KnowsItsNetwork audit) (is_reference : IsReferenceView case.streams view) (own_table : joints ≡ joints_of audit.network)
   where
     table : joints ≡ joints_of network
     table = own_table ∙ ap (λ (a : Audit). joints_of a.network) accepted.is
@@ -77,9 +71,8 @@ module _
 
       -- the list begins empty, gets the rows of the exchangers, and then those of the mixes
       pub all_listed : (start first listed : List Penalty) → first_too_fine (all_joint_steps height steps joints) ≡ None
-          → first_too_fine (all_mix_steps height steps lines) ≡ None
-          → start ≡ [] → first ≡ start ++ joint_rows height joints → listed ≡ first ++ mix_rows height lines
-          → ListsPenalties case network (list.Listed listed)
+          → first_too_fine (all_mix_steps height steps lines) ≡ None → start ≡ [] → first ≡ start ++ joint_rows height joints
+          → listed ≡ first ++ mix_rows height lines → ListsPenalties case network (list.Listed listed)
       all_listed start first listed none later empty rows more = record {
         view = view;
         values = values_of audit;

@@ -1,15 +1,12 @@
 -- Rows of penalties, as they are added one by one.
-use Rattle.std.proofs.Common.{◌≡◌, ◌∙◌, ◌<◌, ◌+◌, ◌∷◌, ◌++◌, ℕ, List, [], Option, length, get_or, map, take, refl, sym, ap, append_assoc}
-use Rattle.std.specs.List.{enumerate_from, filter_map}
-use Rattle.std.proofs.lemmas.List.{map-append}
-use Rattle.std.proofs.lemmas.List.Elements.{filter_map-append}
-use Rattle.penalties.proofs.Words.{Line, Place, Rational, Step, line_steps, mix_row}
+use Rattle.penalties.proofs.Words.{Line, Place, Rational, Step, enumerate_from, enumerated-more, filter_map, filter_map-append, line_steps, map-append, mix_row}
+use Rattle.std.proofs.Common.{List, Option, [], ap, append_assoc, get_or, length, map, refl, sym, take, ℕ, ◌++◌, ◌+◌, ◌<◌, ◌∙◌, ◌∷◌, ◌≡◌}
 use Rattle.networks.specs.declared.network.Line.TheVariants as line
-use Rattle.sums.proofs.FirstLemmas.{enumerated-more}
 
 module _ {X Y : Type 0} (xs : List X) (n : ℕ) (d : X) (within : n < length xs) where
   -- one row more
-  pub made-more : (f : ℕ × X → Y) (list front : List Y) → list ≡ front ++ map f (enumerate_from 0 (take n xs)) → list ++ f (n, get_or xs n d) ∷ [] ≡ front ++ map f (enumerate_from 0 (take (n + 1) xs))
+  pub made-more : (f : ℕ × X → Y) (list front : List Y) → list ≡ front ++ map f (enumerate_from 0 (take n xs))
+      → list ++ f (n, get_or xs n d) ∷ [] ≡ front ++ map f (enumerate_from 0 (take (n + 1) xs))
   made-more f list front is =
       ap (λ ys. ys ++ f (n, get_or xs n d) ∷ []) is ∙ append_assoc front (map f (enumerate_from 0 (take n xs))) (f (n, get_or xs n d) ∷ [])
       ∙ ap (λ ys. front ++ ys) (sym (ap (map f) (enumerated-more xs n d within) ∙ map-append f (enumerate_from 0 (take n xs)) ((n, get_or xs n d) ∷ [])))
@@ -18,8 +15,9 @@ module _ {X Y : Type 0} (xs : List X) (n : ℕ) (d : X) (within : n < length xs)
   pub filtered-more : (f : ℕ × X → Option Y) (list front : List Y) → list ≡ front ++ filter_map f (enumerate_from 0 (take n xs))
       → list ++ filter_map f ((n, get_or xs n d) ∷ []) ≡ front ++ filter_map f (enumerate_from 0 (take (n + 1) xs))
   filtered-more f list front is =
-      ap (λ ys. ys ++ filter_map f ((n, get_or xs n d) ∷ [])) is ∙ append_assoc front (filter_map f (enumerate_from 0 (take n xs))) (filter_map f ((n, get_or xs n d) ∷ []))
-      ∙ ap (λ ys. front ++ ys) (sym (ap (filter_map f) (enumerated-more xs n d within) ∙ filter_map-append f (enumerate_from 0 (take n xs)) ((n, get_or xs n d) ∷ [])))
+      ap (λ ys. ys ++ filter_map f ((n, get_or xs n d) ∷ [])) is ∙ append_assoc front (filter_map f (enumerate_from 0 (take n xs)))
+      (filter_map f ((n, get_or xs n d) ∷ [])) ∙ ap (λ ys. front ++ ys)
+      (sym (ap (filter_map f) (enumerated-more xs n d within) ∙ filter_map-append f (enumerate_from 0 (take n xs)) ((n, get_or xs n d) ∷ [])))
 
 -- ---- statements that are no mix
 

@@ -1,11 +1,12 @@
 -- What a survey reads is what its steps and heights speak of.
-use Rattle.std.proofs.Common.{◌≡◌, ◌∙◌, ◌+◌, ◌∷◌, All, arith, ℕ, ℤ, Bool, true, false, List, [], Option, Some, Result, sym, subst, None, slice_get, unwrap_or, zero, suc, refl, ap, if◌then◌else◌, option_and_then}
-use Rattle.std.proofs.lemmas.Int.{ints}
-use Rattle.std.proofs.lemmas.List.Elements.{All-weaker}
-use Rattle.stream_case.specs.declared.source.Side.TheVariants as side
-use Rattle.penalties.proofs.Words.{Audit, Branch, BranchValue, Course, Formed, IsShifted, IsValidStream, Latent, Place, Rational, Sensible, Side, Stream, Survey, TooFine, Valuation, View, base_of, counts_above, course_of, course_steps, height, height_on, heights, is_below, is_latent, latent_steps, minus, no_value, positive_part, rational_zero, seen_height, seen_steps, sensible_steps, shifted, step, stream_at, stream_height, stream_steps, times, unshifted, value_at, values_of, view_of, whole}
-use Rattle.fractions.proofs.Products.{times-zero}
+use Rattle.penalties.proofs.Words.{All-weaker, Audit, Branch, BranchValue, Course, Formed, IsShifted, IsValidStream, Latent, Place, Rational, Sensible, Side}
+use Rattle.penalties.proofs.Words.{Stream, Survey, TooFine, Valuation, View, base_of, counts_above, course_of, course_steps, height, height_on, heights, ints}
+use Rattle.penalties.proofs.Words.{is_below, is_latent, latent_steps, minus, no_value, positive_part, rational_zero, seen_height, seen_steps, sensible_steps}
+use Rattle.penalties.proofs.Words.{shifted, step, stream_at, stream_height, stream_steps, times, times-zero, unshifted, value_at, values_of, view_of, whole}
 use Rattle.network_values.proofs.WholeHeights.{counts_above-unshifted, is_above-whole}
+use Rattle.std.proofs.Common.{All, Bool, List, None, Option, Result, Some, [], ap, arith, false, if◌then◌else◌, option_and_then, refl, slice_get, subst, suc}
+use Rattle.std.proofs.Common.{sym, true, unwrap_or, zero, ℕ, ℤ, ◌+◌, ◌∙◌, ◌∷◌, ◌≡◌}
+use Rattle.stream_case.specs.declared.source.Side.TheVariants as side
 
 -- ---- heights
 
@@ -42,9 +43,8 @@ value-read audit branch = by audit.values
     by (Some values) = at values branch
 
 -- the stream of a branch, as it is looked up
-pub stream_read : (s : Survey) (branch n : ℕ) (branches : List Branch) (o : Option Stream)
-    → branches ≡ s.network.now.branches → n ≡ stream_at branches branch → o ≡ slice_get s.case.now.streams n
-    → slice_get s.case.now.streams (stream_at s.network.now.branches branch) ≡ o
+pub stream_read : (s : Survey) (branch n : ℕ) (branches : List Branch) (o : Option Stream) → branches ≡ s.network.now.branches → n ≡ stream_at branches branch
+    → o ≡ slice_get s.case.now.streams n → slice_get s.case.now.streams (stream_at s.network.now.branches branch) ≡ o
 stream_read s branch n branches o own at read = ap (slice_get s.case.now.streams) (ap (λ bs. stream_at bs branch) (sym own) ∙ sym at) ∙ sym read
 
 -- ---- courses

@@ -1,16 +1,19 @@
 -- The table of the exchangers has their penalties and the steps that form them.
-use Rattle.std.proofs.Common.{◌≡◌, ◌+◌, ◌∷◌, ◌++◌, ℕ, List, [], Option, Some, None, map, refl, sym, ap, ap₂}
-use Rattle.std.specs.List.{enumerate_from, flat_map}
-use Rattle.penalties.proofs.Words.{Exchanger, Joint, Line, Network, Place, Rational, Source, Step, absorbed_by, absorbed_heat, absorbed_steps, all_exchanger_steps, all_joint_steps, crossing_by, exchanger_row, exchanger_rows, exchanger_steps, exchangers_of, inlet_height, joint_among, joint_penalty, joint_row, joint_rows, joint_steps, joints_among, joints_of, minus, outlet_height, pass_of, penalty, rational_zero, released_by, released_heat, released_steps, side_pass, step}
-use Rattle.stream_case.specs.declared.source.Source.TheVariants as source
-use Rattle.fractions.proofs.Sums.{minus-self}
-use Rattle.networks.specs.declared.network.Line.TheVariants as line
+use Rattle.penalties.proofs.Words.{Exchanger, Joint, Line, Network, Place, Rational, Source, Step, absorbed_by, absorbed_heat, absorbed_steps}
+use Rattle.penalties.proofs.Words.{all_exchanger_steps, all_joint_steps, enumerate_from, exchanger_row, exchanger_rows, exchanger_steps, exchangers_of}
+use Rattle.penalties.proofs.Words.{flat_map, inlet_height, joint_penalty, joint_row, joint_rows, joint_steps, joints_of, minus, minus-self, outlet_height}
+use Rattle.penalties.proofs.Words.{pass_of, penalty, rational_zero, released_by, released_heat, released_steps, side_pass, step}
+use Rattle.network_audit.specs.Joints.{crossing_by, joint_among, joints_among}
+use Rattle.std.proofs.Common.{List, None, Option, Some, [], ap, ap₂, map, refl, sym, ℕ, ◌++◌, ◌+◌, ◌∷◌, ◌≡◌}
 use Rattle.network_audit.specs.declared.findings.Place.TheVariants as place
+use Rattle.networks.specs.declared.network.Line.TheVariants as line
+use Rattle.stream_case.specs.declared.source.Source.TheVariants as source
 
 -- ---- lists made of members with their indices, and made again
 
 module _ {X Y Z : Type 0} (g : ℕ × X → Y) where
-  map-made : (f : ℕ × Y → Z) (h : ℕ × X → Z) → ((n : ℕ) (x : X) → f (n, g (n, x)) ≡ h (n, x)) → (m : ℕ) (xs : List X) → map f (enumerate_from m (map g (enumerate_from m xs))) ≡ map h (enumerate_from m xs)
+  map-made : (f : ℕ × Y → Z) (h : ℕ × X → Z) → ((n : ℕ) (x : X) → f (n, g (n, x)) ≡ h (n, x)) → (m : ℕ) (xs : List X)
+      → map f (enumerate_from m (map g (enumerate_from m xs))) ≡ map h (enumerate_from m xs)
   map-made f h same m [] = refl
   map-made f h same m (x ∷ xs) = ap₂ (λ z zs. z ∷ zs) (same m x) (map-made f h same (m + 1) xs)
 
@@ -22,7 +25,8 @@ module _ {X Y Z : Type 0} (g : ℕ × X → Y) where
 -- ---- heights of passes
 
 module _ (height : ℕ → Rational) where
-  lost : (duty : Rational) (i : ℕ) (o : Option Line) → released_by height duty (source.Stream i) (crossing_by o) ≡ minus (inlet_height height o) (outlet_height height o)
+  lost : (duty : Rational) (i : ℕ) (o : Option Line)
+      → released_by height duty (source.Stream i) (crossing_by o) ≡ minus (inlet_height height o) (outlet_height height o)
   lost duty i None = sym (minus-self rational_zero)
   lost duty i (Some (line.Exchanger name hot cold e)) = sym (minus-self rational_zero)
   lost duty i (Some (line.Split from first cp second)) = sym (minus-self rational_zero)
@@ -39,7 +43,8 @@ module _ (height : ℕ → Rational) where
   gained i (Some (line.End branch)) = sym (minus-self rational_zero)
 
   module _ (network : Network) where
-    released-side : (number : ℕ) (duty : Rational) (of : Source) → released_by height duty of (side_pass network number of) ≡ released_heat height network number duty of
+    released-side : (number : ℕ) (duty : Rational) (of : Source)
+        → released_by height duty of (side_pass network number of) ≡ released_heat height network number duty of
     unfolding pass_of
     released-side number duty (source.Stream i) = lost duty i (pass_of network number i)
     released-side number duty (source.Utility i) = refl
@@ -68,5 +73,6 @@ module _ (height : ℕ → Rational) where
     steps-joints steps =
         flat_map-made joint_of (joint_steps height steps) (exchanger_steps height steps network)
         (λ number e. ap (λ value. released_steps height steps (place.Exchanger number) e.hot (side_pass network number e.hot)
-        ++ (absorbed_steps height steps (place.Exchanger number) e.cold (side_pass network number e.cold) ++ step (place.Exchanger number) 11 value ∷ [])) (penalty-joint number e))
+        ++ (absorbed_steps height steps (place.Exchanger number) e.cold (side_pass network number e.cold) ++ step (place.Exchanger number) 11 value ∷ []))
+        (penalty-joint number e))
         0 (exchangers_of network.lines)

@@ -1,20 +1,12 @@
 -- Every command blames words, length and shelf only with cause.
-use Rattle.std.proofs.Common.{◌≡◌, ◌∙◌, inl, inr, ◌≤◌, ℕ, List, true, false, Option, Result, refl, sym, ap, subst, arith}
-use Rattle.pinch_outside.specs.Shelf.{ShelfState, KeepsFiles, IsWhole}
-use Rattle.pinch_outside.specs.declared.limits.TheConstants.{MAX_FILE}
-use Rattle.reports.specs.declared.shown.FileRole.{FileRole}
-use Rattle.reports.specs.declared.shown.Shown.{Shown}
-use Rattle.pinch.specs.Answers.{Shows, ShowsCommand}
-use Rattle.pinch.specs.Causes.{Causes, HasCause, ReadsFile}
-use Rattle.pinch.specs.Files.{EndsIn, NoFile, failed, too_long, NoText, no_file, refused, FromText, no_text, by_text}
-use Rattle.pinch.specs.Format.{Format}
-use Rattle.pinch.specs.Reading.{Reading, reading_of, ready, stop, wanted, file}
-use Rattle.pinch.specs.declared.command.Command.{Command}
-use Rattle.pinch.specs.declared.request.Request.{Request}
 use Rattle.pinch.proofs.Formats.{IsLawful}
-use Rattle.pinch.proofs.Plain.{is_plain, answered-plain}
+use Rattle.pinch.proofs.Plain.{answered-plain, is_plain}
 use Rattle.pinch.proofs.Readings.{IsFurther, IsLawfulReading, lawful}
 use Rattle.pinch.proofs.Results.{is_result}
+use Rattle.pinch.proofs.Words.{Command, EndsIn, FileRole, Format, FromText, IsWhole, KeepsFiles, MAX_FILE, NoFile, NoText, Reading, Request, ShelfState, Shown}
+use Rattle.pinch.proofs.Words.{Shows, ShowsCommand, by_text, failed, file, no_file, no_text, reading_of, ready, refused, stop, too_long, wanted}
+use Rattle.pinch.specs.Causes.{Causes, HasCause, ReadsFile}
+use Rattle.std.proofs.Common.{List, Option, Result, ap, arith, false, inl, inr, refl, subst, sym, true, ℕ, ◌∙◌, ◌≡◌, ◌≤◌}
 
 -- the last file was read to its end
 record Ended (new : ShelfState) : Type 0 where
@@ -25,17 +17,17 @@ of_whole : (name bytes : List ℕ) (old new : ShelfState) → IsWhole name old n
 of_whole name bytes old new whole = record { within = omega (arith, whole.count, whole.within); end = whole.ended }
 
 of_plain : (reading : Reading) (old new : ShelfState) (shown : Shown) → is_plain shown ≡ true → Ended new → Causes reading old new shown
-of_plain reading old new shown plain ended =
-    record {
-      words_stand = λ is. let e : is_plain shown ≡ false = ap is_plain is in cc;
-      too_long = λ role is. let e : is_plain shown ≡ false = ap is_plain is in cc;
-      over_limit = λ over. absurd (omega (arith, ended.within));
-      read_fault = λ role is. let e : is_plain shown ≡ false = ap is_plain is in cc;
-      ended = λ answered. ended.end;
-    }
+of_plain reading old new shown plain ended = record {
+  words_stand = λ is. let e : is_plain shown ≡ false = ap is_plain is in cc;
+  too_long = λ role is. let e : is_plain shown ≡ false = ap is_plain is in cc;
+  over_limit = λ over. absurd (omega (arith, ended.within));
+  read_fault = λ role is. let e : is_plain shown ≡ false = ap is_plain is in cc;
+  ended = λ answered. ended.end;
+}
 
 -- a weaker fact of the file of a role
-weaker : (reading : Reading) (role : FileRole) (P Q : List ℕ → Type 0) → ((name : List ℕ) → P name → Q name) → ReadsFile reading role P → ReadsFile reading role Q
+weaker : (reading : Reading) (role : FileRole) (P Q : List ℕ → Type 0) → ((name : List ℕ) → P name → Q name) → ReadsFile reading role P
+    → ReadsFile reading role Q
 weaker (ready request) role P Q next here = absurd here
 weaker (stop shown) role P Q next here = absurd here
 weaker (wanted W refusal then) role P Q next here = weaker then role P Q next here
@@ -44,29 +36,33 @@ weaker (file format name then) role P Q next (inr later) = inr (later.0, weaker 
 
 -- the causes from an earlier state of the shelf
 of_later : (reading : Reading) (old mid new : ShelfState) (shown : Shown) → KeepsFiles old mid → Causes reading mid new shown → Causes reading old new shown
-of_later reading old mid new shown keeps causes =
-    record {
-      words_stand = causes.words_stand;
-      too_long = λ role is. weaker reading role _ _ (λ name long. record { taken = long.taken; file = rw (← keeps.files) long.file }) (causes.too_long role is);
-      over_limit = causes.over_limit;
-      read_fault = λ role is.
-          weaker reading role _ _
-          (λ name fault. record { rose = omega (arith, fault.rose, keeps.later); within = fault.within; failed = fault.failed; asked = rw (← keeps.files) fault.asked })
-          (causes.read_fault role is);
-      ended = causes.ended;
-    }
+of_later reading old mid new shown keeps causes = record {
+  words_stand = causes.words_stand;
+  too_long = λ role is. weaker reading role _ _ (λ name long. record { taken = long.taken; file = rw (← keeps.files) long.file }) (causes.too_long role is);
+  over_limit = causes.over_limit;
+  read_fault = λ role is.
+      weaker reading role _ _
+      (λ name fault. record {
+        rose = omega (arith, fault.rose, keeps.later);
+        within = fault.within;
+        failed = fault.failed;
+        asked = rw (← keeps.files) fault.asked;
+      })
+      (causes.read_fault role is);
+  ended = causes.ended;
+}
 
 -- the causes of a reading that reads these files too
-of_part : (part reading : Reading) (old new : ShelfState) (shown : Shown) → ((role : FileRole) (P : List ℕ → Type 0) → ReadsFile part role P → ReadsFile reading role P)
+of_part : (part reading : Reading) (old new : ShelfState) (shown : Shown)
+    → ((role : FileRole) (P : List ℕ → Type 0) → ReadsFile part role P → ReadsFile reading role P)
     → Causes part old new shown → Causes reading old new shown
-of_part part reading old new shown reads causes =
-    record {
-      words_stand = causes.words_stand;
-      too_long = λ role is. reads role _ (causes.too_long role is);
-      over_limit = causes.over_limit;
-      read_fault = λ role is. reads role _ (causes.read_fault role is);
-      ended = causes.ended;
-    }
+of_part part reading old new shown reads causes = record {
+  words_stand = causes.words_stand;
+  too_long = λ role is. reads role _ (causes.too_long role is);
+  over_limit = causes.over_limit;
+  read_fault = λ role is. reads role _ (causes.read_fault role is);
+  ended = causes.ended;
+}
 
 module _ {Value Cause : Type 0} (format : Format Value Cause) (is_lawful : IsLawful format) (name : List ℕ) (next : Value → Reading) where
   of_no_file : (old new : ShelfState) (shown : Shown) → NoFile format.role name old new shown → Causes (file format name next) old new shown
@@ -115,15 +111,14 @@ of_further (wanted P refusal next) further old new end shown shows ended (inr tu
     let same : shown ≡ refusal = subst (λ e. Shows e shown) turned.1 shows in
     of_plain _ old new shown (ap is_plain same ∙ further.0) (subst Ended (sym turned.2) ended)
 of_further (file format name next) further old new end shown shows ended ends =
-    of_file format further.0 name next old new end shown shows (λ mid value whole then. of_further (next value) (further.1 value) mid new end shown shows whole then) ends
+    of_file format further.0 name next old new end shown shows
+    (λ mid value whole then. of_further (next value) (further.1 value) mid new end shown shows whole then) ends
 
 -- what is read further is a whole reading
 whole : (reading : Reading) → IsFurther reading → IsLawfulReading reading
 unfolding IsFurther IsLawfulReading
 whole (stop shown) further = absurd further
-whole (ready request) further = further
-whole (wanted P refusal next) further = further
-whole (file format name next) further = further
+whole other further = further
 
 of_reading : (reading : Reading) → IsLawfulReading reading → (old new : ShelfState) (end : Result Request Shown) (shown : Shown) → Shows end shown
     → EndsIn reading old new end → HasCause reading old new shown
@@ -135,5 +130,6 @@ of_reading (wanted P refusal next) is old new end shown shows (inr turned) = inr
 of_reading (file format name next) is old new end shown shows ends =
     of_file format is.0 name next old new end shown shows (λ mid value whole then. of_further (next value) (is.1 value) mid new end shown shows whole then) ends
 
-pub causes : (command : Option Command) (old new : ShelfState) (shown : Shown) → ShowsCommand command old new shown → HasCause (reading_of command) old new shown
+pub causes : (command : Option Command) (old new : ShelfState) (shown : Shown) → ShowsCommand command old new shown
+    → HasCause (reading_of command) old new shown
 causes command old new shown is = of_reading (reading_of command) (lawful command) old new is.end shown is.shows is.reads

@@ -1,21 +1,11 @@
 -- Files that answer a command are answered, and a file that is refused is told so, unless a call of the shelf is refused.
-use Rattle.std.proofs.Common.{◌≡◌, ◌∙◌, inl, inr, ℕ, List, sym, Option, Some, length, Result, Ok, Err, ap, subst, arith}
-use Rattle.pinch_outside.specs.Faults.{Rose}
-use Rattle.pinch_outside.specs.Shelf.{ShelfState, NamedFile, IsFile, IsFileAbove, KeepsFiles}
-use Rattle.pinch_outside.specs.declared.limits.TheConstants.{MAX_FILE}
-use Rattle.reports.specs.declared.shown.FileRole.{FileRole}
-use Rattle.reports.specs.declared.shown.Shown.{Shown}
-use Rattle.pinch.specs.declared.command.Command.{Command}
-use Rattle.pinch.specs.declared.request.Request.{Request}
-use Rattle.pinch.specs.Answers.{Shows, ShowsCommand}
-use Rattle.pinch.specs.Complete.{Holds, HoldsText, HoldsFault, CanAnswer, HasBadFile}
-use Rattle.pinch.specs.Files.{EndsIn, NoFile, failed, too_long, NoText, no_file, refused, FromText, no_text, by_text, IsRefused}
-use Rattle.pinch.specs.Format.{Format}
-use Rattle.pinch.specs.Reading.{Reading, reading_of, ready, stop, wanted, file}
-use Rattle.pinch.specs.Status.{status_of, IsAnswered}
-use Rattle.pinch.proofs.Formats.{IsLawful, one_value, one_refusal, not_both}
+use Rattle.pinch.proofs.Formats.{IsLawful, not_both, one_refusal, one_value}
 use Rattle.pinch.proofs.Readings.{IsFurther, lawful, of_answerable, of_refusable}
 use Rattle.pinch.proofs.Results.{is_result}
+use Rattle.pinch.proofs.Words.{CanAnswer, Command, EndsIn, FileRole, Format, FromText, HasBadFile, Holds, HoldsFault, HoldsText, IsAnswered, IsFile}
+use Rattle.pinch.proofs.Words.{IsFileAbove, IsRefused, KeepsFiles, MAX_FILE, NamedFile, NoFile, NoText, Reading, Request, Rose, ShelfState, Shown, Shows}
+use Rattle.pinch.proofs.Words.{ShowsCommand, by_text, failed, file, no_file, no_text, reading_of, ready, refused, status_of, stop, too_long, wanted}
+use Rattle.std.proofs.Common.{Err, List, Ok, Option, Result, Some, ap, arith, inl, inr, length, subst, sym, ℕ, ◌∙◌, ◌≡◌}
 
 -- a file within the limit is not above it
 not_above : (files : Option (List NamedFile)) (name bytes : List ℕ) → Holds files name bytes → IsFileAbove files name MAX_FILE → ⊥
@@ -30,11 +20,13 @@ same_bytes files name bytes taken holds is =
     let told : IsFile (Some holds.told) name (Some taken) = subst (λ f. IsFile f name (Some taken)) holds.are is in
     cc (told, holds.found)
 
-taken : (role : FileRole) (name bytes : List ℕ) (old new : ShelfState) (shown : Shown) → Holds old.files name bytes → (Rose old.faults new.faults → ⊥) → NoFile role name old new shown → ⊥
+taken : (role : FileRole) (name bytes : List ℕ) (old new : ShelfState) (shown : Shown) → Holds old.files name bytes → (Rose old.faults new.faults → ⊥)
+    → NoFile role name old new shown → ⊥
 taken role name bytes old new shown holds no_fault (failed fault is) = no_fault fault.rose
 taken role name bytes old new shown holds no_fault (too_long long is) = not_above old.files name bytes holds long.file
 
-module _ {Value Cause : Type 0} (format : Format Value Cause) (lawful : IsLawful format) (name : List ℕ) (old new : ShelfState) (end : Result Request Shown) (no_fault : Rose old.faults new.faults → ⊥) where
+module _ {Value Cause : Type 0} (format : Format Value Cause) (lawful : IsLawful format) (name : List ℕ) (old new : ShelfState) (end : Result Request Shown)
+    (no_fault : Rose old.faults new.faults → ⊥) where
   not_refused : (shown : Shown) (P : Value → Type 0) → HoldsText format old.files name P → NoText format name old new shown → ⊥
   not_refused shown P held (no_file none) = taken format.role name held.bytes old new shown held.file no_fault none
   not_refused shown P held (refused bytes whole refusal) =
@@ -51,7 +43,8 @@ module _ {Value Cause : Type 0} (format : Format Value Cause) (lawful : IsLawful
       next mid held.value reads.keeps held.then (subst (work mid) same then)
 
   -- a file that its grammar refuses is told to be so
-  pub of_refused : (refusal : Shown) (work : ShelfState → Value → Type 0) → HoldsFault format old.files name refusal → FromText format name old new end work → end ≡ Err refusal
+  pub of_refused : (refusal : Shown) (work : ShelfState → Value → Type 0) → HoldsFault format old.files name refusal → FromText format name old new end work
+      → end ≡ Err refusal
   of_refused refusal work held (no_text shown is (no_file none)) = absurd (taken format.role name held.bytes old new shown held.file no_fault none)
   of_refused refusal work held (no_text shown is (refused bytes whole other)) =
       let same = same_bytes old.files name held.bytes bytes held.file whole.file in
@@ -65,7 +58,8 @@ pub no_later_fault : (old mid new : ShelfState) → KeepsFiles old mid → (Rose
 no_later_fault old mid new keeps no_fault rose = no_fault (omega (arith, rose, keeps.later))
 
 -- files that are what is wanted end in a request
-answerable : (reading : Reading) → IsFurther reading → (old new : ShelfState) (end : Result Request Shown) → (Rose old.faults new.faults → ⊥) → CanAnswer reading old.files
+answerable : (reading : Reading) → IsFurther reading → (old new : ShelfState) (end : Result Request Shown) → (Rose old.faults new.faults → ⊥)
+    → CanAnswer reading old.files
     → EndsIn reading old new end → (request : Request) × (end ≡ Ok request)
 unfolding EndsIn CanAnswer IsFurther
 answerable (ready request) further old new end no_fault can ends = (request, ends.0)

@@ -1,16 +1,8 @@
 -- What answers a case is shown as a design.
-use Rattle.std.proofs.Common.{◌≡◌, ◌∙◌, ◌≤◌, ◌+◌, ◌-◌, ℤ, Result, Ok, Err, IfOk, length, subst}
-use Rattle.stream_case.specs.declared.case.Case.{Case}
-use Rattle.stream_case.specs.Case.{IsStandard}
-use Rattle.problem_table.specs.Deficit.{hot_target}
-use Rattle.grid.specs.declared.parts.Parts.{Parts}
-use Rattle.heat_flow.specs.Flow.{cost_of}
+use Rattle.pinch.proofs.Words.{AnswersDesign, Case, IsCaseAnswer, IsDesignOf, IsStandard, IsTightDesign, Least, Parts, Shown, cost_of, hot_target}
 use Rattle.heat_flow.specs.declared.flow.Flow.{Flow}
 use Rattle.heat_flow.specs.declared.prices.Prices.{Prices}
-use Rattle.transport.specs.declared.answer.Answer.TheVariants.{Least}
-use Rattle.reports.specs.declared.shown.Shown.{Shown}
-use Rattle.pinch.specs.Design.{AnswersDesign, IsDesignOf, IsTightDesign}
-use Rattle.pinch.specs.Flow.{IsCaseAnswer}
+use Rattle.std.proofs.Common.{Err, IfOk, Ok, Result, length, subst, ℤ, ◌+◌, ◌-◌, ◌∙◌, ◌≡◌, ◌≤◌}
 
 -- the heat flow costs the hot target and is that of fewer transfers than parts
 abbrev IsTightFlow : Case → Parts → Flow → Type 0

@@ -1,17 +1,10 @@
 -- The program ends as `run` does.
-use Rattle.std.proofs.Common.{◌≡◌, ◌⊎◌, inl, inr, ℕ, List, Option, Some, None, IsNone, IfSome, refl}
-use Rattle.std.specs.Io.KnownBytes.{Appends}
-use Rattle.pinch_outside.specs.Shelf.{ShelfState}
-use Rattle.pinch_outside.specs.Sink.{AppendsFront}
-use Rattle.reports.specs.Text.{text}
-use Rattle.reports.specs.declared.shown.Shown.{Shown}
-use Rattle.pinch.specs.Answers.{ShowsCommand}
-use Rattle.pinch.specs.Arguments.{Ends, whole, front, nothing}
-use Rattle.pinch.specs.Status.{number_of, status_of}
-use Rattle.pinch.specs.declared.command.Command.{Command}
-use Rattle.pinch.specs.declared.status.Status.TheVariants.{WriteFault, OutOfMemory}
+use Rattle.pinch.proofs.Words.{Appends, AppendsFront, Command, OutOfMemory, ShelfState, Shown, ShowsCommand, WriteFault, number_of, status_of, text}
+use Rattle.pinch.specs.Arguments.{Ends, front, nothing, whole}
+use Rattle.std.proofs.Common.{IfSome, IsNone, List, None, Option, Some, inl, inr, refl, ℕ, ◌≡◌, ◌⊎◌}
 
-pub ends : (command : Option Command) (old new : ShelfState) (before now : Option (List ℕ)) (status : ℕ) (o : Option Shown) → IfSome o (ShowsCommand command old new)
+pub ends : (command : Option Command) (old new : ShelfState) (before now : Option (List ℕ)) (status : ℕ) (o : Option Shown)
+    → IfSome o (ShowsCommand command old new)
     → IfSome o (λ shown. (status ≡ number_of (status_of shown)) ⊎ (status ≡ number_of WriteFault))
     → IfSome o (λ shown. (status ≡ number_of WriteFault) ⊎ Appends before now (text shown)) → IfSome o (λ shown. AppendsFront before now (text shown))
     → (IsNone o → (now ≡ before) × (status ≡ number_of OutOfMemory)) → Ends command old new before now status

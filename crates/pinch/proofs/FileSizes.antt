@@ -1,21 +1,8 @@
 -- The text of a design of few lines fits in a file.
-use Rattle.std.proofs.Common.{◌≤◌, ◌+◌, ◌∷◌, ◌++◌, ◌^◌, ◌==◌, ℕ, ℤ, pos, negsuc, suc, Bool, true, false, List, [], length, arith, length-append}
-use Rattle.std.specs.Prelude.{codes, if◌then◌else◌, unsigned_abs}
-use Rattle.std.specs.Fmt.{decimal, signed_decimal}
-use Rattle.std.proofs.lemmas.Fmt.{length-decimal-le_wide}
-use Rattle.pinch_outside.specs.declared.limits.TheConstants.{MAX_FILE}
-use Rattle.stream_case.specs.Case.{IsComplete}
-use Rattle.stream_case.specs.declared.case.Case.{Case}
-use Rattle.stream_case.proofs.CompleteLemmas.{StaysValid-IsComplete}
-use Rattle.fractions.specs.Rationals.{IsWithinLimits, Rational, fraction_text}
-use Rattle.networks.specs.Shape.{HasShape}
-use Rattle.networks.specs.declared.network.Network.{Network}
-use Rattle.network_text.specs.Printed.{text_of}
-use Rattle.network_text.proofs.print.Lengths.{text-short}
-use Rattle.network_audit.specs.declared.verdict.Balance.{Balance}
-use Rattle.network_audit.proofs.BalanceWithin.{HasFractions}
-use Rattle.design_lines.specs.Drawn.{HasFewLines}
-use Rattle.reports.specs.Design.{balance_comment, design_text}
+use Rattle.pinch.proofs.Words.{Balance, Case, HasFewLines, HasFractions, HasShape, IsComplete, IsWithinLimits, MAX_FILE, Network, Rational}
+use Rattle.pinch.proofs.Words.{StaysValid-IsComplete, balance_comment, codes, decimal, design_text, fraction_text, if◌then◌else◌, length-decimal-le_wide}
+use Rattle.pinch.proofs.Words.{signed_decimal, text-short, text_of, unsigned_abs}
+use Rattle.std.proofs.Common.{Bool, List, [], arith, false, length, length-append, negsuc, pos, suc, true, ℕ, ℤ, ◌++◌, ◌+◌, ◌==◌, ◌^◌, ◌∷◌, ◌≤◌}
 
 -- a sign and a numerator of 23 digits
 signed_short : (z : ℤ) → unsigned_abs z ≤ 2 ^ 76 → length (signed_decimal z) ≤ 24
@@ -42,6 +29,7 @@ comment_short b within =
     let cold = codes " cold " ++ (fraction_text b.cold ++ excess) in
     omega (arith, behind b.hot cold within.hot, behind b.cold excess within.cold, behind b.excess cost within.excess, behind b.cost (10 ∷ []) within.cost)
 
-pub design_fits : (c : Case) (network : Network) (b : Balance) → IsComplete c → HasShape c network → HasFractions b → HasFewLines network → length (design_text c network b) ≤ MAX_FILE
+pub design_fits : (c : Case) (network : Network) (b : Balance) → IsComplete c → HasShape c network → HasFractions b → HasFewLines network
+    → length (design_text c network b) ≤ MAX_FILE
 design_fits c network b complete shape within few =
     omega (arith, length-append (balance_comment b) (text_of c network), comment_short b within, text-short (StaysValid-IsComplete c complete) shape, few)

@@ -1,24 +1,12 @@
 -- Bytes of a format have one outcome: they say one thing, or are refused in one way.
-use Rattle.std.proofs.Common.{◌≡◌, ◌∙◌, true, List, ℕ, Result, Ok, Err, refl, sym, ap}
-use Rattle.rows.specs.Rows.{rows_of}
-use Rattle.first_fault.proofs.OneOutcome.{one_outcome}
-use Rattle.case_text.specs.Outcome.{grammar}
+use Rattle.pinch.proofs.Words.{Case, Format, IsPrintable, IsRefused, Shown, case_file, grammar, network_file, one_outcome, report_file, rows_of, site_file}
+use Rattle.pinch.proofs.Words.{statements_of, study_file}
+use Rattle.pinch.proofs.Plain.{is_plain}
+use Rattle.std.proofs.Common.{Err, List, Ok, Result, ap, refl, sym, true, ℕ, ◌∙◌, ◌≡◌}
 use Rattle.certify.specs.Outcome as report
 use Rattle.network_text.specs.Outcome as network
-use Rattle.statements.specs.Statements.{statements_of}
 use Rattle.site.specs.Outcome as site
 use Rattle.study.specs.StudyOutcome as study
-use Rattle.stream_case.specs.declared.case.Case.{Case}
-use Rattle.reports.specs.Text.{IsPrintable}
-use Rattle.reports.specs.declared.shown.Shown.{Shown}
-use Rattle.pinch.specs.Case.{case_file}
-use Rattle.pinch.specs.Files.{IsRefused}
-use Rattle.pinch.specs.Format.{Format}
-use Rattle.pinch.specs.Network.{network_file}
-use Rattle.pinch.specs.Prices.{study_file}
-use Rattle.pinch.specs.Report.{report_file}
-use Rattle.pinch.specs.Site.{site_file}
-use Rattle.pinch.proofs.Plain.{is_plain}
 
 pub record IsLawful {Value Cause : Type 0} (format : Format Value Cause) : Type 0 where
   pub one_outcome : (bytes : List ℕ) (a b : Result Value (ℕ × Cause)) → format.Gives bytes a → format.Gives bytes b → a ≡ b
@@ -31,7 +19,8 @@ lawful_case = record { one_outcome = λ bytes. one_outcome grammar (rows_of byte
 
 pub lawful_network : (case : Case) → IsLawful (network_file case)
 unfolding IsPrintable
-lawful_network case = record { one_outcome = λ bytes. one_outcome (network.grammar case) (statements_of bytes); plain = λ at why. refl; printable = λ at why. tt }
+lawful_network case =
+    record { one_outcome = λ bytes. one_outcome (network.grammar case) (statements_of bytes); plain = λ at why. refl; printable = λ at why. tt }
 
 pub lawful_report : IsLawful report_file
 unfolding IsPrintable

@@ -15,3 +15,4 @@ mod Runnable
 mod Runs
 mod ShownNetworks
 mod SiteCosts
+pub mod Words

@@ -1,8 +1,6 @@
 -- What is shown that blames neither the words nor the shelf.
-use Rattle.std.proofs.Common.{◌≡◌, Bool, true, false, refl}
-use Rattle.reports.specs.declared.shown.Shown.{Shown}
-use Rattle.reports.specs.declared.shown.Shown.TheVariants.{BadWords, ReadFault, TooLong}
-use Rattle.pinch.specs.Status.{status_of, IsAnswered}
+use Rattle.pinch.proofs.Words.{BadWords, IsAnswered, ReadFault, Shown, TooLong, status_of}
+use Rattle.std.proofs.Common.{Bool, false, refl, true, ◌≡◌}
 
 -- what is shown is a result, or blames what a file says
 abbrev pub is_plain : Shown → Bool

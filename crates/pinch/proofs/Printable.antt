@@ -1,18 +1,10 @@
 -- All that a command shows can be printed.
-use Rattle.std.proofs.Common.{◌≡◌, inl, inr, ℕ, List, Option, Result, sym, subst}
-use Rattle.pinch_outside.specs.Shelf.{ShelfState}
-use Rattle.reports.specs.Text.{IsPrintable}
-use Rattle.reports.specs.declared.shown.FileRole.{FileRole}
-use Rattle.reports.specs.declared.shown.Shown.{Shown}
-use Rattle.pinch.specs.Answers.{Shows, ShowsCommand}
-use Rattle.pinch.specs.Files.{EndsIn, NoFile, failed, too_long, NoText, no_file, refused, FromText, no_text, by_text}
-use Rattle.pinch.specs.Format.{Format}
-use Rattle.pinch.specs.Reading.{Reading, reading_of, ready, stop, wanted, file}
-use Rattle.pinch.specs.declared.command.Command.{Command}
-use Rattle.pinch.specs.declared.request.Request.{Request}
 use Rattle.pinch.proofs.Formats.{IsLawful}
 use Rattle.pinch.proofs.Readings.{IsFurther, IsLawfulReading, lawful}
 use Rattle.pinch.proofs.Results.{is_result}
+use Rattle.pinch.proofs.Words.{Command, EndsIn, FileRole, Format, FromText, IsPrintable, NoFile, NoText, Reading, Request, ShelfState, Shown, Shows}
+use Rattle.pinch.proofs.Words.{ShowsCommand, by_text, failed, file, no_file, no_text, reading_of, ready, refused, stop, too_long, wanted}
+use Rattle.std.proofs.Common.{List, Option, Result, inl, inr, subst, sym, ℕ, ◌≡◌}
 
 of_is : (shown result : Shown) → shown ≡ result → IsPrintable result → IsPrintable shown
 of_is shown result is printable = subst IsPrintable (sym is) printable
@@ -32,7 +24,8 @@ module _ {Value Cause : Type 0} (format : Format Value Cause) (is_lawful : IsLaw
   of_text old new end shown work shows next (no_text early is none) = of_is shown early (subst (λ e. Shows e shown) is shows) (of_no_text old new early none)
   of_text old new end shown work shows next (by_text mid value reads then) = next mid value then
 
-of_further : (reading : Reading) → IsFurther reading → (old new : ShelfState) (end : Result Request Shown) (shown : Shown) → Shows end shown → EndsIn reading old new end → IsPrintable shown
+of_further : (reading : Reading) → IsFurther reading → (old new : ShelfState) (end : Result Request Shown) (shown : Shown) → Shows end shown
+    → EndsIn reading old new end → IsPrintable shown
 unfolding EndsIn IsFurther
 of_further (ready request) further old new end shown shows ends = (is_result request shown (subst (λ e. Shows e shown) ends.0 shows)).printable
 of_further (stop refusal) further old new end shown shows ends = absurd further
@@ -41,7 +34,8 @@ of_further (wanted P refusal next) further old new end shown shows (inr turned) 
 of_further (file format name next) further old new end shown shows ends =
     of_text format further.0 name old new end shown _ shows (λ mid value then. of_further (next value) (further.1 value) mid new end shown shows then) ends
 
-of_reading : (reading : Reading) → IsLawfulReading reading → (old new : ShelfState) (end : Result Request Shown) (shown : Shown) → Shows end shown → EndsIn reading old new end → IsPrintable shown
+of_reading : (reading : Reading) → IsLawfulReading reading → (old new : ShelfState) (end : Result Request Shown) (shown : Shown) → Shows end shown
+    → EndsIn reading old new end → IsPrintable shown
 unfolding EndsIn IsLawfulReading
 of_reading (stop refusal) is old new end shown shows ends = of_is shown refusal (subst (λ e. Shows e shown) ends.0 shows) is
 of_reading (ready request) is old new end shown shows ends = of_further (ready request) is old new end shown shows ends

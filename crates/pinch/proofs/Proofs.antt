@@ -1,55 +1,28 @@
 -- A report that is the text of a proof is answered with yes.
-use Rattle.std.proofs.Common.{◌≡◌, ◌∙◌, inl, inr, ℕ, List, [], ◌∷◌, Option, None, Some, Result, Ok, refl, sym, ap, subst}
-use Rattle.stream_case.specs.Case.{IsComplete, completed}
-use Rattle.stream_case.specs.declared.case.Case.{Case}
-use Rattle.rows.specs.Rows.{rows_of}
 use Rattle.case_text.proofs.Accepted.{case-is_valid}
-use Rattle.certify.specs.Answers.{IsAnswer, IsAnswerOver, IsFirstOf, HoldsOfCut, HoldsOfFlow, cut_causes, flow_causes}
-use Rattle.certify.specs.declared.report.Checked.{Checked}
-use Rattle.certify.specs.declared.report.Checked.TheVariants.{Yes, No}
-use Rattle.certify.specs.declared.report.NoWhy.{NoWhy}
-use Rattle.certify.specs.declared.report.Report.{Report}
-use Rattle.certify.specs.declared.report.Report.TheVariants as report
-use Rattle.grid.specs.declared.part.Part.{Part}
-use Rattle.grid.specs.declared.parts.Parts.{Parts}
-use Rattle.heat_flow.specs.Reach.{reach_between}
-use Rattle.pinch_outside.specs.Faults.{Rose}
-use Rattle.pinch_outside.specs.Shelf.{NamedFile, ShelfState}
-use Rattle.transport.specs.Answer.{IsAnswer as IsFlowAnswer}
-use Rattle.transport.specs.declared.answer.Answer.{Answer}
-use Rattle.transport.specs.declared.answer.Answer.TheVariants as answer
-use Rattle.grid.specs.Part.{AreCaseParts}
-use Rattle.reports.specs.Proofs.{IsAnsweredWithYes, IsProofOf}
-use Rattle.reports.specs.Text.{text}
-use Rattle.reports.specs.declared.shown.Shown.{Shown}
-use Rattle.reports.proofs.ProofTexts.{proofs-pass}
-use Rattle.pinch.specs.Answers.{Answers, Shows, ShowsCommand}
-use Rattle.pinch.specs.Case.{case_file}
-use Rattle.pinch.specs.Complete.{Holds, HoldsText}
-use Rattle.pinch.specs.Files.{EndsIn}
-use Rattle.pinch.specs.Flow.{AnswersFlow, IsCaseAnswer, shown_answer}
-use Rattle.pinch.specs.Proofs.{ChecksProof, HoldsProof}
-use Rattle.pinch.specs.Reading.{file, reading_of, ready}
-use Rattle.pinch.specs.Report.{IsCheckOf, report_file, shown_check}
-use Rattle.pinch.specs.Status.{status_of}
-use Rattle.pinch.specs.declared.command.Command.{Command}
-use Rattle.pinch.specs.declared.command.Command.TheVariants as command
-use Rattle.pinch.specs.declared.request.Request.{Request}
-use Rattle.pinch.specs.declared.request.Request.TheVariants as request
-use Rattle.pinch.specs.declared.status.Status.TheVariants.{Answered}
+use Rattle.pinch.proofs.Words.{Answer, Answered, Answers, AnswersFlow, AreCaseParts, Case, Checked, ChecksProof, Command, EndsIn, Holds, HoldsOfCut}
+use Rattle.pinch.proofs.Words.{HoldsOfFlow, HoldsProof, HoldsText, IsAnswer, IsAnswerOver, IsCaseAnswer, IsCheckOf, IsComplete, IsFirstOf, IsProofOf, No, NoWhy}
+use Rattle.pinch.proofs.Words.{Part, Parts, Report, Request, Rose, ShelfState, Shown, Shows, ShowsCommand, Yes, case_file, completed, cut_causes, file}
+use Rattle.pinch.proofs.Words.{flow_causes, proofs-pass, reach_between, reading_of, ready, report_file, rows_of, shown_answer, shown_check, status_of, text}
 use Rattle.pinch.proofs.Complete.{no_later_fault, of_held}
 use Rattle.pinch.proofs.Formats.{lawful_case, lawful_report}
+use Rattle.std.proofs.Common.{List, Ok, Option, Result, Some, [], ap, inl, inr, refl, subst, sym, ℕ, ◌∙◌, ◌∷◌, ◌≡◌}
+use Rattle.certify.specs.declared.report.Report.TheVariants as report
+use Rattle.pinch.specs.declared.command.Command.TheVariants as command
+use Rattle.pinch.specs.declared.request.Request.TheVariants as request
+use Rattle.transport.specs.Answer.{IsAnswer as IsFlowAnswer}
+use Rattle.transport.specs.declared.answer.Answer.TheVariants as answer
 
 -- ---- a report has one answer
 
-first_yes : (causes : List NoWhy) (Holds : NoWhy → Type 0) (checked : Checked)
-    → IsFirstOf causes Holds Yes → IsFirstOf causes Holds checked → checked ≡ Yes
+first_yes : (causes : List NoWhy) (Holds : NoWhy → Type 0) (checked : Checked) → IsFirstOf causes Holds Yes → IsFirstOf causes Holds checked → checked ≡ Yes
 first_yes causes Holds Yes passes is = refl
 first_yes [] Holds (No why) passes is = absurd is
 first_yes (cause ∷ causes) Holds (No why) passes (inl fails) = absurd (fails.1 passes.0)
 first_yes (cause ∷ causes) Holds (No why) passes (inr later) = first_yes causes Holds (No why) passes.1 later.1
 
-yes_over : (c : Case) (hot cold : List Part) (r : Report) (checked : Checked) → IsAnswerOver c hot cold r Yes → IsAnswerOver c hot cold r checked → checked ≡ Yes
+yes_over : (c : Case) (hot cold : List Part) (r : Report) (checked : Checked) → IsAnswerOver c hot cold r Yes → IsAnswerOver c hot cold r checked
+    → checked ≡ Yes
 yes_over c hot cold (report.Flow cost uses moves gives takes) checked passes is =
     first_yes flow_causes (HoldsOfFlow c hot cold cost uses moves gives takes) checked passes is
 yes_over c hot cold (report.Cut kind need offer parts) checked passes is =

@@ -1,16 +1,9 @@
 -- What all commands read.
-use Rattle.std.proofs.Common.{◌≡◌, true, refl, List, Option, Some, None}
-use Rattle.std.specs.Prelude.{⊤}
-use Rattle.stream_case.specs.Case.{completed}
-use Rattle.pinch_outside.specs.Shelf.{NamedFile}
-use Rattle.reports.specs.Text.{IsPrintable}
-use Rattle.reports.specs.declared.shown.Shown.{Shown}
-use Rattle.pinch.specs.Complete.{CanAnswer, HasBadFile}
-use Rattle.pinch.specs.Reading.{Reading, reading_of, ready, stop, wanted, file}
-use Rattle.pinch.specs.declared.command.Command.{Command}
-use Rattle.pinch.specs.declared.command.Command.TheVariants.{OfCase, Vertical, Audit, Certify, Prices, Site, Sample}
 use Rattle.pinch.proofs.Formats.{IsLawful, lawful_case, lawful_network, lawful_report, lawful_site, lawful_study}
 use Rattle.pinch.proofs.Plain.{is_plain}
+use Rattle.pinch.proofs.Words.{CanAnswer, Command, HasBadFile, IsPrintable, NamedFile, Reading, Shown, completed, file, reading_of, ready, stop, wanted, ⊤}
+use Rattle.pinch.specs.declared.command.Command.TheVariants.{Audit, Certify, OfCase, Prices, Sample, Site, Vertical}
+use Rattle.std.proofs.Common.{List, None, Option, Some, refl, true, ◌≡◌}
 
 -- its formats are lawful, and what it shows in place of a request is plain and can be printed
 unfoldable pub IsFurther : Reading → Type 0
@@ -39,14 +32,11 @@ lawful (Some (Sample number count)) = tt
 pub of_answerable : (reading : Reading) (files : Option (List NamedFile)) → IsLawfulReading reading → CanAnswer reading files → IsFurther reading
 unfolding IsLawfulReading CanAnswer
 of_answerable (stop shown) files is can = absurd can
-of_answerable (ready request) files is can = is
-of_answerable (wanted P refusal next) files is can = is
-of_answerable (file format name next) files is can = is
+of_answerable other files is can = is
 
 -- and so does what is refused
-pub of_refusable : (reading : Reading) (files : Option (List NamedFile)) (refusal : Shown) → IsLawfulReading reading → HasBadFile reading files refusal → IsFurther reading
+pub of_refusable : (reading : Reading) (files : Option (List NamedFile)) (refusal : Shown) → IsLawfulReading reading → HasBadFile reading files refusal
+    → IsFurther reading
 unfolding IsLawfulReading HasBadFile
 of_refusable (stop shown) files refusal is bad = absurd bad
-of_refusable (ready request) files refusal is bad = is
-of_refusable (wanted P other next) files refusal is bad = is
-of_refusable (file format name next) files refusal is bad = is
+of_refusable other files refusal is bad = is

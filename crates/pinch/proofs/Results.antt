@@ -1,29 +1,11 @@
 -- What is shown of a request is a result, and can be printed.
-use Rattle.std.proofs.Common.{◌≡◌, sym, subst}
-use Rattle.stream_case.specs.declared.case.Case.{Case}
-use Rattle.stream_case.specs.Case.{completed}
-use Rattle.certify.specs.declared.report.Checked.{Checked}
-use Rattle.certify.specs.declared.report.Checked.TheVariants.{Yes, No}
-use Rattle.certify.specs.declared.report.Report.{Report}
-use Rattle.grid.specs.declared.parts.Parts.{Parts}
-use Rattle.transport.specs.declared.answer.Answer.{Answer}
-use Rattle.transport.specs.declared.answer.Answer.TheVariants as answer
-use Rattle.networks.specs.declared.network.Network.{Network}
-use Rattle.network_audit.specs.declared.verdict.Verdict.{Verdict}
+use Rattle.pinch.proofs.Words.{Answer, Answers, Case, CaseTask, Checked, Curves, Design, Flow, IsAnswered, IsPrintable, Network, No, OfSite, Parts, Prices}
+use Rattle.pinch.proofs.Words.{Report, Request, Shown, ShowsDesignOf, ShowsTask, ShowsVerdict, Sweep, Targets, Verdict, Yes, completed, shown_answer}
+use Rattle.pinch.proofs.Words.{shown_check, status_of, status_of_site}
+use Rattle.pinch.specs.declared.request.Request.TheVariants.{Audit, Certify, OfCase, Sample, Vertical}
+use Rattle.std.proofs.Common.{subst, sym, ◌≡◌}
 use Rattle.network_audit.specs.declared.verdict.Verdict.TheVariants as verdict
-use Rattle.reports.specs.Text.{IsPrintable}
-use Rattle.reports.specs.declared.shown.Shown.{Shown}
-use Rattle.pinch.specs.Answers.{Answers}
-use Rattle.pinch.specs.Design.{ShowsDesignOf}
-use Rattle.pinch.specs.Flow.{shown_answer}
-use Rattle.pinch.specs.Network.{ShowsVerdict}
-use Rattle.pinch.specs.Report.{shown_check}
-use Rattle.pinch.specs.Status.{status_of, status_of_site, IsAnswered}
-use Rattle.pinch.specs.Tasks.{ShowsTask}
-use Rattle.pinch.specs.declared.command.CaseTask.{CaseTask}
-use Rattle.pinch.specs.declared.command.CaseTask.TheVariants.{Targets, Flow, Design, Curves, Sweep}
-use Rattle.pinch.specs.declared.request.Request.{Request}
-use Rattle.pinch.specs.declared.request.Request.TheVariants.{OfCase, Vertical, Audit, Certify, Prices, OfSite, Sample}
+use Rattle.transport.specs.declared.answer.Answer.TheVariants as answer
 
 pub record IsResult (shown : Shown) : Type 0 where
   pub answered : IsAnswered (status_of shown)

@@ -1,19 +1,11 @@
 -- Words form only commands that can run.
-use Rattle.std.proofs.Common.{◌≡◌, ◌<◌, ◌≤◌, ◌+◌, ◌*◌, ℕ, Bool, true, false, List, [], ◌∷◌, Option, Some, None, option_map, IfSome, refl, subst, arith}
-use Rattle.std.specs.Prelude.{pos, ◌&&◌, nat_le, nat_lt, codes, if◌then◌else◌}
-use Rattle.std.specs.Str.{bytes_eq}
-use Rattle.std.proofs.lemmas.Bool.Decides.{nat_tests}
-use Rattle.std.proofs.lemmas.Int.{ints}
-use Rattle.stream_case.specs.Digits.{natural_in}
-use Rattle.study.specs.Plan.{IsSweepPlan}
-use Rattle.study.specs.declared.limits.TheConstants.{MOST_ROWS, MOST_SAMPLE_NUMBER, MOST_SAMPLE_STREAMS, MOST_WORKERS}
-use Rattle.study.specs.declared.plan.SweepPlan.{SweepPlan}
-use Rattle.pinch.specs.declared.numbers.TheConstants.{MOST_DIGITS, MOST_END, MOST_STEP}
-use Rattle.pinch.specs.Command.{command_of, command_of_word, one_file, prices_of, prices_with, sample_of, sample_with, sweep_of, sweep_with, two_files, CanWork, IsRunnable}
+use Rattle.pinch.specs.Command.{CanWork, IsRunnable, command_of, command_of_word, one_file, prices_of, prices_with, sample_of, sample_with, sweep_of}
+use Rattle.pinch.specs.Command.{sweep_with, two_files}
 use Rattle.pinch.specs.Numbers.{limited, number_within, plan_of, plan_with, sample_count_of, sample_number_of, workers_of}
-use Rattle.pinch.specs.declared.command.CaseTask.TheVariants.{Targets, Flow, Design, Curves}
-use Rattle.pinch.specs.declared.command.Command.{Command}
-use Rattle.pinch.specs.declared.command.Command.TheVariants.{Audit, Certify, OfCase, Vertical, Site}
+use Rattle.pinch.proofs.Words.{Command, Curves, Design, Flow, IsSweepPlan, MOST_DIGITS, MOST_END, MOST_ROWS, MOST_SAMPLE_NUMBER, MOST_SAMPLE_STREAMS, MOST_STEP}
+use Rattle.pinch.proofs.Words.{MOST_WORKERS, SweepPlan, Targets, bytes_eq, codes, if◌then◌else◌, ints, nat_le, nat_lt, nat_tests, natural_in, pos, ◌&&◌}
+use Rattle.pinch.specs.declared.command.Command.TheVariants.{Audit, Certify, OfCase, Site, Vertical}
+use Rattle.std.proofs.Common.{Bool, IfSome, List, None, Option, Some, [], arith, false, option_map, refl, subst, true, ℕ, ◌*◌, ◌+◌, ◌<◌, ◌∷◌, ◌≡◌, ◌≤◌}
 
 -- what is there only where a test holds
 where_true : {X : Type 0} (b : Bool) (x : X) (P : X → Type 0) → (b ≡ true → P x) → IfSome (if b then Some x else None) P
@@ -42,7 +34,8 @@ is_plan from to step last some most e =
       few = omega (arith, ints, few);
     }
 
-plan_runs : (from to step : Option ℕ) → IfSome to (λ n. (0 ≤ n) × (n ≤ MOST_END)) → IfSome step (λ n. (1 ≤ n) × (n ≤ MOST_STEP)) → IfSome (plan_with from to step) IsSweepPlan
+plan_runs : (from to step : Option ℕ) → IfSome to (λ n. (0 ≤ n) × (n ≤ MOST_END)) → IfSome step (λ n. (1 ≤ n) × (n ≤ MOST_STEP))
+    → IfSome (plan_with from to step) IsSweepPlan
 plan_runs (Some from) (Some to) (Some step) last some =
     where_true (nat_le from to && nat_lt to (from + MOST_ROWS * step)) (record { from = pos from; to = pos to; step = pos step }) IsSweepPlan
     (is_plan from to step last.1 some.0 some.1)
@@ -50,7 +43,8 @@ plan_runs (Some from) (Some to) None last some = tt
 plan_runs (Some from) None step last some = tt
 plan_runs None to step last some = tt
 
-of_numbers : (case : List ℕ) (plan : Option SweepPlan) (workers : Option ℕ) → IfSome plan IsSweepPlan → IfSome workers (λ n. (1 ≤ n) × (n ≤ MOST_WORKERS)) → IfSome (sweep_with case plan workers) IsRunnable
+of_numbers : (case : List ℕ) (plan : Option SweepPlan) (workers : Option ℕ) → IfSome plan IsSweepPlan → IfSome workers (λ n. (1 ≤ n) × (n ≤ MOST_WORKERS))
+    → IfSome (sweep_with case plan workers) IsRunnable
 of_numbers case (Some plan) (Some workers) can work = (can, work.0, work.1)
 of_numbers case (Some plan) None can work = tt
 of_numbers case None workers can work = tt
@@ -58,7 +52,8 @@ of_numbers case None workers can work = tt
 of_sweep : (words : List (List ℕ)) → IfSome (sweep_of words) IsRunnable
 of_sweep ((byte ∷ case) ∷ from ∷ to ∷ step ∷ workers ∷ []) =
     of_numbers (byte ∷ case) (plan_of from to step) (workers_of workers)
-    (plan_runs (number_within 0 MOST_END from) (number_within 0 MOST_END to) (number_within 1 MOST_STEP step) (limited-within 0 MOST_END (natural_in MOST_DIGITS to)) (limited-within 1 MOST_STEP (natural_in MOST_DIGITS step)))
+    (plan_runs (number_within 0 MOST_END from) (number_within 0 MOST_END to) (number_within 1 MOST_STEP step)
+    (limited-within 0 MOST_END (natural_in MOST_DIGITS to)) (limited-within 1 MOST_STEP (natural_in MOST_DIGITS step)))
     (limited-within 1 MOST_WORKERS (natural_in MOST_DIGITS workers))
 of_sweep words = tt
 
@@ -71,18 +66,21 @@ of_prices ((byte ∷ case) ∷ (other ∷ study) ∷ workers ∷ []) =
     prices_run (byte ∷ case) (other ∷ study) (workers_of workers) (limited-within 1 MOST_WORKERS (natural_in MOST_DIGITS workers))
 of_prices words = tt
 
-of_sample_numbers : (number count : Option ℕ) → IfSome number (λ n. (1 ≤ n) × (n ≤ MOST_SAMPLE_NUMBER)) → IfSome count (λ n. (1 ≤ n) × (n ≤ MOST_SAMPLE_STREAMS)) → IfSome (sample_with number count) IsRunnable
+of_sample_numbers : (number count : Option ℕ) → IfSome number (λ n. (1 ≤ n) × (n ≤ MOST_SAMPLE_NUMBER))
+    → IfSome count (λ n. (1 ≤ n) × (n ≤ MOST_SAMPLE_STREAMS)) → IfSome (sample_with number count) IsRunnable
 of_sample_numbers (Some number) (Some count) known few = (known.0, known.1, few.0, few.1)
 of_sample_numbers (Some number) None known few = tt
 of_sample_numbers None count known few = tt
 
 of_sample : (words : List (List ℕ)) → IfSome (sample_of words) IsRunnable
 of_sample (number ∷ count ∷ []) =
-    of_sample_numbers (sample_number_of number) (sample_count_of count) (limited-within 1 MOST_SAMPLE_NUMBER (natural_in MOST_DIGITS number)) (limited-within 1 MOST_SAMPLE_STREAMS (natural_in MOST_DIGITS count))
+    of_sample_numbers (sample_number_of number) (sample_count_of count) (limited-within 1 MOST_SAMPLE_NUMBER (natural_in MOST_DIGITS number))
+    (limited-within 1 MOST_SAMPLE_STREAMS (natural_in MOST_DIGITS count))
 of_sample words = tt
 
 -- a command of the names of files
-of_names : {Names : Type 0} (command : Names → Command) → ((names : Names) → IsRunnable (command names)) → (names : Option Names) → IfSome (option_map command names) IsRunnable
+of_names : {Names : Type 0} (command : Names → Command) → ((names : Names) → IsRunnable (command names)) → (names : Option Names)
+    → IfSome (option_map command names) IsRunnable
 of_names command runs (Some names) = runs names
 of_names command runs None = tt
 

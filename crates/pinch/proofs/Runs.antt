@@ -1,19 +1,11 @@
 -- A run keeps what it is to keep.
-use Rattle.std.proofs.Common.{◌≡◌, ◌∙◌, inl, inr, ℕ, List, Option, Some, sym, ap, arith}
-use Rattle.std.specs.Prelude.{⊤}
-use Rattle.transport.specs.declared.answer.Answer.TheVariants as answer
-use Rattle.pinch_outside.specs.Shelf.{ShelfState}
-use Rattle.reports.specs.declared.shown.Shown.{Shown}
-use Rattle.reports.specs.declared.shown.Shown.TheVariants.{SiteShown}
-use Rattle.pinch.specs.Answers.{ShowsCommand}
-use Rattle.pinch.specs.Run.{Prints, Runs, whole, cut}
-use Rattle.pinch.specs.Status.{number_of, status_of}
-use Rattle.pinch.specs.declared.command.Command.{Command}
-use Rattle.pinch.specs.declared.status.Status.{Status}
-use Rattle.pinch.specs.declared.status.Status.TheVariants.{WriteFault, OutOfMemory}
 use Rattle.pinch.proofs.Causes.{causes}
-use Rattle.pinch.proofs.Complete.{complete, bad_file}
+use Rattle.pinch.proofs.Complete.{bad_file, complete}
 use Rattle.pinch.proofs.Proofs.{certified}
+use Rattle.pinch.proofs.Words.{Command, OutOfMemory, ShelfState, Shown, ShowsCommand, SiteShown, Status, WriteFault, number_of, status_of, ⊤}
+use Rattle.pinch.specs.Run.{Prints, Runs, cut, whole}
+use Rattle.std.proofs.Common.{List, Option, Some, ap, arith, inl, inr, sym, ℕ, ◌∙◌, ◌≡◌}
+use Rattle.transport.specs.declared.answer.Answer.TheVariants as answer
 
 -- what is shown blames neither the sink nor memory
 abbrev IsOfShown : Status → Type 0

@@ -1,41 +1,16 @@
 -- A heat flow of a site costs what its boiler gives.
-use Rattle.std.proofs.Common.{◌≡◌, inl, inr, ◌∙◌, sym, ap, ap₂, zero, suc, ◌<◌, Bool, true, false, List, length, get_or, arith}
-use Rattle.std.specs.Prelude.{if◌then◌else◌, ℤ, pos, ◌+ℤ◌, ◌*ℤ◌}
-use Rattle.std.proofs.lemmas.Int.{ints}
-use Rattle.std.proofs.lemmas.Option.{none-some, same_Some, slice_get-get_or}
-use Rattle.std.specs.Option.{option_map_or}
-use Rattle.stream_case.specs.declared.source.Side.TheVariants.{Hot, Cold}
-use Rattle.stream_case.specs.declared.source.Source.{Source}
-use Rattle.stream_case.specs.declared.source.Source.TheVariants.{Utility as of_utility}
-use Rattle.stream_case.specs.Source.{same_source}
-use Rattle.stream_case.specs.declared.utility.Utility.{Utility}
-use Rattle.sums.proofs.SumLemmas.{int_sum_by-same, int_sum_by-zero}
-use Rattle.grid.specs.declared.part.Part.{Part}
-use Rattle.grid.specs.declared.parts.Parts.{Parts}
-use Rattle.grid.specs.Part.{IsPartOf}
-use Rattle.heat_flow.specs.declared.flow.Transfer.{Transfer}
-use Rattle.heat_flow.specs.Flow.{HaveParts, IsHeatFlow, IsLeastCost, cost_of}
-use Rattle.heat_flow.proofs.Blanks.{blank}
-use Rattle.heat_flow.proofs.CostLemmas.{part_price, side_cost-transfers}
-use Rattle.transport.specs.Answer.{IfLeast}
-use Rattle.heat_flow.specs.Certificate.{IsCertified, heat_of_utility, utility_heat}
-use Rattle.transport.specs.declared.answer.Answer.{Answer}
-use Rattle.transport.specs.declared.answer.Answer.TheVariants.{Least, Stuck}
+use Rattle.pinch.proofs.Words.{Answer, AreSiteParts, Cold, HaveParts, Hot, IfLeast, IsCertified, IsHeatFlow, IsLeastBoiler, IsLeastCost, IsPartOf, Least, Part}
+use Rattle.pinch.proofs.Words.{Parts, Source, Stuck, Transfer, Utility, blank, boiler, boiler_heat, cooling, cost_of, heat_of_utility, if_one-times}
+use Rattle.pinch.proofs.Words.{if◌then◌else◌, int_sum_by-same, int_sum_by-zero, ints, none-some, option_map_or, part_price, pos, same_Some, same_source}
+use Rattle.pinch.proofs.Words.{side_cost-transfers, site_utilities, slice_get-get_or, streams_of, utility_heat, ℤ, ◌*ℤ◌, ◌+ℤ◌}
 use Rattle.plants.specs.Reach.{reach_between}
-use Rattle.plants.specs.Site.{streams_of}
-use Rattle.plants.specs.Table.{boiler, cooling, site_utilities}
-use Rattle.site.specs.Target.{AreSiteParts}
 use Rattle.plants.specs.declared.site.Site.{Site}
-use Rattle.reports.specs.Site.{boiler_heat}
-use Rattle.pinch.specs.Site.{IsLeastBoiler}
+use Rattle.std.proofs.Common.{List, ap, ap₂, arith, false, get_or, inl, inr, length, suc, sym, zero, ◌<◌, ◌∙◌, ◌≡◌}
+use Rattle.stream_case.specs.declared.source.Source.TheVariants.{Utility as of_utility}
 
 -- a watt of the boiler costs 1
 abbrev boiler_price : Source → ℤ
 boiler_price source = if same_source source (of_utility 0) then pos 1 else pos 0
-
-times_price : (b : Bool) (heat : ℤ) → (if b then pos 1 else pos 0) *ℤ heat ≡ (if b then heat else pos 0)
-times_price true heat = omega (arith, ints)
-times_price false heat = omega (arith, ints)
 
 module _ (site : Site) (hot cold : List Part) (parts : AreSiteParts site hot cold) where
   hot_price : (p : Part) → IsPartOf (streams_of site.plants) (site_utilities site) parts.grid Hot p → p.price ≡ boiler_price p.source
@@ -58,20 +33,22 @@ module _ (site : Site) (hot cold : List Part) (parts : AreSiteParts site hot col
   -- what a transfer costs at its hot part
   hot_cost : (t : Transfer) → t.hot < length hot → part_price hot t.hot *ℤ t.heat ≡ heat_of_utility 0 Hot hot t
   hot_cost t within =
-      let p = get_or hot t.hot blank in
-      let at = slice_get-get_or hot t.hot blank within in
+      let p = get_or hot t.hot blank in let at = slice_get-get_or hot t.hot blank within in
       ap (λ price. price *ℤ t.heat) (hot_price p (parts.hot_parts.each t.hot blank within))
-      ∙ times_price (same_source p.source (of_utility 0)) t.heat
+      ∙ if_one-times (same_source p.source (of_utility 0)) t.heat
       ∙ sym (ap (λ o. if option_map_or (λ (q : Part). same_source q.source (of_utility 0)) o false then t.heat else pos 0) at)
 
   -- and at its cold part
   cold_cost : (t : Transfer) → t.cold < length cold → part_price cold t.cold *ℤ t.heat ≡ pos 0
-  cold_cost t within = let price = cold_price (get_or cold t.cold blank) (parts.cold_parts.each t.cold blank within) in ap (λ price. price *ℤ t.heat) price ∙ omega (arith, ints)
+  cold_cost t within = let price = cold_price (get_or cold t.cold blank) (parts.cold_parts.each t.cold blank within) in
+      ap (λ price. price *ℤ t.heat) price ∙ omega (arith, ints)
 
   cost_is : (ts : List Transfer) → HaveParts Hot hot ts → HaveParts Cold cold ts → cost_of hot cold ts ≡ utility_heat 0 Hot hot ts
   cost_is ts hot_indexes cold_indexes =
-      let hots = sym (side_cost-transfers Hot hot ts hot_indexes) ∙ int_sum_by-same (λ t. part_price hot t.hot *ℤ t.heat) (heat_of_utility 0 Hot hot) ts (λ k d within. hot_cost (get_or ts k d) (hot_indexes k d within)) in
-      let colds = sym (side_cost-transfers Cold cold ts cold_indexes) ∙ int_sum_by-zero (λ t. part_price cold t.cold *ℤ t.heat) ts (λ k d within. cold_cost (get_or ts k d) (cold_indexes k d within)) in
+      let hots = sym (side_cost-transfers Hot hot ts hot_indexes) ∙ int_sum_by-same (λ t. part_price hot t.hot *ℤ t.heat) (heat_of_utility 0 Hot hot) ts
+      (λ k d within. hot_cost (get_or ts k d) (hot_indexes k d within)) in
+      let colds = sym (side_cost-transfers Cold cold ts cold_indexes)
+      ∙ int_sum_by-zero (λ t. part_price cold t.cold *ℤ t.heat) ts (λ k d within. cold_cost (get_or ts k d) (cold_indexes k d within)) in
       ap₂ ◌+ℤ◌ hots colds ∙ omega (arith, ints)
 
 -- so the least cost is the least boiler heat
@@ -80,7 +57,10 @@ pub least_boiler : (site : Site) (parts : Parts) (answer : Answer) → AreSitePa
     → IfLeast answer (λ flow prices cost. IsLeastCost (reach_between site parts.hot parts.cold) parts.hot parts.cold cost)
     → IfLeast answer (λ flow prices cost. IsLeastBoiler site parts flow.transfers cost)
 least_boiler site parts (Least flow prices cost) are certified least =
-    let cost_of_flow = λ (ts : List Transfer) (is : IsHeatFlow (reach_between site parts.hot parts.cold) parts.hot parts.cold ts). cost_is site parts.hot parts.cold are ts is.hot_indexes is.cold_indexes in
+    let cost_of_flow =
+    λ (ts : List Transfer)
+    (is : IsHeatFlow
+    (reach_between site parts.hot parts.cold) parts.hot parts.cold ts). cost_is site parts.hot parts.cold are ts is.hot_indexes is.cold_indexes in
     let own : boiler_heat parts flow.transfers ≡ cost = sym (cost_of_flow flow.transfers certified.flow) ∙ certified.costs in
     record {
       gives = own;

@@ -29,8 +29,10 @@ pub fn run_arguments<R: Threads + Sync, S: Shelf, K: Sink>(
 ) -> ExitCode
     ensures ends { Ends (command_of (words_of texts)) (S.state shelf.old) (S.state shelf.new)
         (K.written sink.old) (K.written sink.new) (exit_status result) }
-    ensures write_fault { exit_status result ≡ number_of WriteFault → Rose (K.faults sink.old) (K.faults sink.new) }
-    ensures memory { IfErr texts (λ error. error_kind error ≡ ErrorKind.OutOfMemory → exit_status result ≡ number_of OutOfMemory) }
+    ensures write_fault { exit_status result ≡ number_of WriteFault
+        → Rose (K.faults sink.old) (K.faults sink.new) }
+    ensures memory { IfErr texts (λ error. error_kind error ≡ ErrorKind.OutOfMemory
+        → exit_status result ≡ number_of OutOfMemory) }
 {
     let Ok(words) = collect_words(alloc, texts) else {
         return ExitCode::from(Status::OutOfMemory.number());

@@ -33,8 +33,10 @@ fn take_file<S: Shelf>(
     role: FileRole,
     name: &Word,
 ) -> Result<Vec<u8>, Stop>
-    ensures whole { IfOk result (λ bytes. IsWhole name.now (S.state shelf.old) (S.state shelf.new) bytes.items) }
-    ensures stop { IfErr result (λ stop. IfEarly stop (NoFile role name.now (S.state shelf.old) (S.state shelf.new))) }
+    ensures whole { IfOk result
+        (λ bytes. IsWhole name.now (S.state shelf.old) (S.state shelf.new) bytes.items) }
+    ensures stop { IfErr result
+        (λ stop. IfEarly stop (NoFile role name.now (S.state shelf.old) (S.state shelf.new))) }
     ensures keeps { KeepsFiles (S.state shelf.old) (S.state shelf.new) }
 {
     match take_all(alloc, shelf, name.as_str()) {
@@ -47,9 +49,11 @@ fn take_file<S: Shelf>(
 
 /// The case of a case file.
 pub fn take_case<S: Shelf>(alloc: Global, shelf: &mut S, name: &Word) -> Result<Case, Stop>
-    ensures case { IfOk result (ReadsText case_file name.now (S.state shelf.old) (S.state shelf.new)) }
+    ensures case { IfOk result
+        (ReadsText case_file name.now (S.state shelf.old) (S.state shelf.new)) }
     ensures valid { IfOk result IsValid }
-    ensures stop { IfErr result (λ stop. IfEarly stop (NoText case_file name.now (S.state shelf.old) (S.state shelf.new))) }
+    ensures stop { IfErr result
+        (λ stop. IfEarly stop (NoText case_file name.now (S.state shelf.old) (S.state shelf.new))) }
 {
     let bytes = take_file(alloc, shelf, FileRole::Case, name)?;
     match read_case(alloc, &bytes) {
@@ -61,9 +65,11 @@ pub fn take_case<S: Shelf>(alloc: Global, shelf: &mut S, name: &Word) -> Result<
 
 /// The site of a site file.
 pub fn take_site<S: Shelf>(alloc: Global, shelf: &mut S, name: &Word) -> Result<Site, Stop>
-    ensures site { IfOk result (ReadsText site_file name.now (S.state shelf.old) (S.state shelf.new)) }
+    ensures site { IfOk result
+        (ReadsText site_file name.now (S.state shelf.old) (S.state shelf.new)) }
     ensures valid { IfOk result IsValidSite }
-    ensures stop { IfErr result (λ stop. IfEarly stop (NoText site_file name.now (S.state shelf.old) (S.state shelf.new))) }
+    ensures stop { IfErr result
+        (λ stop. IfEarly stop (NoText site_file name.now (S.state shelf.old) (S.state shelf.new))) }
 {
     let bytes = take_file(alloc, shelf, FileRole::Site, name)?;
     match read_site(alloc, &bytes) {
@@ -81,9 +87,11 @@ pub fn take_network<S: Shelf>(
     name: &Word,
 ) -> Result<Network, Stop>
     requires { IsComplete case.now }
-    ensures network { IfOk result (ReadsText (network_file case.now) name.now (S.state shelf.old) (S.state shelf.new)) }
+    ensures network { IfOk result
+        (ReadsText (network_file case.now) name.now (S.state shelf.old) (S.state shelf.new)) }
     ensures shape { IfOk result (HasShape case.now) }
-    ensures stop { IfErr result (λ stop. IfEarly stop (NoText (network_file case.now) name.now (S.state shelf.old) (S.state shelf.new))) }
+    ensures stop { IfErr result (λ stop. IfEarly stop
+        (NoText (network_file case.now) name.now (S.state shelf.old) (S.state shelf.new))) }
 {
     let bytes = take_file(alloc, shelf, FileRole::Network, name)?;
     match read_network(alloc, case, &bytes) {

@@ -117,7 +117,8 @@ fn request_task<S: Shelf>(
     requires { CanDo task }
     ensures request { IfOk result IsRequest }
     ensures reads { IfEnd result
-        (EndsIn (reading_of (Some (OfCase case.now task))) (S.state shelf.old) (S.state shelf.new)) }
+        (EndsIn (reading_of (Some (OfCase case.now task))) (S.state shelf.old)
+        (S.state shelf.new)) }
 {
     let case = take_case(alloc, shelf, case)?;
     Ok(Request::OfCase { case, task })
@@ -150,7 +151,8 @@ fn request_audit<S: Shelf>(
 ) -> Result<Request, Stop>
     ensures request { IfOk result IsRequest }
     ensures reads { IfEnd result
-        (EndsIn (reading_of (Some (Audit case.now network.now))) (S.state shelf.old) (S.state shelf.new)) }
+        (EndsIn (reading_of (Some (Audit case.now network.now))) (S.state shelf.old)
+        (S.state shelf.new)) }
 {
     let given = take_case(alloc, shelf, case)?;
     let case = complete(alloc, &given)?;

@@ -62,7 +62,8 @@ impl<R: Files> Shelf for FileShelf<'_, R> {
     ghost told_together = { λ _. record { left = refl; asked = λ _. refl } };
 
     fn start(&mut self, name: &str) -> Result<(), ShelfFault>
-        ensures told { let state = ⟦<Self as Shelf>⟧.state in Starts name.now (state self.old) (state self.new) result }
+        ensures told { let state = ⟦<Self as Shelf>⟧.state in
+            Starts name.now (state self.old) (state self.new) result }
         ensures counted { let state = ⟦<Self as Shelf>⟧.state in
             (state self.new).faults ≡ faults_after (state self.old).faults result }
     {
@@ -80,7 +81,8 @@ impl<R: Files> Shelf for FileShelf<'_, R> {
     fn take(&mut self, buf: &mut [u8]) -> Result<usize, ShelfFault>
         requires begun { (⟦<Self as Shelf>⟧.state self.old).begun ≡ true }
         requires room { (⟦<Self as Shelf>⟧.state self.old).taken + length buf.old ≤ 2 ^ 63 - 1 }
-        ensures told { let state = ⟦<Self as Shelf>⟧.state in Takes (state self.old) (state self.new) buf.new result }
+        ensures told { let state = ⟦<Self as Shelf>⟧.state in
+            Takes (state self.old) (state self.new) buf.new result }
         ensures counted { let state = ⟦<Self as Shelf>⟧.state in
             (state self.new).faults ≡ faults_after (state self.old).faults result }
     {
@@ -125,7 +127,8 @@ impl<R: Print> Sink for OutSink<'_, R> {
         ensures count { WritesSome result bytes.now }
         ensures written { let written = ⟦<Self as Sink>⟧.written in
             WriteAppends (written self.old) (written self.new) result bytes.now }
-        ensures cause { let faults = ⟦<Self as Sink>⟧.faults in HasCause (faults self.old) (faults self.new) result }
+        ensures cause { let faults = ⟦<Self as Sink>⟧.faults in
+            HasCause (faults self.old) (faults self.new) result }
         ensures counted { let faults = ⟦<Self as Sink>⟧.faults in
             faults self.new ≡ faults_after (faults self.old) result }
     {

@@ -122,7 +122,8 @@ impl Shelf for MemoryShelf {
         requires { self.old.pos + length buf.old ≤ 2 ^ 63 - 1 }
         ensures outcome { is_err result ≡ is_failing self.old.fails.items self.new.calls }
         ensures count { IfOk result (λ n. n
-            ≡ min (length buf.old) (length (bytes_from self.old.files.items self.old.at self.old.pos))) }
+            ≡ min (length buf.old)
+            (length (bytes_from self.old.files.items self.old.at self.old.pos))) }
         ensures after { self.new ≡ record self.old {
           pos = self.old.pos + put_count result;
           failed = is_err result;

@@ -64,7 +64,8 @@ impl Sink for MemorySink {
         ensures outcome { is_ok result ≡ (not (is_failing self.old.fails.items self.new.calls)
             && nat_lt (vec_len self.old.written) self.old.room) }
         ensures exact_count { IfOk result (λ n. n
-            ≡ min (min self.old.piece (length bytes.now)) (self.old.room - vec_len self.old.written)) }
+            ≡ min (min self.old.piece (length bytes.now))
+            (self.old.room - vec_len self.old.written)) }
         ensures calls { self.new.calls ≡ counted self.old.calls }
         ensures faults { self.new.faults ≡ faults_after self.old.faults result }
         ensures room { self.new.room ≡ self.old.room }
@@ -73,7 +74,8 @@ impl Sink for MemorySink {
 
         // What every sink promises.
         ensures count { WritesSome result bytes.now }
-        ensures written { WriteAppends (Some self.old.written.items) (Some self.new.written.items) result bytes.now }
+        ensures written { WriteAppends (Some self.old.written.items)
+            (Some self.new.written.items) result bytes.now }
         ensures cause { HasCause self.old.faults self.new.faults result }
     {
         let fails = count_call(&mut self.calls, &self.fails);

@@ -56,11 +56,14 @@ impl From<ShelfFault> for TakeFault {
 /// Starts a file and takes it to its end. It answers `Long` exactly where one byte above the limit was taken, and
 /// `Fault` only where the shelf counted a fault at this file.
 pub fn take_all<S: Shelf>(alloc: Global, shelf: &mut S, name: &str) -> Result<Vec<u8>, TakeFault>
-    ensures whole { IfOk result (λ bytes. IsWhole name.now (S.state shelf.old) (S.state shelf.new) bytes.items) }
+    ensures whole { IfOk result
+        (λ bytes. IsWhole name.now (S.state shelf.old) (S.state shelf.new) bytes.items) }
     ensures long { (result ≡ Err TakeFault.Long) ↔ ((S.state shelf.new).taken ≡ MAX_FILE + 1) }
-    ensures long_file { IsErrOf result TakeFault.Long → IsTooLong name.now (S.state shelf.old) (S.state shelf.new) }
+    ensures long_file { IsErrOf result TakeFault.Long
+        → IsTooLong name.now (S.state shelf.old) (S.state shelf.new) }
     ensures failed { (result ≡ Err TakeFault.Fault) ↔ ((S.state shelf.new).failed ≡ true) }
-    ensures fault { IsErrOf result TakeFault.Fault → HasFailed name.now (S.state shelf.old) (S.state shelf.new) }
+    ensures fault { IsErrOf result TakeFault.Fault
+        → HasFailed name.now (S.state shelf.old) (S.state shelf.new) }
 
     // It never takes more than one byte above the limit.
     ensures most { (S.state shelf.new).taken ≤ MAX_FILE + 1 }

@@ -1,26 +1,12 @@
 -- The places of a valid site, and the levels of its utilities.
-use Rattle.std.proofs.Common.{◌≡◌, ◌∙◌, append_assoc, ℕ, ◌+◌, ◌*◌, ◌<◌, ◌≤◌, ⊎_elim, List, [], ◌∷◌, ◌++◌, length, get_or, take, map, refl, sym, ap, subst, arith}
-use Rattle.std.specs.Prelude.{ℤ, ◌-ℤ◌, All, Contains}
-use Rattle.std.proofs.lemmas.Int.{ints}
-use Rattle.std.proofs.lemmas.List.{length-append, length-map, take_more}
-use Rattle.std.proofs.lemmas.List.Elements.{All-append, All-cons, All-contains, All-head, All-nil, All-tail, Contains-append_left, Contains-append_right, Contains-get_or}
-use Rattle.stream_case.specs.Case.{greatest, least}
-use Rattle.stream_case.specs.Limits.{IsContribution, IsShifted, IsTemperature}
-use Rattle.stream_case.specs.Stream.{stream_ends}
-use Rattle.stream_case.specs.Utility.{IsPlaced, shifted_level}
-use Rattle.stream_case.specs.declared.limits.TheConstants.{MOST_PLACES}
-use Rattle.stream_case.specs.declared.source.Side.TheVariants.{Cold, Hot}
-use Rattle.stream_case.proofs.CaseLemmas.{length-AreStreams}
-use Rattle.stream_case.proofs.EndLemmas.{length-stream_ends, stream_ends-between}
-use Rattle.sums.proofs.CountLemmas.{length-le_falling}
-use Rattle.sums.proofs.OrderLemmas.{Contains-cons}
-use Rattle.problem_table.proofs.EndLemmas.{IsOutermost-outermost}
-use Rattle.grid.specs.Grid.{HoldsPlaces}
-use Rattle.plants.specs.Site.{IsValidSite, streams_of}
-use Rattle.plants.specs.Table.{IsSiteGrid, boiler, cooling, gives_at, main_places, site_places, site_utilities, takes_at}
-use Rattle.plants.specs.declared.site.Main.{Main}
-use Rattle.plants.specs.declared.site.Site.{Site}
+use Rattle.plants.proofs.Words.{All, All-cons, All-nil, Cold, Contains, Contains-cons, HoldsPlaces, Hot, IsContribution, IsOutermost-outermost, IsPlaced}
+use Rattle.plants.proofs.Words.{IsShifted, IsSiteGrid, IsTemperature, IsValidSite, MOST_PLACES, Main, Site, boiler, cooling, gives_at, greatest, ints, least}
+use Rattle.plants.proofs.Words.{length-AreStreams, length-append, length-le_falling, length-map, length-stream_ends, main_places, shifted_level, site_places}
+use Rattle.plants.proofs.Words.{site_utilities, stream_ends, stream_ends-between, streams_of, take_more, takes_at, ℤ, ◌-ℤ◌}
 use Rattle.plants.proofs.SiteLemmas.{AreStreams-site}
+use Rattle.std.proofs.Common.{List, [], ap, append_assoc, arith, get_or, length, map, refl, subst, sym, take, ℕ, ⊎_elim, ◌*◌, ◌++◌, ◌+◌, ◌<◌, ◌∙◌, ◌∷◌, ◌≡◌}
+use Rattle.std.proofs.Common.{◌≤◌}
+use Rattle.std.proofs.lemmas.List.Elements.{All-append, All-contains, All-head, All-tail, Contains-append_left, Contains-append_right, Contains-get_or}
 
 -- ---- the places of mains
 
@@ -29,7 +15,8 @@ main_places-append c [] ys = refl
 main_places-append c (x ∷ xs) ys = ap (λ places. takes_at c x ∷ gives_at c x ∷ places) (main_places-append c xs ys)
 
 -- a loop's step
-pub main_places-more : (c : ℤ) (mains : List Main) (i : ℕ) (main : Main) → i < length mains → main ≡ get_or mains i main → main_places c (take (i + 1) mains) ≡ main_places c (take i mains) ++ takes_at c main ∷ gives_at c main ∷ []
+pub main_places-more : (c : ℤ) (mains : List Main) (i : ℕ) (main : Main) → i < length mains → main ≡ get_or mains i main
+    → main_places c (take (i + 1) mains) ≡ main_places c (take i mains) ++ takes_at c main ∷ gives_at c main ∷ []
 main_places-more c mains i main within is =
     ap (main_places c) (take_more mains i main within ∙ ap (λ m. take i mains ++ m ∷ []) (sym is)) ∙ main_places-append c (take i mains) (main ∷ [])
 
@@ -63,10 +50,17 @@ gives_at-place c (m ∷ ms) level found =
 
 pub site_places-between : (site : Site) → IsValidSite site → All IsShifted (site_places site)
 site_places-between site valid =
-    All-append IsShifted (stream_ends (streams_of site.plants)) (main_places site.contribution site.mains) (stream_ends-between (streams_of site.plants) valid.streams.each) (main_places-between site.contribution site.mains valid.contribution valid.mains.levels)
+    All-append IsShifted (stream_ends (streams_of site.plants)) (main_places site.contribution site.mains)
+    (stream_ends-between (streams_of site.plants) valid.streams.each) (main_places-between site.contribution site.mains valid.contribution valid.mains.levels)
 
 pub length-site_places : (site : Site) → length (site_places site) ≡ 2 * length (streams_of site.plants) + 2 * length site.mains
-length-site_places site = omega (arith, length-append (stream_ends (streams_of site.plants)) (main_places site.contribution site.mains), length-stream_ends (streams_of site.plants), length-main_places site.contribution site.mains)
+length-site_places site =
+    omega (
+      arith,
+      length-append (stream_ends (streams_of site.plants)) (main_places site.contribution site.mains),
+      length-stream_ends (streams_of site.plants),
+      length-main_places site.contribution site.mains,
+    )
 
 pub some_place : (site : Site) → IsValidSite site → 0 < length (site_places site)
 some_place site valid = omega (arith, length-site_places site, valid.mains.some)
@@ -83,7 +77,8 @@ boiler_place : (site : Site) → IsValidSite site → Contains (site_places site
 boiler_place site valid =
     let levels = map (λ (m : Main). m.level) site.mains in
     let highest = IsOutermost-outermost Hot levels (rw length-map valid.mains.some) in
-    Contains-append_right (stream_ends (streams_of site.plants)) (main_places site.contribution site.mains) (shifted_level (boiler site)) (gives_at-place site.contribution site.mains (greatest levels) highest.member)
+    Contains-append_right (stream_ends (streams_of site.plants)) (main_places site.contribution site.mains) (shifted_level (boiler site))
+    (gives_at-place site.contribution site.mains (greatest levels) highest.member)
 
 cooling_level : (site : Site) → shifted_level (cooling site) ≡ least (site_places site)
 cooling_level site = omega (arith, ints)
@@ -112,15 +107,26 @@ utilities-placed site valid =
 
 pub length-grid : (site : Site) (places : List ℤ) → IsValidSite site → IsSiteGrid site places → length places ≤ MOST_PLACES
 length-grid site places valid grid =
-    omega (arith, length-le_falling places (site_places site) grid.ordered grid.each, length-site_places site, length-AreStreams (streams_of site.plants) (AreStreams-site site valid), valid.mains.few)
+    omega (
+      arith,
+      length-le_falling places (site_places site) grid.ordered grid.each,
+      length-site_places site,
+      length-AreStreams (streams_of site.plants) (AreStreams-site site valid),
+      valid.mains.few,
+    )
 
-pub HoldsPlaces-grid : (site : Site) (places : List ℤ) → IsValidSite site → IsSiteGrid site places → HoldsPlaces (streams_of site.plants) (site_utilities site) places
+pub HoldsPlaces-grid : (site : Site) (places : List ℤ) → IsValidSite site → IsSiteGrid site places
+    → HoldsPlaces (streams_of site.plants) (site_utilities site) places
 HoldsPlaces-grid site places valid grid =
     let ends : All (Contains places) (stream_ends (streams_of site.plants)) =
-    λ k d within. grid.every (get_or (stream_ends (streams_of site.plants)) k d) (Contains-append_left (stream_ends (streams_of site.plants)) (main_places site.contribution site.mains) (get_or (stream_ends (streams_of site.plants)) k d) (Contains-get_or (stream_ends (streams_of site.plants)) k d within)) in
+    λ k d within. grid.every (get_or (stream_ends (streams_of site.plants)) k d)
+    (Contains-append_left (stream_ends (streams_of site.plants)) (main_places site.contribution site.mains) (get_or (stream_ends (streams_of site.plants)) k d)
+    (Contains-get_or (stream_ends (streams_of site.plants)) k d within)) in
     let first = grid.every (shifted_level (boiler site)) (boiler_place site valid) in
     let second = subst (Contains places) (sym (cooling_level site)) (grid.every (least (site_places site)) (lowest_place site valid)) in
     record {
       falls = grid.ordered;
-      holds = All-append (Contains places) (stream_ends (streams_of site.plants)) (map shifted_level (site_utilities site)) ends (All-cons (Contains places) (shifted_level (boiler site)) (shifted_level (cooling site) ∷ []) first (All-cons (Contains places) (shifted_level (cooling site)) [] second (All-nil (Contains places))));
+      holds = All-append (Contains places) (stream_ends (streams_of site.plants)) (map shifted_level (site_utilities site)) ends
+          (All-cons (Contains places) (shifted_level (boiler site)) (shifted_level (cooling site) ∷ []) first
+          (All-cons (Contains places) (shifted_level (cooling site)) [] second (All-nil (Contains places))));
     }

@@ -1,39 +1,27 @@
 -- The streams of a valid site, and those of each of its plants.
-use Rattle.std.proofs.Common.{◌≡◌, ◌∙◌, ℕ, ◌+◌, ◌<◌, cond, List, [], ◌∷◌, ◌++◌, length, get_or, take, sym, ap, arith}
-use Rattle.std.specs.Prelude.{All}
+use Rattle.plants.proofs.Words.{All, All-cons, All-drop, All-nil, All-take, ArePlantStreams, AreStreams, IsSensible, IsValidSite, IsValidStream, Plant, Site}
+use Rattle.plants.proofs.Words.{Stream, append-nil, count_on-append, flat_map-append, stream_ends, stream_ends-append, streams_of, take_more}
+use Rattle.std.proofs.Common.{List, [], ap, arith, get_or, length, sym, take, ℕ, ◌++◌, ◌+◌, ◌<◌, ◌∙◌, ◌∷◌, ◌≡◌}
 use Rattle.std.proofs.Math.Seq.{drop-append_seam, take-append_seam}
-use Rattle.std.proofs.lemmas.List.{take_more}
-use Rattle.std.proofs.lemmas.List.Concat.{flat_map-append}
-use Rattle.std.proofs.lemmas.List.{append-nil}
-use Rattle.std.proofs.lemmas.List.Elements.{All-cons, All-drop, All-nil, All-take}
-use Rattle.std.proofs.lemmas.List.Sums.{sum_by-append}
-use Rattle.stream_case.specs.Source.{same_side}
-use Rattle.stream_case.specs.Stream.{AreStreams, IsSensible, IsValidStream, count_on, stream_ends}
-use Rattle.stream_case.specs.declared.source.Side.{Side}
-use Rattle.stream_case.specs.declared.stream.Stream.{Stream}
-use Rattle.stream_case.proofs.EndLemmas.{stream_ends-append}
-use Rattle.plants.specs.Site.{ArePlantStreams, IsValidSite, streams_of}
-use Rattle.plants.specs.declared.site.Plant.{Plant}
-use Rattle.plants.specs.declared.site.Site.{Site}
 
 -- ---- a plant more
 
-pub streams_of-more : (plants : List Plant) (i : ℕ) (plant : Plant) → i < length plants → plant ≡ get_or plants i plant → streams_of (take (i + 1) plants) ≡ streams_of (take i plants) ++ plant.streams
+pub streams_of-more : (plants : List Plant) (i : ℕ) (plant : Plant) → i < length plants → plant ≡ get_or plants i plant
+    → streams_of (take (i + 1) plants) ≡ streams_of (take i plants) ++ plant.streams
 streams_of-more plants i plant within is =
     ap streams_of (take_more plants i plant within ∙ ap (λ p. take i plants ++ p ∷ []) (sym is))
     ∙ flat_map-append (λ (p : Plant). p.streams) (take i plants) (plant ∷ [])
     ∙ ap (λ ss. streams_of (take i plants) ++ ss) (append-nil plant.streams)
 
-pub ends_of-more : (plants : List Plant) (i : ℕ) (plant : Plant) → i < length plants → plant ≡ get_or plants i plant → stream_ends (streams_of (take (i + 1) plants)) ≡ stream_ends (streams_of (take i plants)) ++ stream_ends plant.streams
-ends_of-more plants i plant within is = ap stream_ends (streams_of-more plants i plant within is) ∙ stream_ends-append (streams_of (take i plants)) plant.streams
+pub ends_of-more : (plants : List Plant) (i : ℕ) (plant : Plant) → i < length plants → plant ≡ get_or plants i plant
+    → stream_ends (streams_of (take (i + 1) plants)) ≡ stream_ends (streams_of (take i plants)) ++ stream_ends plant.streams
+ends_of-more plants i plant within is = ap stream_ends (streams_of-more plants i plant within is)
+    ∙ stream_ends-append (streams_of (take i plants)) plant.streams
 
 -- ---- valid streams
 
 pub AreStreams-site : (site : Site) → IsValidSite site → AreStreams (streams_of site.plants)
 AreStreams-site site valid = record { each = valid.streams.each; few = λ side. omega (arith, valid.streams.few side) }
-
-count_on-append : (side : Side) (xs ys : List Stream) → count_on side (xs ++ ys) ≡ count_on side xs + count_on side ys
-count_on-append side xs ys = sum_by-append (λ (s : Stream). cond (same_side s.side side) 1 0) xs ys
 
 AreStreams-front : (xs ys : List Stream) → AreStreams (xs ++ ys) → AreStreams xs
 AreStreams-front xs ys h = record {
@@ -50,7 +38,8 @@ AreStreams-back xs ys h = record {
 AreStreams-plants : (plants : List Plant) → AreStreams (streams_of plants) → All (λ plant. AreStreams plant.streams) plants
 AreStreams-plants [] h = All-nil (λ (p : Plant). AreStreams p.streams)
 AreStreams-plants (plant ∷ plants) h =
-    All-cons (λ (p : Plant). AreStreams p.streams) plant plants (AreStreams-front plant.streams (streams_of plants) h) (AreStreams-plants plants (AreStreams-back plant.streams (streams_of plants) h))
+    All-cons (λ (p : Plant). AreStreams p.streams) plant plants (AreStreams-front plant.streams (streams_of plants) h)
+    (AreStreams-plants plants (AreStreams-back plant.streams (streams_of plants) h))
 
 -- what holds of the streams of plants holds of those of each
 pub All-plants : (P : Stream → Type 0) (plants : List Plant) → All P (streams_of plants) → All (λ plant. All P plant.streams) plants

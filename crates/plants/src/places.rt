@@ -41,7 +41,8 @@ pub fn gives_at(main: &Main, contribution: i32) -> i32
 fn push_mains(places: &mut Vec<i32>, mains: &[Main], contribution: i32) -> Result<(), AllocError>
     requires levels { All (λ main. IsTemperature main.level) mains.now }
     requires contribution { IsContribution contribution }
-    ensures { OnOk result (places.new.items ≡ places.old.items ++ main_places contribution mains.now) }
+    ensures { OnOk result
+        (places.new.items ≡ places.old.items ++ main_places contribution mains.now) }
 {
     for main in mains {
         places.push(takes_at(main, contribution))?;

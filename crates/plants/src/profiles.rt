@@ -91,7 +91,8 @@ fn raised_by_plants(
     requires streams { ArePlantStreams streams.now }
     requires so_far { IsPlantHeat so_far }
     requires plants { All IsValidStream (streams_of plants.now) }
-    ensures value { result ≡ fold (raised direction t streams.now) so_far (stream_ends (streams_of plants.now)) }
+    ensures value { result
+        ≡ fold (raised direction t streams.now) so_far (stream_ends (streams_of plants.now)) }
     ensures range { IsPlantHeat result }
 {
     let mut greatest = so_far;
@@ -114,7 +115,8 @@ fn raised_by_mains(
     requires so_far { IsPlantHeat so_far }
     requires levels { All (λ main. IsTemperature main.level) mains.now }
     requires contribution { IsContribution contribution }
-    ensures value { result ≡ fold (raised direction t streams.now) so_far (main_places contribution mains.now) }
+    ensures value { result
+        ≡ fold (raised direction t streams.now) so_far (main_places contribution mains.now) }
     ensures range { IsPlantHeat result }
 {
     let mut greatest = so_far;

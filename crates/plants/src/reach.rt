@@ -99,7 +99,8 @@ fn push_row(
     cold: &[Part],
 ) -> Result<(), AllocError>
     requires { IsValidSite site.now }
-    ensures { OnOk result (cells.new.items ≡ cells.old.items ++ map (reaches_within site.now plants.now hot.now) cold.now) }
+    ensures { OnOk result (cells.new.items
+        ≡ cells.old.items ++ map (reaches_within site.now plants.now hot.now) cold.now) }
 {
     for part in cold {
         cells.push(reaches_within(site, plants, hot, part))?;
@@ -116,7 +117,8 @@ pub fn reach_of(alloc: Global, site: &Site, parts: &Parts) -> Result<Reach, Allo
     requires { IsValidSite site.now }
     ensures hots { IfOk result (λ reach. reach.hots ≡ length parts.now.hot) }
     ensures colds { IfOk result (λ reach. reach.colds ≡ length parts.now.cold) }
-    ensures cells { IfOk result (λ reach. (a b : ℕ) → reaches reach a b ≡ reach_between site.now parts.now.hot parts.now.cold a b) }
+    ensures cells { IfOk result (λ reach. (a b : ℕ)
+        → reaches reach a b ≡ reach_between site.now parts.now.hot parts.now.cold a b) }
 {
     let indexes = stream_plants(alloc, site.plants.as_slice())?;
     let plants = indexes.as_slice();

@@ -36,10 +36,14 @@ pub struct SiteTable {
 pub fn site_parts(alloc: Global, site: &Site) -> Result<SiteTable, AllocError>
     requires { IsValidSite site.now }
     ensures places { IfOk result (λ table. IsSiteGrid site.now table.places) }
-    ensures hot { IfOk result (λ table. AreParts (streams_of site.now.plants) (site_utilities site.now) table.places Hot table.parts.hot) }
-    ensures cold { IfOk result (λ table. AreParts (streams_of site.now.plants) (site_utilities site.now) table.places Cold table.parts.cold) }
-    ensures sizes { IfOk result (λ table. HasSizes table.reach (length table.parts.hot) (length table.parts.cold)) }
-    ensures reach { IfOk result (λ table. (a b : ℕ) → reaches table.reach a b ≡ reach_between site.now table.parts.hot table.parts.cold a b) }
+    ensures hot { IfOk result (λ table. AreParts (streams_of site.now.plants)
+        (site_utilities site.now) table.places Hot table.parts.hot) }
+    ensures cold { IfOk result (λ table. AreParts (streams_of site.now.plants)
+        (site_utilities site.now) table.places Cold table.parts.cold) }
+    ensures sizes { IfOk result
+        (λ table. HasSizes table.reach (length table.parts.hot) (length table.parts.cold)) }
+    ensures reach { IfOk result (λ table. (a b : ℕ)
+        → reaches table.reach a b ≡ reach_between site.now table.parts.hot table.parts.cold a b) }
 {
     let streams = streams_of(alloc, site.plants.as_slice())?;
     let places = site_places(alloc, site, streams.as_slice())?;

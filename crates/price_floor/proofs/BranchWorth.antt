@@ -1,41 +1,16 @@
 -- What a branch is worth at step prices: additive in its size, changed at a pass by the share, and no more behind a mix.
-use Rattle.std.proofs.Common.{◌≡◌, ◌∙◌, inl, inr, ◌<◌, ℕ, ℤ, List, Option, Some, None, slice_get, length, refl, sym, ap, ap₂, subst, arith, All, option_map, unwrap_or}
-use mathlib.Core.Path.{subst₂}
-use Rattle.std.proofs.lemmas.Option.{same_Some}
-use Rattle.stream_case.specs.Case.{side_of}
-use Rattle.stream_case.specs.declared.case.Case.{Case}
-use Rattle.stream_case.specs.declared.source.Side.{Side}
-use Rattle.stream_case.specs.declared.source.Side.TheVariants as side
-use Rattle.stream_case.specs.declared.source.Source.{Source}
-use Rattle.stream_case.specs.declared.source.Source.TheVariants as source
-use Rattle.stream_case.specs.declared.stream.Stream.{Stream}
-use Rattle.fractions.specs.Rationals.{IsAtMost, Rational, minus, plus, rational_zero, times}
 use Rattle.fractions.proofs.Comparisons.{at_most_refl, not_negative-minus}
-use Rattle.fractions.proofs.Products.{plus-times, times-minus}
-use Rattle.fractions.proofs.Sums.{minus-interchange, minus-self, plus-zero, plus_comm}
-use Rattle.networks.specs.Lines.{Exchanger, exchangers_of, pass_of, stream_at, uses}
-use Rattle.networks.specs.Shape.{HasShape, IsOfOneStream, Joins}
-use Rattle.networks.specs.declared.network.Line.{Line}
-use Rattle.networks.specs.declared.network.Line.TheVariants as line
-use Rattle.networks.specs.declared.network.Network.{Network}
-use Rattle.networks.proofs.Lists.{all_at}
-use Rattle.networks.proofs.OfShape.{stream_within, the_pass_of, used_there}
-use Rattle.network_values.specs.Heights.{View, share_in}
-use Rattle.network_values.specs.OneScale.{shifted_run}
-use Rattle.network_values.specs.Penalties.{absorbed_heat, course_of, height_at, height_in, inlet_height, outlet_height, released_heat}
-use Rattle.network_values.specs.Values.{IsWholeValuation, Solves, Valuation, branch_side, change, duty_at, duty_of, value_at}
-use Rattle.network_values.specs.Weights.{IsAdditive, mix_loss, weight_at}
-use Rattle.network_values.specs.declared.values.BranchValue.{BranchValue}
-use Rattle.network_values.proofs.CourseLemmas.{height_on-additive, height_on-mixed}
-use Rattle.network_values.proofs.PassLemmas.{side_taken}
-use Rattle.network_values.proofs.ScaleLemmas.{branch_height, run_on_scale}
-use Rattle.network_values.proofs.WholeLemmas.{all_solved, branch_above, item_at}
-use Rattle.price_floor.specs.Steps.{FallTo, StepPrices, step_worth}
-use Rattle.price_floor.specs.Worths.{branch_worth, value_worth}
+use Rattle.price_floor.proofs.Words.{BranchValue, Case, Exchanger, FallTo, HasShape, IsAdditive, IsAtMost, IsOfOneStream, IsWholeValuation, Line, Network}
+use Rattle.price_floor.proofs.Words.{Rational, Side, Solves, Source, StepPrices, Stream, Valuation, View, absorbed_heat, branch_above, branch_height}
+use Rattle.price_floor.proofs.Words.{branch_worth, course_of, exchangers_of, height_at, height_in, height_on-additive, height_on-mixed, inlet_height, item_at}
+use Rattle.price_floor.proofs.Words.{minus, mix_loss, outlet_height, plus, plus-times, plus-zero, rational_zero, released_heat, run_of, run_on_scale, share_in}
+use Rattle.price_floor.proofs.Words.{shifted_run, side_of, side_taken, step_worth, stream_at, stream_within, subst₂, there_and_back, times, times-minus, uses}
+use Rattle.price_floor.proofs.Words.{value_at, value_worth, weight_at}
 use Rattle.price_floor.proofs.StepLemmas.{step_worth-at_most, step_worth-minus, step_worth-plus, step_worth-same}
-
-there_and_back : (a b : Rational) → plus (minus b a) (minus a b) ≡ rational_zero
-there_and_back a b = sym (minus-interchange b a a b) ∙ ap (minus (plus b a)) (plus_comm a b) ∙ minus-self (plus b a)
+use Rattle.std.proofs.Common.{All, List, None, Option, Some, ap, ap₂, arith, inl, inr, length, refl, slice_get, sym, ℕ, ℤ, ◌<◌, ◌∙◌, ◌≡◌}
+use Rattle.networks.specs.declared.network.Line.TheVariants as line
+use Rattle.stream_case.specs.declared.source.Side.TheVariants as side
+use Rattle.stream_case.specs.declared.source.Source.TheVariants as source
 
 module _ (case : Case) (least : ℤ) (views : List View) (prices : Side → Source → StepPrices) where
   pub branch_worth-additive : IsAdditive (branch_worth case least views prices)
@@ -106,45 +81,6 @@ module _ (case : Case) (least : ℤ) (views : List View) (prices : Side → Sour
     abbrev pub side_worth : Side → ℕ → Rational → Source → Rational
     side_worth on number duty s = step_worth least views (prices on s) duty (λ v. share_in v duty (shifted_run on case network values number s))
 
-    -- the pass of a stream on a side of an exchanger
-    record IsPassBy (number i : ℕ) (on : Side) (duty : Rational) (s : Stream) (from to : ℕ) : Type 0 where
-      at : slice_get case.streams i ≡ Some s
-      is_on : s.side ≡ on
-      of_from : stream_at network.branches from ≡ i
-      of_to : stream_at network.branches to ≡ i
-      found : pass_of network number i ≡ Some (line.Pass from number to)
-      size : (branch to).cp ≡ (branch from).cp
-      heat : times (branch from).cp (change on (branch from).t (branch to).t) ≡ duty
-
-    pass_by : (number i : ℕ) (e : Exchanger) (on : Side) → slice_get (exchangers_of network.lines) number ≡ Some e → Joins e i
-        → side_of case (source.Stream i) ≡ Some on → (s : Stream) × (from : ℕ) × (to : ℕ) × IsPassBy number i on e.duty s from to
-    unfolding branch_side duty_at
-    pass_by number i e on at joins is =
-        let (from, to, index, pass) = the_pass_of shape number i e at joins in
-        let l = line.Pass from number to in
-        let used = all_at (λ x. All (λ b. b < length network.branches) (uses x)) network.lines index l
-        (used_there shape.made_once shape.made_first) pass.here in
-        let within = subst (λ n. n < length case.streams) pass.of_stream (stream_within shape from (used 0 0 (omega arith))) in
-        let (s, of_case) = item_at case.streams i within in
-        let solves = all_at (Solves case network values) network.lines index l (all_solved whole_values) pass.here in
-        let one = all_at (IsOfOneStream network.branches) network.lines index l shape.one_stream pass.here in
-        let of_side : branch_side case network from ≡ on =
-        ap (λ n. unwrap_or (side_of case (source.Stream n)) side.Hot) pass.of_stream ∙ ap (λ o. unwrap_or o side.Hot) is in
-        let duty : duty_at network number ≡ e.duty = ap duty_of at in (
-          s,
-          from,
-          to,
-          record {
-            at = of_case;
-            is_on = same_Some s.side on (sym (ap (option_map (λ t. t.side)) of_case) ∙ is);
-            of_from = pass.of_stream;
-            of_to = one ∙ pass.of_stream;
-            found = pass.found;
-            size = solves.size;
-            heat = ap (λ o. times (branch from).cp (change o (branch from).t (branch to).t)) (sym of_side) ∙ solves.heat ∙ duty;
-          },
-        )
-
     -- two branches of a stream differ by what the difference of their heat is worth
     worth-between : (i : ℕ) (s : Stream) (on : Side) (high low : ℕ) (duty : Rational) (taken : View → Rational) → slice_get case.streams i ≡ Some s
         → s.side ≡ on → stream_at network.branches high ≡ i → stream_at network.branches low ≡ i
@@ -162,7 +98,7 @@ module _ (case : Case) (least : ℤ) (views : List View) (prices : Side → Sour
         → side_of case (source.Stream i) ≡ Some side.Hot
         → side_taken worth network number (source.Stream i) ≡ side_worth side.Hot number e.duty (source.Stream i)
     hot_taken number i e at is on =
-        let (s, from, to, pass) = pass_by number i e side.Hot at (inl is) on in
+        let (s, from, to, pass) = run_of shape whole_values number i e side.Hot at (inl is) on in
         let runs = run_on_scale shape whole_values number e at in
         let gives = ap (λ size. minus (heat from) (times size (branch to).t)) pass.size
         ∙ sym (times-minus (branch from).cp (branch from).t (branch to).t) ∙ pass.heat in
@@ -177,7 +113,7 @@ module _ (case : Case) (least : ℤ) (views : List View) (prices : Side → Sour
         → side_of case (source.Stream i) ≡ Some side.Cold
         → plus (side_worth side.Cold number e.duty (source.Stream i)) (side_taken worth network number (source.Stream i)) ≡ rational_zero
     cold_taken number i e at is on =
-        let (s, from, to, pass) = pass_by number i e side.Cold at (inr is) on in
+        let (s, from, to, pass) = run_of shape whole_values number i e side.Cold at (inr is) on in
         let runs = run_on_scale shape whole_values number e at in
         let gives = ap (λ size. minus (times size (branch to).t) (heat from)) pass.size
         ∙ sym (times-minus (branch from).cp (branch to).t (branch from).t) ∙ pass.heat in

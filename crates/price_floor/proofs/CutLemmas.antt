@@ -1,36 +1,17 @@
 -- Beside a valid network no cut stands: its members would have to use more than the parts that meet them can.
-use Rattle.std.proofs.Common.{◌≡◌, ◌∙◌, ⊎_elim, ◌<◌, ◌==◌, ℕ, Bool, true, false, Option, Some, None, List, All, get_or, length, map, slice_get, refl, sym, ap, subst, subst₂, arith, if◌then◌else◌}
-use Rattle.std.specs.Prelude.{ℤ, pos, ◌-ℤ◌, ◌≤ℤ◌, ◌<ℤ◌, AllPairs}
-use Rattle.std.specs.List.{enumerate_from, list_any, range_with_len}
-use Rattle.std.specs.Option.{option_map_or}
-use Rattle.std.proofs.lemmas.Bool.{cases_lt, eqb-true}
-use Rattle.std.proofs.lemmas.Int.{ints}
-use Rattle.std.proofs.lemmas.List.Folds.{Any-from_list_any, list_any-from_Any}
-use Rattle.std.proofs.lemmas.List.FromFn.{get_or-map-range_with_len}
-use Rattle.std.proofs.lemmas.Option.{slice_get_past, slice_get_within}
-use Rattle.stream_case.specs.Case.{IsComplete}
-use Rattle.stream_case.specs.declared.case.Case.{Case}
-use Rattle.stream_case.specs.declared.source.Side.{Side}
-use Rattle.stream_case.specs.declared.source.Side.TheVariants as side
-use Rattle.sums.specs.Sum.{int_sum_by}
-use Rattle.sums.proofs.EnumerationLemmas.{All-enumerated}
-use Rattle.fractions.specs.Rationals.{IsAtMost, Rational, minus, rational_sum_by, rational_zero, times, whole}
 use Rattle.fractions.proofs.Comparisons.{at_most_from_minus_turned, at_most_from_same, at_most_trans}
-use Rattle.fractions.proofs.Products.{times-one, times_comm, zero-times}
-use Rattle.fractions.proofs.RationalSums.{at_most-rational_sum_by, left_of, rational_sum_by-minus, rational_sum_by-same, rational_sum_by-whole, rational_sum_by-zero, sum-enumerate, sum-enumerated, sum_over_used}
-use Rattle.fractions.proofs.Sums.{minus-plus, minus-self, minus-zero}
-use Rattle.fractions.proofs.Wholes.{whole-minus}
-use Rattle.grid.specs.declared.part.Part.{Part}
-use Rattle.grid.specs.Part.{AreCaseParts}
+use Rattle.price_floor.proofs.Words.{All-enumerated, AllPairs, Any-from_list_any, AreCaseParts, Case, HasShape, IsAtMost, IsComplete, IsSupporting}
+use Rattle.price_floor.proofs.Words.{IsValidNetwork, Network, NoCutStands, Part, Rational, Side, UsesAreOrdered, at_most-rational_sum_by, both_reach, cases_lt}
+use Rattle.price_floor.proofs.Words.{enumerate_from, eqb-true, get_or-map-range_with_len, int_sum_by, ints, left_of, list_any, list_any-from_Any, minus}
+use Rattle.price_floor.proofs.Words.{minus-plus, minus-self, minus-zero, option_map_or, pos, price_at, range_with_len, rational_sum_by, rational_sum_by-minus}
+use Rattle.price_floor.proofs.Words.{rational_sum_by-same, rational_sum_by-whole, rational_sum_by-zero, rational_zero, reach_between, slice_get_past}
+use Rattle.price_floor.proofs.Words.{slice_get_within, sum-enumerate, sum-enumerated, sum_over_used, times, times-one, times_comm, use_worth, used_heat, whole}
+use Rattle.price_floor.proofs.Words.{whole-minus, worth_of_uses, zero-times, ℤ, ◌-ℤ◌, ◌<ℤ◌, ◌≤ℤ◌}
 use Rattle.heat_flow.specs.Cuts.{cut_side, joins, least_at, meets, need_of, offer_of, opposite, parts_of}
-use Rattle.heat_flow.specs.Prices.{IsSupporting, price_at}
-use Rattle.heat_flow.specs.Reach.{both_reach, reach_between}
-use Rattle.networks.specs.Shape.{HasShape}
-use Rattle.networks.specs.declared.network.Network.{Network}
-use Rattle.network_audit.specs.Valid.{IsValidNetwork}
-use Rattle.price_floor.specs.Floor.{NoCutStands}
-use Rattle.price_floor.specs.Uses.{UsesAreOrdered, use_worth, used_heat, worth_of_uses}
 use Rattle.price_floor.proofs.FloorLemmas.{IsUsedWithin, minus-times, uses-within, whole-int_sum_from}
+use Rattle.std.proofs.Common.{All, Bool, List, None, Option, Some, ap, arith, false, get_or, if◌then◌else◌, length, map, refl, slice_get, subst, subst₂, sym}
+use Rattle.std.proofs.Common.{true, ℕ, ⊎_elim, ◌<◌, ◌==◌, ◌∙◌, ◌≡◌}
+use Rattle.stream_case.specs.declared.source.Side.TheVariants as side
 
 -- ---- prices that are made for each index
 
@@ -61,7 +42,8 @@ use-turned network f parts =
     ∙ ap (λ none. minus none (use_at network f parts)) (rational_sum_by-zero (λ (e : ℕ × Part). rational_zero) es (λ k d inside. refl))
   where
     turned : (c : ℤ) (x : Rational) → times (whole (pos 0 -ℤ c)) x ≡ minus rational_zero (times (whole c) x)
-    turned c x = ap (λ w. times w x) (sym (whole-minus (pos 0) c)) ∙ minus-times rational_zero (whole c) x ∙ ap (λ none. minus none (times (whole c) x)) (zero-times x)
+    turned c x =
+        ap (λ w. times w x) (sym (whole-minus (pos 0) c)) ∙ minus-times rational_zero (whole c) x ∙ ap (λ none. minus none (times (whole c) x)) (zero-times x)
 
 -- ---- the prices of a cut
 
@@ -76,7 +58,8 @@ one_if-le false false h = omega (arith, ints)
 abbrev is_member : List ℕ → ℕ → Bool
 is_member members i = list_any (λ k. i == k) members
 
-meets-member : (of : Side) (reach : ℕ → ℕ → Bool) (members : List ℕ) (i j : ℕ) → joins of reach i j ≡ true → is_member members i ≡ true → meets of reach members j ≡ true
+meets-member : (of : Side) (reach : ℕ → ℕ → Bool) (members : List ℕ) (i j : ℕ) → joins of reach i j ≡ true → is_member members i ≡ true
+    → meets of reach members j ≡ true
 meets-member of reach members i j joined is =
     let (n, k, inside, at, same) = Any-from_list_any (λ k. i == k) members is in
     list_any-from_Any (λ k. joins of reach k j) members (n, k, inside, at, subst (λ m. joins of reach m j ≡ true) (eqb-true i k same) joined)
@@ -89,7 +72,8 @@ reach-within case hot cold a b reached = by (slice_get hot a) (slice_get cold b)
     by (Some p) None one other is = cc is
     by (Some p) (Some q) one other is = (slice_get_within hot a p one, slice_get_within cold b q other)
 
-module _ (uses : UsesAreOrdered) (case : Case) (network : Network) (hot cold : List Part) (complete : IsComplete case) (shape : HasShape case network) (valid : IsValidNetwork case network) (parts : AreCaseParts case hot cold) (members : List ℕ) where
+module _ (uses : UsesAreOrdered) (case : Case) (network : Network) (hot cold : List Part) (complete : IsComplete case) (shape : HasShape case network)
+    (valid : IsValidNetwork case network) (parts : AreCaseParts case hot cold) (members : List ℕ) where
   abbrev reach : ℕ → ℕ → Bool
   reach = reach_between case hot cold
 
@@ -113,14 +97,17 @@ module _ (uses : UsesAreOrdered) (case : Case) (network : Network) (hot cold : L
           (one_if-le (is_member members b) (meets side.Cold reach members a) (meets-member side.Cold reach members b a reached))
   members-at_most side.Hot =
       at_most_from_minus_turned (use_at network own hot) (use_at network (met side.Hot) cold) rational_zero
-      (subst₂ IsAtMost (worth-listed network (λ b. pos 0 -ℤ met side.Hot b) cold ∙ use-turned network (met side.Hot) cold) (worth-listed network (λ a. pos 0 -ℤ own a) hot ∙ use-turned network own hot)
-      (uses case network hot cold (listed (λ a. pos 0 -ℤ own a) (length hot)) (listed (λ b. pos 0 -ℤ met side.Hot b) (length cold)) complete shape valid parts supporting))
+      (subst₂ IsAtMost (worth-listed network (λ b. pos 0 -ℤ met side.Hot b) cold ∙ use-turned network (met side.Hot) cold)
+      (worth-listed network (λ a. pos 0 -ℤ own a) hot ∙ use-turned network own hot)
+      (uses case network hot cold (listed (λ a. pos 0 -ℤ own a) (length hot))
+      (listed (λ b. pos 0 -ℤ met side.Hot b) (length cold)) complete shape valid parts supporting))
     where
       supporting : IsSupporting reach (listed (λ a. pos 0 -ℤ own a) (length hot)) (listed (λ b. pos 0 -ℤ met side.Hot b) (length cold))
       supporting a b reached =
           let within = reach-within case hot cold a b reached in
           let less = one_if-le (is_member members a) (meets side.Hot reach members b) (meets-member side.Hot reach members a b reached) in
-          subst₂ (λ p q. p ≤ℤ q) (sym (price-listed (λ j. pos 0 -ℤ met side.Hot j) (length cold) b within.1)) (sym (price-listed (λ i. pos 0 -ℤ own i) (length hot) a within.0)) (omega (arith, ints, less))
+          subst₂ (λ p q. p ≤ℤ q) (sym (price-listed (λ j. pos 0 -ℤ met side.Hot j) (length cold) b within.1))
+          (sym (price-listed (λ i. pos 0 -ℤ own i) (length hot) a within.0)) (omega (arith, ints, less))
 
   used_of : (of : Side) (a : ℕ) (p : Part) → slice_get (parts_of of hot cold) a ≡ Some p → IsUsedWithin network p
   used_of side.Hot = uses-within case network parts.grid side.Hot hot valid parts.hot_parts
@@ -132,13 +119,16 @@ members-within : (parts : List Part) (members : List ℕ) → All (λ i. pos 0 <
 members-within parts members needing k d inside =
     let i = get_or members k d in
     let some = needing k d inside in
-    ⊎_elim (λ within. within) (λ past. let none : least_at parts i ≡ pos 0 = rw (slice_get_past parts i past) refl in absurd (omega (arith, ints, some, none))) (cases_lt i (length parts))
+    ⊎_elim (λ within. within) (λ past. let none : least_at parts i ≡ pos 0 = rw (slice_get_past parts i past) refl in absurd (omega (arith, ints, some, none)))
+    (cases_lt i (length parts))
 
-need-at_most : (network : Network) (parts : List Part) (members : List ℕ) → ((a : ℕ) (p : Part) → slice_get parts a ≡ Some p → IsUsedWithin network p) → AllPairs (λ i j. i < j) members → All (λ i. pos 0 <ℤ least_at parts i) members
+need-at_most : (network : Network) (parts : List Part) (members : List ℕ) → ((a : ℕ) (p : Part) → slice_get parts a ≡ Some p → IsUsedWithin network p)
+    → AllPairs (λ i j. i < j) members → All (λ i. pos 0 <ℤ least_at parts i) members
     → IsAtMost (whole (need_of parts members)) (use_at network (λ i. one_if (is_member members i)) parts)
 need-at_most network parts members used ordered needing =
     subst (λ n. IsAtMost n (use_at network (λ i. one_if (is_member members i)) parts)) (sym need)
-    (at_most-rational_sum_by (λ (e : ℕ × Part). taken e.0) (λ (e : ℕ × Part). times (whole (one_if (is_member members e.0))) (used_heat network e.1)) (enumerate_from 0 parts)
+    (at_most-rational_sum_by (λ (e : ℕ × Part). taken e.0) (λ (e : ℕ × Part). times (whole (one_if (is_member members e.0))) (used_heat network e.1))
+    (enumerate_from 0 parts)
     (All-enumerated (λ (e : ℕ × Part). IsAtMost (taken e.0) (times (whole (one_if (is_member members e.0))) (used_heat network e.1))) parts each))
   where
     least : ℕ → Rational
@@ -151,7 +141,9 @@ need-at_most network parts members used ordered needing =
     need =
         let numbers = range_with_len 0 (length parts) in
         let left = rational_sum_by (left_of least members) numbers in
-        let split = sum_over_used least members (length parts) (λ i j d less inside same. let rises = ordered i j d less inside in omega (arith, rises, same)) (members-within parts members needing) in
+        let split =
+        sum_over_used least members (length parts) (λ i j d less inside same. let rises = ordered i j d less inside in omega (arith, rises, same))
+        (members-within parts members needing) in
         sym (rational_sum_by-whole (least_at parts) (int_sum_by (least_at parts)) refl (λ i is. refl) members)
         ∙ sym (minus-plus (rational_sum_by least members) left)
         ∙ ap (λ all. minus all left) (sym split)
@@ -163,21 +155,26 @@ need-at_most network parts members used ordered needing =
       where
         by : (b : Bool) → IsAtMost (minus (least i) (if b then rational_zero else least i)) (times (whole (one_if b)) (used_heat network p))
         by true =
-            subst₂ IsAtMost (ap (λ o. whole (option_map_or (λ (q : Part). q.least) o (pos 0))) (sym at) ∙ sym (minus-zero (least i))) (sym (times_comm (whole (pos 1)) (used_heat network p) ∙ times-one (used_heat network p))) (used i p at).least
+            subst₂ IsAtMost (ap (λ o. whole (option_map_or (λ (q : Part). q.least) o (pos 0))) (sym at) ∙ sym (minus-zero (least i)))
+            (sym (times_comm (whole (pos 1)) (used_heat network p) ∙ times-one (used_heat network p))) (used i p at).least
         by false = at_most_from_same _ _ (minus-self (least i) ∙ sym (zero-times (used_heat network p)))
 
-offer-at_most : (network : Network) (of : Side) (reach : ℕ → ℕ → Bool) (others : List Part) (members : List ℕ) → ((a : ℕ) (p : Part) → slice_get others a ≡ Some p → IsUsedWithin network p)
+offer-at_most : (network : Network) (of : Side) (reach : ℕ → ℕ → Bool) (others : List Part) (members : List ℕ)
+    → ((a : ℕ) (p : Part) → slice_get others a ≡ Some p → IsUsedWithin network p)
     → IsAtMost (use_at network (λ j. one_if (meets of reach members j)) others) (whole (offer_of of reach others members))
 offer-at_most network of reach others members used =
     subst (IsAtMost (use_at network (λ j. one_if (meets of reach members j)) others)) (sym (whole-int_sum_from offered 0 others))
-    (at_most-rational_sum_by (λ (e : ℕ × Part). times (whole (one_if (meets of reach members e.0))) (used_heat network e.1)) (λ (e : ℕ × Part). whole (offered e.0 e.1)) (enumerate_from 0 others)
-    (All-enumerated (λ (e : ℕ × Part). IsAtMost (times (whole (one_if (meets of reach members e.0))) (used_heat network e.1)) (whole (offered e.0 e.1))) others (λ j p at. each (meets of reach members j) p (used j p at))))
+    (at_most-rational_sum_by (λ (e : ℕ × Part). times (whole (one_if (meets of reach members e.0))) (used_heat network e.1))
+    (λ (e : ℕ × Part). whole (offered e.0 e.1)) (enumerate_from 0 others)
+    (All-enumerated (λ (e : ℕ × Part). IsAtMost (times (whole (one_if (meets of reach members e.0))) (used_heat network e.1)) (whole (offered e.0 e.1))) others
+    (λ j p at. each (meets of reach members j) p (used j p at))))
   where
     offered : ℕ → Part → ℤ
     offered j p = if meets of reach members j then p.most else pos 0
 
     each : (b : Bool) (p : Part) → IsUsedWithin network p → IsAtMost (times (whole (one_if b)) (used_heat network p)) (whole (if b then p.most else pos 0))
-    each true p within = subst (λ x. IsAtMost x (whole p.most)) (sym (times_comm (whole (pos 1)) (used_heat network p) ∙ times-one (used_heat network p))) within.most
+    each true p within =
+        subst (λ x. IsAtMost x (whole p.most)) (sym (times_comm (whole (pos 1)) (used_heat network p) ∙ times-one (used_heat network p))) within.most
     each false p within = at_most_from_same _ _ (zero-times (used_heat network p))
 
 pub no_cut-stands : UsesAreOrdered → NoCutStands

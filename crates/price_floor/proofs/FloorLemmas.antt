@@ -1,42 +1,24 @@
 -- No valid network costs less than the value of supporting prices: each part costs at least its value beyond what its use is worth.
-use Rattle.std.proofs.Common.{◌≡◌, ◌∙◌, ⊎_elim, inl, inr, ◌+◌, ◌<◌, ◌==◌, ℕ, zero, suc, Bool, true, false, Some, List, [], ◌∷◌, get_or, slice_get, All, refl, sym, ap, ap₂, subst, subst₂, arith, if◌then◌else◌, eq-eqb, ne_eqb}
-use Rattle.std.specs.Prelude.{ℤ, pos, negsuc, ◌+ℤ◌, ◌-ℤ◌, ◌*ℤ◌, AllPairs, Contains}
-use Rattle.std.specs.List.{enumerate_from}
-use Rattle.std.proofs.lemmas.Bool.{false_from_ne_true, true≢false}
-use Rattle.std.proofs.lemmas.Int.{ints, clamps}
-use Rattle.std.proofs.lemmas.List.Elements.{All-head, All-tail, All-contains}
-use Rattle.std.proofs.lemmas.Option.{same_Some}
-use Rattle.stream_case.specs.Source.{same_side, same_source}
-use Rattle.stream_case.specs.declared.case.Case.{Case}
-use Rattle.stream_case.specs.declared.source.Side.{Side}
+use Rattle.fractions.proofs.Comparisons.{at_most-plus_plus, at_most-ratio, at_most-times_left, at_most-whole, at_most_from_ratio, at_most_refl, at_most_trans}
+use Rattle.fractions.proofs.Comparisons.{times-turned}
+use Rattle.price_floor.proofs.Words.{All-contains, All-enumerated, All-head, All-tail, AllPairs, AllPairs-head, AllPairs-tail, AreCaseParts, AreParts, Case}
+use Rattle.price_floor.proofs.Words.{Contains, Contains-cons, IsAtMost, IsInRange, IsPartOf, IsValidNetwork, Network, NoNetworkCostsLess, Part, Rational, Side}
+use Rattle.price_floor.proofs.Words.{Source, UsesAreOrdered, Utility, all_at, at_most-rational_sum_by, by_four, clamps, comes_before, comes_before_source}
+use Rattle.price_floor.proofs.Words.{cost_of, enumerate_from, excess_price, false_from_ne_true, heat_price, heat_with, int_sum_from, ints, least_product, minus}
+use Rattle.price_floor.proofs.Words.{negsuc, one_denominator, own_side, plus, plus-times, plus-zero, pos, price_at, rational_sum_by, rational_sum_by-minus}
+use Rattle.price_floor.proofs.Words.{rational_sum_by-plus, rational_sum_by-same, rational_sum_by-swap, rational_sum_by-zero, rational_zero, same_Some}
+use Rattle.price_floor.proofs.Words.{same_side, same_side-true, same_source, same_source-same, same_source-true, side_value, sum-items, times, times-minus}
+use Rattle.price_floor.proofs.Words.{times_comm, true≢false, use_worth, used_heat, utility_part, value_of, whole, whole-minus, whole-plus, whole-times}
+use Rattle.price_floor.proofs.Words.{worth_of_uses, zero-plus, zero-times, ℤ, ◌*ℤ◌, ◌+ℤ◌, ◌-ℤ◌}
+use Rattle.std.proofs.Common.{All, Bool, List, Some, [], ap, ap₂, arith, eq-eqb, false, get_or, if◌then◌else◌, inl, inr, ne_eqb, refl, slice_get, subst, subst₂}
+use Rattle.std.proofs.Common.{suc, sym, true, zero, ℕ, ⊎_elim, ◌+◌, ◌<◌, ◌==◌, ◌∙◌, ◌∷◌, ◌≡◌}
 use Rattle.stream_case.specs.declared.source.Side.TheVariants as side
-use Rattle.stream_case.specs.declared.source.Source.{Source}
 use Rattle.stream_case.specs.declared.source.Source.TheVariants as source
-use Rattle.stream_case.specs.declared.utility.Utility.{Utility}
-use Rattle.stream_case.proofs.SourceLemmas.{own_side, same_side-true, same_source-same, same_source-true}
-use Rattle.sums.specs.Sum.{int_sum_from}
-use Rattle.sums.proofs.EnumerationLemmas.{All-enumerated}
-use Rattle.sums.proofs.OrderLemmas.{AllPairs-head, AllPairs-tail, Contains-cons}
-use Rattle.fractions.specs.Rationals.{IsAtMost, Rational, minus, plus, rational_sum_by, rational_zero, times, whole}
-use Rattle.fractions.proofs.Comparisons.{at_most-plus_plus, at_most-ratio, at_most-times_left, at_most-whole, at_most_from_ratio, at_most_refl, at_most_trans, times-turned}
-use Rattle.fractions.proofs.Products.{plus-times, times-minus, times_comm, zero-times}
-use Rattle.fractions.proofs.RationalSums.{at_most-rational_sum_by, rational_sum_by-plus, rational_sum_by-minus, rational_sum_by-same, rational_sum_by-swap, rational_sum_by-zero, sum-items}
-use Rattle.fractions.proofs.Ratios.{by_four, one_denominator}
-use Rattle.fractions.proofs.Sums.{plus-zero, zero-plus}
-use Rattle.fractions.proofs.Wholes.{whole-plus, whole-minus, whole-times}
-use Rattle.grid.specs.declared.part.Part.{Part}
-use Rattle.grid.specs.Part.{AreCaseParts, AreParts, IsPartOf, comes_before, comes_before_source, utility_part}
-use Rattle.heat_flow.specs.Prices.{excess_price, least_product, price_at, side_value, value_of}
-use Rattle.networks.proofs.Lists.{all_at}
-use Rattle.networks.specs.declared.network.Network.{Network}
-use Rattle.network_audit.specs.Balance.{cost_of, heat_price, heat_with}
-use Rattle.network_audit.specs.Valid.{IsInRange, IsValidNetwork}
-use Rattle.price_floor.specs.Floor.{NoNetworkCostsLess}
-use Rattle.price_floor.specs.Uses.{UsesAreOrdered, use_worth, used_heat, worth_of_uses}
 
 -- ---- the least product of a heat that is no whole number
 
-pub least_product-at_most : (c low high : ℤ) (x : Rational) → IsAtMost (whole low) x → IsAtMost x (whole high) → IsAtMost (whole (least_product c low high)) (times (whole c) x)
+pub least_product-at_most : (c low high : ℤ) (x : Rational) → IsAtMost (whole low) x → IsAtMost x (whole high)
+    → IsAtMost (whole (least_product c low high)) (times (whole c) x)
 least_product-at_most (pos n) low high x from upto =
     at_most_trans (whole (least_product (pos n) low high)) (whole (pos n *ℤ low)) (times (whole (pos n)) x)
     (at_most-whole (least_product (pos n) low high) (pos n *ℤ low) (omega (arith, ints, clamps)))
@@ -54,20 +36,24 @@ pub record IsUsedWithin (network : Network) (p : Part) : Type 0 where
   pub least : IsAtMost (whole p.least) (used_heat network p)
   pub most : IsAtMost (used_heat network p) (whole p.most)
 
-pub used-within : (case : Case) (network : Network) (places : List ℤ) (on : Side) (p : Part) → IsValidNetwork case network → IsPartOf case.streams case.utilities places on p → IsUsedWithin network p
+pub used-within : (case : Case) (network : Network) (places : List ℤ) (on : Side) (p : Part) → IsValidNetwork case network
+    → IsPartOf case.streams case.utilities places on p → IsUsedWithin network p
 used-within case network places on p valid (inl (i, s, is)) =
     subst (IsUsedWithin network) (sym is.is) (record { least = at_most_refl _; most = at_most_refl _ })
 used-within case network places on p valid (inr (i, u, is)) =
     let range : IsInRange u (heat_with network i) = valid.ranges i u is.utility in
     subst (IsUsedWithin network) (sym is.is) (record { least = range.least; most = range.most })
 
-pub uses-within : (case : Case) (network : Network) (places : List ℤ) (on : Side) (parts : List Part) → IsValidNetwork case network → AreParts case.streams case.utilities places on parts
+pub uses-within : (case : Case) (network : Network) (places : List ℤ) (on : Side) (parts : List Part) → IsValidNetwork case network
+    → AreParts case.streams case.utilities places on parts
     → (a : ℕ) (p : Part) → slice_get parts a ≡ Some p → IsUsedWithin network p
-uses-within case network places on parts valid are a p at = used-within case network places on p valid (all_at (IsPartOf case.streams case.utilities places on) parts a p are.each at)
+uses-within case network places on parts valid are a p at =
+    used-within case network places on p valid (all_at (IsPartOf case.streams case.utilities places on) parts a p are.each at)
 
 -- ---- a side costs at least its value beyond what its uses are worth
 
-pub whole-int_sum_from : {X : Type 0} (f : ℕ → X → ℤ) (n : ℕ) (xs : List X) → whole (int_sum_from f n xs) ≡ rational_sum_by (λ (p : ℕ × X). whole (f p.0 p.1)) (enumerate_from n xs)
+pub whole-int_sum_from : {X : Type 0} (f : ℕ → X → ℤ) (n : ℕ) (xs : List X)
+    → whole (int_sum_from f n xs) ≡ rational_sum_by (λ (p : ℕ × X). whole (f p.0 p.1)) (enumerate_from n xs)
 whole-int_sum_from f n [] = refl
 whole-int_sum_from f n (x ∷ xs) =
     let next : suc n ≡ n + 1 = omega arith in
@@ -85,20 +71,24 @@ excess_rational side.Cold = plus
 pub minus-times : (a b c : Rational) → times (minus a b) c ≡ minus (times a c) (times b c)
 minus-times a b c = times_comm (minus a b) c ∙ times-minus c a b ∙ ap₂ minus (times_comm c a) (times_comm c b)
 
-excess-times : (on : Side) (price y : ℤ) (x : Rational) → times (whole (excess_price on price y)) x ≡ excess_rational on (times (whole price) x) (times (whole y) x)
+excess-times : (on : Side) (price y : ℤ) (x : Rational)
+    → times (whole (excess_price on price y)) x ≡ excess_rational on (times (whole price) x) (times (whole y) x)
 excess-times side.Hot price y x = ap (λ w. times w x) (sym (whole-minus price y)) ∙ minus-times (whole price) (whole y) x
 excess-times side.Cold price y x = ap (λ w. times w x) (sym (whole-plus price y)) ∙ plus-times (whole price) (whole y) x
 
-excess-sum : {X : Type 0} (on : Side) (f g : X → Rational) (xs : List X) → rational_sum_by (λ x. excess_rational on (f x) (g x)) xs ≡ excess_rational on (rational_sum_by f xs) (rational_sum_by g xs)
+excess-sum : {X : Type 0} (on : Side) (f g : X → Rational) (xs : List X)
+    → rational_sum_by (λ x. excess_rational on (f x) (g x)) xs ≡ excess_rational on (rational_sum_by f xs) (rational_sum_by g xs)
 excess-sum side.Hot f g xs = rational_sum_by-minus f g xs
 excess-sum side.Cold f g xs = rational_sum_by-plus f g xs
 
-side_value-at_most : (network : Network) (on : Side) (parts : List Part) (prices : List ℤ) → ((a : ℕ) (p : Part) → slice_get parts a ≡ Some p → IsUsedWithin network p)
+side_value-at_most : (network : Network) (on : Side) (parts : List Part) (prices : List ℤ)
+    → ((a : ℕ) (p : Part) → slice_get parts a ≡ Some p → IsUsedWithin network p)
     → IsAtMost (whole (side_value on parts prices)) (excess_rational on (rational_sum_by (part_cost network) parts) (worth_of_uses network prices parts))
 unfolding worth_of_uses
 side_value-at_most network on parts prices within =
     subst₂ IsAtMost (sym (whole-int_sum_from value 0 parts)) split
-    (at_most-rational_sum_by (λ (e : ℕ × Part). whole (value e.0 e.1)) (λ (e : ℕ × Part). times (whole (excess e.0 e.1)) (used_heat network e.1)) (enumerate_from 0 parts)
+    (at_most-rational_sum_by (λ (e : ℕ × Part). whole (value e.0 e.1)) (λ (e : ℕ × Part). times (whole (excess e.0 e.1)) (used_heat network e.1))
+    (enumerate_from 0 parts)
     (All-enumerated (λ (e : ℕ × Part). IsAtMost (whole (value e.0 e.1)) (times (whole (excess e.0 e.1)) (used_heat network e.1))) parts
     (λ a p at. let used = within a p at in least_product-at_most (excess a p) p.least p.most (used_heat network p) used.least used.most)))
   where
@@ -108,13 +98,18 @@ side_value-at_most network on parts prices within =
     value : ℕ → Part → ℤ
     value a p = least_product (excess a p) p.least p.most
 
-    split : rational_sum_by (λ (e : ℕ × Part). times (whole (excess e.0 e.1)) (used_heat network e.1)) (enumerate_from 0 parts) ≡ excess_rational on (rational_sum_by (part_cost network) parts) (rational_sum_by (use_worth network prices) (enumerate_from 0 parts))
+    split : rational_sum_by (λ (e : ℕ × Part). times (whole (excess e.0 e.1)) (used_heat network e.1)) (enumerate_from 0 parts)
+        ≡ excess_rational on (rational_sum_by (part_cost network) parts) (rational_sum_by (use_worth network prices) (enumerate_from 0 parts))
     split =
-        rational_sum_by-same (λ (e : ℕ × Part). times (whole (excess e.0 e.1)) (used_heat network e.1)) (λ (e : ℕ × Part). excess_rational on (part_cost network e.1) (use_worth network prices e)) (enumerate_from 0 parts)
-        (All-enumerated (λ (e : ℕ × Part). times (whole (excess e.0 e.1)) (used_heat network e.1) ≡ excess_rational on (part_cost network e.1) (use_worth network prices e)) parts
+        rational_sum_by-same (λ (e : ℕ × Part). times (whole (excess e.0 e.1)) (used_heat network e.1))
+        (λ (e : ℕ × Part). excess_rational on (part_cost network e.1) (use_worth network prices e)) (enumerate_from 0 parts)
+        (All-enumerated
+        (λ (e : ℕ × Part). times (whole (excess e.0 e.1)) (used_heat network e.1) ≡ excess_rational on (part_cost network e.1)
+        (use_worth network prices e)) parts
         (λ a p at. excess-times on p.price (price_at prices a) (used_heat network p)))
         ∙ excess-sum on (λ (e : ℕ × Part). part_cost network e.1) (use_worth network prices) (enumerate_from 0 parts)
-        ∙ ap (λ c. excess_rational on c (rational_sum_by (use_worth network prices) (enumerate_from 0 parts))) (sum-items (λ (e : ℕ × Part). part_cost network e.1) (part_cost network) parts (λ a p at. refl))
+        ∙ ap (λ c. excess_rational on c (rational_sum_by (use_worth network prices) (enumerate_from 0 parts)))
+        (sum-items (λ (e : ℕ × Part). part_cost network e.1) (part_cost network) parts (λ a p at. refl))
 
 -- ---- the cost of a network, part by part
 
@@ -126,16 +121,19 @@ module _ {X : Type 0} (f : ℕ × X → Rational) (i : ℕ) where
   numbered-behind : (n : ℕ) (xs : List X) → i < n → rational_sum_by numbered (enumerate_from n xs) ≡ rational_zero
   numbered-behind n [] less = refl
   numbered-behind n (x ∷ xs) less =
-      ap₂ plus (ap (λ b. if b then f (n, x) else rational_zero) (ne_eqb i n (λ same. absurd (omega (arith, less, same))))) (numbered-behind (n + 1) xs (omega (arith, less))) ∙ plus-zero rational_zero
+      ap₂ plus (ap (λ b. if b then f (n, x) else rational_zero) (ne_eqb i n (λ same. absurd (omega (arith, less, same)))))
+      (numbered-behind (n + 1) xs (omega (arith, less))) ∙ plus-zero rational_zero
 
   numbered-one : (n k : ℕ) (xs : List X) (x : X) → n + k ≡ i → slice_get xs k ≡ Some x → rational_sum_by numbered (enumerate_from n xs) ≡ f (i, x)
   numbered-one n k [] x is at = cc at
   numbered-one n zero (y ∷ xs) x is at =
       let here : i ≡ n = omega (arith, is) in
       let same : y ≡ x = cc at in
-      ap₂ plus (ap (λ b. if b then f (n, y) else rational_zero) (eq-eqb i n here)) (numbered-behind (n + 1) xs (omega (arith, is))) ∙ plus-zero (f (n, y)) ∙ (λ j. f (sym here j, same j))
+      ap₂ plus (ap (λ b. if b then f (n, y) else rational_zero) (eq-eqb i n here)) (numbered-behind (n + 1) xs (omega (arith, is))) ∙ plus-zero (f (n, y))
+      ∙ (λ j. f (sym here j, same j))
   numbered-one n (suc k) (y ∷ xs) x is at =
-      ap₂ plus (ap (λ b. if b then f (n, y) else rational_zero) (ne_eqb i n (λ same. absurd (omega (arith, is, same))))) (numbered-one (n + 1) k xs x (omega (arith, is)) at) ∙ zero-plus (f (i, x))
+      ap₂ plus (ap (λ b. if b then f (n, y) else rational_zero) (ne_eqb i n (λ same. absurd (omega (arith, is, same)))))
+      (numbered-one (n + 1) k xs x (omega (arith, is)) at) ∙ zero-plus (f (i, x))
 
 -- the cost of a utility where it is this source
 abbrev own_price : Network → Source → ℕ × Utility → Rational
@@ -176,7 +174,9 @@ module _ {X : Type 0} (before : X → X → Type 0) (one_way : (x : X) → befor
       false_from_ne_true (test (get_or xs k d)) (λ holds. one_way y (subst (before y) (tail_only k d inside holds ∙ sym same) (later k d inside))) in
       ap₂ plus (ap (λ b. if b then c else rational_zero) (ap test same ∙ passes)) (passed-none xs none) ∙ plus-zero c)
       (λ inside.
-      let other : test y ≡ false = false_from_ne_true (test y) (λ holds. one_way y (subst (before y) (sym (All-head (λ z. test z ≡ true → z ≡ x) y xs only holds)) (All-contains (before y) xs x later inside))) in
+      let other : test y ≡ false =
+      false_from_ne_true (test y)
+      (λ holds. one_way y (subst (before y) (sym (All-head (λ z. test z ≡ true → z ≡ x) y xs only holds)) (All-contains (before y) xs x later inside))) in
       ap₂ plus (ap (λ b. if b then c else rational_zero) other) (passed-one x xs passes tail_only (AllPairs-tail before y xs ordered) inside) ∙ zero-plus c)
       (Contains-cons y xs x found)
     where
@@ -187,10 +187,12 @@ module _ {X : Type 0} (before : X → X → Type 0) (one_way : (x : X) → befor
       tail_only = All-tail (λ z. test z ≡ true → z ≡ x) y xs only
 
 -- a part of utility number i is its part
-its_part : (case : Case) (places : List ℤ) (on : Side) (i : ℕ) (u : Utility) (p : Part) → slice_get case.utilities i ≡ Some u → IsPartOf case.streams case.utilities places on p → same_source p.source (source.Utility i) ≡ true
+its_part : (case : Case) (places : List ℤ) (on : Side) (i : ℕ) (u : Utility) (p : Part) → slice_get case.utilities i ≡ Some u
+    → IsPartOf case.streams case.utilities places on p → same_source p.source (source.Utility i) ≡ true
     → (p ≡ utility_part i u) × (u.side ≡ on)
 its_part case places on i u p here (inl (k, s, is)) same =
-    let clash : source.Stream k ≡ source.Utility i = sym (ap (λ (q : Part). q.source) is.is) ∙ same_source-true p.source (source.Utility i) same in absurd (cc clash)
+    let clash : source.Stream k ≡ source.Utility i = sym (ap (λ (q : Part). q.source) is.is) ∙ same_source-true p.source (source.Utility i) same in
+    absurd (cc clash)
 its_part case places on i u p here (inr (k, v, is)) same =
     let both : source.Utility k ≡ source.Utility i = sym (ap (λ (q : Part). q.source) is.is) ∙ same_source-true p.source (source.Utility i) same in
     let number : k ≡ i = cc both in
@@ -201,14 +203,17 @@ its_part case places on i u p here (inr (k, v, is)) same =
 abbrev side_price : Network → Side → ℕ × Utility → Rational
 side_price network on e = if same_side e.1.side on then heat_price network e else rational_zero
 
-its_cost : (case : Case) (places : List ℤ) (on : Side) (parts : List Part) (i : ℕ) (u : Utility) (c : Rational) → AreParts case.streams case.utilities places on parts → slice_get case.utilities i ≡ Some u
-    → rational_sum_by (λ (p : Part). if same_source p.source (source.Utility i) then c else rational_zero) parts ≡ (if same_side u.side on then c else rational_zero)
+its_cost : (case : Case) (places : List ℤ) (on : Side) (parts : List Part) (i : ℕ) (u : Utility) (c : Rational)
+    → AreParts case.streams case.utilities places on parts → slice_get case.utilities i ≡ Some u
+    → rational_sum_by (λ (p : Part). if same_source p.source (source.Utility i) then c else rational_zero) parts
+    ≡ (if same_side u.side on then c else rational_zero)
 its_cost case places on parts i u c are here = by (same_side u.side on) refl
   where
     is_its : Part → Bool
     is_its p = same_source p.source (source.Utility i)
 
-    by : (b : Bool) → same_side u.side on ≡ b → rational_sum_by (λ (p : Part). if same_source p.source (source.Utility i) then c else rational_zero) parts ≡ (if b then c else rational_zero)
+    by : (b : Bool) → same_side u.side on ≡ b
+        → rational_sum_by (λ (p : Part). if same_source p.source (source.Utility i) then c else rational_zero) parts ≡ (if b then c else rational_zero)
     by true own =
         passed-one comes_before not_before_itself is_its c (utility_part i u) parts (same_source-same (source.Utility i))
         (λ k d inside same. (its_part case places on i u (get_or parts k d) here (are.each k d inside) same).0) are.ordered
@@ -223,7 +228,8 @@ side_cost-is : (case : Case) (network : Network) (places : List ℤ) (on : Side)
     → rational_sum_by (part_cost network) parts ≡ rational_sum_by (side_price network on) (enumerate_from 0 case.utilities)
 side_cost-is case network places on parts are =
     let us = enumerate_from 0 case.utilities in
-    rational_sum_by-same (part_cost network) (λ (p : Part). rational_sum_by (own_price network p.source) us) parts (λ k d inside. part_cost-is case network places on (get_or parts k d) (are.each k d inside))
+    rational_sum_by-same (part_cost network) (λ (p : Part). rational_sum_by (own_price network p.source) us) parts
+    (λ k d inside. part_cost-is case network places on (get_or parts k d) (are.each k d inside))
     ∙ rational_sum_by-swap (λ (p : Part). own_price network p.source) parts us
     ∙ rational_sum_by-same (λ e. rational_sum_by (λ (p : Part). own_price network p.source e) parts) (side_price network on) us
     (All-enumerated (λ e. rational_sum_by (λ (p : Part). own_price network p.source e) parts ≡ side_price network on e) case.utilities
@@ -232,23 +238,29 @@ side_cost-is case network places on parts are =
 both_sides : (network : Network) (e : ℕ × Utility) → plus (side_price network side.Hot e) (side_price network side.Cold e) ≡ heat_price network e
 both_sides network e = by e.1.side
   where
-    by : (s : Side) → plus (if same_side s side.Hot then heat_price network e else rational_zero) (if same_side s side.Cold then heat_price network e else rational_zero) ≡ heat_price network e
+    by : (s : Side)
+        → plus (if same_side s side.Hot then heat_price network e else rational_zero) (if same_side s side.Cold then heat_price network e else rational_zero)
+        ≡ heat_price network e
     by side.Hot = plus-zero (heat_price network e)
     by side.Cold = zero-plus (heat_price network e)
 
-cost-is : (case : Case) (network : Network) (hot cold : List Part) → AreCaseParts case hot cold → plus (rational_sum_by (part_cost network) hot) (rational_sum_by (part_cost network) cold) ≡ cost_of case network
+cost-is : (case : Case) (network : Network) (hot cold : List Part) → AreCaseParts case hot cold
+    → plus (rational_sum_by (part_cost network) hot) (rational_sum_by (part_cost network) cold) ≡ cost_of case network
 unfolding cost_of
 cost-is case network hot cold parts =
     let us = enumerate_from 0 case.utilities in
     ap₂ plus (side_cost-is case network parts.grid side.Hot hot parts.hot_parts) (side_cost-is case network parts.grid side.Cold cold parts.cold_parts)
     ∙ sym (rational_sum_by-plus (side_price network side.Hot) (side_price network side.Cold) us)
-    ∙ rational_sum_by-same (λ e. plus (side_price network side.Hot e) (side_price network side.Cold e)) (heat_price network) us (λ k d inside. both_sides network (get_or us k d))
+    ∙ rational_sum_by-same (λ e. plus (side_price network side.Hot e) (side_price network side.Cold e)) (heat_price network) us
+    (λ k d inside. both_sides network (get_or us k d))
 
 -- ---- the floor
 
 -- what is taken from one sum is at least what is added to the other
 less_on_both : (a b w v : Rational) → IsAtMost v w → IsAtMost (plus (minus a w) (plus b v)) (plus a b)
-less_on_both = by_four _ (λ n m l k d some h. let x = at_most_from_ratio k l d some h in simp one_denominator (at_most-ratio ((n -ℤ l) +ℤ (m +ℤ k)) (n +ℤ m) d some (omega (arith, ints, x))))
+less_on_both =
+    by_four _ (λ n m l k d some h. let x = at_most_from_ratio k l d some h in
+    simp one_denominator (at_most-ratio ((n -ℤ l) +ℤ (m +ℤ k)) (n +ℤ m) d some (omega (arith, ints, x))))
 
 pub no_network-costs_less : UsesAreOrdered → NoNetworkCostsLess
 no_network-costs_less uses case network hot cold y z complete shape valid parts supporting =
@@ -257,8 +269,12 @@ no_network-costs_less uses case network hot cold y z complete shape valid parts 
     let ordered = uses case network hot cold y z complete shape valid parts supporting in
     let hot_cost = rational_sum_by (part_cost network) hot in
     let cold_cost = rational_sum_by (part_cost network) cold in
-    at_most_trans (whole (value_of hot cold y z)) (plus (minus hot_cost (worth_of_uses network y hot)) (plus cold_cost (worth_of_uses network z cold))) (cost_of case network)
-    (subst (λ v. IsAtMost v (plus (minus hot_cost (worth_of_uses network y hot)) (plus cold_cost (worth_of_uses network z cold)))) (whole-plus (side_value side.Hot hot y) (side_value side.Cold cold z))
-    (at_most-plus_plus (whole (side_value side.Hot hot y)) (minus hot_cost (worth_of_uses network y hot)) (whole (side_value side.Cold cold z)) (plus cold_cost (worth_of_uses network z cold)) given taken))
-    (subst (λ c. IsAtMost (plus (minus hot_cost (worth_of_uses network y hot)) (plus cold_cost (worth_of_uses network z cold))) c) (cost-is case network hot cold parts)
+    at_most_trans (whole (value_of hot cold y z)) (plus (minus hot_cost (worth_of_uses network y hot)) (plus cold_cost (worth_of_uses network z cold)))
+    (cost_of case network)
+    (subst (λ v. IsAtMost v (plus (minus hot_cost (worth_of_uses network y hot)) (plus cold_cost (worth_of_uses network z cold))))
+    (whole-plus (side_value side.Hot hot y) (side_value side.Cold cold z))
+    (at_most-plus_plus (whole (side_value side.Hot hot y)) (minus hot_cost (worth_of_uses network y hot)) (whole (side_value side.Cold cold z))
+    (plus cold_cost (worth_of_uses network z cold)) given taken))
+    (subst (λ c. IsAtMost (plus (minus hot_cost (worth_of_uses network y hot)) (plus cold_cost (worth_of_uses network z cold))) c)
+    (cost-is case network hot cold parts)
     (less_on_both hot_cost cold_cost (worth_of_uses network y hot) (worth_of_uses network z cold) ordered))

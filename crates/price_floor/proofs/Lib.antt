@@ -11,3 +11,4 @@ pub mod UtilityWorth
 pub mod UsesLemmas
 pub mod FloorLemmas
 pub mod CutLemmas
+pub mod Words

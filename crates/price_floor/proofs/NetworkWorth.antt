@@ -1,41 +1,19 @@
 -- The worths of a network are ordered.
-use Rattle.std.proofs.Common.{◌≡◌, ◌∙◌, inl, inr, ◌<ℤ◌, ℕ, ℤ, Bool, true, false, List, Some, get_or, slice_get, if◌then◌else◌, refl, sym, ap, ap₂, subst, arith, All, AllPairs}
-use mathlib.Core.Path.{subst₂}
-use Rattle.std.specs.List.{enumerate_from}
-use Rattle.std.proofs.lemmas.Int.{ints}
-use Rattle.sums.proofs.EnumerationLemmas.{All-enumerated}
-use Rattle.stream_case.specs.Case.{side_of}
-use Rattle.stream_case.specs.declared.case.Case.{Case}
-use Rattle.stream_case.specs.declared.source.Side.{Side}
-use Rattle.stream_case.specs.declared.source.Side.TheVariants as side
-use Rattle.stream_case.specs.declared.source.Source.{Source}
-use Rattle.stream_case.specs.declared.source.Source.TheVariants as source
-use Rattle.fractions.specs.Rationals.{IsAtMost, IsBelow, Rational, minus, plus, rational_sum_by, rational_zero, whole}
-use Rattle.fractions.proofs.Comparisons.{Decides-is_below, Decides-is_le, at_most-plus_plus, at_most-plus_right, at_most-whole, at_most_from_not_negative, at_most_from_same, at_most_refl, at_most_trans, below-whole, below_at_most_trans, positive-minus}
-use Rattle.fractions.proofs.RationalSums.{at_most-rational_sum_by, not_negative-rational_sum_by, rational_sum_by-plus}
-use Rattle.fractions.proofs.Sums.{plus-zero, plus_assoc, plus_comm, zero-plus}
-use Rattle.networks.specs.Lines.{Exchanger, exchangers_of}
-use Rattle.networks.specs.Shape.{HasShape, IsExchanger}
-use Rattle.networks.specs.declared.network.Network.{Network}
-use Rattle.networks.proofs.Lists.{all_at}
-use Rattle.networks.proofs.OfShape.{used_there}
-use Rattle.network_values.specs.Heights.{HasDuty, View, is_above, share, share_in}
-use Rattle.network_values.specs.OneScale.{shifted_run}
-use Rattle.network_values.specs.Sides.{Between, KeepApproaches, Level, SideRun, seen_from}
-use Rattle.network_values.specs.Values.{AreEnded, IsWholeValuation, Valuation}
-use Rattle.network_values.specs.Weights.{mix_loss, pass_loss, stream_loss}
-use Rattle.network_values.proofs.CourseLemmas.{shares_rise}
-use Rattle.network_values.proofs.PassLemmas.{passes_by_side, side_taken, sides_taken}
-use Rattle.network_values.proofs.ScaleLemmas.{run_on_scale}
-use Rattle.network_values.proofs.ShareLemmas.{hot_shares_lead, shares_parts}
-use Rattle.network_values.proofs.WeightLemmas.{weight_balance}
-use Rattle.network_values.proofs.WholeLemmas.{all_solved}
-use Rattle.network_audit.specs.Valid.{IsPermitted}
-use Rattle.price_floor.specs.Steps.{AreOrderedPrices, StepPrices}
-use Rattle.price_floor.specs.Views.{comes_below}
-use Rattle.price_floor.specs.Worths.{WorthsAreOrdered, branch_worth, cold_worth, hot_worth, utility_worth}
+use Rattle.fractions.proofs.Comparisons.{Decides-is_below, Decides-is_le, at_most-plus_plus, at_most-plus_right, at_most-whole, at_most_from_not_negative}
+use Rattle.fractions.proofs.Comparisons.{at_most_from_same, at_most_refl, at_most_trans, below-whole, below_at_most_trans, positive-minus}
+use Rattle.price_floor.proofs.Words.{All-enumerated, AreEnded, AreOrderedPrices, Between, Case, Exchanger, HasDuty, HasShape, IsAtMost, IsBelow, IsExchanger}
+use Rattle.price_floor.proofs.Words.{IsPermitted, IsWholeValuation, KeepApproaches, Level, Network, Rational, Side, SideRun, Source, StepPrices, Valuation}
+use Rattle.price_floor.proofs.Words.{View, WorthsAreOrdered, all_at, all_solved, at_most-rational_sum_by, branch_worth, cold_worth, comes_below, enumerate_from}
+use Rattle.price_floor.proofs.Words.{exchangers_of, hot_shares_lead, hot_worth, ints, is_above, minus, mix_loss, not_negative-rational_sum_by, pass_loss}
+use Rattle.price_floor.proofs.Words.{passes_by_side, plus, plus-zero, plus_swap_right, rational_sum_by, rational_sum_by-plus, rational_zero, run_on_scale}
+use Rattle.price_floor.proofs.Words.{seen_from, share, share_in, shares_parts, shares_rise, shifted_run, side_of, side_taken, sides_taken, stream_loss, subst₂}
+use Rattle.price_floor.proofs.Words.{used_there, utility_worth, weight_balance, whole, zero-plus}
 use Rattle.price_floor.proofs.BranchWorth.{branch_worth-additive, cold_taken, hot_taken, mix_worth, side_worth, worth}
 use Rattle.price_floor.proofs.StepLemmas.{AreRising, step_worth-at_most, step_worth-ordered}
+use Rattle.std.proofs.Common.{All, AllPairs, Bool, List, Some, ap, ap₂, arith, false, get_or, if◌then◌else◌, inl, inr, refl, slice_get, subst, sym, true, ℕ, ℤ}
+use Rattle.std.proofs.Common.{◌<ℤ◌, ◌∙◌, ◌≡◌}
+use Rattle.stream_case.specs.declared.source.Side.TheVariants as side
+use Rattle.stream_case.specs.declared.source.Source.TheVariants as source
 
 -- ---- the shares of a side
 
@@ -80,9 +58,6 @@ shares_rising duty run positive has v w (inr (same, above, itself)) =
     (shares_rise.itself duty (seen_from (whole v.place) run) positive)
 
 -- ---- the exchangers
-
-plus_right : (a b c : Rational) → plus (plus a b) c ≡ plus (plus a c) b
-plus_right a b c = plus_assoc a b c ∙ ap (plus a) (plus_comm b c) ∙ sym (plus_assoc a c b)
 
 module _ (case : Case) (network : Network) (values : Valuation) (least : ℤ) (views : List View) (prices : Side → Source → StepPrices)
     (shape : HasShape case network) (whole_values : IsWholeValuation case network values) where
@@ -142,7 +117,7 @@ module _ (case : Case) (network : Network) (values : Valuation) (least : ℤ) (v
         let valid = all_at (IsExchanger case) (exchangers_of network.lines) number e shape.exchangers.each at in
         let all_hot = hot_given number e at e.hot refl valid.hot in
         let all_cold = cold_given number e at e.cold refl valid.cold in
-        let sides = plus_right (lost number e.hot) (lost number e.cold) (hot_bought (number, e)) ∙ ap (λ x. plus x (lost number e.cold)) all_hot in
+        let sides = plus_swap_right (lost number e.hot) (lost number e.cold) (hot_bought (number, e)) ∙ ap (λ x. plus x (lost number e.cold)) all_hot in
         subst₂ IsAtMost (sym all_cold) (sym sides)
         (at_most-plus_plus _ _ _ _ (sides_ordered number e at) (at_most_refl (lost number e.cold)))
 

@@ -1,27 +1,12 @@
 -- Sums over parts and exchangers by the sources of the case, and what the use of a part is worth.
-use Rattle.std.proofs.Common.{◌≡◌, ◌≢◌, ◌⊎◌, ⊎_elim, inl, inr, ◌∙◌, refl, sym, ap, ap₂, arith, ℕ, ◌<◌, ◌==◌, List, [], ◌∷◌, length, get_or, All, AllPairs, Contains, eq-eqb, ne_eqb}
-use Rattle.std.specs.Prelude.{ℤ, if◌then◌else◌}
-use Rattle.std.specs.List.{enumerate_from, range_with_len}
-use Rattle.std.proofs.lemmas.Bool.{cases_eq}
-use Rattle.std.proofs.lemmas.Int.{ints}
-use Rattle.std.proofs.lemmas.List.Elements.{All-contains, All-head, All-tail}
-use Rattle.sums.proofs.OrderLemmas.{AllPairs-head, AllPairs-tail, Contains-cons}
-use Rattle.stream_case.specs.Case.{IsSourceOf}
-use Rattle.stream_case.specs.Source.{same_source}
-use Rattle.stream_case.specs.declared.case.Case.{Case}
-use Rattle.stream_case.specs.declared.source.Side.{Side}
-use Rattle.stream_case.specs.declared.source.Source.{Source}
-use Rattle.stream_case.specs.declared.source.Source.TheVariants as source
-use Rattle.fractions.specs.Rationals.{Rational, plus, rational_sum_by, rational_zero}
-use Rattle.fractions.proofs.RationalSums.{but_at, one_taken, rational_sum_by-plus, rational_sum_by-same, rational_sum_by-swap, rational_sum_by-zero, sum-enumerate}
-use Rattle.fractions.proofs.Sums.{plus-zero, zero-plus}
-use Rattle.grid.specs.declared.part.Part.{Part}
-use Rattle.grid.specs.Part.{comes_before, comes_before_source}
-use Rattle.networks.specs.declared.network.Network.{Network}
-use Rattle.network_values.specs.Heights.{View}
-use Rattle.price_floor.specs.Steps.{StepPrices, step_worth}
-use Rattle.price_floor.specs.Uses.{used_heat}
+use Rattle.price_floor.proofs.Words.{All-contains, All-head, All-tail, AllPairs-head, AllPairs-tail, Case, Contains-cons, IsSourceOf, Network, Part, Rational}
+use Rattle.price_floor.proofs.Words.{Side, Source, StepPrices, View, but_at, cases_eq, comes_before, comes_before_source, enumerate_from, if◌then◌else◌, ints}
+use Rattle.price_floor.proofs.Words.{one_taken, plus, plus-zero, range_with_len, rational_sum_by, rational_sum_by-plus, rational_sum_by-same}
+use Rattle.price_floor.proofs.Words.{rational_sum_by-swap, rational_sum_by-zero, rational_zero, same_source, step_worth, sum-enumerate, used_heat, zero-plus, ℤ}
 use Rattle.price_floor.proofs.StepSums.{stood}
+use Rattle.std.proofs.Common.{All, AllPairs, Contains, List, [], ap, ap₂, arith, eq-eqb, get_or, inl, inr, length, ne_eqb, refl, sym, ℕ, ⊎_elim, ◌<◌, ◌==◌, ◌∙◌}
+use Rattle.std.proofs.Common.{◌∷◌, ◌≡◌, ◌≢◌, ◌⊎◌}
+use Rattle.stream_case.specs.declared.source.Source.TheVariants as source
 
 -- ---- worths of uses
 

@@ -1,18 +1,9 @@
 -- Parts as views see them: which views a part stands above, and the last view that it does not.
-use Rattle.std.proofs.Common.{◌≡◌, ◌⊎◌, ⊎_elim, inl, inr, refl, ap, subst, arith, Bool, true, false, List, [], ◌∷◌, get_or, All, AllPairs, Contains}
-use Rattle.std.specs.Prelude.{ℤ, ◌≤ℤ◌, ◌<ℤ◌, int_le, int_lt}
-use Rattle.std.proofs.lemmas.Bool.{false_from_ne_true}
-use Rattle.std.proofs.lemmas.Int.{ints}
-use Rattle.std.proofs.lemmas.List.Elements.{All-cons, All-contains, All-contains_itself, All-head, All-nil, All-tail, All-weaker, Contains-append_right}
-use Rattle.sums.proofs.ConsLemmas.{AllPairs-cons_if}
-use Rattle.sums.proofs.IntegerLemmas.{int_le-false, int_le-from, int_le-true, int_lt-from, int_lt-true}
-use Rattle.sums.proofs.OrderLemmas.{AllPairs-head, AllPairs-nil, AllPairs-tail, Contains-cons}
-use Rattle.grid.specs.declared.part.Part.{Part}
-use Rattle.grid.specs.Part.{IsInterval, stands_above}
-use Rattle.grid.proofs.PlaceLemmas.{interval_below, interval_ends, interval_falls}
-use Rattle.network_values.specs.Heights.{View}
-use Rattle.price_floor.specs.Steps.{last_price}
-use Rattle.price_floor.specs.Views.{comes_below, views_of}
+use Rattle.price_floor.proofs.Words.{All-cons, All-contains, All-contains_itself, All-head, All-nil, All-tail, All-weaker, AllPairs-cons_if, AllPairs-head}
+use Rattle.price_floor.proofs.Words.{AllPairs-nil, AllPairs-tail, Contains-append_right, Contains-cons, IsInterval, Part, View, comes_below, int_le}
+use Rattle.price_floor.proofs.Words.{int_le-false, int_le-from, int_le-true, int_lt, int_lt-false, int_lt-from, int_lt-true, interval_below, interval_ends}
+use Rattle.price_floor.proofs.Words.{interval_falls, ints, last_price, stands_above, views_of, ℤ, ◌<ℤ◌, ◌≤ℤ◌}
+use Rattle.std.proofs.Common.{All, AllPairs, Bool, Contains, List, [], ap, arith, false, get_or, inl, inr, refl, subst, true, ⊎_elim, ◌∷◌, ◌≡◌, ◌⊎◌}
 
 -- a part stands above a view
 abbrev pub stands : Part → View → Bool
@@ -128,9 +119,6 @@ LeavesAt p own (v ∷ views) = (stands p v ≡ false) × (((v ≡ own) × All (�
 abbrev pub own_view : (places : List ℤ) (p : Part) → HasEnds places p → View
 own_view places p (inl level) = above_place p.high
 own_view places p (inr interval) = from_place p.high
-
-int_lt-false : (a b : ℤ) → b ≤ℤ a → int_lt a b ≡ false
-int_lt-false a b h = false_from_ne_true (int_lt a b) (λ e. let less = int_lt-true a b e in omega (arith, ints))
 
 module _ (p : Part) (order : p.low ≤ℤ p.high) where
   -- above both views of places at which it does not end and which are not above it

@@ -1,16 +1,10 @@
 -- What heat is worth at step prices: additive in the heat, and no less for more heat or at higher prices.
-use Rattle.std.proofs.Common.{◌≡◌, ◌∙◌, ℤ, pos, ◌≤ℤ◌, ◌-ℤ◌, List, [], ◌∷◌, All, AllPairs, get_or, refl, sym, ap, ap₂, subst, arith}
-use Rattle.std.proofs.lemmas.Int.{ints}
-use Rattle.sums.proofs.OrderLemmas.{AllPairs-head, AllPairs-tail}
-use Rattle.std.proofs.lemmas.List.Elements.{All-head}
-use Rattle.fractions.specs.Rationals.{IsAtMost, Rational, minus, plus, rational_zero, times, whole}
-use Rattle.fractions.proofs.Comparisons.{at_most-plus_plus, at_most-plus_right, at_most-times_left, at_most-whole, at_most_from_same, at_most_refl, at_most_trans, not_negative-times}
-use Rattle.fractions.proofs.Products.{plus-times, times-minus, times-plus, zero-times}
-use Rattle.fractions.proofs.Sums.{minus-interchange, minus-self, plus-interchange, plus-zero, plus_assoc, plus_comm, zero-plus}
-use Rattle.fractions.proofs.Wholes.{whole-plus}
-use Rattle.network_values.specs.Heights.{View}
-use Rattle.price_floor.specs.Steps.{AreAtMost, AreFalling, FallTo, StepPrices, last_price, rise_worth, step_worth}
-use Rattle.price_floor.specs.Views.{comes_below}
+use Rattle.fractions.proofs.Comparisons.{at_most-plus_plus, at_most-plus_right, at_most-times_left, at_most-whole, at_most_from_same, at_most_refl}
+use Rattle.fractions.proofs.Comparisons.{at_most_trans, not_negative-times}
+use Rattle.price_floor.proofs.Words.{All-head, AllPairs-head, AllPairs-tail, AreAtMost, AreFalling, FallTo, IsAtMost, Rational, StepPrices, View, comes_below}
+use Rattle.price_floor.proofs.Words.{ints, last_price, minus, minus-interchange, minus-self, plus, plus-interchange, plus-times, plus-zero, plus_assoc}
+use Rattle.price_floor.proofs.Words.{plus_comm, rational_zero, rise_worth, step_worth, times, times-minus, times-plus, whole, whole-plus, zero-plus, zero-times}
+use Rattle.std.proofs.Common.{All, AllPairs, List, [], ap, ap₂, arith, get_or, pos, refl, subst, sym, ℤ, ◌-ℤ◌, ◌∙◌, ◌∷◌, ◌≡◌, ◌≤ℤ◌}
 
 -- ---- sums and differences of heat
 

@@ -1,17 +1,10 @@
 -- Sums of what heats are worth at step prices; and the one price at which the heat of a part is worth it.
-use Rattle.std.proofs.Common.{◌≡◌, inl, inr, ◌∙◌, refl, sym, ap, ap₂, arith, true, List, [], ◌∷◌, All}
-use Rattle.std.specs.Prelude.{ℤ, pos, ◌+ℤ◌, ◌-ℤ◌, if◌then◌else◌}
-use Rattle.std.proofs.lemmas.Int.{ints}
-use Rattle.std.proofs.lemmas.List.Elements.{All-head, All-tail}
-use Rattle.fractions.specs.Rationals.{Rational, plus, rational_sum_by, rational_zero, times, whole}
-use Rattle.fractions.proofs.Products.{plus-times, times-zero, zero-times}
-use Rattle.fractions.proofs.Sums.{plus-zero, zero-plus}
-use Rattle.fractions.proofs.Wholes.{whole-plus}
-use Rattle.grid.specs.declared.part.Part.{Part}
-use Rattle.network_values.specs.Heights.{View}
-use Rattle.price_floor.specs.Steps.{StepPrices, last_price, rise_worth, step_worth}
+use Rattle.price_floor.proofs.Words.{All-head, All-tail, Part, Rational, StepPrices, View, if◌then◌else◌, ints, last_price, plus, plus-times, plus-zero, pos}
+use Rattle.price_floor.proofs.Words.{rational_sum_by, rational_zero, rise_worth, step_worth, times, times-zero, whole, whole-plus, zero-plus, zero-times, ℤ}
+use Rattle.price_floor.proofs.Words.{◌+ℤ◌, ◌-ℤ◌}
 use Rattle.price_floor.proofs.PartViews.{LeavesAt, stands}
 use Rattle.price_floor.proofs.StepLemmas.{step_worth-plus, two_steps}
+use Rattle.std.proofs.Common.{All, List, [], ap, ap₂, arith, inl, inr, refl, sym, true, ◌∙◌, ◌∷◌, ◌≡◌}
 
 -- ---- heats that are the same in these views, and none
 

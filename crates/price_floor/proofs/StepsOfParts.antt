@@ -1,34 +1,16 @@
 -- The step prices that prices of cold parts make: they fall to the least price, they are ordered, and where a part lies
 -- they are at most its price if it is hot, and at least its price if it is cold.
-use Rattle.std.proofs.Common.{◌≡◌, ◌⊎◌, inl, inr, ◌∙◌, refl, sym, ap, subst, arith, ℕ, zero, suc, ◌+◌, Bool, true, false, not, ◌&&◌, List, [], ◌∷◌, Some, slice_get, All, AllPairs, Contains, get_or}
-use Rattle.std.specs.Prelude.{ℤ, ◌≤ℤ◌, ◌<ℤ◌, int_le, if◌then◌else◌}
-use Rattle.std.specs.Ordering.{int_eq}
-use Rattle.std.specs.Int.{int_max}
-use Rattle.std.specs.List.{enumerate_from}
-use Rattle.std.proofs.lemmas.Bool.{and_from, and_parts, false_from_ne_true, not_from_false, or_left, or_right}
-use Rattle.std.proofs.lemmas.Bool.Decides.{Decides-int_eq}
-use Rattle.std.proofs.lemmas.Int.{by_lt_z, clamps, ints}
-use Rattle.std.proofs.lemmas.List.Elements.{All-head, All-tail, All-weaker}
-use Rattle.sums.proofs.EnumerationLemmas.{All-enumerated}
-use Rattle.sums.proofs.IntegerLemmas.{int_le-from, int_lt-from}
-use Rattle.sums.proofs.ListLemmas.{All-slice_get}
-use Rattle.sums.proofs.OrderLemmas.{AllPairs-head, AllPairs-tail}
-use Rattle.stream_case.specs.Case.{is_forbidden}
-use Rattle.stream_case.specs.declared.case.Case.{Case}
-use Rattle.stream_case.specs.declared.source.Side.{Side}
+use Rattle.price_floor.proofs.Words.{All-enumerated, All-head, All-slice_get, All-tail, All-weaker, AllPairs-head, AllPairs-tail, AreAtMost, AreFalling}
+use Rattle.price_floor.proofs.Words.{AreOrderedPrices, Case, Decides-int_eq, FallTo, IsInterval, Part, Side, Source, StepPrices, View, by_lt_z, clamps}
+use Rattle.price_floor.proofs.Words.{comes_below, counts_for, enumerate_from, false_from_ne_true, greatest_price, if◌then◌else◌, int_eq, int_le, int_le-from}
+use Rattle.price_floor.proofs.Words.{int_lt-from, int_max, interval_below, interval_ends, interval_falls, ints, is_forbidden, last_price, part_reaches}
+use Rattle.price_floor.proofs.Words.{passes_heat, price_at, price_steps, same_source-same, same_source-true, views_of, ℤ, ◌<ℤ◌, ◌≤ℤ◌}
+use Rattle.price_floor.proofs.PartViews.{HasEnds, from_place, low_on, lowest_of, none_inside, own_not, own_view, stands, stands_later, stands_lowest}
+use Rattle.price_floor.proofs.PartViews.{views-fall, views-places}
+use Rattle.std.proofs.Common.{All, AllPairs, Bool, Contains, List, Some, [], ap, arith, false, get_or, inl, inr, not, refl, slice_get, subst, suc, sym, true}
+use Rattle.std.proofs.Common.{zero, ℕ, ◌&&◌, ◌+◌, ◌∙◌, ◌∷◌, ◌≡◌, ◌⊎◌}
+use Rattle.std.proofs.lemmas.Bool.{and_from, and_parts, not_from_false, or_left, or_right}
 use Rattle.stream_case.specs.declared.source.Side.TheVariants as side
-use Rattle.stream_case.specs.declared.source.Source.{Source}
-use Rattle.stream_case.proofs.SourceLemmas.{same_source-same, same_source-true}
-use Rattle.grid.specs.declared.part.Part.{Part}
-use Rattle.grid.specs.Part.{IsInterval}
-use Rattle.grid.proofs.PlaceLemmas.{interval_below, interval_ends, interval_falls}
-use Rattle.heat_flow.specs.Prices.{price_at}
-use Rattle.heat_flow.specs.Reach.{part_reaches, passes_heat}
-use Rattle.network_values.specs.Heights.{View}
-use Rattle.price_floor.specs.PartPrices.{counts_for, greatest_price, price_steps}
-use Rattle.price_floor.specs.Steps.{AreAtMost, AreFalling, AreOrderedPrices, FallTo, StepPrices, last_price}
-use Rattle.price_floor.specs.Views.{comes_below, views_of}
-use Rattle.price_floor.proofs.PartViews.{HasEnds, from_place, low_on, lowest_of, none_inside, own_not, own_view, stands, stands_later, stands_lowest, views-fall, views-places}
 
 -- ---- the greatest of two
 

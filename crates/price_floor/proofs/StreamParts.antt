@@ -1,24 +1,10 @@
 -- The parts of one stream above a view add up to its heat there.
-use Rattle.std.proofs.Common.{◌≡◌, ◌≢◌, ◌∙◌, refl, ap, arith, ℕ, zero, suc, ◌+◌, ◌<◌, Bool, List, [], ◌∷◌, ◌++◌, Some, slice_get, Contains, eq-eqb, ne_eqb}
-use Rattle.std.specs.Prelude.{ℤ, pos, if◌then◌else◌}
-use Rattle.std.proofs.lemmas.Int.{ints}
-use Rattle.std.proofs.lemmas.List.Elements.{All-cons, All-nil}
-use Rattle.stream_case.specs.Source.{same_side, same_source}
-use Rattle.stream_case.specs.Stream.{IsValidStream, heat_over, high_end, low_end}
-use Rattle.stream_case.specs.declared.source.Side.{Side}
-use Rattle.stream_case.specs.declared.source.Source.TheVariants.{Stream as of_stream}
-use Rattle.stream_case.specs.declared.stream.Stream.{Stream}
-use Rattle.stream_case.specs.declared.utility.Utility.{Utility}
-use Rattle.sums.specs.Sum.{int_sum_by}
-use Rattle.sums.proofs.IntegerLemmas.{if_zero}
-use Rattle.sums.proofs.ListLemmas.{All-slice_get}
-use Rattle.sums.proofs.SumLemmas.{int_sum_by-append, int_sum_by-cons_if}
-use Rattle.grid.specs.declared.part.Part.{Part}
-use Rattle.grid.specs.Grid.{HoldsPlaces}
-use Rattle.grid.specs.Making.{covers, interval_parts, is_here, made_parts, picked, stands_at}
-use Rattle.grid.specs.Part.{stands_above, stream_part, utility_part}
 use Rattle.grid.proofs.HeatLemmas.{part_over, sum-part_over}
-use Rattle.grid.proofs.MakingLemmas.{holds_ends}
+use Rattle.price_floor.proofs.Words.{All-cons, All-nil, All-slice_get, HoldsPlaces, IsValidStream, Part, Side, Stream, Utility, covers, heat_over, high_end}
+use Rattle.price_floor.proofs.Words.{holds_ends, if_zero, if◌then◌else◌, int_sum_by, int_sum_by-append, int_sum_by-cons_if, interval_parts, ints, is_here}
+use Rattle.price_floor.proofs.Words.{low_end, made_parts, picked, pos, same_side, same_source, stands_above, stands_at, stream_part, utility_part, ℤ}
+use Rattle.std.proofs.Common.{Bool, Contains, List, Some, [], ap, arith, eq-eqb, ne_eqb, refl, slice_get, suc, zero, ℕ, ◌++◌, ◌+◌, ◌<◌, ◌∙◌, ◌∷◌, ◌≡◌, ◌≢◌}
+use Rattle.stream_case.specs.declared.source.Source.TheVariants.{Stream as of_stream}
 
 -- the heat of a part of the stream with a number, if it stands above a place
 abbrev pub own_over : ℕ → Bool → ℤ → Part → ℤ

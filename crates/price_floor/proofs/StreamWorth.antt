@@ -1,45 +1,20 @@
 -- What a stream loses of its worth is what its parts are worth: of a hot stream's, and of a cold one's taken away.
-use Rattle.std.proofs.Common.{◌≡◌, ⊎_elim, ◌∙◌, refl, sym, ap, ap₂, arith, ℕ, Bool, true, false, List, Some, slice_get, get_or, All, Contains}
-use Rattle.std.specs.Prelude.{ℤ, pos, ◌+ℤ◌, ◌-ℤ◌, ◌*ℤ◌, ◌≤ℤ◌, if◌then◌else◌}
-use Rattle.std.proofs.lemmas.Int.{clamps, ints}
-use Rattle.stream_case.specs.Source.{same_side, same_source}
-use Rattle.stream_case.specs.Stream.{IsLatent, IsSensible, IsValidStream, heat_over, high_end, is_latent, length_above, load_over, low_end, sensible_above}
-use Rattle.stream_case.specs.declared.case.Case.{Case}
-use Rattle.stream_case.specs.declared.source.Side.{Side}
-use Rattle.stream_case.specs.declared.source.Side.TheVariants as side
-use Rattle.stream_case.specs.declared.source.Source.{Source}
-use Rattle.stream_case.specs.declared.source.Source.TheVariants as source
-use Rattle.stream_case.specs.declared.stream.Stream.{Stream}
-use Rattle.stream_case.proofs.EndLemmas.{level-latent, order-sensible}
-use Rattle.stream_case.proofs.SourceLemmas.{same_source-true}
-use Rattle.stream_case.proofs.HeatLemmas.{heat_over-latent, heat_over-sensible, is_latent-latent, is_latent-sensible}
-use Rattle.sums.specs.Sum.{int_sum_by}
-use Rattle.sums.proofs.IntegerLemmas.{int_le-from}
-use Rattle.sums.proofs.ProductLemmas.{*ℤ--ℤ}
-use Rattle.sums.proofs.SumLemmas.{int_sum_by-same}
-use Rattle.fractions.specs.Rationals.{Rational, minus, rational_sum_by, rational_zero, times, whole}
-use Rattle.fractions.proofs.RationalSums.{rational_sum_by-same, rational_sum_by-whole}
-use Rattle.fractions.proofs.Sums.{minus-zero}
-use Rattle.fractions.proofs.Wholes.{whole-minus, whole-times}
-use Rattle.grid.specs.declared.part.Part.{Part}
-use Rattle.grid.specs.Grid.{HoldsPlaces}
-use Rattle.grid.specs.Making.{made_parts}
-use Rattle.networks.specs.declared.network.Network.{Network}
-use Rattle.network_values.specs.Heights.{View}
-use Rattle.network_values.specs.Penalties.{given_by, height_in}
-use Rattle.network_values.specs.Values.{first_part_of_load, first_value, full_size, last_part_of_load, last_value}
-use Rattle.network_values.specs.Weights.{stream_loss}
+use Rattle.price_floor.proofs.Words.{*ℤ--ℤ, Case, HoldsPlaces, IsLatent, IsSensible, IsValidStream, Network, Part, Rational, Side, Source, StepPrices, Stream}
+use Rattle.price_floor.proofs.Words.{View, branch_worth, clamps, first_part_of_load, first_value, full_size, full_size-latent, full_size-sensible, given_by}
+use Rattle.price_floor.proofs.Words.{heat_over, heat_over-latent, heat_over-sensible, height_in, high_end, if◌then◌else◌, int_le-from, int_sum_by}
+use Rattle.price_floor.proofs.Words.{int_sum_by-same, ints, is_latent, is_latent-latent, is_latent-sensible, last_part_of_load, last_value, length_above}
+use Rattle.price_floor.proofs.Words.{level-latent, load_over, low_end, made_parts, minus, minus-zero, order-sensible, pos, rational_sum_by}
+use Rattle.price_floor.proofs.Words.{rational_sum_by-same, rational_sum_by-whole, rational_zero, same_side, same_source, same_source-true, sensible_above}
+use Rattle.price_floor.proofs.Words.{step_worth, stream_loss, times, used_by, value_worth, views_of, whole, whole-minus, whole-times, ℤ, ◌*ℤ◌, ◌+ℤ◌, ◌-ℤ◌, ◌≤ℤ◌}
 use Rattle.network_values.proofs.PenaltyLemmas.{stream_given}
-use Rattle.network_values.proofs.StreamStates.{full_size-latent, full_size-sensible}
-use Rattle.price_floor.specs.Steps.{StepPrices, step_worth}
-use Rattle.price_floor.specs.Uses.{used_by}
-use Rattle.price_floor.specs.Views.{views_of}
-use Rattle.price_floor.specs.Worths.{branch_worth, value_worth}
 use Rattle.price_floor.proofs.PartSums.{own_worth, part_worth}
 use Rattle.price_floor.proofs.PartViews.{HasEnds, IsLowest, from_place, stands, stands_lowest, views-places}
-use Rattle.price_floor.proofs.StepSums.{step-none, step-same, step-sum, stood}
 use Rattle.price_floor.proofs.StepLemmas.{step_worth-minus}
+use Rattle.price_floor.proofs.StepSums.{step-none, step-same, step-sum, stood}
 use Rattle.price_floor.proofs.StreamParts.{own_over, stream_parts-are}
+use Rattle.std.proofs.Common.{All, Bool, Contains, List, Some, ap, ap₂, arith, false, get_or, refl, slice_get, sym, true, ℕ, ⊎_elim, ◌∙◌, ◌≡◌}
+use Rattle.stream_case.specs.declared.source.Side.TheVariants as side
+use Rattle.stream_case.specs.declared.source.Source.TheVariants as source
 
 -- ---- the size of a stream times the change of its state
 

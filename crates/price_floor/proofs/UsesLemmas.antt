@@ -1,57 +1,24 @@
 -- What a network uses of the parts of its case is ordered at prices that support the heat flows.
-use Rattle.std.proofs.Common.{◌≡◌, inl, inr, ◌∙◌, refl, sym, ap, ap₂, subst, arith, ℕ, zero, suc, List, [], ◌∷◌, Some, slice_get, is_some, All, AllPairs, Contains}
-use Rattle.std.specs.Prelude.{ℤ, pos, ◌≤ℤ◌, ◌<ℤ◌}
-use Rattle.std.specs.Int.{int_min}
-use Rattle.std.specs.List.{enumerate_from}
-use Rattle.std.proofs.lemmas.Int.{clamps, ints}
-use Rattle.std.proofs.lemmas.List.Elements.{All-contains, All-weaker}
-use Rattle.sums.proofs.EnumerationLemmas.{All-enumerated}
-use Rattle.sums.proofs.ListLemmas.{All-slice_get}
-use Rattle.sums.proofs.OrderLemmas.{ListsFalling-unique}
-use Rattle.stream_case.specs.Case.{IsComplete, IsSourceOf}
-use Rattle.stream_case.specs.Stream.{IsValidStream, high_end, low_end}
-use Rattle.stream_case.specs.Utility.{IsPlaced}
-use Rattle.stream_case.specs.declared.case.Case.{Case}
-use Rattle.stream_case.specs.declared.source.Side.{Side}
-use Rattle.stream_case.specs.declared.source.Side.TheVariants as side
-use Rattle.stream_case.specs.declared.source.Source.{Source}
-use Rattle.stream_case.specs.declared.source.Source.TheVariants as source
-use Rattle.stream_case.specs.declared.stream.Stream.{Stream}
-use Rattle.stream_case.specs.declared.utility.Utility.{Utility}
-use Rattle.stream_case.proofs.CaseLemmas.{IsSourceOf-side}
-use Rattle.stream_case.proofs.CompleteLemmas.{AreStreams-IsComplete, IsPlaced-IsComplete}
-use Rattle.fractions.specs.Rationals.{IsAtMost, Rational, minus, plus, rational_sum_by, rational_zero, times, whole}
 use Rattle.fractions.proofs.Comparisons.{at_most-plus_plus, at_most-times, at_most-whole, at_most_refl, at_most_trans}
-use Rattle.fractions.proofs.RationalSums.{at_most-rational_sum_by, rational_sum_by-minus, sum-enumerated, sum-items}
-use Rattle.fractions.proofs.Sums.{plus-minus, plus_assoc, plus_comm}
-use Rattle.grid.specs.declared.part.Part.{Part}
-use Rattle.grid.specs.Grid.{HoldsPlaces, IsGrid, places_of}
-use Rattle.grid.specs.OnGrid.{IsOnPlaces}
-use Rattle.grid.specs.Part.{AreParts, IsPartOf}
-use Rattle.grid.proofs.MakingLemmas.{AreParts-made, HoldsPlaces-IsGrid, holds_ends}
-use Rattle.grid.proofs.OnGridLemmas.{parts_on_grid, side_of_part}
-use Rattle.grid.proofs.SizeLemmas.{IsBounded-part}
-use Rattle.heat_flow.specs.Prices.{IsSupporting, price_at}
-use Rattle.heat_flow.specs.Reach.{both_reach, reach_between}
-use Rattle.networks.specs.Lines.{exchangers_of}
-use Rattle.networks.specs.Shape.{HasShape}
-use Rattle.networks.specs.declared.network.Network.{Network}
-use Rattle.network_values.specs.Heights.{View}
-use Rattle.network_values.specs.Weights.{stream_loss}
-use Rattle.network_audit.specs.Balance.{heat_with}
-use Rattle.network_audit.specs.Valid.{IsValidNetwork}
-use Rattle.price_floor.specs.PartPrices.{price_steps}
-use Rattle.price_floor.specs.Steps.{StepPrices}
-use Rattle.price_floor.specs.Uses.{UsesAreOrdered, use_worth, used_by, used_heat, worth_of_uses}
-use Rattle.price_floor.specs.Views.{views_of}
-use Rattle.price_floor.specs.Worths.{branch_worth, cold_worth, hot_worth}
+use Rattle.price_floor.proofs.Words.{All-contains, All-enumerated, All-slice_get, All-weaker, AreParts, AreParts-made, AreStreams-IsComplete, Case, HasShape}
+use Rattle.price_floor.proofs.Words.{HoldsPlaces, HoldsPlaces-IsGrid, IsAtMost, IsBounded-part, IsComplete, IsGrid, IsOnPlaces, IsPartOf, IsPlaced}
+use Rattle.price_floor.proofs.Words.{IsPlaced-IsComplete, IsSourceOf, IsSourceOf-side, IsSupporting, IsValidNetwork, IsValidStream, ListsFalling-unique}
+use Rattle.price_floor.proofs.Words.{Network, Part, Rational, Side, Source, StepPrices, Stream, UsesAreOrdered, Utility, View, at_most-rational_sum_by}
+use Rattle.price_floor.proofs.Words.{both_reach, branch_worth, clamps, cold_worth, enumerate_from, exchangers_of, heat_with, high_end, holds_ends, hot_worth}
+use Rattle.price_floor.proofs.Words.{int_min, ints, low_end, minus, parts_on_grid, places_of, plus, plus-minus, plus_assoc, plus_comm, pos, price_at}
+use Rattle.price_floor.proofs.Words.{price_steps, rational_sum_by, rational_sum_by-minus, rational_zero, reach_between, side_of_part, stream_loss}
+use Rattle.price_floor.proofs.Words.{sum-enumerated, sum-items, times, use_worth, used_by, used_heat, views_of, whole, worth_of_uses, ℤ, ◌<ℤ◌, ◌≤ℤ◌}
 use Rattle.price_floor.proofs.NetworkWorth.{worths_ordered}
 use Rattle.price_floor.proofs.PartSums.{own_worth, part_worth, sum-by_source}
 use Rattle.price_floor.proofs.PartViews.{HasEnds, leaves_own, own_view, some_lowest, views-fall}
-use Rattle.price_floor.proofs.StepsOfParts.{cold_price, hot_price, steps_are_ordered, steps_fall}
 use Rattle.price_floor.proofs.StepSums.{step-part}
+use Rattle.price_floor.proofs.StepsOfParts.{cold_price, hot_price, steps_are_ordered, steps_fall}
 use Rattle.price_floor.proofs.StreamWorth.{stream_worth-is}
 use Rattle.price_floor.proofs.UtilityWorth.{duties_of, side_worth, side_worth-by, utility_worth-is}
+use Rattle.std.proofs.Common.{All, AllPairs, Contains, List, Some, [], ap, ap₂, arith, inl, inr, is_some, refl, slice_get, subst, suc, sym, zero, ℕ, ◌∙◌, ◌∷◌}
+use Rattle.std.proofs.Common.{◌≡◌}
+use Rattle.stream_case.specs.declared.source.Side.TheVariants as side
+use Rattle.stream_case.specs.declared.source.Source.TheVariants as source
 
 -- ---- the least price
 

@@ -1,47 +1,18 @@
 -- The duties of a utility are worth what its part is worth.
-use Rattle.std.proofs.Common.{◌≡◌, ⊎_elim, inl, inr, ◌∙◌, refl, sym, ap, ap₂, arith, ℕ, ◌==◌, ◌||◌, Bool, true, false, List, [], ◌∷◌, Option, Some, None, slice_get, get_or, option_map, unwrap_or, filter_map, is_some}
-use Rattle.std.specs.Prelude.{ℤ, pos, ◌-ℤ◌, if◌then◌else◌}
-use Rattle.std.specs.List.{cons_option, enumerate_from}
-use Rattle.std.specs.Option.{option_map_or}
-use Rattle.std.proofs.lemmas.Bool.{cases_Bool, false_from_ne_true}
-use Rattle.std.proofs.lemmas.Int.{ints}
-use Rattle.sums.proofs.EnumerationLemmas.{All-enumerated}
-use Rattle.sums.proofs.ListLemmas.{All-slice_get}
-use Rattle.stream_case.specs.Case.{IsSourceOf, side_of}
-use Rattle.stream_case.specs.Shift.{shifted}
-use Rattle.stream_case.specs.Source.{same_side, same_source}
-use Rattle.stream_case.specs.Stream.{counts_above}
-use Rattle.stream_case.specs.Utility.{shifted_level}
-use Rattle.stream_case.specs.declared.case.Case.{Case}
-use Rattle.stream_case.specs.declared.source.Side.{Side}
-use Rattle.stream_case.specs.declared.source.Side.TheVariants as side
-use Rattle.stream_case.specs.declared.source.Source.{Source}
-use Rattle.stream_case.specs.declared.source.Source.TheVariants as source
-use Rattle.stream_case.specs.declared.utility.Utility.{Utility}
-use Rattle.stream_case.proofs.CaseLemmas.{IsSourceOf-side}
-use Rattle.stream_case.proofs.SourceLemmas.{own_side, same_side-true, same_source-same, same_source-true}
-use Rattle.fractions.specs.Rationals.{Rational, minus, plus, rational_sum, rational_sum_by, rational_zero, whole}
-use Rattle.fractions.proofs.RationalSums.{rational_sum_by-same, rational_sum_by-zero, sum-items}
-use Rattle.fractions.proofs.Sums.{zero-plus}
-use Rattle.fractions.proofs.Wholes.{whole-minus}
-use Rattle.grid.specs.declared.part.Part.{Part}
-use Rattle.grid.specs.Part.{AreParts, IsPartOf, utility_part}
-use Rattle.networks.specs.Lines.{Exchanger, exchangers_of}
-use Rattle.networks.specs.Shape.{HasShape, IsExchanger}
-use Rattle.networks.specs.declared.network.Network.{Network}
-use Rattle.network_values.specs.Heights.{View, share_in}
-use Rattle.network_values.specs.OneScale.{shifted_run}
-use Rattle.network_values.specs.Penalties.{unshifted}
-use Rattle.network_values.specs.Sides.{Level, side_run}
-use Rattle.network_values.specs.Values.{Valuation}
-use Rattle.network_values.proofs.WholeHeights.{is_above-whole}
-use Rattle.network_audit.proofs.HeatLemmas.{source_on}
-use Rattle.network_audit.specs.Balance.{duties_with, duty_with, heat_with}
-use Rattle.price_floor.specs.Steps.{StepPrices, step_worth}
-use Rattle.price_floor.specs.Worths.{utility_worth}
+use Rattle.price_floor.proofs.Words.{All-enumerated, All-slice_get, AreParts, Case, Exchanger, HasShape, IsExchanger, IsPartOf, IsSourceOf, IsSourceOf-side}
+use Rattle.price_floor.proofs.Words.{Level, Network, Part, Rational, Side, Source, StepPrices, Utility, Valuation, View, cases_Bool, counts_above, duties_with}
+use Rattle.price_floor.proofs.Words.{duty_with, enumerate_from, exchangers_of, false_from_ne_true, heat_with, if◌then◌else◌, ints, is_above-whole, minus}
+use Rattle.price_floor.proofs.Words.{option_map_or, other_source, own_side, plus, pos, rational_sum_by, rational_sum_by-same, rational_sum_by-zero}
+use Rattle.price_floor.proofs.Words.{rational_zero, same_side, same_side-true, same_source, same_source-same, same_source-true, share_in, shifted}
+use Rattle.price_floor.proofs.Words.{shifted_level, shifted_run, side_of, side_run, source_on, step_worth, sum-filter_map, sum-items, unshifted, utility_part}
+use Rattle.price_floor.proofs.Words.{utility_worth, whole, whole-minus, zero-plus, ℤ, ◌-ℤ◌}
 use Rattle.price_floor.proofs.PartSums.{before-not, of_source, own_worth, part_worth, sum-by_source, sum-single}
 use Rattle.price_floor.proofs.PartViews.{stands}
 use Rattle.price_floor.proofs.StepSums.{step-none, step-same, step-sum, stood}
+use Rattle.std.proofs.Common.{Bool, List, None, Some, ap, ap₂, arith, false, get_or, inl, inr, is_some, refl, slice_get, sym, true, unwrap_or, ℕ, ⊎_elim, ◌==◌}
+use Rattle.std.proofs.Common.{◌||◌, ◌∙◌, ◌≡◌}
+use Rattle.stream_case.specs.declared.source.Side.TheVariants as side
+use Rattle.stream_case.specs.declared.source.Source.TheVariants as source
 
 -- ---- the source of an exchanger on a side
 
@@ -49,25 +20,7 @@ side-on : (case : Case) (on : Side) (e : Exchanger) → IsExchanger case e → s
 side-on case side.Hot e is = is.hot
 side-on case side.Cold e is = is.cold
 
--- a source of a side is no utility of another
-side-utility : (case : Case) (on : Side) (k : ℕ) (u : Utility) → side_of case (source.Utility k) ≡ Some on → slice_get case.utilities k ≡ Some u → u.side ≡ on
-side-utility case on k u is at = let here : Some u.side ≡ Some on = sym (ap (option_map (λ (v : Utility). v.side)) at) ∙ is in cc
-
-not_utility : (case : Case) (on : Side) (k : ℕ) (u : Utility) (s : Source) → side_of case s ≡ Some on → slice_get case.utilities k ≡ Some u
-    → (u.side ≡ on → ⊥) → same_source s (source.Utility k) ≡ false
-not_utility case on k u s is at other =
-    false_from_ne_true (same_source s (source.Utility k))
-    (λ e. other (side-utility case on k u (sym (ap (side_of case) (same_source-true s (source.Utility k) e)) ∙ is) at))
-
 -- ---- the heat of a utility
-
-sum-filter_map : {X : Type 0} (f : X → Option Rational) (xs : List X) → rational_sum (filter_map f xs) ≡ rational_sum_by (λ x. unwrap_or (f x) rational_zero) xs
-sum-filter_map f [] = refl
-sum-filter_map f (x ∷ xs) = by (f x) ∙ ap (plus (unwrap_or (f x) rational_zero)) (sum-filter_map f xs)
-  where
-    by : (o : Option Rational) → rational_sum (cons_option o (filter_map f xs)) ≡ plus (unwrap_or o rational_zero) (rational_sum (filter_map f xs))
-    by None = sym (zero-plus (rational_sum (filter_map f xs)))
-    by (Some a) = refl
 
 -- the duty of an exchanger that has the utility on a side
 abbrev own_duty : Side → ℕ → Exchanger → Rational
@@ -77,14 +30,14 @@ duty-own : (case : Case) (on : Side) (k : ℕ) (u : Utility) (e : Exchanger) →
     → unwrap_or (duty_with k e) rational_zero ≡ own_duty on k e
 duty-own case side.Hot k u e is at side_is =
     ap (λ b. unwrap_or (if same_source e.hot (source.Utility k) || b then Some e.duty else None) rational_zero)
-    (not_utility case side.Cold k u e.cold is.cold at (λ wrong. cc)) ∙ one (same_source e.hot (source.Utility k))
+    (other_source case e.cold side.Cold k u is.cold at (λ wrong. cc)) ∙ one (same_source e.hot (source.Utility k))
   where
     one : (b : Bool) → unwrap_or (if b || false then Some e.duty else None) rational_zero ≡ (if b then e.duty else rational_zero)
     one true = refl
     one false = refl
 duty-own case side.Cold k u e is at side_is =
     ap (λ b. unwrap_or (if b || same_source e.cold (source.Utility k) then Some e.duty else None) rational_zero)
-    (not_utility case side.Hot k u e.hot is.hot at (λ wrong. cc)) ∙ one (same_source e.cold (source.Utility k))
+    (other_source case e.hot side.Hot k u is.hot at (λ wrong. cc)) ∙ one (same_source e.cold (source.Utility k))
   where
     one : (b : Bool) → unwrap_or (if b then Some e.duty else None) rational_zero ≡ (if b then e.duty else rational_zero)
     one true = refl
@@ -191,7 +144,7 @@ module _ (case : Case) (network : Network) (values : Valuation) (least : ℤ) (v
         rational_sum_by-zero (of_source side_source side_worth (source.Utility k)) (enumerate_from 0 (exchangers_of network.lines))
         (All-enumerated (λ (e : ℕ × Exchanger). of_source side_source side_worth (source.Utility k) e ≡ rational_zero) (exchangers_of network.lines)
         (λ n e here. ap (λ b. if b then side_worth (n, e) else rational_zero)
-        (not_utility case on k u (source_on on e)
+        (other_source case (source_on on e) on k u
         (side-on case on e (All-slice_get (IsExchanger case) (exchangers_of network.lines) n e shape.exchangers.each here)) at other)))
 
     -- a part of the utility is its one part, and on its side

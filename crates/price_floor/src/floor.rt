@@ -57,7 +57,8 @@ pub fn cut_stands(
     requires reach { IsReachOf case.now parts.now.hot parts.now.cold reach.now }
     requires accepted { HasAccepted auditor.now case.now network.now }
     ensures exact { IsTrue result
-        ↔ IsCutOf (reach_between case.now parts.now.hot parts.now.cold) parts.now.hot parts.now.cold cut.now }
+        ↔ IsCutOf (reach_between case.now parts.now.hot parts.now.cold)
+        parts.now.hot parts.now.cold cut.now }
     ensures never { result ≡ false }
 {
     let _joints = auditor.joints();

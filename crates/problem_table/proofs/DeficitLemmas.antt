@@ -1,25 +1,24 @@
 -- Deficits, and the targets, of lists of valid streams.
-use Rattle.std.proofs.Common.{◌≡◌, ℕ, ◌+◌, ◌<◌, ◌⊎◌, ⊎_elim, inl, inr, Bool, true, false, List, [], ◌∷◌, length, get_or, take, map, refl, ap, ap₂, sym, subst, ◌∙◌, arith, ℤ, pos, ◌-ℤ◌, ◌≤ℤ◌, ◌<ℤ◌, All, Contains, fold}
-use Rattle.std.specs.Int.{int_max}
-use Rattle.std.proofs.lemmas.Int.{by_lt_z, clamps, ints, fold-int_max_bounds, fold-int_max_reached}
-use Rattle.std.proofs.lemmas.List.{map-append, length-map, get_or-map}
-use Rattle.std.proofs.lemmas.List.Sums.{fold-append}
-use Rattle.std.proofs.lemmas.List.Elements.{All-weaker, Contains-get_or}
-use Rattle.problem_table.proofs.Words.{AreSensible, AreStreams, Cold, CountsFromItself, HasTightDeficit, HasValidStreams, Hot, IsBetween, IsStreamsHeat, IsTight, IsTightOver, IsValidStream, LOWEST_SHIFTED, Stream, cold_target, counts_above, deficit_above, deficit_from, deficit_over, end_deficits, heat_of, heat_over, high_end, hot_target, low_end, outermost, stream_ends, sum_side}
-use Rattle.stream_case.proofs.CaseLemmas.{length-AreStreams}
-use Rattle.stream_case.proofs.EndLemmas.{AreEnds-IsValidStream, each_end, length-stream_ends, stream_ends-more}
-use Rattle.stream_case.proofs.HeatLemmas.{heat_of-between, heat_over-between, heat_over-sensible}
-use Rattle.sums.proofs.IntegerLemmas.{int_le-from, int_lt-from}
 use Rattle.problem_table.proofs.EndLemmas.{IsOutermost-outermost}
-use Rattle.problem_table.proofs.HeatLemmas.{heat_over-le, heat_over-none, heat_over-all}
+use Rattle.problem_table.proofs.HeatLemmas.{heat_over-all, heat_over-le, heat_over-none}
 use Rattle.problem_table.proofs.SideLemmas.{sum_side-heat, sum_side-le, sum_side-same, sum_side-zero}
+use Rattle.problem_table.proofs.Words.{All-weaker, AreEnds-IsValidStream, AreSensible, AreStreams, Cold, Contains-get_or, CountsFromItself, HasTightDeficit}
+use Rattle.problem_table.proofs.Words.{HasValidStreams, Hot, IsBetween, IsStreamsHeat, IsTight, IsTightOver, IsValidStream, LOWEST_SHIFTED, Stream, by_lt_z}
+use Rattle.problem_table.proofs.Words.{clamps, cold_target, counts_above, deficit_above, deficit_from, deficit_over, each_end, end_deficits, fold-append}
+use Rattle.problem_table.proofs.Words.{fold-int_max_bounds, fold-int_max_reached, get_or-map, heat_of, heat_of-between, heat_over, heat_over-between}
+use Rattle.problem_table.proofs.Words.{heat_over-sensible, high_end, hot_target, int_le-from, int_lt-from, int_max, ints, length-AreStreams, length-map}
+use Rattle.problem_table.proofs.Words.{length-stream_ends, low_end, map-append, outermost, stream_ends, stream_ends-more, sum_side}
+use Rattle.std.proofs.Common.{All, Bool, Contains, List, [], ap, ap₂, arith, false, fold, get_or, inl, inr, length, map, pos, refl, subst, sym, take, true, ℕ}
+use Rattle.std.proofs.Common.{ℤ, ⊎_elim, ◌+◌, ◌-ℤ◌, ◌<ℤ◌, ◌<◌, ◌∙◌, ◌∷◌, ◌≡◌, ◌≤ℤ◌, ◌⊎◌}
 
 -- ---- the deficits
 
 -- no deficit exceeds all cold heat
 deficit_over-le : (from : Bool) (t : ℤ) (streams : List Stream) → AreStreams streams → deficit_over from streams t ≤ℤ sum_side Cold heat_of streams
 deficit_over-le from t streams h =
-    let cold = sum_side-le Cold (heat_over from t) heat_of streams (All-weaker IsValidStream (λ s. heat_over from t s ≤ℤ heat_of s) (heat_over-le from t) streams h.each) in
+    let cold =
+    sum_side-le Cold (heat_over from t) heat_of streams
+    (All-weaker IsValidStream (λ s. heat_over from t s ≤ℤ heat_of s) (heat_over-le from t) streams h.each) in
     let hot = sum_side-heat Hot (heat_over from t) (heat_over-between from t) streams h.each (length-AreStreams streams h) in
     omega (arith, ints, hot)
 
@@ -29,23 +28,30 @@ not_above t level h = grind (arith, ints)
 
 deficit_above-highest : (t : ℤ) (streams : List Stream) → All IsValidStream streams → All (λ s. high_end s ≤ℤ t) streams → deficit_above streams t ≡ pos 0
 deficit_above-highest t streams valid above =
-    let none = λ (k : ℕ) (d : Stream) (within : k < length streams). heat_over-none false t (get_or streams k d) (valid k d within) (not_above t (high_end (get_or streams k d)) (above k d within)) in
+    let none =
+    λ (k : ℕ) (d : Stream) (within : k < length streams). heat_over-none false t (get_or streams k d) (valid k d within)
+    (not_above t (high_end (get_or streams k d)) (above k d within)) in
     let cold = sum_side-zero Cold (heat_over false t) streams none in
     let hot = sum_side-zero Hot (heat_over false t) streams none in
     omega (arith, ints)
 
-deficit_over-lowest : (from : Bool) (t : ℤ) (streams : List Stream) → All IsValidStream streams → All (λ s. counts_above from t (low_end s) ≡ true) streams → deficit_over from streams t ≡ sum_side Cold heat_of streams -ℤ sum_side Hot heat_of streams
+deficit_over-lowest : (from : Bool) (t : ℤ) (streams : List Stream) → All IsValidStream streams → All (λ s. counts_above from t (low_end s) ≡ true) streams
+    → deficit_over from streams t ≡ sum_side Cold heat_of streams -ℤ sum_side Hot heat_of streams
 deficit_over-lowest from t streams valid below =
     let all = λ (k : ℕ) (d : Stream) (within : k < length streams). heat_over-all from t (get_or streams k d) (valid k d within) (below k d within) in
     ap₂ ◌-ℤ◌ (sum_side-same Cold (heat_over from t) heat_of streams all) (sum_side-same Hot (heat_over from t) heat_of streams all)
 
-pub deficit_above-lowest : (t : ℤ) (streams : List Stream) → All IsValidStream streams → All (λ s. t <ℤ low_end s) streams → deficit_above streams t ≡ sum_side Cold heat_of streams -ℤ sum_side Hot heat_of streams
+pub deficit_above-lowest : (t : ℤ) (streams : List Stream) → All IsValidStream streams → All (λ s. t <ℤ low_end s) streams
+    → deficit_above streams t ≡ sum_side Cold heat_of streams -ℤ sum_side Hot heat_of streams
 deficit_above-lowest t streams valid below =
-    deficit_over-lowest false t streams valid (All-weaker (λ s. t <ℤ low_end s) (λ s. counts_above false t (low_end s) ≡ true) (λ s less. int_lt-from t (low_end s) less) streams below)
+    deficit_over-lowest false t streams valid
+    (All-weaker (λ s. t <ℤ low_end s) (λ s. counts_above false t (low_end s) ≡ true) (λ s less. int_lt-from t (low_end s) less) streams below)
 
-pub deficit_from-lowest : (t : ℤ) (streams : List Stream) → All IsValidStream streams → All (λ s. t ≤ℤ low_end s) streams → deficit_from streams t ≡ sum_side Cold heat_of streams -ℤ sum_side Hot heat_of streams
+pub deficit_from-lowest : (t : ℤ) (streams : List Stream) → All IsValidStream streams → All (λ s. t ≤ℤ low_end s) streams
+    → deficit_from streams t ≡ sum_side Cold heat_of streams -ℤ sum_side Hot heat_of streams
 deficit_from-lowest t streams valid below =
-    deficit_over-lowest true t streams valid (All-weaker (λ s. t ≤ℤ low_end s) (λ s. counts_above true t (low_end s) ≡ true) (λ s most. int_le-from t (low_end s) most) streams below)
+    deficit_over-lowest true t streams valid
+    (All-weaker (λ s. t ≤ℤ low_end s) (λ s. counts_above true t (low_end s) ≡ true) (λ s most. int_le-from t (low_end s) most) streams below)
 
 -- ---- the targets
 
@@ -82,7 +88,10 @@ abbrev greatest_deficit : Bool → List Stream → ℤ
 greatest_deficit from streams = fold int_max (pos 0) (map (deficit_over from streams) (stream_ends streams))
 
 -- a loop's step
-pub greatest_deficit-more : (from : Bool) (streams : List Stream) (i : ℕ) (s : Stream) → i < length streams → s ≡ get_or streams i s → fold int_max (pos 0) (map (deficit_over from streams) (stream_ends (take (i + 1) streams))) ≡ int_max (int_max (fold int_max (pos 0) (map (deficit_over from streams) (stream_ends (take i streams)))) (deficit_over from streams (high_end s))) (deficit_over from streams (low_end s))
+pub greatest_deficit-more : (from : Bool) (streams : List Stream) (i : ℕ) (s : Stream) → i < length streams → s ≡ get_or streams i s
+    → fold int_max (pos 0) (map (deficit_over from streams) (stream_ends (take (i + 1) streams)))
+    ≡ int_max (int_max (fold int_max (pos 0) (map (deficit_over from streams) (stream_ends (take i streams)))) (deficit_over from streams (high_end s)))
+    (deficit_over from streams (low_end s))
 greatest_deficit-more from streams i s within is =
     let f = deficit_over from streams in let ends = stream_ends (take i streams) in
     ap (λ xs. fold int_max (pos 0) (map f xs)) (stream_ends-more streams i s within is)
@@ -93,7 +102,8 @@ greatest_deficit-more from streams i s within is =
 pub hot_target-is : (streams : List Stream) → int_max (greatest_deficit false streams) (greatest_deficit true streams) ≡ hot_target streams
 hot_target-is streams =
     let aboves = map (deficit_above streams) (stream_ends streams) in let froms = map (deficit_from streams) (stream_ends streams) in
-    sym (fold-append int_max (pos 0) aboves froms ∙ fold-from (fold int_max (pos 0) aboves) froms (fold-int_max_bounds (pos 0) aboves (fold int_max (pos 0) aboves) refl).0)
+    sym (fold-append int_max (pos 0) aboves froms
+    ∙ fold-from (fold int_max (pos 0) aboves) froms (fold-int_max_bounds (pos 0) aboves (fold int_max (pos 0) aboves) refl).0)
 
 greatest_deficit-le : (from : Bool) (streams : List Stream) → greatest_deficit from streams ≤ℤ hot_target streams
 greatest_deficit-le false streams = subst (λ r. greatest_deficit false streams ≤ℤ r) (hot_target-is streams) (omega (arith, ints, clamps))
@@ -117,7 +127,8 @@ record IsReached (streams : List Stream) : Type 0 where
   tight : IsTightOver from streams end
 
 hot_target-reached : (streams : List Stream) → (hot_target streams ≡ pos 0) ⊎ IsReached streams
-hot_target-reached streams = ⊎_elim (λ e. reached false (sym e ∙ is)) (λ e. reached true (sym e ∙ is)) (greater (greatest_deficit false streams) (greatest_deficit true streams))
+hot_target-reached streams =
+    ⊎_elim (λ e. reached false (sym e ∙ is)) (λ e. reached true (sym e ∙ is)) (greater (greatest_deficit false streams) (greatest_deficit true streams))
   where
     is : int_max (greatest_deficit false streams) (greatest_deficit true streams) ≡ hot_target streams
     is = hot_target-is streams
@@ -160,7 +171,9 @@ hot_target-within streams h =
     let bounds = fold-int_max_bounds (pos 0) (end_deficits streams) (hot_target streams) refl in
     record {
       from = bounds.0;
-      upto = ⊎_elim (λ none. omega (arith, ints, cold)) (λ at. let le = deficit_over-le at.from at.end streams h in let tight = at.tight in omega (arith, ints)) (hot_target-reached streams);
+      upto =
+          ⊎_elim (λ none. omega (arith, ints, cold)) (λ at. let le = deficit_over-le at.from at.end streams h in let tight = at.tight in omega (arith, ints))
+          (hot_target-reached streams);
     }
 
 pub cold_target-within : (streams : List Stream) → AreStreams streams → IsBetween (pos 0) (sum_side Hot heat_of streams) (cold_target streams)
@@ -168,7 +181,8 @@ cold_target-within [] h = record { from = omega (arith, ints); upto = omega (ari
 cold_target-within (s ∷ ss) h =
     let streams = s ∷ ss in let ends = stream_ends streams in let t = outermost Cold ends in
     let bottom = IsOutermost-outermost Cold ends (omega arith) in
-    let above = All-weaker (λ x. (t ≤ℤ high_end x) × (t ≤ℤ low_end x)) (λ x. t ≤ℤ low_end x) (λ x e. e.1) streams (each_end (λ e. t ≤ℤ e) streams bottom.bound) in
+    let above =
+    All-weaker (λ x. (t ≤ℤ high_end x) × (t ≤ℤ low_end x)) (λ x. t ≤ℤ low_end x) (λ x e. e.1) streams (each_end (λ e. t ≤ℤ e) streams bottom.bound) in
     let lowest = deficit_from-lowest t streams h.each above in
     let bound = deficit_over-bound true streams t bottom.member in let hot = hot_target-within streams h in
     record { from = omega (arith, ints, hot); upto = omega (arith, ints, hot) }
@@ -184,9 +198,12 @@ cold_target-between streams h =
     record { from = target.from; upto = omega (arith, ints, target, all) }
 
 -- the cold target is the hot target less the deficit above a place that is below all ends
-pub cold_target-lowest : (t : ℤ) (streams : List Stream) → AreStreams streams → t <ℤ LOWEST_SHIFTED → cold_target streams ≡ hot_target streams -ℤ deficit_above streams t
+pub cold_target-lowest : (t : ℤ) (streams : List Stream) → AreStreams streams → t <ℤ LOWEST_SHIFTED
+    → cold_target streams ≡ hot_target streams -ℤ deficit_above streams t
 cold_target-lowest t streams h below =
-    let lowest = deficit_above-lowest t streams h.each (All-weaker IsValidStream (λ s. t <ℤ low_end s) (λ s valid. let ends = AreEnds-IsValidStream s valid in omega (arith, ints, ends)) streams h.each) in
+    let lowest =
+    deficit_above-lowest t streams h.each
+    (All-weaker IsValidStream (λ s. t <ℤ low_end s) (λ s valid. let ends = AreEnds-IsValidStream s valid in omega (arith, ints, ends)) streams h.each) in
     omega (arith, ints)
 
 -- ---- sensible streams
@@ -194,7 +211,8 @@ cold_target-lowest t streams h below =
 -- nothing stands at a place itself
 pub deficit_over-sensible : (from : Bool) (t : ℤ) (streams : List Stream) → AreSensible streams → deficit_over from streams t ≡ deficit_above streams t
 deficit_over-sensible from t streams h =
-    let same = λ (k : ℕ) (d : Stream) (within : k < length streams). let s = get_or streams k d in let is = h k d within in heat_over-sensible from t s is ∙ sym (heat_over-sensible false t s is) in
+    let same = λ (k : ℕ) (d : Stream) (within : k < length streams). let s = get_or streams k d in let is = h k d within in
+    heat_over-sensible from t s is ∙ sym (heat_over-sensible false t s is) in
     ap₂ ◌-ℤ◌ (sum_side-same Cold (heat_over from t) (heat_over false t) streams same) (sum_side-same Hot (heat_over from t) (heat_over false t) streams same)
 
 pub deficit_from-sensible : (t : ℤ) (streams : List Stream) → AreSensible streams → deficit_from streams t ≡ deficit_above streams t

@@ -1,8 +1,7 @@
 -- The outermost of some temperatures: the greatest or the least.
-use Rattle.std.proofs.Common.{◌≡◌, suc, ◌<◌, ◌⊎◌, inl, inr, List, [], ◌∷◌, length, refl, sym, arith, ℤ, ◌≤ℤ◌, All, Contains}
-use Rattle.std.proofs.lemmas.Int.{fold-int_max_bounds, fold-int_max_reached, fold-int_min_bounds, fold-int_min_reached}
+use Rattle.std.proofs.Common.{All, Contains, List, [], arith, inl, inr, length, refl, suc, sym, ℤ, ◌<◌, ◌∷◌, ◌≡◌, ◌≤ℤ◌, ◌⊎◌}
+use Rattle.problem_table.proofs.Words.{Cold, Hot, Side, fold-int_max_bounds, fold-int_max_reached, fold-int_min_bounds, fold-int_min_reached, outermost}
 use Rattle.std.proofs.lemmas.List.Elements.{All-cons}
-use Rattle.problem_table.proofs.Words.{Cold, Hot, Side, outermost}
 
 -- x lies at y or outside of it: above it on the hot side, below it on the cold one
 abbrev pub IsOutside : Side → ℤ → ℤ → Type 0

@@ -1,13 +1,8 @@
 -- The heat of a stream over a shifted temperature, against its whole heat.
-use Rattle.std.proofs.Common.{◌≡◌, ◌⊎◌, inl, inr, Bool, true, false, ap, ap₂, ◌∙◌, arith, ℤ, pos, ◌+ℤ◌, ◌-ℤ◌, ◌*ℤ◌, ◌≤ℤ◌, if◌then◌else◌}
-use Rattle.std.proofs.lemmas.Int.{ints, clamps}
-use Rattle.std.proofs.Math.IntN.{*ℤ-zero}
-use Rattle.sums.proofs.IntegerLemmas.{if_between, int_le-from, int_lt-from}
-use Rattle.sums.proofs.ProductLemmas.{*ℤ-≤ℤ_left}
-use Rattle.problem_table.proofs.Words.{IsLatent, IsSensible, IsValidStream, Stream, counts_above, heat_of, heat_over, high_end, length_above, load_over, low_end, sensible_above}
-use Rattle.stream_case.specs.Stream.{heat_between}
-use Rattle.stream_case.proofs.EndLemmas.{AreEnds-IsValidStream}
-use Rattle.stream_case.proofs.HeatLemmas.{cp-between}
+use Rattle.std.proofs.Common.{Bool, ap, ap₂, arith, false, if◌then◌else◌, inl, inr, pos, true, ℤ, ◌*ℤ◌, ◌+ℤ◌, ◌-ℤ◌, ◌∙◌, ◌≡◌, ◌≤ℤ◌, ◌⊎◌}
+use Rattle.problem_table.proofs.Words.{*ℤ-zero, *ℤ-≤ℤ_left, AreEnds-IsValidStream, IsLatent, IsSensible, IsValidStream, Stream, clamps, counts_above}
+use Rattle.problem_table.proofs.Words.{cp-between, heat_between, heat_of, heat_over, high_end, if_between, int_le-from, int_lt-from, ints, length_above}
+use Rattle.problem_table.proofs.Words.{load_over, low_end, sensible_above}
 
 load-not_negative : (s : Stream) → IsSensible s ⊎ IsLatent s → pos 0 ≤ℤ s.load
 load-not_negative s (inl sensible) = let none = sensible.load in omega (arith, ints)
@@ -16,7 +11,8 @@ load-not_negative s (inr latent) = let load = latent.load in omega (arith, ints)
 pub heat_over-le : (from : Bool) (t : ℤ) (s : Stream) → IsValidStream s → heat_over from t s ≤ℤ heat_of s
 heat_over-le from t s h =
     let cp = cp-between s h in let ends = AreEnds-IsValidStream s h in
-    let sensible : sensible_above t s ≤ℤ heat_between (high_end s) (low_end s) s = *ℤ-≤ℤ_left s.cp (length_above (low_end s) (high_end s) t) (high_end s -ℤ low_end s) (omega (arith, ints)) (omega (arith, ints, clamps)) in
+    let sensible : sensible_above t s ≤ℤ heat_between (high_end s) (low_end s) s =
+    *ℤ-≤ℤ_left s.cp (length_above (low_end s) (high_end s) t) (high_end s -ℤ low_end s) (omega (arith, ints)) (omega (arith, ints, clamps)) in
     let load : load_over from t s ≤ℤ s.load = (if_between (counts_above from t (high_end s)) s.load (load-not_negative s h.heat)).1 in
     omega (arith, ints, sensible, load)
 

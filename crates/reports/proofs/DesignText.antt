@@ -1,21 +1,8 @@
 -- Readers of networks pass over the line of the balance above a design.
-use Rattle.std.proofs.Common.{◌≡◌, ◌∙◌, ◌<◌, ◌∷◌, ◌++◌, ℕ, true, false, List, [], All, length, nat_lt, refl, ap, arith}
-use Rattle.std.specs.Prelude.{codes}
-use Rattle.std.specs.List.{list_all}
-use Rattle.std.proofs.lemmas.List.Elements.{All-cons, All-nil}
-use Rattle.stream_case.specs.declared.case.Case.{Case}
 use Rattle.fractions.specs.Rationals.{IsWithinLimits, Rational, fraction_text}
-use Rattle.statements.specs.Statements.{Statement, is_statement, statements_of}
-use Rattle.networks.specs.declared.network.Network.{Network}
-use Rattle.statements.specs.Statements.{fields_text, statement_text}
-use Rattle.network_text.specs.Printed.{text_of}
-use Rattle.statements.proofs.PlainStatements.{word_plain}
-use Rattle.network_text.proofs.print.Fields.{fraction_plain}
-use Rattle.statements.specs.Statements.{IsPlainField}
-use Rattle.statements.proofs.PlainStatements.{comment-back}
-use Rattle.network_audit.specs.declared.verdict.Balance.{Balance}
-use Rattle.network_audit.proofs.BalanceWithin.{HasFractions}
-use Rattle.reports.specs.Design.{balance_comment, design_text}
+use Rattle.reports.proofs.Words.{All-cons, All-nil, Balance, Case, HasFractions, IsPlainField, Network, Statement, balance_comment, codes, comment-back}
+use Rattle.reports.proofs.Words.{design_text, fields_text, fraction_plain, is_statement, list_all, statement_text, statements_of, text_of, word_plain}
+use Rattle.std.proofs.Common.{All, List, [], ap, arith, false, length, nat_lt, refl, true, ℕ, ◌++◌, ◌<◌, ◌∙◌, ◌∷◌, ◌≡◌}
 
 -- the fields behind `#`
 abbrev balance_fields : Balance → Statement
@@ -27,9 +14,11 @@ unfolding fields_text
 comment-fields b rest = refl
 
 -- a number behind its word
-numbered : (word : List ℕ) → 0 < length word → list_all (nat_lt 32) word ≡ true → (a : Rational) → IsWithinLimits a → (fields : Statement) → All IsPlainField fields → All IsPlainField (word ∷ fraction_text a ∷ fields)
+numbered : (word : List ℕ) → 0 < length word → list_all (nat_lt 32) word ≡ true → (a : Rational) → IsWithinLimits a → (fields : Statement)
+    → All IsPlainField fields → All IsPlainField (word ∷ fraction_text a ∷ fields)
 numbered word some passes a within fields plain =
-    All-cons IsPlainField word (fraction_text a ∷ fields) (word_plain word some passes) (All-cons IsPlainField (fraction_text a) fields (fraction_plain a within) plain)
+    All-cons IsPlainField word (fraction_text a ∷ fields) (word_plain word some passes)
+    (All-cons IsPlainField (fraction_text a) fields (fraction_plain a within) plain)
 
 fields_plain : (b : Balance) → HasFractions b → All IsPlainField (codes "#" ∷ balance_fields b)
 fields_plain b within =
@@ -47,6 +36,8 @@ unfolding is_statement
 comment-counts_not b = refl
 
 -- the statements of a design are those of its network
-pub design-statements : (case : Case) (network : Network) (b : Balance) → HasFractions b → statements_of (design_text case network b) ≡ statements_of (text_of case network)
+pub design-statements : (case : Case) (network : Network) (b : Balance) → HasFractions b
+    → statements_of (design_text case network b) ≡ statements_of (text_of case network)
 design-statements case network b within =
-    ap statements_of (comment-fields b (text_of case network)) ∙ comment-back (codes "#") (balance_fields b) (text_of case network) (fields_plain b within) (comment-counts_not b)
+    ap statements_of (comment-fields b (text_of case network))
+    ∙ comment-back (codes "#") (balance_fields b) (text_of case network) (fields_plain b within) (comment-counts_not b)

@@ -3,3 +3,4 @@ pub mod ProofTexts
 mod ReportTexts
 mod ShownKinds
 mod TextLemmas
+pub mod Words

@@ -1,25 +1,10 @@
 -- What is printed of a proof is a report that is answered with yes.
-use Rattle.std.proofs.Common.{◌<◌, ℤ, List, All, length, get_or, sym, subst}
-use Rattle.stream_case.specs.Case.{IsComplete}
-use Rattle.stream_case.specs.declared.case.Case.{Case}
-use Rattle.grid.specs.Part.{AreCaseParts}
-use Rattle.grid.specs.declared.part.Part.{Part}
-use Rattle.grid.specs.declared.parts.Parts.{Parts}
-use Rattle.heat_flow.specs.Certificate.{IsCertified, IsCutOf}
-use Rattle.heat_flow.specs.Reach.{reach_between}
-use Rattle.heat_flow.specs.declared.cut.Cut.{Cut}
-use Rattle.heat_flow.specs.declared.flow.Flow.{Flow}
-use Rattle.heat_flow.specs.declared.prices.Prices.{Prices}
-use Rattle.certify.specs.Answers.{own_parts}
-use Rattle.certify.specs.Said.{cut_report, flow_report}
-use Rattle.certify.proofs.PartSums.{needing-within}
-use Rattle.certify.proofs.Printed.{printed-again}
+use Rattle.reports.proofs.Words.{AreCaseParts, Case, Cut, Flow, IsAnsweredWithYes, IsCertified, IsComplete, IsCutOf, Part, Parts, Prices, PrintedProofsPass}
+use Rattle.reports.proofs.Words.{certified-pass, cut_report, cuts-pass, flow_report, needing-within, own_parts, printed-again, reach_between, text}
 use Rattle.certify.proofs.Ranges.{cuts-readable, flows-readable}
-use Rattle.certify.proofs.Said.{certified-pass, cuts-pass}
-use Rattle.reports.specs.Proofs.{IsAnsweredWithYes, PrintedProofsPass}
-use Rattle.reports.specs.Text.{text}
-use Rattle.reports.specs.declared.shown.Shown.TheVariants as shows
 use Rattle.reports.proofs.ReportTexts.{cut-text, flow-text}
+use Rattle.std.proofs.Common.{All, List, get_or, length, subst, sym, ℤ, ◌<◌}
+use Rattle.reports.specs.declared.shown.Shown.TheVariants as shows
 
 flow_answered : (c : Case) (parts : Parts) (flow : Flow) (prices : Prices) (cost : ℤ) → IsComplete c → AreCaseParts c parts.hot parts.cold
     → IsCertified (reach_between c parts.hot parts.cold) parts.hot parts.cold flow.transfers prices.hot prices.cold cost

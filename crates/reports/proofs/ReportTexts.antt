@@ -1,42 +1,14 @@
 -- The text of a heat flow or of a cut is that of the report that it makes.
-use Rattle.std.proofs.Common.{◌≡◌, ◌∙◌, ◌<◌, ℕ, zero, suc, ℤ, List, [], ◌∷◌, ◌++◌, All, pos, length, map, get_or, slice_get, refl, sym, ap, ap₂, append_assoc}
-use Rattle.std.specs.Prelude.{codes}
-use Rattle.std.specs.Fmt.{signed_decimal}
-use Rattle.std.specs.List.{flat_map}
-use Rattle.std.specs.Option.{option_map_or}
-use Rattle.std.proofs.lemmas.Grind.{flat_map-append}
-use Rattle.std.proofs.lemmas.List.Elements.{All-head, All-tail}
-use Rattle.std.proofs.lemmas.Option.{slice_get-get_or}
-use Rattle.stream_case.specs.Case.{source_name as name_of}
-use Rattle.stream_case.specs.declared.case.Case.{Case}
-use Rattle.stream_case.specs.declared.source.Side.{Side}
-use Rattle.stream_case.specs.declared.source.Side.TheVariants.{Hot, Cold}
-use Rattle.stream_case.specs.declared.source.Source.{Source}
-use Rattle.stream_case.specs.declared.source.Source.TheVariants.{Stream as of_stream, Utility as of_utility}
-use Rattle.stream_case.specs.declared.stream.Stream.{Stream}
-use Rattle.stream_case.specs.declared.utility.Utility.{Utility}
-use Rattle.grid.specs.declared.part.Part.{Part}
-use Rattle.grid.specs.declared.parts.Parts.{Parts}
-use Rattle.heat_flow.specs.Certificate.{utility_heat}
-use Rattle.heat_flow.specs.Cuts.{cut_side, parts_of}
-use Rattle.heat_flow.specs.Flow.{HaveParts}
-use Rattle.heat_flow.specs.Prices.{price_at}
-use Rattle.heat_flow.specs.declared.cut.Cut.{Cut}
-use Rattle.heat_flow.specs.declared.cut.CutKind.{CutKind}
-use Rattle.heat_flow.specs.declared.cut.CutKind.TheVariants.{Demand, Supply}
-use Rattle.heat_flow.specs.declared.flow.Transfer.{Transfer}
-use Rattle.heat_flow.specs.declared.prices.Prices.{Prices}
-use Rattle.heat_flow.proofs.Blanks.{blank}
-use Rattle.statements.specs.Statements.{Statement, fields_text, statement_text}
-use Rattle.certify.specs.Answers.{own_parts, span_of, use_of}
+use Rattle.reports.proofs.Words.{All-head, All-tail, Case, Cold, Cut, CutKind, Demand, HaveParts, Hot, Part, Parts, Prices, Side, Source, Span, Statement}
+use Rattle.reports.proofs.Words.{Stream, Supply, Transfer, Utility, blank, case_names, codes, cut_line, cut_report, cut_side, fields_text, flat_map}
+use Rattle.reports.proofs.Words.{flat_map-append, flow_report, flow_text, line, made_from, member_line, move_line, move_of, named_at, option_map_or, own_parts}
+use Rattle.reports.proofs.Words.{part_at, part_text, parts_of, price_at, price_line, price_word, priced_by, side_parts, signed_decimal, slice_get-get_or}
+use Rattle.reports.proofs.Words.{source_name, span_of, statement_text, stuck_text, texts_from, use_line, use_of, utility_heat}
 use Rattle.certify.specs.Printed.{cost_statement, cut_statement, move_statement, part_statement, priced_statement, report_text, use_statement}
-use Rattle.certify.specs.Said.{cut_report, flow_report, made_from, move_of, named_at, priced_by}
-use Rattle.certify.specs.declared.report.Span.{Span}
-use Rattle.certify.specs.declared.report.Used.{Used}
-use Rattle.reports.specs.Cut.{cut_line, member_line, stuck_text}
-use Rattle.reports.specs.Flow.{flow_text, move_line, part_at, part_text, price_line, price_lines, price_word, side_parts, side_prices, use_line}
-use Rattle.reports.specs.Lines.{line, texts_from}
-use Rattle.reports.specs.Names.{case_names, source_name}
+use Rattle.std.proofs.Common.{All, List, [], ap, append_assoc, ap₂, get_or, length, map, pos, refl, slice_get, suc, sym, zero, ℕ, ℤ, ◌++◌, ◌<◌, ◌∙◌, ◌∷◌, ◌≡◌}
+use Rattle.stream_case.specs.Case.{source_name as name_of}
+use Rattle.stream_case.specs.declared.source.Source.TheVariants.{Stream as of_stream}
+use Rattle.stream_case.specs.declared.source.Source.TheVariants.{Utility as of_utility}
 
 -- ---- lists
 
@@ -101,8 +73,7 @@ move_text : (c : Case) (parts : Parts) (t : Transfer) → t.hot < length parts.h
     → move_line (case_names c) parts t ≡ statement_text (move_statement (move_of c parts.hot parts.cold t))
 unfolding fields_text span_text
 move_text c parts t is_hot is_cold =
-    let names = case_names c in
-    let end = 32 ∷ (signed_decimal t.heat ++ 10 ∷ []) in
+    let names = case_names c in let end = 32 ∷ (signed_decimal t.heat ++ 10 ∷ []) in
     ap (λ text. codes "move " ++ text)
     (append_assoc (part_at names parts.hot t.hot) (32 ∷ part_at names parts.cold t.cold) end
     ∙ ap (λ rest. part_at names parts.hot t.hot ++ 32 ∷ rest) (named_before c parts.cold t.cold end is_cold)

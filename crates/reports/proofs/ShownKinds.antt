@@ -1,34 +1,12 @@
 -- The kinds of what is shown: what the one function prints, the other one does not.
-use Rattle.std.proofs.Common.{◌≡◌, ℕ, ℤ, List, Option, refl}
-use Rattle.std.specs.Prelude.{IsTrue}
-use Rattle.stream_case.specs.declared.case.Case.{Case}
-use Rattle.problem_table.specs.declared.target.Target.{Target}
-use Rattle.case_text.specs.declared.fault.CaseWhy.{CaseWhy}
-use Rattle.certify.specs.declared.fault.ReportWhy.{ReportWhy}
-use Rattle.certify.specs.declared.report.NoWhy.{NoWhy}
-use Rattle.curves.specs.declared.point.Point.{Point}
-use Rattle.grid.specs.declared.parts.Parts.{Parts}
-use Rattle.heat_flow.specs.declared.cut.Cut.{Cut}
+use Rattle.reports.proofs.Words.{Answer, Balance, Case, CaseWhy, Cut, FileRole, IsTrue, NetWhy, Network, NoWhy, Parts, PenaltyList, Place, Point, Reason}
+use Rattle.reports.proofs.Words.{ReportWhy, Shown, Site, SiteTable, SiteWhy, Study, StudyAnswer, StudyWhy, SweepRow, Target, is_of_network, is_refusal}
+use Rattle.reports.specs.declared.shown.Shown.TheVariants.{Accepted, BadCase, BadNetwork, BadReport, BadSite, BadStudy, BadWords, Certified, Curves, Design}
+use Rattle.reports.specs.declared.shown.Shown.TheVariants.{Flow, Latent, NotCertified, NotStandard, Prices, ReadFault, Rejected, Sample, SiteShown, Stuck}
+use Rattle.reports.specs.declared.shown.Shown.TheVariants.{Sweep, Targets, TooFine, TooLong}
+use Rattle.std.proofs.Common.{List, Option, refl, ℕ, ℤ, ◌≡◌}
 use Rattle.heat_flow.specs.declared.flow.Flow.{Flow as HeatFlow}
 use Rattle.heat_flow.specs.declared.prices.Prices.{Prices as PartPrices}
-use Rattle.transport.specs.declared.answer.Answer.{Answer}
-use Rattle.plants.specs.declared.site.Site.{Site}
-use Rattle.plants.specs.declared.table.SiteTable.{SiteTable}
-use Rattle.site.specs.declared.fault.SiteWhy.{SiteWhy}
-use Rattle.study.specs.declared.study_fault.StudyWhy.{StudyWhy}
-use Rattle.study.specs.declared.row.SweepRow.{SweepRow}
-use Rattle.study.specs.declared.study_item.Study.{Study}
-use Rattle.study.specs.declared.study_item.StudyAnswer.{StudyAnswer}
-use Rattle.network_text.specs.declared.fault.NetWhy.{NetWhy}
-use Rattle.networks.specs.declared.network.Network.{Network}
-use Rattle.network_audit.specs.declared.findings.Place.{Place}
-use Rattle.network_audit.specs.declared.findings.Reason.{Reason}
-use Rattle.network_audit.specs.declared.verdict.Balance.{Balance}
-use Rattle.penalties.specs.declared.list.PenaltyList.{PenaltyList}
-use Rattle.reports.specs.Text.{is_of_network, is_refusal}
-use Rattle.reports.specs.declared.shown.FileRole.{FileRole}
-use Rattle.reports.specs.declared.shown.Shown.{Shown}
-use Rattle.reports.specs.declared.shown.Shown.TheVariants.{Targets, Flow, Stuck, Curves, Design, Accepted, Rejected, TooFine, SiteShown, Sweep, Sample, Certified, NotCertified, Prices, BadWords, BadCase, NotStandard, Latent, BadSite, BadNetwork, BadReport, BadStudy, TooLong, ReadFault}
 
 -- what is no answer and no network is a refusal
 pub is_refusal-other : (shown : Shown)
@@ -43,7 +21,8 @@ pub is_refusal-other : (shown : Shown)
     → ((why : NoWhy) → shown ≡ NotCertified why → ⊥)
     → ((c : Case) (study : Study) (answers : List StudyAnswer) → shown ≡ Prices c study answers → ⊥)
     → ((c : Case) (network : Network) (balance : Balance) → shown ≡ Design c network balance → ⊥)
-    → ((c : Case) (network : Network) (balance : Balance) (place floor : ℤ) (penalties : PenaltyList) → shown ≡ Accepted c network balance place floor penalties → ⊥)
+    → ((c : Case) (network : Network) (balance : Balance) (place floor : ℤ) (penalties : PenaltyList) → shown ≡ Accepted c network balance place floor penalties
+    → ⊥)
     → ((c : Case) (network : Network) (place : Place) (reason : Reason) → shown ≡ Rejected c network place reason → ⊥)
     → ((c : Case) (network : Network) (place : Place) (step : ℕ) → shown ≡ TooFine c network place step → ⊥)
     → IsTrue (is_refusal shown)
@@ -61,21 +40,13 @@ is_refusal-other (Design k network balance) t f s c e w m y q p d a r o = absurd
 is_refusal-other (Accepted k network balance place floor penalties) t f s c e w m y q p d a r o = absurd (a k network balance place floor penalties refl)
 is_refusal-other (Rejected k network place reason) t f s c e w m y q p d a r o = absurd (r k network place reason refl)
 is_refusal-other (TooFine k network place step) t f s c e w m y q p d a r o = absurd (o k network place step refl)
-is_refusal-other BadWords t f s c e w m y q p d a r o = refl
-is_refusal-other (BadCase row why) t f s c e w m y q p d a r o = refl
-is_refusal-other NotStandard t f s c e w m y q p d a r o = refl
-is_refusal-other Latent t f s c e w m y q p d a r o = refl
-is_refusal-other (BadSite row why) t f s c e w m y q p d a r o = refl
-is_refusal-other (BadNetwork line why) t f s c e w m y q p d a r o = refl
-is_refusal-other (BadReport line why) t f s c e w m y q p d a r o = refl
-is_refusal-other (BadStudy row why) t f s c e w m y q p d a r o = refl
-is_refusal-other (TooLong file) t f s c e w m y q p d a r o = refl
-is_refusal-other (ReadFault file) t f s c e w m y q p d a r o = refl
+is_refusal-other other t f s c e w m y q p d a r o = refl
 
 -- a network is shown in one of four ways
 pub no_network : (shown : Shown) → IsTrue (is_of_network shown)
     → ((c : Case) (network : Network) (balance : Balance) → shown ≡ Design c network balance → ⊥)
-    → ((c : Case) (network : Network) (balance : Balance) (place floor : ℤ) (penalties : PenaltyList) → shown ≡ Accepted c network balance place floor penalties → ⊥)
+    → ((c : Case) (network : Network) (balance : Balance) (place floor : ℤ) (penalties : PenaltyList) → shown ≡ Accepted c network balance place floor penalties
+    → ⊥)
     → ((c : Case) (network : Network) (place : Place) (reason : Reason) → shown ≡ Rejected c network place reason → ⊥)
     → ((c : Case) (network : Network) (place : Place) (step : ℕ) → shown ≡ TooFine c network place step → ⊥)
     → ⊥

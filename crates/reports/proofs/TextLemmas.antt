@@ -1,9 +1,9 @@
 -- Texts of the elements of a list, one after the other.
-use Rattle.std.proofs.Common.{◌≡◌, ◌+◌, ◌<◌, ◌∙◌, ℕ, suc, List, [], ◌∷◌, ◌++◌, length, get_or, take, ap, sym, arith, append_assoc, append-nil}
-use Rattle.std.proofs.lemmas.List.{take_more, length-take-le}
-use Rattle.reports.specs.Lines.{texts_from}
+use Rattle.reports.proofs.Words.{length-take-le, take_more, texts_from}
+use Rattle.std.proofs.Common.{List, [], ap, append-nil, append_assoc, arith, get_or, length, suc, sym, take, ℕ, ◌++◌, ◌+◌, ◌<◌, ◌∙◌, ◌∷◌, ◌≡◌}
 
-pub texts_from-append : {X : Type 0} (f : ℕ → X → List ℕ) (n : ℕ) (xs ys : List X) → texts_from f n (xs ++ ys) ≡ texts_from f n xs ++ texts_from f (n + length xs) ys
+pub texts_from-append : {X : Type 0} (f : ℕ → X → List ℕ) (n : ℕ) (xs ys : List X)
+    → texts_from f n (xs ++ ys) ≡ texts_from f n xs ++ texts_from f (n + length xs) ys
 texts_from-append f n [] ys = ap (λ k. texts_from f k ys) (omega arith)
 texts_from-append f n (x ∷ xs) ys =
     let at : suc n + length xs ≡ n + length (x ∷ xs) = omega arith in

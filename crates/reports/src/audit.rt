@@ -24,7 +24,8 @@ pub fn accepted_text(
     floor: i128,
     penalties: &PenaltyList,
 ) -> Result<String, AllocError>
-    ensures { IfOk result (λ text. string_bytes text ≡ accepted_text case.now network.now balance.now reference floor penalties.now) }
+    ensures { IfOk result (λ text. string_bytes text
+        ≡ accepted_text case.now network.now balance.now reference floor penalties.now) }
 {
     let mut text = String::from_str(alloc, "accepted\n")?;
     text.push_str(&balance_lines(alloc, balance)?)?;
@@ -41,7 +42,8 @@ pub fn rejected_text(
     place: Place,
     reason: Reason,
 ) -> Result<String, AllocError>
-    ensures { IfOk result (λ text. string_bytes text ≡ rejected_text case.now network.now place reason) }
+    ensures { IfOk result
+        (λ text. string_bytes text ≡ rejected_text case.now network.now place reason) }
 {
     let place = place_text(alloc, case, network, place)?;
     let reason = reason_text(alloc, reason)?;
@@ -56,7 +58,8 @@ pub fn too_fine_text(
     place: Place,
     step: u32,
 ) -> Result<String, AllocError>
-    ensures { IfOk result (λ text. string_bytes text ≡ too_fine_text case.now network.now place step) }
+    ensures { IfOk result
+        (λ text. string_bytes text ≡ too_fine_text case.now network.now place step) }
 {
     let place = place_text(alloc, case, network, place)?;
     format!(in alloc; "too fine {place} step {step}\n")
@@ -89,7 +92,8 @@ fn penalty_lines(
     network: &Network,
     penalties: &PenaltyList,
 ) -> Result<String, AllocError>
-    ensures { IfOk result (λ text. string_bytes text ≡ penalty_lines case.now network.now penalties.now) }
+    ensures { IfOk result
+        (λ text. string_bytes text ≡ penalty_lines case.now network.now penalties.now) }
 {
     match penalties {
         PenaltyList::Listed(listed) => {
@@ -105,7 +109,8 @@ fn penalty_lines(
 }
 
 fn listed_lines(alloc: Global, names: &[Name], penalties: &[Penalty]) -> Result<String, AllocError>
-    ensures { IfOk result (λ text. string_bytes text ≡ flat_map (penalty_line names.now) penalties.now) }
+    ensures { IfOk result
+        (λ text. string_bytes text ≡ flat_map (penalty_line names.now) penalties.now) }
 {
     let mut text = String::new(alloc);
     for penalty in penalties {

@@ -6,9 +6,8 @@ ghost use Rattle.reports.specs.Flow.{part_text, part_at, side_parts, side_prices
 
 use crate::line::{line, number_at};
 use crate::names::{SourceNames, case_names};
-use certify::utility_heat;
 use grid::{Part, Parts};
-use heat_flow::{Prices, Transfer};
+use heat_flow::{Prices, Transfer, utility_heat};
 use std::alloc::{AllocError, Global};
 use stream_case::{Case, Side, Utility};
 
@@ -127,7 +126,8 @@ fn price_lines(
     parts: &Parts,
     prices: &Prices,
 ) -> Result<String, AllocError>
-    ensures { IfOk result (λ text. string_bytes text ≡ price_lines names.now side parts.now prices.now) }
+    ensures { IfOk result
+        (λ text. string_bytes text ≡ price_lines names.now side parts.now prices.now) }
 {
     let prices = side_prices(side, prices);
     let mut text = String::new(alloc);

@@ -7,9 +7,8 @@ use crate::cut::stuck_text;
 use crate::flow::certificate_lines;
 use crate::line::{line, number_at};
 use crate::names::{SourceNames, site_names};
-use certify::utility_heat;
 use grid::Parts;
-use heat_flow::{Prices, Transfer};
+use heat_flow::{Prices, Transfer, utility_heat};
 use site::{Site, SiteTable};
 use std::alloc::{AllocError, Global};
 use stream_case::{Items, Side};
@@ -67,7 +66,8 @@ fn answer_lines(
     parts: &Parts,
     answer: &Answer,
 ) -> Result<String, AllocError>
-    ensures { IfOk result (λ text. string_bytes text ≡ answer_lines names.now parts.now answer.now) }
+    ensures { IfOk result
+        (λ text. string_bytes text ≡ answer_lines names.now parts.now answer.now) }
 {
     match answer {
         Answer::Least { flow, prices, .. } => {

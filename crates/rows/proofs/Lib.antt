@@ -5,3 +5,4 @@ pub mod PrintedRows
 pub mod Tests
 pub mod Streams
 pub mod Seams
+pub mod Words

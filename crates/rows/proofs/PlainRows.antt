@@ -1,24 +1,13 @@
 -- Rows of plain fields, as lines of text, are read as themselves.
-use Rattle.std.proofs.Common.{◌≡◌, ◌∙◌, ◌<◌, ◌≤◌, ◌+◌, ◌∷◌, ◌++◌, ◌^◌, ℕ, ℤ, pos, negsuc, zero, suc, true, false, List, [], All, Some, length, get_or, refl, sym, ap, arith, append_assoc, length-append}
-use Rattle.std.specs.Fmt.{decimal, signed_decimal}
-use Rattle.std.specs.List.{list_any}
-use Rattle.std.proofs.lemmas.Bool.Decides.{nat_tests}
-use Rattle.std.proofs.lemmas.Fmt.{decimal_is_IsNumeral}
-use Rattle.std.proofs.lemmas.Int.{ints}
-use Rattle.std.proofs.lemmas.List.{get_or_default}
-use Rattle.std.proofs.lemmas.List.Elements.{All-cons, All-head, All-tail, All-weaker}
-use Rattle.std.proofs.lemmas.List.Folds.{list_any_none}
-use Rattle.std.proofs.lemmas.Str.Parse.{digit_at}
+use Rattle.rows.proofs.Words.{All-cons, All-head, All-tail, All-weaker, IsName, Row, decimal, decimal_is_IsNumeral, default_config, default_writer, digit_at}
+use Rattle.rows.proofs.Words.{fields_text, get_or_default, ints, is_name_byte, list_any, list_any_none, nat_tests, needs_byte, read-write-many, records_from}
+use Rattle.rows.proofs.Words.{row_text, rows_of, rows_text, signed_decimal, strip_bom}
 use Rattle.csv.specs.Machine.{next_record}
-use Rattle.csv.specs.Reading.{default_config, records_from, strip_bom}
-use Rattle.csv.specs.Writing.{default_writer, needs_byte}
+use Rattle.rows.proofs.PrintedNumbers.{IsPrintable}
+use Rattle.std.proofs.Common.{All, List, Some, [], ap, append_assoc, arith, false, get_or, length, length-append, negsuc, pos, refl, suc, sym, true, zero, ℕ, ℤ}
+use Rattle.std.proofs.Common.{◌++◌, ◌+◌, ◌<◌, ◌^◌, ◌∙◌, ◌∷◌, ◌≡◌, ◌≤◌}
 use Rattle.csv.specs.Writing as csv
 use Rattle.csv.specs.declared.parser.State.TheVariants as st
-use Rattle.csv.proofs.RoundTrip.{read-write-many}
-use Rattle.rows.specs.Rows.{Row, rows_of}
-use Rattle.stream_case.specs.Name.{IsName, is_name_byte}
-use Rattle.rows.specs.Text.{fields_text, row_text, rows_text}
-use Rattle.rows.proofs.PrintedNumbers.{IsPrintable}
 
 -- ---- fields
 
@@ -36,7 +25,9 @@ pub name_plain : (name : List ℕ) → IsName name → IsPlain name
 name_plain [] is = absurd is
 name_plain (b ∷ bs) is =
     let first : is_name_byte b ≡ true = rw is.0 refl in
-    list_any_none (needs_byte default_writer) (b ∷ bs) (All-weaker (λ (c : ℕ). is_name_byte c ≡ true) (λ (c : ℕ). needs_byte default_writer c ≡ false) name_byte_plain (b ∷ bs) (All-cons (λ (c : ℕ). is_name_byte c ≡ true) b bs first is.1))
+    list_any_none (needs_byte default_writer) (b ∷ bs)
+    (All-weaker (λ (c : ℕ). is_name_byte c ≡ true) (λ (c : ℕ). needs_byte default_writer c ≡ false) name_byte_plain (b ∷ bs)
+    (All-cons (λ (c : ℕ). is_name_byte c ≡ true) b bs first is.1))
 
 decimal_plain : (n : ℕ) → n < 2 ^ 64 → IsPlain (decimal n)
 decimal_plain n small =
@@ -61,7 +52,8 @@ unfolding fields_text csv.fields_text
 fields_same [] plain = refl
 fields_same (f ∷ fs) plain =
     let here = All-head IsPlain f fs plain in
-    rw here (ap (λ t. 44 ∷ (f ++ t)) (fields_same fs (All-tail IsPlain f fs plain)) ∙ ap (λ t. 44 ∷ t) (sym (append_assoc f (csv.fields_text default_writer fs) (10 ∷ []))))
+    rw here (ap (λ t. 44 ∷ (f ++ t)) (fields_same fs (All-tail IsPlain f fs plain))
+    ∙ ap (λ t. 44 ∷ t) (sym (append_assoc f (csv.fields_text default_writer fs) (10 ∷ []))))
 
 row_same : (row : Row) → IsPlainRow row → row_text row ≡ csv.row_text default_writer row
 unfolding csv.is_blank
@@ -69,12 +61,15 @@ row_same [] plain = absurd (omega (arith, plain.long))
 row_same (x ∷ []) plain = absurd (omega (arith, plain.long))
 row_same (x ∷ y ∷ ys) plain =
     let here = All-head IsPlain x (y ∷ ys) plain.each in
-    rw here (ap (λ t. x ++ t) (fields_same (y ∷ ys) (All-tail IsPlain x (y ∷ ys) plain.each)) ∙ sym (append_assoc x (csv.fields_text default_writer (y ∷ ys)) (10 ∷ [])))
+    rw here (ap (λ t. x ++ t) (fields_same (y ∷ ys) (All-tail IsPlain x (y ∷ ys) plain.each))
+    ∙ sym (append_assoc x (csv.fields_text default_writer (y ∷ ys)) (10 ∷ [])))
 
-row_read : (row : Row) (tail : List ℕ) → IsPlainRow row → next_record default_config st.StartRecord [] [] (row_text row ++ tail) ≡ Some (row, st.StartRecord, tail)
+row_read : (row : Row) (tail : List ℕ) → IsPlainRow row
+    → next_record default_config st.StartRecord [] [] (row_text row ++ tail) ≡ Some (row, st.StartRecord, tail)
 row_read [] tail plain = absurd (omega (arith, plain.long))
 row_read (x ∷ []) tail plain = absurd (omega (arith, plain.long))
-row_read (x ∷ y ∷ ys) tail plain = ap (λ t. next_record default_config st.StartRecord [] [] (t ++ tail)) (row_same (x ∷ y ∷ ys) plain) ∙ read-write-many x y ys tail
+row_read (x ∷ y ∷ ys) tail plain =
+    ap (λ t. next_record default_config st.StartRecord [] [] (t ++ tail)) (row_same (x ∷ y ∷ ys) plain) ∙ read-write-many x y ys tail
 
 -- a line has a byte at least
 rows_long : (rows : List Row) → All IsPlainRow rows → length rows ≤ length (rows_text rows)
@@ -102,4 +97,5 @@ pub rows_same : (rows : List Row) (text : List ℕ) → All IsPlainRow rows → 
 unfolding rows_of
 rows_same rows text plain starts =
     let same : strip_bom (rows_text rows) ≡ rows_text rows = ap strip_bom starts ∙ no_mark text ∙ sym starts in
-    ap (λ t. records_from default_config (length t + 1) st.StartRecord t) same ∙ rows_read rows (length (rows_text rows) + 1) plain (omega (arith, rows_long rows plain))
+    ap (λ t. records_from default_config (length t + 1) st.StartRecord t) same
+    ∙ rows_read rows (length (rows_text rows) + 1) plain (omega (arith, rows_long rows plain))

@@ -1,21 +1,9 @@
 -- Numbers as they are printed.
-use Rattle.std.proofs.Common.{◌≡◌, ◌<◌, ◌≤◌, ◌+◌, ◌==◌, ◌∷◌, ℕ, ℤ, pos, negsuc, neg_ℤ, ◌^◌, ◌-◌, suc, true, false, List, [], get_or, option_map, Option, Some, None, IfSome, length, refl, ap, arith}
-use Rattle.std.specs.Fmt.{decimal, signed_decimal}
-use Rattle.std.proofs.lemmas.Bool.Decides.{nat_tests}
-use Rattle.std.proofs.lemmas.Fmt.{decimal_is_IsNumeral, length-decimal-le}
-use Rattle.std.proofs.lemmas.Int.{ints}
-use Rattle.std.proofs.lemmas.Str.Parse.{digit_at}
-use Rattle.stream_case.specs.Limits.{IsBetween, IsContribution, IsFlowRate, IsHeat, IsLoad, IsPrice, IsTemperature}
-use Rattle.stream_case.specs.Stream.{IsValidStream}
-use Rattle.stream_case.specs.declared.stream.Stream.{Stream}
-use Rattle.stream_case.specs.Digits.{natural_in}
-use Rattle.stream_case.proofs.DigitLemmas.{natural_read}
-use Rattle.stream_case.proofs.HeatLemmas.{cp-between}
-use Rattle.rows.specs.Fields.{field, is_number, is_number_or_empty, number, optional_number}
-use Rattle.rows.specs.Numbers.{negative, number_in}
-use Rattle.rows.specs.Printed.{optional_field}
-use Rattle.rows.specs.Rows.{Row}
-use Rattle.rows.specs.declared.numbers.TheConstants.{MOST_DIGITS}
+use Rattle.rows.proofs.Words.{IsBetween, IsContribution, IsFlowRate, IsHeat, IsLoad, IsPrice, IsTemperature, IsValidStream, MOST_DIGITS, Row, Stream}
+use Rattle.rows.proofs.Words.{cp-between, decimal, decimal_is_IsNumeral, digit_at, field, ints, is_number, is_number_or_empty, length-decimal-le, nat_tests}
+use Rattle.rows.proofs.Words.{natural_in, natural_read, negative, number, number_in, optional_field, optional_number, signed_decimal}
+use Rattle.std.proofs.Common.{IfSome, List, None, Option, Some, [], ap, arith, false, get_or, length, neg_ℤ, negsuc, option_map, pos, refl, suc, true, ℕ, ℤ}
+use Rattle.std.proofs.Common.{◌+◌, ◌-◌, ◌<◌, ◌==◌, ◌^◌, ◌∷◌, ◌≡◌, ◌≤◌}
 
 -- numbers of a number text
 abbrev pub IsPrintable : ℤ → Type 0
@@ -70,7 +58,8 @@ number_long [] z read = cc read
 number_long (b ∷ bs) z read = grind (arith, nat_tests)
 
 -- a number that may be left out is read as it is printed
-pub optional_read : (row : Row) (index : ℕ) (o : Option ℤ) → IfSome o IsPrintable → field row index ≡ optional_field o → (is_number_or_empty row index ≡ true) × (optional_number row index ≡ o)
+pub optional_read : (row : Row) (index : ℕ) (o : Option ℤ) → IfSome o IsPrintable → field row index ≡ optional_field o
+    → (is_number_or_empty row index ≡ true) × (optional_number row index ≡ o)
 unfolding is_number_or_empty is_number optional_number number
 optional_read row index None small printed = rw printed (refl, refl)
 optional_read row index (Some z) small printed = rw (printed, number_long (signed_decimal z) z (number_read z small), number_read z small) (refl, refl)

@@ -1,22 +1,11 @@
 -- Rows of seven printed fields, as lines of text, are read as themselves and are short.
-use Rattle.std.proofs.Common.{◌≡◌, ◌∷◌, ◌≤◌, ◌+◌, ◌*◌, ℕ, ℤ, List, [], All, Option, Some, None, IfSome, length, refl, arith, length-append}
-use Rattle.std.specs.Prelude.{codes}
-use Rattle.std.specs.Fmt.{signed_decimal}
-use Rattle.std.proofs.lemmas.List.Concat.{length-flat_map}
-use Rattle.std.proofs.lemmas.List.Elements.{All-from_recursion, All-head, All-tail, All-weaker}
-use Rattle.std.proofs.lemmas.List.Sums.{sum_by-le}
-use Rattle.stream_case.specs.Limits.{IsContribution}
-use Rattle.stream_case.specs.Name.{IsName}
-use Rattle.stream_case.specs.Stream.{IsValidStream}
-use Rattle.stream_case.specs.declared.source.Side.{Side}
-use Rattle.stream_case.specs.declared.source.Side.TheVariants as side
-use Rattle.stream_case.specs.declared.stream.Stream.{Stream}
-use Rattle.stream_case.proofs.NameLemmas.{length-IsName}
-use Rattle.rows.specs.Printed.{contribution_row, optional_field, stream_kind, stream_row}
-use Rattle.rows.specs.Rows.{Row, rows_of}
-use Rattle.rows.specs.Text.{fields_text, row_text, rows_text}
 use Rattle.rows.proofs.PlainRows.{IsPlain, IsPlainRow, name_plain, number_plain, rows_same}
 use Rattle.rows.proofs.PrintedNumbers.{IsPrintable, contribution, number_short, stream_flow_rate, temperature}
+use Rattle.rows.proofs.Words.{All-from_recursion, All-head, All-tail, All-weaker, IsContribution, IsName, IsValidStream, Row, Side, Stream, codes}
+use Rattle.rows.proofs.Words.{contribution_row, fields_text, length-IsName, length-flat_map, optional_field, row_text, rows_of, rows_text, signed_decimal}
+use Rattle.rows.proofs.Words.{stream_kind, stream_row, sum_by-le}
+use Rattle.std.proofs.Common.{All, IfSome, List, None, Option, Some, [], arith, length, length-append, refl, ℕ, ℤ, ◌*◌, ◌+◌, ◌∷◌, ◌≡◌, ◌≤◌}
+use Rattle.stream_case.specs.declared.source.Side.TheVariants as side
 
 -- a field that is printed: plain, and at most 16 bytes long
 pub record IsPrintedField (text : List ℕ) : Type 0 where

@@ -1,19 +1,13 @@
 -- The records of a text, one after the other.
-use Rattle.std.proofs.Common.{◌≡◌, ◌<◌, ◌≤◌, ◌+◌, inl, inr, Bor, not, MatchBool, is_some, is_none, ◌∷◌, ◌++◌, ℕ, zero, suc, Bool, true, false, List, [], Option, Some, None, length, refl, sym, ap, ◌∙◌, arith, if◌then◌else◌, add-one}
-use Rattle.csv.specs.Machine.{Read, ends_at_end, is_end, next_record, step, in_field, start_field, start_record, after_end, field_after, fields_after}
-use Rattle.csv.specs.Reading.{Reached, ReadRecord, Ready, default_config, reader_headers, reader_state, records_from, records_next, strip_bom, took_first, is_flexible}
-use Rattle.csv.specs.declared.reader.Reader.{Reader}
-use Rattle.csv.specs.declared.reader.Headers.{Headers}
-use Rattle.csv.proofs.ReadFacts.{rows-more, rows-end}
-use Rattle.csv.specs.declared.parser.Config.{Config}
-use Rattle.csv.specs.declared.parser.State.{State}
-use Rattle.csv.specs.declared.parser.State.TheVariants as st
-use Rattle.csv.specs.declared.parser.Action.{Action}
-use Rattle.csv.specs.declared.parser.Action.TheVariants as act
-use Rattle.csv.specs.declared.parser.Terminator.{Terminator}
-use Rattle.csv.specs.declared.parser.Terminator.TheVariants as term
-use Rattle.rows.specs.Rows.{Row, rows_of}
+use Rattle.rows.proofs.Words.{Action, Config, Headers, Reached, ReadRecord, Reader, Ready, Row, State, Terminator, default_config, is_flexible, reader_headers}
+use Rattle.rows.proofs.Words.{reader_state, records_from, records_next, rows-end, rows-more, rows_of, strip_bom, took_first}
+use Rattle.csv.specs.Machine.{Read, after_end, ends_at_end, field_after, fields_after, in_field, is_end, next_record, start_field, start_record, step}
 use Rattle.rows.specs.Left.{GivesRows, bytes_left, records_left}
+use Rattle.std.proofs.Common.{Bool, Bor, List, MatchBool, None, Option, Some, [], add-one, ap, arith, false, if◌then◌else◌, inl, inr, is_none, is_some, length}
+use Rattle.std.proofs.Common.{not, refl, suc, sym, true, zero, ℕ, ◌++◌, ◌+◌, ◌<◌, ◌∙◌, ◌∷◌, ◌≡◌, ◌≤◌}
+use Rattle.csv.specs.declared.parser.Action.TheVariants as act
+use Rattle.csv.specs.declared.parser.State.TheVariants as st
+use Rattle.csv.specs.declared.parser.Terminator.TheVariants as term
 
 -- where an action ends the record, the state is one in which none is begun
 record Rests (p : State × Action) : Type 0 where
@@ -70,9 +64,11 @@ next-length cfg s fs f [] p e = at_end (ends_at_end s) refl
 next-length cfg s fs f (c ∷ rest) p e = by (is_end (step cfg s c).1) refl (next-length cfg (step cfg s c).0 _ _ rest p)
   where
     by : (b : Bool) → is_end (step cfg s c).1 ≡ b
-        → (next_record cfg (step cfg s c).0 (fields_after (step cfg s c).1 fs f) (field_after (step cfg s c).1 c f) rest ≡ Some p → (length p.2 ≤ length rest) × (ends_at_end p.1 ≡ false))
+        → (next_record cfg (step cfg s c).0 (fields_after (step cfg s c).1 fs f) (field_after (step cfg s c).1 c f) rest ≡ Some p
+        → (length p.2 ≤ length rest) × (ends_at_end p.1 ≡ false))
         → (length p.2 ≤ suc (length rest)) × (ends_at_end p.1 ≡ false)
-    by true b more = let q : (fields_after (step cfg s c).1 fs f, (step cfg s c).0, rest) ≡ p = cc (rw b at e) in rw (← q) (omega arith, (rests-step cfg s c).rests b)
+    by true b more =
+        let q : (fields_after (step cfg s c).1 fs f, (step cfg s c).0, rest) ≡ p = cc (rw b at e) in rw (← q) (omega arith, (rests-step cfg s c).rests b)
     by false b more = let h = more (rw b at e) in (omega arith, h.1)
 
 -- from a state in which no record is begun a read takes a byte
@@ -83,7 +79,8 @@ next-shorter cfg s [] p begun e = cc (rw begun at e)
 next-shorter cfg s (c ∷ rest) p begun e = by (is_end (step cfg s c).1) refl
   where
     by : (b : Bool) → is_end (step cfg s c).1 ≡ b → (length p.2 < suc (length rest)) × (ends_at_end p.1 ≡ false)
-    by true b = let q : (fields_after (step cfg s c).1 [] [], (step cfg s c).0, rest) ≡ p = cc (rw b at e) in rw (← q) (omega arith, (rests-step cfg s c).rests b)
+    by true b =
+        let q : (fields_after (step cfg s c).1 [] [], (step cfg s c).0, rest) ≡ p = cc (rw b at e) in rw (← q) (omega arith, (rests-step cfg s c).rests b)
     by false b = let h = next-length cfg (step cfg s c).0 _ _ rest p (rw b at e) in (omega arith, h.1)
 
 -- more turns than bytes give every record
@@ -152,9 +149,11 @@ pub record TakesRow (a b : Reader (Bor (List ℕ))) (row : List (List ℕ)) : Ty
 
 left-after : (s s2 : State) (xs z : List ℕ) (row : Row) (p : Read) → ends_at_end s ≡ false → next_record default_config s [] [] xs ≡ Some p
     → row ≡ p.0 → p.1 ≡ s2 → p.2 ≡ z → (records_left s (Some xs) ≡ row ∷ records_left s2 (Some z)) × (ends_at_end s2 ≡ false)
-left-after s s2 xs z row p begun next fields state rest = rw (fields, ← state, ← rest) (left-some s xs p begun next, (next-shorter default_config s xs p begun next).1)
+left-after s s2 xs z row p begun next fields state rest =
+    rw (fields, ← state, ← rest) (left-some s xs p begun next, (next-shorter default_config s xs p begun next).1)
 
-pub takes_row : (a b : Reader (Bor (List ℕ))) (row : List (List ℕ)) → GivesRows a → ReadRecord (λ r. Some r.now) a b true row → took_first b ≡ true → is_flexible b ≡ is_flexible a
+pub takes_row : (a b : Reader (Bor (List ℕ))) (row : List (List ℕ)) → GivesRows a → ReadRecord (λ r. Some r.now) a b true row → took_first b ≡ true
+    → is_flexible b ≡ is_flexible a
     → TakesRow a b row
 unfolding Reached
 takes_row a b row g r first flexible =
@@ -176,7 +175,8 @@ takes_row a b row g r first flexible =
     }
 
 -- the start of a text
-pub left-start : (s : Reader (Bor (List ℕ))) (text : List ℕ) → reader_state s ≡ st.StartRecord → bytes_left s ≡ Some (strip_bom text) → records_left (reader_state s) (bytes_left s) ≡ rows_of text
+pub left-start : (s : Reader (Bor (List ℕ))) (text : List ℕ) → reader_state s ≡ st.StartRecord → bytes_left s ≡ Some (strip_bom text)
+    → records_left (reader_state s) (bytes_left s) ≡ rows_of text
 unfolding records_left rows_of
 left-start s text start from = rw (start, from) refl
 
@@ -187,14 +187,16 @@ takes_none a b row g r =
     rw from (left-none (reader_state a) xs (rows-end (λ (s : Bor (List ℕ)). Some s.now) a b row default_config xs g.config from r))
 
 -- what a read leaves, whether it found a row or not
-pub read_left : (a b : Reader (Bor (List ℕ))) (found : Bool) (row : List (List ℕ)) → GivesRows a → ReadRecord (λ r. Some r.now) a b found row → took_first b ≡ true → is_flexible b ≡ is_flexible a
+pub read_left : (a b : Reader (Bor (List ℕ))) (found : Bool) (row : List (List ℕ)) → GivesRows a → ReadRecord (λ r. Some r.now) a b found row
+    → took_first b ≡ true → is_flexible b ≡ is_flexible a
     → MatchBool found
     (records_left (reader_state a) (bytes_left a) ≡ row ∷ (if not found then [] else records_left (reader_state b) (bytes_left b)))
     (records_left (reader_state a) (bytes_left a) ≡ [])
 read_left a b true row g r first flexible = (takes_row a b row g r first flexible).left
 read_left a b false row g r first flexible = takes_none a b row g r
 
-pub read_gives : (a b : Reader (Bor (List ℕ))) (found : Bool) (row : List (List ℕ)) → GivesRows a → ReadRecord (λ r. Some r.now) a b found row → took_first b ≡ true → is_flexible b ≡ is_flexible a
+pub read_gives : (a b : Reader (Bor (List ℕ))) (found : Bool) (row : List (List ℕ)) → GivesRows a → ReadRecord (λ r. Some r.now) a b found row
+    → took_first b ≡ true → is_flexible b ≡ is_flexible a
     → not found ≡ false → GivesRows b
 read_gives a b true row g r first flexible e = (takes_row a b row g r first flexible).gives
 read_gives a b false row g r first flexible e = cc e
@@ -209,4 +211,5 @@ strip_bom-length (a ∷ b ∷ c ∷ rest) = grind arith
 
 pub rows_of-length : (text : List ℕ) → length (rows_of text) ≤ length text
 unfolding rows_of
-rows_of-length text = omega (arith, records_from-length default_config (length (strip_bom text) + 1) st.StartRecord (strip_bom text) refl, strip_bom-length text)
+rows_of-length text =
+    omega (arith, records_from-length default_config (length (strip_bom text) + 1) st.StartRecord (strip_bom text) refl, strip_bom-length text)

@@ -39,7 +39,8 @@ pub fn is_passed_over(row: &ByteRecord) -> bool
 
 /// The name in a field, or the cause for one that is malformed.
 pub fn name_in<Cause: Drop>(row: &ByteRecord, index: usize, bad: Cause) -> Result<Name, Cause>
-    ensures { Checked ((is_name (field (fields_of row.now) index), bad) ∷ []) (λ name. name ≡ field (fields_of row.now) index) result }
+    ensures { Checked ((is_name (field (fields_of row.now) index), bad) ∷ [])
+        (λ name. name ≡ field (fields_of row.now) index) result }
 {
     Name::undotted(field(row, index)).ok_or(bad)
 }
@@ -47,7 +48,8 @@ pub fn name_in<Cause: Drop>(row: &ByteRecord, index: usize, bad: Cause) -> Resul
 /// The number in a field, or the cause for one that is no number text.
 #[tactic(auto, unfolding(crate::specs::Fields::is_number, crate::specs::Fields::number))]
 pub fn number_in<Cause: Drop>(row: &ByteRecord, index: usize, bad: Cause) -> Result<i64, Cause>
-    ensures { Checked ((is_number (fields_of row.now) index, bad) ∷ []) (λ n. n ≡ number (fields_of row.now) index) result }
+    ensures { Checked ((is_number (fields_of row.now) index, bad) ∷ [])
+        (λ n. n ≡ number (fields_of row.now) index) result }
 {
     number_of(field(row, index)).ok_or(bad)
 }
@@ -60,7 +62,8 @@ pub fn optional_number_in<Cause: Drop>(
     index: usize,
     bad: Cause,
 ) -> Result<Option<i64>, Cause>
-    ensures { Checked ((is_number_or_empty (fields_of row.now) index, bad) ∷ []) (λ n. n ≡ optional_number (fields_of row.now) index) result }
+    ensures { Checked ((is_number_or_empty (fields_of row.now) index, bad) ∷ [])
+        (λ n. n ≡ optional_number (fields_of row.now) index) result }
 {
     if field(row, index).is_empty() {
         return Ok(None);

@@ -45,7 +45,8 @@ impl<'a> Rows<'a> {
 
     /// Reads the next row, if there is one. None is left after it found none, nor after an `Err`.
     pub fn read(&mut self, row: &mut ByteRecord) -> Result<bool, AllocError>
-        ensures found { IfOk result (λ found. MatchBool found (self.old ≡ fields_of row.new ∷ self.new) (self.old ≡ [])) }
+        ensures found { IfOk result (λ found.
+            MatchBool found (self.old ≡ fields_of row.new ∷ self.new) (self.old ≡ [])) }
         ensures ended { IfOk result (λ found. OnFalse found (self.new ≡ [])) }
         ensures err { OnErr result (self.new ≡ []) }
     {

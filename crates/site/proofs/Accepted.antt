@@ -1,38 +1,19 @@
 -- The site of a file that is accepted is valid.
-use Rattle.std.proofs.Common.{◌≡◌, ◌≢◌, ◌∷◌, ◌++◌, ◌<◌, ◌≤◌, ℕ, ℤ, pos, true, not, List, [], All, Option, Some, None, Result, Ok, Err, IfOk, IfSome, unwrap_or, length, map, ◌==◌, inl, refl, arith, length-append}
-use Rattle.std.proofs.lemmas.Bool.Decides.{nat_tests}
-use Rattle.std.proofs.lemmas.List.{append-nil, length-map, map-append}
-use Rattle.std.proofs.lemmas.List.Elements.{All-map, All-nil, All-push, All-weaker}
-use Rattle.std.proofs.lemmas.List.Quantifiers.{all_pairs_push}
-use Rattle.rows.specs.declared.fault.RowFault.{RowFault}
-use Rattle.rows.specs.Rows.{Row}
-use Rattle.first_fault.specs.Outcome.{given_by}
-use Rattle.first_fault.proofs.CheckLemmas.{Passes}
-use Rattle.first_fault.proofs.Steps.{IsKept, given_has}
-use Rattle.stream_case.specs.Limits.{IsContribution, IsTemperature}
-use Rattle.stream_case.specs.Name.{IsName, is_name}
-use Rattle.stream_case.specs.Stream.{IsSensible, IsValidStream, count_on}
-use Rattle.stream_case.specs.declared.limits.TheConstants.{MOST_MAINS}
-use Rattle.stream_case.specs.declared.source.Side.{Side}
-use Rattle.stream_case.specs.declared.stream.Stream.{Stream}
-use Rattle.stream_case.proofs.NameTests.{passed-name}
-use Rattle.rows.specs.Fields.{field, number}
+use Rattle.site.proofs.Words.{All-map, All-nil, All-push, All-weaker, AreDistinct, ArePlants, Given, IsContribution, IsKept, IsName, IsOutcome, IsSensible}
+use Rattle.site.proofs.Words.{IsSite, IsTemperature, IsUnreserved, IsValidSite, IsValidStream, Kind, MOST_MAINS, MOST_SIDE_STREAMS, Main, Passes, Plant, Row}
+use Rattle.site.proofs.Words.{RowFault, Side, Site, SiteWhy, Stream, all_pairs_push, append-nil, count_on, end_checks, end_fault, entry_by, given_by, given_has}
+use Rattle.site.proofs.Words.{grammar, is_among, is_name, is_reserved, kind_of, length-map, main_in, map-append, nat_tests, nothing, passed-name, passed-room}
+use Rattle.site.proofs.Words.{passed-within, plant_with, site_of, stream_in, streams_of, with_contribution, with_entry}
 use Rattle.rows.proofs.Streams.{no_contribution, passed-sensible, range_of, stream-is_valid}
-use Rattle.rows.proofs.Tests.{passed-room, passed-within}
-use Rattle.plants.specs.Site.{AreDistinct, ArePlants, IsUnreserved, IsValidSite, streams_of}
-use Rattle.plants.specs.declared.limits.TheConstants.{MOST_SIDE_STREAMS}
-use Rattle.plants.specs.declared.site.Main.{Main}
-use Rattle.plants.specs.declared.site.Plant.{Plant}
-use Rattle.plants.specs.declared.site.Site.{Site}
-use Rattle.site.specs.Checks.{checks, contribution_checks, end_checks, is_among, is_reserved, kind_checks, main_checks, plant_checks, stream_checks, stream_number_checks}
-use Rattle.site.specs.Given.{Given, entry_by, kind_of, main_in, nothing, plant_with, site_of, stream_in, with_contribution, with_entry}
-use Rattle.site.specs.Outcome.{IsOutcome, IsSite, end_fault, grammar}
-use Rattle.site.specs.declared.entry.Entry.TheVariants as entry
-use Rattle.site.specs.declared.fault.SiteWhy.{SiteWhy}
-use Rattle.site.specs.declared.kind.Kind.{Kind}
-use Rattle.site.specs.declared.kind.Kind.TheVariants as kind
-use Rattle.site.proofs.Plants.{count_on-with, few_with_stream, length-with_stream, named-with_stream, names-with_stream, plant_names-with, stream_names-with, streams_of-plant, streams_of-plant_with, streams_of-with_stream}
+use Rattle.rows.specs.Fields.{field, number}
+use Rattle.site.proofs.Plants.{count_on-with, few_with_stream, length-with_stream, named-with_stream, names-with_stream, plant_names-with, stream_names-with}
+use Rattle.site.proofs.Plants.{streams_of-plant, streams_of-plant_with, streams_of-with_stream}
 use Rattle.site.proofs.Tests.{Decides-is_among, Decides-is_reserved}
+use Rattle.site.specs.Checks.{checks, contribution_checks, kind_checks, main_checks, plant_checks, stream_checks, stream_number_checks}
+use Rattle.std.proofs.Common.{All, Err, IfOk, IfSome, List, None, Ok, Option, Result, Some, [], arith, inl, length, length-append, map, not, pos, refl, true}
+use Rattle.std.proofs.Common.{unwrap_or, ℕ, ℤ, ◌++◌, ◌<◌, ◌==◌, ◌∷◌, ◌≡◌, ◌≢◌, ◌≤◌}
+use Rattle.site.specs.declared.entry.Entry.TheVariants as entry
+use Rattle.site.specs.declared.kind.Kind.TheVariants as kind
 
 -- a stream of a valid site, whatever its contribution
 record StreamFits (s : Stream) : Type 0 where
@@ -61,13 +42,16 @@ record Fits (given : Given) : Type 0 where
 -- ---- one entry more
 
 -- a list of names that differ, with a new one
-distinct_push : {X : Type 0} (name : X → List ℕ) (xs : List X) (x : X) → AreDistinct (map name xs) → not (is_among name xs (name x)) ≡ true → AreDistinct (map name (xs ++ x ∷ []))
+distinct_push : {X : Type 0} (name : X → List ℕ) (xs : List X) (x : X) → AreDistinct (map name xs) → not (is_among name xs (name x)) ≡ true
+    → AreDistinct (map name (xs ++ x ∷ []))
 distinct_push name xs x distinct new =
     rw (map-append name xs (x ∷ [])) (all_pairs_push (λ (a b : List ℕ). a ≢ b) (map name xs) (name x) distinct ((Decides-is_among name xs (name x)).0 new))
 
-contribution_kept : (given : Given) (row : Row) → Fits given → Passes (contribution_checks given row) → Fits (with_entry given (entry.Contribution (number row 2)))
+contribution_kept : (given : Given) (row : Row) → Fits given → Passes (contribution_checks given row)
+    → Fits (with_entry given (entry.Contribution (number row 2)))
 unfolding contribution_checks
-contribution_kept given row fits (_, (_, (_, (range, _)))) = record { contribution = passed-within _ _ _ range; plants = fits.plants; mains = fits.mains; streams = fits.streams }
+contribution_kept given row fits (_, (_, (_, (range, _)))) =
+    record { contribution = passed-within _ _ _ range; plants = fits.plants; mains = fits.mains; streams = fits.streams }
 
 plant_kept : (given : Given) (row : Row) → Fits given → Passes (plant_checks given row) → Fits (with_entry given (entry.Plant (field row 1)))
 unfolding plant_checks
@@ -98,10 +82,12 @@ main_kept given row fits (_, (few, (name, (new, (_, (level, _)))))) = record {
   streams = fits.streams;
 }
 
-stream_fits : (of : Side) (row : Row) → is_name (field row 1) ≡ true → not (is_reserved (field row 1)) ≡ true → Passes (stream_number_checks of row) → StreamFits (stream_in of row)
+stream_fits : (of : Side) (row : Row) → is_name (field row 1) ≡ true → not (is_reserved (field row 1)) ≡ true → Passes (stream_number_checks of row)
+    → StreamFits (stream_in of row)
 unfolding stream_number_checks
 stream_fits of row name unreserved (_, (_, (_, (supply, (target, (cp, (way, _))))))) = record {
-  valid = λ contribution range. stream-is_valid (with_contribution contribution (stream_in of row)) name supply target (inl (passed-sensible (with_contribution contribution (stream_in of row)) cp refl way)) range;
+  valid = λ contribution range. stream-is_valid (with_contribution contribution (stream_in of row)) name supply target
+      (inl (passed-sensible (with_contribution contribution (stream_in of row)) cp refl way)) range;
   sensible = λ contribution. passed-sensible (with_contribution contribution (stream_in of row)) cp refl way;
   name = (Decides-is_reserved (field row 1)).0 unreserved;
 }
@@ -110,11 +96,11 @@ stream_fits of row name unreserved (_, (_, (_, (supply, (target, (cp, (way, _)))
 some_plant : (plants : List Plant) → not (length plants == 0) ≡ true → 0 < length plants
 some_plant plants some = grind (arith, nat_tests)
 
-stream_kept : (given : Given) (row : Row) (of : Side) → Fits given → Passes (stream_checks of given row) → Fits (with_entry given (entry.Stream (stream_in of row)))
+stream_kept : (given : Given) (row : Row) (of : Side) → Fits given → Passes (stream_checks of given row)
+    → Fits (with_entry given (entry.Stream (stream_in of row)))
 unfolding stream_checks
 stream_kept given row of fits (_, (few, (plant, (name, (unreserved, (new, numbers)))))) =
-    let s = stream_in of row in
-    let streams = streams_of given.plants in
+    let s = stream_in of row in let streams = streams_of given.plants in
     let some = some_plant given.plants plant in
     let more : StreamsFit (streams ++ s ∷ []) = record {
       each = All-push StreamFits streams s fits.streams.each (stream_fits of row name unreserved numbers);
@@ -154,7 +140,13 @@ nothing_fits : Fits nothing
 nothing_fits = record {
   contribution = tt;
   plants = record { names = All-nil (λ (p : Plant). IsName p.name); distinct = none_differ; few = omega arith };
-  mains = record { names = All-nil (λ (m : Main). IsName m.name); levels = All-nil (λ (m : Main). IsTemperature m.level); distinct = none_differ; few = omega arith };
+  mains =
+      record {
+        names = All-nil (λ (m : Main). IsName m.name);
+        levels = All-nil (λ (m : Main). IsTemperature m.level);
+        distinct = none_differ;
+        few = omega arith;
+      };
   streams = record { each = All-nil StreamFits; distinct = none_differ; few = λ of. omega arith };
 }
 
@@ -167,8 +159,7 @@ record IsWhole (given : Given) : Type 0 where
 
 site_valid : (given : Given) → Fits given → IsWhole given → IsValidSite (site_of given)
 site_valid given fits whole =
-    let c = unwrap_or given.contribution (pos 0) in
-    let streams = streams_of given.plants in
+    let c = unwrap_or given.contribution (pos 0) in let streams = streams_of given.plants in
     let range = range_of given.contribution (pos 0) fits.contribution no_contribution in
     record {
       contribution = range;
@@ -180,10 +171,13 @@ site_valid given fits whole =
       mains = record { some = whole.mains; names = fits.mains.names; levels = fits.mains.levels; distinct = fits.mains.distinct; few = fits.mains.few };
       streams = rw (streams_of-plant_with c given.plants) (record {
         some = rw (length-map streams (with_contribution c)) whole.streams;
-        each = All-map IsValidStream (with_contribution c) streams (All-weaker StreamFits (λ s. IsValidStream (with_contribution c s)) (λ s fit. fit.valid c range) streams fits.streams.each);
-        sensible = All-map IsSensible (with_contribution c) streams (All-weaker StreamFits (λ s. IsSensible (with_contribution c s)) (λ s fit. fit.sensible c) streams fits.streams.each);
+        each = All-map IsValidStream (with_contribution c) streams
+            (All-weaker StreamFits (λ s. IsValidStream (with_contribution c s)) (λ s fit. fit.valid c range) streams fits.streams.each);
+        sensible = All-map IsSensible (with_contribution c) streams
+            (All-weaker StreamFits (λ s. IsSensible (with_contribution c s)) (λ s fit. fit.sensible c) streams fits.streams.each);
         contributions = All-map (λ (s : Stream). s.contribution ≡ c) (with_contribution c) streams (λ k d inside. refl);
-        names = All-map (λ (s : Stream). IsUnreserved s.name) (with_contribution c) streams (All-weaker StreamFits (λ s. IsUnreserved s.name) (λ s fit. fit.name) streams fits.streams.each);
+        names = All-map (λ (s : Stream). IsUnreserved s.name) (with_contribution c) streams
+            (All-weaker StreamFits (λ s. IsUnreserved s.name) (λ s fit. fit.name) streams fits.streams.each);
         distinct = rw (stream_names-with c streams) fits.streams.distinct;
         few = λ of. rw (count_on-with of c streams) (fits.streams.few of);
       });

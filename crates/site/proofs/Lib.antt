@@ -5,3 +5,4 @@ pub mod PrintedRows
 pub mod PrintedSite
 pub mod TargetLemmas
 pub mod PrintedText
+pub mod Words

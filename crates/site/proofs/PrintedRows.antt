@@ -1,51 +1,40 @@
 -- Each printed row follows on the rows before it.
-use Rattle.std.proofs.Common.{◌≡◌, ◌≢◌, ◌∷◌, ◌<◌, ℤ, pos, true, not, ◌==◌, List, [], All, Some, length, map, refl, arith}
-use Rattle.std.proofs.lemmas.Bool.Decides.{nat_tests}
-use Rattle.rows.specs.Rows.{Row}
-use Rattle.first_fault.proofs.CheckLemmas.{Passes, none_fails}
-use Rattle.first_fault.proofs.Steps.{Follows}
-use Rattle.stream_case.specs.Limits.{IsContribution, IsTemperature}
-use Rattle.stream_case.specs.Name.{IsName}
-use Rattle.stream_case.specs.Stream.{IsSensible, IsValidStream, count_on}
-use Rattle.stream_case.specs.declared.limits.TheConstants.{MOST_MAINS}
-use Rattle.stream_case.specs.declared.source.Side.{Side}
-use Rattle.stream_case.specs.declared.source.Side.TheVariants as side
-use Rattle.stream_case.specs.declared.stream.Stream.{Stream}
-use Rattle.stream_case.proofs.NameTests.{name-passes}
-use Rattle.stream_case.proofs.SourceLemmas.{Decides-is_right_way}
+use Rattle.site.proofs.Words.{Decides-is_right_way, Follows, Given, IsBetween, IsContribution, IsName, IsSensible, IsTemperature, IsUnreserved, IsValidStream}
+use Rattle.site.proofs.Words.{MOST_MAINS, MOST_PLANTS, MOST_SIDE_STREAMS, Main, Passes, Plant, Row, Side, Stream, contribution, contribution_row, count_on}
+use Rattle.site.proofs.Words.{flow_rate, grammar, is_within, kind_of, main_row, name-passes, nat_tests, none_fails, nothing, number_read, plant_row}
+use Rattle.site.proofs.Words.{room-passes, stream_kind, stream_row, streams_of, temperature, with_contribution, with_entry, within-passes}
 use Rattle.rows.specs.Fields.{are_empty, is_number, is_passed_over, number}
-use Rattle.rows.proofs.PrintedNumbers.{contribution, flow_rate, number_read, temperature}
-use Rattle.rows.proofs.Tests.{room-passes, within-passes}
-use Rattle.plants.specs.Site.{IsUnreserved, streams_of}
-use Rattle.plants.specs.declared.limits.TheConstants.{MOST_PLANTS, MOST_SIDE_STREAMS}
-use Rattle.plants.specs.declared.site.Main.{Main}
-use Rattle.plants.specs.declared.site.Plant.{Plant}
+use Rattle.site.proofs.Tests.{Decides-is_among, Decides-is_reserved}
 use Rattle.site.specs.Checks.{checks, contribution_checks, kind_checks, main_checks, plant_checks, stream_checks, stream_number_checks}
-use Rattle.site.specs.Given.{Given, kind_of, nothing, with_contribution, with_entry}
-use Rattle.site.specs.Outcome.{grammar}
-use Rattle.rows.specs.Printed.{contribution_row, stream_kind, stream_row}
-use Rattle.site.specs.Printed.{main_row, plant_row}
+use Rattle.std.proofs.Common.{All, List, Some, [], arith, length, map, not, pos, refl, true, ℤ, ◌<◌, ◌==◌, ◌∷◌, ◌≡◌, ◌≢◌}
 use Rattle.site.specs.declared.entry.Entry.TheVariants as entry
 use Rattle.site.specs.declared.kind.Kind.TheVariants as kind
-use Rattle.site.proofs.Tests.{Decides-is_among, Decides-is_reserved}
+use Rattle.stream_case.specs.declared.source.Side.TheVariants as side
+
+-- a number within its range passes the test of it
+within : {low high n : ℤ} → IsBetween low high n → is_within low high n ≡ true
+within = within-passes _ _ _
 
 -- the row of the contribution comes first
 pub contribution_follows : (c : ℤ) → IsContribution c → Follows grammar nothing (contribution_row c) (with_entry nothing (entry.Contribution c))
 unfolding checks kind_checks contribution_checks kind_of is_passed_over are_empty is_number number
 contribution_follows c range =
     let read = number_read c (contribution c range) in
-    let passes : Passes (checks nothing (contribution_row c)) = rw read (refl, (refl, (refl, (refl, (refl, (within-passes _ _ _ range, tt)))))) in
+    let passes : Passes (checks nothing (contribution_row c)) = rw read (refl, (refl, (refl, (refl, (refl, (within range, tt)))))) in
     record { passes = none_fails (checks nothing (contribution_row c)) passes; next_is = rw read refl }
 
-pub main_follows : (given : Given) (main : Main) → IsName main.name → IsTemperature main.level → length given.mains < MOST_MAINS → All (λ other. other ≢ main.name) (map (λ m. m.name) given.mains) → Follows grammar given (main_row main) (with_entry given (entry.Main main))
+pub main_follows : (given : Given) (main : Main) → IsName main.name → IsTemperature main.level → length given.mains < MOST_MAINS
+    → All (λ other. other ≢ main.name) (map (λ m. m.name) given.mains) → Follows grammar given (main_row main) (with_entry given (entry.Main main))
 unfolding checks kind_checks main_checks kind_of is_passed_over are_empty is_number number
 main_follows given main named range few new =
     let read = number_read main.level (temperature main.level range) in
     let free = (Decides-is_among (λ (m : Main). m.name) given.mains main.name).1 new in
-    let passes : Passes (checks given (main_row main)) = rw read (refl, (refl, (refl, (room-passes _ _ few, (name-passes main.name named, (free, (refl, (within-passes _ _ _ range, tt)))))))) in
+    let passes : Passes (checks given (main_row main)) =
+    rw read (refl, (refl, (refl, (room-passes _ _ few, (name-passes main.name named, (free, (refl, (within range, tt)))))))) in
     record { passes = none_fails (checks given (main_row main)) passes; next_is = rw read refl }
 
-pub plant_follows : (given : Given) (plant : Plant) → IsName plant.name → length given.plants < MOST_PLANTS → All (λ other. other ≢ plant.name) (map (λ p. p.name) given.plants) → Follows grammar given (plant_row plant) (with_entry given (entry.Plant plant.name))
+pub plant_follows : (given : Given) (plant : Plant) → IsName plant.name → length given.plants < MOST_PLANTS
+    → All (λ other. other ≢ plant.name) (map (λ p. p.name) given.plants) → Follows grammar given (plant_row plant) (with_entry given (entry.Plant plant.name))
 unfolding checks kind_checks plant_checks kind_of is_passed_over are_empty
 plant_follows given plant named few new =
     let free = (Decides-is_among (λ (p : Plant). p.name) given.plants plant.name).1 new in
@@ -61,7 +50,8 @@ some_plant : (plants : List Plant) → 0 < length plants → not (length plants 
 some_plant plants some = grind (arith, nat_tests)
 
 -- a stream below a plant, of which an earlier row gave neither the name nor too many of its side
-pub stream_follows : (given : Given) (s : Stream) → IsValidStream s → IsSensible s → IsUnreserved s.name → 0 < length given.plants → count_on s.side (streams_of given.plants) < MOST_SIDE_STREAMS → All (λ other. other ≢ s.name) (map (λ t. t.name) (streams_of given.plants))
+pub stream_follows : (given : Given) (s : Stream) → IsValidStream s → IsSensible s → IsUnreserved s.name → 0 < length given.plants
+    → count_on s.side (streams_of given.plants) < MOST_SIDE_STREAMS → All (λ other. other ≢ s.name) (map (λ t. t.name) (streams_of given.plants))
     → Follows grammar given (stream_row [] [] s) (with_entry given (entry.Stream (with_contribution (pos 0) s)))
 unfolding checks kind_checks stream_checks stream_number_checks are_empty is_number number
 stream_follows given s valid sensible unreserved some few new =
@@ -71,7 +61,9 @@ stream_follows given s valid sensible unreserved some few new =
     let target = number_read s.target (temperature s.target valid.target) in
     let cp = number_read s.cp (flow_rate s.cp sensible.cp) in
     let free = (Decides-is_among (λ (t : Stream). t.name) (streams_of given.plants) s.name).1 new in
-    let numbers : Passes (stream_number_checks s.side (stream_row [] [] s)) =
-    rw (supply, target, cp) (refl, (refl, (refl, (within-passes _ _ _ valid.supply, (within-passes _ _ _ valid.target, (within-passes _ _ _ sensible.cp, ((Decides-is_right_way s.side s.supply s.target).1 sensible.way, tt))))))) in
-    let passes : Passes (checks given (stream_row [] [] s)) = rw is (refl, (refl, (refl, (room-passes _ _ few, (some_plant given.plants some, (name-passes s.name valid.name, ((Decides-is_reserved s.name).1 unreserved, (free, numbers)))))))) in
+    let way = (Decides-is_right_way s.side s.supply s.target).1 sensible.way in let reserved = (Decides-is_reserved s.name).1 unreserved in
+    let numbers : Passes (stream_number_checks s.side (stream_row [] [] s)) = rw (supply, target, cp)
+    (refl, (refl, (refl, (within valid.supply, (within valid.target, (within sensible.cp, (way, tt))))))) in
+    let passes : Passes (checks given (stream_row [] [] s)) = rw is
+    (refl, (refl, (refl, (room-passes _ _ few, (some_plant given.plants some, (name-passes s.name valid.name, (reserved, (free, numbers)))))))) in
     record { passes = none_fails (checks given (stream_row [] [] s)) passes; next_is = rw (is, supply, target, cp, no_load) refl }

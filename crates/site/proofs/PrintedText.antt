@@ -1,26 +1,11 @@
 -- The printed text of a valid site is read as the site.
-use Rattle.std.proofs.Common.{◌≡◌, ◌∷◌, ℕ, List, [], All, map, refl, sym, subst, arith}
-use Rattle.std.specs.Prelude.{codes}
-use Rattle.std.specs.List.{flat_map}
-use Rattle.std.proofs.lemmas.List.Elements.{All-append, All-cons, All-head, All-map, All-nil, All-tail, All-weaker}
-use Rattle.stream_case.specs.Limits.{IsTemperature}
-use Rattle.stream_case.specs.Name.{IsName}
-use Rattle.stream_case.specs.Stream.{IsValidStream}
-use Rattle.stream_case.specs.declared.stream.Stream.{Stream}
-use Rattle.rows.specs.Printed.{contribution_row, stream_row}
-use Rattle.rows.specs.Rows.{rows_of}
-use Rattle.rows.specs.Text.{rows_text}
-use Rattle.rows.proofs.PrintedNumbers.{temperature}
+use Rattle.site.proofs.Words.{All-append, All-cons, All-head, All-map, All-nil, All-plants, All-tail, All-weaker, IsName, IsSite, IsTemperature, IsValidSite}
+use Rattle.site.proofs.Words.{IsValidStream, Main, Plant, Site, Stream, codes, contribution_row, flat_map, main_row, plant_row, plant_rows, printed_rows}
+use Rattle.site.proofs.Words.{rows_of, rows_text, stream_row, temperature}
 use Rattle.rows.proofs.PrintedRows.{IsPrintedField, IsPrintedRow, contribution_printed, name_field, no_field, number_field, seven_fields, stream_printed}
-use Rattle.rows.proofs.PrintedRows as printed
-use Rattle.plants.specs.Site.{IsValidSite}
-use Rattle.plants.specs.declared.site.Main.{Main}
-use Rattle.plants.specs.declared.site.Plant.{Plant}
-use Rattle.plants.specs.declared.site.Site.{Site}
-use Rattle.plants.proofs.SiteLemmas.{All-plants}
-use Rattle.site.specs.Outcome.{IsSite}
-use Rattle.site.specs.Printed.{main_row, plant_row, plant_rows, printed_rows}
 use Rattle.site.proofs.PrintedSite.{rows_back}
+use Rattle.std.proofs.Common.{All, List, [], arith, map, refl, subst, sym, ℕ, ◌∷◌, ◌≡◌}
+use Rattle.rows.proofs.PrintedRows as printed
 
 -- ---- the rows
 

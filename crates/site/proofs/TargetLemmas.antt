@@ -1,32 +1,9 @@
 -- The parts of a site are fixed, and make few pairs.
-use mathlib.Core.Path.{fun_ext}
-use Rattle.std.proofs.Common.{◌≡◌, ◌∙◌, ap, sym, subst, subst₂, ◌*◌, ◌≤◌, ◌+◌, ℕ, List, length, arith, Result, Ok, Err, IfOk}
-use Rattle.std.specs.Prelude.{ℤ, Contains}
-use Rattle.std.proofs.Math.Nat.{mul-le-mul}
-use Rattle.stream_case.specs.declared.limits.TheConstants.{MOST_MAINS}
-use Rattle.stream_case.specs.declared.source.Side.{Side}
-use Rattle.stream_case.specs.declared.source.Side.TheVariants.{Cold, Hot}
-use Rattle.stream_case.proofs.CaseLemmas.{count_on-add}
-use Rattle.sums.proofs.CountLemmas.{length-le_falling}
-use Rattle.sums.proofs.OrderLemmas.{ListsFalling-unique}
-use Rattle.grid.specs.declared.part.Part.{Part}
-use Rattle.grid.specs.Making.{made_parts}
-use Rattle.grid.specs.Part.{AreParts}
-use Rattle.grid.proofs.MakingLemmas.{AreParts-made}
-use Rattle.grid.proofs.SizeLemmas.{length-made}
-use Rattle.heat_flow.specs.Table.{reaches}
-use Rattle.transport.specs.Answer.{IsAnswer}
-use Rattle.transport.specs.declared.answer.Answer.{Answer}
-use Rattle.transport.specs.declared.least_cost.TheConstants.{MOST_PAIRS}
-use Rattle.plants.specs.Reach.{reach_between}
-use Rattle.plants.specs.Site.{IsValidSite, streams_of}
-use Rattle.plants.specs.Table.{IsSiteGrid, site_places, site_utilities}
-use Rattle.site.specs.Target.{AreSiteParts, IsSiteTarget}
-use Rattle.plants.specs.SiteTable.{IsSiteTable}
-use Rattle.plants.specs.declared.limits.TheConstants.{MOST_SIDE_STREAMS}
-use Rattle.plants.specs.declared.site.Site.{Site}
-use Rattle.plants.specs.declared.table.SiteTable.{SiteTable}
+use Rattle.site.proofs.Words.{Answer, AreParts, AreParts-made, AreSiteParts, Cold, Contains, Hot, IsAnswer, IsSiteGrid, IsSiteTable, IsSiteTarget, IsValidSite}
+use Rattle.site.proofs.Words.{ListsFalling-unique, MOST_MAINS, MOST_PAIRS, MOST_SIDE_STREAMS, Part, Side, Site, SiteTable, count_on-add, fun_ext}
+use Rattle.site.proofs.Words.{length-le_falling, length-made, made_parts, mul-le-mul, reach_between, reaches, site_places, site_utilities, streams_of, ℤ}
 use Rattle.plants.proofs.PlaceLemmas.{HoldsPlaces-grid, length-site_places}
+use Rattle.std.proofs.Common.{Err, IfOk, List, Ok, Result, ap, arith, length, subst, subst₂, sym, ℕ, ◌*◌, ◌+◌, ◌∙◌, ◌≡◌, ◌≤◌}
 
 abbrev most_places : ℕ
 most_places = 2 * (2 * MOST_SIDE_STREAMS) + 2 * MOST_MAINS
@@ -44,7 +21,8 @@ module _ (site : Site) (valid : IsValidSite site) where
       omega (arith, falling, length-site_places site, streams, valid.streams.few Hot, valid.streams.few Cold, valid.mains.few)
 
   -- each stream of the side has at most one part at each place, and each utility one
-  few_of_side : (side : Side) (places : List ℤ) (parts : List Part) → IsSiteGrid site places → AreSideParts side places parts → length parts ≤ most_places * MOST_SIDE_STREAMS + 2
+  few_of_side : (side : Side) (places : List ℤ) (parts : List Part) → IsSiteGrid site places → AreSideParts side places parts
+      → length parts ≤ most_places * MOST_SIDE_STREAMS + 2
   few_of_side side places parts grid are =
       let holds = HoldsPlaces-grid site places valid grid in
       let made = ap length (AreParts-made (streams_of site.plants) (site_utilities site) side places parts holds are) in
@@ -81,8 +59,7 @@ IfOk-weaker P Q (Err e) weaker h = tt
 pub of_table : {E : Type 0} (site : Site) (table : SiteTable) → IsSiteTable site table → (r : Result Answer E)
     → IfOk r (IsAnswer (reaches table.reach) table.parts.hot table.parts.cold) → IfOk r (IsSiteTarget site table.parts.hot table.parts.cold)
 of_table site table is r =
-    let hot = table.parts.hot in
-    let cold = table.parts.cold in
+    let hot = table.parts.hot in let cold = table.parts.cold in
     let same : reaches table.reach ≡ reach_between site hot cold = fun_ext (λ a. fun_ext (λ b. is.reach a b)) in
     IfOk-weaker (IsAnswer (reaches table.reach) hot cold) (IsSiteTarget site hot cold) r (λ a. subst (λ reach. IsAnswer reach hot cold a) same)
 

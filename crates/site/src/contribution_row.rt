@@ -15,7 +15,8 @@ use rows::{are_empty, contribution, number_in};
 /// What a row of that kind gives.
 #[tactic(auto, unfolding(crate::specs::Checks::contribution_checks))]
 pub fn contribution_entry(found: &Found, row: &ByteRecord) -> Result<Entry, SiteWhy>
-    ensures { Checked (contribution_checks found.now (fields_of row.now)) (λ e. e ≡ Entry.Contribution (number (fields_of row.now) 2)) result }
+    ensures { Checked (contribution_checks found.now (fields_of row.now))
+        (λ e. e ≡ Entry.Contribution (number (fields_of row.now) 2)) result }
 {
     if !are_empty(row, &[1, 3, 4, 5, 6]) {
         return Err(SiteWhy::FieldCount);

@@ -64,7 +64,8 @@ fn is_name_of(streams: &[Stream], name: &Name) -> bool
 
 /// Whether a plant has a stream with this name.
 fn is_name_within(plants: &[Plant], name: &Name) -> bool
-    ensures { result ≡ list_any (λ plant. is_among (λ s. s.name) plant.streams name.now) plants.now }
+    ensures { result ≡ list_any
+        (λ plant. is_among (λ s. s.name) plant.streams name.now) plants.now }
 {
     plants
         .iter()

@@ -17,7 +17,8 @@ use stream_case::MOST_MAINS;
 /// What a row of that kind gives.
 #[tactic(auto, unfolding(crate::specs::Checks::main_checks))]
 pub fn main_entry(found: &Found, row: &ByteRecord) -> Result<Entry, SiteWhy>
-    ensures { Checked (main_checks found.now (fields_of row.now)) (λ e. e ≡ Entry.Main (main_in (fields_of row.now))) result }
+    ensures { Checked (main_checks found.now (fields_of row.now))
+        (λ e. e ≡ Entry.Main (main_in (fields_of row.now))) result }
 {
     if !are_empty(row, &[3, 4, 5, 6]) {
         return Err(SiteWhy::FieldCount);

@@ -16,7 +16,8 @@ use rows::{are_empty, name_in};
 /// What a row of that kind gives.
 #[tactic(auto, unfolding(crate::specs::Checks::plant_checks))]
 pub fn plant_entry(found: &Found, row: &ByteRecord) -> Result<Entry, SiteWhy>
-    ensures { Checked (plant_checks found.now (fields_of row.now)) (λ e. e ≡ Entry.Plant (field (fields_of row.now) 1)) result }
+    ensures { Checked (plant_checks found.now (fields_of row.now))
+        (λ e. e ≡ Entry.Plant (field (fields_of row.now) 1)) result }
 {
     if !are_empty(row, &[2, 3, 4, 5, 6]) {
         return Err(SiteWhy::FieldCount);

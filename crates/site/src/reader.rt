@@ -28,7 +28,8 @@ use std::alloc::Global;
 #[tactic(auto, unfolding(crate::specs::Checks::checks, crate::specs::Checks::kind_checks))]
 fn entry_of(found: &Found, row: &ByteRecord) -> Result<Entry, SiteWhy>
     ensures fresh { IfOk result (IsFresh found.now) }
-    ensures checked { Checked (checks found.now (fields_of row.now)) (λ e. e ≡ entry_in (fields_of row.now)) result }
+    ensures checked { Checked (checks found.now (fields_of row.now))
+        (λ e. e ≡ entry_in (fields_of row.now)) result }
 {
     if row.len() != 7 {
         return Err(SiteWhy::FieldCount);

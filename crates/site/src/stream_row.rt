@@ -28,7 +28,8 @@ fn is_reserved(name: &[u8]) -> bool
 #[tactic(auto, unfolding(crate::specs::Checks::stream_number_checks))]
 fn stream_of(name: Name, side: Side, row: &ByteRecord) -> Result<Stream, SiteWhy>
     requires { name ≡ field (fields_of row.now) 1 }
-    ensures { Checked (stream_number_checks side (fields_of row.now)) (λ s. s ≡ stream_in side (fields_of row.now)) result }
+    ensures { Checked (stream_number_checks side (fields_of row.now))
+        (λ s. s ≡ stream_in side (fields_of row.now)) result }
 {
     let supply = number_in(row, 2, SiteWhy::BadNumber)?;
     let target = number_in(row, 3, SiteWhy::BadNumber)?;
@@ -54,7 +55,8 @@ fn stream_of(name: Name, side: Side, row: &ByteRecord) -> Result<Stream, SiteWhy
 #[tactic(auto, unfolding(crate::specs::Checks::stream_checks))]
 pub fn stream_entry(found: &Found, side: Side, row: &ByteRecord) -> Result<Entry, SiteWhy>
     ensures fresh { IfOk result (IsFresh found.now) }
-    ensures checked { Checked (stream_checks side found.now (fields_of row.now)) (λ e. e ≡ Entry.Stream (stream_in side (fields_of row.now))) result }
+    ensures checked { Checked (stream_checks side found.now (fields_of row.now))
+        (λ e. e ≡ Entry.Stream (stream_in side (fields_of row.now))) result }
 {
     if !are_empty(row, &[5, 6]) {
         return Err(SiteWhy::FieldCount);

@@ -29,10 +29,16 @@ pub fn table_target(alloc: Global, site: &Site, table: &SiteTable) -> Result<Ans
 /// parts of the site, since it has no others.
 pub fn site_target(alloc: Global, site: &Site) -> Result<Answer, AllocError>
     requires { IsValidSite site.now }
-    ensures certified { IfOk result (λ a. (hot cold : List Part) → AreSiteParts site.now hot cold → IfLeast a (λ flow prices cost. IsCertified (reach_between site.now hot cold) hot cold flow.transfers prices.hot prices.cold cost)) }
-    ensures least { IfOk result (λ a. (hot cold : List Part) → AreSiteParts site.now hot cold → IfLeast a (λ flow prices cost. IsLeastCost (reach_between site.now hot cold) hot cold cost)) }
-    ensures cut { IfOk result (λ a. (hot cold : List Part) → AreSiteParts site.now hot cold → IfStuck a (λ cut. IsCutOf (reach_between site.now hot cold) hot cold cut)) }
-    ensures stuck_only { IfOk result (λ a. (hot cold : List Part) → AreSiteParts site.now hot cold → IfStuck a (λ cut. HasNoFlow (reach_between site.now hot cold) hot cold)) }
+    ensures certified { IfOk result (λ a. (hot cold : List Part) → AreSiteParts site.now hot cold
+        → IfLeast a (λ flow prices cost. IsCertified
+        (reach_between site.now hot cold) hot cold flow.transfers prices.hot prices.cold cost)) }
+    ensures least { IfOk result
+        (λ a. (hot cold : List Part) → AreSiteParts site.now hot cold → IfLeast a
+        (λ flow prices cost. IsLeastCost (reach_between site.now hot cold) hot cold cost)) }
+    ensures cut { IfOk result (λ a. (hot cold : List Part) → AreSiteParts site.now hot cold
+        → IfStuck a (λ cut. IsCutOf (reach_between site.now hot cold) hot cold cut)) }
+    ensures stuck_only { IfOk result (λ a. (hot cold : List Part) → AreSiteParts site.now hot cold
+        → IfStuck a (λ cut. HasNoFlow (reach_between site.now hot cold) hot cold)) }
 {
     let table = site_parts(alloc, site)?;
     table_target(alloc, site, &table)

@@ -1,4 +1,6 @@
 pub mod Positions
 pub mod LineCuts
 pub mod PlainStatements
+pub mod NextLine
 pub mod PlainNumbers
+pub mod Words

@@ -1,11 +1,8 @@
 -- The first line of a text.
-use Rattle.std.proofs.Common.{◌≡◌, ◌<◌, ◌+◌, ◌∷◌, ◌∙◌, ◌==◌, ℕ, false, List, [], is_some, length, take, drop, refl, sym, ap, arith, Some, None, position}
-use Rattle.std.specs.List.{slice_split, position_or_len}
-use Rattle.std.specs.Str.Lines.{lines, lines_of_parts, strip_carriage_return}
-use Rattle.std.proofs.lemmas.Bool.Decides.{nat_tests}
-use Rattle.std.proofs.lemmas.List.Splits.{length-slice_split, slice_split_first, slice_split_none}
-use Rattle.statements.specs.Statements.{is_newline}
 use Rattle.statements.proofs.Positions.{is_some-position, none_any, position-some}
+use Rattle.statements.proofs.Words.{is_newline, lines, lines_of_parts, nat_tests, position_or_len, slice_split, strip_carriage_return}
+use Rattle.std.proofs.Common.{List, None, Some, [], ap, arith, drop, false, is_some, length, position, refl, sym, take, ℕ, ◌+◌, ◌<◌, ◌==◌, ◌∙◌, ◌∷◌, ◌≡◌}
+use Rattle.std.proofs.lemmas.List.Splits.{length-slice_split, slice_split_first, slice_split_none}
 
 -- a part before another is a line
 pub before_more : (part : List ℕ) (parts : List (List ℕ)) → 0 < length parts → lines_of_parts (part ∷ parts) ≡ strip_carriage_return part ∷ lines_of_parts parts

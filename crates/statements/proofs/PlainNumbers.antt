@@ -1,15 +1,9 @@
 -- Printed whole numbers are plain fields, and are read as themselves.
-use Rattle.std.proofs.Common.{◌≡◌, ◌≢◌, ◌<◌, ◌≤◌, ◌==◌, ◌^◌, ℕ, ℤ, pos, negsuc, suc, false, List, All, Some, get_or, option_map, length, ap, subst, arith, unsigned_abs, decimal}
-use Rattle.std.specs.Fmt.{signed_decimal}
-use Rattle.std.proofs.Math.Nat.{pow-le-pow_right}
-use Rattle.std.proofs.lemmas.Bool.Decides.{nat_tests}
-use Rattle.std.proofs.lemmas.Fmt.{decimal_is_IsNumeral_wide}
-use Rattle.std.proofs.lemmas.List.{get_or_default}
-use Rattle.std.proofs.lemmas.List.Elements.{All-cons, All-weaker}
-use Rattle.std.proofs.lemmas.Str.Parse.{digit_at}
-use Rattle.stream_case.proofs.DigitLemmas.{natural_read}
 use Rattle.statements.specs.Numbers.{negative, number_in}
-use Rattle.statements.specs.Statements.{IsPlainField, IsVisible}
+use Rattle.statements.proofs.Words.{All-cons, All-weaker, IsPlainField, IsVisible, decimal_is_IsNumeral_wide, digit_at, get_or_default, nat_tests, natural_read}
+use Rattle.statements.proofs.Words.{pow-le-pow_right, signed_decimal}
+use Rattle.std.proofs.Common.{All, List, Some, ap, arith, decimal, false, get_or, length, negsuc, option_map, pos, subst, suc, unsigned_abs, ℕ, ℤ, ◌<◌, ◌==◌}
+use Rattle.std.proofs.Common.{◌^◌, ◌≡◌, ◌≢◌, ◌≤◌}
 
 -- a number of so many digits is below that power of ten
 pub fewer_digits : (few most : ℕ) → few ≤ most → 10 ^ few ≤ 10 ^ most

@@ -1,13 +1,11 @@
 -- Statements of plain fields, as lines of text, are read as themselves.
-use Rattle.std.proofs.Common.{◌≡◌, ◌∙◌, ◌<◌, ◌≤◌, ◌-◌, ◌∷◌, ◌++◌, ◌==◌, ℕ, Bool, true, false, not, List, [], All, get_or, nat_lt, length, map, refl, sym, ap, arith, append_assoc, filter, flat_map, append-nil}
-use Rattle.std.specs.List.{AllByRecursion, list_all, slice_split}
-use Rattle.std.specs.Str.Lines.{lines, lines_of_parts, strip_carriage_return}
 use Rattle.statements.proofs.LineCuts.{before_more}
-use Rattle.std.proofs.lemmas.Bool.Decides.{nat_tests}
-use Rattle.std.proofs.lemmas.List.Elements.{All-append, All-cons, All-from_recursion, All-head, All-nil, All-tail, All-weaker}
-use Rattle.std.proofs.lemmas.List.Sums.{AllPass-from_list_all}
+use Rattle.statements.proofs.Words.{All-append, All-cons, All-from_recursion, All-head, All-nil, All-tail, All-weaker, AllByRecursion, AllPass-from_list_all}
+use Rattle.statements.proofs.Words.{IsName, IsPlainField, IsPlainStatement, IsVisible, Statement, fields_of, fields_text, is_blank, is_empty, is_name_byte}
+use Rattle.statements.proofs.Words.{is_statement, lines, lines_of_parts, list_all, nat_tests, slice_split, statement_text, statements_of, strip_carriage_return}
+use Rattle.std.proofs.Common.{All, Bool, List, [], ap, append-nil, append_assoc, arith, false, filter, flat_map, get_or, length, map, nat_lt, not, refl, sym}
+use Rattle.std.proofs.Common.{true, ℕ, ◌++◌, ◌-◌, ◌<◌, ◌==◌, ◌∙◌, ◌∷◌, ◌≡◌, ◌≤◌}
 use Rattle.std.proofs.lemmas.List.Splits.{length-slice_split, slice_split_at, slice_split_none}
-use Rattle.statements.specs.Statements.{IsPlainField, IsPlainStatement, IsVisible, Statement, fields_of, fields_text, is_blank, is_empty, is_statement, statement_text, statements_of}
 
 -- a word without blanks and marks
 pub word_plain : (word : List ℕ) → 0 < length word → list_all (nat_lt 32) word ≡ true → IsPlainField word
@@ -15,6 +13,18 @@ word_plain word some passes = record {
   some = some;
   visible = All-weaker (λ b. nat_lt 32 b ≡ true) IsVisible (λ b test. grind (arith, nat_tests, test)) word (AllPass-from_list_all (nat_lt 32) word passes);
 }
+
+-- a name
+name_byte_visible : (b : ℕ) → is_name_byte b ≡ true → IsVisible b
+name_byte_visible b is = grind (arith, nat_tests)
+
+pub name_plain : (name : List ℕ) → IsName name → IsPlainField name
+name_plain [] is = absurd is
+name_plain (b ∷ bs) is =
+    let first : is_name_byte b ≡ true = rw is.0 refl in record {
+      some = omega arith;
+      visible = All-cons IsVisible b bs (name_byte_visible b first) (All-weaker (λ (c : ℕ). is_name_byte c ≡ true) IsVisible name_byte_visible bs is.1);
+    }
 
 pub plain_statement : (word : List ℕ) (fields : Statement) → IsPlainField word → (get_or word 0 0 == 35) ≡ false → AllByRecursion IsPlainField fields
     → IsPlainStatement (word ∷ fields)

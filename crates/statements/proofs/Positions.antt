@@ -1,11 +1,7 @@
 -- Whether some item of a list passes a test, and the index of the first that does.
-use Rattle.std.proofs.Common.{◌≡◌, ◌∙◌, ◌<◌, ◌+◌, ◌∷◌, ℕ, suc, Bool, true, false, cond, List, [], All, Option, Some, None, is_some, nat_lt, unwrap_or, position, length, refl, sym, arith}
-use Rattle.std.specs.List.{list_any, position_or_len}
-use Rattle.std.proofs.lemmas.Bool.Decides.{nat_tests}
-use Rattle.std.proofs.lemmas.Bool.{false≢true, false_from_ne_true}
-use Rattle.std.proofs.lemmas.List.Folds.{list_any_at}
-use Rattle.std.proofs.lemmas.List.Quantifiers.{position-Some}
-use Rattle.std.proofs.lemmas.Option.{cond_some}
+use Rattle.std.proofs.Common.{All, Bool, List, None, Option, Some, [], arith, cond, false, is_some, length, nat_lt, position, refl, suc, sym, true, unwrap_or}
+use Rattle.std.proofs.Common.{ℕ, ◌+◌, ◌<◌, ◌∙◌, ◌∷◌, ◌≡◌}
+use Rattle.statements.proofs.Words.{cond_some, false_from_ne_true, false≢true, list_any, list_any_at, nat_tests, position-Some, position_or_len}
 
 -- none passes
 pub none_any : {X : Type 0} (p : X → Bool) (xs : List X) → list_any p xs ≡ false → All (λ x. p x ≡ false) xs

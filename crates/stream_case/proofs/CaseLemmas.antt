@@ -1,25 +1,15 @@
 -- How many streams there are, and the sources of a case.
-use Rattle.std.proofs.Common.{◌≡◌, ◌≢◌, ℕ, zero, suc, ◌+◌, ◌<◌, ◌≤◌, cond, List, [], ◌∷◌, length, map, get_or, slice_get, Some, refl, sym, subst, ◌∙◌, arith}
-use Rattle.std.specs.Prelude.{All, AllPairs, IsSome, option_map}
-use Rattle.std.specs.Option.{option_map_or}
-use Rattle.std.specs.Str.{bytes_eq}
-use Rattle.std.proofs.lemmas.Bool.{false≢true}
-use Rattle.std.proofs.lemmas.List.{get_or_append_left, get_or-append-add, length-append, length-map}
-use Rattle.std.proofs.lemmas.List.Sums.{sum_by-cons}
-use Rattle.stream_case.specs.declared.source.Side.{Side}
-use Rattle.stream_case.specs.declared.source.Side.TheVariants.{Hot, Cold}
-use Rattle.stream_case.specs.declared.source.Source.{Source}
-use Rattle.stream_case.specs.declared.source.Source.TheVariants.{Stream as of_stream, Utility as of_utility}
-use Rattle.stream_case.specs.declared.stream.Stream.{Stream}
-use Rattle.stream_case.specs.declared.utility.Utility.{Utility}
-use Rattle.stream_case.specs.declared.case.Case.{Case}
-use Rattle.stream_case.specs.declared.limits.TheConstants.{ALL_STREAMS}
-use Rattle.stream_case.specs.Name.{IsName}
-use Rattle.stream_case.specs.Source.{same_side}
-use Rattle.stream_case.specs.Stream.{count_on, AreStreams}
-use Rattle.stream_case.specs.Case.{IsSourceOf, names_of, side_of, source_name, source_named}
-use Rattle.stream_case.proofs.DistinctLemmas.{AllPairs-front, AllPairs-back, AllPairs-across, place_of, no_place_of}
+use Rattle.std.proofs.Common.{List, Some, [], ap, arith, cond, false, get_or, length, map, refl, slice_get, subst, suc, sym, zero, ℕ, ◌++◌, ◌+◌, ◌<◌, ◌∙◌, ◌∷◌}
+use Rattle.std.proofs.Common.{◌≡◌, ◌≢◌, ◌≤◌}
+use Rattle.stream_case.proofs.Words.{ALL_STREAMS, All, AreStreams, Case, Cold, Hot, IsName, IsSourceOf, Side, Source, Stream, Utility, bytes_eq, count_on}
+use Rattle.stream_case.proofs.Words.{false_from_ne_true, false≢true, get_or-append-add, get_or_append_left, length-append, length-map, names_of, option_map}
+use Rattle.stream_case.proofs.Words.{option_map_or, same_Some, same_side, same_source, side_of, source_name, source_named, sum_by-append, sum_by-cons}
+use Rattle.std.specs.Prelude.{AllPairs, IsSome}
+use Rattle.stream_case.proofs.DistinctLemmas.{AllPairs-across, AllPairs-back, AllPairs-front, no_place_of, place_of}
 use Rattle.stream_case.proofs.ListLemmas.{position-map}
+use Rattle.stream_case.proofs.SourceLemmas.{same_source-true}
+use Rattle.stream_case.specs.declared.source.Source.TheVariants.{Stream as of_stream}
+use Rattle.stream_case.specs.declared.source.Source.TheVariants.{Utility as of_utility}
 
 -- ---- counts
 
@@ -41,6 +31,9 @@ count_on-add (s ∷ ss) =
     one_side Hot = refl
     one_side Cold = refl
 
+pub count_on-append : (side : Side) (xs ys : List Stream) → count_on side (xs ++ ys) ≡ count_on side xs + count_on side ys
+count_on-append side xs ys = sum_by-append (λ (s : Stream). cond (same_side s.side side) 1 0) xs ys
+
 pub length-AreStreams : (streams : List Stream) → AreStreams streams → length streams ≤ ALL_STREAMS
 length-AreStreams streams h = omega (arith, count_on-add streams, h.few Hot, h.few Cold)
 
@@ -55,6 +48,14 @@ within_map f (x ∷ xs) (suc i) some = let rest = within_map f xs i some in omeg
 pub IsSourceOf-side : (c : Case) (source : Source) → IsSome (side_of c source) → IsSourceOf c source
 IsSourceOf-side c (of_stream i) some = within_map (λ s. s.side) c.streams i some
 IsSourceOf-side c (of_utility i) some = within_map (λ u. u.side) c.utilities i some
+
+-- a source of the other side is not the utility
+pub other_source : (c : Case) (source : Source) (side : Side) (index : ℕ) (u : Utility) → side_of c source ≡ Some side
+    → slice_get c.utilities index ≡ Some u → u.side ≢ side → same_source source (of_utility index) ≡ false
+other_source c source side index u side_is here other =
+    false_from_ne_true (same_source source (of_utility index)) (λ holds.
+    let own = ap (side_of c) (same_source-true source (of_utility index) holds) ∙ ap (option_map (λ (v : Utility). v.side)) here in
+    other (same_Some u.side side (sym own ∙ side_is)))
 
 name_at : {X : Type 0} (name : X → List ℕ) (xs : List X) (i : ℕ) → option_map_or name (slice_get xs i) [] ≡ get_or (map name xs) i []
 name_at name [] i = refl
@@ -71,11 +72,13 @@ abbrev Differ : List ℕ → List ℕ → Type 0
 Differ a b = a ≢ b
 
 -- what is named is found by its name, where the names differ
-pub source_named-source_name : (c : Case) → AllPairs (λ a b. a ≢ b) (names_of c) → (source : Source) → IsSourceOf c source → source_named c (source_name c source) ≡ Some source
+pub source_named-source_name : (c : Case) → AllPairs (λ a b. a ≢ b) (names_of c) → (source : Source) → IsSourceOf c source
+    → source_named c (source_name c source) ≡ Some source
 unfolding source_named
 source_named-source_name c distinct (of_stream i) within =
     let names = stream_names c in
-    let place = place_of names i (AllPairs-front Differ names (utility_names c) distinct) (omega (arith, within, length-map c.streams (λ (s : Stream). s.name))) in
+    let place =
+    place_of names i (AllPairs-front Differ names (utility_names c) distinct) (omega (arith, within, length-map c.streams (λ (s : Stream). s.name))) in
     rw (name_at (λ (s : Stream). s.name) c.streams i) (rw (position-map (bytes_eq (get_or names i [])) (λ (s : Stream). s.name) c.streams ∙ place) refl)
 source_named-source_name c distinct (of_utility i) within =
     let names = utility_names c in
@@ -84,7 +87,11 @@ source_named-source_name c distinct (of_utility i) within =
     let place = place_of names i (AllPairs-back Differ (stream_names c) names distinct) inside in
     let nowhere = no_place_of (stream_names c) name (λ k d early. AllPairs-across Differ (stream_names c) names k d distinct early i [] inside) in
     rw (name_at (λ (u : Utility). u.name) c.utilities i)
-    (rw (position-map (bytes_eq name) (λ (s : Stream). s.name) c.streams ∙ nowhere, position-map (bytes_eq name) (λ (u : Utility). u.name) c.utilities ∙ place) refl)
+    (rw (
+      position-map (bytes_eq name) (λ (s : Stream). s.name) c.streams ∙ nowhere,
+      position-map (bytes_eq name) (λ (u : Utility). u.name) c.utilities
+          ∙ place,
+    ) refl)
 
 pub IsName-source_name : (c : Case) → All IsName (names_of c) → (source : Source) → IsSourceOf c source → IsName (source_name c source)
 IsName-source_name c each (of_stream i) within =

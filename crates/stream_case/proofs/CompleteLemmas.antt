@@ -1,30 +1,17 @@
 -- What a completed case keeps of a valid one.
-use Rattle.std.proofs.Common.{◌≡◌, ◌≢◌, ◌⊎◌, inl, inr, ℕ, ◌≤◌, ℤ, true, false, if◌then◌else◌, List, [], ◌∷◌, ◌++◌, length, map, All, AllPairs, Option, None, Some, get_or, sym, ap, ◌∙◌, refl, subst, lit≤, arith}
-use Rattle.std.specs.Prelude.{codes, IsTrue, slice_get, option_map}
-use Rattle.std.proofs.lemmas.Int.{ints}
-use Rattle.std.proofs.lemmas.Bool.{false≢true}
-use Rattle.std.proofs.lemmas.List.{append-nil, append_assoc, map-append, length-append}
-use Rattle.std.proofs.lemmas.List.Elements.{All-nil, All-cons, All-append, All-from_recursion, All-map, All-weaker}
-use Rattle.std.proofs.lemmas.List.Folds.{list_any_at}
-use Rattle.std.proofs.lemmas.List.Quantifiers.{all_pairs_push}
-use Rattle.stream_case.specs.declared.source.Side.{Side}
-use Rattle.stream_case.specs.declared.source.Side.TheVariants.{Hot, Cold}
-use Rattle.stream_case.specs.declared.source.Source.{Source}
-use Rattle.stream_case.specs.declared.source.Source.TheVariants.{Stream as of_stream, Utility as of_utility}
-use Rattle.stream_case.specs.declared.utility.Utility.{Utility}
-use Rattle.stream_case.specs.declared.case.Forbid.{Forbid}
-use Rattle.stream_case.specs.declared.case.Case.{Case}
-use Rattle.stream_case.specs.declared.limits.TheConstants.{ALL_UTILITIES, MOST_FORBIDS}
-use Rattle.stream_case.specs.Name.{IsName, is_name_byte}
-use Rattle.stream_case.specs.Shift.{shifted}
-use Rattle.stream_case.specs.Source.{same_side}
-use Rattle.stream_case.specs.Stream.{stream_ends, IsValidStream, AreStreams, HasValidStreams}
-use Rattle.stream_case.specs.Utility.{shifted_level, IsPlaced, IsValidUtility}
-use Rattle.stream_case.specs.Limits.{IsContribution, IsLevel, IsShifted, IsTemperature}
-use Rattle.stream_case.specs.Case.{IsRightlyNamed, IsUnreserved, IsValidForbid, IsValid, IsComplete, completed, has_utility, names_of, outermost, side_of, standard_utility, unless_given, with_utilities}
+use Rattle.std.proofs.Common.{All, AllPairs, List, None, Option, Some, [], ap, arith, false, get_or, if◌then◌else◌, length, lit≤, map, refl, subst, sym, true}
+use Rattle.std.proofs.Common.{ℕ, ℤ, ◌++◌, ◌∙◌, ◌∷◌, ◌≡◌, ◌≢◌, ◌≤◌}
+use Rattle.stream_case.proofs.Words.{ALL_UTILITIES, All-append, All-cons, All-from_recursion, All-map, All-nil, All-weaker, AreStreams, Case, Cold, Forbid}
+use Rattle.stream_case.proofs.Words.{HasValidStreams, Hot, IsContribution, IsLevel, IsName, IsPlaced, IsShifted, IsTemperature, IsTrue, IsValidStream}
+use Rattle.stream_case.proofs.Words.{IsValidUtility, MOST_FORBIDS, Side, Source, Utility, all_pairs_push, append-nil, append_assoc, codes, false≢true, ints}
+use Rattle.stream_case.proofs.Words.{is_name_byte, length-append, list_any_at, map-append, names_of, option_map, outermost, same_side, shifted, shifted_level}
+use Rattle.stream_case.proofs.Words.{side_of, slice_get, standard_utility, stream_ends, with_utilities}
 use Rattle.stream_case.proofs.EndLemmas.{outermost-between}
 use Rattle.stream_case.proofs.ListLemmas.{slice_get-append}
 use Rattle.stream_case.proofs.SourceLemmas.{own_side}
+use Rattle.stream_case.specs.Case.{IsComplete, IsRightlyNamed, IsUnreserved, IsValid, IsValidForbid, completed, has_utility, unless_given}
+use Rattle.stream_case.specs.declared.source.Source.TheVariants.{Stream as of_stream}
+use Rattle.stream_case.specs.declared.source.Source.TheVariants.{Utility as of_utility}
 
 -- a utility of a completed case: its level may lie outside the range of a file
 pub record IsUtility (u : Utility) : Type 0 where
@@ -75,22 +62,34 @@ IsUtility-standard side c each own =
     let placed = subst IsShifted (sym (shifted_level-standard side c)) end in
     by side end placed
   where
-    by : (side : Side) → IsShifted (outermost side (stream_ends c.streams)) → IsShifted (shifted_level (standard_utility side c)) → IsUtility (standard_utility side c)
+    by : (side : Side) → IsShifted (outermost side (stream_ends c.streams)) → IsShifted (shifted_level (standard_utility side c))
+        → IsUtility (standard_utility side c)
     by Hot end placed = record {
       name = IsName-standard Hot c;
       level = record { from = omega (arith, ints); upto = omega (arith, ints) };
-      placed = record { level = placed; least = record { from = omega (arith, ints); upto = omega (arith, ints) }; most = record { from = omega (arith, ints); upto = omega (arith, ints) }; price = record { from = omega (arith, ints); upto = omega (arith, ints) } };
+      placed = record {
+        level = placed;
+        least = record { from = omega (arith, ints); upto = omega (arith, ints) };
+        most = record { from = omega (arith, ints); upto = omega (arith, ints) };
+        price = record { from = omega (arith, ints); upto = omega (arith, ints) };
+      };
       contribution = own;
     }
     by Cold end placed = record {
       name = IsName-standard Cold c;
       level = record { from = omega (arith, ints); upto = omega (arith, ints) };
-      placed = record { level = placed; least = record { from = omega (arith, ints); upto = omega (arith, ints) }; most = record { from = omega (arith, ints); upto = omega (arith, ints) }; price = record { from = omega (arith, ints); upto = omega (arith, ints) } };
+      placed = record {
+        level = placed;
+        least = record { from = omega (arith, ints); upto = omega (arith, ints) };
+        most = record { from = omega (arith, ints); upto = omega (arith, ints) };
+        price = record { from = omega (arith, ints); upto = omega (arith, ints) };
+      };
       contribution = own;
     }
 
 -- a fact of what is added, from the two cases
-unless_given-elim : (Q : List Utility → Type 0) (side : Side) (c : Case) → (has_utility side c.utilities ≡ true → Q []) → (has_utility side c.utilities ≡ false → Q (standard_utility side c ∷ [])) → Q (unless_given side c)
+unless_given-elim : (Q : List Utility → Type 0) (side : Side) (c : Case) → (has_utility side c.utilities ≡ true → Q [])
+    → (has_utility side c.utilities ≡ false → Q (standard_utility side c ∷ [])) → Q (unless_given side c)
 unless_given-elim Q side c given absent =
     let answer = has_utility side c.utilities in
     (elim answer as (λ b. answer ≡ b → Q (if b then [] else standard_utility side c ∷ [])) [ true ↦ given | false ↦ absent ]) refl
@@ -142,15 +141,19 @@ name-free side c h absent =
     (All-map P (λ u. u.name) c.utilities (λ k d within same. none k d within (rightly_named side c (get_or c.utilities k d) (h.utility_names k d within) same)))
 
 -- names stay distinct where an added utility has a new one
-distinct-added : (names : List (List ℕ)) (side : Side) (c : Case) → AllPairs (λ a b. a ≢ b) names → (has_utility side c.utilities ≡ false → All (λ n. n ≢ (standard_utility side c).name) names) → AllPairs (λ a b. a ≢ b) (names ++ map (λ v. v.name) (unless_given side c))
+distinct-added : (names : List (List ℕ)) (side : Side) (c : Case) → AllPairs (λ a b. a ≢ b) names
+    → (has_utility side c.utilities ≡ false → All (λ n. n ≢ (standard_utility side c).name) names)
+    → AllPairs (λ a b. a ≢ b) (names ++ map (λ v. v.name) (unless_given side c))
 distinct-added names side c distinct new =
     let P : List (List ℕ) → Type 0 = λ ns. AllPairs (λ a b. a ≢ b) ns in
-    unless_given-elim (λ xs. P (names ++ map (λ v. v.name) xs)) side c (λ _. subst P (sym (append-nil names)) distinct) (λ absent. all_pairs_push (λ a b. a ≢ b) names (standard_utility side c).name distinct (new absent))
+    unless_given-elim (λ xs. P (names ++ map (λ v. v.name) xs)) side c (λ _. subst P (sym (append-nil names)) distinct)
+    (λ absent. all_pairs_push (λ a b. a ≢ b) names (standard_utility side c).name distinct (new absent))
 
 -- the names with further utilities
 names_of-append : (c : Case) (more : List Utility) → names_of (with_utilities c (c.utilities ++ more)) ≡ names_of c ++ map (λ u. u.name) more
 names_of-append c more =
-    ap (λ ns. map (λ s. s.name) c.streams ++ ns) (map-append (λ (u : Utility). u.name) c.utilities more) ∙ sym (append_assoc (map (λ s. s.name) c.streams) (map (λ u. u.name) c.utilities) (map (λ u. u.name) more))
+    ap (λ ns. map (λ s. s.name) c.streams ++ ns) (map-append (λ (u : Utility). u.name) c.utilities more)
+    ∙ sym (append_assoc (map (λ s. s.name) c.streams) (map (λ u. u.name) c.utilities) (map (λ u. u.name) more))
 
 distinct-completed : (c : Case) → IsValid c → AllPairs (λ a b. a ≢ b) (names_of (completed c))
 distinct-completed c h =
@@ -160,21 +163,27 @@ distinct-completed c h =
     let P : List (List ℕ) → Type 0 = λ ns. AllPairs (λ a b. a ≢ b) ns in
     let other = λ (n : List ℕ). n ≢ codes "COLD" in
     let first = distinct-added (names_of c) Hot c h.distinct_names (name-free Hot c h) in
-    let apart = unless_given-elim (λ xs. All other (map (λ u. u.name) xs)) Hot c (λ _. All-nil other) (λ _. All-cons other (codes "HOT") [] (λ e. absurd (omega (arith, ap length e))) (All-nil other)) in
-    let both = distinct-added (names_of c ++ map (λ u. u.name) hot) Cold c first (λ absent. All-append other (names_of c) (map (λ u. u.name) hot) (name-free Cold c h absent) apart) in
+    let apart =
+    unless_given-elim (λ xs. All other (map (λ u. u.name) xs)) Hot c (λ _. All-nil other)
+    (λ _. All-cons other (codes "HOT") [] (λ e. absurd (omega (arith, ap length e))) (All-nil other)) in
+    let both =
+    distinct-added (names_of c ++ map (λ u. u.name) hot) Cold c first
+    (λ absent. All-append other (names_of c) (map (λ u. u.name) hot) (name-free Cold c h absent) apart) in
     subst P (sym (names_of-append (with_utilities c (us ++ hot)) cold ∙ ap (λ ns. ns ++ map (λ u. u.name) cold) (names_of-append c hot))) both
 
 -- ---- the forbidden matches
 
 -- a source that a case has keeps its side where utilities are added
-side_at-append : (us more : List Utility) (i : ℕ) (side : Side) → option_map (λ u. u.side) (slice_get us i) ≡ Some side → option_map (λ u. u.side) (slice_get (us ++ more) i) ≡ Some side
+side_at-append : (us more : List Utility) (i : ℕ) (side : Side) → option_map (λ u. u.side) (slice_get us i) ≡ Some side
+    → option_map (λ u. u.side) (slice_get (us ++ more) i) ≡ Some side
 side_at-append us more i side h = by (slice_get us i) refl
   where
     by : (o : Option Utility) → slice_get us i ≡ o → option_map (λ u. u.side) (slice_get (us ++ more) i) ≡ Some side
     by None at = cc (rw at at h)
     by (Some u) at = ap (option_map (λ u. u.side)) (slice_get-append us more i u at) ∙ rw at at h
 
-side_of-append : (c : Case) (more : List Utility) (source : Source) (side : Side) → side_of c source ≡ Some side → side_of (with_utilities c (c.utilities ++ more)) source ≡ Some side
+side_of-append : (c : Case) (more : List Utility) (source : Source) (side : Side) → side_of c source ≡ Some side
+    → side_of (with_utilities c (c.utilities ++ more)) source ≡ Some side
 side_of-append c more (of_stream i) side h = h
 side_of-append c more (of_utility i) side h = side_at-append c.utilities more i side h
 
@@ -185,7 +194,8 @@ forbid-append c more f h = (side_of-append c more f.hot Hot h.0, side_of-append 
 
 All-added : (side : Side) (c : Case) → All IsValidStream c.streams → IsContribution c.contribution → All IsUtility (unless_given side c)
 All-added side c each own =
-    unless_given-elim (All IsUtility) side c (λ _. All-nil IsUtility) (λ _. All-cons IsUtility (standard_utility side c) [] (IsUtility-standard side c each own) (All-nil IsUtility))
+    unless_given-elim (All IsUtility) side c (λ _. All-nil IsUtility)
+    (λ _. All-cons IsUtility (standard_utility side c) [] (IsUtility-standard side c each own) (All-nil IsUtility))
 
 pub StaysValid-completed : (c : Case) → IsValid c → StaysValid (completed c)
 StaysValid-completed c h =
@@ -193,7 +203,10 @@ StaysValid-completed c h =
     let hot = unless_given Hot c in
     let cold = unless_given Cold c in
     let each = h.streams.are_streams.each in
-    let all_utilities = All-append IsUtility (us ++ hot) cold (All-append IsUtility us hot (All-weaker IsValidUtility IsUtility IsUtility-IsValidUtility us h.utilities) (All-added Hot c each h.contribution)) (All-added Cold c each h.contribution) in record {
+    let all_utilities =
+    All-append IsUtility (us ++ hot) cold
+    (All-append IsUtility us hot (All-weaker IsValidUtility IsUtility IsUtility-IsValidUtility us h.utilities) (All-added Hot c each h.contribution))
+    (All-added Cold c each h.contribution) in record {
       contribution = h.contribution;
       streams = h.streams;
       utilities = all_utilities;
@@ -202,7 +215,9 @@ StaysValid-completed c h =
           (All-map IsName (λ s. s.name) c.streams (All-weaker IsValidStream (λ s. IsName s.name) (λ s k. k.name) c.streams each))
           (All-map IsName (λ u. u.name) ((us ++ hot) ++ cold) (All-weaker IsUtility (λ u. IsName u.name) (λ u k. k.name) ((us ++ hot) ++ cold) all_utilities));
       distinct_names = distinct-completed c h;
-      forbids = All-weaker (IsValidForbid c) (IsValidForbid (completed c)) (λ f k. forbid-append (with_utilities c (us ++ hot)) cold f (forbid-append c hot f k)) c.forbids h.forbids;
+      forbids =
+          All-weaker (IsValidForbid c) (IsValidForbid (completed c))
+          (λ f k. forbid-append (with_utilities c (us ++ hot)) cold f (forbid-append c hot f k)) c.forbids h.forbids;
       few_forbids = h.few_forbids;
       distinct_forbids = h.distinct_forbids;
     }
@@ -212,10 +227,6 @@ StaysValid-IsComplete c h = subst StaysValid (sym h.2) (StaysValid-completed h.0
 
 pub HasValidStreams-IsComplete : (c : Case) → IsComplete c → HasValidStreams c.streams
 HasValidStreams-IsComplete c h = (StaysValid-IsComplete c h).streams
-
-pub HasValidStreams-either : (c : Case) → IsValid c ⊎ IsComplete c → HasValidStreams c.streams
-HasValidStreams-either c (inl h) = h.streams
-HasValidStreams-either c (inr h) = HasValidStreams-IsComplete c h
 
 pub AreStreams-IsComplete : (c : Case) → IsComplete c → AreStreams c.streams
 AreStreams-IsComplete c h = (HasValidStreams-IsComplete c h).are_streams

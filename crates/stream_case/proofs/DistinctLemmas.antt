@@ -1,15 +1,11 @@
 -- Lists whose items all differ, one more item at a time, and places in them.
-use Rattle.std.proofs.Common.{◌≡◌, ◌≢◌, ℕ, ◌+◌, ◌<◌, ◌≤◌, ◌++◌, true, false, cond, List, [], All, Some, None, length, get_or, slice_get, take, position, nat_lt, AllPairs, Contains, refl, sym, ap, subst, subst₂, ◌∙◌, arith, length-append}
-use Rattle.std.specs.Str.{bytes_eq}
-use Rattle.std.specs.Cmp.Lexicographic.{bytes_decides}
-use Rattle.std.proofs.lemmas.Bool.{false_from_ne_true}
-use Rattle.std.proofs.lemmas.Bool.Decides.{nat_tests}
-use Rattle.std.proofs.lemmas.List.{take_more, take_all, get_or_append_left, get_or-append-add, get_or-take, get_or_default, length-take-le}
-use Rattle.std.proofs.lemmas.List.Quantifiers.{all_pairs_push}
-use Rattle.std.proofs.lemmas.List.Sums.{position_or_len_is}
-use Rattle.std.proofs.lemmas.Option.{get_or_from_slice_get, slice_get_within}
+use Rattle.std.proofs.Common.{All, AllPairs, Contains, List, None, Some, [], ap, arith, cond, false, get_or, length, length-append, nat_lt, position, refl}
+use Rattle.std.proofs.Common.{subst, subst₂, sym, take, true, ℕ, ◌++◌, ◌+◌, ◌<◌, ◌∙◌, ◌≡◌, ◌≢◌, ◌≤◌}
+use Rattle.stream_case.proofs.Words.{all_pairs_push, bytes_decides, bytes_eq, false_from_ne_true, get_or-append-add, get_or-take, get_or_append_left}
+use Rattle.stream_case.proofs.Words.{get_or_default, length-take-le, nat_tests, position_or_len_is, take_all, take_more}
 
-pub AllPairs-more : {X : Type 0} (R : X → X → Type 0) (xs : List X) (i : ℕ) → i < length xs → AllPairs R (take i xs) → ((k : ℕ) (d : X) → k < i → R (get_or xs k d) (get_or xs i d)) → AllPairs R (take (i + 1) xs)
+pub AllPairs-more : {X : Type 0} (R : X → X → Type 0) (xs : List X) (i : ℕ) → i < length xs → AllPairs R (take i xs)
+    → ((k : ℕ) (d : X) → k < i → R (get_or xs k d) (get_or xs i d)) → AllPairs R (take (i + 1) xs)
 AllPairs-more {X} R xs i within before new a b d =
     let P : List X → Type 0 = λ ys. AllPairs R ys in
     let short = length-take-le i xs (omega arith) in
@@ -28,7 +24,8 @@ differ_at xs k i e early within h d same =
     h (get_or_default xs k e d (omega arith) ∙ same ∙ get_or_default xs i d e within)
 
 -- an item that the ones before it do not hold
-pub differ_before : {X : Type 0} (xs : List X) (i : ℕ) (e : X) → i < length xs → (Contains (take i xs) (get_or xs i e) → ⊥) → (k : ℕ) (d : X) → k < i → get_or xs k d ≢ get_or xs i d
+pub differ_before : {X : Type 0} (xs : List X) (i : ℕ) (e : X) → i < length xs → (Contains (take i xs) (get_or xs i e) → ⊥) → (k : ℕ) (d : X) → k < i
+    → get_or xs k d ≢ get_or xs i d
 differ_before xs i e within new k d early same =
     let short = length-take-le i xs (omega arith) in
     let inside : k < length (take i xs) = omega arith in
@@ -39,22 +36,26 @@ differ_before xs i e within new k d early same =
 pub AllPairs-front : {X : Type 0} (R : X → X → Type 0) (xs ys : List X) → AllPairs R (xs ++ ys) → AllPairs R xs
 AllPairs-front R xs ys pairs i j d before within =
     let long = length-append xs ys in
-    subst₂ R (get_or_append_left xs ys d i (omega (arith, before, within))) (get_or_append_left xs ys d j within) (pairs i j d before (omega (arith, within, long)))
+    subst₂ R (get_or_append_left xs ys d i (omega (arith, before, within))) (get_or_append_left xs ys d j within)
+    (pairs i j d before (omega (arith, within, long)))
 
 pub AllPairs-back : {X : Type 0} (R : X → X → Type 0) (xs ys : List X) → AllPairs R (xs ++ ys) → AllPairs R ys
 AllPairs-back R xs ys pairs i j d before within =
     let long = length-append xs ys in
-    subst₂ R (get_or-append-add xs ys i d) (get_or-append-add xs ys j d) (pairs (length xs + i) (length xs + j) d (omega (arith, before)) (omega (arith, within, long)))
+    subst₂ R (get_or-append-add xs ys i d) (get_or-append-add xs ys j d)
+    (pairs (length xs + i) (length xs + j) d (omega (arith, before)) (omega (arith, within, long)))
 
 -- an item of the first list and the items of the second
-pub AllPairs-across : {X : Type 0} (R : X → X → Type 0) (xs ys : List X) (i : ℕ) (d : X) → AllPairs R (xs ++ ys) → i < length xs → All (λ y. R (get_or xs i d) y) ys
+pub AllPairs-across : {X : Type 0} (R : X → X → Type 0) (xs ys : List X) (i : ℕ) (d : X) → AllPairs R (xs ++ ys) → i < length xs
+    → All (λ y. R (get_or xs i d) y) ys
 AllPairs-across R xs ys i d pairs early j e within =
     let long = length-append xs ys in
     let first = get_or_append_left xs ys e i early ∙ get_or_default xs i e d early in
     subst₂ R first (get_or-append-add xs ys j e) (pairs i (length xs + j) e (omega (arith, early)) (omega (arith, within, long)))
 
 -- the items before one
-pub AllPairs-before : {X : Type 0} (R : X → X → Type 0) (xs : List X) (i : ℕ) (d : X) → AllPairs R xs → i < length xs → All (λ x. R x (get_or xs i d)) (take i xs)
+pub AllPairs-before : {X : Type 0} (R : X → X → Type 0) (xs : List X) (i : ℕ) (d : X) → AllPairs R xs → i < length xs
+    → All (λ x. R x (get_or xs i d)) (take i xs)
 AllPairs-before R xs i d pairs within k e early =
     let short = length-take-le i xs (omega (arith, within)) in
     let inside : k < i = omega (arith, early, short) in
@@ -73,10 +74,6 @@ place_of names i distinct within =
     let first = position_or_len_is (bytes_eq name) names i [] (omega (arith, within)) earlier (λ w. (bytes_decides name name).1 refl) in
     let inside : nat_lt i (length names) ≡ true = grind (arith, nat_tests, within) in
     ap (λ n. cond (nat_lt n (length names)) (Some n) None) first ∙ rw inside refl
-
-pub place_of_name : (names : List (List ℕ)) (i : ℕ) (name : List ℕ) → AllPairs (λ a b. a ≢ b) names → slice_get names i ≡ Some name → position (bytes_eq name) names ≡ Some i
-place_of_name names i name distinct at =
-    subst (λ (n : List ℕ). position (bytes_eq n) names ≡ Some i) (get_or_from_slice_get names i name [] at) (place_of names i distinct (slice_get_within names i name at))
 
 -- a name that is not among them
 pub no_place_of : (names : List (List ℕ)) (name : List ℕ) → All (λ other. other ≢ name) names → position (bytes_eq name) names ≡ None

@@ -1,18 +1,9 @@
 -- The shifted ends of valid streams, and the outermost of them.
-use Rattle.std.proofs.Common.{◌≡◌, ◌⊎◌, inl, inr, ℕ, ◌+◌, ◌*◌, ◌<◌, ℤ, ◌≤ℤ◌, ◌<ℤ◌, List, [], ◌∷◌, ◌++◌, length, get_or, take, fold, All, if◌then◌else◌, sym, ap, ◌∙◌, refl, subst, arith}
-use Rattle.std.proofs.lemmas.Int.{ints, clamps}
-use Rattle.std.proofs.lemmas.List.{take_more}
-use Rattle.std.proofs.lemmas.List.Sums.{fold-append}
-use Rattle.std.proofs.lemmas.List.Elements.{All-nil, All-cons, All-head, All-tail}
-use Rattle.stream_case.specs.declared.source.Side.{Side}
-use Rattle.stream_case.specs.declared.source.Side.TheVariants.{Hot, Cold}
-use Rattle.stream_case.specs.declared.stream.Stream.{Stream}
-use Rattle.stream_case.specs.Shift.{shifted}
-use Rattle.stream_case.specs.Source.{is_hot, IsRightWay}
-use Rattle.stream_case.specs.Stream.{high_end, low_end, stream_ends, IsSensible, IsLatent, IsValidStream}
-use Rattle.stream_case.specs.declared.limits.TheConstants.{LOWEST_SHIFTED, HIGHEST_SHIFTED}
-use Rattle.stream_case.specs.Limits.{IsBetween, IsTemperature, IsContribution, IsShifted}
-use Rattle.stream_case.specs.Case.{outer_of, outermost}
+use Rattle.std.proofs.Common.{All, List, [], ap, arith, fold, get_or, if◌then◌else◌, inl, inr, length, refl, subst, sym, take, ℕ, ℤ, ◌*◌, ◌++◌, ◌+◌, ◌<ℤ◌, ◌<◌}
+use Rattle.std.proofs.Common.{◌∙◌, ◌∷◌, ◌≡◌, ◌≤ℤ◌, ◌⊎◌}
+use Rattle.stream_case.proofs.Words.{All-cons, All-head, All-nil, All-tail, Cold, HIGHEST_SHIFTED, Hot, IsBetween, IsContribution, IsLatent, IsRightWay}
+use Rattle.stream_case.proofs.Words.{IsSensible, IsShifted, IsTemperature, IsValidStream, LOWEST_SHIFTED, Side, Stream, clamps, fold-append, high_end, ints}
+use Rattle.stream_case.proofs.Words.{is_hot, low_end, outer_of, outermost, shifted, stream_ends, take_more}
 
 -- the ends of a shifted range: in order, one where the stream is latent, and within bounds
 pub record AreEnds (low high : ℤ) : Type 0 where
@@ -20,7 +11,9 @@ pub record AreEnds (low high : ℤ) : Type 0 where
   pub from : LOWEST_SHIFTED ≤ℤ low
   pub upto : high ≤ℤ HIGHEST_SHIFTED
 
-AreEnds-shifted : (side : Side) (supply target contribution : ℤ) → IsRightWay side supply target ⊎ (supply ≡ target) → IsTemperature supply → IsTemperature target → IsContribution contribution → AreEnds (shifted side (if is_hot side then target else supply) contribution) (shifted side (if is_hot side then supply else target) contribution)
+AreEnds-shifted : (side : Side) (supply target contribution : ℤ) → IsRightWay side supply target ⊎ (supply ≡ target) → IsTemperature supply
+    → IsTemperature target → IsContribution contribution
+    → AreEnds (shifted side (if is_hot side then target else supply) contribution) (shifted side (if is_hot side then supply else target) contribution)
 AreEnds-shifted Hot supply target contribution way s t c = record { order = omega (arith, ints); from = omega (arith, ints); upto = omega (arith, ints) }
 AreEnds-shifted Cold supply target contribution way s t c = record { order = omega (arith, ints); from = omega (arith, ints); upto = omega (arith, ints) }
 
@@ -35,7 +28,8 @@ AreEnds-IsValidStream s h = AreEnds-shifted s.side s.supply s.target s.contribut
 pub order-sensible : (s : Stream) → IsSensible s → low_end s <ℤ high_end s
 order-sensible s h = by_side s.side s.supply s.target s.contribution h.way
   where
-    by_side : (side : Side) (supply target contribution : ℤ) → IsRightWay side supply target → shifted side (if is_hot side then target else supply) contribution <ℤ shifted side (if is_hot side then supply else target) contribution
+    by_side : (side : Side) (supply target contribution : ℤ) → IsRightWay side supply target
+        → shifted side (if is_hot side then target else supply) contribution <ℤ shifted side (if is_hot side then supply else target) contribution
     by_side Hot supply target contribution way = omega (arith, ints)
     by_side Cold supply target contribution way = omega (arith, ints)
 
@@ -43,7 +37,8 @@ order-sensible s h = by_side s.side s.supply s.target s.contribution h.way
 pub level-latent : (s : Stream) → IsLatent s → high_end s ≡ low_end s
 level-latent s h = by_side s.side s.supply s.target s.contribution h.level
   where
-    by_side : (side : Side) (supply target contribution : ℤ) → supply ≡ target → shifted side (if is_hot side then supply else target) contribution ≡ shifted side (if is_hot side then target else supply) contribution
+    by_side : (side : Side) (supply target contribution : ℤ) → supply ≡ target
+        → shifted side (if is_hot side then supply else target) contribution ≡ shifted side (if is_hot side then target else supply) contribution
     by_side Hot supply target contribution level = omega (arith, ints)
     by_side Cold supply target contribution level = omega (arith, ints)
 
@@ -54,7 +49,8 @@ stream_ends-append [] ys = refl
 stream_ends-append (x ∷ xs) ys = ap (λ ends. high_end x ∷ low_end x ∷ ends) (stream_ends-append xs ys)
 
 -- a loop's step
-pub stream_ends-more : (streams : List Stream) (i : ℕ) (s : Stream) → i < length streams → s ≡ get_or streams i s → stream_ends (take (i + 1) streams) ≡ stream_ends (take i streams) ++ high_end s ∷ low_end s ∷ []
+pub stream_ends-more : (streams : List Stream) (i : ℕ) (s : Stream) → i < length streams → s ≡ get_or streams i s
+    → stream_ends (take (i + 1) streams) ≡ stream_ends (take i streams) ++ high_end s ∷ low_end s ∷ []
 stream_ends-more streams i s within is =
     ap stream_ends (take_more streams i s within ∙ ap (λ x. take i streams ++ x ∷ []) (sym is)) ∙ stream_ends-append (take i streams) (s ∷ [])
 
@@ -93,22 +89,28 @@ outer_of-between Hot low high a b h k = record { from = omega (arith, ints, clam
 outer_of-between Cold low high a b h k = record { from = omega (arith, ints, clamps); upto = omega (arith, ints, clamps) }
 
 -- a loop's step, and all of them, begun at the first one
-pub outer_ends-more : (side : Side) (a so_far : ℤ) (streams : List Stream) (i : ℕ) (s : Stream) → i < length streams → s ≡ get_or streams i s → so_far ≡ fold (outer_of side) a (stream_ends (take i streams)) → outer_of side (outer_of side so_far (high_end s)) (low_end s) ≡ fold (outer_of side) a (stream_ends (take (i + 1) streams))
+pub outer_ends-more : (side : Side) (a so_far : ℤ) (streams : List Stream) (i : ℕ) (s : Stream) → i < length streams → s ≡ get_or streams i s
+    → so_far ≡ fold (outer_of side) a (stream_ends (take i streams))
+    → outer_of side (outer_of side so_far (high_end s)) (low_end s) ≡ fold (outer_of side) a (stream_ends (take (i + 1) streams))
 outer_ends-more side a so_far streams i s within is value =
     ap (λ b. outer_of side (outer_of side b (high_end s)) (low_end s)) value
-    ∙ sym (ap (fold (outer_of side) a) (stream_ends-more streams i s within is) ∙ fold-append (outer_of side) a (stream_ends (take i streams)) (high_end s ∷ low_end s ∷ []))
+    ∙ sym (ap (fold (outer_of side) a) (stream_ends-more streams i s within is)
+    ∙ fold-append (outer_of side) a (stream_ends (take i streams)) (high_end s ∷ low_end s ∷ []))
 
-pub outer_ends-all : (side : Side) (streams : List Stream) (s : Stream) → 0 < length streams → s ≡ get_or streams 0 s → fold (outer_of side) (high_end s) (stream_ends streams) ≡ outermost side (stream_ends streams)
+pub outer_ends-all : (side : Side) (streams : List Stream) (s : Stream) → 0 < length streams → s ≡ get_or streams 0 s
+    → fold (outer_of side) (high_end s) (stream_ends streams) ≡ outermost side (stream_ends streams)
 outer_ends-all side [] s some is = absurd (omega arith)
 outer_ends-all side (x ∷ xs) s some is =
     ap (λ y. fold (outer_of side) (outer_of side (high_end y) (high_end x)) (low_end x ∷ stream_ends xs)) is
     ∙ ap (λ e. fold (outer_of side) e (low_end x ∷ stream_ends xs)) (outer_of-once side (high_end x))
     ∙ sym (outermost-cons side (high_end x) (low_end x ∷ stream_ends xs))
 
-fold-between : (side : Side) (low high a : ℤ) (xs : List ℤ) → IsBetween low high a → All (IsBetween low high) xs → IsBetween low high (fold (outer_of side) a xs)
+fold-between : (side : Side) (low high a : ℤ) (xs : List ℤ) → IsBetween low high a → All (IsBetween low high) xs
+    → IsBetween low high (fold (outer_of side) a xs)
 fold-between side low high a [] within each = within
 fold-between side low high a (x ∷ xs) within each =
-    fold-between side low high (outer_of side a x) xs (outer_of-between side low high a x within (All-head (IsBetween low high) x xs each)) (All-tail (IsBetween low high) x xs each)
+    fold-between side low high (outer_of side a x) xs (outer_of-between side low high a x within (All-head (IsBetween low high) x xs each))
+    (All-tail (IsBetween low high) x xs each)
 
 pub outermost-between : (side : Side) (streams : List Stream) → All IsValidStream streams → IsShifted (outermost side (stream_ends streams))
 outermost-between Hot [] each = record { from = omega (arith, ints); upto = omega (arith, ints) }
@@ -116,4 +118,5 @@ outermost-between Cold [] each = record { from = omega (arith, ints); upto = ome
 outermost-between side (s ∷ ss) each =
     let ends = stream_ends-between (s ∷ ss) each in
     let rest = low_end s ∷ stream_ends ss in
-    subst IsShifted (sym (outermost-cons side (high_end s) rest)) (fold-between side LOWEST_SHIFTED HIGHEST_SHIFTED (high_end s) rest (All-head IsShifted (high_end s) rest ends) (All-tail IsShifted (high_end s) rest ends))
+    subst IsShifted (sym (outermost-cons side (high_end s) rest))
+    (fold-between side LOWEST_SHIFTED HIGHEST_SHIFTED (high_end s) rest (All-head IsShifted (high_end s) rest ends) (All-tail IsShifted (high_end s) rest ends))

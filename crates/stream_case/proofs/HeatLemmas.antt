@@ -1,27 +1,28 @@
 -- The length of the range of a valid stream, and its heat.
-use Rattle.std.proofs.Common.{◌≡◌, ◌⊎◌, inl, inr, ℕ, ◌≤◌, ℤ, pos, negsuc, Bool, true, false, refl, ap, ◌∙◌, arith}
-use Rattle.std.specs.Prelude.{◌-ℤ◌, ◌*ℤ◌, ◌≤ℤ◌, if◌then◌else◌}
-use Rattle.std.proofs.lemmas.Bool.{false_from_ne_true}
-use Rattle.std.proofs.lemmas.Int.{ints, clamps}
-use Rattle.std.proofs.lemmas.Nat.{mul-le}
-use Rattle.stream_case.specs.declared.limits.TheConstants.{LONGEST_RANGE, MOST_CP}
-use Rattle.stream_case.specs.declared.source.Side.{Side}
-use Rattle.stream_case.specs.declared.source.Side.TheVariants.{Hot, Cold}
-use Rattle.stream_case.specs.declared.stream.Stream.{Stream}
-use Rattle.stream_case.specs.Limits.{IsBetween, IsLength, IsSensibleHeat, IsStreamHeat, IsTemperature}
-use Rattle.stream_case.specs.Shift.{shifted}
-use Rattle.stream_case.specs.Source.{is_hot, IsRightWay}
-use Rattle.stream_case.specs.Stream.{higher_temperature, lower_temperature, high_end, low_end, length_above, counts_above, load_over, sensible_above, heat_between, heat_over, heat_of, is_latent, IsSensible, IsLatent, IsValidStream}
+use Rattle.std.proofs.Common.{Bool, ap, arith, false, inl, inr, negsuc, pos, refl, true, ℕ, ℤ, ◌∙◌, ◌≡◌, ◌≤◌, ◌⊎◌}
+use Rattle.stream_case.proofs.Words.{Cold, Hot, IsBetween, IsLatent, IsLength, IsRightWay, IsSensible, IsSensibleHeat, IsStreamHeat, IsTemperature}
+use Rattle.stream_case.proofs.Words.{IsValidStream, LONGEST_RANGE, MOST_CP, Side, Stream, clamps, false_from_ne_true, high_end, if◌then◌else◌, ints, is_hot}
+use Rattle.stream_case.proofs.Words.{low_end, mul-le, shifted, ◌*ℤ◌, ◌-ℤ◌, ◌≤ℤ◌}
 use Rattle.stream_case.proofs.EndLemmas.{level-latent}
+use Rattle.stream_case.specs.Stream.{counts_above, heat_between, heat_of, heat_over, higher_temperature, is_latent, length_above, load_over, lower_temperature}
+use Rattle.stream_case.specs.Stream.{sensible_above}
 
 -- a range, and the same range moved by a contribution
 pub record HasLength (actual shifted : ℤ) : Type 0 where
   pub length : IsBetween (pos 1) LONGEST_RANGE actual
   pub same : shifted ≡ actual
 
-HasLength-range : (side : Side) (supply target contribution : ℤ) → IsRightWay side supply target → IsTemperature supply → IsTemperature target → HasLength ((if is_hot side then supply else target) -ℤ (if is_hot side then target else supply)) (shifted side (if is_hot side then supply else target) contribution -ℤ shifted side (if is_hot side then target else supply) contribution)
-HasLength-range Hot supply target contribution way s t = record { length = record { from = omega (arith, ints); upto = omega (arith, ints) }; same = omega (arith, ints) }
-HasLength-range Cold supply target contribution way s t = record { length = record { from = omega (arith, ints); upto = omega (arith, ints) }; same = omega (arith, ints) }
+HasLength-range : (side : Side) (supply target contribution : ℤ) → IsRightWay side supply target → IsTemperature supply → IsTemperature target
+    → HasLength ((if is_hot side then supply else target) -ℤ (if is_hot side then target else supply))
+    (shifted side (if is_hot side then supply else target) contribution -ℤ shifted side (if is_hot side then target else supply) contribution)
+HasLength-range Hot supply target contribution way s t = record {
+  length = record { from = omega (arith, ints); upto = omega (arith, ints) };
+  same = omega (arith, ints);
+}
+HasLength-range Cold supply target contribution way s t = record {
+  length = record { from = omega (arith, ints); upto = omega (arith, ints) };
+  same = omega (arith, ints);
+}
 
 pub HasLength-sensible : (s : Stream) → IsValidStream s → IsSensible s → HasLength (higher_temperature s -ℤ lower_temperature s) (high_end s -ℤ low_end s)
 HasLength-sensible s h sensible = HasLength-range s.side s.supply s.target s.contribution sensible.way h.supply h.target
@@ -101,7 +102,7 @@ some_of true load h = record { from = h; upto = omega (arith, ints) }
 pub sensible_above-between : (t : ℤ) (s : Stream) → IsValidStream s → IsSensibleHeat (sensible_above t s)
 sensible_above-between t s h = heat-between s (length_above (low_end s) (high_end s) t) h (length_above-between t s h)
 
-load-between : (s : Stream) → IsSensible s ⊎ IsLatent s → IsStreamHeat s.load
+pub load-between : (s : Stream) → IsSensible s ⊎ IsLatent s → IsStreamHeat s.load
 load-between s (inl sensible) = let none = sensible.load in record { from = omega (arith, ints); upto = omega (arith, ints) }
 load-between s (inr latent) = let load = latent.load in record { from = omega (arith, ints); upto = omega (arith, ints) }
 
@@ -136,14 +137,6 @@ heat_of-between s h = by_heat h.heat
         let load = latent.load in
         let is = heat_of-latent s latent in
         record { from = omega (arith, ints); upto = omega (arith, ints) }
-
--- no latent stream, so sensible ones
-pub sensible_unless_latent : (s : Stream) → IsValidStream s → (IsLatent s → ⊥) → IsSensible s
-sensible_unless_latent s h none = by_heat h.heat
-  where
-    by_heat : IsSensible s ⊎ IsLatent s → IsSensible s
-    by_heat (inl sensible) = sensible
-    by_heat (inr latent) = absurd (none latent)
 
 -- ---- whether a stream is latent
 

@@ -9,3 +9,5 @@ pub mod NameLemmas
 pub mod NameTests
 pub mod SameLemmas
 pub mod SourceLemmas
+pub mod StandardUtilities
+pub mod Words

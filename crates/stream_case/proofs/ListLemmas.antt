@@ -1,9 +1,8 @@
 -- Options, and lists one element longer.
-use Rattle.std.proofs.Common.{◌≡◌, ◌∙◌, ◌+◌, ◌∷◌, ◌++◌, ℕ, zero, suc, Bool, false, not, cond, nat_lt, List, [], Option, Some, None, is_some, map, position, slice_get, refl, sym, ap}
-use Rattle.std.specs.List.{cons_option, filter_map, prefix_len}
-use Rattle.std.specs.Option.{option_to_list}
-use Rattle.std.proofs.lemmas.List.{length-map}
-use Rattle.std.proofs.lemmas.List.Elements.{filter_map-append}
+use Rattle.std.proofs.Common.{All, Bool, List, None, Option, Some, [], ap, cond, false, is_some, length, map, nat_lt, not, position, refl, slice_get, suc, sym}
+use Rattle.std.proofs.Common.{zero, ℕ, ◌++◌, ◌+◌, ◌∙◌, ◌∷◌, ◌≡◌}
+use Rattle.std.proofs.Math.Seq.{drop-append_seam, take-append_seam}
+use Rattle.stream_case.proofs.Words.{All-drop, All-take, cons_option, filter_map, filter_map-append, length-map, option_to_list, prefix_len}
 
 pub none_there : {X : Type 0} (o : Option X) → is_some o ≡ false → o ≡ None
 none_there None e = refl
@@ -14,6 +13,13 @@ pub slice_get-append : {X : Type 0} (xs ys : List X) (i : ℕ) (x : X) → slice
 slice_get-append [] ys i x at = cc at
 slice_get-append (a ∷ xs) ys zero x at = at
 slice_get-append (a ∷ xs) ys (suc i) x at = slice_get-append xs ys i x at
+
+-- what holds of each element of two lists in a row holds of those of each
+pub All-front : {X : Type 0} (P : X → Type 0) (xs ys : List X) → All P (xs ++ ys) → All P xs
+All-front P xs ys all = rw take-append_seam at (All-take P (length xs) (xs ++ ys) all)
+
+pub All-back : {X : Type 0} (P : X → Type 0) (xs ys : List X) → All P (xs ++ ys) → All P ys
+All-back P xs ys all = rw drop-append_seam at (All-drop P (length xs) (xs ++ ys) all)
 
 -- one element more
 pub filter_map-push : {X Y : Type 0} (h : X → Option Y) (xs : List X) (x : X) → filter_map h (xs ++ x ∷ []) ≡ filter_map h xs ++ option_to_list (h x)

@@ -1,16 +1,9 @@
 -- What a name's bytes are worth in place.
-use Rattle.std.proofs.Common.{◌≡◌, ◌∙◌, ◌≤◌, ◌++◌, ℕ, List, [], ◌∷◌, length, replicate, drop, sym, subst, arith, inl, inr, get_or, refl, ◌<◌, length-append, length-drop}
-use Rattle.std.proofs.lemmas.List.{drop-replicate}
-use Rattle.std.proofs.lemmas.List.Elements.{All-cons}
-use Rattle.std.proofs.lemmas.Bool.Decides.{nat_tests}
-use Rattle.std.proofs.lemmas.Str.{IsUtf8-from_ascii}
-use Rattle.std.proofs.lemmas.Str.Ascii.{IsAscii-from_all}
-use Rattle.std.specs.Prelude.{All, IsTrue, Result, Ok, Err}
-use Rattle.std.specs.Result.{IsOk, MatchResult}
-use Rattle.std.specs.Char.{is_ascii_alphanumeric}
-use Rattle.std.specs.Str.{IsUtf8}
+use Rattle.std.proofs.Common.{List, [], arith, drop, get_or, inl, inr, length, length-append, length-drop, refl, replicate, subst, sym, ℕ, ◌++◌, ◌<◌, ◌∙◌, ◌∷◌}
+use Rattle.std.proofs.Common.{◌≡◌, ◌≤◌}
 use Rattle.std.proofs.Math.Seq.{drop-append_seam, take-append_seam}
-use Rattle.stream_case.specs.Name.{IsName, IsDottedName, IsAnyName, IsStored, is_name_byte}
+use Rattle.stream_case.proofs.Words.{All, All-cons, Err, IsAnyName, IsAscii-from_all, IsDottedName, IsName, IsOk, IsStored, IsTrue, IsUtf8, IsUtf8-from_ascii}
+use Rattle.stream_case.proofs.Words.{MatchResult, Ok, Result, drop-replicate, is_ascii_alphanumeric, is_name_byte, nat_tests}
 
 pub length-IsName : (bytes : List ℕ) → IsName bytes → length bytes ≤ 16
 length-IsName [] h = absurd h

@@ -1,9 +1,6 @@
 -- What the test of a name says.
-use Rattle.std.proofs.Common.{◌≡◌, ◌≤◌, ℕ, true, false, List, [], ◌∷◌, length, refl, arith, nat_le}
-use Rattle.std.proofs.lemmas.Bool.{and_parts, false_from_ne_true}
-use Rattle.std.proofs.lemmas.Bool.Decides.{nat_tests}
-use Rattle.std.proofs.lemmas.List.Sums.{AllPass-from_list_all, list_all-from_AllPass}
-use Rattle.stream_case.specs.Name.{IsName, is_name, is_name_byte}
+use Rattle.std.proofs.Common.{List, [], arith, false, length, nat_le, refl, true, ℕ, ◌∷◌, ◌≡◌, ◌≤◌}
+use Rattle.stream_case.proofs.Words.{AllPass-from_list_all, IsName, and_parts, false_from_ne_true, is_name, is_name_byte, list_all-from_AllPass, nat_tests}
 
 pub name-passes : (text : List ℕ) → IsName text → is_name text ≡ true
 unfolding is_name

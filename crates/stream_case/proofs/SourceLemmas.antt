@@ -1,13 +1,8 @@
 -- The tests of sides and of sources.
-use Rattle.std.proofs.Common.{◌≡◌, true, Decides, refl, ap, arith}
-use Rattle.std.specs.Prelude.{ℤ}
-use Rattle.std.proofs.lemmas.Bool.{eqb-true, eq-eqb}
-use Rattle.std.proofs.lemmas.Int.{ints}
-use Rattle.stream_case.specs.declared.source.Side.{Side}
-use Rattle.stream_case.specs.declared.source.Side.TheVariants.{Hot, Cold}
-use Rattle.stream_case.specs.declared.source.Source.{Source}
-use Rattle.stream_case.specs.declared.source.Source.TheVariants.{Stream as of_stream, Utility as of_utility}
-use Rattle.stream_case.specs.Source.{same_side, same_source, IsRightWay, is_right_way}
+use Rattle.std.proofs.Common.{Decides, ap, arith, refl, true, ◌≡◌}
+use Rattle.stream_case.proofs.Words.{Cold, Hot, IsRightWay, Side, Source, eq-eqb, eqb-true, ints, is_right_way, same_side, same_source, ℤ}
+use Rattle.stream_case.specs.declared.source.Source.TheVariants.{Stream as of_stream}
+use Rattle.stream_case.specs.declared.source.Source.TheVariants.{Utility as of_utility}
 
 -- what holds of both sides holds of each
 pub each_side : (P : Side → Type 0) → P Hot → P Cold → (side : Side) → P side

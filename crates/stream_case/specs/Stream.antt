@@ -1,6 +1,7 @@
 -- The ranges of a stream, its heat, and valid streams.
-use Rattle.std.specs.Prelude.{ℕ, ◌≡◌, ◌<◌, ◌≤◌, ◌⊎◌, ℤ, pos, ◌+ℤ◌, ◌-ℤ◌, ◌*ℤ◌, int_le, int_lt, Bool, true, false, List, [], ◌∷◌, length, count_by, All, if◌then◌else◌}
+use Rattle.std.specs.Prelude.{ℕ, ◌≡◌, ◌<◌, ◌≤◌, ◌⊎◌, ℤ, pos, ◌+ℤ◌, ◌-ℤ◌, ◌*ℤ◌, int_le, int_lt, Bool, true, false, ◌&&◌, List, [], ◌∷◌, length, count_by, All, if◌then◌else◌}
 use Rattle.std.specs.Int.{int_max}
+use Rattle.std.specs.Ordering.{int_eq}
 use Rattle.stream_case.specs.declared.source.Side.{Side}
 use Rattle.stream_case.specs.declared.stream.Stream.{Stream}
 use Rattle.stream_case.specs.declared.limits.TheConstants.{MOST_STREAMS}
@@ -98,6 +99,10 @@ pub record IsValidStream (s : Stream) : Type 0 where
 -- the stream has a load, as a valid one has just where it is latent
 abbrev pub is_latent : Stream → Bool
 is_latent s = int_lt (pos 0) s.load
+
+-- it is latent at this shifted level
+abbrev pub is_level_at : ℤ → Stream → Bool
+is_level_at level s = is_latent s && int_eq (high_end s) level
 
 -- no stream is latent
 abbrev pub AreSensible : List Stream → Type 0

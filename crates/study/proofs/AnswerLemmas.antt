@@ -1,20 +1,8 @@
 -- A study has one list of answers.
-use Rattle.std.proofs.Common.{◌≡◌, ◌∙◌, inl, inr, refl, subst, sym, ap, ap₂, List, [], ◌∷◌, get_or, Option, None, Some, arith}
-use Rattle.std.specs.Prelude.{ℤ, pos, ◌+ℤ◌, ◌*ℤ◌, ◌≤ℤ◌, ℕ}
-use Rattle.std.proofs.lemmas.Int.{ints, by_lt_z}
-use Rattle.std.proofs.lemmas.List.{same_lists}
-use Rattle.std.proofs.lemmas.Option.{slice_get-get_or}
-use Rattle.sums.proofs.ListLemmas.{All-slice_get}
-use Rattle.stream_case.specs.Limits.{IsBetween}
-use Rattle.stream_case.specs.declared.case.Case.{Case}
-use Rattle.study.specs.Priced.{IsCostAt, prices_with}
-use Rattle.study.specs.Segments.{AreSegments, IsSegment, on_line}
-use Rattle.study.specs.Study.{AreSpanSegments, IsItem, IsItemAnswer, OneAnswer}
-use Rattle.study.specs.declared.study_item.Segment.{Segment}
-use Rattle.study.specs.declared.study_item.StudyAnswer.{StudyAnswer}
-use Rattle.study.specs.declared.study_item.StudyAnswer.TheVariants.{Cost, Segments}
-use Rattle.study.specs.declared.study_item.StudyItem.{StudyItem}
-use Rattle.study.specs.declared.study_item.StudyItem.TheVariants.{Scenario, Span}
+use Rattle.std.proofs.Common.{List, None, Option, Some, [], ap, ap₂, arith, get_or, inl, inr, refl, subst, sym, ◌∙◌, ◌∷◌, ◌≡◌}
+use Rattle.study.proofs.Words.{All-slice_get, AreSegments, AreSpanSegments, Case, Cost, IsBetween, IsCostAt, IsItem, IsItemAnswer, IsSegment, OneAnswer}
+use Rattle.study.proofs.Words.{Scenario, Segment, Segments, Span, StudyAnswer, StudyItem, by_lt_z, ints, on_line, pos, prices_with, same_lists}
+use Rattle.study.proofs.Words.{slice_get-get_or, ℕ, ℤ, ◌*ℤ◌, ◌+ℤ◌, ◌≤ℤ◌}
 use Rattle.study.proofs.SpanLemmas.{never_both_at, one_cost_at}
 
 one_option : (c : Case) (prices : List ℤ) (cost other : Option ℤ) → IsCostAt c prices cost → IsCostAt c prices other → cost ≡ other
@@ -74,17 +62,19 @@ module _ (start to : ℤ) (f g : ℤ → ℤ) (same : (p : ℤ) → IsBetween st
   same_segments from (s ∷ ss) [] begun (at, here, rest) two = let a = here.end.from in let b = here.end.upto in absurd (omega (arith, ints))
   same_segments from (s ∷ ss) (t ∷ ts) begun (at, here, rest) (there, other, others) =
       let is = same_segment s t (omega (arith, ints)) (at ∙ sym there) here other in
-      let end = here.end.from in
       let ends = ap (λ (r : Segment). r.to +ℤ pos 1) is in
       ap₂ (λ x xs. x ∷ xs) is (same_segments (s.to +ℤ pos 1) ss ts (omega (arith, ints)) rest (subst (λ p. AreSegments g p to ts) (sym ends) others))
 
 one_span : (c : Case) (i : ℕ) (from to : ℤ) (xs ys : List Segment) → from ≤ℤ to → AreSpanSegments c i from to xs → AreSpanSegments c i from to ys → xs ≡ ys
 one_span c i from to xs ys order (inl (f, costs, are)) (inl (g, others, too)) =
-    same_segments from to f g (λ p within. one_cost_at c (prices_with c i p) (f p) (g p) (costs p within) (others p within)) from xs ys (omega (arith, ints)) are too
+    same_segments from to f g (λ p within. one_cost_at c (prices_with c i p) (f p) (g p) (costs p within) (others p within)) from xs ys
+    (omega (arith, ints)) are too
 one_span c i from to xs ys order (inl (f, costs, are)) (inr (empty, none)) =
-    let first : IsBetween from to from = record { from = omega (arith, ints); upto = order } in absurd (never_both_at c (prices_with c i from) (f from) (costs from first) (none from first))
+    let first : IsBetween from to from = record { from = omega (arith, ints); upto = order } in
+    absurd (never_both_at c (prices_with c i from) (f from) (costs from first) (none from first))
 one_span c i from to xs ys order (inr (empty, none)) (inl (f, costs, are)) =
-    let first : IsBetween from to from = record { from = omega (arith, ints); upto = order } in absurd (never_both_at c (prices_with c i from) (f from) (costs from first) (none from first))
+    let first : IsBetween from to from = record { from = omega (arith, ints); upto = order } in
+    absurd (never_both_at c (prices_with c i from) (f from) (costs from first) (none from first))
 one_span c i from to xs ys order (inr (empty, none)) (inr (too, others)) = empty ∙ sym too
 
 -- ---- answers

@@ -1,29 +1,18 @@
 -- A valid case stays valid with another contribution.
-use Rattle.std.proofs.Common.{◌≡◌, ◌≢◌, ◌⊎◌, ◌∙◌, inl, inr, refl, sym, ap, ap₂, subst, ℕ, ◌++◌, List, [], ◌∷◌, map, Option, None, Some, arith}
-use Rattle.std.specs.Prelude.{ℤ, AllPairs, slice_get, option_map}
-use Rattle.std.proofs.lemmas.List.{length-map}
-use Rattle.std.proofs.lemmas.List.Elements.{All-map, All-weaker}
-use Rattle.std.proofs.lemmas.Option.{slice_get-map}
-use Rattle.stream_case.specs.declared.source.Source.{Source}
-use Rattle.stream_case.specs.declared.source.Source.TheVariants.{Stream as of_stream, Utility as of_utility}
-use Rattle.stream_case.specs.declared.stream.Stream.{Stream}
-use Rattle.stream_case.specs.declared.utility.Utility.{Utility}
-use Rattle.stream_case.specs.declared.case.Forbid.{Forbid}
-use Rattle.stream_case.specs.declared.case.Case.{Case}
-use Rattle.stream_case.specs.Limits.{IsContribution}
-use Rattle.stream_case.specs.Source.{same_side}
-use Rattle.stream_case.specs.Stream.{IsSensible, IsLatent, IsValidStream, HasValidStreams}
-use Rattle.stream_case.specs.Utility.{IsValidUtility}
-use Rattle.stream_case.specs.Case.{IsRightlyNamed, IsUnreserved, IsComplete, IsValid, IsValidForbid, completed, names_of, side_of}
-use Rattle.sums.proofs.CountLemmas.{count_by-map}
-use Rattle.study.specs.Row.{stream_with, utility_with, with_contribution}
+use Rattle.std.proofs.Common.{List, None, Option, Some, [], ap, ap₂, arith, inl, inr, map, refl, subst, sym, ℕ, ◌++◌, ◌∙◌, ◌∷◌, ◌≡◌, ◌≢◌, ◌⊎◌}
+use Rattle.study.proofs.Words.{All-map, All-weaker, AllPairs, Case, Forbid, HasValidStreams, IsComplete, IsContribution, IsLatent, IsRightlyNamed, IsSensible}
+use Rattle.study.proofs.Words.{IsUnreserved, IsValid, IsValidForbid, IsValidStream, IsValidUtility, Source, Stream, Utility, completed, count_by-map}
+use Rattle.study.proofs.Words.{length-map, names_of, option_map, same_side, side_of, slice_get, slice_get-map, stream_with, utility_with, with_contribution, ℤ}
+use Rattle.stream_case.specs.declared.source.Source.TheVariants.{Stream as of_stream}
+use Rattle.stream_case.specs.declared.source.Source.TheVariants.{Utility as of_utility}
 
 -- what a change of each element leaves as it is
 same_map : {X Y : Type 0} (f : X → X) (v : X → Y) → ((x : X) → v (f x) ≡ v x) → (xs : List X) → map v (map f xs) ≡ map v xs
 same_map f v same [] = refl
 same_map f v same (x ∷ xs) = ap₂ ◌∷◌ (same x) (same_map f v same xs)
 
-same_at : {X Y : Type 0} (f : X → X) (v : X → Y) → ((x : X) → v (f x) ≡ v x) → (xs : List X) (i : ℕ) → option_map v (slice_get (map f xs) i) ≡ option_map v (slice_get xs i)
+same_at : {X Y : Type 0} (f : X → X) (v : X → Y) → ((x : X) → v (f x) ≡ v x) → (xs : List X) (i : ℕ)
+    → option_map v (slice_get (map f xs) i) ≡ option_map v (slice_get xs i)
 same_at {X} {Y} f v same xs i = ap (option_map v) (slice_get-map f xs i) ∙ by (slice_get xs i)
   where
     by : (o : Option X) → option_map v (option_map f o) ≡ option_map v o
@@ -32,7 +21,8 @@ same_at {X} {Y} f v same xs i = ap (option_map v) (slice_get-map f xs i) ∙ by 
 
 module _ (contribution : ℤ) where
   same_names : (c : Case) → names_of (with_contribution contribution c) ≡ names_of c
-  same_names c = ap₂ (λ ss us. ss ++ us) (same_map (stream_with contribution) (λ s. s.name) (λ s. refl) c.streams) (same_map (utility_with contribution) (λ u. u.name) (λ u. refl) c.utilities)
+  same_names c = ap₂ (λ ss us. ss ++ us) (same_map (stream_with contribution) (λ s. s.name) (λ s. refl) c.streams)
+      (same_map (utility_with contribution) (λ u. u.name) (λ u. refl) c.utilities)
 
   same_sides : (c : Case) (source : Source) → side_of (with_contribution contribution c) source ≡ side_of c source
   same_sides c (of_stream i) = same_at (stream_with contribution) (λ s. s.side) (λ s. refl) c.streams i
@@ -56,8 +46,10 @@ module _ (contribution : ℤ) where
     HasValidStreams-with streams h = record {
       some = let long = length-map streams (stream_with contribution) in let some = h.some in omega (arith, long, some);
       are_streams = record {
-        each = All-map IsValidStream (stream_with contribution) streams (All-weaker IsValidStream (λ s. IsValidStream (stream_with contribution s)) IsValidStream-with streams h.are_streams.each);
-        few = λ side. let few = h.are_streams.few side in let same = count_by-map (λ (s : Stream). same_side s.side side) (stream_with contribution) streams in omega (arith, few, same);
+        each = All-map IsValidStream (stream_with contribution) streams
+            (All-weaker IsValidStream (λ s. IsValidStream (stream_with contribution s)) IsValidStream-with streams h.are_streams.each);
+        few = λ side. let few = h.are_streams.few side in let same = count_by-map (λ (s : Stream). same_side s.side side) (stream_with contribution) streams in
+            omega (arith, few, same);
       };
     }
 
@@ -65,8 +57,9 @@ module _ (contribution : ℤ) where
     IsValid-with c h = record {
       contribution = within;
       streams = HasValidStreams-with c.streams h.streams;
-      utilities = All-map IsValidUtility (utility_with contribution) c.utilities (All-weaker IsValidUtility (λ u. IsValidUtility (utility_with contribution u)) IsValidUtility-with c.utilities h.utilities);
-      few_utilities = let long = length-map c.utilities (utility_with contribution) in let few = h.few_utilities in omega (arith, long, few);
+      utilities = All-map IsValidUtility (utility_with contribution) c.utilities
+          (All-weaker IsValidUtility (λ u. IsValidUtility (utility_with contribution u)) IsValidUtility-with c.utilities h.utilities);
+      few_utilities = let long = length-map c.utilities (utility_with contribution) in omega (arith, long);
       distinct_names = subst (AllPairs (λ a b. a ≢ b)) (sym (same_names c)) h.distinct_names;
       stream_names = All-map (λ s. IsUnreserved s.name) (stream_with contribution) c.streams h.stream_names;
       utility_names = All-map IsRightlyNamed (utility_with contribution) c.utilities h.utility_names;

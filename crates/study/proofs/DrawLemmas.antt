@@ -1,6 +1,6 @@
 -- The states of the generator, one after another.
-use Rattle.std.proofs.Common.{◌≡◌, ap, ℕ, zero, suc, ◌+◌, arith}
-use Rattle.study.specs.Draws.{next_state, state_after}
+use Rattle.std.proofs.Common.{ap, arith, suc, zero, ℕ, ◌+◌, ◌≡◌}
+use Rattle.study.proofs.Words.{next_state, state_after}
 
 -- some draws, and then further ones
 pub state_after-add : (x m n : ℕ) → state_after (state_after x m) n ≡ state_after x (m + n)

@@ -1,17 +1,8 @@
 -- What some of the parts of a side have to have in all is no more than what all of them have to have.
-use Rattle.std.proofs.Common.{◌≡◌, ⊎_elim, refl, ap, ℕ, zero, suc, ◌≤◌, ◌<◌, List, [], ◌∷◌, length, get_or, drop, arith}
-use Rattle.std.specs.Prelude.{ℤ, pos, ◌+ℤ◌, ◌≤ℤ◌, ◌<ℤ◌, All, AllPairs, Some, slice_get}
+use Rattle.study.proofs.Words.{All, All-drop, All-head, All-weaker, AllPairs, AllPairs-head, AllPairs-tail, Part, Some, blank, cases_eq, cases_lt, int_sum_by}
+use Rattle.study.proofs.Words.{int_sum_by-not_negative, ints, least_at, need_of, pos, slice_get, slice_get-get_or, slice_get_past, ℤ, ◌+ℤ◌, ◌<ℤ◌, ◌≤ℤ◌}
+use Rattle.std.proofs.Common.{List, [], ap, arith, drop, get_or, length, refl, suc, zero, ℕ, ⊎_elim, ◌<◌, ◌∷◌, ◌≡◌, ◌≤◌}
 use Rattle.std.specs.Option.{option_map_or}
-use Rattle.std.proofs.lemmas.Bool.{cases_eq, cases_lt}
-use Rattle.std.proofs.lemmas.Int.{ints}
-use Rattle.std.proofs.lemmas.List.Elements.{All-drop, All-head, All-weaker}
-use Rattle.std.proofs.lemmas.Option.{slice_get-get_or, slice_get_past}
-use Rattle.sums.specs.Sum.{int_sum_by}
-use Rattle.sums.proofs.OrderLemmas.{AllPairs-head, AllPairs-tail}
-use Rattle.sums.proofs.SumLemmas.{int_sum_by-not_negative}
-use Rattle.grid.specs.declared.part.Part.{Part}
-use Rattle.heat_flow.specs.Cuts.{least_at, need_of}
-use Rattle.heat_flow.proofs.Blanks.{blank}
 
 -- a part that has to have some heat is there
 pub part_at : (parts : List Part) (i : ℕ) → pos 0 <ℤ least_at parts i → (p : Part) × (slice_get parts i ≡ Some p)
@@ -33,7 +24,8 @@ least_from-step (p ∷ ps) (suc n) = least_from-step ps n
 module _ (parts : List Part) (not_negative : All (λ p. pos 0 ≤ℤ p.least) parts) where
   least_at-not_negative : (n : ℕ) → pos 0 ≤ℤ least_at parts n
   least_at-not_negative n =
-      ⊎_elim (λ row. let some = not_negative n blank row in let here = ap (λ o. option_map_or (λ (p : Part). p.least) o (pos 0)) (slice_get-get_or parts n blank row) in omega (arith, ints))
+      ⊎_elim (λ row. let some = not_negative n blank row in
+      let here = ap (λ o. option_map_or (λ (p : Part). p.least) o (pos 0)) (slice_get-get_or parts n blank row) in omega (arith, ints))
       (λ past. let none = ap (λ o. option_map_or (λ (p : Part). p.least) o (pos 0)) (slice_get_past parts n past) in omega (arith, ints))
       (cases_lt n (length parts))
 
@@ -42,8 +34,7 @@ module _ (parts : List Part) (not_negative : All (λ p. pos 0 ≤ℤ p.least) pa
   least_from-falls n (suc k) le =
       ⊎_elim (λ e. let same = ap (least_from parts) e in omega (arith, ints))
       (λ other.
-      let rest = least_from-falls n k (omega (arith, le, other)) in
-      let step = least_from-step parts k in
+      let rest = least_from-falls n k (omega (arith, le, other)) in let step = least_from-step parts k in
       let some = least_at-not_negative k in
       omega (arith, ints))
       (cases_eq n (suc k))
@@ -52,7 +43,8 @@ module _ (parts : List Part) (not_negative : All (λ p. pos 0 ≤ℤ p.least) pa
   need-from n [] late ordered = int_sum_by-not_negative (λ p. p.least) (drop n parts) (All-drop (λ p. pos 0 ≤ℤ p.least) n parts not_negative)
   need-from n (m ∷ members) late ordered =
       let behind = AllPairs-head (λ i j. i < j) m members ordered in
-      let rest = need-from (suc m) members (All-weaker (λ i. m < i) (λ i. suc m ≤ i) (λ i less. omega (arith, less)) members behind) (AllPairs-tail (λ i j. i < j) m members ordered) in
+      let rest = need-from (suc m) members (All-weaker (λ i. m < i) (λ i. suc m ≤ i) (λ i less. omega (arith, less)) members behind)
+      (AllPairs-tail (λ i j. i < j) m members ordered) in
       let step = least_from-step parts m in
       let falls = least_from-falls n m (All-head (λ i. n ≤ i) m members late) in
       omega (arith, ints)

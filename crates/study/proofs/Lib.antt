@@ -17,3 +17,4 @@ pub mod AnswerLemmas
 pub mod PartBounds
 pub mod StudyAccepted
 pub mod StudyEntryLemmas
+pub mod Words

@@ -1,18 +1,8 @@
 -- The names of the streams of a sample.
-use Rattle.std.proofs.Common.{◌≡◌, ◌≢◌, refl, ap, ℕ, ◌<◌, ◌≤◌, ◌^◌, List, ◌∷◌, length, get_or, true, arith}
-use Rattle.std.specs.Prelude.{IsTrue, codes}
-use Rattle.std.specs.Int.{IsInRange, is_in_range}
-use Rattle.std.specs.Char.{is_ascii_alphanumeric}
-use Rattle.std.specs.Fmt.{decimal}
-use Rattle.std.proofs.lemmas.Bool.Decides.{nat_tests}
-use Rattle.std.proofs.lemmas.Fmt.{digits_decimal, length-decimal-le, decimal_injective, decimal_nonempty}
-use Rattle.std.proofs.lemmas.List.Elements.{All-from_get_or}
-use Rattle.std.proofs.lemmas.Str.Parse.{numerals_by_value, tells_by_index}
-use Rattle.stream_case.specs.declared.source.Side.{Side}
-use Rattle.stream_case.specs.declared.source.Side.TheVariants.{Hot, Cold}
-use Rattle.stream_case.specs.Name.{IsName, is_name_byte}
-use Rattle.stream_case.specs.Case.{IsUnreserved}
-use Rattle.study.specs.Sample.{stream_name}
+use Rattle.std.proofs.Common.{List, ap, arith, get_or, length, refl, true, ℕ, ◌<◌, ◌^◌, ◌∷◌, ◌≡◌, ◌≢◌, ◌≤◌}
+use Rattle.study.proofs.Words.{All-from_get_or, Cold, Hot, IsInRange, IsName, IsTrue, IsUnreserved, Side, codes, decimal, is_ascii_alphanumeric, is_in_range}
+use Rattle.study.proofs.Words.{is_name_byte, nat_tests, numerals_by_value, stream_name, tells_by_index}
+use Rattle.std.proofs.lemmas.Fmt.{decimal_injective, decimal_nonempty, digits_decimal, length-decimal-le}
 
 -- digits are bytes of names
 in_range : (b : ℕ) → IsInRange 48 57 b → is_in_range 48 57 b ≡ true

@@ -1,41 +1,17 @@
 -- A case whose utilities are the two standard ones, neither of them in a forbidden match, has no cut: `HOT` reaches each cold part and can give
 -- more than all of them take, and each hot part reaches `COLD`, which can take more than all of them give.
-use Rattle.std.proofs.Common.{◌≡◌, ◌≢◌, ◌∙◌, ⊎_elim, inr, refl, sym, ap, ap₂, ℕ, Bool, true, false, not, ◌&&◌, ◌||◌, List, [], ◌∷◌, get_or, Some, arith}
-use Rattle.std.specs.Prelude.{ℤ, pos, ◌≤ℤ◌, ◌<ℤ◌, ◌==◌, if◌then◌else◌, All, slice_get}
-use Rattle.std.specs.Ordering.{int_eq}
-use Rattle.std.proofs.lemmas.Bool.{and_from, and_left, and_right, both_ways, cases_eq, eq-eqb, ne_eqb, true≢false}
-use Rattle.std.proofs.lemmas.Int.{ints}
-use Rattle.std.proofs.lemmas.List.Elements.{All-head, All-nil}
-use Rattle.std.proofs.lemmas.List.Folds.{list_any_at, list_any_none}
-use Rattle.std.proofs.lemmas.Option.{same_Some, slice_get-get_or, slice_get_within}
-use Rattle.stream_case.specs.declared.limits.TheConstants.{ALL_STREAMS_HEAT}
-use Rattle.stream_case.specs.declared.source.Side.{Side}
-use Rattle.stream_case.specs.declared.source.Side.TheVariants.{Hot, Cold}
-use Rattle.stream_case.specs.declared.source.Source.{Source}
-use Rattle.stream_case.specs.declared.source.Source.TheVariants.{Stream as of_stream, Utility as of_utility}
-use Rattle.stream_case.specs.declared.case.Forbid.{Forbid}
-use Rattle.stream_case.specs.declared.case.Case.{Case}
-use Rattle.stream_case.specs.Case.{is_forbidden, standard_utility, IsComplete, IsStandard, IsValid}
-use Rattle.stream_case.specs.Source.{is_stream, same_source}
-use Rattle.stream_case.specs.Stream.{heat_over}
-use Rattle.stream_case.proofs.CaseLemmas.{length-AreStreams}
-use Rattle.stream_case.proofs.HeatLemmas.{heat_over-between}
-use Rattle.sums.specs.Sum.{int_sum_by}
-use Rattle.sums.proofs.IntegerLemmas.{int_le-from}
-use Rattle.sums.proofs.OrderLemmas.{AllPairs-nil}
-use Rattle.sums.proofs.SumLemmas.{int_sum_by-le, int_sum_from-le_each, int_sum_from-single, int_sum_from-zero}
-use Rattle.problem_table.proofs.SideLemmas.{sum_side-heat}
-use Rattle.grid.specs.declared.part.Part.{Part}
-use Rattle.grid.specs.Part.{utility_part, AreParts, AreCaseParts}
-use Rattle.grid.proofs.HeatLemmas.{part_over}
-use Rattle.heat_flow.specs.Cuts.{joins, least_at, meets, offer_of, opposite, parts_of, IsCut}
-use Rattle.heat_flow.specs.Reach.{both_reach, part_reaches, passes_heat, reach_between}
 use Rattle.corner_flow.proofs.HeatLemmas.{above, from_place, from_stream, from_utility, is_reached, one_times}
-use Rattle.corner_flow.proofs.SideLemmas.{AreStandardParts, AreStandardParts-parts, IsStandardPart, IsUtilityHere}
-use Rattle.grid.proofs.StandardUtilities.{some_utility}
-use Rattle.corner_flow.proofs.StandardLemmas.{end_of}
-use Rattle.study.specs.Supplied.{IsSupplied}
+use Rattle.study.proofs.Words.{ALL_STREAMS_HEAT, All, All-head, All-nil, AllPairs-nil, AreCaseParts, AreParts, AreStandardParts, AreStandardParts-parts, Case}
+use Rattle.study.proofs.Words.{Cold, Forbid, Hot, IsComplete, IsCut, IsStandard, IsStandardPart, IsSupplied, IsUtilityHere, IsValid, Part, Side, Source}
+use Rattle.study.proofs.Words.{and_from, and_left, and_right, both_reach, both_ways, cases_eq, end_of, eq-eqb, heat_over, heat_over-between, if_between}
+use Rattle.study.proofs.Words.{if◌then◌else◌, int_eq, int_le-from, int_sum_by, int_sum_by-le, int_sum_from-le_each, int_sum_from-single, int_sum_from-zero}
+use Rattle.study.proofs.Words.{ints, is_forbidden, is_stream, joins, least_at, length-AreStreams, list_any_at, list_any_none, meets, ne_eqb, offer_of, opposite}
+use Rattle.study.proofs.Words.{part_over, part_reaches, parts_of, passes_heat, pos, reach_between, same_Some, same_source, slice_get, slice_get-get_or}
+use Rattle.study.proofs.Words.{slice_get_within, some_utility, standard_side, standard_utility, sum_side-heat, true≢false, utility_part, ℤ, ◌<ℤ◌, ◌==◌, ◌≤ℤ◌}
+use Rattle.std.proofs.Common.{Bool, List, Some, [], ap, ap₂, arith, false, get_or, inr, not, refl, sym, true, ℕ, ⊎_elim, ◌&&◌, ◌||◌, ◌∙◌, ◌∷◌, ◌≡◌, ◌≢◌}
 use Rattle.study.proofs.Leasts.{need-at_most, part_at}
+use Rattle.stream_case.specs.declared.source.Source.TheVariants.{Stream as of_stream}
+use Rattle.stream_case.specs.declared.source.Source.TheVariants.{Utility as of_utility}
 
 -- ---- the case without its forbidden matches is standard, and has the same parts
 
@@ -67,10 +43,6 @@ AreCaseParts-unforbidden c hot cold parts = record { grid = parts.grid; is_grid 
 
 -- ---- a part that meets a member is on offer
 
-not_negative-if : (b : Bool) (x : ℤ) → pos 0 ≤ℤ x → pos 0 ≤ℤ (if b then x else pos 0)
-not_negative-if true x h = h
-not_negative-if false x h = omega (arith, ints)
-
 offer-at_least : (side : Side) (reach : ℕ → ℕ → Bool) (others : List Part) (members : List ℕ) (u : ℕ) (p : Part)
     → ((j : ℕ) (q : Part) → slice_get others j ≡ Some q → pos 0 ≤ℤ q.most)
     → slice_get others u ≡ Some p → meets side reach members u ≡ true → p.most ≤ℤ offer_of side reach others members
@@ -92,7 +64,7 @@ offer-at_least side reach others members u p not_negative at met =
     omega (arith, ints))
     (λ differ.
     let left = ap (λ b. if b then p.most else pos 0) (ne_eqb j u differ) in
-    let right = not_negative-if (meets side reach members j) q.most (not_negative j q other) in
+    let right = (if_between (meets side reach members j) q.most (not_negative j q other)).0 in
     omega (arith, ints))
     (cases_eq j u)) in
     omega (arith, ints)
@@ -108,12 +80,14 @@ module _ (c : Case) (supplied : IsSupplied c) where
   free_hot : (p q : Part) → is_stream p.source ≡ false → is_forbidden c.forbids p.source q.source ≡ false
   free_hot p q utility =
       list_any_none (λ f. same_source f.hot p.source && same_source f.cold q.source) c.forbids
-      (λ k d within. let f = get_or c.forbids k d in and_left (same_source f.hot p.source) (same_source f.cold q.source) (unlike f.hot p.source (supplied.joins_streams k d within).0 utility))
+      (λ k d within. let f = get_or c.forbids k d in
+      and_left (same_source f.hot p.source) (same_source f.cold q.source) (unlike f.hot p.source (supplied.joins_streams k d within).0 utility))
 
   free_cold : (p q : Part) → is_stream q.source ≡ false → is_forbidden c.forbids p.source q.source ≡ false
   free_cold p q utility =
       list_any_none (λ f. same_source f.hot p.source && same_source f.cold q.source) c.forbids
-      (λ k d within. let f = get_or c.forbids k d in and_right (same_source f.hot p.source) (same_source f.cold q.source) (unlike f.cold q.source (supplied.joins_streams k d within).1 utility))
+      (λ k d within. let f = get_or c.forbids k d in
+      and_right (same_source f.hot p.source) (same_source f.cold q.source) (unlike f.cold q.source (supplied.joins_streams k d within).1 utility))
 
   reaches_below : (p q : Part) → q.high ≤ℤ p.low → is_forbidden c.forbids p.source q.source ≡ false → part_reaches c p q ≡ true
   reaches_below p q below free =
@@ -121,10 +95,6 @@ module _ (c : Case) (supplied : IsSupplied c) where
       and_from (passes_heat p q) (not (is_forbidden c.forbids p.source q.source)) passes (ap not free)
 
 -- ---- no cut
-
-side-standard : (side : Side) (c : Case) → (standard_utility side c).side ≡ side
-side-standard Hot c = refl
-side-standard Cold c = refl
 
 module _ (c : Case) (hot cold : List Part) (complete : IsComplete c) (supplied : IsSupplied c) (parts : AreCaseParts c hot cold) where
   standard : AreStandardParts (unforbidden c) hot cold
@@ -136,20 +106,21 @@ module _ (c : Case) (hot cold : List Part) (complete : IsComplete c) (supplied :
 
   part_least : (side : Side) (p : Part) → IsStandardPart (unforbidden c) standard.grid side p → p.least ≤ℤ part_over true bottom (pos 0) p
   part_least side p here =
-      ⊎_elim (λ stream. let whole = from_stream true bottom (pos 0) p stream.source_is ∙ one_times (above true bottom p) p.least (is_reached true bottom p.low (from_place bottom p.low here.from)) in omega (arith, ints))
-      (λ utility. let none = from_utility true bottom (pos 0) p utility.source_is in let least = utility.least in omega (arith, ints))
+      ⊎_elim (λ stream. let whole = from_stream true bottom (pos 0) p stream.source_is
+      ∙ one_times (above true bottom p) p.least (is_reached true bottom p.low (from_place bottom p.low here.from)) in omega (arith, ints))
+      (λ utility. let none = from_utility true bottom (pos 0) p utility.source_is in omega (arith, ints))
       here.kind
 
   -- the parts of a side have to have no more than the heat of all streams
   leasts-at_most : (side : Side) → int_sum_by (λ p. p.least) (parts_of side hot cold) ≤ℤ ALL_STREAMS_HEAT
   leasts-at_most side =
-      let mine = parts_of side hot cold in
-      let streams = standard.valid.are_streams in
+      let mine = parts_of side hot cold in let streams = standard.valid.are_streams in
       let each =
       int_sum_by-le (λ p. p.least) (part_over true bottom (pos 0)) mine
       (λ k d within. let p = get_or mine k d in part_least side p ((standard.sides side).each k p (slice_get-get_or mine k d within))) in
       let sum = (standard.sides side).sum true bottom (pos 0) (standard.ends Cold) in
-      let heat = (sum_side-heat side (heat_over true bottom) (heat_over-between true bottom) c.streams streams.each (length-AreStreams c.streams streams)).upto in
+      let heat =
+      (sum_side-heat side (heat_over true bottom) (heat_over-between true bottom) c.streams streams.each (length-AreStreams c.streams streams)).upto in
       omega (arith, ints)
 
   leasts-not_negative : (side : Side) → All (λ p. pos 0 ≤ℤ p.least) (parts_of side hot cold)
@@ -160,8 +131,6 @@ module _ (c : Case) (hot cold : List Part) (complete : IsComplete c) (supplied :
   mosts-not_negative : (side : Side) (j : ℕ) (p : Part) → slice_get (parts_of side hot cold) j ≡ Some p → pos 0 ≤ℤ p.most
   mosts-not_negative side j p at =
       let bounded = ((standard.sides side).each j p at).bounded in
-      let least = bounded.least.from in
-      let most = bounded.most.from in
       omega (arith, ints)
 
   -- the utility of a side is one of its parts
@@ -172,43 +141,43 @@ module _ (c : Case) (hot cold : List Part) (complete : IsComplete c) (supplied :
   own_among side mine are =
       let (i, at) = some_utility (unforbidden c) (IsStandard-unforbidden c supplied) side in
       let p = utility_part i (standard_utility side (unforbidden c)) in
-      let (u, within, is) = are.every p (inr (i, standard_utility side (unforbidden c), record { utility = at; side_is = side-standard side (unforbidden c); is = refl })) in
+      let (u, within, is) =
+      are.every p (inr (i, standard_utility side (unforbidden c), record { utility = at; side_is = standard_side side (unforbidden c); is = refl })) in
       (u, p, slice_get-get_or mine u p within ∙ ap Some is, refl)
 
   own_utility : (side : Side) → OwnUtility side (parts_of side hot cold)
   own_utility Hot = own_among Hot hot parts.hot_parts
   own_utility Cold = own_among Cold cold parts.cold_parts
 
-  utility_here : (side : Side) (u : ℕ) (p : Part) → slice_get (parts_of side hot cold) u ≡ Some p → is_stream p.source ≡ false → IsUtilityHere (unforbidden c) side p
+  utility_here : (side : Side) (u : ℕ) (p : Part) → slice_get (parts_of side hot cold) u ≡ Some p → is_stream p.source ≡ false
+      → IsUtilityHere (unforbidden c) side p
   utility_here side u p at utility =
       ⊎_elim (λ stream. absurd (both_ways (is_stream p.source) utility stream.source_is)) (λ here. here) ((standard.sides side).each u p at).kind
 
   -- each part joins the utility of the other side
-  joins_utility : (side : Side) (m u : ℕ) (q p : Part) → slice_get (parts_of side hot cold) m ≡ Some q → slice_get (parts_of (opposite side) hot cold) u ≡ Some p
+  joins_utility : (side : Side) (m u : ℕ) (q p : Part) → slice_get (parts_of side hot cold) m ≡ Some q
+      → slice_get (parts_of (opposite side) hot cold) u ≡ Some p
       → is_stream p.source ≡ false → joins side (reach_between c hot cold) m u ≡ true
   joins_utility Hot m u q p at other utility =
-      let low = (utility_here Cold u p other utility).high in
-      let from = ((standard.sides Hot).each m q at).from in
+      let low = (utility_here Cold u p other utility).high in let from = ((standard.sides Hot).each m q at).from in
       ap₂ (both_reach c) at other ∙ reaches_below c supplied q p (omega (arith, ints)) (free_cold c supplied q p utility)
   joins_utility Cold m u q p at other utility =
-      let high = (utility_here Hot u p other utility).low in
-      let upto = ((standard.sides Cold).each m q at).upto in
+      let high = (utility_here Hot u p other utility).low in let upto = ((standard.sides Cold).each m q at).upto in
       ap₂ (both_reach c) other at ∙ reaches_below c supplied p q (omega (arith, ints)) (free_hot c supplied p q utility)
 
   pub no_cut : (side : Side) (members : List ℕ) → IsCut side (reach_between c hot cold) hot cold members → ⊥
   no_cut side [] cut =
       let short = cut.short in
-      let none = int_sum_from-zero (λ j p. if meets side (reach_between c hot cold) [] j then p.most else pos 0) 0 (parts_of (opposite side) hot cold) (λ j p le. refl) in
+      let none =
+      int_sum_from-zero (λ j p. if meets side (reach_between c hot cold) [] j then p.most else pos 0) 0 (parts_of (opposite side) hot cold) (λ j p le. refl) in
       omega (arith, ints)
   no_cut side (m ∷ members) cut =
-      let reach = reach_between c hot cold in
-      let mine = parts_of side hot cold in
+      let reach = reach_between c hot cold in let mine = parts_of side hot cold in
       let (u, p, other, utility) = own_utility (opposite side) in
       let (q, at) = part_at mine m (All-head (λ i. pos 0 <ℤ least_at mine i) m members cut.needing) in
       let met = list_any_at (λ i. joins side reach i u) (m ∷ members) 0 m (omega arith) (joins_utility side m u q p at other utility) in
       let offer = offer-at_least side reach (parts_of (opposite side) hot cold) (m ∷ members) u p (mosts-not_negative (opposite side)) other met in
       let most = (utility_here (opposite side) u p other utility).most in
       let need = need-at_most mine (leasts-not_negative side) (m ∷ members) cut.ordered in
-      let heat = leasts-at_most side in
-      let short = cut.short in
+      let heat = leasts-at_most side in let short = cut.short in
       omega (arith, ints)

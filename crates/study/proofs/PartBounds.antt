@@ -1,27 +1,16 @@
 -- What parts keep where they are priced anew.
-use Rattle.std.proofs.Common.{◌∙◌, ⊎_elim, ap, sym, subst, ℕ, List, [], ◌∷◌, length, map, arith}
-use Rattle.std.specs.Prelude.{ℤ, pos, All}
-use Rattle.std.proofs.lemmas.Bool.{cases_lt}
-use Rattle.std.proofs.lemmas.Int.{ints}
-use Rattle.std.proofs.lemmas.List.{get_or_past}
-use Rattle.std.proofs.lemmas.List.Elements.{All-cons, All-head, All-nil, All-set, All-tail}
-use Rattle.stream_case.specs.Limits.{IsPrice}
-use Rattle.stream_case.specs.Case.{IsComplete}
-use Rattle.stream_case.specs.Utility.{IsPlaced}
-use Rattle.stream_case.proofs.CompleteLemmas.{IsPlaced-IsComplete}
-use Rattle.stream_case.specs.declared.utility.Utility.{Utility}
-use Rattle.stream_case.specs.declared.case.Case.{Case}
-use Rattle.stream_case.specs.declared.source.Side.TheVariants.{Hot, Cold}
-use Rattle.stream_case.specs.declared.source.Source.{Source}
-use Rattle.stream_case.specs.declared.source.Source.TheVariants.{Stream as of_stream, Utility as of_utility}
-use Rattle.grid.specs.Bounds.{IsBounded}
-use Rattle.grid.specs.OnGrid.{AreOnGrid, IsOnPlaces}
-use Rattle.grid.specs.declared.part.Part.{Part}
-use Rattle.study.specs.Priced.{case_prices, price_of, priced, priced_part, prices_with}
+use Rattle.study.proofs.Words.{All, All-cons, All-head, All-nil, All-set, All-tail, AreOnGrid, Case, Cold, Hot, IsBounded, IsComplete, IsOnPlaces, IsPlaced}
+use Rattle.study.proofs.Words.{IsPlaced-IsComplete, IsPrice, Part, Source, Utility, case_prices, cases_lt, get_or_past, ints, pos, price_of, priced}
+use Rattle.study.proofs.Words.{priced_part, prices_with, ℤ}
+use Rattle.std.proofs.Common.{List, [], ap, arith, length, map, subst, sym, ℕ, ⊎_elim, ◌∙◌, ◌∷◌}
+use Rattle.stream_case.specs.declared.source.Source.TheVariants.{Stream as of_stream}
+use Rattle.stream_case.specs.declared.source.Source.TheVariants.{Utility as of_utility}
 
-all_priced : (P : Part → Type 0) (prices : List ℤ) → ((p : Part) → P p → P (priced_part prices p)) → (parts : List Part) → All P parts → All P (priced prices parts)
+all_priced : (P : Part → Type 0) (prices : List ℤ) → ((p : Part) → P p → P (priced_part prices p)) → (parts : List Part) → All P parts
+    → All P (priced prices parts)
 all_priced P prices step [] h = All-nil P
-all_priced P prices step (p ∷ ps) h = All-cons P (priced_part prices p) (priced prices ps) (step p (All-head P p ps h)) (all_priced P prices step ps (All-tail P p ps h))
+all_priced P prices step (p ∷ ps) h =
+    All-cons P (priced_part prices p) (priced prices ps) (step p (All-head P p ps h)) (all_priced P prices step ps (All-tail P p ps h))
 
 price_within : (prices : List ℤ) → All IsPrice prices → (source : Source) (own : ℤ) → IsPrice own → IsPrice (price_of prices source own)
 price_within prices all (of_stream i) own h = h
@@ -33,7 +22,12 @@ price_within prices all (of_utility i) own h =
 pub bounded-priced : (prices : List ℤ) → All IsPrice prices → (parts : List Part) → All IsBounded parts → All IsBounded (priced prices parts)
 bounded-priced prices all parts h =
     all_priced IsBounded prices
-    (λ p b. record { least = b.least; most = b.most; price = price_within prices all p.source p.price b.price; free = λ i e. ap (λ s. price_of prices s p.price) e ∙ b.free i e }) parts h
+    (λ p b. record {
+      least = b.least;
+      most = b.most;
+      price = price_within prices all p.source p.price b.price;
+      free = λ i e. ap (λ s. price_of prices s p.price) e ∙ b.free i e;
+    }) parts h
 
 pub grid-priced : (c : Case) (prices : List ℤ) (hot cold : List Part) → AreOnGrid c hot cold → AreOnGrid c (priced prices hot) (priced prices cold)
 grid-priced c prices hot cold h = record {

@@ -1,40 +1,27 @@
 -- Heat flows of priced parts, and what they cost at each price of one utility.
-use Rattle.std.proofs.Common.{◌≡◌, ◌≢◌, ◌∙◌, ⊎_elim, refl, sym, ap, ap₂, subst, ℕ, suc, ◌<◌, List, [], ◌∷◌, length, map, get_or, Option, None, Some, option_map, slice_get, arith}
-use Rattle.std.specs.Prelude.{Bool, ℤ, pos, neg_ℤ, ◌+ℤ◌, ◌-ℤ◌, ◌*ℤ◌, ◌≤ℤ◌, ◌<ℤ◌, set, All}
-use Rattle.std.proofs.Math.IntN.{*ℤ-zero, *ℤ_comm}
-use Rattle.std.proofs.lemmas.Bool.{cases_eq}
-use Rattle.std.proofs.lemmas.Int.{ints, by_lt_z}
-use Rattle.std.proofs.lemmas.List.{get_or-set_other, get_or-set_same, length-map}
-use Rattle.std.proofs.lemmas.Option.{slice_get-get_or, slice_get-map, slice_get_within}
-use Rattle.stream_case.specs.Limits.{IsBetween}
-use Rattle.stream_case.specs.declared.case.Case.{Case}
-use Rattle.stream_case.specs.declared.source.Side.{Side}
-use Rattle.stream_case.specs.declared.source.Side.TheVariants.{Hot, Cold}
-use Rattle.stream_case.specs.declared.source.Source.{Source}
-use Rattle.stream_case.specs.declared.source.Source.TheVariants.{Stream as of_stream, Utility as of_utility}
-use Rattle.sums.specs.Sum.{int_sum_from}
-use Rattle.sums.proofs.ProductLemmas.{*ℤ-+ℤ, *ℤ--ℤ, *ℤ_assoc, *ℤ-≤ℤ_right, +ℤ-*ℤ, -ℤ-*ℤ, ≤ℤ_from_*ℤ}
-use Rattle.grid.specs.declared.part.Part.{Part}
-use Rattle.heat_flow.specs.declared.flow.Transfer.{Transfer}
-use Rattle.heat_flow.specs.Cuts.{HasNoFlow}
-use Rattle.heat_flow.specs.Flow.{IsHeatFlow, IsLeastCost, KeepsRanges, cost_of, heat_at, part_index, side_cost}
-use Rattle.heat_flow.specs.Prices.{price_at}
-use Rattle.heat_flow.specs.Reach.{both_reach, reach_between}
-use Rattle.heat_flow.proofs.Blanks.{blank}
-use Rattle.study.specs.Priced.{price_of, priced, priced_part}
+use Rattle.study.proofs.Words.{*ℤ-+ℤ, *ℤ--ℤ, *ℤ-zero, *ℤ-≤ℤ_right, *ℤ_assoc, *ℤ_comm, +ℤ-*ℤ, -ℤ-*ℤ, All, Bool, Case, Cold, HasNoFlow, Hot, IsBetween}
+use Rattle.study.proofs.Words.{IsHeatFlow, IsLeastCost, KeepsRanges, Part, Side, Source, Transfer, blank, both_reach, by_lt_z, cases_eq, cost_of, heat_at}
+use Rattle.study.proofs.Words.{int_sum_from, ints, length-map, neg_ℤ, part_index, pos, price_at, price_of, priced, priced_part, reach_between, same_Some, set}
+use Rattle.study.proofs.Words.{side_cost, slice_get-get_or, slice_get-map, slice_get_within, ℤ, ≤ℤ_from_*ℤ, ◌*ℤ◌, ◌+ℤ◌, ◌-ℤ◌, ◌<ℤ◌, ◌≤ℤ◌}
+use Rattle.std.proofs.Common.{List, Option, Some, [], ap, ap₂, arith, get_or, length, map, option_map, refl, slice_get, subst, suc, sym, ℕ, ⊎_elim, ◌<◌, ◌∙◌}
+use Rattle.std.proofs.Common.{◌∷◌, ◌≡◌, ◌≢◌}
+use Rattle.std.proofs.lemmas.List.{get_or-set_other, get_or-set_same}
+use Rattle.stream_case.specs.declared.source.Source.TheVariants.{Stream as of_stream}
+use Rattle.stream_case.specs.declared.source.Source.TheVariants.{Utility as of_utility}
 
 -- ---- which parts reach which
 
-both_reach-priced : (c : Case) (prices : List ℤ) (p q : Option Part) → both_reach c (option_map (priced_part prices) p) (option_map (priced_part prices) q) ≡ both_reach c p q
-both_reach-priced c prices None q = refl
-both_reach-priced c prices (Some p) None = refl
+both_reach-priced : (c : Case) (prices : List ℤ) (p q : Option Part)
+    → both_reach c (option_map (priced_part prices) p) (option_map (priced_part prices) q) ≡ both_reach c p q
 both_reach-priced c prices (Some p) (Some q) = refl
+both_reach-priced c prices p q = refl
 
 pub reach-priced : (c : Case) (prices : List ℤ) (hot cold : List Part) → reach_between c (priced prices hot) (priced prices cold) ≡ reach_between c hot cold
 reach-priced c prices hot cold = λ i a b. each a b i
   where
     each : (a b : ℕ) → reach_between c (priced prices hot) (priced prices cold) a b ≡ reach_between c hot cold a b
-    each a b = ap₂ (both_reach c) (slice_get-map (priced_part prices) hot a) (slice_get-map (priced_part prices) cold b) ∙ both_reach-priced c prices (slice_get hot a) (slice_get cold b)
+    each a b = ap₂ (both_reach c) (slice_get-map (priced_part prices) hot a) (slice_get-map (priced_part prices) cold b)
+        ∙ both_reach-priced c prices (slice_get hot a) (slice_get cold b)
 
 -- ---- flows
 
@@ -43,20 +30,17 @@ module _ (prices : List ℤ) where
   ranges-priced side parts ts ranges a p at =
       let within : a < length parts = subst (λ n. a < n) (length-map parts (priced_part prices)) (slice_get_within (priced prices parts) a p at) in
       let own = slice_get-get_or parts a blank within in
-      let is : Some (priced_part prices (get_or parts a blank)) ≡ Some p = sym (slice_get-map (priced_part prices) parts a ∙ ap (option_map (priced_part prices)) own) ∙ at in
-      some_range (priced_part prices (get_or parts a blank)) p is (ranges a (get_or parts a blank) own)
-    where
-      range_of : Option Part → Type 0
-      range_of None = ⊥
-      range_of (Some q) = IsBetween q.least q.most (heat_at side ts a)
-
-      some_range : (q r : Part) → Some q ≡ Some r → IsBetween q.least q.most (heat_at side ts a) → IsBetween r.least r.most (heat_at side ts a)
-      some_range q r same held = subst range_of same held
+      let is : Some (priced_part prices (get_or parts a blank)) ≡ Some p =
+      sym (slice_get-map (priced_part prices) parts a ∙ ap (option_map (priced_part prices)) own) ∙ at in
+      subst (λ (q : Part). IsBetween q.least q.most (heat_at side ts a)) (same_Some (priced_part prices (get_or parts a blank)) p is)
+      (ranges a (get_or parts a blank) own)
 
   ranges-unpriced : (side : Side) (parts : List Part) (ts : List Transfer) → KeepsRanges side (priced prices parts) ts → KeepsRanges side parts ts
-  ranges-unpriced side parts ts ranges a p at = ranges a (priced_part prices p) (slice_get-map (priced_part prices) parts a ∙ ap (option_map (priced_part prices)) at)
+  ranges-unpriced side parts ts ranges a p at =
+      ranges a (priced_part prices p) (slice_get-map (priced_part prices) parts a ∙ ap (option_map (priced_part prices)) at)
 
-  pub flow-priced : (reach : ℕ → ℕ → Bool) (hot cold : List Part) (ts : List Transfer) → IsHeatFlow reach hot cold ts → IsHeatFlow reach (priced prices hot) (priced prices cold) ts
+  pub flow-priced : (reach : ℕ → ℕ → Bool) (hot cold : List Part) (ts : List Transfer) → IsHeatFlow reach hot cold ts
+      → IsHeatFlow reach (priced prices hot) (priced prices cold) ts
   flow-priced reach hot cold ts flow = record {
     positive = flow.positive;
     hot_indexes = subst (λ n. All (λ t. part_index Hot t < n) ts) (sym (length-map hot (priced_part prices))) flow.hot_indexes;
@@ -67,7 +51,8 @@ module _ (prices : List ℤ) where
     cold_ranges = ranges-priced Cold cold ts flow.cold_ranges;
   }
 
-  pub flow-unpriced : (reach : ℕ → ℕ → Bool) (hot cold : List Part) (ts : List Transfer) → IsHeatFlow reach (priced prices hot) (priced prices cold) ts → IsHeatFlow reach hot cold ts
+  pub flow-unpriced : (reach : ℕ → ℕ → Bool) (hot cold : List Part) (ts : List Transfer) → IsHeatFlow reach (priced prices hot) (priced prices cold) ts
+      → IsHeatFlow reach hot cold ts
   flow-unpriced reach hot cold ts flow = record {
     positive = flow.positive;
     hot_indexes = subst (λ n. All (λ t. part_index Hot t < n) ts) (length-map hot (priced_part prices)) flow.hot_indexes;
@@ -104,9 +89,11 @@ line-plus p a0 a1 a b0 b1 b one two =
     let split = ap (λ z. p *ℤ z) e ∙ *ℤ-+ℤ p (a1 -ℤ a0) (b1 -ℤ b0) in
     omega (arith, ints)
 
-line-sum : {X : Type 0} (p : ℤ) (f0 f1 f : ℕ → X → ℤ) (n : ℕ) (xs : List X) → ((a : ℕ) (x : X) → IsOnLine p (f0 a x) (f1 a x) (f a x)) → IsOnLine p (int_sum_from f0 n xs) (int_sum_from f1 n xs) (int_sum_from f n xs)
+line-sum : {X : Type 0} (p : ℤ) (f0 f1 f : ℕ → X → ℤ) (n : ℕ) (xs : List X) → ((a : ℕ) (x : X) → IsOnLine p (f0 a x) (f1 a x) (f a x))
+    → IsOnLine p (int_sum_from f0 n xs) (int_sum_from f1 n xs) (int_sum_from f n xs)
 line-sum p f0 f1 f n [] each = line-same p (pos 0)
-line-sum p f0 f1 f n (x ∷ xs) each = line-plus p (f0 n x) (f1 n x) (f n x) (int_sum_from f0 (suc n) xs) (int_sum_from f1 (suc n) xs) (int_sum_from f (suc n) xs) (each n x) (line-sum p f0 f1 f (suc n) xs each)
+line-sum p f0 f1 f n (x ∷ xs) each = line-plus p (f0 n x) (f1 n x) (f n x) (int_sum_from f0 (suc n) xs) (int_sum_from f1 (suc n) xs) (int_sum_from f (suc n) xs)
+    (each n x) (line-sum p f0 f1 f (suc n) xs each)
 
 module _ (own : List ℤ) (i : ℕ) (there : i < length own) where
   -- the prices with p as that of the utility
@@ -127,10 +114,13 @@ module _ (own : List ℤ) (i : ℕ) (there : i < length own) where
       away : (q : ℤ) → j ≢ i → price_at (at q) j ≡ price_at own j
       away q other = get_or-set_other own i j q (pos 0) other
 
-  side_line : (p : ℤ) (side : Side) (parts : List Part) (ts : List Transfer) → IsOnLine p (side_cost side (priced (at (pos 0)) parts) ts) (side_cost side (priced (at (pos 1)) parts) ts) (side_cost side (priced (at p) parts) ts)
+  side_line : (p : ℤ) (side : Side) (parts : List Part) (ts : List Transfer)
+      → IsOnLine p (side_cost side (priced (at (pos 0)) parts) ts) (side_cost side (priced (at (pos 1)) parts) ts) (side_cost side (priced (at p) parts) ts)
   side_line p side parts ts =
       rw (own_sum p, own_sum (pos 0), own_sum (pos 1))
-      (line-sum p (term (pos 0)) (term (pos 1)) (term p) 0 parts (λ a q. line-times p (price_of (at (pos 0)) q.source q.price) (price_of (at (pos 1)) q.source q.price) (price_of (at p) q.source q.price) (heat_at side ts a) (price_line p q.source q.price)))
+      (line-sum p (term (pos 0)) (term (pos 1)) (term p) 0 parts
+      (λ a q. line-times p (price_of (at (pos 0)) q.source q.price) (price_of (at (pos 1)) q.source q.price) (price_of (at p) q.source q.price)
+      (heat_at side ts a) (price_line p q.source q.price)))
     where
       term : ℤ → ℕ → Part → ℤ
       term x a q = price_of (at x) q.source q.price *ℤ heat_at side ts a
@@ -156,13 +146,14 @@ module _ (own : List ℤ) (i : ℕ) (there : i < length own) where
     cost-moves : (p q : ℤ) (ts : List Transfer) → cost q ts ≡ cost p ts +ℤ rise ts *ℤ (q -ℤ p)
     cost-moves p q ts =
         let from = line p in let to = line q in
-        let split = *ℤ--ℤ (rise ts) q p in
-        let turn_p = *ℤ_comm (rise ts) p in
+        let split = *ℤ--ℤ (rise ts) q p in let turn_p = *ℤ_comm (rise ts) p in
         let turn_q = *ℤ_comm (rise ts) q in
         omega (arith, ints)
       where
         line : (x : ℤ) → IsOnLine x (cost (pos 0) ts) (cost (pos 1) ts) (cost x ts)
-        line x = line-plus x (side_cost Hot (priced (at (pos 0)) hot) ts) (side_cost Hot (priced (at (pos 1)) hot) ts) (side_cost Hot (priced (at x) hot) ts) (side_cost Cold (priced (at (pos 0)) cold) ts) (side_cost Cold (priced (at (pos 1)) cold) ts) (side_cost Cold (priced (at x) cold) ts) (side_line x Hot hot ts) (side_line x Cold cold ts)
+        line x = line-plus x (side_cost Hot (priced (at (pos 0)) hot) ts) (side_cost Hot (priced (at (pos 1)) hot) ts) (side_cost Hot (priced (at x) hot) ts)
+            (side_cost Cold (priced (at (pos 0)) cold) ts) (side_cost Cold (priced (at (pos 1)) cold) ts) (side_cost Cold (priced (at x) cold) ts)
+            (side_line x Hot hot ts) (side_line x Cold cold ts)
 
     pub flow-moves : (p q : ℤ) (ts : List Transfer) → Flow p ts → Flow q ts
     flow-moves p q ts flow = flow-priced (at q) reach hot cold ts (flow-unpriced (at p) reach hot cold ts flow)
@@ -178,8 +169,10 @@ module _ (own : List ℤ) (i : ℕ) (there : i < length own) where
         let below = first.least ts (flow-moves m p ts middle.flow) in
         let above = last.least ts (flow-moves m (p +ℤ pos 2) ts middle.flow) in
         let down = cost-moves m p ts in let up = cost-moves m (p +ℤ pos 2) ts in
-        let back : rise ts *ℤ (p -ℤ m) ≡ neg_ℤ (rise ts) = ap (λ z. rise ts *ℤ z) {x = p -ℤ m} {y = neg_ℤ (pos 1)} (omega (arith, ints)) ∙ omega (arith, ints) in
-        let on : rise ts *ℤ (p +ℤ pos 2 -ℤ m) ≡ rise ts = ap (λ z. rise ts *ℤ z) {x = p +ℤ pos 2 -ℤ m} {y = pos 1} (omega (arith, ints)) ∙ omega (arith, ints) in
+        let back : rise ts *ℤ (p -ℤ m) ≡ neg_ℤ (rise ts) = ap (λ z. rise ts *ℤ z) {x = p -ℤ m} {y = neg_ℤ (pos 1)} (omega (arith, ints))
+        ∙ omega (arith, ints) in
+        let on : rise ts *ℤ (p +ℤ pos 2 -ℤ m) ≡ rise ts = ap (λ z. rise ts *ℤ z) {x = p +ℤ pos 2 -ℤ m} {y = pos 1} (omega (arith, ints))
+        ∙ omega (arith, ints) in
         omega (arith, ints, below, above, down, up, back, on, middle.costs)
 
     -- least costs on one line at p, at the next price and at q: each price between has its least cost there
@@ -194,8 +187,8 @@ module _ (own : List ℤ) (i : ℕ) (there : i < length own) where
           let above = last.least middle (flow-moves m q middle next.flow) in
           let down = cost-moves m p middle in let up = cost-moves m q middle in
           let back : u *ℤ (p -ℤ m) ≡ neg_ℤ u = ap (λ z. u *ℤ z) {x = p -ℤ m} {y = neg_ℤ (pos 1)} (omega (arith, ints)) ∙ omega (arith, ints) in
-          let length_is : s *ℤ (q -ℤ p) ≡ s *ℤ (q -ℤ m) +ℤ s = ap (λ z. s *ℤ z) {x = q -ℤ p} {y = (q -ℤ m) +ℤ pos 1} (omega (arith, ints)) ∙ *ℤ-+ℤ s (q -ℤ m) (pos 1) ∙ omega (arith, ints) in
-          let costs = next.costs in
+          let length_is : s *ℤ (q -ℤ p) ≡ s *ℤ (q -ℤ m) +ℤ s = ap (λ z. s *ℤ z) {x = q -ℤ p} {y = (q -ℤ m) +ℤ pos 1} (omega (arith, ints))
+          ∙ *ℤ-+ℤ s (q -ℤ m) (pos 1) ∙ omega (arith, ints) in
           let upto : u ≤ℤ s = omega (arith, ints) in
           let from : s ≤ℤ u = ≤ℤ_from_*ℤ (q -ℤ m) s u (omega (arith, ints)) (omega (arith, ints)) in
           omega (arith, ints)
@@ -204,14 +197,13 @@ module _ (own : List ℤ) (i : ℕ) (there : i < length own) where
       between-costs r behind =
           let m = p +ℤ pos 1 in
           let moved = cost-moves m r middle ∙ ap (λ z. cost m middle +ℤ z *ℤ (r -ℤ m)) (steep behind) in
-          let length_is : s *ℤ (r -ℤ p) ≡ s *ℤ (r -ℤ m) +ℤ s = ap (λ z. s *ℤ z) {x = r -ℤ p} {y = (r -ℤ m) +ℤ pos 1} (omega (arith, ints)) ∙ *ℤ-+ℤ s (r -ℤ m) (pos 1) ∙ omega (arith, ints) in
-          let costs = next.costs in
+          let length_is : s *ℤ (r -ℤ p) ≡ s *ℤ (r -ℤ m) +ℤ s = ap (λ z. s *ℤ z) {x = r -ℤ p} {y = (r -ℤ m) +ℤ pos 1} (omega (arith, ints))
+          ∙ *ℤ-+ℤ s (r -ℤ m) (pos 1) ∙ omega (arith, ints) in
           omega (arith, ints)
 
       between-least : (r : ℤ) → p ≤ℤ r → r ≤ℤ q → (ts : List Transfer) → Flow r ts → (v +ℤ s *ℤ (r -ℤ p)) ≤ℤ cost r ts
       between-least r from upto ts flow =
-          let w = rise ts in
-          let below = first.least ts (flow-moves r p ts flow) in
+          let w = rise ts in let below = first.least ts (flow-moves r p ts flow) in
           let above = last.least ts (flow-moves r q ts flow) in
           let up = cost-moves p r ts in let down = cost-moves q r ts in
           let split_q = *ℤ--ℤ s q p in let split_r = *ℤ--ℤ s r p in
@@ -225,10 +217,16 @@ module _ (own : List ℤ) (i : ℕ) (there : i < length own) where
       pub between : (r : ℤ) → p <ℤ q → p ≤ℤ r → r ≤ℤ q → Least r (v +ℤ s *ℤ (r -ℤ p))
       between r ahead from upto =
           by_lt_z (p +ℤ pos 1) q
-          (λ behind. record { transfers = middle; flow = flow-moves (p +ℤ pos 1) r middle next.flow; costs = between-costs r behind; least = between-least r from upto })
+          (λ behind. record {
+            transfers = middle;
+            flow = flow-moves (p +ℤ pos 1) r middle next.flow;
+            costs = between-costs r behind;
+            least = between-least r from upto;
+          })
           (λ adjacent.
           by_lt_z p r
-          (λ later. let is : p +ℤ pos 1 ≡ r = omega (arith, ints) in subst (λ x. Least x (v +ℤ s *ℤ (x -ℤ p))) is (subst (Least (p +ℤ pos 1)) (ap (λ z. v +ℤ z) one_step) next))
+          (λ later. let is : p +ℤ pos 1 ≡ r = omega (arith, ints) in
+          subst (λ x. Least x (v +ℤ s *ℤ (x -ℤ p))) is (subst (Least (p +ℤ pos 1)) (ap (λ z. v +ℤ z) one_step) next))
           (λ not_later. let is : p ≡ r = omega (arith, ints) in subst (λ x. Least x (v +ℤ s *ℤ (x -ℤ p))) is (subst (Least p) no_step first)))
         where
           one_step : s ≡ s *ℤ (p +ℤ pos 1 -ℤ p)

@@ -1,20 +1,12 @@
 -- A case has one row for each contribution.
-use Rattle.std.proofs.Common.{◌≡◌, ◌∙◌, refl, sym, ap, Option, None, Some, arith}
-use Rattle.std.specs.Prelude.{ℤ}
-use Rattle.std.proofs.lemmas.Int.{ints}
-use Rattle.stream_case.specs.declared.case.Case.{Case}
-use Rattle.heat_flow.specs.Certificate.{IsLeastCostOf, HasNoFlowOf}
-use Rattle.study.specs.declared.row.SweepRow.{SweepRow}
-use Rattle.study.specs.Cost.{IsCostOf}
-use Rattle.study.specs.Row.{OneRow, case_with}
+use Rattle.study.proofs.Words.{Case, HasNoFlowOf, IsCostOf, IsLeastCostOf, OneRow, SweepRow, case_with, ints, ℤ}
+use Rattle.std.proofs.Common.{None, Option, Some, ap, arith, refl, sym, ◌∙◌, ◌≡◌}
 
 pub one_cost : (c : Case) (cost other : ℤ) → IsLeastCostOf c cost → IsLeastCostOf c other → cost ≡ other
 one_cost c cost other one two =
     let (hot, cold, parts) = one.some in
-    let first = one.each hot cold parts in
-    let second = two.each hot cold parts in
-    let up = first.least second.transfers second.flow in
-    let down = second.least first.transfers first.flow in
+    let first = one.each hot cold parts in let second = two.each hot cold parts in
+    let up = first.least second.transfers second.flow in let down = second.least first.transfers first.flow in
     omega (arith, ints, up, down, first.costs, second.costs)
 
 never_both : (c : Case) (cost : ℤ) → IsLeastCostOf c cost → HasNoFlowOf c → ⊥
@@ -34,4 +26,5 @@ same_row row other a b c d = λ i. record { contribution = a i; hot = b i; cold 
 
 pub one_row : (c : Case) → OneRow c
 one_row c contribution row other one two =
-    same_row row other (one.contribution_is ∙ sym two.contribution_is) (one.hot ∙ sym two.hot) (one.cold ∙ sym two.cold) (one_answer (case_with contribution c) row.cost other.cost one.cost two.cost)
+    same_row row other (one.contribution_is ∙ sym two.contribution_is) (one.hot ∙ sym two.hot) (one.cold ∙ sym two.cold)
+    (one_answer (case_with contribution c) row.cost other.cost one.cost two.cost)

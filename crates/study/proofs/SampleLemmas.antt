@@ -1,32 +1,18 @@
 -- A sample is a valid case.
-use Rattle.std.proofs.Common.{◌≡◌, ◌≢◌, ◌∙◌, inl, refl, sym, ap, subst, Bool, true, false, cond, ℕ, ◌+◌, ◌*◌, ◌%◌, ◌<◌, ◌≤◌, List, [], ◌∷◌, ◌++◌, length, get_or, map, Some, arith}
-use Rattle.std.specs.Prelude.{pos, ◌==◌, All, AllPairs, count_by, filter, slice_get, option_map, unsigned_abs}
-use Rattle.std.specs.List.{range_with_len}
-use Rattle.std.proofs.lemmas.Int.{ints}
-use Rattle.std.proofs.lemmas.List.{append-nil, append_assoc, get_or-append-add, length-append, length-map, map-append}
-use Rattle.std.proofs.lemmas.List.Elements.{All-nil, All-append, All-filter, All-map, All-weaker, filter-append}
+use Rattle.std.proofs.Common.{Bool, List, Some, [], ap, arith, cond, false, get_or, inl, length, map, refl, subst, sym, true, ℕ, ◌%◌, ◌*◌, ◌++◌, ◌+◌, ◌<◌, ◌∙◌}
+use Rattle.std.proofs.Common.{◌∷◌, ◌≡◌, ◌≢◌, ◌≤◌}
+use Rattle.study.proofs.Words.{All, All-append, All-filter, All-map, All-nil, All-weaker, AllPairs, AllPairs-append, AllPairs-filter, AllPairs-map, Cold}
+use Rattle.study.proofs.Words.{FORBID_CHANCE, Forbid, HIGHEST_TEMPERATURE, HasValidStreams, Hot, IsRightlyNamed, IsTemperature, IsUnreserved, IsValid}
+use Rattle.study.proofs.Words.{IsValidForbid, IsValidStream, MOST_SAMPLE_STREAMS, Side, Stream, append-nil, append_assoc, count_by, count_by-le-length}
+use Rattle.study.proofs.Words.{count_by-map, count_on, draw, drawn_high, drawn_low, drawn_stream, drawn_streams, filter, filter-append, get_or-append-add, ints}
+use Rattle.study.proofs.Words.{least_temperature, length-append, length-filter, length-map, map-append, option_map, pair_of, pos, range_with_len, same_side}
+use Rattle.study.proofs.Words.{sample, side_of, slice_get, slice_get-append, slice_get-get_or, state_after, stream_name, sum_by-append, ◌==◌}
 use Rattle.std.proofs.lemmas.List.FromFn.{get_or-map-range_with_len, length-map-range_with_len, length-range_with_len, map-range_with_len_more}
-use Rattle.std.proofs.lemmas.List.Kept.{AllPairs-filter}
-use Rattle.std.proofs.lemmas.List.Sums.{count_by-le-length, length-filter, sum_by-append}
-use Rattle.std.proofs.lemmas.Option.{slice_get-get_or}
-use Rattle.stream_case.specs.declared.limits.TheConstants.{HIGHEST_TEMPERATURE}
-use Rattle.stream_case.specs.declared.source.Side.{Side}
-use Rattle.stream_case.specs.declared.source.Side.TheVariants.{Hot, Cold}
-use Rattle.stream_case.specs.declared.source.Source.TheVariants.{Stream as of_stream}
-use Rattle.stream_case.specs.declared.stream.Stream.{Stream}
-use Rattle.stream_case.specs.declared.case.Forbid.{Forbid}
-use Rattle.stream_case.specs.Limits.{IsTemperature}
-use Rattle.stream_case.specs.Source.{same_side}
-use Rattle.stream_case.specs.Stream.{count_on, IsValidStream, HasValidStreams}
-use Rattle.stream_case.specs.Case.{IsRightlyNamed, IsUnreserved, IsValid, IsValidForbid, side_of}
-use Rattle.sums.proofs.CountLemmas.{count_by-map}
-use Rattle.sums.proofs.ListLemmas.{slice_get-append}
-use Rattle.sums.proofs.OrderLemmas.{AllPairs-append, AllPairs-map}
-use Rattle.study.specs.declared.limits.TheConstants.{FLOW_RATES, FORBID_CHANCE, LEAST_HOT_TEMPERATURE, MOST_SAMPLE_STREAMS, TEMPERATURES}
-use Rattle.study.specs.Draws.{draw, state_after}
-use Rattle.study.specs.Sample.{drawn_high, drawn_low, drawn_stream, drawn_streams, least_temperature, pair_of, sample, stream_name}
-use Rattle.study.proofs.NumberLemmas.{each_below, one_more, rising}
+use Rattle.std.specs.Prelude.{unsigned_abs}
 use Rattle.study.proofs.NameLemmas.{IsName-stream_name, IsUnreserved-stream_name, sides-differ, stream_names-differ}
+use Rattle.study.proofs.NumberLemmas.{each_below, one_more, rising}
+use Rattle.study.specs.declared.limits.TheConstants.{FLOW_RATES, LEAST_HOT_TEMPERATURE, TEMPERATURES}
+use Rattle.stream_case.specs.declared.source.Source.TheVariants.{Stream as of_stream}
 
 -- ---- a stream
 
@@ -90,35 +76,40 @@ module _ (side : Side) (x count : ℕ) (small : count ≤ MOST_SAMPLE_STREAMS) w
 
   -- what holds of each stream that is drawn
   All-drawn : (P : Stream → Type 0) → ((y number : ℕ) → number < 100 → P (drawn_stream side y number)) → All P (drawn_streams side x count)
-  All-drawn P each = All-map P made (range_with_len 0 count) (All-weaker (λ i. i < count) (λ i. P (made i)) (λ i less. each (state_after x (3 * i)) (i + 1) (omega arith)) (range_with_len 0 count) (each_below count))
+  All-drawn P each = All-map P made (range_with_len 0 count)
+      (All-weaker (λ i. i < count) (λ i. P (made i)) (λ i less. each (state_after x (3 * i)) (i + 1) (omega arith)) (range_with_len 0 count) (each_below count))
 
   length-drawn : length (drawn_streams side x count) ≡ count
   length-drawn = length-map-range_with_len made 0 count
 
   stream_at : (i : ℕ) → i < count → slice_get (drawn_streams side x count) i ≡ Some (made i)
   stream_at i within =
-      slice_get-get_or (drawn_streams side x count) i (made 0) (let long = length-drawn in omega arith) ∙ ap Some (get_or-map-range_with_len made 0 count i i (made 0) within (omega arith))
+      slice_get-get_or (drawn_streams side x count) i (made 0) (let long = length-drawn in omega arith)
+      ∙ ap Some (get_or-map-range_with_len made 0 count i i (made 0) within (omega arith))
 
   names_differ : AllPairs (λ s t. s.name ≢ t.name) (drawn_streams side x count)
   names_differ =
       AllPairs-map (λ s t. s.name ≢ t.name) made (range_with_len 0 count) (λ i j d before within.
-      let order = rising count i j d before within in
-      let long = length-range_with_len 0 count in
+      let order = rising count i j d before within in let long = length-range_with_len 0 count in
       let second : get_or (range_with_len 0 count) j d < count = each_below count j d within in
       apart (get_or (range_with_len 0 count) i d) (get_or (range_with_len 0 count) j d) order second)
     where
       apart : (i j : ℕ) → i < j → j < count → (made i).name ≢ (made j).name
       apart i j order less same =
-          stream_names-differ side (i + 1) (j + 1) (omega arith) (omega arith) (sym (name-drawn side (state_after x (3 * i)) (i + 1)) ∙ same ∙ name-drawn side (state_after x (3 * j)) (j + 1))
+          stream_names-differ side (i + 1) (j + 1) (omega arith) (omega arith)
+          (sym (name-drawn side (state_after x (3 * i)) (i + 1)) ∙ same ∙ name-drawn side (state_after x (3 * j)) (j + 1))
 
 -- one more
-drawn_streams-more : (side : Side) (x count : ℕ) → drawn_streams side x (count + 1) ≡ drawn_streams side x count ++ drawn_stream side (state_after x (3 * count)) (count + 1) ∷ []
+drawn_streams-more : (side : Side) (x count : ℕ)
+    → drawn_streams side x (count + 1) ≡ drawn_streams side x count ++ drawn_stream side (state_after x (3 * count)) (count + 1) ∷ []
 drawn_streams-more side x count = map-range_with_len_more (λ i. drawn_stream side (state_after x (3 * i)) (i + 1)) 0 count count (omega arith)
 
 -- one stream is appended
-pub streams_push : (side : Side) (x i : ℕ) (before old new : List Stream) (s : Stream) → old ≡ before ++ drawn_streams side x i → s ≡ drawn_stream side (state_after x (3 * i)) (i + 1) → new ≡ old ++ s ∷ [] → new ≡ before ++ drawn_streams side x (i + 1)
+pub streams_push : (side : Side) (x i : ℕ) (before old new : List Stream) (s : Stream) → old ≡ before ++ drawn_streams side x i
+    → s ≡ drawn_stream side (state_after x (3 * i)) (i + 1) → new ≡ old ++ s ∷ [] → new ≡ before ++ drawn_streams side x (i + 1)
 streams_push side x i before old new s so_far is pushed =
-    pushed ∙ ap (λ ys. ys ++ s ∷ []) so_far ∙ append_assoc before (drawn_streams side x i) (s ∷ []) ∙ ap (λ ys. before ++ ys) (ap (λ t. drawn_streams side x i ++ t ∷ []) is ∙ sym (drawn_streams-more side x i))
+    pushed ∙ ap (λ ys. ys ++ s ∷ []) so_far ∙ append_assoc before (drawn_streams side x i) (s ∷ [])
+    ∙ ap (λ ys. before ++ ys) (ap (λ t. drawn_streams side x i ++ t ∷ []) is ∙ sym (drawn_streams-more side x i))
 
 -- ---- how many
 
@@ -127,7 +118,8 @@ none_on f of other is = count_by-map (λ s. same_side s.side of) f is ∙ none_b
   where
     none_by : (p : ℕ → Bool) → ((i : ℕ) → p i ≡ false) → (is : List ℕ) → count_by p is ≡ 0
     none_by p never [] = refl
-    none_by p never (i ∷ is) = sum_by-append (λ k. cond (p k) 1 0) (i ∷ []) is ∙ (let rest = none_by p never is in let first = never i in omega (arith, rest, ap {B = ℕ} (λ b. cond b 1 0) first))
+    none_by p never (i ∷ is) = sum_by-append (λ k. cond (p k) 1 0) (i ∷ []) is
+        ∙ (let rest = none_by p never is in let first = never i in omega (arith, rest, ap {B = ℕ} (λ b. cond b 1 0) first))
 
 few_on : (of : Side) (x y count : ℕ) → count ≤ MOST_SAMPLE_STREAMS → count_on of (drawn_streams Hot x count ++ drawn_streams Cold y count) ≤ count
 few_on Hot x y count small =
@@ -147,12 +139,15 @@ module _ (p : ℕ → Bool) (count n : ℕ) where
   chosen_more : filter p (range_with_len 0 (n + 1)) ≡ filter p (range_with_len 0 n) ++ cond (p n) (n ∷ []) []
   chosen_more = ap (filter p) (one_more n) ∙ filter-append p (range_with_len 0 n) (n ∷ [])
 
-  pub pairs-more : p n ≡ true → map (pair_of count) (filter p (range_with_len 0 (n + 1))) ≡ map (pair_of count) (filter p (range_with_len 0 n)) ++ pair_of count n ∷ []
+  pub pairs-more : p n ≡ true → map (pair_of count) (filter p (range_with_len 0 (n + 1))) ≡ map (pair_of count) (filter p (range_with_len 0 n))
+      ++ pair_of count n ∷ []
   pairs-more holds =
-      ap (map (pair_of count)) (chosen_more ∙ ap (λ b. filter p (range_with_len 0 n) ++ cond b (n ∷ []) []) holds) ∙ map-append (pair_of count) (filter p (range_with_len 0 n)) (n ∷ [])
+      ap (map (pair_of count)) (chosen_more ∙ ap (λ b. filter p (range_with_len 0 n) ++ cond b (n ∷ []) []) holds)
+      ∙ map-append (pair_of count) (filter p (range_with_len 0 n)) (n ∷ [])
 
   pub pairs-pass : p n ≡ false → map (pair_of count) (filter p (range_with_len 0 (n + 1))) ≡ map (pair_of count) (filter p (range_with_len 0 n))
-  pairs-pass fails = ap (map (pair_of count)) (chosen_more ∙ ap (λ b. filter p (range_with_len 0 n) ++ cond b (n ∷ []) []) fails ∙ append-nil (filter p (range_with_len 0 n)))
+  pairs-pass fails =
+      ap (map (pair_of count)) (chosen_more ∙ ap (λ b. filter p (range_with_len 0 n) ++ cond b (n ∷ []) []) fails ∙ append-nil (filter p (range_with_len 0 n)))
 
 -- ---- the case
 
@@ -164,7 +159,8 @@ module _ (number count : ℕ) (some : 1 ≤ count) (small : count ≤ MOST_SAMPL
   colds = drawn_streams Cold (state_after number (3 * count)) count
 
   All-streams : (P : Stream → Type 0) → ((side : Side) (y n : ℕ) → n < 100 → P (drawn_stream side y n)) → All P (hots ++ colds)
-  All-streams P each = All-append P hots colds (All-drawn Hot number count small P (each Hot)) (All-drawn Cold (state_after number (3 * count)) count small P (each Cold))
+  All-streams P each =
+      All-append P hots colds (All-drawn Hot number count small P (each Hot)) (All-drawn Cold (state_after number (3 * count)) count small P (each Cold))
 
   HasValidStreams-sample : HasValidStreams (hots ++ colds)
   HasValidStreams-sample = record {
@@ -177,25 +173,29 @@ module _ (number count : ℕ) (some : 1 ≤ count) (small : count ≤ MOST_SAMPL
 
   names_differ-streams : AllPairs (λ (s t : Stream). s.name ≢ t.name) (hots ++ colds)
   names_differ-streams =
-      AllPairs-append (λ (s t : Stream). s.name ≢ t.name) hots colds (names_differ Hot number count small) (names_differ Cold (state_after number (3 * count)) count small)
-      (All-drawn Hot number count small (λ s. All (λ t. s.name ≢ t.name) colds) (λ x m _. All-drawn Cold (state_after number (3 * count)) count small (λ t. stream_name Hot m ≢ t.name) (λ y n _. sides-differ m n)))
+      AllPairs-append (λ (s t : Stream). s.name ≢ t.name) hots colds (names_differ Hot number count small)
+      (names_differ Cold (state_after number (3 * count)) count small)
+      (All-drawn Hot number count small (λ s. All (λ t. s.name ≢ t.name) colds)
+      (λ x m _. All-drawn Cold (state_after number (3 * count)) count small (λ t. stream_name Hot m ≢ t.name) (λ y n _. sides-differ m n)))
 
   names-distinct : AllPairs (λ a b. a ≢ b) (map (λ (s : Stream). s.name) (hots ++ colds) ++ [])
-  names-distinct = subst (AllPairs (λ a b. a ≢ b)) (sym (append-nil (map (λ (s : Stream). s.name) (hots ++ colds)))) (AllPairs-map (λ a b. a ≢ b) (λ (s : Stream). s.name) (hots ++ colds) names_differ-streams)
+  names-distinct = subst (AllPairs (λ a b. a ≢ b)) (sym (append-nil (map (λ (s : Stream). s.name) (hots ++ colds))))
+      (AllPairs-map (λ a b. a ≢ b) (λ (s : Stream). s.name) (hots ++ colds) names_differ-streams)
 
   hot_side : (i : ℕ) → i < count → side_of (sample number count) (of_stream i) ≡ Some Hot
   hot_side i within = ap (option_map (λ (s : Stream). s.side)) (slice_get-append hots colds i _ (stream_at Hot number count small i within))
 
   cold_at : (i : ℕ) → i < count → slice_get (hots ++ colds) (count + i) ≡ Some (made Cold (state_after number (3 * count)) count small i)
   cold_at i within =
-      let d = made Cold (state_after number (3 * count)) count small 0 in
-      let long = length-append hots colds in
+      let d = made Cold (state_after number (3 * count)) count small 0 in let long = length-append hots colds in
       let first = length-drawn Hot number count small in
       let second = length-drawn Cold (state_after number (3 * count)) count small in
       let place : count + i ≡ length hots + i = omega arith in
       rw place
       (slice_get-get_or (hots ++ colds) (length hots + i) d (omega arith)
-      ∙ ap Some (get_or-append-add hots colds i d ∙ get_or-map-range_with_len (made Cold (state_after number (3 * count)) count small) 0 count i i d within (omega arith)))
+      ∙ ap Some
+      (get_or-append-add hots colds i d ∙ get_or-map-range_with_len (made Cold (state_after number (3 * count)) count small) 0 count i i d within
+      (omega arith)))
 
   cold_side : (i : ℕ) → i < count → side_of (sample number count) (of_stream (count + i)) ≡ Some Cold
   cold_side i within = ap (option_map (λ (s : Stream). s.side)) (cold_at i within)
@@ -212,14 +212,15 @@ module _ (number count : ℕ) (some : 1 ≤ count) (small : count ≤ MOST_SAMPL
   few-pairs : length (map (pair_of count) chosen) ≤ count
   few-pairs =
       let p = λ (i : ℕ). draw (state_after number (6 * count)) i FORBID_CHANCE == 0 in
-      let kept = length-filter p (range_with_len 0 count) in
-      let most = count_by-le-length p (range_with_len 0 count) in
+      let kept = length-filter p (range_with_len 0 count) in let most = count_by-le-length p (range_with_len 0 count) in
       omega (arith, length-map chosen (pair_of count), kept, most, length-range_with_len 0 count)
 
   pairs-distinct : AllPairs (λ (f g : Forbid). f ≢ g) (map (pair_of count) chosen)
   pairs-distinct =
       AllPairs-map (λ (f g : Forbid). f ≢ g) (pair_of count) chosen (λ i j d before within.
-      apart (get_or chosen i d) (get_or chosen j d) (AllPairs-filter (λ a b. a < b) (λ k. draw (state_after number (6 * count)) k FORBID_CHANCE == 0) (range_with_len 0 count) (rising count) i j d before within))
+      apart (get_or chosen i d) (get_or chosen j d)
+      (AllPairs-filter (λ a b. a < b) (λ k. draw (state_after number (6 * count)) k FORBID_CHANCE == 0) (range_with_len 0 count)
+      (rising count) i j d before within))
     where
       apart : (i j : ℕ) → i < j → pair_of count i ≢ pair_of count j
       apart i j less same =
@@ -234,7 +235,8 @@ module _ (number count : ℕ) (some : 1 ≤ count) (small : count ≤ MOST_SAMPL
     utilities = All-nil _;
     few_utilities = omega arith;
     distinct_names = names-distinct;
-    stream_names = All-streams (λ s. IsUnreserved s.name) (λ side y n less. subst IsUnreserved (sym (name-drawn side y n)) (IsUnreserved-stream_name side n less));
+    stream_names =
+        All-streams (λ s. IsUnreserved s.name) (λ side y n less. subst IsUnreserved (sym (name-drawn side y n)) (IsUnreserved-stream_name side n less));
     utility_names = All-nil IsRightlyNamed;
     forbids = IsValidForbid-pairs;
     few_forbids = omega (arith, few-pairs);

@@ -1,15 +1,7 @@
 -- A completed sample has a heat flow, and a sample has one row.
-use Rattle.std.proofs.Common.{◌≡◌, ◌∙◌, inl, refl, sym, ℕ, ◌*◌, ◌≤◌}
-use Rattle.std.specs.Prelude.{◌==◌, filter}
-use Rattle.std.specs.List.{range_with_len}
-use Rattle.std.proofs.lemmas.List.Elements.{All-map}
-use Rattle.stream_case.specs.Case.{IsComplete}
-use Rattle.study.specs.declared.limits.TheConstants.{FORBID_CHANCE, MOST_SAMPLE_STREAMS}
-use Rattle.study.specs.declared.sample_targets.SampleRow.{SampleRow}
-use Rattle.study.specs.Draws.{draw, state_after}
-use Rattle.study.specs.Sample.{pair_of, sample}
-use Rattle.study.specs.SampleRow.{completed_sample, OneSampleRow}
-use Rattle.study.specs.Supplied.{IsSupplied, JoinsStreams}
+use Rattle.std.proofs.Common.{inl, refl, sym, ℕ, ◌*◌, ◌∙◌, ◌≡◌, ◌≤◌}
+use Rattle.study.proofs.Words.{All-map, FORBID_CHANCE, IsComplete, IsSupplied, JoinsStreams, MOST_SAMPLE_STREAMS, OneSampleRow, SampleRow, completed_sample}
+use Rattle.study.proofs.Words.{draw, filter, pair_of, range_with_len, sample, state_after, ◌==◌}
 use Rattle.study.proofs.RowLemmas.{one_cost}
 use Rattle.study.proofs.SampleLemmas.{IsValid-sample}
 
@@ -17,7 +9,8 @@ use Rattle.study.proofs.SampleLemmas.{IsValid-sample}
 pub IsSupplied-sample : (number count : ℕ) → IsSupplied (completed_sample number count)
 IsSupplied-sample number count = record {
   utilities = inl refl;
-  joins_streams = All-map JoinsStreams (pair_of count) (filter (λ i. draw (state_after number (6 * count)) i FORBID_CHANCE == 0) (range_with_len 0 count)) (λ k d within. (refl, refl));
+  joins_streams = All-map JoinsStreams (pair_of count) (filter (λ i. draw (state_after number (6 * count)) i FORBID_CHANCE == 0) (range_with_len 0 count))
+      (λ k d within. (refl, refl));
 }
 
 pub IsComplete-sample : (number count : ℕ) → 1 ≤ count → count ≤ MOST_SAMPLE_STREAMS → IsComplete (completed_sample number count)

@@ -1,22 +1,9 @@
 -- The least cost over a span of prices of one utility.
-use Rattle.std.proofs.Common.{◌≡◌, ◌∙◌, inl, refl, sym, ap, subst, ℕ, ◌<◌, List, [], ◌∷◌, ◌++◌, length, arith}
-use Rattle.std.specs.Prelude.{ℤ, pos, ◌+ℤ◌, ◌-ℤ◌, ◌*ℤ◌, ◌≤ℤ◌, ◌<ℤ◌, int_le, if◌then◌else◌}
-use Rattle.std.proofs.Math.IntN.{*ℤ_comm}
-use Rattle.std.proofs.lemmas.Int.{ints, by_lt_z}
-use Rattle.std.proofs.lemmas.List.{length-map}
-use Rattle.stream_case.specs.Limits.{IsBetween}
-use Rattle.stream_case.specs.declared.case.Case.{Case}
-use Rattle.sums.proofs.IntegerLemmas.{int_le-false, int_le-from}
-use Rattle.sums.proofs.ProductLemmas.{*ℤ-+ℤ, *ℤ--ℤ}
-use Rattle.heat_flow.specs.Flow.{IsLeastCost}
-use Rattle.heat_flow.specs.Reach.{reach_between}
-use Rattle.heat_flow.proofs.PartLemmas.{HoldsOfParts-some}
-use Rattle.study.specs.Priced.{HasNoFlowAt, IsLeastCostAt, case_prices, priced, prices_with}
-use Rattle.study.specs.Segments.{AreSegments, IsCostFunction, IsSegment, on_line}
-use Rattle.study.specs.Spans.{AreCostSegments, CostsWith, HasFlowWith, IsCostSegment, IsLine, IsLineEnd, line_at}
-use Rattle.study.specs.Study.{AreSpanSegments, RisesFall}
-use Rattle.study.specs.declared.segments.Line.{Line}
-use Rattle.study.specs.declared.study_item.Segment.{Segment}
+use Rattle.study.proofs.Words.{*ℤ-+ℤ, *ℤ--ℤ, *ℤ_comm, AreCostSegments, AreSegments, AreSpanSegments, Case, CostsWith, HasFlowWith, HasNoFlowAt}
+use Rattle.study.proofs.Words.{HoldsOfParts-some, IsBetween, IsCostFunction, IsCostSegment, IsLeastCost, IsLeastCostAt, IsLine, IsLineEnd, IsSegment, Line}
+use Rattle.study.proofs.Words.{RisesFall, Segment, by_lt_z, case_prices, if◌then◌else◌, int_le, int_le-false, int_le-from, ints, length-map, line_at, on_line}
+use Rattle.study.proofs.Words.{pos, priced, prices_with, reach_between, ℤ, ◌*ℤ◌, ◌+ℤ◌, ◌-ℤ◌, ◌<ℤ◌, ◌≤ℤ◌}
+use Rattle.std.proofs.Common.{List, [], ap, arith, inl, length, refl, subst, sym, ℕ, ◌++◌, ◌<◌, ◌∙◌, ◌∷◌, ◌≡◌}
 use Rattle.study.proofs.PricedLemmas.{between, none-moves, rises-fall}
 
 -- ---- one price
@@ -40,25 +27,33 @@ module _ (c : Case) (i : ℕ) (there : i < length c.utilities) where
 
   -- no heat flow at one price, none at any
   pub no_flow-moves : (p q : ℤ) → HasNoFlowAt c (prices_with c i p) → HasNoFlowAt c (prices_with c i q)
-  no_flow-moves p q none = record { some = none.some; each = λ hot cold parts. none-moves (case_prices c) i utility_there (reach_between c hot cold) hot cold p q (none.each hot cold parts) }
+  no_flow-moves p q none = record {
+    some = none.some;
+    each = λ hot cold parts. none-moves (case_prices c) i utility_there (reach_between c hot cold) hot cold p q (none.each hot cold parts);
+  }
 
   pub has_flow : (p cost : ℤ) → CostsWith c i p cost → HasFlowWith c i
   has_flow p cost least q none = never_both_at c (prices_with c i p) cost least (no_flow-moves q p none)
 
-  rises-fall_with : (p first middle last : ℤ) → CostsWith c i p first → CostsWith c i (p +ℤ pos 1) middle → CostsWith c i (p +ℤ pos 2) last → (last -ℤ middle) ≤ℤ (middle -ℤ first)
+  rises-fall_with : (p first middle last : ℤ) → CostsWith c i p first → CostsWith c i (p +ℤ pos 1) middle → CostsWith c i (p +ℤ pos 2) last
+      → (last -ℤ middle) ≤ℤ (middle -ℤ first)
   rises-fall_with p first middle last one two three =
       let (hot, cold, parts) = one.some in
-      rises-fall (case_prices c) i utility_there (reach_between c hot cold) hot cold p first middle last (one.each hot cold parts) (two.each hot cold parts) (three.each hot cold parts)
+      rises-fall (case_prices c) i utility_there (reach_between c hot cold) hot cold p first middle last (one.each hot cold parts) (two.each hot cold parts)
+      (three.each hot cold parts)
 
   -- the least cost is on the line at each price up to its end
-  pub on_line-between : (line : Line) (to end : ℤ) → IsLine c i line → IsLineEnd c i line to end → (p : ℤ) → IsBetween line.from end p → CostsWith c i p (line_at line p)
+  pub on_line-between : (line : Line) (to end : ℤ) → IsLine c i line → IsLineEnd c i line to end → (p : ℤ) → IsBetween line.from end p
+      → CostsWith c i p (line_at line p)
   on_line-between line to end is ends p within =
       let (hot, cold, parts) = is.first.some in
       let turn = λ (r : ℤ). ap (λ z. line.cost +ℤ z) (*ℤ_comm line.slope (r -ℤ line.from)) in
-      let ahead = ends.range.from in
-      let at_end = subst (IsLeastCost (reach_between c hot cold) (priced (prices_with c i end) hot) (priced (prices_with c i end) cold)) (sym (turn end)) (ends.on.each hot cold parts) in
-      let least = between (case_prices c) i utility_there (reach_between c hot cold) hot cold line.from end line.cost line.slope (is.first.each hot cold parts) (is.next.each hot cold parts) at_end p (omega (arith, ints, ahead)) within.from within.upto in
-      HoldsOfParts-some c (λ h k. IsLeastCost (reach_between c h k) (priced (prices_with c i p) h) (priced (prices_with c i p) k) (line_at line p)) hot cold parts
+      let at_end = subst (IsLeastCost (reach_between c hot cold) (priced (prices_with c i end) hot) (priced (prices_with c i end) cold)) (sym (turn end))
+      (ends.on.each hot cold parts) in
+      let least = between (case_prices c) i utility_there (reach_between c hot cold) hot cold line.from end line.cost line.slope (is.first.each hot cold parts)
+      (is.next.each hot cold parts) at_end p (omega (arith, ints)) within.from within.upto in
+      HoldsOfParts-some c
+      (λ h k. IsLeastCost (reach_between c h k) (priced (prices_with c i p) h) (priced (prices_with c i p) k) (line_at line p)) hot cold parts
       (subst (IsLeastCost (reach_between c hot cold) (priced (prices_with c i p) hot) (priced (prices_with c i p) cold)) (turn p) least)
 
 pub rises_fall : (c : Case) → RisesFall c
@@ -80,15 +75,17 @@ next_on_line s p =
     omega (arith, ints)
 
 module _ (c : Case) (i : ℕ) where
-  pub segment-of_line : (line : Line) (to : ℤ) (s : Segment) → i < length c.utilities → IsLine c i line → IsLineEnd c i line to s.to → line.from <ℤ to → s.from ≡ line.from → s.base ≡ line_at line (pos 0) → s.slope ≡ line.slope → IsCostSegment c i to s
+  pub segment-of_line : (line : Line) (to : ℤ) (s : Segment) → i < length c.utilities → IsLine c i line → IsLineEnd c i line to s.to → line.from <ℤ to
+      → s.from ≡ line.from → s.base ≡ line_at line (pos 0) → s.slope ≡ line.slope → IsCostSegment c i to s
   segment-of_line line to s there is ends ahead from base slope =
-      let first = ends.range.from in let upto = ends.range.upto in
+      let upto = ends.range.upto in
       record {
         end = record { from = omega (arith, ints); upto = upto };
         long = λ h. omega (arith, ints);
         flat = λ h. absurd (omega (arith, ints));
-        line = λ p within. let low = within.from in let high = within.upto in
-            subst (CostsWith c i p) (sym (line-moved line s p base slope)) (on_line-between c i there line to s.to is ends p (record { from = omega (arith, ints); upto = high }));
+        line = λ p within. let high = within.upto in
+            subst (CostsWith c i p) (sym (line-moved line s p base slope))
+            (on_line-between c i there line to s.to is ends p (record { from = omega (arith, ints); upto = high }));
         greatest = λ h on. ends.off h (subst (CostsWith c i (s.to +ℤ pos 1)) (line-moved line s (s.to +ℤ pos 1) base slope) on);
       }
 
@@ -97,7 +94,7 @@ module _ (c : Case) (i : ℕ) where
     end = record { from = omega (arith, ints); upto = omega (arith, ints) };
     long = λ h. absurd (omega (arith, ints));
     flat = λ h. slope;
-    line = λ p within. let low = within.from in let high = within.upto in let is : price ≡ p = omega (arith, ints) in
+    line = λ p within. let is : price ≡ p = omega (arith, ints) in
         let none = ap (λ z. p *ℤ z) slope in let base : s.base ≡ on_line s p = omega (arith, ints) in
         subst (λ q. CostsWith c i q (on_line s p)) is (subst (CostsWith c i price) base least);
     greatest = λ h on. absurd (omega (arith, ints));
@@ -105,7 +102,8 @@ module _ (c : Case) (i : ℕ) where
 
   -- ---- the segments of a span
 
-  pub one_more_segment : (to from next : ℤ) (segments : List Segment) (s : Segment) → AreCostSegments c i to from next segments → s.from ≡ next → IsCostSegment c i to s → AreCostSegments c i to from (s.to +ℤ pos 1) (segments ++ s ∷ [])
+  pub one_more_segment : (to from next : ℤ) (segments : List Segment) (s : Segment) → AreCostSegments c i to from next segments → s.from ≡ next
+      → IsCostSegment c i to s → AreCostSegments c i to from (s.to +ℤ pos 1) (segments ++ s ∷ [])
   one_more_segment to from next [] s are at is = (at ∙ sym are, is, refl)
   one_more_segment to from next (t ∷ segments) s (first, here, rest) at is = (first, here, one_more_segment to (t.to +ℤ pos 1) next segments s rest at is)
 
@@ -115,18 +113,20 @@ cost_in [] p = pos 0
 cost_in (s ∷ segments) p = if int_le p s.to then on_line s p else cost_in segments p
 
 module _ (c : Case) (i : ℕ) (to : ℤ) where
-  cost_in-costs : (from next : ℤ) (segments : List Segment) → AreCostSegments c i to from next segments → (p : ℤ) → from ≤ℤ p → p <ℤ next → CostsWith c i p (cost_in segments p)
+  cost_in-costs : (from next : ℤ) (segments : List Segment) → AreCostSegments c i to from next segments → (p : ℤ) → from ≤ℤ p → p <ℤ next
+      → CostsWith c i p (cost_in segments p)
   cost_in-costs from next [] are p low high = absurd (omega (arith, ints))
   cost_in-costs from next (s ∷ segments) (first, here, rest) p low high =
       by_lt_z s.to p
-      (λ behind. subst (λ b. CostsWith c i p (if b then on_line s p else cost_in segments p)) (sym (int_le-false p s.to behind)) (cost_in-costs (s.to +ℤ pos 1) next segments rest p (omega (arith, ints)) high))
-      (λ inside. subst (λ b. CostsWith c i p (if b then on_line s p else cost_in segments p)) (sym (int_le-from p s.to inside)) (here.line p (record { from = omega (arith, ints); upto = inside })))
+      (λ behind. subst (λ b. CostsWith c i p (if b then on_line s p else cost_in segments p)) (sym (int_le-false p s.to behind))
+      (cost_in-costs (s.to +ℤ pos 1) next segments rest p (omega (arith, ints)) high))
+      (λ inside. subst (λ b. CostsWith c i p (if b then on_line s p else cost_in segments p)) (sym (int_le-from p s.to inside))
+      (here.line p (record { from = omega (arith, ints); upto = inside })))
 
   -- a function that gives the least costs has these segments
   module _ (start : ℤ) (f : ℤ → ℤ) (costs : IsCostFunction c i start to f) where
     on_segment : (s : Segment) → start ≤ℤ s.from → IsCostSegment c i to s → (p : ℤ) → IsBetween s.from s.to p → f p ≡ on_line s p
     on_segment s begun here p within =
-        let low = within.from in let high = within.upto in let end = here.end.upto in
         one_cost_at c (prices_with c i p) (f p) (on_line s p) (costs p (record { from = omega (arith, ints); upto = omega (arith, ints) })) (here.line p within)
 
     segment_of : (s : Segment) → start ≤ℤ s.from → IsCostSegment c i to s → IsSegment f to s
@@ -142,17 +142,19 @@ module _ (c : Case) (i : ℕ) (to : ℤ) where
               omega (arith, ints);
           flat = here.flat;
           line = on_segment s begun here;
-          greatest = λ ahead same. here.greatest ahead (subst (CostsWith c i (s.to +ℤ pos 1)) same (costs (s.to +ℤ pos 1) (record { from = omega (arith, ints); upto = omega (arith, ints) })));
+          greatest =
+              λ ahead same. here.greatest ahead
+              (subst (CostsWith c i (s.to +ℤ pos 1)) same (costs (s.to +ℤ pos 1) (record { from = omega (arith, ints); upto = omega (arith, ints) })));
         }
 
     segments_of : (from : ℤ) (segments : List Segment) → start ≤ℤ from → AreCostSegments c i to from (to +ℤ pos 1) segments → AreSegments f from to segments
     segments_of from [] begun are = omega (arith, ints)
     segments_of from (s ∷ segments) begun (first, here, rest) =
-        let end = here.end.from in
         (first, segment_of s (omega (arith, ints)) here, segments_of (s.to +ℤ pos 1) segments (omega (arith, ints)) rest)
 
   pub span-segments : (from : ℤ) (segments : List Segment) → AreCostSegments c i to from (to +ℤ pos 1) segments → AreSpanSegments c i from to segments
   span-segments from segments are =
       let f = cost_in segments in
-      let costs : IsCostFunction c i from to f = λ p within. let high = within.upto in cost_in-costs from (to +ℤ pos 1) segments are p within.from (omega (arith, ints)) in
+      let costs : IsCostFunction c i from to f = λ p within.
+      cost_in-costs from (to +ℤ pos 1) segments are p within.from (omega (arith, ints)) in
       inl (f, costs, segments_of from f costs from segments (omega (arith, ints)) are)

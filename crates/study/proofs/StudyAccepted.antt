@@ -1,42 +1,17 @@
 -- The study of a file that is accepted may be asked of the case.
-use Rattle.std.proofs.Common.{◌≡◌, ◌∙◌, ◌<◌, ◌≤◌, ◌+◌, ◌∷◌, ◌++◌, ℕ, ℤ, true, cond, List, [], All, Option, Some, None, Result, Ok, Err, IfOk, is_some, unwrap_or, option_to_list, position, length, refl, sym, ap, arith, append-nil}
-use Rattle.std.specs.Prelude.{fold, slice_set}
-use Rattle.std.specs.List.{cons_option}
-use Rattle.std.proofs.Math.Seq.{append_snoc}
-use Rattle.std.specs.Str.{bytes_eq}
-use Rattle.std.proofs.lemmas.Int.{ints}
-use Rattle.std.proofs.lemmas.List.{length-map, length-set}
-use Rattle.std.proofs.lemmas.List.Elements.{All-cons, All-head, All-nil, All-push, All-set, All-tail}
-use Rattle.std.proofs.lemmas.List.Quantifiers.{position-Some}
-use Rattle.std.proofs.lemmas.List.Sums.{sum_by_push}
-use Rattle.first_fault.specs.Outcome.{SoundBefore, given_by}
-use Rattle.first_fault.proofs.CheckLemmas.{Passes}
-use Rattle.first_fault.proofs.Steps.{IsKept, given_has}
+use Rattle.study.proofs.Words.{All-cons, All-head, All-nil, All-push, All-set, All-tail, AreCasePrices, Case, Decides-int_le, Entry, IsComplete, IsItem, IsKept}
+use Rattle.study.proofs.Words.{IsKnown, IsPrice, IsSpan, IsStudy, IsStudyOf, IsStudyOutcome, Kind, MOST_ITEMS, Passes, Row, RowFault, SoundBefore, Study}
+use Rattle.study.proofs.Words.{StudyWhy, Utility, append_snoc, bytes_eq, case_prices, cons_option, count_by-cons, count_items, entries_in, entry_by, entry_in}
+use Rattle.study.proofs.Words.{fold, given_by, given_has, grammar, ints, is_item, items_of, kind_of, length-map, length-set, next, passed-room, passed-within}
+use Rattle.study.proofs.Words.{position-Some, prices_by, slice_set, study_of, sum_by_push, utility_in, utility_named}
 use Rattle.rows.specs.Fields.{field, number}
-use Rattle.rows.specs.Rows.{Row}
-use Rattle.rows.specs.declared.fault.RowFault.{RowFault}
-use Rattle.rows.proofs.Tests.{Decides-int_le, passed-room, passed-within}
-use Rattle.sums.proofs.CountLemmas.{count_by-cons}
-use Rattle.stream_case.specs.Case.{IsComplete}
-use Rattle.stream_case.specs.Limits.{IsPrice}
-use Rattle.stream_case.specs.declared.case.Case.{Case}
-use Rattle.stream_case.specs.declared.utility.Utility.{Utility}
-use Rattle.study.specs.Priced.{case_prices}
-use Rattle.study.specs.Study.{AreCasePrices, IsItem, IsSpan, IsStudy}
-use Rattle.study.specs.StudyAccepted.{IsKnown}
-use Rattle.study.specs.StudyChecks.{checks, kind_checks, price_checks, scenario_checks, span_checks, span_number_checks}
-use Rattle.study.specs.StudyEntries.{count_items, is_item, items_of, prices_by, study_of}
-use Rattle.study.specs.StudyOutcome.{IsStudyOf, IsStudyOutcome, grammar}
-use Rattle.study.specs.StudyRows.{entries_in, entry_by, entry_in, kind_of, next, utility_in, utility_named}
-use Rattle.study.specs.declared.limits.TheConstants.{MOST_ITEMS}
-use Rattle.study.specs.declared.study_entry.Entry.{Entry}
-use Rattle.study.specs.declared.study_entry.Entry.TheVariants as entry
-use Rattle.study.specs.declared.study_fault.StudyWhy.{StudyWhy}
-use Rattle.study.specs.declared.study_item.Study.{Study}
-use Rattle.study.specs.declared.study_item.StudyItem.TheVariants as item
-use Rattle.study.specs.declared.study_kind.Kind.{Kind}
-use Rattle.study.specs.declared.study_kind.Kind.TheVariants as kind
+use Rattle.std.proofs.Common.{All, Err, IfOk, List, None, Ok, Option, Result, Some, [], ap, append-nil, arith, cond, is_some, length, option_to_list, position}
+use Rattle.std.proofs.Common.{refl, sym, true, unwrap_or, ℕ, ℤ, ◌++◌, ◌+◌, ◌<◌, ◌∙◌, ◌∷◌, ◌≡◌, ◌≤◌}
 use Rattle.study.proofs.PartBounds.{case_prices-within}
+use Rattle.study.specs.StudyChecks.{checks, kind_checks, price_checks, scenario_checks, span_checks, span_number_checks}
+use Rattle.study.specs.declared.study_entry.Entry.TheVariants as entry
+use Rattle.study.specs.declared.study_item.StudyItem.TheVariants as item
+use Rattle.study.specs.declared.study_kind.Kind.TheVariants as kind
 
 -- what rows say, as far as it goes, is that of an accepted file
 pub record Fits (c : Case) (entries : List Entry) : Type 0 where
@@ -52,7 +27,8 @@ utility_within : (c : Case) (row : Row) → is_some (utility_named c (field row 
 unfolding utility_in
 utility_within c row named = by c.utilities named
   where
-    by : (utilities : List Utility) → is_some (position (λ u. bytes_eq (field row 1) u.name) utilities) ≡ true → unwrap_or (position (λ u. bytes_eq (field row 1) u.name) utilities) 0 < length utilities
+    by : (utilities : List Utility) → is_some (position (λ u. bytes_eq (field row 1) u.name) utilities) ≡ true
+        → unwrap_or (position (λ u. bytes_eq (field row 1) u.name) utilities) 0 < length utilities
     by [] some = cc some
     by (u ∷ us) some = at (position (λ v. bytes_eq (field row 1) v.name) (u ∷ us)) refl some
       where
@@ -60,14 +36,16 @@ utility_within c row named = by c.utilities named
         at None is some = cc some
         at (Some i) is some = (position-Some (λ (v : Utility). bytes_eq (field row 1) v.name) (u ∷ us) i u is).0
 
-scenario_kept : (c : Case) (given : List Entry) (row : Row) → Fits c given → Passes (scenario_checks given row) → Fits c (given ++ entry.Scenario (field row 1) ∷ [])
+scenario_kept : (c : Case) (given : List Entry) (row : Row) → Fits c given → Passes (scenario_checks given row)
+    → Fits c (given ++ entry.Scenario (field row 1) ∷ [])
 unfolding scenario_checks
 scenario_kept c given row fits (_, (room, _)) = record {
   known = All-push (IsKnown c) given (entry.Scenario (field row 1)) fits.known tt;
   few = omega (arith, passed-room (count_items given) MOST_ITEMS room, one_more_item given (entry.Scenario (field row 1)));
 }
 
-price_kept : (c : Case) (given : List Entry) (row : Row) → Fits c given → Passes (price_checks c given row) → Fits c (given ++ entry.Price (utility_in c row) (number row 2) ∷ [])
+price_kept : (c : Case) (given : List Entry) (row : Row) → Fits c given → Passes (price_checks c given row)
+    → Fits c (given ++ entry.Price (utility_in c row) (number row 2) ∷ [])
 unfolding price_checks
 price_kept c given row fits (_, (_, (named, (_, (_, (price, _)))))) =
     let e = entry.Price (utility_in c row) (number row 2) in
@@ -76,7 +54,8 @@ price_kept c given row fits (_, (_, (named, (_, (_, (price, _)))))) =
       few = omega (arith, fits.few, one_more_item given e);
     }
 
-span_kept : (c : Case) (given : List Entry) (row : Row) → Fits c given → Passes (span_checks c given row) → Fits c (given ++ entry.Span (utility_in c row) (number row 2) (number row 3) ∷ [])
+span_kept : (c : Case) (given : List Entry) (row : Row) → Fits c given → Passes (span_checks c given row)
+    → Fits c (given ++ entry.Span (utility_in c row) (number row 2) (number row 3) ∷ [])
 unfolding span_checks span_number_checks
 span_kept c given row fits (room, (named, (_, (_, (first, (last, (order, (few, _)))))))) =
     let e = entry.Span (utility_in c row) (number row 2) (number row 3) in
@@ -92,7 +71,8 @@ span_kept c given row fits (room, (named, (_, (_, (first, (last, (order, (few, _
       few = omega (arith, passed-room (count_items given) MOST_ITEMS room, one_more_item given e);
     }
 
-row_kept : (c : Case) (given : List Entry) (row : Row) (k : Option Kind) → Fits c given → Passes (kind_checks c k given row) → Fits c (given ++ option_to_list (entry_by c k row))
+row_kept : (c : Case) (given : List Entry) (row : Row) (k : Option Kind) → Fits c given → Passes (kind_checks c k given row)
+    → Fits c (given ++ option_to_list (entry_by c k row))
 unfolding kind_checks
 row_kept c given row None fits passes = rw (append-nil given) fits
 row_kept c given row (Some kind.PassedOver) fits passes = rw (append-nil given) fits
@@ -109,7 +89,8 @@ accepted-fits c rows sound = given_has (grammar c) (Fits c) (record { known = Al
 
 -- ---- the study
 
-prices_kept : (c : Case) (prices : List ℤ) (entries : List Entry) → AreCasePrices c prices → All (IsKnown c) entries → AreCasePrices c (prices_by prices entries)
+prices_kept : (c : Case) (prices : List ℤ) (entries : List Entry) → AreCasePrices c prices → All (IsKnown c) entries
+    → AreCasePrices c (prices_by prices entries)
 prices_kept c prices [] are known = are
 prices_kept c prices (entry.Scenario name ∷ entries) are known = are
 prices_kept c prices (entry.Price i price ∷ entries) are known =
@@ -125,11 +106,13 @@ items_are : (c : Case) (entries : List Entry) → AreCasePrices c (case_prices c
 items_are c [] own known = All-nil (IsItem c)
 items_are c (entry.Scenario name ∷ entries) own known =
     let rest = All-tail (IsKnown c) (entry.Scenario name) entries known in
-    All-cons (IsItem c) (item.Scenario name (prices_by (case_prices c) entries)) (items_of c entries) (prices_kept c (case_prices c) entries own rest) (items_are c entries own rest)
+    All-cons (IsItem c) (item.Scenario name (prices_by (case_prices c) entries)) (items_of c entries) (prices_kept c (case_prices c) entries own rest)
+    (items_are c entries own rest)
 items_are c (entry.Price i price ∷ entries) own known = items_are c entries own (All-tail (IsKnown c) (entry.Price i price) entries known)
 items_are c (entry.Span i from to ∷ entries) own known =
     let e = entry.Span i from to in
-    All-cons (IsItem c) (item.Span i from to) (items_of c entries) (All-head (IsKnown c) e entries known) (items_are c entries own (All-tail (IsKnown c) e entries known))
+    All-cons (IsItem c) (item.Span i from to) (items_of c entries) (All-head (IsKnown c) e entries known)
+    (items_are c entries own (All-tail (IsKnown c) e entries known))
 
 -- as many items as scenarios and spans
 items_count : (c : Case) (entries : List Entry) → length (items_of c entries) ≡ count_items entries
@@ -140,12 +123,13 @@ items_count c (entry.Span i from to ∷ entries) = omega (arith, items_count c e
 
 pub study-is_asked : (c : Case) (rows : List Row) (study : Study) → IsComplete c → IsStudyOf c rows study → IsStudy c study
 study-is_asked c rows study complete is =
-    let entries = given_by (grammar c) rows in
-    let fits = accepted-fits c rows is.sound in
-    let own : AreCasePrices c (case_prices c) = record { one_each = length-map c.utilities (λ (u : Utility). u.price); within = case_prices-within c complete } in
+    let entries = given_by (grammar c) rows in let fits = accepted-fits c rows is.sound in
+    let own : AreCasePrices c (case_prices c) =
+    record { one_each = length-map c.utilities (λ (u : Utility). u.price); within = case_prices-within c complete } in
     rw is.value_is (record { items = items_are c entries own fits.known; few = rw (items_count c entries) fits.few })
 
-pub outcome_is_study : (c : Case) (rows : List Row) (result : Result Study (RowFault StudyWhy)) → IsComplete c → IsStudyOutcome c rows result → IfOk result (IsStudy c)
+pub outcome_is_study : (c : Case) (rows : List Row) (result : Result Study (RowFault StudyWhy)) → IsComplete c → IsStudyOutcome c rows result
+    → IfOk result (IsStudy c)
 outcome_is_study c rows (Ok study) complete is = study-is_asked c rows study complete is
 outcome_is_study c rows (Err fault) complete is = tt
 
@@ -154,10 +138,12 @@ said : (c : Case) (rows : List Row) (earlier : List Entry) → fold (next c) ear
 said c [] earlier = sym (append-nil earlier)
 said c (row ∷ rows) earlier = by (entry_in c row) (said c rows)
   where
-    by : (o : Option Entry) → ((more : List Entry) → fold (next c) more rows ≡ more ++ entries_in c rows) → fold (next c) (earlier ++ option_to_list o) rows ≡ earlier ++ cons_option o (entries_in c rows)
+    by : (o : Option Entry) → ((more : List Entry) → fold (next c) more rows ≡ more ++ entries_in c rows)
+        → fold (next c) (earlier ++ option_to_list o) rows ≡ earlier ++ cons_option o (entries_in c rows)
     by None rest = rw (append-nil earlier) (rest earlier)
     by (Some e) rest = rest (earlier ++ e ∷ []) ∙ append_snoc earlier e (entries_in c rows)
 
-pub outcome_is_said : (c : Case) (rows : List Row) (result : Result Study (RowFault StudyWhy)) → IsStudyOutcome c rows result → IfOk result (λ study. study ≡ study_of c (entries_in c rows))
+pub outcome_is_said : (c : Case) (rows : List Row) (result : Result Study (RowFault StudyWhy)) → IsStudyOutcome c rows result
+    → IfOk result (λ study. study ≡ study_of c (entries_in c rows))
 outcome_is_said c rows (Ok study) is = is.value_is ∙ ap (study_of c) (said c rows [])
 outcome_is_said c rows (Err fault) is = tt

@@ -1,11 +1,7 @@
 -- What the rows of a study file say with one more.
-use Rattle.std.proofs.Common.{◌≡◌, ◌∙◌, ◌∷◌, ◌++◌, ◌&&◌, ◌||◌, ℕ, Bool, true, false, not, List, [], drop, length, refl, sym, ap, arith, length-append}
-use Rattle.std.specs.List.{list_any}
-use Rattle.std.proofs.Math.Seq.{append_snoc, drop-append-le, drop-length}
-use Rattle.std.proofs.lemmas.List.Folds.{list_any-append}
-use Rattle.study.specs.StudyAccepted.{IsOwn}
-use Rattle.study.specs.StudyEntries.{has_scenario, is_price_of, is_priced, is_scenario}
-use Rattle.study.specs.declared.study_entry.Entry.{Entry}
+use Rattle.std.proofs.Common.{Bool, List, [], ap, arith, drop, false, length, length-append, not, refl, sym, true, ℕ, ◌&&◌, ◌++◌, ◌||◌, ◌∙◌, ◌∷◌, ◌≡◌}
+use Rattle.study.proofs.Words.{Entry, IsOwn, append_snoc, drop-append-le, drop-length, has_scenario, is_price_of, is_priced, is_scenario, list_any}
+use Rattle.study.proofs.Words.{list_any-append}
 use Rattle.study.specs.declared.study_entry.Entry.TheVariants as entry
 
 or-false : (b : Bool) → (b || false) ≡ b
@@ -41,14 +37,16 @@ has_scenario-more entries e = list_any-append is_scenario entries (e ∷ []) ∙
 is_priced-scenario : (i : ℕ) (entries : List Entry) (e : Entry) → is_scenario e ≡ true → is_priced i (entries ++ e ∷ []) ≡ false
 is_priced-scenario i [] e is = rw (no_price i e is) refl
 is_priced-scenario i (x ∷ entries) e is =
-    let behind : has_scenario (entries ++ e ∷ []) ≡ true = has_scenario-more entries e ∙ ap (λ b. has_scenario entries || b) is ∙ or-true (has_scenario entries) in
+    let behind : has_scenario (entries ++ e ∷ []) ≡ true = has_scenario-more entries e ∙ ap (λ b. has_scenario entries || b) is
+    ∙ or-true (has_scenario entries) in
     rw (behind, none_behind (is_price_of i x)) (is_priced-scenario i entries e is)
 
 -- what is no scenario belongs to the last one
 is_priced-more : (i : ℕ) (entries : List Entry) (e : Entry) → is_scenario e ≡ false → is_priced i (entries ++ e ∷ []) ≡ (is_priced i entries || is_price_of i e)
 is_priced-more i [] e not_one = or-false (is_price_of i e && true) ∙ and-true (is_price_of i e)
 is_priced-more i (x ∷ entries) e not_one =
-    let behind : has_scenario (entries ++ e ∷ []) ≡ has_scenario entries = has_scenario-more entries e ∙ ap (λ b. has_scenario entries || b) not_one ∙ or-false (has_scenario entries) in
+    let behind : has_scenario (entries ++ e ∷ []) ≡ has_scenario entries = has_scenario-more entries e ∙ ap (λ b. has_scenario entries || b) not_one
+    ∙ or-false (has_scenario entries) in
     rw (behind, is_priced-more i entries e not_one) (or_of_three (is_price_of i x && not (has_scenario entries)) (is_priced i entries) (is_price_of i e))
 
 -- ---- where the entries of the last scenario begin
@@ -56,7 +54,8 @@ is_priced-more i (x ∷ entries) e not_one =
 pub own-scenario : (own : ℕ) (entries : List Entry) (e : Entry) → own ≡ length (entries ++ e ∷ []) → is_scenario e ≡ true → IsOwn own (entries ++ e ∷ [])
 own-scenario own entries e at is = record {
   within = omega (arith, at);
-  priced = λ i. is_priced-scenario i entries e is ∙ sym (ap (list_any (is_price_of i)) (ap (λ n. drop n (entries ++ e ∷ [])) at ∙ drop-length (entries ++ e ∷ [])));
+  priced = λ i. is_priced-scenario i entries e is
+      ∙ sym (ap (list_any (is_price_of i)) (ap (λ n. drop n (entries ++ e ∷ [])) at ∙ drop-length (entries ++ e ∷ [])));
 }
 
 pub own-more : (own : ℕ) (entries : List Entry) (e : Entry) → IsOwn own entries → is_scenario e ≡ false → IsOwn own (entries ++ e ∷ [])

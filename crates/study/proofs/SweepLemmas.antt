@@ -1,22 +1,17 @@
 -- A sweep has one list of rows.
-use Rattle.std.proofs.Common.{⊎_elim, ◌≤◌, List, length, get_or, arith}
-use Rattle.std.proofs.lemmas.Bool.{cases_lt}
-use Rattle.std.proofs.lemmas.List.{same_lists}
-use Rattle.std.proofs.lemmas.Option.{slice_get-get_or}
-use Rattle.stream_case.specs.declared.case.Case.{Case}
-use Rattle.study.specs.declared.plan.SweepPlan.{SweepPlan}
-use Rattle.study.specs.declared.row.SweepRow.{SweepRow}
-use Rattle.study.specs.Sweep.{AreRows, OneSweep}
+use Rattle.std.proofs.Common.{List, arith, get_or, length, ⊎_elim, ◌≤◌}
+use Rattle.study.proofs.Words.{AreRows, Case, OneSweep, SweepPlan, SweepRow, cases_lt, same_lists, slice_get-get_or}
 use Rattle.study.proofs.RowLemmas.{one_row}
 
 -- two lists of the same rows
 same_length : (c : Case) (p : SweepPlan) (rows others : List SweepRow) → AreRows c p rows → AreRows c p others → length others ≤ length rows
 same_length c p rows others one two =
-    ⊎_elim (λ more. let inside = (one.as_many (length rows)).1 ((two.as_many (length rows)).0 more) in absurd (omega (arith, inside))) (λ less. less) (cases_lt (length rows) (length others))
+    ⊎_elim (λ more. let inside = (one.as_many (length rows)).1 ((two.as_many (length rows)).0 more) in absurd (omega (arith, inside))) (λ less. less)
+    (cases_lt (length rows) (length others))
 
 pub one_sweep : (c : Case) → OneSweep c
 one_sweep c p rows others one two =
-    let up = same_length c p rows others one two in
-    let down = same_length c p others rows two one in
+    let up = same_length c p rows others one two in let down = same_length c p others rows two one in
     same_lists rows others (omega (arith, up, down)) (λ k d within.
-    one_row c _ (get_or rows k d) (get_or others k d) (one.each k (get_or rows k d) (slice_get-get_or rows k d within)) (two.each k (get_or others k d) (slice_get-get_or others k d (omega (arith, within, up, down)))))
+    one_row c _ (get_or rows k d) (get_or others k d) (one.each k (get_or rows k d) (slice_get-get_or rows k d within))
+    (two.each k (get_or others k d) (slice_get-get_or others k d (omega (arith, within, up, down)))))

@@ -19,8 +19,10 @@ use transport::{Answer, least_case};
 pub fn case_answer(alloc: Global, case: &Case, parts: &Parts) -> Result<Answer, AllocError>
     requires complete { IsComplete case.now }
     requires parts { AreCaseParts case.now parts.now.hot parts.now.cold }
-    ensures answer { IfOk result (IsAnswer (reach_between case.now parts.now.hot parts.now.cold) parts.now.hot parts.now.cold) }
-    ensures standard { IsStandard case.now → IfOk result (IsCornerAnswer case.now parts.now.hot parts.now.cold) }
+    ensures answer { IfOk result (IsAnswer
+        (reach_between case.now parts.now.hot parts.now.cold) parts.now.hot parts.now.cold) }
+    ensures standard { IsStandard case.now
+        → IfOk result (IsCornerAnswer case.now parts.now.hot parts.now.cold) }
 {
     if is_standard(case) {
         corner_answer(alloc, case, parts)
@@ -34,7 +36,8 @@ fn corner_answer(alloc: Global, case: &Case, parts: &Parts) -> Result<Answer, Al
     requires complete { IsComplete case.now }
     requires standard { IsStandard case.now }
     requires parts { AreCaseParts case.now parts.now.hot parts.now.cold }
-    ensures answer { IfOk result (IsAnswer (reach_between case.now parts.now.hot parts.now.cold) parts.now.hot parts.now.cold) }
+    ensures answer { IfOk result (IsAnswer
+        (reach_between case.now parts.now.hot parts.now.cold) parts.now.hot parts.now.cold) }
     ensures corner { IfOk result (IsCornerAnswer case.now parts.now.hot parts.now.cold) }
 {
     let targets = targets(case);

@@ -26,7 +26,8 @@ fn utilities_with(
     utilities: &[Utility],
     contribution: i32,
 ) -> Result<Vec<Utility>, AllocError>
-    ensures { IfOk result (λ changed. changed.items ≡ map (utility_with contribution) utilities.now) }
+    ensures { IfOk result
+        (λ changed. changed.items ≡ map (utility_with contribution) utilities.now) }
 {
     utilities
         .iter()

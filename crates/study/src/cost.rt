@@ -22,7 +22,8 @@ pub(crate) fn cost_or_cut(
 ) -> Result<Result<i128, Cut>, AllocError>
     requires complete { IsComplete case.now }
     requires hot_target { targets.hot ≡ hot_target case.now.streams }
-    ensures { IfOk result (λ found. MatchResult found (IsLeastCostOf case.now) (IsCaseCut case.now)) }
+    ensures { IfOk result
+        (λ found. MatchResult found (IsLeastCostOf case.now) (IsCaseCut case.now)) }
 {
     if is_standard(case) {
         return Ok(Ok(standard_cost(case, targets)));

@@ -79,8 +79,10 @@ fn push_streams(
     count: u32,
 ) -> Result<(), AllocError>
     requires { count ≤ MOST_SAMPLE_STREAMS }
-    ensures streams { OnOk result (streams.new.items ≡ streams.old.items ++ drawn_streams side generator.old.state count) }
-    ensures state { OnOk result (generator.new.state ≡ state_after generator.old.state (3 * count)) }
+    ensures streams { OnOk result
+        (streams.new.items ≡ streams.old.items ++ drawn_streams side generator.old.state count) }
+    ensures state { OnOk result
+        (generator.new.state ≡ state_after generator.old.state (3 * count)) }
 {
     for index in 0..count {
         streams.push(draw_stream(alloc, generator, side, index + 1)?)?;

@@ -1,8 +1,6 @@
 -- Lists with one more element in front, if a test holds.
-use Rattle.std.proofs.Common.{◌≡◌, refl, Bool, true, false, List, [], ◌∷◌, ◌++◌, arith, All, AllPairs, Contains}
-use Rattle.std.proofs.lemmas.List.Elements.{All-cons, Contains-append_right}
-use Rattle.std.proofs.lemmas.List.Kept.{AllPairs-cons}
-use Rattle.sums.specs.Pairing.{cons_if}
+use Rattle.std.proofs.Common.{All, AllPairs, Bool, Contains, List, [], arith, false, refl, true, ◌++◌, ◌∷◌, ◌≡◌}
+use Rattle.sums.proofs.Words.{All-cons, AllPairs-cons, Contains-append_right, cons_if}
 
 module _ {X : Type 0} where
   pub All-cons_if : (P : X → Type 0) (b : Bool) (x : X) (xs : List X) → (b ≡ true → P x) → All P xs → All P (cons_if b x xs)

@@ -1,13 +1,7 @@
 -- How many elements a list has.
-use Rattle.std.proofs.Common.{◌≡◌, ◌∙◌, ℕ, suc, ◌+◌, ◌<◌, ◌≤◌, ◌||◌, Bool, true, false, cond, nat_lt, List, [], ◌∷◌, length, map, Some, None, refl, sym, ap, zero-add, arith, ℤ, ◌<ℤ◌, All, AllPairs, Contains, count_by, slice_get, find, le-ltb, lt-ltb, ltb-false, ltb-true}
-use Rattle.std.specs.List.{list_any}
-use Rattle.std.proofs.lemmas.Bool.{false_from_ne_true, false≢true}
-use Rattle.std.proofs.lemmas.Int.{ints}
-use Rattle.std.proofs.lemmas.Bool.Decides.{Decides-int_eq}
-use Rattle.std.proofs.lemmas.Cmp.{int_eq_equiv}
-use Rattle.std.proofs.lemmas.List.Elements.{All-contains}
-use Rattle.std.proofs.lemmas.List.Folds.{fold-map, list_any_at}
-use Rattle.std.proofs.lemmas.List.Sums.{sum_by-cons}
+use Rattle.std.proofs.Common.{All, AllPairs, Bool, Contains, List, None, Some, [], ap, arith, cond, count_by, false, find, le-ltb, length, lt-ltb, ltb-false}
+use Rattle.std.proofs.Common.{ltb-true, map, nat_lt, refl, slice_get, suc, sym, true, zero-add, ℕ, ℤ, ◌+◌, ◌<ℤ◌, ◌<◌, ◌||◌, ◌∙◌, ◌∷◌, ◌≡◌, ◌≤◌}
+use Rattle.sums.proofs.Words.{All-contains, Decides-int_eq, false_from_ne_true, false≢true, fold-map, int_eq_equiv, ints, list_any, list_any_at, sum_by-cons}
 use Rattle.std.proofs.lemmas.Map.Made.{IsDistinct-from_AllPairs, is_member-Decides, length-le_from_is_member}
 
 -- few members: a falling list whose members all stand in another list is no longer than that one
@@ -31,7 +25,8 @@ module _ {X : Type 0} where
   count_by-cons p x xs = sum_by-cons (λ y. cond (p y) 1 0) x xs
 
   -- two tests that never hold together, and a third that holds where one of them does
-  pub count_by-add-le : (p q r : X → Bool) (xs : List X) → ((x : X) → p x ≡ true → q x ≡ false) → ((x : X) → p x ≡ true → r x ≡ true) → ((x : X) → q x ≡ true → r x ≡ true) → count_by p xs + count_by q xs ≤ count_by r xs
+  pub count_by-add-le : (p q r : X → Bool) (xs : List X) → ((x : X) → p x ≡ true → q x ≡ false) → ((x : X) → p x ≡ true → r x ≡ true)
+      → ((x : X) → q x ≡ true → r x ≡ true) → count_by p xs + count_by q xs ≤ count_by r xs
   count_by-add-le p q r [] h k l = omega arith
   count_by-add-le p q r (x ∷ xs) h k l =
       let first = both_le (p x) (q x) (r x) (h x) (k x) (l x) in
@@ -44,7 +39,8 @@ module _ {X : Type 0} where
   list_any-counted p [] = refl
   list_any-counted p (x ∷ xs) = by (p x) (count_by-cons p x xs) (list_any-counted p xs)
     where
-      by : (b : Bool) → count_by p (x ∷ xs) ≡ cond b 1 0 + count_by p xs → list_any p xs ≡ nat_lt 0 (count_by p xs) → (b || list_any p xs) ≡ nat_lt 0 (count_by p (x ∷ xs))
+      by : (b : Bool) → count_by p (x ∷ xs) ≡ cond b 1 0 + count_by p xs → list_any p xs ≡ nat_lt 0 (count_by p xs)
+          → (b || list_any p xs) ≡ nat_lt 0 (count_by p (x ∷ xs))
       by true count rest = sym (lt-ltb 0 (count_by p (x ∷ xs)) (omega (arith, count)))
       by false count rest = rest ∙ ap (nat_lt 0) (omega (arith, count))
 
@@ -73,7 +69,8 @@ module _ {X : Type 0} where
   found p [] some = cc some
   found p (x ∷ xs) some = by (p x) refl some (found p xs)
     where
-      by : (b : Bool) → p x ≡ b → (b || list_any p xs) ≡ true → (list_any p xs ≡ true → (i : ℕ) × (y : X) × IsFound p xs i y) → (i : ℕ) × (y : X) × IsFound p (x ∷ xs) i y
+      by : (b : Bool) → p x ≡ b → (b || list_any p xs) ≡ true → (list_any p xs ≡ true → (i : ℕ) × (y : X) × IsFound p xs i y)
+          → (i : ℕ) × (y : X) × IsFound p (x ∷ xs) i y
       by true is some rest = (0, x, record { at = refl; passes = is; first = rw is refl })
       by false is some rest = let (i, y, h) = rest some in (suc i, y, record { at = h.at; passes = h.passes; first = rw is h.first })
 

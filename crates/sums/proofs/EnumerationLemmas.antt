@@ -1,7 +1,6 @@
 -- Lists whose elements stand beside their indices.
-use Rattle.std.proofs.Common.{◌≡◌, ◌∙◌, ℕ, zero, suc, ◌+◌, List, [], ◌∷◌, ◌++◌, length, map, Some, refl, ap, arith, zero-add, All, slice_get}
-use Rattle.std.specs.List.{enumerate_from, range_with_len}
-use Rattle.std.proofs.lemmas.List.Elements.{All-nil, All-cons}
+use Rattle.std.proofs.Common.{All, List, Some, [], ap, arith, length, map, refl, slice_get, suc, zero, zero-add, ℕ, ◌++◌, ◌+◌, ◌∙◌, ◌∷◌, ◌≡◌}
+use Rattle.sums.proofs.Words.{All-cons, All-nil, enumerate_from, range_with_len}
 
 module _ {X : Type 0} where
   -- what holds of each element with its index

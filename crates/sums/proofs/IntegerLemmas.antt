@@ -1,8 +1,6 @@
 -- Tests and cases of integers.
-use Rattle.std.proofs.Common.{◌≡◌, ◌≢◌, ◌⊎◌, inl, inr, Bool, true, false, if◌then◌else◌, refl, arith, ℤ, pos, ◌≤ℤ◌, ◌<ℤ◌, int_le, int_lt, int_eq}
-use Rattle.std.proofs.lemmas.Bool.{false_from_ne_true}
-use Rattle.std.proofs.lemmas.Bool.Decides.{Decides-int_eq}
-use Rattle.std.proofs.lemmas.Int.{by_lt_z, ints}
+use Rattle.std.proofs.Common.{Bool, arith, false, if◌then◌else◌, inl, inr, int_eq, int_le, int_lt, pos, refl, true, ℤ, ◌*ℤ◌, ◌<ℤ◌, ◌≡◌, ◌≢◌, ◌≤ℤ◌, ◌⊎◌}
+use Rattle.sums.proofs.Words.{Decides-int_eq, by_lt_z, false_from_ne_true, ints}
 
 -- ---- tests
 
@@ -20,6 +18,9 @@ int_lt-true a b h = omega (arith, ints)
 
 pub int_lt-from : (a b : ℤ) → a <ℤ b → int_lt a b ≡ true
 int_lt-from a b h = grind (arith, ints)
+
+pub int_lt-false : (a b : ℤ) → b ≤ℤ a → int_lt a b ≡ false
+int_lt-false a b h = grind (arith, ints)
 
 pub int_eq-false : (a b : ℤ) → a ≢ b → int_eq a b ≡ false
 int_eq-false a b differ = false_from_ne_true (int_eq a b) (λ e. differ ((Decides-int_eq a b).0 e))
@@ -44,3 +45,7 @@ if_zero false x none = refl
 pub if_between : (b : Bool) (x : ℤ) → pos 0 ≤ℤ x → (pos 0 ≤ℤ (if b then x else pos 0)) × ((if b then x else pos 0) ≤ℤ x)
 if_between true x some = (some, omega (arith, ints))
 if_between false x some = (omega (arith, ints), some)
+
+pub if_one-times : (b : Bool) (x : ℤ) → (if b then pos 1 else pos 0) *ℤ x ≡ (if b then x else pos 0)
+if_one-times true x = omega (arith, ints)
+if_one-times false x = omega (arith, ints)

@@ -8,3 +8,4 @@ pub mod ProductLemmas
 pub mod SumLemmas
 pub mod WalkLemmas
 pub mod FirstLemmas
+pub mod Words

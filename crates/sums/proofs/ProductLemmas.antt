@@ -1,10 +1,6 @@
 -- Products of integers: the laws of `*ℤ` with `+ℤ`, `-ℤ`, `≤ℤ` and `<ℤ`, and bounds.
-use Rattle.std.proofs.Common.{◌≡◌, ◌∙◌, ℕ, ◌+◌, ◌*◌, sym, ap, ap₂, arith, ℤ, pos, negsuc, neg_ℤ, ◌+ℤ◌, ◌-ℤ◌, ◌*ℤ◌, ◌≤ℤ◌, ◌<ℤ◌}
-use Rattle.std.specs.Int.Signed.{clash_ℤ}
-use Rattle.std.proofs.Math.IntN.{*ℤ_comm}
-use Rattle.std.proofs.Math.Nat.{mul-pos}
-use Rattle.std.proofs.lemmas.Int.{by_lt_z, ints}
-use borrow.Author.Differences.{up, down}
+use Rattle.std.proofs.Common.{ap, ap₂, arith, neg_ℤ, negsuc, pos, sym, ℕ, ℤ, ◌*ℤ◌, ◌*◌, ◌+ℤ◌, ◌+◌, ◌-ℤ◌, ◌<ℤ◌, ◌∙◌, ◌≡◌, ◌≤ℤ◌}
+use Rattle.sums.proofs.Words.{*ℤ_comm, by_lt_z, clash_ℤ, down, ints, mul-pos, up}
 
 -- a factor that is a sum: an integer z is read as `up z - down z`
 pub *ℤ-+ℤ : (a b c : ℤ) → a *ℤ (b +ℤ c) ≡ a *ℤ b +ℤ a *ℤ c
@@ -105,7 +101,8 @@ pub *ℤ_cancel_right : (c a b : ℤ) → pos 0 <ℤ c → a *ℤ c ≡ b *ℤ c
 -- ---- bounds
 
 -- a product with a number that is not negative is within the product of the bounds
-pub product_within : (a b : ℤ) (m n : ℕ) → neg_ℤ (pos m) ≤ℤ a → a ≤ℤ pos m → pos 0 ≤ℤ b → b ≤ℤ pos n → (neg_ℤ (pos (m * n)) ≤ℤ (a *ℤ b)) × ((a *ℤ b) ≤ℤ pos (m * n))
+pub product_within : (a b : ℤ) (m n : ℕ) → neg_ℤ (pos m) ≤ℤ a → a ≤ℤ pos m → pos 0 ≤ℤ b → b ≤ℤ pos n
+    → (neg_ℤ (pos (m * n)) ≤ℤ (a *ℤ b)) × ((a *ℤ b) ≤ℤ pos (m * n))
 product_within a b m n a0 am b0 bn =
     let low = *ℤ-≤ℤ_right b (neg_ℤ (pos m)) a b0 a0 in let high = *ℤ-≤ℤ_right b a (pos m) b0 am in
     let both = *ℤ-≤ℤ_left (pos m) b (pos n) (omega (arith, ints)) bn in

@@ -1,12 +1,8 @@
 -- Sums of integers over lists.
-use Rattle.std.proofs.Common.{◌≡◌, ℕ, add-zero, length-take, suc, ◌≢◌, ◌+◌, ◌-◌, ◌*◌, ◌<◌, ◌≤◌, ⊎_elim, List, [], ◌∷◌, ◌++◌, length, get_or, take, drop, Bool, true, false, map, Some, refl, ap, ap₂, sym, ◌∙◌, arith, zero-add, ℤ, pos, ◌+ℤ◌, ◌-ℤ◌, ◌*ℤ◌, ◌≤ℤ◌, All, slice_get, if◌then◌else◌, ◌==◌, eq-eqb, ne_eqb, take-append-drop}
-use Rattle.std.proofs.lemmas.Bool.{cases_eq}
-use Rattle.std.proofs.lemmas.Int.{ints}
-use Rattle.std.proofs.lemmas.List.{take_more}
-use Rattle.std.proofs.lemmas.List.Elements.{All-cons, All-head, All-nil, All-tail}
-use Rattle.sums.specs.Pairing.{cons_if}
-use Rattle.sums.specs.Sum.{int_sum_by, int_sum_from}
-use Rattle.std.proofs.Math.IntN.{*ℤ-zero}
+use Rattle.std.proofs.Common.{All, Bool, List, Some, [], add-zero, ap, ap₂, arith, drop, eq-eqb, false, get_or, if◌then◌else◌, length, length-take, map, ne_eqb}
+use Rattle.std.proofs.Common.{pos, refl, slice_get, suc, sym, take, take-append-drop, true, zero-add, ℕ, ℤ, ⊎_elim, ◌*ℤ◌, ◌*◌, ◌++◌, ◌+ℤ◌, ◌+◌, ◌-ℤ◌, ◌-◌, ◌<◌}
+use Rattle.std.proofs.Common.{◌==◌, ◌∙◌, ◌∷◌, ◌≡◌, ◌≢◌, ◌≤ℤ◌, ◌≤◌}
+use Rattle.sums.proofs.Words.{*ℤ-zero, All-cons, All-head, All-nil, All-tail, cases_eq, cons_if, int_sum_by, int_sum_from, ints, take_more}
 use Rattle.sums.proofs.ProductLemmas.{*ℤ-+ℤ}
 
 -- ---- `int_sum_by`
@@ -17,7 +13,8 @@ module _ {X : Type 0} where
   int_sum_by-append f (x ∷ xs) ys = let rest = int_sum_by-append f xs ys in omega (arith, ints)
 
   -- a loop's step
-  pub int_sum_by-more : (f : X → ℤ) (xs : List X) (i : ℕ) (d : X) → i < length xs → int_sum_by f (take (i + 1) xs) ≡ int_sum_by f (take i xs) +ℤ f (get_or xs i d)
+  pub int_sum_by-more : (f : X → ℤ) (xs : List X) (i : ℕ) (d : X) → i < length xs
+      → int_sum_by f (take (i + 1) xs) ≡ int_sum_by f (take i xs) +ℤ f (get_or xs i d)
   int_sum_by-more f xs i d within =
       let last = int_sum_by-append f (take i xs) (get_or xs i d ∷ []) in
       ap (int_sum_by f) (take_more xs i d within) ∙ omega (arith, ints)
@@ -84,7 +81,8 @@ int_sum_by-map f g [] = refl
 int_sum_by-map f g (x ∷ xs) = ap (λ z. f (g x) +ℤ z) (int_sum_by-map f g xs)
 
 -- two sums exchanged
-pub int_sum_by-swap : {X Y : Type 0} (f : X → Y → ℤ) (xs : List X) (ys : List Y) → int_sum_by (λ x. int_sum_by (f x) ys) xs ≡ int_sum_by (λ y. int_sum_by (λ x. f x y) xs) ys
+pub int_sum_by-swap : {X Y : Type 0} (f : X → Y → ℤ) (xs : List X) (ys : List Y)
+    → int_sum_by (λ x. int_sum_by (f x) ys) xs ≡ int_sum_by (λ y. int_sum_by (λ x. f x y) xs) ys
 int_sum_by-swap f [] ys = sym (int_sum_by-zero (λ y. pos 0) ys (λ k d within. refl))
 int_sum_by-swap f (x ∷ xs) ys = ap (λ z. int_sum_by (f x) ys +ℤ z) (int_sum_by-swap f xs ys) ∙ sym (int_sum_by-add (f x) (λ y. int_sum_by (λ w. f w y) xs) ys)
 
@@ -99,7 +97,8 @@ module _ {X : Type 0} where
       omega (arith, ints)
 
   -- a loop's step
-  pub int_sum_from-more : (f : ℕ → X → ℤ) (xs : List X) (i : ℕ) (d : X) → i < length xs → int_sum_from f 0 (take (i + 1) xs) ≡ int_sum_from f 0 (take i xs) +ℤ f i (get_or xs i d)
+  pub int_sum_from-more : (f : ℕ → X → ℤ) (xs : List X) (i : ℕ) (d : X) → i < length xs
+      → int_sum_from f 0 (take (i + 1) xs) ≡ int_sum_from f 0 (take i xs) +ℤ f i (get_or xs i d)
   int_sum_from-more f xs i d within =
       let last = int_sum_from-append f 0 (take i xs) (get_or xs i d ∷ []) in
       let index = ap (λ k. f k (get_or xs i d)) {x = 0 + length (take i xs)} {y = i} (simp length-take (omega (arith, within))) in
@@ -130,24 +129,28 @@ module _ {X : Type 0} where
   int_sum_from-by f n (x ∷ xs) = ap (λ z. f x +ℤ z) (int_sum_from-by f (suc n) xs)
 
   -- two sums whose terms compare, or agree, at each index
-  int_sum_from-le : (f g : ℕ → X → ℤ) (n : ℕ) (xs : List X) → ((i : ℕ) (x : X) → slice_get xs i ≡ Some x → f (n + i) x ≤ℤ g (n + i) x) → int_sum_from f n xs ≤ℤ int_sum_from g n xs
+  int_sum_from-le : (f g : ℕ → X → ℤ) (n : ℕ) (xs : List X) → ((i : ℕ) (x : X) → slice_get xs i ≡ Some x → f (n + i) x ≤ℤ g (n + i) x)
+      → int_sum_from f n xs ≤ℤ int_sum_from g n xs
   int_sum_from-le f g n [] h = omega (arith, ints)
   int_sum_from-le f g n (x ∷ xs) h =
       let first : f n x ≤ℤ g n x = rw add-zero at (h 0 x refl) in
       let rest = int_sum_from-le f g (suc n) xs (λ i y at. let index : suc n + i ≡ n + suc i = omega arith in rw index (h (suc i) y at)) in
       omega (arith, ints)
 
-  pub int_sum_from-le_each : (f g : ℕ → X → ℤ) (xs : List X) → ((i : ℕ) (x : X) → slice_get xs i ≡ Some x → f i x ≤ℤ g i x) → int_sum_from f 0 xs ≤ℤ int_sum_from g 0 xs
+  pub int_sum_from-le_each : (f g : ℕ → X → ℤ) (xs : List X) → ((i : ℕ) (x : X) → slice_get xs i ≡ Some x → f i x ≤ℤ g i x)
+      → int_sum_from f 0 xs ≤ℤ int_sum_from g 0 xs
   int_sum_from-le_each f g xs h = int_sum_from-le f g 0 xs (λ i x at. rw zero-add (h i x at))
 
-  pub int_sum_from-same_each : (f g : ℕ → X → ℤ) (xs : List X) → ((i : ℕ) (x : X) → slice_get xs i ≡ Some x → f i x ≡ g i x) → int_sum_from f 0 xs ≡ int_sum_from g 0 xs
+  pub int_sum_from-same_each : (f g : ℕ → X → ℤ) (xs : List X) → ((i : ℕ) (x : X) → slice_get xs i ≡ Some x → f i x ≡ g i x)
+      → int_sum_from f 0 xs ≡ int_sum_from g 0 xs
   int_sum_from-same_each f g xs h =
       let up = int_sum_from-le_each f g xs (λ i x at. let e = h i x at in omega (arith, ints)) in
       let down = int_sum_from-le_each g f xs (λ i x at. let e = h i x at in omega (arith, ints)) in
       omega (arith, ints)
 
   -- a sum whose terms are 0 but for the one at index n
-  pub int_sum_from-single : (f : ℕ → X → ℤ) (n k : ℕ) (xs : List X) (d : X) → k ≤ n → n < k + length xs → ((i : ℕ) (x : X) → i ≢ n → f i x ≡ pos 0) → int_sum_from f k xs ≡ f n (get_or xs (n - k) d)
+  pub int_sum_from-single : (f : ℕ → X → ℤ) (n k : ℕ) (xs : List X) (d : X) → k ≤ n → n < k + length xs → ((i : ℕ) (x : X) → i ≢ n → f i x ≡ pos 0)
+      → int_sum_from f k xs ≡ f n (get_or xs (n - k) d)
   int_sum_from-single f n k [] d from within h = absurd (omega arith)
   int_sum_from-single f n k (x ∷ xs) d from within h =
       ⊎_elim
@@ -182,14 +185,16 @@ module _ {T : Type 0} (index : T → ℕ) (amount : T → ℤ) where
   unfolding amount_at
   amount_at-same c t = rw (eq-eqb (index t) (index t) refl)
 
-  pub int_sum_from-grouped : {X : Type 0} (c : ℕ → ℤ) (parts : List X) (ts : List T) → All (λ t. index t < length parts) ts → int_sum_from (λ a x. c a *ℤ int_sum_by (λ t. if index t == a then amount t else pos 0) ts) 0 parts ≡ int_sum_by (λ t. c (index t) *ℤ amount t) ts
+  pub int_sum_from-grouped : {X : Type 0} (c : ℕ → ℤ) (parts : List X) (ts : List T) → All (λ t. index t < length parts) ts
+      → int_sum_from (λ a x. c a *ℤ int_sum_by (λ t. if index t == a then amount t else pos 0) ts) 0 parts ≡ int_sum_by (λ t. c (index t) *ℤ amount t) ts
   unfolding amount_at
   int_sum_from-grouped c parts [] h = int_sum_from-zero (λ a x. c a *ℤ pos 0) 0 parts (λ a x le. *ℤ-zero (c a))
   int_sum_from-grouped c parts (t ∷ ts) h =
       let within = All-head (λ u. index u < length parts) t ts h in
       let rest = int_sum_from-grouped c parts ts (All-tail (λ u. index u < length parts) t ts h) in
       let first = int_sum_from-one_index (λ a. c a *ℤ amount_at t a) (index t) parts within (amount_at-other c t) ∙ amount_at-same c t in
-      int_sum_from-same (λ a x. c a *ℤ int_sum_by (amount_by a) (t ∷ ts)) (λ a x. c a *ℤ amount_at t a +ℤ c a *ℤ int_sum_by (amount_by a) ts) 0 parts (λ a x. *ℤ-+ℤ (c a) (amount_at t a) (int_sum_by (amount_by a) ts))
+      int_sum_from-same (λ a x. c a *ℤ int_sum_by (amount_by a) (t ∷ ts)) (λ a x. c a *ℤ amount_at t a +ℤ c a *ℤ int_sum_by (amount_by a) ts) 0 parts
+      (λ a x. *ℤ-+ℤ (c a) (amount_at t a) (int_sum_by (amount_by a) ts))
       ∙ int_sum_from-add (λ a x. c a *ℤ amount_at t a) (λ a x. c a *ℤ int_sum_by (amount_by a) ts) 0 parts
       ∙ ap₂ ◌+ℤ◌ first rest
     where

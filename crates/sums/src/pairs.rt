@@ -56,7 +56,8 @@ fn push_positive(
     second: u32,
     amount: i64,
 ) -> Result<(), AllocError>
-    ensures { OnOk result (pairs.new.items ≡ pairs.old.items ++ cons_positive first second amount []) }
+    ensures { OnOk result (pairs.new.items
+        ≡ pairs.old.items ++ cons_positive first second amount []) }
 {
     if amount > 0 {
         pairs.push(Pair {

@@ -1,14 +1,14 @@
 -- A flow of a net that was made by hand balances.
-use Rattle.std.proofs.Common.{◌≡◌, refl, ap, subst, ℕ, zero, suc, ◌+◌, ◌<◌, ℤ, pos, ◌≤ℤ◌, List, [], ◌∷◌, length, All, arith}
+use Rattle.chains.specs.ChainNet.{open_link}
+use Rattle.chains.specs.Inner.{IsHeatOf}
+use Rattle.flow_net.specs.Net.{IsWithinRooms, flow_on, inflow, link_at, outflow}
+use Rattle.flow_net.specs.declared.net.Link.{Link}
+use Rattle.flow_net.specs.declared.net.Net.{Net}
+use Rattle.grid.specs.declared.part.Part.{Part}
+use Rattle.std.proofs.Common.{All, List, [], ap, arith, length, pos, refl, subst, suc, zero, ℕ, ℤ, ◌+◌, ◌<◌, ◌∷◌, ◌≡◌, ◌≤ℤ◌}
 use Rattle.std.proofs.lemmas.Int.{ints}
 use Rattle.std.proofs.lemmas.Option.{slice_get_within}
 use Rattle.sums.proofs.ListLemmas.{All-slice_get}
-use Rattle.grid.specs.declared.part.Part.{Part}
-use Rattle.flow_net.specs.declared.net.Link.{Link}
-use Rattle.flow_net.specs.declared.net.Net.{Net}
-use Rattle.flow_net.specs.Net.{flow_on, inflow, link_at, outflow, IsWithinRooms}
-use Rattle.chains.specs.ChainNet.{open_link}
-use Rattle.chains.specs.Inner.{IsHeatOf}
 
 abbrev pub made_links : List Link
 made_links = open_link 4 2 ∷ open_link 0 4 ∷ open_link 4 3 ∷ open_link 0 2 ∷ open_link 1 4 ∷ open_link 1 3 ∷ open_link 0 4 ∷ open_link 4 2 ∷ []

@@ -1,1 +1,2 @@
 pub mod ShareLemmas
+pub mod Words

@@ -1,28 +1,27 @@
 -- The items of workers, and of all of them.
-use Rattle.std.proofs.Common.{◌≡◌, ◌≢◌, ◌∙◌, ap, sym, refl, subst, ⊎_elim, ℕ, suc, ◌+◌, ◌-◌, ◌*◌, ◌/◌, ◌%◌, ◌<◌, ◌≤◌, List, [], ◌∷◌, ◌++◌, length, get_or, Result, Ok, Err, Some, slice_get, arith, length-append, div-add-mod'}
-use Rattle.std.specs.Prelude.{IfOk, reverse, set}
-use Rattle.std.proofs.lemmas.List.{get_or-reverse, get_or-set_other, get_or-set_same, length-reverse}
-use Rattle.std.proofs.Math.ListN.{length-set}
-use Rattle.std.proofs.lemmas.Nat.{mod-mul-add, mod_below}
-use Rattle.std.proofs.lemmas.Option.{get_or_from_slice_get, slice_get-get_or, slice_get_within}
-use Rattle.std.proofs.lemmas.Nat.{mul-le}
-use Rattle.std.proofs.lemmas.Bool.{cases_eq, cases_lt}
-use Rattle.sums.proofs.ListLemmas.{slice_get_push, slice_get-append}
-use Rattle.workers.specs.Shares.{AreItemsOfWorker, AreItemsOfWorkers, EachIsItem, IsLastOf}
+use Rattle.std.proofs.Common.{Err, List, Ok, Result, Some, [], ap, arith, div-add-mod', get_or, length, length-append, refl, slice_get, subst, suc, sym, ℕ}
+use Rattle.std.proofs.Common.{⊎_elim, ◌%◌, ◌*◌, ◌++◌, ◌+◌, ◌-◌, ◌/◌, ◌<◌, ◌∙◌, ◌∷◌, ◌≡◌, ◌≢◌}
+use Rattle.workers.proofs.Words.{AreItemsOfWorker, AreItemsOfWorkers, EachIsItem, IfOk, cases_eq, cases_lt, get_or-reverse, get_or-set_other, get_or-set_same}
+use Rattle.workers.proofs.Words.{get_or_from_slice_get, length-reverse, length-set, mod-mul-add, mod_below, mul-le, reverse, set, slice_get-append}
+use Rattle.workers.proofs.Words.{slice_get-get_or, slice_get_push, slice_get_within}
 
 -- one more of items with these numbers
-pub one_more : {X : Type 0} (IsItem : ℕ → X → Type 0) (number : ℕ → ℕ) (items : List X) (x : X) → EachIsItem (λ k y. IsItem (number k) y) items → IsItem (number (length items)) x → EachIsItem (λ k y. IsItem (number k) y) (items ++ x ∷ [])
+pub one_more : {X : Type 0} (IsItem : ℕ → X → Type 0) (number : ℕ → ℕ) (items : List X) (x : X) → EachIsItem (λ k y. IsItem (number k) y) items
+    → IsItem (number (length items)) x → EachIsItem (λ k y. IsItem (number k) y) (items ++ x ∷ [])
 one_more IsItem number items x each last k y at =
-    ⊎_elim (λ before. each k y before) (λ (here, is). subst (λ n. IsItem (number n) y) (sym here) (subst (IsItem (number (length items))) (sym is) last)) (slice_get_push items x k y at)
+    ⊎_elim (λ before. each k y before) (λ (here, is). subst (λ n. IsItem (number n) y) (sym here) (subst (IsItem (number (length items))) (sym is) last))
+    (slice_get_push items x k y at)
 
 -- what holds at each index holds at one more
-pub one_within : {X : Type 0} (P : ℕ → Type 0) (items : List X) (x : X) → ((j : ℕ) → j < length items → P j) → P (length items) → (j : ℕ) → j < length (items ++ x ∷ []) → P j
+pub one_within : {X : Type 0} (P : ℕ → Type 0) (items : List X) (x : X) → ((j : ℕ) → j < length items → P j) → P (length items) → (j : ℕ)
+    → j < length (items ++ x ∷ []) → P j
 one_within P items x each last j there =
     let long = length-append items (x ∷ []) in
     ⊎_elim (λ less. each j less) (λ not_less. subst P {x = length items} {y = j} (omega (arith, there, not_less, long)) last) (cases_lt j (length items))
 
 -- one more item of a worker
-pub next_number : {X : Type 0} (workers worker number : ℕ) (items : List X) (x : X) → number ≡ worker + length items * workers → number + workers ≡ worker + length (items ++ x ∷ []) * workers
+pub next_number : {X : Type 0} (workers worker number : ℕ) (items : List X) (x : X) → number ≡ worker + length items * workers
+    → number + workers ≡ worker + length (items ++ x ∷ []) * workers
 next_number workers worker number items x at =
     let long = length-append items (x ∷ []) in
     let product : (length items + 1) * workers ≡ length items * workers + workers = omega arith in
@@ -65,20 +64,30 @@ module _ {X : Type 0} (IsItem : ℕ → X → Type 0) (left workers : ℕ) (some
       slice_get_last (z ∷ ys) y = slice_get_last ys y
 
   -- the worker's items without it
-  pub without_last : (items : List X) (x : X) → AreItemsOfWorker IsItem (left + 1) workers (left % workers) (items ++ x ∷ []) → AreItemsOfWorker IsItem left workers (left % workers) items
+  pub without_last : (items : List X) (x : X) → AreItemsOfWorker IsItem (left + 1) workers (left % workers) (items ++ x ∷ [])
+      → AreItemsOfWorker IsItem left workers (left % workers) items
   without_last items x of =
-      let place = last_place items x of in
-      let n = number_is in
+      let place = last_place items x of in let n = number_is in
       record {
         each = λ j y at. of.each j y (slice_get-append items (x ∷ []) j y at);
-        all = λ j. (λ less. let more = times_less workers (left % workers) j (left / workers) some (omega (arith, less, place)) in omega (arith, more, n), λ less. let fewer = less_times workers (left % workers) j (left / workers) some (omega (arith, less, n)) in omega (arith, fewer, place));
+        all =
+            λ j. (
+              λ less. let more = times_less workers (left % workers) j (left / workers) some (omega (arith, less, place)) in omega (arith, more, n),
+              λ less. let fewer = less_times workers (left % workers) j (left / workers) some (omega (arith, less, n)) in omega (arith, fewer, place),
+            );
       }
 
   -- those of another worker stay
-  pub without_other : (worker : ℕ) (items : List X) → worker < workers → worker ≢ left % workers → AreItemsOfWorker IsItem (left + 1) workers worker items → AreItemsOfWorker IsItem left workers worker items
+  pub without_other : (worker : ℕ) (items : List X) → worker < workers → worker ≢ left % workers → AreItemsOfWorker IsItem (left + 1) workers worker items
+      → AreItemsOfWorker IsItem left workers worker items
   without_other worker items within other of = record {
     each = of.each;
-    all = λ j. (λ less. let below = (of.all j).0 less in ⊎_elim (λ same. absurd (other (own j same))) (λ apart. omega (arith, below, apart)) (cases_eq (worker + j * workers) left), λ less. (of.all j).1 (omega (arith, less)));
+    all =
+        λ j. (
+          λ less. let below = (of.all j).0 less in ⊎_elim (λ same. absurd (other (own j same))) (λ apart. omega (arith, below, apart))
+              (cases_eq (worker + j * workers) left),
+          λ less. (of.all j).1 (omega (arith, less)),
+        );
   }
     where
       own : (j : ℕ) → worker + j * workers ≡ left → worker ≡ left % workers
@@ -87,29 +96,36 @@ module _ {X : Type 0} (IsItem : ℕ → X → Type 0) (left workers : ℕ) (some
 -- ---- the shares of all workers
 
 -- without the last item of all
-pub next_shares : {X E : Type 0} (IsItem : ℕ → X → Type 0) (left : ℕ) (lists : List (Result (List X) E)) (items : List X) (x : X) → 0 < length lists → AreItemsOfWorkers IsItem (left + 1) lists → slice_get lists (left % length lists) ≡ Some (Ok (items ++ x ∷ [])) → AreItemsOfWorkers IsItem left (set lists (left % length lists) (Ok items))
+pub next_shares : {X E : Type 0} (IsItem : ℕ → X → Type 0) (left : ℕ) (lists : List (Result (List X) E)) (items : List X) (x : X) → 0 < length lists
+    → AreItemsOfWorkers IsItem (left + 1) lists → slice_get lists (left % length lists) ≡ Some (Ok (items ++ x ∷ []))
+    → AreItemsOfWorkers IsItem left (set lists (left % length lists) (Ok items))
 next_shares {X} {E} IsItem left lists items x some each here worker answer at =
-    let own = left % length lists in
-    let changed = set lists own (Ok items) in
+    let own = left % length lists in let changed = set lists own (Ok items) in
     let long : length changed ≡ length lists = length-set lists own (Ok items) in
     let within : worker < length lists = subst (λ n. worker < n) long (slice_get_within changed worker answer at) in
     let is : answer ≡ get_or changed worker answer = sym (get_or_from_slice_get changed worker answer answer at) in
     subst (λ n. IfOk answer (AreItemsOfWorker IsItem left n worker)) (sym long)
     (⊎_elim
     (λ same.
-    let last : answer ≡ Ok items = is ∙ ap (λ w. get_or changed w answer) same ∙ get_or-set_same lists own (Ok items) answer (mod_below left (length lists) some) in
-    subst (λ a. IfOk a (AreItemsOfWorker IsItem left (length lists) worker)) (sym last) (subst (λ w. AreItemsOfWorker IsItem left (length lists) w items) (sym same) (without_last IsItem left (length lists) some items x (each own (Ok (items ++ x ∷ [])) here))))
+    let last : answer ≡ Ok items = is ∙ ap (λ w. get_or changed w answer) same
+    ∙ get_or-set_same lists own (Ok items) answer (mod_below left (length lists) some) in
+    subst (λ a. IfOk a (AreItemsOfWorker IsItem left (length lists) worker)) (sym last)
+    (subst (λ w. AreItemsOfWorker IsItem left (length lists) w items) (sym same)
+    (without_last IsItem left (length lists) some items x (each own (Ok (items ++ x ∷ [])) here))))
     (λ other.
-    let old : slice_get lists worker ≡ Some answer = slice_get-get_or lists worker answer within ∙ ap Some (sym (get_or-set_other lists own worker (Ok items) answer other) ∙ sym is) in
+    let old : slice_get lists worker ≡ Some answer = slice_get-get_or lists worker answer within
+    ∙ ap Some (sym (get_or-set_other lists own worker (Ok items) answer other) ∙ sym is) in
     other_share answer other within (each worker answer old))
     (cases_eq worker own))
   where
-    other_share : (a : Result (List X) E) → worker ≢ left % length lists → worker < length lists → IfOk a (AreItemsOfWorker IsItem (left + 1) (length lists) worker) → IfOk a (AreItemsOfWorker IsItem left (length lists) worker)
+    other_share : (a : Result (List X) E) → worker ≢ left % length lists → worker < length lists
+        → IfOk a (AreItemsOfWorker IsItem (left + 1) (length lists) worker) → IfOk a (AreItemsOfWorker IsItem left (length lists) worker)
     other_share (Ok ys) other within of = without_other IsItem left (length lists) some worker ys within other of
     other_share (Err e) other within of = of
 
 -- a worker whose share is not want of memory has an item left
-pub has_last : {X E : Type 0} (IsItem : ℕ → X → Type 0) (left : ℕ) (lists : List (Result (List X) E)) (share : Result (List X) E) → 0 < length lists → AreItemsOfWorkers IsItem (left + 1) lists → share ≡ get_or lists (left % length lists) share → IfOk share (λ items. 0 < length items)
+pub has_last : {X E : Type 0} (IsItem : ℕ → X → Type 0) (left : ℕ) (lists : List (Result (List X) E)) (share : Result (List X) E) → 0 < length lists
+    → AreItemsOfWorkers IsItem (left + 1) lists → share ≡ get_or lists (left % length lists) share → IfOk share (λ items. 0 < length items)
 has_last IsItem left lists (Err e) some each is = tt
 has_last IsItem left lists (Ok items) some each is =
     let own = left % length lists in
@@ -120,7 +136,8 @@ has_last IsItem left lists (Ok items) some each is =
 -- ---- the items, the last one first
 
 -- the items turned round
-pub turned : {X : Type 0} (IsItem : ℕ → X → Type 0) (many : ℕ) (items : List X) → length items ≡ many → ((j : ℕ) (x : X) → slice_get items j ≡ Some x → IsItem (many - suc j) x) → EachIsItem IsItem (reverse items)
+pub turned : {X : Type 0} (IsItem : ℕ → X → Type 0) (many : ℕ) (items : List X) → length items ≡ many
+    → ((j : ℕ) (x : X) → slice_get items j ≡ Some x → IsItem (many - suc j) x) → EachIsItem IsItem (reverse items)
 turned IsItem many items long each k x at =
     let within : k < length items = subst (λ n. k < n) (length-reverse items) (slice_get_within (reverse items) k x at) in
     let is : get_or items (length items - 1 - k) x ≡ x = sym (get_or-reverse items k x within) ∙ get_or_from_slice_get (reverse items) k x x at in

@@ -35,7 +35,8 @@ fn share_of<X: Drop, G: Gate, F: Fn(u32) -> Result<X, AllocError>>(
     requires some_workers { 1 ≤ workers }
     requires few { count + workers < 2 ^ 32 }
     requires worker { worker < workers }
-    ensures { IfOk result (λ items. AreItemsOfWorker (λ k x. F.post item.now k (Ok x)) count workers worker items) }
+    ensures { IfOk result
+        (λ items. AreItemsOfWorker (λ k x. F.post item.now k (Ok x)) count workers worker items) }
 {
     let mut items = Vec::new(alloc);
     let mut number = worker;
@@ -67,7 +68,8 @@ fn shares_of_workers<
     requires some_workers { 1 ≤ workers }
     requires few { count + workers < 2 ^ 32 }
     ensures count { IfOk result (λ shares. length shares.items ≡ workers) }
-    ensures items { IfOk result (λ shares. AreItemsOfWorkers (λ k x. F.post item.now k (Ok x)) count shares.items) }
+    ensures items { IfOk result
+        (λ shares. AreItemsOfWorkers (λ k x. F.post item.now k (Ok x)) count shares.items) }
 {
     thread::map_indices(
         rt,

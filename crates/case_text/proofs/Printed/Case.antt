@@ -1,43 +1,21 @@
 -- The printed rows of a valid case give the case.
-use Rattle.std.proofs.Common.{◌≡◌, ◌≢◌, ◌∙◌, ◌∷◌, ◌++◌, ◌<◌, ◌≤◌, ℕ, ℤ, pos, Bool, cond, List, [], All, Some, None, is_some, true, false, if◌then◌else◌, unwrap_or, length, map, refl, sym, ap, subst, arith, append_assoc}
-use Rattle.std.specs.Map.{keys_of}
-use Rattle.std.specs.Ordering.{int_eq}
-use Rattle.std.proofs.lemmas.Bool.Decides.{Decides-int_eq, nat_tests}
-use Rattle.std.proofs.lemmas.List.{append-nil, length-map, map-append}
-use Rattle.std.proofs.lemmas.List.Elements.{All-append, All-map, All-weaker}
-use Rattle.std.proofs.lemmas.List.Sums.{sum_by-append, sum_by-cons}
-use Rattle.std.proofs.lemmas.Simd.{map-map}
-use Rattle.first_fault.proofs.Steps.{Follows, Give, all_give, nothing_gives, one_more_gives}
-use Rattle.stream_case.specs.Case.{IsRightlyNamed, IsUnreserved, IsValid, IsValidForbid, names_of, side_of, source_name, source_named}
-use Rattle.stream_case.specs.Name.{IsName}
-use Rattle.stream_case.specs.Source.{same_side}
-use Rattle.stream_case.specs.Stream.{IsValidStream, count_on}
-use Rattle.stream_case.specs.Utility.{IsValidUtility}
-use Rattle.stream_case.specs.declared.case.Case.{Case}
-use Rattle.stream_case.specs.declared.case.Forbid.{Forbid}
-use Rattle.stream_case.specs.declared.limits.TheConstants.{MOST_FORBIDS, MOST_STREAMS, MOST_UTILITIES}
-use Rattle.stream_case.specs.declared.source.Side.{Side}
-use Rattle.stream_case.specs.declared.source.Side.TheVariants as side
-use Rattle.stream_case.specs.declared.source.Source.{Source}
-use Rattle.stream_case.specs.declared.stream.Stream.{Stream}
-use Rattle.stream_case.specs.declared.utility.Utility.{Utility}
-use Rattle.stream_case.proofs.CaseLemmas.{IsName-source_name, IsSourceOf-side, source_named-source_name}
-use Rattle.stream_case.proofs.SourceLemmas.{own_side}
-use Rattle.rows.proofs.Seams.{All-seam, AllPairs-seam, length-seam}
-use Rattle.case_text.specs.Given.{Given, case_of, nothing, stream_of, utility_of}
-use Rattle.case_text.specs.Checks.{end_checks}
-use Rattle.case_text.specs.Outcome.{IsCase, end_fault, grammar}
-use Rattle.rows.specs.Printed.{contribution_row}
-use Rattle.case_text.specs.Printed.{forbid_row, own_contribution, own_load, printed_rows, stream_row, utility_row}
-use Rattle.case_text.specs.declared.entry.StreamData.{StreamData}
-use Rattle.case_text.specs.declared.entry.UtilityData.{UtilityData}
-use Rattle.case_text.proofs.ListLemmas.{count_by-map}
 use Rattle.case_text.proofs.Printed.Rows.{IsFound, contribution_follows, forbid_follows, stream_entry, stream_follows, utility_entry, utility_follows}
 use Rattle.case_text.proofs.Sources.{count_of}
+use Rattle.case_text.proofs.Words.{All-append, All-map, All-seam, All-weaker, AllPairs-seam, Case, Decides-int_eq, Follows, Forbid, Give, Given, IsCase, IsName}
+use Rattle.case_text.proofs.Words.{IsName-source_name, IsRightlyNamed, IsSourceOf-side, IsUnreserved, IsValid, IsValidForbid, IsValidStream, IsValidUtility}
+use Rattle.case_text.proofs.Words.{MOST_FORBIDS, MOST_STREAMS, MOST_UTILITIES, Side, Source, Stream, StreamData, Utility, UtilityData, all_give, append-nil}
+use Rattle.case_text.proofs.Words.{case_of, contribution_row, count_by-map, count_on, end_checks, end_fault, forbid_row, grammar, int_eq, keys_of, length-map}
+use Rattle.case_text.proofs.Words.{length-seam, map-append, map-map, names_of, nat_tests, nothing, nothing_gives, one_more_gives, own_contribution, own_load}
+use Rattle.case_text.proofs.Words.{own_side, printed_rows, same_side, side_of, source_name, source_named, source_named-source_name, stream_of, stream_row}
+use Rattle.case_text.proofs.Words.{sum_by-append, sum_by-cons, utility_of, utility_row}
+use Rattle.std.proofs.Common.{All, Bool, List, None, Some, [], ap, append_assoc, arith, cond, false, if◌then◌else◌, is_some, length, map, pos, refl, subst, sym}
+use Rattle.std.proofs.Common.{true, unwrap_or, ℕ, ℤ, ◌++◌, ◌<◌, ◌∙◌, ◌∷◌, ◌≡◌, ◌≢◌, ◌≤◌}
+use Rattle.stream_case.specs.declared.source.Side.TheVariants as side
 
 -- the streams, the utilities and the forbidden matches that are given so far
 abbrev given_with : Case → List Stream → List Utility → List Forbid → Given
-given_with k streams utilities forbids = record { contribution = Some k.contribution; streams = map (stream_entry k) streams; utilities = map (utility_entry k) utilities; forbids = forbids }
+given_with k streams utilities forbids =
+    record { contribution = Some k.contribution; streams = map (stream_entry k) streams; utilities = map (utility_entry k) utilities; forbids = forbids }
 
 -- an item more, where there are items before it
 entries-more : {X V : Type 0} (entry_of : X → V) (before : List X) (x : X) → map entry_of (before ++ x ∷ []) ≡ map entry_of before ++ entry_of x ∷ []
@@ -55,38 +33,47 @@ utility_keys k us = map-map (λ (e : List ℕ × UtilityData). e.0) (utility_ent
 -- ---- streams
 
 -- a side has room for a stream behind the ones before it
-room_before : (k : Case) (all before : List Stream) (s : Stream) (after : List Stream) → all ≡ before ++ s ∷ after → count_on s.side all ≤ MOST_STREAMS → count_of s.side (map (stream_entry k) before) < MOST_STREAMS
+room_before : (k : Case) (all before : List Stream) (s : Stream) (after : List Stream) → all ≡ before ++ s ∷ after → count_on s.side all ≤ MOST_STREAMS
+    → count_of s.side (map (stream_entry k) before) < MOST_STREAMS
 room_before k all before s after is few =
     let one : Stream → ℕ = λ t. cond (same_side t.side s.side) 1 0 in
     let own : one s ≡ 1 = ap (λ b. cond b 1 0) (own_side s.side) in
     let before_is = count_by-map (λ (e : List ℕ × StreamData). same_side e.1.side s.side) (stream_entry k) before in
     omega (arith, few, ap (count_on s.side) is, sum_by-append one before (s ∷ after), sum_by-cons one s after, own, before_is)
 
-stream_step : (k : Case) → IsValid k → (before : List Stream) (s : Stream) (after : List Stream) → k.streams ≡ before ++ s ∷ after → Follows grammar (given_with k before [] []) (stream_row k s) (given_with k (before ++ s ∷ []) [] [])
+stream_step : (k : Case) → IsValid k → (before : List Stream) (s : Stream) (after : List Stream) → k.streams ≡ before ++ s ∷ after
+    → Follows grammar (given_with k before [] []) (stream_row k s) (given_with k (before ++ s ∷ []) [] [])
 stream_step k valid before s after is =
     let names : names_of k ≡ map (λ s. s.name) before ++ s.name ∷ (map (λ s. s.name) after ++ map (λ u. u.name) k.utilities) =
-    ap (λ (ss : List Stream). map (λ s. s.name) ss ++ map (λ u. u.name) k.utilities) is ∙ ap (λ (ns : List (List ℕ)). ns ++ map (λ u. u.name) k.utilities) (map-append (λ (t : Stream). t.name) before (s ∷ after))
+    ap (λ (ss : List Stream). map (λ s. s.name) ss ++ map (λ u. u.name) k.utilities) is
+    ∙ ap (λ (ns : List (List ℕ)). ns ++ map (λ u. u.name) k.utilities) (map-append (λ (t : Stream). t.name) before (s ∷ after))
     ∙ append_assoc (map (λ (t : Stream). t.name) before) (s.name ∷ map (λ (t : Stream). t.name) after) (map (λ (u : Utility). u.name) k.utilities) in
     let new = AllPairs-seam Differ (names_of k) _ s.name _ names valid.distinct_names in
     let keys : keys_of (map (stream_entry k) before) ++ [] ≡ map (λ s. s.name) before = append-nil _ ∙ stream_keys k before in
     let room = room_before k k.streams before s after is (valid.streams.are_streams.few s.side) in
     let each = All-seam IsValidStream k.streams before s after is valid.streams.are_streams.each in
     let unreserved = All-seam (λ (s : Stream). IsUnreserved s.name) k.streams before s after is valid.stream_names in
-    rw (entries-more (stream_entry k) before s) (stream_follows (given_with k before [] []) k s each unreserved room (subst (All (λ (o : List ℕ). o ≢ s.name)) (sym keys) new))
+    rw (entries-more (stream_entry k) before s)
+    (stream_follows (given_with k before [] []) k s each unreserved room (subst (All (λ (o : List ℕ). o ≢ s.name)) (sym keys) new))
 
 -- ---- utilities
 
-utility_step : (k : Case) → IsValid k → (before : List Utility) (u : Utility) (after : List Utility) → k.utilities ≡ before ++ u ∷ after → Follows grammar (given_with k k.streams before []) (utility_row k u) (given_with k k.streams (before ++ u ∷ []) [])
+utility_step : (k : Case) → IsValid k → (before : List Utility) (u : Utility) (after : List Utility) → k.utilities ≡ before ++ u ∷ after
+    → Follows grammar (given_with k k.streams before []) (utility_row k u) (given_with k k.streams (before ++ u ∷ []) [])
 utility_step k valid before u after is =
     let names : names_of k ≡ (map (λ s. s.name) k.streams ++ map (λ u. u.name) before) ++ u.name ∷ map (λ u. u.name) after =
-    ap (λ (us : List Utility). map (λ s. s.name) k.streams ++ map (λ u. u.name) us) is ∙ ap (λ (ns : List (List ℕ)). map (λ s. s.name) k.streams ++ ns) (map-append (λ (t : Utility). t.name) before (u ∷ after))
+    ap (λ (us : List Utility). map (λ s. s.name) k.streams ++ map (λ u. u.name) us) is
+    ∙ ap (λ (ns : List (List ℕ)). map (λ s. s.name) k.streams ++ ns) (map-append (λ (t : Utility). t.name) before (u ∷ after))
     ∙ sym (append_assoc (map (λ (s : Stream). s.name) k.streams) (map (λ (t : Utility). t.name) before) (u.name ∷ map (λ (t : Utility). t.name) after)) in
     let new = AllPairs-seam Differ (names_of k) _ u.name _ names valid.distinct_names in
-    let keys : keys_of (map (stream_entry k) k.streams) ++ keys_of (map (utility_entry k) before) ≡ map (λ s. s.name) k.streams ++ map (λ u. u.name) before = λ i. stream_keys k k.streams i ++ utility_keys k before i in
-    let room : length (map (utility_entry k) before) < MOST_UTILITIES = omega (arith, length-map before (utility_entry k), length-seam k.utilities before u after is, valid.few_utilities) in
+    let keys : keys_of (map (stream_entry k) k.streams) ++ keys_of (map (utility_entry k) before) ≡ map (λ s. s.name) k.streams ++ map (λ u. u.name) before =
+    λ i. stream_keys k k.streams i ++ utility_keys k before i in
+    let room : length (map (utility_entry k) before) < MOST_UTILITIES =
+    omega (arith, length-map before (utility_entry k), length-seam k.utilities before u after is, valid.few_utilities) in
     let each = All-seam IsValidUtility k.utilities before u after is valid.utilities in
     let named = All-seam IsRightlyNamed k.utilities before u after is valid.utility_names in
-    rw (entries-more (utility_entry k) before u) (utility_follows (given_with k k.streams before []) k u each named room (subst (All (λ (o : List ℕ). o ≢ u.name)) (sym keys) new))
+    rw (entries-more (utility_entry k) before u)
+    (utility_follows (given_with k k.streams before []) k u each named room (subst (All (λ (o : List ℕ). o ≢ u.name)) (sym keys) new))
 
 -- ---- the case of what is given
 
@@ -115,24 +102,29 @@ utilities_back k [] = refl
 utilities_back k (u ∷ us) = λ i. record u { contribution = own_back k u.contribution i } ∷ utilities_back k us i
 
 case_back : (k : Case) (forbids : List Forbid) → case_of (given_with k k.streams k.utilities forbids) ≡ record k { forbids = forbids }
-case_back k forbids = λ i. record { contribution = k.contribution; streams = streams_back k k.streams i; utilities = utilities_back k k.utilities i; forbids = forbids }
+case_back k forbids =
+    λ i. record { contribution = k.contribution; streams = streams_back k k.streams i; utilities = utilities_back k k.utilities i; forbids = forbids }
 
 -- ---- forbidden matches
 
 all_names : (k : Case) → IsValid k → All IsName (names_of k)
 all_names k valid =
-    let streams = All-map IsName (λ (s : Stream). s.name) k.streams (All-weaker IsValidStream (λ s. IsName s.name) (λ s each. each.name) k.streams valid.streams.are_streams.each) in
-    let utilities = All-map IsName (λ (u : Utility). u.name) k.utilities (All-weaker IsValidUtility (λ u. IsName u.name) (λ u each. each.name) k.utilities valid.utilities) in
+    let streams = All-map IsName (λ (s : Stream). s.name) k.streams
+    (All-weaker IsValidStream (λ s. IsName s.name) (λ s each. each.name) k.streams valid.streams.are_streams.each) in
+    let utilities =
+    All-map IsName (λ (u : Utility). u.name) k.utilities (All-weaker IsValidUtility (λ u. IsName u.name) (λ u each. each.name) k.utilities valid.utilities) in
     All-append IsName (map (λ s. s.name) k.streams) (map (λ u. u.name) k.utilities) streams utilities
 
 pub name_of : (k : Case) → IsValid k → (of : Side) (s : Source) → side_of k s ≡ Some of → IsName (source_name k s)
 name_of k valid of s on = IsName-source_name k (all_names k valid) s (IsSourceOf-side k s (ap is_some on))
 
-found : (k : Case) → IsValid k → (forbids : List Forbid) (of : Side) (s : Source) → side_of k s ≡ Some of → IsFound (given_with k k.streams k.utilities forbids) of s (source_name k s)
+found : (k : Case) → IsValid k → (forbids : List Forbid) (of : Side) (s : Source) → side_of k s ≡ Some of
+    → IsFound (given_with k k.streams k.utilities forbids) of s (source_name k s)
 unfolding source_named
 found k valid forbids of s on =
     let back = sym (case_back k forbids) in
-    let named : source_named (record k { forbids = forbids }) (source_name k s) ≡ Some s = source_named-source_name k valid.distinct_names s (IsSourceOf-side k s (ap is_some on)) in
+    let named : source_named (record k { forbids = forbids }) (source_name k s) ≡ Some s =
+    source_named-source_name k valid.distinct_names s (IsSourceOf-side k s (ap is_some on)) in
     record {
       is_name = name_of k valid of s on;
       named = subst (λ c. source_named c (source_name k s) ≡ Some s) back named;
@@ -145,17 +137,21 @@ forbid_step k valid before f after is =
     let (hot, cold) = All-seam (IsValidForbid k) k.forbids before f after is valid.forbids in
     let room : length before < MOST_FORBIDS = omega (arith, length-seam k.forbids before f after is, valid.few_forbids) in
     let new = AllPairs-seam (λ (g h : Forbid). g ≢ h) k.forbids before f after is valid.distinct_forbids in
-    forbid_follows (given_with k k.streams k.utilities before) k f (found k valid before side.Hot f.hot hot) (found k valid before side.Cold f.cold cold) room new
+    forbid_follows (given_with k k.streams k.utilities before) k f (found k valid before side.Hot f.hot hot)
+    (found k valid before side.Cold f.cold cold) room new
 
 -- ---- all rows
 
 rows_give : (k : Case) → IsValid k → Give grammar (printed_rows k) (given_with k k.streams k.utilities k.forbids)
 unfolding printed_rows
 rows_give k valid =
-    let first = one_more_gives grammar [] nothing (contribution_row k.contribution) (given_with k [] [] []) (nothing_gives grammar nothing refl) (contribution_follows k.contribution valid.contribution) in
+    let first = one_more_gives grammar [] nothing (contribution_row k.contribution) (given_with k [] [] []) (nothing_gives grammar nothing refl)
+    (contribution_follows k.contribution valid.contribution) in
     let streams = all_give grammar (stream_row k) (λ ss. given_with k ss [] []) (contribution_row k.contribution ∷ []) k.streams (stream_step k valid) first in
-    let utilities = all_give grammar (utility_row k) (λ us. given_with k k.streams us []) (contribution_row k.contribution ∷ map (stream_row k) k.streams) k.utilities (utility_step k valid) streams in
-    all_give grammar (forbid_row k) (given_with k k.streams k.utilities) (contribution_row k.contribution ∷ (map (stream_row k) k.streams ++ map (utility_row k) k.utilities)) k.forbids (forbid_step k valid) utilities
+    let utilities = all_give grammar (utility_row k) (λ us. given_with k k.streams us [])
+    (contribution_row k.contribution ∷ map (stream_row k) k.streams) k.utilities (utility_step k valid) streams in
+    all_give grammar (forbid_row k) (given_with k k.streams k.utilities)
+    (contribution_row k.contribution ∷ (map (stream_row k) k.streams ++ map (utility_row k) k.utilities)) k.forbids (forbid_step k valid) utilities
 
 -- the end is not at fault where there are a contribution and a stream
 lacks_nothing : (rows : ℕ) (given : Given) → is_some given.contribution ≡ true → 0 < length given.streams → end_fault rows given ≡ None
@@ -164,9 +160,9 @@ lacks_nothing rows given first some = grind (arith, nat_tests)
 
 pub rows_back : (k : Case) → IsValid k → IsCase (printed_rows k) k
 rows_back k valid =
-    let gives = rows_give k valid in
-    let rows = length (printed_rows k) in
-    let complete : end_fault rows (given_with k k.streams k.utilities k.forbids) ≡ None = lacks_nothing rows (given_with k k.streams k.utilities k.forbids) refl (omega (arith, length-map k.streams (stream_entry k), valid.streams.some)) in
+    let gives = rows_give k valid in let rows = length (printed_rows k) in
+    let complete : end_fault rows (given_with k k.streams k.utilities k.forbids) ≡ None =
+    lacks_nothing rows (given_with k k.streams k.utilities k.forbids) refl (omega (arith, length-map k.streams (stream_entry k), valid.streams.some)) in
     record {
       sound = gives.sound;
       complete = ap (end_fault rows) (sym gives.given_is) ∙ complete;

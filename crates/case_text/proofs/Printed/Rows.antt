@@ -1,51 +1,32 @@
 -- Each printed row follows on the rows before it.
-use Rattle.std.proofs.Common.{◌≡◌, ◌≢◌, ◌⊎◌, inl, inr, ◌∷◌, ◌++◌, ◌<◌, ℕ, ℤ, pos, Bool, not, true, false, List, All, Option, Some, None, IfSome, if◌then◌else◌, unwrap_or, length, refl, arith}
-use Rattle.std.specs.Map.{keys_of}
-use Rattle.std.specs.Ordering.{int_eq}
-use Rattle.std.proofs.lemmas.Bool.Decides.{Decides-and, Decides-int_eq, Decides-not}
-use Rattle.std.proofs.lemmas.Int.{ints}
-use Rattle.rows.specs.Rows.{Row}
-use Rattle.first_fault.proofs.CheckLemmas.{Passes, none_fails}
-use Rattle.first_fault.proofs.Steps.{Follows}
-use Rattle.stream_case.specs.Case.{IsRightlyNamed, IsUnreserved, side_of, source_name, source_named}
-use Rattle.stream_case.specs.Limits.{IsContribution, IsHeat}
-use Rattle.stream_case.specs.Name.{IsName}
-use Rattle.stream_case.specs.Stream.{IsLatent, IsSensible, IsValidStream, count_on}
-use Rattle.stream_case.specs.Utility.{IsValidUtility}
-use Rattle.stream_case.specs.declared.case.Case.{Case}
-use Rattle.stream_case.specs.declared.case.Forbid.{Forbid}
-use Rattle.stream_case.specs.declared.limits.TheConstants.{MOST_FORBIDS, MOST_STREAMS, MOST_UTILITIES}
-use Rattle.stream_case.specs.Source.{IsRightWay}
-use Rattle.stream_case.specs.declared.source.Side.{Side}
-use Rattle.stream_case.specs.declared.source.Side.TheVariants as side
-use Rattle.stream_case.specs.declared.source.Source.{Source}
-use Rattle.stream_case.specs.declared.stream.Stream.{Stream}
-use Rattle.stream_case.specs.declared.utility.Utility.{Utility}
-use Rattle.stream_case.proofs.NameTests.{name-passes}
-use Rattle.stream_case.proofs.SourceLemmas.{Decides-is_right_way}
-use Rattle.rows.specs.Fields.{are_empty, field, is_number, is_number_or_empty, is_passed_over, number, optional_number}
-use Rattle.rows.specs.Numbers.{is_flow_rate_beside, is_own_contribution, is_own_load}
-use Rattle.rows.proofs.Tests.{Decides-int_le, Decides-is_own_contribution, room-passes, within-passes}
-use Rattle.case_text.specs.Rows.{kind_of}
-use Rattle.case_text.specs.Given.{Given, case_of, nothing, with_entry}
-use Rattle.case_text.specs.Checks.{checks, contribution_checks, forbid_checks, heat_checks, kind_checks, stream_checks, stream_number_checks, utility_checks, utility_number_checks}
-use Rattle.case_text.specs.Outcome.{grammar}
-use Rattle.rows.specs.Printed.{contribution_row, stream_kind}
-use Rattle.case_text.specs.Printed.{contribution_field, forbid_row, load_field, own_contribution, own_load, stream_row, utility_kind, utility_row}
-use Rattle.case_text.specs.declared.entry.Entry.TheVariants as entry
-use Rattle.case_text.specs.declared.entry.StreamData.{StreamData}
-use Rattle.case_text.specs.declared.entry.UtilityData.{UtilityData}
-use Rattle.case_text.specs.declared.kind.Kind.TheVariants as kind
-use Rattle.rows.proofs.PrintedNumbers.{IsPrintable, contribution, heat, load, number_read, optional_read, price, stream_flow_rate, temperature}
 use Rattle.case_text.proofs.Sources.{count_of, count_on-case, names_of-case}
 use Rattle.case_text.proofs.Tests.{Decides-is_forbidden, Decides-is_reserved, Decides-is_reserved_from, Decides-is_taken, is_source-named}
+use Rattle.case_text.specs.Checks.{checks, contribution_checks, forbid_checks, heat_checks, kind_checks, stream_checks, stream_number_checks, utility_checks}
+use Rattle.case_text.specs.Checks.{utility_number_checks}
+use Rattle.case_text.proofs.Words.{Case, Decides-and, Decides-int_eq, Decides-int_le, Decides-is_own_contribution, Decides-is_right_way, Decides-not, Follows}
+use Rattle.case_text.proofs.Words.{Forbid, Given, IsBetween, IsContribution, IsHeat, IsLatent, IsName, IsPrintable, IsRightWay, IsRightlyNamed, IsSensible}
+use Rattle.case_text.proofs.Words.{IsUnreserved, IsValidStream, IsValidUtility, MOST_FORBIDS, MOST_STREAMS, MOST_UTILITIES, Passes, Row, Side, Source, Stream}
+use Rattle.case_text.proofs.Words.{StreamData, Utility, UtilityData, are_empty, case_of, contribution, contribution_field, contribution_row, count_on, field}
+use Rattle.case_text.proofs.Words.{forbid_row, grammar, heat, int_eq, ints, is_flow_rate_beside, is_number, is_number_or_empty, is_own_contribution}
+use Rattle.case_text.proofs.Words.{is_own_load, is_passed_over, is_within, keys_of, kind_of, load, load_field, name-passes, none_fails, nothing, number}
+use Rattle.case_text.proofs.Words.{number_read, optional_number, optional_read, own_contribution, own_load, price, room-passes, side_of, source_name}
+use Rattle.case_text.proofs.Words.{source_named, stream_flow_rate, stream_kind, stream_row, temperature, utility_kind, utility_row, with_entry, within-passes}
+use Rattle.std.proofs.Common.{All, Bool, IfSome, List, None, Option, Some, arith, false, if◌then◌else◌, inl, inr, length, not, pos, refl, true, unwrap_or, ℕ, ℤ}
+use Rattle.std.proofs.Common.{◌++◌, ◌<◌, ◌∷◌, ◌≡◌, ◌≢◌, ◌⊎◌}
+use Rattle.case_text.specs.declared.entry.Entry.TheVariants as entry
+use Rattle.case_text.specs.declared.kind.Kind.TheVariants as kind
+use Rattle.stream_case.specs.declared.source.Side.TheVariants as side
+
+-- a number within its range passes the test of it
+within : {low high n : ℤ} → IsBetween low high n → is_within low high n ≡ true
+within = within-passes _ _ _
 
 -- the row of the contribution comes first
 pub contribution_follows : (c : ℤ) → IsContribution c → Follows grammar nothing (contribution_row c) (with_entry nothing (entry.Contribution c))
 unfolding checks kind_checks contribution_checks kind_of is_passed_over are_empty is_number number
 contribution_follows c range =
     let read = number_read c (contribution c range) in
-    let passes : Passes (checks nothing (contribution_row c)) = rw read (refl, (refl, (refl, (refl, (refl, (within-passes _ _ _ range, tt)))))) in
+    let passes : Passes (checks nothing (contribution_row c)) = rw read (refl, (refl, (refl, (refl, (refl, (within range, tt)))))) in
     record { passes = none_fails (checks nothing (contribution_row c)) passes; next_is = rw read refl }
 
 -- ---- contributions of sources
@@ -72,7 +53,8 @@ no_load : (s : Stream) → IsSensible s → own_load s.load ≡ None
 no_load s sensible = rw sensible.load refl
 
 some_load : (s : Stream) → IsLatent s → own_load s.load ≡ Some s.load
-some_load s latent = let more = (Decides-not _ (Decides-int_eq s.load (pos 0))).1 (λ none. absurd (omega (arith, ints, latent.load.from, none))) in rw (not_true _ more) refl
+some_load s latent = let more = (Decides-not _ (Decides-int_eq s.load (pos 0))).1 (λ none. absurd (omega (arith, ints, latent.load.from, none))) in
+    rw (not_true _ more) refl
   where
     not_true : (b : Bool) → not b ≡ true → b ≡ false
     not_true true e = cc e
@@ -98,9 +80,13 @@ record PassesHeat (s : Stream) (given : Option ℤ) : Type 0 where
 sensible_passes : (s : Stream) → IsSensible s → PassesHeat s None
 unfolding is_own_load heat_checks
 sensible_passes s sensible = record {
-  cp = within-passes _ _ _ sensible.cp;
+  cp = within sensible.cp;
   load = refl;
-  heat = λ contribution. ((Decides-not _ (Decides-int_eq s.supply s.target)).1 (differs s.side s.supply s.target sensible.way), ((Decides-is_right_way s.side s.supply s.target).1 sensible.way, tt));
+  heat =
+      λ contribution. (
+        (Decides-not _ (Decides-int_eq s.supply s.target)).1 (differs s.side s.supply s.target sensible.way),
+        ((Decides-is_right_way s.side s.supply s.target).1 sensible.way, tt),
+      );
 }
   where
     differs : (of : Side) (supply target : ℤ) → IsRightWay of supply target → supply ≡ target → ⊥
@@ -110,8 +96,8 @@ sensible_passes s sensible = record {
 latent_passes : (s : Stream) → IsLatent s → PassesHeat s (Some s.load)
 unfolding is_own_load heat_checks
 latent_passes s latent = record {
-  cp = within-passes _ _ _ (record { from = omega (arith, ints, latent.cp); upto = omega (arith, ints, latent.cp) });
-  load = within-passes _ _ _ latent.load;
+  cp = within (record { from = omega (arith, ints, latent.cp); upto = omega (arith, ints, latent.cp) });
+  load = within latent.load;
   heat = λ contribution. ((Decides-and _ _ (Decides-int_eq s.supply s.target) (Decides-int_eq s.cp (pos 0))).1 (latent.level, latent.cp), tt);
 }
 
@@ -123,7 +109,8 @@ passes_heat s valid = by valid.heat
     by (inr latent) = rw (some_load s latent) (latent_passes s latent)
 
 -- the sixth field, in which the load is printed
-reads_load : (s : Stream) (row : Row) → IsValidStream s → field row 5 ≡ load_field s.load → (is_number_or_empty row 5 ≡ true) × (optional_number row 5 ≡ own_load s.load)
+reads_load : (s : Stream) (row : Row) → IsValidStream s → field row 5 ≡ load_field s.load
+    → (is_number_or_empty row 5 ≡ true) × (optional_number row 5 ≡ own_load s.load)
 unfolding load_field
 reads_load s row valid printed = optional_read row 5 (own_load s.load) (load_printable s valid) printed
 
@@ -136,7 +123,8 @@ stream_row_kind side.Hot fields = refl
 stream_row_kind side.Cold fields = refl
 
 -- a stream of which an earlier row gave neither the name nor too many of its side
-pub stream_follows : (given : Given) (k : Case) (s : Stream) → IsValidStream s → IsUnreserved s.name → count_of s.side given.streams < MOST_STREAMS → All (λ other. other ≢ s.name) (keys_of given.streams ++ keys_of given.utilities)
+pub stream_follows : (given : Given) (k : Case) (s : Stream) → IsValidStream s → IsUnreserved s.name → count_of s.side given.streams < MOST_STREAMS
+    → All (λ other. other ≢ s.name) (keys_of given.streams ++ keys_of given.utilities)
     → Follows grammar given (stream_row k s) (with_entry given (entry.Stream s.name (stream_entry k s).1))
 unfolding checks kind_checks stream_checks stream_number_checks are_empty is_number number
 stream_follows given k s valid unreserved few new =
@@ -146,26 +134,29 @@ stream_follows given k s valid unreserved few new =
     let target = number_read s.target (temperature s.target valid.target) in
     let cp = number_read s.cp (stream_flow_rate s valid) in
     let (is_load, load) = reads_load s row valid refl in
-    let heat = passes_heat s valid in
-    let own = reads_own k s.contribution row valid.contribution refl in
-    let place = room-passes (count_on s.side (case_of given).streams) MOST_STREAMS (rw (count_on-case s.side (unwrap_or given.contribution (pos 0)) given.streams) few) in
+    let heat = passes_heat s valid in let own = reads_own k s.contribution row valid.contribution refl in
+    let place =
+    room-passes (count_on s.side (case_of given).streams) MOST_STREAMS (rw (count_on-case s.side (unwrap_or given.contribution (pos 0)) given.streams) few) in
     let free = (Decides-is_taken (case_of given) s.name).1 (rw (names_of-case given) new) in
-    let numbers : Passes (stream_number_checks s.side row) =
-    rw (supply, target, cp, load, own.read) (refl, (refl, (refl, (is_load, (own.is_number, (within-passes _ _ _ valid.supply, (within-passes _ _ _ valid.target, (heat.cp, (heat.load, (own.range, heat.heat _)))))))))) in
-    let passes : Passes (checks given row) = rw is (refl, (refl, (place, (name-passes s.name valid.name, ((Decides-is_reserved s.name).1 unreserved, (free, numbers)))))) in
+    let numbers : Passes (stream_number_checks s.side row) = rw (supply, target, cp, load, own.read)
+    (refl, (refl, (refl, (is_load, (own.is_number, (within valid.supply, (within valid.target, (heat.cp, (heat.load, (own.range, heat.heat _)))))))))) in
+    let passes : Passes (checks given row) =
+    rw is (refl, (refl, (place, (name-passes s.name valid.name, ((Decides-is_reserved s.name).1 unreserved, (free, numbers)))))) in
     record { passes = none_fails (checks given row) passes; next_is = rw (is, supply, target, cp, load, own.read) refl }
 
 -- ---- utilities
 
 abbrev pub utility_entry : Case → Utility → List ℕ × UtilityData
-utility_entry k u = (u.name, record { side = u.side; level = u.level; least = u.least; most = u.most; price = u.price; contribution = own_contribution k u.contribution })
+utility_entry k u =
+    (u.name, record { side = u.side; level = u.level; least = u.least; most = u.most; price = u.price; contribution = own_contribution k u.contribution })
 
 utility_row_kind : (of : Side) (fields : Row) → kind_of (utility_kind of ∷ fields) ≡ Some (kind.Utility of)
 unfolding kind_of is_passed_over are_empty
 utility_row_kind side.Hot fields = refl
 utility_row_kind side.Cold fields = refl
 
-pub utility_follows : (given : Given) (k : Case) (u : Utility) → IsValidUtility u → IsRightlyNamed u → length given.utilities < MOST_UTILITIES → All (λ other. other ≢ u.name) (keys_of given.streams ++ keys_of given.utilities)
+pub utility_follows : (given : Given) (k : Case) (u : Utility) → IsValidUtility u → IsRightlyNamed u → length given.utilities < MOST_UTILITIES
+    → All (λ other. other ≢ u.name) (keys_of given.streams ++ keys_of given.utilities)
     → Follows grammar given (utility_row k u) (with_entry given (entry.Utility u.name (utility_entry k u).1))
 unfolding checks kind_checks utility_checks utility_number_checks are_empty is_number number
 utility_follows given k u valid named few new =
@@ -178,9 +169,11 @@ utility_follows given k u valid named few new =
     let each = number_read u.price (price u.price valid.price) in
     let own = reads_own k u.contribution row valid.contribution refl in
     let free = (Decides-is_taken (case_of given) u.name).1 (rw (names_of-case given) new) in
-    let numbers : Passes (utility_number_checks row) =
-    rw (level, least, most, each, own.read) (refl, (refl, (refl, (refl, (own.is_number, (within-passes _ _ _ valid.level, (within-passes _ _ _ valid.least, (within-passes _ _ _ most_range, (within-passes _ _ _ valid.price, (own.range, ((Decides-int_le u.least u.most).1 valid.most.from, tt))))))))))) in
-    let passes : Passes (checks given row) = rw is (refl, (refl, (room-passes _ _ few, (name-passes u.name valid.name, ((Decides-is_reserved_from u.side u.name).1 named, (free, numbers)))))) in
+    let order = (Decides-int_le u.least u.most).1 valid.most.from in let fair = within valid.price in
+    let numbers : Passes (utility_number_checks row) = rw (level, least, most, each, own.read)
+    (refl, (refl, (refl, (refl, (own.is_number, (within valid.level, (within valid.least, (within most_range, (fair, (own.range, (order, tt))))))))))) in
+    let passes : Passes (checks given row) =
+    rw is (refl, (refl, (room-passes _ _ few, (name-passes u.name valid.name, ((Decides-is_reserved_from u.side u.name).1 named, (free, numbers)))))) in
     record { passes = none_fails (checks given row) passes; next_is = rw (is, level, least, most, each, own.read) refl }
 
 -- ---- forbidden matches
@@ -191,12 +184,14 @@ pub record IsFound (given : Given) (of : Side) (s : Source) (name : List ℕ) : 
   pub named : source_named (case_of given) name ≡ Some s
   pub on : side_of (case_of given) s ≡ Some of
 
-pub forbid_follows : (given : Given) (k : Case) (f : Forbid) → IsFound given side.Hot f.hot (source_name k f.hot) → IsFound given side.Cold f.cold (source_name k f.cold) → length given.forbids < MOST_FORBIDS → All (λ g. g ≢ f) given.forbids
+pub forbid_follows : (given : Given) (k : Case) (f : Forbid) → IsFound given side.Hot f.hot (source_name k f.hot)
+    → IsFound given side.Cold f.cold (source_name k f.cold) → length given.forbids < MOST_FORBIDS → All (λ g. g ≢ f) given.forbids
     → Follows grammar given (forbid_row k f) (with_entry given (entry.Forbid f))
 unfolding checks kind_checks forbid_checks kind_of is_passed_over are_empty
 forbid_follows given k f hot cold few new =
     let h = is_source-named side.Hot (case_of given) (source_name k f.hot) f.hot hot.named hot.on in
     let c = is_source-named side.Cold (case_of given) (source_name k f.cold) f.cold cold.named cold.on in
-    let fresh = (Decides-is_forbidden given.forbids f.hot f.cold).1 new in
-    let passes : Passes (checks given (forbid_row k f)) = (refl, (refl, (refl, (room-passes _ _ few, (name-passes _ hot.is_name, (name-passes _ cold.is_name, (h, (c, (rw (hot.named, cold.named) fresh, tt))))))))) in
+    let free = (Decides-is_forbidden given.forbids f.hot f.cold).1 new in
+    let passes : Passes (checks given (forbid_row k f)) =
+    (refl, (refl, (refl, (room-passes _ _ few, (name-passes _ hot.is_name, (name-passes _ cold.is_name, (h, (c, (rw (hot.named, cold.named) free, tt))))))))) in
     record { passes = none_fails (checks given (forbid_row k f)) passes; next_is = rw (hot.named, cold.named) refl }

@@ -1,30 +1,15 @@
 -- The printed text of a valid case is read as the case, and is short.
-use Rattle.std.proofs.Common.{◌≡◌, ◌∷◌, ◌++◌, ◌≤◌, ◌+◌, ℕ, ℤ, List, All, length, map, refl, sym, subst, arith, length-append}
-use Rattle.std.specs.Prelude.{codes}
-use Rattle.std.proofs.lemmas.Int.{ints}
-use Rattle.std.proofs.lemmas.List.{length-map}
-use Rattle.std.proofs.lemmas.List.Elements.{All-append, All-cons, All-map, All-weaker}
-use Rattle.stream_case.specs.Case.{IsValid, IsValidForbid, source_name}
-use Rattle.stream_case.specs.Limits.{IsContribution, IsHeat}
-use Rattle.stream_case.specs.Stream.{IsValidStream}
-use Rattle.stream_case.specs.Utility.{IsValidUtility}
-use Rattle.stream_case.specs.declared.case.Case.{Case}
-use Rattle.stream_case.specs.declared.case.Forbid.{Forbid}
-use Rattle.stream_case.specs.declared.source.Side.{Side}
-use Rattle.stream_case.specs.declared.source.Side.TheVariants as side
-use Rattle.stream_case.specs.declared.stream.Stream.{Stream}
-use Rattle.stream_case.specs.declared.utility.Utility.{Utility}
-use Rattle.stream_case.proofs.CaseLemmas.{length-AreStreams}
-use Rattle.rows.specs.Printed.{contribution_row}
-use Rattle.rows.specs.Rows.{rows_of}
-use Rattle.rows.specs.Text.{rows_text}
-use Rattle.rows.proofs.PrintedNumbers.{IsPrintable, contribution, heat, price, temperature}
-use Rattle.rows.proofs.PrintedRows.{IsPrintedField, IsPrintedRow, contribution_printed, name_field, no_field, number_field, optional_number_field, rows_short, seven_fields}
-use Rattle.rows.proofs.PrintedRows as printed
-use Rattle.case_text.specs.Outcome.{IsCase}
-use Rattle.case_text.specs.Printed.{contribution_field, forbid_row, load_field, own_contribution, own_load, printed_rows, stream_row, utility_kind, utility_row}
 use Rattle.case_text.proofs.Printed.Case.{name_of, rows_back}
 use Rattle.case_text.proofs.Printed.Rows.{load_printable, own}
+use Rattle.case_text.proofs.Words.{All-append, All-cons, All-map, All-weaker, Case, Forbid, IsCase, IsContribution, IsHeat, IsPrintable, IsValid, IsValidForbid}
+use Rattle.case_text.proofs.Words.{IsValidStream, IsValidUtility, Side, Stream, Utility, codes, contribution, contribution_field, contribution_row, forbid_row}
+use Rattle.case_text.proofs.Words.{heat, ints, length-AreStreams, length-map, load_field, own_contribution, own_load, price, printed_rows, rows_of, rows_text}
+use Rattle.case_text.proofs.Words.{source_name, stream_row, temperature, utility_kind, utility_row}
+use Rattle.rows.proofs.PrintedRows.{IsPrintedField, IsPrintedRow, contribution_printed, name_field, no_field, number_field, optional_number_field, rows_short}
+use Rattle.rows.proofs.PrintedRows.{seven_fields}
+use Rattle.std.proofs.Common.{All, List, arith, length, length-append, map, refl, subst, sym, ℕ, ℤ, ◌++◌, ◌+◌, ◌∷◌, ◌≡◌, ◌≤◌}
+use Rattle.rows.proofs.PrintedRows as printed
+use Rattle.stream_case.specs.declared.source.Side.TheVariants as side
 
 -- ---- the rows
 
@@ -46,7 +31,8 @@ utility_printed k u valid =
     let level = number_field u.level (temperature u.level valid.level) in
     let least = number_field u.least (heat u.least valid.least) in
     let price = number_field u.price (price u.price valid.price) in
-    seven_fields _ _ _ _ _ _ _ (utility_kind_field u.side) (name_field u.name valid.name) level least (number_field u.most (heat u.most most)) price (contribution_field_printed k u.contribution valid.contribution)
+    seven_fields _ _ _ _ _ _ _ (utility_kind_field u.side) (name_field u.name valid.name) level least (number_field u.most (heat u.most most)) price
+    (contribution_field_printed k u.contribution valid.contribution)
 
 forbid_printed : (k : Case) → IsValid k → (f : Forbid) → IsValidForbid k f → IsPrintedRow (forbid_row k f)
 forbid_printed k valid f joins =
@@ -58,7 +44,8 @@ forbid_printed k valid f joins =
 rows_printed : (k : Case) → IsValid k → All IsPrintedRow (printed_rows k)
 unfolding printed_rows
 rows_printed k valid =
-    let stream = λ (s : Stream) (is : IsValidStream s). printed.stream_printed _ _ (load_field_printed s is) (contribution_field_printed k s.contribution is.contribution) s is in
+    let stream = λ (s : Stream) (is : IsValidStream s). printed.stream_printed _ _ (load_field_printed s is)
+    (contribution_field_printed k s.contribution is.contribution) s is in
     let each_stream = All-weaker IsValidStream (λ s. IsPrintedRow (stream_row k s)) stream k.streams valid.streams.are_streams.each in
     let each_utility = All-weaker IsValidUtility (λ u. IsPrintedRow (utility_row k u)) (utility_printed k) k.utilities valid.utilities in
     let each_forbid = All-weaker (IsValidForbid k) (λ f. IsPrintedRow (forbid_row k f)) (forbid_printed k valid) k.forbids valid.forbids in
@@ -87,4 +74,11 @@ few_rows k = simp (length-append, length-map) (omega arith)
 
 pub text_short : (k : Case) → IsValid k → length (rows_text (printed_rows k)) ≤ 2000000000
 text_short k valid =
-    omega (arith, rows_short (printed_rows k) (rows_printed k valid), few_rows k, length-AreStreams k.streams valid.streams.are_streams, valid.few_utilities, valid.few_forbids)
+    omega (
+      arith,
+      rows_short (printed_rows k) (rows_printed k valid),
+      few_rows k,
+      length-AreStreams k.streams valid.streams.are_streams,
+      valid.few_utilities,
+      valid.few_forbids,
+    )

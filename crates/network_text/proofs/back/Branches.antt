@@ -1,15 +1,12 @@
 -- The branches that a printed line uses and makes.
-use Rattle.std.proofs.Common.{◌≡◌, ◌≢◌, ◌∙◌, ◌<◌, ◌+◌, ◌∷◌, ◌++◌, ◌==◌, ℕ, suc, true, false, not, List, [], AllPairs, Some, get_or, is_some, position, length, take, drop, unwrap_or, sym, ap, subst, arith, length-append, bytes_eq, length-take-le}
-use Rattle.std.proofs.lemmas.Bool.Decides.{nat_tests}
-use Rattle.std.proofs.lemmas.List.{get_or_append_left, take-map}
-use Rattle.std.proofs.lemmas.List.Folds.{list_any_none}
-use Rattle.network_text.proofs.Words.{Branch, Case, HasShape, KeepsCounts, Line, MOST_STATEMENTS, Network, branch_at, branch_name, branch_named, is_branch_name, is_used, made_before, makes, names_of, used_by, uses}
-use Rattle.stream_case.proofs.CompleteLemmas.{StaysValid}
-use Rattle.stream_case.proofs.DistinctLemmas.{AllPairs-across, AllPairs-back, AllPairs-front}
 use Rattle.network_text.proofs.NameTests.{branch_name-passes}
-use Rattle.networks.proofs.OfShape.{IsLineOf, made_no_more, used_parts}
-use Rattle.network_text.proofs.print.Names.{found_in_front, many_names, none_in_front}
 use Rattle.network_text.proofs.back.Front.{front}
+use Rattle.network_text.proofs.print.Names.{found_in_front, many_names, none_in_front}
+use Rattle.network_text.proofs.Words.{AllPairs-across, AllPairs-back, AllPairs-front, Branch, Case, HasShape, IsLineOf, KeepsCounts, Line, MOST_STATEMENTS}
+use Rattle.network_text.proofs.Words.{Network, StaysValid, branch_at, branch_name, branch_named, get_or_append_left, is_branch_name, is_used, list_any_none}
+use Rattle.network_text.proofs.Words.{made_before, made_no_more, makes, names_of, nat_tests, take-map, used_by, used_parts, uses}
+use Rattle.std.proofs.Common.{AllPairs, List, Some, [], ap, arith, bytes_eq, drop, false, get_or, is_some, length, length-append, length-take-le, not, position}
+use Rattle.std.proofs.Common.{subst, suc, sym, take, true, unwrap_or, ℕ, ◌++◌, ◌+◌, ◌<◌, ◌==◌, ◌∙◌, ◌∷◌, ◌≡◌, ◌≢◌}
 
 -- a network whose text is not too long for the grammar
 pub record IsReadable (case : Case) (network : Network) : Type 0 where
@@ -54,8 +51,7 @@ module _ {case : Case} {network : Network} (readable : IsReadable case network) 
   not_used : (j : ℕ) → j < length (uses l) → is_used (front case network index) (get_or (uses l) j 0) ≡ false
   not_used j within =
       let before = used_by (take index network.lines) in let later = used_by (drop (suc index) network.lines) in
-      let b = get_or (uses l) j 0 in
-      let pairs = subst (AllPairs Differ) (used_parts of.at) readable.shape.used_once in
+      let b = get_or (uses l) j 0 in let pairs = subst (AllPairs Differ) (used_parts of.at) readable.shape.used_once in
       list_any_none (λ used. b == used) before (λ k d early.
       let across = AllPairs-across Differ before (uses l ++ later) k d pairs early j 0 (omega (arith, within, length-append (uses l) later)) in
       let other : get_or before k d ≢ b = λ e. across (e ∙ sym (get_or_append_left (uses l) later 0 j within)) in

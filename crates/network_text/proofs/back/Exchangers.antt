@@ -1,22 +1,18 @@
 -- The exchangers that printed lines declare and pass.
-use Rattle.std.proofs.Common.{◌≡◌, ◌≢◌, ◌∙◌, ◌<◌, ◌∷◌, ◌==◌, ℕ, suc, true, false, not, cond, List, [], All, AllPairs, Some, is_some, slice_get, position, length, map, take, drop, unwrap_or, refl, sym, ap, subst, arith, inl, inr, length-append, count_by, bytes_eq, length-take-le, take-append-drop, take_at}
-use Rattle.std.specs.List.{list_any}
-use Rattle.std.proofs.lemmas.Bool.{and_from, or_right}
-use Rattle.std.proofs.lemmas.Bool.Decides.{nat_tests}
-use Rattle.std.proofs.lemmas.List.{get_or-map, take-map}
-use Rattle.std.proofs.lemmas.List.Sums.{sum_by-append}
-use Rattle.std.proofs.lemmas.Option.{get_or_from_slice_get, slice_get_within}
-use Rattle.sums.proofs.CountLemmas.{count_by-cons}
-use Rattle.network_text.proofs.Words.{AreExchangers, Case, Exchanger, IsExchanger, Joins, Line, MOST_EXCHANGERS, Network, Passage, Rational, Source, exchanger_at, exchanger_name, exchanger_named, exchanger_names, exchangers_of, has_stream, is_free_side, is_passed, is_stream, joins_stream, made_before, passages_of, passes, same_passage, stream_at, used_by}
-use Rattle.stream_case.proofs.ListLemmas.{slice_get-append}
-use Rattle.networks.specs.declared.network.Line.TheVariants as line
-use Rattle.networks.proofs.Counts.{none_counted}
-use Rattle.networks.proofs.LineLaws.{passages_of-front}
-use Rattle.sums.proofs.OrderLemmas.{AllPairs-map}
-use Rattle.networks.proofs.OfShape.{IsLineOf, declared_parts, exchanger_at as declared_at, made_no_more, own_exchanger, passed_parts, stream_at-take, used_before}
-use Rattle.network_text.proofs.print.Names.{found_in_front, many_exchangers, none_in_front}
+use Rattle.network_text.proofs.Words.{AllPairs-map, AreExchangers, Case, Exchanger, IsExchanger, IsLineOf, Joins, Line, MOST_EXCHANGERS, Network, Passage}
+use Rattle.network_text.proofs.Words.{Rational, Source, and_from, count_by-cons, declared_parts, exchanger_at, exchanger_name, exchanger_named, exchanger_names}
+use Rattle.network_text.proofs.Words.{exchangers_of, get_or-map, get_or_from_slice_get, has_stream, is_free_side, is_passed, is_stream, joins_stream, list_any}
+use Rattle.network_text.proofs.Words.{made_before, made_no_more, nat_tests, none_counted, or_right, own_exchanger, passages_of, passages_of-front, passed_parts}
+use Rattle.network_text.proofs.Words.{passes, same_passage, slice_get-append, slice_get_within, stream_at, stream_at-take, sum_by-append, take-map, used_before}
+use Rattle.network_text.proofs.Words.{used_by}
 use Rattle.network_text.proofs.back.Branches.{IsReadable}
 use Rattle.network_text.proofs.back.Front.{front}
+use Rattle.network_text.proofs.print.Names.{found_in_front, many_exchangers, none_in_front}
+use Rattle.std.proofs.Common.{All, AllPairs, List, Some, [], ap, arith, bytes_eq, cond, count_by, drop, false, inl, inr, is_some, length, length-append}
+use Rattle.std.proofs.Common.{length-take-le, map, not, position, refl, slice_get, subst, suc, sym, take, take-append-drop, take_at, true, unwrap_or, ℕ, ◌<◌}
+use Rattle.std.proofs.Common.{◌==◌, ◌∙◌, ◌∷◌, ◌≡◌, ◌≢◌}
+use Rattle.networks.proofs.OfShape.{exchanger_at as declared_at}
+use Rattle.networks.specs.declared.network.Line.TheVariants as line
 
 -- an exchanger that the checks find by a name
 pub record IsDeclared (given : Network) (name : List ℕ) (number : ℕ) : Type 0 where
@@ -62,8 +58,7 @@ module _ {case : Case} {network : Network} (readable : IsReadable case network) 
   unfolding exchanger_named exchanger_names
   new_exchanger name hot cold duty of =
       let e : Exchanger = record { name = name; hot = hot; cold = cold; duty = duty } in
-      let all = exchangers_of network.lines in
-      let at = declared_at network.lines index name hot cold duty of.at.here in
+      let all = exchangers_of network.lines in let at = declared_at network.lines index name hot cold duty of.at.here in
       let within = slice_get_within all (declared_before network index) e at in
       let own = get_or-map (λ (x : Exchanger). x.name) all (declared_before network index) e [] within
       ∙ ap (λ (x : Exchanger). x.name) (get_or_from_slice_get all (declared_before network index) e e at) in

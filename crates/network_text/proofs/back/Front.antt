@@ -1,13 +1,11 @@
 -- The network before one of its lines, and with it.
-use Rattle.std.proofs.Common.{◌≡◌, ◌∙◌, ◌<◌, ◌≤◌, ◌+◌, ◌∷◌, ◌++◌, ℕ, suc, List, [], All, get_or, length, map, take, refl, sym, ap, arith}
+use Rattle.network_text.proofs.Words.{All-from_recursion, All-nil, AreMadeInOrder, Branch, Case, Entry, IsLineOf, IsOfOneStream, Line, Network, all_made}
+use Rattle.network_text.proofs.Words.{append-nil, append_assoc, branch_name, branch_of, first_stream, get_or-map, get_or_default, made_before, made_by, makes}
+use Rattle.network_text.proofs.Words.{map-map, members, names_of, own_branches, stream_at, stream_at-get_or, stream_at-take, take_all, uses, with_entry}
+use Rattle.std.proofs.Common.{All, List, [], ap, arith, get_or, length, map, refl, suc, sym, take, ℕ, ◌++◌, ◌+◌, ◌<◌, ◌∙◌, ◌∷◌, ◌≡◌, ◌≤◌}
 use Rattle.std.proofs.Math.Seq.{take-suc}
-use Rattle.std.proofs.lemmas.List.{append-nil, append_assoc, get_or-map, get_or_default, take_all}
-use Rattle.std.proofs.lemmas.List.Elements.{All-from_recursion, All-nil}
-use Rattle.std.proofs.lemmas.Simd.{map-map}
-use Rattle.network_text.proofs.Words.{AreMadeInOrder, Branch, Case, Entry, IsOfOneStream, Line, Network, branch_name, branch_of, first_stream, made_before, made_by, makes, members, names_of, own_branches, stream_at, uses, with_entry}
 use Rattle.networks.specs.declared.few.AtMostTwo.TheVariants as few
 use Rattle.networks.specs.declared.network.Line.TheVariants as line
-use Rattle.networks.proofs.OfShape.{IsLineOf, all_made, stream_at-get_or, stream_at-take}
 
 -- the network before the line at an index
 abbrev pub front : Case → Network → ℕ → Network

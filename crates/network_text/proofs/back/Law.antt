@@ -1,24 +1,22 @@
 -- The text of a network is read as the network.
-use Rattle.std.proofs.Common.{◌≡◌, ◌∙◌, ◌<◌, ◌+◌, ℕ, false, not, List, [], Some, None, get_or, slice_get, length, map, option_map, take, refl, sym, ap, subst, arith, inl, inr, Ok, Err}
-use Rattle.std.specs.List.{range_with_len}
-use Rattle.std.proofs.lemmas.List.FromFn.{get_or-range_with_len, length-range_with_len}
-use Rattle.first_fault.proofs.OneOutcome.{no_value, one_value}
-use Rattle.first_fault.proofs.Steps.{Give, all_give_at, nothing_gives}
-use Rattle.network_text.proofs.Words.{Case, Exchanger, GivenNetworksAreReadAgain, GivenNetworksAreTheOneOutcome, HasShape, IsNetwork, IsNetworkOf, IsOneOutcomeOf, Joins, Line, Network, Source, TextsGiveNoOther, TextsGiveTheirNetworks, exchangers_of, first_missing, grammar, is_missed, is_passed, misses_pass, passages_of, same_passage, start, statement_of, statements_of, text_of}
-use Rattle.stream_case.specs.declared.source.Source.TheVariants as source
-use Rattle.stream_case.proofs.CompleteLemmas.{StaysValid-IsComplete}
-use Rattle.network_text.specs.declared.fault.NetFault.TheVariants as fault
-use Rattle.network_text.specs.declared.fault.NetWhy.TheVariants as why
-use Rattle.networks.specs.declared.network.Line.TheVariants as line
-use Rattle.networks.proofs.Counts.{find_none, some_counted}
-use Rattle.networks.proofs.OfShape.{exchanger_at, line_at, line_of}
-use Rattle.network_text.proofs.shape.Counts.{network-keeps_counts}
-use Rattle.network_text.proofs.shape.Law.{network-has_shape}
-use Rattle.statements.proofs.PlainStatements.{statements-back}
+use Rattle.network_text.proofs.Words.{Case, Exchanger, Give, HasShape, IsNetwork, IsNetworkOf, Joins, Line, Network, Source, StaysValid-IsComplete, all_give_at}
+use Rattle.network_text.proofs.Words.{exchangers_of, find_none, first_missing, get_or-range_with_len, grammar, is_missed, is_passed, length-range_with_len}
+use Rattle.network_text.proofs.Words.{line_at, line_of, misses_pass, no_value, nothing_gives, one_value, passages_of, range_with_len, same_passage}
+use Rattle.network_text.proofs.Words.{some_counted, start, statement_of, statements-back, statements_of, text_of}
 use Rattle.network_text.proofs.back.Branches.{IsReadable}
 use Rattle.network_text.proofs.back.Front.{front, front-first, front-last}
 use Rattle.network_text.proofs.back.Plain.{statements_plain}
 use Rattle.network_text.proofs.back.Steps.{line_follows}
+use Rattle.network_text.proofs.shape.Counts.{network-keeps_counts}
+use Rattle.network_text.proofs.shape.Law.{network-has_shape}
+use Rattle.network_text.specs.Laws.{GivenNetworksAreReadAgain, GivenNetworksAreTheOneOutcome, IsOneOutcomeOf, TextsGiveNoOther, TextsGiveTheirNetworks}
+use Rattle.networks.proofs.OfShape.{exchanger_at}
+use Rattle.std.proofs.Common.{Err, List, None, Ok, Some, [], ap, arith, false, get_or, inl, inr, length, map, not, option_map, refl, slice_get, subst, sym}
+use Rattle.std.proofs.Common.{take, ℕ, ◌+◌, ◌<◌, ◌∙◌, ◌≡◌}
+use Rattle.network_text.specs.declared.fault.NetFault.TheVariants as fault
+use Rattle.network_text.specs.declared.fault.NetWhy.TheVariants as why
+use Rattle.networks.specs.declared.network.Line.TheVariants as line
+use Rattle.stream_case.specs.declared.source.Source.TheVariants as source
 
 -- ---- the statements, one after the other
 
@@ -54,10 +52,7 @@ no_side_missed {network = network} shape index (line.Exchanger name hot cold dut
     let no_hot = none_missed shape number e at hot (λ stream is. inl is) in
     let no_cold = none_missed shape number e at cold (λ stream is. inr is) in
     rw (here, no_hot, no_cold) refl
-no_side_missed shape index (line.Split from first cp second) here = rw here refl
-no_side_missed shape index (line.Pass from exchanger to) here = rw here refl
-no_side_missed shape index (line.Mix first second to) here = rw here refl
-no_side_missed shape index (line.End branch) here = rw here refl
+no_side_missed shape index other here = rw here refl
 
 none-missing : {case : Case} {network : Network} → HasShape case network → first_missing network ≡ None
 unfolding first_missing

@@ -1,14 +1,11 @@
 -- The statements of a printed network are of plain fields.
-use Rattle.std.proofs.Common.{◌<◌, ℕ, All, get_or, length, map, refl, arith, codes}
-use Rattle.std.proofs.lemmas.List.Elements.{All-map}
-use Rattle.network_text.proofs.Words.{Case, HasShape, IsPlainField, IsPlainStatement, IsSourceOf, Line, Network, Source, branch_name, exchanger_name, exchangers_of, source_name, statement_of}
-use Rattle.stream_case.proofs.CaseLemmas.{IsName-source_name}
-use Rattle.stream_case.proofs.CompleteLemmas.{StaysValid}
-use Rattle.networks.specs.declared.network.Line.TheVariants as line
-use Rattle.networks.proofs.OfShape.{IsLineOf, line_at, line_of, own_exchanger}
-use Rattle.network_text.proofs.print.Fields.{any_name_plain, fraction_plain, name_plain}
+use Rattle.network_text.proofs.print.Fields.{any_name_plain, fraction_plain}
 use Rattle.network_text.proofs.print.Names.{branch_named, exchanger_named}
-use Rattle.statements.proofs.PlainStatements.{plain_statement, word_plain}
+use Rattle.network_text.proofs.Words.{All-map, Case, HasShape, IsLineOf, IsName-source_name, IsPlainField, IsPlainStatement, IsSourceOf, Line, Network, Source}
+use Rattle.network_text.proofs.Words.{StaysValid, branch_name, exchanger_name, exchangers_of, line_at, line_of, name_plain, own_exchanger, plain_statement}
+use Rattle.network_text.proofs.Words.{source_name, statement_of, word_plain}
+use Rattle.std.proofs.Common.{All, arith, codes, get_or, length, map, refl, ℕ, ◌<◌}
+use Rattle.networks.specs.declared.network.Line.TheVariants as line
 
 module _ {case : Case} {network : Network} (valid : StaysValid case) (shape : HasShape case network) where
   branch_plain : (b : ℕ) → b < length network.branches → IsPlainField (branch_name network b)

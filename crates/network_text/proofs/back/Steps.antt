@@ -1,26 +1,22 @@
 -- Each printed line of a network follows on the lines before it.
-use Rattle.std.proofs.Common.{◌≡◌, ◌∙◌, ◌<◌, ◌==◌, ℕ, suc, true, false, not, List, [], Some, None, is_some, unwrap_or, length, nat_lt, refl, sym, ap, arith}
-use Rattle.std.proofs.lemmas.Bool.{and_from}
-use Rattle.std.proofs.lemmas.Bool.Decides.{nat_tests}
-use Rattle.network_text.proofs.Words.{Case, Entry, IsPositive, Kind, Line, MOST_EXCHANGERS, MOST_STATEMENTS, Network, Rational, Side, Source, Statement, branch_name, checks, end_checks, entry_in, exchanger_checks, exchanger_field_checks, exchangers_of, first_failing, fraction, fraction_checks, fraction_in, fraction_text, grammar, is_below, is_free_side, is_on, is_used, kind_checks, kind_of, made_before, mix_checks, mixed_checks, names_of, new_branch_checks, new_exchanger_checks, pass_checks, passed_checks, rational_zero, side_of, source_at, source_checks, source_name, source_named, split_checks, statement_of, stream_at, used_branch_checks, with_any}
-use Rattle.first_fault.proofs.CheckLemmas.{Passes, none_fails}
-use Rattle.first_fault.proofs.Steps.{Follows}
-use Rattle.stream_case.specs.declared.source.Side.TheVariants as side
-use Rattle.stream_case.specs.declared.source.Source.TheVariants as source
-use Rattle.stream_case.proofs.CaseLemmas.{IsSourceOf-side, source_named-source_name}
-use Rattle.stream_case.proofs.DistinctLemmas.{other_name}
-use Rattle.stream_case.proofs.NameTests.{name-passes}
-use Rattle.stream_case.proofs.SourceLemmas.{own_side}
-use Rattle.fractions.proofs.Comparisons.{Decides-is_below, positive-is}
-use Rattle.networks.specs.declared.few.AtMostTwo.TheVariants as few
-use Rattle.network_text.specs.declared.kind.Kind.TheVariants as kind
-use Rattle.networks.specs.declared.network.Line.TheVariants as line
-use Rattle.networks.proofs.OfShape.{IsLineOf, stream_at-take}
-use Rattle.network_text.proofs.print.Fields.{fraction-back}
-use Rattle.network_text.proofs.print.Names.{many_names}
-use Rattle.network_text.proofs.back.Branches.{IsReadable, made_known, made_number, new, room, two_used, used}
+use Rattle.network_text.proofs.Words.{Case, Decides-is_below, Entry, Follows, IsLineOf, IsPositive, IsSourceOf-side, Kind, Line, MOST_EXCHANGERS}
+use Rattle.network_text.proofs.Words.{MOST_STATEMENTS, Network, Passes, Rational, Side, Source, Statement, and_from, branch_at, branch_name, checks, end_checks}
+use Rattle.network_text.proofs.Words.{entry_in, exchanger_checks, exchanger_field_checks, exchangers_of, first_failing, fraction, fraction_checks, fraction_in}
+use Rattle.network_text.proofs.Words.{fraction_text, grammar, is_below, is_free_side, is_on, is_used, kind_checks, kind_of, made_before, mix_checks}
+use Rattle.network_text.proofs.Words.{mixed_checks, name-passes, names_of, nat_tests, new_branch_checks, new_exchanger_checks, none_fails, other_name, own_side}
+use Rattle.network_text.proofs.Words.{pass_checks, passed_checks, positive-is, rational_zero, side_of, source_at, source_checks, source_name, source_named}
+use Rattle.network_text.proofs.Words.{source_named-source_name, split_checks, statement_of, stream_at, stream_at-take, used_branch_checks, with_any}
+use Rattle.network_text.proofs.back.Branches.{IsReadable, IsUsable, made_known, made_number, new, room, two_used, used}
 use Rattle.network_text.proofs.back.Exchangers.{free_side, new_exchanger, passed_exchanger}
 use Rattle.network_text.proofs.back.Front.{entry_of, front, front-next}
+use Rattle.network_text.proofs.print.Fields.{fraction-back}
+use Rattle.network_text.proofs.print.Names.{many_names}
+use Rattle.std.proofs.Common.{List, None, Some, [], ap, arith, false, is_some, length, nat_lt, not, refl, suc, sym, true, unwrap_or, ℕ, ◌<◌, ◌==◌, ◌∙◌, ◌≡◌}
+use Rattle.network_text.specs.declared.kind.Kind.TheVariants as kind
+use Rattle.networks.specs.declared.few.AtMostTwo.TheVariants as few
+use Rattle.networks.specs.declared.network.Line.TheVariants as line
+use Rattle.stream_case.specs.declared.source.Side.TheVariants as side
+use Rattle.stream_case.specs.declared.source.Source.TheVariants as source
 
 -- a statement that is not at fault behind what was given, and the entry that it gives
 record Says (case : Case) (given : Network) (s : Statement) (e : Entry) : Type 0 where
@@ -66,6 +62,10 @@ found_on {case} readable of s on =
     let at = ap (λ o. unwrap_or o (source.Stream 0)) named in
     record { known = ap is_some named; at = at; on = ap (is_on case of) at ∙ rw on (own_side of) }
 
+-- the branch that a name finds is not used
+found_unused : {given : Network} {name : List ℕ} {number : ℕ} → IsUsable given name number → not (is_used given (branch_at given name)) ≡ true
+found_unused {given} is = ap (λ b. not (is_used given b)) is.at ∙ is.unused
+
 -- ---- each kind
 
 module _ {case : Case} {network : Network} (readable : IsReadable case network) {index : ℕ} where
@@ -74,24 +74,15 @@ module _ {case : Case} {network : Network} (readable : IsReadable case network) 
       (entry_of network (line.Exchanger name hot cold duty))
   unfolding entry_in kind_checks exchanger_checks exchanger_field_checks new_exchanger_checks source_checks fraction_checks
   exchanger_says name hot cold duty of =
-      let given = front case network index in
-      let s = statement_of case network (line.Exchanger name hot cold duty) in
+      let given = front case network index in let s = statement_of case network (line.Exchanger name hot cold duty) in
       let e = new_exchanger readable name hot cold duty of in
       let given_hot = found_on readable side.Hot hot e.sound.hot in
-      let given_cold = found_on readable side.Cold cold e.sound.cold in
-      let heat = is_read duty e.sound.duty in
+      let given_cold = found_on readable side.Cold cold e.sound.cold in let heat = is_read duty e.sound.duty in
+      let known = and_from _ _ given_hot.known given_cold.known in let on = and_from _ _ given_hot.on given_cold.on in
       let count : nat_lt (length (exchangers_of given.lines)) MOST_EXCHANGERS ≡ true = let few = e.few in grind (arith, nat_tests) in
       record {
-        passes = passes_of case given s kind.Exchanger (room readable of) refl (
-          refl,
-          (
-            count,
-            (
-              name-passes name e.sound.name,
-              (e.free, (and_from _ _ given_hot.known given_cold.known, (and_from _ _ given_hot.on given_cold.on, (heat.some, (heat.above, tt))))),
-            ),
-          ),
-        );
+        passes = passes_of case given s kind.Exchanger (room readable of) refl
+            (refl, (count, (name-passes name e.sound.name, (e.free, (known, (on, (heat.some, (heat.above, tt))))))));
         gives = λ i. Some (record { line = line.Exchanger name (given_hot.at i) (given_cold.at i) (heat.value i); names = few.Nothing });
       }
 
@@ -99,27 +90,17 @@ module _ {case : Case} {network : Network} (readable : IsReadable case network) 
       → Says case (front case network index) (statement_of case network (line.Split from first cp second)) (entry_of network (line.Split from first cp second))
   unfolding entry_in kind_checks split_checks used_branch_checks new_branch_checks fraction_checks branch_name
   split_says from first cp second of =
-      let given = front case network index in
-      let s = statement_of case network (line.Split from first cp second) in
+      let given = front case network index in let s = statement_of case network (line.Split from first cp second) in
       let from_used = used readable of 0 (omega arith) in let one = new readable of 0 (omega arith) in
       let two = new readable of 1 (omega arith) in let number = made_number readable of 0 (omega arith) in
-      let number_two = made_number readable of 1 (omega arith) in
-      let flow = is_read cp of.flow in
+      let number_two = made_number readable of 1 (omega arith) in let flow = is_read cp of.flow in
       let before : first < second = omega (arith, number, number_two) in
       let within : second < length (names_of network.branches) = omega (arith, made_known readable of 1 (omega arith), many_names network) in
       let apart = other_name (branch_name network second) (branch_name network first) (readable.shape.named.distinct first second [] before within) in
       let first_is : length given.branches ≡ first = omega (arith, number) in
       record {
-        passes = passes_of case given s kind.Split (room readable of) refl (
-          refl,
-          (
-            from_used.known,
-            (
-              ap (λ b. not (is_used given b)) from_used.at ∙ from_used.unused,
-              (one.is, (one.free, (flow.some, (flow.above, (two.is, (two.free, (ap not apart, tt))))))),
-            ),
-          ),
-        );
+        passes = passes_of case given s kind.Split (room readable of) refl
+            (refl, (from_used.known, (found_unused from_used, (one.is, (one.free, (flow.some, (flow.above, (two.is, (two.free, (ap not apart, tt))))))))));
         gives = λ i. Some (record {
           line = line.Split (from_used.at i) (first_is i) (flow.value i) (number_two i);
           names = few.Two (branch_name network first) (branch_name network second);
@@ -130,16 +111,14 @@ module _ {case : Case} {network : Network} (readable : IsReadable case network) 
       → Says case (front case network index) (statement_of case network (line.Pass from exchanger to)) (entry_of network (line.Pass from exchanger to))
   unfolding entry_in kind_checks pass_checks used_branch_checks passed_checks new_branch_checks
   pass_says from exchanger to of =
-      let given = front case network index in
-      let s = statement_of case network (line.Pass from exchanger to) in
+      let given = front case network index in let s = statement_of case network (line.Pass from exchanger to) in
       let from_used = used readable of 0 (omega arith) in
-      let through = passed_exchanger readable from exchanger to of in
-      let one = new readable of 0 (omega arith) in
+      let through = passed_exchanger readable from exchanger to of in let one = new readable of 0 (omega arith) in
       let number : length given.branches ≡ to = omega (arith, made_number readable of 0 (omega arith)) in
       let side = (λ i. is_free_side given (through.at i) (stream_at given.branches (from_used.at i))) ∙ free_side readable from exchanger to of in
       record {
         passes = passes_of case given s kind.Pass (room readable of) refl
-            (refl, (from_used.known, (ap (λ b. not (is_used given b)) from_used.at ∙ from_used.unused, (through.known, (side, (one.is, (one.free, tt)))))));
+            (refl, (from_used.known, (found_unused from_used, (through.known, (side, (one.is, (one.free, tt)))))));
         gives = λ i. Some (record { line = line.Pass (from_used.at i) (through.at i) (number i); names = few.One (branch_name network to) });
       }
 
@@ -147,8 +126,7 @@ module _ {case : Case} {network : Network} (readable : IsReadable case network) 
       → Says case (front case network index) (statement_of case network (line.Mix first second to)) (entry_of network (line.Mix first second to))
   unfolding entry_in kind_checks mix_checks used_branch_checks mixed_checks new_branch_checks
   mix_says first second to of =
-      let given = front case network index in
-      let s = statement_of case network (line.Mix first second to) in
+      let given = front case network index in let s = statement_of case network (line.Mix first second to) in
       let m = made_before case network index in let one = used readable of 0 (omega arith) in
       let two = used readable of 1 (omega arith) in let result = new readable of 0 (omega arith) in
       let number : length given.branches ≡ to = omega (arith, made_number readable of 0 (omega arith)) in
@@ -160,16 +138,8 @@ module _ {case : Case} {network : Network} (readable : IsReadable case network) 
       let one_stream : (stream_at given.branches first == stream_at given.branches second) ≡ true = grind (arith, nat_tests, same) in
       let mixed = (λ i. stream_at given.branches (one.at i) == stream_at given.branches (two.at i)) ∙ one_stream in
       record {
-        passes = passes_of case given s kind.Mix (room readable of) refl (
-          refl,
-          (
-            one.known,
-            (
-              ap (λ b. not (is_used given b)) one.at ∙ one.unused,
-              (two.known, (ap (λ b. not (is_used given b)) two.at ∙ two.unused, (apart, (mixed, (result.is, (result.free, tt)))))),
-            ),
-          ),
-        );
+        passes = passes_of case given s kind.Mix (room readable of) refl
+            (refl, (one.known, (found_unused one, (two.known, (found_unused two, (apart, (mixed, (result.is, (result.free, tt)))))))));
         gives = λ i. Some (record { line = line.Mix (one.at i) (two.at i) (number i); names = few.One (branch_name network to) });
       }
 
@@ -180,7 +150,7 @@ module _ {case : Case} {network : Network} (readable : IsReadable case network) 
       let given = front case network index in let s = statement_of case network (line.End branch) in
       let own = used readable of 0 (omega arith) in
       record {
-        passes = passes_of case given s kind.End (room readable of) refl (refl, (own.known, (ap (λ b. not (is_used given b)) own.at ∙ own.unused, tt)));
+        passes = passes_of case given s kind.End (room readable of) refl (refl, (own.known, (found_unused own, tt)));
         gives = λ i. Some (record { line = line.End (own.at i); names = few.Nothing });
       }
 

@@ -1,30 +1,13 @@
 -- Names, words and fractions are plain fields, and a printed fraction is read as itself.
-use Rattle.std.proofs.Common.{◌≡◌, ◌∙◌, ◌<◌, ◌+◌, ◌∷◌, ◌++◌, ◌==◌, ◌^◌, ℕ, suc, zero, Bool, true, false, List, [], All, Some, length, drop, take, append_assoc, refl, sym, ap, arith, inl, inr, length-append, unsigned_abs, if◌then◌else◌, decimal, take_at, take_all, drop_at}
-use Rattle.std.specs.Fmt.{signed_decimal}
-use Rattle.std.specs.List.{after_first, before_first, list_any, position_or_len}
-use Rattle.std.proofs.Math.Bool.{or-true}
-use Rattle.std.proofs.lemmas.Bool.Decides.{nat_tests}
-use Rattle.std.proofs.lemmas.List.{get_or_append_left, get_or_at}
-use Rattle.std.proofs.lemmas.List.Elements.{All-append, All-cons, All-weaker}
-use Rattle.std.proofs.lemmas.List.Folds.{list_any-append, list_any_none}
-use Rattle.std.proofs.lemmas.List.Sums.{position_or_len_is}
-use Rattle.network_text.proofs.Words.{IsAnyName, IsName, IsPlainField, IsVisible, IsWithinLimits, MOST_DIGITS, Rational, bounded_ratio, denominator_in, fraction_in, fraction_text, is_name_byte, is_slash, natural_in, number_in, ratio, ratio-self}
-use Rattle.stream_case.proofs.DigitLemmas.{natural_read}
-use Rattle.fractions.proofs.Limits.{Decides-is_within_limits}
+use Rattle.network_text.proofs.Words.{All-append, All-cons, All-weaker, Decides-is_within_limits, IsAnyName, IsPlainField, IsVisible, IsWithinLimits}
+use Rattle.network_text.proofs.Words.{MOST_DIGITS, Rational, after_first, before_first, bounded_ratio, denominator_in, fraction_in, fraction_text}
+use Rattle.network_text.proofs.Words.{get_or_append_left, get_or_at, is_slash, list_any, list_any-append, list_any_none, name_plain, nat_tests, natural_in}
+use Rattle.network_text.proofs.Words.{natural_read, number_in, or-true, position_or_len, position_or_len_is, ratio, ratio-self, signed_decimal}
 use Rattle.statements.proofs.PlainNumbers.{IsNumberByte, bytes_visible, decimal_bytes, number-back, signed_bytes, signed_some}
+use Rattle.std.proofs.Common.{All, Bool, List, Some, [], ap, append_assoc, arith, decimal, drop, drop_at, false, if◌then◌else◌, inl, inr, length, length-append}
+use Rattle.std.proofs.Common.{refl, suc, sym, take, take_all, take_at, true, unsigned_abs, zero, ℕ, ◌++◌, ◌+◌, ◌<◌, ◌==◌, ◌^◌, ◌∙◌, ◌∷◌, ◌≡◌}
 
 -- ---- names
-
-name_byte_visible : (b : ℕ) → is_name_byte b ≡ true → IsVisible b
-name_byte_visible b is = grind (arith, nat_tests)
-
-pub name_plain : (name : List ℕ) → IsName name → IsPlainField name
-name_plain [] is = absurd is
-name_plain (b ∷ bs) is =
-    let first : is_name_byte b ≡ true = rw is.0 refl in record {
-      some = omega arith;
-      visible = All-cons IsVisible b bs (name_byte_visible b first) (All-weaker (λ (c : ℕ). is_name_byte c ≡ true) IsVisible name_byte_visible bs is.1);
-    }
 
 pub any_name_plain : (name : List ℕ) → IsAnyName name → IsPlainField name
 any_name_plain name (inl is) = name_plain name is

@@ -1,17 +1,12 @@
 -- How long the fields and the lines of a printed network are.
-use Rattle.std.proofs.Common.{◌≡◌, ◌∙◌, ◌<◌, ◌≤◌, ◌+◌, ◌*◌, ◌∷◌, ◌++◌, ◌==◌, ◌^◌, ℕ, ℤ, pos, negsuc, Bool, true, false, List, [], All, get_or, inl, inr, length, map, refl, sym, ap, subst, arith, length-append, codes, if◌then◌else◌, unsigned_abs, decimal, flat_map, sum_by}
-use Rattle.std.specs.Fmt.{signed_decimal}
-use Rattle.std.proofs.lemmas.Fmt.{length-decimal-le_wide}
-use Rattle.std.proofs.lemmas.Int.{ints}
-use Rattle.std.proofs.lemmas.List.{length-map}
-use Rattle.std.proofs.lemmas.List.Elements.{All-head, All-map, All-tail}
-use Rattle.std.proofs.lemmas.List.Sums.{sum_by-cons}
-use Rattle.network_text.proofs.Words.{Case, HasShape, IsAnyName, IsName, IsPositive, IsSourceOf, LONGEST_LINE, Line, Network, Rational, Source, Statement, branch_name, exchanger_name, exchangers_of, fields_text, fraction_text, source_name, statement_of, statement_text, text_of}
-use Rattle.stream_case.proofs.CaseLemmas.{IsName-source_name}
-use Rattle.stream_case.proofs.CompleteLemmas.{StaysValid}
-use Rattle.networks.specs.declared.network.Line.TheVariants as line
-use Rattle.networks.proofs.OfShape.{IsLineOf, line_at, line_of, own_exchanger}
+use Rattle.network_text.proofs.Words.{All-head, All-map, All-tail, Case, HasShape, IsAnyName, IsLineOf, IsName, IsName-source_name, IsPositive, IsSourceOf}
+use Rattle.network_text.proofs.Words.{LONGEST_LINE, Line, Network, Rational, Source, Statement, StaysValid, branch_name, exchanger_name, exchangers_of}
+use Rattle.network_text.proofs.Words.{fields_text, fraction_text, ints, length-decimal-le_wide, length-map, line_at, line_of, own_exchanger, signed_decimal}
+use Rattle.network_text.proofs.Words.{source_name, statement_of, statement_text, sum_by-cons, text_of}
 use Rattle.network_text.proofs.print.Names.{branch_named, exchanger_named}
+use Rattle.std.proofs.Common.{All, Bool, List, [], ap, arith, codes, decimal, false, flat_map, get_or, if◌then◌else◌, inl, inr, length, length-append, map}
+use Rattle.std.proofs.Common.{negsuc, pos, refl, subst, sum_by, sym, true, unsigned_abs, ℕ, ℤ, ◌*◌, ◌++◌, ◌+◌, ◌<◌, ◌==◌, ◌^◌, ◌∙◌, ◌∷◌, ◌≡◌, ◌≤◌}
+use Rattle.networks.specs.declared.network.Line.TheVariants as line
 
 -- ---- fields
 

@@ -1,6 +1,6 @@
 -- The text of a network, line by line.
-use Rattle.std.proofs.Common.{◌≡◌, ◌≤◌, ℕ, List, length, map, take, ap, flat_map, take_all}
 use Rattle.network_text.proofs.Words.{Case, Network, statement_of, statement_text, text_of}
+use Rattle.std.proofs.Common.{List, ap, flat_map, length, map, take, take_all, ℕ, ◌≡◌, ◌≤◌}
 
 -- the text of the first lines
 abbrev pub text_before : Case → Network → ℕ → List ℕ

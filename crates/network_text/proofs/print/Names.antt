@@ -1,11 +1,9 @@
 -- What is named is found by its name, among the first of some names that differ.
-use Rattle.std.proofs.Common.{◌≡◌, ◌≢◌, ◌∙◌, ◌<◌, ◌≤◌, ◌∷◌, ℕ, List, [], AllPairs, Option, Some, None, get_or, length, map, option_map, position, take, refl, sym, ap, arith, filter_map, bytes_eq, get_or-take, length-take-le}
-use Rattle.std.specs.List.{cons_option}
-use Rattle.std.proofs.lemmas.List.{get_or-map, get_or_default, length-map}
-use Rattle.std.proofs.lemmas.List.Elements.{All-map}
-use Rattle.stream_case.proofs.DistinctLemmas.{no_place_of, place_of}
-use Rattle.network_text.proofs.Words.{Branch, Case, Exchanger, HasShape, IsAnyName, IsName, Line, Network, branch_name, exchanger_name, exchanger_names, exchanger_of, exchangers_of, names_of}
-use Rattle.networks.proofs.Lists.{AllPairs-take}
+use Rattle.network_text.proofs.Words.{All-map, AllPairs-take, Branch, Case, Exchanger, HasShape, IsAnyName, IsName, Line, Network, branch_name, cons_option}
+use Rattle.network_text.proofs.Words.{exchanger_name, exchanger_names, exchanger_of, exchangers_of, get_or-map, get_or_default, length-map, names_of}
+use Rattle.network_text.proofs.Words.{no_place_of, place_of}
+use Rattle.std.proofs.Common.{AllPairs, List, None, Option, Some, [], ap, arith, bytes_eq, filter_map, get_or, get_or-take, length, length-take-le, map}
+use Rattle.std.proofs.Common.{option_map, position, refl, sym, take, ℕ, ◌<◌, ◌∙◌, ◌∷◌, ◌≡◌, ◌≢◌, ◌≤◌}
 
 pub found_in_front : (names : List (List ℕ)) (m i : ℕ) → AllPairs (λ a b. a ≢ b) names → i < m → m ≤ length names
     → position (bytes_eq (get_or names i [])) (take m names) ≡ Some i

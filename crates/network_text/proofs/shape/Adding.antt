@@ -1,8 +1,8 @@
 -- The shape of the network so far, and what an entry adds to it.
-use Rattle.std.proofs.Common.{◌≡◌, ◌<◌, ◌≤◌, ℕ, length, All}
-use Rattle.std.specs.List.{range_with_len}
-use Rattle.std.specs.Option.{ForSome}
-use Rattle.network_text.proofs.Words.{AreExchangers, AreMadeBeforeUse, AreMadeInOrder, AreNamed, ArePassedWhenDeclared, AreUsedOnce, Case, Entry, HasPositiveFlow, IsExchanger, IsFresh, IsOfOneStream, Network, PassesDeclared, exchanger_of, exchangers_of, first_stream, makes, members, passes, stream_at, uses}
+use Rattle.network_text.proofs.Words.{AreExchangers, AreMadeBeforeUse, AreMadeInOrder, AreNamed, ArePassedWhenDeclared, AreUsedOnce, Case, Entry, ForSome}
+use Rattle.network_text.proofs.Words.{HasPositiveFlow, IsExchanger, IsFresh, IsOfOneStream, Network, PassesDeclared, exchanger_of, exchangers_of, first_stream}
+use Rattle.network_text.proofs.Words.{makes, members, passes, range_with_len, stream_at, uses}
+use Rattle.std.proofs.Common.{All, length, ℕ, ◌<◌, ◌≡◌, ◌≤◌}
 
 -- the shape, but that a pass may still be missing
 pub record HasShapeSoFar (case : Case) (network : Network) : Type 0 where

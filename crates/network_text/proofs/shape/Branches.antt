@@ -1,22 +1,15 @@
 -- The branches of a network keep their shape with one entry more.
-use Rattle.std.proofs.Common.{◌≡◌, ◌≢◌, ◌∙◌, ◌<◌, ◌≤◌, ◌-◌, ◌+◌, ◌∷◌, ◌++◌, ◌⊎◌, inl, inr, ℕ, List, [], All, AllPairs, Some, get_or, slice_get, length, map, sym, ap, subst, arith, length-append}
-use Rattle.std.specs.List.{enumerate_from, range_with_len}
-use Rattle.std.proofs.lemmas.List.{get_or-append-add, get_or-map, length-map, map-id, take-append-le, take_all}
-use Rattle.std.proofs.lemmas.List.Elements.{All-append, All-head, All-map, All-push, All-weaker}
-use Rattle.std.proofs.lemmas.List.FromFn.{get_or-enumerate_from, get_or-range_with_len, length-enumerate_from, length-range_with_len}
-use Rattle.std.proofs.lemmas.Option.{slice_get_within}
-use Rattle.std.proofs.lemmas.Simd.{map-map}
-use Rattle.sums.proofs.EnumerationLemmas.{map-enumerate_from_item}
-use Rattle.network_text.proofs.Words.{AreMadeBeforeUse, AreMadeInOrder, AreNamed, AreUsedOnce, Branch, Case, Entry, IsAnyName, IsName, IsOfOneStream, Line, Network, Stream, Utility, branch_of, branches_in, first_stream, made_before, made_by, makes, members, names_of, own_branch, own_branches, start, stream_at, uses, with_entry}
-use Rattle.stream_case.proofs.CompleteLemmas.{StaysValid}
-use Rattle.stream_case.proofs.DistinctLemmas.{AllPairs-front}
-use Rattle.networks.specs.declared.network.Line.TheVariants as line
-use Rattle.networks.proofs.LineLaws.{made_by-push, names_of-append, stream_at-front, used_by-push}
-use Rattle.sums.proofs.EnumerationLemmas.{range_with_len-append}
-use Rattle.sums.proofs.ListLemmas.{slice_get_push}
-use Rattle.networks.proofs.Lists.{All-front}
-use Rattle.networks.proofs.OfShape.{all_made, made_there, many_own, stream_at-get_or, streams_first, used_there}
 use Rattle.network_text.proofs.shape.Adding.{Adds, HasShapeSoFar}
+use Rattle.network_text.proofs.Words.{All-append, All-front, All-head, All-map, All-push, All-weaker, AllPairs-front, AreMadeBeforeUse, AreMadeInOrder}
+use Rattle.network_text.proofs.Words.{AreNamed, AreUsedOnce, Branch, Case, Entry, IsAnyName, IsName, IsOfOneStream, Line, Network, StaysValid, Stream, Utility}
+use Rattle.network_text.proofs.Words.{all_made, branch_of, branches_in, enumerate_from, first_stream, get_or-append-add, get_or-enumerate_from, get_or-map}
+use Rattle.network_text.proofs.Words.{get_or-range_with_len, length-enumerate_from, length-map, length-range_with_len, made_before, made_by, made_by-push}
+use Rattle.network_text.proofs.Words.{made_there, makes, many_own, map-enumerate_from_item, map-id, map-map, members, names_of, names_of-append, own_branch}
+use Rattle.network_text.proofs.Words.{own_branches, range_with_len, range_with_len-append, slice_get_push, slice_get_within, start, stream_at, stream_at-front}
+use Rattle.network_text.proofs.Words.{stream_at-get_or, streams_first, take-append-le, take_all, used_by-push, used_there, uses, with_entry}
+use Rattle.std.proofs.Common.{All, AllPairs, List, Some, [], ap, arith, get_or, inl, inr, length, length-append, map, slice_get, subst, sym, ℕ, ◌++◌, ◌+◌, ◌-◌}
+use Rattle.std.proofs.Common.{◌<◌, ◌∙◌, ◌∷◌, ◌≡◌, ◌≢◌, ◌≤◌, ◌⊎◌}
+use Rattle.networks.specs.declared.network.Line.TheVariants as line
 
 -- ---- the branches of an entry
 
@@ -30,10 +23,7 @@ names_made given e = map-map (λ (b : Branch). b.name) (branch_of (first_stream 
 -- a line that makes branches uses some
 uses_some : (l : Line) → 0 < length (makes l) → 0 < length (uses l)
 uses_some (line.Exchanger name hot cold duty) some = some
-uses_some (line.Split from first cp second) some = omega arith
-uses_some (line.Pass from exchanger to) some = omega arith
-uses_some (line.Mix first second to) some = omega arith
-uses_some (line.End branch) some = omega arith
+uses_some other some = omega arith
 
 first_stream-within : (branches : List Branch) (n : ℕ) (numbers : List ℕ) → All (λ b. b.stream < n) branches → All (λ b. b < length branches) numbers
     → 0 < length numbers → first_stream branches numbers < n
@@ -51,7 +41,6 @@ record AreOf (branches : List Branch) (l : Line) (stream : ℕ) : Type 0 where
   made : All (λ b. stream_at branches b ≡ stream) (makes l)
 
 one_stream_from : (branches : List Branch) (l : Line) (stream : ℕ) → AreOf branches l stream → IsOfOneStream branches l
-one_stream_from branches (line.Exchanger name hot cold duty) stream are = tt
 one_stream_from branches (line.Split from first cp second) stream are =
     let own = sym (are.used 0 0 (omega arith)) in
     (are.made 0 0 (omega arith) ∙ own, are.made 1 0 (omega arith) ∙ own)
@@ -59,12 +48,11 @@ one_stream_from branches (line.Pass from exchanger to) stream are = are.made 0 0
 one_stream_from branches (line.Mix first second to) stream are =
     let own = sym (are.used 0 0 (omega arith)) in
     (are.used 1 0 (omega arith) ∙ own, are.made 0 0 (omega arith) ∙ own)
-one_stream_from branches (line.End branch) stream are = tt
+one_stream_from branches other stream are = tt
 
 -- with more branches the streams of a line stay
 still_one : (branches new : List Branch) (l : Line) → All (λ b. b < length branches) (uses l) → All (λ b. b < length branches) (makes l)
     → IsOfOneStream branches l → IsOfOneStream (branches ++ new) l
-still_one branches new (line.Exchanger name hot cold duty) used made one = tt
 still_one branches new (line.Split from first cp second) used made one =
     let own = sym (stream_at-front branches new from (used 0 0 (omega arith))) in
     (stream_at-front branches new first (made 0 0 (omega arith)) ∙ one.0 ∙ own, stream_at-front branches new second (made 1 0 (omega arith)) ∙ one.1 ∙ own)
@@ -73,7 +61,7 @@ still_one branches new (line.Pass from exchanger to) used made one = stream_at-f
 still_one branches new (line.Mix first second to) used made one =
     let own = sym (stream_at-front branches new first (used 0 0 (omega arith))) in
     (stream_at-front branches new second (used 1 0 (omega arith)) ∙ one.0 ∙ own, stream_at-front branches new to (made 0 0 (omega arith)) ∙ one.1 ∙ own)
-still_one branches new (line.End branch) used made one = tt
+still_one branches new other used made one = tt
 
 -- the new branches are of the stream that they are given
 stream_made : (branches : List Branch) (stream : ℕ) (names : List (List ℕ))
@@ -163,8 +151,7 @@ module _ {case : Case} {given : Network} (shape : HasShapeSoFar case given) {e :
   pub one_stream : All (IsOfOneStream (with_entry given e).branches) (with_entry given e).lines
   unfolding with_entry
   one_stream =
-      let new = branches_in given e in
-      let used = used_there shape.made_once shape.made_first in
+      let new = branches_in given e in let used = used_there shape.made_once shape.made_first in
       let made = made_there shape.made_once in
       All-push (IsOfOneStream (given.branches ++ new)) given.lines e.line
       (λ k d within. still_one given.branches new (get_or given.lines k d) (used k d within) (made k d within) (shape.one_stream k d within))

@@ -1,11 +1,9 @@
 -- A network that the grammar gives has no more statements and exchangers than a text may have.
-use Rattle.std.proofs.Common.{◌<◌, ◌≤◌, ◌+◌, ◌∷◌, List, [], Option, Some, None, length, sym, ap, subst, arith, length-append, option_to_list}
-use Rattle.std.proofs.lemmas.Bool.Decides.{nat_tests}
-use Rattle.first_fault.proofs.CheckLemmas.{Passes}
-use Rattle.first_fault.proofs.Steps.{given_has}
-use Rattle.network_text.proofs.Words.{Case, Entry, IsNetwork, KeepsCounts, Kind, MOST_EXCHANGERS, MOST_STATEMENTS, Network, Statement, checks, entry_by, entry_in, exchanger_checks, exchanger_of, exchangers_of, grammar, kind_checks, kind_of, next, start, with_any, with_entry}
+use Rattle.network_text.proofs.Words.{Case, Entry, IsNetwork, KeepsCounts, Kind, MOST_EXCHANGERS, MOST_STATEMENTS, Network, Passes, Statement, checks, entry_by}
+use Rattle.network_text.proofs.Words.{entry_in, exchanger_checks, exchanger_of, exchangers_of, exchangers_of-push, given_has, grammar, kind_checks, kind_of}
+use Rattle.network_text.proofs.Words.{nat_tests, next, start, with_any, with_entry}
+use Rattle.std.proofs.Common.{List, None, Option, Some, [], ap, arith, length, length-append, option_to_list, subst, sym, ◌+◌, ◌<◌, ◌∷◌, ◌≤◌}
 use Rattle.network_text.specs.declared.kind.Kind.TheVariants as kind
-use Rattle.networks.proofs.LineLaws.{exchangers_of-push}
 
 -- there is room for a statement that is not at fault
 pub has_room : (case : Case) (given : Network) (s : Statement) → Passes (checks case given s) → length given.lines < MOST_STATEMENTS
@@ -33,10 +31,7 @@ few_by case given s (Some kind.Exchanger) few room passes =
     let test = passes.1.0 in
     let less : length (exchangers_of given.lines) < MOST_EXCHANGERS = grind (arith, nat_tests) in
     one_more given _ room (omega (arith, less))
-few_by case given s (Some kind.Split) few room passes = one_more given _ room (omega (arith, few.exchangers))
-few_by case given s (Some kind.Pass) few room passes = one_more given _ room (omega (arith, few.exchangers))
-few_by case given s (Some kind.Mix) few room passes = one_more given _ room (omega (arith, few.exchangers))
-few_by case given s (Some kind.End) few room passes = one_more given _ room (omega (arith, few.exchangers))
+few_by case given s (Some other) few room passes = one_more given _ room (omega (arith, few.exchangers))
 
 few_next : (case : Case) (given : Network) (s : Statement) → KeepsCounts given → Passes (checks case given s) → KeepsCounts (next case given s)
 unfolding entry_in checks

@@ -1,19 +1,17 @@
 -- A statement that is not at fault adds an entry to the network so far, kind by kind.
-use Rattle.std.proofs.Common.{◌≡◌, ◌≢◌, ◌∙◌, ◌<◌, ◌∷◌, ◌++◌, ◌==◌, ℕ, true, false, not, List, [], AllPairs, Option, Some, None, is_some, length, refl, sym, subst, inl, bytes_eq, eqb-true, append-nil}
-use Rattle.std.specs.Cmp.Lexicographic.{bytes_decides}
-use Rattle.std.proofs.lemmas.Bool.{and_parts, eqb-false, false≢true, not-true}
-use Rattle.std.proofs.lemmas.List.Elements.{All-from_recursion, All-nil}
-use Rattle.std.proofs.lemmas.List.Quantifiers.{all_pairs_push}
-use Rattle.std.proofs.lemmas.Option.{same_Some}
-use Rattle.first_fault.proofs.CheckLemmas.{Passes}
-use Rattle.network_text.proofs.Words.{Case, Entry, Exchanger, IsAnyName, IsExchanger, Kind, Network, Passage, Statement, branch_at, checks, end_checks, end_entry, entry_by, entry_in, exchanger_at, exchanger_checks, exchanger_entry, exchanger_field_checks, exchangers_of, field, fraction, fraction_checks, is_on, is_passed, joins_stream, kind_checks, kind_of, mix_checks, mix_entry, mixed_checks, names_of, new_branch_checks, new_exchanger_checks, pass_checks, pass_entry, passed_checks, source_at, source_checks, split_checks, split_entry, stream_at, used_branch_checks, used_by}
-use Rattle.stream_case.specs.declared.source.Side.TheVariants as side
-use Rattle.stream_case.proofs.NameTests.{passed-name}
-use Rattle.network_text.specs.declared.kind.Kind.TheVariants as kind
-use Rattle.networks.proofs.Lists.{two_pushed}
+use Rattle.network_text.proofs.Words.{All-from_recursion, All-nil, Case, Entry, Exchanger, IsAnyName, IsExchanger, Kind, Network, Passage, Passes, Statement}
+use Rattle.network_text.proofs.Words.{all_pairs_push, and_parts, branch_at, bytes_decides, checks, end_checks, end_entry, entry_by, entry_in, eqb-false}
+use Rattle.network_text.proofs.Words.{exchanger_at, exchanger_checks, exchanger_entry, exchanger_field_checks, exchangers_of, false≢true, field, fraction}
+use Rattle.network_text.proofs.Words.{fraction_checks, is_on, is_passed, joins_stream, kind_checks, kind_of, mix_checks, mix_entry, mixed_checks, names_of}
+use Rattle.network_text.proofs.Words.{new_branch_checks, new_exchanger_checks, not-true, pass_checks, pass_entry, passed-name, passed_checks, same_Some}
+use Rattle.network_text.proofs.Words.{source_at, source_checks, split_checks, split_entry, stream_at, two_pushed, used_branch_checks, used_by}
 use Rattle.network_text.proofs.NameTests.{passed-branch_name}
 use Rattle.network_text.proofs.shape.Adding.{Adds, HasShapeSoFar}
 use Rattle.network_text.proofs.shape.Fields.{branch_within, fraction_sound, joined, new_each, on_side, undeclared_each, unused_each}
+use Rattle.std.proofs.Common.{AllPairs, List, None, Option, Some, [], append-nil, bytes_eq, eqb-true, false, inl, is_some, length, not, refl, subst, sym, true}
+use Rattle.std.proofs.Common.{ℕ, ◌++◌, ◌<◌, ◌==◌, ◌∙◌, ◌∷◌, ◌≡◌, ◌≢◌}
+use Rattle.network_text.specs.declared.kind.Kind.TheVariants as kind
+use Rattle.stream_case.specs.declared.source.Side.TheVariants as side
 
 -- nothing more keeps pairs
 nothing_more : {X : Type 0} (R : X → X → Type 0) (xs : List X) → AllPairs R xs → AllPairs R (xs ++ [])
@@ -64,8 +62,7 @@ split_adds : (case : Case) (given : Network) (s : Statement) → HasShapeSoFar c
 unfolding split_checks used_branch_checks new_branch_checks fraction_checks
 split_adds case given s shape passes =
     let from = branch_at given (field s 1) in let used = passes.1 in let made = used.1.1 in let flow = made.1.1 in
-    let last = flow.1.1 in
-    let apart = not-true (bytes_eq (field s 4) (field s 2)) last.1.1.0 in
+    let last = flow.1.1 in let apart = not-true (bytes_eq (field s 4) (field s 2)) last.1.1.0 in
     let differ : field s 2 ≢ field s 4 = λ e. false≢true (sym apart ∙ (bytes_decides (field s 4) (field s 2)).1 (sym e)) in
     record {
       fresh = record {

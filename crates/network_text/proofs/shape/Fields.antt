@@ -1,16 +1,12 @@
 -- What the checks of fields say where they hold.
-use Rattle.std.proofs.Common.{◌≡◌, ◌≢◌, ◌∙◌, ◌<◌, ◌⊎◌, inl, inr, ℕ, zero, suc, ℤ, true, false, not, List, [], All, Option, Some, None, get_or, slice_get, is_some, unwrap_or, length, map, refl, sym, ap, subst, arith, position, bytes_eq, eqb-true}
-use Rattle.std.specs.Cmp.Lexicographic.{bytes_decides}
-use Rattle.std.proofs.lemmas.Bool.{false≢true, not-true, or_cases}
-use Rattle.std.proofs.lemmas.Bool.Decides.{nat_tests}
-use Rattle.std.proofs.lemmas.List.{get_or-map, length-map}
-use Rattle.std.proofs.lemmas.Option.{cond_some}
-use Rattle.network_text.proofs.Words.{Branch, Case, Exchanger, IsPositive, IsWithinLimits, Joins, Network, Rational, Side, Source, bounded_ratio, branch_at, branch_named, exchanger_named, exchangers_of, fraction, fraction_in, has_stream, is_below, is_on, is_side, is_stream, is_used, is_within_limits, joins_stream, names_of, ratio, ratio_of, rational_zero, side_of, used_by}
+use Rattle.network_text.proofs.Words.{Branch, Case, Decides-is_below, Decides-is_within_limits, Exchanger, IsPositive, IsWithinLimits, Joins, Network, Rational}
+use Rattle.network_text.proofs.Words.{Side, Source, bounded_ratio, branch_at, branch_named, bytes_decides, cond_some, exchanger_named, exchangers_of}
+use Rattle.network_text.proofs.Words.{false≢true, fraction, fraction_in, get_or-map, has_stream, index_within, is_below, is_on, is_side, is_some-position}
+use Rattle.network_text.proofs.Words.{is_stream, is_used, is_within_limits, joins_stream, length-map, names_of, nat_tests, none_any, not-true, or_cases}
+use Rattle.network_text.proofs.Words.{positive_num, ratio, ratio_of, rational_zero, same_side-true, side_of, used_by}
+use Rattle.std.proofs.Common.{All, List, None, Option, Some, [], ap, arith, bytes_eq, eqb-true, false, get_or, inl, inr, is_some, length, map, not, position}
+use Rattle.std.proofs.Common.{refl, slice_get, subst, suc, sym, true, unwrap_or, zero, ℕ, ℤ, ◌<◌, ◌∙◌, ◌≡◌, ◌≢◌, ◌⊎◌}
 use Rattle.stream_case.specs.declared.source.Source.TheVariants as source
-use Rattle.stream_case.proofs.SourceLemmas.{same_side-true}
-use Rattle.fractions.proofs.Comparisons.{Decides-is_below, positive_num}
-use Rattle.fractions.proofs.Limits.{Decides-is_within_limits}
-use Rattle.statements.proofs.Positions.{index_within, is_some-position, none_any}
 
 -- ---- branches
 

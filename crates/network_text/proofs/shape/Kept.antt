@@ -1,16 +1,11 @@
 -- The shape so far is kept by each statement that is not at fault.
-use Rattle.std.proofs.Common.{◌≡◌, ◌≢◌, ◌∙◌, ℕ, List, [], All, AllPairs, Option, Some, None, sym, subst, refl, arith}
-use Rattle.std.specs.Option.{ForSome, option_to_list}
-use Rattle.std.proofs.lemmas.List.Elements.{All-append, All-cons, All-nil, All-push}
-use Rattle.std.proofs.lemmas.Option.{same_Some}
-use Rattle.sums.proofs.OrderLemmas.{AllPairs-nil}
-use Rattle.first_fault.proofs.CheckLemmas.{Passes}
-use Rattle.first_fault.proofs.Steps.{Give, given_has}
-use Rattle.network_text.proofs.Words.{AreExchangers, Case, Entry, Exchanger, HasPositiveFlow, IsExchanger, IsOfOneStream, Network, Statement, checks, entry_in, exchanger_of, exchangers_of, grammar, next, own_branches, passages_of, start, used_by, with_any, with_entry}
-use Rattle.stream_case.proofs.CompleteLemmas.{StaysValid}
-use Rattle.networks.proofs.LineLaws.{exchangers_of-push}
+use Rattle.network_text.proofs.Words.{All-append, All-cons, All-nil, All-push, AllPairs-nil, AreExchangers, Case, Entry, Exchanger, ForSome, Give}
+use Rattle.network_text.proofs.Words.{HasPositiveFlow, IsExchanger, IsOfOneStream, Network, Passes, Statement, StaysValid, checks, entry_in, exchanger_of}
+use Rattle.network_text.proofs.Words.{exchangers_of, exchangers_of-push, given_has, grammar, next, option_to_list, own_branches, passages_of, same_Some, start}
+use Rattle.network_text.proofs.Words.{used_by, with_any, with_entry}
 use Rattle.network_text.proofs.shape.Adding.{Adds, HasShapeSoFar}
 use Rattle.network_text.proofs.shape.Entries.{added}
+use Rattle.std.proofs.Common.{All, AllPairs, List, None, Option, Some, [], arith, refl, subst, sym, ℕ, ◌∙◌, ◌≡◌, ◌≢◌}
 use Rattle.network_text.proofs.shape.Branches as branches
 use Rattle.network_text.proofs.shape.Passes as passes
 

@@ -1,17 +1,13 @@
 -- A network that the grammar gives has the shape.
-use Rattle.std.proofs.Common.{◌≡◌, ◌∙◌, ◌<◌, ◌≤◌, ℕ, false, List, Option, Some, None, get_or, length, option_map, refl, sym, ap, arith, inl, inr}
-use Rattle.std.specs.List.{range_with_len}
-use Rattle.std.proofs.lemmas.Bool.{not-false, or_parts}
-use Rattle.std.proofs.lemmas.List.FromFn.{get_or-range_with_len, length-range_with_len}
-use Rattle.std.proofs.lemmas.Option.{get_or_from_slice_get, slice_get_within}
-use Rattle.first_fault.proofs.Steps.{Give}
-use Rattle.network_text.proofs.Words.{ArePassedOnce, Case, Exchanger, HasShape, IsComplete, IsNetwork, Joins, Line, Network, Source, Statement, exchanger_of, exchangers_of, first_missing, grammar, is_missed, is_passed, misses_pass, misses_side, passages_of, passes, same_passage}
-use Rattle.stream_case.specs.declared.source.Source.TheVariants as source
-use Rattle.stream_case.proofs.CompleteLemmas.{StaysValid-IsComplete}
-use Rattle.networks.proofs.Counts.{StandsBefore, counted, none_found, stands_before}
+use Rattle.network_text.proofs.Words.{ArePassedOnce, Case, Exchanger, Give, HasShape, IsComplete, IsNetwork, Joins, Line, Network, Source, StandsBefore}
+use Rattle.network_text.proofs.Words.{Statement, StaysValid-IsComplete, counted, exchanger_of, exchangers_of, first_missing, get_or-range_with_len}
+use Rattle.network_text.proofs.Words.{get_or_from_slice_get, grammar, is_missed, is_passed, length-range_with_len, misses_pass, misses_side, none_found}
+use Rattle.network_text.proofs.Words.{not-false, or_parts, passages_of, passes, range_with_len, same_passage, slice_get_within, stands_before}
 use Rattle.network_text.proofs.Missing.{missing-at}
 use Rattle.network_text.proofs.shape.Counts.{network-keeps_counts}
 use Rattle.network_text.proofs.shape.Kept.{shape_so_far}
+use Rattle.std.proofs.Common.{List, None, Option, Some, ap, arith, false, get_or, inl, inr, length, option_map, refl, sym, ℕ, ◌<◌, ◌∙◌, ◌≡◌, ◌≤◌}
+use Rattle.stream_case.specs.declared.source.Source.TheVariants as source
 
 -- ---- no pass is missing
 

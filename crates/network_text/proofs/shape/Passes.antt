@@ -1,29 +1,19 @@
 -- The passes of a network keep their shape with one entry more.
-use Rattle.std.proofs.Common.{◌≡◌, ◌∙◌, ◌<◌, ◌≤◌, ◌+◌, ◌∷◌, ◌++◌, ◌==◌, ◌⊎◌, inl, inr, ℕ, Bool, true, false, cond, List, [], All, Option, Some, None, slice_get, length, take, refl, sym, ap, subst, arith, count_by, option_to_list, take_at}
-use Rattle.std.specs.Option.{ForSome}
-use Rattle.std.proofs.lemmas.Bool.{and_parts}
-use Rattle.std.proofs.lemmas.Bool.Decides.{nat_tests}
-use Rattle.std.proofs.lemmas.List.{take-append-le}
-use Rattle.std.proofs.lemmas.List.Sums.{sum_by-append}
-use Rattle.std.proofs.lemmas.Option.{slice_get_within}
-use Rattle.network_text.proofs.Words.{ArePassedWhenDeclared, Branch, Case, Entry, Exchanger, Joins, Line, Network, Passage, PassesDeclared, branches_in, exchangers_of, is_passed, passage_of, passages_of, passes, same_passage, uses, with_entry}
-use Rattle.networks.specs.declared.network.Line.TheVariants as line
-use Rattle.networks.proofs.Counts.{uncounted}
-use Rattle.networks.proofs.LineLaws.{passage_of-front, passages_of-front, passages_of-push, stream_at-front}
-use Rattle.sums.proofs.ListLemmas.{slice_get_push}
-use Rattle.networks.proofs.Lists.{all_at}
-use Rattle.networks.proofs.OfShape.{used_there, used_within}
 use Rattle.network_text.proofs.shape.Adding.{Adds, HasShapeSoFar}
+use Rattle.network_text.proofs.Words.{ArePassedWhenDeclared, Branch, Case, Entry, Exchanger, ForSome, Joins, Line, Network, Passage, PassesDeclared, all_at}
+use Rattle.network_text.proofs.Words.{and_parts, branches_in, exchangers_of, is_passed, nat_tests, passage_of, passage_of-front, passages_of, passages_of-front}
+use Rattle.network_text.proofs.Words.{passages_of-push, passes, same_passage, slice_get_push, slice_get_within, stream_at-front, sum_by-append, take-append-le}
+use Rattle.network_text.proofs.Words.{uncounted, used_there, used_within, uses, with_entry}
+use Rattle.std.proofs.Common.{All, Bool, List, None, Option, Some, [], ap, arith, cond, count_by, false, inl, inr, length, option_to_list, refl, slice_get}
+use Rattle.std.proofs.Common.{subst, sym, take, take_at, true, ℕ, ◌++◌, ◌+◌, ◌<◌, ◌==◌, ◌∙◌, ◌∷◌, ◌≡◌, ◌≤◌, ◌⊎◌}
+use Rattle.networks.specs.declared.network.Line.TheVariants as line
 
 -- with more branches
 still_declared : (branches new : List Branch) (declared : List Exchanger) (l : Line) → All (λ b. b < length branches) (uses l)
     → PassesDeclared branches declared l → PassesDeclared (branches ++ new) declared l
-still_declared branches new declared (line.Exchanger name hot cold duty) there passes = tt
-still_declared branches new declared (line.Split from first cp second) there passes = tt
 still_declared branches new declared (line.Pass from exchanger to) there
     (e, at, joins) = (e, at, subst (Joins e) (sym (stream_at-front branches new from (there 0 0 (omega arith)))) joins)
-still_declared branches new declared (line.Mix first second to) there passes = tt
-still_declared branches new declared (line.End branch) there passes = tt
+still_declared branches new declared other there passes = tt
 
 -- a side that is free was not passed
 none_so_far : (given : Network) (exchanger stream : ℕ) → is_passed given exchanger stream ≡ false → passes given exchanger stream ≡ 0

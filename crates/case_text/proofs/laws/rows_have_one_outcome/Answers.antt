@@ -1,5 +1,4 @@
-use Rattle.first_fault.proofs.OneOutcome.{fault_or_value, no_value, one_fault, one_value}
-use Rattle.case_text.specs.Outcome.{grammar}
+use Rattle.case_text.proofs.Words.{fault_or_value, grammar, no_value, one_fault, one_value}
 use Rattle.case_text.proofs.laws.rows_have_one_outcome.Goals as goal
 
 pub returns : goal.returns

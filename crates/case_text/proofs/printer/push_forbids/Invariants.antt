@@ -1,7 +1,5 @@
-use Rattle.std.proofs.Common.{◌≡◌, ◌++◌, take}
-use Rattle.std.specs.List.{flat_map}
-use Rattle.rows.specs.Text.{row_text}
-use Rattle.case_text.specs.Printed.{forbid_row}
+use Rattle.case_text.proofs.Words.{flat_map, forbid_row, row_text}
+use Rattle.std.proofs.Common.{take, ◌++◌, ◌≡◌}
 use Rattle.case_text.proofs.printer.push_forbids.Given as goal
 
 abbrev pub invariant-loop-forbid : goal.invariant-loop-forbid

@@ -1,7 +1,5 @@
-use Rattle.std.proofs.Common.{◌≡◌, ◌++◌, take}
-use Rattle.std.specs.List.{flat_map}
-use Rattle.rows.specs.Text.{row_text}
-use Rattle.case_text.specs.Printed.{utility_row}
+use Rattle.case_text.proofs.Words.{flat_map, row_text, utility_row}
+use Rattle.std.proofs.Common.{take, ◌++◌, ◌≡◌}
 use Rattle.case_text.proofs.printer.push_utilities.Given as goal
 
 abbrev pub invariant-loop-utility : goal.invariant-loop-utility

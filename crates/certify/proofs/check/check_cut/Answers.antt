@@ -1,5 +1,5 @@
-use Rattle.std.proofs.Common.{inl, refl}
 use Rattle.certify.proofs.Moves.{none_some}
+use Rattle.std.proofs.Common.{inl, refl}
 use Rattle.certify.proofs.check.check_cut.Goals as goal
 
 pub returns-in_default : goal.returns-in_default

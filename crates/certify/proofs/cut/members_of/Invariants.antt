@@ -1,7 +1,5 @@
-use Rattle.std.proofs.Common.{◌≡◌, take}
-use Rattle.std.specs.Prelude.{All, IsTrue, is_some}
-use Rattle.std.specs.List.{filter_map}
-use Rattle.certify.specs.Answers.{index_of}
+use Rattle.certify.proofs.Words.{All, IsTrue, filter_map, index_of, is_some}
+use Rattle.std.proofs.Common.{take, ◌≡◌}
 use Rattle.certify.proofs.cut.members_of.Given as goal
 
 abbrev pub invariant-loop-span : goal.invariant-loop-span

@@ -1,16 +1,13 @@
-use Rattle.std.proofs.Common.{◌∙◌, ap₂, refl, sym, take_all}
-use Rattle.certify.specs.Answers.{transfer_by, transfer_of}
 use Rattle.certify.proofs.Moves.{one_more_given, one_more_known}
+use Rattle.certify.proofs.Words.{transfer_by, transfer_of}
+use Rattle.std.proofs.Common.{ap₂, refl, sym, take_all, ◌∙◌}
 use Rattle.certify.proofs.naming.flow_of.Goals as goal
 
 pub loop-moved-preserved : goal.loop-moved-preserved
 loop-moved-preserved c =
     let h = transfer_of c.args.case.now c.args.parts.now.hot c.args.parts.now.cold in
-    let moves = c.args.moves.now in
-    let i = c.loop-moved.moved-index in
-    let m = c.moved-item.result in
-    let t = c.in-Some.transfer in
-    let hot = rw c.as_slice.ensures at (c.in_ok-hot.ensures m.hot) in
+    let moves = c.args.moves.now in let i = c.loop-moved.moved-index in let m = c.moved-item.result in
+    let t = c.in-Some.transfer in let hot = rw c.as_slice.ensures at (c.in_ok-hot.ensures m.hot) in
     let cold = rw c.as_slice-2.ensures at (c.in_ok-cold.ensures m.cold) in
     let is = sym (ap₂ (transfer_by m.heat) hot cold) ∙ sym c.in-Some.ensures in
     record {

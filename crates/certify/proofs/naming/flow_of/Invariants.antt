@@ -1,6 +1,5 @@
-use Rattle.std.proofs.Common.{◌≡◌, take}
-use Rattle.std.specs.Prelude.{All, IsTrue, is_some}
-use Rattle.certify.specs.Answers.{transfer_of, transfers_of}
+use Rattle.certify.proofs.Words.{All, IsTrue, is_some, transfer_of, transfers_of}
+use Rattle.std.proofs.Common.{take, ◌≡◌}
 use Rattle.certify.proofs.naming.flow_of.Given as goal
 
 abbrev pub invariant-loop-moved : goal.invariant-loop-moved

@@ -1,5 +1,5 @@
-use Rattle.std.proofs.Common.{◌∙◌, sym}
 use Rattle.certify.proofs.Table.{added, kept}
+use Rattle.std.proofs.Common.{sym, ◌∙◌}
 use Rattle.certify.proofs.part_table.add_span.Goals as goal
 
 pub returns-then-contains_key : goal.returns-then-contains_key

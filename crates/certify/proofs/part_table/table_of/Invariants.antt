@@ -1,5 +1,5 @@
+use Rattle.certify.proofs.Words.{IsTableOf}
 use Rattle.std.proofs.Common.{take}
-use Rattle.certify.specs.Table.{IsTableOf}
 use Rattle.certify.proofs.part_table.table_of.Given as goal
 
 abbrev pub invariant-loop-index : goal.invariant-loop-index

@@ -1,5 +1,5 @@
-use Rattle.std.proofs.Common.{◌≡◌, ◌+◌, length}
-use Rattle.certify.specs.Permits.{HavePermits}
+use Rattle.certify.proofs.Words.{HavePermits}
+use Rattle.std.proofs.Common.{length, ◌+◌, ◌≡◌}
 use Rattle.certify.proofs.permits.push_utilities.Given as goal
 
 abbrev pub invariant-loop-number : goal.invariant-loop-number

@@ -1,8 +1,7 @@
-use Rattle.std.proofs.Common.{◌∙◌, sym, ap, subst, arith}
-use Rattle.first_fault.proofs.Reading.{Reads, end_here, fault_here, one_more, value_here}
 use Rattle.certify.proofs.Prices.{report_prices}
-use Rattle.certify.proofs.Reading.{early-end, nothing_left, passed_over, statement_next, whole-end, whole-value}
-use Rattle.certify.proofs.Words.{grammar, statements_of, with_any}
+use Rattle.certify.proofs.Reading.{early-end, whole-end, whole-value}
+use Rattle.certify.proofs.Words.{Reads, end_here, fault_here, grammar, nothing_left, one_more, passed_over, statement_next, statements_of, value_here, with_any}
+use Rattle.std.proofs.Common.{ap, arith, subst, sym, ◌∙◌}
 use Rattle.certify.proofs.reader.read_report.Goals as goal
 
 pub loop-rest-preserved-then-is_passed_over : goal.loop-rest-preserved-then-is_passed_over
@@ -34,8 +33,7 @@ loop-rest-preserved c =
 
 pub returns-in-Whole-clause-outcome : goal.returns-in-Whole-clause-outcome
 returns-in-Whole-clause-outcome c =
-    let whole = c.in-Whole.is in
-    let end = whole-end c.loop-rest.number c.loop-rest.draft c.in-Whole.report whole in
+    let whole = c.in-Whole.is in let end = whole-end c.loop-rest.number c.loop-rest.draft c.in-Whole.report whole in
     value_here c.loop-rest.invariant.reads (nothing_left c.loop-rest.rest.now c.loop-rest-test.ensures) end
     (whole-value c.loop-rest.draft c.in-Whole.report whole)
 

@@ -1,6 +1,5 @@
-use Rattle.std.proofs.Common.{◌+◌, ◌≤◌, length}
-use Rattle.first_fault.proofs.Reading.{Reads}
-use Rattle.certify.proofs.Words.{grammar, statements_of}
+use Rattle.certify.proofs.Words.{Reads, grammar, statements_of}
+use Rattle.std.proofs.Common.{length, ◌+◌, ◌≤◌}
 use Rattle.certify.proofs.reader.read_report.Given as goal
 
 abbrev pub invariant-loop-rest : goal.invariant-loop-rest

@@ -1,8 +1,5 @@
-use Rattle.std.proofs.Common.{◌≡◌, ℕ, ◌<◌, Some}
-use Rattle.std.specs.Prelude.{slice_get}
-use Rattle.stream_case.specs.declared.utility.Utility.{Utility}
-use Rattle.certify.specs.Answers.{use_of}
-use Rattle.certify.specs.declared.report.Used.{Used}
+use Rattle.certify.proofs.Words.{Used, Utility, slice_get, use_of}
+use Rattle.std.proofs.Common.{Some, ℕ, ◌<◌, ◌≡◌}
 use Rattle.certify.proofs.uses.are_uses_of.Given as goal
 
 abbrev pub invariant-loop-index : goal.invariant-loop-index

@@ -1,11 +1,8 @@
-use Rattle.std.proofs.Common.{◌≡◌, ◌∙◌, sym, subst, List, FitsSigned, w64, to_z, of_z, rules, arith}
-use Rattle.std.specs.Int.{w128}
-use Rattle.std.proofs.lemmas.Int.{ints}
-use Rattle.corner_flow.proofs.Words.{AreCaseParts, Cold, Hot, IsLeastCost, NeedsHeat, Part, reach_between}
-use Rattle.corner_flow.proofs.SideLemmas.{AreStandardParts, AreStandardParts-parts}
-use Rattle.corner_flow.proofs.HeatLemmas.{needs_heat}
 use Rattle.corner_flow.proofs.FlowLemmas.{least_cost}
-use Rattle.grid.proofs.PartsExist.{some_parts}
+use Rattle.corner_flow.proofs.HeatLemmas.{needs_heat}
+use Rattle.corner_flow.proofs.SideLemmas.{AreStandardParts, AreStandardParts-parts}
+use Rattle.corner_flow.proofs.Words.{AreCaseParts, Cold, Hot, IsLeastCost, NeedsHeat, Part, ints, reach_between, some_parts, w128}
+use Rattle.std.proofs.Common.{FitsSigned, List, arith, of_z, rules, subst, sym, to_z, w64, ◌∙◌, ◌≡◌}
 use Rattle.corner_flow.proofs.least.standard_cost.Goals as goal
 
 standard : (c : goal.After-from) (hot cold : List Part) → AreCaseParts c.args.case.now hot cold → AreStandardParts c.args.case.now hot cold
@@ -17,7 +14,9 @@ target_is c = let fits : FitsSigned w64 c.args.targets.hot = search rules in ome
 pub returns-clause-least : goal.returns-clause-least
 returns-clause-least c = record {
   some = some_parts c.args.case.now;
-  each = λ hot cold parts. subst (IsLeastCost (reach_between c.args.case.now hot cold) hot cold) (sym c.requires.hot_target ∙ sym (target_is c)) (least_cost (standard c hot cold parts));
+  each =
+      λ hot cold parts. subst (IsLeastCost (reach_between c.args.case.now hot cold) hot cold) (sym c.requires.hot_target ∙ sym (target_is c))
+      (least_cost (standard c hot cold parts));
 }
 
 pub returns-clause-hot_heat : goal.returns-clause-hot_heat

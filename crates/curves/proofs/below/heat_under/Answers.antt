@@ -1,7 +1,7 @@
 -- A sum of two heats of which one is 0.
-use Rattle.std.proofs.Common.{to_z, of_z, w32, arith}
-use Rattle.std.proofs.lemmas.Int.{ints}
 use Rattle.curves.proofs.BelowLemmas.{heat_under-between}
+use Rattle.std.proofs.Common.{arith, of_z, to_z, w32}
+use Rattle.curves.proofs.Words.{ints}
 use Rattle.curves.proofs.below.heat_under.Goals as goal
 
 pub returns-clause-range : goal.returns-clause-range

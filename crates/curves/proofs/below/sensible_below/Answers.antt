@@ -1,7 +1,7 @@
 -- The part of the range below `t` ends where `t` is held within the range.
-use Rattle.std.proofs.Common.{ap, ◌∙◌, w64, rules, arith, ◌*ℤ◌}
-use Rattle.std.proofs.lemmas.Int.{ints, clamps, to_z-of_z}
 use Rattle.curves.proofs.BelowLemmas.{actual-length}
+use Rattle.std.proofs.Common.{ap, arith, rules, w64, ◌*ℤ◌, ◌∙◌}
+use Rattle.curves.proofs.Words.{clamps, ints, to_z-of_z}
 use Rattle.curves.proofs.below.sensible_below.Goals as goal
 
 pub heat_between-requires-clause-within : goal.heat_between-requires-clause-within

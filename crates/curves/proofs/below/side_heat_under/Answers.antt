@@ -1,11 +1,9 @@
 -- A stream of the side adds its heat.
-use Rattle.std.proofs.Common.{Bool, pos, to_z, of_z, w32, ap, sym, ◌∙◌, arith, if◌then◌else◌}
-use Rattle.std.proofs.lemmas.Int.{ints}
-use Rattle.curves.specs.Below.{heat_under}
 use Rattle.curves.proofs.BelowLemmas.{heat_under-between}
-use Rattle.problem_table.proofs.SideLemmas.{sum_side-more, sum_side-so_far}
+use Rattle.curves.proofs.below.side_heat_under.Goals.{else-is_on, then-is_on}
+use Rattle.curves.proofs.Words.{heat_under, ints, sum_side-more, sum_side-so_far}
+use Rattle.std.proofs.Common.{Bool, ap, arith, if◌then◌else◌, of_z, pos, sym, to_z, w32, ◌∙◌}
 use Rattle.curves.proofs.below.side_heat_under.Goals as goal
-use Rattle.curves.proofs.below.side_heat_under.Goals.{then-is_on, else-is_on}
 
 pub overflow_add-heat : goal.overflow_add-heat
 overflow_add-heat c =

@@ -1,7 +1,6 @@
 -- The heat of the side's streams so far.
-use Rattle.std.proofs.Common.{◌≡◌, take}
-use Rattle.problem_table.specs.Sides.{sum_side}
-use Rattle.curves.specs.Below.{heat_under}
+use Rattle.curves.proofs.Words.{heat_under, sum_side}
+use Rattle.std.proofs.Common.{take, ◌≡◌}
 use Rattle.curves.proofs.below.side_heat_under.Given as goal
 
 abbrev pub invariant-loop-stream : goal.invariant-loop-stream

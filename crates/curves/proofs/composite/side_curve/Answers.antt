@@ -1,13 +1,9 @@
 -- Each temperature has one point, or two where a stream is latent.
-use Rattle.std.proofs.Common.{pos, w32, w64, FitsSigned, get_or, ap, sym, ◌∙◌, rules}
-use Rattle.std.proofs.lemmas.Int.{to_z-of_z}
-use Rattle.std.specs.List.{list_any}
-use Rattle.problem_table.specs.Sides.{sum_side}
-use Rattle.curves.specs.Below.{heat_below, heat_upto}
-use Rattle.curves.specs.Curve.{is_latent_at, one_or_two, side_points}
 use Rattle.curves.proofs.CurveLemmas.{points-more, pushed-two}
+use Rattle.curves.proofs.composite.side_curve.Goals.{else-has_latent_at, then-has_latent_at+in_ok-push-2}
+use Rattle.curves.proofs.Words.{heat_below, heat_upto, is_latent_at, list_any, one_or_two, side_points, sum_side, to_z-of_z}
+use Rattle.std.proofs.Common.{FitsSigned, ap, get_or, pos, rules, sym, w32, w64, ◌∙◌}
 use Rattle.curves.proofs.composite.side_curve.Goals as goal
-use Rattle.curves.proofs.composite.side_curve.Goals.{then-has_latent_at+in_ok-push-2, else-has_latent_at}
 
 pub loop-t-preserved : goal.loop-t-preserved
 loop-t-preserved c =

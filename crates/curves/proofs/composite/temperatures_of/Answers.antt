@@ -1,9 +1,9 @@
 -- A stream of the side adds its two ends.
-use Rattle.std.proofs.Common.{Bool, w32, FitsSigned, [], ◌∷◌, ap, sym, ◌∙◌, rules, append_assoc, if◌then◌else◌, append-nil}
-use Rattle.std.proofs.lemmas.Int.{to_z-of_z}
 use Rattle.curves.proofs.BelowLemmas.{temperatures_of-more}
+use Rattle.curves.proofs.composite.temperatures_of.Goals.{else-is_on, then-is_on+in_ok-push+in_ok-push-2}
+use Rattle.std.proofs.Common.{Bool, FitsSigned, [], ap, append-nil, append_assoc, if◌then◌else◌, rules, sym, w32, ◌∙◌, ◌∷◌}
+use Rattle.curves.proofs.Words.{to_z-of_z}
 use Rattle.curves.proofs.composite.temperatures_of.Goals as goal
-use Rattle.curves.proofs.composite.temperatures_of.Goals.{then-is_on+in_ok-push+in_ok-push-2, else-is_on}
 
 pub loop-stream-preserved : goal.loop-stream-preserved
 loop-stream-preserved c =

@@ -1,6 +1,6 @@
 -- The ends of the side's streams so far.
-use Rattle.std.proofs.Common.{◌≡◌, take}
-use Rattle.curves.specs.Below.{temperatures_of}
+use Rattle.curves.proofs.Words.{temperatures_of}
+use Rattle.std.proofs.Common.{take, ◌≡◌}
 use Rattle.curves.proofs.composite.temperatures_of.Given as goal
 
 abbrev pub invariant-loop-stream : goal.invariant-loop-stream

@@ -1,14 +1,10 @@
 -- Each place has one point, or two where a stream is latent.
-use Rattle.std.proofs.Common.{◌≡◌, List, ℤ, pos, to_z, of_z, w32, w64, FitsSigned, get_or, ap, ap₂, sym, ◌∙◌, rules, arith, ◌-ℤ◌}
-use Rattle.std.proofs.lemmas.Int.{to_z-of_z, ints}
-use Rattle.std.specs.List.{list_any}
-use Rattle.stream_case.specs.Limits.{IsStreamsHeat}
-use Rattle.stream_case.specs.declared.stream.Stream.{Stream}
-use Rattle.problem_table.specs.Deficit.{IsDeficit, deficit_above, deficit_from, hot_target}
-use Rattle.curves.specs.Curve.{grand_points, is_level_at, one_or_two}
 use Rattle.curves.proofs.CurveLemmas.{points-more, pushed-two}
+use Rattle.curves.proofs.grand.grand_curve.Goals.{else-has_level_at, then-has_level_at+in_ok-push-2}
+use Rattle.curves.proofs.Words.{IsStreamsHeat, Stream, grand_points, ints, is_level_at, list_any, one_or_two, to_z-of_z}
+use Rattle.problem_table.specs.Deficit.{IsDeficit, deficit_above, deficit_from, hot_target}
+use Rattle.std.proofs.Common.{FitsSigned, List, ap, ap₂, arith, get_or, of_z, pos, rules, sym, to_z, w32, w64, ℤ, ◌-ℤ◌, ◌∙◌, ◌≡◌}
 use Rattle.curves.proofs.grand.grand_curve.Goals as goal
-use Rattle.curves.proofs.grand.grand_curve.Goals.{then-has_level_at+in_ok-push-2, else-has_level_at}
 
 -- the difference that the code forms fits its type
 net_heat : (hot deficit : ℤ) → IsStreamsHeat hot → IsDeficit deficit

@@ -1,6 +1,6 @@
 -- The points at the places so far.
-use Rattle.std.proofs.Common.{◌≡◌, take, flat_map}
-use Rattle.curves.specs.Curve.{grand_points}
+use Rattle.curves.proofs.Words.{grand_points}
+use Rattle.std.proofs.Common.{flat_map, take, ◌≡◌}
 use Rattle.curves.proofs.grand.grand_curve.Given as goal
 
 abbrev pub invariant-loop-t : goal.invariant-loop-t

@@ -1,6 +1,5 @@
-use Rattle.std.proofs.Common.{◌≡◌, map, take}
-use Rattle.std.specs.List.{enumerate_from}
-use Rattle.networks.specs.Lines.{own_branch}
+use Rattle.design_lines.proofs.Words.{enumerate_from, own_branch}
+use Rattle.std.proofs.Common.{map, take, ◌≡◌}
 use Rattle.design_lines.proofs.branches.own_branches.Given as goal
 
 abbrev pub invariant-loop-index : goal.invariant-loop-index

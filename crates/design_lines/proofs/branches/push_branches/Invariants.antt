@@ -1,5 +1,5 @@
-use Rattle.std.proofs.Common.{◌≡◌, ◌-◌, ◌++◌}
-use Rattle.design_lines.specs.Drawn.{numbered}
+use Rattle.design_lines.proofs.Words.{numbered}
+use Rattle.std.proofs.Common.{◌++◌, ◌-◌, ◌≡◌}
 use Rattle.design_lines.proofs.branches.push_branches.Given as goal
 
 abbrev pub invariant-loop-number : goal.invariant-loop-number

@@ -1,6 +1,6 @@
-use Rattle.std.proofs.Common.{length}
-use Rattle.networks.specs.Lines.{own_branches}
 use Rattle.design_lines.proofs.DrawSteps.{AreCoursesLed}
+use Rattle.design_lines.proofs.Words.{own_branches}
+use Rattle.std.proofs.Common.{length}
 use Rattle.design_lines.proofs.drawing.draw.Given as goal
 
 abbrev pub invariant-loop-number : goal.invariant-loop-number

@@ -1,5 +1,5 @@
-use Rattle.std.proofs.Common.{◌≡◌, ◌∙◌, ◌++◌, suc, length, ap, sym, append-nil, arith}
 use Rattle.design_lines.proofs.StageSteps.{rest_all, splits_all}
+use Rattle.std.proofs.Common.{ap, append-nil, arith, length, suc, sym, ◌++◌, ◌∙◌, ◌≡◌}
 use Rattle.design_lines.proofs.stage.push_splits.Goals as goal
 
 pub returns-clause-lines : goal.returns-clause-lines

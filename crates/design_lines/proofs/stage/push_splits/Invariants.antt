@@ -1,5 +1,5 @@
-use Rattle.std.proofs.Common.{◌≡◌, ◌+◌, ◌*◌, ◌++◌, drop}
-use Rattle.design_lines.specs.Stages.{rest_branch, splits}
+use Rattle.design_lines.proofs.Words.{rest_branch, splits}
+use Rattle.std.proofs.Common.{drop, ◌*◌, ◌++◌, ◌+◌, ◌≡◌}
 use Rattle.design_lines.proofs.stage.push_splits.Given as goal
 
 abbrev pub invariant-loop-index : goal.invariant-loop-index

@@ -1,11 +1,8 @@
-use Rattle.std.proofs.Common.{◌≡◌, ◌<◌, ◌∙◌, pos, ◌-ℤ◌, length, to_z, of_z, ap, subst, arith}
-use Rattle.std.specs.Int.{w128}
-use Rattle.std.proofs.lemmas.Int.{ints}
-use Rattle.std.proofs.lemmas.List.{length-set}
-use Rattle.flow_net.specs.Net.{link_at, flow_on}
-use Rattle.flow_bench.proofs.SumLemmas.{surplus_below, surplus_below-more, carried, first_fits, second_fits}
-use Rattle.flow_bench.proofs.answer.add_flow.Goals as goal
+use Rattle.flow_bench.proofs.SumLemmas.{carried, first_fits, second_fits, surplus_below, surplus_below-more}
 use Rattle.flow_bench.proofs.answer.add_flow.Goals.{In-loop-index}
+use Rattle.flow_bench.proofs.Words.{flow_on, ints, length-set, link_at, w128}
+use Rattle.std.proofs.Common.{ap, arith, length, of_z, pos, subst, to_z, ◌-ℤ◌, ◌<◌, ◌∙◌, ◌≡◌}
+use Rattle.flow_bench.proofs.answer.add_flow.Goals as goal
 
 -- the link is one of the net
 record IsAt (c : In-loop-index) : Type 0 where

@@ -1,6 +1,6 @@
-use Rattle.std.proofs.Common.{◌≡◌, ℕ, ◌<◌, length}
-use Rattle.flow_bench.specs.Certificate.{surplus_at}
 use Rattle.flow_bench.proofs.SumLemmas.{surplus_below}
+use Rattle.flow_bench.proofs.Words.{surplus_at}
+use Rattle.std.proofs.Common.{length, ℕ, ◌<◌, ◌≡◌}
 use Rattle.flow_bench.proofs.answer.add_flow.Given as goal
 
 abbrev pub invariant-loop-index : goal.invariant-loop-index

@@ -1,12 +1,8 @@
-use Rattle.std.proofs.Common.{◌≡◌, ◌+◌, ◌<◌, length, ◌+ℤ◌, ◌*ℤ◌, to_z, of_z, FitsSigned, ap, ap₂, ◌∙◌, subst, refl, arith}
-use Rattle.std.specs.Int.{w128}
-use Rattle.std.proofs.Math.Numerals.{add-one}
-use Rattle.std.proofs.lemmas.Int.{ints, to_z-of_z}
-use Rattle.flow_net.specs.Net.{link_at, flow_on}
-use Rattle.flow_net.proofs.Sizes.{sizes}
-use Rattle.flow_bench.proofs.SumLemmas.{link_cost_small, cost_small}
-use Rattle.flow_bench.proofs.answer.cost_of.Goals as goal
+use Rattle.flow_bench.proofs.SumLemmas.{cost_small, link_cost_small}
 use Rattle.flow_bench.proofs.answer.cost_of.Goals.{After-from-in-loop-index}
+use Rattle.flow_bench.proofs.Words.{add-one, flow_on, ints, link_at, sizes, to_z-of_z, w128}
+use Rattle.std.proofs.Common.{FitsSigned, ap, ap₂, arith, length, of_z, refl, subst, to_z, ◌*ℤ◌, ◌+ℤ◌, ◌+◌, ◌<◌, ◌∙◌, ◌≡◌}
+use Rattle.flow_bench.proofs.answer.cost_of.Goals as goal
 
 -- what the flow on the link costs, as the code has it
 record IsTerm (c : After-from-in-loop-index) : Type 0 where

@@ -1,6 +1,5 @@
-use Rattle.std.proofs.Common.{◌≡◌, ◌*ℤ◌}
-use Rattle.flow_net.specs.Sum.{sum_below}
-use Rattle.flow_net.specs.Net.{link_at, flow_on}
+use Rattle.flow_bench.proofs.Words.{flow_on, link_at, sum_below}
+use Rattle.std.proofs.Common.{◌*ℤ◌, ◌≡◌}
 use Rattle.flow_bench.proofs.answer.cost_of.Given as goal
 
 abbrev pub invariant-loop-index : goal.invariant-loop-index

@@ -1,7 +1,6 @@
-use Rattle.std.proofs.Common.{◌<◌, ◌∙◌, sym, subst, refl, arith}
-use Rattle.flow_net.proofs.Duality.{surplus_is, routing_from_surplus}
-use Rattle.flow_bench.specs.Certificate.{AreBalanced}
 use Rattle.flow_bench.proofs.SumLemmas.{due_is}
+use Rattle.flow_bench.proofs.Words.{AreBalanced, routing_from_surplus, surplus_is}
+use Rattle.std.proofs.Common.{arith, refl, subst, sym, ◌<◌, ◌∙◌}
 use Rattle.flow_bench.proofs.answer.is_certified.Goals as goal
 
 pub returns : goal.returns

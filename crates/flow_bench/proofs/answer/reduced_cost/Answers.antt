@@ -1,5 +1,5 @@
 use Rattle.std.proofs.Common.{arith}
-use Rattle.std.proofs.lemmas.Int.{ints}
+use Rattle.flow_bench.proofs.Words.{ints}
 use Rattle.flow_bench.proofs.answer.reduced_cost.Goals as goal
 
 pub returns : goal.returns

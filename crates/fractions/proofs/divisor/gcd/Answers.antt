@@ -1,8 +1,6 @@
-use Rattle.std.proofs.Common.{arith}
-use Rattle.std.specs.Int.{IsGcd}
-use Rattle.std.proofs.Math.Nat.{pos_of_dvd_of_pos}
-use Rattle.std.proofs.lemmas.Nat.Gcd.{IsGcd-from_mod, IsGcd-from_zero}
 use Rattle.fractions.proofs.Euclid.{steps_left-decreases}
+use Rattle.std.proofs.Common.{arith}
+use Rattle.fractions.proofs.Words.{IsGcd, IsGcd-from_mod, IsGcd-from_zero, pos_of_dvd_of_pos}
 use Rattle.fractions.proofs.divisor.gcd.Goals as goal
 
 pub loop-y-preserved : goal.loop-y-preserved

@@ -1,6 +1,6 @@
-use Rattle.std.proofs.Common.{ℕ}
-use Rattle.std.specs.Int.{IsGcd}
 use Rattle.fractions.proofs.Euclid.{steps_left}
+use Rattle.std.proofs.Common.{ℕ}
+use Rattle.fractions.proofs.Words.{IsGcd}
 use Rattle.fractions.proofs.divisor.gcd.Given as goal
 
 abbrev pub invariant-loop-y : goal.invariant-loop-y

@@ -1,19 +1,26 @@
 -- What was made for each side.
-use Rattle.std.proofs.Common.{◌∙◌}
-use Rattle.stream_case.specs.declared.source.Side.TheVariants.{Hot, Cold}
 use Rattle.grid.proofs.SizeLemmas.{IsSide, IsSide-made}
+use Rattle.std.proofs.Common.{◌∙◌}
+use Rattle.grid.proofs.Words.{Cold, Hot}
 use Rattle.grid.proofs.making.parts_on.Goals as goal
 
 hot_side : (c : goal.After-from_vec-2) → IsSide c.args.streams.now c.args.utilities.now Hot c.args.places.now c.from_vec.result
 hot_side c =
-    IsSide-made c.args.streams.now c.args.utilities.now Hot c.args.places.now c.from_vec.result c.requires.streams c.requires.utilities c.requires.few_utilities c.requires.places c.requires.few_places (c.from_vec.ensures ∙ c.in_ok-hot.ensures)
+    IsSide-made c.args.streams.now c.args.utilities.now Hot c.args.places.now c.from_vec.result c.requires.streams c.requires.utilities c.requires.few_utilities
+    c.requires.places c.requires.few_places (c.from_vec.ensures ∙ c.in_ok-hot.ensures)
 
 cold_side : (c : goal.After-from_vec-2) → IsSide c.args.streams.now c.args.utilities.now Cold c.args.places.now c.from_vec-2.result
 cold_side c =
-    IsSide-made c.args.streams.now c.args.utilities.now Cold c.args.places.now c.from_vec-2.result c.requires.streams c.requires.utilities c.requires.few_utilities c.requires.places c.requires.few_places (c.from_vec-2.ensures ∙ c.in_ok-cold.ensures)
+    IsSide-made c.args.streams.now c.args.utilities.now Cold c.args.places.now c.from_vec-2.result c.requires.streams c.requires.utilities
+    c.requires.few_utilities c.requires.places c.requires.few_places (c.from_vec-2.ensures ∙ c.in_ok-cold.ensures)
 
 pub invariant_of-result : goal.invariant_of-result
-invariant_of-result c = record { few_hot = (hot_side c).few; few_cold = (cold_side c).few; hot_bounded = (hot_side c).bounded; cold_bounded = (cold_side c).bounded }
+invariant_of-result c = record {
+  few_hot = (hot_side c).few;
+  few_cold = (cold_side c).few;
+  hot_bounded = (hot_side c).bounded;
+  cold_bounded = (cold_side c).bounded;
+}
 
 pub returns-clause-hot : goal.returns-clause-hot
 returns-clause-hot c = (hot_side c.before).are_parts

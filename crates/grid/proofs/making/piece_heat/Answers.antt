@@ -1,13 +1,10 @@
 -- The sum of two heats of which one is 0.
-use Rattle.std.proofs.Common.{◌≡◌, ◌∙◌, refl, ap₂, arith, rules, FitsSigned, to_z, of_z, w32, w64}
-use Rattle.std.specs.Prelude.{ℤ, ◌+ℤ◌}
-use Rattle.std.proofs.lemmas.Int.{ints, to_z-of_z}
-use Rattle.stream_case.specs.Limits.{IsSensibleHeat, IsStreamHeat}
-use Rattle.stream_case.specs.Stream.{heat_between}
-use Rattle.grid.proofs.SizeLemmas.{load-between}
+use Rattle.std.proofs.Common.{FitsSigned, ap₂, arith, of_z, refl, rules, to_z, w32, w64, ◌∙◌, ◌≡◌}
+use Rattle.grid.proofs.Words.{IsSensibleHeat, IsStreamHeat, heat_between, ints, load-between, to_z-of_z, ℤ, ◌+ℤ◌}
 use Rattle.grid.proofs.making.piece_heat.Goals as goal
 
-sum-is : (sensible between load total : ℤ) → sensible ≡ between → IsSensibleHeat sensible → IsStreamHeat load → between +ℤ load ≡ total → to_z w64 (of_z w64 (to_z w64 (of_z w64 sensible) +ℤ to_z w64 (of_z w64 load))) ≡ total
+sum-is : (sensible between load total : ℤ) → sensible ≡ between → IsSensibleHeat sensible → IsStreamHeat load → between +ℤ load ≡ total
+    → to_z w64 (of_z w64 (to_z w64 (of_z w64 sensible) +ℤ to_z w64 (of_z w64 load))) ≡ total
 sum-is sensible between load total is range some sum = omega (arith, ints)
 
 pub returns : goal.returns
@@ -18,4 +15,5 @@ returns c =
     let high_fits : FitsSigned w32 high = search rules in
     let low_fits : FitsSigned w32 low = search rules in
     let read = ap₂ (λ h l. heat_between h l s) (to_z-of_z w32 high high_fits) (to_z-of_z w32 low low_fits) in
-    sum-is c.heat_between.result (heat_between high low s) s.load _ (c.heat_between.ensures.value ∙ read) c.heat_between.ensures.range (load-between s c.requires.valid.heat) refl
+    sum-is c.heat_between.result (heat_between high low s) s.load _ (c.heat_between.ensures.value ∙ read) c.heat_between.ensures.range
+    (load-between s c.requires.valid.heat) refl

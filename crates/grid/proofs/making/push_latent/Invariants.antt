@@ -1,6 +1,5 @@
-use Rattle.std.proofs.Common.{◌≡◌, ◌++◌, take}
-use Rattle.grid.specs.Making.{picked, stands_at}
-use Rattle.grid.specs.Part.{stream_part}
+use Rattle.grid.proofs.Words.{picked, stands_at, stream_part}
+use Rattle.std.proofs.Common.{take, ◌++◌, ◌≡◌}
 use Rattle.grid.proofs.making.push_latent.Given as goal
 
 abbrev pub invariant-loop-index : goal.invariant-loop-index

@@ -1,6 +1,5 @@
-use Rattle.std.proofs.Common.{◌≡◌, ◌++◌, take}
-use Rattle.grid.specs.Making.{picked, covers}
-use Rattle.grid.specs.Part.{stream_part}
+use Rattle.grid.proofs.Words.{covers, picked, stream_part}
+use Rattle.std.proofs.Common.{take, ◌++◌, ◌≡◌}
 use Rattle.grid.proofs.making.push_streams.Given as goal
 
 abbrev pub invariant-loop-index : goal.invariant-loop-index

@@ -1,6 +1,5 @@
-use Rattle.std.proofs.Common.{◌≡◌, ◌++◌, take}
-use Rattle.grid.specs.Making.{picked, is_here}
-use Rattle.grid.specs.Part.{utility_part}
+use Rattle.grid.proofs.Words.{is_here, picked, utility_part}
+use Rattle.std.proofs.Common.{take, ◌++◌, ◌≡◌}
 use Rattle.grid.proofs.making.push_utilities.Given as goal
 
 abbrev pub invariant-loop-index : goal.invariant-loop-index

@@ -1,10 +1,9 @@
 -- One more place: the latent streams and the utilities there, and the streams on the interval below it.
-use Rattle.std.proofs.Common.{◌≡◌, ◌∙◌, sym, ap, arith, rules, ◌+◌, get_or, ℤ, pos, FitsSigned, w32, to_z, of_z}
-use Rattle.std.proofs.lemmas.Int.{ints, to_z-of_z}
-use Rattle.stream_case.proofs.CaseLemmas.{length-AreStreams}
-use Rattle.grid.proofs.MakingLemmas.{made-push, made-end}
+use Rattle.grid.proofs.MakingLemmas.{made-end, made-push}
+use Rattle.grid.proofs.making.side_parts.Goals.{else-index-places, then-index-places+in_ok-push_streams}
+use Rattle.std.proofs.Common.{FitsSigned, ap, arith, get_or, of_z, pos, rules, sym, to_z, w32, ℤ, ◌+◌, ◌∙◌, ◌≡◌}
+use Rattle.grid.proofs.Words.{ints, length-AreStreams, to_z-of_z}
 use Rattle.grid.proofs.making.side_parts.Goals as goal
-use Rattle.grid.proofs.making.side_parts.Goals.{then-index-places+in_ok-push_streams, else-index-places}
 
 pub push_latent-requires-clause-few : goal.push_latent-requires-clause-few
 push_latent-requires-clause-few c = omega (arith, length-AreStreams c.args.streams.now c.requires.streams)
@@ -37,7 +36,11 @@ loop-index-preserved c =
       | then-index-places+in_ok-push_streams w ↦
           let below_fits : FitsSigned w32 (get_or places (i + 1) (pos 0)) = search rules in
           let below = read_is (get_or places (i + 1) (pos 0)) below_fits in
-          made-push c.args.streams.now c.args.utilities.now c.args.side places i _ c.loop-index-test.true here c.loop-index.parts.items c.push_latent.new.parts.items c.push_utilities.new.parts.items latent level _ c.if-index-places.parts.items _ w.if-index-places.true below c.loop-index.invariant (ap (λ v. v.items) w.parts-is ∙ w.in_ok-push_streams.ensures)
+          made-push c.args.streams.now c.args.utilities.now c.args.side places i _ c.loop-index-test.true here c.loop-index.parts.items
+          c.push_latent.new.parts.items c.push_utilities.new.parts.items latent level _ c.if-index-places.parts.items _ w.if-index-places.true below
+          c.loop-index.invariant (ap (λ v. v.items) w.parts-is ∙ w.in_ok-push_streams.ensures)
       | else-index-places w ↦
-          made-end c.args.streams.now c.args.utilities.now c.args.side places i _ c.loop-index-test.true here c.loop-index.parts.items c.push_latent.new.parts.items c.push_utilities.new.parts.items latent level c.if-index-places.parts.items _ w.if-index-places.false c.loop-index.invariant (ap (λ v. v.items) w.parts-is)
+          made-end c.args.streams.now c.args.utilities.now c.args.side places i _ c.loop-index-test.true here c.loop-index.parts.items
+          c.push_latent.new.parts.items c.push_utilities.new.parts.items latent level c.if-index-places.parts.items _ w.if-index-places.false
+          c.loop-index.invariant (ap (λ v. v.items) w.parts-is)
     ]

@@ -1,5 +1,5 @@
-use Rattle.std.proofs.Common.{◌≡◌, ◌++◌, drop}
-use Rattle.grid.specs.Making.{made_parts}
+use Rattle.grid.proofs.Words.{made_parts}
+use Rattle.std.proofs.Common.{drop, ◌++◌, ◌≡◌}
 use Rattle.grid.proofs.making.side_parts.Given as goal
 
 abbrev pub invariant-loop-index : goal.invariant-loop-index

@@ -1,7 +1,5 @@
 use Rattle.std.proofs.Common.{subst, sym}
-use Rattle.std.specs.Prelude.{All}
-use Rattle.stream_case.specs.Utility.{IsPlaced}
-use Rattle.stream_case.proofs.CompleteLemmas.{IsPlaced-IsComplete}
+use Rattle.grid.proofs.Words.{All, IsPlaced, IsPlaced-IsComplete}
 use Rattle.grid.proofs.places.grid_of.Goals as goal
 
 pub places_of-requires-clause-utilities : goal.places_of-requires-clause-utilities

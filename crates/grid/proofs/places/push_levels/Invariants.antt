@@ -1,5 +1,5 @@
-use Rattle.std.proofs.Common.{◌≡◌, ◌++◌, take, map}
-use Rattle.stream_case.specs.Utility.{shifted_level}
+use Rattle.std.proofs.Common.{map, take, ◌++◌, ◌≡◌}
+use Rattle.grid.proofs.Words.{shifted_level}
 use Rattle.grid.proofs.places.push_levels.Given as goal
 
 abbrev pub invariant-loop-utility : goal.invariant-loop-utility

@@ -1,5 +1,5 @@
+use Rattle.heat_flow.proofs.Words.{ArePermissions}
 use Rattle.std.proofs.Common.{take}
-use Rattle.heat_flow.specs.Cells.{ArePermissions}
 use Rattle.heat_flow.proofs.cells.forbid_matches.Given as goal
 
 abbrev pub invariant-loop-forbid : goal.invariant-loop-forbid

@@ -1,5 +1,5 @@
-use Rattle.std.proofs.Common.{◌≡◌, ◌++◌, take, map}
-use Rattle.heat_flow.specs.Reach.{part_reaches}
+use Rattle.heat_flow.proofs.Words.{part_reaches}
+use Rattle.std.proofs.Common.{map, take, ◌++◌, ◌≡◌}
 use Rattle.heat_flow.proofs.cells.push_row.Given as goal
 
 abbrev pub invariant-loop-part : goal.invariant-loop-part

@@ -1,7 +1,6 @@
-use Rattle.std.proofs.Common.{◌≡◌, ◌∙◌, sym, ap, ap₂, ◌*◌, length, arith}
-use Rattle.std.proofs.lemmas.List.{take_all}
-use Rattle.heat_flow.specs.Cells.{cell_rows}
-use Rattle.heat_flow.proofs.ReachLemmas.{length-cell_rows, cell_rows-reach}
+use Rattle.heat_flow.proofs.ReachLemmas.{cell_rows-reach, length-cell_rows}
+use Rattle.heat_flow.proofs.Words.{cell_rows, take_all}
+use Rattle.std.proofs.Common.{ap, ap₂, arith, length, sym, ◌*◌, ◌∙◌, ◌≡◌}
 use Rattle.heat_flow.proofs.cells.reach_of.Goals as goal
 
 cells_are : (c : goal.After-from_vec) → c.from_vec.result ≡ cell_rows c.args.case.now c.args.parts.now.hot c.args.parts.now.cold

@@ -1,5 +1,5 @@
-use Rattle.std.proofs.Common.{◌≡◌, take}
-use Rattle.heat_flow.specs.Cells.{cell_rows}
+use Rattle.heat_flow.proofs.Words.{cell_rows}
+use Rattle.std.proofs.Common.{take, ◌≡◌}
 use Rattle.heat_flow.proofs.cells.reach_of.Given as goal
 
 abbrev pub invariant-loop-part : goal.invariant-loop-part

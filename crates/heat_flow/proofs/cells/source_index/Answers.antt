@@ -1,6 +1,5 @@
 use Rattle.std.proofs.Common.{arith}
-use Rattle.stream_case.proofs.CaseLemmas.{length-AreStreams}
-use Rattle.stream_case.proofs.CompleteLemmas.{AreStreams-IsComplete}
+use Rattle.heat_flow.proofs.Words.{AreStreams-IsComplete, length-AreStreams}
 use Rattle.heat_flow.proofs.cells.source_index.Goals as goal
 
 pub overflow_add-result : goal.overflow_add-result

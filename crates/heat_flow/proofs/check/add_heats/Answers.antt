@@ -1,11 +1,7 @@
-use Rattle.std.proofs.Common.{◌≡◌, ◌+◌, ◌*◌, ◌^◌, ◌<◌, length, get_or, arith, rules, FitsSigned, w64, to_z, of_z}
-use Rattle.std.specs.Prelude.{pos, ◌+ℤ◌, All}
-use Rattle.std.specs.Int.{w128}
-use Rattle.std.proofs.lemmas.Int.{ints}
-use Rattle.std.proofs.lemmas.List.Elements.{All-set, All-weaker}
-use Rattle.stream_case.specs.Limits.{IsBetween}
 use Rattle.heat_flow.proofs.Blanks.{no_transfer}
 use Rattle.heat_flow.proofs.CheckLemmas.{AreHeats-more}
+use Rattle.std.proofs.Common.{FitsSigned, arith, get_or, length, of_z, rules, to_z, w64, ◌*◌, ◌+◌, ◌<◌, ◌^◌, ◌≡◌}
+use Rattle.heat_flow.proofs.Words.{All, All-set, All-weaker, IsBetween, ints, pos, w128, ◌+ℤ◌}
 use Rattle.heat_flow.proofs.check.add_heats.Goals as goal
 
 pub loop-transfer-preserved : goal.loop-transfer-preserved
@@ -23,7 +19,8 @@ loop-transfer-preserved c =
     let heat_fits : FitsSigned w64 t.heat = search rules in
     let added : next ≡ get_or sums index (pos 0) +ℤ t.heat = omega (arith, ints) in
     let wider : All (IsBetween (pos 0) (pos ((i + 1) * 2 ^ 63))) sums =
-    All-weaker (IsBetween (pos 0) (pos (i * 2 ^ 63))) (IsBetween (pos 0) (pos ((i + 1) * 2 ^ 63))) (λ x h. record { from = h.from; upto = omega (arith, ints, h.upto) }) sums c.loop-transfer.invariant.range in
+    All-weaker (IsBetween (pos 0) (pos (i * 2 ^ 63))) (IsBetween (pos 0) (pos ((i + 1) * 2 ^ 63)))
+    (λ x h. record { from = h.from; upto = omega (arith, ints, h.upto) }) sums c.loop-transfer.invariant.range in
     record {
       sum = AreHeats-more c.args.side c.args.transfers.now i sums index next within c.part_index.ensures room added c.loop-transfer.invariant.sum;
       range = All-set (IsBetween (pos 0) (pos ((i + 1) * 2 ^ 63))) sums index next (record { from = omega (arith, ints); upto = omega (arith, ints) }) wider;

@@ -1,7 +1,6 @@
-use Rattle.std.proofs.Common.{◌*◌, ◌^◌, take}
-use Rattle.std.specs.Prelude.{pos, All}
-use Rattle.stream_case.specs.Limits.{IsBetween}
 use Rattle.heat_flow.proofs.CheckLemmas.{AreHeats}
+use Rattle.std.proofs.Common.{take, ◌*◌, ◌^◌}
+use Rattle.heat_flow.proofs.Words.{All, IsBetween, pos}
 use Rattle.heat_flow.proofs.check.add_heats.Given as goal
 
 abbrev pub invariant-loop-transfer : goal.invariant-loop-transfer

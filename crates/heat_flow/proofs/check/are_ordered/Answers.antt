@@ -1,8 +1,7 @@
-use Rattle.std.proofs.Common.{refl, subst₂, ◌-◌, arith}
-use Rattle.std.proofs.lemmas.List.{get_or_default}
-use Rattle.heat_flow.specs.Flow.{precedes}
 use Rattle.heat_flow.proofs.Blanks.{no_transfer}
-use Rattle.heat_flow.proofs.CheckLemmas.{precedes-trans, AllPairsBelow-more}
+use Rattle.heat_flow.proofs.CheckLemmas.{AllPairsBelow-more, precedes-trans}
+use Rattle.heat_flow.proofs.Words.{get_or_default, precedes}
+use Rattle.std.proofs.Common.{arith, refl, subst₂, ◌-◌}
 use Rattle.heat_flow.proofs.check.are_ordered.Goals as goal
 
 pub loop-i-preserved : goal.loop-i-preserved

@@ -1,6 +1,5 @@
-use Rattle.std.proofs.Common.{ℕ, ◌<◌, get_or}
-use Rattle.heat_flow.specs.declared.flow.Transfer.{Transfer}
-use Rattle.heat_flow.specs.Flow.{precedes}
+use Rattle.heat_flow.proofs.Words.{Transfer, precedes}
+use Rattle.std.proofs.Common.{get_or, ℕ, ◌<◌}
 use Rattle.heat_flow.proofs.check.are_ordered.Given as goal
 
 abbrev pub invariant-loop-i : goal.invariant-loop-i

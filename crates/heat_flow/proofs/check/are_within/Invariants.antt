@@ -1,7 +1,5 @@
-use Rattle.std.proofs.Common.{◌≡◌, ℕ, ◌<◌, get_or, Some}
-use Rattle.std.specs.Prelude.{pos, slice_get}
-use Rattle.stream_case.specs.Limits.{IsBetween}
-use Rattle.grid.specs.declared.part.Part.{Part}
+use Rattle.heat_flow.proofs.Words.{IsBetween, Part, pos, slice_get}
+use Rattle.std.proofs.Common.{Some, get_or, ℕ, ◌<◌, ◌≡◌}
 use Rattle.heat_flow.proofs.check.are_within.Given as goal
 
 abbrev pub invariant-loop-index : goal.invariant-loop-index

@@ -1,5 +1,5 @@
 use Rattle.std.proofs.Common.{arith}
-use Rattle.std.proofs.lemmas.Int.{ints}
+use Rattle.heat_flow.proofs.Words.{ints}
 use Rattle.heat_flow.proofs.cost.least_cost_is_one.Goals as goal
 
 pub returns : goal.returns

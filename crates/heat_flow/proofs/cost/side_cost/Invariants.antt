@@ -1,8 +1,6 @@
-use Rattle.std.specs.Prelude.{◌*ℤ◌}
-use Rattle.stream_case.specs.declared.limits.TheConstants.{MOST_HEAT, MOST_PRICE}
-use Rattle.heat_flow.specs.Flow.{part_index}
 use Rattle.heat_flow.proofs.CostLemmas.{part_price}
 use Rattle.heat_flow.proofs.LoopSums.{SumSoFar}
+use Rattle.heat_flow.proofs.Words.{MOST_HEAT, MOST_PRICE, part_index, ◌*ℤ◌}
 use Rattle.heat_flow.proofs.cost.side_cost.Given as goal
 
 abbrev pub invariant-loop-transfer : goal.invariant-loop-transfer

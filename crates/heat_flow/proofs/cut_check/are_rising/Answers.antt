@@ -1,6 +1,6 @@
-use Rattle.std.proofs.Common.{◌<◌, ◌-◌, arith}
-use Rattle.std.proofs.lemmas.List.{get_or_default}
 use Rattle.heat_flow.proofs.CheckLemmas.{AllPairsBelow-more}
+use Rattle.std.proofs.Common.{arith, ◌-◌, ◌<◌}
+use Rattle.heat_flow.proofs.Words.{get_or_default}
 use Rattle.heat_flow.proofs.cut_check.are_rising.Goals as goal
 
 pub loop-i-preserved : goal.loop-i-preserved

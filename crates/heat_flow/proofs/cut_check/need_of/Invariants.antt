@@ -1,6 +1,5 @@
-use Rattle.stream_case.specs.declared.limits.TheConstants.{MOST_HEAT}
-use Rattle.heat_flow.specs.Cuts.{least_at}
 use Rattle.heat_flow.proofs.LoopSums.{SumSoFar}
+use Rattle.heat_flow.proofs.Words.{MOST_HEAT, least_at}
 use Rattle.heat_flow.proofs.cut_check.need_of.Given as goal
 
 abbrev pub invariant-loop-member : goal.invariant-loop-member

@@ -1,16 +1,15 @@
-use Rattle.std.proofs.Common.{◌∙◌, FitsSigned, w64, to_z, rules, arith}
-use Rattle.std.specs.Int.{w128}
-use Rattle.std.specs.Prelude.{pos, if◌then◌else◌}
-use Rattle.std.proofs.lemmas.Int.{ints, to_z-of_z}
-use Rattle.stream_case.specs.declared.limits.TheConstants.{MOST_HEAT}
-use Rattle.heat_flow.specs.Cuts.{meets}
-use Rattle.heat_flow.specs.Table.{reaches}
 use Rattle.heat_flow.proofs.Blanks.{blank}
 use Rattle.heat_flow.proofs.LoopSums.{SumSoFar-more}
+use Rattle.heat_flow.proofs.Words.{MOST_HEAT, if◌then◌else◌, ints, meets, pos, reaches, to_z-of_z, w128}
+use Rattle.std.proofs.Common.{FitsSigned, arith, rules, to_z, w64, ◌∙◌}
 use Rattle.heat_flow.proofs.cut_check.offer_of.Goals as goal
 
 pub loop-index-preserved : goal.loop-index-preserved
 loop-index-preserved c =
     let fits : FitsSigned w64 c.part_offer.result = search rules in
-    SumSoFar-more (λ j p. if meets c.args.side (reaches c.args.reach.now) c.args.members.now j then p.most else pos 0) MOST_HEAT c.args.others.now c.loop-index.index blank (to_z w128 c.loop-index.offer-bits) c.from-offer.result
-    c.loop-index-test.true (omega (arith, ints)) c.loop-index.invariant (c.from-offer.ensures ∙ to_z-of_z w64 c.part_offer.result fits ∙ c.part_offer.ensures.value) (record { from = omega (arith, ints); upto = omega (arith, ints) })
+    SumSoFar-more
+    (λ j p. if meets c.args.side (reaches c.args.reach.now) c.args.members.now j then p.most else pos 0) MOST_HEAT c.args.others.now c.loop-index.index blank
+    (to_z w128 c.loop-index.offer-bits) c.from-offer.result
+    c.loop-index-test.true (omega (arith, ints)) c.loop-index.invariant
+    (c.from-offer.ensures ∙ to_z-of_z w64 c.part_offer.result fits ∙ c.part_offer.ensures.value)
+    (record { from = omega (arith, ints); upto = omega (arith, ints) })

@@ -1,8 +1,5 @@
-use Rattle.std.specs.Prelude.{pos, if◌then◌else◌}
-use Rattle.stream_case.specs.declared.limits.TheConstants.{MOST_HEAT}
-use Rattle.heat_flow.specs.Cuts.{meets}
-use Rattle.heat_flow.specs.Table.{reaches}
 use Rattle.heat_flow.proofs.LoopSums.{SumSoFar}
+use Rattle.heat_flow.proofs.Words.{MOST_HEAT, if◌then◌else◌, meets, pos, reaches}
 use Rattle.heat_flow.proofs.cut_check.offer_of.Given as goal
 
 abbrev pub invariant-loop-index : goal.invariant-loop-index

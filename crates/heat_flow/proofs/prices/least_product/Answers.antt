@@ -1,6 +1,5 @@
-use Rattle.std.proofs.Common.{w64, to_z, of_z, arith}
-use Rattle.std.proofs.lemmas.Int.{ints, clamps, to_z-of_z}
-use Rattle.heat_flow.specs.Ranges.{IsWithin, most_excess}
+use Rattle.heat_flow.proofs.Words.{IsWithin, clamps, ints, most_excess, to_z-of_z}
+use Rattle.std.proofs.Common.{arith, of_z, to_z, w64}
 use Rattle.heat_flow.proofs.prices.least_product.Goals as goal
 
 pub returns-clause-range : goal.returns-clause-range

@@ -1,10 +1,6 @@
-use Rattle.std.proofs.Common.{◌≡◌, sym, subst, FitsSigned, to_z, of_z, arith}
-use Rattle.std.specs.Int.{w128}
-use Rattle.std.specs.Prelude.{◌*ℤ◌}
-use Rattle.std.proofs.lemmas.Int.{ints, to_z-of_z}
-use Rattle.stream_case.specs.declared.limits.TheConstants.{MOST_HEAT}
-use Rattle.heat_flow.specs.Ranges.{IsWithin, most_excess}
 use Rattle.heat_flow.proofs.RangeLemmas.{product_range}
+use Rattle.heat_flow.proofs.Words.{IsWithin, MOST_HEAT, ints, most_excess, to_z-of_z, w128, ◌*ℤ◌}
+use Rattle.std.proofs.Common.{FitsSigned, arith, of_z, subst, sym, to_z, ◌≡◌}
 use Rattle.heat_flow.proofs.prices.product.Goals as goal
 
 price_is : (c : goal.After-from-2) → to_z w128 (of_z w128 c.from.result) ≡ c.args.price
@@ -19,7 +15,8 @@ fits c = let bound = product_range most_excess c.args.price c.args.heat c.requir
 pub overflow_mul-result : goal.overflow_mul-result
 overflow_mul-result c = rw (price_is c, heat_is c) (fits c)
 
-value : (c : goal.After-from-2) → to_z w128 (of_z w128 (to_z w128 (of_z w128 c.from.result) *ℤ to_z w128 (of_z w128 c.from-2.result))) ≡ c.args.price *ℤ c.args.heat
+value : (c : goal.After-from-2)
+    → to_z w128 (of_z w128 (to_z w128 (of_z w128 c.from.result) *ℤ to_z w128 (of_z w128 c.from-2.result))) ≡ c.args.price *ℤ c.args.heat
 value c = rw (price_is c, heat_is c) (to_z-of_z w128 (c.args.price *ℤ c.args.heat) (fits c))
 
 pub returns-clause-value : goal.returns-clause-value

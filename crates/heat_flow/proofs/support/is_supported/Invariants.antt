@@ -1,7 +1,5 @@
+use Rattle.heat_flow.proofs.Words.{IsTrue, price_at, reaches, ◌≤ℤ◌}
 use Rattle.std.proofs.Common.{ℕ, ◌<◌}
-use Rattle.std.specs.Prelude.{IsTrue, ◌≤ℤ◌}
-use Rattle.heat_flow.specs.Prices.{price_at}
-use Rattle.heat_flow.specs.Table.{reaches}
 use Rattle.heat_flow.proofs.support.is_supported.Given as goal
 
 abbrev pub invariant-loop-hot : goal.invariant-loop-hot

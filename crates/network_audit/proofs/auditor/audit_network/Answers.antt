@@ -1,14 +1,15 @@
-use Rattle.std.proofs.Common.{◌≡◌, ◌∙◌, ◌<◌, ◌^◌, ◌++◌, List, Some, length, sym, ap, arith}
-use Rattle.network_audit.proofs.Words.{Finding, IsFinding, Item, all_heat_items, balance_in, balance_items, balance_of, balance_steps_in, exchanger_of, exchangers_of, first_finding, heats_in, items, joint_items, stream_items}
-use Rattle.network_audit.specs.declared.findings.Finding.TheVariants as finding
-use Rattle.network_audit.specs.declared.findings.Place.TheVariants as place
 use Rattle.network_audit.proofs.AuditLemmas.{found-all}
 use Rattle.network_audit.proofs.BalanceLemmas.{balance-is, balance_items-are, heats-are}
 use Rattle.network_audit.proofs.FoundLemmas.{found-behind, found-front}
 use Rattle.network_audit.proofs.JointLemmas.{length-joints}
 use Rattle.network_audit.proofs.SumSteps.{length-numbers}
-use Rattle.network_audit.proofs.auditor.audit_network.Goals as goal
 use Rattle.network_audit.proofs.auditor.audit_network.Goals.{After-hot_target-target, In_default}
+use Rattle.network_audit.proofs.Words.{Finding, IsFinding, Item, all_heat_items, balance_in, balance_items, balance_of, balance_steps_in, exchanger_of}
+use Rattle.network_audit.proofs.Words.{exchangers_of, first_finding, heats_in, items, joint_items, stream_items}
+use Rattle.std.proofs.Common.{List, Some, ap, arith, length, sym, ◌++◌, ◌<◌, ◌^◌, ◌∙◌, ◌≡◌}
+use Rattle.network_audit.proofs.auditor.audit_network.Goals as goal
+use Rattle.network_audit.specs.declared.findings.Finding.TheVariants as finding
+use Rattle.network_audit.specs.declared.findings.Place.TheVariants as place
 
 -- the items behind the statements, read from the tables
 abbrev behind : In_default → List Item

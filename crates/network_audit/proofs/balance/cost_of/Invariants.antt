@@ -1,7 +1,6 @@
-use Rattle.std.proofs.Common.{◌≤◌, ◌+◌, ◌*◌, map, take}
-use Rattle.std.specs.List.{enumerate_from}
-use Rattle.network_audit.specs.Table.{price_in}
 use Rattle.network_audit.proofs.CostSteps.{IsPriced}
+use Rattle.network_audit.proofs.Words.{enumerate_from, price_in}
+use Rattle.std.proofs.Common.{map, take, ◌*◌, ◌+◌, ◌≤◌}
 use Rattle.network_audit.proofs.balance.cost_of.Given as goal
 
 abbrev pub invariant-loop-index : goal.invariant-loop-index

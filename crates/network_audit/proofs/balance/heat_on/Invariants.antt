@@ -1,7 +1,6 @@
-use Rattle.std.proofs.Common.{◌≤◌, ◌+◌, take}
-use Rattle.std.specs.List.{enumerate_from, filter_map}
-use Rattle.network_audit.specs.Table.{heat_on_in}
 use Rattle.network_audit.proofs.SumSteps.{IsSummed}
+use Rattle.network_audit.proofs.Words.{enumerate_from, filter_map, heat_on_in}
+use Rattle.std.proofs.Common.{take, ◌+◌, ◌≤◌}
 use Rattle.network_audit.proofs.balance.heat_on.Given as goal
 
 abbrev pub invariant-loop-index : goal.invariant-loop-index

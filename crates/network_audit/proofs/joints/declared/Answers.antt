@@ -1,8 +1,8 @@
-use Rattle.std.proofs.Common.{◌∙◌, ◌∷◌, ◌++◌, [], None, ap, sym}
-use Rattle.network_audit.proofs.Words.{Joint, exchangers_of}
 use Rattle.network_audit.proofs.JointLemmas.{declared-other, declared-some, joints-none}
-use Rattle.network_audit.proofs.joints.declared.Goals as goal
 use Rattle.network_audit.proofs.joints.declared.Goals.{in-Exchanger+in_ok-push, in_default}
+use Rattle.network_audit.proofs.Words.{Joint, exchangers_of}
+use Rattle.std.proofs.Common.{None, [], ap, sym, ◌++◌, ◌∙◌, ◌∷◌}
+use Rattle.network_audit.proofs.joints.declared.Goals as goal
 
 pub loop-line-init : goal.loop-line-init
 unfolding exchangers_of
@@ -18,5 +18,6 @@ loop-line-preserved c =
           ap (λ v. v.items) w.joints-is ∙ w.in_ok-push.ensures.items ∙ ap (λ js. js ++ new ∷ []) (c.loop-line.invariant branches)
           ∙ sym (declared-some branches c.args.lines.now n l e.name e.hot e.cold e.duty c.loop-line-test.true c.line-item.is e.is)
       | in_default w ↦ λ branches.
-          ap (λ v. v.items) w.joints-is ∙ c.loop-line.invariant branches ∙ sym (declared-other branches c.args.lines.now n l c.loop-line-test.true c.line-item.is w.in_default.not-Exchanger)
+          ap (λ v. v.items) w.joints-is ∙ c.loop-line.invariant branches
+          ∙ sym (declared-other branches c.args.lines.now n l c.loop-line-test.true c.line-item.is w.in_default.not-Exchanger)
     ]

@@ -1,5 +1,5 @@
-use Rattle.std.proofs.Common.{◌≡◌, [], List, take}
 use Rattle.network_audit.proofs.Words.{Branch, exchangers_of, joints_among}
+use Rattle.std.proofs.Common.{List, [], take, ◌≡◌}
 use Rattle.network_audit.proofs.joints.declared.Given as goal
 
 abbrev pub invariant-loop-line : goal.invariant-loop-line

@@ -1,8 +1,8 @@
-use Rattle.std.proofs.Common.{◌∙◌, sym, ap, unwrap_or}
 use Rattle.network_audit.proofs.Words.{branch_side, side_of, stream_at}
+use Rattle.std.proofs.Common.{ap, sym, unwrap_or, ◌∙◌}
+use Rattle.network_audit.proofs.statements.branch_side.Goals as goal
 use Rattle.stream_case.specs.declared.source.Side.TheVariants as side
 use Rattle.stream_case.specs.declared.source.Source.TheVariants as source
-use Rattle.network_audit.proofs.statements.branch_side.Goals as goal
 
 pub returns : goal.returns
 unfolding branch_side

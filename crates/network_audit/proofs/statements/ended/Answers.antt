@@ -1,10 +1,9 @@
-use Rattle.std.proofs.Common.{◌≡◌, ◌∙◌, Bool, Some, not, sym, ap}
-use Rattle.std.proofs.Math.Bool.{not-not}
-use Rattle.fractions.specs.Rationals.{Rational, rational_eq}
+use Rattle.network_audit.proofs.Words.{Rational, not-not, rational_eq}
+use Rattle.network_audit.proofs.FoundLemmas.{found-failed, found-nothing, found-passed}
+use Rattle.std.proofs.Common.{Bool, Some, ap, not, sym, ◌∙◌, ◌≡◌}
+use Rattle.network_audit.proofs.statements.ended.Goals as goal
 use Rattle.network_audit.specs.declared.findings.Finding.TheVariants as finding
 use Rattle.network_audit.specs.declared.findings.Reason.TheVariants as reason
-use Rattle.network_audit.proofs.FoundLemmas.{found-failed, found-nothing, found-passed}
-use Rattle.network_audit.proofs.statements.ended.Goals as goal
 
 -- a number is the wanted one where a test says that it does not differ from it
 equal-is : (a b wanted : Rational) (differ : Bool) → differ ≡ not (rational_eq a b) → b ≡ wanted → rational_eq a wanted ≡ not differ

@@ -1,5 +1,5 @@
-use Rattle.std.proofs.Common.{◌≡◌, ◌∙◌, rules, sym, ap}
 use Rattle.network_audit.proofs.Words.{is_latent_branch, stream_at}
+use Rattle.std.proofs.Common.{ap, rules, sym, ◌∙◌, ◌≡◌}
 use Rattle.network_audit.proofs.statements.is_latent_branch.Goals as goal
 
 pub returns : goal.returns

@@ -1,13 +1,12 @@
-use Rattle.std.proofs.Common.{◌≡◌, ◌∙◌, ◌<◌, ◌∷◌, [], All, Bool, None, Some, slice_get, length, get_or, sym, ap, subst, refl, arith, option_copied}
-use Rattle.std.proofs.lemmas.Result.{err_from_is_err_and}
-use Rattle.network_audit.proofs.Words.{BranchValue, IsValidStream, NamesKnown, Rational, Side, branch_side, duty_at, end_items, exchangers_of, first_finding, is_latent_branch, mix_items, mixed_value, pass_items, passed_value, stream_at, uses, value_at}
-use Rattle.stream_case.proofs.CompleteLemmas.{AreStreams-IsComplete}
-use Rattle.networks.proofs.Lists.{all_at}
+use Rattle.network_audit.proofs.Words.{AreStreams-IsComplete, BranchValue, IsValidStream, NamesKnown, Rational, Side, all_at, branch_side, duty_at, end_items}
+use Rattle.network_audit.proofs.Words.{err_from_is_err_and, exchangers_of, first_finding, is_latent_branch, mix_items, mixed_value, pass_items, passed_value}
+use Rattle.network_audit.proofs.Words.{stream_at, uses, value_at}
 use Rattle.network_audit.proofs.FoundLemmas.{found-nothing}
 use Rattle.network_audit.proofs.JointLemmas.{length-joints}
 use Rattle.network_audit.proofs.StatementLemmas.{duty-read, value-read}
-use Rattle.network_audit.proofs.statements.made_by.Goals as goal
 use Rattle.network_audit.proofs.statements.made_by.Goals.{After-ended, After-mixed, After-passed, In-Pass, In-Some}
+use Rattle.std.proofs.Common.{All, Bool, None, Some, [], ap, arith, get_or, length, option_copied, refl, slice_get, subst, sym, ◌<◌, ◌∙◌, ◌∷◌, ◌≡◌}
+use Rattle.network_audit.proofs.statements.made_by.Goals as goal
 
 -- the exchanger of a pass is in the table
 exchanger_in : (c : In-Pass) → c.in-Pass.exchanger < length c.args.joints.now
@@ -85,8 +84,7 @@ returns-in-Ok c =
 
 pub returns-in-Err : goal.returns-in-Err
 returns-in-Err c =
-    rw c.in-Mix.is
-    (sym (mix_read (λ v w. first_finding (mix_items c.args.place v w)) (goal.at.returns-in-Err c).After-mixed) ∙ c.in-Err.ensures c.args.place)
+    rw c.in-Mix.is (sym (mix_read (λ v w. first_finding (mix_items c.args.place v w)) (goal.at.returns-in-Err c).After-mixed) ∙ c.in-Err.ensures c.args.place)
 
 -- the stream of the branch that ends
 stream_there : (c : In-Some) → slice_get c.args.case.now.streams (stream_at c.args.network.now.branches c.in-End.branch) ≡ Some c.in-Some.stream.now

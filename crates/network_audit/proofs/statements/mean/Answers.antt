@@ -1,10 +1,8 @@
-use Rattle.std.proofs.Common.{◌≡◌, ◌∙◌, ◌∷◌, [], ap₂, subst}
-use Rattle.network_audit.proofs.Words.{Gives, Place, Step, first_finding, heat_of_both, mean_items, over, plus}
-use Rattle.fractions.proofs.Comparisons.{positive-nonzero}
-use Rattle.fractions.proofs.Limits.{value_formed}
+use Rattle.network_audit.proofs.Words.{Gives, Place, Step, first_finding, heat_of_both, mean_items, over, plus, positive-nonzero, value_formed}
 use Rattle.network_audit.proofs.FoundLemmas.{found-formed, found-not_formed, found-nothing}
-use Rattle.network_audit.proofs.statements.mean.Goals as goal
 use Rattle.network_audit.proofs.statements.mean.Goals.{After-over, After-plus}
+use Rattle.std.proofs.Common.{[], ap₂, subst, ◌∙◌, ◌∷◌, ◌≡◌}
+use Rattle.network_audit.proofs.statements.mean.Goals as goal
 
 pub returns-in_default : goal.returns-in_default
 returns-in_default c = λ at. found-not_formed at 2 _ _ _ c.in_default.is c.times.ensures

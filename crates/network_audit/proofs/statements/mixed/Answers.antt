@@ -1,10 +1,8 @@
-use Rattle.std.proofs.Common.{◌≡◌, ◌∙◌, [], true, false, sym, ap, subst, if◌then◌else◌}
-use Rattle.std.proofs.lemmas.Result.{err_from_is_err_and}
-use Rattle.network_audit.proofs.Words.{Decides-rational_eq, IsBelow, first_finding, heat_of_both, mean_items, over, plus, rational_eq, rational_zero}
-use Rattle.fractions.proofs.Limits.{value_formed}
-use Rattle.network_values.proofs.LineLemmas.{mixed_positive}
+use Rattle.network_audit.proofs.Words.{Decides-rational_eq, IsBelow, err_from_is_err_and, first_finding, heat_of_both, mean_items, mixed_positive, over, plus}
+use Rattle.network_audit.proofs.Words.{rational_eq, rational_zero, value_formed}
 use Rattle.network_audit.proofs.FoundLemmas.{found-formed, found-not_formed, found-nothing}
 use Rattle.network_audit.proofs.StatementLemmas.{even_mix}
+use Rattle.std.proofs.Common.{[], ap, false, if◌then◌else◌, subst, sym, true, ◌∙◌, ◌≡◌}
 use Rattle.network_audit.proofs.statements.mixed.Goals as goal
 
 pub returns-in_default : goal.returns-in_default

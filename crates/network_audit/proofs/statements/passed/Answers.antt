@@ -1,10 +1,8 @@
-use Rattle.std.proofs.Common.{◌≡◌, ◌∙◌, ap, subst, sym}
-use Rattle.network_audit.proofs.Words.{Gives, first_finding, load_items, moved, over, pass_items}
-use Rattle.fractions.proofs.Comparisons.{positive-nonzero}
-use Rattle.fractions.proofs.Limits.{value_formed}
+use Rattle.network_audit.proofs.Words.{Gives, first_finding, load_items, moved, over, pass_items, positive-nonzero, value_formed}
 use Rattle.network_audit.proofs.FoundLemmas.{found-formed, found-not_formed}
+use Rattle.network_audit.proofs.statements.passed.Goals.{After-keeps_load, After-moved}
+use Rattle.std.proofs.Common.{ap, subst, sym, ◌∙◌, ◌≡◌}
 use Rattle.network_audit.proofs.statements.passed.Goals as goal
-use Rattle.network_audit.proofs.statements.passed.Goals.{After-moved, After-keeps_load}
 
 pub returns-in_default : goal.returns-in_default
 returns-in_default c = found-not_formed _ 1 _ _ _ c.in_default.is (c.over.ensures.value (positive-nonzero c.args.from.now.cp c.requires))

@@ -1,7 +1,6 @@
-use Rattle.std.proofs.Common.{◌≡◌, ◌∙◌, true, false}
-use Rattle.fractions.specs.Rationals.{is_below}
-use Rattle.fractions.proofs.Limits.{value_formed}
+use Rattle.network_audit.proofs.Words.{is_below, value_formed}
 use Rattle.network_audit.proofs.FoundLemmas.{found-failed, found-formed, found-not_formed, found-nothing, found-passed}
+use Rattle.std.proofs.Common.{false, true, ◌∙◌, ◌≡◌}
 use Rattle.network_audit.proofs.statements.split_rest.Goals as goal
 
 pub returns-then-not-is_below : goal.returns-then-not-is_below

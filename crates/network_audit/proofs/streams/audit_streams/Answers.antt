@@ -1,13 +1,11 @@
-use Rattle.std.proofs.Common.{◌≡◌, ◌∙◌, ◌<◌, ◌≤◌, None, Some, true, false, length, get_or, sym, ap, subst, arith}
-use Rattle.std.specs.List.{list_any}
-use Rattle.network_audit.specs.Items.{ends_stream, first_finding, is_ended, stream_items, stream_items_at}
+use Rattle.network_audit.proofs.FoundLemmas.{found-append, found-failed, found-nothing, found-passed}
+use Rattle.network_audit.proofs.Words.{ends_stream, first-here, first-more, first-none, first_finding, is_ended, length-AreStreams, list_any, stream_items}
+use Rattle.network_audit.proofs.Words.{stream_items_at}
+use Rattle.std.proofs.Common.{None, Some, ap, arith, false, get_or, length, subst, sym, true, ◌<◌, ◌∙◌, ◌≡◌, ◌≤◌}
+use Rattle.network_audit.proofs.streams.audit_streams.Goals as goal
 use Rattle.network_audit.specs.declared.findings.Finding.TheVariants as finding
 use Rattle.network_audit.specs.declared.findings.Place.TheVariants as place
 use Rattle.network_audit.specs.declared.findings.Reason.TheVariants as reason
-use Rattle.stream_case.proofs.CaseLemmas.{length-AreStreams}
-use Rattle.sums.proofs.FirstLemmas.{first-here, first-more, first-none}
-use Rattle.network_audit.proofs.FoundLemmas.{found-append, found-failed, found-nothing, found-passed}
-use Rattle.network_audit.proofs.streams.audit_streams.Goals as goal
 
 pub overflow_cast-index : goal.overflow_cast-index
 overflow_cast-index c = omega (arith, ap length c.as_slice-stream-items.ensures, length-AreStreams c.args.case.now.streams c.requires)

@@ -1,6 +1,5 @@
-use Rattle.std.proofs.Common.{◌≡◌, None}
-use Rattle.network_audit.specs.Items.{first_finding, stream_items_at}
-use Rattle.sums.proofs.FirstLemmas.{items_of}
+use Rattle.network_audit.proofs.Words.{first_finding, items_of, stream_items_at}
+use Rattle.std.proofs.Common.{None, ◌≡◌}
 use Rattle.network_audit.proofs.streams.audit_streams.Given as goal
 
 abbrev pub invariant-loop-index : goal.invariant-loop-index

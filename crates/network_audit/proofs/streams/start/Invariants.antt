@@ -1,5 +1,5 @@
-use Rattle.std.proofs.Common.{◌≡◌, map, take}
-use Rattle.network_values.specs.Values.{first_value}
+use Rattle.network_audit.proofs.Words.{first_value}
+use Rattle.std.proofs.Common.{map, take, ◌≡◌}
 use Rattle.network_audit.proofs.streams.start.Given as goal
 
 abbrev pub invariant-loop-index : goal.invariant-loop-index

@@ -1,9 +1,7 @@
-use Rattle.std.proofs.Common.{◌≡◌, ◌∙◌, ◌≤◌, ◌∷◌, ◌++◌, [], None, Some, length, take, ap, refl, subst, sym, arith}
-use Rattle.std.proofs.lemmas.List.{take_all, take_more_set}
-use Rattle.network_audit.proofs.Words.{all_heat_items, first_finding, heat_items, heats_in}
-use Rattle.sums.proofs.FirstLemmas.{first-here, first-more, first-none}
 use Rattle.network_audit.proofs.FoundLemmas.{found-append, found-nothing}
 use Rattle.network_audit.proofs.TableLemmas.{heats-more}
+use Rattle.network_audit.proofs.Words.{all_heat_items, first-here, first-more, first-none, first_finding, heat_items, heats_in, take_all, take_more_set}
+use Rattle.std.proofs.Common.{None, Some, [], ap, arith, length, refl, subst, sym, take, ◌++◌, ◌∙◌, ◌∷◌, ◌≡◌, ◌≤◌}
 use Rattle.network_audit.proofs.utilities.audit_utilities.Goals as goal
 
 pub loop-index-init : goal.loop-index-init
@@ -35,5 +33,6 @@ returns c =
     let n = c.loop-index.index in
     let end : length c.args.utilities.now ≤ n = c.loop-index-test.false in (
       first-none first_finding found-append (heat_items c.args.joints.now) c.args.utilities.now n end c.loop-index.invariant.passed,
-      sym (take_all n c.loop-index.heats (omega (arith, end, c.loop-index.auto.heats, c.requires.room))) ∙ c.loop-index.invariant.kept ∙ ap (heats_in c.args.joints.now) (take_all n c.args.utilities.now end),
+      sym (take_all n c.loop-index.heats (omega (arith, end, c.loop-index.auto.heats, c.requires.room))) ∙ c.loop-index.invariant.kept
+          ∙ ap (heats_in c.args.joints.now) (take_all n c.args.utilities.now end),
     )

@@ -1,6 +1,5 @@
-use Rattle.std.proofs.Common.{◌≡◌, None, take}
-use Rattle.network_audit.proofs.Words.{first_finding, heat_items, heats_in}
-use Rattle.sums.proofs.FirstLemmas.{items_of}
+use Rattle.network_audit.proofs.Words.{first_finding, heat_items, heats_in, items_of}
+use Rattle.std.proofs.Common.{None, take, ◌≡◌}
 use Rattle.network_audit.proofs.utilities.audit_utilities.Given as goal
 
 abbrev pub invariant-loop-index : goal.invariant-loop-index

@@ -1,10 +1,8 @@
-use Rattle.std.proofs.Common.{◌≡◌, ◌∙◌, ◌+◌, ◌++◌, All, length, map, take, sym, ap, subst, arith}
-use Rattle.stream_case.proofs.CompleteLemmas.{AreStreams-IsComplete}
-use Rattle.networks.proofs.OfShape.{IsLineOf, streams_first}
-use Rattle.network_audit.proofs.Words.{IsValidStream, first_value}
 use Rattle.network_audit.proofs.WalkLemmas.{IsWalked, line_here, walked-all, walked-found, walked-more, walked-room, walked-start, walked-wide}
-use Rattle.network_audit.proofs.walk.audit_statements.Goals as goal
 use Rattle.network_audit.proofs.walk.audit_statements.Goals.{After-line-item}
+use Rattle.network_audit.proofs.Words.{AreStreams-IsComplete, IsLineOf, IsValidStream, first_value, streams_first}
+use Rattle.std.proofs.Common.{All, ap, arith, length, map, subst, sym, take, ◌++◌, ◌+◌, ◌∙◌, ◌≡◌}
+use Rattle.network_audit.proofs.walk.audit_statements.Goals as goal
 
 pub start-requires-clause-valid : goal.start-requires-clause-valid
 start-requires-clause-valid c = subst (All IsValidStream) (sym c.as_slice.ensures) (AreStreams-IsComplete c.args.case.now c.requires.complete).each
@@ -32,7 +30,8 @@ made_by-requires-clause-known c = (here (goal.at.made_by-requires-clause-known c
 pub made_by-requires-clause-used : goal.made_by-requires-clause-used
 made_by-requires-clause-used c =
     let is = here (goal.at.made_by-requires-clause-used c).After-line-item in
-    let wide = walked-wide c.args.case.now c.args.network.now c.loop-index.index c.loop-index.made c.loop-index.values c.requires.shape c.loop-index.invariant in
+    let wide = walked-wide c.args.case.now c.args.network.now c.loop-index.index c.loop-index.made c.loop-index.values c.requires.shape
+    c.loop-index.invariant in
     λ k d inside. omega (arith, wide, is.numbers.used k d inside)
 
 pub keep-made-requires : goal.keep-made-requires

@@ -1,5 +1,5 @@
-use Rattle.std.proofs.Common.{◌∙◌}
 use Rattle.network_text.proofs.Tables.{new_entry}
+use Rattle.std.proofs.Common.{◌∙◌}
 use Rattle.network_text.proofs.builder.add_branch.Goals as goal
 
 pub returns : goal.returns

@@ -1,9 +1,6 @@
-use Rattle.std.proofs.Common.{ℕ, List, [], ◌∷◌, ◌∙◌, ap, bytes_eq}
-use Rattle.std.proofs.lemmas.List.{map-append}
-use Rattle.std.specs.Map.{keys_of}
-use Rattle.std.specs.Cmp.Lexicographic.{bytes_decides}
-use Rattle.networks.specs.Lines.{members}
 use Rattle.network_text.proofs.Tables.{first_new, second_new}
+use Rattle.network_text.proofs.Words.{bytes_decides, keys_of, map-append, members}
+use Rattle.std.proofs.Common.{List, [], ap, bytes_eq, ℕ, ◌∙◌, ◌∷◌}
 use Rattle.network_text.proofs.builder.add_branches.Goals as goal
 
 pub add_branch-requires : goal.add_branch-requires

@@ -1,10 +1,8 @@
-use Rattle.std.proofs.Common.{◌∙◌, [], refl, bytes_eq}
-use Rattle.std.specs.Map.{keys_of}
-use Rattle.std.specs.Cmp.Lexicographic.{bytes_decides}
-use Rattle.network_text.specs.declared.builder.Sides.{Sides}
-use Rattle.networks.specs.declared.few.AtMostTwo.TheVariants as few
 use Rattle.network_text.proofs.Tables.{first_new, new_entry}
+use Rattle.network_text.proofs.Words.{Sides, bytes_decides, keys_of}
+use Rattle.std.proofs.Common.{[], bytes_eq, refl, ◌∙◌}
 use Rattle.network_text.proofs.builder.add_declared.Goals as goal
+use Rattle.networks.specs.declared.few.AtMostTwo.TheVariants as few
 
 pub returns-in_ok-insert : goal.returns-in_ok-insert
 returns-in_ok-insert c =

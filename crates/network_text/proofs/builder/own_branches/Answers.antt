@@ -1,6 +1,6 @@
-use Rattle.std.proofs.Common.{◌∙◌, ◌∷◌, ◌++◌, [], List, ℕ, sym, ap, take_all}
-use Rattle.network_text.specs.Building.{own_entries}
 use Rattle.network_text.proofs.OwnBranches.{own_entries-more, own_entries-new}
+use Rattle.network_text.proofs.Words.{own_entries}
+use Rattle.std.proofs.Common.{List, [], ap, sym, take_all, ℕ, ◌++◌, ◌∙◌, ◌∷◌}
 use Rattle.network_text.proofs.builder.own_branches.Goals as goal
 
 pub loop-index-init : goal.loop-index-init

@@ -1,5 +1,5 @@
-use Rattle.std.proofs.Common.{◌≡◌, take}
-use Rattle.network_text.specs.Building.{own_entries}
+use Rattle.network_text.proofs.Words.{own_entries}
+use Rattle.std.proofs.Common.{take, ◌≡◌}
 use Rattle.network_text.proofs.builder.own_branches.Given as goal
 
 abbrev pub invariant-loop-index : goal.invariant-loop-index

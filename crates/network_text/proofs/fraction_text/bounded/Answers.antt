@@ -1,6 +1,5 @@
-use Rattle.std.specs.Int.{w128}
-use Rattle.std.proofs.lemmas.Int.{to_z-of_z}
 use Rattle.network_text.proofs.Bounds.{bounded-gives}
+use Rattle.network_text.proofs.Words.{to_z-of_z, w128}
 use Rattle.network_text.proofs.fraction_text.bounded.Goals as goal
 
 pub returns : goal.returns

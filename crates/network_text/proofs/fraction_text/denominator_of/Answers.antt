@@ -1,7 +1,5 @@
-use Rattle.std.proofs.Common.{◌+◌, ◌∙◌, is_some, sym, refl, ap}
-use Rattle.network_text.proofs.Words.{MOST_DIGITS, denominator_in, is_slash, natural_in}
-use Rattle.std.proofs.lemmas.List.{take_rest}
-use Rattle.statements.proofs.Positions.{is_some-position, position-some}
+use Rattle.network_text.proofs.Words.{MOST_DIGITS, denominator_in, is_slash, is_some-position, natural_in, position-some, take_rest}
+use Rattle.std.proofs.Common.{ap, is_some, refl, sym, ◌+◌, ◌∙◌}
 use Rattle.network_text.proofs.fraction_text.denominator_of.Goals as goal
 
 pub returns-in_default : goal.returns-in_default

@@ -1,5 +1,4 @@
-use Rattle.first_fault.proofs.OneOutcome.{no_value, one_fault, one_value}
-use Rattle.network_text.specs.Outcome.{grammar}
+use Rattle.network_text.proofs.Words.{grammar, no_value, one_fault, one_value}
 use Rattle.network_text.proofs.laws.statements_have_one_outcome.Goals as goal
 
 pub returns-clause-fault : goal.returns-clause-fault

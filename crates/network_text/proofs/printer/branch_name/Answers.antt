@@ -1,6 +1,6 @@
-use Rattle.std.proofs.Common.{◌≡◌, ◌∙◌, List, get_or, sym, ap}
-use Rattle.networks.specs.declared.network.Branch.{Branch}
 use Rattle.network_text.proofs.print.Names.{branch_name-at}
+use Rattle.network_text.proofs.Words.{Branch}
+use Rattle.std.proofs.Common.{List, ap, get_or, sym, ◌∙◌, ◌≡◌}
 use Rattle.network_text.proofs.printer.branch_name.Goals as goal
 
 pub returns : goal.returns

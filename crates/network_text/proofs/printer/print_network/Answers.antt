@@ -1,10 +1,8 @@
-use Rattle.std.proofs.Common.{◌∙◌, List, ℕ, sym, subst}
-use Rattle.network_text.proofs.Words.{HasShortLines, IsNetworkOf}
-use Rattle.networks.proofs.OfShape.{line_read}
 use Rattle.network_text.proofs.back.Law.{shape-is_network}
-use Rattle.network_text.proofs.print.Lines.{text_all}
 use Rattle.network_text.proofs.print.Lengths.{text-short}
-use Rattle.stream_case.proofs.CompleteLemmas.{StaysValid-IsComplete}
+use Rattle.network_text.proofs.print.Lines.{text_all}
+use Rattle.network_text.proofs.Words.{HasShortLines, IsNetworkOf, StaysValid-IsComplete, line_read}
+use Rattle.std.proofs.Common.{List, subst, sym, ℕ, ◌∙◌}
 use Rattle.network_text.proofs.printer.print_network.Goals as goal
 
 pub statement_line-requires-clause-exchangers : goal.statement_line-requires-clause-exchangers

@@ -1,5 +1,5 @@
-use Rattle.std.proofs.Common.{◌≡◌}
 use Rattle.network_text.proofs.print.Lines.{text_before}
+use Rattle.std.proofs.Common.{◌≡◌}
 use Rattle.network_text.proofs.printer.print_network.Given as goal
 
 abbrev pub invariant-loop-line : goal.invariant-loop-line

@@ -1,7 +1,6 @@
-use Rattle.std.proofs.Common.{◌≡◌, ◌<◌, ◌∙◌, List, ℕ, [], get_or, length, ap, arith}
-use Rattle.std.proofs.lemmas.List.{get_or_default}
-use Rattle.network_text.specs.Printed.{exchanger_name}
 use Rattle.network_text.proofs.print.Names.{many_exchangers}
+use Rattle.network_text.proofs.Words.{exchanger_name, get_or_default}
+use Rattle.std.proofs.Common.{List, [], ap, arith, get_or, length, ℕ, ◌<◌, ◌∙◌, ◌≡◌}
 use Rattle.network_text.proofs.printer.statement_line.Goals as goal
 
 pub bounds-exchangers-exchanger : goal.bounds-exchangers-exchanger

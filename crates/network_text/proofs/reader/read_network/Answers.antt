@@ -1,9 +1,9 @@
-use Rattle.std.proofs.Common.{◌∙◌, ◌+◌, ◌<◌, length, sym, ap, subst, arith, option_map}
-use Rattle.first_fault.proofs.Reading.{Reads, end_here, fault_here, none_read, one_more, value_here}
-use Rattle.network_text.proofs.Words.{MOST_STATEMENTS, Network, grammar, statements_of, with_any}
+use Rattle.network_text.proofs.Words.{MOST_STATEMENTS, Network, Reads, end_here, fault_here, grammar, none_read, one_more, statements_of, value_here, with_any}
+use Rattle.network_text.proofs.Reading.{fresh_next, lines-start, lines-with_entry, no_outcome, room_next}
 use Rattle.network_text.proofs.shape.Counts.{network-keeps_counts}
 use Rattle.network_text.proofs.shape.Law.{network-has_shape}
-use Rattle.network_text.proofs.Reading.{fresh_next, lines-with_entry, lines-start, no_outcome, nothing_left, passed_over, room_next, statement_next}
+use Rattle.statements.proofs.NextLine.{nothing_left, passed_over, statement_next}
+use Rattle.std.proofs.Common.{ap, arith, length, option_map, subst, sym, ◌+◌, ◌<◌, ◌∙◌}
 use Rattle.network_text.proofs.reader.read_network.Goals as goal
 
 pub loop-rest-init : goal.loop-rest-init

@@ -1,6 +1,5 @@
-use Rattle.std.proofs.Common.{◌≡◌, ◌≤◌, length}
-use Rattle.first_fault.proofs.Reading.{Reads}
-use Rattle.network_text.proofs.Words.{MOST_STATEMENTS, grammar, statements_of}
+use Rattle.network_text.proofs.Words.{MOST_STATEMENTS, Reads, grammar, statements_of}
+use Rattle.std.proofs.Common.{length, ◌≡◌, ◌≤◌}
 use Rattle.network_text.proofs.reader.read_network.Given as goal
 
 abbrev pub invariant-loop-rest : goal.invariant-loop-rest

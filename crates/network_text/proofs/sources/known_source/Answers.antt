@@ -1,6 +1,5 @@
 use Rattle.std.proofs.Common.{arith}
-use Rattle.stream_case.proofs.CaseLemmas.{length-AreStreams}
-use Rattle.stream_case.proofs.CompleteLemmas.{StaysValid-IsComplete}
+use Rattle.network_text.proofs.Words.{StaysValid-IsComplete, length-AreStreams}
 use Rattle.network_text.proofs.sources.known_source.Goals as goal
 
 pub source_named-requires-clause-few_streams : goal.source_named-requires-clause-few_streams

@@ -1,5 +1,5 @@
-use Rattle.std.proofs.Common.{add-one}
 use Rattle.network_values.proofs.ValuationLemmas.{valuation_ends, valuation_less, valuation_more, valuation_start}
+use Rattle.std.proofs.Common.{add-one}
 use Rattle.network_values.proofs.valuations.valuations_go_line_by_line.Goals as goal
 
 pub returns-clause-start : goal.returns-clause-start

@@ -1,6 +1,6 @@
-use Rattle.std.proofs.Common.{◌∙◌}
-use Rattle.fractions.proofs.Limits.{value_formed}
+use Rattle.penalties.proofs.Words.{value_formed}
 use Rattle.penalties.proofs.StepLemmas.{after_formed, at_not_formed, none_of_nothing}
+use Rattle.std.proofs.Common.{◌∙◌}
 use Rattle.penalties.proofs.heights.latent_height.Goals as goal
 
 pub returns-then-not-counts : goal.returns-then-not-counts

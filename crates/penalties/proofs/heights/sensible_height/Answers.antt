@@ -1,8 +1,7 @@
-use Rattle.std.proofs.Common.{◌≡◌, ◌∙◌, true, false, sym, ap, subst}
-use Rattle.penalties.proofs.Words.{Gives, first_too_fine, is_below, minus, rational_zero, times}
-use Rattle.fractions.proofs.Limits.{value_formed}
+use Rattle.penalties.proofs.Words.{Gives, first_too_fine, is_below, minus, rational_zero, times, value_formed}
 use Rattle.penalties.proofs.StepLemmas.{after_formed, at_not_formed, none_of_nothing}
 use Rattle.penalties.proofs.SurveyLemmas.{height-above, height-below, steps-above, steps-below}
+use Rattle.std.proofs.Common.{ap, false, subst, sym, true, ◌∙◌, ◌≡◌}
 use Rattle.penalties.proofs.heights.sensible_height.Goals as goal
 
 pub returns-in_default : goal.returns-in_default
@@ -13,7 +12,8 @@ returns-then-not-is_positive c =
     let distance = value_formed _ _ _ c.in-Some.is c.minus.ensures in
     let below : is_below rational_zero (minus c.args.value.now.t c.args.base.now) ≡ false =
     ap (is_below rational_zero) (sym distance) ∙ sym c.is_positive.ensures.value ∙ c.if-not-is_positive.true in (
-      ap first_too_fine (steps-below c.args.place c.args.step c.args.value.now.cp _ below) ∙ after_formed c.args.place c.args.step _ _ _ _ c.in-Some.is c.minus.ensures ∙ none_of_nothing,
+      ap first_too_fine (steps-below c.args.place c.args.step c.args.value.now.cp _ below)
+          ∙ after_formed c.args.place c.args.step _ _ _ _ c.in-Some.is c.minus.ensures ∙ none_of_nothing,
       c.whole.ensures ∙ sym (height-below c.args.value.now.cp _ below),
     )
 
@@ -22,8 +22,10 @@ returns-in-Some-times c =
     let distance = value_formed _ _ _ c.in-Some.is c.minus.ensures in
     let above : is_below rational_zero (minus c.args.value.now.t c.args.base.now) ≡ true =
     ap (is_below rational_zero) (sym distance) ∙ sym c.is_positive.ensures.value ∙ c.if-not-is_positive.false in
-    let gives : Gives c.times.result (times c.args.value.now.cp (minus c.args.value.now.t c.args.base.now)) = subst (λ d. Gives c.times.result (times c.args.value.now.cp d)) distance c.times.ensures in (
-      ap first_too_fine (steps-above c.args.place c.args.step c.args.value.now.cp _ above) ∙ after_formed c.args.place c.args.step _ _ _ _ c.in-Some.is c.minus.ensures
+    let gives : Gives c.times.result (times c.args.value.now.cp (minus c.args.value.now.t c.args.base.now)) =
+    subst (λ d. Gives c.times.result (times c.args.value.now.cp d)) distance c.times.ensures in (
+      ap first_too_fine (steps-above c.args.place c.args.step c.args.value.now.cp _ above)
+          ∙ after_formed c.args.place c.args.step _ _ _ _ c.in-Some.is c.minus.ensures
           ∙ after_formed c.args.place _ _ _ _ _ c.in-Some-times.is gives ∙ none_of_nothing,
       value_formed _ _ _ c.in-Some-times.is gives ∙ sym (height-above c.args.value.now.cp _ above),
     )
@@ -33,6 +35,7 @@ returns-in-None c =
     let distance = value_formed _ _ _ c.in-Some.is c.minus.ensures in
     let above : is_below rational_zero (minus c.args.value.now.t c.args.base.now) ≡ true =
     ap (is_below rational_zero) (sym distance) ∙ sym c.is_positive.ensures.value ∙ c.if-not-is_positive.false in
-    let gives : Gives c.times.result (times c.args.value.now.cp (minus c.args.value.now.t c.args.base.now)) = subst (λ d. Gives c.times.result (times c.args.value.now.cp d)) distance c.times.ensures in
-    ap first_too_fine (steps-above c.args.place c.args.step c.args.value.now.cp _ above) ∙ after_formed c.args.place c.args.step _ _ _ _ c.in-Some.is c.minus.ensures
-    ∙ at_not_formed c.args.place _ _ _ _ c.in-None.is gives
+    let gives : Gives c.times.result (times c.args.value.now.cp (minus c.args.value.now.t c.args.base.now)) =
+    subst (λ d. Gives c.times.result (times c.args.value.now.cp d)) distance c.times.ensures in
+    ap first_too_fine (steps-above c.args.place c.args.step c.args.value.now.cp _ above)
+    ∙ after_formed c.args.place c.args.step _ _ _ _ c.in-Some.is c.minus.ensures ∙ at_not_formed c.args.place _ _ _ _ c.in-None.is gives

@@ -1,13 +1,9 @@
-use Rattle.std.proofs.Common.{rules, w32, ◌≡◌, ◌∙◌, length, ap, arith}
-use Rattle.std.proofs.lemmas.Int.{to_z-of_z}
-use Rattle.penalties.proofs.Words.{Audit, exchangers_of, joints_of}
-use Rattle.stream_case.proofs.CompleteLemmas.{AreStreams-IsComplete, HasValidStreams-IsComplete}
-use Rattle.networks.proofs.LineLaws.{few_exchangers}
 use Rattle.network_audit.proofs.AcceptedLemmas.{known_network}
-use Rattle.network_audit.proofs.JointLemmas.{length-joints}
+use Rattle.penalties.proofs.Words.{AreStreams-IsComplete, Audit, HasValidStreams-IsComplete, exchangers_of, few_exchangers, joints_of, length-joints, to_z-of_z}
 use Rattle.penalties.proofs.ListLaws.{listed_not_negative, listed_sum}
 use Rattle.penalties.proofs.Listing.{all_listed, found_none, found_some, reference_view, too_fine_first, too_fine_later}
 use Rattle.penalties.proofs.SurveyLemmas.{supplies_shifted}
+use Rattle.std.proofs.Common.{ap, arith, length, rules, w32, ◌∙◌, ◌≡◌}
 use Rattle.penalties.proofs.survey.penalties.Goals as goal
 
 pub reference_place-requires : goal.reference_place-requires

@@ -1,4 +1,4 @@
-use Rattle.std.proofs.Common.{◌≡◌, map, string_bytes}
+use Rattle.std.proofs.Common.{map, string_bytes, ◌≡◌}
 use Rattle.pinch.proofs.arguments.words_behind_name.Given as goal
 
 abbrev pub invariant-loop-text : goal.invariant-loop-text

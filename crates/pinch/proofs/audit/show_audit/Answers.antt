@@ -1,23 +1,12 @@
-use Rattle.std.proofs.Common.{◌≡◌, ap, subst, sym, rules, FitsSigned, w32}
-use Rattle.std.specs.Int.{w128}
-use Rattle.std.proofs.lemmas.Int.{to_z-of_z}
-use Rattle.fractions.specs.Rationals.{IsAtMost, Rational, whole}
-use Rattle.network_audit.specs.Audit.{SaysExactly}
-use Rattle.network_audit.specs.Findings.{IsVerdict}
-use Rattle.network_audit.specs.Valid.{IsValidNetwork}
-use Rattle.network_audit.specs.declared.verdict.Balance.{Balance}
+use Rattle.pinch.proofs.Words.{Accepted, Balance, IfListed, IsAtMost, IsValidNetwork, IsVerdict, Rational, SaysExactly, sum_of, to_z-of_z, w128, whole}
+use Rattle.std.proofs.Common.{FitsSigned, ap, rules, subst, sym, w32, ◌≡◌}
 use Rattle.network_audit.specs.declared.verdict.Verdict.TheVariants as verdict
-use Rattle.penalties.specs.Answers.{IfListed, sum_of}
-use Rattle.reports.specs.declared.shown.Shown.TheVariants.{Accepted}
 use Rattle.pinch.proofs.audit.show_audit.Goals as goal
 
 pub returns-in-Accepted : goal.returns-in-Accepted
 returns-in-Accepted c =
-    let case = c.args.case in
-    let network = c.args.network in
-    let balance = c.in-Accepted.balance in
-    let penalties = c.in_ok-penalties-in-Accepted.field-0 in
-    let reference = c.reference_place.result in
+    let case = c.args.case in let network = c.args.network in let balance = c.in-Accepted.balance in
+    let penalties = c.in_ok-penalties-in-Accepted.field-0 in let reference = c.reference_place.result in
     let fits : FitsSigned w32 reference = search rules in
     let floor = c.in_ok-cost_floor-in-Accepted.field-0 in
     let floor_fits : FitsSigned w128 floor = search rules in
@@ -38,7 +27,8 @@ returns-in-Accepted c =
         penalties = penalties;
         lists = c.in_ok-penalties-in-Accepted.ensures.lists;
         not_negative = c.in_ok-penalties-in-Accepted.ensures.not_negative;
-        sum = subst (λ (e : Rational). IfListed penalties (λ listed. sum_of listed ≡ e)) (sym (ap (λ (b : Balance). b.excess) is_verdict.1)) c.in_ok-penalties-in-Accepted.ensures.sum;
+        sum = subst (λ (e : Rational). IfListed penalties (λ listed. sum_of listed ≡ e))
+            (sym (ap (λ (b : Balance). b.excess) is_verdict.1)) c.in_ok-penalties-in-Accepted.ensures.sum;
         is = λ i. Accepted case network balance (to_z-of_z w32 reference fits i) (to_z-of_z w128 floor floor_fits i) penalties;
       };
     }

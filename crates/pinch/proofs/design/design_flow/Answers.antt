@@ -1,12 +1,11 @@
-use Rattle.std.proofs.Common.{◌∙◌, ap}
-use Rattle.network_audit.specs.declared.verdict.Balance.{Balance}
+use Rattle.pinch.proofs.Words.{Balance}
 use Rattle.pinch.proofs.ShownNetworks.{shown_network}
+use Rattle.std.proofs.Common.{ap, ◌∙◌}
 use Rattle.pinch.proofs.design.design_flow.Goals as goal
 
 pub returns-clause-design : goal.returns-clause-design
 returns-clause-design c =
-    let made = c.in_ok-network.ensures in
-    let sums = c.in_ok-balance.ensures in
+    let made = c.in_ok-network.ensures in let sums = c.in_ok-balance.ensures in
     record {
       network = c.in_ok-network.network;
       balance = c.in_ok-balance.balance;

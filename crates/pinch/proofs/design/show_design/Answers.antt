@@ -1,9 +1,9 @@
-use Rattle.std.proofs.Common.{IfOk, refl, subst}
-use Rattle.transport.specs.declared.answer.Answer.TheVariants as answer
-use Rattle.reports.specs.declared.shown.Shown.TheVariants as show
-use Rattle.pinch.specs.Design.{AnswersDesign}
 use Rattle.pinch.proofs.Designs.{of_least}
+use Rattle.pinch.proofs.Words.{AnswersDesign}
+use Rattle.std.proofs.Common.{IfOk, refl, subst}
 use Rattle.pinch.proofs.design.show_design.Goals as goal
+use Rattle.reports.specs.declared.shown.Shown.TheVariants as show
+use Rattle.transport.specs.declared.answer.Answer.TheVariants as answer
 
 pub returns-in-Least : goal.returns-in-Least
 returns-in-Least c =

@@ -1,5 +1,5 @@
-use Rattle.std.proofs.Common.{rules, refl}
-use Rattle.pinch.specs.Files.{refused}
+use Rattle.pinch.proofs.Words.{refused}
+use Rattle.std.proofs.Common.{refl, rules}
 use Rattle.pinch.proofs.files.take_study.Goals as goal
 
 pub returns-in-Err-Row-clause-stop : goal.returns-in-Err-Row-clause-stop

@@ -1,6 +1,6 @@
-use Rattle.std.proofs.Common.{subst}
-use Rattle.pinch.specs.Flow.{AnswersFlow}
 use Rattle.pinch.proofs.Proofs.{answered}
+use Rattle.pinch.proofs.Words.{AnswersFlow}
+use Rattle.std.proofs.Common.{subst}
 use Rattle.pinch.proofs.flow.show_flow.Goals as goal
 
 pub returns : goal.returns

@@ -1,5 +1,5 @@
-use Rattle.std.proofs.Common.{Ok}
 use Rattle.pinch.proofs.Early.{early_shown}
+use Rattle.std.proofs.Common.{Ok}
 use Rattle.pinch.proofs.program.show.Goals as goal
 
 pub returns-in_ok-answer-in-Ok : goal.returns-in_ok-answer-in-Ok

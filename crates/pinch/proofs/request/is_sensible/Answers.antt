@@ -1,8 +1,5 @@
-use Rattle.std.proofs.Common.{◌≡◌, Bool, true, false, List, refl, subst, arith}
-use Rattle.std.specs.Prelude.{◌↔◌, not, Any, IsTrue}
-use Rattle.std.proofs.lemmas.Int.{ints}
-use Rattle.stream_case.specs.Stream.{AreSensible, IsLatent, IsSensible}
-use Rattle.stream_case.specs.declared.stream.Stream.{Stream}
+use Rattle.std.proofs.Common.{Bool, List, arith, false, refl, subst, true, ◌≡◌}
+use Rattle.pinch.proofs.Words.{Any, AreSensible, IsLatent, IsSensible, IsTrue, Stream, ints, not, ◌↔◌}
 use Rattle.pinch.proofs.request.is_sensible.Goals as goal
 
 -- a latent stream has a load
@@ -11,7 +8,8 @@ none_latent streams sensible (k, s, within, is, latent) =
     let own : IsSensible s = subst IsSensible is (sensible k s within) in
     omega (arith, ints, own.load, latent.load.from)
 
-unless_latent : (streams : List Stream) (some : Bool) → (IsTrue some ↔ Any IsLatent streams) → (some ≡ false → AreSensible streams) → IsTrue (not some) ↔ AreSensible streams
+unless_latent : (streams : List Stream) (some : Bool) → (IsTrue some ↔ Any IsLatent streams) → (some ≡ false → AreSensible streams)
+    → IsTrue (not some) ↔ AreSensible streams
 unless_latent streams true latent sensible = (λ is. cc, λ are. absurd (none_latent streams are (latent.0 refl)))
 unless_latent streams false latent sensible = (λ is. sensible refl, λ are. refl)
 

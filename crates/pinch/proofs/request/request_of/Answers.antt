@@ -1,7 +1,6 @@
-use Rattle.std.proofs.Common.{◌∙◌, refl, sym}
-use Rattle.pinch.specs.Files.{EndsIn}
-use Rattle.pinch.specs.Reading.{reading_of}
 use Rattle.pinch.proofs.Runnable.{runnable}
+use Rattle.pinch.proofs.Words.{EndsIn, reading_of}
+use Rattle.std.proofs.Common.{refl, sym, ◌∙◌}
 use Rattle.pinch.proofs.request.request_of.Goals as goal
 
 pub request_of_command-requires : goal.request_of_command-requires

@@ -1,8 +1,6 @@
-use Rattle.std.proofs.Common.{refl}
-use Rattle.pinch.specs.Files.{EndsIn, by_text}
-use Rattle.pinch.specs.Reading.{reading_of}
-use Rattle.pinch.specs.Site.{site_file}
 use Rattle.pinch.proofs.Early.{without_text}
+use Rattle.pinch.proofs.Words.{EndsIn, by_text, reading_of, site_file}
+use Rattle.std.proofs.Common.{refl}
 use Rattle.pinch.proofs.request.request_of_command.Goals as goal
 
 pub returns-in_err-site-in-Site-clause-reads : goal.returns-in_err-site-in-Site-clause-reads

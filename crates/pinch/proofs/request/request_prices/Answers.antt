@@ -1,11 +1,6 @@
+use Rattle.pinch.proofs.Early.{without_second, without_text}
+use Rattle.pinch.proofs.Words.{EndsIn, Prices, by_text, case_file, completed, reading_of, ready, study_file}
 use Rattle.std.proofs.Common.{refl}
-use Rattle.stream_case.specs.Case.{completed}
-use Rattle.pinch.specs.Case.{case_file}
-use Rattle.pinch.specs.Files.{EndsIn, by_text}
-use Rattle.pinch.specs.Prices.{study_file}
-use Rattle.pinch.specs.Reading.{reading_of, ready}
-use Rattle.pinch.specs.declared.request.Request.TheVariants.{Prices}
-use Rattle.pinch.proofs.Early.{without_text, without_second}
 use Rattle.pinch.proofs.request.request_prices.Goals as goal
 
 pub returns-in_err-given-clause-reads : goal.returns-in_err-given-clause-reads

@@ -1,8 +1,6 @@
-use Rattle.std.proofs.Common.{refl}
-use Rattle.pinch.specs.Case.{case_file}
-use Rattle.pinch.specs.Files.{EndsIn, by_text}
-use Rattle.pinch.specs.Reading.{reading_of}
 use Rattle.pinch.proofs.Early.{without_text}
+use Rattle.pinch.proofs.Words.{EndsIn, by_text, case_file, reading_of}
+use Rattle.std.proofs.Common.{refl}
 use Rattle.pinch.proofs.request.request_task.Goals as goal
 
 pub returns-in_err-case-clause-reads : goal.returns-in_err-case-clause-reads

@@ -1,9 +1,6 @@
-use Rattle.std.proofs.Common.{inl, inr, refl, sym, subst}
-use Rattle.stream_case.specs.Case.{IsStandard}
-use Rattle.pinch.specs.Case.{case_file}
-use Rattle.pinch.specs.Files.{EndsIn, by_text}
-use Rattle.pinch.specs.Reading.{reading_of}
 use Rattle.pinch.proofs.Early.{without_text}
+use Rattle.pinch.proofs.Words.{EndsIn, IsStandard, by_text, case_file, reading_of}
+use Rattle.std.proofs.Common.{inl, inr, refl, subst, sym}
 use Rattle.pinch.proofs.request.request_vertical.Goals as goal
 
 pub returns-in_err-given-clause-reads : goal.returns-in_err-given-clause-reads

@@ -1,7 +1,6 @@
-use Rattle.std.proofs.Common.{◌∙◌, ap, get_or, pos, rules, FitsSigned, w32, w64}
-use Rattle.std.proofs.lemmas.Int.{to_z-of_z}
-use Rattle.plants.specs.Profiles.{source_profile}
 use Rattle.pinch.proofs.Profiles.{one_more}
+use Rattle.pinch.proofs.Words.{source_profile, to_z-of_z}
+use Rattle.std.proofs.Common.{FitsSigned, ap, get_or, pos, rules, w32, w64, ◌∙◌}
 use Rattle.pinch.proofs.site_answer.sources_at.Goals as goal
 
 pub loop-place-preserved : goal.loop-place-preserved

@@ -1,5 +1,5 @@
-use Rattle.std.proofs.Common.{◌≡◌, map, take}
-use Rattle.plants.specs.Profiles.{source_profile}
+use Rattle.pinch.proofs.Words.{source_profile}
+use Rattle.std.proofs.Common.{map, take, ◌≡◌}
 use Rattle.pinch.proofs.site_answer.sources_at.Given as goal
 
 abbrev pub invariant-loop-place : goal.invariant-loop-place

@@ -1,12 +1,11 @@
-use Rattle.std.proofs.Common.{◌∙◌, ap}
-use Rattle.network_audit.specs.declared.verdict.Balance.{Balance}
+use Rattle.pinch.proofs.Words.{Balance}
 use Rattle.pinch.proofs.ShownNetworks.{shown_network}
+use Rattle.std.proofs.Common.{ap, ◌∙◌}
 use Rattle.pinch.proofs.vertical_answer.show_vertical.Goals as goal
 
 pub returns : goal.returns
 returns c =
-    let made = c.in_ok-network.ensures in
-    let sums = c.in_ok-balance.ensures in
+    let made = c.in_ok-network.ensures in let sums = c.in_ok-balance.ensures in
     record {
       network = c.in_ok-network.network;
       balance = c.in_ok-balance.balance;

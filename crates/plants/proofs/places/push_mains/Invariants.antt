@@ -1,5 +1,5 @@
-use Rattle.std.proofs.Common.{◌≡◌, ◌++◌, take}
-use Rattle.plants.specs.Table.{main_places}
+use Rattle.plants.proofs.Words.{main_places}
+use Rattle.std.proofs.Common.{take, ◌++◌, ◌≡◌}
 use Rattle.plants.proofs.places.push_mains.Given as goal
 
 abbrev pub invariant-loop-main : goal.invariant-loop-main

@@ -1,5 +1,5 @@
-use Rattle.std.proofs.Common.{◌≡◌, take}
-use Rattle.plants.specs.Site.{streams_of}
+use Rattle.plants.proofs.Words.{streams_of}
+use Rattle.std.proofs.Common.{take, ◌≡◌}
 use Rattle.plants.proofs.places.streams_of.Given as goal
 
 abbrev pub invariant-loop-plant : goal.invariant-loop-plant

@@ -1,5 +1,5 @@
 use Rattle.std.proofs.Common.{arith}
-use Rattle.std.proofs.lemmas.Int.{clamps, ints}
+use Rattle.plants.proofs.Words.{clamps, ints}
 use Rattle.plants.proofs.profiles.raised.Goals as goal
 
 pub returns-then-is_beyond-clause-range : goal.returns-then-is_beyond-clause-range

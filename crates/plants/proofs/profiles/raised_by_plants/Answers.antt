@@ -1,13 +1,8 @@
 -- Each plant brings the ends of its streams.
-use Rattle.std.proofs.Common.{◌∙◌, List, ap₂, fold, of_z, rules, subst, sym, to_z, w32, w64}
-use Rattle.std.specs.Prelude.{All}
-use Rattle.std.proofs.lemmas.Int.{to_z-of_z}
-use Rattle.stream_case.specs.Stream.{IsValidStream, stream_ends}
-use Rattle.stream_case.specs.declared.stream.Stream.{Stream}
-use Rattle.plants.specs.Directions.{IsPlantHeat, raised}
-use Rattle.plants.specs.declared.site.Plant.{Plant}
 use Rattle.plants.proofs.ProfileLemmas.{raised-plants}
 use Rattle.plants.proofs.SiteLemmas.{All-plants}
+use Rattle.plants.proofs.Words.{All, IsPlantHeat, IsValidStream, Plant, Stream, raised, stream_ends, to_z-of_z}
+use Rattle.std.proofs.Common.{List, ap₂, fold, of_z, rules, subst, sym, to_z, w32, w64, ◌∙◌}
 use Rattle.plants.proofs.profiles.raised_by_plants.Goals as goal
 
 pub raised_by_ends-greatest-requires-clause-others : goal.raised_by_ends-greatest-requires-clause-others
@@ -18,11 +13,13 @@ raised_by_ends-greatest-requires-clause-others c =
 
 pub loop-plant-preserved : goal.loop-plant-preserved
 loop-plant-preserved c =
-    let t = to_z w32 (of_z w32 c.args.t) in
-    let look = raised c.args.direction t c.args.streams.now in
+    let t = to_z w32 (of_z w32 c.args.t) in let look = raised c.args.direction t c.args.streams.now in
     let is = to_z-of_z w64 c.raised_by_ends-greatest.result (search rules) in
     record {
-      value = is ∙ c.raised_by_ends-greatest.ensures.value ∙ ap₂ (λ g (ss : List Stream). fold look g (stream_ends ss)) c.loop-plant.invariant.value c.as_slice.ensures
-          ∙ sym (raised-plants c.args.direction t c.args.streams.now _ c.args.plants.now c.loop-plant.plant-index c.plant-item.result c.loop-plant-test.true c.plant-item.is);
+      value = is ∙ c.raised_by_ends-greatest.ensures.value
+          ∙ ap₂ (λ g (ss : List Stream). fold look g (stream_ends ss)) c.loop-plant.invariant.value c.as_slice.ensures
+          ∙ sym
+          (raised-plants c.args.direction t c.args.streams.now _ c.args.plants.now c.loop-plant.plant-index c.plant-item.result c.loop-plant-test.true
+          c.plant-item.is);
       range = subst IsPlantHeat (sym is) c.raised_by_ends-greatest.ensures.range;
     }

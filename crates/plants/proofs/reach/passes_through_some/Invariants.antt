@@ -1,6 +1,5 @@
-use Rattle.std.proofs.Common.{◌≡◌, false, take}
-use Rattle.std.specs.List.{list_any}
-use Rattle.plants.specs.Reach.{passes_through}
+use Rattle.plants.proofs.Words.{list_any, passes_through}
+use Rattle.std.proofs.Common.{false, take, ◌≡◌}
 use Rattle.plants.proofs.reach.passes_through_some.Given as goal
 
 abbrev pub invariant-loop-main : goal.invariant-loop-main

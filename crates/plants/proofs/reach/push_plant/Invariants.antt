@@ -1,4 +1,4 @@
-use Rattle.std.proofs.Common.{◌≡◌, ◌++◌, map, take}
+use Rattle.std.proofs.Common.{map, take, ◌++◌, ◌≡◌}
 use Rattle.plants.proofs.reach.push_plant.Given as goal
 
 abbrev pub invariant-loop-stream : goal.invariant-loop-stream

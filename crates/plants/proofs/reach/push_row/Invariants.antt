@@ -1,5 +1,5 @@
-use Rattle.std.proofs.Common.{◌≡◌, ◌++◌, map, take}
-use Rattle.plants.specs.Reach.{reaches_within}
+use Rattle.plants.proofs.Words.{reaches_within}
+use Rattle.std.proofs.Common.{map, take, ◌++◌, ◌≡◌}
 use Rattle.plants.proofs.reach.push_row.Given as goal
 
 abbrev pub invariant-loop-part : goal.invariant-loop-part

@@ -1,5 +1,5 @@
-use Rattle.std.proofs.Common.{◌≡◌, take}
 use Rattle.plants.proofs.ReachLemmas.{cell_rows}
+use Rattle.std.proofs.Common.{take, ◌≡◌}
 use Rattle.plants.proofs.reach.reach_of.Given as goal
 
 abbrev pub invariant-loop-part : goal.invariant-loop-part

@@ -1,7 +1,7 @@
 -- A plant brings its index once for each of its streams.
-use Rattle.std.proofs.Common.{◌++◌, ◌∙◌, ap₂, List, map, sym}
-use Rattle.stream_case.specs.declared.stream.Stream.{Stream}
 use Rattle.plants.proofs.ReachLemmas.{plants_from-more}
+use Rattle.std.proofs.Common.{List, ap₂, map, sym, ◌++◌, ◌∙◌}
+use Rattle.plants.proofs.Words.{Stream}
 use Rattle.plants.proofs.reach.stream_plants.Goals as goal
 
 pub loop-index-preserved : goal.loop-index-preserved

@@ -1,5 +1,5 @@
-use Rattle.std.proofs.Common.{◌≡◌, take}
-use Rattle.plants.specs.Reach.{plants_from}
+use Rattle.plants.proofs.Words.{plants_from}
+use Rattle.std.proofs.Common.{take, ◌≡◌}
 use Rattle.plants.proofs.reach.stream_plants.Given as goal
 
 abbrev pub invariant-loop-index : goal.invariant-loop-index

@@ -1,14 +1,8 @@
 -- The grid of a valid site holds the places of its streams and utilities, and they are few.
-use Rattle.std.proofs.Common.{◌≡◌, ◌∙◌, ◌∷◌, [], ap, subst, sym}
-use Rattle.std.specs.Prelude.{All, Contains}
-use Rattle.stream_case.specs.Stream.{AreStreams}
-use Rattle.stream_case.specs.Utility.{IsPlaced}
-use Rattle.sums.specs.Order.{ListsFalling}
-use Rattle.grid.specs.Grid.{HoldsPlaces}
-use Rattle.plants.specs.Site.{streams_of}
-use Rattle.plants.specs.Table.{IsSiteGrid, site_utilities}
+use Rattle.plants.proofs.Words.{All, AreStreams, Contains, HoldsPlaces, IsPlaced, IsSiteGrid, ListsFalling, site_utilities, streams_of}
 use Rattle.plants.proofs.PlaceLemmas.{HoldsPlaces-grid, length-grid, utilities-placed}
 use Rattle.plants.proofs.SiteLemmas.{AreStreams-site}
+use Rattle.std.proofs.Common.{[], ap, subst, sym, ◌∙◌, ◌∷◌, ◌≡◌}
 use Rattle.plants.proofs.table.site_parts.Goals as goal
 
 streams_are : (c : goal.After-as_slice-5) → c.as_slice-4.result.now ≡ streams_of c.args.site.now.plants
@@ -18,7 +12,9 @@ utilities_are : (c : goal.After-as_slice-5) → c.boiler.result ∷ c.cooling.re
 utilities_are c = λ i. c.boiler.ensures i ∷ c.cooling.ensures i ∷ []
 
 is_grid : (c : goal.After-as_slice-5) → IsSiteGrid c.args.site.now c.as_slice-5.result.now
-is_grid c = rw c.as_slice-5.ensures.value (subst (λ places. ListsFalling (Contains places) c.falling-places.result.items) c.in_ok-places.ensures c.falling-places.ensures)
+is_grid c =
+    rw c.as_slice-5.ensures.value
+    (subst (λ places. ListsFalling (Contains places) c.falling-places.result.items) c.in_ok-places.ensures c.falling-places.ensures)
 
 pub parts_on-requires-clause-streams : goal.parts_on-requires-clause-streams
 parts_on-requires-clause-streams c = subst AreStreams (sym (streams_are c)) (AreStreams-site c.args.site.now c.requires)
@@ -29,7 +25,8 @@ parts_on-requires-clause-utilities c = subst (All IsPlaced) (sym (utilities_are 
 pub parts_on-requires-clause-places : goal.parts_on-requires-clause-places
 parts_on-requires-clause-places c =
     let holds = HoldsPlaces-grid c.args.site.now c.as_slice-5.result.now c.requires (is_grid c) in
-    subst (λ streams. HoldsPlaces streams (c.boiler.result ∷ c.cooling.result ∷ []) c.as_slice-5.result.now) (sym (streams_are c)) (subst (λ utilities. HoldsPlaces (streams_of c.args.site.now.plants) utilities c.as_slice-5.result.now) (sym (utilities_are c)) holds)
+    subst (λ streams. HoldsPlaces streams (c.boiler.result ∷ c.cooling.result ∷ []) c.as_slice-5.result.now) (sym (streams_are c))
+    (subst (λ utilities. HoldsPlaces (streams_of c.args.site.now.plants) utilities c.as_slice-5.result.now) (sym (utilities_are c)) holds)
 
 pub parts_on-requires-clause-few_places : goal.parts_on-requires-clause-few_places
 parts_on-requires-clause-few_places c = length-grid c.args.site.now c.as_slice-5.result.now c.requires (is_grid c)

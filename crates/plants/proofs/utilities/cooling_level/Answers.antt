@@ -1,9 +1,7 @@
 -- The lowest place lies within the limits of the shifted scale.
-use Rattle.std.proofs.Common.{◌∙◌, ap, arith, subst, sym}
-use Rattle.std.proofs.lemmas.Int.{ints}
-use Rattle.stream_case.specs.Case.{least}
-use Rattle.stream_case.specs.Limits.{IsShifted}
 use Rattle.plants.proofs.PlaceLemmas.{lowest-between, some_place}
+use Rattle.std.proofs.Common.{ap, arith, subst, sym, ◌∙◌}
+use Rattle.plants.proofs.Words.{IsShifted, ints, least}
 use Rattle.plants.proofs.utilities.cooling_level.Goals as goal
 
 pub lowest-requires : goal.lowest-requires

@@ -1,5 +1,5 @@
-use Rattle.std.proofs.Common.{◌≡◌, fold, map, take}
-use Rattle.std.specs.Int.{int_max}
+use Rattle.std.proofs.Common.{fold, map, take, ◌≡◌}
+use Rattle.plants.proofs.Words.{int_max}
 use Rattle.plants.proofs.utilities.highest_level.Given as goal
 
 abbrev pub invariant-loop-main : goal.invariant-loop-main

@@ -1,5 +1,5 @@
-use Rattle.std.proofs.Common.{◌≡◌, fold, take}
-use Rattle.std.specs.Int.{int_min}
+use Rattle.std.proofs.Common.{fold, take, ◌≡◌}
+use Rattle.plants.proofs.Words.{int_min}
 use Rattle.plants.proofs.utilities.lowest.Given as goal
 
 abbrev pub invariant-loop-place : goal.invariant-loop-place

@@ -1,11 +1,7 @@
-use Rattle.std.proofs.Common.{◌≡◌, sym, subst}
-use Rattle.std.proofs.lemmas.Bool.{false_from_ne_true}
-use Rattle.heat_flow.specs.Certificate.{IsCutOf}
-use Rattle.heat_flow.specs.Reach.{reach_between}
-use Rattle.heat_flow.specs.Table.{reaches}
-use Rattle.network_audit.proofs.AcceptedLemmas.{known_network}
+use Rattle.price_floor.proofs.Words.{IsCutOf, false_from_ne_true, known_network, reach_between, reaches}
 use Rattle.price_floor.proofs.CutLemmas.{no_cut-stands}
 use Rattle.price_floor.proofs.UsesLemmas.{uses_ordered}
+use Rattle.std.proofs.Common.{subst, sym, ◌≡◌}
 use Rattle.price_floor.proofs.floor.cut_stands.Goals as goal
 
 pub returns-clause-exact : goal.returns-clause-exact
@@ -22,4 +18,7 @@ pub returns-clause-never : goal.returns-clause-never
 returns-clause-never c =
     let known = known_network _ _ _ c.requires.accepted c.joints-joints.ensures.known in
     let exact = returns-clause-exact c in
-    false_from_ne_true _ (λ stands. no_cut-stands uses_ordered c.args.case.now c.args.network.now c.args.parts.now.hot c.args.parts.now.cold c.args.cut.now known.complete known.shape known.valid c.requires.parts (exact.0 stands))
+    false_from_ne_true _
+    (λ stands.
+    no_cut-stands uses_ordered c.args.case.now c.args.network.now c.args.parts.now.hot c.args.parts.now.cold c.args.cut.now known.complete known.shape
+    known.valid c.requires.parts (exact.0 stands))

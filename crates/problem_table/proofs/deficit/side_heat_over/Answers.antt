@@ -1,22 +1,22 @@
 -- A stream of the side adds its heat.
-use Rattle.std.proofs.Common.{Bool, pos, to_z, of_z, w32, ap, sym, ◌∙◌, arith, if◌then◌else◌}
-use Rattle.std.proofs.lemmas.Int.{ints}
-use Rattle.stream_case.specs.Stream.{heat_over}
-use Rattle.stream_case.proofs.HeatLemmas.{heat_over-between}
 use Rattle.problem_table.proofs.SideLemmas.{sum_side-more, sum_side-so_far}
+use Rattle.problem_table.proofs.deficit.side_heat_over.Goals.{else-is_on, then-is_on}
+use Rattle.std.proofs.Common.{Bool, ap, arith, if◌then◌else◌, of_z, pos, sym, to_z, w32, ◌∙◌}
+use Rattle.problem_table.proofs.Words.{heat_over, heat_over-between, ints}
 use Rattle.problem_table.proofs.deficit.side_heat_over.Goals as goal
-use Rattle.problem_table.proofs.deficit.side_heat_over.Goals.{then-is_on, else-is_on}
 
 pub overflow_add-heat : goal.overflow_add-heat
 overflow_add-heat c =
     let t = to_z w32 (of_z w32 c.args.t) in
-    let so_far = sum_side-so_far c.args.side (heat_over c.args.from t) (heat_over-between c.args.from t) c.args.streams.now c.loop-stream.stream-index c.requires in
+    let so_far =
+    sum_side-so_far c.args.side (heat_over c.args.from t) (heat_over-between c.args.from t) c.args.streams.now c.loop-stream.stream-index c.requires in
     omega (arith, ints)
 
 pub loop-stream-preserved : goal.loop-stream-preserved
 loop-stream-preserved c =
     let t = to_z w32 (of_z w32 c.args.t) in let s = c.stream-item.result in
-    let so_far = sum_side-so_far c.args.side (heat_over c.args.from t) (heat_over-between c.args.from t) c.args.streams.now c.loop-stream.stream-index c.requires in
+    let so_far =
+    sum_side-so_far c.args.side (heat_over c.args.from t) (heat_over-between c.args.from t) c.args.streams.now c.loop-stream.stream-index c.requires in
     let step = sum_side-more c.args.side (heat_over c.args.from t) c.args.streams.now c.loop-stream.stream-index s c.loop-stream-test.true c.stream-item.is in
     let term = λ (b : Bool). if b then heat_over c.args.from t s else pos 0 in
     elim c.if-is_on.branch [
@@ -27,5 +27,6 @@ loop-stream-preserved c =
 pub returns-clause-range : goal.returns-clause-range
 returns-clause-range c =
     let t = to_z w32 (of_z w32 c.args.t) in
-    let so_far = sum_side-so_far c.args.side (heat_over c.args.from t) (heat_over-between c.args.from t) c.args.streams.now c.loop-stream.stream-index c.requires in
+    let so_far =
+    sum_side-so_far c.args.side (heat_over c.args.from t) (heat_over-between c.args.from t) c.args.streams.now c.loop-stream.stream-index c.requires in
     record { from = omega (arith, ints); upto = omega (arith, ints) }

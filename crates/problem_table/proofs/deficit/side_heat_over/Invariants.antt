@@ -1,6 +1,6 @@
 -- The heat of the side's streams so far.
-use Rattle.std.proofs.Common.{◌≡◌, take}
 use Rattle.problem_table.proofs.Words.{heat_over, sum_side}
+use Rattle.std.proofs.Common.{take, ◌≡◌}
 use Rattle.problem_table.proofs.deficit.side_heat_over.Given as goal
 
 abbrev pub invariant-loop-stream : goal.invariant-loop-stream

@@ -1,7 +1,6 @@
 -- The two tests, each for one field.
-use Rattle.std.proofs.Common.{w32, sym, ◌∙◌}
-use Rattle.std.proofs.lemmas.Bool.{false≢true}
-use Rattle.std.proofs.lemmas.Int.{to_z-of_z}
+use Rattle.std.proofs.Common.{sym, w32, ◌∙◌}
+use Rattle.problem_table.proofs.Words.{false≢true, to_z-of_z}
 use Rattle.problem_table.proofs.pinch.is_inside.Goals as goal
 
 pub returns-then-not-is_below_some : goal.returns-then-not-is_below_some

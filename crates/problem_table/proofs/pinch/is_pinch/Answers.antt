@@ -1,8 +1,6 @@
 -- The two tests, each for one field.
-use Rattle.std.proofs.Common.{ℤ, w32, List, Contains, sym, ◌∙◌, subst}
-use Rattle.std.proofs.lemmas.Bool.{false≢true}
-use Rattle.std.proofs.lemmas.Int.{to_z-of_z}
-use Rattle.problem_table.specs.Deficit.{IsInside}
+use Rattle.problem_table.proofs.Words.{IsInside, false≢true, to_z-of_z}
+use Rattle.std.proofs.Common.{Contains, List, subst, sym, w32, ℤ, ◌∙◌}
 use Rattle.problem_table.proofs.pinch.is_pinch.Goals as goal
 
 pub returns-then-not-is_inside : goal.returns-then-not-is_inside

@@ -1,11 +1,9 @@
 -- An end that is a pinch is found, and the found ends in falling order are the pinches.
-use Rattle.std.proofs.Common.{◌+◌, ℤ, pos, w32, FitsSigned, List, [], ◌∷◌, ◌++◌, take, get_or, refl, ap, sym, ◌∙◌, subst, rules, take_all}
-use Rattle.std.proofs.lemmas.Bool.{false≢true}
-use Rattle.std.proofs.lemmas.Int.{to_z-of_z}
 use Rattle.problem_table.proofs.PinchLemmas.{Finds, Finds-other, Finds-pinch, ListsFalling-pinches}
-use Rattle.problem_table.proofs.Words.{IsPinch, ListsFalling}
+use Rattle.problem_table.proofs.pinch.pinches_of.Goals.{else-is_pinch, then-is_pinch+in_ok-push}
+use Rattle.problem_table.proofs.Words.{IsPinch, ListsFalling, false≢true, to_z-of_z}
+use Rattle.std.proofs.Common.{FitsSigned, List, [], ap, get_or, pos, refl, rules, subst, sym, take, take_all, w32, ℤ, ◌++◌, ◌+◌, ◌∙◌, ◌∷◌}
 use Rattle.problem_table.proofs.pinch.pinches_of.Goals as goal
-use Rattle.problem_table.proofs.pinch.pinches_of.Goals.{then-is_pinch+in_ok-push, else-is_pinch}
 
 pub loop-end-preserved : goal.loop-end-preserved
 loop-end-preserved c =
@@ -17,9 +15,12 @@ loop-end-preserved c =
     elim c.if-is_pinch.branch [
       | then-is_pinch+in_ok-push w ↦
           let found = ap (λ v. v.items) w.found-is ∙ w.in_ok-push.ensures.items ∙ ap (λ x. c.loop-end.found.items ++ x ∷ []) back in
-          subst (Finds streams (take (i + 1) ends)) (sym found) (Finds-pinch streams ends i end (pos 0) within refl c.loop-end.found.items (is_pinch.0 w.if-is_pinch.true) c.loop-end.invariant)
+          subst (Finds streams (take (i + 1) ends)) (sym found)
+          (Finds-pinch streams ends i end (pos 0) within refl c.loop-end.found.items (is_pinch.0 w.if-is_pinch.true) c.loop-end.invariant)
       | else-is_pinch w ↦
-          subst (Finds streams (take (i + 1) ends)) (sym (ap (λ v. v.items) w.found-is)) (Finds-other streams ends i end (pos 0) within refl c.loop-end.found.items (λ pinch. false≢true (sym w.if-is_pinch.false ∙ is_pinch.1 pinch)) c.loop-end.invariant)
+          subst (Finds streams (take (i + 1) ends)) (sym (ap (λ v. v.items) w.found-is))
+          (Finds-other streams ends i end (pos 0) within refl c.loop-end.found.items
+          (λ pinch. false≢true (sym w.if-is_pinch.false ∙ is_pinch.1 pinch)) c.loop-end.invariant)
     ]
 
 pub returns : goal.returns
@@ -28,4 +29,5 @@ returns c =
     let whole = take_all c.loop-end.end-index ends c.loop-end-test.false in
     let all = c.as_slice-ends.ensures.value ∙ c.in_ok-all.ensures in
     let finds = subst (λ (xs : List ℤ). Finds streams xs c.loop-end.found.items) whole c.loop-end.invariant in
-    subst (ListsFalling (IsPinch streams)) (sym c.from_vec.ensures) (ListsFalling-pinches streams ends c.loop-end.found.items c.falling.result.items all finds c.falling.ensures)
+    subst (ListsFalling (IsPinch streams)) (sym c.from_vec.ensures)
+    (ListsFalling-pinches streams ends c.loop-end.found.items c.falling.result.items all finds c.falling.ensures)

@@ -1,6 +1,6 @@
 -- Each found end is a pinch, and each pinch among the ends so far was found.
-use Rattle.std.proofs.Common.{take}
 use Rattle.problem_table.proofs.PinchLemmas.{Finds}
+use Rattle.std.proofs.Common.{take}
 use Rattle.problem_table.proofs.pinch.pinches_of.Given as goal
 
 abbrev pub invariant-loop-end : goal.invariant-loop-end

@@ -1,7 +1,7 @@
 -- The deficit above the one reference place is tested.
-use Rattle.std.proofs.Common.{w32, FitsSigned, rules}
-use Rattle.std.proofs.lemmas.Int.{to_z-of_z}
 use Rattle.problem_table.proofs.PlaceLemmas.{Decides-from_itself}
+use Rattle.std.proofs.Common.{FitsSigned, rules, w32}
+use Rattle.problem_table.proofs.Words.{to_z-of_z}
 use Rattle.problem_table.proofs.reference.reference_from_of.Goals as goal
 
 pub returns : goal.returns

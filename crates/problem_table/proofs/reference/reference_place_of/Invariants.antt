@@ -1,6 +1,6 @@
 -- The highest of the ends so far whose deficit is the hot target.
-use Rattle.std.proofs.Common.{take}
 use Rattle.problem_table.proofs.Words.{FindsHighestTight, stream_ends}
+use Rattle.std.proofs.Common.{take}
 use Rattle.problem_table.proofs.reference.reference_place_of.Given as goal
 
 abbrev pub invariant-loop-stream : goal.invariant-loop-stream

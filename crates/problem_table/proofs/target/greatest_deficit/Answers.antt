@@ -1,9 +1,7 @@
 -- Each stream brings the deficits at its two ends.
-use Rattle.std.proofs.Common.{pos, List, w32, w64, FitsSigned, map, ap, ◌∙◌, rules, fold, take_all}
-use Rattle.std.specs.Int.{int_max}
-use Rattle.std.proofs.lemmas.Int.{to_z-of_z}
-use Rattle.problem_table.proofs.Words.{Stream, deficit_over, stream_ends}
 use Rattle.problem_table.proofs.DeficitLemmas.{greatest_deficit-more}
+use Rattle.problem_table.proofs.Words.{Stream, deficit_over, int_max, stream_ends, to_z-of_z}
+use Rattle.std.proofs.Common.{FitsSigned, List, ap, fold, map, pos, rules, take_all, w32, w64, ◌∙◌}
 use Rattle.problem_table.proofs.target.greatest_deficit.Goals as goal
 
 pub loop-stream-preserved : goal.loop-stream-preserved

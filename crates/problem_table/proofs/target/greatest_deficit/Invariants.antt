@@ -1,7 +1,6 @@
 -- The greatest of 0 and the deficits at the ends of the streams so far.
-use Rattle.std.proofs.Common.{◌≡◌, pos, map, take, fold}
-use Rattle.std.specs.Int.{int_max}
-use Rattle.problem_table.proofs.Words.{deficit_over, stream_ends}
+use Rattle.problem_table.proofs.Words.{deficit_over, int_max, stream_ends}
+use Rattle.std.proofs.Common.{fold, map, pos, take, ◌≡◌}
 use Rattle.problem_table.proofs.target.greatest_deficit.Given as goal
 
 abbrev pub invariant-loop-stream : goal.invariant-loop-stream

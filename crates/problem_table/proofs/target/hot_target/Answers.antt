@@ -1,9 +1,7 @@
 -- The greater of the greatest of each of the two deficits.
-use Rattle.std.proofs.Common.{w64, FitsSigned, sym, ap₂, ◌∙◌, subst, rules}
-use Rattle.std.specs.Int.{int_max}
-use Rattle.std.proofs.lemmas.Int.{to_z-of_z}
-use Rattle.problem_table.proofs.Words.{IsStreamsHeat}
-use Rattle.problem_table.proofs.DeficitLemmas.{hot_target-is, hot_target-between}
+use Rattle.problem_table.proofs.DeficitLemmas.{hot_target-between, hot_target-is}
+use Rattle.std.proofs.Common.{FitsSigned, ap₂, rules, subst, sym, w64, ◌∙◌}
+use Rattle.problem_table.proofs.Words.{IsStreamsHeat, int_max, to_z-of_z}
 use Rattle.problem_table.proofs.target.hot_target.Goals as goal
 
 pub returns-clause-value : goal.returns-clause-value

@@ -1,8 +1,7 @@
 -- Above the least number lie all heats.
-use Rattle.std.proofs.Common.{sym, subst, arith, negsuc}
-use Rattle.std.proofs.lemmas.Int.{ints}
-use Rattle.stream_case.specs.Limits.{IsStreamsHeat}
-use Rattle.problem_table.proofs.DeficitLemmas.{cold_target-lowest, cold_target-between}
+use Rattle.problem_table.proofs.DeficitLemmas.{cold_target-between, cold_target-lowest}
+use Rattle.std.proofs.Common.{arith, negsuc, subst, sym}
+use Rattle.problem_table.proofs.Words.{IsStreamsHeat, ints}
 use Rattle.problem_table.proofs.target.targets_of.Goals as goal
 
 pub returns-clause-cold : goal.returns-clause-cold

@@ -1,6 +1,5 @@
-use Rattle.std.proofs.Common.{◌≡◌, take, string_bytes}
-use Rattle.std.specs.List.{flat_map}
-use Rattle.reports.specs.Audit.{penalty_line}
+use Rattle.reports.proofs.Words.{flat_map, penalty_line}
+use Rattle.std.proofs.Common.{string_bytes, take, ◌≡◌}
 use Rattle.reports.proofs.audit.listed_lines.Given as goal
 
 abbrev pub invariant-loop-penalty : goal.invariant-loop-penalty

@@ -1,6 +1,5 @@
-use Rattle.std.proofs.Common.{◌≡◌, take, string_bytes}
-use Rattle.std.specs.List.{flat_map}
-use Rattle.reports.specs.Cut.{member_line}
+use Rattle.reports.proofs.Words.{flat_map, member_line}
+use Rattle.std.proofs.Common.{string_bytes, take, ◌≡◌}
 use Rattle.reports.proofs.cut.member_lines.Given as goal
 
 abbrev pub invariant-loop-index : goal.invariant-loop-index

@@ -1,6 +1,5 @@
-use Rattle.std.proofs.Common.{◌≡◌, take, string_bytes}
-use Rattle.std.specs.List.{flat_map}
-use Rattle.reports.specs.Flow.{move_line}
+use Rattle.reports.proofs.Words.{flat_map, move_line}
+use Rattle.std.proofs.Common.{string_bytes, take, ◌≡◌}
 use Rattle.reports.proofs.flow.move_lines.Given as goal
 
 abbrev pub invariant-loop-transfer : goal.invariant-loop-transfer

@@ -1,7 +1,5 @@
-use Rattle.std.proofs.Common.{◌≡◌, take, string_bytes}
-use Rattle.heat_flow.specs.Prices.{price_at}
-use Rattle.reports.specs.Lines.{texts_from}
-use Rattle.reports.specs.Flow.{price_line}
+use Rattle.reports.proofs.Words.{price_at, price_line, texts_from}
+use Rattle.std.proofs.Common.{string_bytes, take, ◌≡◌}
 use Rattle.reports.proofs.flow.price_lines.Given as goal
 
 abbrev pub invariant-loop-index : goal.invariant-loop-index

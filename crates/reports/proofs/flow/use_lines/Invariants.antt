@@ -1,6 +1,5 @@
-use Rattle.std.proofs.Common.{◌≡◌, take, string_bytes}
-use Rattle.reports.specs.Lines.{texts_from}
-use Rattle.reports.specs.Flow.{use_line}
+use Rattle.reports.proofs.Words.{texts_from, use_line}
+use Rattle.std.proofs.Common.{string_bytes, take, ◌≡◌}
 use Rattle.reports.proofs.flow.use_lines.Given as goal
 
 abbrev pub invariant-loop-index : goal.invariant-loop-index

@@ -1,4 +1,4 @@
-use Rattle.std.proofs.Common.{◌≡◌, map, take}
+use Rattle.std.proofs.Common.{map, take, ◌≡◌}
 use Rattle.reports.proofs.names.case_names.Given as goal
 
 abbrev pub invariant-loop-utility : goal.invariant-loop-utility

@@ -1,5 +1,5 @@
-use Rattle.std.proofs.Common.{◌≡◌, ◌++◌, take}
-use Rattle.reports.specs.Names.{stream_names}
+use Rattle.reports.proofs.Words.{stream_names}
+use Rattle.std.proofs.Common.{take, ◌++◌, ◌≡◌}
 use Rattle.reports.proofs.names.push_names.Given as goal
 
 abbrev pub invariant-loop-stream : goal.invariant-loop-stream

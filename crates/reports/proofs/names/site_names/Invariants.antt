@@ -1,6 +1,5 @@
-use Rattle.std.proofs.Common.{◌≡◌, take}
-use Rattle.std.specs.List.{flat_map}
-use Rattle.reports.specs.Names.{stream_names}
+use Rattle.reports.proofs.Words.{flat_map, stream_names}
+use Rattle.std.proofs.Common.{take, ◌≡◌}
 use Rattle.reports.proofs.names.site_names.Given as goal
 
 abbrev pub invariant-loop-plant : goal.invariant-loop-plant

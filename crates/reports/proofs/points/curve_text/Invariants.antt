@@ -1,6 +1,5 @@
-use Rattle.std.proofs.Common.{◌≡◌, take, string_bytes}
-use Rattle.std.specs.List.{flat_map}
-use Rattle.reports.specs.Curves.{point_line}
+use Rattle.reports.proofs.Words.{flat_map, point_line}
+use Rattle.std.proofs.Common.{string_bytes, take, ◌≡◌}
 use Rattle.reports.proofs.points.curve_text.Given as goal
 
 abbrev pub invariant-loop-point : goal.invariant-loop-point

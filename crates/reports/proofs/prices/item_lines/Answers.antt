@@ -1,11 +1,5 @@
-use Rattle.std.proofs.Common.{◌≡◌, ◌∙◌, ◌⊎◌, inl, inr, List, [], ◌∷◌, ◌++◌, string_bytes, refl, ap, sym, append-nil}
-use Rattle.std.specs.Iterator.Adapters.{zip_first, zip_second}
-use Rattle.std.specs.Slice.Iter.{iter_rest}
-use Rattle.std.proofs.lemmas.Slice.Zip.{either_empty_from_Zip}
-use Rattle.study.specs.declared.study_item.StudyAnswer.{StudyAnswer}
-use Rattle.study.specs.declared.study_item.StudyItem.{StudyItem}
-use Rattle.reports.specs.Prices.{item_lines}
-use Rattle.reports.specs.declared.names.SourceNames.{SourceNames}
+use Rattle.reports.proofs.Words.{SourceNames, StudyAnswer, StudyItem, either_empty_from_Zip, item_lines, iter_rest, zip_first, zip_second}
+use Rattle.std.proofs.Common.{List, [], ap, append-nil, inl, inr, refl, string_bytes, sym, ◌++◌, ◌∙◌, ◌∷◌, ◌≡◌, ◌⊎◌}
 use Rattle.reports.proofs.prices.item_lines.Goals as goal
 
 -- where items or answers are used up, no line is left

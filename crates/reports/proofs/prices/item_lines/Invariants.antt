@@ -1,7 +1,5 @@
-use Rattle.std.proofs.Common.{◌≡◌, ◌++◌, string_bytes}
-use Rattle.std.specs.Iterator.Adapters.{zip_first, zip_second}
-use Rattle.std.specs.Slice.Iter.{iter_rest}
-use Rattle.reports.specs.Prices.{item_lines}
+use Rattle.reports.proofs.Words.{item_lines, iter_rest, zip_first, zip_second}
+use Rattle.std.proofs.Common.{string_bytes, ◌++◌, ◌≡◌}
 use Rattle.reports.proofs.prices.item_lines.Given as goal
 
 -- what is written is followed by what is left to be written

@@ -1,6 +1,5 @@
-use Rattle.std.proofs.Common.{◌≡◌, take, string_bytes}
-use Rattle.std.specs.List.{flat_map}
-use Rattle.reports.specs.Prices.{segment_line}
+use Rattle.reports.proofs.Words.{flat_map, segment_line}
+use Rattle.std.proofs.Common.{string_bytes, take, ◌≡◌}
 use Rattle.reports.proofs.prices.segment_lines.Given as goal
 
 abbrev pub invariant-loop-segment : goal.invariant-loop-segment

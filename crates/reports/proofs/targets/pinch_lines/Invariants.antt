@@ -1,6 +1,5 @@
-use Rattle.std.proofs.Common.{◌≡◌, take, codes, string_bytes}
-use Rattle.std.specs.List.{flat_map}
-use Rattle.reports.specs.Lines.{line}
+use Rattle.reports.proofs.Words.{flat_map, line}
+use Rattle.std.proofs.Common.{codes, string_bytes, take, ◌≡◌}
 use Rattle.reports.proofs.targets.pinch_lines.Given as goal
 
 abbrev pub invariant-loop-pinch : goal.invariant-loop-pinch

@@ -1,18 +1,13 @@
-use Rattle.std.proofs.Common.{◌∙◌, ◌++◌, ℕ, get_or, ap, ap₂, sym, rules, FitsSigned, w32, w64}
-use Rattle.std.specs.Prelude.{ℤ, pos, slice_index_or}
-use Rattle.std.proofs.lemmas.Int.{to_z-of_z}
-use Rattle.reports.specs.Site.{profile_line}
 use Rattle.reports.proofs.TextLemmas.{texts_step}
+use Rattle.reports.proofs.Words.{pos, profile_line, slice_index_or, to_z-of_z, ℤ}
+use Rattle.std.proofs.Common.{FitsSigned, ap, ap₂, get_or, rules, sym, w32, w64, ℕ, ◌++◌, ◌∙◌}
 use Rattle.reports.proofs.total_site.profile_lines.Goals as goal
 
 pub loop-index-preserved : goal.loop-index-preserved
 loop-index-preserved c =
-    let sinks = c.args.sinks.now in
-    let sources = c.args.sources.now in
-    let places = c.args.places.now in
+    let sinks = c.args.sinks.now in let sources = c.args.sources.now in let places = c.args.places.now in
     let f = λ (i : ℕ) (place : ℤ). profile_line place (slice_index_or sinks i (pos 0)) (slice_index_or sources i (pos 0)) in
-    let i = c.loop-index.index in
-    let place = get_or places i (pos 0) in
+    let i = c.loop-index.index in let place = get_or places i (pos 0) in
     let place_fits : FitsSigned w32 place = search rules in
     let sink_fits : FitsSigned w64 c.number_at-sink.result = search rules in
     let source_fits : FitsSigned w64 c.number_at-source.result = search rules in

@@ -1,6 +1,6 @@
-use Rattle.std.proofs.Common.{◌≡◌, ◌∙◌, ℕ, zero, suc, Bor, List, [], ◌∷◌, Option, Some, None, option_map, unwrap_or, slice_get, refl, ap}
-use Rattle.std.proofs.lemmas.Option.{unwrap_or-slice_get}
 use Rattle.csv.specs.Records.{field_at, fields_of}
+use Rattle.std.proofs.Common.{Bor, List, None, Option, Some, [], ap, option_map, refl, slice_get, suc, unwrap_or, zero, ℕ, ◌∙◌, ◌∷◌, ◌≡◌}
+use Rattle.std.proofs.lemmas.Option.{unwrap_or-slice_get}
 use Rattle.rows.proofs.fields.field.Goals as goal
 
 field_at-slice_get : (fields : List (List ℕ)) (i : ℕ) → field_at fields i ≡ slice_get fields i

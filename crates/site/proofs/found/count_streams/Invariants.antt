@@ -1,6 +1,5 @@
-use Rattle.std.proofs.Common.{◌≡◌, take}
-use Rattle.stream_case.specs.Stream.{count_on}
-use Rattle.plants.specs.Site.{streams_of}
+use Rattle.site.proofs.Words.{count_on, streams_of}
+use Rattle.std.proofs.Common.{take, ◌≡◌}
 use Rattle.site.proofs.found.count_streams.Given as goal
 
 abbrev pub invariant-loop-plant : goal.invariant-loop-plant

@@ -1,5 +1,4 @@
-use Rattle.first_fault.proofs.OneOutcome.{fault_or_value, no_value, one_fault, one_value}
-use Rattle.site.specs.Outcome.{grammar}
+use Rattle.site.proofs.Words.{fault_or_value, grammar, no_value, one_fault, one_value}
 use Rattle.site.proofs.laws.rows_have_one_outcome.Goals as goal
 
 pub returns : goal.returns

@@ -1,6 +1,5 @@
-use Rattle.std.proofs.Common.{◌∙◌, ap}
-use Rattle.first_fault.proofs.Reading.{fault_here, one_more}
-use Rattle.site.specs.Given.{with_entry}
+use Rattle.site.proofs.Words.{fault_here, one_more, with_entry}
+use Rattle.std.proofs.Common.{ap, ◌∙◌}
 use Rattle.site.proofs.reader.take_rows.Goals as goal
 
 pub loop-row-preserved : goal.loop-row-preserved

@@ -1,6 +1,5 @@
+use Rattle.site.proofs.Words.{Reads, grammar}
 use Rattle.std.proofs.Common.{length}
-use Rattle.first_fault.proofs.Reading.{Reads}
-use Rattle.site.specs.Outcome.{grammar}
 use Rattle.site.proofs.reader.take_rows.Given as goal
 
 abbrev pub invariant-loop-row : goal.invariant-loop-row

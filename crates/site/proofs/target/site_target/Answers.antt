@@ -1,11 +1,7 @@
 -- The table is the site's, and the site has no other parts.
-use Rattle.std.proofs.Common.{List, IfOk}
-use Rattle.grid.specs.declared.part.Part.{Part}
-use Rattle.transport.specs.declared.answer.Answer.{Answer}
-use Rattle.plants.specs.SiteTable.{IsSiteTable}
-use Rattle.plants.specs.declared.site.Site.{Site}
-use Rattle.site.specs.Target.{AreSiteParts, IsSiteTarget}
+use Rattle.site.proofs.Words.{Answer, AreSiteParts, IsSiteTable, IsSiteTarget, Part, Site}
 use Rattle.site.proofs.TargetLemmas.{IfOk-weaker, of_all_parts, parts_of}
+use Rattle.std.proofs.Common.{IfOk, List}
 use Rattle.site.proofs.target.site_target.Goals as goal
 
 pub table_target-requires-clause-table : goal.table_target-requires-clause-table
@@ -19,9 +15,7 @@ OfAll site a = (hot cold : List Part) → AreSiteParts site hot cold → IsSiteT
 
 pub returns : goal.returns
 returns c =
-    let site = c.args.site.now in
-    let table = c.in_ok-table.table in
-    let made = c.in_ok-table.ensures in
+    let site = c.args.site.now in let table = c.in_ok-table.table in let made = c.in_ok-table.ensures in
     let is : IsSiteTable site table = record { grid = made.places; hot_parts = made.hot; cold_parts = made.cold; sizes = made.sizes; reach = made.reach } in
     let r = c.table_target.result in
     let all : IfOk r (OfAll site) = of_all_parts site c.requires table.parts.hot table.parts.cold r (parts_of site table is) c.table_target.ensures in

@@ -1,6 +1,6 @@
-use Rattle.std.proofs.Common.{◌<◌, ◌^◌, ℕ, ℤ, arith, unsigned_abs}
-use Rattle.statements.specs.Numbers.{IsOfDigits}
 use Rattle.statements.proofs.PlainNumbers.{fewer_digits, number-back, number_plain}
+use Rattle.statements.specs.Numbers.{IsOfDigits}
+use Rattle.std.proofs.Common.{arith, unsigned_abs, ℕ, ℤ, ◌<◌, ◌^◌}
 use Rattle.statements.proofs.laws.printed_numbers_are_read_again.Goals as goal
 
 short : (most : ℕ) (z : ℤ) → IsOfDigits most z → unsigned_abs z < 10 ^ 64

@@ -1,5 +1,5 @@
-use Rattle.std.proofs.Common.{◌<◌, ◌≤◌, ◌^◌, ℕ, IfSome, Option, Some, None, arith}
 use Rattle.statements.proofs.PlainNumbers.{fewer_digits}
+use Rattle.std.proofs.Common.{IfSome, None, Option, Some, arith, ℕ, ◌<◌, ◌^◌, ◌≤◌}
 use Rattle.statements.proofs.number.size_of.Goals as goal
 
 weaker : (o : Option ℕ) (m n : ℕ) → m ≤ n → IfSome o (λ size. size < m) → IfSome o (λ size. size < n)

@@ -1,7 +1,5 @@
-use Rattle.std.proofs.Common.{rules, not, tests}
-use Rattle.std.proofs.lemmas.Iterator.Consumers.{YieldsList-at, YieldsList-from_filter, map_from_collect}
-use Rattle.std.proofs.lemmas.Iterator.Splits.{YieldsList-from_slice_split}
-use Rattle.statements.specs.Statements.{fields_of, is_blank, is_empty}
+use Rattle.statements.proofs.Words.{YieldsList-at, YieldsList-from_filter, YieldsList-from_slice_split, fields_of, is_blank, is_empty, map_from_collect}
+use Rattle.std.proofs.Common.{not, rules, tests}
 use Rattle.statements.proofs.statement.fields_in.Goals as goal
 
 pub returns : goal.returns

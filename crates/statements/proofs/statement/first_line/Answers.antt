@@ -1,6 +1,6 @@
-use Rattle.std.proofs.Common.{◌+◌, sym}
 use Rattle.statements.proofs.LineCuts.{first_of_more, last_alone}
-use Rattle.std.proofs.lemmas.List.{take_rest}
+use Rattle.std.proofs.Common.{sym, ◌+◌}
+use Rattle.statements.proofs.Words.{take_rest}
 use Rattle.statements.proofs.statement.first_line.Goals as goal
 
 pub returns-in_default-clause-line : goal.returns-in_default-clause-line

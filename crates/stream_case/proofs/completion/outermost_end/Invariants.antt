@@ -1,6 +1,5 @@
-use Rattle.std.proofs.Common.{◌≡◌, take, fold}
-use Rattle.stream_case.specs.Case.{outer_of}
-use Rattle.stream_case.specs.Stream.{stream_ends}
+use Rattle.std.proofs.Common.{fold, take, ◌≡◌}
+use Rattle.stream_case.proofs.Words.{outer_of, stream_ends}
 use Rattle.stream_case.proofs.completion.outermost_end.Given as goal
 
 abbrev pub invariant-loop-stream : goal.invariant-loop-stream

@@ -1,10 +1,8 @@
-use Rattle.std.proofs.Common.{arith, get_or, ap, ◌∙◌, Some, sym}
-use Rattle.std.proofs.lemmas.Bool.Decides.{nat_tests}
-use Rattle.std.proofs.lemmas.Int.Digits.{digits_more, digits_value_more}
-use Rattle.std.proofs.lemmas.List.{take_all}
-use Rattle.stream_case.proofs.DigitLemmas.{small, digit, all_read, too_long, empty, no_digit}
+use Rattle.std.proofs.Common.{Some, ap, arith, get_or, sym, ◌∙◌}
+use Rattle.stream_case.proofs.Words.{digits_more, digits_value_more, nat_tests, take_all}
+use Rattle.stream_case.proofs.DigitLemmas.{all_read, digit, empty, no_digit, small, too_long}
+use Rattle.stream_case.proofs.digits.natural_of.Goals.{then-is_empty-via-else-is_empty+then-text-most, then-is_empty-via-then-is_empty}
 use Rattle.stream_case.proofs.digits.natural_of.Goals as goal
-use Rattle.stream_case.proofs.digits.natural_of.Goals.{then-is_empty-via-then-is_empty, then-is_empty-via-else-is_empty+then-text-most}
 
 pub returns-then-is_empty-clause-number : goal.returns-then-is_empty-clause-number
 returns-then-is_empty-clause-number c =
@@ -15,7 +13,8 @@ returns-then-is_empty-clause-number c =
 
 pub returns-then-not-is_ascii_digit-clause-number : goal.returns-then-not-is_ascii_digit-clause-number
 returns-then-not-is_ascii_digit-clause-number c =
-    sym (no_digit c.args.most c.args.text.now c.loop-digit.digit-index c.loop-digit-test.true (sym c.is_ascii_digit.ensures.value ∙ c.if-not-is_ascii_digit.true))
+    sym
+    (no_digit c.args.most c.args.text.now c.loop-digit.digit-index c.loop-digit-test.true (sym c.is_ascii_digit.ensures.value ∙ c.if-not-is_ascii_digit.true))
 
 pub overflow_mul-number : goal.overflow_mul-number
 overflow_mul-number c =

@@ -1,5 +1,5 @@
-use Rattle.std.proofs.Common.{◌≡◌, take}
-use Rattle.std.specs.Str.Parse.{AllDigits, digits_value}
+use Rattle.std.proofs.Common.{take, ◌≡◌}
+use Rattle.stream_case.proofs.Words.{AllDigits, digits_value}
 use Rattle.stream_case.proofs.digits.natural_of.Given as goal
 
 abbrev pub invariant-loop-digit : goal.invariant-loop-digit

@@ -1,6 +1,6 @@
 -- Two pushes add the two ends of a stream.
-use Rattle.std.proofs.Common.{[], ◌∷◌, append_assoc, ◌∙◌, w32, FitsSigned, rules}
-use Rattle.std.proofs.lemmas.Int.{to_z-of_z}
+use Rattle.std.proofs.Common.{FitsSigned, [], append_assoc, rules, w32, ◌∙◌, ◌∷◌}
+use Rattle.stream_case.proofs.Words.{to_z-of_z}
 use Rattle.stream_case.proofs.EndLemmas.{stream_ends-more}
 use Rattle.stream_case.proofs.ends.stream_ends.Goals as goal
 

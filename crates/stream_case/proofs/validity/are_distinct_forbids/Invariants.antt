@@ -1,4 +1,4 @@
-use Rattle.std.proofs.Common.{◌≢◌, AllPairs, take}
+use Rattle.std.proofs.Common.{AllPairs, take, ◌≢◌}
 use Rattle.stream_case.proofs.validity.are_distinct_forbids.Given as goal
 
 abbrev pub invariant-loop-index : goal.invariant-loop-index

@@ -1,10 +1,6 @@
 -- The count of either side.
-use Rattle.std.proofs.Common.{◌≤◌, arith}
-use Rattle.std.proofs.lemmas.Bool.{false≢true}
-use Rattle.std.proofs.lemmas.Bool.Decides.{nat_tests}
-use Rattle.stream_case.specs.declared.source.Side.TheVariants.{Hot, Cold}
-use Rattle.stream_case.specs.declared.limits.TheConstants.{MOST_STREAMS}
-use Rattle.stream_case.specs.Stream.{count_on}
+use Rattle.std.proofs.Common.{arith, ◌≤◌}
+use Rattle.stream_case.proofs.Words.{Cold, Hot, MOST_STREAMS, count_on, false≢true, nat_tests}
 use Rattle.stream_case.proofs.SourceLemmas.{each_side}
 use Rattle.stream_case.proofs.validity.are_streams.Goals as goal
 

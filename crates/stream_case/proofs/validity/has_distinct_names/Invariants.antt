@@ -1,5 +1,5 @@
-use Rattle.std.proofs.Common.{◌≢◌, AllPairs, take}
-use Rattle.stream_case.specs.Case.{with_utilities, names_of}
+use Rattle.std.proofs.Common.{AllPairs, take, ◌≢◌}
+use Rattle.stream_case.proofs.Words.{names_of, with_utilities}
 use Rattle.stream_case.proofs.validity.has_distinct_names.Given as goal
 
 abbrev pub invariant-loop-index : goal.invariant-loop-index

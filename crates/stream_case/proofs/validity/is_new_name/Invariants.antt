@@ -1,5 +1,5 @@
-use Rattle.std.proofs.Common.{◌≢◌, ◌<◌, ℕ, slice_index_or, []}
-use Rattle.stream_case.specs.Case.{with_utilities, names_of}
+use Rattle.std.proofs.Common.{[], slice_index_or, ℕ, ◌<◌, ◌≢◌}
+use Rattle.stream_case.proofs.Words.{names_of, with_utilities}
 use Rattle.stream_case.proofs.validity.is_new_name.Given as goal
 
 abbrev pub invariant-loop-earlier : goal.invariant-loop-earlier

@@ -1,6 +1,6 @@
 -- The record of a valid utility from its parts.
-use Rattle.std.proofs.Common.{rules, arith, w32, w64, FitsSigned}
-use Rattle.std.proofs.lemmas.Int.{ints}
+use Rattle.std.proofs.Common.{FitsSigned, arith, rules, w32, w64}
+use Rattle.stream_case.proofs.Words.{ints}
 use Rattle.stream_case.proofs.validity.is_valid_utility.Goals as goal
 
 pub returns : goal.returns

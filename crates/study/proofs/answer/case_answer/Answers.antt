@@ -1,4 +1,4 @@
-use Rattle.grid.proofs.OnGridLemmas.{parts_on_grid}
+use Rattle.study.proofs.Words.{parts_on_grid}
 use Rattle.study.proofs.answer.case_answer.Goals as goal
 
 pub least_case-requires-clause-parts : goal.least_case-requires-clause-parts

@@ -1,28 +1,19 @@
-use Rattle.std.proofs.Common.{◌∙◌, length, map, ap, ap₂, sym, subst, arith, rules, FitsSigned, w32}
-use Rattle.std.specs.Prelude.{◌↔◌, IsTrue}
-use Rattle.std.proofs.lemmas.Int.{ints, to_z-of_z}
-use Rattle.std.proofs.lemmas.List.{length-map}
-use Rattle.stream_case.specs.declared.source.Side.TheVariants.{Hot, Cold}
-use Rattle.problem_table.specs.Deficit.{CountsFromItself}
-use Rattle.heat_flow.specs.Reach.{reach_between}
-use Rattle.heat_flow.proofs.Duality.{weak_duality}
-use Rattle.corner_flow.specs.Corner.{UtilityHeat, NeedsHeat, corner_price, counts_low}
-use Rattle.transport.specs.declared.answer.Answer.TheVariants.{Least}
+use Rattle.corner_flow.specs.Corner.{NeedsHeat, UtilityHeat, corner_price, counts_low}
+use Rattle.study.proofs.Words.{Cold, CountsFromItself, Hot, IsTrue, Least, ints, length-map, reach_between, to_z-of_z, weak_duality, ◌↔◌}
+use Rattle.std.proofs.Common.{FitsSigned, ap, ap₂, arith, length, map, rules, subst, sym, w32, ◌∙◌}
 use Rattle.study.proofs.answer.corner_answer.Goals as goal
 
 pub corner_prices-requires-clause-from : goal.corner_prices-requires-clause-from
 corner_prices-requires-clause-from c =
     let place = c.reference_place-place.result in
     let fits : FitsSigned w32 place = search rules in
-    subst (λ p. IsTrue c.reference_from-from.result ↔ CountsFromItself c.args.case.now.streams p) (sym (to_z-of_z w32 place fits)) (c.reference_from-from.ensures place c.reference_place-place.ensures)
+    subst (λ p. IsTrue c.reference_from-from.result ↔ CountsFromItself c.args.case.now.streams p) (sym (to_z-of_z w32 place fits))
+    (c.reference_from-from.ensures place c.reference_place-place.ensures)
 
 pub returns-clause-answer : goal.returns-clause-answer
 returns-clause-answer c =
-    let case = c.args.case.now in
-    let parts = c.args.parts.now in
-    let flow = c.in_ok-flow in
-    let prices = c.in_ok-prices in
-    let cost = c.from.ensures in
+    let case = c.args.case.now in let parts = c.args.parts.now in let flow = c.in_ok-flow in
+    let prices = c.in_ok-prices in let cost = c.from.ensures in
     record {
       certified = record {
         flow = flow.ensures.flow;
@@ -37,7 +28,9 @@ returns-clause-answer c =
         flow = flow.ensures.flow;
         costs = omega (arith, ints, flow.ensures.cost, cost);
         least = λ others is.
-            let value = weak_duality (reach_between case parts.hot parts.cold) parts.hot parts.cold prices.prices.hot prices.prices.cold prices.ensures.supporting others is in
+            let value =
+            weak_duality
+            (reach_between case parts.hot parts.cold) parts.hot parts.cold prices.prices.hot prices.prices.cold prices.ensures.supporting others is in
             omega (arith, ints, value, prices.ensures.value, cost);
       };
       cut = tt;
@@ -46,11 +39,8 @@ returns-clause-answer c =
 
 pub returns-clause-corner : goal.returns-clause-corner
 returns-clause-corner c =
-    let case = c.args.case.now in
-    let parts = c.args.parts.now in
-    let flow = c.in_ok-flow in
-    let prices = c.in_ok-prices in
-    let hot = c.targets-targets.ensures.hot in
+    let case = c.args.case.now in let parts = c.args.parts.now in let flow = c.in_ok-flow in
+    let prices = c.in_ok-prices in let hot = c.targets-targets.ensures.hot in
     let cold = c.targets-targets.ensures.cold in
     let fits : FitsSigned w32 c.reference_place-place.result = search rules in
     let from = c.reference_from-from.result in

@@ -1,8 +1,5 @@
-use Rattle.std.proofs.Common.{◌∙◌, sym, subst, FitsSigned, w64, rules}
-use Rattle.std.specs.Prelude.{All}
-use Rattle.std.proofs.lemmas.Int.{to_z-of_z}
-use Rattle.stream_case.specs.Limits.{IsPrice}
-use Rattle.study.specs.Priced.{prices_with}
+use Rattle.std.proofs.Common.{FitsSigned, rules, subst, sym, w64, ◌∙◌}
+use Rattle.study.proofs.Words.{All, IsPrice, prices_with, to_z-of_z}
 use Rattle.study.proofs.PartBounds.{prices-within}
 use Rattle.study.proofs.priced.cost_with.Goals as goal
 
@@ -10,5 +7,6 @@ pub cost_at-requires-clause-prices : goal.cost_at-requires-clause-prices
 cost_at-requires-clause-prices c =
     let case = c.args.case.now in let i = c.args.utility in let price = c.args.price in
     let fits : FitsSigned w64 price = search rules in
-    let within = subst (λ p. All IsPrice (prices_with case i p)) (sym (to_z-of_z w64 price fits)) (prices-within case c.requires.complete i price c.requires.price) in
+    let within =
+    subst (λ p. All IsPrice (prices_with case i p)) (sym (to_z-of_z w64 price fits)) (prices-within case c.requires.complete i price c.requires.price) in
     subst (All IsPrice) (sym (c.as_slice.ensures.value ∙ c.in_ok-prices.ensures)) within

@@ -1,9 +1,5 @@
-use Rattle.std.proofs.Common.{◌≡◌, ◌∙◌, ◌≤◌, ap, sym, subst, length}
-use Rattle.std.specs.Prelude.{All}
-use Rattle.std.proofs.lemmas.List.{length-map}
-use Rattle.stream_case.specs.declared.limits.TheConstants.{MOST_PARTS}
-use Rattle.grid.specs.Bounds.{IsBounded}
-use Rattle.study.specs.Priced.{priced, priced_part}
+use Rattle.study.proofs.Words.{All, IsBounded, MOST_PARTS, length-map, priced, priced_part}
+use Rattle.std.proofs.Common.{ap, length, subst, sym, ◌∙◌, ◌≡◌, ◌≤◌}
 use Rattle.study.proofs.PartBounds.{bounded-priced}
 use Rattle.study.proofs.priced.priced_parts.Goals as goal
 
@@ -14,7 +10,8 @@ invariant_of-result c =
     let cold : c.from_vec-2.result ≡ priced prices parts.cold = c.from_vec-2.ensures ∙ c.in_ok-cold.ensures ∙ ap (priced prices) c.as_slice-2.ensures in
     record {
       few_hot = subst (λ xs. length xs ≤ MOST_PARTS) (sym hot) (subst (λ n. n ≤ MOST_PARTS) (sym (length-map parts.hot (priced_part prices))) parts.few_hot);
-      few_cold = subst (λ xs. length xs ≤ MOST_PARTS) (sym cold) (subst (λ n. n ≤ MOST_PARTS) (sym (length-map parts.cold (priced_part prices))) parts.few_cold);
+      few_cold =
+          subst (λ xs. length xs ≤ MOST_PARTS) (sym cold) (subst (λ n. n ≤ MOST_PARTS) (sym (length-map parts.cold (priced_part prices))) parts.few_cold);
       hot_bounded = subst (All IsBounded) (sym hot) (bounded-priced prices c.requires parts.hot parts.hot_bounded);
       cold_bounded = subst (All IsBounded) (sym cold) (bounded-priced prices c.requires parts.cold parts.cold_bounded);
     }

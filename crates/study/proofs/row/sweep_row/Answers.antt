@@ -1,8 +1,5 @@
-use Rattle.std.proofs.Common.{◌∙◌, ap, sym, subst, w32}
-use Rattle.std.proofs.lemmas.Int.{to_z-of_z}
-use Rattle.stream_case.specs.Case.{IsValid}
-use Rattle.stream_case.proofs.CompleteLemmas.{AreStreams-IsComplete}
-use Rattle.study.specs.Row.{with_contribution}
+use Rattle.std.proofs.Common.{ap, subst, sym, w32, ◌∙◌}
+use Rattle.study.proofs.Words.{AreStreams-IsComplete, IsValid, to_z-of_z, with_contribution}
 use Rattle.study.proofs.ContributionLemmas.{IsComplete-with, IsValid-with}
 use Rattle.study.proofs.row.sweep_row.Goals as goal
 
@@ -14,9 +11,12 @@ complete-requires c =
 pub least_cost-requires-clause-complete : goal.least_cost-requires-clause-complete
 least_cost-requires-clause-complete c =
     let changed = c.in_ok-given.ensures ∙ ap (λ z. with_contribution z c.args.case.now) (to_z-of_z w32 c.args.contribution c.ranges.contribution) in
-    IsComplete-with c.args.contribution c.requires.contribution c.args.case.now c.in_ok-given.given c.in_ok-case.case c.requires.valid changed c.in_ok-case.ensures
+    IsComplete-with c.args.contribution c.requires.contribution c.args.case.now c.in_ok-given.given c.in_ok-case.case c.requires.valid changed
+    c.in_ok-case.ensures
 
 pub targets-targets-requires : goal.targets-targets-requires
 targets-targets-requires c =
     let changed = c.in_ok-given.ensures ∙ ap (λ z. with_contribution z c.args.case.now) (to_z-of_z w32 c.args.contribution c.ranges.contribution) in
-    AreStreams-IsComplete c.in_ok-case.case (IsComplete-with c.args.contribution c.requires.contribution c.args.case.now c.in_ok-given.given c.in_ok-case.case c.requires.valid changed c.in_ok-case.ensures)
+    AreStreams-IsComplete c.in_ok-case.case
+    (IsComplete-with c.args.contribution c.requires.contribution c.args.case.now c.in_ok-given.given c.in_ok-case.case c.requires.valid changed
+    c.in_ok-case.ensures)

@@ -1,19 +1,13 @@
-use Rattle.std.proofs.Common.{◌∙◌, ap, sym, ℕ, [], ◌∷◌, ◌++◌}
-use Rattle.std.specs.Prelude.{◌==◌}
-use Rattle.std.proofs.lemmas.Bool.{eq-eqb, ne_eqb}
-use Rattle.study.specs.declared.limits.TheConstants.{FORBID_CHANCE}
-use Rattle.study.specs.Draws.{draw, next_state}
-use Rattle.study.specs.Sample.{pair_of}
+use Rattle.std.proofs.Common.{[], ap, sym, ℕ, ◌++◌, ◌∙◌, ◌∷◌}
+use Rattle.study.proofs.Words.{FORBID_CHANCE, draw, eq-eqb, ne_eqb, next_state, pair_of, ◌==◌}
 use Rattle.study.proofs.DrawLemmas.{state_after-add}
 use Rattle.study.proofs.SampleLemmas.{pairs-more, pairs-pass}
+use Rattle.study.proofs.sample.draw_forbids.Goals.{else-draw-eq0, then-draw-eq0+in_ok-push}
 use Rattle.study.proofs.sample.draw_forbids.Goals as goal
-use Rattle.study.proofs.sample.draw_forbids.Goals.{then-draw-eq0+in_ok-push, else-draw-eq0}
 
 pub loop-index-preserved : goal.loop-index-preserved
 loop-index-preserved c =
-    let x = c.args.generator.now.state in
-    let count = c.args.count in
-    let i = c.loop-index.index in
+    let x = c.args.generator.now.state in let count = c.args.count in let i = c.loop-index.index in
     let so_far = c.loop-index.invariant in
     let drawn = c.draw.ensures.value ∙ ap (λ s. draw s 0 FORBID_CHANCE) so_far.state in
     let p = λ (k : ℕ). draw x k FORBID_CHANCE == 0 in
@@ -21,12 +15,14 @@ loop-index-preserved c =
     elim c.if-draw-eq0.branch [
       | then-draw-eq0+in_ok-push w ↦
           record {
-            forbids = ap (λ v. v.items) w.forbids-is ∙ w.in_ok-push.ensures.items ∙ ap (λ fs. fs ++ pair_of count i ∷ []) so_far.forbids ∙ sym (pairs-more p count i (eq-eqb (draw x i FORBID_CHANCE) 0 (sym drawn ∙ w.if-draw-eq0.true)));
+            forbids = ap (λ v. v.items) w.forbids-is ∙ w.in_ok-push.ensures.items ∙ ap (λ fs. fs ++ pair_of count i ∷ []) so_far.forbids
+                ∙ sym (pairs-more p count i (eq-eqb (draw x i FORBID_CHANCE) 0 (sym drawn ∙ w.if-draw-eq0.true)));
             state = state;
           }
       | else-draw-eq0 w ↦
           record {
-            forbids = ap (λ v. v.items) w.forbids-is ∙ so_far.forbids ∙ sym (pairs-pass p count i (ne_eqb (draw x i FORBID_CHANCE) 0 (λ e. w.if-draw-eq0.false (drawn ∙ e))));
+            forbids = ap (λ v. v.items) w.forbids-is ∙ so_far.forbids
+                ∙ sym (pairs-pass p count i (ne_eqb (draw x i FORBID_CHANCE) 0 (λ e. w.if-draw-eq0.false (drawn ∙ e))));
             state = state;
           }
     ]

@@ -1,9 +1,5 @@
-use Rattle.std.proofs.Common.{◌≡◌, map}
-use Rattle.std.specs.Prelude.{◌==◌, filter}
-use Rattle.std.specs.List.{range_with_len}
-use Rattle.study.specs.declared.limits.TheConstants.{FORBID_CHANCE}
-use Rattle.study.specs.Draws.{draw, state_after}
-use Rattle.study.specs.Sample.{pair_of}
+use Rattle.std.proofs.Common.{map, ◌≡◌}
+use Rattle.study.proofs.Words.{FORBID_CHANCE, draw, filter, pair_of, range_with_len, state_after, ◌==◌}
 use Rattle.study.proofs.sample.draw_forbids.Given as goal
 
 abbrev pub invariant-loop-index : goal.invariant-loop-index

@@ -1,6 +1,5 @@
-use Rattle.std.proofs.Common.{◌≡◌, ◌++◌, ◌*◌}
-use Rattle.study.specs.Draws.{state_after}
-use Rattle.study.specs.Sample.{drawn_streams}
+use Rattle.std.proofs.Common.{◌*◌, ◌++◌, ◌≡◌}
+use Rattle.study.proofs.Words.{drawn_streams, state_after}
 use Rattle.study.proofs.sample.push_streams.Given as goal
 
 abbrev pub invariant-loop-index : goal.invariant-loop-index

@@ -1,7 +1,5 @@
-use Rattle.std.proofs.Common.{◌∙◌, ap, sym, subst, refl, inl, Option, Some, None, arith}
-use Rattle.std.specs.Prelude.{SomeIff, IsSome, ◌++◌}
-use Rattle.std.specs.Fmt.{decimal}
-use Rattle.stream_case.specs.Name.{IsName}
+use Rattle.std.proofs.Common.{None, Option, Some, ap, arith, inl, refl, subst, sym, ◌∙◌}
+use Rattle.study.proofs.Words.{IsName, IsSome, SomeIff, decimal, ◌++◌}
 use Rattle.study.proofs.NameLemmas.{IsName-stream_name}
 use Rattle.study.proofs.sample.stream_name.Goals as goal
 

@@ -1,14 +1,13 @@
-use Rattle.std.proofs.Common.{◌∙◌, ap, sym, subst}
-use Rattle.stream_case.specs.Case.{completed, IsComplete}
-use Rattle.stream_case.proofs.CompleteLemmas.{AreStreams-IsComplete}
-use Rattle.study.specs.Supplied.{IsSupplied}
+use Rattle.std.proofs.Common.{ap, subst, sym, ◌∙◌}
+use Rattle.study.proofs.Words.{AreStreams-IsComplete, IsComplete, IsSupplied, completed}
 use Rattle.study.proofs.SampleRowLemmas.{IsComplete-sample, IsSupplied-sample}
 use Rattle.study.proofs.sample_targets.sample_row.Goals as goal
 
 pub targets-targets-requires : goal.targets-targets-requires
 targets-targets-requires c =
     let is = c.in_ok-case.ensures ∙ ap completed c.in_ok-given.ensures.case in
-    AreStreams-IsComplete c.in_ok-case.case (subst IsComplete (sym is) (IsComplete-sample c.args.number c.args.count c.requires.some_streams c.requires.few_streams))
+    AreStreams-IsComplete c.in_ok-case.case
+    (subst IsComplete (sym is) (IsComplete-sample c.args.number c.args.count c.requires.some_streams c.requires.few_streams))
 
 pub supplied_cost-requires-clause-complete : goal.supplied_cost-requires-clause-complete
 supplied_cost-requires-clause-complete c =

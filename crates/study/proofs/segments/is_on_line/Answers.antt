@@ -1,8 +1,5 @@
-use Rattle.std.proofs.Common.{◌≡◌, ◌∙◌, ap, subst, of_z, FitsSigned, w64, rules}
-use Rattle.std.specs.Int.{w128}
-use Rattle.std.specs.Prelude.{MatchBool, nat_eq}
-use Rattle.std.proofs.lemmas.Int.{to_z-of_z}
-use Rattle.study.specs.Spans.{CostsWith, line_at}
+use Rattle.std.proofs.Common.{FitsSigned, ap, of_z, rules, subst, w64, ◌∙◌, ◌≡◌}
+use Rattle.study.proofs.Words.{CostsWith, MatchBool, line_at, nat_eq, to_z-of_z, w128}
 use Rattle.study.proofs.LineLemmas.{told_cost}
 use Rattle.study.proofs.segments.is_on_line.Goals as goal
 

@@ -1,14 +1,12 @@
-use Rattle.std.proofs.Common.{◌≡◌, sym, subst, subst₂, to_z, of_z, w64, arith}
-use Rattle.std.specs.Prelude.{pos, ◌+ℤ◌}
-use Rattle.std.proofs.lemmas.Int.{ints, to_z-of_z}
-use Rattle.study.specs.Spans.{AreCostSegments}
+use Rattle.std.proofs.Common.{arith, of_z, subst, subst₂, sym, to_z, w64, ◌≡◌}
+use Rattle.study.proofs.Words.{AreCostSegments, ints, pos, to_z-of_z, ◌+ℤ◌}
 use Rattle.study.proofs.SpanLemmas.{one_more_segment, span-segments}
 use Rattle.study.proofs.segments.known_segments.Goals as goal
 
 pub loop-next-smaller : goal.loop-next-smaller
 loop-next-smaller c =
     let segment = c.in_ok-segment.segment in let is = c.in_ok-segment.ensures.segment in let at = c.in_ok-segment.ensures.from in
-    let a = is.end.from in let b = is.end.upto in let d = c.requires.span.last.from in let e = c.requires.span.last.upto in
+    let d = c.requires.span.last.from in let e = c.requires.span.last.upto in
     let f = c.requires.span.first.from in let g = c.loop-next.invariant.from in let h = c.loop-next.invariant.upto in
     omega (arith, ints)
 
@@ -16,7 +14,7 @@ pub loop-next-preserved : goal.loop-next-preserved
 loop-next-preserved c =
     let case = c.args.case.now in let i = c.args.utility in
     let segment = c.in_ok-segment.segment in let is = c.in_ok-segment.ensures.segment in let at = c.in_ok-segment.ensures.from in
-    let a = is.end.from in let b = is.end.upto in let d = c.requires.span.last.from in let e = c.requires.span.last.upto in
+    let d = c.requires.span.last.from in let e = c.requires.span.last.upto in
     let f = c.requires.span.first.from in let g = c.loop-next.invariant.from in let h = c.loop-next.invariant.upto in
     let to = to_z w64 (of_z w64 c.args.to) in let from = to_z w64 (of_z w64 c.args.from) in
     let next : segment.to +ℤ pos 1 ≡ to_z w64 (of_z w64 (to_z w64 (of_z w64 segment.to) +ℤ pos 1)) = omega (arith, ints) in
@@ -35,4 +33,5 @@ returns c =
     let end : to_z w64 c.loop-next.next-bits ≡ c.args.to +ℤ pos 1 = grind (arith, ints) in
     span-segments case i c.args.to c.args.from c.loop-next.segments
     (subst₂ (λ to from. AreCostSegments case i to from (c.args.to +ℤ pos 1) c.loop-next.segments) to_is from_is
-    (subst (λ n. AreCostSegments case i (to_z w64 (of_z w64 c.args.to)) (to_z w64 (of_z w64 c.args.from)) n c.loop-next.segments) end c.loop-next.invariant.segments))
+    (subst
+    (λ n. AreCostSegments case i (to_z w64 (of_z w64 c.args.to)) (to_z w64 (of_z w64 c.args.from)) n c.loop-next.segments) end c.loop-next.invariant.segments))

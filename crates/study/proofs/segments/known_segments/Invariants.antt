@@ -1,6 +1,4 @@
-use Rattle.std.specs.Int.RustNames.{unsigned_abs}
-use Rattle.std.specs.Prelude.{pos, ◌+ℤ◌, ◌-ℤ◌, ◌≤ℤ◌}
-use Rattle.study.specs.Spans.{AreCostSegments}
+use Rattle.study.proofs.Words.{AreCostSegments, pos, unsigned_abs, ◌+ℤ◌, ◌-ℤ◌, ◌≤ℤ◌}
 use Rattle.study.proofs.segments.known_segments.Given as goal
 
 abbrev pub invariant-loop-next : goal.invariant-loop-next

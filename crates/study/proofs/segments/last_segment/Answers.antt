@@ -1,7 +1,5 @@
-use Rattle.std.proofs.Common.{refl, sym, subst₂, FitsSigned, w64, rules}
-use Rattle.std.specs.Int.{w128}
-use Rattle.std.proofs.lemmas.Int.{to_z-of_z}
-use Rattle.study.specs.Spans.{CostsWith}
+use Rattle.std.proofs.Common.{FitsSigned, refl, rules, subst₂, sym, w64}
+use Rattle.study.proofs.Words.{CostsWith, to_z-of_z, w128}
 use Rattle.study.proofs.SpanLemmas.{segment-last}
 use Rattle.study.proofs.segments.last_segment.Goals as goal
 

@@ -1,27 +1,22 @@
-use Rattle.std.proofs.Common.{◌≡◌, to_z, of_z, arith}
-use Rattle.std.specs.Int.{w128}
-use Rattle.std.specs.Prelude.{◌-ℤ◌}
-use Rattle.std.proofs.lemmas.Int.{ints}
+use Rattle.std.proofs.Common.{arith, of_z, to_z, ◌≡◌}
+use Rattle.study.proofs.Words.{ints, w128, ◌-ℤ◌}
 use Rattle.study.proofs.LineLemmas.{cost-fits, cost-told, rise-fits}
 use Rattle.study.proofs.segments.line_at.Goals as goal
 
 pub overflow_mul-result : goal.overflow_mul-result
 overflow_mul-result c =
     let small = c.requires.line in let is = c.requires.price in
-    let a = small.from.from in let b = small.from.upto in let d = is.from in let e = is.upto in
     let ahead : to_z w128 (of_z w128 c.from.result) ≡ c.args.price -ℤ c.args.line.from = omega (arith, ints, c.from.ensures) in
     rise-fits c.args.line c.args.price small is c.from.result ahead
 
 pub overflow_add-result : goal.overflow_add-result
 overflow_add-result c =
     let small = c.requires.line in let is = c.requires.price in
-    let a = small.from.from in let b = small.from.upto in let d = is.from in let e = is.upto in
     let ahead : to_z w128 (of_z w128 c.from.result) ≡ c.args.price -ℤ c.args.line.from = omega (arith, ints, c.from.ensures) in
     cost-fits c.args.line c.args.price small is c.from.result ahead
 
 pub returns : goal.returns
 returns c =
     let small = c.requires.line in let is = c.requires.price in
-    let a = small.from.from in let b = small.from.upto in let d = is.from in let e = is.upto in
     let ahead : to_z w128 (of_z w128 c.from.result) ≡ c.args.price -ℤ c.args.line.from = omega (arith, ints, c.from.ensures) in
     cost-told c.args.line c.args.price small is c.from.result ahead

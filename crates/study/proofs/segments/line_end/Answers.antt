@@ -1,7 +1,5 @@
-use Rattle.std.proofs.Common.{◌≡◌, sym, subst, to_z, of_z, w64, arith}
-use Rattle.std.specs.Prelude.{pos, ◌+ℤ◌, ◌-ℤ◌, ◌≤ℤ◌, ◌<ℤ◌}
-use Rattle.std.proofs.lemmas.Int.{ints}
-use Rattle.study.specs.Spans.{CostsWith, line_at}
+use Rattle.std.proofs.Common.{arith, of_z, subst, sym, to_z, w64, ◌≡◌}
+use Rattle.study.proofs.Words.{CostsWith, ints, line_at, pos, ◌+ℤ◌, ◌-ℤ◌, ◌<ℤ◌, ◌≤ℤ◌}
 use Rattle.study.proofs.LineLemmas.{line-second, middle-between}
 use Rattle.study.proofs.segments.line_end.Goals as goal
 
@@ -15,7 +13,8 @@ loop-off-init c =
       ahead = omega (arith, ints);
       order = omega (arith, ints);
       last = omega (arith, ints);
-      inside = subst (λ p. CostsWith case i p (line_at line p)) (sym second) (subst (CostsWith case i (line.from +ℤ pos 1)) (sym (line-second line)) c.requires.line.next);
+      inside = subst (λ p. CostsWith case i p (line_at line p)) (sym second)
+          (subst (CostsWith case i (line.from +ℤ pos 1)) (sym (line-second line)) c.requires.line.next);
       outside = λ h. absurd (omega (arith, ints));
     }
 
@@ -25,8 +24,8 @@ loop-off-smaller-then-branch c =
     let a = c.requires.line.small.from.from in let ahead = c.loop-off.invariant.ahead in
     let order = c.loop-off.invariant.order in let last = c.loop-off.invariant.last in let e = c.requires.last.upto in
     let apart : pos 1 <ℤ (off -ℤ on) = omega (arith, ints, c.loop-off-test.true) in
-    let middle = middle-between on off (record { from = omega (arith, ints); upto = omega (arith, ints) }) (record { from = omega (arith, ints); upto = omega (arith, ints) }) apart in
-    let low = middle.0 in let high = middle.1 in
+    let middle = middle-between on off (record { from = omega (arith, ints); upto = omega (arith, ints) })
+    (record { from = omega (arith, ints); upto = omega (arith, ints) }) apart in
     omega (arith, ints)
 
 pub loop-off-preserved-then-branch : goal.loop-off-preserved-then-branch
@@ -35,8 +34,9 @@ loop-off-preserved-then-branch c =
     let a = c.requires.line.small.from.from in let ahead = c.loop-off.invariant.ahead in
     let order = c.loop-off.invariant.order in let last = c.loop-off.invariant.last in let e = c.requires.last.upto in
     let apart : pos 1 <ℤ (off -ℤ on) = omega (arith, ints, c.loop-off-test.true) in
-    let middle = middle-between on off (record { from = omega (arith, ints); upto = omega (arith, ints) }) (record { from = omega (arith, ints); upto = omega (arith, ints) }) apart in
-    let low = middle.0 in let high = middle.1 in
+    let middle = middle-between on off (record { from = omega (arith, ints); upto = omega (arith, ints) })
+    (record { from = omega (arith, ints); upto = omega (arith, ints) }) apart in
+    let high = middle.1 in
     record {
       ahead = omega (arith, ints);
       order = high;
@@ -51,8 +51,9 @@ loop-off-preserved c =
     let a = c.requires.line.small.from.from in let ahead = c.loop-off.invariant.ahead in
     let order = c.loop-off.invariant.order in let last = c.loop-off.invariant.last in let e = c.requires.last.upto in
     let apart : pos 1 <ℤ (off -ℤ on) = omega (arith, ints, c.loop-off-test.true) in
-    let middle = middle-between on off (record { from = omega (arith, ints); upto = omega (arith, ints) }) (record { from = omega (arith, ints); upto = omega (arith, ints) }) apart in
-    let low = middle.0 in let high = middle.1 in
+    let middle = middle-between on off (record { from = omega (arith, ints); upto = omega (arith, ints) })
+    (record { from = omega (arith, ints); upto = omega (arith, ints) }) apart in
+    let low = middle.0 in
     record {
       ahead = ahead;
       order = low;

@@ -1,6 +1,4 @@
-use Rattle.std.specs.Int.RustNames.{unsigned_abs}
-use Rattle.std.specs.Prelude.{pos, ◌+ℤ◌, ◌-ℤ◌, ◌≤ℤ◌, ◌<ℤ◌}
-use Rattle.study.specs.Spans.{CostsWith, line_at}
+use Rattle.study.proofs.Words.{CostsWith, line_at, pos, unsigned_abs, ◌+ℤ◌, ◌-ℤ◌, ◌<ℤ◌, ◌≤ℤ◌}
 use Rattle.study.proofs.segments.line_end.Given as goal
 
 abbrev pub invariant-loop-off : goal.invariant-loop-off

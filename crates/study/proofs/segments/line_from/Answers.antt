@@ -1,10 +1,5 @@
-use Rattle.std.proofs.Common.{◌≡◌, sym, subst, FitsSigned, to_z, of_z, w64, arith, rules}
-use Rattle.std.specs.Int.{w128}
-use Rattle.std.specs.Prelude.{pos, ◌+ℤ◌, ◌-ℤ◌}
-use Rattle.std.proofs.lemmas.Int.{ints, to_z-of_z}
-use Rattle.stream_case.specs.Limits.{IsPrice}
-use Rattle.study.specs.CostRange.{IsCost}
-use Rattle.study.specs.Spans.{CostsWith}
+use Rattle.std.proofs.Common.{FitsSigned, arith, of_z, rules, subst, sym, to_z, w64, ◌≡◌}
+use Rattle.study.proofs.Words.{CostsWith, IsCost, IsPrice, ints, pos, to_z-of_z, w128, ◌+ℤ◌, ◌-ℤ◌}
 use Rattle.study.proofs.LineLemmas.{line_of}
 use Rattle.study.proofs.segments.line_from.Goals as goal
 
@@ -14,7 +9,6 @@ returns-clause-line c =
     let cost = c.in_ok-cost.cost in let next = c.in_ok-next.next in
     let fits : FitsSigned w128 cost = search rules in
     let own = c.in_ok-cost.ensures.range in let other = c.in_ok-next.ensures.range in
-    let a = own.from in let b = own.upto in let d = other.from in let e = other.upto in
     let low = c.requires.next.from in let high = c.requires.next.upto in
     let from_is = to_z-of_z w64 from c.ranges.from in let cost_is = to_z-of_z w128 cost fits in
     let slope : to_z w128 (of_z w128 (to_z w128 (of_z w128 next) -ℤ to_z w128 (of_z w128 cost))) ≡ next -ℤ to_z w128 (of_z w128 cost) = omega (arith, ints) in

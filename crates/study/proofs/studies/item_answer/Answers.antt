@@ -1,6 +1,5 @@
-use Rattle.std.proofs.Common.{subst₂, FitsSigned, w64, rules}
-use Rattle.std.proofs.lemmas.Int.{to_z-of_z}
-use Rattle.study.specs.Study.{AreSpanSegments}
+use Rattle.std.proofs.Common.{FitsSigned, rules, subst₂, w64}
+use Rattle.study.proofs.Words.{AreSpanSegments, to_z-of_z}
 use Rattle.study.proofs.studies.item_answer.Goals as goal
 
 pub returns-in_ok-segments-in-Span : goal.returns-in_ok-segments-in-Span
@@ -9,4 +8,5 @@ returns-in_ok-segments-in-Span c =
     let fits : FitsSigned w64 span.from = search rules in
     let last_fits : FitsSigned w64 span.to = search rules in
     rw c.in-Span.is
-    (subst₂ (λ from to. AreSpanSegments c.args.case.now span.utility from to c.in_ok-segments-in-Span.segments) (to_z-of_z w64 span.from fits) (to_z-of_z w64 span.to last_fits) c.in_ok-segments-in-Span.ensures)
+    (subst₂ (λ from to. AreSpanSegments c.args.case.now span.utility from to c.in_ok-segments-in-Span.segments) (to_z-of_z w64 span.from fits)
+    (to_z-of_z w64 span.to last_fits) c.in_ok-segments-in-Span.ensures)

@@ -1,6 +1,5 @@
-use Rattle.std.proofs.Common.{◌≡◌, drop, length}
-use Rattle.study.specs.Priced.{case_prices}
-use Rattle.study.specs.StudyEntries.{prices_by}
+use Rattle.std.proofs.Common.{drop, length, ◌≡◌}
+use Rattle.study.proofs.Words.{case_prices, prices_by}
 use Rattle.study.proofs.study_entries.scenario_prices.Given as goal
 
 abbrev pub invariant-loop-entry : goal.invariant-loop-entry

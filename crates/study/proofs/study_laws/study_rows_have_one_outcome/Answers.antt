@@ -1,5 +1,4 @@
-use Rattle.first_fault.proofs.OneOutcome.{one_outcome, some_outcome}
-use Rattle.study.specs.StudyOutcome.{grammar}
+use Rattle.study.proofs.Words.{grammar, one_outcome, some_outcome}
 use Rattle.study.proofs.study_laws.study_rows_have_one_outcome.Goals as goal
 
 pub returns-clause-some : goal.returns-clause-some

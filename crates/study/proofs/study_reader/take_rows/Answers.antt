@@ -1,5 +1,5 @@
-use Rattle.std.proofs.Common.{◌∙◌, ◌++◌, ap, option_to_list}
-use Rattle.first_fault.proofs.Reading.{fault_here, one_more}
+use Rattle.study.proofs.Words.{fault_here, one_more}
+use Rattle.std.proofs.Common.{ap, option_to_list, ◌++◌, ◌∙◌}
 use Rattle.study.proofs.study_reader.take_rows.Goals as goal
 
 pub loop-row-preserved : goal.loop-row-preserved

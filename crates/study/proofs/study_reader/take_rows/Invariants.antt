@@ -1,6 +1,5 @@
+use Rattle.study.proofs.Words.{Reads, grammar}
 use Rattle.std.proofs.Common.{length}
-use Rattle.first_fault.proofs.Reading.{Reads}
-use Rattle.study.specs.StudyOutcome.{grammar}
 use Rattle.study.proofs.study_reader.take_rows.Given as goal
 
 abbrev pub invariant-loop-row : goal.invariant-loop-row

@@ -1,5 +1,4 @@
-use Rattle.std.proofs.lemmas.Result.{IfOk-weaker}
-use Rattle.study.specs.Sweep.{AreRows}
+use Rattle.study.proofs.Words.{AreRows, IfOk-weaker}
 use Rattle.study.proofs.sweeps.sweep.Goals as goal
 
 pub returns : goal.returns

@@ -1,7 +1,7 @@
 -- Whether the reference place counts from itself is told of this very place.
-use Rattle.std.proofs.Common.{rules, ◌↔◌, IsTrue, subst, sym, w32, FitsSigned}
-use Rattle.std.proofs.lemmas.Int.{to_z-of_z}
 use Rattle.problem_table.specs.Deficit.{CountsFromItself}
+use Rattle.std.proofs.Common.{FitsSigned, IsTrue, rules, subst, sym, w32, ◌↔◌}
+use Rattle.std.proofs.lemmas.Int.{to_z-of_z}
 use Rattle.worked_tests.proofs.corner_flow_tests.certificate.Goals as goal
 
 pub corner_prices-requires-clause-from : goal.corner_prices-requires-clause-from

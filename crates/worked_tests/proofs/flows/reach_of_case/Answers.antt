@@ -1,5 +1,5 @@
-use Rattle.stream_case.specs.declared.source.Side.TheVariants.{Hot, Cold}
 use Rattle.heat_flow.proofs.ReachLemmas.{sources_of_parts}
+use Rattle.stream_case.specs.declared.source.Side.TheVariants.{Cold, Hot}
 use Rattle.worked_tests.proofs.flows.reach_of_case.Goals as goal
 
 pub reach_of-requires-clause-hot_sources : goal.reach_of-requires-clause-hot_sources

@@ -1,6 +1,6 @@
-use Rattle.std.proofs.Common.{◌≡◌, ◌∙◌, sym, ap, subst, subst₂, pos, length, All}
-use Rattle.grid.specs.declared.part.Part.{Part}
 use Rattle.chains.specs.Inner.{IsHeatOf}
+use Rattle.grid.specs.declared.part.Part.{Part}
+use Rattle.std.proofs.Common.{All, ap, length, pos, subst, subst₂, sym, ◌∙◌, ◌≡◌}
 use Rattle.worked_tests.proofs.SpreadNet.{made_flow, made_heat, made_links}
 use Rattle.worked_tests.proofs.spread_tests.made_by_hand.Goals as goal
 

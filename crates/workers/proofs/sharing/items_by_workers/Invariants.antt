@@ -1,5 +1,5 @@
-use Rattle.std.proofs.Common.{◌≡◌, ℕ, suc, ◌+◌, ◌-◌, length, Ok, Some, slice_get}
-use Rattle.workers.specs.Shares.{AreItemsOfWorkers}
+use Rattle.std.proofs.Common.{Ok, Some, length, slice_get, suc, ℕ, ◌+◌, ◌-◌, ◌≡◌}
+use Rattle.workers.proofs.Words.{AreItemsOfWorkers}
 use Rattle.workers.proofs.sharing.items_by_workers.Given as goal
 
 abbrev pub invariant-loop-left : goal.invariant-loop-left

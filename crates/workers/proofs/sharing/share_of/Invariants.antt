@@ -1,5 +1,5 @@
-use Rattle.std.proofs.Common.{◌≡◌, ◌+◌, ◌-◌, ◌*◌, ◌<◌, ℕ, length, Ok}
-use Rattle.workers.specs.Shares.{EachIsItem}
+use Rattle.std.proofs.Common.{Ok, length, ℕ, ◌*◌, ◌+◌, ◌-◌, ◌<◌, ◌≡◌}
+use Rattle.workers.proofs.Words.{EachIsItem}
 use Rattle.workers.proofs.sharing.share_of.Given as goal
 
 abbrev pub invariant-loop-number : goal.invariant-loop-number

@@ -1,7 +1,6 @@
-use Rattle.std.proofs.Common.{◌∙◌, refl}
-use Rattle.std.specs.Str.{bytes_eq}
-use Rattle.indexmap.proofs.CallerLemmas.{insert_entry-new}
 use Rattle.case_text.proofs.Sources.{free_name}
+use Rattle.case_text.proofs.Words.{bytes_eq, insert_entry-new}
+use Rattle.std.proofs.Common.{refl, ◌∙◌}
 use Rattle.case_text.proofs.found.Found.add_utility.Goals as goal
 
 pub returns : goal.returns

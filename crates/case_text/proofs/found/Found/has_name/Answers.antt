@@ -1,5 +1,5 @@
-use Rattle.std.proofs.Common.{rules}
 use Rattle.case_text.proofs.Sources.{is_taken-case}
+use Rattle.std.proofs.Common.{rules}
 use Rattle.case_text.proofs.found.Found.has_name.Goals as goal
 
 pub returns-then-contains_key : goal.returns-then-contains_key

@@ -1,8 +1,8 @@
-use Rattle.std.proofs.Common.{◌∙◌, refl, arith}
-use Rattle.std.proofs.lemmas.Option.{slice_get_within}
-use Rattle.stream_case.specs.declared.source.Source.TheVariants as source
 use Rattle.case_text.proofs.Sources.{few_streams, side_of-case, source_named-case}
+use Rattle.std.proofs.Common.{arith, refl, ◌∙◌}
+use Rattle.case_text.proofs.Words.{slice_get_within}
 use Rattle.case_text.proofs.found.Found.source_named.Goals as goal
+use Rattle.stream_case.specs.declared.source.Source.TheVariants as source
 
 pub overflow_cast-result : goal.overflow_cast-result
 overflow_cast-result c =

@@ -1,9 +1,5 @@
-use Rattle.std.proofs.Common.{◌≡◌, rules, SFits, subst, sym}
-use Rattle.std.specs.Int.{w128}
-use Rattle.std.specs.Ordering.{MatchOrdering}
-use Rattle.std.proofs.lemmas.Int.{to_z-of_z}
-use Rattle.fractions.specs.Order.{rational_ranks}
-use Rattle.fractions.specs.Rationals.{IsBelow, rational_cmp}
+use Rattle.fractions.proofs.Words.{IsBelow, MatchOrdering, rational_cmp, rational_ranks, to_z-of_z, w128}
+use Rattle.std.proofs.Common.{SFits, rules, subst, sym, ◌≡◌}
 use Rattle.fractions.proofs.fraction.Frac.compare.Goals as goal
 
 compared : goal.returns-clause-value

@@ -1,8 +1,6 @@
-use Rattle.std.proofs.Common.{◌∙◌, sym, ap, pos, int_lt, rules, SFits}
-use Rattle.std.specs.Int.{w128}
-use Rattle.std.proofs.lemmas.Int.{to_z-of_z}
 use Rattle.fractions.proofs.Comparisons.{is_below-ranks, is_below-zero}
-use Rattle.fractions.specs.Rationals.{rational_zero}
+use Rattle.fractions.proofs.Words.{rational_zero, to_z-of_z, w128}
+use Rattle.std.proofs.Common.{SFits, ap, int_lt, pos, rules, sym, ◌∙◌}
 use Rattle.fractions.proofs.fraction.Frac.is_positive.Goals as goal
 
 pub returns-clause-value : goal.returns-clause-value

@@ -1,9 +1,7 @@
-use Rattle.std.proofs.Common.{arith, refl, rules, SFits}
-use Rattle.std.specs.Int.{w128}
-use Rattle.std.proofs.lemmas.Int.{ints}
-use Rattle.fractions.specs.Rationals.{over}
 use Rattle.fractions.proofs.Limits.{gives_none}
 use Rattle.fractions.proofs.Products.{zero_from_num}
+use Rattle.fractions.proofs.Words.{ints, over, w128}
+use Rattle.std.proofs.Common.{SFits, arith, refl, rules}
 use Rattle.fractions.proofs.fraction.Frac.over.Goals as goal
 
 pub returns-then-num-eq0-clause-value : goal.returns-then-num-eq0-clause-value
@@ -13,7 +11,8 @@ returns-then-num-eq0-clause-value c some =
 
 pub returns-in_err-times-clause-value : goal.returns-in_err-times-clause-value
 unfolding over
-returns-in_err-times-clause-value c some = rw (c.from_residual.ensures, ← c.terms.ensures, ← c.terms-2.ensures, ← c.reciprocal.ensures) (gives_none _ (c.in_err-times.ensures.beyond refl))
+returns-in_err-times-clause-value c some =
+    rw (c.from_residual.ensures, ← c.terms.ensures, ← c.terms-2.ensures, ← c.reciprocal.ensures) (gives_none _ (c.in_err-times.ensures.beyond refl))
 
 pub returns-clause-value : goal.returns-clause-value
 unfolding over

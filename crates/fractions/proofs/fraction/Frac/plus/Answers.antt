@@ -1,7 +1,5 @@
-use Rattle.std.proofs.Common.{◌+ℤ◌, rules, SFits}
-use Rattle.std.specs.Int.{w128}
-use Rattle.std.proofs.lemmas.Int.{to_z-of_z}
-use Rattle.fractions.specs.Rationals.{plus}
+use Rattle.fractions.proofs.Words.{plus, to_z-of_z, w128}
+use Rattle.std.proofs.Common.{SFits, rules, ◌+ℤ◌}
 use Rattle.fractions.proofs.fraction.Frac.plus.Goals as goal
 
 pub returns : goal.returns

@@ -1,6 +1,5 @@
-use Rattle.std.proofs.Common.{◌∙◌, ap, unsigned_abs, rules, SFits}
-use Rattle.std.specs.Int.{w128}
-use Rattle.std.proofs.lemmas.Int.{to_z-of_z}
+use Rattle.std.proofs.Common.{SFits, ap, rules, unsigned_abs, ◌∙◌}
+use Rattle.fractions.proofs.Words.{to_z-of_z, w128}
 use Rattle.fractions.proofs.fraction.Frac.terms.Goals as goal
 
 pub invariant_of-result : goal.invariant_of-result

@@ -1,9 +1,7 @@
-use Rattle.std.proofs.Common.{rules, arith}
-use Rattle.std.specs.Int.{w64, w128}
-use Rattle.std.proofs.lemmas.Int.{to_z-of_z}
-use Rattle.fractions.specs.Lowest.{IsLowest-one}
 use Rattle.fractions.proofs.Limits.{size-whole}
 use Rattle.fractions.proofs.Ratios.{ratio-one}
+use Rattle.fractions.proofs.Words.{IsLowest-one, to_z-of_z, w128, w64}
+use Rattle.std.proofs.Common.{arith, rules}
 use Rattle.fractions.proofs.fraction.Frac.whole.Goals as goal
 
 pub invariant_of-result : goal.invariant_of-result

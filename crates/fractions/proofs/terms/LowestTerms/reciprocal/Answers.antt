@@ -1,6 +1,6 @@
-use Rattle.std.proofs.Common.{◌∙◌, ap}
-use Rattle.fractions.specs.Rationals.{reciprocal}
 use Rattle.fractions.proofs.InLowestTerms.{turned_over}
+use Rattle.fractions.proofs.Words.{reciprocal}
+use Rattle.std.proofs.Common.{ap, ◌∙◌}
 use Rattle.fractions.proofs.terms.LowestTerms.reciprocal.Goals as goal
 
 pub invariant_of-result : goal.invariant_of-result

@@ -1,7 +1,6 @@
-use Rattle.std.proofs.Common.{◌∙◌, ap, unsigned_abs}
-use Rattle.std.specs.Int.{w128}
-use Rattle.std.proofs.lemmas.Int.{to_z-of_z}
 use Rattle.fractions.proofs.InLowestTerms.{reduced_by}
+use Rattle.std.proofs.Common.{ap, unsigned_abs, ◌∙◌}
+use Rattle.fractions.proofs.Words.{to_z-of_z, w128}
 use Rattle.fractions.proofs.terms.LowestTerms.reduced.Goals as goal
 
 pub invariant_of-result : goal.invariant_of-result

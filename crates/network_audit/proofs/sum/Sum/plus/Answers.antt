@@ -1,6 +1,6 @@
-use Rattle.std.proofs.Common.{◌∙◌, ◌+◌}
-use Rattle.fractions.proofs.Limits.{value_formed}
+use Rattle.network_audit.proofs.Words.{value_formed}
 use Rattle.network_audit.proofs.FoundLemmas.{found-formed, found-not_formed, found-nothing}
+use Rattle.std.proofs.Common.{◌+◌, ◌∙◌}
 use Rattle.network_audit.proofs.sum.Sum.plus.Goals as goal
 
 pub returns-in_default : goal.returns-in_default

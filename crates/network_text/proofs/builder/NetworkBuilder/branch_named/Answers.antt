@@ -1,5 +1,5 @@
-use Rattle.std.proofs.Common.{◌∙◌, sym}
 use Rattle.network_text.proofs.Tables.{branch_named-keys, unnamed}
+use Rattle.std.proofs.Common.{sym, ◌∙◌}
 use Rattle.network_text.proofs.builder.NetworkBuilder.branch_named.Goals as goal
 
 pub returns-in_default : goal.returns-in_default

@@ -1,8 +1,6 @@
-use Rattle.std.proofs.Common.{◌∙◌, length, map, sym, ap, arith}
-use Rattle.std.proofs.lemmas.List.{length-map}
-use Rattle.network_text.proofs.Words.{exchangers_of, named_branch, named_sides}
-use Rattle.networks.proofs.LineLaws.{few_exchangers}
 use Rattle.network_text.proofs.Tables.{exchanger_named-keys, unnamed}
+use Rattle.network_text.proofs.Words.{exchangers_of, few_exchangers, length-map, named_branch, named_sides}
+use Rattle.std.proofs.Common.{ap, arith, length, map, sym, ◌∙◌}
 use Rattle.network_text.proofs.builder.NetworkBuilder.exchanger_named.Goals as goal
 
 pub returns-in_default : goal.returns-in_default

@@ -1,5 +1,5 @@
-use Rattle.std.proofs.Common.{◌≡◌, ◌<◌, ℕ, false, length, take}
 use Rattle.network_text.proofs.Words.{exchangers_of, misses_pass}
+use Rattle.std.proofs.Common.{false, length, take, ℕ, ◌<◌, ◌≡◌}
 use Rattle.network_text.proofs.builder.NetworkBuilder.first_missing.Given as goal
 
 abbrev pub invariant-loop-index : goal.invariant-loop-index

@@ -1,9 +1,6 @@
-use Rattle.std.proofs.Common.{List, ℕ, ◌≢◌, map}
-use Rattle.network_text.proofs.Words.{Stream, Utility}
-use Rattle.stream_case.proofs.CaseLemmas.{length-AreStreams}
-use Rattle.stream_case.proofs.CompleteLemmas.{StaysValid-IsComplete}
-use Rattle.stream_case.proofs.DistinctLemmas.{AllPairs-front}
 use Rattle.network_text.proofs.OwnBranches.{own-tracked, own-view}
+use Rattle.std.proofs.Common.{List, map, ℕ, ◌≢◌}
+use Rattle.network_text.proofs.Words.{AllPairs-front, StaysValid-IsComplete, Stream, Utility, length-AreStreams}
 use Rattle.network_text.proofs.builder.NetworkBuilder.new.Goals as goal
 
 pub own_branches-requires : goal.own_branches-requires

@@ -1,5 +1,5 @@
-use Rattle.std.proofs.Common.{sym}
 use Rattle.network_text.proofs.Tables.{stream_at-entry, stream_at-none}
+use Rattle.std.proofs.Common.{sym}
 use Rattle.network_text.proofs.builder.NetworkBuilder.stream_of.Goals as goal
 
 pub returns-in-Some : goal.returns-in-Some

@@ -1,6 +1,6 @@
-use Rattle.std.proofs.Common.{◌∙◌, ap, ap₂, sym}
-use Rattle.penalties.proofs.Words.{absorbed_by, absorbed_steps, first_too_fine, seen_height, seen_steps}
 use Rattle.penalties.proofs.StepLemmas.{none_of_nothing}
+use Rattle.penalties.proofs.Words.{absorbed_by, absorbed_steps, first_too_fine, seen_height, seen_steps}
+use Rattle.std.proofs.Common.{ap, ap₂, sym, ◌∙◌}
 use Rattle.penalties.proofs.heights.Survey.absorbed.Goals as goal
 
 pub returns-in-Utility : goal.returns-in-Utility

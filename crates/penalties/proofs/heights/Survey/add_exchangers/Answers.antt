@@ -1,10 +1,9 @@
-use Rattle.std.proofs.Common.{◌≡◌, ◌∙◌, ◌++◌, ◌∷◌, [], None, Some, get_or, map, sym, ap, subst, append-nil, take_all}
-use Rattle.std.specs.List.{enumerate_from}
-use Rattle.network_audit.specs.declared.findings.Place.TheVariants as place
-use Rattle.penalties.proofs.Words.{Penalty, all_joint_steps, first_too_fine, joint_row, joint_rows, joint_steps, seen_height, seen_steps}
 use Rattle.penalties.proofs.RowLemmas.{made-more}
-use Rattle.sums.proofs.FirstLemmas.{first-here, first-more, first-none}
 use Rattle.penalties.proofs.StepLemmas.{none_of_nothing, steps-append}
+use Rattle.penalties.proofs.Words.{Penalty, all_joint_steps, enumerate_from, first-here, first-more, first-none, first_too_fine, joint_row, joint_rows}
+use Rattle.penalties.proofs.Words.{joint_steps, seen_height, seen_steps}
+use Rattle.std.proofs.Common.{None, Some, [], ap, append-nil, get_or, map, subst, sym, take_all, ◌++◌, ◌∙◌, ◌∷◌, ◌≡◌}
+use Rattle.network_audit.specs.declared.findings.Place.TheVariants as place
 use Rattle.penalties.proofs.heights.Survey.add_exchangers.Goals as goal
 
 pub loop-number-init : goal.loop-number-init
@@ -37,5 +36,6 @@ returns c =
     let height = seen_height c.args.self.now in (
       first-none first_too_fine steps-append (joint_steps height (seen_steps c.args.self.now))
           c.args.joints.now c.loop-number.number c.loop-number-test.false c.loop-number.invariant.0,
-      c.loop-number.invariant.1 ∙ ap (λ js. c.args.list.now.items ++ map (joint_row height) (enumerate_from 0 js)) (take_all c.loop-number.number c.args.joints.now c.loop-number-test.false),
+      c.loop-number.invariant.1 ∙ ap (λ js. c.args.list.now.items ++ map (joint_row height) (enumerate_from 0 js))
+          (take_all c.loop-number.number c.args.joints.now c.loop-number-test.false),
     )

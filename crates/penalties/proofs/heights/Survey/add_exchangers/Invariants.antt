@@ -1,7 +1,5 @@
-use Rattle.std.proofs.Common.{◌≡◌, ◌++◌, None, map, take}
-use Rattle.std.specs.List.{enumerate_from}
-use Rattle.penalties.proofs.Words.{first_too_fine, joint_row, joint_steps, seen_height, seen_steps}
-use Rattle.sums.proofs.FirstLemmas.{items_of}
+use Rattle.penalties.proofs.Words.{enumerate_from, first_too_fine, items_of, joint_row, joint_steps, seen_height, seen_steps}
+use Rattle.std.proofs.Common.{None, map, take, ◌++◌, ◌≡◌}
 use Rattle.penalties.proofs.heights.Survey.add_exchangers.Given as goal
 
 abbrev pub invariant-loop-number : goal.invariant-loop-number

@@ -1,12 +1,11 @@
-use Rattle.std.proofs.Common.{◌≡◌, ◌∙◌, ◌+◌, ◌++◌, ◌∷◌, [], get_or, sym, ap, filter_map, append-nil, take_all}
-use Rattle.std.specs.List.{enumerate_from}
-use Rattle.penalties.proofs.Words.{Penalty, Rational, all_mix_steps, first_too_fine, line_steps, mix_row, mix_rows, seen_height, seen_steps}
-use Rattle.network_audit.specs.declared.findings.Place.TheVariants as place
+use Rattle.penalties.proofs.Words.{Penalty, Rational, all_mix_steps, enumerate_from, first-here, first-more, first-none, first_too_fine, line_steps, mix_row}
+use Rattle.penalties.proofs.Words.{mix_rows, seen_height, seen_steps}
 use Rattle.penalties.proofs.RowLemmas.{filtered-more, no_row, no_steps}
-use Rattle.sums.proofs.FirstLemmas.{first-here, first-more, first-none}
 use Rattle.penalties.proofs.StepLemmas.{none_of_nothing, steps-append}
-use Rattle.penalties.proofs.heights.Survey.add_mixes.Goals as goal
 use Rattle.penalties.proofs.heights.Survey.add_mixes.Goals.{in-Mix+in-Ok+in_ok-push-in-Ok, in_default}
+use Rattle.std.proofs.Common.{[], ap, append-nil, filter_map, get_or, sym, take_all, ◌++◌, ◌+◌, ◌∙◌, ◌∷◌, ◌≡◌}
+use Rattle.network_audit.specs.declared.findings.Place.TheVariants as place
+use Rattle.penalties.proofs.heights.Survey.add_mixes.Goals as goal
 
 pub loop-index-init : goal.loop-index-init
 loop-index-init c = (none_of_nothing, sym (append-nil c.args.list.now.items))
@@ -32,8 +31,8 @@ loop-index-preserved c =
             first-more first_too_fine steps-append steps lines n d c.loop-index-test.true c.loop-index.invariant.0
                 (ap (λ l. first_too_fine (steps (n, l))) at ∙ w.in-Ok.ensures.0),
             ap (λ v. v.items) w.list-is ∙ w.in_ok-push-in-Ok.ensures.items
-                ∙ ap (λ (value : Rational). c.loop-index.list.items ++ (let row : Penalty = record { place = place.Line (n + 1); value = value } in row) ∷ []) w.in-Ok.ensures.1
-                ∙ ap (λ rows. c.loop-index.list.items ++ rows) (sym same) ∙ more,
+                ∙ ap (λ (value : Rational). c.loop-index.list.items ++ (let row : Penalty = record { place = place.Line (n + 1); value = value } in row) ∷ [])
+                w.in-Ok.ensures.1 ∙ ap (λ rows. c.loop-index.list.items ++ rows) (sym same) ∙ more,
           )
       | in_default w ↦
           let at = c.index-lines-index.is in
@@ -52,5 +51,6 @@ returns c =
     let height = seen_height c.args.self.now in (
       first-none first_too_fine steps-append (line_steps height (seen_steps c.args.self.now))
           c.args.lines.now c.loop-index.index c.loop-index-test.false c.loop-index.invariant.0,
-      c.loop-index.invariant.1 ∙ ap (λ ls. c.args.list.now.items ++ filter_map (mix_row height) (enumerate_from 0 ls)) (take_all c.loop-index.index c.args.lines.now c.loop-index-test.false),
+      c.loop-index.invariant.1 ∙ ap (λ ls. c.args.list.now.items ++ filter_map (mix_row height) (enumerate_from 0 ls))
+          (take_all c.loop-index.index c.args.lines.now c.loop-index-test.false),
     )

@@ -1,7 +1,5 @@
-use Rattle.std.proofs.Common.{◌≡◌, ◌++◌, None, take}
-use Rattle.std.specs.List.{enumerate_from, filter_map}
-use Rattle.penalties.proofs.Words.{first_too_fine, line_steps, mix_row, seen_height, seen_steps}
-use Rattle.sums.proofs.FirstLemmas.{items_of}
+use Rattle.penalties.proofs.Words.{enumerate_from, filter_map, first_too_fine, items_of, line_steps, mix_row, seen_height, seen_steps}
+use Rattle.std.proofs.Common.{None, take, ◌++◌, ◌≡◌}
 use Rattle.penalties.proofs.heights.Survey.add_mixes.Given as goal
 
 abbrev pub invariant-loop-index : goal.invariant-loop-index

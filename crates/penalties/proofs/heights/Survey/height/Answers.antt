@@ -1,9 +1,7 @@
-use Rattle.std.proofs.Common.{rules, w32, ◌∙◌, None, Ok, Some, sym, ap, ap₂, subst, option_copied}
-use Rattle.std.proofs.lemmas.Int.{to_z-of_z}
-use Rattle.penalties.proofs.Words.{IsShifted, Sensible, base_of, counts_above, shifted, value_at, values_of, view_of}
-use Rattle.networks.proofs.Lists.{all_at}
+use Rattle.penalties.proofs.Words.{IsShifted, Sensible, all_at, base_of, counts_above, shifted, to_z-of_z, value_at, values_of, view_of}
 use Rattle.penalties.proofs.StepLemmas.{none_of_nothing}
 use Rattle.penalties.proofs.SurveyLemmas.{AnswersOn, LevelAnswers, answers-latent, answers-seen, answers-sensible, stream_read}
+use Rattle.std.proofs.Common.{None, Ok, Some, ap, ap₂, option_copied, rules, subst, sym, w32, ◌∙◌}
 use Rattle.penalties.proofs.heights.Survey.height.Goals as goal
 
 pub returns-in_default : goal.returns-in_default

@@ -1,5 +1,5 @@
-use Rattle.std.proofs.Common.{◌∙◌, ◌+◌}
 use Rattle.penalties.proofs.StepLemmas.{difference_formed, difference_not_formed, first_behind, first_front, handed_on}
+use Rattle.std.proofs.Common.{◌+◌, ◌∙◌}
 use Rattle.penalties.proofs.heights.Survey.loss.Goals as goal
 
 pub returns-in_err-high : goal.returns-in_err-high

@@ -1,6 +1,6 @@
-use Rattle.std.proofs.Common.{◌∙◌, ap, ap₂, sym}
-use Rattle.penalties.proofs.Words.{first_too_fine, released_by, released_steps, seen_height, seen_steps}
 use Rattle.penalties.proofs.StepLemmas.{none_of_nothing}
+use Rattle.penalties.proofs.Words.{first_too_fine, released_by, released_steps, seen_height, seen_steps}
+use Rattle.std.proofs.Common.{ap, ap₂, sym, ◌∙◌}
 use Rattle.penalties.proofs.heights.Survey.released.Goals as goal
 
 pub returns-in-Utility : goal.returns-in-Utility

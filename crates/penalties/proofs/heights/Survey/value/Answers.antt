@@ -1,6 +1,6 @@
-use Rattle.std.proofs.Common.{◌≡◌, ◌∙◌, ap₂, unwrap_or}
 use Rattle.penalties.proofs.Words.{BranchValue, no_value}
 use Rattle.penalties.proofs.SurveyLemmas.{value-read}
+use Rattle.std.proofs.Common.{ap₂, unwrap_or, ◌∙◌, ◌≡◌}
 use Rattle.penalties.proofs.heights.Survey.value.Goals as goal
 
 pub returns : goal.returns

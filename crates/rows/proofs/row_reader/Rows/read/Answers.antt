@@ -11,4 +11,5 @@ pub returns-clause-found : goal.returns-clause-found
 returns-clause-found c =
     let gives = c.self.invariant c.if-self.false in
     let e = c.in-Ok.ensures in
-    rw (← c.self.view_is, c.if-self.false) (read_left c.self.inside.reader c.read_byte_record.new.self c.in-Ok.found _ gives (e.reads gives.trim (ready _ gives)) (e.ready gives.trim) e.flexible)
+    rw (← c.self.view_is, c.if-self.false)
+    (read_left c.self.inside.reader c.read_byte_record.new.self c.in-Ok.found _ gives (e.reads gives.trim (ready _ gives)) (e.ready gives.trim) e.flexible)

@@ -1,7 +1,7 @@
 -- A plant without streams leaves the counts.
-use Rattle.std.proofs.Common.{subst, sym}
-use Rattle.site.specs.Answers.{HaveFewStreams}
 use Rattle.site.proofs.Plants.{few_plant}
+use Rattle.site.proofs.Words.{HaveFewStreams}
+use Rattle.std.proofs.Common.{subst, sym}
 use Rattle.site.proofs.found.Found.add_plant.Goals as goal
 
 pub invariant_of-self : goal.invariant_of-self
@@ -9,4 +9,5 @@ invariant_of-self c = subst HaveFewStreams (sym c.in_err-push.ensures.items) c.s
 
 pub invariant_of-self-2 : goal.invariant_of-self-2
 invariant_of-self-2 c =
-    subst HaveFewStreams (sym c.in_ok-push.ensures.items) (few_plant c.self.inside.plants.items (record { name = c.args.name; streams = c.new-streams.result }) c.new-streams.ensures c.self.invariant)
+    subst HaveFewStreams (sym c.in_ok-push.ensures.items)
+    (few_plant c.self.inside.plants.items (record { name = c.args.name; streams = c.new-streams.result }) c.new-streams.ensures c.self.invariant)

@@ -1,5 +1,5 @@
+use Rattle.site.proofs.Words.{HaveFewStreams}
 use Rattle.std.proofs.Common.{subst, sym}
-use Rattle.site.specs.Answers.{HaveFewStreams}
 use Rattle.site.proofs.found.Found.count_streams.Goals as goal
 
 pub count_streams-requires : goal.count_streams-requires

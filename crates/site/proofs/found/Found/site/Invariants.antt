@@ -1,5 +1,5 @@
-use Rattle.std.proofs.Common.{◌≡◌, map, take}
-use Rattle.site.specs.Given.{plant_with}
+use Rattle.site.proofs.Words.{plant_with}
+use Rattle.std.proofs.Common.{map, take, ◌≡◌}
 use Rattle.site.proofs.found.Found.site.Given as goal
 
 abbrev pub invariant-loop-plant : goal.invariant-loop-plant

@@ -1,7 +1,7 @@
 -- A name is ASCII, so it is a text.
 use Rattle.std.proofs.Common.{subst, sym}
-use Rattle.stream_case.specs.Name.{IsAnyName}
-use Rattle.stream_case.proofs.NameLemmas.{IsUtf8-IsAnyName, IsOk-of_match}
+use Rattle.stream_case.proofs.NameLemmas.{IsOk-of_match, IsUtf8-IsAnyName}
+use Rattle.stream_case.proofs.Words.{IsAnyName}
 use Rattle.stream_case.proofs.name.Name.as_str.Goals as goal
 
 pub unwrap-requires : goal.unwrap-requires

@@ -1,6 +1,6 @@
-use Rattle.std.proofs.Common.{◌≡◌, ◌∙◌, sym, refl, inl, true, Option, Some, None, SomeIff, is_some}
-use Rattle.stream_case.specs.Name.{IsName}
+use Rattle.std.proofs.Common.{None, Option, Some, SomeIff, inl, is_some, refl, sym, true, ◌∙◌, ◌≡◌}
 use Rattle.stream_case.proofs.NameTests.{fails-name, name-passes}
+use Rattle.stream_case.proofs.Words.{IsName}
 use Rattle.stream_case.proofs.name.Name.undotted.Goals as goal
 
 some : {T : Type 0} {P : Type 0} (v : T) (r : Option T) → SomeIff r P v → P → is_some r ≡ true

@@ -1,6 +1,6 @@
 -- A sum of two heats of which one is 0.
-use Rattle.std.proofs.Common.{to_z, of_z, w32, arith}
-use Rattle.std.proofs.lemmas.Int.{ints}
+use Rattle.std.proofs.Common.{arith, of_z, to_z, w32}
+use Rattle.stream_case.proofs.Words.{ints}
 use Rattle.stream_case.proofs.HeatLemmas.{heat_over-between}
 use Rattle.stream_case.proofs.stream.Stream.heat_over.Goals as goal
 

@@ -1,7 +1,6 @@
 -- The part of the range above `t` ends where `t` is held within the range.
-use Rattle.std.proofs.Common.{ap, ◌∙◌, w64, rules, arith}
-use Rattle.std.specs.Prelude.{◌*ℤ◌}
-use Rattle.std.proofs.lemmas.Int.{ints, clamps, to_z-of_z}
+use Rattle.std.proofs.Common.{ap, arith, rules, w64, ◌∙◌}
+use Rattle.stream_case.proofs.Words.{clamps, ints, to_z-of_z, ◌*ℤ◌}
 use Rattle.stream_case.proofs.HeatLemmas.{range-length}
 use Rattle.stream_case.proofs.stream.Stream.sensible_above.Goals as goal
 

@@ -1,6 +1,5 @@
-use Rattle.std.proofs.Common.{◌≡◌, ◌++◌, All, length}
-use Rattle.study.specs.StudyAccepted.{IsKnown}
-use Rattle.study.specs.StudyEntries.{items_of}
+use Rattle.std.proofs.Common.{All, length, ◌++◌, ◌≡◌}
+use Rattle.study.proofs.Words.{IsKnown, items_of}
 use Rattle.study.proofs.study_entries.Entries.study.Given as goal
 
 abbrev pub invariant-loop-entry : goal.invariant-loop-entry

@@ -1,8 +1,6 @@
-use Rattle.std.proofs.Common.{◌≡◌, ◌*◌, ◌^◌, take}
-use Rattle.std.specs.Prelude.{pos, neg_ℤ, ◌≤ℤ◌}
-use Rattle.sums.specs.Sum.{int_sum_by}
-use Rattle.heat_flow.specs.Certificate.{heat_of_utility}
-use Rattle.certify.proofs.uses.utility_heat.Given as goal
+use Rattle.heat_flow.proofs.Words.{heat_of_utility, int_sum_by, neg_ℤ, pos, ◌≤ℤ◌}
+use Rattle.std.proofs.Common.{take, ◌*◌, ◌^◌, ◌≡◌}
+use Rattle.heat_flow.proofs.utilities.utility_heat.Given as goal
 
 abbrev pub invariant-loop-transfer : goal.invariant-loop-transfer
 invariant-loop-transfer l =

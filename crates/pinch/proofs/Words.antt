@@ -1,0 +1,124 @@
+-- The words and lemmas from elsewhere that the proofs of this crate speak in, passed on from one place. Declares nothing.
+pub use Rattle.case_text.specs.Outcome.{grammar}
+pub use Rattle.certify.specs.Answers.{HoldsOfCut, HoldsOfFlow, IsAnswer, IsAnswerOver, IsFirstOf, cut_causes, flow_causes}
+pub use Rattle.certify.specs.declared.report.Checked.{Checked}
+pub use Rattle.certify.specs.declared.report.Checked.TheVariants.{No, Yes}
+pub use Rattle.certify.specs.declared.report.NoWhy.{NoWhy}
+pub use Rattle.certify.specs.declared.report.Report.{Report}
+pub use Rattle.design_lines.specs.Drawn.{HasFewLines}
+pub use Rattle.first_fault.proofs.OneOutcome.{one_outcome}
+pub use Rattle.fractions.specs.Rationals.{IsAtMost, IsWithinLimits, Rational, fraction_text, whole}
+pub use Rattle.grid.proofs.OnGridLemmas.{parts_on_grid}
+pub use Rattle.grid.specs.Part.{AreCaseParts, IsPartOf}
+pub use Rattle.grid.specs.declared.part.Part.{Part}
+pub use Rattle.grid.specs.declared.parts.Parts.{Parts}
+pub use Rattle.heat_flow.proofs.Blanks.{blank}
+pub use Rattle.heat_flow.proofs.CostLemmas.{part_price, side_cost-transfers}
+pub use Rattle.heat_flow.proofs.PartLemmas.{HoldsOfParts-some}
+pub use Rattle.heat_flow.specs.Certificate.{IsCertified, IsLeastCostOf, heat_of_utility, utility_heat}
+pub use Rattle.heat_flow.specs.Flow.{HaveParts, IsHeatFlow, IsLeastCost, cost_of}
+pub use Rattle.heat_flow.specs.Reach.{reach_between}
+pub use Rattle.heat_flow.specs.declared.flow.Transfer.{Transfer}
+pub use Rattle.network_audit.proofs.BalanceWithin.{HasFractions, balance-within}
+pub use Rattle.network_audit.specs.Audit.{SaysExactly}
+pub use Rattle.network_audit.specs.Balance.{balance_of}
+pub use Rattle.network_audit.specs.Findings.{HasNoFinding, IsVerdict}
+pub use Rattle.network_audit.specs.Valid.{IsValidNetwork}
+pub use Rattle.network_audit.specs.declared.findings.Place.{Place}
+pub use Rattle.network_audit.specs.declared.findings.Reason.{Reason}
+pub use Rattle.network_audit.specs.declared.verdict.Balance.{Balance}
+pub use Rattle.network_audit.specs.declared.verdict.Verdict.{Verdict}
+pub use Rattle.network_text.proofs.back.Law.{shape-is_network}
+pub use Rattle.network_text.proofs.print.Lengths.{text-short}
+pub use Rattle.network_text.specs.Outcome.{IsNetwork}
+unfoldable pub use Rattle.network_text.specs.Printed.{text_of}
+pub use Rattle.networks.specs.Shape.{HasShape}
+pub use Rattle.networks.specs.declared.network.Network.{Network}
+pub use Rattle.penalties.specs.Answers.{IfListed, sum_of}
+pub use Rattle.pinch.specs.Answers.{Shows, ShowsCommand}
+unfoldable pub use Rattle.pinch.specs.Answers.{Answers}
+pub use Rattle.pinch.specs.Case.{case_file}
+pub use Rattle.pinch.specs.Complete.{Holds, HoldsFault, HoldsText}
+unfoldable pub use Rattle.pinch.specs.Complete.{CanAnswer, HasBadFile}
+pub use Rattle.pinch.specs.Design.{AnswersDesign, IsDesignOf, IsShownNetwork, IsTightDesign, ShowsDesignOf}
+pub use Rattle.pinch.specs.Files.{FromText, IsRefused, NoFile, NoText, ReadsText, by_text, failed, no_file, no_text, refused, too_long}
+unfoldable pub use Rattle.pinch.specs.Files.{EndsIn}
+pub use Rattle.pinch.specs.Flow.{AnswersFlow, IsCaseAnswer, shown_answer}
+pub use Rattle.pinch.specs.Format.{Format}
+pub use Rattle.pinch.specs.Network.{ShowsVerdict, network_file}
+pub use Rattle.pinch.specs.Prices.{study_file}
+pub use Rattle.pinch.specs.Proofs.{ChecksProof, HoldsProof}
+pub use Rattle.pinch.specs.Reading.{Reading, file, ready, stop, wanted}
+unfoldable pub use Rattle.pinch.specs.Reading.{reading_of}
+pub use Rattle.pinch.specs.Report.{IsCheckOf, report_file, shown_check}
+pub use Rattle.pinch.specs.Site.{IsLeastBoiler, site_file}
+pub use Rattle.pinch.specs.Status.{IsAnswered, number_of, status_of, status_of_site}
+pub use Rattle.pinch.specs.Stop.{IfEarly, IfEnd}
+pub use Rattle.pinch.specs.Tasks.{ShowsTask}
+pub use Rattle.pinch.specs.declared.command.CaseTask.{CaseTask}
+pub use Rattle.pinch.specs.declared.command.CaseTask.TheVariants.{Curves, Design, Flow, Sweep, Targets}
+pub use Rattle.pinch.specs.declared.command.Command.{Command}
+pub use Rattle.pinch.specs.declared.numbers.TheConstants.{MOST_DIGITS, MOST_END, MOST_STEP}
+pub use Rattle.pinch.specs.declared.request.Request.{Request}
+pub use Rattle.pinch.specs.declared.request.Request.TheVariants.{OfSite, Prices}
+pub use Rattle.pinch.specs.declared.status.Status.{Status}
+pub use Rattle.pinch.specs.declared.status.Status.TheVariants.{Answered, OutOfMemory, WriteFault}
+pub use Rattle.pinch.specs.declared.stop.Stop.{Stop}
+pub use Rattle.pinch_outside.specs.Faults.{Rose}
+pub use Rattle.pinch_outside.specs.Shelf.{IsFile, IsFileAbove, IsWhole, KeepsFiles, NamedFile, ShelfState}
+pub use Rattle.pinch_outside.specs.Sink.{AppendsFront}
+pub use Rattle.pinch_outside.specs.declared.limits.TheConstants.{MAX_FILE}
+pub use Rattle.plants.specs.Profiles.{sink_profile, source_profile}
+pub use Rattle.plants.specs.Site.{streams_of}
+pub use Rattle.plants.specs.Table.{boiler, cooling, site_utilities}
+pub use Rattle.plants.specs.declared.table.SiteTable.{SiteTable}
+pub use Rattle.price_floor.proofs.CutLemmas.{no_cut-stands}
+pub use Rattle.price_floor.proofs.FloorLemmas.{no_network-costs_less}
+pub use Rattle.price_floor.proofs.UsesLemmas.{uses_ordered}
+pub use Rattle.problem_table.specs.Deficit.{hot_target}
+pub use Rattle.reports.proofs.DesignText.{design-statements}
+pub use Rattle.reports.proofs.ProofTexts.{proofs-pass}
+pub use Rattle.reports.specs.Design.{balance_comment, design_text}
+pub use Rattle.reports.specs.Proofs.{IsProofOf}
+pub use Rattle.reports.specs.Site.{boiler_heat}
+unfoldable pub use Rattle.reports.specs.Text.{IsPrintable, text}
+pub use Rattle.reports.specs.declared.shown.FileRole.{FileRole}
+pub use Rattle.reports.specs.declared.shown.Shown.{Shown}
+pub use Rattle.reports.specs.declared.shown.Shown.TheVariants.{Accepted, BadWords, ReadFault, SiteShown, TooLong}
+unfoldable pub use Rattle.rows.specs.Rows.{rows_of}
+pub use Rattle.site.specs.Target.{AreSiteParts}
+unfoldable pub use Rattle.statements.specs.Statements.{statements_of}
+pub use Rattle.std.proofs.lemmas.Bool.Decides.{nat_tests}
+pub use Rattle.std.proofs.lemmas.Fmt.{length-decimal-le_wide}
+pub use Rattle.std.proofs.lemmas.Int.{ints, to_z-of_z}
+pub use Rattle.std.proofs.lemmas.Iterator.Adapters.{YieldsList-from_skip, YieldsList-from_vec}
+pub use Rattle.std.proofs.lemmas.Iterator.Consumers.{YieldsList-end}
+pub use Rattle.std.proofs.lemmas.List.{map-append, map-id, take_more}
+pub use Rattle.std.proofs.lemmas.Option.{none-some, same_Some, slice_get-get_or}
+pub use Rattle.std.specs.Fmt.{decimal, signed_decimal}
+pub use Rattle.std.specs.Int.{w128}
+pub use Rattle.std.specs.Io.KnownBytes.{Appends}
+pub use Rattle.std.specs.Iterator.Adapters.{skip_count, skip_source}
+pub use Rattle.std.specs.Option.{option_map_or}
+pub use Rattle.std.specs.Prelude.{Any, IsTrue, codes, if◌then◌else◌, nat_le, nat_lt, not, pos, unsigned_abs, ℤ, ⊤, ◌&&◌, ◌*ℤ◌, ◌+ℤ◌, ◌↔◌}
+pub use Rattle.std.specs.Result.{IsErrAnd}
+pub use Rattle.std.specs.Str.{bytes_eq}
+pub use Rattle.std.specs.Vec.Iter.{into_iter_items}
+pub use Rattle.stream_case.proofs.CompleteLemmas.{StaysValid-IsComplete}
+pub use Rattle.stream_case.specs.Case.{IsComplete, IsStandard, completed}
+unfoldable pub use Rattle.stream_case.specs.Digits.{natural_in}
+pub use Rattle.stream_case.specs.Source.{same_source}
+pub use Rattle.stream_case.specs.Stream.{AreSensible, IsLatent, IsSensible}
+pub use Rattle.stream_case.specs.declared.case.Case.{Case}
+pub use Rattle.stream_case.specs.declared.source.Side.TheVariants.{Cold, Hot}
+pub use Rattle.stream_case.specs.declared.source.Source.{Source}
+pub use Rattle.stream_case.specs.declared.stream.Stream.{Stream}
+pub use Rattle.stream_case.specs.declared.utility.Utility.{Utility}
+pub use Rattle.study.specs.Plan.{IsSweepPlan}
+pub use Rattle.study.specs.declared.limits.TheConstants.{MOST_ROWS, MOST_SAMPLE_NUMBER, MOST_SAMPLE_STREAMS, MOST_WORKERS}
+pub use Rattle.study.specs.declared.plan.SweepPlan.{SweepPlan}
+pub use Rattle.sums.proofs.IntegerLemmas.{if_one-times}
+pub use Rattle.sums.proofs.SumLemmas.{int_sum_by-same, int_sum_by-zero}
+pub use Rattle.transport.specs.Answer.{IfLeast}
+pub use Rattle.transport.specs.declared.answer.Answer.{Answer}
+pub use Rattle.transport.specs.declared.answer.Answer.TheVariants.{Least, Stuck}
