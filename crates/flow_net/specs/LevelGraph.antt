@@ -1,5 +1,5 @@
 -- Level graphs: nodes by how many free arcs lead to them from the source.
-use Rattle.std.specs.Prelude.{◌≡◌, ℕ, ◌+◌, length, slice_index_or, List, Option, Some, None}
+use Rattle.std.specs.Prelude.{◌≡◌, ℕ, ◌+◌, ◌<◌, length, slice_index_or, List, Option, Some, None, All}
 use Rattle.flow_net.specs.declared.arc.Arc.{Arc}
 use Rattle.flow_net.specs.declared.level_graph.LevelGraph.{LevelGraph}
 use Rattle.flow_net.specs.declared.problem.Problem.{Problem}
@@ -14,7 +14,8 @@ pub record StepsUp (levels : List (Option ℕ)) (a : Arc) : Type 0 where
   pub tail : level_at levels a.tail ≡ Some level
   pub head : level_at levels a.head ≡ Some (level + 1)
 
--- each node may have a level, and has a cursor
+-- each node may have a level, and has a cursor, and nodes were entered
 pub record IsLevelGraph (p : Problem) (g : LevelGraph) : Type 0 where
   pub one_level_each : length g.levels.items ≡ p.net.now.nodes
   pub one_cursor_each : length g.cursors.items ≡ p.net.now.nodes
+  pub entered : All (λ v. v < p.net.now.nodes) g.entered.items

@@ -3,6 +3,7 @@
 ghost use Rattle.std.specs.Prelude.{◌≡◌, pos, ◌<ℤ◌, ◌≤ℤ◌, IfOk, OnOk};
 ghost use Rattle.flow_net.specs.Net.{IsWithinLimits, AreEnds, IsRoom, AreInitialPotentials, IsLeastRouting, AreProofOfLeast, AreBounded, IsCutBelow, IsRoutable, IfRouted, IfBlocked};
 ghost use Rattle.flow_net.specs.Problem.{IsStanding};
+ghost use Rattle.flow_net.specs.LevelGraph.{IsLevelGraph};
 ghost use Rattle.flow_net.specs.Search.{HasArrived};
 
 use crate::adjacency::Adjacency;
@@ -57,6 +58,7 @@ pub fn solve(
         start: start.as_slice(),
     };
     let mut routing = Routing::new(alloc, &problem)?;
+    let mut graph = LevelGraph::new(alloc, &problem)?;
     while routing.routed < amount {
         let mut search = Search::new(alloc, &problem)?;
         if !search.run(&problem, &routing)? {
@@ -64,7 +66,7 @@ pub fn solve(
                 reached: Items::from_vec(search.reached),
             });
         }
-        advance(alloc, &problem, &mut routing, search)?;
+        advance(alloc, &problem, &mut routing, search, &mut graph)?;
     }
     Ok(Solved::Routed {
         flow: Items::from_vec(routing.flow),
@@ -80,11 +82,14 @@ fn advance(
     problem: &Problem,
     routing: &mut Routing,
     search: Search,
+    graph: &mut LevelGraph,
 ) -> Result<(), AllocError>
     requires standing { IsStanding problem.now routing.old }
+    requires graph { IsLevelGraph problem.now graph.old }
     requires arrived { HasArrived problem.now routing.old search }
     requires short { routing.old.routed <ℤ problem.now.amount }
     ensures standing { OnOk result (IsStanding problem.now routing.new) }
+    ensures graph { OnOk result (IsLevelGraph problem.now graph.new) }
     ensures rises { OnOk result (routing.old.routed <ℤ routing.new.routed) }
 {
     let rises = search.queue.level > 0;
@@ -96,7 +101,7 @@ fn advance(
     }
     while routing.routed < problem.amount {
         let before = routing.routed;
-        augment_by_levels(alloc, problem, routing)?;
+        augment_by_levels(alloc, problem, routing, graph)?;
         if routing.routed == before {
             return Ok(());
         }
@@ -104,17 +109,20 @@ fn advance(
     Ok(())
 }
 
-/// Augments along the paths of a level graph.
+/// Augments along the paths of the level graph, which is rebuilt first.
 fn augment_by_levels(
     alloc: Global,
     problem: &Problem,
     routing: &mut Routing,
+    graph: &mut LevelGraph,
 ) -> Result<(), AllocError>
-    requires { IsStanding problem.now routing.old }
+    requires standing { IsStanding problem.now routing.old }
+    requires graph { IsLevelGraph problem.now graph.old }
     ensures standing { OnOk result (IsStanding problem.now routing.new) }
+    ensures graph { OnOk result (IsLevelGraph problem.now graph.new) }
     ensures no_less { OnOk result (routing.old.routed ≤ℤ routing.new.routed) }
 {
-    let mut graph = LevelGraph::new(alloc, problem, routing)?;
+    graph.rebuild(problem, routing)?;
     while routing.routed < problem.amount {
         match graph.find_path(alloc, problem, routing)? {
             Some(path) => routing.augment(problem, &path),

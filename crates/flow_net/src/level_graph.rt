@@ -1,5 +1,5 @@
 //! Paths without reduced cost, each of whose arcs leads from one level to the next (Dinic 1970).
-ghost use Rattle.std.specs.Prelude.{◌≡◌, ◌<◌, ◌+◌, ◌↔◌, length, All, IfSome, IfOk, OnOk, IsTrue};
+ghost use Rattle.std.specs.Prelude.{◌≡◌, ◌<◌, ◌≤◌, ◌+◌, ◌↔◌, length, IfSome, IfOk, OnOk, IsTrue};
 ghost use Rattle.flow_net.specs.Problem.{IsStanding, IsFreeArc, IsFreePath};
 ghost use Rattle.flow_net.specs.LevelGraph.{level_at, IsLevelGraph, StepsUp};
 
@@ -13,75 +13,104 @@ use std::alloc::{AllocError, Global};
 #[derive(Drop)]
 pub(crate) struct LevelGraph {
     pub levels: Vec<Option<u32>>,
-    /// Which arc of each node is tried next.
+    /// Which arc of each node with a level is tried next.
     pub cursors: Vec<usize>,
+    /// The nodes that were given a level, from the lowest level up.
+    pub entered: Vec<u32>,
 }
 
 impl LevelGraph {
-    /// The levels up to the sink's.
-    pub fn new(
-        alloc: Global,
-        problem: &Problem,
-        routing: &Routing,
-    ) -> Result<LevelGraph, AllocError>
-        requires { IsStanding problem.now routing.now }
+    /// No node has a level.
+    pub fn new(alloc: Global, problem: &Problem) -> Result<LevelGraph, AllocError>
         ensures { IfOk result (λ g. IsLevelGraph problem.now g) }
     {
-        let nodes = problem.net.nodes;
-        let mut graph = LevelGraph {
-            levels: vec![in alloc; None; nodes as usize]?,
-            cursors: vec![in alloc; 0; nodes as usize]?,
-        };
-        graph.levels[problem.source as usize] = Some(0);
-        let mut last = Vec::new(alloc);
-        last.push(problem.source)?;
-        for level in 1..nodes {
-            if last.is_empty() || graph.levels[problem.sink as usize].is_some() {
-                return Ok(graph);
-            }
-            last = graph.add_level(alloc, problem, routing, &last, level)?;
-        }
-        Ok(graph)
+        let nodes = problem.net.nodes as usize;
+        Ok(LevelGraph {
+            levels: vec![in alloc; None; nodes]?,
+            cursors: vec![in alloc; 0; nodes]?,
+            entered: Vec::new(alloc),
+        })
     }
 
-    /// Gives a level to the nodes to which free arcs lead from those of the level before, and answers
-    /// these nodes.
-    fn add_level(
-        &mut self,
-        alloc: Global,
-        problem: &Problem,
-        routing: &Routing,
-        last: &[u32],
-        level: u32,
-    ) -> Result<Vec<u32>, AllocError>
+    /// Gives the nodes their levels up to the sink's, in place of those of before.
+    pub fn rebuild(&mut self, problem: &Problem, routing: &Routing) -> Result<(), AllocError>
         requires standing { IsStanding problem.now routing.now }
         requires graph { IsLevelGraph problem.now self.old }
-        requires last { All (λ v. v < problem.now.net.now.nodes) last.now }
-        ensures graph { OnOk result (IsLevelGraph problem.now self.new) }
-        ensures nodes { IfOk result (λ next. All (λ v. v < problem.now.net.now.nodes) next.items) }
+        ensures { OnOk result (IsLevelGraph problem.now self.new) }
     {
-        let mut next = Vec::new(alloc);
-        for node in last {
-            self.reach(problem, routing, *node, level, &mut next)?;
+        self.clear(problem);
+        self.enter(problem, problem.source, 0)?;
+        let mut first = 0;
+        for level in 1..problem.net.nodes {
+            let end = self.entered.len();
+            if first == end || self.levels[problem.sink as usize].is_some() {
+                return Ok(());
+            }
+            self.add_level(problem, routing, first, end, level)?;
+            first = end;
         }
-        Ok(next)
+        Ok(())
     }
 
-    /// Gives a level to the nodes without one to which free arcs lead from this node, and adds them.
+    /// Takes their levels from all nodes.
+    fn clear(&mut self, problem: &Problem)
+        requires { IsLevelGraph problem.now self.old }
+        ensures { IsLevelGraph problem.now self.new }
+    {
+        while let Some(node) = self.entered.pop() {
+            self.levels[node as usize] = None;
+        }
+    }
+
+    /// Gives a level to a node.
+    fn enter(&mut self, problem: &Problem, node: u32, level: u32) -> Result<(), AllocError>
+        requires graph { IsLevelGraph problem.now self.old }
+        requires node { node < problem.now.net.now.nodes }
+        ensures graph { OnOk result (IsLevelGraph problem.now self.new) }
+        ensures one_more { OnOk result (length self.old.entered.items ≤ length self.new.entered.items) }
+    {
+        self.levels[node as usize] = Some(level);
+        self.cursors[node as usize] = 0;
+        self.entered.push(node)?;
+        Ok(())
+    }
+
+    /// Gives a level to the nodes to which free arcs lead from those of the level before, which were
+    /// entered from one index up to another.
+    fn add_level(
+        &mut self,
+        problem: &Problem,
+        routing: &Routing,
+        first: usize,
+        end: usize,
+        level: u32,
+    ) -> Result<(), AllocError>
+        requires standing { IsStanding problem.now routing.now }
+        requires graph { IsLevelGraph problem.now self.old }
+        requires end { end ≤ length self.old.entered.items }
+        ensures graph { OnOk result (IsLevelGraph problem.now self.new) }
+        ensures no_fewer { OnOk result (length self.old.entered.items ≤ length self.new.entered.items) }
+    {
+        for index in first..end {
+            let node = self.entered[index];
+            self.reach(problem, routing, node, level)?;
+        }
+        Ok(())
+    }
+
+    /// Gives a level to the nodes without one to which free arcs lead from this node.
     fn reach(
         &mut self,
         problem: &Problem,
         routing: &Routing,
         node: u32,
         level: u32,
-        next: &mut Vec<u32>,
     ) -> Result<(), AllocError>
         requires standing { IsStanding problem.now routing.now }
         requires graph { IsLevelGraph problem.now self.old }
         requires node { node < problem.now.net.now.nodes }
-        requires next { All (λ v. v < problem.now.net.now.nodes) next.old.items }
         ensures graph { OnOk result (IsLevelGraph problem.now self.new) }
-        ensures next { OnOk result (All (λ v. v < problem.now.net.now.nodes) next.new.items) }
+        ensures no_fewer { OnOk result (length self.old.entered.items ≤ length self.new.entered.items) }
     {
         let arcs = problem.arcs_from(node);
         let ways = problem.ways_from(node);
@@ -90,8 +119,7 @@ impl LevelGraph {
                 && routing.is_open(way.link, way.forward)
                 && routing.reduced_cost(&arcs[index]) == 0
             {
-                self.levels[way.head as usize] = Some(level);
-                next.push(way.head)?;
+                self.enter(problem, way.head, level)?;
             }
         }
         Ok(())
@@ -134,6 +162,7 @@ impl LevelGraph {
         requires graph { IsLevelGraph problem.now self.old }
         requires node { node < problem.now.net.now.nodes }
         ensures levels { self.new.levels ≡ self.old.levels }
+        ensures entered { self.new.entered ≡ self.old.entered }
         ensures cursors { length self.new.cursors.items ≡ length self.old.cursors.items }
         ensures free { IfSome result (λ a. IsFreeArc problem.now routing.now a) }
         ensures head { IfSome result (λ a. a.head ≡ node) }

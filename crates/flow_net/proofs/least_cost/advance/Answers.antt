@@ -30,7 +30,8 @@ pub loop-routing-preserved : goal.loop-routing-preserved
 loop-routing-preserved c =
     let no_less = c.in_ok-augment_by_levels.ensures.no_less in
     let before = c.loop-routing.invariant.no_less in
-    record { standing = c.in_ok-augment_by_levels.ensures.standing; no_less = omega (arith, ints, no_less, before) }
+    let after = c.in_ok-augment_by_levels.ensures in
+    record { standing = after.standing; graph = after.graph; no_less = omega (arith, ints, no_less, before) }
 
 pub returns-then-routing-before-clause-rises : goal.returns-then-routing-before-clause-rises
 returns-then-routing-before-clause-rises c =

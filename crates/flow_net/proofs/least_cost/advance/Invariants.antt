@@ -1,4 +1,4 @@
-use Rattle.flow_net.proofs.Words.{IsStanding, unsigned_abs}
+use Rattle.flow_net.proofs.Words.{IsLevelGraph, IsStanding, unsigned_abs}
 use Rattle.std.proofs.Common.{◌-ℤ◌, ◌≤ℤ◌}
 use Rattle.flow_net.proofs.least_cost.advance.Given as goal
 
@@ -6,4 +6,8 @@ abbrev pub decreases-loop-routing : goal.decreases-loop-routing
 decreases-loop-routing l = unsigned_abs (l.problem.amount -ℤ l.routing.routed)
 
 abbrev pub invariant-loop-routing : goal.invariant-loop-routing
-invariant-loop-routing l = record { standing : IsStanding l.problem l.routing; no_less : l.initial.routing.routed ≤ℤ l.routing.routed }
+invariant-loop-routing l = record {
+  standing : IsStanding l.problem l.routing;
+  graph : IsLevelGraph l.problem l.graph;
+  no_less : l.initial.routing.routed ≤ℤ l.routing.routed;
+}

@@ -22,6 +22,7 @@ loop-node-preserved-in-Some c =
       graph = record {
         one_level_each = ap (λ t. length t.items) last.levels ∙ inv.graph.one_level_each;
         one_cursor_each = last.cursors ∙ inv.graph.one_cursor_each;
+        entered = subst (λ t. All (λ v. v < p.net.now.nodes) t.items) (sym last.entered) inv.graph.entered;
       };
       node_in = (arc-nodes p.net.now c.requires.standing.problem.net a last.free.residual.arc).0;
       walk = subst (λ xs. IsWalk (reverse xs) a.tail p.sink) (sym grown)
@@ -75,6 +76,7 @@ loop-node-preserved c =
       graph = record {
         one_level_each = length-set levels c.loop-node.node None ∙ (ap (λ t. length t.items) last.levels ∙ inv.graph.one_level_each);
         one_cursor_each = last.cursors ∙ inv.graph.one_cursor_each;
+        entered = subst (λ t. All (λ v. v < p.net.now.nodes) t.items) (sym last.entered) inv.graph.entered;
       };
       node_in = (arc-nodes p.net.now c.requires.standing.problem.net a at.step.free.residual.arc).1;
       walk = at.walk;
