@@ -11,4 +11,5 @@ pub mod SearchLemmas
 pub mod Sizes
 pub mod StandingLemmas
 pub mod Sums
+pub mod ThreadLemmas
 pub mod Words

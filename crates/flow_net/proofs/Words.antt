@@ -11,6 +11,7 @@ pub use Rattle.flow_net.specs.Queue.{IsNext, entries_of, entry}
 pub use Rattle.flow_net.specs.Search.{HasArrived, HasQueue, Improves, IsAt, IsClosed, IsClosedAt, IsQueued, IsSearch, IsStuck, IsTree, IsTreeArc, IsTreePath}
 pub use Rattle.flow_net.specs.Search.{arc_at, depth_at, is_labelled, label_at, rise_at, rise_of, rise_of_label, rise_or}
 pub use Rattle.flow_net.specs.Sum.{sum_below}
+pub use Rattle.flow_net.specs.Threads.{AppendsThread, AreThreads, HaveSameArcs, IsNextOfTail, IsOfTail, arc_numbered}
 pub use Rattle.flow_net.specs.declared.adjacency.Adjacency.{Adjacency}
 pub use Rattle.flow_net.specs.declared.arc.Arc.{Arc}
 pub use Rattle.flow_net.specs.declared.arc.Way.{Way}
@@ -27,15 +28,17 @@ pub use Rattle.std.proofs.Math.IntN.{*ℤ-zero, neg_ℤ-neg_ℤ, zero-*ℤ}
 pub use Rattle.std.proofs.lemmas.Bool.{cases_Bool, cases_eq, cases_lt, eq-eqb, false≢true, ne_eqb}
 pub use Rattle.std.proofs.lemmas.Int.{by_lt_z, clamps, ints, to_z-of_z}
 pub use Rattle.std.proofs.lemmas.List.{append_assoc, drop_more, get_or-replicate, get_or-set_other, get_or-set_same, get_or_append_left, get_or_past}
+pub use Rattle.std.proofs.lemmas.List.{append-nil, get_or-append_right, get_or_default, get_or_push, length-append}
 pub use Rattle.std.proofs.lemmas.List.{get_or_read, length-map, length-replicate, length-set, length_push, map-append, reverse-append, take_all, take_more}
 pub use Rattle.std.proofs.lemmas.List.Elements.{All-append, All-cons, All-contains, All-head, All-map, All-more, All-nil, All-pop, All-push, All-tail, All-take}
-pub use Rattle.std.proofs.lemmas.List.Elements.{All-weaker, Contains-append_left, Contains-append_right, Contains-push}
+pub use Rattle.std.proofs.lemmas.List.Elements.{All-weaker, Contains-append_left, Contains-append_right, Contains-get_or, Contains-push}
 pub use Rattle.std.proofs.lemmas.List.Quantifiers.{Any-push}
 pub use Rattle.std.proofs.lemmas.List.Sorted.{All-permutation, Contains-permutation, IsNonDecreasingBy-from_sort_by_key, IsPartitionPoint-from_clause}
 pub use Rattle.std.proofs.lemmas.List.Sorted.{IsPartitionedBy-ltb, IsPermutation-append_right, IsPermutation-middle, IsPermutation-refl, IsPermutation-reverse}
 pub use Rattle.std.proofs.lemmas.List.Sorted.{IsPermutation-sym, IsPermutation-trans, length_permutation}
 pub use Rattle.std.proofs.lemmas.List.Sums.{count_by-le-length, fold_more, sum_by-set}
 pub use Rattle.std.proofs.lemmas.Nat.{mul-le}
+pub use Rattle.std.proofs.lemmas.Option.{none-some, same_Some}
 pub use Rattle.std.proofs.lemmas.Result.{on_ok_weaker}
 pub use Rattle.std.specs.BinaryHeap.{heap_items}
 pub use Rattle.std.specs.Int.{int_min}

@@ -7,3 +7,4 @@ pub mod Problem
 pub mod Queue
 pub mod Search
 pub mod Sum
+pub mod Threads

@@ -14,6 +14,7 @@ mod problem;
 mod queue;
 mod routing;
 mod search;
+mod threads;
 
 pub use least_cost::solve;
 pub use limits::{MOST_COST, MOST_INITIAL_POTENTIAL, MOST_LINKS, MOST_NODES, MOST_ROOM};
