@@ -3,17 +3,16 @@ use Rattle.grid.proofs.MakingLemmas.{holds_ends, holds_levels, is_latent-true}
 use Rattle.grid.proofs.RunLemmas.{latent_run, latent_run-is, latent_run-none, latent_run-other, level_run, level_run-is, stream_run, stream_run-latent}
 use Rattle.grid.proofs.RunLemmas.{stream_run-other, sum-made}
 use Rattle.grid.proofs.Words.{*ℤ--ℤ, *ℤ-zero, All, All-contains, AllPairs, AllPairs-head, AllPairs-tail, Contains, Contains-cons, HoldsPlaces, IsLatent}
-use Rattle.grid.proofs.Words.{IsSensible, IsValidStream, Part, Side, Stream, Utility, cases_Bool, clamps, counts_above, false_from_ne_true, heat_over}
-use Rattle.grid.proofs.Words.{heat_over-latent, heat_over-sensible, high_end, if◌then◌else◌, int_le, int_le-false, int_le-from, int_lt, int_lt-from}
-use Rattle.grid.proofs.Words.{int_lt-true, int_max, int_sum_by, int_sum_by-same, ints, is_latent, is_stream, length_above, low_end, made_parts, order-sensible}
+use Rattle.grid.proofs.Words.{int_lt-false, IsSensible, IsValidStream, Part, Side, Stream, Utility, cases_Bool, clamps, counts_above, heat_over}
+use Rattle.grid.proofs.Words.{heat_over-latent, heat_over-sensible, high_end, if◌then◌else◌, int_le, int_le-false, int_le-from, int_lt-from, int_max}
+use Rattle.grid.proofs.Words.{int_sum_by, int_sum_by-same, ints, false_from_ne_true, is_latent, is_stream, length_above, low_end, made_parts, order-sensible}
 use Rattle.grid.proofs.Words.{piece_heat, pos, same_side, sensible_above, stands_above, ℤ, ◌*ℤ◌, ◌+ℤ◌, ◌-ℤ◌, ◌<ℤ◌, ◌≤ℤ◌}
 use Rattle.std.proofs.Common.{Bool, List, [], ap, ap₂, arith, false, get_or, inl, inr, refl, sym, true, ⊎_elim, ◌&&◌, ◌∙◌, ◌∷◌, ◌≡◌, ◌⊎◌}
 
 -- ---- a stream's parts from the top down
 
 greatest_first : (g : ℤ) (places : List ℤ) → AllPairs (λ a b. b <ℤ a) (g ∷ places) → (x : ℤ) → Contains (g ∷ places) x → x ≤ℤ g
-greatest_first g places falls x found =
-    ⊎_elim (λ e. omega (arith, ints))
+greatest_first g places falls x found = ⊎_elim (λ e. omega (arith, ints))
     (λ later. let less = All-contains (λ z. z <ℤ g) places x (AllPairs-head (λ a b. b <ℤ a) g places falls) later in omega (arith, ints))
     (Contains-cons g places x found)
 
@@ -23,8 +22,7 @@ Meets g places x = Contains (g ∷ places) x ⊎ (g ≤ℤ x)
 
 Meets-next : (g l : ℤ) (places : List ℤ) (x : ℤ) → AllPairs (λ a b. b <ℤ a) (g ∷ l ∷ places) → l <ℤ g → Meets g (l ∷ places) x
     → ((x ≤ℤ l) ⊎ (g ≤ℤ x)) × Meets l places x
-Meets-next g l places x falls step (inl found) =
-    ⊎_elim (λ e. (inr (omega (arith, ints)), inr (omega (arith, ints))))
+Meets-next g l places x falls step (inl found) = ⊎_elim (λ e. (inr (omega (arith, ints)), inr (omega (arith, ints))))
     (λ later. (inl (greatest_first l places (AllPairs-tail (λ a b. b <ℤ a) g (l ∷ places) falls) x later), inl later)) (Contains-cons g (l ∷ places) x found)
 Meets-next g l places x falls step (inr le) = (inr le, inr (omega (arith, ints)))
 
@@ -47,9 +45,6 @@ length_in-is low high at g l step order (inr a) b c =
 abbrev pub piece_above : Bool → ℤ → ℤ → ℤ → Stream → ℤ
 piece_above from place high low s = if counts_above from place (if from then low else high) then piece_heat high low s else pos 0
 
-int_lt-false : (a b : ℤ) → b ≤ℤ a → int_lt a b ≡ false
-int_lt-false a b h = false_from_ne_true (int_lt a b) (λ e. let less = int_lt-true a b e in omega (arith, ints))
-
 -- an interval stands above a place with both ends
 interval_above-is : (from : Bool) (at g l : ℤ) → l <ℤ g → (at ≤ℤ l) ⊎ (g ≤ℤ at) → counts_above from at (if from then l else g) ≡ int_le at l
 interval_above-is true at g l step place = refl
@@ -70,8 +65,7 @@ module _ (from : Bool) (at : ℤ) (side : Side) (s : Stream) (same : same_side s
       let here : int_max at g ≡ at =
       ⊎_elim (λ found. ⊎_elim (λ e. omega (arith, ints, clamps)) (λ (k, within, is). absurd (omega arith)) (Contains-cons g [] at found))
       (λ le. omega (arith, ints, clamps)) place in
-      let heat = ap (λ t. sensible_above t s) here in
-      omega (arith, ints)
+      let heat = ap (λ t. sensible_above t s) here in omega (arith, ints)
   run-is g (l ∷ places) falls low high place =
       let step = AllPairs-head (λ a b. b <ℤ a) g (l ∷ places) falls 0 g (omega arith) in
       let (low_out, low_next) = Meets-next g l places (low_end s) falls step low in
@@ -79,11 +73,9 @@ module _ (from : Bool) (at : ℤ) (side : Side) (s : Stream) (same : same_side s
       let (place_out, place_next) = Meets-next g l places at falls step place in
       let rest = run-is l places (AllPairs-tail (λ a b. b <ℤ a) g (l ∷ places) falls) low_next high_next place_next in
       let above = λ (t : ℤ). length_above (low_end s) (high_end s) t in
-      let term =
-      ap (λ b. if (b && (int_le (low_end s) l && int_le g (high_end s))) then piece_above from at g l s else pos 0) same
+      let term = ap (λ b. if (b && (int_le (low_end s) l && int_le g (high_end s))) then piece_above from at g l s else pos 0) same
       ∙ ap (λ b. if (int_le (low_end s) l && int_le g (high_end s)) then (if b then piece_heat g l s else pos 0) else pos 0)
-      (interval_above-is from at g l step place_out)
-      ∙ scaled (int_le (low_end s) l && int_le g (high_end s)) (int_le at l) (g -ℤ l)
+      (interval_above-is from at g l step place_out) ∙ scaled (int_le (low_end s) l && int_le g (high_end s)) (int_le at l) (g -ℤ l)
       ∙ ap (λ x. s.cp *ℤ x) (length_in-is (low_end s) (high_end s) at g l step order low_out high_out place_out)
       ∙ *ℤ--ℤ s.cp (above (int_max at l)) (above (int_max at g)) in
       omega (arith, ints)
@@ -97,18 +89,15 @@ stream_run-is : (from : Bool) (place : ℤ) (side : Side) (s : Stream) (places :
     → stream_run (piece_above from place) side s places ≡ sensible_above place s
 stream_run-is from place side s [] sensible same falls (k, within, is) high at = absurd (omega arith)
 stream_run-is from place side s (g ∷ places) sensible same falls low high at =
-    let order = order-sensible s sensible in
-    let top = greatest_first g places falls (high_end s) high in
+    let order = order-sensible s sensible in let top = greatest_first g places falls (high_end s) high in
     let none : length_above (low_end s) (high_end s) (int_max place g) ≡ pos 0 = omega (arith, ints, clamps) in
     let begins = ap (λ l. s.cp *ℤ l) none ∙ *ℤ-zero s.cp in
-    let run = run-is from place side s same (omega (arith, ints)) sensible.load g places falls (inl low) (inl high) (inl at) in
-    omega (arith, ints)
+    let run = run-is from place side s same (omega (arith, ints)) sensible.load g places falls (inl low) (inl high) (inl at) in omega (arith, ints)
 
 -- the one part of a latent stream is its load, if that stands above the place
 level_above-is : (from : Bool) (place level : ℤ) (s : Stream) → s.cp ≡ pos 0
     → piece_above from place level level s ≡ (if counts_above from place level then s.load else pos 0)
-level_above-is from place level s no_flow =
-    ap (λ heat. if counts_above from place (if from then level else level) then heat else pos 0) heat
+level_above-is from place level s no_flow = ap (λ heat. if counts_above from place (if from then level else level) then heat else pos 0) heat
     ∙ ap (λ end. if counts_above from place end then s.load else pos 0) (either from)
   where
     heat : piece_heat level level s ≡ s.load
@@ -124,26 +113,22 @@ runs-are : (from : Bool) (place : ℤ) (side : Side) (s : Stream) (places : List
     → latent_run (piece_above from place) side s places +ℤ stream_run (piece_above from place) side s places
     ≡ (if same_side s.side side then heat_over from place s else pos 0)
 runs-are from place side s places heat falls low high at =
-    ⊎_elim (λ same. own same heat ∙ sym (ap (λ b. if b then heat_over from place s else pos 0) same))
-    (λ other.
+    ⊎_elim (λ same. own same heat ∙ sym (ap (λ b. if b then heat_over from place s else pos 0) same)) (λ other.
     let latent = latent_run-other (piece_above from place) side s places other in
     let on_intervals = stream_run-other (piece_above from place) side s places other in
     let none : latent_run (piece_above from place) side s places +ℤ stream_run (piece_above from place) side s places ≡ pos 0 = omega (arith, ints) in
-    none ∙ sym (ap (λ b. if b then heat_over from place s else pos 0) other))
-    (cases_Bool (same_side s.side side))
+    none ∙ sym (ap (λ b. if b then heat_over from place s else pos 0) other)) (cases_Bool (same_side s.side side))
   where
     own : same_side s.side side ≡ true → IsSensible s ⊎ IsLatent s
         → latent_run (piece_above from place) side s places +ℤ stream_run (piece_above from place) side s places ≡ heat_over from place s
     own same (inl sensible) =
         let none = latent_run-none (piece_above from place) side s places (is_latent-sensible s sensible) in
-        let run = stream_run-is from place side s places sensible same falls low high at in
-        let whole = heat_over-sensible from place s sensible in
+        let run = stream_run-is from place side s places sensible same falls low high at in let whole = heat_over-sensible from place s sensible in
         omega (arith, ints)
     own same (inr latent) =
         let none = stream_run-latent (piece_above from place) side s places latent falls in
         let run = latent_run-is (piece_above from place) side s places latent same falls high ∙ level_above-is from place (high_end s) s latent.cp in
-        let whole = heat_over-latent from place s latent in
-        omega (arith, ints)
+        let whole = heat_over-latent from place s latent in omega (arith, ints)
 
 -- ---- the parts of a side
 
@@ -159,14 +144,10 @@ pub sum-part_over : (streams : List Stream) (utilities : List Utility) (side : S
 sum-part_over streams utilities side places from place each valid holds at =
     let exchanged =
     sum-made (part_over from place each) (piece_above from place) (λ u. each) (λ high low i s. refl) (λ i u. refl) streams utilities side places in
-    let levels =
-    int_sum_by-same (λ u. level_run (λ v. each) side u places) (λ u. if same_side u.side side then each else pos 0) utilities
+    let levels = int_sum_by-same (λ u. level_run (λ v. each) side u places) (λ u. if same_side u.side side then each else pos 0) utilities
     (λ k d within. level_run-is (λ v. each) side (get_or utilities k d) places holds.falls (holds_levels streams utilities places holds k d within)) in
-    let runs =
-    int_sum_by-same (λ s. latent_run (piece_above from place) side s places +ℤ stream_run (piece_above from place) side s places)
-    (λ s. if same_side s.side side then heat_over from place s else pos 0) streams
-    (λ k d within.
-    let s = get_or streams k d in
-    let held = holds_ends streams utilities places holds k d within in
+    let runs = int_sum_by-same (λ s. latent_run (piece_above from place) side s places +ℤ stream_run (piece_above from place) side s places)
+    (λ s. if same_side s.side side then heat_over from place s else pos 0) streams (λ k d within.
+    let s = get_or streams k d in let held = holds_ends streams utilities places holds k d within in
     runs-are from place side s places (valid k d within).heat holds.falls held.1 held.0 at) in
     exchanged ∙ ap₂ ◌+ℤ◌ levels runs

@@ -10,8 +10,7 @@ use Rattle.grid.proofs.Words.{slice_get-get_or, slice_get_within, stands_at, str
 use Rattle.std.proofs.Common.{Bool, List, Some, [], add-zero, ap, append_assoc, arith, drop, false, get_or, inl, inr, length, length-take, refl, subst, suc}
 use Rattle.std.proofs.Common.{sym, take, true, zero, ℕ, ◌&&◌, ◌++◌, ◌+◌, ◌<◌, ◌∙◌, ◌∷◌, ◌≡◌, ◌≤◌}
 use Rattle.sums.proofs.ConsLemmas.{All-cons_if, AllPairs-cons_if, Contains-cons_if, Contains-cons_if_here, cons_if-append}
-use Rattle.stream_case.specs.declared.source.Source.TheVariants.{Stream as of_stream}
-use Rattle.stream_case.specs.declared.source.Source.TheVariants.{Utility as of_utility}
+use Rattle.stream_case.specs.declared.source.Source.TheVariants.{Stream as of_stream, Utility as of_utility}
 
 -- ---- the parts of the sources that pass a test
 
@@ -20,27 +19,22 @@ module _ {X : Type 0} (test : X → Bool) (make : ℕ → X → Part) where
   pub All-picked : (P : Part → Type 0) (n : ℕ) (xs : List X) → ((i k : ℕ) (x : X) → i ≡ n + k → slice_get xs k ≡ Some x → test x ≡ true → P (make i x))
       → All P (picked test make n xs)
   All-picked P n [] h = All-nil P
-  All-picked P n (x ∷ xs) h =
-      All-cons_if P (test x) (make n x) (picked test make (suc n) xs) (λ e. h n 0 x (omega arith) refl e)
+  All-picked P n (x ∷ xs) h = All-cons_if P (test x) (make n x) (picked test make (suc n) xs) (λ e. h n 0 x (omega arith) refl e)
       (All-picked P (suc n) xs (λ i k y e at passes. h i (suc k) y (omega arith) at passes))
 
   pub AllPairs-picked : (R : Part → Part → Type 0) (n : ℕ) (xs : List X)
       → ((i j : ℕ) (x y : X) → i < j → test x ≡ true → test y ≡ true → R (make i x) (make j y)) → AllPairs R (picked test make n xs)
   AllPairs-picked R n [] h = AllPairs-nil R
-  AllPairs-picked R n (x ∷ xs) h =
-      AllPairs-cons_if R (test x) (make n x) (picked test make (suc n) xs)
-      (λ e. All-picked (R (make n x)) (suc n) xs (λ i k y at is passes. h n i x y (omega arith) e passes))
-      (AllPairs-picked R (suc n) xs h)
+  AllPairs-picked R n (x ∷ xs) h = AllPairs-cons_if R (test x) (make n x) (picked test make (suc n) xs)
+      (λ e. All-picked (R (make n x)) (suc n) xs (λ i k y at is passes. h n i x y (omega arith) e passes)) (AllPairs-picked R (suc n) xs h)
 
   pub Contains-picked : (n : ℕ) (xs : List X) (i k : ℕ) (x : X) → i ≡ n + k → slice_get xs k ≡ Some x → test x ≡ true
       → Contains (picked test make n xs) (make i x)
   Contains-picked n [] i k x e at passes = absurd (none-some x at)
   Contains-picked n (y ∷ ys) i zero x e at passes =
-      let same : i ≡ n = omega arith in
-      let is : y ≡ x = same_Some y x at in
+      let same : i ≡ n = omega arith in let is : y ≡ x = same_Some y x at in
       let found = Contains-cons_if_here (test y) (make n y) (picked test make (suc n) ys) (ap test is ∙ passes) in
-      let P : ℕ → X → Type 0 = λ j v. Contains (picked test make n (y ∷ ys)) (make j v) in
-      subst (λ j. P j x) (sym same) (subst (P n) is found)
+      let P : ℕ → X → Type 0 = λ j v. Contains (picked test make n (y ∷ ys)) (make j v) in subst (λ j. P j x) (sym same) (subst (P n) is found)
   Contains-picked n (y ∷ ys) i (suc k) x e at passes =
       Contains-cons_if (test y) (make n y) (make i x) (picked test make (suc n) ys) (Contains-picked (suc n) ys i k x (omega arith) at passes)
 
@@ -56,8 +50,7 @@ module _ {X : Type 0} (test : X → Bool) (make : ℕ → X → Part) where
       → picked test make 0 (take (i + 1) xs) ≡ picked test make 0 (take i xs) ++ cons_if (test x) (make i x) []
   picked-more xs i x within is =
       let index : 0 + length (take i xs) ≡ i = simp length-take (omega (arith, within)) in
-      ap (picked test make 0) (take_more xs i x within)
-      ∙ picked-append 0 (take i xs) (get_or xs i x ∷ [])
+      ap (picked test make 0) (take_more xs i x within) ∙ picked-append 0 (take i xs) (get_or xs i x ∷ [])
       ∙ ap (λ k. picked test make 0 (take i xs) ++ picked test make k (get_or xs i x ∷ [])) index
       ∙ ap (λ y. picked test make 0 (take i xs) ++ picked test make i (y ∷ [])) (sym is)
 
@@ -74,8 +67,7 @@ module _ {X : Type 0} (test : X → Bool) (make : ℕ → X → Part) where
       → now ≡ before ++ picked test make 0 (take i xs) → test x ≡ false → next ≡ now → next ≡ before ++ picked test make 0 (take (i + 1) xs)
   picked-pass xs i x before now next within is so_far fails same =
       let none : cons_if (test x) (make i x) [] ≡ [] = ap (λ b. cons_if b (make i x) []) fails in
-      same ∙ so_far
-      ∙ ap (λ ps. before ++ ps)
+      same ∙ so_far ∙ ap (λ ps. before ++ ps)
       (sym (picked-more xs i x within is ∙ ap (λ ps. picked test make 0 (take i xs) ++ ps) none ∙ append-nil (picked test make 0 (take i xs))))
 
 -- ---- the tests
@@ -92,8 +84,7 @@ is_latent-true s h =
     }
 
 pub is_latent-from : (s : Stream) → IsLatent s → is_latent s ≡ true
-is_latent-from s h =
-    and_from (int_eq s.supply s.target) (int_eq s.cp (pos 0) && (int_le (pos 1) s.load && int_le s.load MOST_LOAD))
+is_latent-from s h = and_from (int_eq s.supply s.target) (int_eq s.cp (pos 0) && (int_le (pos 1) s.load && int_le s.load MOST_LOAD))
     ((Decides-int_eq s.supply s.target).1 h.level)
     (and_from (int_eq s.cp (pos 0)) (int_le (pos 1) s.load && int_le s.load MOST_LOAD) ((Decides-int_eq s.cp (pos 0)).1 h.cp)
     (and_from (int_le (pos 1) s.load) (int_le s.load MOST_LOAD) (int_le-from (pos 1) s.load h.load.from) (int_le-from s.load MOST_LOAD h.load.upto)))
@@ -107,8 +98,7 @@ pub record StandsAt (side : Side) (place : ℤ) (s : Stream) : Type 0 where
 pub stands_at-true : (side : Side) (place : ℤ) (s : Stream) → stands_at side place s ≡ true → StandsAt side place s
 stands_at-true side place s h =
     let parts = and_parts (same_side s.side side) (is_latent s && int_eq (high_end s) place) h in
-    let level = and_parts (is_latent s) (int_eq (high_end s) place) parts.1 in
-    let latent = is_latent-true s level.0 in
+    let level = and_parts (is_latent s) (int_eq (high_end s) place) parts.1 in let latent = is_latent-true s level.0 in
     let high = (Decides-int_eq (high_end s) place).0 level.1 in
     record { side_is = same_side-true s.side side parts.0; latent = latent; high = high; low = sym (level-latent s latent) ∙ high }
 
@@ -117,16 +107,14 @@ pub record IsHere (side : Side) (place : ℤ) (u : Utility) : Type 0 where
   pub level : shifted_level u ≡ place
 
 pub is_here-true : (side : Side) (place : ℤ) (u : Utility) → is_here side place u ≡ true → IsHere side place u
-is_here-true side place u h =
-    let parts = and_parts (same_side u.side side) (int_eq (shifted_level u) place) h in
+is_here-true side place u h = let parts = and_parts (same_side u.side side) (int_eq (shifted_level u) place) h in
     record { side_is = same_side-true u.side side parts.0; level = (Decides-int_eq (shifted_level u) place).0 parts.1 }
 
 pub same_side-from : (a b : Side) → a ≡ b → same_side a b ≡ true
 same_side-from a b e = ap (λ s. same_side s b) e ∙ own_side b
 
 pub stands_at-from : (side : Side) (place : ℤ) (s : Stream) → s.side ≡ side → IsLatent s → high_end s ≡ place → stands_at side place s ≡ true
-stands_at-from side place s h latent level =
-    and_from (same_side s.side side) (is_latent s && int_eq (high_end s) place) (same_side-from s.side side h)
+stands_at-from side place s h latent level = and_from (same_side s.side side) (is_latent s && int_eq (high_end s) place) (same_side-from s.side side h)
     (and_from (is_latent s) (int_eq (high_end s) place) (is_latent-from s latent) ((Decides-int_eq (high_end s) place).1 level))
 
 is_here-from : (side : Side) (place : ℤ) (u : Utility) → u.side ≡ side → shifted_level u ≡ place → is_here side place u ≡ true
@@ -145,8 +133,7 @@ covers-true side high low s h =
     record { side_is = same_side-true s.side side parts.0; from = int_le-true (low_end s) low ends.0; upto = int_le-true high (high_end s) ends.1 }
 
 covers-from : (side : Side) (high low : ℤ) (s : Stream) → s.side ≡ side → low_end s ≤ℤ low → high ≤ℤ high_end s → covers side high low s ≡ true
-covers-from side high low s h from upto =
-    and_from (same_side s.side side) (int_le (low_end s) low && int_le high (high_end s)) (same_side-from s.side side h)
+covers-from side high low s h from upto = and_from (same_side s.side side) (int_le (low_end s) low && int_le high (high_end s)) (same_side-from s.side side h)
     (and_from (int_le (low_end s) low) (int_le high (high_end s)) (int_le-from (low_end s) low from) (int_le-from high (high_end s) upto))
 
 -- no interval lies inside the range of a latent stream
@@ -159,10 +146,8 @@ covers-latent side high low s latent falls =
 -- a falling list of some numbers holds all places that are among them
 pub HoldsPlaces-ListsFalling : (streams : List Stream) (utilities : List Utility) (P : ℤ → Type 0) (places : List ℤ) → ListsFalling P places
     → All P (places_of streams utilities) → HoldsPlaces streams utilities places
-HoldsPlaces-ListsFalling streams utilities P places h each = record {
-  falls = h.ordered;
-  holds = All-weaker P (Contains places) h.every (places_of streams utilities) each;
-}
+HoldsPlaces-ListsFalling streams utilities P places h each =
+    record { falls = h.ordered; holds = All-weaker P (Contains places) h.every (places_of streams utilities) each }
 
 pub HoldsPlaces-IsGrid : (c : Case) (places : List ℤ) → IsGrid c places → HoldsPlaces c.streams c.utilities places
 HoldsPlaces-IsGrid c places h =
@@ -171,17 +156,13 @@ HoldsPlaces-IsGrid c places h =
 module _ (streams : List Stream) (utilities : List Utility) (places : List ℤ) (h : HoldsPlaces streams utilities places) where
   pub holds_ends : All (λ s. Contains places (high_end s) × Contains places (low_end s)) streams
   holds_ends =
-      let ends = stream_ends streams in
-      let levels = map shifted_level utilities in
-      each_end (Contains places) streams
-      (λ k d within. All-contains (Contains places) (ends ++ levels) (get_or ends k d) h.holds
+      let ends = stream_ends streams in let levels = map shifted_level utilities in
+      each_end (Contains places) streams (λ k d within. All-contains (Contains places) (ends ++ levels) (get_or ends k d) h.holds
       (Contains-append_left ends levels (get_or ends k d) (Contains-get_or ends k d within)))
 
   pub holds_levels : All (λ u. Contains places (shifted_level u)) utilities
   holds_levels k d within =
-      let ends = stream_ends streams in
-      let levels = map shifted_level utilities in
-      let level = shifted_level (get_or utilities k d) in
+      let ends = stream_ends streams in let levels = map shifted_level utilities in let level = shifted_level (get_or utilities k d) in
       All-contains (Contains places) (ends ++ levels) level h.holds
       (Contains-append_right ends levels level (k, rw length-map within, get_or-map shifted_level utilities k d level within))
 
@@ -191,8 +172,7 @@ Contains-from_slice_get : {X : Type 0} (xs : List X) (i : ℕ) (x : X) → slice
 Contains-from_slice_get xs i x at = (i, slice_get_within xs i x at, get_or_from_slice_get xs i x x at)
 
 IsInterval-later : (g : ℤ) (places : List ℤ) (high low : ℤ) → IsInterval places high low → IsInterval (g ∷ places) high low
-IsInterval-later g places high low h =
-    let e : suc (h.index + 1) ≡ suc h.index + 1 = omega arith in
+IsInterval-later g places high low h = let e : suc (h.index + 1) ≡ suc h.index + 1 = omega arith in
     record { index = suc h.index; from = h.from; to = subst (λ n. slice_get (g ∷ places) n ≡ Some low) e h.to }
 
 IsPiece-later : (g : ℤ) (places : List ℤ) (s : Stream) (high low : ℤ) → IsPiece places s high low → IsPiece (g ∷ places) s high low
@@ -220,19 +200,13 @@ module _ (streams : List Stream) (utilities : List Utility) (side : Side) where
 
   -- each part that is made is one of the side
   IsPart-later : (g : ℤ) (places : List ℤ) (p : Part) → IsPart places p → IsPart (g ∷ places) p
-  IsPart-later g places p (inl (i, s, h)) =
-      inl
+  IsPart-later g places p (inl (i, s, h)) = inl
       (i, s, record { stream = h.stream; side_is = h.side_is; piece = IsPiece-later g places s p.high p.low h.piece; from = h.from; upto = h.upto; is = h.is })
   IsPart-later g places p (inr h) = inr h
 
   each_latent : (places : List ℤ) (g : ℤ) → All (IsPart places) (latent_here g)
-  each_latent places g =
-      All-picked (stands_at side g) (stream_part g g) (IsPart places) 0 streams
-      (λ i k s e at passes.
-      let stands = stands_at-true side g s passes in
-      let same : k ≡ i = omega (arith, e) in
-      let from = stands.low in
-      let upto = stands.high in
+  each_latent places g = All-picked (stands_at side g) (stream_part g g) (IsPart places) 0 streams (λ i k s e at passes.
+      let stands = stands_at-true side g s passes in let same : k ≡ i = omega (arith, e) in let from = stands.low in let upto = stands.high in
       inl (
         i,
         s,
@@ -247,19 +221,14 @@ module _ (streams : List Stream) (utilities : List Utility) (side : Side) where
       ))
 
   each_utility : (places : List ℤ) (g : ℤ) → All (IsPart places) (utilities_here g)
-  each_utility places g =
-      All-picked (is_here side g) utility_part (IsPart places) 0 utilities
-      (λ i k u e at passes.
+  each_utility places g = All-picked (is_here side g) utility_part (IsPart places) 0 utilities (λ i k u e at passes.
       let same : k ≡ i = omega (arith, e) in
       inr (i, u, record { utility = subst (λ n. slice_get utilities n ≡ Some u) same at; side_is = (is_here-true side g u passes).side_is; is = refl }))
 
   each_stream : (g : ℤ) (places : List ℤ) → All (IsPart (g ∷ places)) (inside g places)
   each_stream g [] = All-nil (IsPart (g ∷ []))
-  each_stream g (low ∷ places) =
-      All-picked (covers side g low) (stream_part g low) (IsPart (g ∷ low ∷ places)) 0 streams
-      (λ i k s e at passes.
-      let covered = covers-true side g low s passes in
-      let same : k ≡ i = omega (arith, e) in
+  each_stream g (low ∷ places) = All-picked (covers side g low) (stream_part g low) (IsPart (g ∷ low ∷ places)) 0 streams (λ i k s e at passes.
+      let covered = covers-true side g low s passes in let same : k ≡ i = omega (arith, e) in
       inl (
         i,
         s,
@@ -295,8 +264,7 @@ module _ (streams : List Stream) (utilities : List Utility) (side : Side) where
   Contains-stream (g ∷ l ∷ places) zero i s high low at passes from to =
       let P : ℤ → ℤ → Type 0 = λ h m. Contains (made (h ∷ m ∷ places)) (stream_part high low i s) in
       let parts = picked (covers side high low) (stream_part high low) 0 streams in
-      let found =
-      Contains-append_left parts (made (low ∷ places)) (stream_part high low i s)
+      let found = Contains-append_left parts (made (low ∷ places)) (stream_part high low i s)
       (Contains-picked (covers side high low) (stream_part high low) 0 streams i i s (omega arith) at passes) in
       subst (λ h. P h l) (sym (same_Some g high from))
       (subst (P high) (sym (same_Some l low to)) (Contains-append_right (here high) (parts ++ made (low ∷ places)) (stream_part high low i s) found))
@@ -307,8 +275,7 @@ module _ (streams : List Stream) (utilities : List Utility) (side : Side) where
       → slice_get places index ≡ Some (high_end s) → Contains (made places) (stream_part (high_end s) (high_end s) i s)
   Contains-latent [] index i s at side_is latent from = absurd (none-some (high_end s) from)
   Contains-latent (g ∷ places) zero i s at side_is latent from =
-      let level = high_end s in
-      let part = stream_part level level i s in
+      let level = high_end s in let part = stream_part level level i s in
       let found =
       Contains-picked (stands_at side level) (stream_part level level) 0 streams i i s (omega arith) at (stands_at-from side level s side_is latent refl) in
       subst (λ h. Contains (made (h ∷ places)) part) (sym (same_Some g level from))
@@ -319,8 +286,7 @@ module _ (streams : List Stream) (utilities : List Utility) (side : Side) where
   Contains-utility : (places : List ℤ) (index i : ℕ) (u : Utility) → slice_get utilities i ≡ Some u → u.side ≡ side
       → slice_get places index ≡ Some (shifted_level u) → Contains (made places) (utility_part i u)
   Contains-utility [] index i u at side_is from = absurd (none-some (shifted_level u) from)
-  Contains-utility (g ∷ places) zero i u at side_is from =
-      Contains-append_left (here g) (inside g places ++ made places) (utility_part i u)
+  Contains-utility (g ∷ places) zero i u at side_is from = Contains-append_left (here g) (inside g places ++ made places) (utility_part i u)
       (Contains-append_right (latent_here g) (utilities_here g) (utility_part i u)
       (Contains-picked (is_here side g) utility_part 0 utilities i i u (omega arith) at
       (is_here-from side g u side_is (sym (same_Some g (shifted_level u) from)))))
@@ -336,9 +302,7 @@ module _ (streams : List Stream) (utilities : List Utility) (side : Side) where
       let (index, within, is) =
       (All-contains (λ x. Contains places (high_end x) × Contains places (low_end x)) streams s (holds_ends streams utilities places holds)
       (Contains-from_slice_get streams i s at)).0 in
-      let level = level-latent s latent in
-      let is_high : high_end s ≡ high = omega (arith, ints) in
-      let is_low : high_end s ≡ low = omega (arith, ints) in
+      let level = level-latent s latent in let is_high : high_end s ≡ high = omega (arith, ints) in let is_low : high_end s ≡ low = omega (arith, ints) in
       let found = Contains-latent places index i s at side_is latent (slice_get-get_or places index (high_end s) within ∙ ap Some is) in
       subst (λ h. Contains (made places) (stream_part h low i s)) is_high (subst (λ l. Contains (made places) (stream_part (high_end s) l i s)) is_low found)
 
@@ -346,8 +310,7 @@ module _ (streams : List Stream) (utilities : List Utility) (side : Side) where
   every_made places holds p (inl (i, s, h)) =
       subst (Contains (made places)) (sym h.is) (Contains-piece places holds i s p.high p.low h.stream h.side_is h.from h.upto h.piece)
   every_made places holds p (inr (i, u, h)) =
-      let (index, within, is) =
-      All-contains (λ v. Contains places (shifted_level v)) utilities u (holds_levels streams utilities places holds)
+      let (index, within, is) = All-contains (λ v. Contains places (shifted_level v)) utilities u (holds_levels streams utilities places holds)
       (Contains-from_slice_get utilities i u h.utility) in
       subst (Contains (made places)) (sym h.is)
       (Contains-utility places index i u h.utility h.side_is (slice_get-get_or places index (shifted_level u) within ∙ ap Some is))
@@ -361,16 +324,14 @@ module _ (streams : List Stream) (utilities : List Utility) (side : Side) where
 
   ends_below : (g : ℤ) (places : List ℤ) → All (λ place. place <ℤ g) places → All (λ p. (p.high ≡ g) × (p.low <ℤ g)) (inside g places)
   ends_below g [] falls = All-nil (λ p. (p.high ≡ g) × (p.low <ℤ g))
-  ends_below g (low ∷ places) falls =
-      All-picked (covers side g low) (stream_part g low) (λ p. (p.high ≡ g) × (p.low <ℤ g)) 0 streams
+  ends_below g (low ∷ places) falls = All-picked (covers side g low) (stream_part g low) (λ p. (p.high ≡ g) × (p.low <ℤ g)) 0 streams
       (λ i k s e at passes. (refl, All-head (λ place. place <ℤ g) low places falls))
 
   -- nothing that is made below a place stands at it
   below : (g : ℤ) (places : List ℤ) → AllPairs (λ a b. b <ℤ a) places → All (λ place. place <ℤ g) places → All (λ p. p.high <ℤ g) (made places)
   below g [] falls under = All-nil (λ p. p.high <ℤ g)
   below g (h ∷ places) falls under =
-      let P : Part → Type 0 = λ p. p.high <ℤ g in
-      let top : h <ℤ g = All-head (λ place. place <ℤ g) h places under in
+      let P : Part → Type 0 = λ p. p.high <ℤ g in let top : h <ℤ g = All-head (λ place. place <ℤ g) h places under in
       let lower = AllPairs-head (λ a b. b <ℤ a) h places falls in
       All-append P (here h) (inside h places ++ made places)
       (All-weaker (λ p. (p.high ≡ h) × (p.low ≡ h)) P (λ p e. subst (λ z. z <ℤ g) (sym e.0) top) (here h) (ends_here h))
@@ -379,16 +340,12 @@ module _ (streams : List Stream) (utilities : List Utility) (side : Side) where
       (below g places (AllPairs-tail (λ a b. b <ℤ a) h places falls) (All-tail (λ place. place <ℤ g) h places under)))
 
   ordered_here : (g : ℤ) → AllPairs comes_before (here g)
-  ordered_here g =
-      AllPairs-append comes_before (latent_here g) (utilities_here g)
+  ordered_here g = AllPairs-append comes_before (latent_here g) (utilities_here g)
       (AllPairs-picked (stands_at side g) (stream_part g g) comes_before 0 streams (λ i j s t before one other. inr (inr (refl, refl, before))))
-      (AllPairs-picked (is_here side g) utility_part comes_before 0 utilities
-      (λ i j u v before one other.
-      let p = is_here-true side g u one in
-      let q = is_here-true side g v other in
+      (AllPairs-picked (is_here side g) utility_part comes_before 0 utilities (λ i j u v before one other.
+      let p = is_here-true side g u one in let q = is_here-true side g v other in
       inr (inr (q.level ∙ sym p.level, q.level ∙ sym p.level, before))))
-      (All-picked (stands_at side g) (stream_part g g) (λ p. All (comes_before p) (utilities_here g)) 0 streams
-      (λ i k s e at passes.
+      (All-picked (stands_at side g) (stream_part g g) (λ p. All (comes_before p) (utilities_here g)) 0 streams (λ i k s e at passes.
       All-picked (is_here side g) utility_part (comes_before (stream_part g g i s)) 0 utilities
       (λ j l u f found here. let level = (is_here-true side g u here).level in inr (inr (level, level, tt)))))
 
@@ -400,18 +357,13 @@ module _ (streams : List Stream) (utilities : List Utility) (side : Side) where
   ordered_made : (places : List ℤ) → AllPairs (λ a b. b <ℤ a) places → AllPairs comes_before (made places)
   ordered_made [] falls = AllPairs-nil comes_before
   ordered_made (g ∷ places) falls =
-      let lower = AllPairs-head (λ a b. b <ℤ a) g places falls in
-      let rest_falls = AllPairs-tail (λ a b. b <ℤ a) g places falls in
-      let rest = made places in
-      let at_place = ends_here g in
-      let on_interval = ends_below g places lower in
-      let under = below g places rest_falls lower in
+      let lower = AllPairs-head (λ a b. b <ℤ a) g places falls in let rest_falls = AllPairs-tail (λ a b. b <ℤ a) g places falls in let rest = made places in
+      let at_place = ends_here g in let on_interval = ends_below g places lower in let under = below g places rest_falls lower in
       AllPairs-append comes_before (here g) (inside g places ++ rest) (ordered_here g)
       (AllPairs-append comes_before (inside g places) rest (ordered_inside g places) (ordered_made places rest_falls)
       (All-weaker (λ p. (p.high ≡ g) × (p.low <ℤ g)) (λ p. All (comes_before p) rest)
       (λ p e. All-weaker (λ q. q.high <ℤ g) (comes_before p) (λ q h. inl (subst (λ z. q.high <ℤ z) (sym e.0) h)) rest under) (inside g places) on_interval))
-      (All-weaker (λ p. (p.high ≡ g) × (p.low ≡ g)) (λ p. All (comes_before p) (inside g places ++ rest))
-      (λ p e.
+      (All-weaker (λ p. (p.high ≡ g) × (p.low ≡ g)) (λ p. All (comes_before p) (inside g places ++ rest)) (λ p e.
       All-append (comes_before p) (inside g places) rest
       (All-weaker (λ q. (q.high ≡ g) × (q.low <ℤ g)) (comes_before p) (λ q h. inr (inl (h.0 ∙ sym e.0, subst (λ z. q.low <ℤ z) (sym e.1) h.1)))
       (inside g places) on_interval)
@@ -455,8 +407,7 @@ module _ (streams : List Stream) (utilities : List Utility) (side : Side) (place
   -- what was made at the place
   made-level : between ≡ now ++ level_parts streams utilities side g
   made-level =
-      let latent_parts = picked (stands_at side g) (stream_part g g) 0 streams in
-      let utility_parts = picked (is_here side g) utility_part 0 utilities in
+      let latent_parts = picked (stands_at side g) (stream_part g g) 0 streams in let utility_parts = picked (is_here side g) utility_part 0 utilities in
       level ∙ ap (λ ps. ps ++ utility_parts) latent ∙ append_assoc now latent_parts utility_parts
 
   -- what is left from the next place on, after what was made at this one and below it
@@ -464,10 +415,8 @@ module _ (streams : List Stream) (utilities : List Utility) (side : Side) (place
       → now ++ made_parts streams utilities side (drop i places) ≡ whole → next ≡ between ++ more
       → next ++ made_parts streams utilities side (drop (i + 1) places) ≡ whole
   made-more more next whole on_interval so_far pushed =
-      let here = level_parts streams utilities side g in
-      let rest = made_parts streams utilities side (drop (i + 1) places) in
-      let left =
-      ap (made_parts streams utilities side) (drop_more places i (pos 0) within ∙ ap (λ z. z ∷ drop (i + 1) places) is)
+      let here = level_parts streams utilities side g in let rest = made_parts streams utilities side (drop (i + 1) places) in
+      let left = ap (made_parts streams utilities side) (drop_more places i (pos 0) within ∙ ap (λ z. z ∷ drop (i + 1) places) is)
       ∙ ap (λ ps. here ++ (ps ++ rest)) on_interval in
       ap (λ ps. ps ++ rest) (pushed ∙ ap (λ ps. ps ++ more) made-level) ∙ append_assoc (now ++ here) more rest ∙ append_assoc now here (more ++ rest)
       ∙ ap (λ ps. now ++ ps) (sym left) ∙ so_far
@@ -475,8 +424,7 @@ module _ (streams : List Stream) (utilities : List Utility) (side : Side) (place
   pub made-push : (low : ℤ) (next whole : List Part) → i + 1 < length places → get_or places (i + 1) (pos 0) ≡ low
       → now ++ made_parts streams utilities side (drop i places) ≡ whole → next ≡ between ++ picked (covers side g low) (stream_part g low) 0 streams
       → next ++ made_parts streams utilities side (drop (i + 1) places) ≡ whole
-  made-push low next whole inside is_low so_far pushed =
-      made-more (picked (covers side g low) (stream_part g low) 0 streams) next whole
+  made-push low next whole inside is_low so_far pushed = made-more (picked (covers side g low) (stream_part g low) 0 streams) next whole
       (ap (interval_parts streams utilities side g) (drop_more places (i + 1) (pos 0) inside ∙ ap (λ z. z ∷ drop (i + 1 + 1) places) is_low)) so_far pushed
 
   pub made-end : (next whole : List Part) → length places ≤ i + 1 → now ++ made_parts streams utilities side (drop i places) ≡ whole → next ≡ between

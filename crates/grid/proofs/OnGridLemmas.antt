@@ -16,19 +16,13 @@ module _ (c : Case) (places : List ℤ) (side : Side) where
       ends_of : IsPiece places s p.high p.low → ((p.high ≡ p.low) × Contains places p.high) ⊎ IsInterval places p.high p.low
       ends_of (inl interval) = inr interval
       ends_of (inr (latent, same)) =
-          let held =
-          (All-slice_get (λ (x : Stream). Contains places (high_end x) × Contains places (low_end x)) c.streams i s
+          let held = (All-slice_get (λ (x : Stream). Contains places (high_end x) × Contains places (low_end x)) c.streams i s
           (holds_ends c.streams c.utilities places (HoldsPlaces-IsGrid c places grid)) h.stream).0 in
-          let level = level-latent s latent in
-          let from = h.from in
-          let upto = h.upto in
-          let is : high_end s ≡ p.high = omega (arith, ints) in
+          let level = level-latent s latent in let from = h.from in let upto = h.upto in let is : high_end s ≡ p.high = omega (arith, ints) in
           inl (same, subst (Contains places) is held)
   part_on_places grid p (inr (i, u, h)) =
-      let high : p.high ≡ shifted_level u = ap (λ (q : Part). q.high) h.is in
-      let low : p.low ≡ shifted_level u = ap (λ (q : Part). q.low) h.is in
-      let level =
-      All-slice_get (λ (v : Utility). Contains places (shifted_level v)) c.utilities i u
+      let high : p.high ≡ shifted_level u = ap (λ (q : Part). q.high) h.is in let low : p.low ≡ shifted_level u = ap (λ (q : Part). q.low) h.is in
+      let level = All-slice_get (λ (v : Utility). Contains places (shifted_level v)) c.utilities i u
       (holds_levels c.streams c.utilities places (HoldsPlaces-IsGrid c places grid)) h.utility in
       record { source = side_of_part p (inr (i, u, h)); ends = inl (high ∙ sym low, subst (Contains places) (sym high) level) }
 

@@ -39,37 +39,25 @@ stream_run-at_most : (side : Side) (s : Stream) (places : List ℤ) → stream_r
 stream_run-at_most side s [] = omega (arith, ints)
 stream_run-at_most side s (g ∷ []) = omega (arith, ints)
 stream_run-at_most side s (g ∷ low ∷ places) =
-    let rest = stream_run-at_most side s (low ∷ places) in
-    let one = either (covers side g low s) in
-    omega (arith, ints)
+    let rest = stream_run-at_most side s (low ∷ places) in let one = either (covers side g low s) in omega (arith, ints)
 
 latent_run-at_most : (side : Side) (s : Stream) (places : List ℤ) → latent_run (λ high low x. pos 1) side s places ≤ℤ pos (length places)
 latent_run-at_most side s [] = omega (arith, ints)
-latent_run-at_most side s (g ∷ places) =
-    let rest = latent_run-at_most side s places in
-    let one = either (stands_at side g s) in
-    omega (arith, ints)
+latent_run-at_most side s (g ∷ places) = let rest = latent_run-at_most side s places in let one = either (stands_at side g s) in omega (arith, ints)
 
 -- a stream has parts at places or on intervals
 runs-at_most : (side : Side) (places : List ℤ) → AllPairs (λ a b. b <ℤ a) places → (s : Stream)
     → (latent_run (λ high low x. pos 1) side s places +ℤ stream_run (λ high low x. pos 1) side s places) ≤ℤ pos (length places)
-runs-at_most side places falls s =
-    ⊎_elim
-    (λ latent.
-    let none = stream_run-latent (λ high low x. pos 1) side s places (is_latent-true s latent) falls in
-    let most = latent_run-at_most side s places in
-    omega (arith, ints))
-    (λ sensible.
-    let none = latent_run-none (λ high low x. pos 1) side s places sensible in
-    let most = stream_run-at_most side s places in
-    omega (arith, ints))
-    (cases_Bool (is_latent s))
+runs-at_most side places falls s = ⊎_elim (λ latent.
+    let none = stream_run-latent (λ high low x. pos 1) side s places (is_latent-true s latent) falls in let most = latent_run-at_most side s places in
+    omega (arith, ints)) (λ sensible.
+    let none = latent_run-none (λ high low x. pos 1) side s places sensible in let most = stream_run-at_most side s places in
+    omega (arith, ints)) (cases_Bool (is_latent s))
 
 runs-other : (side : Side) (places : List ℤ) (s : Stream) → same_side s.side side ≡ false
     → latent_run (λ high low x. pos 1) side s places +ℤ stream_run (λ high low x. pos 1) side s places ≡ pos 0
 runs-other side places s other =
-    let latent = latent_run-other (λ high low x. pos 1) side s places other in
-    let on_intervals = stream_run-other (λ high low x. pos 1) side s places other in
+    let latent = latent_run-other (λ high low x. pos 1) side s places other in let on_intervals = stream_run-other (λ high low x. pos 1) side s places other in
     omega (arith, ints)
 
 -- a sum over streams, of at most m for each of a side and nothing for the others
@@ -77,20 +65,13 @@ sum-at_most : (side : Side) (f : Stream → ℤ) (m : ℕ) (streams : List Strea
     → ((s : Stream) → same_side s.side side ≡ false → f s ≡ pos 0) → int_sum_by f streams ≤ℤ pos (m * count_on side streams)
 sum-at_most side f m [] most none = omega (arith, ints)
 sum-at_most side f m (s ∷ ss) most none =
-    let rest = sum-at_most side f m ss most none in
-    let count = count_by-cons (λ (x : Stream). same_side x.side side) s ss in
-    ⊎_elim
-    (λ same.
-    let total : count_on side (s ∷ ss) ≡ 1 + count_on side ss = count ∙ ap (λ b. cond b 1 0 + count_on side ss) same in
-    let first = most s in
+    let rest = sum-at_most side f m ss most none in let count = count_by-cons (λ (x : Stream). same_side x.side side) s ss in
+    ⊎_elim (λ same.
+    let total : count_on side (s ∷ ss) ≡ 1 + count_on side ss = count ∙ ap (λ b. cond b 1 0 + count_on side ss) same in let first = most s in
     let product = ap (λ n. m * n) total in
-    omega (arith, ints))
-    (λ other.
-    let total : count_on side (s ∷ ss) ≡ 0 + count_on side ss = count ∙ ap (λ b. cond b 1 0 + count_on side ss) other in
-    let first = none s other in
-    let product = ap (λ n. m * n) total in
-    omega (arith, ints))
-    (cases_Bool (same_side s.side side))
+    omega (arith, ints)) (λ other.
+    let total : count_on side (s ∷ ss) ≡ 0 + count_on side ss = count ∙ ap (λ b. cond b 1 0 + count_on side ss) other in let first = none s other in
+    let product = ap (λ n. m * n) total in omega (arith, ints)) (cases_Bool (same_side s.side side))
 
 module _ (streams : List Stream) (utilities : List Utility) (side : Side) (places : List ℤ) (holds : HoldsPlaces streams utilities places) where
   -- each stream of the side has at most one part at each place, and each utility one
@@ -98,8 +79,7 @@ module _ (streams : List Stream) (utilities : List Utility) (side : Side) (place
   length-made =
       let count = one_each (made_parts streams utilities side places) in
       let exchanged = sum-made (λ p. pos 1) (λ high low s. pos 1) (λ u. pos 1) (λ high low i s. refl) (λ i u. refl) streams utilities side places in
-      let levels =
-      int_sum_by-at_most (λ u. level_run (λ v. pos 1) side u places) 1 utilities
+      let levels = int_sum_by-at_most (λ u. level_run (λ v. pos 1) side u places) 1 utilities
       (λ k d within. one_level (get_or utilities k d) (holds_levels streams utilities places holds k d within)) in
       let runs =
       sum-at_most side (λ s. latent_run (λ high low x. pos 1) side s places +ℤ stream_run (λ high low x. pos 1) side s places) (length places) streams
@@ -115,39 +95,24 @@ module _ (streams : List Stream) (utilities : List Utility) (side : Side) (place
   -- so a side has few
   pub length-made-few : AreStreams streams → length utilities ≤ ALL_UTILITIES → length places ≤ MOST_PLACES
       → length (made_parts streams utilities side places) ≤ MOST_PARTS
-  length-made-few are_streams few_utilities few_places =
-      let product = mul-le-mul few_places (are_streams.few side) in
-      omega (arith, length-made, product)
+  length-made-few are_streams few_utilities few_places = let product = mul-le-mul few_places (are_streams.few side) in omega (arith, length-made, product)
 
 -- ---- what each part keeps
 
 pub IsLength-covered : (s : Stream) (high low : ℤ) → IsValidStream s → low ≤ℤ high → low_end s ≤ℤ low → high ≤ℤ high_end s → IsLength (high -ℤ low)
-IsLength-covered s high low valid order from upto =
-    let range = range-length s valid in
-    record { from = omega (arith, ints); upto = omega (arith, ints) }
+IsLength-covered s high low valid order from upto = let range = range-length s valid in omega (arith, ints)
 
 -- one summand of the heat of a piece is 0, but both together are little already
 piece_heat-between : (high low : ℤ) (s : Stream) → IsValidStream s → IsLength (high -ℤ low) → IsHeat (piece_heat high low s)
 piece_heat-between high low s valid length =
-    let product = heat-between s (high -ℤ low) valid length in
-    let load = load-between s valid.heat in
-    record { from = omega (arith, ints); upto = omega (arith, ints) }
+    let product = heat-between s (high -ℤ low) valid length in let load = load-between s valid.heat in omega (arith, ints)
 
 IsBounded-stream : (high low : ℤ) (i : ℕ) (s : Stream) → IsHeat (piece_heat high low s) → IsBounded (stream_part high low i s)
-IsBounded-stream high low i s heat = record {
-  least = record { from = heat.from; upto = omega (arith, ints) };
-  most = record { from = omega (arith, ints); upto = omega (arith, ints) };
-  price = record { from = omega (arith, ints); upto = omega (arith, ints) };
-  free = λ j e. refl;
-}
+IsBounded-stream high low i s heat =
+    record { least = record { from = heat.from; upto = omega (arith, ints) }; most = omega (arith, ints); price = omega (arith, ints); free = λ j e. refl }
 
 IsBounded-utility : (i : ℕ) (u : Utility) → IsPlaced u → IsBounded (utility_part i u)
-IsBounded-utility i u h = record {
-  least = h.least;
-  most = h.most;
-  price = h.price;
-  free = λ j e. absurd (cc);
-}
+IsBounded-utility i u h = record { least = h.least; most = h.most; price = h.price; free = λ j e. absurd (cc) }
 
 module _ (streams : List Stream) (utilities : List Utility) (side : Side) (places : List ℤ) (valid : All IsValidStream streams)
     (placed : All IsPlaced utilities) (holds : HoldsPlaces streams utilities places) where
@@ -178,7 +143,6 @@ IsSide-made streams utilities side places parts are_streams placed few_utilities
     subst (IsSide streams utilities side places) (sym is) (record {
       are_parts = made;
       few = length-made-few streams utilities side places holds are_streams few_utilities few_places;
-      bounded =
-          All-weaker (IsPartOf streams utilities places side) IsBounded (IsBounded-part streams utilities side places are_streams.each placed holds)
+      bounded = All-weaker (IsPartOf streams utilities places side) IsBounded (IsBounded-part streams utilities side places are_streams.each placed holds)
           (made_parts streams utilities side places) made.each;
     })

@@ -38,7 +38,7 @@ pub use Rattle.stream_case.specs.declared.source.Source.{Source}
 pub use Rattle.stream_case.specs.declared.stream.Stream.{Stream}
 pub use Rattle.stream_case.specs.declared.utility.Utility.{Utility}
 pub use Rattle.sums.proofs.CountLemmas.{count_by-cons, length-le_falling}
-pub use Rattle.sums.proofs.IntegerLemmas.{int_le-false, int_le-from, int_le-true, int_lt-from, int_lt-true}
+pub use Rattle.sums.proofs.IntegerLemmas.{int_le-false, int_le-from, int_le-true, int_lt-false, int_lt-from}
 pub use Rattle.sums.proofs.ListLemmas.{All-slice_get}
 pub use Rattle.sums.proofs.OrderLemmas.{AllPairs-append, AllPairs-head, AllPairs-nil, AllPairs-tail, Contains-cons, Lists-unique, ListsFalling-unique}
 pub use Rattle.sums.proofs.ProductLemmas.{*ℤ--ℤ}

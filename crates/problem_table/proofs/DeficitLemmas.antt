@@ -2,12 +2,12 @@
 use Rattle.problem_table.proofs.EndLemmas.{IsOutermost-outermost}
 use Rattle.problem_table.proofs.HeatLemmas.{heat_over-all, heat_over-le, heat_over-none}
 use Rattle.problem_table.proofs.SideLemmas.{sum_side-heat, sum_side-le, sum_side-same, sum_side-zero}
-use Rattle.problem_table.proofs.Words.{All-weaker, AreEnds-IsValidStream, AreSensible, AreStreams, Cold, Contains-get_or, CountsFromItself, HasTightDeficit}
-use Rattle.problem_table.proofs.Words.{HasValidStreams, Hot, IsBetween, IsStreamsHeat, IsTight, IsTightOver, IsValidStream, LOWEST_SHIFTED, Stream, by_lt_z}
-use Rattle.problem_table.proofs.Words.{clamps, cold_target, counts_above, deficit_above, deficit_from, deficit_over, each_end, end_deficits, fold-append}
-use Rattle.problem_table.proofs.Words.{fold-int_max_bounds, fold-int_max_reached, get_or-map, heat_of, heat_of-between, heat_over, heat_over-between}
-use Rattle.problem_table.proofs.Words.{heat_over-sensible, high_end, hot_target, int_le-from, int_lt-from, int_max, ints, length-AreStreams, length-map}
-use Rattle.problem_table.proofs.Words.{length-stream_ends, low_end, map-append, outermost, stream_ends, stream_ends-more, sum_side}
+use Rattle.problem_table.proofs.Words.{All-weaker, AreEnds-IsValidStream, AreSensible, AreStreams, Cold, Contains-get_or, HasTightDeficit, HasValidStreams, Hot}
+use Rattle.problem_table.proofs.Words.{IsBetween, IsStreamsHeat, IsTight, IsTightOver, IsValidStream, LOWEST_SHIFTED, Stream, by_lt_z, clamps, cold_target}
+use Rattle.problem_table.proofs.Words.{counts_above, deficit_above, deficit_from, deficit_over, each_end, end_deficits, fold-append, fold-int_max_bounds}
+use Rattle.problem_table.proofs.Words.{fold-int_max_reached, get_or-map, heat_of, heat_of-between, heat_over, heat_over-between, heat_over-sensible, high_end}
+use Rattle.problem_table.proofs.Words.{hot_target, int_le-from, int_lt-from, int_max, ints, length-AreStreams, length-map, length-stream_ends, low_end}
+use Rattle.problem_table.proofs.Words.{map-append, outermost, stream_ends, stream_ends-more, sum_side}
 use Rattle.std.proofs.Common.{All, Bool, Contains, List, [], ap, ap₂, arith, false, fold, get_or, inl, inr, length, map, pos, refl, subst, sym, take, true, ℕ}
 use Rattle.std.proofs.Common.{ℤ, ⊎_elim, ◌+◌, ◌-ℤ◌, ◌<ℤ◌, ◌<◌, ◌∙◌, ◌∷◌, ◌≡◌, ◌≤ℤ◌, ◌⊎◌}
 
@@ -16,11 +16,9 @@ use Rattle.std.proofs.Common.{ℤ, ⊎_elim, ◌+◌, ◌-ℤ◌, ◌<ℤ◌, �
 -- no deficit exceeds all cold heat
 deficit_over-le : (from : Bool) (t : ℤ) (streams : List Stream) → AreStreams streams → deficit_over from streams t ≤ℤ sum_side Cold heat_of streams
 deficit_over-le from t streams h =
-    let cold =
-    sum_side-le Cold (heat_over from t) heat_of streams
+    let cold = sum_side-le Cold (heat_over from t) heat_of streams
     (All-weaker IsValidStream (λ s. heat_over from t s ≤ℤ heat_of s) (heat_over-le from t) streams h.each) in
-    let hot = sum_side-heat Hot (heat_over from t) (heat_over-between from t) streams h.each (length-AreStreams streams h) in
-    omega (arith, ints, hot)
+    let hot = sum_side-heat Hot (heat_over from t) (heat_over-between from t) streams h.each (length-AreStreams streams h) in omega (arith, ints, hot)
 
 -- above all ends there is no heat, and over a place that all ends count as above there is all
 not_above : (t level : ℤ) → level ≤ℤ t → counts_above false t level ≡ false
@@ -28,12 +26,9 @@ not_above t level h = grind (arith, ints)
 
 deficit_above-highest : (t : ℤ) (streams : List Stream) → All IsValidStream streams → All (λ s. high_end s ≤ℤ t) streams → deficit_above streams t ≡ pos 0
 deficit_above-highest t streams valid above =
-    let none =
-    λ (k : ℕ) (d : Stream) (within : k < length streams). heat_over-none false t (get_or streams k d) (valid k d within)
+    let none = λ (k : ℕ) (d : Stream) (within : k < length streams). heat_over-none false t (get_or streams k d) (valid k d within)
     (not_above t (high_end (get_or streams k d)) (above k d within)) in
-    let cold = sum_side-zero Cold (heat_over false t) streams none in
-    let hot = sum_side-zero Hot (heat_over false t) streams none in
-    omega (arith, ints)
+    let cold = sum_side-zero Cold (heat_over false t) streams none in let hot = sum_side-zero Hot (heat_over false t) streams none in omega (arith, ints)
 
 deficit_over-lowest : (from : Bool) (t : ℤ) (streams : List Stream) → All IsValidStream streams → All (λ s. counts_above from t (low_end s) ≡ true) streams
     → deficit_over from streams t ≡ sum_side Cold heat_of streams -ℤ sum_side Hot heat_of streams
@@ -43,14 +38,12 @@ deficit_over-lowest from t streams valid below =
 
 pub deficit_above-lowest : (t : ℤ) (streams : List Stream) → All IsValidStream streams → All (λ s. t <ℤ low_end s) streams
     → deficit_above streams t ≡ sum_side Cold heat_of streams -ℤ sum_side Hot heat_of streams
-deficit_above-lowest t streams valid below =
-    deficit_over-lowest false t streams valid
+deficit_above-lowest t streams valid below = deficit_over-lowest false t streams valid
     (All-weaker (λ s. t <ℤ low_end s) (λ s. counts_above false t (low_end s) ≡ true) (λ s less. int_lt-from t (low_end s) less) streams below)
 
 pub deficit_from-lowest : (t : ℤ) (streams : List Stream) → All IsValidStream streams → All (λ s. t ≤ℤ low_end s) streams
     → deficit_from streams t ≡ sum_side Cold heat_of streams -ℤ sum_side Hot heat_of streams
-deficit_from-lowest t streams valid below =
-    deficit_over-lowest true t streams valid
+deficit_from-lowest t streams valid below = deficit_over-lowest true t streams valid
     (All-weaker (λ s. t ≤ℤ low_end s) (λ s. counts_above true t (low_end s) ≡ true) (λ s most. int_le-from t (low_end s) most) streams below)
 
 -- ---- the targets
@@ -59,8 +52,7 @@ deficit_from-lowest t streams valid below =
 fold-from : (least : ℤ) (xs : List ℤ) → pos 0 ≤ℤ least → fold int_max least xs ≡ int_max least (fold int_max (pos 0) xs)
 fold-from least [] h = omega (arith, ints, clamps)
 fold-from least (x ∷ xs) h =
-    let here = fold-from (int_max least x) xs (omega (arith, ints, clamps)) in
-    let other = fold-from (int_max (pos 0) x) xs (omega (arith, ints, clamps)) in
+    let here = fold-from (int_max least x) xs (omega (arith, ints, clamps)) in let other = fold-from (int_max (pos 0) x) xs (omega (arith, ints, clamps)) in
     here ∙ three least x (fold int_max (pos 0) xs) h ∙ ap (int_max least) (sym other)
   where
     three : (a b r : ℤ) → pos 0 ≤ℤ a → int_max (int_max a b) r ≡ int_max a (int_max (int_max (pos 0) b) r)
@@ -69,16 +61,13 @@ fold-from least (x ∷ xs) h =
 -- the greatest of 0 and a function's values
 module _ (f : ℤ → ℤ) where
   greatest_value-bound : (xs : List ℤ) (x : ℤ) → Contains xs x → f x ≤ℤ fold int_max (pos 0) (map f xs)
-  greatest_value-bound xs x (k, within, is) =
-      let r = fold int_max (pos 0) (map f xs) in
-      let bounds = fold-int_max_bounds (pos 0) (map f xs) r refl in
+  greatest_value-bound xs x (k, within, is) = let r = fold int_max (pos 0) (map f xs) in let bounds = fold-int_max_bounds (pos 0) (map f xs) r refl in
       subst (λ y. y ≤ℤ r) (get_or-map f xs k x (f x) within ∙ ap f is) (bounds.1 k (f x) (rw length-map within))
 
   greatest_value-reached : (xs : List ℤ) → (fold int_max (pos 0) (map f xs) ≡ pos 0) ⊎ ((x : ℤ) × Contains xs x × (f x ≡ fold int_max (pos 0) (map f xs)))
   greatest_value-reached xs =
       let r = fold int_max (pos 0) (map f xs) in
-      ⊎_elim inl
-      (λ (k, within, is).
+      ⊎_elim inl (λ (k, within, is).
       let inside : k < length xs = rw length-map at within in
       inr (get_or xs k (pos 0), Contains-get_or xs k (pos 0) inside, sym (get_or-map f xs k (pos 0) r inside) ∙ is))
       (fold-int_max_reached (pos 0) (map f xs) r refl)
@@ -112,9 +101,7 @@ greatest_deficit-le true streams = subst (λ r. greatest_deficit true streams �
 -- no deficit at an end exceeds it
 pub deficit_over-bound : (from : Bool) (streams : List Stream) (t : ℤ) → Contains (stream_ends streams) t → deficit_over from streams t ≤ℤ hot_target streams
 deficit_over-bound from streams t at =
-    let here = greatest_value-bound (deficit_over from streams) (stream_ends streams) t at in
-    let most = greatest_deficit-le from streams in
-    omega (arith, ints)
+    let here = greatest_value-bound (deficit_over from streams) (stream_ends streams) t at in let most = greatest_deficit-le from streams in omega (arith, ints)
 
 pub hot_target-bound : (streams : List Stream) (t : ℤ) → Contains (stream_ends streams) t → deficit_above streams t ≤ℤ hot_target streams
 hot_target-bound = deficit_over-bound false
@@ -137,9 +124,7 @@ hot_target-reached streams =
     greater x y = by_lt_z x y (λ less. inr (omega (arith, ints, clamps))) (λ most. inl (omega (arith, ints, clamps)))
 
     reached : (from : Bool) → greatest_deficit from streams ≡ hot_target streams → (hot_target streams ≡ pos 0) ⊎ IsReached streams
-    reached from e =
-        ⊎_elim (λ none. inl (sym e ∙ none))
-        (λ at. inr (record { from = from; end = at.0; member = at.1; tight = at.2 ∙ e }))
+    reached from e = ⊎_elim (λ none. inl (sym e ∙ none)) (λ at. inr (record { from = from; end = at.0; member = at.1; tight = at.2 ∙ e }))
         (greatest_value-reached (deficit_over from streams) (stream_ends streams))
 
 pub tight_over : (from : Bool) (streams : List Stream) (t : ℤ) → IsTightOver from streams t → HasTightDeficit streams t
@@ -153,56 +138,46 @@ some_tight streams h =
     let top = IsOutermost-outermost Hot ends (omega (arith, h.some, length-stream_ends streams)) in
     let below = All-weaker (λ s. (high_end s ≤ℤ t) × (low_end s ≤ℤ t)) (λ s. high_end s ≤ℤ t) (λ s e. e.0) streams (each_end (λ e. e ≤ℤ t) streams top.bound) in
     let none = deficit_above-highest t streams h.are_streams.each below in
-    ⊎_elim
-    (λ e. (t, record { end = top.member; tight = inl (none ∙ sym e) }))
-    (λ at. (at.end, record { end = at.member; tight = tight_over at.from streams at.end at.tight }))
-    (hot_target-reached streams)
+    ⊎_elim (λ e. (t, record { end = top.member; tight = inl (none ∙ sym e) }))
+    (λ at. (at.end, record { end = at.member; tight = tight_over at.from streams at.end at.tight })) (hot_target-reached streams)
 
 -- all heat of a side
 all_heat : (streams : List Stream) → AreStreams streams → IsStreamsHeat (sum_side Hot heat_of streams) × IsStreamsHeat (sum_side Cold heat_of streams)
-all_heat streams h =
-    let few = length-AreStreams streams h in
+all_heat streams h = let few = length-AreStreams streams h in
     (sum_side-heat Hot heat_of heat_of-between streams h.each few, sum_side-heat Cold heat_of heat_of-between streams h.each few)
 
 -- the hot target is at most all cold heat, and the cold target at most all hot heat
 pub hot_target-within : (streams : List Stream) → AreStreams streams → IsBetween (pos 0) (sum_side Cold heat_of streams) (hot_target streams)
 hot_target-within streams h =
-    let cold = (all_heat streams h).1 in
-    let bounds = fold-int_max_bounds (pos 0) (end_deficits streams) (hot_target streams) refl in
+    let cold = (all_heat streams h).1 in let bounds = fold-int_max_bounds (pos 0) (end_deficits streams) (hot_target streams) refl in
     record {
       from = bounds.0;
-      upto =
-          ⊎_elim (λ none. omega (arith, ints, cold)) (λ at. let le = deficit_over-le at.from at.end streams h in let tight = at.tight in omega (arith, ints))
+      upto = ⊎_elim (λ none. omega (arith, ints, cold)) (λ at. let le = deficit_over-le at.from at.end streams h in let tight = at.tight in omega (arith, ints))
           (hot_target-reached streams);
     }
 
 pub cold_target-within : (streams : List Stream) → AreStreams streams → IsBetween (pos 0) (sum_side Hot heat_of streams) (cold_target streams)
-cold_target-within [] h = record { from = omega (arith, ints); upto = omega (arith, ints) }
+cold_target-within [] h = omega (arith, ints)
 cold_target-within (s ∷ ss) h =
-    let streams = s ∷ ss in let ends = stream_ends streams in let t = outermost Cold ends in
-    let bottom = IsOutermost-outermost Cold ends (omega arith) in
+    let streams = s ∷ ss in let ends = stream_ends streams in let t = outermost Cold ends in let bottom = IsOutermost-outermost Cold ends (omega arith) in
     let above =
     All-weaker (λ x. (t ≤ℤ high_end x) × (t ≤ℤ low_end x)) (λ x. t ≤ℤ low_end x) (λ x e. e.1) streams (each_end (λ e. t ≤ℤ e) streams bottom.bound) in
     let lowest = deficit_from-lowest t streams h.each above in
-    let bound = deficit_over-bound true streams t bottom.member in let hot = hot_target-within streams h in
-    record { from = omega (arith, ints, hot); upto = omega (arith, ints, hot) }
+    let bound = deficit_over-bound true streams t bottom.member in let hot = hot_target-within streams h in omega (arith, ints, hot)
 
 pub hot_target-between : (streams : List Stream) → AreStreams streams → IsStreamsHeat (hot_target streams)
 hot_target-between streams h =
-    let target = hot_target-within streams h in let all = (all_heat streams h).1 in
-    record { from = target.from; upto = omega (arith, ints, target, all) }
+    let target = hot_target-within streams h in let all = (all_heat streams h).1 in record { from = target.from; upto = omega (arith, ints, target, all) }
 
 pub cold_target-between : (streams : List Stream) → AreStreams streams → IsStreamsHeat (cold_target streams)
 cold_target-between streams h =
-    let target = cold_target-within streams h in let all = (all_heat streams h).0 in
-    record { from = target.from; upto = omega (arith, ints, target, all) }
+    let target = cold_target-within streams h in let all = (all_heat streams h).0 in record { from = target.from; upto = omega (arith, ints, target, all) }
 
 -- the cold target is the hot target less the deficit above a place that is below all ends
 pub cold_target-lowest : (t : ℤ) (streams : List Stream) → AreStreams streams → t <ℤ LOWEST_SHIFTED
     → cold_target streams ≡ hot_target streams -ℤ deficit_above streams t
 cold_target-lowest t streams h below =
-    let lowest =
-    deficit_above-lowest t streams h.each
+    let lowest = deficit_above-lowest t streams h.each
     (All-weaker IsValidStream (λ s. t <ℤ low_end s) (λ s valid. let ends = AreEnds-IsValidStream s valid in omega (arith, ints, ends)) streams h.each) in
     omega (arith, ints)
 
@@ -218,9 +193,6 @@ deficit_over-sensible from t streams h =
 pub deficit_from-sensible : (t : ℤ) (streams : List Stream) → AreSensible streams → deficit_from streams t ≡ deficit_above streams t
 deficit_from-sensible = deficit_over-sensible true
 
--- so a tight place is tight above, and does not count from itself
+-- so a tight place is tight above
 pub tight-sensible : (streams : List Stream) (p : ℤ) → AreSensible streams → IsTight streams p → deficit_above streams p ≡ hot_target streams
 tight-sensible streams p h tight = ⊎_elim (λ e. e) (λ e. sym (deficit_from-sensible p streams h) ∙ e) tight.tight
-
-pub not_from_itself-sensible : (streams : List Stream) (p : ℤ) → AreSensible streams → IsTight streams p → CountsFromItself streams p → ⊥
-not_from_itself-sensible streams p h tight from = from (tight-sensible streams p h tight)

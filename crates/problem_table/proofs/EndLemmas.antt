@@ -20,5 +20,4 @@ pub IsOutermost-outermost : (side : Side) (xs : List ℤ) → 0 < length xs → 
 IsOutermost-outermost side [] h = absurd (omega arith)
 IsOutermost-outermost Hot (x ∷ xs) h = let r = outermost Hot (x ∷ xs) in made_of Hot x xs r (fold-int_max_bounds x xs r refl) (fold-int_max_reached x xs r refl)
 IsOutermost-outermost Cold (x ∷ xs) h =
-    let r = outermost Cold (x ∷ xs) in
-    made_of Cold x xs r (fold-int_min_bounds x xs r refl) (fold-int_min_reached x xs r refl)
+    let r = outermost Cold (x ∷ xs) in made_of Cold x xs r (fold-int_min_bounds x xs r refl) (fold-int_min_reached x xs r refl)

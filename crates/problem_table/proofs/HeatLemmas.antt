@@ -31,16 +31,12 @@ higher_level true t low high e order = int_le-from t high (omega (arith, ints))
 
 pub heat_over-none : (from : Bool) (t : ℤ) (s : Stream) → IsValidStream s → counts_above from t (high_end s) ≡ false → heat_over from t s ≡ pos 0
 heat_over-none from t s h below =
-    let ends = AreEnds-IsValidStream s h in
-    let level = level_below from t (high_end s) below in
+    let ends = AreEnds-IsValidStream s h in let level = level_below from t (high_end s) below in
     let sensible = ap (λ l. s.cp *ℤ l) {x = length_above (low_end s) (high_end s) t} {y = pos 0} (omega (arith, ints, clamps)) ∙ *ℤ-zero s.cp in
-    let load = ap (λ b. if b then s.load else pos 0) below in
-    ap₂ ◌+ℤ◌ sensible load
+    let load = ap (λ b. if b then s.load else pos 0) below in ap₂ ◌+ℤ◌ sensible load
 
 pub heat_over-all : (from : Bool) (t : ℤ) (s : Stream) → IsValidStream s → counts_above from t (low_end s) ≡ true → heat_over from t s ≡ heat_of s
 heat_over-all from t s h above =
-    let ends = AreEnds-IsValidStream s h in
-    let level = level_above from t (low_end s) above in
+    let ends = AreEnds-IsValidStream s h in let level = level_above from t (low_end s) above in
     let sensible = ap (λ l. s.cp *ℤ l) {x = length_above (low_end s) (high_end s) t} {y = high_end s -ℤ low_end s} (omega (arith, ints, clamps)) in
-    let load = ap (λ b. if b then s.load else pos 0) (higher_level from t (low_end s) (high_end s) above ends.order) in
-    ap₂ ◌+ℤ◌ sensible load
+    let load = ap (λ b. if b then s.load else pos 0) (higher_level from t (low_end s) (high_end s) above ends.order) in ap₂ ◌+ℤ◌ sensible load

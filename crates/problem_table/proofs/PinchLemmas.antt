@@ -11,8 +11,7 @@ pub record Finds (streams : List Stream) (some_ends found : List ℤ) : Type 0 w
 module _ (streams : List Stream) (ends : List ℤ) (i : ℕ) (end d : ℤ) (within : i < length ends) (is : get_or ends i d ≡ end) (found : List ℤ) where
   one_more : (now : List ℤ) → All (λ t. IsPinch streams t → Contains now t) (take i ends) → (IsPinch streams end → Contains now end)
       → All (λ t. IsPinch streams t → Contains now t) (take (i + 1) ends)
-  one_more now before here =
-      let P = λ (t : ℤ). IsPinch streams t → Contains now t in
+  one_more now before here = let P = λ (t : ℤ). IsPinch streams t → Contains now t in
       subst (All P) (sym (take_more ends i d within)) (All-push P (take i ends) (get_or ends i d) before (subst P (sym is) here))
 
   pub Finds-other : (IsPinch streams end → ⊥) → Finds streams (take i ends) found → Finds streams (take (i + 1) ends) found
@@ -22,9 +21,7 @@ module _ (streams : List Stream) (ends : List ℤ) (i : ℕ) (end d : ℤ) (with
   Finds-pinch pinch h =
       let now = found ++ end ∷ [] in record {
         each = All-push (IsPinch streams) found end h.each pinch;
-        every =
-            one_more now
-            (All-weaker (λ t. IsPinch streams t → Contains found t) (λ t. IsPinch streams t → Contains now t)
+        every = one_more now (All-weaker (λ t. IsPinch streams t → Contains found t) (λ t. IsPinch streams t → Contains now t)
             (λ t before p. Contains-append_left found (end ∷ []) t (before p)) (take i ends) h.every)
             (λ p. Contains-append_right found (end ∷ []) end (Contains-get_or (end ∷ []) 0 end (omega arith)));
       }

@@ -26,34 +26,29 @@ module _ (streams : List Stream) (ends : List ℤ) (end : ℤ) where
   FindsHighestTight-first tight found = record {
     member = Contains-append_right ends (end ∷ []) end (0, omega arith, refl);
     tight = tight;
-    highest =
-        All-push (λ t. HasTightDeficit streams t → t ≤ℤ end) ends end
+    highest = All-push (λ t. HasTightDeficit streams t → t ≤ℤ end) ends end
         (All-weaker (λ t. HasTightDeficit streams t → ⊥) (λ t. HasTightDeficit streams t → t ≤ℤ end) (λ t loose e. absurd (loose e)) ends found)
         (λ e. omega (arith, ints));
   }
 
   pub FindsHighestTight-higher : (p q : ℤ) → q ≡ int_max p end → HasTightDeficit streams end → FindsHighestTight streams ends (Some p)
       → FindsHighestTight streams (ends ++ end ∷ []) (Some q)
-  FindsHighestTight-higher p q is tight found =
-      ⊎_elim
-      (λ e. record {
-        member = subst (Contains (ends ++ end ∷ [])) (sym e) (Contains-append_left ends (end ∷ []) p found.member);
-        tight = subst (HasTightDeficit streams) (sym e) found.tight;
-        highest = at_most;
-      })
-      (λ e. record {
-        member = subst (Contains (ends ++ end ∷ [])) (sym e) (Contains-append_right ends (end ∷ []) end (0, omega arith, refl));
-        tight = subst (HasTightDeficit streams) (sym e) tight;
-        highest = at_most;
-      })
+  FindsHighestTight-higher p q is tight found = ⊎_elim (λ e. record {
+    member = subst (Contains (ends ++ end ∷ [])) (sym e) (Contains-append_left ends (end ∷ []) p found.member);
+    tight = subst (HasTightDeficit streams) (sym e) found.tight;
+    highest = at_most;
+  }) (λ e. record {
+    member = subst (Contains (ends ++ end ∷ [])) (sym e) (Contains-append_right ends (end ∷ []) end (0, omega arith, refl));
+    tight = subst (HasTightDeficit streams) (sym e) tight;
+    highest = at_most;
+  })
       one_of
     where
       one_of : (q ≡ p) ⊎ (q ≡ end)
       one_of = chosen (int_lt end p) q p end is
 
       at_most : All (λ t. HasTightDeficit streams t → t ≤ℤ q) (ends ++ end ∷ [])
-      at_most =
-          All-push (λ t. HasTightDeficit streams t → t ≤ℤ q) ends end
+      at_most = All-push (λ t. HasTightDeficit streams t → t ≤ℤ q) ends end
           (All-weaker (λ t. HasTightDeficit streams t → t ≤ℤ p) (λ t. HasTightDeficit streams t → t ≤ℤ q)
           (λ t le e. let below = le e in omega (arith, ints, clamps)) ends found.highest) (λ e. omega (arith, ints, clamps))
 
@@ -61,8 +56,7 @@ module _ (streams : List Stream) (ends : List ℤ) (end : ℤ) where
 pub IsSome-highest : (streams : List Stream) → HasValidStreams streams → (place : Option ℤ) → FindsHighestTight streams (stream_ends streams) place
     → IsSome place
 IsSome-highest streams h None found =
-    let at = some_tight streams h in
-    absurd (All-contains (λ t. HasTightDeficit streams t → ⊥) (stream_ends streams) at.0 found at.1.end at.1.tight)
+    let at = some_tight streams h in absurd (All-contains (λ t. HasTightDeficit streams t → ⊥) (stream_ends streams) at.0 found at.1.end at.1.tight)
 IsSome-highest streams h (Some p) found = refl
 
 -- there is one reference place

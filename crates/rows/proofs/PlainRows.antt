@@ -33,8 +33,7 @@ decimal_plain : (n : ℕ) → n < 2 ^ 64 → IsPlain (decimal n)
 decimal_plain n small =
     let numeral = decimal_is_IsNumeral n small in
     list_any_none (needs_byte default_writer) (decimal n) (λ k d within.
-    let digit = digit_at (decimal n) k numeral.0.1 within in
-    digit_plain (get_or (decimal n) k d) (rw (get_or_default (decimal n) k d 0 within) digit.0))
+    let digit = digit_at (decimal n) k numeral.0.1 within in digit_plain (get_or (decimal n) k d) (rw (get_or_default (decimal n) k d 0 within) digit.0))
 
 pub number_plain : (z : ℤ) → IsPrintable z → IsPlain (signed_decimal z)
 number_plain (pos n) small = decimal_plain n (omega (arith, ints, small.upto))
@@ -74,16 +73,14 @@ row_read (x ∷ y ∷ ys) tail plain =
 -- a line has a byte at least
 rows_long : (rows : List Row) → All IsPlainRow rows → length rows ≤ length (rows_text rows)
 rows_long [] plain = omega arith
-rows_long (row ∷ rows) plain =
-    let ends = ap length (row_same row (All-head IsPlainRow row rows plain)) in
+rows_long (row ∷ rows) plain = let ends = ap length (row_same row (All-head IsPlainRow row rows plain)) in
     omega (arith, rows_long rows (All-tail IsPlainRow row rows plain), length-append {A = ℕ}, ends)
 
 rows_read : (rows : List Row) (n : ℕ) → All IsPlainRow rows → length rows < n → records_from default_config n st.StartRecord (rows_text rows) ≡ rows
 unfolding records_from next_record
 rows_read rows zero plain enough = absurd (omega (arith, enough))
 rows_read [] (suc n) plain enough = refl
-rows_read (row ∷ rows) (suc n) plain enough =
-    let rest = rows_read rows n (All-tail IsPlainRow row rows plain) (omega (arith, enough)) in
+rows_read (row ∷ rows) (suc n) plain enough = let rest = rows_read rows n (All-tail IsPlainRow row rows plain) (omega (arith, enough)) in
     rw (row_read row (rows_text rows) (All-head IsPlainRow row rows plain)) (ap (λ r. row ∷ r) rest)
 
 no_mark : (text : List ℕ) → strip_bom (99 ∷ text) ≡ 99 ∷ text

@@ -33,23 +33,18 @@ pub price : (z : ℤ) → IsPrice z → IsPrintable z
 price z range = record { from = omega (arith, ints, range.from); upto = omega (arith, ints, range.upto) }
 
 pub number_short : (z : ℤ) → IsPrintable z → length (signed_decimal z) ≤ MOST_DIGITS + 1
-number_short (pos n) small =
-    let least : n < 10 ^ MOST_DIGITS = omega (arith, ints, small.upto) in
+number_short (pos n) small = let least : n < 10 ^ MOST_DIGITS = omega (arith, ints, small.upto) in
     omega (arith, length-decimal-le MOST_DIGITS n (omega arith) least (omega (arith, least)))
-number_short (negsuc n) small =
-    let least : suc n < 10 ^ MOST_DIGITS = omega (arith, ints, small.from) in
+number_short (negsuc n) small = let least : suc n < 10 ^ MOST_DIGITS = omega (arith, ints, small.from) in
     omega (arith, length-decimal-le MOST_DIGITS (suc n) (omega arith) least (omega (arith, least)))
 
 pub number_read : (z : ℤ) → IsPrintable z → number_in (signed_decimal z) ≡ Some z
 unfolding number_in
 number_read (pos n) small =
-    let least : n < 10 ^ MOST_DIGITS = omega (arith, ints, small.upto) in
-    let numeral = decimal_is_IsNumeral n (omega (arith, least)) in
-    let digit = digit_at (decimal n) 0 numeral.0.1 numeral.0.0 in
-    let plain : (get_or (decimal n) 0 0 == 45) ≡ false = grind (arith, nat_tests, digit) in
+    let least : n < 10 ^ MOST_DIGITS = omega (arith, ints, small.upto) in let numeral = decimal_is_IsNumeral n (omega (arith, least)) in
+    let digit = digit_at (decimal n) 0 numeral.0.1 numeral.0.0 in let plain : (get_or (decimal n) 0 0 == 45) ≡ false = grind (arith, nat_tests, digit) in
     rw plain (ap (option_map pos) (natural_read MOST_DIGITS n (omega arith) least (omega (arith, least))))
-number_read (negsuc n) small =
-    let least : suc n < 10 ^ MOST_DIGITS = omega (arith, ints, small.from) in
+number_read (negsuc n) small = let least : suc n < 10 ^ MOST_DIGITS = omega (arith, ints, small.from) in
     ap (option_map negative) (natural_read MOST_DIGITS (suc n) (omega arith) least (omega (arith, least)))
 
 number_long : (text : List ℕ) (z : ℤ) → number_in text ≡ Some z → (length text == 0) ≡ false

@@ -65,8 +65,7 @@ next-length cfg s fs f (c ∷ rest) p e = by (is_end (step cfg s c).1) refl (nex
   where
     by : (b : Bool) → is_end (step cfg s c).1 ≡ b
         → (next_record cfg (step cfg s c).0 (fields_after (step cfg s c).1 fs f) (field_after (step cfg s c).1 c f) rest ≡ Some p
-        → (length p.2 ≤ length rest) × (ends_at_end p.1 ≡ false))
-        → (length p.2 ≤ suc (length rest)) × (ends_at_end p.1 ≡ false)
+        → (length p.2 ≤ length rest) × (ends_at_end p.1 ≡ false)) → (length p.2 ≤ suc (length rest)) × (ends_at_end p.1 ≡ false)
     by true b more =
         let q : (fields_after (step cfg s c).1 fs f, (step cfg s c).0, rest) ≡ p = cc (rw b at e) in rw (← q) (omega arith, (rests-step cfg s c).rests b)
     by false b more = let h = more (rw b at e) in (omega arith, h.1)
@@ -95,9 +94,7 @@ records_from-turns cfg (suc m) (suc n) s xs begun hm hn = by (next_record cfg s 
         → ((p : Read) → ends_at_end p.1 ≡ false → length p.2 < m → length p.2 < n → records_from cfg m p.1 p.2 ≡ records_from cfg n p.1 p.2)
         → records_next (records_from cfg m) (next_record cfg s [] [] xs) ≡ records_next (records_from cfg n) (next_record cfg s [] [] xs)
     by None e more = rw e refl
-    by (Some p) e more =
-        let h = next-shorter cfg s xs p begun e in
-        rw e (ap (λ r. p.0 ∷ r) (more p h.1 (omega arith) (omega arith)))
+    by (Some p) e more = let h = next-shorter cfg s xs p begun e in rw e (ap (λ r. p.0 ∷ r) (more p h.1 (omega arith) (omega arith)))
 
 -- each record takes a byte
 pub records_from-length : (cfg : Config) (n : ℕ) (s : State) (xs : List ℕ) → ends_at_end s ≡ false → length (records_from cfg n s xs) ≤ length xs
@@ -105,21 +102,16 @@ unfolding records_from
 records_from-length cfg zero s xs begun = omega arith
 records_from-length cfg (suc n) s xs begun = by (next_record cfg s [] [] xs) refl (λ p. records_from-length cfg n p.1 p.2)
   where
-    by : (o : Option Read) → next_record cfg s [] [] xs ≡ o
-        → ((p : Read) → ends_at_end p.1 ≡ false → length (records_from cfg n p.1 p.2) ≤ length p.2)
+    by : (o : Option Read) → next_record cfg s [] [] xs ≡ o → ((p : Read) → ends_at_end p.1 ≡ false → length (records_from cfg n p.1 p.2) ≤ length p.2)
         → length (records_next (records_from cfg n) (next_record cfg s [] [] xs)) ≤ length xs
     by None e more = rw e (omega arith)
-    by (Some p) e more =
-        let h = next-shorter cfg s xs p begun e in
-        let l = more p h.1 in
-        rw e (omega (arith, l, h.0))
+    by (Some p) e more = let h = next-shorter cfg s xs p begun e in let l = more p h.1 in rw e (omega (arith, l, h.0))
 
 -- what is left is the next record and what is left after it
 pub left-some : (s : State) (xs : List ℕ) (p : Read) → ends_at_end s ≡ false → next_record default_config s [] [] xs ≡ Some p
     → records_left s (Some xs) ≡ p.0 ∷ records_left p.1 (Some p.2)
 unfolding records_left records_from
-left-some s xs p begun e =
-    let h = next-shorter default_config s xs p begun e in
+left-some s xs p begun e = let h = next-shorter default_config s xs p begun e in
     rw (add-one, e) (ap (λ r. p.0 ∷ r) (records_from-turns default_config (length xs) (length p.2 + 1) p.1 p.2 h.1 h.0 (omega arith)))
 
 pub left-none : (s : State) (xs : List ℕ) → next_record default_config s [] [] xs ≡ None → records_left s (Some xs) ≡ []
@@ -153,14 +145,12 @@ left-after s s2 xs z row p begun next fields state rest =
     rw (fields, ← state, ← rest) (left-some s xs p begun next, (next-shorter default_config s xs p begun next).1)
 
 pub takes_row : (a b : Reader (Bor (List ℕ))) (row : List (List ℕ)) → GivesRows a → ReadRecord (λ r. Some r.now) a b true row → took_first b ≡ true
-    → is_flexible b ≡ is_flexible a
-    → TakesRow a b row
+    → is_flexible b ≡ is_flexible a → TakesRow a b row
 unfolding Reached
 takes_row a b row g r first flexible =
     let (xs, from) = known_some (bytes_left a) g.known in
     let (z, to, reached) = rows-more (λ (s : Bor (List ℕ)). Some s.now) a b row default_config (reader_state a) xs xs [] g.config from (refl, refl) r in
-    let (p, next, fields, ends) = reached in
-    let after = left-after (reader_state a) (reader_state b) xs z row p g.state next fields ends.0 ends.1 in
+    let (p, next, fields, ends) = reached in let after = left-after (reader_state a) (reader_state b) xs z row p g.state next fields ends.0 ends.1 in
     record {
       left = ap (records_left (reader_state a)) from ∙ after.0 ∙ ap (λ o. row ∷ records_left (reader_state b) o) (sym to);
       gives = record {
@@ -182,22 +172,19 @@ left-start s text start from = rw (start, from) refl
 
 pub takes_none : (a b : Reader (Bor (List ℕ))) (row : List (List ℕ)) → GivesRows a → ReadRecord (λ r. Some r.now) a b false row
     → records_left (reader_state a) (bytes_left a) ≡ []
-takes_none a b row g r =
-    let (xs, from) = known_some (bytes_left a) g.known in
+takes_none a b row g r = let (xs, from) = known_some (bytes_left a) g.known in
     rw from (left-none (reader_state a) xs (rows-end (λ (s : Bor (List ℕ)). Some s.now) a b row default_config xs g.config from r))
 
 -- what a read leaves, whether it found a row or not
 pub read_left : (a b : Reader (Bor (List ℕ))) (found : Bool) (row : List (List ℕ)) → GivesRows a → ReadRecord (λ r. Some r.now) a b found row
-    → took_first b ≡ true → is_flexible b ≡ is_flexible a
-    → MatchBool found
+    → took_first b ≡ true → is_flexible b ≡ is_flexible a → MatchBool found
     (records_left (reader_state a) (bytes_left a) ≡ row ∷ (if not found then [] else records_left (reader_state b) (bytes_left b)))
     (records_left (reader_state a) (bytes_left a) ≡ [])
 read_left a b true row g r first flexible = (takes_row a b row g r first flexible).left
 read_left a b false row g r first flexible = takes_none a b row g r
 
 pub read_gives : (a b : Reader (Bor (List ℕ))) (found : Bool) (row : List (List ℕ)) → GivesRows a → ReadRecord (λ r. Some r.now) a b found row
-    → took_first b ≡ true → is_flexible b ≡ is_flexible a
-    → not found ≡ false → GivesRows b
+    → took_first b ≡ true → is_flexible b ≡ is_flexible a → not found ≡ false → GivesRows b
 read_gives a b true row g r first flexible e = (takes_row a b row g r first flexible).gives
 read_gives a b false row g r first flexible e = cc e
 

@@ -6,7 +6,7 @@ use Rattle.std.proofs.Common.{IfSome, None, Option, Some, arith, cond, pos, true
 use Rattle.stream_case.specs.declared.source.Side.TheVariants as side
 
 pub no_contribution : IsContribution (pos 0)
-no_contribution = record { from = omega arith; upto = omega arith }
+no_contribution = omega arith
 
 -- the contribution that is given, or the one that stands for it
 pub range_of : (o : Option ℤ) (otherwise : ℤ) → IfSome o IsContribution → IsContribution otherwise → IsContribution (unwrap_or o otherwise)

@@ -8,8 +8,7 @@ use Rattle.std.specs.Prelude.{AllPairs, IsSome}
 use Rattle.stream_case.proofs.DistinctLemmas.{AllPairs-across, AllPairs-back, AllPairs-front, no_place_of, place_of}
 use Rattle.stream_case.proofs.ListLemmas.{position-map}
 use Rattle.stream_case.proofs.SourceLemmas.{same_source-true}
-use Rattle.stream_case.specs.declared.source.Source.TheVariants.{Stream as of_stream}
-use Rattle.stream_case.specs.declared.source.Source.TheVariants.{Utility as of_utility}
+use Rattle.stream_case.specs.declared.source.Source.TheVariants.{Stream as of_stream, Utility as of_utility}
 
 -- ---- counts
 
@@ -20,12 +19,8 @@ length-names_of c = simp (length-append, length-map)
 pub count_on-add : (streams : List Stream) → count_on Hot streams + count_on Cold streams ≡ length streams
 count_on-add [] = refl
 count_on-add (s ∷ ss) =
-    let one = λ (side : Side). sum_by-cons (λ (x : Stream). cond (same_side x.side side) 1 0) s ss in
-    let hot = one Hot in
-    let cold = one Cold in
-    let rest = count_on-add ss in
-    let sides = one_side s.side in
-    omega arith
+    let one = λ (side : Side). sum_by-cons (λ (x : Stream). cond (same_side x.side side) 1 0) s ss in let hot = one Hot in let cold = one Cold in
+    let rest = count_on-add ss in let sides = one_side s.side in omega arith
   where
     one_side : (side : Side) → cond (same_side side Hot) 1 0 + cond (same_side side Cold) 1 0 ≡ 1
     one_side Hot = refl
@@ -52,8 +47,7 @@ IsSourceOf-side c (of_utility i) some = within_map (λ u. u.side) c.utilities i 
 -- a source of the other side is not the utility
 pub other_source : (c : Case) (source : Source) (side : Side) (index : ℕ) (u : Utility) → side_of c source ≡ Some side
     → slice_get c.utilities index ≡ Some u → u.side ≢ side → same_source source (of_utility index) ≡ false
-other_source c source side index u side_is here other =
-    false_from_ne_true (same_source source (of_utility index)) (λ holds.
+other_source c source side index u side_is here other = false_from_ne_true (same_source source (of_utility index)) (λ holds.
     let own = ap (side_of c) (same_source-true source (of_utility index) holds) ∙ ap (option_map (λ (v : Utility). v.side)) here in
     other (same_Some u.side side (sym own ∙ side_is)))
 
@@ -81,26 +75,21 @@ source_named-source_name c distinct (of_stream i) within =
     place_of names i (AllPairs-front Differ names (utility_names c) distinct) (omega (arith, within, length-map c.streams (λ (s : Stream). s.name))) in
     rw (name_at (λ (s : Stream). s.name) c.streams i) (rw (position-map (bytes_eq (get_or names i [])) (λ (s : Stream). s.name) c.streams ∙ place) refl)
 source_named-source_name c distinct (of_utility i) within =
-    let names = utility_names c in
-    let name = get_or names i [] in
+    let names = utility_names c in let name = get_or names i [] in
     let inside : i < length names = omega (arith, within, length-map c.utilities (λ (u : Utility). u.name)) in
     let place = place_of names i (AllPairs-back Differ (stream_names c) names distinct) inside in
     let nowhere = no_place_of (stream_names c) name (λ k d early. AllPairs-across Differ (stream_names c) names k d distinct early i [] inside) in
-    rw (name_at (λ (u : Utility). u.name) c.utilities i)
-    (rw (
+    rw (name_at (λ (u : Utility). u.name) c.utilities i) (rw (
       position-map (bytes_eq name) (λ (s : Stream). s.name) c.streams ∙ nowhere,
-      position-map (bytes_eq name) (λ (u : Utility). u.name) c.utilities
-          ∙ place,
+      position-map (bytes_eq name) (λ (u : Utility). u.name) c.utilities ∙ place,
     ) refl)
 
 pub IsName-source_name : (c : Case) → All IsName (names_of c) → (source : Source) → IsSourceOf c source → IsName (source_name c source)
 IsName-source_name c each (of_stream i) within =
-    let long = length-map c.streams (λ (s : Stream). s.name) in
-    let whole = length-names_of c in
+    let long = length-map c.streams (λ (s : Stream). s.name) in let whole = length-names_of c in
     let is = name_at (λ (s : Stream). s.name) c.streams i ∙ sym (get_or_append_left (stream_names c) (utility_names c) [] i (omega (arith, within, long))) in
     subst IsName (sym is) (each i [] (omega (arith, within, whole)))
 IsName-source_name c each (of_utility i) within =
-    let long = length-map c.streams (λ (s : Stream). s.name) in
-    let whole = length-names_of c in
+    let long = length-map c.streams (λ (s : Stream). s.name) in let whole = length-names_of c in
     let is = name_at (λ (u : Utility). u.name) c.utilities i ∙ sym (get_or-append-add (stream_names c) (utility_names c) i []) in
     subst IsName (sym is) (each (length (stream_names c) + i) [] (omega (arith, within, whole, long)))

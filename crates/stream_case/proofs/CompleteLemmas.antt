@@ -10,8 +10,7 @@ use Rattle.stream_case.proofs.EndLemmas.{outermost-between}
 use Rattle.stream_case.proofs.ListLemmas.{slice_get-append}
 use Rattle.stream_case.proofs.SourceLemmas.{own_side}
 use Rattle.stream_case.specs.Case.{IsComplete, IsRightlyNamed, IsUnreserved, IsValid, IsValidForbid, completed, has_utility, unless_given}
-use Rattle.stream_case.specs.declared.source.Source.TheVariants.{Stream as of_stream}
-use Rattle.stream_case.specs.declared.source.Source.TheVariants.{Utility as of_utility}
+use Rattle.stream_case.specs.declared.source.Source.TheVariants.{Stream as of_stream, Utility as of_utility}
 
 -- a utility of a completed case: its level may lie outside the range of a file
 pub record IsUtility (u : Utility) : Type 0 where
@@ -35,14 +34,14 @@ pub record StaysValid (c : Case) : Type 0 where
 -- ---- the utilities
 
 IsShifted-shifted : (side : Side) (level contribution : ℤ) → IsTemperature level → IsContribution contribution → IsShifted (shifted side level contribution)
-IsShifted-shifted Hot level contribution l c = record { from = omega (arith, ints); upto = omega (arith, ints) }
-IsShifted-shifted Cold level contribution l c = record { from = omega (arith, ints); upto = omega (arith, ints) }
+IsShifted-shifted Hot level contribution l c = omega (arith, ints)
+IsShifted-shifted Cold level contribution l c = omega (arith, ints)
 
 pub IsUtility-IsValidUtility : (u : Utility) → IsValidUtility u → IsUtility u
 IsUtility-IsValidUtility u h =
     let level = h.level in record {
       name = h.name;
-      level = record { from = omega (arith, ints); upto = omega (arith, ints) };
+      level = omega (arith, ints);
       placed = record { level = IsShifted-shifted u.side u.level u.contribution h.level h.contribution; least = h.least; most = h.most; price = h.price };
       contribution = h.contribution;
     }
@@ -58,40 +57,27 @@ shifted_level-standard Cold c = omega (arith, ints)
 -- the standard utilities of valid streams
 IsUtility-standard : (side : Side) (c : Case) → All IsValidStream c.streams → IsContribution c.contribution → IsUtility (standard_utility side c)
 IsUtility-standard side c each own =
-    let end = outermost-between side c.streams each in
-    let placed = subst IsShifted (sym (shifted_level-standard side c)) end in
-    by side end placed
+    let end = outermost-between side c.streams each in let placed = subst IsShifted (sym (shifted_level-standard side c)) end in by side end placed
   where
     by : (side : Side) → IsShifted (outermost side (stream_ends c.streams)) → IsShifted (shifted_level (standard_utility side c))
         → IsUtility (standard_utility side c)
     by Hot end placed = record {
       name = IsName-standard Hot c;
-      level = record { from = omega (arith, ints); upto = omega (arith, ints) };
-      placed = record {
-        level = placed;
-        least = record { from = omega (arith, ints); upto = omega (arith, ints) };
-        most = record { from = omega (arith, ints); upto = omega (arith, ints) };
-        price = record { from = omega (arith, ints); upto = omega (arith, ints) };
-      };
+      level = omega (arith, ints);
+      placed = record { level = placed; least = omega (arith, ints); most = omega (arith, ints); price = omega (arith, ints) };
       contribution = own;
     }
     by Cold end placed = record {
       name = IsName-standard Cold c;
-      level = record { from = omega (arith, ints); upto = omega (arith, ints) };
-      placed = record {
-        level = placed;
-        least = record { from = omega (arith, ints); upto = omega (arith, ints) };
-        most = record { from = omega (arith, ints); upto = omega (arith, ints) };
-        price = record { from = omega (arith, ints); upto = omega (arith, ints) };
-      };
+      level = omega (arith, ints);
+      placed = record { level = placed; least = omega (arith, ints); most = omega (arith, ints); price = omega (arith, ints) };
       contribution = own;
     }
 
 -- a fact of what is added, from the two cases
 unless_given-elim : (Q : List Utility → Type 0) (side : Side) (c : Case) → (has_utility side c.utilities ≡ true → Q [])
     → (has_utility side c.utilities ≡ false → Q (standard_utility side c ∷ [])) → Q (unless_given side c)
-unless_given-elim Q side c given absent =
-    let answer = has_utility side c.utilities in
+unless_given-elim Q side c given absent = let answer = has_utility side c.utilities in
     (elim answer as (λ b. answer ≡ b → Q (if b then [] else standard_utility side c ∷ [])) [ true ↦ given | false ↦ absent ]) refl
 
 -- no utility on a side
@@ -111,11 +97,9 @@ none_at_all (u ∷ us) hot cold = absurd (neither u.side (none_on Hot (u ∷ us)
 -- at most one utility more than the limit: with none given there are two
 few-completed : (c : Case) → IsValid c → length (completed c).utilities ≤ ALL_UTILITIES
 few-completed c h =
-    let us = c.utilities in
-    let few = h.few_utilities in
+    let us = c.utilities in let few = h.few_utilities in
     unless_given-elim (λ xs. length ((us ++ xs) ++ unless_given Cold c) ≤ ALL_UTILITIES) Hot c
-    (λ _. unless_given-elim (λ ys. length ((us ++ []) ++ ys) ≤ ALL_UTILITIES) Cold c
-    (λ _. omega (arith, length-append {A = Utility}))
+    (λ _. unless_given-elim (λ ys. length ((us ++ []) ++ ys) ≤ ALL_UTILITIES) Cold c (λ _. omega (arith, length-append {A = Utility}))
     (λ _. omega (arith, length-append {A = Utility})))
     (λ no_hot. unless_given-elim (λ ys. length ((us ++ standard_utility Hot c ∷ []) ++ ys) ≤ ALL_UTILITIES) Cold c
     (λ _. omega (arith, length-append {A = Utility}))
@@ -134,8 +118,7 @@ rightly_named Cold c u h = h.1
 -- where no utility is on a side none has the name of its standard one
 name-free : (side : Side) (c : Case) → IsValid c → has_utility side c.utilities ≡ false → All (λ n. n ≢ (standard_utility side c).name) (names_of c)
 name-free side c h absent =
-    let P = λ (n : List ℕ). n ≢ (standard_utility side c).name in
-    let none = none_on side c.utilities absent in
+    let P = λ (n : List ℕ). n ≢ (standard_utility side c).name in let none = none_on side c.utilities absent in
     All-append P (map (λ s. s.name) c.streams) (map (λ u. u.name) c.utilities)
     (All-map P (λ s. s.name) c.streams (λ k d within. unreserved side c (get_or c.streams k d).name (h.stream_names k d within)))
     (All-map P (λ u. u.name) c.utilities (λ k d within same. none k d within (rightly_named side c (get_or c.utilities k d) (h.utility_names k d within) same)))
@@ -151,23 +134,17 @@ distinct-added names side c distinct new =
 
 -- the names with further utilities
 names_of-append : (c : Case) (more : List Utility) → names_of (with_utilities c (c.utilities ++ more)) ≡ names_of c ++ map (λ u. u.name) more
-names_of-append c more =
-    ap (λ ns. map (λ s. s.name) c.streams ++ ns) (map-append (λ (u : Utility). u.name) c.utilities more)
+names_of-append c more = ap (λ ns. map (λ s. s.name) c.streams ++ ns) (map-append (λ (u : Utility). u.name) c.utilities more)
     ∙ sym (append_assoc (map (λ s. s.name) c.streams) (map (λ u. u.name) c.utilities) (map (λ u. u.name) more))
 
 distinct-completed : (c : Case) → IsValid c → AllPairs (λ a b. a ≢ b) (names_of (completed c))
 distinct-completed c h =
-    let us = c.utilities in
-    let hot = unless_given Hot c in
-    let cold = unless_given Cold c in
-    let P : List (List ℕ) → Type 0 = λ ns. AllPairs (λ a b. a ≢ b) ns in
-    let other = λ (n : List ℕ). n ≢ codes "COLD" in
+    let us = c.utilities in let hot = unless_given Hot c in let cold = unless_given Cold c in
+    let P : List (List ℕ) → Type 0 = λ ns. AllPairs (λ a b. a ≢ b) ns in let other = λ (n : List ℕ). n ≢ codes "COLD" in
     let first = distinct-added (names_of c) Hot c h.distinct_names (name-free Hot c h) in
-    let apart =
-    unless_given-elim (λ xs. All other (map (λ u. u.name) xs)) Hot c (λ _. All-nil other)
+    let apart = unless_given-elim (λ xs. All other (map (λ u. u.name) xs)) Hot c (λ _. All-nil other)
     (λ _. All-cons other (codes "HOT") [] (λ e. absurd (omega (arith, ap length e))) (All-nil other)) in
-    let both =
-    distinct-added (names_of c ++ map (λ u. u.name) hot) Cold c first
+    let both = distinct-added (names_of c ++ map (λ u. u.name) hot) Cold c first
     (λ absent. All-append other (names_of c) (map (λ u. u.name) hot) (name-free Cold c h absent) apart) in
     subst P (sym (names_of-append (with_utilities c (us ++ hot)) cold ∙ ap (λ ns. ns ++ map (λ u. u.name) cold) (names_of-append c hot))) both
 
@@ -193,18 +170,13 @@ forbid-append c more f h = (side_of-append c more f.hot Hot h.0, side_of-append 
 -- ---- the whole case
 
 All-added : (side : Side) (c : Case) → All IsValidStream c.streams → IsContribution c.contribution → All IsUtility (unless_given side c)
-All-added side c each own =
-    unless_given-elim (All IsUtility) side c (λ _. All-nil IsUtility)
+All-added side c each own = unless_given-elim (All IsUtility) side c (λ _. All-nil IsUtility)
     (λ _. All-cons IsUtility (standard_utility side c) [] (IsUtility-standard side c each own) (All-nil IsUtility))
 
 pub StaysValid-completed : (c : Case) → IsValid c → StaysValid (completed c)
 StaysValid-completed c h =
-    let us = c.utilities in
-    let hot = unless_given Hot c in
-    let cold = unless_given Cold c in
-    let each = h.streams.are_streams.each in
-    let all_utilities =
-    All-append IsUtility (us ++ hot) cold
+    let us = c.utilities in let hot = unless_given Hot c in let cold = unless_given Cold c in let each = h.streams.are_streams.each in
+    let all_utilities = All-append IsUtility (us ++ hot) cold
     (All-append IsUtility us hot (All-weaker IsValidUtility IsUtility IsUtility-IsValidUtility us h.utilities) (All-added Hot c each h.contribution))
     (All-added Cold c each h.contribution) in record {
       contribution = h.contribution;
@@ -215,8 +187,7 @@ StaysValid-completed c h =
           (All-map IsName (λ s. s.name) c.streams (All-weaker IsValidStream (λ s. IsName s.name) (λ s k. k.name) c.streams each))
           (All-map IsName (λ u. u.name) ((us ++ hot) ++ cold) (All-weaker IsUtility (λ u. IsName u.name) (λ u k. k.name) ((us ++ hot) ++ cold) all_utilities));
       distinct_names = distinct-completed c h;
-      forbids =
-          All-weaker (IsValidForbid c) (IsValidForbid (completed c))
+      forbids = All-weaker (IsValidForbid c) (IsValidForbid (completed c))
           (λ f k. forbid-append (with_utilities c (us ++ hot)) cold f (forbid-append c hot f k)) c.forbids h.forbids;
       few_forbids = h.few_forbids;
       distinct_forbids = h.distinct_forbids;

@@ -69,8 +69,7 @@ each_end P (s ∷ ss) h =
 pub stream_ends-between : (streams : List Stream) → All IsValidStream streams → All IsShifted (stream_ends streams)
 stream_ends-between [] each = All-nil IsShifted
 stream_ends-between (s ∷ ss) each =
-    let ends = AreEnds-IsValidStream s (All-head IsValidStream s ss each) in
-    let rest = stream_ends-between ss (All-tail IsValidStream s ss each) in
+    let ends = AreEnds-IsValidStream s (All-head IsValidStream s ss each) in let rest = stream_ends-between ss (All-tail IsValidStream s ss each) in
     All-cons IsShifted (high_end s) (low_end s ∷ stream_ends ss) (record { from = omega (arith, ints); upto = ends.upto })
     (All-cons IsShifted (low_end s) (stream_ends ss) (record { from = ends.from; upto = omega (arith, ints) }) rest)
 
@@ -85,23 +84,21 @@ outer_of-once Hot x = omega (arith, ints, clamps)
 outer_of-once Cold x = omega (arith, ints, clamps)
 
 outer_of-between : (side : Side) (low high a b : ℤ) → IsBetween low high a → IsBetween low high b → IsBetween low high (outer_of side a b)
-outer_of-between Hot low high a b h k = record { from = omega (arith, ints, clamps); upto = omega (arith, ints, clamps) }
-outer_of-between Cold low high a b h k = record { from = omega (arith, ints, clamps); upto = omega (arith, ints, clamps) }
+outer_of-between Hot low high a b h k = omega (arith, ints, clamps)
+outer_of-between Cold low high a b h k = omega (arith, ints, clamps)
 
 -- a loop's step, and all of them, begun at the first one
 pub outer_ends-more : (side : Side) (a so_far : ℤ) (streams : List Stream) (i : ℕ) (s : Stream) → i < length streams → s ≡ get_or streams i s
     → so_far ≡ fold (outer_of side) a (stream_ends (take i streams))
     → outer_of side (outer_of side so_far (high_end s)) (low_end s) ≡ fold (outer_of side) a (stream_ends (take (i + 1) streams))
 outer_ends-more side a so_far streams i s within is value =
-    ap (λ b. outer_of side (outer_of side b (high_end s)) (low_end s)) value
-    ∙ sym (ap (fold (outer_of side) a) (stream_ends-more streams i s within is)
+    ap (λ b. outer_of side (outer_of side b (high_end s)) (low_end s)) value ∙ sym (ap (fold (outer_of side) a) (stream_ends-more streams i s within is)
     ∙ fold-append (outer_of side) a (stream_ends (take i streams)) (high_end s ∷ low_end s ∷ []))
 
 pub outer_ends-all : (side : Side) (streams : List Stream) (s : Stream) → 0 < length streams → s ≡ get_or streams 0 s
     → fold (outer_of side) (high_end s) (stream_ends streams) ≡ outermost side (stream_ends streams)
 outer_ends-all side [] s some is = absurd (omega arith)
-outer_ends-all side (x ∷ xs) s some is =
-    ap (λ y. fold (outer_of side) (outer_of side (high_end y) (high_end x)) (low_end x ∷ stream_ends xs)) is
+outer_ends-all side (x ∷ xs) s some is = ap (λ y. fold (outer_of side) (outer_of side (high_end y) (high_end x)) (low_end x ∷ stream_ends xs)) is
     ∙ ap (λ e. fold (outer_of side) e (low_end x ∷ stream_ends xs)) (outer_of-once side (high_end x))
     ∙ sym (outermost-cons side (high_end x) (low_end x ∷ stream_ends xs))
 
@@ -113,10 +110,9 @@ fold-between side low high a (x ∷ xs) within each =
     (All-tail (IsBetween low high) x xs each)
 
 pub outermost-between : (side : Side) (streams : List Stream) → All IsValidStream streams → IsShifted (outermost side (stream_ends streams))
-outermost-between Hot [] each = record { from = omega (arith, ints); upto = omega (arith, ints) }
-outermost-between Cold [] each = record { from = omega (arith, ints); upto = omega (arith, ints) }
+outermost-between Hot [] each = omega (arith, ints)
+outermost-between Cold [] each = omega (arith, ints)
 outermost-between side (s ∷ ss) each =
-    let ends = stream_ends-between (s ∷ ss) each in
-    let rest = low_end s ∷ stream_ends ss in
+    let ends = stream_ends-between (s ∷ ss) each in let rest = low_end s ∷ stream_ends ss in
     subst IsShifted (sym (outermost-cons side (high_end s) rest))
     (fold-between side LOWEST_SHIFTED HIGHEST_SHIFTED (high_end s) rest (All-head IsShifted (high_end s) rest ends) (All-tail IsShifted (high_end s) rest ends))

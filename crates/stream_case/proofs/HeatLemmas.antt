@@ -15,14 +15,8 @@ pub record HasLength (actual shifted : ℤ) : Type 0 where
 HasLength-range : (side : Side) (supply target contribution : ℤ) → IsRightWay side supply target → IsTemperature supply → IsTemperature target
     → HasLength ((if is_hot side then supply else target) -ℤ (if is_hot side then target else supply))
     (shifted side (if is_hot side then supply else target) contribution -ℤ shifted side (if is_hot side then target else supply) contribution)
-HasLength-range Hot supply target contribution way s t = record {
-  length = record { from = omega (arith, ints); upto = omega (arith, ints) };
-  same = omega (arith, ints);
-}
-HasLength-range Cold supply target contribution way s t = record {
-  length = record { from = omega (arith, ints); upto = omega (arith, ints) };
-  same = omega (arith, ints);
-}
+HasLength-range Hot supply target contribution way s t = record { length = omega (arith, ints); same = omega (arith, ints) }
+HasLength-range Cold supply target contribution way s t = record { length = omega (arith, ints); same = omega (arith, ints) }
 
 pub HasLength-sensible : (s : Stream) → IsValidStream s → IsSensible s → HasLength (higher_temperature s -ℤ lower_temperature s) (high_end s -ℤ low_end s)
 HasLength-sensible s h sensible = HasLength-range s.side s.supply s.target s.contribution sensible.way h.supply h.target
@@ -31,8 +25,8 @@ pub range-length : (s : Stream) → IsValidStream s → IsLength (high_end s -�
 range-length s h = by_heat h.heat
   where
     by_heat : IsSensible s ⊎ IsLatent s → IsLength (high_end s -ℤ low_end s)
-    by_heat (inl sensible) = let range = HasLength-sensible s h sensible in record { from = omega (arith, ints); upto = omega (arith, ints) }
-    by_heat (inr latent) = let level = level-latent s latent in record { from = omega (arith, ints); upto = omega (arith, ints) }
+    by_heat (inl sensible) = let range = HasLength-sensible s h sensible in omega (arith, ints)
+    by_heat (inr latent) = let level = level-latent s latent in omega (arith, ints)
 
 -- ---- sensible heat
 
@@ -41,9 +35,7 @@ within h = omega (arith, ints, h.upto)
 
 -- a heat-capacity flow over a part of a range
 pub IsSensibleHeat-product : (cp length : ℤ) → IsBetween (pos 0) MOST_CP cp → IsLength length → IsSensibleHeat (cp *ℤ length)
-IsSensibleHeat-product (pos cp) (pos length) c l =
-    let product = mul-le cp length _ _ (within c) (within l) in
-    record { from = omega (arith, ints); upto = omega (arith, ints) }
+IsSensibleHeat-product (pos cp) (pos length) c l = let product = mul-le cp length _ _ (within c) (within l) in omega (arith, ints)
 IsSensibleHeat-product (pos cp) (negsuc length) c l = absurd (omega (arith, ints))
 IsSensibleHeat-product (negsuc cp) length c l = absurd (omega (arith, ints))
 
@@ -52,19 +44,17 @@ cp-between s h = by_heat h.heat
   where
     by_heat : IsSensible s ⊎ IsLatent s → IsBetween (pos 0) MOST_CP s.cp
     by_heat (inl sensible) = record { from = omega (arith, ints, sensible.cp); upto = sensible.cp.upto }
-    by_heat (inr latent) = record { from = omega (arith, ints, latent.cp); upto = omega (arith, ints, latent.cp) }
+    by_heat (inr latent) = omega (arith, ints, latent.cp)
 
 pub heat-between : (s : Stream) (length : ℤ) → IsValidStream s → IsLength length → IsSensibleHeat (s.cp *ℤ length)
 heat-between s length h = IsSensibleHeat-product s.cp length (cp-between s h)
 
 -- the part of a range above t is no longer than the range
 pub length_above-within : (low high t : ℤ) → low ≤ℤ high → IsBetween (pos 0) (high -ℤ low) (length_above low high t)
-length_above-within low high t h = record { from = omega (arith, ints, clamps); upto = omega (arith, ints, clamps) }
+length_above-within low high t h = omega (arith, ints, clamps)
 
 pub length_above-between : (t : ℤ) (s : Stream) → IsValidStream s → IsLength (length_above (low_end s) (high_end s) t)
-length_above-between t s h =
-    let range = range-length s h in
-    let part = length_above-within (low_end s) (high_end s) t (omega (arith, ints)) in
+length_above-between t s h = let range = range-length s h in let part = length_above-within (low_end s) (high_end s) t (omega (arith, ints)) in
     record { from = part.from; upto = omega (arith, ints) }
 
 -- ---- sensible and latent heat
@@ -103,40 +93,27 @@ pub sensible_above-between : (t : ℤ) (s : Stream) → IsValidStream s → IsSe
 sensible_above-between t s h = heat-between s (length_above (low_end s) (high_end s) t) h (length_above-between t s h)
 
 pub load-between : (s : Stream) → IsSensible s ⊎ IsLatent s → IsStreamHeat s.load
-load-between s (inl sensible) = let none = sensible.load in record { from = omega (arith, ints); upto = omega (arith, ints) }
-load-between s (inr latent) = let load = latent.load in record { from = omega (arith, ints); upto = omega (arith, ints) }
+load-between s (inl sensible) = let none = sensible.load in omega (arith, ints)
+load-between s (inr latent) = let load = latent.load in omega (arith, ints)
 
 pub load_over-between : (from : Bool) (t : ℤ) (s : Stream) → IsValidStream s → IsStreamHeat (load_over from t s)
-load_over-between from t s h =
-    let load = load-between s h.heat in
-    let some = some_of (counts_above from t (high_end s)) s.load load.from in
+load_over-between from t s h = let load = load-between s h.heat in let some = some_of (counts_above from t (high_end s)) s.load load.from in
     record { from = some.from; upto = omega (arith, ints) }
 
 pub heat_over-between : (from : Bool) (t : ℤ) (s : Stream) → IsValidStream s → IsStreamHeat (heat_over from t s)
 heat_over-between from t s h = by_heat h.heat
   where
     by_heat : IsSensible s ⊎ IsLatent s → IsStreamHeat (heat_over from t s)
-    by_heat (inl sensible) =
-        let product = sensible_above-between t s h in
-        let is = heat_over-sensible from t s sensible in
-        record { from = omega (arith, ints); upto = omega (arith, ints) }
-    by_heat (inr latent) =
-        let some = load_over-between from t s h in
-        let is = heat_over-latent from t s latent in
-        record { from = omega (arith, ints); upto = omega (arith, ints) }
+    by_heat (inl sensible) = let product = sensible_above-between t s h in let is = heat_over-sensible from t s sensible in omega (arith, ints)
+    by_heat (inr latent) = let some = load_over-between from t s h in let is = heat_over-latent from t s latent in omega (arith, ints)
 
 pub heat_of-between : (s : Stream) → IsValidStream s → IsStreamHeat (heat_of s)
 heat_of-between s h = by_heat h.heat
   where
     by_heat : IsSensible s ⊎ IsLatent s → IsStreamHeat (heat_of s)
     by_heat (inl sensible) =
-        let product = heat-between s (high_end s -ℤ low_end s) h (range-length s h) in
-        let is = heat_of-sensible s sensible in
-        record { from = omega (arith, ints); upto = omega (arith, ints) }
-    by_heat (inr latent) =
-        let load = latent.load in
-        let is = heat_of-latent s latent in
-        record { from = omega (arith, ints); upto = omega (arith, ints) }
+        let product = heat-between s (high_end s -ℤ low_end s) h (range-length s h) in let is = heat_of-sensible s sensible in omega (arith, ints)
+    by_heat (inr latent) = let load = latent.load in let is = heat_of-latent s latent in omega (arith, ints)
 
 -- ---- whether a stream is latent
 
@@ -145,10 +122,3 @@ is_latent-sensible s h = let none = h.load in false_from_ne_true (is_latent s) (
 
 pub is_latent-latent : (s : Stream) → IsLatent s → is_latent s ≡ true
 is_latent-latent s h = let some = h.load.from in grind (arith, ints)
-
-pub latent-is_latent : (s : Stream) → IsValidStream s → is_latent s ≡ true → IsLatent s
-latent-is_latent s h is = by_heat h.heat
-  where
-    by_heat : IsSensible s ⊎ IsLatent s → IsLatent s
-    by_heat (inl sensible) = let none = sensible.load in absurd (omega (arith, ints, is))
-    by_heat (inr latent) = latent

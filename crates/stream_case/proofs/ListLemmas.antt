@@ -32,9 +32,7 @@ filter_map-push {Y = Y} h xs x = filter_map-append h xs (x ∷ []) ∙ ap (λ ys
 -- the first of the values that passes
 pub position-map : {X Y : Type 0} (p : Y → Bool) (f : X → Y) (xs : List X) → position (λ x. p (f x)) xs ≡ position p (map f xs)
 position-map {X} {Y} p f xs =
-    let place = front (λ y. not (p y)) xs in
-    let long = sym (length-map xs f) in
-    λ i. cond (nat_lt (place i) (long i)) (Some (place i)) None
+    let place = front (λ y. not (p y)) xs in let long = sym (length-map xs f) in λ i. cond (nat_lt (place i) (long i)) (Some (place i)) None
   where
     front : (q : Y → Bool) (ys : List X) → prefix_len (λ x. q (f x)) ys ≡ prefix_len q (map f ys)
     front q [] = refl

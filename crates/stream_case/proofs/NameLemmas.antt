@@ -11,14 +11,10 @@ length-IsName (b ∷ bs) h = omega (arith, h.2)
 
 pub length-IsDottedName : (bytes : List ℕ) → IsDottedName bytes → length bytes ≤ 17
 length-IsDottedName [] h = absurd h
-length-IsDottedName (b ∷ bs) h =
-    let short = length-IsName bs h.1 in
-    omega arith
+length-IsDottedName (b ∷ bs) h = let short = length-IsName bs h.1 in omega arith
 
 pub length-IsAnyName : (bytes : List ℕ) → IsAnyName bytes → length bytes ≤ 17
-length-IsAnyName bytes (inl h) =
-    let short = length-IsName bytes h in
-    omega arith
+length-IsAnyName bytes (inl h) = let short = length-IsName bytes h in omega arith
 length-IsAnyName bytes (inr h) = length-IsDottedName bytes h
 
 -- bytes written to the front of zeros are stored

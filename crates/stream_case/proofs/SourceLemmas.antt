@@ -1,8 +1,7 @@
 -- The tests of sides and of sources.
 use Rattle.std.proofs.Common.{Decides, ap, arith, refl, true, ◌≡◌}
 use Rattle.stream_case.proofs.Words.{Cold, Hot, IsRightWay, Side, Source, eq-eqb, eqb-true, ints, is_right_way, same_side, same_source, ℤ}
-use Rattle.stream_case.specs.declared.source.Source.TheVariants.{Stream as of_stream}
-use Rattle.stream_case.specs.declared.source.Source.TheVariants.{Utility as of_utility}
+use Rattle.stream_case.specs.declared.source.Source.TheVariants.{Stream as of_stream, Utility as of_utility}
 
 -- what holds of both sides holds of each
 pub each_side : (P : Side → Type 0) → P Hot → P Cold → (side : Side) → P side

@@ -7,8 +7,7 @@ standard_side Hot c = refl
 standard_side Cold c = refl
 
 -- the utilities of a standard case stand in one of two orders
-pub in_order : (c : Case) → IsStandard c → (P : List Utility → Type 0)
-    → P (standard_utility Hot c ∷ standard_utility Cold c ∷ [])
+pub in_order : (c : Case) → IsStandard c → (P : List Utility → Type 0) → P (standard_utility Hot c ∷ standard_utility Cold c ∷ [])
     → P (standard_utility Cold c ∷ standard_utility Hot c ∷ []) → P c.utilities
 in_order c standard P h k = ⊎_elim (λ e. subst P (sym e) h) (λ e. subst P (sym e) k) standard.utilities
 
@@ -20,8 +19,7 @@ of_two P a b h k (suc (suc i)) x at = absurd (none-some x at)
 
 -- each is the standard one of its side
 pub own_utility : (c : Case) → IsStandard c → (i : ℕ) (u : Utility) → slice_get c.utilities i ≡ Some u → u ≡ standard_utility u.side c
-own_utility c standard =
-    in_order c standard (λ us. (i : ℕ) (u : Utility) → slice_get us i ≡ Some u → u ≡ standard_utility u.side c)
+own_utility c standard = in_order c standard (λ us. (i : ℕ) (u : Utility) → slice_get us i ≡ Some u → u ≡ standard_utility u.side c)
     (of_two (λ u. u ≡ standard_utility u.side c) (standard_utility Hot c) (standard_utility Cold c) refl refl)
     (of_two (λ u. u ≡ standard_utility u.side c) (standard_utility Cold c) (standard_utility Hot c) refl refl)
 
@@ -44,7 +42,5 @@ some_utility c standard Cold = in_order c standard (λ us. (i : ℕ) × (slice_g
 
 pub one_utility : (c : Case) → IsStandard c → (i j : ℕ) (u v : Utility) → slice_get c.utilities i ≡ Some u → slice_get c.utilities j ≡ Some v → u.side ≡ v.side
     → i ≡ j
-one_utility c standard =
-    in_order c standard (λ us. (i j : ℕ) (u v : Utility) → slice_get us i ≡ Some u → slice_get us j ≡ Some v → u.side ≡ v.side → i ≡ j)
-    (one_of_two (standard_utility Hot c) (standard_utility Cold c) (λ e. cc))
-    (one_of_two (standard_utility Cold c) (standard_utility Hot c) (λ e. cc))
+one_utility c standard = in_order c standard (λ us. (i j : ℕ) (u v : Utility) → slice_get us i ≡ Some u → slice_get us j ≡ Some v → u.side ≡ v.side → i ≡ j)
+    (one_of_two (standard_utility Hot c) (standard_utility Cold c) (λ e. cc)) (one_of_two (standard_utility Cold c) (standard_utility Hot c) (λ e. cc))

@@ -10,17 +10,12 @@ hot_side c =
     c.requires.places c.requires.few_places (c.from_vec.ensures ∙ c.in_ok-hot.ensures)
 
 cold_side : (c : goal.After-from_vec-2) → IsSide c.args.streams.now c.args.utilities.now Cold c.args.places.now c.from_vec-2.result
-cold_side c =
-    IsSide-made c.args.streams.now c.args.utilities.now Cold c.args.places.now c.from_vec-2.result c.requires.streams c.requires.utilities
+cold_side c = IsSide-made c.args.streams.now c.args.utilities.now Cold c.args.places.now c.from_vec-2.result c.requires.streams c.requires.utilities
     c.requires.few_utilities c.requires.places c.requires.few_places (c.from_vec-2.ensures ∙ c.in_ok-cold.ensures)
 
 pub invariant_of-result : goal.invariant_of-result
-invariant_of-result c = record {
-  few_hot = (hot_side c).few;
-  few_cold = (cold_side c).few;
-  hot_bounded = (hot_side c).bounded;
-  cold_bounded = (cold_side c).bounded;
-}
+invariant_of-result c =
+    record { few_hot = (hot_side c).few; few_cold = (cold_side c).few; hot_bounded = (hot_side c).bounded; cold_bounded = (cold_side c).bounded }
 
 pub returns-clause-hot : goal.returns-clause-hot
 returns-clause-hot c = (hot_side c.before).are_parts

@@ -4,13 +4,11 @@ use Rattle.std.proofs.Common.{ap, sym, ◌∙◌}
 use Rattle.grid.proofs.making.push_streams.Goals as goal
 
 pub loop-index-preserved : goal.loop-index-preserved
-loop-index-preserved c =
-    elim c.if-covers.branch [
-      | then-covers+in_ok-push w ↦
-          picked-push _ _ _ _ c.index-streams-index.result _ c.loop-index.parts.items _ w.stream_part.result c.loop-index-test.true c.index-streams-index.is
-          c.loop-index.invariant
-          (sym c.covers.ensures ∙ w.if-covers.true) w.stream_part.ensures (ap (λ v. v.items) w.parts-is ∙ w.in_ok-push.ensures.items)
-      | else-covers w ↦
-          picked-pass _ _ _ _ c.index-streams-index.result _ c.loop-index.parts.items _ c.loop-index-test.true c.index-streams-index.is c.loop-index.invariant
-          (sym c.covers.ensures ∙ w.if-covers.false) (ap (λ v. v.items) w.parts-is)
-    ]
+loop-index-preserved c = elim c.if-covers.branch [
+  | then-covers+in_ok-push w ↦
+      picked-push _ _ _ _ c.index-streams-index.result _ c.loop-index.parts.items _ w.stream_part.result c.loop-index-test.true c.index-streams-index.is
+      c.loop-index.invariant (sym c.covers.ensures ∙ w.if-covers.true) w.stream_part.ensures (ap (λ v. v.items) w.parts-is ∙ w.in_ok-push.ensures.items)
+  | else-covers w ↦
+      picked-pass _ _ _ _ c.index-streams-index.result _ c.loop-index.parts.items _ c.loop-index-test.true c.index-streams-index.is c.loop-index.invariant
+      (sym c.covers.ensures ∙ w.if-covers.false) (ap (λ v. v.items) w.parts-is)
+]

@@ -29,4 +29,4 @@ returns-clause-range c =
     let t = to_z w32 (of_z w32 c.args.t) in
     let so_far =
     sum_side-so_far c.args.side (heat_over c.args.from t) (heat_over-between c.args.from t) c.args.streams.now c.loop-stream.stream-index c.requires in
-    record { from = omega (arith, ints); upto = omega (arith, ints) }
+    omega (arith, ints)

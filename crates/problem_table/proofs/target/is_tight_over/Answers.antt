@@ -2,8 +2,7 @@
 use Rattle.problem_table.proofs.Words.{deficit_over, to_z-of_z}
 use Rattle.std.proofs.Common.{FitsSigned, ap, eq-eqb, eqb-true, rules, sym, w32, w64, ◌∙◌}
 use Rattle.problem_table.proofs.target.is_tight_over.Goals as goal
-use Rattle.std.specs.Int.{cast_signed as to_z}
-use Rattle.std.specs.Int.{cast_unsigned as of_z}
+use Rattle.std.specs.Int.{cast_signed as to_z, cast_unsigned as of_z}
 
 pub returns : goal.returns
 returns c =

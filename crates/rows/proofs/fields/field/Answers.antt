@@ -17,7 +17,5 @@ now-unwrap_or (Some s) d = refl
 pub returns : goal.returns
 returns c =
     let fields = fields_of c.args.row.now in
-    ap (λ (s : Bor (List ℕ)). s.now) c.unwrap_or.ensures
-    ∙ now-unwrap_or c.get.result _
-    ∙ ap (λ o. unwrap_or o []) (c.get.ensures.value ∙ field_at-slice_get fields c.args.index)
-    ∙ unwrap_or-slice_get fields c.args.index []
+    ap (λ (s : Bor (List ℕ)). s.now) c.unwrap_or.ensures ∙ now-unwrap_or c.get.result _
+    ∙ ap (λ o. unwrap_or o []) (c.get.ensures.value ∙ field_at-slice_get fields c.args.index) ∙ unwrap_or-slice_get fields c.args.index []

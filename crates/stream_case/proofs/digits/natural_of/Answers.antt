@@ -5,21 +5,17 @@ use Rattle.stream_case.proofs.digits.natural_of.Goals.{then-is_empty-via-else-is
 use Rattle.stream_case.proofs.digits.natural_of.Goals as goal
 
 pub returns-then-is_empty-clause-number : goal.returns-then-is_empty-clause-number
-returns-then-is_empty-clause-number c =
-    elim c.then-is_empty.branch [
-      | then-is_empty-via-then-is_empty w ↦ sym (empty c.args.most c.args.text.now (grind (arith, nat_tests)))
-      | then-is_empty-via-else-is_empty+then-text-most w ↦ sym (too_long c.args.most c.args.text.now (omega arith))
-    ]
+returns-then-is_empty-clause-number c = elim c.then-is_empty.branch [
+  | then-is_empty-via-then-is_empty w ↦ sym (empty c.args.most c.args.text.now (grind (arith, nat_tests)))
+  | then-is_empty-via-else-is_empty+then-text-most w ↦ sym (too_long c.args.most c.args.text.now (omega arith))
+]
 
 pub returns-then-not-is_ascii_digit-clause-number : goal.returns-then-not-is_ascii_digit-clause-number
-returns-then-not-is_ascii_digit-clause-number c =
-    sym
+returns-then-not-is_ascii_digit-clause-number c = sym
     (no_digit c.args.most c.args.text.now c.loop-digit.digit-index c.loop-digit-test.true (sym c.is_ascii_digit.ensures.value ∙ c.if-not-is_ascii_digit.true))
 
 pub overflow_mul-number : goal.overflow_mul-number
-overflow_mul-number c =
-    let s = small 37 c.args.text.now c.loop-digit.digit-index (omega arith) c.loop-digit.invariant.digits in
-    omega (arith, s)
+overflow_mul-number c = let s = small 37 c.args.text.now c.loop-digit.digit-index (omega arith) c.loop-digit.invariant.digits in omega (arith, s)
 
 pub overflow_add-number : goal.overflow_add-number
 overflow_add-number c =

@@ -5,9 +5,7 @@ use Rattle.stream_case.proofs.HeatLemmas.{range-length}
 use Rattle.stream_case.proofs.stream.Stream.sensible_above.Goals as goal
 
 pub heat_between-requires-clause-within : goal.heat_between-requires-clause-within
-heat_between-requires-clause-within c =
-    let range = range-length c.args.self.now c.requires in
-    record { from = omega (arith, ints); upto = omega (arith, ints) }
+heat_between-requires-clause-within c = let range = range-length c.args.self.now c.requires in omega (arith, ints)
 
 pub returns-clause-value : goal.returns-clause-value
 returns-clause-value c =
