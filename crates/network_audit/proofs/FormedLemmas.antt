@@ -4,8 +4,7 @@ use Rattle.network_audit.proofs.Words.{IsWholeValuation, IsWithinLimits, Item, L
 use Rattle.network_audit.proofs.Words.{balance_items, exchanger_items_at, exchangers_of, false≢true, finding_of, first_finding, full_size, is_ended, is_passed}
 use Rattle.network_audit.proofs.Words.{items, line_items, rational_zero, utility_items_at}
 use Rattle.network_audit.proofs.FoundLemmas.{found-item}
-use Rattle.network_audit.proofs.InvalidLemmas.{invalid_network}
-use Rattle.network_audit.proofs.ValidLemmas.{each-part}
+use Rattle.network_audit.proofs.ValidLemmas.{each-part, invalid_network}
 use Rattle.std.proofs.Common.{All, Bool, List, None, Option, Some, [], false, length, refl, slice_get, sym, ℕ, ◌+◌, ◌∙◌, ◌∷◌, ◌≡◌}
 use Rattle.network_audit.specs.declared.findings.Finding.TheVariants as finding
 use Rattle.network_audit.specs.declared.findings.Place.TheVariants as place

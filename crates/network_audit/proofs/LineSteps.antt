@@ -216,12 +216,8 @@ module _
     between_keeps side.Cold from to = (each from, each to)
 
     pass_keeps : (o : Option Line) → P (low_of (pass_run case network values o)) × P (high_of (pass_run case network values o))
-    pass_keeps None = (none, none)
-    pass_keeps (Some (line.Exchanger name hot cold duty)) = (none, none)
-    pass_keeps (Some (line.Split from first cp second)) = (none, none)
     pass_keeps (Some (line.Pass from exchanger to)) = between_keeps (branch_side case network from) from to
-    pass_keeps (Some (line.Mix first second to)) = (none, none)
-    pass_keeps (Some (line.End branch)) = (none, none)
+    pass_keeps other = (none, none)
 
     passed_keeps : (number : ℕ) (of : Source) → P (low_of (passed_run case network values number of)) × P (high_of (passed_run case network values number of))
     passed_keeps number (source.Stream stream) = pass_keeps (pass_of network number stream)

@@ -17,11 +17,8 @@ module _ (height : ℕ → Rational) where
   sum-mixes : (n : ℕ) (lines : List Line)
       → rational_sum_by value_of (filter_map (mix_row height) (enumerate_from n lines)) ≡ rational_sum_by (mix_loss height) lines
   sum-mixes n [] = refl
-  sum-mixes n (line.Exchanger name hot cold duty ∷ lines) = sum-mixes (n + 1) lines ∙ sym (zero-plus (rational_sum_by (mix_loss height) lines))
-  sum-mixes n (line.Split from first cp second ∷ lines) = sum-mixes (n + 1) lines ∙ sym (zero-plus (rational_sum_by (mix_loss height) lines))
-  sum-mixes n (line.Pass from exchanger to ∷ lines) = sum-mixes (n + 1) lines ∙ sym (zero-plus (rational_sum_by (mix_loss height) lines))
   sum-mixes n (line.Mix first second to ∷ lines) = ap (plus (mix_loss height (line.Mix first second to))) (sum-mixes (n + 1) lines)
-  sum-mixes n (line.End branch ∷ lines) = sum-mixes (n + 1) lines ∙ sym (zero-plus (rational_sum_by (mix_loss height) lines))
+  sum-mixes n (other ∷ lines) = sum-mixes (n + 1) lines ∙ sym (zero-plus (rational_sum_by (mix_loss height) lines))
 
   abbrev LosesSome : Line → Type 0
   LosesSome l = IsAtMost rational_zero (mix_loss height l)

@@ -2,7 +2,7 @@
 use Rattle.penalties.proofs.Words.{Audit, Case, CountsFromItself, Finds, HasAccepted, IsReferencePlace, IsReferenceView, IsTrue, IsWholeValuation, Joint}
 use Rattle.penalties.proofs.Words.{KnowsItsNetwork, Line, ListsPenalties, Network, Penalty, Place, Rational, Step, Stream, TooFine, View, all_exchanger_steps}
 use Rattle.penalties.proofs.Words.{all_joint_steps, all_mix_steps, branch_steps, first_too_fine, height_at, joint_rows, joints_of, mix_rows, values_of}
-use Rattle.network_audit.proofs.AcceptedLemmas.{faultless_values}
+use Rattle.network_audit.proofs.ValidLemmas.{faultless_values}
 use Rattle.penalties.proofs.StepLemmas.{first_behind, first_front}
 use Rattle.penalties.proofs.TableLemmas.{rows-joints, steps-joints}
 use Rattle.std.proofs.Common.{Bool, List, None, Option, Some, [], ap, ap₂, refl, subst, sym, ℕ, ℤ, ◌++◌, ◌↔◌, ◌∙◌, ◌≡◌}

@@ -25,15 +25,9 @@ abbrev pub IsNoMix : Line → Type 0
 IsNoMix l = (first second to : ℕ) → l ≡ line.Mix first second to → ⊥
 
 pub no_steps : (height : ℕ → Rational) (steps : Place → ℕ → ℕ → List Step) (n : ℕ) (l : Line) → IsNoMix l → line_steps height steps (n, l) ≡ []
-no_steps height steps n (line.Exchanger name hot cold duty) other = refl
-no_steps height steps n (line.Split from first cp second) other = refl
-no_steps height steps n (line.Pass from exchanger to) other = refl
 no_steps height steps n (line.Mix first second to) other = absurd (other first second to refl)
-no_steps height steps n (line.End branch) other = refl
+no_steps height steps n l other = refl
 
 pub no_row : (height : ℕ → Rational) (n : ℕ) (l : Line) → IsNoMix l → filter_map (mix_row height) ((n, l) ∷ []) ≡ []
-no_row height n (line.Exchanger name hot cold duty) other = refl
-no_row height n (line.Split from first cp second) other = refl
-no_row height n (line.Pass from exchanger to) other = refl
 no_row height n (line.Mix first second to) other = absurd (other first second to refl)
-no_row height n (line.End branch) other = refl
+no_row height n l other = refl

@@ -27,20 +27,12 @@ module _ {X Y Z : Type 0} (g : ℕ × X → Y) where
 module _ (height : ℕ → Rational) where
   lost : (duty : Rational) (i : ℕ) (o : Option Line)
       → released_by height duty (source.Stream i) (crossing_by o) ≡ minus (inlet_height height o) (outlet_height height o)
-  lost duty i None = sym (minus-self rational_zero)
-  lost duty i (Some (line.Exchanger name hot cold e)) = sym (minus-self rational_zero)
-  lost duty i (Some (line.Split from first cp second)) = sym (minus-self rational_zero)
   lost duty i (Some (line.Pass from exchanger to)) = refl
-  lost duty i (Some (line.Mix first second to)) = sym (minus-self rational_zero)
-  lost duty i (Some (line.End branch)) = sym (minus-self rational_zero)
+  lost duty i other = sym (minus-self rational_zero)
 
   gained : (i : ℕ) (o : Option Line) → absorbed_by height (source.Stream i) (crossing_by o) ≡ minus (outlet_height height o) (inlet_height height o)
-  gained i None = sym (minus-self rational_zero)
-  gained i (Some (line.Exchanger name hot cold e)) = sym (minus-self rational_zero)
-  gained i (Some (line.Split from first cp second)) = sym (minus-self rational_zero)
   gained i (Some (line.Pass from exchanger to)) = refl
-  gained i (Some (line.Mix first second to)) = sym (minus-self rational_zero)
-  gained i (Some (line.End branch)) = sym (minus-self rational_zero)
+  gained i other = sym (minus-self rational_zero)
 
   module _ (network : Network) where
     released-side : (number : ℕ) (duty : Rational) (of : Source)

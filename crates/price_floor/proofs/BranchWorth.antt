@@ -54,9 +54,6 @@ module _ (case : Case) (least : ℤ) (views : List View) (prices : Side → Sour
 
     pub mix_worth : ((on : Side) (s : Source) → FallTo least views (prices on s)) → (l : Line) → All (λ b. b < length network.branches) (uses l)
         → IsOfOneStream network.branches l → Solves case network values l → IsAtMost rational_zero (mix_loss worth l)
-    mix_worth falls (line.Exchanger name hot cold duty) within one solves = at_most_refl rational_zero
-    mix_worth falls (line.Split from first cp second) within one solves = at_most_refl rational_zero
-    mix_worth falls (line.Pass from exchanger to) within one solves = at_most_refl rational_zero
     mix_worth falls (line.Mix first second to) within one solves =
         let first_within = within 0 0 (omega arith) in let second_within = within 1 0 (omega arith) in
         let i = stream_at network.branches first in
@@ -73,7 +70,7 @@ module _ (case : Case) (least : ℤ) (views : List View) (prices : Side → Sour
         not_negative-minus (worth to) (plus (worth first) (worth second))
         (subst₂ IsAtMost (sym (worth-of i s to at one.1)) both
         (step_worth-at_most least views p (falls s.side (source.Stream i)) (heat to) (height to) (λ v. plus (height first v) (height second v)) lower))
-    mix_worth falls (line.End b) within one solves = at_most_refl rational_zero
+    mix_worth falls other within one solves = at_most_refl rational_zero
 
     -- ---- passes
 

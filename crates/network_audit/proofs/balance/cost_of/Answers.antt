@@ -1,7 +1,7 @@
 use Rattle.network_audit.proofs.Words.{Gives, Step, Sum, enumerate_from, err_from_is_err_and, first_finding, length-enumerate_from, plus, price_in, prices_in}
 use Rattle.network_audit.proofs.Words.{times, value_formed, whole}
-use Rattle.network_audit.proofs.BalanceLemmas.{price-here}
-use Rattle.network_audit.proofs.CostSteps.{IsPriced, cost-all, cost-is, cost-more, cost-not, priced-none}
+use Rattle.network_audit.proofs.HeatLemmas.{price-here}
+use Rattle.network_audit.proofs.SumSteps.{IsPriced, cost-all, cost-is, cost-more, cost-not, priced-none}
 use Rattle.network_audit.proofs.FoundLemmas.{found-formed, found-not_formed}
 use Rattle.std.proofs.Common.{[], ap, arith, length, map, subst, sym, take, ◌+◌, ◌<◌, ◌∙◌, ◌∷◌, ◌≡◌, ◌≤◌}
 use Rattle.network_audit.proofs.balance.cost_of.Goals as goal

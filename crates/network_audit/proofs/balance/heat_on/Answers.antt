@@ -1,5 +1,5 @@
 use Rattle.network_audit.proofs.Words.{Sum, enumerate_from, err_from_is_err_and, filter_map, heat_on_in, heats_on_in, length-enumerate_from, plus}
-use Rattle.network_audit.proofs.BalanceLemmas.{heat-here, heat-other}
+use Rattle.network_audit.proofs.HeatLemmas.{heat-here, heat-other}
 use Rattle.network_audit.proofs.SumSteps.{IsSummed, sum-all, sum-more, sum-not, sum-same, summed-none, total-is}
 use Rattle.network_audit.proofs.balance.heat_on.Goals.{else-is_on, then-is_on+in_ok-sum}
 use Rattle.std.proofs.Common.{[], ap, arith, length, subst, sym, take, ◌+◌, ◌<◌, ◌∙◌, ◌≡◌, ◌≤◌}

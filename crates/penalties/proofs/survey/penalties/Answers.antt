@@ -1,4 +1,4 @@
-use Rattle.network_audit.proofs.AcceptedLemmas.{known_network}
+use Rattle.network_audit.proofs.ValidLemmas.{known_network}
 use Rattle.penalties.proofs.Words.{AreStreams-IsComplete, Audit, HasValidStreams-IsComplete, exchangers_of, few_exchangers, joints_of, length-joints, to_z-of_z}
 use Rattle.penalties.proofs.ListLaws.{listed_not_negative, listed_sum}
 use Rattle.penalties.proofs.Listing.{all_listed, found_none, found_some, reference_view, too_fine_first, too_fine_later}
