@@ -283,7 +283,7 @@ found-later case network n zero values other found shape one two some =
     let same : values ≡ other = one_valuation case network n values other shape one (subst (λ m. IsValuation case network m other) at two) in
     ap (λ m. first_finding (items case network other m)) at ∙ ap (λ vs. first_finding (items case network vs n)) (sym same) ∙ some
 found-later case network n (suc j) values other found shape one two some =
-    let within = two.within in let early = used_early case network n shape in
+    let early = used_early case network n shape in
     let first : values ≡ front case network n other = one_valuation case network n values (front case network n other) shape one
     (valuation_front case network n (suc j) other shape two) in
     let same : items_before case network other (n + 1) ≡ items_before case network values (n + 1) =
@@ -292,7 +292,7 @@ found-later case network n (suc j) values other found shape one two some =
     let (more, parts) = items_before-front case network other (n + 1) (suc j) in
     let next : n + suc j + 1 ≡ n + 1 + suc j = omega arith in
     let here : first_finding (items_before case network other (n + 1)) ≡ Some found =
-    ap first_finding (same ∙ sym (items-inside case network values n (omega (arith, within)))) ∙ some in
+    ap first_finding (same ∙ sym (items-inside case network values n (omega arith))) ∙ some in
     let longer : first_finding (items_before case network other (n + suc j + 1)) ≡ Some found =
     ap (λ m. first_finding (items_before case network other m)) next ∙ ap first_finding parts
     ∙ found-front (items_before case network other (n + 1)) more found here in

@@ -14,7 +14,7 @@ use Rattle.network_audit.specs.declared.findings.Place.TheVariants as place
 
 over_any : (d m : ℕ) (a : Rational) → 0 < d → IsSized 1 m a → IsSized d m a
 over_any d m a some sized =
-    let small = sized.small in subst (IsSized d m) (sym (sized.is ∙ ratio-one sized.num)) (sized-whole d m sized.num some (omega (arith, small)))
+    subst (IsSized d m) (sym (sized.is ∙ ratio-one sized.num)) (sized-whole d m sized.num some (omega arith))
 
 over_one : (d m : ℕ) (n : ℤ) → 0 < d → IsSized d m (whole n) → IsSized 1 m (whole n)
 over_one d m n some sized =
@@ -30,8 +30,7 @@ over_one d m n some sized =
 module _ (den m : ℕ) (small : den ≤ most_den) where
   group-sized : (group : List Rational) → IsWholeGroup den m group → IsSized 1 (length group * m) (rational_sum group)
   group-sized group is =
-      let upto = is.upto in
-      let sum = sized-sum is.over m is.some (omega (arith, upto, small)) group is.each in
+      let sum = sized-sum is.over m is.some (omega (arith, small)) group is.each in
       subst (IsSized 1 (length group * m)) (sym is.is)
       (over_one is.over (length group * m) is.sum is.some (subst (IsSized is.over (length group * m)) is.is sum))
 

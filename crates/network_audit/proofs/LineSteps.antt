@@ -72,9 +72,8 @@ pub sized_change : (d m e n : ℕ) (of : Side) (before after : Rational) → Are
     → IsWithinLimits (change of before after)
 sized_change d m e n of before after small one two =
     let dens = factors d e (most_den) small.size_den small.state_den small.dens in
-    let most = small.state in
-    by of (sized-within e (n + n) (minus before after) small.state_den dens.1 (omega (arith, most)) (sized-minus e n n before after one two))
-    (sized-within e (n + n) (minus after before) small.state_den dens.1 (omega (arith, most)) (sized-minus e n n after before two one))
+    by of (sized-within e (n + n) (minus before after) small.state_den dens.1 (omega arith) (sized-minus e n n before after one two))
+    (sized-within e (n + n) (minus after before) small.state_den dens.1 (omega arith) (sized-minus e n n after before two one))
   where
     by : (of : Side) → IsWithinLimits (minus before after) → IsWithinLimits (minus after before) → IsWithinLimits (change of before after)
     by side.Hot falls rises = falls
@@ -202,8 +201,7 @@ level-within case complete (source.Utility number) level is = subst IsLevel (sam
 -- a level with an approach added
 wanted-level : (level approach : ℤ) → IsLevel level → IsApproach approach → IsWithinLimits (plus (whole level) (whole approach))
 wanted-level level approach is asked =
-    let low = is.from in let high = is.upto in let from = asked.from in let upto = asked.upto in
-    subst IsWithinLimits (sym (whole-plus level approach)) (within-whole (level +ℤ approach) (omega (arith, ints, low, high, from, upto)))
+    let from = asked.from in subst IsWithinLimits (sym (whole-plus level approach)) (within-whole (level +ℤ approach) (omega (arith, ints, from)))
 
 -- what holds of the states of all branches and of all levels holds of both ends of a side
 module _

@@ -23,8 +23,7 @@ module _ (case : Case) (network : Network) (values : Valuation) (complete : IsCo
   -- where each duty is whole, and at most the most heat of a utility
   pub no_finding_from_duties : All (λ e. IsSized 1 most_heat e.duty) (exchangers_of network.lines) → HasNoFinding case network
   no_finding_from_duties each =
-      let few = few_exchangers network.lines in let few_lines = shape.few in
-      no_finding_from_room (λ index u here.
+      let few = few_exchangers network.lines in no_finding_from_room (λ index u here.
       let heat = heat-over 1 most_heat (omega arith) (omega arith) network index each in
       heat-sized 1 u (heat_with network index) heat.num (omega arith) heat.is (all_at IsPlaced case.utilities index u (IsPlaced-IsComplete case complete) here)
-      (valid.ranges index u here)) (λ index u here. utility_formed 1 most_heat (omega arith) (omega arith) network index u (omega (arith, few, few_lines)) each)
+      (valid.ranges index u here)) (λ index u here. utility_formed 1 most_heat (omega arith) (omega arith) network index u (omega (arith, few)) each)

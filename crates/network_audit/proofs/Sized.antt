@@ -7,7 +7,7 @@ pub use Rattle.network_audit.specs.Sized.{IsSized, most_den, most_num}
 
 pub sized-within : (d m : ℕ) (a : Rational) → 0 < d → d ≤ most_den → m * d ≤ most_num → IsSized d m a → IsWithinLimits a
 sized-within d m a some den most sized =
-    let small = sized.small in subst IsWithinLimits (sym sized.is) (within-ratio sized.num d some (omega (arith, small, most)) den)
+    subst IsWithinLimits (sym sized.is) (within-ratio sized.num d some (omega (arith, most)) den)
 
 -- a larger bound
 pub sized-more : (d m n : ℕ) (a : Rational) → m ≤ n → IsSized d m a → IsSized d n a

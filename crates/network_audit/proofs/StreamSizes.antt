@@ -35,5 +35,4 @@ module _ (s : Stream) (valid : IsValidStream s) where
       by : (latent : Bool) → IsSized 1 m (if latent then first_part_of_load s.side else whole s.supply)
       by true = part s.side
       by false =
-          let low = valid.supply.from in let high = valid.supply.upto in
-          sized-whole 1 m s.supply (omega arith) (omega (arith, ints, low, high, larger))
+          sized-whole 1 m s.supply (omega arith) (omega (arith, ints, larger))

@@ -150,9 +150,8 @@ prices-sized case network complete heats =
     All-map (IsSized 1 most_price) (heat_price network) (enumerate_from 0 case.utilities)
     (All-enumerated (λ (e : ℕ × Utility). IsSized 1 most_price (heat_price network e)) case.utilities (λ index u at.
     let placed = all_at IsPlaced case.utilities index u (IsPlaced-IsComplete case complete) at in
-    let price = placed.price in let from = price.from in let upto = price.upto in
-    sized-times 1 1 (unsigned_abs MOST_PRICE) most_heat (whole u.price) (heat_with network index) (omega arith) (omega arith)
-    (sized-whole 1 (unsigned_abs MOST_PRICE) u.price (omega arith) (omega (arith, ints, from, upto))) (heats index u at)))
+    let price = placed.price in sized-times 1 1 (unsigned_abs MOST_PRICE) most_heat (whole u.price) (heat_with network index) (omega arith) (omega arith)
+    (sized-whole 1 (unsigned_abs MOST_PRICE) u.price (omega arith) (omega (arith, ints))) (heats index u at)))
 
 -- the excess
 excess-sized : (case : Case) (network : Network) → IsComplete case → HasShape case network → HaveWholeHeats case network
@@ -162,10 +161,9 @@ excess-sized case network complete shape heats =
     let sum = sized-sum 1 most_heat (omega arith) (omega arith) hot (heats-sized side.Hot case network heats) in
     let target = hot_target case.streams in
     let is = hot_target-between case.streams (AreStreams-IsComplete case complete) in
-    let from = is.from in let upto = is.upto in
     sized-minus 1 (length hot * most_heat) (unsigned_abs ALL_STREAMS_HEAT) (hot_heat network) (whole target)
     (subst (IsSized 1 (length hot * most_heat)) (hot_heat-is case network shape) sum)
-    (sized-whole 1 (unsigned_abs ALL_STREAMS_HEAT) target (omega arith) (omega (arith, ints, from, upto)))
+    (sized-whole 1 (unsigned_abs ALL_STREAMS_HEAT) target (omega arith) (omega (arith, ints)))
 
 pub balance_formed : (case : Case) (network : Network) → IsComplete case → HasShape case network → HaveWholeHeats case network
     → AreFormed (balance_items case network)

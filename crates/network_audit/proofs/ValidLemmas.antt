@@ -39,8 +39,7 @@ module _
     pub behind_there : to < length values
     unfolding made_by
     behind_there =
-        let there = line_here.known.2 in let count = valuation.count in
-        omega (arith, there, count, all_made shape.made_once, ap (λ ls. length (made_by ls)) (take-length network.lines))
+        let there = line_here.known.2 in omega (arith, there, all_made shape.made_once, ap (λ ls. length (made_by ls)) (take-length network.lines))
 
     pub behind_state : (value_at values to).t ≡ state_behind case network values from exchanger
     behind_state =

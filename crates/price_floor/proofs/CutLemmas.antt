@@ -188,6 +188,4 @@ no_cut-stands uses case network hot cold cut complete shape valid parts is_cut =
     let offer = offer-at_most network of reach (parts_of (opposite of) hot cold) cut.parts (used (opposite of)) in
     let between = members-at_most uses case network hot cold complete shape valid parts cut.parts of in
     let bound = at_most_trans _ own _ need (at_most_trans own met _ between offer) in
-    let cross = bound.cross in
-    let short = cut_parts.short in
-    omega (arith, ints, cross, short)
+    omega (arith, ints)

@@ -150,7 +150,7 @@ part_cost-is case network places on p (inr (i, u, is)) =
 
 not_before_itself : (p : Part) → comes_before p p → ⊥
 not_before_itself p (inl less) = omega (arith, ints, less)
-not_before_itself p (inr (inl same)) = let less = same.1 in omega (arith, ints, less)
+not_before_itself p (inr (inl same)) = omega (arith, ints)
 not_before_itself p (inr (inr same)) = by p.source same.2
   where
     by : (a : Source) → comes_before_source a a → ⊥
