@@ -174,15 +174,13 @@ contribution-within case complete (source.Utility number) = by (slice_get case.u
 pub approach-within : (case : Case) → IsComplete case → (hot cold : Source) → IsApproach (approach_of case hot cold)
 approach-within case complete hot cold =
     let one = contribution-within case complete hot in let two = contribution-within case complete cold in
-    let one_from = one.from in let one_upto = one.upto in let two_from = two.from in let two_upto = two.upto in
-    record { from = omega (arith, ints, one_from, two_from); upto = omega (arith, ints, one_upto, two_upto) }
+    record { from = omega (arith, ints); upto = omega (arith, ints) }
 
 -- a level that a source has is one of a case
 supply-level : (latent : Bool) (supply level : ℤ) → IsTemperature supply → (if latent then Some supply else None) ≡ Some level → IsLevel level
 supply-level false supply level is found = cc found
 supply-level true supply level is found =
-    let low = is.from in let high = is.upto in
-    subst IsLevel (same_Some supply level found) (record { from = omega (arith, ints, low); upto = omega (arith, ints, high) })
+    subst IsLevel (same_Some supply level found) (record { from = omega (arith, ints); upto = omega (arith, ints) })
 
 level-within : (case : Case) → IsComplete case → (s : Source) (level : ℤ) → fixed_level case s ≡ Some level → IsLevel level
 level-within case complete (source.Stream number) level is = by (slice_get case.streams number) refl is

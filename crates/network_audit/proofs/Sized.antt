@@ -12,8 +12,8 @@ sized-within d m a some den most sized =
 -- a larger bound
 pub sized-more : (d m n : ℕ) (a : Rational) → m ≤ n → IsSized d m a → IsSized d n a
 sized-more d m n a more sized =
-    let small = sized.small in let larger : m * d ≤ n * d = mul-le-mul more
-    (omega arith) in record { num = sized.num; is = sized.is; small = omega (arith, small, larger) }
+    let larger : m * d ≤ n * d = mul-le-mul more
+    (omega arith) in record { num = sized.num; is = sized.is; small = omega (arith, larger) }
 
 -- whole numbers, over any denominator
 pub sized-whole : (d m : ℕ) (n : ℤ) → 0 < d → unsigned_abs n ≤ m → IsSized d m (whole n)
@@ -32,13 +32,11 @@ sized-between d m a n some is least most =
 
 pub sized-plus : (d m n : ℕ) (a b : Rational) → IsSized d m a → IsSized d n b → IsSized d (m + n) (plus a b)
 sized-plus d m n a b one two =
-    let x = one.small in let y = two.small in
-    record { num = one.num +ℤ two.num; is = ap₂ plus one.is two.is ∙ plus-ratio_same_den one.num two.num d; small = omega (arith, ints, x, y) }
+    record { num = one.num +ℤ two.num; is = ap₂ plus one.is two.is ∙ plus-ratio_same_den one.num two.num d; small = omega (arith, ints) }
 
 pub sized-minus : (d m n : ℕ) (a b : Rational) → IsSized d m a → IsSized d n b → IsSized d (m + n) (minus a b)
 sized-minus d m n a b one two =
-    let x = one.small in let y = two.small in
-    record { num = one.num -ℤ two.num; is = ap₂ minus one.is two.is ∙ minus-ratio_same_den one.num two.num d; small = omega (arith, ints, x, y) }
+    record { num = one.num -ℤ two.num; is = ap₂ minus one.is two.is ∙ minus-ratio_same_den one.num two.num d; small = omega (arith, ints) }
 
 pub sized-times : (d e m n : ℕ) (a b : Rational) → 0 < d → 0 < e → IsSized d m a → IsSized e n b → IsSized (d * e) (m * n) (times a b)
 sized-times d e m n a b some_d some_e one two =

@@ -11,11 +11,9 @@ module _ (s : Stream) (valid : IsValidStream s) where
     where
       by : IsSensible s ⊎ IsLatent s → IsBetween (pos 0) MOST_LOAD (s.cp +ℤ s.load)
       by (inl sensible) =
-          let none = sensible.load in let from = sensible.cp.from in let upto = sensible.cp.upto in
-          record { from = omega (arith, ints, none, from); upto = omega (arith, ints, none, upto) }
+          record { from = omega (arith, ints); upto = omega (arith, ints) }
       by (inr latent) =
-          let none = latent.cp in let from = latent.load.from in let upto = latent.load.upto in
-          record { from = omega (arith, ints, none, from); upto = omega (arith, ints, none, upto) }
+          record { from = omega (arith, ints); upto = omega (arith, ints) }
 
   pub full_size-sized : (m : ℕ) → unsigned_abs MOST_LOAD ≤ m → IsSized 1 m (full_size s)
   full_size-sized m larger =
