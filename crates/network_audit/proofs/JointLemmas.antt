@@ -247,7 +247,8 @@ crossing-found network number stream from to found = ap crossing_by found
 -- a level is that of both ends
 level_run : (on : Side) (run : SideRun) (o : Option ℤ) → level_ends (ends_of on run) o ≡ ends_of on (level_or run o)
 level_run on run None = refl
-level_run on run (Some level) = refl
+level_run side.Hot run (Some level) = refl
+level_run side.Cold run (Some level) = refl
 
 -- the ends that are read from the table
 ends-are : (case : Case) (network : Network) (values : Valuation) (number : ℕ) (e : Exchanger) (of : Source) (on : Side) → HasShape case network
@@ -260,7 +261,8 @@ ends-are case network values number e (source.Stream stream) on shape at joins i
     ∙ ap (λ ends. level_ends ends (fixed_level case (source.Stream stream)))
     (sym (stream_run case network values number stream from to on pass.found (branch_side-is case network from stream on pass.of_stream is)))
     ∙ level_run on (passed_run case network values number (source.Stream stream)) (fixed_level case (source.Stream stream))
-ends-are case network values number e (source.Utility index) on shape at joins is = refl
+ends-are case network values number e (source.Utility index) side.Hot shape at joins is = refl
+ends-are case network values number e (source.Utility index) side.Cold shape at joins is = refl
 
 -- ---- members of a table that was made from members
 

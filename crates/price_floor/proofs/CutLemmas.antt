@@ -52,7 +52,8 @@ one_if b = if b then pos 1 else pos 0
 
 one_if-le : (x b : Bool) → (x ≡ true → b ≡ true) → one_if x ≤ℤ one_if b
 one_if-le true b h = rw (h refl) (omega (arith, ints))
-one_if-le false other h = omega (arith, ints)
+one_if-le false true h = omega (arith, ints)
+one_if-le false false h = omega (arith, ints)
 
 abbrev is_member : List ℕ → ℕ → Bool
 is_member members i = list_any (λ k. i == k) members

@@ -104,7 +104,8 @@ stands_later places p falls ends u v at below above = by v.from_itself v.place b
         → stands_above from place p ≡ true
     by false place (inl less) h = let most = order in int_lt-from place p.high (omega (arith, ints, most))
     by false place (inr (same, first, second)) h = absurd (cc)
-    by true place other h = int_le-from place p.low (omega (arith, ints))
+    by true place (inl less) h = int_le-from place p.low (omega (arith, ints))
+    by true place (inr (same, first, second)) h = int_le-from place p.low (omega (arith, ints))
 
 pub stands_lowest : (places : List ℤ) (p : Part) (lowest : ℤ) → HasEnds places p → IsLowest places lowest → stands p (from_place lowest) ≡ true
 stands_lowest places p lowest ends h = int_le-from lowest p.low (All-contains (λ x. lowest ≤ℤ x) places p.low h.each (low_on places p ends))
