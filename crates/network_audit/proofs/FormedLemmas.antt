@@ -18,9 +18,6 @@ AreFormed items = All IsFormed items
 pub formed-none : AreFormed []
 formed-none = All-nil IsFormed
 
-pub formed-test : (at : Place) (passed : Bool) (because : Reason) (items : List Item) → AreFormed items → AreFormed (Test at passed because ∷ items)
-formed-test at passed because items formed = All-cons IsFormed (Test at passed because) items tt formed
-
 pub formed-step : (at : Place) (number : ℕ) (value : Rational) (items : List Item) → IsWithinLimits value → AreFormed items
     → AreFormed (Step at number value ∷ items)
 formed-step at number value items within formed = All-cons IsFormed _ _ within formed
@@ -36,34 +33,15 @@ formed-no_step items at number formed found = let (item, is, failed, same) = fou
 
 -- ---- a network
 
-pub no_finding : (case : Case) (network : Network) (values : Valuation) → HasShape case network → IsWholeValuation case network values
-    → IsValidNetwork case network → All IsFormed (items case network values (length network.lines)) → HasNoFinding case network
-no_finding case network values shape valuation valid formed =
-    record { values = values; valuation = valuation; none = by (first_finding (items case network values (length network.lines))) refl }
-  where
-    by : (o : Option Finding) → first_finding (items case network values (length network.lines)) ≡ o
-        → first_finding (items case network values (length network.lines)) ≡ None
-    by None is = is
-    by (Some (finding.Failed at because)) is = absurd
-        (invalid_network case network at because shape (record { n = length network.lines; values = values; valuation = valuation; first = is }) valid)
-    by (Some (finding.TooFine at number)) is = absurd (formed-no_step (items case network values (length network.lines)) at number formed is)
-
--- the steps of all parts of an audit; a stream has none
-pub record EachIsFormed (case : Case) (network : Network) (values : Valuation) : Type 0 where
-  pub lines : (k : ℕ) (l : Line) → slice_get network.lines k ≡ Some l → AreFormed (line_items case network values (place.Line (k + 1)) l)
-  pub exchangers : (number : ℕ) (e : Exchanger) → slice_get (exchangers_of network.lines) number ≡ Some e
-      → AreFormed (exchanger_items_at case network values (number, e))
-  pub utilities : (index : ℕ) (u : Utility) → slice_get case.utilities index ≡ Some u → AreFormed (utility_items_at network (index, u))
-  pub balance : AreFormed (balance_items case network)
-
-pub all-formed : (case : Case) (network : Network) (values : Valuation) → EachIsFormed case network values
-    → AreFormed (items case network values (length network.lines))
-all-formed case network values formed =
-    each-part IsFormed case network values (record {
-      lines = formed.lines;
-      streams = λ index s at.
-          formed-test (place.Stream index) (is_ended network index) (reason.Unfinished rational_zero (full_size s)) [] formed-none;
-      exchangers = formed.exchangers;
-      utilities = formed.utilities;
-      balance = formed.balance;
-    })
+module _ (case : Case) (network : Network) where
+  pub no_finding : (values : Valuation) → HasShape case network → IsWholeValuation case network values
+      → IsValidNetwork case network → All IsFormed (items case network values (length network.lines)) → HasNoFinding case network
+  no_finding values shape valuation valid formed =
+      record { values = values; valuation = valuation; none = by (first_finding (items case network values (length network.lines))) refl }
+    where
+      by : (o : Option Finding) → first_finding (items case network values (length network.lines)) ≡ o
+          → first_finding (items case network values (length network.lines)) ≡ None
+      by None is = is
+      by (Some (finding.Failed at because)) is = absurd
+          (invalid_network case network at because shape (record { n = length network.lines; values = values; valuation = valuation; first = is }) valid)
+      by (Some (finding.TooFine at number)) is = absurd (formed-no_step (items case network values (length network.lines)) at number formed is)

@@ -41,8 +41,7 @@ not_of case (source.Utility k) index u on is at other = ne_eqb k index (λ same.
     clash : k ≡ index → ⊥
     clash same =
         let here : Some u.side ≡ Some on = sym (ap (option_map (λ v. v.side)) (ap (slice_get case.utilities) same ∙ at)) ∙ is in
-        let side_is : u.side ≡ on = cc here in
-        cc (sym other, ap (λ s. same_side s on) side_is, own on)
+        let side_is : u.side ≡ on = cc here in cc (sym other, ap (λ s. same_side s on) side_is, own on)
 
 part-own : (case : Case) (e : Exchanger) (on : Side) (index : ℕ) (u : Utility) → IsExchanger case e → slice_get case.utilities index ≡ Some u
     → part_on on (index, u) e ≡ own_part on e index
@@ -92,37 +91,36 @@ own-sum n duty (source.Utility k) within =
         by (inr other) = ap (λ b. if b then rational_zero else (if k == i then duty else rational_zero)) (ne_eqb i k other)
             ∙ ap (λ b. if b then duty else rational_zero) (ne_eqb k i (λ is. other (sym is)))
 
-side_heat-is : (case : Case) (network : Network) (on : Side) → HasShape case network
-    → ((e : Exchanger) → IsExchanger case e → side_of case (source_on on e) ≡ Some on)
-    → rational_sum (heats_on on case network) ≡ rational_sum_by (λ e. utility_part e.duty (source_on on e)) (exchangers_of network.lines)
-unfolding heats_on duties_with
-side_heat-is case network on shape sides =
-    let es = exchangers_of network.lines in let us = enumerate_from 0 case.utilities in
-    sum-filter_map (heat_on on network) us
-    ∙ rational_sum_by-same (λ p. unwrap_or (heat_on on network p) rational_zero) (λ p. rational_sum_by (part_on on p) es) us
-    (λ k d inside. heat (get_or us k d)) ∙ rational_sum_by-swap (part_on on) us es
-    ∙ rational_sum_by-same (λ e. rational_sum_by (λ p. part_on on p e) us) (λ e. utility_part e.duty (source_on on e)) es
-    (λ k d inside. one (get_or es k d) (shape.exchangers.each k d inside))
-  where
-    heat : (p : ℕ × Utility) → unwrap_or (heat_on on network p) rational_zero ≡ rational_sum_by (part_on on p) (exchangers_of network.lines)
-    heat (index, u) = by (same_side u.side on)
-      where
-        by : (b : Bool) → unwrap_or (if b then Some (heat_with network index) else None) rational_zero ≡ rational_sum_by
-            (λ e. if b then unwrap_or (duty_with index e) rational_zero else rational_zero) (exchangers_of network.lines)
-        by true = sum-filter_map (duty_with index) (exchangers_of network.lines)
-        by false = sym (rational_sum_by-zero (λ e. rational_zero) (exchangers_of network.lines) (λ k d inside. refl))
+module _ (case : Case) (network : Network) where
+  side_heat-is : (on : Side) → HasShape case network → ((e : Exchanger) → IsExchanger case e → side_of case (source_on on e) ≡ Some on)
+      → rational_sum (heats_on on case network) ≡ rational_sum_by (λ e. utility_part e.duty (source_on on e)) (exchangers_of network.lines)
+  unfolding heats_on duties_with
+  side_heat-is on shape sides =
+      let es = exchangers_of network.lines in let us = enumerate_from 0 case.utilities in sum-filter_map (heat_on on network) us
+      ∙ rational_sum_by-same (λ p. unwrap_or (heat_on on network p) rational_zero) (λ p. rational_sum_by (part_on on p) es) us
+      (λ k d inside. heat (get_or us k d)) ∙ rational_sum_by-swap (part_on on) us es
+      ∙ rational_sum_by-same (λ e. rational_sum_by (λ p. part_on on p e) us) (λ e. utility_part e.duty (source_on on e)) es
+      (λ k d inside. one (get_or es k d) (shape.exchangers.each k d inside))
+    where
+      heat : (p : ℕ × Utility) → unwrap_or (heat_on on network p) rational_zero ≡ rational_sum_by (part_on on p) (exchangers_of network.lines)
+      heat (index, u) = by (same_side u.side on)
+        where
+          by : (b : Bool) → unwrap_or (if b then Some (heat_with network index) else None) rational_zero ≡ rational_sum_by
+              (λ e. if b then unwrap_or (duty_with index e) rational_zero else rational_zero) (exchangers_of network.lines)
+          by true = sum-filter_map (duty_with index) (exchangers_of network.lines)
+          by false = sym (rational_sum_by-zero (λ e. rational_zero) (exchangers_of network.lines) (λ k d inside. refl))
 
-    one : (e : Exchanger) → IsExchanger case e → rational_sum_by (λ p. part_on on p e) (enumerate_from 0 case.utilities) ≡ utility_part e.duty (source_on on e)
-    one e is =
-        sum-enumerate (λ p. part_on on p e) (own_part on e) case.utilities (λ index u at. part-own case e on index u is at)
-        ∙ own-sum (length case.utilities) e.duty (source_on on e)
-        (λ k is_k. let there = IsSourceOf-side case (source_on on e) (ap is_some (sides e is)) in subst (IsSourceOf case) is_k there)
+      one : (e : Exchanger) → IsExchanger case e → rational_sum_by (λ p. part_on on p e) (enumerate_from 0 case.utilities) ≡ utility_part e.duty (source_on on e)
+      one e is =
+          sum-enumerate (λ p. part_on on p e) (own_part on e) case.utilities (λ index u at. part-own case e on index u is at)
+          ∙ own-sum (length case.utilities) e.duty (source_on on e)
+          (λ k is_k. let there = IsSourceOf-side case (source_on on e) (ap is_some (sides e is)) in subst (IsSourceOf case) is_k there)
 
-pub hot_heat-is : (case : Case) (network : Network) → HasShape case network → rational_sum (heats_on side.Hot case network) ≡ hot_heat network
-hot_heat-is case network shape = side_heat-is case network side.Hot shape (λ e is. is.hot)
+  pub hot_heat-is : HasShape case network → rational_sum (heats_on side.Hot case network) ≡ hot_heat network
+  hot_heat-is shape = side_heat-is side.Hot shape (λ e is. is.hot)
 
-pub cold_heat-is : (case : Case) (network : Network) → HasShape case network → rational_sum (heats_on side.Cold case network) ≡ cold_heat network
-cold_heat-is case network shape = side_heat-is case network side.Cold shape (λ e is. is.cold)
+  pub cold_heat-is : HasShape case network → rational_sum (heats_on side.Cold case network) ≡ cold_heat network
+  cold_heat-is shape = side_heat-is side.Cold shape (λ e is. is.cold)
 
 -- The balance from the heats of the utilities is that of the network, and so are its steps.
 
@@ -139,18 +137,18 @@ module _ {X Y : Type 0} where
 
 -- ---- the heats
 
--- a list of heats has those of the utilities
-pub record AreHeats (case : Case) (network : Network) (heats : List Rational) : Type 0 where
-  pub each : (index : ℕ) (u : Utility) → slice_get case.utilities index ≡ Some u → heat_at heats index ≡ heat_with network index
+module _ (case : Case) (network : Network) where
+  -- a list of heats has those of the utilities
+  pub record AreHeats (heats : List Rational) : Type 0 where
+    pub each : (index : ℕ) (u : Utility) → slice_get case.utilities index ≡ Some u → heat_at heats index ≡ heat_with network index
 
-pub heats-are : (case : Case) (network : Network) (heats : List Rational) → heats ≡ heats_in (joints_of network) case.utilities → AreHeats case network heats
-unfolding heats_in
-heats-are case network heats is = record {
-  each = λ index u at.
-      ap (λ hs. get_or hs index rational_zero) is
-      ∙ get_or-made (λ (p : ℕ × Utility). rational_sum (duties_in (joints_of network) p.0)) 0 case.utilities index u rational_zero at
-      ∙ ap (λ n. rational_sum (duties_in (joints_of network) n)) (omega arith) ∙ ap rational_sum (duties-are network index);
-}
+  pub heats-are : (heats : List Rational) → heats ≡ heats_in (joints_of network) case.utilities → AreHeats heats
+  unfolding heats_in
+  heats-are heats is = record {
+    each = λ index u at. ap (λ hs. get_or hs index rational_zero) is
+        ∙ get_or-made (λ (p : ℕ × Utility). rational_sum (duties_in (joints_of network) p.0)) 0 case.utilities index u rational_zero at
+        ∙ ap (λ n. rational_sum (duties_in (joints_of network) n)) (omega arith) ∙ ap rational_sum (duties-are network index);
+  }
 
 heats_on-are : (on : Side) (case : Case) (network : Network) (heats : List Rational) → AreHeats case network heats
     → heats_on_in on case.utilities heats ≡ heats_on on case network
@@ -160,40 +158,37 @@ heats_on-are on case network heats are =
     (All-enumerated (λ p. heat_on_in on heats p ≡ heat_on on network p) case.utilities
     (λ index u at. ap (λ h. if same_side u.side on then Some h else None) (are.each index u at)))
 
-prices-are : (case : Case) (network : Network) (heats : List Rational) → AreHeats case network heats
-    → prices_in case.utilities heats ≡ map (heat_price network) (enumerate_from 0 case.utilities)
-unfolding prices_in
-prices-are case network heats are =
-    map-same (price_in heats) (heat_price network) (enumerate_from 0 case.utilities)
-    (All-enumerated (λ p. price_in heats p ≡ heat_price network p) case.utilities (λ index u at. ap (times (whole u.price)) (are.each index u at)))
+module _ (case : Case) (network : Network) where
+  prices-are : (heats : List Rational) → AreHeats case network heats
+      → prices_in case.utilities heats ≡ map (heat_price network) (enumerate_from 0 case.utilities)
+  unfolding prices_in
+  prices-are heats are =
+      map-same (price_in heats) (heat_price network) (enumerate_from 0 case.utilities)
+      (All-enumerated (λ p. price_in heats p ≡ heat_price network p) case.utilities (λ index u at. ap (times (whole u.price)) (are.each index u at)))
 
--- ---- the balance
+  -- ---- the balance
 
-pub balance-is : (case : Case) (network : Network) (heats : List Rational) → HasShape case network → AreHeats case network heats
-    → balance_in (whole (hot_target case.streams)) case.utilities heats ≡ balance_of case network
-unfolding cost_of
-balance-is case network heats shape are =
-    let hot = ap rational_sum (heats_on-are side.Hot case network heats are) ∙ hot_heat-is case network shape in
-    let cold = ap rational_sum (heats_on-are side.Cold case network heats are) ∙ cold_heat-is case network shape in
-    let cost = ap rational_sum (prices-are case network heats are) ∙ rational_sum_by-map (λ a. a) (heat_price network) (enumerate_from 0 case.utilities) in
-    λ i. record { hot = hot i; cold = cold i; excess = minus (hot i) (whole (hot_target case.streams)); cost = cost i }
+  pub balance-is : (heats : List Rational) → HasShape case network → AreHeats case network heats
+      → balance_in (whole (hot_target case.streams)) case.utilities heats ≡ balance_of case network
+  unfolding cost_of
+  balance-is heats shape are =
+      let hot = ap rational_sum (heats_on-are side.Hot case network heats are) ∙ hot_heat-is case network shape in
+      let cold = ap rational_sum (heats_on-are side.Cold case network heats are) ∙ cold_heat-is case network shape in
+      let cost = ap rational_sum (prices-are heats are) ∙ rational_sum_by-map (λ a. a) (heat_price network) (enumerate_from 0 case.utilities) in
+      λ i. record { hot = hot i; cold = cold i; excess = minus (hot i) (whole (hot_target case.streams)); cost = cost i }
 
 abbrev steps_from : Case → List Rational → List Rational → List Rational → Rational → List Item
 steps_from case hot cold prices excess =
-    sum_steps place.Balance 0 rational_zero hot
-    ++ (sum_steps place.Balance (length hot) rational_zero cold
-    ++ Step place.Balance (length hot + length cold + 1) excess
-    ∷ cost_steps place.Balance (length hot + length cold + 1) rational_zero prices)
+    sum_steps place.Balance 0 rational_zero hot ++ (sum_steps place.Balance (length hot) rational_zero cold
+    ++ Step place.Balance (length hot + length cold + 1) excess ∷ cost_steps place.Balance (length hot + length cold + 1) rational_zero prices)
 
 pub balance_items-are : (case : Case) (network : Network) (heats : List Rational) → HasShape case network → AreHeats case network heats
     → balance_steps_in place.Balance (whole (hot_target case.streams)) case.utilities heats ≡ balance_items case network
 unfolding balance_items
 balance_items-are case network heats shape are =
     let hot = heats_on-are side.Hot case network heats are in
-    let cold = heats_on-are side.Cold case network heats are in
-    let prices = prices-are case network heats are in
     let excess = ap (λ h. minus h (whole (hot_target case.streams))) (ap rational_sum hot ∙ hot_heat-is case network shape) in
-    λ i. steps_from case (hot i) (cold i) (prices i) (excess i)
+    λ i. steps_from case (hot i) ((heats_on-are side.Cold case network heats are) i) ((prices-are case network heats are) i) (excess i)
 
 -- ---- what the loops read
 

@@ -167,8 +167,7 @@ pub joints-same : (branches : List Branch) (lines : List Line) (es : List Exchan
 unfolding joints_among
 joints-same branches lines es l none =
     let same : (p : ℕ × Exchanger) → joint_among branches (lines ++ l ∷ []) p ≡ joint_among branches lines p = λ p. joint-other branches lines l p.0 p.1
-    (none branches p.0) in
-    λ i. map (λ p. same p i) (enumerate_from 0 es)
+    (none branches p.0) in λ i. map (λ p. same p i) (enumerate_from 0 es)
 
 -- ---- line by line
 
@@ -207,36 +206,35 @@ declared-other branches lines n l within read other =
 
 -- ---- passes of exchangers that are there
 
-below_from_known : (case : Case) (network : Network) (l : Line) → NamesKnown case network l → PassesBelow (length (exchangers_of network.lines)) l
-below_from_known case network (line.Pass from exchanger to) known = known.1
-below_from_known case network other known = tt
+module _ (case : Case) (network : Network) where
+  below_from_known : (l : Line) → NamesKnown case network l → PassesBelow (length (exchangers_of network.lines)) l
+  below_from_known (line.Pass from exchanger to) known = known.1
+  below_from_known other known = tt
 
-pub passes_below : (case : Case) (network : Network) → HasShape case network → All (PassesBelow (length (exchangers_of network.lines))) network.lines
-passes_below case network shape k d within =
-    below_from_known case network (get_or network.lines k d)
-    (names-known case network shape k (get_or network.lines k d) (slice_get-get_or network.lines k d within))
+  pub passes_below : HasShape case network → All (PassesBelow (length (exchangers_of network.lines))) network.lines
+  passes_below shape k d within =
+      below_from_known (get_or network.lines k d) (names-known case network shape k (get_or network.lines k d) (slice_get-get_or network.lines k d within))
 
--- What the audit reads of the table of exchangers is what the items say: the ends of the sides, and the duties of the utilities.
+  -- What the audit reads of the table of exchangers is what the items say: the ends of the sides, and the duties of the utilities.
 
--- ---- the ends of the sides
+  -- ---- the ends of the sides
 
--- the side that a stream's branches have
-branch_side-is : (case : Case) (network : Network) (from stream : ℕ) (on : Side) → stream_at network.branches from ≡ stream
-    → side_of case (source.Stream stream) ≡ Some on → branch_side case network from ≡ on
-unfolding branch_side
-branch_side-is case network from stream on of_stream is =
-    ap (λ s. unwrap_or (side_of case (source.Stream s)) side.Hot) of_stream ∙ ap (λ o. unwrap_or o side.Hot) is
+  -- the side that a stream's branches have
+  branch_side-is : (from stream : ℕ) (on : Side) → stream_at network.branches from ≡ stream
+      → side_of case (source.Stream stream) ≡ Some on → branch_side case network from ≡ on
+  unfolding branch_side
+  branch_side-is from stream on of_stream is = ap (λ s. unwrap_or (side_of case (source.Stream s)) side.Hot) of_stream ∙ ap (λ o. unwrap_or o side.Hot) is
 
--- where a stream's pass is found, its ends are those of the branches
-stream_run : (case : Case) (network : Network) (values : Valuation) (number stream from to : ℕ) (on : Side)
-    → pass_of network number stream ≡ Some (line.Pass from number to) → branch_side case network from ≡ on
-    → ends_of on (passed_run case network values number (source.Stream stream)) ≡ passed_ends values (Some (record { from = from; to = to }))
-stream_run case network values number stream from to on found is =
-    ap (λ o. ends_of on (pass_run case network values o)) found ∙ ap (λ s. ends_of on (run_between s (value_at values from) (value_at values to))) is ∙ by on
-  where
-    by : (s : Side) → ends_of s (run_between s (value_at values from) (value_at values to)) ≡ passed_ends values (Some (record { from = from; to = to }))
-    by side.Hot = refl
-    by side.Cold = refl
+  -- where a stream's pass is found, its ends are those of the branches
+  stream_run : (values : Valuation) (number stream from to : ℕ) (on : Side)
+      → pass_of network number stream ≡ Some (line.Pass from number to) → branch_side case network from ≡ on
+      → ends_of on (passed_run case network values number (source.Stream stream)) ≡ passed_ends values (Some (record { from = from; to = to }))
+  stream_run values number stream from to on found is =
+      ap (λ o. ends_of on (pass_run case network values o)) found ∙ ap (λ s. ends_of on (run_between s (value_at values from) (value_at values to))) is ∙ by on
+    where
+      by : (s : Side) → ends_of s (run_between s (value_at values from) (value_at values to)) ≡ passed_ends values (Some (record { from = from; to = to }))
+      by side.Hot = refl
+      by side.Cold = refl
 
 -- the pass that the table has of a stream
 crossing-found : (network : Network) (number stream from to : ℕ) → pass_of network number stream ≡ Some (line.Pass from number to)
@@ -277,8 +275,7 @@ pub joint_items-are : (case : Case) (network : Network) (values : Valuation) →
     → joint_items case values (joints_of network) ≡ exchanger_items case network values
 unfolding joint_items exchanger_items joints_among
 joint_items-are case network values shape =
-    let es = exchangers_of network.lines in let make = joint_among network.branches network.lines in
-    flat_map-made (joint_items_at case values) make 0 es
+    let es = exchangers_of network.lines in let make = joint_among network.branches network.lines in flat_map-made (joint_items_at case values) make 0 es
     ∙ flat_map-same (λ (p : ℕ × Exchanger). joint_items_at case values (p.0, make p)) (exchanger_items_at case network values) (enumerate_from 0 es)
     (All-enumerated (λ p. joint_items_at case values (p.0, make p) ≡ exchanger_items_at case network values p) es each)
   where
@@ -307,16 +304,14 @@ unfolding all_heat_items utility_items
 heat_items-are case network =
     let same : (p : ℕ × Utility) → heat_items (joints_of network) p ≡ utility_items_at network p =
     λ p. ap (λ duties. sum_steps (place.Utility p.0) 0 rational_zero duties ++ range_items (place.Utility p.0) p.1 (rational_sum duties))
-    (duties-are network p.0) in
-    λ i. flat_map (λ p. same p i) (enumerate_from 0 case.utilities)
+    (duties-are network p.0) in λ i. flat_map (λ p. same p i) (enumerate_from 0 case.utilities)
 
 -- the heat of one utility more
 pub heats-more : (joints : List Joint) (utilities : List Utility) (n : ℕ) (d : Utility) → n < length utilities
     → heats_in joints (take (n + 1) utilities) ≡ heats_in joints (take n utilities) ++ rational_sum (duties_in joints n) ∷ []
 unfolding heats_in
 heats-more joints utilities n d within =
-    let heat : ℕ × Utility → Rational = λ p. rational_sum (duties_in joints p.0) in
-    ap (λ us. map heat (enumerate_from 0 us)) (take_more utilities n d within)
+    let heat : ℕ × Utility → Rational = λ p. rational_sum (duties_in joints p.0) in ap (λ us. map heat (enumerate_from 0 us)) (take_more utilities n d within)
     ∙ ap (map heat) (enumerate_from-append 0 (take n utilities) (get_or utilities n d ∷ []))
     ∙ map-append heat (enumerate_from 0 (take n utilities)) (enumerate_from (0 + length (take n utilities)) (get_or utilities n d ∷ []))
     ∙ ap (λ k. map heat (enumerate_from 0 (take n utilities)) ++ rational_sum (duties_in joints k) ∷ []) (omega (arith, within, length-take n utilities))
@@ -339,8 +334,7 @@ pub duty-read : (network : Network) (joints : List Joint) (number : ℕ) (j : Jo
     → (get_or joints number j).duty ≡ duty_at network number
 unfolding duty_at joints_among
 duty-read network joints number j is within =
-    let es = exchangers_of network.lines in
-    let d : Exchanger = record { name = []; hot = j.hot; cold = j.cold; duty = j.duty } in
+    let es = exchangers_of network.lines in let d : Exchanger = record { name = []; hot = j.hot; cold = j.cold; duty = j.duty } in
     let at = slice_get-get_or es number d within in
     ap (λ k. k.duty) (ap (λ js. get_or js number j) is ∙ get_or-made (joint_among network.branches network.lines) 0 es number (get_or es number d) j at)
     ∙ ap duty_of (sym at)

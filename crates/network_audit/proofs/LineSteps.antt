@@ -1,4 +1,5 @@
 -- The numbers that statements and exchangers form are within the limits where what the branches carry leaves room.
+use Rattle.network_audit.proofs.FoundLemmas.{all-if}
 use Rattle.network_audit.proofs.Words.{All-from_recursion, BranchValue, Case, Exchanger, HasShape, HasValidStreams-IsComplete, IsBelow, IsBetween, IsComplete}
 use Rattle.network_audit.proofs.Words.{IsContribution, IsFormed, IsLevel, IsMix, IsPass, IsSplit, IsTemperature, IsUtility, IsValidStream, IsWholeValuation}
 use Rattle.network_audit.proofs.Words.{IsWithinLimits, Item, Line, MOST_CONTRIBUTION, Network, Place, Rational, Side, Solves, Source, StaysValid-IsComplete}
@@ -40,29 +41,23 @@ roomy_none = record {
   size = within-zero;
   state = within-zero;
   heat = subst IsWithinLimits (sym (times-zero rational_zero)) within-zero;
-  wanted = λ approach is. subst IsWithinLimits (sym (zero-plus (whole approach)))
-      (within-whole approach (let from = is.from in let upto = is.upto in omega (arith, ints, from, upto)));
+  wanted = λ approach is. subst IsWithinLimits (sym (zero-plus (whole approach))) (within-whole approach (omega (arith, ints, is.from, is.upto)));
 }
 
 factors : (d e most : ℕ) → 0 < d → 0 < e → d * e ≤ most → (d ≤ most) × (e ≤ most)
 factors d e most some_d some_e both =
-    let one : d * 1 ≤ d * e = mul-le-mul (omega arith) some_e in
-    let other : 1 * e ≤ d * e = mul-le-mul some_d (omega arith) in
+    let one : d * 1 ≤ d * e = mul-le-mul (omega arith) some_e in let other : 1 * e ≤ d * e = mul-le-mul some_d (omega arith) in
     (omega (arith, one, both), omega (arith, other, both))
 
 -- they leave room
 pub sized_roomy : (d m e n : ℕ) (v : BranchValue) → AreSmall d m e n → IsSized d m v.cp → IsSized e n v.t → IsRoomy v
 sized_roomy d m e n v small size state =
-    let dens = factors d e (most_den) small.size_den small.state_den small.dens in
-    let most = small.state in
-    record {
+    let dens = factors d e (most_den) small.size_den small.state_den small.dens in let most = small.state in record {
       size = sized-within d m v.cp small.size_den dens.0 small.size size;
       state = sized-within e n v.t small.state_den dens.1 (omega (arith, most)) state;
       heat = sized-within (d * e) (m * n) (times v.cp v.t) (mul-pos small.size_den small.state_den) small.dens small.heat
           (sized-times d e m n v.cp v.t small.size_den small.state_den size state);
-      wanted = λ approach asked.
-          let from = asked.from in let upto = asked.upto in
-          let added = sized-plus e n most_approach v.t (whole approach) state
+      wanted = λ approach asked. let from = asked.from in let upto = asked.upto in let added = sized-plus e n most_approach v.t (whole approach) state
           (sized-whole e most_approach approach small.state_den (omega (arith, ints, from, upto))) in
           sized-within e (n + most_approach) (plus v.t (whole approach)) small.state_den dens.1 (omega (arith, most)) added;
     }
@@ -110,26 +105,20 @@ load_formed at true state = All-from_recursion IsFormed (load_items at true stat
 pub pass_formed : (at : Place) (of : Side) (latent : Bool) (duty : Rational) (from to : BranchValue) → IsBelow rational_zero from.cp → IsPass of duty from to
     → IsRoomy to → IsWithinLimits (change of from.t to.t) → AreFormed (pass_items at of latent from duty)
 pass_formed at of latent duty from to positive pass roomy change_within =
-    let by = change of from.t to.t in
-    let after = moved of from.t (over duty from.cp) in
+    let by = change of from.t to.t in let after = moved of from.t (over duty from.cp) in
     let over_size = over_from_times by duty from.cp (positive-nonzero from.cp positive) (times_comm by from.cp ∙ pass.heat) in
     let state = ap (λ (v : BranchValue). v.t) (pass_determined of from to duty positive pass) in
     formed-step at 1 (over duty from.cp) (Step at 2 after ∷ load_items at latent after) (subst IsWithinLimits over_size change_within)
     (formed-step at 2 after (load_items at latent after) (subst IsWithinLimits state roomy.state) (load_formed at latent after))
 
-formed-if : (b : Bool) (items : List Item) → AreFormed items → AreFormed (if b then [] else items)
-formed-if true items formed = formed-none
-formed-if false items formed = formed
-
 -- a mix forms the size, the two products, that of the mixed branch, and its state
 pub mix_formed : (at : Place) (first second to : BranchValue) → IsBelow rational_zero (plus first.cp second.cp) → IsMix first second to → IsRoomy first
     → IsRoomy second → IsRoomy to → AreFormed (mix_items at first second)
 mix_formed at first second to positive mix one two both =
-    let size = subst IsWithinLimits mix.size both.size in let heat = subst IsWithinLimits mix.heat both.heat in
     let state = subst IsWithinLimits (ap (λ (v : BranchValue). v.t) (mix_determined first second to positive mix)) both.state in
     let means = mean_items at first second (plus first.cp second.cp) in
-    let rest : AreFormed means = All-from_recursion IsFormed means (one.heat, (two.heat, (heat, (state, tt)))) in
-    formed-step _ _ _ _ size (formed-if (rational_eq first.t second.t) means rest)
+    let rest : AreFormed means = All-from_recursion IsFormed means (one.heat, (two.heat, ((subst IsWithinLimits mix.heat both.heat), (state, tt)))) in
+    formed-step _ _ _ _ (subst IsWithinLimits mix.size both.size) (all-if IsFormed (rational_eq first.t second.t) means rest)
 
 end_formed : (at : Place) (value : BranchValue) (o : Option Stream) → AreFormed (end_items at value o)
 end_formed at value None = formed-none
@@ -179,8 +168,7 @@ approach-within case complete hot cold =
 -- a level that a source has is one of a case
 supply-level : (latent : Bool) (supply level : ℤ) → IsTemperature supply → (if latent then Some supply else None) ≡ Some level → IsLevel level
 supply-level false supply level is found = cc found
-supply-level true supply level is found =
-    subst IsLevel (same_Some supply level found) (record { from = omega (arith, ints); upto = omega (arith, ints) })
+supply-level true supply level is found = subst IsLevel (same_Some supply level found) (record { from = omega (arith, ints); upto = omega (arith, ints) })
 
 level-within : (case : Case) → IsComplete case → (s : Source) (level : ℤ) → fixed_level case s ≡ Some level → IsLevel level
 level-within case complete (source.Stream number) level is = by (slice_get case.streams number) refl is
@@ -232,10 +220,8 @@ module _
 pub exchanger_formed : (case : Case) (network : Network) (values : Valuation) → IsComplete case → All IsRoomy values → (number : ℕ) (e : Exchanger)
     → AreFormed (exchanger_items_at case network values (number, e))
 exchanger_formed case network values complete roomy number e =
-    let approach = approach_of case e.hot e.cold in
-    let asked = approach-within case complete e.hot e.cold in
-    let given = ends_of side.Hot (side_run case network values number e.hot) in
-    let taken = ends_of side.Cold (side_run case network values number e.cold) in
+    let approach = approach_of case e.hot e.cold in let asked = approach-within case complete e.hot e.cold in
+    let given = ends_of side.Hot (side_run case network values number e.hot) in let taken = ends_of side.Cold (side_run case network values number e.cold) in
     let both = side_keeps (λ t. IsWithinLimits (plus t (whole approach))) case network values (λ branch. (roomy_at values roomy branch).wanted approach asked)
     (λ s level at. wanted-level level approach (level-within case complete s level at) asked) (roomy_none.wanted approach asked) number e.cold in
     All-from_recursion IsFormed (side_items case (place.Exchanger number) e.hot e.cold given taken) (tt, (both.1, (tt, (both.0, (tt, tt)))))

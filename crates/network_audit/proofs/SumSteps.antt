@@ -44,8 +44,7 @@ pub summed-more : (before : ℕ) (numbers : List Rational) (total : Rational) (s
 summed-more before numbers total steps a summed formed = record {
   total_is = ap (λ x. plus x a) summed.total_is ∙ sym (added-append rational_zero numbers (a ∷ []));
   steps_is = omega (arith, summed.steps_is, length-append numbers (a ∷ []));
-  passed = λ at.
-      ap first_finding (steps-append at before rational_zero numbers (a ∷ []))
+  passed = λ at. ap first_finding (steps-append at before rational_zero numbers (a ∷ []))
       ∙ found-behind (sum_steps at before rational_zero numbers) (sum_steps at (before + length numbers) (added rational_zero numbers) (a ∷ []))
       (summed.passed at) ∙ ap (λ n. first_finding (Step at (n + 1) (plus (added rational_zero numbers) a) ∷ [])) (sym summed.steps_is)
       ∙ ap (λ x. first_finding (Step at (steps + 1) (plus x a) ∷ [])) (sym summed.total_is) ∙ formed at;
@@ -95,11 +94,9 @@ module _ {X : Type 0} (f : X → Option Rational) where
       → ((at : Place) → first_finding (Step at (steps + 1) (plus total a) ∷ []) ≡ Some (finding.TooFine at step)) → (at : Place)
       → first_finding (sum_steps at before rational_zero (filter_map f xs)) ≡ Some (finding.TooFine at step)
   sum-not before xs n d a total steps step within is summed found at =
-      let later = filter_map f (drop (n + 1) xs) in
-      let all : filter_map f xs ≡ (filter_map f (take n xs) ++ a ∷ []) ++ later =
+      let later = filter_map f (drop (n + 1) xs) in let all : filter_map f xs ≡ (filter_map f (take n xs) ++ a ∷ []) ++ later =
       ap (filter_map f) (sym (take-append-drop (n + 1) xs)) ∙ filter_map-append f (take (n + 1) xs) (drop (n + 1) xs)
-      ∙ ap (λ ns. ns ++ later) (numbers-more_some xs n d a within is) in
-      ap (λ ns. first_finding (sum_steps at before rational_zero ns)) all
+      ∙ ap (λ ns. ns ++ later) (numbers-more_some xs n d a within is) in ap (λ ns. first_finding (sum_steps at before rational_zero ns)) all
       ∙ summed-not before (filter_map f (take n xs)) later total steps a step summed found at
 
   -- all members
