@@ -1,14 +1,12 @@
 -- A valid network has no finding where each number that is formed on the way is within the limits.
-use Rattle.network_audit.proofs.Words.{All-cons, All-nil, Case, Decides-is_within_limits, Exchanger, Finding, HasNoFinding, HasShape, IsFormed, IsValidNetwork}
-use Rattle.network_audit.proofs.Words.{IsWholeValuation, IsWithinLimits, Item, Line, Network, Place, Rational, Reason, Step, Test, Utility, Valuation}
-use Rattle.network_audit.proofs.Words.{balance_items, exchanger_items_at, exchangers_of, false≢true, finding_of, first_finding, full_size, is_ended, is_passed}
-use Rattle.network_audit.proofs.Words.{items, line_items, rational_zero, utility_items_at}
+use Rattle.network_audit.proofs.Words.{All-cons, All-nil, Case, Decides-is_within_limits, Finding, HasNoFinding, HasShape, IsFormed, IsValidNetwork}
+use Rattle.network_audit.proofs.Words.{IsWholeValuation, IsWithinLimits, Item, Network, Place, Rational, Step, Test, Valuation}
+use Rattle.network_audit.proofs.Words.{false≢true, finding_of, first_finding, is_passed}
+use Rattle.network_audit.proofs.Words.{items}
 use Rattle.network_audit.proofs.FoundLemmas.{found-item}
-use Rattle.network_audit.proofs.ValidLemmas.{each-part, invalid_network}
-use Rattle.std.proofs.Common.{All, Bool, List, None, Option, Some, [], false, length, refl, slice_get, sym, ℕ, ◌+◌, ◌∙◌, ◌∷◌, ◌≡◌}
+use Rattle.network_audit.proofs.ValidLemmas.{invalid_network}
+use Rattle.std.proofs.Common.{All, List, None, Option, Some, [], false, length, refl, sym, ℕ, ◌∙◌, ◌∷◌, ◌≡◌}
 use Rattle.network_audit.specs.declared.findings.Finding.TheVariants as finding
-use Rattle.network_audit.specs.declared.findings.Place.TheVariants as place
-use Rattle.network_audit.specs.declared.findings.Reason.TheVariants as reason
 
 -- ---- items whose numbers are formed
 

@@ -192,7 +192,7 @@ module _ (case : Case) (network : Network) where
       (items_before-same old new (n + 1) made shape early agree) in
       let valuation : IsValuation case network (suc n) new = valuation_more case network n old l shape at walked.valuation
       (room-passed old (place.Line (n + 1)) l none) in let front_is : take after next ≡ new = kept in record {
-        made_is = omega (arith, after_is, made_next, walked.made_is, length-made_values case network old l, add-one n, ap (made_before case network) (add-one n));
+        made_is = omega (arith, after_is, made_next, walked.made_is, length-made_values case network old l, ap (made_before case network) (add-one n));
         room = long ∙ walked.room;
         valuation = subst (IsValuation case network (n + 1)) (sym front_is) (subst (λ k. IsValuation case network k new) (sym (add-one n)) valuation);
         passed = ap (λ vs. first_finding (items_before case network vs (n + 1))) front_is ∙ ap first_finding same

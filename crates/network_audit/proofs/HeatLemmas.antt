@@ -110,7 +110,8 @@ module _ (case : Case) (network : Network) where
           by true = sum-filter_map (duty_with index) (exchangers_of network.lines)
           by false = sym (rational_sum_by-zero (λ e. rational_zero) (exchangers_of network.lines) (λ k d inside. refl))
 
-      one : (e : Exchanger) → IsExchanger case e → rational_sum_by (λ p. part_on on p e) (enumerate_from 0 case.utilities) ≡ utility_part e.duty (source_on on e)
+      one : (e : Exchanger) → IsExchanger case e
+          → rational_sum_by (λ p. part_on on p e) (enumerate_from 0 case.utilities) ≡ utility_part e.duty (source_on on e)
       one e is =
           sum-enumerate (λ p. part_on on p e) (own_part on e) case.utilities (λ index u at. part-own case e on index u is at)
           ∙ own-sum (length case.utilities) e.duty (source_on on e)

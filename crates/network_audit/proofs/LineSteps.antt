@@ -2,7 +2,7 @@
 use Rattle.network_audit.proofs.FoundLemmas.{all-if}
 use Rattle.network_audit.proofs.Words.{All-from_recursion, BranchValue, Case, Exchanger, HasShape, HasValidStreams-IsComplete, IsBelow, IsBetween, IsComplete}
 use Rattle.network_audit.proofs.Words.{IsContribution, IsFormed, IsLevel, IsMix, IsPass, IsSplit, IsTemperature, IsUtility, IsValidStream, IsWholeValuation}
-use Rattle.network_audit.proofs.Words.{IsWithinLimits, Item, Line, MOST_CONTRIBUTION, Network, Place, Rational, Side, Solves, Source, StaysValid-IsComplete}
+use Rattle.network_audit.proofs.Words.{IsWithinLimits, Line, MOST_CONTRIBUTION, Network, Place, Rational, Side, Solves, Source, StaysValid-IsComplete}
 use Rattle.network_audit.proofs.Words.{Step, Stream, Utility, Valuation, all_at, all_solved, branch_above, branch_side, cases_lt, change, duty_at, end_items}
 use Rattle.network_audit.proofs.Words.{ends_of, exchanger_items_at, fixed_level, get_or_past, ints, is_latent, is_latent_branch, level_or, line_items}
 use Rattle.network_audit.proofs.Words.{load_items, mean_items, minus, mix_determined, mix_items, mixed_positive, moved, mul-le-mul, mul-pos, names-known}
@@ -12,7 +12,7 @@ use Rattle.network_audit.proofs.Words.{split_items, stream_at, times, times-zero
 use Rattle.network_audit.proofs.FormedLemmas.{AreFormed, formed-none, formed-step}
 use Rattle.network_audit.proofs.Sized.{IsSized, most_den, sized-minus, sized-plus, sized-times, sized-whole, sized-within}
 use Rattle.network_values.specs.Sides.{approach_of, contribution_of, high_of, low_of, stream_level}
-use Rattle.std.proofs.Common.{All, Bool, List, None, Option, Some, [], ap, arith, false, if◌then◌else◌, length, pos, refl, slice_get, subst, sym, true, ℕ, ℤ}
+use Rattle.std.proofs.Common.{All, Bool, None, Option, Some, ap, arith, false, if◌then◌else◌, length, pos, refl, slice_get, subst, sym, true, ℕ, ℤ}
 use Rattle.std.proofs.Common.{⊎_elim, ◌*◌, ◌+ℤ◌, ◌+◌, ◌<◌, ◌∙◌, ◌∷◌, ◌≡◌, ◌≤◌}
 pub use Rattle.network_audit.specs.Sized.{AreSmall, most_approach}
 use Rattle.network_audit.specs.declared.findings.Place.TheVariants as place

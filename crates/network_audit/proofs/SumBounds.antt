@@ -1,19 +1,18 @@
 -- The sums of utilities and of the balance are within the limits where their numbers are few and small.
 use Rattle.network_audit.proofs.Words.{All-append, All-cons, All-enumerated, All-from_recursion, All-head, All-map, All-nil, All-tail, AreStreams-IsComplete}
 use Rattle.network_audit.proofs.Words.{Case, HasShape, IsComplete, IsFormed, IsInRange, IsPlaced, IsPlaced-IsComplete, Item, Network, Place, Rational, Side}
-use Rattle.network_audit.proofs.Words.{Step, Utility, all_at, at_most-whole, at_most_trans, balance_items, cons_option, cost_steps, duties_with, duty_with}
-use Rattle.network_audit.proofs.Words.{enumerate_from, excess_of, exchangers_of, heat_on, heat_price, heat_with, heats_on, hot_heat, hot_target}
-use Rattle.network_audit.proofs.Words.{hot_target-between, ints, length-enumerate_from, length-map, length-utilities, mul-le-mul, plus, range_items, ratio}
-use Rattle.network_audit.proofs.Words.{rational_sum, rational_zero, same_side, same_source, sum_steps, utility_items_at, whole}
+use Rattle.network_audit.proofs.Words.{Step, Utility, all_at, at_most-whole, at_most_trans, balance_items, cons_option, cost_steps, duties_with}
+use Rattle.network_audit.proofs.Words.{enumerate_from, excess_of, heat_on, heat_price, heat_with, heats_on, hot_heat, hot_target}
+use Rattle.network_audit.proofs.Words.{hot_target-between, ints, length-enumerate_from, length-map, length-utilities, plus, range_items, ratio}
+use Rattle.network_audit.proofs.Words.{rational_sum, rational_zero, same_side, sum_steps, utility_items_at, whole}
 use Rattle.network_audit.proofs.FormedLemmas.{AreFormed, formed-none, formed-step}
 use Rattle.network_audit.proofs.HeatLemmas.{hot_heat-is}
 use Rattle.network_audit.proofs.Sized.{IsSized, most_den, most_num, sized-between, sized-minus, sized-more, sized-plus, sized-times, sized-whole, sized-within}
-use Rattle.std.proofs.Common.{All, Bool, List, None, Option, Some, [], arith, false, filter_map, get_or, if◌then◌else◌, length, map, pos, refl, slice_get}
-use Rattle.std.proofs.Common.{subst, suc, true, unsigned_abs, ℕ, ℤ, ◌*◌, ◌+◌, ◌<◌, ◌||◌, ◌∷◌, ◌≡◌, ◌≤◌}
+use Rattle.std.proofs.Common.{All, Bool, List, None, Option, Some, [], arith, false, filter_map, if◌then◌else◌, length, map, pos, refl, slice_get}
+use Rattle.std.proofs.Common.{subst, suc, true, unsigned_abs, ℕ, ℤ, ◌*◌, ◌+◌, ◌<◌, ◌∷◌, ◌≡◌, ◌≤◌}
 use Rattle.stream_case.specs.declared.limits.TheConstants.{ALL_STREAMS_HEAT, ALL_UTILITIES, MOST_HEAT, MOST_PRICE}
 use Rattle.network_audit.specs.declared.findings.Place.TheVariants as place
 use Rattle.stream_case.specs.declared.source.Side.TheVariants as side
-use Rattle.stream_case.specs.declared.source.Source.TheVariants as source
 
 -- ---- numbers that some members have
 
@@ -144,8 +143,8 @@ module _ (case : Case) (network : Network) where
       let none = sized-whole 1 0 (pos 0) (omega arith) (omega arith) in
       let excess = sized-within 1 (length hot * most_heat + unsigned_abs ALL_STREAMS_HEAT) (excess_of case network) (omega arith) (omega arith)
       (omega (arith, few, few_hot)) (excess-sized complete shape heats) in
-      let costs = costs_formed 1 most_price (omega arith) (omega arith) place.Balance before 0 rational_zero prices (omega arith) (omega (arith, few_prices)) none
-      (prices-sized complete heats) in
+      let costs = costs_formed 1 most_price (omega arith) (omega arith) place.Balance before 0 rational_zero prices (omega arith) (omega (arith, few_prices))
+      none (prices-sized complete heats) in
       let last = formed-step place.Balance before (excess_of case network) (cost_steps place.Balance before rational_zero prices) excess costs in
       let colds = sums_formed 1 most_heat (omega arith) (omega arith) place.Balance (length hot) 0 rational_zero cold (omega (arith, few, few_cold)) none
       (heats-sized side.Cold case network heats) in
