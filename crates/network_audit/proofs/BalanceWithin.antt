@@ -39,14 +39,11 @@ pub balance-within : (case : Case) (network : Network) → HasShape case network
 unfolding balance_items cost_of
 balance-within case network shape none =
     let hot = heats_on side.Hot case network in let cold = heats_on side.Cold case network in
-    let prices = map (heat_price network) (enumerate_from 0 case.utilities) in
-    let before = length hot + length cold + 1 in
-    let hots = sum_steps place.Balance 0 rational_zero hot in
-    let colds = sum_steps place.Balance (length hot) rational_zero cold in
+    let prices = map (heat_price network) (enumerate_from 0 case.utilities) in let before = length hot + length cold + 1 in
+    let hots = sum_steps place.Balance 0 rational_zero hot in let colds = sum_steps place.Balance (length hot) rational_zero cold in
     let last : List Item = Step place.Balance before (excess_of case network) ∷ cost_steps place.Balance before rational_zero prices in
     let all : first_finding (hots ++ (colds ++ last)) ≡ None = (passed-each case network none.values none.none).balance in
-    let behind = passed-back hots (colds ++ last) all in let rest = passed-back colds last behind in
-    record {
+    let behind = passed-back hots (colds ++ last) all in let rest = passed-back colds last behind in record {
       hot = subst IsWithinLimits (added-zero hot ∙ hot_heat-is case network shape)
           (sum-within place.Balance 0 rational_zero hot within-zero (passed-front hots (colds ++ last) all));
       cold = subst IsWithinLimits (added-zero cold ∙ cold_heat-is case network shape)

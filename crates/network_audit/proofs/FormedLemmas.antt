@@ -1,15 +1,12 @@
 -- A valid network has no finding where each number that is formed on the way is within the limits.
-use Rattle.network_audit.proofs.Words.{All-cons, All-nil, Case, Decides-is_within_limits, Exchanger, Finding, HasNoFinding, HasShape, IsFormed, IsValidNetwork}
-use Rattle.network_audit.proofs.Words.{IsWholeValuation, IsWithinLimits, Item, Line, Network, Place, Rational, Reason, Step, Test, Utility, Valuation}
-use Rattle.network_audit.proofs.Words.{balance_items, exchanger_items_at, exchangers_of, false≢true, finding_of, first_finding, full_size, is_ended, is_passed}
-use Rattle.network_audit.proofs.Words.{items, line_items, rational_zero, utility_items_at}
+use Rattle.network_audit.proofs.Words.{All-cons, All-nil, Case, Decides-is_within_limits, Finding, HasNoFinding, HasShape, IsFormed, IsValidNetwork}
+use Rattle.network_audit.proofs.Words.{IsWholeValuation, IsWithinLimits, Item, Network, Place, Rational, Step, Test, Valuation}
+use Rattle.network_audit.proofs.Words.{false≢true, finding_of, first_finding, is_passed}
+use Rattle.network_audit.proofs.Words.{items}
 use Rattle.network_audit.proofs.FoundLemmas.{found-item}
-use Rattle.network_audit.proofs.InvalidLemmas.{invalid_network}
-use Rattle.network_audit.proofs.ValidLemmas.{each-part}
-use Rattle.std.proofs.Common.{All, Bool, List, None, Option, Some, [], false, length, refl, slice_get, sym, ℕ, ◌+◌, ◌∙◌, ◌∷◌, ◌≡◌}
+use Rattle.network_audit.proofs.ValidLemmas.{invalid_network}
+use Rattle.std.proofs.Common.{All, List, None, Option, Some, [], false, length, refl, sym, ℕ, ◌∙◌, ◌∷◌, ◌≡◌}
 use Rattle.network_audit.specs.declared.findings.Finding.TheVariants as finding
-use Rattle.network_audit.specs.declared.findings.Place.TheVariants as place
-use Rattle.network_audit.specs.declared.findings.Reason.TheVariants as reason
 
 -- ---- items whose numbers are formed
 
@@ -18,9 +15,6 @@ AreFormed items = All IsFormed items
 
 pub formed-none : AreFormed []
 formed-none = All-nil IsFormed
-
-pub formed-test : (at : Place) (passed : Bool) (because : Reason) (items : List Item) → AreFormed items → AreFormed (Test at passed because ∷ items)
-formed-test at passed because items formed = All-cons IsFormed (Test at passed because) items tt formed
 
 pub formed-step : (at : Place) (number : ℕ) (value : Rational) (items : List Item) → IsWithinLimits value → AreFormed items
     → AreFormed (Step at number value ∷ items)
@@ -37,34 +31,15 @@ formed-no_step items at number formed found = let (item, is, failed, same) = fou
 
 -- ---- a network
 
-pub no_finding : (case : Case) (network : Network) (values : Valuation) → HasShape case network → IsWholeValuation case network values
-    → IsValidNetwork case network → All IsFormed (items case network values (length network.lines)) → HasNoFinding case network
-no_finding case network values shape valuation valid formed =
-    record { values = values; valuation = valuation; none = by (first_finding (items case network values (length network.lines))) refl }
-  where
-    by : (o : Option Finding) → first_finding (items case network values (length network.lines)) ≡ o
-        → first_finding (items case network values (length network.lines)) ≡ None
-    by None is = is
-    by (Some (finding.Failed at because)) is = absurd
-        (invalid_network case network at because shape (record { n = length network.lines; values = values; valuation = valuation; first = is }) valid)
-    by (Some (finding.TooFine at number)) is = absurd (formed-no_step (items case network values (length network.lines)) at number formed is)
-
--- the steps of all parts of an audit; a stream has none
-pub record EachIsFormed (case : Case) (network : Network) (values : Valuation) : Type 0 where
-  pub lines : (k : ℕ) (l : Line) → slice_get network.lines k ≡ Some l → AreFormed (line_items case network values (place.Line (k + 1)) l)
-  pub exchangers : (number : ℕ) (e : Exchanger) → slice_get (exchangers_of network.lines) number ≡ Some e
-      → AreFormed (exchanger_items_at case network values (number, e))
-  pub utilities : (index : ℕ) (u : Utility) → slice_get case.utilities index ≡ Some u → AreFormed (utility_items_at network (index, u))
-  pub balance : AreFormed (balance_items case network)
-
-pub all-formed : (case : Case) (network : Network) (values : Valuation) → EachIsFormed case network values
-    → AreFormed (items case network values (length network.lines))
-all-formed case network values formed =
-    each-part IsFormed case network values (record {
-      lines = formed.lines;
-      streams = λ index s at.
-          formed-test (place.Stream index) (is_ended network index) (reason.Unfinished rational_zero (full_size s)) [] formed-none;
-      exchangers = formed.exchangers;
-      utilities = formed.utilities;
-      balance = formed.balance;
-    })
+module _ (case : Case) (network : Network) where
+  pub no_finding : (values : Valuation) → HasShape case network → IsWholeValuation case network values
+      → IsValidNetwork case network → All IsFormed (items case network values (length network.lines)) → HasNoFinding case network
+  no_finding values shape valuation valid formed =
+      record { values = values; valuation = valuation; none = by (first_finding (items case network values (length network.lines))) refl }
+    where
+      by : (o : Option Finding) → first_finding (items case network values (length network.lines)) ≡ o
+          → first_finding (items case network values (length network.lines)) ≡ None
+      by None is = is
+      by (Some (finding.Failed at because)) is = absurd
+          (invalid_network case network at because shape (record { n = length network.lines; values = values; valuation = valuation; first = is }) valid)
+      by (Some (finding.TooFine at number)) is = absurd (formed-no_step (items case network values (length network.lines)) at number formed is)

@@ -1,12 +1,19 @@
 -- The heats of the utilities make up the hot and the cold heat, and the balance.
+use Rattle.network_audit.proofs.Words.{All-enumerated, All-head, All-tail, Case, Exchanger, HasShape, IsExchanger, IsSourceOf, IsSourceOf-side, Item, Network}
+use Rattle.network_audit.proofs.Words.{Rational, Side, Source, Step, Utility, balance_in, balance_items, balance_of, balance_steps_in, cases_eq, cold_heat}
+use Rattle.network_audit.proofs.Words.{cons_option, cost_of, cost_steps, duties_in, duties_with, duty_with, enumerate_from, exchangers_of}
+use Rattle.network_audit.proofs.Words.{get_or-enumerate_from, get_or_default, heat_at, heat_on, heat_on_in, heat_price, heat_with, heats_in, heats_on}
+use Rattle.network_audit.proofs.Words.{heats_on_in, hot_heat, hot_target, joints_of, minus, plus, plus-zero, price_in, prices_in, range_with_len, rational_sum}
+use Rattle.network_audit.proofs.Words.{rational_sum_by, rational_sum_by-map, rational_zero, same_side, same_source, side_of, sum_steps, times, utility_part}
+use Rattle.network_audit.proofs.Words.{whole}
+use Rattle.std.proofs.Common.{All, Bool, List, None, Option, Some, [], ap, ap₂, arith, eq-eqb, false, filter_map, get_or, if◌then◌else◌, inl, inr, is_some}
+use Rattle.std.proofs.Common.{length, map, ne_eqb, option_map, refl, slice_get, subst, sym, true, unwrap_or, ℕ, ◌++◌, ◌+◌, ◌<◌, ◌==◌, ◌||◌, ◌∙◌, ◌∷◌, ◌≡◌, ◌≢◌}
+use Rattle.std.proofs.Common.{◌⊎◌}
+use Rattle.network_audit.proofs.JointLemmas.{duties-are, get_or-made}
 use Rattle.fractions.proofs.RationalSums.{but_at, one_taken, rational_sum_by-same, rational_sum_by-swap, rational_sum_by-zero, sum-enumerate, sum-filter_map}
-use Rattle.network_audit.proofs.Words.{Case, Exchanger, HasShape, IsExchanger, IsSourceOf, IsSourceOf-side, Network, Rational, Side, Source, Utility, cases_eq}
-use Rattle.network_audit.proofs.Words.{cold_heat, duties_with, duty_with, enumerate_from, exchangers_of, heat_on, heat_with, heats_on, hot_heat, plus}
-use Rattle.network_audit.proofs.Words.{plus-zero, range_with_len, rational_sum, rational_sum_by, rational_zero, same_side, same_source, side_of, utility_part}
-use Rattle.std.proofs.Common.{Bool, None, Some, ap, ap₂, arith, eq-eqb, false, get_or, if◌then◌else◌, inl, inr, is_some, length, ne_eqb, option_map, refl}
-use Rattle.std.proofs.Common.{slice_get, subst, sym, true, unwrap_or, ℕ, ◌<◌, ◌==◌, ◌||◌, ◌∙◌, ◌≡◌, ◌≢◌, ◌⊎◌}
 use Rattle.stream_case.specs.declared.source.Side.TheVariants as side
 use Rattle.stream_case.specs.declared.source.Source.TheVariants as source
+use Rattle.network_audit.specs.declared.findings.Place.TheVariants as place
 
 -- ---- the source of an exchanger on a side
 
@@ -34,8 +41,7 @@ not_of case (source.Utility k) index u on is at other = ne_eqb k index (λ same.
     clash : k ≡ index → ⊥
     clash same =
         let here : Some u.side ≡ Some on = sym (ap (option_map (λ v. v.side)) (ap (slice_get case.utilities) same ∙ at)) ∙ is in
-        let side_is : u.side ≡ on = cc here in
-        cc (sym other, ap (λ s. same_side s on) side_is, own on)
+        let side_is : u.side ≡ on = cc here in cc (sym other, ap (λ s. same_side s on) side_is, own on)
 
 part-own : (case : Case) (e : Exchanger) (on : Side) (index : ℕ) (u : Utility) → IsExchanger case e → slice_get case.utilities index ≡ Some u
     → part_on on (index, u) e ≡ own_part on e index
@@ -85,34 +91,122 @@ own-sum n duty (source.Utility k) within =
         by (inr other) = ap (λ b. if b then rational_zero else (if k == i then duty else rational_zero)) (ne_eqb i k other)
             ∙ ap (λ b. if b then duty else rational_zero) (ne_eqb k i (λ is. other (sym is)))
 
-side_heat-is : (case : Case) (network : Network) (on : Side) → HasShape case network
-    → ((e : Exchanger) → IsExchanger case e → side_of case (source_on on e) ≡ Some on)
-    → rational_sum (heats_on on case network) ≡ rational_sum_by (λ e. utility_part e.duty (source_on on e)) (exchangers_of network.lines)
-unfolding heats_on duties_with
-side_heat-is case network on shape sides =
-    let es = exchangers_of network.lines in let us = enumerate_from 0 case.utilities in
-    sum-filter_map (heat_on on network) us
-    ∙ rational_sum_by-same (λ p. unwrap_or (heat_on on network p) rational_zero) (λ p. rational_sum_by (part_on on p) es) us
-    (λ k d inside. heat (get_or us k d)) ∙ rational_sum_by-swap (part_on on) us es
-    ∙ rational_sum_by-same (λ e. rational_sum_by (λ p. part_on on p e) us) (λ e. utility_part e.duty (source_on on e)) es
-    (λ k d inside. one (get_or es k d) (shape.exchangers.each k d inside))
-  where
-    heat : (p : ℕ × Utility) → unwrap_or (heat_on on network p) rational_zero ≡ rational_sum_by (part_on on p) (exchangers_of network.lines)
-    heat (index, u) = by (same_side u.side on)
-      where
-        by : (b : Bool) → unwrap_or (if b then Some (heat_with network index) else None) rational_zero ≡ rational_sum_by
-            (λ e. if b then unwrap_or (duty_with index e) rational_zero else rational_zero) (exchangers_of network.lines)
-        by true = sum-filter_map (duty_with index) (exchangers_of network.lines)
-        by false = sym (rational_sum_by-zero (λ e. rational_zero) (exchangers_of network.lines) (λ k d inside. refl))
+module _ (case : Case) (network : Network) where
+  side_heat-is : (on : Side) → HasShape case network → ((e : Exchanger) → IsExchanger case e → side_of case (source_on on e) ≡ Some on)
+      → rational_sum (heats_on on case network) ≡ rational_sum_by (λ e. utility_part e.duty (source_on on e)) (exchangers_of network.lines)
+  unfolding heats_on duties_with
+  side_heat-is on shape sides =
+      let es = exchangers_of network.lines in let us = enumerate_from 0 case.utilities in sum-filter_map (heat_on on network) us
+      ∙ rational_sum_by-same (λ p. unwrap_or (heat_on on network p) rational_zero) (λ p. rational_sum_by (part_on on p) es) us
+      (λ k d inside. heat (get_or us k d)) ∙ rational_sum_by-swap (part_on on) us es
+      ∙ rational_sum_by-same (λ e. rational_sum_by (λ p. part_on on p e) us) (λ e. utility_part e.duty (source_on on e)) es
+      (λ k d inside. one (get_or es k d) (shape.exchangers.each k d inside))
+    where
+      heat : (p : ℕ × Utility) → unwrap_or (heat_on on network p) rational_zero ≡ rational_sum_by (part_on on p) (exchangers_of network.lines)
+      heat (index, u) = by (same_side u.side on)
+        where
+          by : (b : Bool) → unwrap_or (if b then Some (heat_with network index) else None) rational_zero ≡ rational_sum_by
+              (λ e. if b then unwrap_or (duty_with index e) rational_zero else rational_zero) (exchangers_of network.lines)
+          by true = sum-filter_map (duty_with index) (exchangers_of network.lines)
+          by false = sym (rational_sum_by-zero (λ e. rational_zero) (exchangers_of network.lines) (λ k d inside. refl))
 
-    one : (e : Exchanger) → IsExchanger case e → rational_sum_by (λ p. part_on on p e) (enumerate_from 0 case.utilities) ≡ utility_part e.duty (source_on on e)
-    one e is =
-        sum-enumerate (λ p. part_on on p e) (own_part on e) case.utilities (λ index u at. part-own case e on index u is at)
-        ∙ own-sum (length case.utilities) e.duty (source_on on e)
-        (λ k is_k. let there = IsSourceOf-side case (source_on on e) (ap is_some (sides e is)) in subst (IsSourceOf case) is_k there)
+      one : (e : Exchanger) → IsExchanger case e
+          → rational_sum_by (λ p. part_on on p e) (enumerate_from 0 case.utilities) ≡ utility_part e.duty (source_on on e)
+      one e is =
+          sum-enumerate (λ p. part_on on p e) (own_part on e) case.utilities (λ index u at. part-own case e on index u is at)
+          ∙ own-sum (length case.utilities) e.duty (source_on on e)
+          (λ k is_k. let there = IsSourceOf-side case (source_on on e) (ap is_some (sides e is)) in subst (IsSourceOf case) is_k there)
 
-pub hot_heat-is : (case : Case) (network : Network) → HasShape case network → rational_sum (heats_on side.Hot case network) ≡ hot_heat network
-hot_heat-is case network shape = side_heat-is case network side.Hot shape (λ e is. is.hot)
+  pub hot_heat-is : HasShape case network → rational_sum (heats_on side.Hot case network) ≡ hot_heat network
+  hot_heat-is shape = side_heat-is side.Hot shape (λ e is. is.hot)
 
-pub cold_heat-is : (case : Case) (network : Network) → HasShape case network → rational_sum (heats_on side.Cold case network) ≡ cold_heat network
-cold_heat-is case network shape = side_heat-is case network side.Cold shape (λ e is. is.cold)
+  pub cold_heat-is : HasShape case network → rational_sum (heats_on side.Cold case network) ≡ cold_heat network
+  cold_heat-is shape = side_heat-is side.Cold shape (λ e is. is.cold)
+
+-- The balance from the heats of the utilities is that of the network, and so are its steps.
+
+-- ---- lists made of members
+
+module _ {X Y : Type 0} where
+  filter_map-same : (f g : X → Option Y) (xs : List X) → All (λ x. f x ≡ g x) xs → filter_map f xs ≡ filter_map g xs
+  filter_map-same f g [] same = refl
+  filter_map-same f g (x ∷ xs) same = ap₂ cons_option (All-head (λ y. f y ≡ g y) x xs same) (filter_map-same f g xs (All-tail (λ y. f y ≡ g y) x xs same))
+
+  map-same : (f g : X → Y) (xs : List X) → All (λ x. f x ≡ g x) xs → map f xs ≡ map g xs
+  map-same f g [] same = refl
+  map-same f g (x ∷ xs) same = ap₂ (λ y ys. y ∷ ys) (All-head (λ y. f y ≡ g y) x xs same) (map-same f g xs (All-tail (λ y. f y ≡ g y) x xs same))
+
+-- ---- the heats
+
+module _ (case : Case) (network : Network) where
+  -- a list of heats has those of the utilities
+  pub record AreHeats (heats : List Rational) : Type 0 where
+    pub each : (index : ℕ) (u : Utility) → slice_get case.utilities index ≡ Some u → heat_at heats index ≡ heat_with network index
+
+  pub heats-are : (heats : List Rational) → heats ≡ heats_in (joints_of network) case.utilities → AreHeats heats
+  unfolding heats_in
+  heats-are heats is = record {
+    each = λ index u at. ap (λ hs. get_or hs index rational_zero) is
+        ∙ get_or-made (λ (p : ℕ × Utility). rational_sum (duties_in (joints_of network) p.0)) 0 case.utilities index u rational_zero at
+        ∙ ap (λ n. rational_sum (duties_in (joints_of network) n)) (omega arith) ∙ ap rational_sum (duties-are network index);
+  }
+
+heats_on-are : (on : Side) (case : Case) (network : Network) (heats : List Rational) → AreHeats case network heats
+    → heats_on_in on case.utilities heats ≡ heats_on on case network
+unfolding heats_on_in heats_on
+heats_on-are on case network heats are =
+    filter_map-same (heat_on_in on heats) (heat_on on network) (enumerate_from 0 case.utilities)
+    (All-enumerated (λ p. heat_on_in on heats p ≡ heat_on on network p) case.utilities
+    (λ index u at. ap (λ h. if same_side u.side on then Some h else None) (are.each index u at)))
+
+module _ (case : Case) (network : Network) where
+  prices-are : (heats : List Rational) → AreHeats case network heats
+      → prices_in case.utilities heats ≡ map (heat_price network) (enumerate_from 0 case.utilities)
+  unfolding prices_in
+  prices-are heats are =
+      map-same (price_in heats) (heat_price network) (enumerate_from 0 case.utilities)
+      (All-enumerated (λ p. price_in heats p ≡ heat_price network p) case.utilities (λ index u at. ap (times (whole u.price)) (are.each index u at)))
+
+  -- ---- the balance
+
+  pub balance-is : (heats : List Rational) → HasShape case network → AreHeats case network heats
+      → balance_in (whole (hot_target case.streams)) case.utilities heats ≡ balance_of case network
+  unfolding cost_of
+  balance-is heats shape are =
+      let hot = ap rational_sum (heats_on-are side.Hot case network heats are) ∙ hot_heat-is case network shape in
+      let cold = ap rational_sum (heats_on-are side.Cold case network heats are) ∙ cold_heat-is case network shape in
+      let cost = ap rational_sum (prices-are heats are) ∙ rational_sum_by-map (λ a. a) (heat_price network) (enumerate_from 0 case.utilities) in
+      λ i. record { hot = hot i; cold = cold i; excess = minus (hot i) (whole (hot_target case.streams)); cost = cost i }
+
+abbrev steps_from : Case → List Rational → List Rational → List Rational → Rational → List Item
+steps_from case hot cold prices excess =
+    sum_steps place.Balance 0 rational_zero hot ++ (sum_steps place.Balance (length hot) rational_zero cold
+    ++ Step place.Balance (length hot + length cold + 1) excess ∷ cost_steps place.Balance (length hot + length cold + 1) rational_zero prices)
+
+pub balance_items-are : (case : Case) (network : Network) (heats : List Rational) → HasShape case network → AreHeats case network heats
+    → balance_steps_in place.Balance (whole (hot_target case.streams)) case.utilities heats ≡ balance_items case network
+unfolding balance_items
+balance_items-are case network heats shape are =
+    let hot = heats_on-are side.Hot case network heats are in
+    let excess = ap (λ h. minus h (whole (hot_target case.streams))) (ap rational_sum hot ∙ hot_heat-is case network shape) in
+    λ i. steps_from case (hot i) ((heats_on-are side.Cold case network heats are) i) ((prices-are case network heats are) i) (excess i)
+
+-- ---- what the loops read
+
+member-here : (us : List Utility) (n : ℕ) (u : Utility) → n < length us → u ≡ get_or us n u → get_or (enumerate_from 0 us) n (n, u) ≡ (n, u)
+member-here us n u within read = get_or-enumerate_from 0 us n (n, u) within ∙ (let at : 0 + n ≡ n = omega arith in λ i. (at i, sym read i))
+
+pub heat-here : (on : Side) (heats : List Rational) (us : List Utility) (n : ℕ) (u : Utility) (h : Rational) → n < length us → length heats ≡ length us
+    → u ≡ get_or us n u → h ≡ get_or heats n h → same_side u.side on ≡ true → heat_on_in on heats (get_or (enumerate_from 0 us) n (n, u)) ≡ Some h
+heat-here on heats us n u h within long read value is =
+    ap (heat_on_in on heats) (member-here us n u within read) ∙ ap (λ b. if b then Some (heat_at heats n) else None) is
+    ∙ ap Some (get_or_default heats n rational_zero h (omega (arith, within, long)) ∙ sym value)
+
+pub heat-other : (on : Side) (heats : List Rational) (us : List Utility) (n : ℕ) (u : Utility) → n < length us → u ≡ get_or us n u → same_side u.side on ≡ false
+    → heat_on_in on heats (get_or (enumerate_from 0 us) n (n, u)) ≡ None
+heat-other on heats us n u within read is = ap (heat_on_in on heats) (member-here us n u within read) ∙ ap (λ b. if b then Some (heat_at heats n) else None) is
+
+pub price-here : (heats : List Rational) (us : List Utility) (n : ℕ) (u : Utility) (h : Rational) → n < length us → length heats ≡ length us → u ≡ get_or us n u
+    → h ≡ get_or heats n h → price_in heats (get_or (enumerate_from 0 us) n (n, u)) ≡ times (whole u.price) h
+price-here heats us n u h within long read value = ap (price_in heats) (member-here us n u within read)
+    ∙ ap (times (whole u.price)) (get_or_default heats n rational_zero h (omega (arith, within, long)) ∙ sym value)

@@ -1,7 +1,8 @@
 -- The numbers that statements and exchangers form are within the limits where what the branches carry leaves room.
+use Rattle.network_audit.proofs.FoundLemmas.{all-if}
 use Rattle.network_audit.proofs.Words.{All-from_recursion, BranchValue, Case, Exchanger, HasShape, HasValidStreams-IsComplete, IsBelow, IsBetween, IsComplete}
 use Rattle.network_audit.proofs.Words.{IsContribution, IsFormed, IsLevel, IsMix, IsPass, IsSplit, IsTemperature, IsUtility, IsValidStream, IsWholeValuation}
-use Rattle.network_audit.proofs.Words.{IsWithinLimits, Item, Line, MOST_CONTRIBUTION, Network, Place, Rational, Side, Solves, Source, StaysValid-IsComplete}
+use Rattle.network_audit.proofs.Words.{IsWithinLimits, Line, MOST_CONTRIBUTION, Network, Place, Rational, Side, Solves, Source, StaysValid-IsComplete}
 use Rattle.network_audit.proofs.Words.{Step, Stream, Utility, Valuation, all_at, all_solved, branch_above, branch_side, cases_lt, change, duty_at, end_items}
 use Rattle.network_audit.proofs.Words.{ends_of, exchanger_items_at, fixed_level, get_or_past, ints, is_latent, is_latent_branch, level_or, line_items}
 use Rattle.network_audit.proofs.Words.{load_items, mean_items, minus, mix_determined, mix_items, mixed_positive, moved, mul-le-mul, mul-pos, names-known}
@@ -11,7 +12,7 @@ use Rattle.network_audit.proofs.Words.{split_items, stream_at, times, times-zero
 use Rattle.network_audit.proofs.FormedLemmas.{AreFormed, formed-none, formed-step}
 use Rattle.network_audit.proofs.Sized.{IsSized, most_den, sized-minus, sized-plus, sized-times, sized-whole, sized-within}
 use Rattle.network_values.specs.Sides.{approach_of, contribution_of, high_of, low_of, stream_level}
-use Rattle.std.proofs.Common.{All, Bool, List, None, Option, Some, [], ap, arith, false, if◌then◌else◌, length, pos, refl, slice_get, subst, sym, true, ℕ, ℤ}
+use Rattle.std.proofs.Common.{All, Bool, None, Option, Some, ap, arith, false, if◌then◌else◌, length, pos, refl, slice_get, subst, sym, true, ℕ, ℤ}
 use Rattle.std.proofs.Common.{⊎_elim, ◌*◌, ◌+ℤ◌, ◌+◌, ◌<◌, ◌∙◌, ◌∷◌, ◌≡◌, ◌≤◌}
 pub use Rattle.network_audit.specs.Sized.{AreSmall, most_approach}
 use Rattle.network_audit.specs.declared.findings.Place.TheVariants as place
@@ -40,29 +41,23 @@ roomy_none = record {
   size = within-zero;
   state = within-zero;
   heat = subst IsWithinLimits (sym (times-zero rational_zero)) within-zero;
-  wanted = λ approach is. subst IsWithinLimits (sym (zero-plus (whole approach)))
-      (within-whole approach (let from = is.from in let upto = is.upto in omega (arith, ints, from, upto)));
+  wanted = λ approach is. subst IsWithinLimits (sym (zero-plus (whole approach))) (within-whole approach (omega (arith, ints, is.from, is.upto)));
 }
 
 factors : (d e most : ℕ) → 0 < d → 0 < e → d * e ≤ most → (d ≤ most) × (e ≤ most)
 factors d e most some_d some_e both =
-    let one : d * 1 ≤ d * e = mul-le-mul (omega arith) some_e in
-    let other : 1 * e ≤ d * e = mul-le-mul some_d (omega arith) in
+    let one : d * 1 ≤ d * e = mul-le-mul (omega arith) some_e in let other : 1 * e ≤ d * e = mul-le-mul some_d (omega arith) in
     (omega (arith, one, both), omega (arith, other, both))
 
 -- they leave room
 pub sized_roomy : (d m e n : ℕ) (v : BranchValue) → AreSmall d m e n → IsSized d m v.cp → IsSized e n v.t → IsRoomy v
 sized_roomy d m e n v small size state =
-    let dens = factors d e (most_den) small.size_den small.state_den small.dens in
-    let most = small.state in
-    record {
+    let dens = factors d e (most_den) small.size_den small.state_den small.dens in let most = small.state in record {
       size = sized-within d m v.cp small.size_den dens.0 small.size size;
       state = sized-within e n v.t small.state_den dens.1 (omega (arith, most)) state;
       heat = sized-within (d * e) (m * n) (times v.cp v.t) (mul-pos small.size_den small.state_den) small.dens small.heat
           (sized-times d e m n v.cp v.t small.size_den small.state_den size state);
-      wanted = λ approach asked.
-          let from = asked.from in let upto = asked.upto in
-          let added = sized-plus e n most_approach v.t (whole approach) state
+      wanted = λ approach asked. let from = asked.from in let upto = asked.upto in let added = sized-plus e n most_approach v.t (whole approach) state
           (sized-whole e most_approach approach small.state_den (omega (arith, ints, from, upto))) in
           sized-within e (n + most_approach) (plus v.t (whole approach)) small.state_den dens.1 (omega (arith, most)) added;
     }
@@ -72,9 +67,8 @@ pub sized_change : (d m e n : ℕ) (of : Side) (before after : Rational) → Are
     → IsWithinLimits (change of before after)
 sized_change d m e n of before after small one two =
     let dens = factors d e (most_den) small.size_den small.state_den small.dens in
-    let most = small.state in
-    by of (sized-within e (n + n) (minus before after) small.state_den dens.1 (omega (arith, most)) (sized-minus e n n before after one two))
-    (sized-within e (n + n) (minus after before) small.state_den dens.1 (omega (arith, most)) (sized-minus e n n after before two one))
+    by of (sized-within e (n + n) (minus before after) small.state_den dens.1 (omega arith) (sized-minus e n n before after one two))
+    (sized-within e (n + n) (minus after before) small.state_den dens.1 (omega arith) (sized-minus e n n after before two one))
   where
     by : (of : Side) → IsWithinLimits (minus before after) → IsWithinLimits (minus after before) → IsWithinLimits (change of before after)
     by side.Hot falls rises = falls
@@ -111,26 +105,20 @@ load_formed at true state = All-from_recursion IsFormed (load_items at true stat
 pub pass_formed : (at : Place) (of : Side) (latent : Bool) (duty : Rational) (from to : BranchValue) → IsBelow rational_zero from.cp → IsPass of duty from to
     → IsRoomy to → IsWithinLimits (change of from.t to.t) → AreFormed (pass_items at of latent from duty)
 pass_formed at of latent duty from to positive pass roomy change_within =
-    let by = change of from.t to.t in
-    let after = moved of from.t (over duty from.cp) in
+    let by = change of from.t to.t in let after = moved of from.t (over duty from.cp) in
     let over_size = over_from_times by duty from.cp (positive-nonzero from.cp positive) (times_comm by from.cp ∙ pass.heat) in
     let state = ap (λ (v : BranchValue). v.t) (pass_determined of from to duty positive pass) in
     formed-step at 1 (over duty from.cp) (Step at 2 after ∷ load_items at latent after) (subst IsWithinLimits over_size change_within)
     (formed-step at 2 after (load_items at latent after) (subst IsWithinLimits state roomy.state) (load_formed at latent after))
 
-formed-if : (b : Bool) (items : List Item) → AreFormed items → AreFormed (if b then [] else items)
-formed-if true items formed = formed-none
-formed-if false items formed = formed
-
 -- a mix forms the size, the two products, that of the mixed branch, and its state
 pub mix_formed : (at : Place) (first second to : BranchValue) → IsBelow rational_zero (plus first.cp second.cp) → IsMix first second to → IsRoomy first
     → IsRoomy second → IsRoomy to → AreFormed (mix_items at first second)
 mix_formed at first second to positive mix one two both =
-    let size = subst IsWithinLimits mix.size both.size in let heat = subst IsWithinLimits mix.heat both.heat in
     let state = subst IsWithinLimits (ap (λ (v : BranchValue). v.t) (mix_determined first second to positive mix)) both.state in
     let means = mean_items at first second (plus first.cp second.cp) in
-    let rest : AreFormed means = All-from_recursion IsFormed means (one.heat, (two.heat, (heat, (state, tt)))) in
-    formed-step _ _ _ _ size (formed-if (rational_eq first.t second.t) means rest)
+    let rest : AreFormed means = All-from_recursion IsFormed means (one.heat, (two.heat, ((subst IsWithinLimits mix.heat both.heat), (state, tt)))) in
+    formed-step _ _ _ _ (subst IsWithinLimits mix.size both.size) (all-if IsFormed (rational_eq first.t second.t) means rest)
 
 end_formed : (at : Place) (value : BranchValue) (o : Option Stream) → AreFormed (end_items at value o)
 end_formed at value None = formed-none
@@ -175,15 +163,12 @@ contribution-within case complete (source.Utility number) = by (slice_get case.u
 pub approach-within : (case : Case) → IsComplete case → (hot cold : Source) → IsApproach (approach_of case hot cold)
 approach-within case complete hot cold =
     let one = contribution-within case complete hot in let two = contribution-within case complete cold in
-    let one_from = one.from in let one_upto = one.upto in let two_from = two.from in let two_upto = two.upto in
-    record { from = omega (arith, ints, one_from, two_from); upto = omega (arith, ints, one_upto, two_upto) }
+    record { from = omega (arith, ints); upto = omega (arith, ints) }
 
 -- a level that a source has is one of a case
 supply-level : (latent : Bool) (supply level : ℤ) → IsTemperature supply → (if latent then Some supply else None) ≡ Some level → IsLevel level
 supply-level false supply level is found = cc found
-supply-level true supply level is found =
-    let low = is.from in let high = is.upto in
-    subst IsLevel (same_Some supply level found) (record { from = omega (arith, ints, low); upto = omega (arith, ints, high) })
+supply-level true supply level is found = subst IsLevel (same_Some supply level found) (record { from = omega (arith, ints); upto = omega (arith, ints) })
 
 level-within : (case : Case) → IsComplete case → (s : Source) (level : ℤ) → fixed_level case s ≡ Some level → IsLevel level
 level-within case complete (source.Stream number) level is = by (slice_get case.streams number) refl is
@@ -202,8 +187,7 @@ level-within case complete (source.Utility number) level is = subst IsLevel (sam
 -- a level with an approach added
 wanted-level : (level approach : ℤ) → IsLevel level → IsApproach approach → IsWithinLimits (plus (whole level) (whole approach))
 wanted-level level approach is asked =
-    let low = is.from in let high = is.upto in let from = asked.from in let upto = asked.upto in
-    subst IsWithinLimits (sym (whole-plus level approach)) (within-whole (level +ℤ approach) (omega (arith, ints, low, high, from, upto)))
+    let from = asked.from in subst IsWithinLimits (sym (whole-plus level approach)) (within-whole (level +ℤ approach) (omega (arith, ints, from)))
 
 -- what holds of the states of all branches and of all levels holds of both ends of a side
 module _
@@ -216,12 +200,8 @@ module _
     between_keeps side.Cold from to = (each from, each to)
 
     pass_keeps : (o : Option Line) → P (low_of (pass_run case network values o)) × P (high_of (pass_run case network values o))
-    pass_keeps None = (none, none)
-    pass_keeps (Some (line.Exchanger name hot cold duty)) = (none, none)
-    pass_keeps (Some (line.Split from first cp second)) = (none, none)
     pass_keeps (Some (line.Pass from exchanger to)) = between_keeps (branch_side case network from) from to
-    pass_keeps (Some (line.Mix first second to)) = (none, none)
-    pass_keeps (Some (line.End branch)) = (none, none)
+    pass_keeps other = (none, none)
 
     passed_keeps : (number : ℕ) (of : Source) → P (low_of (passed_run case network values number of)) × P (high_of (passed_run case network values number of))
     passed_keeps number (source.Stream stream) = pass_keeps (pass_of network number stream)
@@ -240,10 +220,8 @@ module _
 pub exchanger_formed : (case : Case) (network : Network) (values : Valuation) → IsComplete case → All IsRoomy values → (number : ℕ) (e : Exchanger)
     → AreFormed (exchanger_items_at case network values (number, e))
 exchanger_formed case network values complete roomy number e =
-    let approach = approach_of case e.hot e.cold in
-    let asked = approach-within case complete e.hot e.cold in
-    let given = ends_of side.Hot (side_run case network values number e.hot) in
-    let taken = ends_of side.Cold (side_run case network values number e.cold) in
+    let approach = approach_of case e.hot e.cold in let asked = approach-within case complete e.hot e.cold in
+    let given = ends_of side.Hot (side_run case network values number e.hot) in let taken = ends_of side.Cold (side_run case network values number e.cold) in
     let both = side_keeps (λ t. IsWithinLimits (plus t (whole approach))) case network values (λ branch. (roomy_at values roomy branch).wanted approach asked)
     (λ s level at. wanted-level level approach (level-within case complete s level at) asked) (roomy_none.wanted approach asked) number e.cold in
     All-from_recursion IsFormed (side_items case (place.Exchanger number) e.hot e.cold given taken) (tt, (both.1, (tt, (both.0, (tt, tt)))))

@@ -10,17 +10,11 @@ module _ (s : Stream) (valid : IsValidStream s) where
   size-between = by valid.heat
     where
       by : IsSensible s ⊎ IsLatent s → IsBetween (pos 0) MOST_LOAD (s.cp +ℤ s.load)
-      by (inl sensible) =
-          let none = sensible.load in let from = sensible.cp.from in let upto = sensible.cp.upto in
-          record { from = omega (arith, ints, none, from); upto = omega (arith, ints, none, upto) }
-      by (inr latent) =
-          let none = latent.cp in let from = latent.load.from in let upto = latent.load.upto in
-          record { from = omega (arith, ints, none, from); upto = omega (arith, ints, none, upto) }
+      by (inl sensible) = record { from = omega (arith, ints); upto = omega (arith, ints) }
+      by (inr latent) = record { from = omega (arith, ints); upto = omega (arith, ints) }
 
   pub full_size-sized : (m : ℕ) → unsigned_abs MOST_LOAD ≤ m → IsSized 1 m (full_size s)
-  full_size-sized m larger =
-      let from = size-between.from in let upto = size-between.upto in
-      sized-whole 1 m (s.cp +ℤ s.load) (omega arith) (omega (arith, ints, from, upto, larger))
+  full_size-sized m larger = sized-whole 1 m (s.cp +ℤ s.load) (omega arith) (omega (arith, ints, size-between.from, size-between.upto, larger))
 
   pub full_size-most : IsAtMost (full_size s) (whole MOST_LOAD)
   full_size-most = at_most-whole (s.cp +ℤ s.load) MOST_LOAD size-between.upto
@@ -34,6 +28,4 @@ module _ (s : Stream) (valid : IsValidStream s) where
 
       by : (latent : Bool) → IsSized 1 m (if latent then first_part_of_load s.side else whole s.supply)
       by true = part s.side
-      by false =
-          let low = valid.supply.from in let high = valid.supply.upto in
-          sized-whole 1 m s.supply (omega arith) (omega (arith, ints, low, high, larger))
+      by false = sized-whole 1 m s.supply (omega arith) (omega (arith, ints, larger))

@@ -1,19 +1,18 @@
 -- The sums of utilities and of the balance are within the limits where their numbers are few and small.
 use Rattle.network_audit.proofs.Words.{All-append, All-cons, All-enumerated, All-from_recursion, All-head, All-map, All-nil, All-tail, AreStreams-IsComplete}
 use Rattle.network_audit.proofs.Words.{Case, HasShape, IsComplete, IsFormed, IsInRange, IsPlaced, IsPlaced-IsComplete, Item, Network, Place, Rational, Side}
-use Rattle.network_audit.proofs.Words.{Step, Utility, all_at, at_most-whole, at_most_trans, balance_items, cons_option, cost_steps, duties_with, duty_with}
-use Rattle.network_audit.proofs.Words.{enumerate_from, excess_of, exchangers_of, heat_on, heat_price, heat_with, heats_on, hot_heat, hot_target}
-use Rattle.network_audit.proofs.Words.{hot_target-between, ints, length-enumerate_from, length-map, length-utilities, mul-le-mul, plus, range_items, ratio}
-use Rattle.network_audit.proofs.Words.{rational_sum, rational_zero, same_side, same_source, sum_steps, utility_items_at, whole}
+use Rattle.network_audit.proofs.Words.{Step, Utility, all_at, at_most-whole, at_most_trans, balance_items, cons_option, cost_steps, duties_with}
+use Rattle.network_audit.proofs.Words.{enumerate_from, excess_of, heat_on, heat_price, heat_with, heats_on, hot_heat, hot_target}
+use Rattle.network_audit.proofs.Words.{hot_target-between, ints, length-enumerate_from, length-map, length-utilities, plus, range_items, ratio}
+use Rattle.network_audit.proofs.Words.{rational_sum, rational_zero, same_side, sum_steps, utility_items_at, whole}
 use Rattle.network_audit.proofs.FormedLemmas.{AreFormed, formed-none, formed-step}
 use Rattle.network_audit.proofs.HeatLemmas.{hot_heat-is}
 use Rattle.network_audit.proofs.Sized.{IsSized, most_den, most_num, sized-between, sized-minus, sized-more, sized-plus, sized-times, sized-whole, sized-within}
-use Rattle.std.proofs.Common.{All, Bool, List, None, Option, Some, [], arith, false, filter_map, get_or, if◌then◌else◌, length, map, pos, refl, slice_get}
-use Rattle.std.proofs.Common.{subst, suc, true, unsigned_abs, ℕ, ℤ, ◌*◌, ◌+◌, ◌<◌, ◌||◌, ◌∷◌, ◌≡◌, ◌≤◌}
+use Rattle.std.proofs.Common.{All, Bool, List, None, Option, Some, [], arith, false, filter_map, if◌then◌else◌, length, map, pos, refl, slice_get}
+use Rattle.std.proofs.Common.{subst, suc, true, unsigned_abs, ℕ, ℤ, ◌*◌, ◌+◌, ◌<◌, ◌∷◌, ◌≡◌, ◌≤◌}
 use Rattle.stream_case.specs.declared.limits.TheConstants.{ALL_STREAMS_HEAT, ALL_UTILITIES, MOST_HEAT, MOST_PRICE}
 use Rattle.network_audit.specs.declared.findings.Place.TheVariants as place
 use Rattle.stream_case.specs.declared.source.Side.TheVariants as side
-use Rattle.stream_case.specs.declared.source.Source.TheVariants as source
 
 -- ---- numbers that some members have
 
@@ -66,8 +65,7 @@ module _ (d m : ℕ) (some : 0 < d) (den : d ≤ most_den) where
   sums_formed at before k total [] most sized each = formed-none
   sums_formed at before k total (a ∷ numbers) most sized each =
       let next = sized-plus d k m total a sized (All-head (IsSized d m) a numbers each) in
-      let later : (k + m + length numbers * m) * d ≤ most_num = omega (arith, most) in
-      let now : (k + m) * d ≤ most_num = omega (arith, later) in
+      let later : (k + m + length numbers * m) * d ≤ most_num = omega (arith, most) in let now : (k + m) * d ≤ most_num = omega (arith, later) in
       formed-step _ _ _ _ (sized-within d (k + m) (plus total a) some den now next)
       (sums_formed at (before + 1) (k + m) (plus total a) numbers later next (All-tail (IsSized d m) a numbers each))
 
@@ -77,40 +75,11 @@ module _ (d m : ℕ) (some : 0 < d) (den : d ≤ most_den) where
   costs_formed at before k cost [] one most sized each = formed-none
   costs_formed at before k cost (a ∷ prices) one most sized each =
       let price = All-head (IsSized d m) a prices each in let next = sized-plus d k m cost a sized price in
-      let later : (k + m + length prices * m) * d ≤ most_num = omega (arith, most) in
-      let now : (k + m) * d ≤ most_num = omega (arith, later) in
+      let later : (k + m + length prices * m) * d ≤ most_num = omega (arith, most) in let now : (k + m) * d ≤ most_num = omega (arith, later) in
       formed-step at (before + 1) a (Step at (before + 2) (plus cost a) ∷ cost_steps at (before + 2) (plus cost a) prices)
       (sized-within d m a some den one price)
       (formed-step at (before + 2) (plus cost a) (cost_steps at (before + 2) (plus cost a) prices) (sized-within d (k + m) (plus cost a) some den now next)
       (costs_formed at (before + 2) (k + m) (plus cost a) prices one later next (All-tail (IsSized d m) a prices each)))
-
-  -- ---- utilities
-
-  duties-sized : (network : Network) (index : ℕ) → All (λ e. IsSized d m e.duty) (exchangers_of network.lines) → All (IsSized d m) (duties_with network index)
-  unfolding duties_with
-  duties-sized network index each =
-      let es = exchangers_of network.lines in
-      All-kept (IsSized d m) (duty_with index) es (λ k e inside. λ duty is.
-      some_if (IsSized d m) (same_source (get_or es k e).hot (source.Utility index) || same_source (get_or es k e).cold (source.Utility index))
-      (get_or es k e).duty duty (each k e inside) is)
-
-  few-duties : (network : Network) (index : ℕ) → length (duties_with network index) ≤ length (exchangers_of network.lines)
-  unfolding duties_with
-  few-duties network index = few-kept (duty_with index) (exchangers_of network.lines)
-
-  pub heat-over : (network : Network) (index : ℕ) → All (λ e. IsSized d m e.duty) (exchangers_of network.lines)
-      → IsSized d (length (duties_with network index) * m) (heat_with network index)
-  heat-over network index each = sized-sum (duties_with network index) (duties-sized network index each)
-
-  -- the sum of the duties of a utility, where all exchangers together are few
-  pub utility_formed : (network : Network) (index : ℕ) (u : Utility) → (length (exchangers_of network.lines) * m) * d ≤ most_num
-      → All (λ e. IsSized d m e.duty) (exchangers_of network.lines) → AreFormed (utility_items_at network (index, u))
-  utility_formed network index u most each =
-      let duties = duties_with network index in
-      let fewer : (length duties * m) * d ≤ (length (exchangers_of network.lines) * m) * d = mul-le-mul (mul-le-mul (few-duties network index) (omega arith))
-      (omega arith) in
-      with_range network index u (sums_formed (place.Utility index) 0 0 rational_zero duties (omega (arith, fewer, most))
-      (sized-whole d 0 (pos 0) some (omega arith)) (duties-sized network index each))
 
 -- ---- the heats of utilities
 
@@ -144,48 +113,42 @@ few-heats on case network = omega (arith, few-kept (heat_on on network) (enumera
 abbrev most_price : ℕ
 most_price = unsigned_abs MOST_PRICE * most_heat
 
-prices-sized : (case : Case) (network : Network) → IsComplete case → HaveWholeHeats case network
-    → All (IsSized 1 most_price) (map (heat_price network) (enumerate_from 0 case.utilities))
-prices-sized case network complete heats =
-    All-map (IsSized 1 most_price) (heat_price network) (enumerate_from 0 case.utilities)
-    (All-enumerated (λ (e : ℕ × Utility). IsSized 1 most_price (heat_price network e)) case.utilities (λ index u at.
-    let placed = all_at IsPlaced case.utilities index u (IsPlaced-IsComplete case complete) at in
-    let price = placed.price in let from = price.from in let upto = price.upto in
-    sized-times 1 1 (unsigned_abs MOST_PRICE) most_heat (whole u.price) (heat_with network index) (omega arith) (omega arith)
-    (sized-whole 1 (unsigned_abs MOST_PRICE) u.price (omega arith) (omega (arith, ints, from, upto))) (heats index u at)))
+module _ (case : Case) (network : Network) where
+  prices-sized : IsComplete case → HaveWholeHeats case network → All (IsSized 1 most_price) (map (heat_price network) (enumerate_from 0 case.utilities))
+  prices-sized complete heats =
+      All-map (IsSized 1 most_price) (heat_price network) (enumerate_from 0 case.utilities)
+      (All-enumerated (λ (e : ℕ × Utility). IsSized 1 most_price (heat_price network e)) case.utilities (λ index u at.
+      let placed = all_at IsPlaced case.utilities index u (IsPlaced-IsComplete case complete) at in
+      let price = placed.price in sized-times 1 1 (unsigned_abs MOST_PRICE) most_heat (whole u.price) (heat_with network index) (omega arith) (omega arith)
+      (sized-whole 1 (unsigned_abs MOST_PRICE) u.price (omega arith) (omega (arith, ints))) (heats index u at)))
 
--- the excess
-excess-sized : (case : Case) (network : Network) → IsComplete case → HasShape case network → HaveWholeHeats case network
-    → IsSized 1 (length (heats_on side.Hot case network) * most_heat + unsigned_abs ALL_STREAMS_HEAT) (excess_of case network)
-excess-sized case network complete shape heats =
-    let hot = heats_on side.Hot case network in
-    let sum = sized-sum 1 most_heat (omega arith) (omega arith) hot (heats-sized side.Hot case network heats) in
-    let target = hot_target case.streams in
-    let is = hot_target-between case.streams (AreStreams-IsComplete case complete) in
-    let from = is.from in let upto = is.upto in
-    sized-minus 1 (length hot * most_heat) (unsigned_abs ALL_STREAMS_HEAT) (hot_heat network) (whole target)
-    (subst (IsSized 1 (length hot * most_heat)) (hot_heat-is case network shape) sum)
-    (sized-whole 1 (unsigned_abs ALL_STREAMS_HEAT) target (omega arith) (omega (arith, ints, from, upto)))
+  -- the excess
+  excess-sized : IsComplete case → HasShape case network → HaveWholeHeats case network
+      → IsSized 1 (length (heats_on side.Hot case network) * most_heat + unsigned_abs ALL_STREAMS_HEAT) (excess_of case network)
+  excess-sized complete shape heats =
+      let hot = heats_on side.Hot case network in let sum = sized-sum 1 most_heat (omega arith) (omega arith) hot (heats-sized side.Hot case network heats) in
+      let target = hot_target case.streams in let is = hot_target-between case.streams (AreStreams-IsComplete case complete) in
+      sized-minus 1 (length hot * most_heat) (unsigned_abs ALL_STREAMS_HEAT) (hot_heat network) (whole target)
+      (subst (IsSized 1 (length hot * most_heat)) (hot_heat-is case network shape) sum)
+      (sized-whole 1 (unsigned_abs ALL_STREAMS_HEAT) target (omega arith) (omega (arith, ints)))
 
-pub balance_formed : (case : Case) (network : Network) → IsComplete case → HasShape case network → HaveWholeHeats case network
-    → AreFormed (balance_items case network)
-unfolding balance_items
-balance_formed case network complete shape heats =
-    let hot = heats_on side.Hot case network in let cold = heats_on side.Cold case network in
-    let prices = map (heat_price network) (enumerate_from 0 case.utilities) in
-    let before = length hot + length cold + 1 in let few = length-utilities case complete in
-    let few_hot = few-heats side.Hot case network in let few_cold = few-heats side.Cold case network in
-    let few_prices : length prices ≤ ALL_UTILITIES =
-    omega (arith, few, length-map (enumerate_from 0 case.utilities) (heat_price network), length-enumerate_from 0 case.utilities) in
-    let none = sized-whole 1 0 (pos 0) (omega arith) (omega arith) in
-    let excess = sized-within 1 (length hot * most_heat + unsigned_abs ALL_STREAMS_HEAT) (excess_of case network) (omega arith) (omega arith)
-    (omega (arith, few, few_hot)) (excess-sized case network complete shape heats) in
-    let costs = costs_formed 1 most_price (omega arith) (omega arith) place.Balance before 0 rational_zero prices (omega arith) (omega (arith, few_prices)) none
-    (prices-sized case network complete heats) in
-    let last = formed-step place.Balance before (excess_of case network) (cost_steps place.Balance before rational_zero prices) excess costs in
-    let colds = sums_formed 1 most_heat (omega arith) (omega arith) place.Balance (length hot) 0 rational_zero cold (omega (arith, few, few_cold)) none
-    (heats-sized side.Cold case network heats) in
-    let hots = sums_formed 1 most_heat (omega arith) (omega arith) place.Balance 0 0 rational_zero hot (omega (arith, few, few_hot)) none
-    (heats-sized side.Hot case network heats) in
-    let behind : List Item = Step place.Balance before (excess_of case network) ∷ cost_steps place.Balance before rational_zero prices in
-    All-append IsFormed _ _ hots (All-append IsFormed _ _ colds last)
+  pub balance_formed : IsComplete case → HasShape case network → HaveWholeHeats case network → AreFormed (balance_items case network)
+  unfolding balance_items
+  balance_formed complete shape heats =
+      let hot = heats_on side.Hot case network in let cold = heats_on side.Cold case network in
+      let prices = map (heat_price network) (enumerate_from 0 case.utilities) in
+      let before = length hot + length cold + 1 in let few = length-utilities case complete in
+      let few_hot = few-heats side.Hot case network in let few_cold = few-heats side.Cold case network in let few_prices : length prices ≤ ALL_UTILITIES =
+      omega (arith, few, length-map (enumerate_from 0 case.utilities) (heat_price network), length-enumerate_from 0 case.utilities) in
+      let none = sized-whole 1 0 (pos 0) (omega arith) (omega arith) in
+      let excess = sized-within 1 (length hot * most_heat + unsigned_abs ALL_STREAMS_HEAT) (excess_of case network) (omega arith) (omega arith)
+      (omega (arith, few, few_hot)) (excess-sized complete shape heats) in
+      let costs = costs_formed 1 most_price (omega arith) (omega arith) place.Balance before 0 rational_zero prices (omega arith) (omega (arith, few_prices))
+      none (prices-sized complete heats) in
+      let last = formed-step place.Balance before (excess_of case network) (cost_steps place.Balance before rational_zero prices) excess costs in
+      let colds = sums_formed 1 most_heat (omega arith) (omega arith) place.Balance (length hot) 0 rational_zero cold (omega (arith, few, few_cold)) none
+      (heats-sized side.Cold case network heats) in
+      let hots = sums_formed 1 most_heat (omega arith) (omega arith) place.Balance 0 0 rational_zero hot (omega (arith, few, few_hot)) none
+      (heats-sized side.Hot case network heats) in
+      let behind : List Item = Step place.Balance before (excess_of case network) ∷ cost_steps place.Balance before rational_zero prices in
+      All-append IsFormed _ _ hots (All-append IsFormed _ _ colds last)

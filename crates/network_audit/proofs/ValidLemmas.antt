@@ -1,18 +1,56 @@
--- A network without a finding is valid, and no test of a valid one fails.
-use Rattle.network_audit.proofs.Words.{All-append, All-back, All-cons, All-flat_map, All-front, All-nil, Branch, Case, Decides-not_below, Decides-rational_eq}
-use Rattle.network_audit.proofs.Words.{Exchanger, HasNoFinding, HasShape, IsFullEnd, IsInRange, IsPartOfLoad, IsValidNetwork, IsWholeValuation, Item}
-use Rattle.network_audit.proofs.Words.{KeepsApproach, Line, Network, PassKeepsLoad, Place, Rational, Stream, Utility, Valuation, balance_items, duties_with}
-use Rattle.network_audit.proofs.Words.{each_first, end_items, ended_by, ended_streams, ends, ends_stream, enumerate_from, exchanger_items, exchanger_items_at}
-use Rattle.network_audit.proofs.Words.{exchangers_of, first_finding, full_size, heat_with, is_ended, is_forbidden, is_latent_branch, items, items_before}
-use Rattle.network_audit.proofs.Words.{items_behind, last_state, last_value, line_items, list_any, load_items, loads_kept, nat_tests, none-some, range_items}
-use Rattle.network_audit.proofs.Words.{rational_zero, same_Some, same_value, slice_get-get_or, statement_items, stream_at, stream_items, stream_items_at}
-use Rattle.network_audit.proofs.Words.{sum_steps, utility_items, utility_items_at, value_at, whole}
-use Rattle.network_audit.proofs.BehindPass.{behind_latent, behind_state, state_behind}
-use Rattle.network_audit.proofs.FoundLemmas.{each-items, passed-back, passed-front, passed-item, passed-rest}
-use Rattle.std.proofs.Common.{All, Bool, Contains, List, None, Option, Some, [], ap, arith, eq-eqb, false, flat_map, get_or, if◌then◌else◌, length, map, not}
-use Rattle.std.proofs.Common.{pos, refl, slice_get, subst, suc, sym, take_all, true, zero, ℕ, ◌++◌, ◌+◌, ◌<◌, ◌==◌, ◌||◌, ◌∙◌, ◌∷◌, ◌≡◌}
-use Rattle.network_audit.specs.declared.findings.Place.TheVariants as place
+-- The branch behind a pass of a network with a valuation: its number, what it carries, and whether it is latent.
+use Rattle.network_audit.proofs.Words.{All-append, All-back, All-cons, All-flat_map, All-from_recursion, All-front, All-head, All-nil, AreEnded}
+use Rattle.network_audit.proofs.Words.{AreStreams-IsComplete, Audit, Balance, Branch, BranchValue, Case, Decides-is_below, Decides-not_below}
+use Rattle.network_audit.proofs.Words.{Decides-rational_eq, Exchanger, HasAccepted, HasNoFinding, HasShape, IfAccepted, IsAtMost, IsComplete, IsFaultless}
+use Rattle.network_audit.proofs.Words.{IsFinding, IsFullEnd, IsInRange, IsLineOf, IsPartOfLoad, IsPermitted, IsValidNetwork, IsValuation, IsVerdict}
+use Rattle.network_audit.proofs.Words.{IsWholeValuation, Item, KeepLoads, KeepsApproach, KnowsItsNetwork, Leaves, Line, Network, PassKeepsLoad, Place, Rational}
+use Rattle.network_audit.proofs.Words.{Reason, Says, SaysExactly, Solves, Step, Stream, Test, Utility, Valuation, Verdict, agree-take, all_at, all_made}
+use Rattle.network_audit.proofs.Words.{all_solved, balance_items, branch_above, branch_side, cost_steps, duties_with, duty_at, each_first, end_items, ended_by}
+use Rattle.network_audit.proofs.Words.{ended_streams, ends, ends_stream, enumerate_from, exchanger_items, exchanger_items_at, exchangers_of, false≢true}
+use Rattle.network_audit.proofs.Words.{finding_of, first_finding, front, full_size, heat_price, heat_with, heats_on, is_below, is_ended, is_forbidden}
+use Rattle.network_audit.proofs.Words.{is_latent, is_latent_branch, is_passed, item_at, items, items_before, items_behind, last_state, last_value, line_items}
+use Rattle.network_audit.proofs.Words.{line_of, list_any, load_items, loads_kept, made_before, made_by, mean_items, moved, nat_tests, none-some, one_valuation}
+use Rattle.network_audit.proofs.Words.{option_map_or, over, pass_determined, plus, range_items, rational_eq, rational_zero, room_left, same_Some, same_value}
+use Rattle.network_audit.proofs.Words.{slice_get-get_or, slice_get_within, split_items, statement_items, stream_at, stream_items, stream_items_at, sum_steps}
+use Rattle.network_audit.proofs.Words.{take-length, targets_met, utility_items, utility_items_at, valuation_front, value_at, whole}
+use Rattle.std.proofs.Common.{All, Bool, Contains, List, None, Option, Some, [], ap, arith, eq-eqb, false, flat_map, get_or, if◌then◌else◌, inl, inr, length}
+use Rattle.std.proofs.Common.{map, not, pos, refl, slice_get, subst, suc, sym, take_all, true, zero, ℕ, ◌++◌, ◌+◌, ◌-◌, ◌<◌, ◌==◌, ◌||◌, ◌∙◌, ◌∷◌, ◌≡◌}
+use Rattle.network_audit.proofs.FoundLemmas.{all-if, each-items, found-item, found-whole, passed-back, passed-front, passed-item, passed-rest}
 use Rattle.networks.specs.declared.network.Line.TheVariants as line
+use Rattle.network_audit.specs.declared.findings.Place.TheVariants as place
+use Rattle.network_audit.specs.declared.findings.Finding.TheVariants as finding
+use Rattle.stream_case.specs.declared.source.Side.TheVariants as side
+use Rattle.network_audit.specs.declared.verdict.Verdict.TheVariants as verdict
+
+-- the state that the schoolbook gives behind an exchanger
+abbrev pub state_behind : Case → Network → Valuation → ℕ → ℕ → Rational
+state_behind case network values from exchanger =
+    let before = value_at values from in moved (branch_side case network from) before.t (over (duty_at network exchanger) before.cp)
+
+module _
+    {case : Case}
+    {network : Network}
+    {values : Valuation} (shape : HasShape case network) (valuation : IsWholeValuation case network values) (k : ℕ)
+    {from exchanger to : ℕ} (at : slice_get network.lines k ≡ Some (line.Pass from exchanger to))
+  where
+    line_here : IsLineOf case network k (line.Pass from exchanger to)
+    line_here = line_of shape k (line.Pass from exchanger to) at
+
+    pub behind_there : to < length values
+    unfolding made_by
+    behind_there = let there = line_here.known.2 in omega (arith, there, all_made shape.made_once, ap (λ ls. length (made_by ls)) (take-length network.lines))
+
+    pub behind_state : (value_at values to).t ≡ state_behind case network values from exchanger
+    behind_state =
+        ap (λ v. v.t) (pass_determined (branch_side case network from) (value_at values from) (value_at values to) (duty_at network exchanger)
+        (branch_above valuation shape from line_here.known.0)
+        (all_at (Solves case network values) network.lines k (line.Pass from exchanger to) (all_solved valuation) at))
+
+    pub behind_latent : is_latent_branch case network to ≡ is_latent_branch case network from
+    unfolding is_latent_branch
+    behind_latent = ap (λ stream. option_map_or is_latent (slice_get case.streams stream) false) line_here.one_stream
+
+-- A network without a finding is valid, and no test of a valid one fails.
 
 -- ---- ends and streams
 
@@ -26,10 +64,6 @@ contains-later x y xs (k, within, is) = (suc k, omega (arith, within), is)
 ended-contains : (branches : List Branch) (stream : ℕ) (lines : List Line) → list_any (ends_stream branches stream) lines ≡ true
     → Contains (map (stream_at branches) (flat_map ends lines)) stream
 ended-contains branches stream [] some = cc some
-ended-contains branches stream (line.Exchanger name hot cold duty ∷ lines) some = ended-contains branches stream lines some
-ended-contains branches stream (line.Split from first cp second ∷ lines) some = ended-contains branches stream lines some
-ended-contains branches stream (line.Pass from exchanger to ∷ lines) some = ended-contains branches stream lines some
-ended-contains branches stream (line.Mix first second to ∷ lines) some = ended-contains branches stream lines some
 ended-contains branches stream (line.End branch ∷ lines) some = by (stream_at branches branch == stream) refl (ended-contains branches stream lines) some
   where
     by : (b : Bool) → (stream_at branches branch == stream) ≡ b
@@ -41,14 +75,11 @@ ended-contains branches stream (line.End branch ∷ lines) some = by (stream_at 
         subst (λ s. Contains (stream_at branches branch ∷ map (stream_at branches) (flat_map ends lines)) s) same
         (contains-here (stream_at branches branch) (map (stream_at branches) (flat_map ends lines)))
     by false is later any = contains-later (stream_at branches branch) stream (map (stream_at branches) (flat_map ends lines)) (later any)
+ended-contains branches stream (other ∷ lines) some = ended-contains branches stream lines some
 
 pub contains-ended : (branches : List Branch) (stream : ℕ) (lines : List Line) → Contains (map (stream_at branches) (flat_map ends lines)) stream
     → list_any (ends_stream branches stream) lines ≡ true
 contains-ended branches stream [] (k, within, is) = absurd (omega (arith, within))
-contains-ended branches stream (line.Exchanger name hot cold duty ∷ lines) some = contains-ended branches stream lines some
-contains-ended branches stream (line.Split from first cp second ∷ lines) some = contains-ended branches stream lines some
-contains-ended branches stream (line.Pass from exchanger to ∷ lines) some = contains-ended branches stream lines some
-contains-ended branches stream (line.Mix first second to ∷ lines) some = contains-ended branches stream lines some
 contains-ended branches stream (line.End branch ∷ lines) (zero, within, is) = ap (λ b. b || list_any (ends_stream branches stream) lines)
     (eq-eqb (stream_at branches branch) stream is)
 contains-ended branches stream (line.End branch ∷ lines) (suc k, within, is) =
@@ -58,6 +89,7 @@ contains-ended branches stream (line.End branch ∷ lines) (suc k, within, is) =
     by : (b : Bool) → (b || true) ≡ true
     by true = refl
     by false = refl
+contains-ended branches stream (other ∷ lines) some = contains-ended branches stream lines some
 
 -- what holds of each ended branch holds of those of each line
 pub each-ends : (P : ℕ → Type 0) (lines : List Line) (k : ℕ) (l : Line) → All P (flat_map ends lines) → slice_get lines k ≡ Some l → All P (ends l)
@@ -72,8 +104,7 @@ module _ {X : Type 0} (f : ℕ × X → List Item) where
       → first_finding (f (m + i, x)) ≡ None
   passed-from m [] none i x at = absurd (none-some x at)
   passed-from m (y ∷ ys) none zero x at =
-      let n : m ≡ m + 0 = omega arith in
-      let here : first_finding (f (m, y)) ≡ None = passed-front (f (m, y)) (flat_map f (enumerate_from (m + 1) ys)) none in
+      let n : m ≡ m + 0 = omega arith in let here : first_finding (f (m, y)) ≡ None = passed-front (f (m, y)) (flat_map f (enumerate_from (m + 1) ys)) none in
       ap (λ k. first_finding (f (k, x))) (sym n) ∙ ap (λ z. first_finding (f (m, z))) (sym (same_Some y x at)) ∙ here
   passed-from m (y ∷ ys) none (suc i) x at =
       let n : m + suc i ≡ m + 1 + i = omega arith in
@@ -83,61 +114,52 @@ module _ {X : Type 0} (f : ℕ × X → List Item) where
       → first_finding (f (i, x)) ≡ None
   passed-member xs none i x at = let n : i ≡ 0 + i = omega arith in ap (λ k. first_finding (f (k, x))) n ∙ passed-from 0 xs none i x at
 
--- all items of a whole valuation are passed, member by member, and those of the balance
-pub record AllPassed (case : Case) (network : Network) (values : Valuation) : Type 0 where
-  pub lines : (k : ℕ) (l : Line) → slice_get network.lines k ≡ Some l → first_finding (line_items case network values (place.Line (k + 1)) l) ≡ None
-  pub streams : (index : ℕ) (s : Stream) → slice_get case.streams index ≡ Some s → first_finding (stream_items_at network (index, s)) ≡ None
+module _ (case : Case) (network : Network) where
+  all_lines : (values : Valuation)
+      → items_before case network values (length network.lines + 1) ≡ flat_map (statement_items case network values) (enumerate_from 0 network.lines)
+  unfolding items_before
+  all_lines values = ap (λ ls. flat_map (statement_items case network values) (enumerate_from 0 ls))
+      (take_all (length network.lines + 1) network.lines (omega arith))
+
+  pub items-whole : (values : Valuation)
+      → items case network values (length network.lines) ≡ flat_map (statement_items case network values)
+      (enumerate_from 0 network.lines) ++ items_behind case network values
+  unfolding items
+  items-whole values =
+      ap (λ b. items_before case network values (length network.lines + 1) ++ (if b then items_behind case network values else []))
+      (eq-eqb (length network.lines) (length network.lines) refl) ∙ ap (λ xs. xs ++ items_behind case network values) (all_lines values)
+
+-- what holds of the items of each part of an audit: of each line, stream, exchanger and utility, and of the balance
+pub record HoldOfParts (P : List Item → Type 0) (case : Case) (network : Network) (values : Valuation) : Type 0 where
+  pub lines : (k : ℕ) (l : Line) → slice_get network.lines k ≡ Some l → P (line_items case network values (place.Line (k + 1)) l)
+  pub streams : (index : ℕ) (s : Stream) → slice_get case.streams index ≡ Some s → P (stream_items_at network (index, s))
   pub exchangers : (number : ℕ) (e : Exchanger) → slice_get (exchangers_of network.lines) number ≡ Some e
-      → first_finding (exchanger_items_at case network values (number, e)) ≡ None
-  pub utilities : (index : ℕ) (u : Utility) → slice_get case.utilities index ≡ Some u → first_finding (utility_items_at network (index, u)) ≡ None
-  pub balance : first_finding (balance_items case network) ≡ None
+      → P (exchanger_items_at case network values (number, e))
+  pub utilities : (index : ℕ) (u : Utility) → slice_get case.utilities index ≡ Some u → P (utility_items_at network (index, u))
+  pub balance : P (balance_items case network)
 
-all_lines : (case : Case) (network : Network) (values : Valuation)
-    → items_before case network values (length network.lines + 1) ≡ flat_map (statement_items case network values) (enumerate_from 0 network.lines)
-unfolding items_before
-all_lines case network values = ap (λ ls. flat_map (statement_items case network values) (enumerate_from 0 ls))
-    (take_all (length network.lines + 1) network.lines (omega arith))
+abbrev pub ArePassed : List Item → Type 0
+ArePassed items = first_finding items ≡ None
 
-pub items-whole : (case : Case) (network : Network) (values : Valuation)
-    → items case network values (length network.lines) ≡ flat_map (statement_items case network values)
-    (enumerate_from 0 network.lines) ++ items_behind case network values
-unfolding items
-items-whole case network values =
-    ap (λ b. items_before case network values (length network.lines + 1) ++ (if b then items_behind case network values else []))
-    (eq-eqb (length network.lines) (length network.lines) refl) ∙ ap (λ xs. xs ++ items_behind case network values) (all_lines case network values)
-
--- what holds of the items of each part of an audit holds of all of them
-pub record HoldOfParts (P : Item → Type 0) (case : Case) (network : Network) (values : Valuation) : Type 0 where
-  pub lines : (k : ℕ) (l : Line) → slice_get network.lines k ≡ Some l → All P (line_items case network values (place.Line (k + 1)) l)
-  pub streams : (index : ℕ) (s : Stream) → slice_get case.streams index ≡ Some s → All P (stream_items_at network (index, s))
-  pub exchangers : (number : ℕ) (e : Exchanger) → slice_get (exchangers_of network.lines) number ≡ Some e
-      → All P (exchanger_items_at case network values (number, e))
-  pub utilities : (index : ℕ) (u : Utility) → slice_get case.utilities index ≡ Some u → All P (utility_items_at network (index, u))
-  pub balance : All P (balance_items case network)
-
-pub each-part : (P : Item → Type 0) (case : Case) (network : Network) (values : Valuation) → HoldOfParts P case network values
+pub each-part : (P : Item → Type 0) (case : Case) (network : Network) (values : Valuation) → HoldOfParts (All P) case network values
     → All P (items case network values (length network.lines))
 unfolding items_behind stream_items exchanger_items utility_items
 each-part P case network values each =
-    let exchangers = exchanger_items case network values in
-    let utilities = utility_items case network in
-    let balance = balance_items case network in
+    let exchangers = exchanger_items case network values in let utilities = utility_items case network in let balance = balance_items case network in
     subst (All P) (sym (items-whole case network values)) (All-append P _ _ (each-items P (statement_items case network values) network.lines each.lines)
     (All-append P _ _ (each-items P (stream_items_at network) case.streams each.streams)
     (All-append P _ _ (each-items P (exchanger_items_at case network values) (exchangers_of network.lines) each.exchangers)
     (All-append P _ _ (each-items P (utility_items_at network) case.utilities each.utilities) each.balance))))
 
 pub passed-each : (case : Case) (network : Network) (values : Valuation) → first_finding (items case network values (length network.lines)) ≡ None
-    → AllPassed case network values
+    → HoldOfParts ArePassed case network values
 unfolding items_behind stream_items exchanger_items utility_items
 passed-each case network values none =
     let statements = flat_map (statement_items case network values) (enumerate_from 0 network.lines) in
     let all : first_finding (statements ++ items_behind case network values) ≡ None = ap first_finding (sym (items-whole case network values)) ∙ none in
-    let last_items = utility_items case network ++ balance_items case network in
-    let later_items = exchanger_items case network values ++ last_items in
+    let last_items = utility_items case network ++ balance_items case network in let later_items = exchanger_items case network values ++ last_items in
     let behind : first_finding (stream_items case network ++ later_items) ≡ None = passed-back statements (items_behind case network values) all in
-    let later = passed-back (stream_items case network) later_items behind in
-    let last = passed-back (exchanger_items case network values) last_items later in
+    let later = passed-back (stream_items case network) later_items behind in let last = passed-back (exchanger_items case network values) last_items later in
     record {
       lines = passed-member (statement_items case network values) network.lines (passed-front statements (items_behind case network values) all);
       streams = passed-member (stream_items_at network) case.streams
@@ -150,17 +172,8 @@ passed-each case network values none =
 
 -- ---- no finding, and so valid
 
-some_within : {X : Type 0} (xs : List X) (i : ℕ) → i < length xs → slice_get xs i ≡ None → ⊥
-some_within [] i inside none = omega (arith, inside)
-some_within (x ∷ xs) zero inside none = cc none
-some_within (x ∷ xs) (suc i) inside none = some_within xs i (omega (arith, inside)) none
-
 full_end : (case : Case) (network : Network) (values : Valuation) (at : Place) (l : Line) → first_finding (line_items case network values at l) ≡ None
     → All (IsFullEnd case network values) (ends l)
-full_end case network values at (line.Exchanger name hot cold duty) none = All-nil (IsFullEnd case network values)
-full_end case network values at (line.Split from first cp second) none = All-nil (IsFullEnd case network values)
-full_end case network values at (line.Pass from exchanger to) none = All-nil (IsFullEnd case network values)
-full_end case network values at (line.Mix first second to) none = All-nil (IsFullEnd case network values)
 full_end case network values at (line.End branch) none = All-cons (IsFullEnd case network values) branch [] full (All-nil (IsFullEnd case network values))
   where
     full : IsFullEnd case network values branch
@@ -169,6 +182,7 @@ full_end case network values at (line.End branch) none = All-cons (IsFullEnd cas
         (sym is) ∙ none in
         same_value (value_at values branch) (last_value s) ((Decides-rational_eq (value_at values branch).cp (full_size s)).0 (passed-item _ _ tests))
         ((Decides-rational_eq (value_at values branch).t (last_state s)).0 (passed-item _ _ (passed-rest _ _ tests)))
+full_end case network values at other none = All-nil (IsFullEnd case network values)
 
 -- a state that passes the tests is a part of the load, and so is that behind each pass of a latent branch
 load_passed : (at : Place) (latent : Bool) (state : Rational) → first_finding (load_items at latent state) ≡ None → latent ≡ true → IsPartOfLoad state
@@ -180,74 +194,246 @@ load_passed at true state none is = record {
 
 load_kept : (case : Case) (network : Network) (values : Valuation) (k : ℕ) (l : Line) → HasShape case network → IsWholeValuation case network values
     → slice_get network.lines k ≡ Some l → first_finding (line_items case network values (place.Line (k + 1)) l) ≡ None → PassKeepsLoad case network values l
-load_kept case network values k (line.Exchanger name hot cold duty) shape valuation at none = tt
-load_kept case network values k (line.Split from first cp second) shape valuation at none = tt
-load_kept case network values k (line.Pass from exchanger to) shape valuation at none = λ latent.
-    let tests = passed-rest _ _ (passed-rest _ _ none) in
+load_kept case network values k (line.Pass from exchanger to) shape valuation at none = λ latent. let tests = passed-rest _ _ (passed-rest _ _ none) in
     subst IsPartOfLoad (sym (behind_state shape valuation k at))
     (load_passed (place.Line (k + 1)) (is_latent_branch case network from) (state_behind case network values from exchanger) tests
     (sym (behind_latent shape valuation k at) ∙ latent))
-load_kept case network values k (line.Mix first second to) shape valuation at none = tt
-load_kept case network values k (line.End branch) shape valuation at none = tt
+load_kept case network values k other shape valuation at none = tt
 
 false_from_not : (b : Bool) → not b ≡ true → b ≡ false
 false_from_not true is = cc is
 false_from_not false is = refl
 
-record SidePassed (case : Case) (network : Network) (values : Valuation) (number : ℕ) (e : Exchanger) : Type 0 where
-  permitted : is_forbidden case.forbids e.hot e.cold ≡ false
-  approach : KeepsApproach case network values number e
+module _ (case : Case) (network : Network) where
+  record SidePassed (values : Valuation) (number : ℕ) (e : Exchanger) : Type 0 where
+    permitted : is_forbidden case.forbids e.hot e.cold ≡ false
+    approach : KeepsApproach case network values number e
 
-side_passed : (case : Case) (network : Network) (values : Valuation) (number : ℕ) (e : Exchanger)
-    → first_finding (exchanger_items_at case network values (number, e)) ≡ None → SidePassed case network values number e
-side_passed case network values number e none =
-    let after_pair = passed-rest _ _ none in let after_first = passed-rest _ _ after_pair in
-    let after_hot = passed-rest _ _ after_first in let after_second = passed-rest _ _ after_hot in
-    record {
-      permitted = false_from_not (is_forbidden case.forbids e.hot e.cold) (passed-item _ _ none);
-      approach = record {
-        hot_end = (Decides-not_below _ _).0 (passed-item _ _ after_first);
-        cold_end = (Decides-not_below _ _).0 (passed-item _ _ after_second);
-      };
-    }
+  side_passed : (values : Valuation) (number : ℕ) (e : Exchanger)
+      → first_finding (exchanger_items_at case network values (number, e)) ≡ None → SidePassed values number e
+  side_passed values number e none =
+      let after_first = passed-rest _ _ (passed-rest _ _ none) in record {
+        permitted = false_from_not (is_forbidden case.forbids e.hot e.cold) (passed-item _ _ none);
+        approach = record {
+          hot_end = (Decides-not_below _ _).0 (passed-item _ _ after_first);
+          cold_end = (Decides-not_below _ _).0 (passed-item _ _ (passed-rest _ _ (passed-rest _ _ after_first)));
+        };
+      }
 
 in_range : (network : Network) (index : ℕ) (u : Utility) → first_finding (utility_items_at network (index, u)) ≡ None → IsInRange u (heat_with network index)
 in_range network index u none =
     let tests = passed-back (sum_steps (place.Utility index) 0 rational_zero (duties_with network index))
-    (range_items (place.Utility index) u (heat_with network index)) none in
-    record {
+    (range_items (place.Utility index) u (heat_with network index)) none in record {
       least = (Decides-not_below (heat_with network index) (whole u.least)).0 (passed-item _ _ tests);
       most = (Decides-not_below (whole u.most) (heat_with network index)).0 (passed-item _ _ (passed-rest _ _ tests));
     }
 
-pub valid_from_none : (case : Case) (network : Network) (values : Valuation) → HasShape case network → IsWholeValuation case network values
-    → first_finding (items case network values (length network.lines)) ≡ None → IsValidNetwork case network
-unfolding ended_by ended_streams is_ended
-valid_from_none case network values shape valuation none =
-    let all = passed-each case network values none in record {
-      values = values;
-      valuation = valuation;
-      ended = record {
-        full = All-flat_map (IsFullEnd case network values) ends network.lines
-            (λ k d inside. full_end case network values (place.Line (k + 1)) (get_or network.lines k d)
-            (all.lines k (get_or network.lines k d) (slice_get-get_or network.lines k d inside)));
-        each = λ stream inside. ended-contains network.branches stream network.lines (stream_passed stream inside all);
-      };
-      loads = loads_kept case network (length network.lines) values shape valuation
-          (each_first (PassKeepsLoad case network values) network.lines (length network.lines)
-          (λ k l early at. load_kept case network values k l shape valuation at (all.lines k l at)));
-      approaches = λ number e at. (side_passed case network values number e (all.exchangers number e at)).approach;
-      permitted = λ k d inside. (side_passed case network values k (get_or (exchangers_of network.lines) k d)
-          (all.exchangers k (get_or (exchangers_of network.lines) k d) (slice_get-get_or (exchangers_of network.lines) k d inside))).permitted;
-      ranges = λ index u at. in_range network index u (all.utilities index u at);
-    }
-  where
-    stream_passed : (stream : ℕ) → stream < length case.streams → AllPassed case network values → is_ended network stream ≡ true
-    stream_passed stream inside all = at_some (slice_get case.streams stream) refl
-      where
-        at_some : (o : Option Stream) → slice_get case.streams stream ≡ o → is_ended network stream ≡ true
-        at_some None is = absurd (some_within case.streams stream inside is)
-        at_some (Some s) is = passed-item _ _ (all.streams stream s is)
+module _ (case : Case) (network : Network) where
+  pub valid_from_none : (values : Valuation) → HasShape case network → IsWholeValuation case network values
+      → first_finding (items case network values (length network.lines)) ≡ None → IsValidNetwork case network
+  unfolding ended_by ended_streams is_ended
+  valid_from_none values shape valuation none =
+      let all = passed-each case network values none in record {
+        values = values;
+        valuation = valuation;
+        ended = record {
+          full = All-flat_map (IsFullEnd case network values) ends network.lines
+              (λ k d inside. full_end case network values (place.Line (k + 1)) (get_or network.lines k d)
+              (all.lines k (get_or network.lines k d) (slice_get-get_or network.lines k d inside)));
+          each = λ stream inside. ended-contains network.branches stream network.lines (stream_passed stream inside all);
+        };
+        loads = loads_kept case network (length network.lines) values shape valuation
+            (each_first (PassKeepsLoad case network values) network.lines (length network.lines)
+            (λ k l early at. load_kept case network values k l shape valuation at (all.lines k l at)));
+        approaches = λ number e at. (side_passed case network values number e (all.exchangers number e at)).approach;
+        permitted = λ k d inside. (side_passed case network values k (get_or (exchangers_of network.lines) k d)
+            (all.exchangers k (get_or (exchangers_of network.lines) k d) (slice_get-get_or (exchangers_of network.lines) k d inside))).permitted;
+        ranges = λ index u at. in_range network index u (all.utilities index u at);
+      }
+    where
+      stream_passed : (stream : ℕ) → stream < length case.streams → HoldOfParts ArePassed case network values → is_ended network stream ≡ true
+      stream_passed stream inside all = let (s, at) = item_at case.streams stream inside in passed-item _ _ (all.streams stream s at)
 
-pub valid_network : (case : Case) (network : Network) → HasShape case network → HasNoFinding case network → IsValidNetwork case network
-valid_network case network shape none = valid_from_none case network none.values shape none.valuation none.none
+  pub valid_network : HasShape case network → HasNoFinding case network → IsValidNetwork case network
+  valid_network shape none = valid_from_none none.values shape none.valuation none.none
+
+-- No test of a valid network fails, and so what is rejected is not valid.
+
+-- ---- items without a test that fails
+
+abbrev IsSound : Item → Type 0
+IsSound (Test at passed because) = passed ≡ true
+IsSound (Step at number value) = Unit {0}
+
+abbrev AreSound : List Item → Type 0
+AreSound items = All IsSound items
+
+sound-none : AreSound []
+sound-none = All-nil IsSound
+
+sound-step : (at : Place) (number : ℕ) (value : Rational) (items : List Item) → AreSound items → AreSound (Step at number value ∷ items)
+sound-step at number value items sound = All-cons IsSound (Step at number value) items tt sound
+
+-- a failed test is not found among them
+sound-no_test : (items : List Item) (at : Place) (because : Reason) → AreSound items → first_finding items ≡ Some (finding.Failed at because) → ⊥
+sound-no_test items at because sound found = let (item, is, failed, same) = found-item IsSound items
+    (finding.Failed at because) sound found in by item is failed same
+  where
+    by : (item : Item) → IsSound item → is_passed item ≡ false → finding_of item ≡ finding.Failed at because → ⊥
+    by (Test here passed why) is failed same = false≢true (sym failed ∙ is)
+    by (Step here number value) is failed same = cc same
+
+sound-sums : (at : Place) (before : ℕ) (total : Rational) (numbers : List Rational) → AreSound (sum_steps at before total numbers)
+sound-sums at before total [] = sound-none
+sound-sums at before total (a ∷ numbers) = sound-step _ _ _ _ (sound-sums at (before + 1) (plus total a) numbers)
+
+sound-costs : (at : Place) (before : ℕ) (cost : Rational) (prices : List Rational) → AreSound (cost_steps at before cost prices)
+sound-costs at before cost [] = sound-none
+sound-costs at before cost (a ∷ prices) =
+    let next = cost_steps at (before + 2) (plus cost a) prices in sound-step at (before + 1) a (Step at (before + 2) (plus cost a) ∷ next)
+    (sound-step at (before + 2) (plus cost a) next (sound-costs at (before + 2) (plus cost a) prices))
+
+-- ---- the items of a valid network
+
+-- a split left room, seen from the whole valuation
+room-whole : (case : Case) (network : Network) (values : Valuation) (k from first second : ℕ) (cp : Rational) → HasShape case network
+    → IsWholeValuation case network values → slice_get network.lines k ≡ Some (line.Split from first cp second) → is_below cp (value_at values from).cp ≡ true
+room-whole case network values k from first second cp shape valuation at =
+    let n = length network.lines in let inside = slice_get_within network.lines k (line.Split from first cp second) at in
+    let all : k + (n - k) ≡ n = omega (arith, inside) in
+    let before = valuation_front case network k (n - k) values shape (subst (λ m. IsValuation case network m values) (sym all) valuation) in
+    let room = room_left case network n values shape valuation k (line.Split from first cp second) (front case network k values) inside at before in
+    let used = (line_of shape k (line.Split from first cp second) at).numbers.used in
+    let same = (agree-take values (made_before case network k)).same from (All-head (λ b. b < made_before case network k) from [] used) in
+    ap (λ v. is_below cp v.cp) same ∙ (Decides-is_below cp (value_at (front case network k values) from).cp).1 room
+
+sound-end : (at : Place) (value : BranchValue) (o : Option Stream) → ((s : Stream) → o ≡ Some s → value ≡ last_value s) → AreSound (end_items at value o)
+sound-end at value None full = sound-none
+sound-end at value (Some s) full =
+    let is = full s refl in All-from_recursion IsSound (end_items at value (Some s))
+    ((Decides-rational_eq value.cp (full_size s)).1 (ap (λ v. v.cp) is), ((Decides-rational_eq value.t (last_state s)).1 (ap (λ v. v.t) is), tt))
+
+sound-load : (at : Place) (latent : Bool) (state : Rational) → (latent ≡ true → IsPartOfLoad state) → AreSound (load_items at latent state)
+sound-load at false state keeps = sound-none
+sound-load at true state keeps =
+    let part = keeps refl in All-from_recursion IsSound (load_items at true state)
+    ((Decides-not_below state rational_zero).1 part.least, ((Decides-not_below (whole (pos 1)) state).1 part.most, tt))
+
+module _ (case : Case) (network : Network) where
+  line_sound : (values : Valuation) (k : ℕ) (l : Line) → HasShape case network → IsWholeValuation case network values → AreEnded case network values
+      → KeepLoads case network values → slice_get network.lines k ≡ Some l → AreSound (line_items case network values (place.Line (k + 1)) l)
+  unfolding ended_by
+  line_sound values k (line.Exchanger name hot cold duty) shape valuation ended loads at = sound-none
+  line_sound values k (line.Split from first cp second) shape valuation ended loads at =
+      All-from_recursion IsSound (split_items (place.Line (k + 1)) (value_at values from) cp)
+      (room-whole case network values k from first second cp shape valuation at, (tt, tt))
+  line_sound values k (line.Pass from exchanger to) shape valuation ended loads at =
+      let here = place.Line (k + 1) in let latent = is_latent_branch case network from in let state = state_behind case network values from exchanger in
+      let keeps : latent ≡ true → IsPartOfLoad state =
+      λ is. subst IsPartOfLoad (behind_state shape valuation k at) (loads to (behind_there shape valuation k at) (behind_latent shape valuation k at ∙ is)) in
+      sound-step here 1 (over (duty_at network exchanger) (value_at values from).cp) (Step here 2 state ∷ load_items here latent state)
+      (sound-step here 2 state (load_items here latent state) (sound-load here latent state keeps))
+  line_sound values k (line.Mix first second to) shape valuation ended loads at =
+      let one = value_at values first in let two = value_at values second in let means = mean_items (place.Line (k + 1)) one two (plus one.cp two.cp) in
+      sound-step _ _ _ _ (all-if IsSound (rational_eq one.t two.t) means (All-from_recursion IsSound means (tt, (tt, (tt, (tt, tt))))))
+  line_sound values k (line.End branch) shape valuation ended loads at =
+      sound-end (place.Line (k + 1)) (value_at values branch) (slice_get case.streams (stream_at network.branches branch))
+      (All-head (IsFullEnd case network values) branch [] (each-ends (IsFullEnd case network values) network.lines k (line.End branch) ended.full at))
+
+  stream_sound : (values : Valuation) (index : ℕ) (s : Stream) → AreEnded case network values
+      → slice_get case.streams index ≡ Some s → AreSound (stream_items_at network (index, s))
+  unfolding is_ended ended_streams ended_by
+  stream_sound values index s ended at =
+      All-from_recursion IsSound (stream_items_at network (index, s))
+      (contains-ended network.branches index network.lines (ended.each index (slice_get_within case.streams index s at)), tt)
+
+  exchanger_sound : (values : Valuation) (number : ℕ) (e : Exchanger) → KeepsApproach case network values number e
+      → is_forbidden case.forbids e.hot e.cold ≡ false → AreSound (exchanger_items_at case network values (number, e))
+  exchanger_sound values number e keeps permitted =
+      All-from_recursion IsSound (exchanger_items_at case network values (number, e))
+      (ap not permitted, (tt, ((Decides-not_below _ _).1 keeps.hot_end, (tt, ((Decides-not_below _ _).1 keeps.cold_end, tt)))))
+
+utility_sound : (network : Network) (index : ℕ) (u : Utility) → IsInRange u (heat_with network index) → AreSound (utility_items_at network (index, u))
+utility_sound network index u range =
+    let heat = heat_with network index in All-append IsSound (sum_steps (place.Utility index) 0 rational_zero (duties_with network index))
+    (range_items (place.Utility index) u (heat_with network index)) (sound-sums (place.Utility index) 0 rational_zero (duties_with network index))
+    (All-from_recursion IsSound (range_items (place.Utility index) u (heat_with network index))
+    ((Decides-not_below heat (whole u.least)).1 range.least, ((Decides-not_below (whole u.most) heat).1 range.most, tt)))
+
+module _ (case : Case) (network : Network) where
+  balance_sound : AreSound (balance_items case network)
+  unfolding balance_items
+  balance_sound =
+      let hot = heats_on side.Hot case network in let cold = heats_on side.Cold case network in
+      All-append IsSound _ _ (sound-sums place.Balance 0 rational_zero hot) (All-append IsSound _ _
+      (sound-sums place.Balance (length hot) rational_zero cold) (sound-step _ _ _ _
+      (sound-costs place.Balance (length hot + length cold + 1) rational_zero (map (heat_price network) (enumerate_from 0 case.utilities)))))
+
+  all_sound : HasShape case network → (valid : IsValidNetwork case network) → AreSound (items case network valid.values (length network.lines))
+  all_sound shape valid =
+      let es = exchangers_of network.lines in each-part IsSound case network valid.values (record {
+        lines = λ k l at. line_sound case network valid.values k l shape valid.valuation valid.ended valid.loads at;
+        streams = λ index s at. stream_sound case network valid.values index s valid.ended at;
+        exchangers = λ number e at.
+            exchanger_sound case network valid.values number e (valid.approaches number e at) (all_at (IsPermitted case) es number e valid.permitted at);
+        utilities = λ index u at. utility_sound network index u (valid.ranges index u at);
+        balance = balance_sound;
+      })
+
+  pub invalid_network : (at : Place) (because : Reason) → HasShape case network
+      → IsFinding case network (finding.Failed at because) → IsValidNetwork case network → ⊥
+  invalid_network at because shape found valid =
+      sound-no_test (items case network valid.values (length network.lines)) at because (all_sound shape valid)
+      (found-whole case network valid.values (finding.Failed at because) shape found valid.valuation)
+
+-- What follows from a verdict.
+
+-- the valuation that is left is the only one
+pub one_valuation_left : (old new : Audit) (given : Verdict) → HasShape old.case old.network → Leaves old given new
+    → IfAccepted given (λ balance. (values : Valuation) → IsWholeValuation old.case old.network values → new.values ≡ Some values)
+one_valuation_left old new (verdict.Accepted balance) shape (kept, faultless, left) =
+    λ values other. ap (λ a. a.values) left
+    ∙ ap Some (one_valuation old.case old.network (length old.network.lines) kept values shape faultless.valuation other)
+one_valuation_left old new other shape left = tt
+
+-- what is accepted is valid, and what is rejected is not
+pub says_valid : (case : Case) (network : Network) (given : Verdict) → HasShape case network → IsVerdict case network given
+    → Says given (IsValidNetwork case network)
+says_valid case network (verdict.Accepted balance) shape is = valid_network case network shape is.0
+says_valid case network (verdict.Rejected place reason) shape is = invalid_network case network place reason shape is
+says_valid case network (verdict.TooFine place step) shape is = tt
+
+pub says_exactly : (P : Type 0) (given : Verdict) → Says given P → SaysExactly given P
+says_exactly P (verdict.Accepted balance) is = inr ((λ _. is), (λ _. tt))
+says_exactly P (verdict.Rejected place reason) is = inr ((λ none. absurd none), is)
+says_exactly P (verdict.TooFine place step) is = inl tt
+
+module _ (case : Case) (network : Network) where
+  -- what is accepted does not beat the target
+  pub excess_of_verdict : (given : Verdict) → IsComplete case → HasShape case network → IsVerdict case network given
+      → IfAccepted given (λ balance. IsAtMost rational_zero balance.excess)
+  excess_of_verdict (verdict.Accepted balance) complete shape is =
+      let valid = valid_network case network shape is.0 in subst (λ (b : Balance). IsAtMost rational_zero b.excess) (sym is.1)
+      (targets_met case network valid.values (AreStreams-IsComplete case complete) shape valid.valuation valid.ended valid.approaches)
+  excess_of_verdict other complete shape is = tt
+
+  -- What is known of a network that an auditor has accepted.
+
+  pub record IsKnown : Type 0 where
+    pub complete : IsComplete case
+    pub shape : HasShape case network
+    pub valid : IsValidNetwork case network
+
+module _ (audit : Audit) (case : Case) (network : Network) (accepted : HasAccepted audit case network) (knows : KnowsItsNetwork audit) where
+  known_here : KnowsItsNetwork (record { case = case; network = network; values = Some accepted.values })
+  known_here = subst KnowsItsNetwork accepted.is knows
+
+  pub faultless_values : IsFaultless case network accepted.values
+  faultless_values = known_here.kept
+
+  pub known_network : IsKnown case network
+  known_network = record {
+    complete = known_here.complete;
+    shape = known_here.shape;
+    valid = valid_from_none case network accepted.values known_here.shape faultless_values.valuation faultless_values.none;
+  }

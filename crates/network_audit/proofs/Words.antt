@@ -36,7 +36,7 @@ pub use Rattle.network_values.proofs.LineLemmas.{mix_determined, mixed_positive,
 pub use Rattle.network_values.proofs.LoadLemmas.{loads_kept}
 pub use Rattle.network_values.proofs.SignLemmas.{targets_met}
 pub use Rattle.network_values.proofs.ValuationLemmas.{agree-take, each_first, one_valuation, room_left, valuation_front}
-pub use Rattle.network_values.proofs.WholeLemmas.{all_solved, branch_above}
+pub use Rattle.network_values.proofs.WholeLemmas.{all_solved, branch_above, item_at}
 pub use Rattle.network_values.specs.Made.{LeavesRoom, front, heat_of_both, made_values, mixed_value, moved, passed_value}
 pub use Rattle.network_values.specs.Penalties.{hot_heat, utility_part}
 pub use Rattle.network_values.specs.Sides.{KeepsApproach, SideRun, fixed_level, level_or, pass_run, passed_run, run_between}

@@ -1,12 +1,80 @@
--- What a survey reads is what its steps and heights speak of.
-use Rattle.penalties.proofs.Words.{All-weaker, Audit, Branch, BranchValue, Course, Formed, IsShifted, IsValidStream, Latent, Place, Rational, Sensible, Side}
-use Rattle.penalties.proofs.Words.{Stream, Survey, TooFine, Valuation, View, base_of, counts_above, course_of, course_steps, height, height_on, heights, ints}
-use Rattle.penalties.proofs.Words.{is_below, is_latent, latent_steps, minus, no_value, positive_part, rational_zero, seen_height, seen_steps, sensible_steps}
-use Rattle.penalties.proofs.Words.{shifted, step, stream_at, stream_height, stream_steps, times, times-zero, unshifted, value_at, values_of, view_of, whole}
+-- The table of the exchangers has their penalties and the steps that form them.
+use Rattle.penalties.proofs.Words.{All-weaker, Audit, Branch, BranchValue, Course, Exchanger, Formed, IsShifted, IsValidStream, Joint, Latent, Line, Network}
+use Rattle.penalties.proofs.Words.{Place, Rational, Sensible, Side, Source, Step, Stream, Survey, TooFine, Valuation, View, absorbed_by, absorbed_heat}
+use Rattle.penalties.proofs.Words.{absorbed_steps, all_exchanger_steps, all_joint_steps, base_of, counts_above, course_of, course_steps, enumerate_from}
+use Rattle.penalties.proofs.Words.{exchanger_row, exchanger_rows, exchanger_steps, exchangers_of, flat_map, height, height_on, heights, inlet_height, ints}
+use Rattle.penalties.proofs.Words.{is_below, is_latent, joint_penalty, joint_row, joint_rows, joint_steps, joints_of, latent_steps, minus, minus-self, no_value}
+use Rattle.penalties.proofs.Words.{outlet_height, pass_of, penalty, positive_part, rational_zero, released_by, released_heat, released_steps, seen_height}
+use Rattle.penalties.proofs.Words.{seen_steps, sensible_steps, shifted, side_pass, step, stream_at, stream_height, stream_steps, times, times-zero, unshifted}
+use Rattle.penalties.proofs.Words.{value_at, values_of, view_of, whole}
+use Rattle.std.proofs.Common.{All, Bool, List, None, Option, Result, Some, [], ap, ap₂, arith, false, if◌then◌else◌, map, option_and_then, refl, slice_get}
+use Rattle.std.proofs.Common.{subst, suc, sym, true, unwrap_or, zero, ℕ, ℤ, ◌++◌, ◌+◌, ◌∙◌, ◌∷◌, ◌≡◌}
+use Rattle.network_audit.specs.Joints.{crossing_by, joint_among, joints_among}
 use Rattle.network_values.proofs.WholeHeights.{counts_above-unshifted, is_above-whole}
-use Rattle.std.proofs.Common.{All, Bool, List, None, Option, Result, Some, [], ap, arith, false, if◌then◌else◌, option_and_then, refl, slice_get, subst, suc}
-use Rattle.std.proofs.Common.{sym, true, unwrap_or, zero, ℕ, ℤ, ◌+◌, ◌∙◌, ◌∷◌, ◌≡◌}
+use Rattle.network_audit.specs.declared.findings.Place.TheVariants as place
+use Rattle.networks.specs.declared.network.Line.TheVariants as line
+use Rattle.stream_case.specs.declared.source.Source.TheVariants as source
 use Rattle.stream_case.specs.declared.source.Side.TheVariants as side
+
+-- ---- lists made of members with their indices, and made again
+
+module _ {X Y Z : Type 0} (g : ℕ × X → Y) where
+  map-made : (f : ℕ × Y → Z) (h : ℕ × X → Z) → ((n : ℕ) (x : X) → f (n, g (n, x)) ≡ h (n, x)) → (m : ℕ) (xs : List X)
+      → map f (enumerate_from m (map g (enumerate_from m xs))) ≡ map h (enumerate_from m xs)
+  map-made f h same m [] = refl
+  map-made f h same m (x ∷ xs) = ap₂ (λ z zs. z ∷ zs) (same m x) (map-made f h same (m + 1) xs)
+
+  flat_map-made : (f : ℕ × Y → List Z) (h : ℕ × X → List Z) → ((n : ℕ) (x : X) → f (n, g (n, x)) ≡ h (n, x)) → (m : ℕ) (xs : List X)
+      → flat_map f (enumerate_from m (map g (enumerate_from m xs))) ≡ flat_map h (enumerate_from m xs)
+  flat_map-made f h same m [] = refl
+  flat_map-made f h same m (x ∷ xs) = ap₂ (λ z zs. z ++ zs) (same m x) (flat_map-made f h same (m + 1) xs)
+
+-- ---- heights of passes
+
+module _ (height : ℕ → Rational) where
+  lost : (duty : Rational) (i : ℕ) (o : Option Line)
+      → released_by height duty (source.Stream i) (crossing_by o) ≡ minus (inlet_height height o) (outlet_height height o)
+  lost duty i (Some (line.Pass from exchanger to)) = refl
+  lost duty i other = sym (minus-self rational_zero)
+
+  gained : (i : ℕ) (o : Option Line) → absorbed_by height (source.Stream i) (crossing_by o) ≡ minus (outlet_height height o) (inlet_height height o)
+  gained i (Some (line.Pass from exchanger to)) = refl
+  gained i other = sym (minus-self rational_zero)
+
+  module _ (network : Network) where
+    released-side : (number : ℕ) (duty : Rational) (of : Source)
+        → released_by height duty of (side_pass network number of) ≡ released_heat height network number duty of
+    unfolding pass_of
+    released-side number duty (source.Stream i) = lost duty i (pass_of network number i)
+    released-side number duty (source.Utility i) = refl
+
+    absorbed-side : (number : ℕ) (of : Source) → absorbed_by height of (side_pass network number of) ≡ absorbed_heat height network number of
+    unfolding pass_of
+    absorbed-side number (source.Stream i) = gained i (pass_of network number i)
+    absorbed-side number (source.Utility i) = refl
+
+    abbrev joint_of : ℕ × Exchanger → Joint
+    joint_of = joint_among network.branches network.lines
+
+    penalty-joint : (number : ℕ) (e : Exchanger) → joint_penalty height (joint_of (number, e)) ≡ penalty height network (number, e)
+    penalty-joint number e = ap₂ minus (released-side number e.duty e.hot) (absorbed-side number e.cold)
+
+    row-joint : (number : ℕ) (e : Exchanger) → joint_row height (number, joint_of (number, e)) ≡ exchanger_row height network (number, e)
+    row-joint number e = λ i. record { place = place.Exchanger number; value = penalty-joint number e i }
+
+    -- the penalties, and the steps
+    pub rows-joints : joint_rows height (joints_of network) ≡ exchanger_rows height network
+    unfolding joint_rows exchanger_rows joints_among
+    rows-joints = map-made joint_of (joint_row height) (exchanger_row height network) row-joint 0 (exchangers_of network.lines)
+
+    pub steps-joints : (steps : Place → ℕ → ℕ → List Step) → all_joint_steps height steps (joints_of network) ≡ all_exchanger_steps height steps network
+    unfolding all_joint_steps all_exchanger_steps joints_among
+    steps-joints steps = flat_map-made joint_of (joint_steps height steps) (exchanger_steps height steps network)
+        (λ number e. ap (λ value. released_steps height steps (place.Exchanger number) e.hot (side_pass network number e.hot)
+        ++ (absorbed_steps height steps (place.Exchanger number) e.cold (side_pass network number e.cold) ++ step (place.Exchanger number) 11 value ∷ []))
+        (penalty-joint number e)) 0 (exchangers_of network.lines)
+
+-- What a survey reads is what its steps and heights speak of.
 
 -- ---- heights
 

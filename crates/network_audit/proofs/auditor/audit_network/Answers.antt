@@ -1,7 +1,6 @@
-use Rattle.network_audit.proofs.AuditLemmas.{found-all}
-use Rattle.network_audit.proofs.BalanceLemmas.{balance-is, balance_items-are, heats-are}
+use Rattle.network_audit.proofs.JointLemmas.{found-all, length-joints}
+use Rattle.network_audit.proofs.HeatLemmas.{balance-is, balance_items-are, heats-are}
 use Rattle.network_audit.proofs.FoundLemmas.{found-behind, found-front}
-use Rattle.network_audit.proofs.JointLemmas.{length-joints}
 use Rattle.network_audit.proofs.SumSteps.{length-numbers}
 use Rattle.network_audit.proofs.auditor.audit_network.Goals.{After-hot_target-target, In_default}
 use Rattle.network_audit.proofs.Words.{Finding, IsFinding, Item, all_heat_items, balance_in, balance_items, balance_of, balance_steps_in, exchanger_of}
@@ -14,8 +13,7 @@ use Rattle.network_audit.specs.declared.findings.Place.TheVariants as place
 -- the items behind the statements, read from the tables
 abbrev behind : In_default → List Item
 behind c =
-    stream_items c.args.case.now c.args.network.now
-    ++ (joint_items c.args.case.now c.audit_statements.new.values c.args.joints.now
+    stream_items c.args.case.now c.args.network.now ++ (joint_items c.args.case.now c.audit_statements.new.values c.args.joints.now
     ++ (all_heat_items c.args.joints.now c.as_slice-utilities.result.now ++ balance_items c.args.case.now c.args.network.now))
 
 all_found : (c : In_default) → first_finding (items c.args.case.now c.args.network.now c.audit_statements.new.values (length c.args.network.now.lines))
@@ -40,8 +38,7 @@ returns-in-Err-audit_streams c =
 few_joints : (c : In_default) → length c.args.joints.now < 2 ^ 32
 unfolding exchangers_of
 few_joints c =
-    let n = c.args.network.now in
-    omega (
+    let n = c.args.network.now in omega (
       arith,
       ap length c.requires.table,
       length-joints n.branches n.lines (exchangers_of n.lines),
@@ -78,8 +75,7 @@ balanced c =
     let are = heats-are case n heats (c.in_default-audit_utilities.ensures.1 ∙ (λ i. heats_in (c.requires.table i) (c.as_slice-utilities.ensures i))) in
     let steps : balance_steps_in place.Balance c.hot_target-target.result c.as_slice-utilities.result.now heats ≡ balance_items case n =
     (λ i. balance_steps_in place.Balance (c.hot_target-target.ensures i) (c.as_slice-utilities.ensures i) heats)
-    ∙ balance_items-are case n heats c.requires.shape are in
-    record {
+    ∙ balance_items-are case n heats c.requires.shape are in record {
       found = found-behind _ _ c.in_default-audit_streams.ensures.0 ∙ found-behind _ _ c.in_default-audit_exchangers.ensures.0
           ∙ found-behind _ _ c.in_default-audit_utilities.ensures.0 ∙ ap first_finding (sym steps);
       is = (λ i. balance_in (c.hot_target-target.ensures i) (c.as_slice-utilities.ensures i) heats) ∙ balance-is case n heats c.requires.shape are;
@@ -87,8 +83,7 @@ balanced c =
 
 pub returns-in-Ok : goal.returns-in-Ok
 returns-in-Ok c =
-    let b = balanced (goal.at.returns-in-Ok c).After-hot_target-target in
-    record {
+    let b = balanced (goal.at.returns-in-Ok c).After-hot_target-target in record {
       faultless = record {
         valuation = c.in_default.ensures.0;
         none = all_found (goal.at.returns-in-Ok c).In_default ∙ b.found ∙ c.in-Ok.ensures.0 place.Balance;

@@ -1,4 +1,4 @@
-use Rattle.network_audit.proofs.CostSteps.{IsPriced}
+use Rattle.network_audit.proofs.SumSteps.{IsPriced}
 use Rattle.network_audit.proofs.Words.{enumerate_from, price_in}
 use Rattle.std.proofs.Common.{map, take, ◌*◌, ◌+◌, ◌≤◌}
 use Rattle.network_audit.proofs.balance.cost_of.Given as goal

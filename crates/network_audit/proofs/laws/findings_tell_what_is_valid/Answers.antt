@@ -1,6 +1,5 @@
 use Rattle.network_audit.proofs.FormedLemmas.{no_finding}
-use Rattle.network_audit.proofs.InvalidLemmas.{invalid_network}
-use Rattle.network_audit.proofs.ValidLemmas.{valid_network}
+use Rattle.network_audit.proofs.ValidLemmas.{invalid_network, valid_network}
 use Rattle.network_audit.proofs.laws.findings_tell_what_is_valid.Goals as goal
 
 pub returns-clause-valid : goal.returns-clause-valid

@@ -11,8 +11,7 @@ equal-is a b wanted differ is same = ap (rational_eq a) (sym same) ∙ sym (not-
 
 pub returns-then-ne : goal.returns-then-ne
 returns-then-ne c =
-    let size = equal-is c.args.value.now.cp c.full_size-size.result _ _ c.ne.ensures c.full_size-size.ensures in
-    λ at. found-failed _ _ (size ∙ ap not c.if-ne.true)
+    λ at. found-failed _ _ ((equal-is c.args.value.now.cp c.full_size-size.result _ _ c.ne.ensures c.full_size-size.ensures) ∙ ap not c.if-ne.true)
     ∙ ap (λ (cp : Rational). Some (finding.Failed at (reason.Unfinished c.args.value.now.cp cp))) (sym c.full_size-size.ensures)
 
 pub returns-then-ne-2 : goal.returns-then-ne-2

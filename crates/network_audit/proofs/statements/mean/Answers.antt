@@ -19,8 +19,7 @@ record IsBoth (c : After-plus) : Type 0 where
 
 is_both : (c : After-plus) → IsBoth c
 is_both c =
-    let one = value_formed _ _ _ c.in-Some.is c.times.ensures in let other = value_formed _ _ _ c.in-Some-times.is c.times-2.ensures in
-    record {
+    let one = value_formed _ _ _ c.in-Some.is c.times.ensures in let other = value_formed _ _ _ c.in-Some-times.is c.times-2.ensures in record {
       gives = subst (Gives c.plus.result) (ap₂ plus one other) c.plus.ensures;
       found = λ at. found-formed at 2 _ _ _ _ c.in-Some.is c.times.ensures ∙ found-formed at 3 _ _ _ _ c.in-Some-times.is c.times-2.ensures;
     }
@@ -37,9 +36,7 @@ record IsMean (c : After-over) : Type 0 where
 
 is_mean : (c : After-over) → IsMean c
 is_mean c =
-    let both = is_both (goal.at.After-over c).After-plus in
-    let sum = value_formed _ _ _ c.in-Some-plus.is both.gives in
-    record {
+    let both = is_both (goal.at.After-over c).After-plus in let sum = value_formed _ _ _ c.in-Some-plus.is both.gives in record {
       gives = subst (λ h. Gives c.over.result (over h c.args.cp.now)) sum (c.over.ensures.value (positive-nonzero c.args.cp.now c.requires));
       found = λ at. both.found at ∙ found-formed at 4 _ _ _ _ c.in-Some-plus.is both.gives;
     }

@@ -14,8 +14,7 @@ record IsMoved (c : After-moved) : Type 0 where
 
 is_moved : (c : After-moved) → IsMoved c
 is_moved c =
-    let gives = c.over.ensures.value (positive-nonzero c.args.from.now.cp c.requires) in
-    let change = value_formed _ _ _ c.in-Some.is gives in
+    let gives = c.over.ensures.value (positive-nonzero c.args.from.now.cp c.requires) in let change = value_formed _ _ _ c.in-Some.is gives in
     record { gives = gives; next = subst (λ by. Gives c.moved.result (moved c.args.side c.args.from.now.t by)) change c.moved.ensures }
 
 pub returns-in_default-moved : goal.returns-in_default-moved
@@ -36,6 +35,5 @@ returns-in-Err c = load_left (goal.at.returns-in-Err c).After-keeps_load ∙ c.i
 
 pub returns-in-Ok : goal.returns-in-Ok
 returns-in-Ok c =
-    let at = (goal.at.returns-in-Ok c).After-keeps_load in
-    let is = is_moved (goal.at.After-keeps_load at).After-moved in
+    let at = (goal.at.returns-in-Ok c).After-keeps_load in let is = is_moved (goal.at.After-keeps_load at).After-moved in
     (load_left at ∙ c.in-Ok.ensures.0 c.args.place, λ i. record { cp = c.args.from.now.cp; t = value_formed _ _ _ c.in-Some-moved.is is.next i })

@@ -28,5 +28,4 @@ returns c =
     let low : is_below heat (whole c.args.utility.now.least) ≡ false = ap (is_below heat) (sym c.least-least.ensures) ∙ sym c.is_below.ensures.value
     ∙ c.if-is_below.false in
     let high : is_below (whole c.args.utility.now.most) heat ≡ false = ap (λ m. is_below m heat) (sym c.most-most.ensures) ∙ sym c.is_below-2.ensures.value
-    ∙ c.if-is_below-2.false in
-    (λ at. found-passed _ _ (ap not low) ∙ found-passed _ _ (ap not high) ∙ found-nothing, tt)
+    ∙ c.if-is_below-2.false in (λ at. found-passed _ _ (ap not low) ∙ found-passed _ _ (ap not high) ∙ found-nothing, tt)

@@ -1,4 +1,4 @@
-use Rattle.network_audit.proofs.WalkLemmas.{IsWalked, line_here, walked-all, walked-found, walked-more, walked-room, walked-start, walked-wide}
+use Rattle.network_audit.proofs.FoundLemmas.{IsWalked, line_here, walked-all, walked-found, walked-more, walked-room, walked-start, walked-wide}
 use Rattle.network_audit.proofs.walk.audit_statements.Goals.{After-line-item}
 use Rattle.network_audit.proofs.Words.{AreStreams-IsComplete, IsLineOf, IsValidStream, first_value, streams_first}
 use Rattle.std.proofs.Common.{All, ap, arith, length, map, subst, sym, take, ◌++◌, ◌+◌, ◌∙◌, ◌≡◌}
@@ -12,8 +12,7 @@ start-requires-clause-room c = omega (arith, ap length c.as_slice.ensures, strea
 
 pub loop-index-init : goal.loop-index-init
 loop-index-init c =
-    let values = c.start.new.values in
-    let start = subst (λ ss. take (length ss) values ≡ map first_value ss) c.as_slice.ensures c.start.ensures in
+    let values = c.start.new.values in let start = subst (λ ss. take (length ss) values ≡ map first_value ss) c.as_slice.ensures c.start.ensures in
     let room : length values ≡ length c.args.network.now.branches = omega (arith, c.start.auto.values, c.requires.room) in
     subst (λ m. IsWalked c.args.case.now c.args.network.now 0 m values) (sym c.len-made.ensures)
     (walked-start c.args.case.now c.args.network.now values c.requires.complete room start)
@@ -31,8 +30,7 @@ pub made_by-requires-clause-used : goal.made_by-requires-clause-used
 made_by-requires-clause-used c =
     let is = here (goal.at.made_by-requires-clause-used c).After-line-item in
     let wide = walked-wide c.args.case.now c.args.network.now c.loop-index.index c.loop-index.made c.loop-index.values c.requires.shape
-    c.loop-index.invariant in
-    λ k d inside. omega (arith, wide, is.numbers.used k d inside)
+    c.loop-index.invariant in λ k d inside. omega (arith, wide, is.numbers.used k d inside)
 
 pub keep-made-requires : goal.keep-made-requires
 keep-made-requires c =

@@ -1,7 +1,6 @@
-use Rattle.network_audit.proofs.AcceptedLemmas.{known_network}
+use Rattle.network_audit.proofs.ValidLemmas.{known_network}
 use Rattle.penalties.proofs.Words.{AreStreams-IsComplete, Audit, HasValidStreams-IsComplete, exchangers_of, few_exchangers, joints_of, length-joints, to_z-of_z}
-use Rattle.penalties.proofs.ListLaws.{listed_not_negative, listed_sum}
-use Rattle.penalties.proofs.Listing.{all_listed, found_none, found_some, reference_view, too_fine_first, too_fine_later}
+use Rattle.penalties.proofs.StepLemmas.{all_listed, found_none, found_some, listed_not_negative, listed_sum, reference_view, too_fine_first, too_fine_later}
 use Rattle.penalties.proofs.SurveyLemmas.{supplies_shifted}
 use Rattle.std.proofs.Common.{ap, arith, length, rules, w32, ◌∙◌, ◌≡◌}
 use Rattle.penalties.proofs.survey.penalties.Goals as goal
@@ -19,13 +18,10 @@ invariant_of-survey c =
 
 pub add_exchangers-requires : goal.add_exchangers-requires
 add_exchangers-requires c =
-    let network = c.args.network.now in
-    let many : length c.joints-joints.result.now ≡ length (exchangers_of network.lines) =
+    let network = c.args.network.now in let many : length c.joints-joints.result.now ≡ length (exchangers_of network.lines) =
     ap length (c.joints-joints.ensures.table ∙ ap (λ (a : Audit). joints_of a.network) c.requires.accepted.is)
-    ∙ length-joints network.branches network.lines (exchangers_of network.lines) in
-    let fewer = few_exchangers network.lines in
-    let few = (known_network _ _ _ c.requires.accepted c.joints-joints.ensures.known).shape.few in
-    omega (arith, many, fewer, few)
+    ∙ length-joints network.branches network.lines (exchangers_of network.lines) in let fewer = few_exchangers network.lines in
+    let few = (known_network _ _ _ c.requires.accepted c.joints-joints.ensures.known).shape.few in omega (arith, many, fewer, few)
 
 pub add_mixes-requires : goal.add_mixes-requires
 add_mixes-requires c = omega (arith, ap length c.as_slice.ensures, (known_network _ _ _ c.requires.accepted c.joints-joints.ensures.known).shape.few)
