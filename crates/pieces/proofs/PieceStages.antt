@@ -1,5 +1,5 @@
 -- The stages of streams: pieces that exchange heat, with a share for each of their exchanges.
-use Rattle.pieces.proofs.Words.{All-cons, All-enumerated, All-head, All-map, All-nil, All-tail, AreStages, Case, Course, Exchange, LedStage, Piece, Share, Side}
+use Rattle.pieces.proofs.Words.{All-cons, All-enumerated, All-head, All-map, All-nil, All-tail, AreStages, Case, Exchange, LedStage, Piece, Share, Side}
 use Rattle.pieces.proofs.Words.{Source, Stream, and_parts, append-nil, cond_some, cons_option, course_of, courses_along, courses_of, enumerate_from, eqb-true}
 use Rattle.pieces.proofs.Words.{false≢true, filter_map, filter_map-append, filter_map-enumerate_more, filter_map-push, get_or-reverse, is_of_stream, is_stage}
 use Rattle.pieces.proofs.Words.{kept_hold, led_course, led_courses, led_piece, led_stage, length-reverse, ltb-true, map-map, nat_lt, ne_eqb, numbered-item}
@@ -7,7 +7,7 @@ use Rattle.pieces.proofs.Words.{on_side, on_the_way, option_map, option_to_list,
 use Rattle.pieces.proofs.Words.{same_source, same_source-true, share_at, share_for, share_of, shares_along, shares_of, size_on, slice_get-map, source_at}
 use Rattle.pieces.proofs.Words.{sources_of, stage_of, stream_course, take_more, unwrap_or}
 use Rattle.std.proofs.Common.{All, Bool, List, None, Option, Some, [], ap, arith, false, get_or, if◌then◌else◌, length, map, refl, slice_get, subst, suc, sym}
-use Rattle.std.proofs.Common.{take, true, zero, ℕ, ◌&&◌, ◌++◌, ◌+◌, ◌-◌, ◌<◌, ◌==◌, ◌∙◌, ◌∷◌, ◌≡◌}
+use Rattle.std.proofs.Common.{take, true, zero, ℕ, ◌++◌, ◌+◌, ◌-◌, ◌<◌, ◌==◌, ◌∙◌, ◌∷◌, ◌≡◌}
 use Rattle.stream_case.specs.declared.source.Side.TheVariants as side
 use Rattle.stream_case.specs.declared.source.Source.TheVariants as source
 

@@ -59,11 +59,7 @@ fn own_shares(
 }
 
 /// Those of a stream's shares that are of the piece at an index.
-fn shares_of(
-    alloc: Global,
-    index: u32,
-    own: &[(u32, Share)],
-) -> Result<Items<Share>, AllocError>
+fn shares_of(alloc: Global, index: u32, own: &[(u32, Share)]) -> Result<Items<Share>, AllocError>
     ensures { IfOk result (λ shares. shares ≡ filter_map (share_at index) own.now) }
 {
     let mut shares = Items::new(alloc);

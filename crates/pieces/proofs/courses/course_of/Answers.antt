@@ -1,8 +1,8 @@
-use Rattle.pieces.proofs.Words.{Course, IsTrue, Share, Side, course_of, enumerate_from, false≢true, filter_map, get_or_default, lt-ltb, nat_lt, on_the_way}
+use Rattle.pieces.proofs.Words.{Course, IsTrue, Share, Side, enumerate_from, false≢true, filter_map, get_or_default, lt-ltb, nat_lt, on_the_way}
 use Rattle.pieces.proofs.Words.{option_map_or, same_source, share_at, shares_of, slice_get-get_or, stage_of, take_all, the_type, true_same}
 use Rattle.pieces.proofs.PieceStages.{filter_map-way, kept-more, kept-skip, own-shares}
 use Rattle.pieces.proofs.courses.course_of.Goals.{else-eq, else-not-is_empty, then-eq, then-not-is_empty+in_ok-push}
-use Rattle.std.proofs.Common.{Bool, List, None, Some, [], ap, arith, false, get_or, if◌then◌else◌, length, refl, rules, sym, true, ℕ, ◌&&◌, ◌++◌, ◌∙◌, ◌∷◌, ◌≡◌}
+use Rattle.std.proofs.Common.{Bool, List, None, Some, [], ap, arith, false, get_or, if◌then◌else◌, length, refl, rules, sym, true, ◌&&◌, ◌++◌, ◌∙◌, ◌∷◌, ◌≡◌}
 use Rattle.pieces.proofs.courses.course_of.Goals as goal
 use Rattle.stream_case.specs.declared.source.Side.TheVariants as side
 use Rattle.stream_case.specs.declared.source.Source.TheVariants as source

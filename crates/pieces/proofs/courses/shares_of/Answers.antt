@@ -1,6 +1,6 @@
 use Rattle.pieces.proofs.Words.{append-nil, eq-eqb, filter_map, ne_eqb, option_to_list, share_at, take_all}
 use Rattle.pieces.proofs.PieceStages.{one_more}
-use Rattle.std.proofs.Common.{None, Some, [], ap, if◌then◌else◌, sym, take, ◌++◌, ◌∙◌, ◌∷◌, ◌≡◌}
+use Rattle.std.proofs.Common.{None, Some, [], ap, if◌then◌else◌, sym, take, ◌++◌, ◌∙◌, ◌∷◌}
 use Rattle.pieces.proofs.courses.shares_of.Goals as goal
 
 pub loop-share-preserved-then-share-index : goal.loop-share-preserved-then-share-index
