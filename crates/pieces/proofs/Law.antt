@@ -1,10 +1,10 @@
 -- Pieces that are led draw a network that is valid and has no finding.
 use Rattle.pieces.proofs.Words.{All-append, All-map, All-weaker, AreFormed, AreLedPieces, AreSmall, AreStreams-IsComplete, Case, Exchange, Exchanger}
 use Rattle.pieces.proofs.Words.{HIGHEST_LEVEL, HasRoom, HasUtilityHeat, HaveWholeHeats, IsComplete, IsInRange, IsLedNetwork, IsOfOneStream, IsPermitted}
-use Rattle.pieces.proofs.Words.{IsPlaced, IsPlaced-IsComplete, IsRoomy, IsSized, IsStreamPiece, IsTrue, IsValidNetwork, IsValidStream, LedStage, Line}
+use Rattle.pieces.proofs.Words.{IsPlaced, IsPlaced-IsComplete, IsRoomy, IsSized, IsStreamPiece, IsValidNetwork, IsValidStream, Line}
 use Rattle.pieces.proofs.Words.{MOST_LINES, MOST_LOAD, Network, Piece, RunsAs, RunsThrough, Share, Side, Source, Stream, Utility, all_at, at_most-whole}
 use Rattle.pieces.proofs.Words.{at_most_trans, balance_of, cost_of, courses_values, duties_with, duty_with, enters-run, enumerate_from, exchange_balance}
-use Rattle.pieces.proofs.Words.{exchangers_for, exchangers_of, filter_map, first_state-sized, full_size-sized, grouped_utility_formed, heat-sized, heat_with}
+use Rattle.pieces.proofs.Words.{exchangers_of, filter_map, first_state-sized, full_size-sized, grouped_utility_formed, heat-sized, heat_with}
 use Rattle.pieces.proofs.Words.{heats_with, hot_target, is_forbidden, is_latent_branch-is, leaves-run, led_course, led_piece, level_in, loads_kept, network_of}
 use Rattle.pieces.proofs.Words.{no_finding_from_room, on_side, piece_on, ratio-one, same_Some, shares_of, side_of, sized-between, sized_change, sized_roomy}
 use Rattle.pieces.proofs.Words.{sources_of, stage_values, take_all, temperature, the_pass_of, unwrap_or, utility_items_at, utility_part}
@@ -18,7 +18,7 @@ use Rattle.pieces.proofs.PieceShape.{joined-at, piece-for}
 use Rattle.pieces.proofs.PieceStages.{All-numbered, numbered-each, source_at-piece}
 use Rattle.pieces.proofs.PieceValues.{IsRun, courses_here, each-piece, network-valued, network_here, passes-run, stage-led, streams-ended, values_here}
 use Rattle.std.proofs.Common.{All, List, None, Option, Some, ap, ap₂, arith, get_or, length, map, option_map, pos, refl, slice_get, subst, subst₂, sym}
-use Rattle.std.proofs.Common.{unsigned_abs, ℕ, ℤ, ⊎_elim, ◌*◌, ◌++◌, ◌+◌, ◌<◌, ◌∙◌, ◌≡◌, ◌≤◌}
+use Rattle.std.proofs.Common.{unsigned_abs, ℕ, ℤ, ⊎_elim, ◌*◌, ◌+◌, ◌<◌, ◌∙◌, ◌≡◌, ◌≤◌}
 pub use Rattle.pieces.proofs.PieceShape.{exchangers_of-network_of, length-network_of}
 use Rattle.networks.specs.declared.network.Line.TheVariants as line
 use Rattle.stream_case.specs.declared.source.Side.TheVariants as side

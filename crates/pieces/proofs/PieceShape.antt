@@ -1,13 +1,13 @@
 -- The network of pieces has the shape of a network.
 use Rattle.pieces.proofs.Words.{All-map, AreLedPieces, Case, Course, Exchange, Exchanger, HasShape, HasShape-drawn, IsComplete, IsCourseOf, IsExchanger}
-use Rattle.pieces.proofs.Words.{IsName-exchanger_name, IsPositive, IsShareOf, Joins, JoinsPieces, LedStage, MOST_LINES, Piece, Share, Side, Source, Stream}
+use Rattle.pieces.proofs.Words.{IsName-exchanger_name, IsPositive, IsShareOf, Joins, JoinsPieces, MOST_LINES, Piece, Share, Side, Source, Stream}
 use Rattle.pieces.proofs.Words.{all_at, course_of, courses_lines, courses_of, declared_line, enumerate_from, exchanger_of, exchangers_for, exchangers_of}
 use Rattle.pieces.proofs.Words.{exchangers_of-drawn, few-courses, led_course, length-enumerate_from, length-map, network_of, numbered_names-differ, on_side}
-use Rattle.pieces.proofs.Words.{option_map, piece_on, same_Some, same_source, same_source-same, shares_of, side_of, size_on, slice_get-numbered}
+use Rattle.pieces.proofs.Words.{option_map, piece_on, same_Some, same_source, same_source-same, side_of, size_on, slice_get-numbered}
 use Rattle.pieces.proofs.Words.{slice_get_within, source_on, sources_of, stream_course, turns}
 use Rattle.pieces.proofs.PieceStages.{All-numbered, each-share, each-stage, numbered-each, shares_along-course, source_at-piece, source_there, sources-on_side}
 use Rattle.pieces.proofs.StageSums.{few-shares, length-courses_of, turns-course}
-use Rattle.std.proofs.Common.{All, List, Some, ap, arith, inl, inr, length, length-append, map, refl, slice_get, subst, sym, true, ℕ, ◌*◌, ◌+◌, ◌<◌, ◌∙◌, ◌≡◌}
+use Rattle.std.proofs.Common.{All, List, Some, ap, arith, inl, inr, length, length-append, map, refl, slice_get, subst, sym, ℕ, ◌*◌, ◌+◌, ◌<◌, ◌∙◌, ◌≡◌}
 use Rattle.std.proofs.Common.{◌≤◌}
 use Rattle.stream_case.specs.declared.source.Side.TheVariants as side
 use Rattle.stream_case.specs.declared.source.Source.TheVariants as source

@@ -1,14 +1,42 @@
 -- The stages of streams: pieces that exchange heat, with a share for each of their exchanges.
-use Rattle.pieces.proofs.Words.{All-cons, All-enumerated, All-head, All-map, All-nil, All-tail, AreStages, Case, Course, Exchange, LedStage, Piece, Share, Side}
+use Rattle.pieces.proofs.Words.{All-cons, All-enumerated, All-head, All-map, All-nil, All-tail, AreStages, Case, Exchange, LedStage, Piece, Share, Side}
 use Rattle.pieces.proofs.Words.{Source, Stream, and_parts, append-nil, cond_some, cons_option, course_of, courses_along, courses_of, enumerate_from, eqb-true}
-use Rattle.pieces.proofs.Words.{filter_map, filter_map-append, filter_map-enumerate_more, get_or-reverse, is_stage, kept_hold, led_course, led_courses}
-use Rattle.pieces.proofs.Words.{led_piece, led_stage, length-reverse, ltb-true, map-map, nat_lt, numbered-item, on_side, on_the_way, option_map, option_to_list}
-use Rattle.pieces.proofs.Words.{piece_on, reverse, reverse-append, same_source, same_source-true, share_of, shares_along, shares_of, size_on, slice_get-map}
-use Rattle.pieces.proofs.Words.{source_at, sources_of, stage_of, stream_course, unwrap_or}
-use Rattle.std.proofs.Common.{All, Bool, List, None, Option, Some, [], ap, arith, false, get_or, if◌then◌else◌, length, map, refl, slice_get, subst, sym, take}
-use Rattle.std.proofs.Common.{true, ℕ, ◌&&◌, ◌++◌, ◌+◌, ◌-◌, ◌<◌, ◌==◌, ◌∙◌, ◌∷◌, ◌≡◌}
+use Rattle.pieces.proofs.Words.{false≢true, filter_map, filter_map-append, filter_map-enumerate_more, filter_map-push, get_or-reverse, is_of_stream, is_stage}
+use Rattle.pieces.proofs.Words.{kept_hold, led_course, led_courses, led_piece, led_stage, length-reverse, ltb-true, map-map, nat_lt, ne_eqb, numbered-item}
+use Rattle.pieces.proofs.Words.{on_side, on_the_way, option_map, option_to_list, own_share, own_shares, piece_on, reverse, reverse-append, same_Some}
+use Rattle.pieces.proofs.Words.{same_source, same_source-true, share_at, share_for, share_of, shares_along, shares_of, size_on, slice_get-map, source_at}
+use Rattle.pieces.proofs.Words.{sources_of, stage_of, stream_course, take_more, unwrap_or}
+use Rattle.std.proofs.Common.{All, Bool, List, None, Option, Some, [], ap, arith, false, get_or, if◌then◌else◌, length, map, refl, slice_get, subst, suc, sym}
+use Rattle.std.proofs.Common.{take, true, zero, ℕ, ◌++◌, ◌+◌, ◌-◌, ◌<◌, ◌==◌, ◌∙◌, ◌∷◌, ◌≡◌}
 use Rattle.stream_case.specs.declared.source.Side.TheVariants as side
 use Rattle.stream_case.specs.declared.source.Source.TheVariants as source
+
+-- ---- items that are kept, one by one
+
+module _ {X Y : Type 0} (h : X → Option Y) (xs : List X) (i : ℕ) (x : X) (within : i < length xs) (here : x ≡ get_or xs i x) where
+  pub one_more : filter_map h (take (i + 1) xs) ≡ filter_map h (take i xs) ++ option_to_list (h x)
+  one_more =
+      ap (filter_map h) (take_more xs i x within ∙ ap (λ (y : X). take i xs ++ y ∷ []) (sym here)) ∙ filter_map-push h (take i xs) x
+
+-- what is kept of the shares of a stream at one of its pieces are the shares of the piece
+module _ (of : Side) (sources : List Source) (stream index : ℕ) (own : is_of_stream sources stream index ≡ true) where
+  own_kept : (es : List (ℕ × Exchange)) → filter_map (share_at index) (filter_map (own_share of sources stream) es) ≡ filter_map (share_of of index) es
+  own_kept [] = refl
+  own_kept ((number, e) ∷ es) =
+      by (is_of_stream sources stream (piece_on of e)) (piece_on of e) refl ∙ ap (cons_option (share_of of index (number, e))) (own_kept es)
+    where
+      by : (b : Bool) (piece : ℕ) → is_of_stream sources stream piece ≡ b
+          → filter_map (share_at index) (cons_option (if b then Some (piece, share_for of (number, e)) else None) (filter_map (own_share of sources stream) es))
+          ≡ cons_option (share_at index (piece, share_for of (number, e))) (filter_map (share_at index) (filter_map (own_share of sources stream) es))
+      by true piece is = refl
+      by false piece is =
+          let kept = filter_map (share_at index) (filter_map (own_share of sources stream) es) in
+          let other = ne_eqb piece index (λ same. false≢true (sym is ∙ ap (is_of_stream sources stream) same ∙ own)) in
+          ap (λ b. cons_option (if b then Some (share_for of (number, e)) else None) kept) (sym other)
+
+  pub own-shares : (exchanges : List Exchange) → filter_map (share_at index) (own_shares of sources exchanges stream) ≡ shares_of of index exchanges
+  unfolding own_shares shares_of
+  own-shares exchanges = own_kept (enumerate_from 0 exchanges)
 
 -- ---- numbered items
 
@@ -75,6 +103,12 @@ module _ {X Y : Type 0} (f : ℕ × X → Y) (xs : List X) where
 
   pub All-numbered : (P : Y → Type 0) → ((i : ℕ) (x : X) → slice_get xs i ≡ Some x → P (f (i, x))) → All P (map f (enumerate_from 0 xs))
   All-numbered P each = All-map P f (enumerate_from 0 xs) (All-enumerated (λ e. P (f e)) xs each)
+
+-- an item of what each makes comes from the one there
+pub mapped_item : {X Y : Type 0} (f : X → Y) (xs : List X) (i : ℕ) (y : Y) → slice_get (map f xs) i ≡ Some y → (x : X) × (slice_get xs i ≡ Some x) × (f x ≡ y)
+mapped_item f [] i y at = cc at
+mapped_item f (x ∷ xs) zero y at = (x, refl, same_Some (f x) y at)
+mapped_item f (x ∷ xs) (suc i) y at = mapped_item f xs i y at
 
 -- ---- the source of a piece
 

@@ -1,7 +1,7 @@
 -- The network of pieces carries the states of its pieces, each stream from its first state to its last.
 use Rattle.design_lines.proofs.BranchStreams.{IsEachLed, are_led, length-own_branches, stream_at-own}
 use Rattle.pieces.proofs.Words.{All-append, All-map, AreLed, AreValues, Case, Contains, Course, EachRuns, Exchange, Exchanger, HasShape, IsLedStage}
-use Rattle.pieces.proofs.Words.{IsLedStream, IsStreamPiece, LedStage, Make, Network, Piece, RunsAs, Share, StageRuns, Stream, courses_along, courses_lines}
+use Rattle.pieces.proofs.Words.{IsLedStream, IsStreamPiece, LedStage, Make, Network, Piece, RunsAs, StageRuns, Stream, courses_along, courses_lines}
 use Rattle.pieces.proofs.Words.{courses_made, courses_of, courses_run, courses_values, declared_line, declared_make, each_ended, enumerate_from, led_course}
 use Rattle.pieces.proofs.Words.{led_courses, led_piece, length-enumerate_from, length-map, made_branches, make_append, network_of, no_end-declared, on_side}
 use Rattle.pieces.proofs.Words.{own_branches, own_start, piece_on, positive-is, shares_of, size_on, sources_of, values_made}
@@ -10,7 +10,6 @@ use Rattle.network_values.specs.Values.{Valuation, change, duty_at, duty_of, end
 use Rattle.pieces.proofs.PieceShape.{CanBeLed, declared_here, exchanger-at, exchangers_of-network_of, piece-for}
 use Rattle.pieces.proofs.PieceStages.{courses_along-led, each-share, each-stage, numbered-each}
 use Rattle.std.proofs.Common.{All, List, Some, [], ap, append-nil, arith, length, map, refl, slice_get, subst, sym, ℕ, ◌++◌, ◌+◌, ◌<◌, ◌∙◌, ◌≡◌}
-use Rattle.stream_case.specs.declared.source.Source.TheVariants as source
 
 module _ {case : Case} {hot cold : List Piece} {exchanges : List Exchange} (can : CanBeLed case hot cold exchanges) where
   abbrev pub network_here : Network

@@ -1,7 +1,7 @@
 -- Sums over the stages of courses: an exchange has one share in the course of each of its streams, and so the shares of all courses are few.
 use Rattle.pieces.proofs.Words.{All-head, All-tail, AreStages, Case, Course, Exchange, Share, Side, Source, Stream, all_branches, cond-false, cond-true}
 use Rattle.pieces.proofs.Words.{cons_option, course_branches, course_of, courses_of, enumerate_from, eq-eqb, filter_map, is_stage, length-enumerate_from}
-use Rattle.pieces.proofs.Words.{length-map, lt-ltb, nat_lt, ne_eqb, on_side, on_the_way, option_map_or, piece_on, same_source, share_of, shares_of, size_on}
+use Rattle.pieces.proofs.Words.{length-map, lt-ltb, nat_lt, ne_eqb, on_side, on_the_way, option_map_or, piece_on, same_source, share_for, share_of, shares_of}
 use Rattle.pieces.proofs.Words.{stage_of, stream_course, sum_by, sum_by-cons, sum_by-le, sum_by-le-sum_by, sum_by-reverse, turns}
 use Rattle.std.proofs.Common.{All, Bool, List, None, Option, Some, [], ap, arith, cond, false, get_or, if◌then◌else◌, length, map, refl, slice_get, suc, sym}
 use Rattle.std.proofs.Common.{true, zero, ℕ, ◌&&◌, ◌*◌, ◌+◌, ◌<◌, ◌==◌, ◌∙◌, ◌∷◌, ◌≡◌, ◌≤◌}
@@ -88,9 +88,6 @@ swap_tests false false n = refl
 -- a number where a source is the stream
 is_own : ℕ → ℕ → Source → ℕ
 is_own stream n a = cond (same_source a (source.Stream stream)) n 0
-
-abbrev share_for : Side → ℕ × Exchange → Share
-share_for of x = record { exchanger = x.0; cp = size_on of x.1 }
 
 -- a sum over all shares of a course is one over the exchanges whose pieces are the stream's
 module _ (f : Share → ℕ) (of : Side) (exchanges : List Exchange) (stream : ℕ) where

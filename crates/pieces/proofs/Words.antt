@@ -42,22 +42,24 @@ pub use Rattle.networks.specs.declared.network.Line.{Line}
 pub use Rattle.networks.specs.declared.network.Network.{Network}
 pub use Rattle.pieces.specs.Led.{AreLedPieces, HasUtilityHeat, IsLedNetwork, IsStreamPiece, JoinsPieces, RunsThrough, exchange_balance, heats_with, level_in}
 pub use Rattle.pieces.specs.Led.{temperature}
-pub use Rattle.pieces.specs.Pieces.{Piece, course_of, courses_of, exchanger_of, exchangers_for, is_stage, led_course, led_courses, led_piece, led_stage}
-pub use Rattle.pieces.specs.Pieces.{on_side, piece_on, share_of, size_on, source_at, sources_of, stage_of, stream_course}
-unfoldable pub use Rattle.pieces.specs.Pieces.{network_of, shares_of}
+pub use Rattle.pieces.specs.Pieces.{Piece, course_of, courses_of, exchanger_of, exchangers_for, is_of_stream, is_stage, led_course, led_courses, led_piece}
+pub use Rattle.pieces.specs.Pieces.{led_stage, on_side, own_share, piece_on, share_at, share_for, share_of, size_on, source_at, sources_of, stage_of}
+pub use Rattle.pieces.specs.Pieces.{stream_course}
+unfoldable pub use Rattle.pieces.specs.Pieces.{network_of, own_shares, shares_of}
 pub use Rattle.pieces.specs.declared.exchange.Exchange.{Exchange}
 pub use Rattle.problem_table.specs.Deficit.{hot_target}
 pub use Rattle.std.proofs.lemmas.Bool.{and_parts, cond-false, cond-true, eq-eqb, eqb-true, false≢true, lt-ltb, ltb-true, ne_eqb}
-pub use Rattle.std.proofs.lemmas.List.{append-nil, get_or-reverse, get_or_default, length-map, length-reverse, map-append, reverse-append, take_all}
+pub use Rattle.std.proofs.lemmas.List.{append-nil, get_or-reverse, get_or_default, length-map, length-reverse, map-append, reverse-append, take_all, take_more}
 pub use Rattle.std.proofs.lemmas.List.Elements.{All-append, All-cons, All-head, All-map, All-nil, All-tail, All-weaker, filter_map-append}
 pub use Rattle.std.proofs.lemmas.List.FromFn.{length-enumerate_from}
 pub use Rattle.std.proofs.lemmas.List.Sums.{sum_by-cons, sum_by-le, sum_by-le-sum_by}
-pub use Rattle.std.proofs.lemmas.Option.{cond_some, same_Some, slice_get-map, slice_get_within}
+pub use Rattle.std.proofs.lemmas.Option.{cond_some, same_Some, slice_get-get_or, slice_get-map, slice_get_within}
 pub use Rattle.std.proofs.lemmas.Simd.{map-map}
 pub use Rattle.std.specs.List.{cons_option, enumerate_from, filter_map}
 pub use Rattle.std.specs.Option.{option_map_or, option_to_list}
 pub use Rattle.std.specs.Prelude.{Contains, IsTrue, nat_lt, option_map, reverse, sum_by, unwrap_or}
 pub use Rattle.stream_case.proofs.CompleteLemmas.{AreStreams-IsComplete, IsPlaced-IsComplete}
+pub use Rattle.stream_case.proofs.ListLemmas.{filter_map-push}
 pub use Rattle.stream_case.proofs.SourceLemmas.{same_source-same, same_source-true}
 pub use Rattle.stream_case.specs.Case.{IsComplete, is_forbidden, side_of}
 pub use Rattle.stream_case.specs.Source.{same_source}

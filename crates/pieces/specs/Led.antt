@@ -1,5 +1,5 @@
 -- What is asked of pieces and their exchanges, so that the network that they draw is valid; and what holds of it then.
-use Rattle.std.specs.Prelude.{◌≡◌, ◌+◌, ◌*◌, ◌<◌, ◌≤◌, ◌≤ℤ◌, ℕ, ℤ, pos, All, List, length, map, Option, Some, None, slice_get, false, IsTrue}
+use Rattle.std.specs.Prelude.{◌≡◌, ◌*◌, ◌<◌, ◌≤◌, ◌≤ℤ◌, ℕ, ℤ, pos, All, List, length, Option, Some, None, slice_get, false, IsTrue}
 use Rattle.std.specs.List.{enumerate_from, filter_map}
 use Rattle.stream_case.specs.Case.{is_forbidden, side_of}
 use Rattle.stream_case.specs.Stream.{is_latent}
@@ -11,7 +11,6 @@ use Rattle.stream_case.specs.declared.source.Source.TheVariants as source
 use Rattle.stream_case.specs.declared.stream.Stream.{Stream}
 use Rattle.stream_case.specs.declared.utility.Utility.{Utility}
 use Rattle.fractions.specs.Rationals.{IsAtMost, Rational, minus, plus, ratio, rational_sum, rational_sum_by, times, whole}
-use Rattle.networks.specs.Lines.{Exchanger, exchangers_of}
 use Rattle.networks.specs.Shape.{HasShape, IsPositive}
 use Rattle.networks.specs.declared.network.Network.{Network}
 use Rattle.network_values.specs.Sides.{approach_of, enters, fixed_level, leaves, side_run}
@@ -24,8 +23,7 @@ use Rattle.network_audit.specs.Sized.{AreSmall, IsSized, IsWholeGroup, count_of,
 use Rattle.network_audit.specs.Valid.{IsValidNetwork}
 use Rattle.network_audit.specs.declared.verdict.Balance.{Balance}
 use Rattle.design_lines.specs.Values.{LedStage, Meet, size_of, state_behind}
-use Rattle.design_lines.specs.declared.stage.Share.{Share}
-use Rattle.pieces.specs.Pieces.{Piece, exchangers_for, led_course, network_of, on_side, piece_on, shares_of, size_on, sources_of}
+use Rattle.pieces.specs.Pieces.{Piece, exchangers_for, led_course, on_side, piece_on, shares_of, size_on, sources_of}
 use Rattle.pieces.specs.declared.exchange.Exchange.{Exchange}
 
 -- ---- an exchange

@@ -1,6 +1,7 @@
 -- A network of pieces: each source goes through pieces, and each exchange of heat between a hot and a cold piece is an exchanger.
-use Rattle.std.specs.Prelude.{ℕ, ◌==◌, ◌&&◌, Bool, List, length, map, nat_lt, Option, Some, None, slice_get, unwrap_or, if◌then◌else◌}
+use Rattle.std.specs.Prelude.{ℕ, ◌==◌, ◌&&◌, Bool, List, length, map, false, nat_lt, Option, Some, None, slice_get, unwrap_or, if◌then◌else◌}
 use Rattle.std.specs.List.{enumerate_from, filter_map}
+use Rattle.std.specs.Option.{option_map_or}
 use Rattle.stream_case.specs.Source.{same_source}
 use Rattle.stream_case.specs.declared.case.Case.{Case}
 use Rattle.stream_case.specs.declared.source.Side.{Side}
@@ -55,12 +56,31 @@ exchangers_for hot cold exchanges = map (exchanger_of hot cold) (enumerate_from 
 
 -- ---- courses
 
+-- the share of an exchange
+abbrev pub share_for : Side → ℕ × Exchange → Share
+share_for of (number, e) = record { exchanger = number; cp = size_on of e }
+
 -- the shares of the piece at an index: one for each of its exchanges, in their order
 abbrev pub share_of : Side → ℕ → ℕ × Exchange → Option Share
-share_of of index (number, e) = if piece_on of e == index then Some (record { exchanger = number; cp = size_on of e }) else None
+share_of of index (number, e) = if piece_on of e == index then Some (share_for of (number, e)) else None
 
 unfoldable pub shares_of : Side → ℕ → List Exchange → List Share
 shares_of of index exchanges = filter_map (share_of of index) (enumerate_from 0 exchanges)
+
+-- whether the piece at an index is one of the stream
+abbrev pub is_of_stream : List Source → ℕ → ℕ → Bool
+is_of_stream sources stream index = option_map_or (λ a. same_source a (source.Stream stream)) (slice_get sources index) false
+
+-- the shares of a stream, each with the index of its piece: one for each exchange of its pieces, in their order
+abbrev pub own_share : Side → List Source → ℕ → ℕ × Exchange → Option (ℕ × Share)
+own_share of sources stream (number, e) = if is_of_stream sources stream (piece_on of e) then Some (piece_on of e, share_for of (number, e)) else None
+
+unfoldable pub own_shares : Side → List Source → List Exchange → ℕ → List (ℕ × Share)
+own_shares of sources exchanges stream = filter_map (own_share of sources stream) (enumerate_from 0 exchanges)
+
+-- one of them, if its piece has the index
+abbrev pub share_at : ℕ → ℕ × Share → Option Share
+share_at index (piece, share) = if piece == index then Some share else None
 
 -- whether a piece is one of the stream, and exchanges heat
 abbrev pub is_stage : Side → List Exchange → ℕ → ℕ → Source → Bool

@@ -1,9 +1,10 @@
 //! The courses of the streams.
 
 ghost use Rattle.std.specs.Prelude.{◌≡◌, ◌<◌, ◌^◌, length, IfOk};
+ghost use Rattle.std.specs.List.{filter_map};
 ghost use Rattle.stream_case.specs.Source.{same_source};
 ghost use Rattle.stream_case.specs.declared.source.Source.TheVariants.{Stream as of_stream};
-ghost use Rattle.pieces.specs.Pieces.{course_of, courses_of, shares_of, stage_of};
+ghost use Rattle.pieces.specs.Pieces.{course_of, courses_of, is_of_stream, own_shares, share_at};
 
 use crate::exchange::Exchange;
 use design_lines::{Course, Share};
@@ -20,25 +21,53 @@ fn is_stream(source: Source, stream: u32) -> bool
     }
 }
 
-/// The shares of the piece at an index, one for each of its exchanges in their order.
-fn shares_of(
+/// Whether the piece at an index is one of the stream.
+fn is_of_stream(sources: &[Source], stream: u32, index: u32) -> bool
+    ensures { result ≡ is_of_stream sources.now stream index }
+{
+    match sources.get(index as usize) {
+        Some(source) => is_stream(*source, stream),
+        None => false,
+    }
+}
+
+/// The shares of a stream, each with the index of its piece: one for each exchange of its pieces, in
+/// their order.
+fn own_shares(
     alloc: Global,
     side: Side,
-    index: u32,
+    stream: u32,
+    sources: &[Source],
     exchanges: &[Exchange],
-) -> Result<Items<Share>, AllocError>
+) -> Result<Vec<(u32, Share)>, AllocError>
     requires { length exchanges.now < 2 ^ 32 }
-    ensures { IfOk result (λ shares. shares ≡ shares_of side index exchanges.now) }
+    ensures { IfOk result (λ own. own.items ≡ own_shares side sources.now exchanges.now stream) }
 {
-    let mut shares = Items::new(alloc);
+    let mut own = Vec::new(alloc);
     for (number, exchange) in exchanges.iter().enumerate() {
-        if exchange.piece_on(side) != index {
+        let index = exchange.piece_on(side);
+        if !is_of_stream(sources, stream, index) {
             continue;
         }
-        shares.push(Share {
+        let share = Share {
             exchanger: number as u32,
             cp: exchange.size_on(side),
-        })?;
+        };
+        own.push((index, share))?;
+    }
+    Ok(own)
+}
+
+/// Those of a stream's shares that are of the piece at an index.
+fn shares_of(alloc: Global, index: u32, own: &[(u32, Share)]) -> Result<Items<Share>, AllocError>
+    ensures { IfOk result (λ shares. shares ≡ filter_map (share_at index) own.now) }
+{
+    let mut shares = Items::new(alloc);
+    for share in own {
+        if share.0 != index {
+            continue;
+        }
+        shares.push(share.1)?;
     }
     Ok(shares)
 }
@@ -56,12 +85,13 @@ fn course_of(
     requires few { length exchanges.now < 2 ^ 32 }
     ensures { IfOk result (λ course. course ≡ course_of side sources.now exchanges.now stream) }
 {
+    let own = own_shares(alloc, side, stream, sources, exchanges)?;
     let mut stages = Vec::new(alloc);
     for (index, source) in sources.iter().enumerate() {
         if !is_stream(*source, stream) {
             continue;
         }
-        let shares = shares_of(alloc, side, index as u32, exchanges)?;
+        let shares = shares_of(alloc, index as u32, own.as_slice())?;
         if !shares.is_empty() {
             stages.push(shares)?;
         }

@@ -1,8 +1,8 @@
-use Rattle.pieces.proofs.Words.{Course, IsTrue, Share, Side, course_of, enumerate_from, false≢true, filter_map, get_or_default, lt-ltb, nat_lt, on_the_way}
-use Rattle.pieces.proofs.Words.{same_source, shares_of, stage_of, take_all, the_type, true_same}
-use Rattle.pieces.proofs.PieceStages.{filter_map-way, kept-more, kept-skip}
+use Rattle.pieces.proofs.Words.{Course, IsTrue, Share, Side, enumerate_from, false≢true, filter_map, get_or_default, lt-ltb, nat_lt, on_the_way}
+use Rattle.pieces.proofs.Words.{option_map_or, same_source, share_at, shares_of, slice_get-get_or, stage_of, take_all, the_type, true_same}
+use Rattle.pieces.proofs.PieceStages.{filter_map-way, kept-more, kept-skip, own-shares}
 use Rattle.pieces.proofs.courses.course_of.Goals.{else-eq, else-not-is_empty, then-eq, then-not-is_empty+in_ok-push}
-use Rattle.std.proofs.Common.{Bool, List, None, Some, [], ap, arith, false, get_or, if◌then◌else◌, length, refl, rules, sym, true, ℕ, ◌&&◌, ◌++◌, ◌∙◌, ◌∷◌, ◌≡◌}
+use Rattle.std.proofs.Common.{Bool, List, None, Some, [], ap, arith, false, get_or, if◌then◌else◌, length, refl, rules, sym, true, ◌&&◌, ◌++◌, ◌∙◌, ◌∷◌, ◌≡◌}
 use Rattle.pieces.proofs.courses.course_of.Goals as goal
 use Rattle.stream_case.specs.declared.source.Side.TheVariants as side
 use Rattle.stream_case.specs.declared.source.Source.TheVariants as source
@@ -29,22 +29,26 @@ loop-index-preserved c =
     let here = get_or_default sources index (source.Stream 0) a c.loop-index-test.true in
     let shares = shares_of c.args.side index c.args.exchanges.now in
     let own : same_source a (source.Stream c.args.stream) ≡ true = sym c.is_stream.ensures ∙ c.if-not-is_stream.false in
+    let of_own = ap (λ o. option_map_or (λ s. same_source s (source.Stream c.args.stream)) o false)
+    (slice_get-get_or sources index (source.Stream 0) c.loop-index-test.true) ∙ own in
+    let are : c.in_ok-shares.shares ≡ shares = c.in_ok-shares.ensures ∙ ap (filter_map (share_at index)) (c.as_slice.ensures.value ∙ c.in_ok-own.ensures)
+    ∙ own-shares c.args.side sources c.args.stream index of_own c.args.exchanges.now in
     let is_stage : stage (index, a) ≡ (if nat_lt 0 (length shares) then Some shares else None) =
     ap (λ b. if b && nat_lt 0 (length shares) then Some shares else None) own in
     elim c.if-not-is_empty.branch [
       | then-not-is_empty+in_ok-push w ↦
           let some = some_share c.is_empty.result c.in_ok-shares.shares w.if-not-is_empty.true c.is_empty.ensures.1 in
-          let used : nat_lt 0 (length shares) ≡ true = ap (λ (ss : List Share). nat_lt 0 (length ss)) (sym c.in_ok-shares.ensures) ∙ some in
-          (λ i. (w.stages-is i).items) ∙ w.in_ok-push.ensures.items ∙ (λ i. c.loop-index.invariant i ++ c.in_ok-shares.ensures i ∷ [])
+          let used : nat_lt 0 (length shares) ≡ true = ap (λ (ss : List Share). nat_lt 0 (length ss)) (sym are) ∙ some in
+          (λ i. (w.stages-is i).items) ∙ w.in_ok-push.ensures.items ∙ (λ i. c.loop-index.invariant i ++ are i ∷ [])
           ∙ sym (kept-more stage sources index a c.loop-index-test.true here shares (is_stage ∙ ap (λ b. if b then Some shares else None) used))
       | else-not-is_empty w ↦
-          let none : shares ≡ [] = sym c.in_ok-shares.ensures ∙ c.is_empty.ensures.0 w.if-not-is_empty.false in
+          let none : shares ≡ [] = sym are ∙ c.is_empty.ensures.0 w.if-not-is_empty.false in
           let no_stage = is_stage ∙ ap (λ (ss : List Share). if nat_lt 0 (length ss) then Some ss else None) none in
           (λ i. (w.stages-is i).items) ∙ c.loop-index.invariant ∙ sym (kept-skip stage sources index a c.loop-index-test.true here no_stage)
     ]
 
 -- a cold stream goes up
-turned : (c : goal.After-from_vec) → c.if-eq.stages.items ≡ on_the_way c.args.side c.loop-index.stages.items
+turned : (c : goal.After-drop-own-2) → c.if-eq.stages.items ≡ on_the_way c.args.side c.loop-index.stages.items
 turned c = elim c.if-eq.branch [
   | then-eq w ↦
       let cold : c.args.side ≡ side.Cold = search (rules, w.if-eq.true, c.eq.ensures) in

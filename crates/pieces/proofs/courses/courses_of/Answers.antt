@@ -1,6 +1,6 @@
-use Rattle.pieces.proofs.Words.{Course, Side, course_of, item_there, map-enumerate_more, on_side, stream_course}
+use Rattle.pieces.proofs.Words.{course_of, item_there, map-enumerate_more, on_side, stream_course}
 use Rattle.pieces.proofs.courses.courses_of.Goals.{in-Cold, in-Hot}
-use Rattle.std.proofs.Common.{List, [], ap, sym, ◌++◌, ◌∙◌, ◌∷◌, ◌≡◌}
+use Rattle.std.proofs.Common.{[], ap, sym, ◌++◌, ◌∙◌, ◌∷◌, ◌≡◌}
 use Rattle.pieces.proofs.courses.courses_of.Goals as goal
 
 pub loop-number-preserved : goal.loop-number-preserved

@@ -1,30 +1,25 @@
-use Rattle.pieces.proofs.Words.{Share, enumerate_from, eq-eqb, filter_map, ne_eqb, piece_on, share_of, shares_of, size_on, take_all}
-use Rattle.pieces.proofs.PieceStages.{kept-more, kept-skip}
-use Rattle.std.proofs.Common.{None, Some, [], ap, false, if◌then◌else◌, sym, true, ◌++◌, ◌==◌, ◌∙◌, ◌∷◌, ◌≡◌}
+use Rattle.pieces.proofs.Words.{append-nil, eq-eqb, filter_map, ne_eqb, option_to_list, share_at, take_all}
+use Rattle.pieces.proofs.PieceStages.{one_more}
+use Rattle.std.proofs.Common.{None, Some, [], ap, if◌then◌else◌, sym, take, ◌++◌, ◌∙◌, ◌∷◌}
 use Rattle.pieces.proofs.courses.shares_of.Goals as goal
 
-pub loop-number-preserved-then-piece_on-index : goal.loop-number-preserved-then-piece_on-index
-loop-number-preserved-then-piece_on-index c =
-    let number = c.loop-number.number in let e = c.index-exchanges-number.result in
-    let at = piece_on c.args.side e in
-    let share : Share = record { exchanger = number; cp = size_on c.args.side e } in
-    let other : (at == c.args.index) ≡ false = ne_eqb at c.args.index (λ same. c.if-piece_on-index.true (c.piece_on.ensures ∙ same)) in
-    c.loop-number.invariant
-    ∙ sym (kept-skip (share_of c.args.side c.args.index) c.args.exchanges.now number e c.loop-number-test.true c.index-exchanges-number.is
-    (ap (λ b. if b then Some share else None) other))
+pub loop-share-preserved-then-share-index : goal.loop-share-preserved-then-share-index
+loop-share-preserved-then-share-index c =
+    let share = c.share-item.result in
+    let before = filter_map (share_at c.args.index) (take c.loop-share.share-index c.args.own.now) in
+    let none = ap (λ b. if b then Some share.1 else None) (ne_eqb share.0 c.args.index c.if-share-index.true) in
+    c.loop-share.invariant
+    ∙ sym (one_more (share_at c.args.index) c.args.own.now c.loop-share.share-index share c.loop-share-test.true c.share-item.is
+    ∙ ap (λ o. before ++ option_to_list o) none ∙ append-nil before)
 
-pub loop-number-preserved : goal.loop-number-preserved
-loop-number-preserved c =
-    let number = c.loop-number.number in let e = c.index-exchanges-number.result in
-    let at = piece_on c.args.side e in
-    let share : Share = record { exchanger = number; cp = size_on c.args.side e } in
-    let own : (at == c.args.index) ≡ true = eq-eqb at c.args.index (sym c.piece_on.ensures ∙ c.if-piece_on-index.false) in
-    c.in_ok-push.ensures.ok ∙ (λ i. c.loop-number.invariant i ++ record { exchanger = number; cp = c.size_on.ensures i } ∷ [])
-    ∙ sym (kept-more (share_of c.args.side c.args.index) c.args.exchanges.now number e c.loop-number-test.true c.index-exchanges-number.is
-    share (ap (λ b. if b then Some share else None) own))
+pub loop-share-preserved : goal.loop-share-preserved
+loop-share-preserved c =
+    let share = c.share-item.result in
+    let before = filter_map (share_at c.args.index) (take c.loop-share.share-index c.args.own.now) in
+    let some = ap (λ b. if b then Some share.1 else None) (eq-eqb share.0 c.args.index c.if-share-index.false) in
+    c.in_ok-push.ensures.ok ∙ ap (λ ss. ss ++ share.1 ∷ []) c.loop-share.invariant
+    ∙ sym (one_more (share_at c.args.index) c.args.own.now c.loop-share.share-index share c.loop-share-test.true c.share-item.is
+    ∙ ap (λ o. before ++ option_to_list o) some)
 
 pub returns : goal.returns
-unfolding shares_of
-returns c =
-    let all = take_all c.loop-number.number c.args.exchanges.now c.loop-number-test.false in
-    c.loop-number.invariant ∙ ap (λ es. filter_map (share_of c.args.side c.args.index) (enumerate_from 0 es)) all
+returns c = c.loop-share.invariant ∙ ap (filter_map (share_at c.args.index)) (take_all c.loop-share.share-index c.args.own.now c.loop-share-test.false)

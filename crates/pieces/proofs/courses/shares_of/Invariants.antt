@@ -1,6 +1,6 @@
-use Rattle.pieces.proofs.Words.{enumerate_from, filter_map, share_of}
+use Rattle.pieces.proofs.Words.{filter_map, share_at}
 use Rattle.std.proofs.Common.{take, ◌≡◌}
 use Rattle.pieces.proofs.courses.shares_of.Given as goal
 
-abbrev pub invariant-loop-number : goal.invariant-loop-number
-invariant-loop-number l = l.shares ≡ filter_map (share_of l.side l.index) (enumerate_from 0 (take l.number l.exchanges))
+abbrev pub invariant-loop-share : goal.invariant-loop-share
+invariant-loop-share l = l.shares ≡ filter_map (share_at l.index) (take l.share-index l.own)

@@ -1,4 +1,4 @@
-use Rattle.pieces.proofs.Words.{declared_line, enumerate_from, exchanger_of, exchangers_for, map-append, map-enumerate_more}
+use Rattle.pieces.proofs.Words.{declared_line, exchanger_of, exchangers_for, map-append, map-enumerate_more}
 use Rattle.std.proofs.Common.{[], ap, map, sym, take, ◌++◌, ◌∙◌, ◌∷◌, ◌≡◌}
 use Rattle.networks.specs.declared.network.Line.TheVariants as line
 use Rattle.pieces.proofs.exchangers.exchanger_lines.Goals as goal
