@@ -1,6 +1,6 @@
 use Rattle.vertical_design.proofs.Words.{ints, ratio, unsigned_abs, w128, ◌*ℤ◌, ◌-ℤ◌}
 use Rattle.std.proofs.Common.{ap₂, arith, of_z, subst₂, sym, to_z, w64, ℤ, ◌∙◌, ◌≡◌}
-use Rattle.vertical_design.proofs.FlowLemmas.{IsFraction, duty-within}
+use Rattle.vertical_design.proofs.OverlapLists.{IsFraction, duty-within}
 use Rattle.vertical_design.proofs.matches.duty_of.Goals.{After-from-part}
 use Rattle.vertical_design.proofs.matches.duty_of.Goals as goal
 

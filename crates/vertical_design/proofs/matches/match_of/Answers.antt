@@ -1,6 +1,6 @@
 use Rattle.std.proofs.Common.{arith}
 use Rattle.vertical_design.proofs.Words.{ints}
-use Rattle.vertical_design.proofs.FlowLemmas.{IsShare, share-within}
+use Rattle.vertical_design.proofs.OverlapLists.{IsShare, share-within}
 use Rattle.vertical_design.proofs.matches.match_of.Goals.{After-piece_at-2}
 use Rattle.vertical_design.proofs.matches.match_of.Goals as goal
 

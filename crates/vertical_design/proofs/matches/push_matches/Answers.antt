@@ -1,8 +1,7 @@
 use Rattle.vertical_design.proofs.Words.{Exchange, IsMet, ListsOverlaps, Pair, amounts_in, get_or_default, int_sum_by, match_of, matches_in, scaled, side_flow}
 use Rattle.vertical_design.proofs.Words.{take_all, to_z-of_z}
 use Rattle.std.proofs.Common.{All, List, [], ap, append_assoc, get_or, map, of_z, pos, rules, subst, subst₂, sym, take, to_z, w64, ℤ, ◌++◌, ◌∙◌, ◌∷◌, ◌≡◌}
-use Rattle.vertical_design.proofs.FlowLemmas.{map_more}
-use Rattle.vertical_design.proofs.OverlapLists.{pairs_are}
+use Rattle.vertical_design.proofs.OverlapLists.{map_more, pairs_are}
 use Rattle.vertical_design.proofs.matches.push_matches.Goals.{In_ok-pairs}
 use Rattle.vertical_design.proofs.matches.push_matches.Goals as goal
 

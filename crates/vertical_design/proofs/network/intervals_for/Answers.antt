@@ -1,7 +1,7 @@
 use Rattle.vertical_design.proofs.Words.{AreBetween, AreCuts, AreSpans, AreStreams-IsComplete, IsSensibleCase-both, Span, exchanges_between, length-utilities}
 use Rattle.vertical_design.proofs.Words.{sources_between, spans_of}
 use Rattle.std.proofs.Common.{List, arith, subst, sym, ℤ, ◌∙◌, ◌≡◌}
-use Rattle.vertical_design.proofs.SpanLimits.{AreSpans-spans_of}
+use Rattle.vertical_design.proofs.SpanSources.{AreSpans-spans_of}
 use Rattle.stream_case.specs.declared.source.Side.TheVariants as side
 use Rattle.vertical_design.proofs.network.intervals_for.Goals as goal
 

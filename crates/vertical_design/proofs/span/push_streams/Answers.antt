@@ -1,7 +1,7 @@
 -- A stream of the side has its span.
 use Rattle.std.proofs.Common.{None, Some, [], ap, arith, of_z, rules, sym, to_z, w32, w64, ◌++◌, ◌∙◌, ◌∷◌, ◌≡◌}
 use Rattle.vertical_design.proofs.Words.{Bool, Span, heat_at, high_end, if◌then◌else◌, length-AreStreams, low_end, stream_span, to_z-of_z}
-use Rattle.vertical_design.proofs.SpanLemmas.{span_more, span_skip}
+use Rattle.vertical_design.proofs.SpanSources.{span_more, span_skip}
 use Rattle.stream_case.specs.declared.source.Source.TheVariants as source
 use Rattle.vertical_design.proofs.span.push_streams.Goals as goal
 

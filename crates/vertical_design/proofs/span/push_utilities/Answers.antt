@@ -1,7 +1,7 @@
 -- The utility of the side has its span.
 use Rattle.vertical_design.proofs.Words.{Bool, Span, if◌then◌else◌, item_there, to_z-of_z, utility_from, utility_span, utility_to}
 use Rattle.std.proofs.Common.{None, Some, [], ap, of_z, pos, rules, sym, to_z, w64, ◌++◌, ◌∙◌, ◌∷◌, ◌≡◌}
-use Rattle.vertical_design.proofs.SpanLemmas.{span_more, span_skip}
+use Rattle.vertical_design.proofs.SpanSources.{span_more, span_skip}
 use Rattle.stream_case.specs.declared.source.Source.TheVariants as source
 use Rattle.vertical_design.proofs.span.push_utilities.Goals as goal
 
