@@ -74,7 +74,76 @@ running low high a across above = by (int_le a.from low && int_le high a.to) ref
     by true is some = reaches a.from a.to low high is
     by false is some = let none = zero_times (pos 0) across refl in absurd (omega (arith, ints, some, none))
 
--- ---- the exchanges of a case
+-- What the exchanges of a piece add up to: the shares of the piece of a source are the flow that it has in its interval.
+
+-- ---- sums of parts
+
+-- parts of one denominator that are kept of pairs
+pub parts_sum : (h : Pair → Option Rational) (own : Pair → Bool) (part : Pair → ℤ) (d : ℕ) (ps : List Pair)
+    → All (λ p. h p ≡ (if own p then Some (ratio (part p) d) else None)) ps → rational_sum (filter_map h ps) ≡ ratio (int_sum_by part (filter own ps)) d
+parts_sum h own part d [] are = sym (ratio-zero d)
+parts_sum h own part d (p ∷ ps) are =
+    let R : Pair → Type 0 = λ q. h q ≡ (if own q then Some (ratio (part q) d) else None) in
+    ap (λ o. rational_sum (cons_option o (filter_map h ps))) (All-head R p ps are) ∙ by (own p) (parts_sum h own part d ps (All-tail R p ps are))
+  where
+    by : (b : Bool) → rational_sum (filter_map h ps) ≡ ratio (int_sum_by part (filter own ps)) d
+        → rational_sum (cons_option (if b then Some (ratio (part p) d) else None) (filter_map h ps))
+        ≡ ratio (int_sum_by part (cond b (p ∷ filter own ps) (filter own ps))) d
+    by false rest = rest
+    by true rest = ap (plus (ratio (part p) d)) rest ∙ plus-ratio_same_den (part p) (int_sum_by part (filter own ps)) d
+
+-- ---- the shares of a piece
+
+-- the size of a share, without its number
+abbrev own_size : Side → ℕ → Exchange → Option Rational
+own_size of index e = if piece_on of e == index then Some (size_on of e) else None
+
+size_shares : (of : Side) (index n : ℕ) (es : List Exchange) → size_of (filter_map (share_of of index) (enumerate_from n es))
+    ≡ rational_sum (filter_map (own_size of index) es)
+size_shares of index n [] = refl
+size_shares of index n (e ∷ es) = by (piece_on of e == index) (filter_map (share_of of index) (enumerate_from (n + 1) es)) (filter_map (own_size of index) es)
+    (size_shares of index (n + 1) es)
+  where
+    by : (b : Bool) (shares : List Share) (sizes : List Rational) → size_of shares ≡ rational_sum sizes
+        → size_of (cons_option (if b then Some (record { exchanger = n; cp = size_on of e }) else None) shares)
+        ≡ rational_sum (cons_option (if b then Some (size_on of e) else None) sizes)
+    by true shares sizes is = ap (plus (size_on of e)) is
+    by false shares sizes is = is
+
+-- a piece that has a share has an exchange
+share_there : (of : Side) (index n : ℕ) (es : List Exchange) → 0 < length (filter_map (share_of of index) (enumerate_from n es))
+    → (i : ℕ) × (e : Exchange) × (slice_get es i ≡ Some e) × (piece_on of e ≡ index)
+share_there of index n [] some = absurd (omega (arith, some))
+share_there of index n (e ∷ es) some = by (piece_on of e == index) refl some (share_there of index (n + 1) es)
+  where
+    rest : List Share
+    rest = filter_map (share_of of index) (enumerate_from (n + 1) es)
+
+    by : (b : Bool) → (piece_on of e == index) ≡ b → 0 < length (cons_option (if b then Some (record { exchanger = n; cp = size_on of e }) else None) rest)
+        → (0 < length rest → (i : ℕ) × (x : Exchange) × (slice_get es i ≡ Some x) × (piece_on of x ≡ index))
+        → (i : ℕ) × (x : Exchange) × (slice_get (e ∷ es) i ≡ Some x) × (piece_on of x ≡ index)
+    by true own here on = (0, e, refl, eqb-true (piece_on of e) index own)
+    by false own later on = let (i, x, at, is) = on later in (suc i, x, at, is)
+
+pub exchange_there : (of : Side) (index : ℕ) (es : List Exchange) → 0 < length (shares_of of index es)
+    → (i : ℕ) × (e : Exchange) × (slice_get es i ≡ Some e) × (piece_on of e ≡ index)
+unfolding shares_of
+exchange_there of index es some = share_there of index 0 es some
+
+-- ---- a piece of an interval
+
+-- equal places in one row
+same_test : (row i k : ℕ) → (row + i == row + k) ≡ (i == k)
+same_test row i k =
+    ⊎_elim (λ same. eq-eqb (row + i) (row + k) (ap (λ n. row + n) same) ∙ sym (eq-eqb i k same))
+    (λ other. ne_eqb (row + i) (row + k) (λ same. other (omega (arith, same))) ∙ sym (ne_eqb i k other)) (cases_eq i k)
+
+whole_flow : (flow other : ℤ) → pos 0 <ℤ other → ratio (flow *ℤ other) (unsigned_abs other) ≡ whole flow
+whole_flow flow other above =
+    let size = size_is other above in
+    ap (λ z. ratio (flow *ℤ z) (unsigned_abs other)) size ∙ ratio-multiple flow (unsigned_abs other) (omega (arith, ints, above, size))
+
+-- The pieces of an exchange face each other: in its interval both sides have the same heats.
 
 module _ (axis : Axis) where
   abbrev hot : List Span
@@ -234,101 +303,25 @@ module _ (axis : Axis) where
       ap (slice_get (pieces axis of)) (ap (piece_on of) (sym is.is) ∙ piece_index of is.number is.pair)
       ∙ piece_there axis of is.number (index_on of is.pair) runs.span is.within runs.there
 
--- What the exchanges of a piece add up to: the shares of the piece of a source are the flow that it has in its interval.
-
--- ---- sums of parts
-
--- parts of one denominator that are kept of pairs
-pub parts_sum : (h : Pair → Option Rational) (own : Pair → Bool) (part : Pair → ℤ) (d : ℕ) (ps : List Pair)
-    → All (λ p. h p ≡ (if own p then Some (ratio (part p) d) else None)) ps → rational_sum (filter_map h ps) ≡ ratio (int_sum_by part (filter own ps)) d
-parts_sum h own part d [] are = sym (ratio-zero d)
-parts_sum h own part d (p ∷ ps) are =
-    let R : Pair → Type 0 = λ q. h q ≡ (if own q then Some (ratio (part q) d) else None) in
-    ap (λ o. rational_sum (cons_option o (filter_map h ps))) (All-head R p ps are) ∙ by (own p) (parts_sum h own part d ps (All-tail R p ps are))
-  where
-    by : (b : Bool) → rational_sum (filter_map h ps) ≡ ratio (int_sum_by part (filter own ps)) d
-        → rational_sum (cons_option (if b then Some (ratio (part p) d) else None) (filter_map h ps))
-        ≡ ratio (int_sum_by part (cond b (p ∷ filter own ps) (filter own ps))) d
-    by false rest = rest
-    by true rest = ap (plus (ratio (part p) d)) rest ∙ plus-ratio_same_den (part p) (int_sum_by part (filter own ps)) d
-
--- ---- the shares of a piece
-
--- the size of a share, without its number
-abbrev own_size : Side → ℕ → Exchange → Option Rational
-own_size of index e = if piece_on of e == index then Some (size_on of e) else None
-
-size_shares : (of : Side) (index n : ℕ) (es : List Exchange) → size_of (filter_map (share_of of index) (enumerate_from n es))
-    ≡ rational_sum (filter_map (own_size of index) es)
-size_shares of index n [] = refl
-size_shares of index n (e ∷ es) = by (piece_on of e == index) (filter_map (share_of of index) (enumerate_from (n + 1) es)) (filter_map (own_size of index) es)
-    (size_shares of index (n + 1) es)
-  where
-    by : (b : Bool) (shares : List Share) (sizes : List Rational) → size_of shares ≡ rational_sum sizes
-        → size_of (cons_option (if b then Some (record { exchanger = n; cp = size_on of e }) else None) shares)
-        ≡ rational_sum (cons_option (if b then Some (size_on of e) else None) sizes)
-    by true shares sizes is = ap (plus (size_on of e)) is
-    by false shares sizes is = is
-
--- a piece that has a share has an exchange
-share_there : (of : Side) (index n : ℕ) (es : List Exchange) → 0 < length (filter_map (share_of of index) (enumerate_from n es))
-    → (i : ℕ) × (e : Exchange) × (slice_get es i ≡ Some e) × (piece_on of e ≡ index)
-share_there of index n [] some = absurd (omega (arith, some))
-share_there of index n (e ∷ es) some = by (piece_on of e == index) refl some (share_there of index (n + 1) es)
-  where
-    rest : List Share
-    rest = filter_map (share_of of index) (enumerate_from (n + 1) es)
-
-    by : (b : Bool) → (piece_on of e == index) ≡ b → 0 < length (cons_option (if b then Some (record { exchanger = n; cp = size_on of e }) else None) rest)
-        → (0 < length rest → (i : ℕ) × (x : Exchange) × (slice_get es i ≡ Some x) × (piece_on of x ≡ index))
-        → (i : ℕ) × (x : Exchange) × (slice_get (e ∷ es) i ≡ Some x) × (piece_on of x ≡ index)
-    by true own here on = (0, e, refl, eqb-true (piece_on of e) index own)
-    by false own later on = let (i, x, at, is) = on later in (suc i, x, at, is)
-
-pub exchange_there : (of : Side) (index : ℕ) (es : List Exchange) → 0 < length (shares_of of index es)
-    → (i : ℕ) × (e : Exchange) × (slice_get es i ≡ Some e) × (piece_on of e ≡ index)
-unfolding shares_of
-exchange_there of index es some = share_there of index 0 es some
-
--- ---- a piece of an interval
-
--- equal places in one row
-same_test : (row i k : ℕ) → (row + i == row + k) ≡ (i == k)
-same_test row i k =
-    ⊎_elim (λ same. eq-eqb (row + i) (row + k) (ap (λ n. row + n) same) ∙ sym (eq-eqb i k same))
-    (λ other. ne_eqb (row + i) (row + k) (λ same. other (omega (arith, same))) ∙ sym (ne_eqb i k other)) (cases_eq i k)
-
-whole_flow : (flow other : ℤ) → pos 0 <ℤ other → ratio (flow *ℤ other) (unsigned_abs other) ≡ whole flow
-whole_flow flow other above =
-    let size = size_is other above in
-    ap (λ z. ratio (flow *ℤ z) (unsigned_abs other)) size ∙ ratio-multiple flow (unsigned_abs other) (omega (arith, ints, above, size))
-
-module _ (axis : Axis) where
-  abbrev hot : List Span
-  hot = spans_of side.Hot axis.case
-
-  abbrev cold : List Span
-  cold = spans_of side.Cold axis.case
-
   abbrev many : Side → ℕ
   many of = length (spans_of of axis.case)
 
   abbrev pub pairs_at : ℕ → List Pair
   pairs_at number = pairs_of (amounts_in (low_at axis number) (high_at axis number) hot cold) (amounts_in (low_at axis number) (high_at axis number) cold hot)
 
-  pub pairs_meet : (number : ℕ) → All (IsMetIn axis number) (pairs_at number)
+  pub pairs_meet : (number : ℕ) → All (IsMetIn number) (pairs_at number)
   pairs_meet number = (ListsOverlaps-pairs_of (amounts_in (low_at axis number) (high_at axis number) hot cold)
       (amounts_in (low_at axis number) (high_at axis number) cold hot)).each
 
   -- whether a pair of an interval has a piece
-  pub own_test : (of : Side) (number k : ℕ) (p : Pair) → (piece_on of (match_in axis number p) == number * many of + k) ≡ (index_on of p == k)
-  own_test of number k p = ap (λ i. i == number * many of + k) (piece_index axis of number p) ∙ same_test (number * many of) (index_on of p) k
+  pub own_test : (of : Side) (number k : ℕ) (p : Pair) → (piece_on of (match_in number p) == number * many of + k) ≡ (index_on of p == k)
+  own_test of number k p = ap (λ i. i == number * many of + k) (piece_index of number p) ∙ same_test (number * many of) (index_on of p) k
 
   -- an exchange of a piece is one of its interval
-  pub own_number : (of : Side) (number m k : ℕ) (p : Pair) → IsMetIn axis m p → k < many of
-      → piece_on of (match_in axis m p) ≡ number * many of + k → (m ≡ number) × (index_on of p ≡ k)
+  pub own_number : (of : Side) (number m k : ℕ) (p : Pair) → IsMetIn m p → k < many of
+      → piece_on of (match_in m p) ≡ number * many of + k → (m ≡ number) × (index_on of p ≡ k)
   own_number of number m k p met within own =
-      same_place (many of) m number (index_on of p) k (index_within axis of m p met) within (sym (piece_index axis of m p) ∙ own)
+      same_place (many of) m number (index_on of p) k (index_within of m p met) within (sym (piece_index of m p) ∙ own)
 
   -- what a source offers or asks for in an interval is shared out by its pairs
   pub shared_out : (of : Side) (number k : ℕ) (a : Span) → slice_get (spans_of of axis.case) k ≡ Some a
@@ -348,16 +341,16 @@ module _ (axis : Axis) where
   unfolding matches_in
   others_none of number m k within other =
       let index = number * many of + k in
-      filter_map-map (own_size of index) (match_in axis m) (pairs_at m)
-      ∙ none_kept (λ (p : Pair). own_size of index (match_in axis m p)) (pairs_at m) (λ j d inside.
+      filter_map-map (own_size of index) (match_in m) (pairs_at m)
+      ∙ none_kept (λ (p : Pair). own_size of index (match_in m p)) (pairs_at m) (λ j d inside.
       let p = get_or (pairs_at m) j d in
-      let e = match_in axis m p in
+      let e = match_in m p in
       ap (λ b. if b then Some (size_on of e) else None)
       (ne_eqb (piece_on of e) index (λ own. other (own_number of number m k p (pairs_meet m j d inside) within own).0)))
 
   -- the shares of a piece are the flow that its source has in the interval
   pub size_piece : (of : Side) (number k : ℕ) (a : Span) → number < length axis.cuts - 1 → slice_get (spans_of of axis.case) k ≡ Some a
-      → size_of (shares_of of (number * many of + k) (exchanges axis)) ≡ whole (flow_in (low_at axis number) (high_at axis number) a)
+      → size_of (shares_of of (number * many of + k) exchanges) ≡ whole (flow_in (low_at axis number) (high_at axis number) a)
   unfolding shares_of matches_in
   size_piece of number k a within there =
       let index = number * many of + k in
@@ -365,21 +358,18 @@ module _ (axis : Axis) where
       let high = high_at axis number in
       let inside = slice_get_within (spans_of of axis.case) k a there in
       let flow = flow_at axis (other of) number in
-      size_shares of index 0 (exchanges axis)
+      size_shares of index 0 exchanges
       ∙ ap rational_sum (filter_map-rows (own_size of index) (exchanges_at hot cold axis.cuts) (intervals_of axis.cuts)
       ∙ only_row (λ n. filter_map (own_size of index) (exchanges_at hot cold axis.cuts n)) 0 (length axis.cuts - 1) number (omega arith) (omega (arith, within))
       (λ m other. others_none of number m k inside other)
-      ∙ filter_map-map (own_size of index) (match_in axis number) (pairs_at number))
-      ∙ parts_sum (λ p. own_size of index (match_in axis number p)) (λ p. index_on of p == k) (λ p. p.amount) (unsigned_abs flow) (pairs_at number)
+      ∙ filter_map-map (own_size of index) (match_in number) (pairs_at number))
+      ∙ parts_sum (λ p. own_size of index (match_in number p)) (λ p. index_on of p == k) (λ p. p.amount) (unsigned_abs flow) (pairs_at number)
       (λ j p there.
       let q = get_or (pairs_at number) j p in
-      ap₂ (λ b x. if b then Some x else None) (own_test of number k q) (size_match axis of number q))
+      ap₂ (λ b x. if b then Some x else None) (own_test of number k q) (size_match of number q))
       ∙ ap (λ z. ratio z (unsigned_abs flow)) (shared_out of number k a there)
       ∙ whole_flow (flow_in low high a) flow ((interval axis number within).flow (other of))
 
--- The pieces of an exchange face each other: in its interval both sides have the same heats.
-
-module _ (axis : Axis) where
   -- the shifted temperature of a span's source at a heat of an interval
   abbrev shifted_at : Side → ℕ → ℤ → Span → Rational
   shifted_at of number q a = shifted_state axis.case of a.source (state_at axis of number q a)
@@ -406,11 +396,11 @@ module _ (axis : Axis) where
     falls = (interval axis number within).gap.falls
 
     -- a stream stays within its range from the one cut to the other
-    in_range : (of : Side) (k : ℕ) (is : RunsSpan axis of number k) (i : ℕ) (s : Stream) → is.span.source ≡ source.Stream i
+    in_range : (of : Side) (k : ℕ) (is : RunsSpan of number k) (i : ℕ) (s : Stream) → is.span.source ≡ source.Stream i
         → slice_get axis.case.streams i ≡ Some s
         → IsWithinRange s (shifted_at of number low is.span) (shifted_at of number high is.span)
     in_range of k is i s own here =
-        let runs = stream_runs axis of number k i s is own here in
+        let runs = stream_runs of number k i s is own here in
         subst₂ (IsWithinRange s) (sym (shifted_stream of number i s is.span own here low)) (sym (shifted_stream of number i s is.span own here high))
         (scale_within axis.case.streams (streams_are axis) low high of _ (scale_at axis of number) s (scale_is axis of number within s runs) falls runs)
 
@@ -418,17 +408,17 @@ module _ (axis : Axis) where
     FaceAt a b q x y = AreFacing axis.case.streams x y (shifted_at side.Hot number q a) (shifted_at side.Cold number q b)
 
     -- both sources face each other at each heat of the interval
-    face_at : (j k : ℕ) (hot : RunsSpan axis side.Hot number j) (cold : RunsSpan axis side.Cold number k) (q : ℤ) → low ≤ℤ q → q ≤ℤ high
+    face_at : (j k : ℕ) (hot : RunsSpan side.Hot number j) (cold : RunsSpan side.Cold number k) (q : ℤ) → low ≤ℤ q → q ≤ℤ high
         → FaceAt hot.span cold.span q hot.span.source cold.span.source
     face_at j k hot cold q from upto = by hot.kind cold.kind
       where
         -- a stream of a side where the utility of the other one lies
-        beside : (of other : Side) (m n : ℕ) (is : RunsSpan axis of number m) (lies : RunsSpan axis other number n) (i u : ℕ) (s : Stream)
+        beside : (of other : Side) (m n : ℕ) (is : RunsSpan of number m) (lies : RunsSpan other number n) (i u : ℕ) (s : Stream)
             → is.span.source ≡ source.Stream i → slice_get axis.case.streams i ≡ Some s → lies.span.source ≡ source.Utility u
             → IsAtUtility other axis.case.streams (curve_heat of axis.case.streams (shifted_at of number q is.span))
         beside of other m n is lies i u s own here at =
-            let runs = stream_runs axis of number m i s is own here in
-            let ends = utility_runs axis other number n u lies at in
+            let runs = stream_runs of number m i s is own here in
+            let ends = utility_runs other number n u lies at in
             subst (λ t. IsAtUtility other axis.case.streams (curve_heat of axis.case.streams t)) (sym (shifted_stream of number i s is.span own here q))
             (scale_at_utility axis.case.streams (streams_are axis) low high of other _ (scale_at axis of number)
             (scale_is axis of number within s runs) ends.0 ends.1 q from upto)
@@ -438,8 +428,8 @@ module _ (axis : Axis) where
         by (inl (i, s, one)) (inl (n, r, other)) =
             let a = ap (λ (x : Span). x.source) one.is in
             let b = ap (λ (x : Span). x.source) other.is in
-            let hot_runs = stream_runs axis side.Hot number j i s hot a one.here in
-            let cold_runs = stream_runs axis side.Cold number k n r cold b other.here in
+            let hot_runs = stream_runs side.Hot number j i s hot a one.here in
+            let cold_runs = stream_runs side.Cold number k n r cold b other.here in
             let face = scales_face axis.case.streams (streams_are axis) low high _ _ (scale_at axis side.Hot number) (scale_at axis side.Cold number)
             (scale_is axis side.Hot number within s hot_runs) (scale_is axis side.Cold number within r cold_runs) q from upto in
             subst₂ (FaceAt hot.span cold.span q) (sym a) (sym b)
@@ -455,20 +445,20 @@ module _ (axis : Axis) where
             subst₂ (FaceAt hot.span cold.span q) (sym a) (sym b) (beside side.Cold side.Hot k j cold hot n i r b other.here a)
         by (inr (i, u, one)) (inr (n, v, other)) =
             -- the hot utility lies above the cold one
-            let a = utility_runs axis side.Hot number j i hot (ap (λ (x : Span). x.source) one.is) in
-            let b = utility_runs axis side.Cold number k n cold (ap (λ (x : Span). x.source) other.is) in
+            let a = utility_runs side.Hot number j i hot (ap (λ (x : Span). x.source) one.is) in
+            let b = utility_runs side.Cold number k n cold (ap (λ (x : Span). x.source) other.is) in
             let from_hot = a.0 in
             let upto_cold = b.1 in
             let order = (is_axis axis.case.streams (streams_are axis)).apart in
             let gap = falls in
             absurd (omega (arith, ints, from_hot, upto_cold, order, gap))
 
-  pub match_faces : (e : Exchange) (m : IsMatch axis e)
-      → Faces axis.case (piece_in axis side.Hot m.number (pair_runs axis m.number side.Hot m.pair m.met).span)
-      (piece_in axis side.Cold m.number (pair_runs axis m.number side.Cold m.pair m.met).span)
+  pub match_faces : (e : Exchange) (m : IsMatch e)
+      → Faces axis.case (piece_in axis side.Hot m.number (pair_runs m.number side.Hot m.pair m.met).span)
+      (piece_in axis side.Cold m.number (pair_runs m.number side.Cold m.pair m.met).span)
   match_faces e m =
-      let hot = pair_runs axis m.number side.Hot m.pair m.met in
-      let cold = pair_runs axis m.number side.Cold m.pair m.met in
+      let hot = pair_runs m.number side.Hot m.pair m.met in
+      let cold = pair_runs m.number side.Cold m.pair m.met in
       let low = low_at axis m.number in
       let high = high_at axis m.number in
       let gap = falls m.number m.within in

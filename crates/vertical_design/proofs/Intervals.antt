@@ -423,25 +423,25 @@ module _ (axis : Axis) where
   spans_are of = AreSpans-spans_of of axis.case axis.complete axis.standard
 
   module _ (at : ℕ) (later : 0 < at) (within : at < length axis.cuts) where
-    abbrev low_here : ℤ
-    low_here = get_or axis.cuts at (pos 0)
+    abbrev low_cut : ℤ
+    low_cut = get_or axis.cuts at (pos 0)
 
-    abbrev high_here : ℤ
-    high_here = get_or axis.cuts (at - 1) (pos 0)
+    abbrev high_cut : ℤ
+    high_cut = get_or axis.cuts (at - 1) (pos 0)
 
-    gap_here : low_here <ℤ high_here
+    gap_here : low_cut <ℤ high_cut
     gap_here = cut_below axis.case axis.cuts axis.are_cuts at later within streams_are
 
-    side_here : (of : Side) → SideScale of axis.case streams_are low_here high_here
+    side_here : (of : Side) → SideScale of axis.case streams_are low_cut high_cut
     side_here of = let (scale, is) = side_scale axis.case axis.cuts axis.are_cuts at later within streams_are of in record { scale = scale; is = is }
 
-    interval_here : IsInterval axis.case streams_are low_here high_here
+    interval_here : IsInterval axis.case streams_are low_cut high_cut
     interval_here = record {
       gap = gap_at (spans_of side.Hot axis.case) (spans_of side.Cold axis.case) axis.cuts (spans_are side.Hot)
           (spans_are side.Cold) axis.are_cuts at later within;
       flow = flow_above axis.case axis.cuts axis.are_cuts streams_are axis.standard at later within;
       outside = utility_outside axis.case axis.cuts axis.are_cuts streams_are axis.standard at later within;
-      alone = λ of from upto. utility_alone axis.case axis.cuts axis.are_cuts streams_are low_here high_here gap_here of from upto axis.standard;
+      alone = λ of from upto. utility_alone axis.case axis.cuts axis.are_cuts streams_are low_cut high_cut gap_here of from upto axis.standard;
       no_end = no_end_between axis.case axis.cuts axis.are_cuts at later within streams_are;
       side = side_here;
     }

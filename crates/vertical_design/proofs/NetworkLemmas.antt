@@ -108,6 +108,8 @@ heats_whole case are standard of (high ∷ cuts) are_cuts =
     record { falls = cut_below case all are_cuts at later within are; begin_outside = outside.0; end_outside = outside.1 }))
     ends.0 ends.1
 
+-- The pieces and exchanges of the intervals are led; and so the network that they draw is vertical.
+
 module _ (axis : Axis) where
   abbrev hot : List Span
   hot = spans_of side.Hot axis.case
@@ -330,15 +332,6 @@ module _ (axis : Axis) where
           upto = omega (arith, ints, most, upto);
         }
 
--- The pieces and exchanges of the intervals are led; and so the network that they draw is vertical.
-
-module _ (axis : Axis) where
-  abbrev hot : List Span
-  hot = spans_of side.Hot axis.case
-
-  abbrev cold : List Span
-  cold = spans_of side.Cold axis.case
-
   abbrev pub sources : Side → List Source
   sources of = sources_between (spans_of of axis.case) axis.cuts
 
@@ -378,7 +371,7 @@ module _ (axis : Axis) where
     each = λ k d inside. match_joins (get_or (exchanges axis) k d) (are_matches axis k d inside);
     pieces = λ stream s index p here there own some. stream_pieces axis stream s here index p there own some;
     joined = λ stream s here. stream_joined axis stream s here;
-    utilities = λ index u here. utility_heat axis index u here;
+    utilities = λ index u here. utility_heat index u here;
   }
 
   -- ---- what is asked before they are led

@@ -78,6 +78,96 @@ stream_sized of d t contribution n low high some is ends least most given = by o
 
 -- ---- a stream in an interval
 
+-- The course of a stream: it goes from interval to interval, from its supply to its target.
+
+-- the temperatures of a stage of a stream of a side at its upper and at its lower cut
+abbrev upper : Side → LedStage → Rational
+upper side.Hot stage = stage.before
+upper side.Cold stage = stage.after
+
+abbrev lower : Side → LedStage → Rational
+lower side.Hot stage = stage.after
+lower side.Cold stage = stage.before
+
+-- stages that lie below each other from one temperature to another
+abbrev FallTo : Side → Rational → List LedStage → Rational → Type 0
+FallTo of from [] to = from ≡ to
+FallTo of from (stage ∷ stages) to = (upper of stage ≡ from) × FallTo of (lower of stage) stages to
+
+-- stages that meet from one temperature to another
+abbrev Leads : Rational → List LedStage → Rational → Type 0
+Leads from stages to = Meet from stages × (state_behind from stages ≡ to)
+
+falls_lead : (stages : List LedStage) (from to : Rational) → FallTo side.Hot from stages to → Leads from stages to
+falls_lead [] from to fall = (tt, fall)
+falls_lead (stage ∷ stages) from to fall = let rest = falls_lead stages stage.after to fall.1 in ((fall.0, rest.0), rest.1)
+
+leads_push : (stages : List LedStage) (from to : Rational) (stage : LedStage) → Leads from stages to → stage.before ≡ to
+    → Leads from (stages ++ stage ∷ []) stage.after
+leads_push [] from to stage leads meets = ((meets ∙ sym leads.1, tt), refl)
+leads_push (first ∷ stages) from to stage leads meets = let rest = leads_push stages first.after to stage (leads.0.1, leads.1) meets in
+    ((leads.0.0, rest.0), rest.1)
+
+falls_lead_up : (stages : List LedStage) (from to : Rational) → FallTo side.Cold from stages to → Leads to (reverse stages) from
+falls_lead_up [] from to fall = (tt, sym fall)
+falls_lead_up (stage ∷ stages) from to fall =
+    let turned : reverse (stage ∷ stages) ≡ reverse stages ++ stage ∷ [] = reverse-append (stage ∷ []) stages in
+    subst (Leads to (reverse (stage ∷ stages))) fall.0
+    (subst (λ (ss : List LedStage). Leads to ss stage.after) (sym turned)
+    (leads_push (reverse stages) to stage.before stage (falls_lead_up stages stage.before to fall.1) refl))
+
+-- where the way of a stream of a side begins, and where it ends
+abbrev start_of : Side → Rational → Rational → Rational
+start_of side.Hot top bottom = top
+start_of side.Cold top bottom = bottom
+
+abbrev end_of : Side → Rational → Rational → Rational
+end_of side.Hot top bottom = bottom
+end_of side.Cold top bottom = top
+
+way_leads : (of : Side) (stages : List LedStage) (top bottom : Rational) → FallTo of top stages bottom → Leads (start_of of top bottom) (on_the_way of stages)
+    (end_of of top bottom)
+way_leads side.Hot stages top bottom fall = falls_lead stages top bottom fall
+way_leads side.Cold stages top bottom fall = falls_lead_up stages top bottom fall
+
+start_place : (of : Side) (f : Rational → Rational) (s : Stream) → start_of of (f (whole (high_end s))) (f (whole (low_end s))) ≡ f (whole (first_end of s))
+start_place side.Hot f s = refl
+start_place side.Cold f s = refl
+
+end_place : (of : Side) (f : Rational → Rational) (s : Stream) → end_of of (f (whole (high_end s))) (f (whole (low_end s))) ≡ f (whole (last_end of s))
+end_place side.Hot f s = refl
+end_place side.Cold f s = refl
+
+-- ---- lists on the way
+
+mapped_item : {X Y : Type 0} (f : X → Y) (xs : List X) (i : ℕ) (y : Y) → slice_get (map f xs) i ≡ Some y → (x : X) × (slice_get xs i ≡ Some x) × (f x ≡ y)
+mapped_item f [] i y at = cc at
+mapped_item f (x ∷ xs) zero y at = (x, refl, same_Some (f x) y at)
+mapped_item f (x ∷ xs) (suc i) y at = mapped_item f xs i y at
+
+-- ---- cuts
+
+cut_upto_first : (cuts : List ℤ) → AllPairs (λ a b. b <ℤ a) cuts → (x : ℤ) → Contains cuts x → x ≤ℤ get_or cuts 0 (pos 0)
+cut_upto_first cuts falls x (zero, inside, is) = let same = sym (get_or_default cuts 0 (pos 0) x inside ∙ is) in omega (arith, ints, same)
+cut_upto_first cuts falls x (suc k, inside, is) =
+    let here : get_or cuts (suc k) (pos 0) ≡ x = get_or_default cuts (suc k) (pos 0) x inside ∙ is in
+    let order = falls 0 (suc k) (pos 0) (omega arith) inside in
+    omega (arith, ints, here, order)
+
+cut_from_last : (cuts : List ℤ) → AllPairs (λ a b. b <ℤ a) cuts → (x : ℤ) → Contains cuts x → upper_cut cuts (length cuts - 1) ≤ℤ x
+cut_from_last cuts falls x (k, inside, is) =
+    let here : get_or cuts k (pos 0) ≡ x = get_or_default cuts k (pos 0) x inside ∙ is in
+    ⊎_elim
+    (λ before. let order = falls k (length cuts - 1) (pos 0) before (omega (arith, inside)) in omega (arith, ints, here, order))
+    (λ upto. let same : length cuts - 1 ≡ k = omega (arith, upto, inside) in let item = ap (λ n. get_or cuts n (pos 0)) same in omega (arith, ints, item, here))
+    (cases_lt k (length cuts - 1))
+
+-- ---- the way of a stream
+
+some_share : (shares : List Share) (n : ℤ) → pos 0 <ℤ n → size_of shares ≡ whole n → 0 < length shares
+some_share [] n above is = absurd (whole-nonzero n (λ none. absurd (omega (arith, ints, above, none))) (sym is))
+some_share (s ∷ shares) n above is = omega arith
+
 module _ (axis : Axis) where
   abbrev many : Side → ℕ
   many of = length (spans_of of axis.case)
@@ -238,340 +328,245 @@ module _ (axis : Axis) where
         subst (λ n. RunsIn axis s.side n s) same.0
         (stream_runs axis s.side m.number (index_on s.side m.pair) stream s runs (ap (λ (a : Span). a.source) span) here)
 
--- The course of a stream: it goes from interval to interval, from its supply to its target.
+    -- ---- its way
 
--- the temperatures of a stage of a stream of a side at its upper and at its lower cut
-abbrev upper : Side → LedStage → Rational
-upper side.Hot stage = stage.before
-upper side.Cold stage = stage.after
+    member : Contains axis.case.streams s
+    member = Contains-slice_get axis.case.streams stream s here
 
-abbrev lower : Side → LedStage → Rational
-lower side.Hot stage = stage.after
-lower side.Cold stage = stage.before
+    abbrev own : Span
+    own = span_of s.side axis.case.streams stream s
 
--- stages that lie below each other from one temperature to another
-abbrev FallTo : Side → Rational → List LedStage → Rational → Type 0
-FallTo of from [] to = from ≡ to
-FallTo of from (stage ∷ stages) to = (upper of stage ≡ from) × FallTo of (lower of stage) stages to
+    -- ---- its pieces
 
--- stages that meet from one temperature to another
-abbrev Leads : Rational → List LedStage → Rational → Type 0
-Leads from stages to = Meet from stages × (state_behind from stages ≡ to)
+    place : (k : ℕ) × (slice_get (spans_of s.side axis.case) k ≡ Some own)
+    place = stream_place axis.case s.side stream s here refl
 
-falls_lead : (stages : List LedStage) (from to : Rational) → FallTo side.Hot from stages to → Leads from stages to
-falls_lead [] from to fall = (tt, fall)
-falls_lead (stage ∷ stages) from to fall = let rest = falls_lead stages stage.after to fall.1 in ((fall.0, rest.0), rest.1)
+    abbrev stages_at : ℕ → List LedStage
+    stages_at n = filter_map (led_stage s.side (exchanges axis) stream) (enumerate_from (n * many s.side) (pieces_at axis s.side n))
 
-leads_push : (stages : List LedStage) (from to : Rational) (stage : LedStage) → Leads from stages to → stage.before ≡ to
-    → Leads from (stages ++ stage ∷ []) stage.after
-leads_push [] from to stage leads meets = ((meets ∙ sym leads.1, tt), refl)
-leads_push (first ∷ stages) from to stage leads meets = let rest = leads_push stages first.after to stage (leads.0.1, leads.1) meets in
-    ((leads.0.0, rest.0), rest.1)
+    abbrev stages_of : List ℕ → List LedStage
+    stages_of numbers = flat_map stages_at numbers
 
-falls_lead_up : (stages : List LedStage) (from to : Rational) → FallTo side.Cold from stages to → Leads to (reverse stages) from
-falls_lead_up [] from to fall = (tt, sym fall)
-falls_lead_up (stage ∷ stages) from to fall =
-    let turned : reverse (stage ∷ stages) ≡ reverse stages ++ stage ∷ [] = reverse-append (stage ∷ []) stages in
-    subst (Leads to (reverse (stage ∷ stages))) fall.0
-    (subst (λ (ss : List LedStage). Leads to ss stage.after) (sym turned)
-    (leads_push (reverse stages) to stage.before stage (falls_lead_up stages stage.before to fall.1) refl))
+    all_stages : led_course (pieces axis side.Hot) (pieces axis side.Cold) (exchanges axis) (stream, s) ≡ on_the_way s.side (stages_of (intervals_of axis.cuts))
+    unfolding pieces
+    all_stages =
+        let h = led_stage s.side (exchanges axis) stream in
+        let rows = pieces_at axis s.side in
+        let none : 0 ≡ 0 * many s.side = omega arith in
+        let numbered = ap (λ b. enumerate_from b (flat_map rows (intervals_of axis.cuts))) none
+        ∙ numbered-rows rows (many s.side) (λ n. length-map (spans_of s.side axis.case) (piece_in axis s.side n)) 0 (length axis.cuts - 1) in
+        ap (λ (ps : List Piece). filter_map h (on_the_way s.side (enumerate_from 0 ps))) (sym (on_pieces s.side))
+        ∙ filter_map-way h s.side (enumerate_from 0 (flat_map rows (intervals_of axis.cuts)))
+        ∙ ap (on_the_way s.side) (ap (filter_map h) numbered ∙ filter_map-rows h (λ n. enumerate_from (n * many s.side) (rows n)) (intervals_of axis.cuts))
 
--- where the way of a stream of a side begins, and where it ends
-abbrev start_of : Side → Rational → Rational → Rational
-start_of side.Hot top bottom = top
-start_of side.Cold top bottom = bottom
+    abbrev own_index : ℕ → ℕ
+    own_index n = n * many s.side + place.0
 
-abbrev end_of : Side → Rational → Rational → Rational
-end_of side.Hot top bottom = bottom
-end_of side.Cold top bottom = top
+    abbrev stage : ℕ → LedStage
+    stage n = led_piece s.side (exchanges axis) (own_index n, piece_in axis s.side n own)
 
-way_leads : (of : Side) (stages : List LedStage) (top bottom : Rational) → FallTo of top stages bottom → Leads (start_of of top bottom) (on_the_way of stages)
-    (end_of of top bottom)
-way_leads side.Hot stages top bottom fall = falls_lead stages top bottom fall
-way_leads side.Cold stages top bottom fall = falls_lead_up stages top bottom fall
+    abbrev has_shares : ℕ → Bool
+    has_shares i = nat_lt 0 (length (shares_of s.side i (exchanges axis)))
 
-start_place : (of : Side) (f : Rational → Rational) (s : Stream) → start_of of (f (whole (high_end s))) (f (whole (low_end s))) ≡ f (whole (first_end of s))
-start_place side.Hot f s = refl
-start_place side.Cold f s = refl
+    -- its own piece alone can be a stage
+    stage_test : (n j : ℕ) (p : Piece) → slice_get (pieces_at axis s.side n) j ≡ Some p
+        → is_stage s.side (exchanges axis) stream (n * many s.side + j) p.source ≡ ((j == place.0) && has_shares (n * many s.side + j))
+    stage_test n j p at =
+        let (b, there, is) = mapped_item (piece_in axis s.side n) (spans_of s.side axis.case) j p at in
+        ap (λ (q : Piece). is_stage s.side (exchanges axis) stream (n * many s.side + j) q.source) (sym is)
+        ∙ ap (λ t. t && has_shares (n * many s.side + j)) (own_place (spans_of s.side axis.case) (sources_differ axis.case s.side) place.0 own place.1 j b there)
 
-end_place : (of : Side) (f : Rational → Rational) (s : Stream) → end_of of (f (whole (high_end s))) (f (whole (low_end s))) ≡ f (whole (last_end of s))
-end_place side.Hot f s = refl
-end_place side.Cold f s = refl
+    no_stage : (n j : ℕ) (p : Piece) → slice_get (pieces_at axis s.side n) j ≡ Some p → ((j == place.0) && has_shares (n * many s.side + j)) ≡ false
+        → led_stage s.side (exchanges axis) stream (n * many s.side + j, p) ≡ None
+    no_stage n j p at is = ap (λ b. if b then Some (led_piece s.side (exchanges axis) (n * many s.side + j, p)) else None) (stage_test n j p at ∙ is)
 
--- ---- lists on the way
+    -- an interval in which it runs is a stage
+    runs_stage : (n : ℕ) → n < length axis.cuts - 1 → RunsIn axis s.side n s → stages_at n ≡ stage n ∷ []
+    runs_stage n within runs =
+        let p = piece_in axis s.side n own in
+        let there = slice_get-map (piece_in axis s.side n) (spans_of s.side axis.case) place.0 ∙ ap (option_map (piece_in axis s.side n)) place.1 in
+        let is : RunsSpan axis s.side n place.0 = record {
+          span = own;
+          there = place.1;
+          kind = all_at (IsSourceSpan axis.case s.side) (spans_of s.side axis.case) place.0 own (span_sources axis.case s.side) place.1;
+          from = runs.from;
+          upto = runs.upto;
+        } in
+        let cp = valid.sensible.cp.from in
+        let some = some_share (shares_of s.side (own_index n) (exchanges axis)) s.cp (omega (arith, ints, cp))
+        (sizes_are n place.0 within is refl) in
+        let kept : has_shares (own_index n) ≡ true = grind (arith, nat_tests, some) in
+        let test = stage_test n place.0 p there ∙ ap (λ b. b && has_shares (own_index n)) (eq-eqb place.0 place.0 refl) ∙ kept in
+        only_item (led_stage s.side (exchanges axis) stream) (n * many s.side) (pieces_at axis s.side n) place.0 p (stage n) there
+        (ap (λ b. if b then Some (stage n) else None) test)
+        (λ j q at other. no_stage n j q at (ap (λ b. b && has_shares (n * many s.side + j)) (ne_eqb j place.0 other)))
 
-mapped_item : {X Y : Type 0} (f : X → Y) (xs : List X) (i : ℕ) (y : Y) → slice_get (map f xs) i ≡ Some y → (x : X) × (slice_get xs i ≡ Some x) × (f x ≡ y)
-mapped_item f [] i y at = cc at
-mapped_item f (x ∷ xs) zero y at = (x, refl, same_Some (f x) y at)
-mapped_item f (x ∷ xs) (suc i) y at = mapped_item f xs i y at
+    -- and one in which it does not is none
+    rests_stage : (n : ℕ) → (RunsIn axis s.side n s → ⊥) → stages_at n ≡ []
+    rests_stage n rests =
+        no_items (led_stage s.side (exchanges axis) stream) (n * many s.side) (pieces_at axis s.side n)
+        (λ j p at. no_stage n j p at
+        (⊎_elim
+        (λ same. ap (λ b. b && has_shares (n * many s.side + j)) (eq-eqb j place.0 same) ∙ ap (λ i. has_shares (n * many s.side + i)) same
+        ∙ false_from_ne_true (has_shares (own_index n))
+        (λ holds. rests (shares_run n place.0 place.1 (ltb-true 0 (length (shares_of s.side (own_index n) (exchanges axis))) holds))))
+        (λ other. ap (λ b. b && has_shares (n * many s.side + j)) (ne_eqb j place.0 other))
+        (cases_eq j place.0)))
 
--- ---- cuts
+    -- ---- the heats of its ends
 
-cut_upto_first : (cuts : List ℤ) → AllPairs (λ a b. b <ℤ a) cuts → (x : ℤ) → Contains cuts x → x ≤ℤ get_or cuts 0 (pos 0)
-cut_upto_first cuts falls x (zero, inside, is) = let same = sym (get_or_default cuts 0 (pos 0) x inside ∙ is) in omega (arith, ints, same)
-cut_upto_first cuts falls x (suc k, inside, is) =
-    let here : get_or cuts (suc k) (pos 0) ≡ x = get_or_default cuts (suc k) (pos 0) x inside ∙ is in
-    let order = falls 0 (suc k) (pos 0) (omega arith) inside in
-    omega (arith, ints, here, order)
+    abbrev bottom : ℤ
+    bottom = heat_at s.side axis.case.streams (low_end s)
 
-cut_from_last : (cuts : List ℤ) → AllPairs (λ a b. b <ℤ a) cuts → (x : ℤ) → Contains cuts x → upper_cut cuts (length cuts - 1) ≤ℤ x
-cut_from_last cuts falls x (k, inside, is) =
-    let here : get_or cuts k (pos 0) ≡ x = get_or_default cuts k (pos 0) x inside ∙ is in
-    ⊎_elim
-    (λ before. let order = falls k (length cuts - 1) (pos 0) before (omega (arith, inside)) in omega (arith, ints, here, order))
-    (λ upto. let same : length cuts - 1 ≡ k = omega (arith, upto, inside) in let item = ap (λ n. get_or cuts n (pos 0)) same in omega (arith, ints, item, here))
-    (cases_lt k (length cuts - 1))
+    abbrev top : ℤ
+    top = heat_at s.side axis.case.streams (high_end s)
 
--- ---- the way of a stream
+    ends_rise : low_end s <ℤ high_end s
+    ends_rise = order-sensible s valid.sensible
 
-some_share : (shares : List Share) (n : ℤ) → pos 0 <ℤ n → size_of shares ≡ whole n → 0 < length shares
-some_share [] n above is = absurd (whole-nonzero n (λ none. absurd (omega (arith, ints, above, none))) (sym is))
-some_share (s ∷ shares) n above is = omega arith
+    heats_rise : bottom ≤ℤ top
+    heats_rise = let order = ends_rise in heat_rises s.side axis.case.streams (low_end s) (high_end s) (streams_are axis).each (omega (arith, ints, order))
 
-module _ (axis : Axis) (stream : ℕ) (s : Stream) (here : slice_get axis.case.streams stream ≡ Some s) where
-  member : Contains axis.case.streams s
-  member = Contains-slice_get axis.case.streams stream s here
+    ends_cut : Contains axis.cuts bottom × Contains axis.cuts top
+    ends_cut =
+        let P : Stream → Type 0 = λ r. same_side r.side s.side ≡ true
+        → Contains axis.cuts (heat_at s.side axis.case.streams (low_end r)) × Contains axis.cuts (heat_at s.side axis.case.streams (high_end r)) in
+        All-contains P axis.case.streams s (ends_are_cuts axis.case axis.cuts axis.are_cuts s.side) member (own_side s.side)
 
-  valid : IsSensibleStream s
-  valid = all_at IsSensibleStream axis.case.streams stream s (streams_are axis).each here
+    -- the temperature of the stream where its curve has a heat
+    record IsPlaceOf (t : Rational) (heat : ℤ) : Type 0 where
+      from : IsAtMost (whole (low_end s)) t
+      upto : IsAtMost t (whole (high_end s))
+      heat_is : curve_heat s.side axis.case.streams t ≡ whole heat
 
-  abbrev many : ℕ
-  many = length (spans_of s.side axis.case)
+    one_temperature : (t u : Rational) (heat : ℤ) → IsPlaceOf t heat → IsPlaceOf u heat → t ≡ u
+    one_temperature t u heat one other = one_place axis.case.streams (streams_are axis) s member t u one.from one.upto other.from other.upto
+        (one.heat_is ∙ sym other.heat_is)
 
-  abbrev own : Span
-  own = span_of s.side axis.case.streams stream s
+    low_place : IsPlaceOf (whole (low_end s)) bottom
+    low_place = let order = ends_rise in record {
+      from = at_most-whole (low_end s) (low_end s) (omega (arith, ints));
+      upto = at_most-whole (low_end s) (high_end s) (omega (arith, ints, order));
+      heat_is = curve_heat-whole s.side axis.case.streams (low_end s) (streams_are axis);
+    }
 
-  -- ---- its pieces
+    high_place : IsPlaceOf (whole (high_end s)) top
+    high_place = let order = ends_rise in record {
+      from = at_most-whole (low_end s) (high_end s) (omega (arith, ints, order));
+      upto = at_most-whole (high_end s) (high_end s) (omega (arith, ints));
+      heat_is = curve_heat-whole s.side axis.case.streams (high_end s) (streams_are axis);
+    }
 
-  place : (k : ℕ) × (slice_get (spans_of s.side axis.case) k ≡ Some own)
-  place = stream_place axis.case s.side stream s here refl
+    -- ---- its stages, from a cut down
 
-  abbrev stages_at : ℕ → List LedStage
-  stages_at n = filter_map (led_stage s.side (exchanges axis) stream) (enumerate_from (n * many) (pieces_at axis s.side n))
+    abbrev actual : Rational → Rational
+    actual t = actual_at s.side t (contribution_of axis.case own.source)
 
-  abbrev stages_of : List ℕ → List LedStage
-  stages_of numbers = flat_map stages_at numbers
+    -- the heat of the stream that is nearest to x
+    record IsNearest (x heat : ℤ) : Type 0 where
+      from : bottom ≤ℤ heat
+      upto : heat ≤ℤ top
+      high : (heat ≤ℤ x) ⊎ (heat ≤ℤ bottom)
+      low : (x ≤ℤ heat) ⊎ (top ≤ℤ heat)
 
-  all_stages : led_course (pieces axis side.Hot) (pieces axis side.Cold) (exchanges axis) (stream, s) ≡ on_the_way s.side (stages_of (intervals_of axis.cuts))
-  unfolding pieces
-  all_stages =
-      let h = led_stage s.side (exchanges axis) stream in
-      let rows = pieces_at axis s.side in
-      let none : 0 ≡ 0 * many = omega arith in
-      let numbered = ap (λ b. enumerate_from b (flat_map rows (intervals_of axis.cuts))) none
-      ∙ numbered-rows rows many (λ n. length-map (spans_of s.side axis.case) (piece_in axis s.side n)) 0 (length axis.cuts - 1) in
-      ap (λ (ps : List Piece). filter_map h (on_the_way s.side (enumerate_from 0 ps))) (sym (on_pieces axis s.side))
-      ∙ filter_map-way h s.side (enumerate_from 0 (flat_map rows (intervals_of axis.cuts)))
-      ∙ ap (on_the_way s.side) (ap (filter_map h) numbered ∙ filter_map-rows h (λ n. enumerate_from (n * many) (rows n)) (intervals_of axis.cuts))
+    -- a stage at its two cuts
+    cut_states : (of : Side) (n : ℕ) (f : ℤ → Rational) (shares : List Share)
+        → (upper of (record { before = f (entered_at axis of n); after = f (left_at axis of n); shares = shares }) ≡ f (high_at axis n))
+        × (lower of (record { before = f (entered_at axis of n); after = f (left_at axis of n); shares = shares }) ≡ f (low_at axis n))
+    cut_states side.Hot n f shares = (refl, refl)
+    cut_states side.Cold n f shares = (refl, refl)
 
-  abbrev index : ℕ → ℕ
-  index n = n * many + place.0
+    outside : (n : ℕ) → n < length axis.cuts - 1 → HasNoEnd s.side axis.case.streams (streams_are axis) (low_at axis n) (high_at axis n) s
+    outside n within =
+        let P : Stream → Type 0 = λ r. same_side r.side s.side ≡ true → HasNoEnd s.side axis.case.streams (streams_are axis) (low_at axis n) (high_at axis n) r in
+        All-contains P axis.case.streams s ((interval axis n within).no_end s.side) member (own_side s.side)
 
-  abbrev stage : ℕ → LedStage
-  stage n = led_piece s.side (exchanges axis) (index n, piece_in axis s.side n own)
+    -- the rest of the way, from the lower cut of an interval
+    abbrev Falls : Rational → List LedStage → Type 0
+    Falls t stages = FallTo s.side (actual t) stages (actual (whole (low_end s)))
 
-  abbrev has_shares : ℕ → Bool
-  has_shares i = nat_lt 0 (length (shares_of s.side i (exchanges axis)))
+    abbrev GoesOn : ℕ → List LedStage → Type 0
+    GoesOn n rest = (t : Rational) (heat : ℤ) → IsNearest (low_at axis n) heat → IsPlaceOf t heat → Falls t rest
 
-  -- its own piece alone can be a stage
-  stage_test : (n j : ℕ) (p : Piece) → slice_get (pieces_at axis s.side n) j ≡ Some p
-      → is_stage s.side (exchanges axis) stream (n * many + j) p.source ≡ ((j == place.0) && has_shares (n * many + j))
-  stage_test n j p at =
-      let (b, there, is) = mapped_item (piece_in axis s.side n) (spans_of s.side axis.case) j p at in
-      ap (λ (q : Piece). is_stage s.side (exchanges axis) stream (n * many + j) q.source) (sym is)
-      ∙ ap (λ t. t && has_shares (n * many + j)) (own_place (spans_of s.side axis.case) (sources_differ axis.case s.side) place.0 own place.1 j b there)
+    passes_by : (n : ℕ) (t : Rational) (rest : List LedStage) → (RunsIn axis s.side n s → ⊥) → Falls t rest → Falls t (stages_at n ++ rest)
+    passes_by n t rest rests fall = subst (λ xs. Falls t (xs ++ rest)) (sym (rests_stage n rests)) fall
 
-  no_stage : (n j : ℕ) (p : Piece) → slice_get (pieces_at axis s.side n) j ≡ Some p → ((j == place.0) && has_shares (n * many + j)) ≡ false
-      → led_stage s.side (exchanges axis) stream (n * many + j, p) ≡ None
-  no_stage n j p at is = ap (λ b. if b then Some (led_piece s.side (exchanges axis) (n * many + j, p)) else None) (stage_test n j p at ∙ is)
+    goes_through : (n : ℕ) → n < length axis.cuts - 1 → (t : Rational) (rest : List LedStage) → RunsIn axis s.side n s → IsPlaceOf t (high_at axis n)
+        → GoesOn n rest → Falls t (stages_at n ++ rest)
+    goes_through n within t rest runs place on =
+        let low = low_at axis n in
+        let high = high_at axis n in
+        let gap = (interval axis n within).gap.falls in
+        let scale = scale_at axis s.side n in
+        let is = scale_is axis s.side n within s runs in
+        let least : low ≤ℤ low = omega (arith, ints) in
+        let most : high ≤ℤ high = omega (arith, ints) in
+        let order : low ≤ℤ high = omega (arith, ints, gap) in
+        let high_range = is.range high order most s runs in
+        let low_range = is.range low least order s runs in
+        let above = one_temperature (scale high) t high (record { from = high_range.0; upto = high_range.1; heat_is = is.heat high order most }) place in
+        let begun = runs.from in
+        let goes_on = runs.upto in
+        let near : IsNearest low low = record { from = begun; upto = omega (arith, ints, order, goes_on); high = inl least; low = inl least } in
+        let fall = on (scale low) low near (record { from = low_range.0; upto = low_range.1; heat_is = is.heat low least order }) in
+        let cut = cut_states s.side n (λ q. state_at axis s.side n q own) (stage n).shares in
+        subst (λ xs. Falls t (xs ++ rest)) (sym (runs_stage n within runs))
+        (cut.0 ∙ ap actual above, subst (λ x. FallTo s.side x rest (actual (whole (low_end s)))) (sym cut.1) fall)
 
-  -- an interval in which it runs is a stage
-  runs_stage : (n : ℕ) → n < length axis.cuts - 1 → RunsIn axis s.side n s → stages_at n ≡ stage n ∷ []
-  runs_stage n within runs =
-      let p = piece_in axis s.side n own in
-      let there = slice_get-map (piece_in axis s.side n) (spans_of s.side axis.case) place.0 ∙ ap (option_map (piece_in axis s.side n)) place.1 in
-      let is : RunsSpan axis s.side n place.0 = record {
-        span = own;
-        there = place.1;
-        kind = all_at (IsSourceSpan axis.case s.side) (spans_of s.side axis.case) place.0 own (span_sources axis.case s.side) place.1;
-        from = runs.from;
-        upto = runs.upto;
-      } in
-      let cp = valid.sensible.cp.from in
-      let some = some_share (shares_of s.side (index n) (exchanges axis)) s.cp (omega (arith, ints, cp))
-      (sizes_are axis stream s here n place.0 within is refl) in
-      let kept : has_shares (index n) ≡ true = grind (arith, nat_tests, some) in
-      let test = stage_test n place.0 p there ∙ ap (λ b. b && has_shares (index n)) (eq-eqb place.0 place.0 refl) ∙ kept in
-      only_item (led_stage s.side (exchanges axis) stream) (n * many) (pieces_at axis s.side n) place.0 p (stage n) there
-      (ap (λ b. if b then Some (stage n) else None) test)
-      (λ j q at other. no_stage n j q at (ap (λ b. b && has_shares (n * many + j)) (ne_eqb j place.0 other)))
+    next_interval : (n : ℕ) → n < length axis.cuts - 1 → (t : Rational) (heat : ℤ) (rest : List LedStage) → IsNearest (high_at axis n) heat → IsPlaceOf t heat
+        → GoesOn n rest → Falls t (stages_at n ++ rest)
+    next_interval n within t heat rest near place on =
+        let gap = (interval axis n within).gap.falls in
+        let from = near.from in
+        let upto = near.upto in
+        ⊎_elim
+        (λ begun.
+        ⊎_elim
+        (λ ended.
+        let beyond = ⊎_elim (λ up. absurd (omega (arith, ints, up, upto, ended, gap))) (λ up. up) near.low in
+        passes_by n t rest (λ runs. let goes_on = runs.upto in absurd (omega (arith, ints, goes_on, ended, gap)))
+        (on t heat (record { from = from; upto = upto; high = inl (omega (arith, ints, upto, ended)); low = inr beyond }) place))
+        (λ goes_on.
+        let most : heat ≤ℤ high_at axis n = ⊎_elim (λ le. le) (λ le. omega (arith, ints, le, begun, gap)) near.high in
+        let least : high_at axis n ≤ℤ heat = ⊎_elim (λ le. le) (λ le. omega (arith, ints, le, goes_on)) near.low in
+        let same : heat ≡ high_at axis n = omega (arith, ints, most, least) in
+        goes_through n within t rest (record { member = member; side_is = own_side s.side; from = begun; upto = goes_on }) (subst (IsPlaceOf t) same place) on)
+        (outside n within).high_outside)
+        (λ early.
+        let below = ⊎_elim (λ le. omega (arith, ints, le, early)) (λ le. le) near.high in
+        passes_by n t rest (λ runs. let begun = runs.from in absurd (omega (arith, ints, begun, early, gap)))
+        (on t heat (record { from = from; upto = upto; high = inr below; low = inl (omega (arith, ints, from, early, gap)) }) place))
+        (outside n within).low_outside
 
-  -- and one in which it does not is none
-  rests_stage : (n : ℕ) → (RunsIn axis s.side n s → ⊥) → stages_at n ≡ []
-  rests_stage n rests =
-      no_items (led_stage s.side (exchanges axis) stream) (n * many) (pieces_at axis s.side n)
-      (λ j p at. no_stage n j p at
-      (⊎_elim
-      (λ same. ap (λ b. b && has_shares (n * many + j)) (eq-eqb j place.0 same) ∙ ap (λ i. has_shares (n * many + i)) same
-      ∙ false_from_ne_true (has_shares (index n))
-      (λ holds. rests (shares_run axis stream s here n place.0 place.1 (ltb-true 0 (length (shares_of s.side (index n) (exchanges axis))) holds))))
-      (λ other. ap (λ b. b && has_shares (n * many + j)) (ne_eqb j place.0 other))
-      (cases_eq j place.0)))
+    fall_from : (m n : ℕ) (t : Rational) (heat : ℤ) → n + m ≡ length axis.cuts - 1 → IsNearest (high_at axis n) heat → IsPlaceOf t heat
+        → Falls t (stages_of (range_with_len n m))
+    fall_from zero n t heat left near place =
+        let last : length axis.cuts - 1 ≡ n = omega (arith, left) in
+        let least = cut_from_last axis.cuts axis.are_cuts.ordered bottom ends_cut.0 in
+        let cut = ap (high_at axis) last in
+        let from = near.from in
+        let upto = ⊎_elim (λ le. omega (arith, ints, le, least, cut)) (λ le. le) near.high in
+        let same : heat ≡ bottom = omega (arith, ints, from, upto) in
+        ap actual (one_temperature t (whole (low_end s)) bottom (subst (IsPlaceOf t) same place) low_place)
+    fall_from (suc m) n t heat left near place =
+        next_interval n (omega (arith, left)) t heat (stages_of (range_with_len (n + 1) m)) near place
+        (λ u h next there. fall_from m (n + 1) u h (omega (arith, left)) next there)
 
-  -- ---- the heats of its ends
+    whole_way : Falls (whole (high_end s)) (stages_of (intervals_of axis.cuts))
+    whole_way =
+        let rise = heats_rise in
+        let first = cut_upto_first axis.cuts axis.are_cuts.ordered top ends_cut.1 in
+        let least : top ≤ℤ top = omega (arith, ints) in
+        fall_from (length axis.cuts - 1) 0 (whole (high_end s)) top (omega arith)
+        (record { from = rise; upto = least; high = inl first; low = inr least }) high_place
 
-  abbrev bottom : ℤ
-  bottom = heat_at s.side axis.case.streams (low_end s)
-
-  abbrev top : ℤ
-  top = heat_at s.side axis.case.streams (high_end s)
-
-  ends_rise : low_end s <ℤ high_end s
-  ends_rise = order-sensible s valid.sensible
-
-  heats_rise : bottom ≤ℤ top
-  heats_rise = let order = ends_rise in heat_rises s.side axis.case.streams (low_end s) (high_end s) (streams_are axis).each (omega (arith, ints, order))
-
-  ends_cut : Contains axis.cuts bottom × Contains axis.cuts top
-  ends_cut =
-      let P : Stream → Type 0 = λ r. same_side r.side s.side ≡ true
-      → Contains axis.cuts (heat_at s.side axis.case.streams (low_end r)) × Contains axis.cuts (heat_at s.side axis.case.streams (high_end r)) in
-      All-contains P axis.case.streams s (ends_are_cuts axis.case axis.cuts axis.are_cuts s.side) member (own_side s.side)
-
-  -- the temperature of the stream where its curve has a heat
-  record IsPlaceOf (t : Rational) (heat : ℤ) : Type 0 where
-    from : IsAtMost (whole (low_end s)) t
-    upto : IsAtMost t (whole (high_end s))
-    heat_is : curve_heat s.side axis.case.streams t ≡ whole heat
-
-  one_temperature : (t u : Rational) (heat : ℤ) → IsPlaceOf t heat → IsPlaceOf u heat → t ≡ u
-  one_temperature t u heat one other = one_place axis.case.streams (streams_are axis) s member t u one.from one.upto other.from other.upto
-      (one.heat_is ∙ sym other.heat_is)
-
-  low_place : IsPlaceOf (whole (low_end s)) bottom
-  low_place = let order = ends_rise in record {
-    from = at_most-whole (low_end s) (low_end s) (omega (arith, ints));
-    upto = at_most-whole (low_end s) (high_end s) (omega (arith, ints, order));
-    heat_is = curve_heat-whole s.side axis.case.streams (low_end s) (streams_are axis);
-  }
-
-  high_place : IsPlaceOf (whole (high_end s)) top
-  high_place = let order = ends_rise in record {
-    from = at_most-whole (low_end s) (high_end s) (omega (arith, ints, order));
-    upto = at_most-whole (high_end s) (high_end s) (omega (arith, ints));
-    heat_is = curve_heat-whole s.side axis.case.streams (high_end s) (streams_are axis);
-  }
-
-  -- ---- its stages, from a cut down
-
-  abbrev actual : Rational → Rational
-  actual t = actual_at s.side t (contribution_of axis.case own.source)
-
-  -- the heat of the stream that is nearest to x
-  record IsNearest (x heat : ℤ) : Type 0 where
-    from : bottom ≤ℤ heat
-    upto : heat ≤ℤ top
-    high : (heat ≤ℤ x) ⊎ (heat ≤ℤ bottom)
-    low : (x ≤ℤ heat) ⊎ (top ≤ℤ heat)
-
-  -- a stage at its two cuts
-  cut_states : (of : Side) (n : ℕ) (f : ℤ → Rational) (shares : List Share)
-      → (upper of (record { before = f (entered_at axis of n); after = f (left_at axis of n); shares = shares }) ≡ f (high_at axis n))
-      × (lower of (record { before = f (entered_at axis of n); after = f (left_at axis of n); shares = shares }) ≡ f (low_at axis n))
-  cut_states side.Hot n f shares = (refl, refl)
-  cut_states side.Cold n f shares = (refl, refl)
-
-  outside : (n : ℕ) → n < length axis.cuts - 1 → HasNoEnd s.side axis.case.streams (streams_are axis) (low_at axis n) (high_at axis n) s
-  outside n within =
-      let P : Stream → Type 0 = λ r. same_side r.side s.side ≡ true → HasNoEnd s.side axis.case.streams (streams_are axis) (low_at axis n) (high_at axis n) r in
-      All-contains P axis.case.streams s ((interval axis n within).no_end s.side) member (own_side s.side)
-
-  -- the rest of the way, from the lower cut of an interval
-  abbrev Falls : Rational → List LedStage → Type 0
-  Falls t stages = FallTo s.side (actual t) stages (actual (whole (low_end s)))
-
-  abbrev GoesOn : ℕ → List LedStage → Type 0
-  GoesOn n rest = (t : Rational) (heat : ℤ) → IsNearest (low_at axis n) heat → IsPlaceOf t heat → Falls t rest
-
-  passes_by : (n : ℕ) (t : Rational) (rest : List LedStage) → (RunsIn axis s.side n s → ⊥) → Falls t rest → Falls t (stages_at n ++ rest)
-  passes_by n t rest rests fall = subst (λ xs. Falls t (xs ++ rest)) (sym (rests_stage n rests)) fall
-
-  goes_through : (n : ℕ) → n < length axis.cuts - 1 → (t : Rational) (rest : List LedStage) → RunsIn axis s.side n s → IsPlaceOf t (high_at axis n)
-      → GoesOn n rest → Falls t (stages_at n ++ rest)
-  goes_through n within t rest runs place on =
-      let low = low_at axis n in
-      let high = high_at axis n in
-      let gap = (interval axis n within).gap.falls in
-      let scale = scale_at axis s.side n in
-      let is = scale_is axis s.side n within s runs in
-      let least : low ≤ℤ low = omega (arith, ints) in
-      let most : high ≤ℤ high = omega (arith, ints) in
-      let order : low ≤ℤ high = omega (arith, ints, gap) in
-      let high_range = is.range high order most s runs in
-      let low_range = is.range low least order s runs in
-      let above = one_temperature (scale high) t high (record { from = high_range.0; upto = high_range.1; heat_is = is.heat high order most }) place in
-      let begun = runs.from in
-      let goes_on = runs.upto in
-      let near : IsNearest low low = record { from = begun; upto = omega (arith, ints, order, goes_on); high = inl least; low = inl least } in
-      let fall = on (scale low) low near (record { from = low_range.0; upto = low_range.1; heat_is = is.heat low least order }) in
-      let cut = cut_states s.side n (λ q. state_at axis s.side n q own) (stage n).shares in
-      subst (λ xs. Falls t (xs ++ rest)) (sym (runs_stage n within runs))
-      (cut.0 ∙ ap actual above, subst (λ x. FallTo s.side x rest (actual (whole (low_end s)))) (sym cut.1) fall)
-
-  next_interval : (n : ℕ) → n < length axis.cuts - 1 → (t : Rational) (heat : ℤ) (rest : List LedStage) → IsNearest (high_at axis n) heat → IsPlaceOf t heat
-      → GoesOn n rest → Falls t (stages_at n ++ rest)
-  next_interval n within t heat rest near place on =
-      let gap = (interval axis n within).gap.falls in
-      let from = near.from in
-      let upto = near.upto in
-      ⊎_elim
-      (λ begun.
-      ⊎_elim
-      (λ ended.
-      let beyond = ⊎_elim (λ up. absurd (omega (arith, ints, up, upto, ended, gap))) (λ up. up) near.low in
-      passes_by n t rest (λ runs. let goes_on = runs.upto in absurd (omega (arith, ints, goes_on, ended, gap)))
-      (on t heat (record { from = from; upto = upto; high = inl (omega (arith, ints, upto, ended)); low = inr beyond }) place))
-      (λ goes_on.
-      let most : heat ≤ℤ high_at axis n = ⊎_elim (λ le. le) (λ le. omega (arith, ints, le, begun, gap)) near.high in
-      let least : high_at axis n ≤ℤ heat = ⊎_elim (λ le. le) (λ le. omega (arith, ints, le, goes_on)) near.low in
-      let same : heat ≡ high_at axis n = omega (arith, ints, most, least) in
-      goes_through n within t rest (record { member = member; side_is = own_side s.side; from = begun; upto = goes_on }) (subst (IsPlaceOf t) same place) on)
-      (outside n within).high_outside)
-      (λ early.
-      let below = ⊎_elim (λ le. omega (arith, ints, le, early)) (λ le. le) near.high in
-      passes_by n t rest (λ runs. let begun = runs.from in absurd (omega (arith, ints, begun, early, gap)))
-      (on t heat (record { from = from; upto = upto; high = inr below; low = inl (omega (arith, ints, from, early, gap)) }) place))
-      (outside n within).low_outside
-
-  fall_from : (m n : ℕ) (t : Rational) (heat : ℤ) → n + m ≡ length axis.cuts - 1 → IsNearest (high_at axis n) heat → IsPlaceOf t heat
-      → Falls t (stages_of (range_with_len n m))
-  fall_from zero n t heat left near place =
-      let last : length axis.cuts - 1 ≡ n = omega (arith, left) in
-      let least = cut_from_last axis.cuts axis.are_cuts.ordered bottom ends_cut.0 in
-      let cut = ap (high_at axis) last in
-      let from = near.from in
-      let upto = ⊎_elim (λ le. omega (arith, ints, le, least, cut)) (λ le. le) near.high in
-      let same : heat ≡ bottom = omega (arith, ints, from, upto) in
-      ap actual (one_temperature t (whole (low_end s)) bottom (subst (IsPlaceOf t) same place) low_place)
-  fall_from (suc m) n t heat left near place =
-      next_interval n (omega (arith, left)) t heat (stages_of (range_with_len (n + 1) m)) near place
-      (λ u h next there. fall_from m (n + 1) u h (omega (arith, left)) next there)
-
-  whole_way : Falls (whole (high_end s)) (stages_of (intervals_of axis.cuts))
-  whole_way =
-      let rise = heats_rise in
-      let first = cut_upto_first axis.cuts axis.are_cuts.ordered top ends_cut.1 in
-      let least : top ≤ℤ top = omega (arith, ints) in
-      fall_from (length axis.cuts - 1) 0 (whole (high_end s)) top (omega arith)
-      (record { from = rise; upto = least; high = inl first; low = inr least }) high_place
-
-  -- it is led from its supply to its target
-  pub stream_joined : AreJoined s (led_course (pieces axis side.Hot) (pieces axis side.Cold) (exchanges axis) (stream, s))
-  stream_joined =
-      let stages = stages_of (intervals_of axis.cuts) in
-      let c = ap (λ o. option_map_or (λ (r : Stream). r.contribution) o (pos 0)) here in
-      let leads = way_leads s.side stages (actual (whole (high_end s))) (actual (whole (low_end s))) whole_way in
-      let start = start_place s.side actual s ∙ ap (actual_at s.side (whole (first_end s.side s))) c ∙ actual-first s valid.sensible in
-      let end = end_place s.side actual s ∙ ap (actual_at s.side (whole (last_end s.side s))) c ∙ actual-last s valid.sensible in
-      let way = subst₂ (λ x y. Leads x (on_the_way s.side stages) y) start end leads in
-      subst (AreJoined s) (sym all_stages) (record { meet = way.0; ends = way.1 })
+    -- it is led from its supply to its target
+    pub stream_joined : AreJoined s (led_course (pieces axis side.Hot) (pieces axis side.Cold) (exchanges axis) (stream, s))
+    stream_joined =
+        let stages = stages_of (intervals_of axis.cuts) in
+        let c = ap (λ o. option_map_or (λ (r : Stream). r.contribution) o (pos 0)) here in
+        let leads = way_leads s.side stages (actual (whole (high_end s))) (actual (whole (low_end s))) whole_way in
+        let start = start_place s.side actual s ∙ ap (actual_at s.side (whole (first_end s.side s))) c ∙ actual-first s valid.sensible in
+        let end = end_place s.side actual s ∙ ap (actual_at s.side (whole (last_end s.side s))) c ∙ actual-last s valid.sensible in
+        let way = subst₂ (λ x y. Leads x (on_the_way s.side stages) y) start end leads in
+        subst (AreJoined s) (sym all_stages) (record { meet = way.0; ends = way.1 })
