@@ -18,12 +18,6 @@ use Rattle.sums.proofs.WalkLemmas.{overlaps_first, overlaps_second}
 use Rattle.sums.specs.Spans.{begin_of}
 use Rattle.stream_case.specs.declared.source.Side.TheVariants as side
 
-pair_one_way : (p q : Pair) → pair_before p q → pair_before q p → ⊥
-pair_one_way p q (inl h) (inl k) = omega arith
-pair_one_way p q (inl h) (inr k) = omega (arith, k.0)
-pair_one_way p q (inr h) (inl k) = omega (arith, h.0)
-pair_one_way p q (inr h) (inr k) = omega (arith, h.1, k.1)
-
 -- ---- a list that is made item by item of another one
 
 module _ {X Y : Type 0} (R : X → X → Type 0) (S : Y → Y → Type 0) (P : X → Type 0) (Q : X → Y → Type 0) (f : X → List Y)
@@ -117,27 +111,11 @@ module _ (us vs : List ℤ) where
 
 -- ---- a share is no more than the two amounts
 
-begin_of-next : (xs : List ℤ) (i : ℕ) → begin_of xs (suc i) ≡ begin_of xs i +ℤ get_or xs i (pos 0)
-begin_of-next [] zero = refl
-begin_of-next [] (suc i) = refl
-begin_of-next (x ∷ xs) zero = omega (arith, ints)
-begin_of-next (x ∷ xs) (suc i) = let rest = begin_of-next xs i in omega (arith, ints)
-
 pub overlap-within : (us vs : List ℤ) (i j : ℕ) → (overlap us vs i j ≤ℤ get_or us i (pos 0)) × (overlap us vs i j ≤ℤ get_or vs j (pos 0))
 overlap-within us vs i j =
-    let one = begin_of-next us i in
-    let other = begin_of-next vs j in
-    (omega (arith, ints, clamps), omega (arith, ints, clamps))
+    let one = begin_of-suc us i in let other = begin_of-suc vs j in (omega (arith, ints, clamps), omega (arith, ints, clamps))
 
 -- ---- few pairs
-
-begin_of-rises : (xs : List ℤ) → NotNegative xs → (a b : ℕ) → a ≤ b → begin_of xs a ≤ℤ begin_of xs b
-begin_of-rises xs some zero b le = int_sum_by-not_negative (λ x. x) (take b xs) (All-take (λ x. pos 0 ≤ℤ x) b xs some)
-begin_of-rises xs some (suc a) zero le = absurd (omega (arith, le))
-begin_of-rises [] some (suc a) (suc b) le = omega (arith, ints)
-begin_of-rises (x ∷ xs) some (suc a) (suc b) le =
-    let rest = begin_of-rises xs (All-tail (λ z. pos 0 ≤ℤ z) x xs some) a b (omega (arith, le)) in
-    omega (arith, ints, rest)
 
 abbrev steps : Pair → ℕ
 steps p = p.first + p.second
@@ -159,18 +137,18 @@ few_steps : (high : ℕ) (ps : List Pair) → AllPairs (λ p q. steps p < steps 
 few_steps high [] rise upto low from le = omega (arith, le)
 few_steps high (p ∷ ps) rise upto low from le =
     let last = All-head (λ q. steps q < high) p ps upto in
-    let rest = few_steps high ps (AllPairs-tail (λ a b. steps a < steps b) p ps rise) (All-tail (λ q. steps q < high) p ps upto)
-    (steps p + 1) (λ k o within. let less = AllPairs-head (λ a b. steps a < steps b) p ps rise k o within in omega (arith, less)) (omega (arith, last)) in
-    omega (arith, rest, All-head (λ q. low ≤ steps q) p ps from)
+    omega (arith, All-head (λ q. low ≤ steps q) p ps from, few_steps high ps (AllPairs-tail (λ a b. steps a < steps b) p ps rise)
+    (All-tail (λ q. steps q < high) p ps upto) (steps p + 1)
+    (λ k o within. let less = AllPairs-head (λ a b. steps a < steps b) p ps rise k o within in omega arith) (omega arith))
 
 pub few_pairs : (us vs : List ℤ) → NotNegative us → NotNegative vs → length (pairs_of us vs) ≤ length us + length vs
 few_pairs us vs some_us some_vs =
     let lists = ListsOverlaps-pairs_of us vs in
     let few = few_steps (length us + length vs) (pairs_of us vs)
     (λ i j d before within.
-    further_on us vs some_us some_vs _ _ (lists.each i d (omega (arith, before, within))) (lists.each j d within) (lists.ordered i j d before within))
-    (λ i d within. let is = lists.each i d within in omega (arith, is.first_within, is.second_within)) 0 (λ i d within. omega arith) (omega arith) in
-    omega (arith, few)
+    further_on us vs some_us some_vs _ _ (lists.each i d (omega arith)) (lists.each j d within) (lists.ordered i j d before within))
+    (λ i d within. let is = lists.each i d within in omega arith) 0 (λ i d within. omega arith) (omega arith) in
+    omega arith
 
 -- Flows between two cuts, and shares of them, within the limits.
 
@@ -218,12 +196,9 @@ product-between {m} {n} a b is_a is_b =
 abbrev pub IsAmount : ℤ → Type 0
 IsAmount amount = IsBetween (pos 0) (MOST_CP *ℤ MOST_FLOW) amount
 
-pub amount-within : (flow side : ℤ) → IsFlow flow → IsSideFlow side → IsAmount (flow *ℤ side)
-amount-within flow side is_flow is_side = product-between flow side is_flow is_side
-
 pub scaled-positive : (flows : List ℤ) (side : ℤ) → All IsFlow flows → IsSideFlow side → NotNegative (map (λ f. f *ℤ side) flows)
 scaled-positive flows side each is_side =
-    All-map (λ a. pos 0 ≤ℤ a) (λ f. f *ℤ side) flows (All-weaker IsFlow (λ f. pos 0 ≤ℤ (f *ℤ side)) (λ f is. (amount-within f side is is_side).from) flows each)
+    All-map (λ a. pos 0 ≤ℤ a) (λ f. f *ℤ side) flows (All-weaker IsFlow (λ f. pos 0 ≤ℤ (f *ℤ side)) (λ f is. (product-between f side is is_side).from) flows each)
 
 -- a factor of a product above 0
 factor-above : (flow side : ℤ) → pos 0 ≤ℤ side → pos 0 <ℤ (flow *ℤ side) → pos 0 <ℤ side
@@ -247,16 +222,15 @@ partly : (low high : ℤ) (spans others : List Span) (index : ℕ) (share : ℤ)
 partly low high spans others index share are are_others inside above upto =
     let flows = flows_in low high spans in
     let side = side_flow low high others in
-    let long = length-map flows (λ f. f *ℤ side) in
-    let within : index < length flows = omega (arith, inside, long) in
+    let within : index < length flows = omega (arith, inside, length-map flows (λ f. f *ℤ side)) in
     let item = get_or-map (λ f. f *ℤ side) flows index (pos 0) (pos 0) within in
-    let flow = flows-within low high spans are.each index (pos 0) within in
     let is_side = side-within low high others are_others in
-    let amount = amount-within (get_or flows index (pos 0)) side flow is_side in
+    let amount : IsAmount (get_or flows index (pos 0) *ℤ side) =
+    product-between (get_or flows index (pos 0)) side (flows-within low high spans are.each index (pos 0) within) is_side in
     record {
       within = omega (arith, within, length-map spans (flow_in low high));
-      flow = factor-above (get_or flows index (pos 0)) side is_side.from (omega (arith, ints, above, upto, item));
-      upto = omega (arith, ints, upto, item, amount.upto);
+      flow = factor-above (get_or flows index (pos 0)) side is_side.from (omega (arith, ints));
+      upto = omega (arith, ints);
     }
 
 -- a pair of an interval is a share of the flows of both sides, within the limits
@@ -272,18 +246,14 @@ pub share-within : (low high : ℤ) (hot cold : List Span) (p : Pair) → AreSpa
     → IsOverlap (amounts_in low high hot cold) (amounts_in low high cold hot) p → IsShare low high hot cold p
 share-within low high hot cold p are_hot are_cold is =
     let upto = overlap-within (amounts_in low high hot cold) (amounts_in low high cold hot) p.first p.second in
-    let amount = is.amount in
-    let above = is.positive in
-    let one = partly low high hot cold p.first p.amount are_hot are_cold is.first_within above (omega (arith, ints, amount, upto.0)) in
-    let other = partly low high cold hot p.second p.amount are_cold are_hot is.second_within above (omega (arith, ints, amount, upto.1)) in
-    let hot_side = side-within low high hot are_hot in
-    let cold_side = side-within low high cold are_cold in
+    let one = partly low high hot cold p.first p.amount are_hot are_cold is.first_within is.positive (omega (arith, ints, is.amount, upto.0)) in
+    let other = partly low high cold hot p.second p.amount are_cold are_hot is.second_within is.positive (omega (arith, ints, is.amount, upto.1)) in
     record {
       first = one.within;
       second = other.within;
-      hot_flow = record { from = omega (arith, ints, other.flow); upto = hot_side.upto };
-      cold_flow = record { from = omega (arith, ints, one.flow); upto = cold_side.upto };
-      above = above;
+      hot_flow = record { from = omega (arith, ints, other.flow); upto = (side-within low high hot are_hot).upto };
+      cold_flow = record { from = omega (arith, ints, one.flow); upto = (side-within low high cold are_cold).upto };
+      above = is.positive;
       upto = one.upto;
     }
 
@@ -297,31 +267,20 @@ pub record IsFraction (num den : ℤ) : Type 0 where
 pub duty-within : (low high share one other : ℤ) → IsGap low high → pos 0 <ℤ share → share ≤ℤ (MOST_CP *ℤ MOST_FLOW) → IsBetween (pos 1) MOST_FLOW one
     → IsBetween (pos 1) MOST_FLOW other → IsFraction ((high -ℤ low) *ℤ share) (one *ℤ other)
 duty-within low high share one other gap above upto is_one is_other =
-    let from = gap.low_place.from in
-    let to = gap.high_place.upto in
-    let falls = gap.falls in
-    let wide : IsPlace (high -ℤ low) = record { from = omega (arith, ints, falls); upto = omega (arith, ints, from, to) } in
-    let some : IsAmount share = record { from = omega (arith, ints, above); upto = upto } in
-    let num = product-between (high -ℤ low) share wide some in
-    let first : IsSideFlow one = record { from = let h = is_one.from in omega (arith, ints, h); upto = is_one.upto } in
-    let second : IsSideFlow other = record { from = let h = is_other.from in omega (arith, ints, h); upto = is_other.upto } in
-    let den = product-between one other first second in
+    let wide : IsPlace (high -ℤ low) = record { from = omega (arith, ints); upto = omega (arith, ints) } in
+    let some : IsAmount share = record { from = omega (arith, ints); upto = upto } in
+    let first : IsSideFlow one = record { from = omega (arith, ints); upto = is_one.upto } in
+    let second : IsSideFlow other = record { from = omega (arith, ints); upto = is_other.upto } in
     record {
-      num_above = let falls = gap.falls in product_positive (high -ℤ low) share (omega (arith, ints, falls)) above;
-      num_upto = let h = num.upto in omega (arith, ints, h);
-      den_from = let h = is_one.from in let k = is_other.from in product_positive one other (omega (arith, ints, h)) (omega (arith, ints, k));
-      den_upto = let h = den.upto in omega (arith, ints, h);
+      num_above = product_positive (high -ℤ low) share (omega (arith, ints)) above;
+      num_upto = omega (arith, ints, (product-between (high -ℤ low) share wide some).upto);
+      den_from = product_positive one other (omega (arith, ints)) (omega (arith, ints));
+      den_upto = omega (arith, ints, (product-between one other first second).upto);
     }
 
 -- The cuts of the heat axis, and how much is exchanged between two of them.
 
 -- ---- the cuts
-
-ends-places : (spans : List Span) → All IsSpan spans → All IsPlace (ends_of spans)
-ends-places [] each = All-nil IsPlace
-ends-places (s ∷ spans) each =
-    let is = All-head IsSpan s spans each in
-    All-cons IsPlace s.from (s.to ∷ ends_of spans) is.from (All-cons IsPlace s.to (ends_of spans) is.to (ends-places spans (All-tail IsSpan s spans each)))
 
 length-ends_of : (spans : List Span) → length (ends_of spans) ≡ 2 * length spans
 length-ends_of [] = refl
@@ -330,8 +289,8 @@ length-ends_of (s ∷ spans) = omega (arith, length-ends_of spans)
 module _ (hot cold : List Span) (cuts : List ℤ) (are_hot : AreSpans hot) (are_cold : AreSpans cold) (are : AreCuts hot cold cuts) where
   pub cuts-places : All IsPlace cuts
   cuts-places =
-      let ends = All-append IsPlace (ends_of hot) (ends_of cold) (ends-places hot are_hot.each) (ends-places cold are_cold.each) in
-      λ i d within. All-contains IsPlace (ends_of hot ++ ends_of cold) (get_or cuts i d) ends (are.each i d within)
+      let places = λ (spans : List Span) (is : AreSpans spans). All-weaker IsSpan (λ a. IsPlace a.from × IsPlace a.to) (λ a s. (s.from, s.to)) spans is.each in
+      cuts_hold hot cold cuts are IsPlace (places hot are_hot) (places cold are_cold)
 
   pub few_cuts : length cuts ≤ 4 * MOST_SPANS
   few_cuts =
@@ -360,9 +319,8 @@ unfolding matches_in
 few_matches number low high hot cold are_hot are_cold =
     let us = amounts_in low high hot cold in
     let vs = amounts_in low high cold hot in
-    let few = few_pairs us vs (amounts-positive low high hot cold are_hot are_cold) (amounts-positive low high cold hot are_cold are_hot) in
-    let made = length-map (pairs_of us vs) (match_of number low high hot cold) in
-    omega (arith, few, made, length-amounts low high hot cold, length-amounts low high cold hot, are_hot.few, are_cold.few)
+    omega (arith, few_pairs us vs (amounts-positive low high hot cold are_hot are_cold) (amounts-positive low high cold hot are_cold are_hot), are_hot.few,
+    are_cold.few, length-map (pairs_of us vs) (match_of number low high hot cold), length-amounts low high hot cold, length-amounts low high cold hot)
 
 -- The pairs of one source of an interval share out its flow times that of the other side.
 
@@ -422,20 +380,16 @@ module _ (low high : ℤ) (hot cold : List Span) where
       → int_sum_by (λ p. p.amount) (own_pairs of k (pairs_of (amounts_in low high hot cold) (amounts_in low high cold hot))) ≡ amount_on of k
   own_amounts are_hot are_cold of k within = sum-filter (λ p. index_on of p == k) (λ p. p.amount) (pairs_of offered asked) ∙ by of within
     where
-      some : NotNegative offered
-      some = amounts-positive low high hot cold are_hot are_cold
-
-      more : NotNegative asked
-      more = amounts-positive low high cold hot are_cold are_hot
-
       by : (d : Side) → k < length (list_on d hot cold)
           → int_sum_by (λ p. if index_on d p == k then p.amount else pos 0) (pairs_of offered asked) ≡ amount_on d k
       by side.Hot inside =
-          overlaps_first offered asked (pairs_of offered asked) some more amounts-balanced (ListsOverlaps-pairs_of offered asked) k
-          (omega (arith, inside, length-amounts low high hot cold))
+          overlaps_first offered asked (pairs_of offered asked) (amounts-positive low high hot cold are_hot are_cold)
+          (amounts-positive low high cold hot are_cold are_hot)
+          amounts-balanced (ListsOverlaps-pairs_of offered asked) k (omega (arith, length-amounts low high hot cold))
       by side.Cold inside =
-          overlaps_second offered asked (pairs_of offered asked) some more amounts-balanced (ListsOverlaps-pairs_of offered asked) k
-          (omega (arith, inside, length-amounts low high cold hot))
+          overlaps_second offered asked (pairs_of offered asked) (amounts-positive low high hot cold are_hot are_cold)
+          (amounts-positive low high cold hot are_cold are_hot)
+          amounts-balanced (ListsOverlaps-pairs_of offered asked) k (omega (arith, length-amounts low high cold hot))
 
   -- a share is no more than that
   pub own_share : (of : Side) (k : ℕ) (p : Pair) → IsOverlap (amounts_in low high hot cold) (amounts_in low high cold hot) p → index_on of p ≡ k
@@ -489,24 +443,14 @@ same-rows f g same (x ∷ xs) = ap₂ ◌++◌ (same x) (same-rows f g same xs)
 pub only_row : {X : Type 0} (f : ℕ → List X) (a count n : ℕ) → a ≤ n → n < a + count → ((m : ℕ) → m ≢ n → f m ≡ []) → flat_map f (range_with_len a count) ≡ f n
 only_row f a zero n from upto others = absurd (omega arith)
 only_row {X} f a (suc count) n from upto others =
-    ⊎_elim
-    (λ here.
-    ap (λ xs. f a ++ xs) (no_rows (a + 1) count (omega (arith, here))) ∙ append-nil (f a) ∙ ap f here)
-    (λ other.
-    ap (λ (xs : List X). xs ++ flat_map f (range_with_len (a + 1) count)) (others a other)
-    ∙ only_row f (a + 1) count n (⊎_elim (λ less. omega (arith, less)) (λ more. absurd (omega (arith, from, more))) (apart a n other))
-    (omega (arith, upto)) others)
-    (cases_eq a n)
+    ⊎_elim (λ here. ap (λ xs. f a ++ xs) (no_rows (a + 1) count (omega (arith, here))) ∙ append-nil (f a) ∙ ap f here)
+    (λ other. ap (λ (xs : List X). xs ++ flat_map f (range_with_len (a + 1) count)) (others a other)
+    ∙ only_row f (a + 1) count n (omega (arith, from, other)) (omega (arith, upto)) others) (cases_eq a n)
   where
     no_rows : (b k : ℕ) → n < b → flat_map f (range_with_len b k) ≡ []
     no_rows b zero past = refl
     no_rows b (suc k) past = ap (λ (xs : List X). xs ++ flat_map f (range_with_len (b + 1) k)) (others b (λ same. absurd (omega (arith, same, past))))
-        ∙ no_rows (b + 1) k (omega (arith, past))
-
-    apart : (m k : ℕ) → m ≢ k → (m < k) ⊎ (k < m)
-    apart m k other = ⊎_elim (λ same. absurd (other same)) (λ order. order) (cases_order m k)
-
--- few in each row, and so in all
+        ∙ no_rows (b + 1) k (omega (arith, past))-- few in each row, and so in all
 pub few-rows : {X : Type 0} (f : ℕ → List X) (most : ℕ) → ((n : ℕ) → length (f n) ≤ most) → (a count : ℕ)
     → length (flat_map f (range_with_len a count)) ≤ count * most
 few-rows f most each a zero = omega arith
@@ -554,17 +498,14 @@ module _ {X : Type 0} (f : ℕ → List X) (len : ℕ) (long : (n : ℕ) → len
 
 -- an index has one row, and one place in it
 pub same_place : (len n m k j : ℕ) → k < len → j < len → n * len + k ≡ m * len + j → (n ≡ m) × (k ≡ j)
-same_place len n m k j k_within j_within same = let row = by in (row, let rows = ap (λ a. a * len) row in omega (arith, rows, same))
+same_place len n m k j k_within j_within same =
+    let row = ⊎_elim (λ equal. equal)
+    (⊎_elim (λ order. absurd (less n m k j k_within order same)) (λ order. absurd (less m n j k j_within order (sym same)))) (cases_order n m) in
+    (row, let rows = ap (λ a. a * len) row in omega (arith, rows, same))
   where
     less : (a b x y : ℕ) → x < len → a < b → a * len + x ≡ b * len + y → ⊥
     less a b x y within order is =
-        let next : a + 1 ≤ b = omega (arith, order) in
-        let product = mul-le-mul_right len next in
-        absurd (omega (arith, product, is, within))
-
-    by : n ≡ m
-    by = ⊎_elim (λ equal. equal) (⊎_elim (λ order. absurd (less n m k j k_within order same)) (λ order. absurd (less m n j k j_within order (sym same))))
-        (cases_order n m)
+        let next : a + 1 ≤ b = omega (arith, order) in let product = mul-le-mul_right len next in absurd (omega (arith, product, is, within))
 
 -- ---- one item of a list
 
