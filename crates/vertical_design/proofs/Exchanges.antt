@@ -9,12 +9,12 @@ use Rattle.vertical_design.proofs.Words.{shares_of, side_flow, side_of, size_of,
 use Rattle.vertical_design.proofs.Words.{unsigned_abs, unsigned_abs-mul, utility_from, utility_to, whole, within-ratio, zero_times, ◌&&◌, ◌*ℤ◌, ◌-ℤ◌}
 use Rattle.std.proofs.Common.{All, Bool, List, None, Some, [], ap, ap₂, arith, cond, false, get_or, if◌then◌else◌, inl, inr, length, option_map, pos, refl}
 use Rattle.std.proofs.Common.{slice_get, subst, subst₂, suc, sym, true, ℕ, ℤ, ⊎_elim, ◌*◌, ◌+◌, ◌-◌, ◌<ℤ◌, ◌<◌, ◌==◌, ◌^◌, ◌∙◌, ◌∷◌, ◌≡◌, ◌≢◌, ◌≤ℤ◌}
-use Rattle.vertical_design.proofs.Intervals.{Axis, Faces, IsWithinRange, RunsIn, flow_at, high_at, interval, low_at, on_scale-actual, other, piece_in}
-use Rattle.vertical_design.proofs.Intervals.{piece_there, pieces, scale_at, scale_at_utility, scale_is, scale_within, scales_face, shifted_state, size_is}
-use Rattle.vertical_design.proofs.Intervals.{spans_are, state_at, streams_are}
+use Rattle.vertical_design.proofs.Intervals.{Faces, IsWithinRange, RunsIn, on_scale-actual, other, piece_in, piece_there, pieces, scale_at, scale_at_utility}
+use Rattle.vertical_design.proofs.Intervals.{scale_is, scale_within, scales_face, shifted_state, size_is, state_at}
 use Rattle.vertical_design.proofs.OverlapLists.{IsShare, ListsOverlaps-pairs_of, duty-within, filter_map-map, filter_map-rows, index_on, none_kept, only_row}
 use Rattle.vertical_design.proofs.OverlapLists.{own_amount, own_amounts, own_share, same_place, share-within}
-use Rattle.vertical_design.proofs.SpanSources.{IsSourceSpan, is_axis, reaches, span_of, span_sources}
+use Rattle.vertical_design.proofs.SpanSources.{Axis, IsSourceSpan, cut_below, flow_above, flow_at, high_at, is_axis, low_at, reaches, span_of, span_sources}
+use Rattle.vertical_design.proofs.SpanSources.{spans_are, streams_are}
 use Rattle.stream_case.specs.declared.source.Side.TheVariants as side
 use Rattle.stream_case.specs.declared.source.Source.TheVariants as source
 
@@ -368,7 +368,7 @@ module _ (axis : Axis) where
       let q = get_or (pairs_at number) j p in
       ap₂ (λ b x. if b then Some x else None) (own_test of number k q) (size_match of number q))
       ∙ ap (λ z. ratio z (unsigned_abs flow)) (shared_out of number k a there)
-      ∙ whole_flow (flow_in low high a) flow ((interval axis number within).flow (other of))
+      ∙ whole_flow (flow_in low high a) flow (flow_above axis number within (other of))
 
   -- the shifted temperature of a span's source at a heat of an interval
   abbrev shifted_at : Side → ℕ → ℤ → Span → Rational
@@ -393,7 +393,7 @@ module _ (axis : Axis) where
     high = high_at axis number
 
     falls : low <ℤ high
-    falls = (interval axis number within).gap.falls
+    falls = cut_below axis number within
 
     -- a stream stays within its range from the one cut to the other
     in_range : (of : Side) (k : ℕ) (is : RunsSpan of number k) (i : ℕ) (s : Stream) → is.span.source ≡ source.Stream i

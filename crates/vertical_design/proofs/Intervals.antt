@@ -13,11 +13,11 @@ use Rattle.vertical_design.proofs.Words.{sources_between, sources_in, sources_of
 use Rattle.vertical_design.proofs.Words.{upper_cut, utility_from, utility_to, whole, whole-minus, whole-plus}
 use Rattle.std.proofs.Common.{All, List, None, Option, Some, [], ap, ap₂, arith, get_or, inl, inr, length, map, negsuc, pos, refl, slice_get, subst, subst₂}
 use Rattle.std.proofs.Common.{suc, sym, true, zero, ℕ, ℤ, ◌*ℤ◌, ◌*◌, ◌+ℤ◌, ◌+◌, ◌-ℤ◌, ◌-◌, ◌<ℤ◌, ◌<◌, ◌∙◌, ◌∷◌, ◌≡◌, ◌≤ℤ◌, ◌≤◌, ◌⊎◌}
-use Rattle.vertical_design.proofs.CurveLemmas.{HasNoEnd, HaveNoEnd, IsOutside, IsSegment, Runs, approach_above, approach_below, curve_heat-ratio, curve_parts}
-use Rattle.vertical_design.proofs.CurveLemmas.{curve_parts-whole, end_of, flow_positive, flow_running, gap_segment, line, on_curve, scaled, whole_heat}
+use Rattle.stream_case.proofs.StandardUtilities.{own_utility}
+use Rattle.vertical_design.proofs.CurveLemmas.{HaveNoEnd, IsSegment, Runs, approach_above, approach_below, curve_heat-ratio, curve_parts, curve_parts-whole}
+use Rattle.vertical_design.proofs.CurveLemmas.{end_of, flow_positive, flow_running, gap_segment, line, on_curve, scaled, whole_heat}
 use Rattle.vertical_design.proofs.OverlapLists.{gap_at, map-rows, row_place, same-rows}
-use Rattle.vertical_design.proofs.SpanSources.{AreCaseCuts, AreSpans-spans_of, cut_below, flow_above, no_end_between, side_flow-curve, standard_hold}
-use Rattle.vertical_design.proofs.SpanSources.{utility_alone, utility_outside}
+use Rattle.vertical_design.proofs.SpanSources.{Axis, cut_below, flow_at, high_at, low_at, no_end_between, side_flow-curve, spans_are, streams_are}
 use Rattle.stream_case.specs.declared.source.Side.TheVariants as side
 use Rattle.stream_case.specs.declared.source.Source.TheVariants as source
 
@@ -49,33 +49,13 @@ pub found : {X : Type 0} (f : X → Side) (on : Side) (o : Option X) → option_
 found f on None is = absurd (none-some on is)
 found f on (Some x) is = (x, refl, same_Some (f x) on is)
 
-of_two : (Q : Utility → Type 0) (a b : Utility) → Q a → Q b → (i : ℕ) (u : Utility) → slice_get (a ∷ b ∷ []) i ≡ Some u → Q u
-of_two Q a b one other zero u at = subst Q (same_Some a u at) one
-of_two Q a b one other (suc zero) u at = subst Q (same_Some b u at) other
-of_two Q a b one other (suc (suc i)) u at = absurd (none-some u at)
-
--- what holds of both standard utilities holds of each utility of a standard case
-pub each_utility : (case : Case) → IsStandard case → (Q : Utility → Type 0) → Q (standard_utility side.Hot case) → Q (standard_utility side.Cold case)
-    → (i : ℕ) (u : Utility) → slice_get case.utilities i ≡ Some u → Q u
-each_utility case standard Q hot cold =
-    let h = standard_utility side.Hot case in
-    let c = standard_utility side.Cold case in
-    standard_hold case standard (λ us. (i : ℕ) (u : Utility) → slice_get us i ≡ Some u → Q u) (of_two Q h c hot cold) (of_two Q c h cold hot)
-
-standard_level : (case : Case) → IsStandard case → (j : ℕ) (u : Utility) → slice_get case.utilities j ≡ Some u
-    → shifted_level u ≡ outermost u.side (stream_ends case.streams)
-standard_level case standard =
-    each_utility case standard (λ v. shifted_level v ≡ outermost v.side (stream_ends case.streams)) (shifted_level-standard side.Hot case)
-    (shifted_level-standard side.Cold case)
-
 -- from shifted temperatures back to actual ones
 apart : (hot cold : Rational) (hot_contribution cold_contribution : ℤ)
     → IsAtMost (plus cold (whole cold_contribution)) (minus hot (whole hot_contribution))
     → IsAtMost (plus cold (whole (hot_contribution +ℤ cold_contribution))) hot
 apart hot cold a b order =
-    let sum : plus (plus cold (whole b)) (whole a) ≡ plus cold (whole (a +ℤ b)) = plus_assoc cold (whole b) (whole a)
-    ∙ ap (plus cold) (plus_comm (whole b) (whole a) ∙ whole-plus a b) in
-    subst (λ x. IsAtMost x hot) sum (at_most_from_minus_right (plus cold (whole b)) hot (whole a) order)
+    subst (λ x. IsAtMost x hot) (plus_assoc cold (whole b) (whole a) ∙ ap (plus cold) (plus_comm (whole b) (whole a) ∙ whole-plus a b))
+    (at_most_from_minus_right (plus cold (whole b)) hot (whole a) order)
 
 -- the hot side is at least the cold one at both ends
 record IsOrdered (hot_in hot_out cold_in cold_out : Rational) : Type 0 where
@@ -93,7 +73,8 @@ module _ (case : Case) (valid : HasValidStreams case.streams) (sensible : AreSen
   outer of = IsOutermost-outermost of (stream_ends case.streams) (let some = valid.some in omega (arith, length-stream_ends case.streams))
 
   level-shifted : (of : Side) (j : ℕ) (u : Utility) → slice_get case.utilities j ≡ Some u → u.side ≡ of → shifted of u.level u.contribution ≡ outer_end of
-  level-shifted of j u at side_is = ap (λ d. shifted d u.level u.contribution) (sym side_is) ∙ standard_level case standard j u at
+  level-shifted of j u at side_is =
+      ap (λ d. shifted d u.level u.contribution) (sym side_is) ∙ ap shifted_level (own_utility case standard j u at) ∙ shifted_level-standard u.side case
       ∙ ap (λ d. outer_end d) side_is
 
   -- a utility has its level in each state
@@ -293,45 +274,6 @@ module _ (of : Side) (streams : List Stream) (are : AreSensibleStreams streams) 
     },
   )
 
--- ---- in an interval
-
-module _ (case : Case) (cuts : List ℤ) (are_cuts : AreCaseCuts case cuts) (at : ℕ) (later : 0 < at) (within : at < length cuts)
-    (are : AreSensibleStreams case.streams) (of : Side) where
-  abbrev low_here : ℤ
-  low_here = get_or cuts at (pos 0)
-
-  abbrev high_here : ℤ
-  high_here = get_or cuts (at - 1) (pos 0)
-
-  abbrev IsScaleHere : (ℤ → Rational) → Type 0
-  IsScaleHere scale = IsScale of case.streams are low_here high_here (side_flow low_here high_here (spans_of of case)) scale
-
-  -- numbers that are the temperatures of the side, if a stream of it runs
-  abbrev pub SideScaleOf : Type 0
-  SideScaleOf = (scale : ℤ → Rational) × ((r : Stream) → Runs of case.streams are low_here high_here r → IsScaleHere scale)
-
-  none_runs : ((r : Stream) → Runs of case.streams are low_here high_here r → ⊥) → SideScaleOf
-  none_runs rests = (λ q. rational_zero, λ r runs. absurd (rests r runs))
-
-  pub side_scale : SideScaleOf
-  side_scale = by (int_lt_cases low_here (begin_of of case.streams)) (int_lt_cases (end_of of case.streams) high_here)
-    where
-      by : (low_here <ℤ begin_of of case.streams) ⊎ (begin_of of case.streams ≤ℤ low_here)
-          → (end_of of case.streams <ℤ high_here) ⊎ (high_here ≤ℤ end_of of case.streams) → SideScaleOf
-      by (inl early) any = none_runs (λ r runs. let from = runs.from in omega (arith, ints, early, from, (on_curve of case.streams are (low_end r)).from))
-      by (inr from) (inl late) = none_runs (λ r runs. let upto = runs.upto in omega (arith, ints, late, upto, (on_curve of case.streams are (high_end r)).upto))
-      by (inr from) (inr upto) =
-          let gap = cut_below case cuts are_cuts at later within are in
-          let none = no_end_between case cuts are_cuts at later within are of in
-          let (begin, end, is) = gap_segment of case.streams are low_here high_here gap from upto in
-          let scale = segment_scale of case.streams are low_here high_here gap begin end is none in
-          let flow = side_flow-curve case cuts are_cuts at later within are of from upto in
-          (scale.0, λ r runs. subst (λ f. IsScale of case.streams are low_here high_here f scale.0) (sym flow) scale.1)
-
-  -- where one runs
-  pub interval_scale : (r : Stream) → Runs of case.streams are low_here high_here r → (scale : ℤ → Rational) × IsScaleHere scale
-  interval_scale r runs = let (scale, is) = side_scale in (scale, is r runs)
-
 -- What the temperatures of an interval give for its matches: both sides face each other at its two cuts, and each branch gives or takes the duty of its match.
 
 -- ---- actual temperatures
@@ -385,121 +327,76 @@ module _ (streams : List Stream) (are : AreSensibleStreams streams) (low high : 
     upto = (is.range high (omega (arith, ints, gap)) (omega (arith, ints)) r runs).1;
   }
 
--- The intervals between neighbouring cuts of the heat axis: what is known of each, the temperatures of both sides there, and their pieces.
-
--- the heat axis of a standard case without latent streams, and its cuts
-pub record Axis : Type 0 where
-  pub case : Case
-  pub cuts : List ℤ
-  pub complete : IsSensibleCase case
-  pub standard : IsStandard case
-  pub are_cuts : AreCuts (spans_of side.Hot case) (spans_of side.Cold case) cuts
+-- The intervals between neighbouring cuts of the heat axis: the temperatures of both sides there, and their pieces.
 
 abbrev pub other : Side → Side
 other side.Hot = side.Cold
 other side.Cold = side.Hot
 
--- ---- an interval
-
--- the temperatures of a side between two cuts, where a stream of it runs there
-pub record SideScale (of : Side) (case : Case) (are : AreSensibleStreams case.streams) (low high : ℤ) : Type 0 where
-  pub scale : ℤ → Rational
-  pub is : (r : Stream) → Runs of case.streams are low high r → IsScale of case.streams are low high (side_flow low high (spans_of of case)) scale
-
--- what is known of two neighbouring cuts
-pub record IsInterval (case : Case) (are : AreSensibleStreams case.streams) (low high : ℤ) : Type 0 where
-  pub gap : IsGap low high
-  pub flow : (of : Side) → pos 0 <ℤ side_flow low high (spans_of of case)
-  pub outside : (of : Side) → IsOutside low high (utility_from of case.streams) × IsOutside low high (utility_to of case.streams)
-  pub alone : (of : Side) → utility_from of case.streams ≤ℤ low → high ≤ℤ utility_to of case.streams → side_flow low high (spans_of of case) ≡ pos 1
-  pub no_end : (of : Side) → All (λ s. same_side s.side of ≡ true → HasNoEnd of case.streams are low high s) case.streams
-  pub side : (of : Side) → SideScale of case are low high
-
 module _ (axis : Axis) where
-  abbrev pub streams_are : AreSensibleStreams axis.case.streams
-  streams_are = AreSensibleStreams-case axis.case axis.complete
-
-  pub spans_are : (of : Side) → AreSpans (spans_of of axis.case)
-  spans_are of = AreSpans-spans_of of axis.case axis.complete axis.standard
-
-  module _ (at : ℕ) (later : 0 < at) (within : at < length axis.cuts) where
-    abbrev low_cut : ℤ
-    low_cut = get_or axis.cuts at (pos 0)
-
-    abbrev high_cut : ℤ
-    high_cut = get_or axis.cuts (at - 1) (pos 0)
-
-    gap_here : low_cut <ℤ high_cut
-    gap_here = cut_below axis.case axis.cuts axis.are_cuts at later within streams_are
-
-    side_here : (of : Side) → SideScale of axis.case streams_are low_cut high_cut
-    side_here of = let (scale, is) = side_scale axis.case axis.cuts axis.are_cuts at later within streams_are of in record { scale = scale; is = is }
-
-    interval_here : IsInterval axis.case streams_are low_cut high_cut
-    interval_here = record {
-      gap = gap_at (spans_of side.Hot axis.case) (spans_of side.Cold axis.case) axis.cuts (spans_are side.Hot)
-          (spans_are side.Cold) axis.are_cuts at later within;
-      flow = flow_above axis.case axis.cuts axis.are_cuts streams_are axis.standard at later within;
-      outside = utility_outside axis.case axis.cuts axis.are_cuts streams_are axis.standard at later within;
-      alone = λ of from upto. utility_alone axis.case axis.cuts axis.are_cuts streams_are low_cut high_cut gap_here of from upto axis.standard;
-      no_end = no_end_between axis.case axis.cuts axis.are_cuts at later within streams_are;
-      side = side_here;
-    }
-
-  -- the cuts of an interval, and the flow of a side there
-  abbrev pub low_at : ℕ → ℤ
-  low_at number = lower_cut axis.cuts number
-
-  abbrev pub high_at : ℕ → ℤ
-  high_at number = upper_cut axis.cuts number
-
-  abbrev pub flow_at : Side → ℕ → ℤ
-  flow_at of number = side_flow (low_at number) (high_at number) (spans_of of axis.case)
-
-  pub interval : (number : ℕ) → number < length axis.cuts - 1 → IsInterval axis.case streams_are (low_at number) (high_at number)
-  interval number within =
-      let same : number + 1 - 1 ≡ number = omega arith in
-      subst (λ k. IsInterval axis.case streams_are (low_at number) (get_or axis.cuts k (pos 0))) same (interval_here (number + 1) (omega arith) (omega arith))
+  pub gap_in : (number : ℕ) → number < length axis.cuts - 1 → IsGap (low_at axis number) (high_at axis number)
+  gap_in = gap_at (spans_of side.Hot axis.case) (spans_of side.Cold axis.case) axis.cuts (spans_are axis side.Hot) (spans_are axis side.Cold) axis.are_cuts
 
   -- ---- the temperatures of a side
 
-  abbrev IsIn : ℕ → Type 0
-  IsIn number = (number < length axis.cuts - 1) ⊎ (length axis.cuts - 1 ≤ number)
+  -- a stream runs in an interval
+  abbrev pub RunsIn : Side → ℕ → Stream → Type 0
+  RunsIn of number r = Runs of axis.case.streams (streams_are axis) (low_at axis number) (high_at axis number) r
 
-  scale_by : Side → (number : ℕ) → IsIn number → ℤ → Rational
-  scale_by of number (inl within) = ((interval number within).side of).scale
+  abbrev pub IsScaleIn : Side → ℕ → (ℤ → Rational) → Type 0
+  IsScaleIn of number scale = IsScale of axis.case.streams (streams_are axis) (low_at axis number) (high_at axis number) (flow_at axis of number) scale
+
+  -- numbers that are the temperatures of the side, if a stream of it runs
+  abbrev SideScale : Side → ℕ → Type 0
+  SideScale of number = (scale : ℤ → Rational) × ((r : Stream) → RunsIn of number r → IsScaleIn of number scale)
+
+  none_runs : (of : Side) (number : ℕ) → ((r : Stream) → RunsIn of number r → ⊥) → SideScale of number
+  none_runs of number rests = (λ q. rational_zero, λ r runs. absurd (rests r runs))
+
+  side_scale : (of : Side) (number : ℕ) → number < length axis.cuts - 1 → SideScale of number
+  side_scale of number within =
+      by (int_lt_cases (low_at axis number) (begin_of of axis.case.streams)) (int_lt_cases (end_of of axis.case.streams) (high_at axis number))
+    where
+      by : (low_at axis number <ℤ begin_of of axis.case.streams) ⊎ (begin_of of axis.case.streams ≤ℤ low_at axis number)
+          → (end_of of axis.case.streams <ℤ high_at axis number) ⊎ (high_at axis number ≤ℤ end_of of axis.case.streams) → SideScale of number
+      by (inl early) any =
+          none_runs of number (λ r runs. omega (arith, ints, early, runs.from, (on_curve of axis.case.streams (streams_are axis) (low_end r)).from))
+      by (inr from) (inl late) =
+          none_runs of number (λ r runs. omega (arith, ints, late, runs.upto, (on_curve of axis.case.streams (streams_are axis) (high_end r)).upto))
+      by (inr from) (inr upto) =
+          let gap = cut_below axis number within in
+          let (begin, end, is) = gap_segment of axis.case.streams (streams_are axis) (low_at axis number) (high_at axis number) gap from upto in
+          let scale = segment_scale of axis.case.streams (streams_are axis) (low_at axis number) (high_at axis number) gap begin end is
+          (no_end_between axis number within of) in
+          (scale.0, λ r runs. subst (λ f. IsScale of axis.case.streams (streams_are axis) (low_at axis number) (high_at axis number) f scale.0)
+          (sym (side_flow-curve axis number within of from upto)) scale.1)
+
+  scale_by : (of : Side) (number : ℕ) → (number < length axis.cuts - 1) ⊎ (length axis.cuts - 1 ≤ number) → ℤ → Rational
+  scale_by of number (inl within) = (side_scale of number within).0
   scale_by of number (inr past) = λ q. rational_zero
 
   -- at each heat of an interval
   pub scale_at : Side → ℕ → ℤ → Rational
   scale_at of number = scale_by of number (cases_lt number (length axis.cuts - 1))
 
-  -- a stream runs in an interval
-  abbrev pub RunsIn : Side → ℕ → Stream → Type 0
-  RunsIn of number r = Runs of axis.case.streams streams_are (low_at number) (high_at number) r
-
-  abbrev pub IsScaleIn : Side → ℕ → (ℤ → Rational) → Type 0
-  IsScaleIn of number scale =
-      IsScale of axis.case.streams streams_are (low_at number) (high_at number) (flow_at of number) scale
-
   pub scale_is : (of : Side) (number : ℕ) → number < length axis.cuts - 1 → (r : Stream) → RunsIn of number r → IsScaleIn of number (scale_at of number)
   unfolding scale_at scale_by
   scale_is of number within r runs = by (cases_lt number (length axis.cuts - 1))
     where
-      by : (is : IsIn number) → IsScaleIn of number (scale_by of number is)
-      by (inl here) = ((interval number here).side of).is r runs
+      by : (is : (number < length axis.cuts - 1) ⊎ (length axis.cuts - 1 ≤ number)) → IsScaleIn of number (scale_by of number is)
+      by (inl here) = (side_scale of number here).1 r runs
       by (inr past) = absurd (omega (arith, within, past))
 
   -- ---- pieces
 
   -- at which cut a source of a side comes into an interval, and at which one it leaves
   abbrev pub entered_at : Side → ℕ → ℤ
-  entered_at side.Hot number = high_at number
-  entered_at side.Cold number = low_at number
+  entered_at side.Hot number = high_at axis number
+  entered_at side.Cold number = low_at axis number
 
   abbrev pub left_at : Side → ℕ → ℤ
-  left_at side.Hot number = low_at number
-  left_at side.Cold number = high_at number
+  left_at side.Hot number = low_at axis number
+  left_at side.Cold number = high_at axis number
 
   abbrev pub state_at : Side → ℕ → ℤ → Span → Rational
   state_at of number heat a = actual_at of (scale_at of number heat) (contribution_of axis.case a.source)

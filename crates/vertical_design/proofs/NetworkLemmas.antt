@@ -16,13 +16,14 @@ use Rattle.vertical_design.proofs.Words.{unsigned_abs, unsigned_abs-mul, upper_c
 use Rattle.std.proofs.Common.{All, Bool, List, None, Some, [], ap, ap₂, arith, drop, false, get_or, if◌then◌else◌, length, map, option_map, pos, refl}
 use Rattle.std.proofs.Common.{slice_get, subst, subst₂, suc, sym, true, zero, ℕ, ℤ, ⊎_elim, ◌*ℤ◌, ◌*◌, ◌+ℤ◌, ◌+◌, ◌-ℤ◌, ◌-◌, ◌<ℤ◌, ◌<◌, ◌==◌, ◌^◌, ◌||◌, ◌∙◌}
 use Rattle.std.proofs.Common.{◌∷◌, ◌≡◌, ◌≢◌, ◌≤ℤ◌, ◌≤◌}
-use Rattle.vertical_design.proofs.CurveLemmas.{IsClear, across-whole, each_gap, heat_across, heats_across}
+use Rattle.stream_case.proofs.StandardUtilities.{own_utility}
+use Rattle.vertical_design.proofs.CurveLemmas.{across-bounded, bounded, heat_across}
 use Rattle.vertical_design.proofs.Exchanges.{IsMatch, IsMetIn, IsPositiveExchange, are_matches, exchanges, match_faces, match_in, pair_runs, pairs_at}
 use Rattle.vertical_design.proofs.Exchanges.{pairs_meet, parts_sum, piece_of, positive-match, share_in, share_upto, shared_out, side_on}
-use Rattle.vertical_design.proofs.Intervals.{Axis, each_utility, faced_apart, flow_at, high_at, interval, low_at, other, piece_in, piece_there, pieces, size_is}
-use Rattle.vertical_design.proofs.Intervals.{sources_are, spans_are, streams_are}
+use Rattle.vertical_design.proofs.Intervals.{faced_apart, gap_in, other, piece_in, piece_there, pieces, size_is, sources_are}
 use Rattle.vertical_design.proofs.OverlapLists.{few-rows, few_cuts, few_matches, filter_map-map, filter_map-rows, index_on}
-use Rattle.vertical_design.proofs.SpanSources.{cut_below, is_axis, own_place, reaches, sources_differ, target-within, utility_cuts, utility_order}
+use Rattle.vertical_design.proofs.SpanSources.{Axis, cut_below, cut_from_last, cut_upto_first, flow_above, flow_at, high_at, is_axis, low_at, own_place}
+use Rattle.vertical_design.proofs.SpanSources.{reaches, sources_differ, spans_are, streams_are, target-within, utility_alone, utility_cuts, utility_order}
 use Rattle.vertical_design.proofs.SpanSources.{utility_outside, utility_place, utility_span_of}
 use Rattle.vertical_design.proofs.StreamWays.{flow_few, most_flow, stream_joined, stream_pieces}
 use Rattle.design_lines.specs.declared.limits.TheConstants.{MOST_DRAWN_LINES}
@@ -90,23 +91,6 @@ part_sized width share other n from upto some most is =
 scaled_sum : (width : ℤ) (ps : List Pair) → int_sum_by (λ p. width *ℤ p.amount) ps ≡ width *ℤ int_sum_by (λ p. p.amount) ps
 scaled_sum width [] = sym (*ℤ-zero width)
 scaled_sum width (p ∷ ps) = ap (λ z. width *ℤ p.amount +ℤ z) (scaled_sum width ps) ∙ sym (*ℤ-+ℤ width p.amount (int_sum_by (λ (q : Pair). q.amount) ps))
-
--- between all cuts lies the whole of it
-heats_whole : (case : Case) (are : AreSensibleStreams case.streams) → IsStandard case → (of : Side) (cuts : List ℤ)
-    → AreCuts (spans_of side.Hot case) (spans_of side.Cold case) cuts
-    → heats_across (utility_from of case.streams) (utility_to of case.streams) (upper_cut cuts 0) (drop 1 cuts)
-    ≡ utility_to of case.streams -ℤ utility_from of case.streams
-heats_whole case are standard of [] are_cuts = let nothing = (utility_cuts case [] are_cuts are standard of).0.1 in absurd (omega (arith, nothing))
-heats_whole case are standard of (high ∷ cuts) are_cuts =
-    let all = high ∷ cuts in
-    let begin = utility_from of case.streams in
-    let end = utility_to of case.streams in
-    let ends = utility_cuts case all are_cuts are standard of in
-    across-whole begin end high cuts (utility_order of case.streams (is_axis case.streams are))
-    (each_gap (IsClear begin end) high cuts (λ at later within.
-    let outside = utility_outside case all are_cuts are standard at later within of in
-    record { falls = cut_below case all are_cuts at later within are; begin_outside = outside.0; end_outside = outside.1 }))
-    ends.0 ends.1
 
 -- The pieces and exchanges of the intervals are led; and so the network that they draw is vertical.
 
@@ -231,12 +215,12 @@ module _ (axis : Axis) where
       lies_alone : lies ≡ true → flows ≡ unsigned_abs across
       lies_alone test =
           let ends = reaches from_of to_of low high test in
-          product_is u.side ((interval axis number within).alone u.side ends.0 ends.1)
+          product_is u.side (utility_alone axis number within u.side ends.0 ends.1)
 
       -- its heats are those between the cuts where it lies
       sum_by : (b : Bool) → lies ≡ b → rational_sum (filter_map heat_of_pair (pairs_at axis number)) ≡ whole (if b then width else pos 0)
       sum_by true test =
-          heats_sum ∙ ap (λ b. ratio (width *ℤ amount_by b) flows) test ∙ whole_width width across flows ((interval axis number within).flow (other u.side))
+          heats_sum ∙ ap (λ b. ratio (width *ℤ amount_by b) flows) test ∙ whole_width width across flows (flow_above axis number within (other u.side))
           (lies_alone test)
       sum_by false test = heats_sum ∙ ap (λ b. ratio (width *ℤ amount_by b) flows) test ∙ no_width width across flows
 
@@ -249,7 +233,7 @@ module _ (axis : Axis) where
         where
           by : (c : Bool) → lies ≡ c → p.amount ≤ℤ amount_by c → IsSized (unsigned_abs across) most_width (ratio (width *ℤ p.amount) flows)
           by true alone upto =
-              let is = (interval axis number within).gap in
+              let is = gap_in axis number within in
               let falls = is.falls in
               let from = is.low_place.from in
               let end = is.high_place.upto in
@@ -260,7 +244,7 @@ module _ (axis : Axis) where
 
       group_of : IsWholeGroup most_flow most_width (filter_map heat_of_pair (pairs_at axis number))
       group_of =
-          let above = (interval axis number within).flow (other u.side) in
+          let above = flow_above axis number within (other u.side) in
           record {
             over = unsigned_abs across;
             some = omega (arith, ints, above);
@@ -288,15 +272,31 @@ module _ (axis : Axis) where
         let here = few_matches n (low_at axis n) (high_at axis n) hot cold (spans_are axis side.Hot) (spans_are axis side.Cold) in
         omega (arith, few_heats (n + 1) m, length-numbers heat_of (exchanges_at hot cold axis.cuts n), here)
 
+    -- the place of the utility next to a cut
+    abbrev place_at : ℕ → ℤ
+    place_at n = bounded from_of to_of (high_at axis n)
+
+    order : from_of ≤ℤ to_of
+    order = utility_order u.side axis.case.streams (is_axis axis.case.streams (streams_are axis))
+
     sum_from : (m n : ℕ) → n + m ≡ length axis.cuts - 1 → rational_sum (flat_map heats_at (range_with_len n m))
-        ≡ whole (heats_across from_of to_of (high_at axis n) (drop (n + 1) axis.cuts))
-    sum_from zero n left = sym (ap (λ cs. whole (heats_across from_of to_of (high_at axis n) cs)) (drop_all (n + 1) axis.cuts (omega (arith, left))))
+        ≡ whole (place_at n -ℤ place_at (length axis.cuts - 1))
+    sum_from zero n left = let same : n ≡ length axis.cuts - 1 = omega (arith, left) in
+        ap whole (none (place_at n) (place_at (length axis.cuts - 1)) (ap place_at same))
+      where
+        none : (x y : ℤ) → x ≡ y → pos 0 ≡ x -ℤ y
+        none x y is = omega (arith, ints, is)
     sum_from (suc m) n left =
+        let within : n < length axis.cuts - 1 = omega (arith, left) in
+        let outside = utility_outside axis n within u.side in
         rational_sum_by-append (λ (a : Rational). a) (heats_at n) (flat_map heats_at (range_with_len (n + 1) m))
-        ∙ ap₂ plus (ap rational_sum (pairs_are n (omega (arith, left))) ∙ sum_by n (omega (arith, left)) (lies n (omega (arith, left))) refl)
-        (sum_from m (n + 1) (omega (arith, left)))
-        ∙ whole-plus (heat_across from_of to_of (low_at axis n) (high_at axis n)) (heats_across from_of to_of (low_at axis n) (drop (n + 1 + 1) axis.cuts))
-        ∙ sym (ap (λ cs. whole (heats_across from_of to_of (high_at axis n) cs)) (drop_more axis.cuts (n + 1) (pos 0) (omega (arith, left))))
+        ∙ ap₂ plus (ap rational_sum (pairs_are n within) ∙ sum_by n within (lies n within) refl) (sum_from m (n + 1) (omega (arith, left)))
+        ∙ whole-plus (heat_across from_of to_of (low_at axis n) (high_at axis n)) (place_at (n + 1) -ℤ place_at (length axis.cuts - 1))
+        ∙ ap whole (joined _ (place_at n) (place_at (n + 1)) (place_at (length axis.cuts - 1))
+        (across-bounded from_of to_of (low_at axis n) (high_at axis n) order (cut_below axis n within) outside.0 outside.1))
+      where
+        joined : (h x y z : ℤ) → h ≡ x -ℤ y → h +ℤ (y -ℤ z) ≡ x -ℤ z
+        joined h x y z is = omega (arith, ints, is)
 
     heats_are : heats_with hot_sources cold_sources (exchanges axis) index ≡ flat_map heats_at (intervals_of axis.cuts)
     heats_are = by_exchanges hot_sources cold_sources index 0 (exchanges axis)
@@ -304,14 +304,19 @@ module _ (axis : Axis) where
 
     pub heat_total : rational_sum (heats_with hot_sources cold_sources (exchanges axis) index) ≡ whole (to_of -ℤ from_of)
     heat_total = ap rational_sum heats_are ∙ sum_from (length axis.cuts - 1) 0 (omega arith)
-        ∙ ap whole (heats_whole axis.case (streams_are axis) axis.standard u.side axis.cuts axis.are_cuts)
+        ∙ ap whole (ends (high_at axis 0) (high_at axis (length axis.cuts - 1)) (cut_upto_first axis.cuts axis.are_cuts.ordered to_of (utility_cuts axis u.side).1)
+        (cut_from_last axis.cuts axis.are_cuts.ordered from_of (utility_cuts axis u.side).0))
+      where
+        ends : (x y : ℤ) → to_of ≤ℤ x → y ≤ℤ from_of → bounded from_of to_of x -ℤ bounded from_of to_of y ≡ to_of -ℤ from_of
+        ends x y first last = omega (arith, ints, clamps, order)
 
     pub utility_heat : HasUtilityHeat hot_sources cold_sources (exchanges axis) index u
     utility_heat =
         let is = target-within u.side axis.case.streams (streams_are axis) in
         let from = is.from in
         let upto = is.upto in
-        let range = each_utility axis.case axis.standard (λ v. (v.least ≡ pos 0) × (v.most ≡ MOST_HEAT)) (refl, refl) (refl, refl) index u here in
+        let range : (u.least ≡ pos 0) × (u.most ≡ MOST_HEAT) =
+        subst (λ (v : Utility). (v.least ≡ pos 0) × (v.most ≡ MOST_HEAT)) (sym (own_utility axis.case axis.standard index u here)) (standard_range u.side) in
         let least = range.0 in
         let most = range.1 in
         let all = few_cuts hot cold axis.cuts (spans_are axis side.Hot) (spans_are axis side.Cold) axis.are_cuts in
@@ -331,6 +336,10 @@ module _ (axis : Axis) where
           from = omega (arith, ints, least, from);
           upto = omega (arith, ints, most, upto);
         }
+      where
+        standard_range : (of : Side) → ((standard_utility of axis.case).least ≡ pos 0) × ((standard_utility of axis.case).most ≡ MOST_HEAT)
+        standard_range side.Hot = (refl, refl)
+        standard_range side.Cold = (refl, refl)
 
   abbrev pub sources : Side → List Source
   sources of = sources_between (spans_of of axis.case) axis.cuts
@@ -345,7 +354,7 @@ module _ (axis : Axis) where
   match_joins e m =
       let one = pair_runs axis m.number side.Hot m.pair m.met in
       let other = pair_runs axis m.number side.Cold m.pair m.met in
-      let gap = (interval axis m.number m.within).gap in
+      let gap = gap_in axis m.number m.within in
       let hot_side = side_on axis side.Hot one.span one.kind in
       let cold_side = side_on axis side.Cold other.span other.kind in
       let positive = subst IsPositiveExchange m.is

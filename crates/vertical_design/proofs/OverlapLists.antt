@@ -14,8 +14,9 @@ use Rattle.std.proofs.Common.{length-append, map, pos, refl, slice_get, suc, sym
 use Rattle.std.proofs.Common.{◌<ℤ◌, ◌<◌, ◌==◌, ◌^◌, ◌∙◌, ◌∷◌, ◌≡◌, ◌≢◌, ◌≤ℤ◌, ◌≤◌, ◌⊎◌}
 use Rattle.std.proofs.lemmas.Grind.{flat_map-append}
 use Rattle.sums.proofs.OrderLemmas.{AllPairs-head, AllPairs-tail, Lists-same, Lists-unique}
-use Rattle.sums.proofs.WalkLemmas.{overlaps_first, overlaps_second}
+use Rattle.sums.proofs.WalkLemmas.{begin_of-rises, begin_of-suc, overlaps_first, overlaps_second, pair_one_way}
 use Rattle.sums.specs.Spans.{begin_of}
+use Rattle.vertical_design.proofs.SpanSources.{cuts_hold}
 use Rattle.stream_case.specs.declared.source.Side.TheVariants as side
 
 -- ---- a list that is made item by item of another one
@@ -297,11 +298,11 @@ module _ (hot cold : List Span) (cuts : List ℤ) (are_hot : AreSpans hot) (are_
       let few = length-le_falling cuts (ends_of hot ++ ends_of cold) are.ordered are.each in
       omega (arith, few, length-append (ends_of hot) (ends_of cold), length-ends_of hot, length-ends_of cold, are_hot.few, are_cold.few)
 
-  pub gap_at : (at : ℕ) → 0 < at → at < length cuts → IsGap (get_or cuts at (pos 0)) (get_or cuts (at - 1) (pos 0))
-  gap_at at later within = record {
-    low_place = cuts-places at (pos 0) within;
-    high_place = cuts-places (at - 1) (pos 0) (omega (arith, later, within));
-    falls = are.ordered (at - 1) at (pos 0) (omega (arith, later)) within;
+  pub gap_at : (number : ℕ) → number < length cuts - 1 → IsGap (lower_cut cuts number) (upper_cut cuts number)
+  gap_at number within = record {
+    low_place = cuts-places (number + 1) (pos 0) (omega (arith, within));
+    high_place = cuts-places number (pos 0) (omega (arith, within));
+    falls = are.ordered number (number + 1) (pos 0) (omega arith) (omega (arith, within));
   }
 
 -- ---- few matches

@@ -14,6 +14,7 @@ use Rattle.vertical_design.proofs.Words.{sum_side, sum_side-zero, utility_from, 
 use Rattle.std.proofs.Common.{All, AllPairs, Bool, List, None, Some, [], ap, append_assoc, ap₂, arith, false, get_or, if◌then◌else◌, inl, inr, length, pos}
 use Rattle.std.proofs.Common.{refl, slice_get, subst, suc, sym, take, true, zero, zero-add, ℕ, ℤ, ⊎_elim, ◌*◌, ◌++◌, ◌+ℤ◌, ◌+◌, ◌-ℤ◌, ◌-◌, ◌<ℤ◌, ◌<◌, ◌==◌, ◌∙◌}
 use Rattle.std.proofs.Common.{◌∷◌, ◌≡◌, ◌≢◌, ◌≤ℤ◌, ◌≤◌, ◌⊎◌}
+use Rattle.stream_case.proofs.StandardUtilities.{in_order, some_utility, standard_side}
 use Rattle.vertical_design.proofs.CurveLemmas.{HasNoEnd, IsOutside, end_of, flow_positive, flow_running, gap_segment, on_curve, running_flow}
 use Rattle.sums.proofs.SumLemmas.{int_sum_by-append, int_sum_by-map, int_sum_by-zero}
 use Rattle.stream_case.specs.declared.source.Side.TheVariants as side
@@ -107,11 +108,6 @@ pub cuts_hold : (hot cold : List Span) (cuts : List ℤ) → AreCuts hot cold cu
 cuts_hold hot cold cuts are P hots colds k o within =
     let all = All-append P (ends_of hot) (ends_of cold) (ends_hold P hot hots) (ends_hold P cold colds) in
     All-contains P (ends_of hot ++ ends_of cold) (get_or cuts k o) all (are.each k o within)
-
--- what holds of both utilities in either order holds of those of a standard case
-pub standard_hold : (case : Case) → IsStandard case → (P : List Utility → Type 0) → P (standard_utility side.Hot case ∷ standard_utility side.Cold case ∷ [])
-    → P (standard_utility side.Cold case ∷ standard_utility side.Hot case ∷ []) → P case.utilities
-standard_hold case standard P one other = ⊎_elim (λ e. subst P (sym e) one) (λ e. subst P (sym e) other) standard.utilities
 
 -- ---- of numbered things each own one has a span
 
@@ -322,25 +318,35 @@ module _ (of : Side) (case : Case) (complete : IsSensibleCase case) where
       few_utilities =
           kept_count (own_utility case of) (utility_item case of) 0 case.utilities
           ∙ each_side (λ d. count_by (own_utility case d) case.utilities ≡ 1)
-          (standard_hold case standard (λ us. count_by (own_utility case side.Hot) us ≡ 1) refl refl)
-          (standard_hold case standard (λ us. count_by (own_utility case side.Cold) us ≡ 1) refl refl) of
+          (in_order case standard (λ us. count_by (own_utility case side.Hot) us ≡ 1) refl refl)
+          (in_order case standard (λ us. count_by (own_utility case side.Cold) us ≡ 1) refl refl) of
 
 -- The spans of a side against its streams: between neighbouring cuts no stream begins or ends, and the flow of the side is that of the streams that run.
 
 -- ---- cuts next to each other
 
--- no cut lies between two neighbouring ones
-pub none_between : (cuts : List ℤ) → AllPairs (λ a b. b <ℤ a) cuts → (at : ℕ) → 0 < at → at < length cuts → (x : ℤ) → Contains cuts x
-    → IsOutside (get_or cuts at (pos 0)) (get_or cuts (at - 1) (pos 0)) x
-none_between cuts falls at later within x (k, inside, is) =
-    let here : get_or cuts k (pos 0) ≡ x = get_or_default cuts k (pos 0) x inside ∙ is in
-    ⊎_elim (λ before. let order = fall k (at - 1) (omega (arith, before)) (omega (arith, within)) in inr (omega (arith, ints, order, here)))
-    (λ from. let order = fall at k from inside in inl (omega (arith, ints, order, here))) (cases_lt k at)
-  where
-    fall : (i j : ℕ) → i ≤ j → j < length cuts → get_or cuts j (pos 0) ≤ℤ get_or cuts i (pos 0)
-    fall i j le end =
-        ⊎_elim (λ less. let order = falls i j (pos 0) less end in omega (arith, ints, order))
-        (λ most. let same : i ≡ j = omega (arith, le, most) in let item = ap (λ n. get_or cuts n (pos 0)) same in omega (arith, ints, item)) (cases_lt i j)
+module _ (cuts : List ℤ) (falls : AllPairs (λ a b. b <ℤ a) cuts) where
+  later_below : (i j : ℕ) → i ≤ j → j < length cuts → get_or cuts j (pos 0) ≤ℤ get_or cuts i (pos 0)
+  later_below i j le end =
+      ⊎_elim (λ less. let order = falls i j (pos 0) less end in omega (arith, ints, order))
+      (λ most. let same : i ≡ j = omega (arith, le, most) in let item = ap (λ n. get_or cuts n (pos 0)) same in omega (arith, ints, item)) (cases_lt i j)
+
+  -- each lies from the last to the first one
+  pub cut_upto_first : (x : ℤ) → Contains cuts x → x ≤ℤ upper_cut cuts 0
+  cut_upto_first x (k, inside, is) =
+      let here : get_or cuts k (pos 0) ≡ x = get_or_default cuts k (pos 0) x inside ∙ is in omega (arith, ints, here, later_below 0 k (omega arith) inside)
+
+  pub cut_from_last : (x : ℤ) → Contains cuts x → upper_cut cuts (length cuts - 1) ≤ℤ x
+  cut_from_last x (k, inside, is) =
+      let here : get_or cuts k (pos 0) ≡ x = get_or_default cuts k (pos 0) x inside ∙ is in
+      omega (arith, ints, here, later_below k (length cuts - 1) (omega (arith, inside)) (omega (arith, inside)))
+
+  -- and none between two neighbouring ones
+  pub none_between : (number : ℕ) → number < length cuts - 1 → (x : ℤ) → Contains cuts x → IsOutside (lower_cut cuts number) (upper_cut cuts number) x
+  none_between number within x (k, inside, is) =
+      let here : get_or cuts k (pos 0) ≡ x = get_or_default cuts k (pos 0) x inside ∙ is in
+      ⊎_elim (λ past. let order = later_below (number + 1) k (omega (arith, past)) inside in inl (omega (arith, ints, order, here)))
+      (λ upto. let order = later_below k number upto (omega (arith, within)) in inr (omega (arith, ints, order, here))) (cases_lt number k)
 
 -- ---- what a span reaches over
 
@@ -349,14 +355,14 @@ reaches from to low high is = let both = and_parts (int_le from low) (int_le hig
 
 module _ (case : Case) (low high : ℤ) (of : Side) where
   -- whether the utility reaches over the gap, and the flow of all utilities of the side
-  abbrev pub utility_across : Bool
+  abbrev utility_across : Bool
   utility_across = int_le (utility_from of case.streams) low && int_le high (utility_to of case.streams)
 
-  abbrev pub utilities_flow : Bool → ℤ
+  abbrev utilities_flow : Bool → ℤ
   utilities_flow across = int_sum_by (λ (u : Utility). if same_side u.side of then (if across then pos 1 else pos 0) else pos 0) case.utilities
 
   -- the flow of a side is that of its streams that run, and that of its utilities
-  pub side_flow-parts : (are : AreSensibleStreams case.streams)
+  side_flow-parts : (are : AreSensibleStreams case.streams)
       → side_flow low high (spans_of of case) ≡ flow_running of case.streams are low high +ℤ utilities_flow utility_across
   side_flow-parts are =
       let flow = flow_in low high in
@@ -365,180 +371,164 @@ module _ (case : Case) (low high : ℤ) (of : Side) where
       ∙ ap₂ ◌+ℤ◌ (kept_sum (own_stream case of) (stream_item case of) flow (running_flow of case.streams are low high) (λ k s. refl) 0 case.streams)
       (kept_sum (own_utility case of) (utility_item case of) flow (λ u. if utility_across then pos 1 else pos 0) (λ k u. refl) 0 case.utilities)
 
--- ---- the cuts of a case
+-- ---- the axis of a case
 
--- the cuts of the axis of a case
-abbrev pub AreCaseCuts : Case → List ℤ → Type 0
-AreCaseCuts case cuts = AreCuts (spans_of side.Hot case) (spans_of side.Cold case) cuts
-
-module _ (case : Case) (cuts : List ℤ) (are_cuts : AreCaseCuts case cuts) where
-  -- each span begins and ends at a cut
-  pub span_cuts : (of : Side) (a : Span) → HasSpan (spans_of of case) a → Contains cuts a.from × Contains cuts a.to
-  span_cuts of a (k, there) =
-      let ends : Span → List ℤ = λ b. b.from ∷ b.to ∷ [] in
-      let member = Contains-slice_get (spans_of of case) k a there in
-      let cut = λ (x : ℤ) (own : Contains (ends a) x). is_cut of x (Contains-flat_map ends (spans_of of case) a x member own) in
-      (cut a.from (0, omega arith, refl), cut a.to (1, omega arith, refl))
-    where
-      is_cut : (d : Side) (x : ℤ) → Contains (ends_of (spans_of d case)) x → Contains cuts x
-      is_cut side.Hot x own = are_cuts.every x (Contains-append_left (ends_of (spans_of side.Hot case)) (ends_of (spans_of side.Cold case)) x own)
-      is_cut side.Cold x own = are_cuts.every x (Contains-append_right (ends_of (spans_of side.Hot case)) (ends_of (spans_of side.Cold case)) x own)
-
-  -- so the ends of each stream are cuts
-  pub ends_are_cuts : (of : Side) → All (λ s. same_side s.side of ≡ true
-      → Contains cuts (heat_at of case.streams (low_end s)) × Contains cuts (heat_at of case.streams (high_end s))) case.streams
-  ends_are_cuts of k o inside own =
-      let s = get_or case.streams k o in
-      span_cuts of (span_of of case.streams k s) (stream_place case of k s (slice_get-get_or case.streams k o inside) (same_side-true s.side of own))
-
-  -- ---- between neighbouring cuts
-
-  module _ (at : ℕ) (later : 0 < at) (within : at < length cuts) (are : AreSensibleStreams case.streams) where
-    abbrev pub low_cut : ℤ
-    low_cut = get_or cuts at (pos 0)
-
-    abbrev pub high_cut : ℤ
-    high_cut = get_or cuts (at - 1) (pos 0)
-
-    pub cut_below : low_cut <ℤ high_cut
-    cut_below = are_cuts.ordered (at - 1) at (pos 0) (omega (arith, later)) within
-
-    -- no stream begins or ends between them
-    pub no_end_between : (of : Side) → All (λ s. same_side s.side of ≡ true → HasNoEnd of case.streams are low_cut high_cut s) case.streams
-    no_end_between of k o inside own =
-        let ends = ends_are_cuts of k o inside own in
-        let outside = none_between cuts are_cuts.ordered at later within in
-        record { low_outside = outside _ ends.0; high_outside = outside _ ends.1 }
-
-    -- where the curve of a side lies, its flow is that of its streams that run
-    pub side_flow-curve : (of : Side) → begin_of of case.streams ≤ℤ low_cut → high_cut ≤ℤ end_of of case.streams
-        → side_flow low_cut high_cut (spans_of of case) ≡ flow_running of case.streams are low_cut high_cut
-    side_flow-curve of begins ends =
-        let across = utility_across case low_cut high_cut of in
-        let rests = false_from_ne_true across (λ holds. let both = reaches (utility_from of case.streams) (utility_to of case.streams) low_cut high_cut holds in
-        curve_or_utility of case.streams low_cut high_cut cut_below begins ends both.0 both.1) in
-        let nothing = int_sum_by-zero (λ (u : Utility). if same_side u.side of then pos 0 else pos 0) case.utilities
-        (λ k o inside. if_zero (same_side (get_or case.utilities k o).side of) (pos 0) refl) in
-        side_flow-parts case low_cut high_cut of are
-        ∙ alone (flow_running of case.streams are low_cut high_cut) (ap (utilities_flow case low_cut high_cut of) rests ∙ nothing)
-      where
-        alone : (x : ℤ) {y : ℤ} → y ≡ pos 0 → x +ℤ y ≡ x
-        alone x none = omega (arith, ints)
-
--- Between two neighbouring cuts of the heat axis both sides have a flow: streams run there, or the utility of the side does, and then it runs alone.
-
--- each side of a standard case has its utility, and no other one
-abbrev HasUtility : Case → List Utility → Side → Type 0
-HasUtility case us of = (number : ℕ) × (slice_get us number ≡ Some (standard_utility of case))
-
-some_utility : (case : Case) → IsStandard case → (of : Side) → HasUtility case case.utilities of
-some_utility case standard =
-    each_side (HasUtility case case.utilities) (standard_hold case standard (λ us. HasUtility case us side.Hot) (0, refl) (1, refl))
-    (standard_hold case standard (λ us. HasUtility case us side.Cold) (1, refl) (0, refl))
-
-standard-side : (of : Side) (case : Case) → (standard_utility of case).side ≡ of
-standard-side side.Hot case = refl
-standard-side side.Cold case = refl
+-- the heat axis of a standard case without latent streams, and its cuts
+pub record Axis : Type 0 where
+  pub case : Case
+  pub cuts : List ℤ
+  pub complete : IsSensibleCase case
+  pub standard : IsStandard case
+  pub are_cuts : AreCuts (spans_of side.Hot case) (spans_of side.Cold case) cuts
 
 abbrev total_on : Side → ℤ → List Utility → ℤ
 total_on of x us = int_sum_by (λ (u : Utility). if same_side u.side of then x else pos 0) us
 
-one_utility : (case : Case) → IsStandard case → (low high : ℤ) (of : Side) (across : Bool)
-    → utilities_flow case low high of across ≡ (if across then pos 1 else pos 0)
-one_utility case standard low high of across = by of (if across then pos 1 else pos 0)
-  where
-    by : (d : Side) (x : ℤ) → total_on d x case.utilities ≡ x
-    by side.Hot x = standard_hold case standard (λ us. total_on side.Hot x us ≡ x) (omega (arith, ints)) (omega (arith, ints))
-    by side.Cold x = standard_hold case standard (λ us. total_on side.Cold x us ≡ x) (omega (arith, ints)) (omega (arith, ints))
+module _ (axis : Axis) where
+  abbrev pub streams_are : AreSensibleStreams axis.case.streams
+  streams_are = AreSensibleStreams-case axis.case axis.complete
 
-module _ (case : Case) (cuts : List ℤ) (are_cuts : AreCaseCuts case cuts) (are : AreSensibleStreams case.streams) where
-  -- ---- the cuts
+  pub spans_are : (of : Side) → AreSpans (spans_of of axis.case)
+  spans_are of = AreSpans-spans_of of axis.case axis.complete axis.standard
 
-  span_ends : (of : Side) → All (λ a. IsOnAxis case.streams a.from × IsOnAxis case.streams a.to) (spans_of of case)
-  span_ends of = All-weaker (IsSourceSpan case of) (λ a. IsOnAxis case.streams a.from × IsOnAxis case.streams a.to) by (spans_of of case) (span_sources case of)
+  -- the cuts of an interval, and the flow of a side there
+  abbrev pub low_at : ℕ → ℤ
+  low_at number = lower_cut axis.cuts number
+
+  abbrev pub high_at : ℕ → ℤ
+  high_at number = upper_cut axis.cuts number
+
+  abbrev pub flow_at : Side → ℕ → ℤ
+  flow_at of number = side_flow (low_at number) (high_at number) (spans_of of axis.case)
+
+  -- each span begins and ends at a cut
+  span_cuts : (of : Side) (a : Span) → HasSpan (spans_of of axis.case) a → Contains axis.cuts a.from × Contains axis.cuts a.to
+  span_cuts of a (k, there) =
+      let ends : Span → List ℤ = λ b. b.from ∷ b.to ∷ [] in
+      let member = Contains-slice_get (spans_of of axis.case) k a there in
+      let cut = λ (x : ℤ) (own : Contains (ends a) x). is_cut of x (Contains-flat_map ends (spans_of of axis.case) a x member own) in
+      (cut a.from (0, omega arith, refl), cut a.to (1, omega arith, refl))
     where
-      by : (a : Span) → IsSourceSpan case of a → IsOnAxis case.streams a.from × IsOnAxis case.streams a.to
-      by a (inl (n, s, own)) = rw own.is (curve_on_axis of case.streams (low_end s) are, curve_on_axis of case.streams (high_end s) are)
-      by a (inr (n, u, own)) = rw own.is (utility_on_axis of case.streams (is_axis case.streams are))
+      is_cut : (d : Side) (x : ℤ) → Contains (ends_of (spans_of d axis.case)) x → Contains axis.cuts x
+      is_cut side.Hot x own =
+          axis.are_cuts.every x (Contains-append_left (ends_of (spans_of side.Hot axis.case)) (ends_of (spans_of side.Cold axis.case)) x own)
+      is_cut side.Cold x own =
+          axis.are_cuts.every x (Contains-append_right (ends_of (spans_of side.Hot axis.case)) (ends_of (spans_of side.Cold axis.case)) x own)
 
-  cuts_on_axis : All (IsOnAxis case.streams) cuts
-  cuts_on_axis = cuts_hold (spans_of side.Hot case) (spans_of side.Cold case) cuts are_cuts (IsOnAxis case.streams) (span_ends side.Hot) (span_ends side.Cold)
+  -- so the ends of each stream are cuts, and those of the utility of a side
+  pub ends_are_cuts : (of : Side) → All (λ s. same_side s.side of ≡ true
+      → Contains axis.cuts (heat_at of axis.case.streams (low_end s)) × Contains axis.cuts (heat_at of axis.case.streams (high_end s))) axis.case.streams
+  ends_are_cuts of k o inside own =
+      let s = get_or axis.case.streams k o in
+      span_cuts of (span_of of axis.case.streams k s)
+      (stream_place axis.case of k s (slice_get-get_or axis.case.streams k o inside) (same_side-true s.side of own))
 
-  -- a utility begins and ends at a cut
-  pub utility_cuts : IsStandard case → (of : Side) → Contains cuts (utility_from of case.streams) × Contains cuts (utility_to of case.streams)
-  utility_cuts standard of =
-      let (number, here) = some_utility case standard of in
-      let place = utility_place case of number (standard_utility of case) here (standard-side of case) in
-      span_cuts case cuts are_cuts of (utility_span_of of case.streams number) place
+  pub utility_cuts : (of : Side) → Contains axis.cuts (utility_from of axis.case.streams) × Contains axis.cuts (utility_to of axis.case.streams)
+  utility_cuts of =
+      let (number, here) = some_utility axis.case axis.standard of in
+      span_cuts of (utility_span_of of axis.case.streams number)
+      (utility_place axis.case of number (standard_utility of axis.case) here (standard_side of axis.case))
+
+  -- all cuts lie on the axis
+  cuts_on_axis : All (IsOnAxis axis.case.streams) axis.cuts
+  cuts_on_axis =
+      cuts_hold (spans_of side.Hot axis.case) (spans_of side.Cold axis.case) axis.cuts axis.are_cuts (IsOnAxis axis.case.streams) (ends side.Hot) (ends side.Cold)
+    where
+      by : (of : Side) (a : Span) → IsSourceSpan axis.case of a → IsOnAxis axis.case.streams a.from × IsOnAxis axis.case.streams a.to
+      by of a (inl (n, s, own)) =
+          rw own.is (curve_on_axis of axis.case.streams (low_end s) streams_are, curve_on_axis of axis.case.streams (high_end s) streams_are)
+      by of a (inr (n, u, own)) = rw own.is (utility_on_axis of axis.case.streams (is_axis axis.case.streams streams_are))
+
+      ends : (of : Side) → All (λ a. IsOnAxis axis.case.streams a.from × IsOnAxis axis.case.streams a.to) (spans_of of axis.case)
+      ends of = All-weaker (IsSourceSpan axis.case of) (λ a. IsOnAxis axis.case.streams a.from × IsOnAxis axis.case.streams a.to) (by of) (spans_of of axis.case)
+          (span_sources axis.case of)
 
   -- ---- flows
 
-  module _ (low high : ℤ) (gap : low <ℤ high) (of : Side) where
-    -- where the utility lies no stream of its side runs, so the flow of the side is that of the utility
-    pub utility_alone : utility_from of case.streams ≤ℤ low → high ≤ℤ utility_to of case.streams → IsStandard case
-        → side_flow low high (spans_of of case) ≡ pos 1
-    utility_alone from upto standard =
-        let across = utility_across case low high of in
-        let is : across ≡ true = ap₂ ◌&&◌ (int_le-from (utility_from of case.streams) low from) (int_le-from high (utility_to of case.streams) upto) in
-        let none = sum_side-zero of (running_flow of case.streams are low high) case.streams (λ k o within. rests (get_or case.streams k o) from upto) in
-        side_flow-parts case low high of are ∙ ap₂ ◌+ℤ◌ none (one_utility case standard low high of across ∙ ap (λ b. if b then pos 1 else pos 0) is)
-      where
-        rests : (s : Stream) → utility_from of case.streams ≤ℤ low → high ≤ℤ utility_to of case.streams → running_flow of case.streams are low high s ≡ pos 0
-        rests s from upto =
-            let begin = heat_at of case.streams (low_end s) in
-            let end = heat_at of case.streams (high_end s) in
-            ap (λ b. if b then s.cp else pos 0) (false_from_ne_true (int_le begin low && int_le high end) (λ holds.
-            let both = reaches begin end low high holds in
-            let first = on_curve of case.streams are (low_end s) in
-            let last = on_curve of case.streams are (high_end s) in
-            curve_or_utility of case.streams low high gap (omega (arith, ints, first.from, both.0)) (omega (arith, ints, last.upto, both.1)) from upto))
+  one_utility : (low high : ℤ) (of : Side) (across : Bool) → utilities_flow axis.case low high of across ≡ (if across then pos 1 else pos 0)
+  one_utility low high of across = by of (if across then pos 1 else pos 0)
+    where
+      by : (d : Side) (x : ℤ) → total_on d x axis.case.utilities ≡ x
+      by side.Hot x = in_order axis.case axis.standard (λ us. total_on side.Hot x us ≡ x) (omega (arith, ints)) (omega (arith, ints))
+      by side.Cold x = in_order axis.case axis.standard (λ us. total_on side.Cold x us ≡ x) (omega (arith, ints)) (omega (arith, ints))
 
   -- between neighbouring cuts streams run, or the utility does
-  module _ (standard : IsStandard case) (at : ℕ) (later : 0 < at) (within : at < length cuts) where
-    abbrev low_here : ℤ
-    low_here = get_or cuts at (pos 0)
+  module _ (number : ℕ) (within : number < length axis.cuts - 1) where
+    abbrev low : ℤ
+    low = low_at number
 
-    abbrev high_here : ℤ
-    high_here = get_or cuts (at - 1) (pos 0)
+    abbrev high : ℤ
+    high = high_at number
 
-    gap_here : low_here <ℤ high_here
-    gap_here = cut_below case cuts are_cuts at later within are
+    pub cut_below : low_at number <ℤ high_at number
+    cut_below = axis.are_cuts.ordered number (number + 1) (pos 0) (omega arith) (omega (arith, within))
 
-    streams_flow : (of : Side) → begin_of of case.streams ≤ℤ low_here → high_here ≤ℤ end_of of case.streams
-        → pos 0 <ℤ side_flow low_here high_here (spans_of of case)
-    streams_flow of from upto =
-        let (begin, end, is) = gap_segment of case.streams are low_here high_here gap_here from upto in
-        let above = flow_positive of case.streams are low_here high_here gap_here begin end is (no_end_between case cuts are_cuts at later within are of) in
-        subst (λ f. pos 0 <ℤ f) (sym (side_flow-curve case cuts are_cuts at later within are of from upto)) above
+    -- no stream begins or ends between them
+    pub no_end_between : (of : Side) → All (λ s. same_side s.side of ≡ true → HasNoEnd of axis.case.streams streams_are low high s) axis.case.streams
+    no_end_between of k o inside own =
+        let ends = ends_are_cuts of k o inside own in
+        let outside = none_between axis.cuts axis.are_cuts.ordered number within in
+        record { low_outside = outside _ ends.0; high_outside = outside _ ends.1 }
 
-    utility_flow : (of : Side) → utility_from of case.streams ≤ℤ low_here → high_here ≤ℤ utility_to of case.streams
-        → pos 0 <ℤ side_flow low_here high_here (spans_of of case)
-    utility_flow of from upto = let alone = utility_alone low_here high_here gap_here of from upto standard in omega (arith, ints, alone)
-
-    -- neither end of a utility lies between them
-    pub utility_outside : (of : Side) → IsOutside low_here high_here (utility_from of case.streams) × IsOutside low_here high_here (utility_to of case.streams)
+    -- nor does a utility
+    pub utility_outside : (of : Side) → IsOutside low high (utility_from of axis.case.streams) × IsOutside low high (utility_to of axis.case.streams)
     utility_outside of =
-        let ends = utility_cuts standard of in
-        let outside = none_between cuts are_cuts.ordered at later within in
-        (outside (utility_from of case.streams) ends.0, outside (utility_to of case.streams) ends.1)
+        let ends = utility_cuts of in
+        let outside = none_between axis.cuts axis.are_cuts.ordered number within in
+        (outside (utility_from of axis.case.streams) ends.0, outside (utility_to of axis.case.streams) ends.1)
 
-    pub flow_above : (of : Side) → pos 0 <ℤ side_flow low_here high_here (spans_of of case)
-    flow_above of = by of (utility_outside of)
+    -- where the curve of a side lies, its flow is that of its streams that run
+    pub side_flow-curve : (of : Side) → begin_of of axis.case.streams ≤ℤ low → high ≤ℤ end_of of axis.case.streams
+        → flow_at of number ≡ flow_running of axis.case.streams streams_are low high
+    side_flow-curve of begins ends =
+        let across = utility_across axis.case low high of in
+        let rests = false_from_ne_true across (λ holds.
+        let both = reaches (utility_from of axis.case.streams) (utility_to of axis.case.streams) low high holds in
+        curve_or_utility of axis.case.streams low high cut_below begins ends both.0 both.1) in
+        side_flow-parts axis.case low high of streams_are
+        ∙ alone (flow_running of axis.case.streams streams_are low high) (one_utility low high of across ∙ ap (λ b. if b then pos 1 else pos 0) rests)
       where
-        low_on : IsOnAxis case.streams low_here
-        low_on = cuts_on_axis at (pos 0) within
+        alone : (x : ℤ) {y : ℤ} → y ≡ pos 0 → x +ℤ y ≡ x
+        alone x none = omega (arith, ints)
 
-        high_on : IsOnAxis case.streams high_here
-        high_on = cuts_on_axis (at - 1) (pos 0) (omega (arith, later, within))
+    -- where the utility lies no stream of its side runs, so the flow of the side is that of the utility
+    pub utility_alone : (of : Side) → utility_from of axis.case.streams ≤ℤ low → high ≤ℤ utility_to of axis.case.streams → flow_at of number ≡ pos 1
+    utility_alone of from upto =
+        let across = utility_across axis.case low high of in
+        let is : across ≡ true = ap₂ ◌&&◌ (int_le-from (utility_from of axis.case.streams) low from) (int_le-from high (utility_to of axis.case.streams) upto) in
+        let none = sum_side-zero of (running_flow of axis.case.streams streams_are low high) axis.case.streams
+        (λ k o inside. rests (get_or axis.case.streams k o)) in
+        side_flow-parts axis.case low high of streams_are ∙ ap₂ ◌+ℤ◌ none (one_utility low high of across ∙ ap (λ b. if b then pos 1 else pos 0) is)
+      where
+        rests : (s : Stream) → running_flow of axis.case.streams streams_are low high s ≡ pos 0
+        rests s =
+            let begin = heat_at of axis.case.streams (low_end s) in
+            let end = heat_at of axis.case.streams (high_end s) in
+            ap (λ b. if b then s.cp else pos 0) (false_from_ne_true (int_le begin low && int_le high end) (λ holds.
+            let both = reaches begin end low high holds in
+            let first = on_curve of axis.case.streams streams_are (low_end s) in
+            let last = on_curve of axis.case.streams streams_are (high_end s) in
+            curve_or_utility of axis.case.streams low high cut_below (omega (arith, ints, first.from, both.0)) (omega (arith, ints, last.upto, both.1)) from upto))
 
-        by : (d : Side) → IsOutside low_here high_here (utility_from d case.streams) × IsOutside low_here high_here (utility_to d case.streams)
-            → pos 0 <ℤ side_flow low_here high_here (spans_of d case)
-        by side.Hot outside =
-            ⊎_elim (λ under. utility_flow side.Hot under high_on.upto) (λ beyond. streams_flow side.Hot low_on.from (omega (arith, ints, beyond))) outside.0
-        by side.Cold outside =
-            let end = (is_axis case.streams are).cold_end in
-            ⊎_elim (λ under. streams_flow side.Cold under (omega (arith, ints, high_on.upto, end)))
-            (λ beyond. utility_flow side.Cold low_on.from beyond) outside.1
+    streams_flow : (of : Side) → begin_of of axis.case.streams ≤ℤ low → high ≤ℤ end_of of axis.case.streams → pos 0 <ℤ flow_at of number
+    streams_flow of from upto =
+        let (begin, end, is) = gap_segment of axis.case.streams streams_are low high cut_below from upto in
+        subst (λ f. pos 0 <ℤ f) (sym (side_flow-curve of from upto))
+        (flow_positive of axis.case.streams streams_are low high cut_below begin end is (no_end_between of))
+
+    utility_flow : (of : Side) → utility_from of axis.case.streams ≤ℤ low → high ≤ℤ utility_to of axis.case.streams → pos 0 <ℤ flow_at of number
+    utility_flow of from upto = let alone = utility_alone of from upto in omega (arith, ints, alone)
+
+    pub flow_above : (of : Side) → pos 0 <ℤ flow_at of number
+    flow_above of = by of (utility_outside of) (cuts_on_axis (number + 1) (pos 0) (omega (arith, within))) (cuts_on_axis number (pos 0) (omega (arith, within)))
+      where
+        by : (d : Side) → IsOutside low high (utility_from d axis.case.streams) × IsOutside low high (utility_to d axis.case.streams)
+            → IsOnAxis axis.case.streams low → IsOnAxis axis.case.streams high → pos 0 <ℤ flow_at d number
+        by side.Hot outside least most =
+            ⊎_elim (λ under. utility_flow side.Hot under most.upto) (λ beyond. streams_flow side.Hot least.from (omega (arith, ints, beyond))) outside.0
+        by side.Cold outside least most =
+            let end = (is_axis axis.case.streams streams_are).cold_end in
+            ⊎_elim (λ under. streams_flow side.Cold under (omega (arith, ints, most.upto, end))) (λ beyond. utility_flow side.Cold least.from beyond) outside.1
 
 -- Spans, source by source.
 

@@ -16,10 +16,11 @@ use Rattle.std.proofs.Common.{slice_get, subst, subst₂, suc, sym, true, zero, 
 use Rattle.vertical_design.proofs.CurveLemmas.{HasNoEnd, heat_rises, one_place}
 use Rattle.vertical_design.proofs.Exchanges.{IsMatch, RunsSpan, are_matches, exchange_there, exchanges, heat_match, over_at, own_number, own_span, pair_runs}
 use Rattle.vertical_design.proofs.Exchanges.{piece_index, piece_of, size_match, size_piece, stream_runs}
-use Rattle.vertical_design.proofs.Intervals.{Axis, RunsIn, actual-first, actual-last, actual_at, curve_heat-whole, entered_at, flow_at, high_at, interval}
-use Rattle.vertical_design.proofs.Intervals.{left_at, low_at, other, piece_in, pieces, pieces_at, scale_at, scale_is, spans_are, state_at, streams_are}
+use Rattle.vertical_design.proofs.Intervals.{RunsIn, actual-first, actual-last, actual_at, curve_heat-whole, entered_at, left_at, other, piece_in, pieces}
+use Rattle.vertical_design.proofs.Intervals.{pieces_at, scale_at, scale_is, state_at}
 use Rattle.vertical_design.proofs.OverlapLists.{filter_map-rows, index_on, no_items, numbered-rows, only_item, side-within}
-use Rattle.vertical_design.proofs.SpanSources.{IsSourceSpan, ends_are_cuts, own_place, sources_differ, span_of, span_sources, stream_place}
+use Rattle.vertical_design.proofs.SpanSources.{Axis, IsSourceSpan, cut_below, cut_from_last, cut_upto_first, ends_are_cuts, flow_above, flow_at, high_at}
+use Rattle.vertical_design.proofs.SpanSources.{low_at, no_end_between, own_place, sources_differ, span_of, span_sources, spans_are, stream_place, streams_are}
 use Rattle.design_lines.specs.Ways.{on_the_way}
 use Rattle.stream_case.specs.declared.source.Side.TheVariants as side
 use Rattle.stream_case.specs.declared.source.Source.TheVariants as source
@@ -145,23 +146,6 @@ mapped_item f [] i y at = cc at
 mapped_item f (x ∷ xs) zero y at = (x, refl, same_Some (f x) y at)
 mapped_item f (x ∷ xs) (suc i) y at = mapped_item f xs i y at
 
--- ---- cuts
-
-cut_upto_first : (cuts : List ℤ) → AllPairs (λ a b. b <ℤ a) cuts → (x : ℤ) → Contains cuts x → x ≤ℤ get_or cuts 0 (pos 0)
-cut_upto_first cuts falls x (zero, inside, is) = let same = sym (get_or_default cuts 0 (pos 0) x inside ∙ is) in omega (arith, ints, same)
-cut_upto_first cuts falls x (suc k, inside, is) =
-    let here : get_or cuts (suc k) (pos 0) ≡ x = get_or_default cuts (suc k) (pos 0) x inside ∙ is in
-    let order = falls 0 (suc k) (pos 0) (omega arith) inside in
-    omega (arith, ints, here, order)
-
-cut_from_last : (cuts : List ℤ) → AllPairs (λ a b. b <ℤ a) cuts → (x : ℤ) → Contains cuts x → upper_cut cuts (length cuts - 1) ≤ℤ x
-cut_from_last cuts falls x (k, inside, is) =
-    let here : get_or cuts k (pos 0) ≡ x = get_or_default cuts k (pos 0) x inside ∙ is in
-    ⊎_elim
-    (λ before. let order = falls k (length cuts - 1) (pos 0) before (omega (arith, inside)) in omega (arith, ints, here, order))
-    (λ upto. let same : length cuts - 1 ≡ k = omega (arith, upto, inside) in let item = ap (λ n. get_or cuts n (pos 0)) same in omega (arith, ints, item, here))
-    (cases_lt k (length cuts - 1))
-
 -- ---- the way of a stream
 
 some_share : (shares : List Share) (n : ℤ) → pos 0 <ℤ n → size_of shares ≡ whole n → 0 < length shares
@@ -258,7 +242,7 @@ module _ (axis : Axis) where
           let scale = scale_is axis s.side number within s runs in
           let over = scale.over q in
           let range = scale.range q from upto s runs in
-          let some = (interval axis number within).flow s.side in
+          let some = flow_above axis number within s.side in
           let contribution : contribution_of axis.case is.span.source ≡ s.contribution = ap (contribution_of axis.case) own
           ∙ ap (λ o. option_map_or (λ (r : Stream). r.contribution) o (pos 0)) here in
           subst (λ c. IsSized (unsigned_abs (flow_at axis s.side number)) highest (actual_at s.side (scale_at axis s.side number q) c)) (sym contribution)
@@ -269,9 +253,9 @@ module _ (axis : Axis) where
       fine : IsFine s.side (exchanges axis) index stream_piece s
       unfolding shares_of
       fine =
-          let gap = (interval axis number within).gap.falls in
-          let above = (interval axis number within).flow (other s.side) in
-          let some = (interval axis number within).flow s.side in
+          let gap = cut_below axis number within in
+          let above = flow_above axis number within (other s.side) in
+          let some = flow_above axis number within s.side in
           let cp_most = valid.sensible.cp.upto in
           let states = either_cut (λ q. IsSized (unsigned_abs (flow_at axis s.side number)) highest (state_at axis s.side number q is.span)) s.side number
           (state_sized low (omega (arith, ints)) (omega (arith, ints, gap))) (state_sized high (omega (arith, ints, gap)) (omega (arith, ints))) in
@@ -479,7 +463,7 @@ module _ (axis : Axis) where
     outside : (n : ℕ) → n < length axis.cuts - 1 → HasNoEnd s.side axis.case.streams (streams_are axis) (low_at axis n) (high_at axis n) s
     outside n within =
         let P : Stream → Type 0 = λ r. same_side r.side s.side ≡ true → HasNoEnd s.side axis.case.streams (streams_are axis) (low_at axis n) (high_at axis n) r in
-        All-contains P axis.case.streams s ((interval axis n within).no_end s.side) member (own_side s.side)
+        All-contains P axis.case.streams s (no_end_between axis n within s.side) member (own_side s.side)
 
     -- the rest of the way, from the lower cut of an interval
     abbrev Falls : Rational → List LedStage → Type 0
@@ -496,7 +480,7 @@ module _ (axis : Axis) where
     goes_through n within t rest runs place on =
         let low = low_at axis n in
         let high = high_at axis n in
-        let gap = (interval axis n within).gap.falls in
+        let gap = cut_below axis n within in
         let scale = scale_at axis s.side n in
         let is = scale_is axis s.side n within s runs in
         let least : low ≤ℤ low = omega (arith, ints) in
@@ -516,7 +500,7 @@ module _ (axis : Axis) where
     next_interval : (n : ℕ) → n < length axis.cuts - 1 → (t : Rational) (heat : ℤ) (rest : List LedStage) → IsNearest (high_at axis n) heat → IsPlaceOf t heat
         → GoesOn n rest → Falls t (stages_at n ++ rest)
     next_interval n within t heat rest near place on =
-        let gap = (interval axis n within).gap.falls in
+        let gap = cut_below axis n within in
         let from = near.from in
         let upto = near.upto in
         ⊎_elim

@@ -4,16 +4,11 @@ use Rattle.vertical_design.proofs.OverlapLists.{few_cuts, gap_at, rows_more}
 use Rattle.vertical_design.proofs.interval.exchanges_between.Goals.{In-loop-number}
 use Rattle.vertical_design.proofs.interval.exchanges_between.Goals as goal
 
-few : (c : In-loop-number) → c.loop-number.number + 1 < length c.args.cuts.now
+few : (c : In-loop-number) → c.loop-number.number < length c.args.cuts.now - 1
 few c = let within = c.loop-number-test.true in let count = c.count_of-number-end.ensures in omega (arith, within, count)
 
 gap : (c : In-loop-number) → IsGap (get_or c.args.cuts.now (c.loop-number.number + 1) (pos 0)) (get_or c.args.cuts.now c.loop-number.number (pos 0))
-gap c =
-    let n = c.loop-number.number in
-    let cuts = c.args.cuts.now in
-    let same : n + 1 - 1 ≡ n = omega arith in
-    subst (λ k. IsGap (get_or cuts (n + 1) (pos 0)) (get_or cuts k (pos 0))) same
-    (gap_at c.args.hot.now c.args.cold.now cuts c.requires.hot c.requires.cold c.requires.cuts (n + 1) (omega arith) (few c))
+gap c = gap_at c.args.hot.now c.args.cold.now c.args.cuts.now c.requires.hot c.requires.cold c.requires.cuts c.loop-number.number (few c)
 
 -- a place of the axis is a number of 64 bits
 held : (low high : ℤ) → IsGap low high → (to_z w64 (of_z w64 low) ≡ low) × (to_z w64 (of_z w64 high) ≡ high)

@@ -1,7 +1,7 @@
 use Rattle.vertical_design.proofs.Words.{IsSensibleCase-both}
 use Rattle.std.proofs.Common.{arith, sym, ◌∙◌}
-use Rattle.vertical_design.proofs.Intervals.{Axis}
 use Rattle.vertical_design.proofs.NetworkLemmas.{CanBeLed, IsLed, can_be_led, moved, vertical_network}
+use Rattle.vertical_design.proofs.SpanSources.{Axis}
 use Rattle.vertical_design.proofs.network.vertical.Goals.{After-as_slice-3}
 use Rattle.vertical_design.proofs.network.vertical.Goals as goal
 
