@@ -1,18 +1,18 @@
 -- The heat of streams below a shifted temperature, and the curve of a side at whole temperatures.
-use Rattle.vertical_design.proofs.Words.{*ℤ-+ℤ, *ℤ--ℤ, *ℤ-<ℤ_right, *ℤ-zero, *ℤ-≤ℤ_left, *ℤ-≤ℤ_right, *ℤ_cancel_right, +ℤ-*ℤ, All-cons, All-contains, All-head}
-use Rattle.vertical_design.proofs.Words.{All-nil, All-tail, All-weaker, AreEnds-IsValidStream, AreSensibleStreams, Contains, Contains-get_or, HIGHEST_SHIFTED}
-use Rattle.vertical_design.proofs.Words.{IsAtMost, IsBelow, IsBetween, IsSensibleStream, IsStreamHeat, IsValidStream, LOWEST_SHIFTED, Rational, Side, Stream}
-use Rattle.vertical_design.proofs.Words.{at_most_below_trans, at_most_from_ratio, begin_of, below-ratio, below_at_most_trans, by_one, by_two, clamps}
-use Rattle.vertical_design.proofs.Words.{cold_target-within, curve_heat, distance_above, each_end, full_size-sensible, heat-between, heat_above, heat_at}
-use Rattle.vertical_design.proofs.Words.{heat_below, heat_of, heat_of-sensible, heat_over-between, heat_over-sensible, high_end, hot_target-bound}
-use Rattle.vertical_design.proofs.Words.{hot_target-within, int_le, int_le-false, int_le-from, int_le_cases, int_lt_cases, int_max, int_min, int_sum_by-equal}
-use Rattle.vertical_design.proofs.Words.{ints, length-AreStreams, length_above, length_below, low_end, minus, minus-ratio_same_den, order-sensible, own_side}
-use Rattle.vertical_design.proofs.Words.{plus, plus-ratio_same_den, pos_above, positive_from_ratio, positive_part, positive_part-cases, product_positive}
-use Rattle.vertical_design.proofs.Words.{range-length, range_below, ratio, ratio-multiple, ratio-one, ratio-zero, rational_sum_by-ratio, rational_sum_by-same}
-use Rattle.vertical_design.proofs.Words.{rational_zero, same_from_ratio, same_side, stream_ends, stream_heat, strictly, subst₂, sum_side, sum_side-heat}
-use Rattle.vertical_design.proofs.Words.{sum_side-le, sum_side-same, sum_side-zero, times, times-ratio, unsigned_abs, whole, ◌&&◌}
-use Rattle.std.proofs.Common.{All, Bool, List, [], ap, ap₂, arith, false, get_or, if◌then◌else◌, inl, inr, length, pos, refl, subst, suc, sym, true, zero, ℕ, ℤ}
-use Rattle.std.proofs.Common.{⊎_elim, ◌*ℤ◌, ◌*◌, ◌+ℤ◌, ◌-ℤ◌, ◌-◌, ◌<ℤ◌, ◌<◌, ◌∙◌, ◌∷◌, ◌≡◌, ◌≤ℤ◌, ◌⊎◌}
+use Rattle.vertical_design.proofs.Words.{*ℤ-+ℤ, *ℤ--ℤ, *ℤ-<ℤ_right, *ℤ-zero, *ℤ-≤ℤ_left, *ℤ-≤ℤ_right, *ℤ_cancel_right, +ℤ-*ℤ, All-contains, All-head, All-tail}
+use Rattle.vertical_design.proofs.Words.{All-weaker, AreEnds-IsValidStream, AreSensibleStreams, Contains, Contains-get_or, HIGHEST_SHIFTED, IsAtMost, IsBelow}
+use Rattle.vertical_design.proofs.Words.{IsBetween, IsSensibleStream, IsStreamHeat, IsValidStream, LOWEST_SHIFTED, Rational, Side, Stream, at_most_below_trans}
+use Rattle.vertical_design.proofs.Words.{at_most_from_ratio, begin_of, below-ratio, below_at_most_trans, by_one, by_two, clamps, cold_target-within, curve_heat}
+use Rattle.vertical_design.proofs.Words.{distance_above, each_end, full_size-sensible, heat-between, heat_above, heat_at, heat_below, heat_of, heat_of-sensible}
+use Rattle.vertical_design.proofs.Words.{heat_over-between, heat_over-sensible, high_end, hot_target-bound, hot_target-within, int_le, int_le-false}
+use Rattle.vertical_design.proofs.Words.{int_le-from, int_lt_cases, int_max, int_min, int_sum_by-equal, ints, length-AreStreams, length_above, length_below}
+use Rattle.vertical_design.proofs.Words.{low_end, minus, minus-ratio_same_den, order-sensible, own_side, plus, plus-ratio_same_den, pos_above}
+use Rattle.vertical_design.proofs.Words.{positive_from_ratio, positive_part, positive_part-cases, product_positive, range-length, range_below, ratio}
+use Rattle.vertical_design.proofs.Words.{ratio-multiple, ratio-one, ratio-zero, rational_sum_by-ratio, rational_sum_by-same, rational_zero, same_from_ratio}
+use Rattle.vertical_design.proofs.Words.{same_side, stream_ends, stream_heat, strictly, subst₂, sum_side, sum_side-heat, sum_side-le, sum_side-same}
+use Rattle.vertical_design.proofs.Words.{sum_side-zero, times, times-ratio, unsigned_abs, whole, ◌&&◌}
+use Rattle.std.proofs.Common.{All, Bool, List, [], ap, ap₂, arith, false, get_or, if◌then◌else◌, inl, inr, pos, refl, subst, suc, sym, true, zero, ℕ, ℤ, ⊎_elim}
+use Rattle.std.proofs.Common.{◌*ℤ◌, ◌*◌, ◌+ℤ◌, ◌-ℤ◌, ◌<ℤ◌, ◌<◌, ◌∙◌, ◌∷◌, ◌≡◌, ◌≤ℤ◌, ◌⊎◌}
 use Rattle.fractions.proofs.Comparisons.{at_most-ratio, at_most_antisymm, at_most_from_not_below, below_from_ratio, below_not_same}
 use Rattle.stream_case.specs.declared.source.Side.TheVariants as side
 

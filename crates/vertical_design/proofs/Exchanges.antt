@@ -9,8 +9,8 @@ use Rattle.vertical_design.proofs.Words.{shares_of, side_flow, side_of, size_of,
 use Rattle.vertical_design.proofs.Words.{unsigned_abs, unsigned_abs-mul, utility_from, utility_to, whole, within-ratio, zero_times, ◌&&◌, ◌*ℤ◌, ◌-ℤ◌}
 use Rattle.std.proofs.Common.{All, Bool, List, None, Some, [], ap, ap₂, arith, cond, false, get_or, if◌then◌else◌, inl, inr, length, option_map, pos, refl}
 use Rattle.std.proofs.Common.{slice_get, subst, subst₂, suc, sym, true, ℕ, ℤ, ⊎_elim, ◌*◌, ◌+◌, ◌-◌, ◌<ℤ◌, ◌<◌, ◌==◌, ◌^◌, ◌∙◌, ◌∷◌, ◌≡◌, ◌≢◌, ◌≤ℤ◌}
-use Rattle.vertical_design.proofs.Intervals.{Faces, IsWithinRange, RunsIn, on_scale-actual, other, piece_in, piece_there, pieces, scale_at, scale_at_utility}
-use Rattle.vertical_design.proofs.Intervals.{scale_is, scale_within, scales_face, shifted_state, size_is, state_at}
+use Rattle.vertical_design.proofs.Intervals.{Faces, IsWithinRange, RunsIn, found, on_scale-actual, other, piece_in, piece_there, pieces, scale_at}
+use Rattle.vertical_design.proofs.Intervals.{scale_at_utility, scale_is, scale_within, scales_face, shifted_state, size_is, state_at}
 use Rattle.vertical_design.proofs.OverlapLists.{IsShare, ListsOverlaps-pairs_of, duty-within, filter_map-map, filter_map-rows, index_on, none_kept, only_row}
 use Rattle.vertical_design.proofs.OverlapLists.{own_amount, own_amounts, own_share, same_place, share-within}
 use Rattle.vertical_design.proofs.SpanSources.{Axis, IsSourceSpan, cut_below, flow_above, flow_at, high_at, is_axis, low_at, reaches, span_of, span_sources}
@@ -52,18 +52,14 @@ module _ (number : ℕ) (low high : ℤ) (hot cold : List Span) where
 
   pub positive-match : (p : Pair) → IsGap low high → IsShare low high hot cold p → IsPositiveExchange (made p)
   positive-match p gap is =
-      let one = is.hot_flow in
-      let other = is.cold_flow in
-      let above = is.above in
-      let upto = is.upto in
-      let duty = duty-within low high p.amount (side_flow low high hot) (side_flow low high cold) gap above upto one other in
+      let duty = duty-within low high p.amount (side_flow low high hot) (side_flow low high cold) gap is.above is.upto is.hot_flow is.cold_flow in
       record {
         heat = fraction-positive ((high -ℤ low) *ℤ p.amount)
             (side_flow low high hot *ℤ side_flow low high cold) duty.num_above duty.num_upto duty.den_from duty.den_upto;
-        hot_size = fraction-positive p.amount (side_flow low high cold) above (omega (arith, ints, upto)) (omega (arith, ints, other.from))
-            (omega (arith, ints, other.upto));
-        cold_size = fraction-positive p.amount (side_flow low high hot) above (omega (arith, ints, upto)) (omega (arith, ints, one.from))
-            (omega (arith, ints, one.upto));
+        hot_size = fraction-positive p.amount (side_flow low high cold) is.above (omega (arith, ints, is.upto)) (omega (arith, ints, is.cold_flow.from))
+            (omega (arith, ints, is.cold_flow.upto));
+        cold_size = fraction-positive p.amount (side_flow low high hot) is.above (omega (arith, ints, is.upto)) (omega (arith, ints, is.hot_flow.from))
+            (omega (arith, ints, is.hot_flow.upto));
       }
 
 -- what offers something runs
@@ -175,16 +171,13 @@ module _ (axis : Axis) where
   pub heat_match : (of : Side) (number : ℕ) (p : Pair) → IsMetIn number p → times (size_on of (match_in number p)) (over_at of number)
       ≡ (match_in number p).heat
   heat_match side.Hot number p met =
-      let one = (share_in number p met).hot_flow.from in
-      let both = (share_in number p met).cold_flow.from in
-      share_heat p.amount (high_at axis number -ℤ low_at axis number) (flow_at axis side.Hot number) (flow_at axis side.Cold number) (omega (arith, ints, one))
-      (omega (arith, ints, both))
+      share_heat p.amount (high_at axis number -ℤ low_at axis number) (flow_at axis side.Hot number) (flow_at axis side.Cold number)
+      (omega (arith, ints, (share_in number p met).hot_flow.from)) (omega (arith, ints, (share_in number p met).cold_flow.from))
   heat_match side.Cold number p met =
-      let one = (share_in number p met).cold_flow.from in
-      let both = (share_in number p met).hot_flow.from in
-      let width = high_at axis number -ℤ low_at axis number in
-      share_heat p.amount width (flow_at axis side.Cold number) (flow_at axis side.Hot number) (omega (arith, ints, one)) (omega (arith, ints, both))
-      ∙ ap (λ z. ratio (width *ℤ p.amount) (unsigned_abs z)) (*ℤ_comm (flow_at axis side.Cold number) (flow_at axis side.Hot number))
+      share_heat p.amount (high_at axis number -ℤ low_at axis number) (flow_at axis side.Cold number) (flow_at axis side.Hot number)
+      (omega (arith, ints, (share_in number p met).cold_flow.from)) (omega (arith, ints, (share_in number p met).hot_flow.from))
+      ∙ ap (λ z. ratio ((high_at axis number -ℤ low_at axis number) *ℤ p.amount) (unsigned_abs z))
+      (*ℤ_comm (flow_at axis side.Cold number) (flow_at axis side.Hot number))
 
   -- an exchange of an interval
   pub record IsMatch (e : Exchange) : Type 0 where
@@ -447,11 +440,7 @@ module _ (axis : Axis) where
             -- the hot utility lies above the cold one
             let a = utility_runs side.Hot number j i hot (ap (λ (x : Span). x.source) one.is) in
             let b = utility_runs side.Cold number k n cold (ap (λ (x : Span). x.source) other.is) in
-            let from_hot = a.0 in
-            let upto_cold = b.1 in
-            let order = (is_axis axis.case.streams (streams_are axis)).apart in
-            let gap = falls in
-            absurd (omega (arith, ints, from_hot, upto_cold, order, gap))
+            absurd (omega (arith, ints, a.0, b.1, (is_axis axis.case.streams (streams_are axis)).apart, falls))
 
   pub match_faces : (e : Exchange) (m : IsMatch e)
       → Faces axis.case (piece_in axis side.Hot m.number (pair_runs m.number side.Hot m.pair m.met).span)

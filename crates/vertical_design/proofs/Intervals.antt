@@ -1,18 +1,17 @@
 -- A hot and a cold source that face each other at both ends keep their approach, where each stream is within its range.
-use Rattle.vertical_design.proofs.Words.{*ℤ_cancel_right, *ℤ_comm, -ℤ-*ℤ, All-contains, AreApart, AreCuts, AreFacing, AreSensible, AreSensibleStreams}
-use Rattle.vertical_design.proofs.Words.{AreSensibleStreams-both, AreSensibleStreams-case, AreSpans, Case, Contains-slice_get, HasValidStreams, IsAtMost}
-use Rattle.vertical_design.proofs.Words.{IsAtUtility, IsBelow, IsGap, IsOutermost, IsOutermost-outermost, IsOver, IsSensible, IsSensibleCase, IsStandard, Piece}
-use Rattle.vertical_design.proofs.Words.{Rational, Side, Source, Span, Stream, Utility, at_most-ratio_whole, at_most-whole, at_most-whole_ratio}
-use Rattle.vertical_design.proofs.Words.{at_most_below_trans, at_most_from_below, at_most_from_minus_right, at_most_trans, begin_of, below-ratio}
-use Rattle.vertical_design.proofs.Words.{below_at_most_trans, cases_lt, contribution_of, curve_heat, each_end, first_end, first_state, first_state-unshifted}
-use Rattle.vertical_design.proofs.Words.{flat_map, heat_at, high_end, int_lt_cases, intervals_of, ints, last_end, last_state, last_state-unshifted, length-map}
-use Rattle.vertical_design.proofs.Words.{length-stream_ends, low_end, lower_cut, map-map, minus, minus-plus, minus-ratio_same_den, none-some, on_scale}
-use Rattle.vertical_design.proofs.Words.{option_map, option_map_or, outermost, plus, plus-minus, plus_assoc, plus_comm, pos_above, ratio, ratio-multiple}
-use Rattle.vertical_design.proofs.Words.{rational_zero, same_Some, same_side, shifted, shifted_level, shifted_level-standard, side_flow, side_of, slice_get-map}
-use Rattle.vertical_design.proofs.Words.{sources_between, sources_in, sources_of, spans_of, standard_utility, stream_ends, temperature, unshifted, unsigned_abs}
-use Rattle.vertical_design.proofs.Words.{upper_cut, utility_from, utility_to, whole, whole-minus, whole-plus}
-use Rattle.std.proofs.Common.{All, List, None, Option, Some, [], ap, ap₂, arith, get_or, inl, inr, length, map, negsuc, pos, refl, slice_get, subst, subst₂}
-use Rattle.std.proofs.Common.{suc, sym, true, zero, ℕ, ℤ, ◌*ℤ◌, ◌*◌, ◌+ℤ◌, ◌+◌, ◌-ℤ◌, ◌-◌, ◌<ℤ◌, ◌<◌, ◌∙◌, ◌∷◌, ◌≡◌, ◌≤ℤ◌, ◌≤◌, ◌⊎◌}
+use Rattle.vertical_design.proofs.Words.{*ℤ_cancel_right, *ℤ_comm, -ℤ-*ℤ, All-contains, AreApart, AreFacing, AreSensible, AreSensibleStreams}
+use Rattle.vertical_design.proofs.Words.{AreSensibleStreams-both, Case, Contains-slice_get, HasValidStreams, IsAtMost, IsAtUtility, IsBelow, IsGap, IsOutermost}
+use Rattle.vertical_design.proofs.Words.{IsOutermost-outermost, IsOver, IsSensible, IsStandard, Piece, Rational, Side, Source, Span, Stream, Utility}
+use Rattle.vertical_design.proofs.Words.{at_most-ratio_whole, at_most-whole, at_most-whole_ratio, at_most_below_trans, at_most_from_below}
+use Rattle.vertical_design.proofs.Words.{at_most_from_minus_right, at_most_trans, begin_of, below-ratio, below_at_most_trans, cases_lt, contribution_of}
+use Rattle.vertical_design.proofs.Words.{curve_heat, each_end, first_end, first_state, first_state-unshifted, flat_map, heat_at, high_end, int_lt_cases}
+use Rattle.vertical_design.proofs.Words.{intervals_of, ints, last_end, last_state, last_state-unshifted, length-map, length-stream_ends, low_end, map-map}
+use Rattle.vertical_design.proofs.Words.{minus, minus-plus, minus-ratio_same_den, none-some, on_scale, option_map, option_map_or, outermost, plus, plus-minus}
+use Rattle.vertical_design.proofs.Words.{plus_assoc, plus_comm, pos_above, ratio, ratio-multiple, rational_zero, same_Some, shifted, shifted_level}
+use Rattle.vertical_design.proofs.Words.{shifted_level-standard, side_of, slice_get-map, sources_between, sources_in, sources_of, spans_of, stream_ends}
+use Rattle.vertical_design.proofs.Words.{temperature, unshifted, unsigned_abs, utility_from, utility_to, whole, whole-minus, whole-plus}
+use Rattle.std.proofs.Common.{List, None, Option, Some, ap, ap₂, arith, inl, inr, length, map, negsuc, pos, refl, slice_get, subst, subst₂, sym, ℕ, ℤ, ◌*ℤ◌}
+use Rattle.std.proofs.Common.{◌*◌, ◌+ℤ◌, ◌+◌, ◌-ℤ◌, ◌-◌, ◌<ℤ◌, ◌<◌, ◌∙◌, ◌≡◌, ◌≤ℤ◌, ◌≤◌, ◌⊎◌}
 use Rattle.stream_case.proofs.StandardUtilities.{own_utility}
 use Rattle.vertical_design.proofs.CurveLemmas.{HaveNoEnd, IsSegment, Runs, approach_above, approach_below, curve_heat-ratio, curve_parts, curve_parts-whole}
 use Rattle.vertical_design.proofs.CurveLemmas.{end_of, flow_positive, flow_running, gap_segment, line, on_curve, scaled, whole_heat}
@@ -45,7 +44,7 @@ pub record Faces (case : Case) (p q : Piece) : Type 0 where
 
 -- ---- sources and utilities
 
-pub found : {X : Type 0} (f : X → Side) (on : Side) (o : Option X) → option_map f o ≡ Some on → (x : X) × (o ≡ Some x) × (f x ≡ on)
+pub found : {X Y : Type 0} (f : X → Y) (on : Y) (o : Option X) → option_map f o ≡ Some on → (x : X) × (o ≡ Some x) × (f x ≡ on)
 found f on None is = absurd (none-some on is)
 found f on (Some x) is = (x, refl, same_Some (f x) on is)
 

@@ -1,21 +1,21 @@
 -- The heats of the exchanges with a utility add up to the heat between the cuts where it lies, and so to its target in all.
-use Rattle.vertical_design.proofs.Words.{*ℤ-+ℤ, *ℤ-zero, *ℤ_comm, ALL_SENSIBLE_HEAT, All-cons, All-head, All-map, All-nil, All-range, All-tail, AreCuts}
-use Rattle.vertical_design.proofs.Words.{AreFacing, AreLedPieces, AreSensibleStreams, Case, Exchange, HasFewLines, HasNoFinding, HasShape, HasUtilityHeat}
-use Rattle.vertical_design.proofs.Words.{HasValidStreams-IsComplete, IsLedNetwork, IsSized, IsStandard, IsValidNetwork, IsVertical, IsVerticalAt}
-use Rattle.vertical_design.proofs.Words.{IsVerticalDesign, IsWholeGroup, JoinsPieces, KeepsCounts, LedPiecesDrawLedNetworks, MOST_CUTS, MOST_HEAT, MOST_SPANS}
-use Rattle.vertical_design.proofs.Words.{Network, Option, Pair, Piece, Rational, Side, Source, Span, Utility, all_at, balance_of, cold_heat-is, cold_target}
-use Rattle.vertical_design.proofs.Words.{cons_option, contribution_of, cost_of, count_of, drop_all, drop_more, duties_with, duty_with, entry, enumerate_from}
-use Rattle.vertical_design.proofs.Words.{eqb-true, excess_of, exchanger_of, exchangers_for, exchangers_of, exchanges_at, exit, false_from_ne_true, filter}
-use Rattle.vertical_design.proofs.Words.{filter_map, flat_map, flat_map-map, heat_price, heat_with, heats_with, hot_heat-is, hot_target, int_le, int_sum_by}
-use Rattle.vertical_design.proofs.Words.{intervals_of, ints, is_forbidden, length-AreStreams, length-enumerate_from, length-map, length-numbers, matches_in}
-use Rattle.vertical_design.proofs.Words.{minus, minus-self, mul-le-mul, mul-le-mul_right, network_of, none-some, numbered-item, on_scale, one_times, piece_on}
-use Rattle.vertical_design.proofs.Words.{plus, plus-zero, range_with_len, ratio, ratio-multiple, ratio-zero, rational_sum, rational_sum_by}
-use Rattle.vertical_design.proofs.Words.{rational_sum_by-append, rational_zero, same_Some, same_source, same_source-true, side_flow, side_of, slice_get_within}
-use Rattle.vertical_design.proofs.Words.{source_at, source_at-piece, sources_between, sources_in, sources_of, spans_of, standard_utility, target_balance, times}
-use Rattle.vertical_design.proofs.Words.{unsigned_abs, unsigned_abs-mul, upper_cut, utility_from, utility_to, whole, whole-plus, whole-times, zero_times, ◌&&◌}
-use Rattle.std.proofs.Common.{All, Bool, List, None, Some, [], ap, ap₂, arith, drop, false, get_or, if◌then◌else◌, length, map, option_map, pos, refl}
-use Rattle.std.proofs.Common.{slice_get, subst, subst₂, suc, sym, true, zero, ℕ, ℤ, ⊎_elim, ◌*ℤ◌, ◌*◌, ◌+ℤ◌, ◌+◌, ◌-ℤ◌, ◌-◌, ◌<ℤ◌, ◌<◌, ◌==◌, ◌^◌, ◌||◌, ◌∙◌}
-use Rattle.std.proofs.Common.{◌∷◌, ◌≡◌, ◌≢◌, ◌≤ℤ◌, ◌≤◌}
+use Rattle.vertical_design.proofs.Words.{*ℤ-+ℤ, *ℤ-zero, *ℤ_comm, ALL_SENSIBLE_HEAT, All-cons, All-head, All-map, All-nil, All-range, All-tail, AreFacing}
+use Rattle.vertical_design.proofs.Words.{AreLedPieces, Case, Exchange, HasFewLines, HasNoFinding, HasShape, HasUtilityHeat, HasValidStreams-IsComplete}
+use Rattle.vertical_design.proofs.Words.{IsLedNetwork, IsSized, IsValidNetwork, IsVertical, IsVerticalAt, IsVerticalDesign, IsWholeGroup, JoinsPieces}
+use Rattle.vertical_design.proofs.Words.{KeepsCounts, LedPiecesDrawLedNetworks, MOST_CUTS, MOST_HEAT, MOST_SPANS, Network, Option, Pair, Piece, Rational, Side}
+use Rattle.vertical_design.proofs.Words.{Source, Span, Utility, all_at, balance_of, clamps, cold_heat-is, cold_target, cons_option, contribution_of, cost_of}
+use Rattle.vertical_design.proofs.Words.{count_of, duties_with, duty_with, entry, enumerate_from, eqb-true, excess_of, exchanger_of, exchangers_for}
+use Rattle.vertical_design.proofs.Words.{exchangers_of, exchanges_at, exit, false_from_ne_true, filter, filter_map, flat_map, flat_map-map, heat_price}
+use Rattle.vertical_design.proofs.Words.{heat_with, heats_with, hot_heat-is, hot_target, int_le, int_sum_by, intervals_of, ints, is_forbidden}
+use Rattle.vertical_design.proofs.Words.{length-AreStreams, length-enumerate_from, length-map, length-numbers, matches_in, minus, minus-self, mul-le-mul}
+use Rattle.vertical_design.proofs.Words.{mul-le-mul_right, network_of, none-some, numbered-item, on_scale, one_times, piece_on, plus, plus-zero, range_with_len}
+use Rattle.vertical_design.proofs.Words.{ratio, ratio-multiple, ratio-zero, rational_sum, rational_sum_by, rational_sum_by-append, rational_zero, same_Some}
+use Rattle.vertical_design.proofs.Words.{same_source, same_source-true, side_flow, side_of, slice_get_within, source_at, source_at-piece, sources_between}
+use Rattle.vertical_design.proofs.Words.{sources_in, sources_of, spans_of, standard_utility, target_balance, times, unsigned_abs, unsigned_abs-mul}
+use Rattle.vertical_design.proofs.Words.{utility_from, utility_to, whole, whole-plus, whole-times, zero_times, ◌&&◌}
+use Rattle.std.proofs.Common.{All, Bool, List, None, Some, [], ap, ap₂, arith, false, get_or, if◌then◌else◌, length, map, option_map, pos, refl, slice_get}
+use Rattle.std.proofs.Common.{subst, subst₂, suc, sym, true, zero, ℕ, ℤ, ⊎_elim, ◌*ℤ◌, ◌*◌, ◌+ℤ◌, ◌+◌, ◌-ℤ◌, ◌-◌, ◌<ℤ◌, ◌<◌, ◌==◌, ◌^◌, ◌||◌, ◌∙◌, ◌∷◌, ◌≡◌}
+use Rattle.std.proofs.Common.{◌≢◌, ◌≤ℤ◌, ◌≤◌}
 use Rattle.stream_case.proofs.StandardUtilities.{own_utility}
 use Rattle.vertical_design.proofs.CurveLemmas.{across-bounded, bounded, heat_across}
 use Rattle.vertical_design.proofs.Exchanges.{IsMatch, IsMetIn, IsPositiveExchange, are_matches, exchanges, match_faces, match_in, pair_runs, pairs_at}
@@ -234,12 +234,8 @@ module _ (axis : Axis) where
           by : (c : Bool) → lies ≡ c → p.amount ≤ℤ amount_by c → IsSized (unsigned_abs across) most_width (ratio (width *ℤ p.amount) flows)
           by true alone upto =
               let is = gap_in axis number within in
-              let falls = is.falls in
-              let from = is.low_place.from in
-              let end = is.high_place.upto in
-              let whole_share = one_times (pos 1) across refl in
-              part_sized width p.amount across flows (omega (arith, ints, falls)) (omega (arith, ints, from, end)) met.positive
-              (omega (arith, ints, upto, whole_share)) (lies_alone alone)
+              part_sized width p.amount across flows (omega (arith, ints, is.falls)) (omega (arith, ints, is.low_place.from, is.high_place.upto)) met.positive
+              (omega (arith, ints, upto, one_times (pos 1) across refl)) (lies_alone alone)
           by false rests upto = let some = met.positive in let none = zero_times (pos 0) across refl in absurd (omega (arith, ints, some, upto, none))
 
       group_of : IsWholeGroup most_flow most_width (filter_map heat_of_pair (pairs_at axis number))
@@ -313,12 +309,8 @@ module _ (axis : Axis) where
     pub utility_heat : HasUtilityHeat hot_sources cold_sources (exchanges axis) index u
     utility_heat =
         let is = target-within u.side axis.case.streams (streams_are axis) in
-        let from = is.from in
-        let upto = is.upto in
         let range : (u.least ≡ pos 0) × (u.most ≡ MOST_HEAT) =
         subst (λ (v : Utility). (v.least ≡ pos 0) × (v.most ≡ MOST_HEAT)) (sym (own_utility axis.case axis.standard index u here)) (standard_range u.side) in
-        let least = range.0 in
-        let most = range.1 in
         let all = few_cuts hot cold axis.cuts (spans_are axis side.Hot) (spans_are axis side.Cold) axis.are_cuts in
         let few = few_heats 0 (length axis.cuts - 1) in
         record {
@@ -333,8 +325,8 @@ module _ (axis : Axis) where
           few = omega (arith, few, all);
           heat = to_of -ℤ from_of;
           total = heat_total;
-          from = omega (arith, ints, least, from);
-          upto = omega (arith, ints, most, upto);
+          from = omega (arith, ints, range.0, is.from);
+          upto = omega (arith, ints, range.1, is.upto);
         }
       where
         standard_range : (of : Side) → ((standard_utility of axis.case).least ≡ pos 0) × ((standard_utility of axis.case).most ≡ MOST_HEAT)

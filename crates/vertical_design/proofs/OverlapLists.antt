@@ -1,17 +1,17 @@
 -- The pairs of two lists of amounts, as a list, and how many they are.
-use Rattle.vertical_design.proofs.Words.{*ℤ-zero, *ℤ_comm, +ℤ-*ℤ, All-append, All-cons, All-contains, All-flat_map, All-head, All-map, All-nil, All-tail}
-use Rattle.vertical_design.proofs.Words.{All-take, All-weaker, AllPairs-append, AllPairs-cons, AllPairs-nil, AreCuts, AreSpans, Contains-flat_map, IsBetween}
-use Rattle.vertical_design.proofs.Words.{IsFlow, IsGap, IsOverlap, IsPlace, IsSideFlow, IsSpan, Lists, ListsOverlaps, MOST_CP, MOST_FLOW, MOST_SPANS}
-use Rattle.vertical_design.proofs.Words.{NotNegative, Option, Pair, Side, Span, amounts_in, cases_eq, cases_lt, cases_order, clamps, cons_option, ends_of}
-use Rattle.vertical_design.proofs.Words.{enumerate_from, enumerate_from-append, filter, filter_map, filter_map-append, flat_map, flow_in, flows_in, get_or-map}
+use Rattle.vertical_design.proofs.Words.{*ℤ-zero, *ℤ_comm, +ℤ-*ℤ, All-cons, All-flat_map, All-head, All-map, All-nil, All-tail, All-take, All-weaker}
+use Rattle.vertical_design.proofs.Words.{AllPairs-append, AllPairs-cons, AllPairs-nil, AreCuts, AreSpans, Contains-flat_map, IsBetween, IsFlow, IsGap}
+use Rattle.vertical_design.proofs.Words.{IsOverlap, IsPlace, IsSideFlow, IsSpan, Lists, ListsOverlaps, MOST_CP, MOST_FLOW, MOST_SPANS, NotNegative, Option}
+use Rattle.vertical_design.proofs.Words.{Pair, Side, Span, amounts_in, cases_eq, cases_lt, cases_order, clamps, cons_option, ends_of, enumerate_from}
+use Rattle.vertical_design.proofs.Words.{enumerate_from-append, filter, filter_map, filter_map-append, flat_map, flow_in, flows_in, get_or-map}
 use Rattle.vertical_design.proofs.Words.{get_or-range_with_len, get_or_from_slice_get, int_le, int_lt, int_lt-from, int_lt-true, int_lt_cases, int_sum_by}
 use Rattle.vertical_design.proofs.Words.{int_sum_by-at_most, int_sum_by-not_negative, ints, length-le_falling, length-map, length-range_with_len, length-take}
-use Rattle.vertical_design.proofs.Words.{map-append, match_of, matches_in, mul-le-mul_right, option_to_list, overlap, pair_before, pair_of, pairs_of}
+use Rattle.vertical_design.proofs.Words.{lower_cut, map-append, match_of, matches_in, mul-le-mul_right, option_to_list, overlap, pair_before, pair_of, pairs_of}
 use Rattle.vertical_design.proofs.Words.{product_between, product_positive, range_with_len, range_with_len-append, side_flow, slice_get-append}
-use Rattle.vertical_design.proofs.Words.{slice_get_within, take_more, zero_times, ◌&&◌, ◌-ℤ◌}
+use Rattle.vertical_design.proofs.Words.{slice_get_within, take_more, upper_cut, zero_times, ◌&&◌, ◌-ℤ◌}
 use Rattle.std.proofs.Common.{All, AllPairs, Bool, List, None, Some, [], ap, append-nil, ap₂, arith, cond, false, get_or, if◌then◌else◌, inl, inr, length}
 use Rattle.std.proofs.Common.{length-append, map, pos, refl, slice_get, suc, sym, take, true, zero, zero-add, ℕ, ℤ, ⊎_elim, ◌*ℤ◌, ◌*◌, ◌++◌, ◌+ℤ◌, ◌+◌, ◌-◌}
-use Rattle.std.proofs.Common.{◌<ℤ◌, ◌<◌, ◌==◌, ◌^◌, ◌∙◌, ◌∷◌, ◌≡◌, ◌≢◌, ◌≤ℤ◌, ◌≤◌, ◌⊎◌}
+use Rattle.std.proofs.Common.{◌<ℤ◌, ◌<◌, ◌==◌, ◌^◌, ◌∙◌, ◌∷◌, ◌≡◌, ◌≢◌, ◌≤ℤ◌, ◌≤◌}
 use Rattle.std.proofs.lemmas.Grind.{flat_map-append}
 use Rattle.sums.proofs.OrderLemmas.{AllPairs-head, AllPairs-tail, Lists-same, Lists-unique}
 use Rattle.sums.proofs.WalkLemmas.{begin_of-rises, begin_of-suc, overlaps_first, overlaps_second, pair_one_way}

@@ -6,11 +6,11 @@ use Rattle.vertical_design.proofs.Words.{IsSensibleCase, IsSensibleHeat, IsSensi
 use Rattle.vertical_design.proofs.Words.{Span, Stream, Utility, and_parts, append-nil, begin_of, cases_lt, cases_order, cold_target-within, cons_option}
 use Rattle.vertical_design.proofs.Words.{count_by, count_by-cons, each_side, ends_of, enumerate_from, eq-eqb, false_from_ne_true, filter_map}
 use Rattle.vertical_design.proofs.Words.{filter_map-enumerate_more, flow_in, get_or_default, get_or_from_slice_get, heat-between, heat_at, heat_of}
-use Rattle.vertical_design.proofs.Words.{heat_of-sensible, high_end, hot_target-within, if_zero, int_le, int_le-from, int_le-true, int_sum_by, int_sum_by-add}
-use Rattle.vertical_design.proofs.Words.{int_sum_by-at_most, int_sum_by-same, ints, kept_hold, length-AreStreams, length-append, low_end, ne_eqb}
+use Rattle.vertical_design.proofs.Words.{heat_of-sensible, high_end, hot_target-within, int_le, int_le-from, int_le-true, int_sum_by, int_sum_by-add}
+use Rattle.vertical_design.proofs.Words.{int_sum_by-at_most, int_sum_by-same, ints, kept_hold, length-AreStreams, length-append, low_end, lower_cut, ne_eqb}
 use Rattle.vertical_design.proofs.Words.{option_to_list, own_side, range-length, same_Some, same_side, same_side-true, same_source, same_source-same}
 use Rattle.vertical_design.proofs.Words.{same_source-true, side_flow, slice_get-append, slice_get-get_or, slice_get_within, spans_of, standard_utility}
-use Rattle.vertical_design.proofs.Words.{sum_side, sum_side-zero, utility_from, utility_to, ◌&&◌}
+use Rattle.vertical_design.proofs.Words.{sum_side, sum_side-zero, upper_cut, utility_from, utility_to, ◌&&◌}
 use Rattle.std.proofs.Common.{All, AllPairs, Bool, List, None, Some, [], ap, append_assoc, ap₂, arith, false, get_or, if◌then◌else◌, inl, inr, length, pos}
 use Rattle.std.proofs.Common.{refl, slice_get, subst, suc, sym, take, true, zero, zero-add, ℕ, ℤ, ⊎_elim, ◌*◌, ◌++◌, ◌+ℤ◌, ◌+◌, ◌-ℤ◌, ◌-◌, ◌<ℤ◌, ◌<◌, ◌==◌, ◌∙◌}
 use Rattle.std.proofs.Common.{◌∷◌, ◌≡◌, ◌≢◌, ◌≤ℤ◌, ◌≤◌, ◌⊎◌}

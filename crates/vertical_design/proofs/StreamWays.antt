@@ -3,21 +3,21 @@
 use Rattle.vertical_design.proofs.Words.{All-contains, AreEnds, AreEnds-IsValidStream, AreJoined, AreSmall, Contains, Contains-slice_get, Exchange}
 use Rattle.vertical_design.proofs.Words.{HIGHEST_SHIFTED, IsAtMost, IsContribution, IsFine, IsSensibleStream, IsSized, IsStreamPiece, LedStage}
 use Rattle.vertical_design.proofs.Words.{MOST_CONTRIBUTION, MOST_CP, MOST_FLOW, Meet, Piece, Rational, Share, Side, Span, Stream, all_at, at_most-whole}
-use Rattle.vertical_design.proofs.Words.{at_most_from_ratio_whole, at_most_from_whole_ratio, at_most_trans, cases_eq, cases_lt, change, contribution_of}
+use Rattle.vertical_design.proofs.Words.{at_most_from_ratio_whole, at_most_from_whole_ratio, at_most_trans, cases_eq, change, clamps, contribution_of}
 use Rattle.vertical_design.proofs.Words.{curve_heat, enumerate_from, eq-eqb, eqb-true, false_from_ne_true, false≢true, filter_map, filter_map-way, first_end}
-use Rattle.vertical_design.proofs.Words.{flat_map, flow_in, full_size-sensible, get_or_default, heat_at, high_end, int_le-from, intervals_of, ints}
-use Rattle.vertical_design.proofs.Words.{is_latent-sensible, is_stage, kept_hold, last_end, led_course, led_piece, led_stage, length-map, low_end, ltb-true}
-use Rattle.vertical_design.proofs.Words.{minus, minus-minus_same, minus-plus_plus, mul-le-mul, nat_lt, nat_tests, ne_eqb, neg_ℤ-*ℤ, on_side, option_map}
-use Rattle.vertical_design.proofs.Words.{option_map_or, order-sensible, own_side, piece_on, range_with_len, ratio, reverse, reverse-append, same_Some}
-use Rattle.vertical_design.proofs.Words.{same_side, share_of, shares_of, size_of, size_on, sized-minus, sized-plus, sized-whole, slice_get-map}
-use Rattle.vertical_design.proofs.Words.{slice_get_within, spans_of, state_behind, times, unsigned_abs, upper_cut, whole, whole-nonzero, ◌&&◌}
-use Rattle.std.proofs.Common.{AllPairs, Bool, List, None, Some, [], ap, ap₂, arith, false, get_or, if◌then◌else◌, inl, inr, length, map, neg_ℤ, pos, refl}
-use Rattle.std.proofs.Common.{slice_get, subst, subst₂, suc, sym, true, zero, ℕ, ℤ, ⊎_elim, ◌*◌, ◌++◌, ◌+◌, ◌-◌, ◌<ℤ◌, ◌<◌, ◌==◌, ◌∙◌, ◌∷◌, ◌≡◌, ◌≤ℤ◌, ◌≤◌, ◌⊎◌}
-use Rattle.vertical_design.proofs.CurveLemmas.{HasNoEnd, heat_rises, one_place}
+use Rattle.vertical_design.proofs.Words.{flat_map, flow_in, full_size-sensible, heat_at, high_end, int_le-from, intervals_of, ints, is_latent-sensible}
+use Rattle.vertical_design.proofs.Words.{is_stage, kept_hold, last_end, led_course, led_piece, led_stage, length-map, low_end, ltb-true, minus}
+use Rattle.vertical_design.proofs.Words.{minus-minus_same, minus-plus_plus, mul-le-mul, nat_lt, nat_tests, ne_eqb, neg_ℤ-*ℤ, on_side, option_map, option_map_or}
+use Rattle.vertical_design.proofs.Words.{order-sensible, own_side, piece_on, range_with_len, ratio, reverse, reverse-append, same_Some, same_side, share_of}
+use Rattle.vertical_design.proofs.Words.{shares_of, size_of, size_on, sized-minus, sized-plus, sized-whole, slice_get-map, slice_get_within, spans_of}
+use Rattle.vertical_design.proofs.Words.{state_behind, times, unsigned_abs, whole, whole-nonzero, ◌&&◌}
+use Rattle.std.proofs.Common.{Bool, List, None, Some, [], ap, ap₂, arith, false, if◌then◌else◌, length, neg_ℤ, pos, refl, slice_get, subst, subst₂, suc, sym}
+use Rattle.std.proofs.Common.{true, zero, ℕ, ℤ, ⊎_elim, ◌*◌, ◌++◌, ◌+◌, ◌-◌, ◌<ℤ◌, ◌<◌, ◌==◌, ◌∙◌, ◌∷◌, ◌≡◌, ◌≤ℤ◌, ◌≤◌}
+use Rattle.vertical_design.proofs.CurveLemmas.{HasNoEnd, bounded, heat_rises, one_place}
 use Rattle.vertical_design.proofs.Exchanges.{IsMatch, RunsSpan, are_matches, exchange_there, exchanges, heat_match, over_at, own_number, own_span, pair_runs}
 use Rattle.vertical_design.proofs.Exchanges.{piece_index, piece_of, size_match, size_piece, stream_runs}
-use Rattle.vertical_design.proofs.Intervals.{RunsIn, actual-first, actual-last, actual_at, curve_heat-whole, entered_at, left_at, other, piece_in, pieces}
-use Rattle.vertical_design.proofs.Intervals.{pieces_at, scale_at, scale_is, state_at}
+use Rattle.vertical_design.proofs.Intervals.{RunsIn, actual-first, actual-last, actual_at, curve_heat-whole, entered_at, found, left_at, other, piece_in}
+use Rattle.vertical_design.proofs.Intervals.{pieces, pieces_at, scale_at, scale_is, state_at}
 use Rattle.vertical_design.proofs.OverlapLists.{filter_map-rows, index_on, no_items, numbered-rows, only_item, side-within}
 use Rattle.vertical_design.proofs.SpanSources.{Axis, IsSourceSpan, cut_below, cut_from_last, cut_upto_first, ends_are_cuts, flow_above, flow_at, high_at}
 use Rattle.vertical_design.proofs.SpanSources.{low_at, no_end_between, own_place, sources_differ, span_of, span_sources, spans_are, stream_place, streams_are}
@@ -63,15 +63,13 @@ stream_sized of d t contribution n low high some is ends least most given = by o
   where
     own : IsSized d (unsigned_abs HIGHEST_SHIFTED) t
     own =
-        let lowest = ends.from in
-        let uppermost = ends.upto in
-        let lower = at_most-whole (neg_ℤ (pos (unsigned_abs HIGHEST_SHIFTED))) low (let order = lowest in omega (arith, ints, order)) in
-        let upper = at_most-whole high (pos (unsigned_abs HIGHEST_SHIFTED)) uppermost in
+        let lower = at_most-whole (neg_ℤ (pos (unsigned_abs HIGHEST_SHIFTED))) low (omega (arith, ints, ends.from)) in
+        let upper = at_most-whole high (pos (unsigned_abs HIGHEST_SHIFTED)) ends.upto in
         sized-around d (unsigned_abs HIGHEST_SHIFTED) t n some is (at_most_trans (whole (neg_ℤ (pos (unsigned_abs HIGHEST_SHIFTED)))) (whole low) t lower least)
         (at_most_trans t (whole high) (whole (pos (unsigned_abs HIGHEST_SHIFTED))) most upper)
 
     shift : IsSized d (unsigned_abs MOST_CONTRIBUTION) (whole contribution)
-    shift = let from = given.from in let upto = given.upto in sized-whole d (unsigned_abs MOST_CONTRIBUTION) contribution some (omega (arith, ints, from, upto))
+    shift = sized-whole d (unsigned_abs MOST_CONTRIBUTION) contribution some (omega (arith, ints, given.from, given.upto))
 
     by : (on : Side) → IsSized d highest (actual_at on t contribution)
     by side.Hot = sized-plus d (unsigned_abs HIGHEST_SHIFTED) (unsigned_abs MOST_CONTRIBUTION) t (whole contribution) own shift
@@ -117,34 +115,13 @@ falls_lead_up (stage ∷ stages) from to fall =
     (subst (λ (ss : List LedStage). Leads to ss stage.after) (sym turned)
     (leads_push (reverse stages) to stage.before stage (falls_lead_up stages stage.before to fall.1) refl))
 
--- where the way of a stream of a side begins, and where it ends
-abbrev start_of : Side → Rational → Rational → Rational
-start_of side.Hot top bottom = top
-start_of side.Cold top bottom = bottom
-
-abbrev end_of : Side → Rational → Rational → Rational
-end_of side.Hot top bottom = bottom
-end_of side.Cold top bottom = top
-
-way_leads : (of : Side) (stages : List LedStage) (top bottom : Rational) → FallTo of top stages bottom → Leads (start_of of top bottom) (on_the_way of stages)
-    (end_of of top bottom)
-way_leads side.Hot stages top bottom fall = falls_lead stages top bottom fall
-way_leads side.Cold stages top bottom fall = falls_lead_up stages top bottom fall
-
-start_place : (of : Side) (f : Rational → Rational) (s : Stream) → start_of of (f (whole (high_end s))) (f (whole (low_end s))) ≡ f (whole (first_end of s))
-start_place side.Hot f s = refl
-start_place side.Cold f s = refl
-
-end_place : (of : Side) (f : Rational → Rational) (s : Stream) → end_of of (f (whole (high_end s))) (f (whole (low_end s))) ≡ f (whole (last_end of s))
-end_place side.Hot f s = refl
-end_place side.Cold f s = refl
+-- the way of a stream of a side, with f of the temperatures of its ends
+way_leads : (of : Side) (stages : List LedStage) (f : Rational → Rational) (s : Stream) → FallTo of (f (whole (high_end s))) stages (f (whole (low_end s)))
+    → Leads (f (whole (first_end of s))) (on_the_way of stages) (f (whole (last_end of s)))
+way_leads side.Hot stages f s fall = falls_lead stages (f (whole (high_end s))) (f (whole (low_end s))) fall
+way_leads side.Cold stages f s fall = falls_lead_up stages (f (whole (high_end s))) (f (whole (low_end s))) fall
 
 -- ---- lists on the way
-
-mapped_item : {X Y : Type 0} (f : X → Y) (xs : List X) (i : ℕ) (y : Y) → slice_get (map f xs) i ≡ Some y → (x : X) × (slice_get xs i ≡ Some x) × (f x ≡ y)
-mapped_item f [] i y at = cc at
-mapped_item f (x ∷ xs) zero y at = (x, refl, same_Some (f x) y at)
-mapped_item f (x ∷ xs) (suc i) y at = mapped_item f xs i y at
 
 -- ---- the way of a stream
 
@@ -158,10 +135,7 @@ module _ (axis : Axis) where
 
   pub flow_few : (of : Side) (number : ℕ) → unsigned_abs (flow_at axis of number) ≤ most_flow
   flow_few of number =
-      let is = side-within (low_at axis number) (high_at axis number) (spans_of of axis.case) (spans_are axis of) in
-      let from = is.from in
-      let upto = is.upto in
-      omega (arith, ints, from, upto)
+      let is = side-within (low_at axis number) (high_at axis number) (spans_of of axis.case) (spans_are axis of) in omega (arith, ints, is.from, is.upto)
 
   -- the temperature changes by the heat between the cuts over the flow
   change_between : (of : Side) (number : ℕ) (scale : ℤ → Rational) (c : ℤ)
@@ -256,7 +230,7 @@ module _ (axis : Axis) where
           let gap = cut_below axis number within in
           let above = flow_above axis number within (other s.side) in
           let some = flow_above axis number within s.side in
-          let cp_most = valid.sensible.cp.upto in
+
           let states = either_cut (λ q. IsSized (unsigned_abs (flow_at axis s.side number)) highest (state_at axis s.side number q is.span)) s.side number
           (state_sized low (omega (arith, ints)) (omega (arith, ints, gap))) (state_sized high (omega (arith, ints, gap)) (omega (arith, ints))) in
           let across = unsigned_abs (flow_at axis (other s.side) number) in
@@ -270,7 +244,7 @@ module _ (axis : Axis) where
             sizes = kept_hold (λ (e : Exchange). piece_on s.side e == index) (share_of s.side index) (λ n e. record { exchanger = n; cp = size_on s.side e })
                 (λ n e. refl)
                 (λ (share : Share). (num : ℤ) × (share.cp ≡ ratio num across)) 0 (exchanges axis) (λ i e at test. own_over i e at test);
-            most = subst (λ x. IsAtMost x (whole (pos most_cp))) (sym (full_size-sensible s valid.sensible)) (at_most-whole s.cp (pos most_cp) cp_most);
+            most = subst (λ x. IsAtMost x (whole (pos most_cp))) (sym (full_size-sensible s valid.sensible)) (at_most-whole s.cp (pos most_cp) valid.sensible.cp.upto);
             before = states.0;
             after = states.1;
           }
@@ -356,7 +330,8 @@ module _ (axis : Axis) where
     stage_test : (n j : ℕ) (p : Piece) → slice_get (pieces_at axis s.side n) j ≡ Some p
         → is_stage s.side (exchanges axis) stream (n * many s.side + j) p.source ≡ ((j == place.0) && has_shares (n * many s.side + j))
     stage_test n j p at =
-        let (b, there, is) = mapped_item (piece_in axis s.side n) (spans_of s.side axis.case) j p at in
+        let (b, there, is) = found (piece_in axis s.side n) p (slice_get (spans_of s.side axis.case) j)
+        (sym (slice_get-map (piece_in axis s.side n) (spans_of s.side axis.case) j) ∙ at) in
         ap (λ (q : Piece). is_stage s.side (exchanges axis) stream (n * many s.side + j) q.source) (sym is)
         ∙ ap (λ t. t && has_shares (n * many s.side + j)) (own_place (spans_of s.side axis.case) (sources_differ axis.case s.side) place.0 own place.1 j b there)
 
@@ -409,13 +384,13 @@ module _ (axis : Axis) where
     ends_rise = order-sensible s valid.sensible
 
     heats_rise : bottom ≤ℤ top
-    heats_rise = let order = ends_rise in heat_rises s.side axis.case.streams (low_end s) (high_end s) (streams_are axis).each (omega (arith, ints, order))
+    heats_rise = heat_rises s.side axis.case.streams (low_end s) (high_end s) (streams_are axis).each (omega (arith, ints, ends_rise))
 
     ends_cut : Contains axis.cuts bottom × Contains axis.cuts top
     ends_cut =
         let P : Stream → Type 0 = λ r. same_side r.side s.side ≡ true
         → Contains axis.cuts (heat_at s.side axis.case.streams (low_end r)) × Contains axis.cuts (heat_at s.side axis.case.streams (high_end r)) in
-        All-contains P axis.case.streams s (ends_are_cuts axis.case axis.cuts axis.are_cuts s.side) member (own_side s.side)
+        All-contains P axis.case.streams s (ends_are_cuts axis s.side) member (own_side s.side)
 
     -- the temperature of the stream where its curve has a heat
     record IsPlaceOf (t : Rational) (heat : ℤ) : Type 0 where
@@ -427,18 +402,11 @@ module _ (axis : Axis) where
     one_temperature t u heat one other = one_place axis.case.streams (streams_are axis) s member t u one.from one.upto other.from other.upto
         (one.heat_is ∙ sym other.heat_is)
 
-    low_place : IsPlaceOf (whole (low_end s)) bottom
-    low_place = let order = ends_rise in record {
-      from = at_most-whole (low_end s) (low_end s) (omega (arith, ints));
-      upto = at_most-whole (low_end s) (high_end s) (omega (arith, ints, order));
-      heat_is = curve_heat-whole s.side axis.case.streams (low_end s) (streams_are axis);
-    }
-
-    high_place : IsPlaceOf (whole (high_end s)) top
-    high_place = let order = ends_rise in record {
-      from = at_most-whole (low_end s) (high_end s) (omega (arith, ints, order));
-      upto = at_most-whole (high_end s) (high_end s) (omega (arith, ints));
-      heat_is = curve_heat-whole s.side axis.case.streams (high_end s) (streams_are axis);
+    place_at : (x : ℤ) → low_end s ≤ℤ x → x ≤ℤ high_end s → IsPlaceOf (whole x) (heat_at s.side axis.case.streams x)
+    place_at x from upto = record {
+      from = at_most-whole (low_end s) x from;
+      upto = at_most-whole x (high_end s) upto;
+      heat_is = curve_heat-whole s.side axis.case.streams x (streams_are axis);
     }
 
     -- ---- its stages, from a cut down
@@ -447,11 +415,8 @@ module _ (axis : Axis) where
     actual t = actual_at s.side t (contribution_of axis.case own.source)
 
     -- the heat of the stream that is nearest to x
-    record IsNearest (x heat : ℤ) : Type 0 where
-      from : bottom ≤ℤ heat
-      upto : heat ≤ℤ top
-      high : (heat ≤ℤ x) ⊎ (heat ≤ℤ bottom)
-      low : (x ≤ℤ heat) ⊎ (top ≤ℤ heat)
+    abbrev IsNearest : ℤ → ℤ → Type 0
+    IsNearest x heat = heat ≡ bounded bottom top x
 
     -- a stage at its two cuts
     cut_states : (of : Side) (n : ℕ) (f : ℤ → Rational) (shares : List Share)
@@ -489,9 +454,7 @@ module _ (axis : Axis) where
         let high_range = is.range high order most s runs in
         let low_range = is.range low least order s runs in
         let above = one_temperature (scale high) t high (record { from = high_range.0; upto = high_range.1; heat_is = is.heat high order most }) place in
-        let begun = runs.from in
-        let goes_on = runs.upto in
-        let near : IsNearest low low = record { from = begun; upto = omega (arith, ints, order, goes_on); high = inl least; low = inl least } in
+        let near : IsNearest low low = omega (arith, ints, clamps, gap, runs.from, runs.upto) in
         let fall = on (scale low) low near (record { from = low_range.0; upto = low_range.1; heat_is = is.heat low least order }) in
         let cut = cut_states s.side n (λ q. state_at axis s.side n q own) (stage n).shares in
         subst (λ xs. Falls t (xs ++ rest)) (sym (runs_stage n within runs))
@@ -501,25 +464,17 @@ module _ (axis : Axis) where
         → GoesOn n rest → Falls t (stages_at n ++ rest)
     next_interval n within t heat rest near place on =
         let gap = cut_below axis n within in
-        let from = near.from in
-        let upto = near.upto in
+        let order = heats_rise in
         ⊎_elim
-        (λ begun.
-        ⊎_elim
-        (λ ended.
-        let beyond = ⊎_elim (λ up. absurd (omega (arith, ints, up, upto, ended, gap))) (λ up. up) near.low in
-        passes_by n t rest (λ runs. let goes_on = runs.upto in absurd (omega (arith, ints, goes_on, ended, gap)))
-        (on t heat (record { from = from; upto = upto; high = inl (omega (arith, ints, upto, ended)); low = inr beyond }) place))
+        (λ begun. ⊎_elim
+        (λ ended. passes_by n t rest (λ runs. absurd (omega (arith, ints, runs.upto, ended, gap)))
+        (on t heat (omega (arith, ints, clamps, near, ended, gap, order)) place))
         (λ goes_on.
-        let most : heat ≤ℤ high_at axis n = ⊎_elim (λ le. le) (λ le. omega (arith, ints, le, begun, gap)) near.high in
-        let least : high_at axis n ≤ℤ heat = ⊎_elim (λ le. le) (λ le. omega (arith, ints, le, goes_on)) near.low in
-        let same : heat ≡ high_at axis n = omega (arith, ints, most, least) in
+        let same : heat ≡ high_at axis n = omega (arith, ints, clamps, near, begun, goes_on, gap) in
         goes_through n within t rest (record { member = member; side_is = own_side s.side; from = begun; upto = goes_on }) (subst (IsPlaceOf t) same place) on)
         (outside n within).high_outside)
-        (λ early.
-        let below = ⊎_elim (λ le. omega (arith, ints, le, early)) (λ le. le) near.high in
-        passes_by n t rest (λ runs. let begun = runs.from in absurd (omega (arith, ints, begun, early, gap)))
-        (on t heat (record { from = from; upto = upto; high = inr below; low = inl (omega (arith, ints, from, early, gap)) }) place))
+        (λ early. passes_by n t rest (λ runs. absurd (omega (arith, ints, runs.from, early, gap)))
+        (on t heat (omega (arith, ints, clamps, near, early, gap, order)) place))
         (outside n within).low_outside
 
     fall_from : (m n : ℕ) (t : Rational) (heat : ℤ) → n + m ≡ length axis.cuts - 1 → IsNearest (high_at axis n) heat → IsPlaceOf t heat
@@ -527,30 +482,24 @@ module _ (axis : Axis) where
     fall_from zero n t heat left near place =
         let last : length axis.cuts - 1 ≡ n = omega (arith, left) in
         let least = cut_from_last axis.cuts axis.are_cuts.ordered bottom ends_cut.0 in
-        let cut = ap (high_at axis) last in
-        let from = near.from in
-        let upto = ⊎_elim (λ le. omega (arith, ints, le, least, cut)) (λ le. le) near.high in
-        let same : heat ≡ bottom = omega (arith, ints, from, upto) in
-        ap actual (one_temperature t (whole (low_end s)) bottom (subst (IsPlaceOf t) same place) low_place)
+        let same : heat ≡ bottom = omega (arith, ints, clamps, near, heats_rise, ap (high_at axis) last, least) in
+        ap actual (one_temperature t (whole (low_end s)) bottom (subst (IsPlaceOf t) same place)
+        (place_at (low_end s) (omega (arith, ints)) (omega (arith, ints, ends_rise))))
     fall_from (suc m) n t heat left near place =
         next_interval n (omega (arith, left)) t heat (stages_of (range_with_len (n + 1) m)) near place
         (λ u h next there. fall_from m (n + 1) u h (omega (arith, left)) next there)
 
     whole_way : Falls (whole (high_end s)) (stages_of (intervals_of axis.cuts))
     whole_way =
-        let rise = heats_rise in
-        let first = cut_upto_first axis.cuts axis.are_cuts.ordered top ends_cut.1 in
-        let least : top ≤ℤ top = omega (arith, ints) in
         fall_from (length axis.cuts - 1) 0 (whole (high_end s)) top (omega arith)
-        (record { from = rise; upto = least; high = inl first; low = inr least }) high_place
+        (omega (arith, ints, clamps, heats_rise, cut_upto_first axis.cuts axis.are_cuts.ordered top ends_cut.1)) (place_at (high_end s) (omega (arith, ints, ends_rise)) (omega (arith, ints)))
 
     -- it is led from its supply to its target
     pub stream_joined : AreJoined s (led_course (pieces axis side.Hot) (pieces axis side.Cold) (exchanges axis) (stream, s))
     stream_joined =
         let stages = stages_of (intervals_of axis.cuts) in
         let c = ap (λ o. option_map_or (λ (r : Stream). r.contribution) o (pos 0)) here in
-        let leads = way_leads s.side stages (actual (whole (high_end s))) (actual (whole (low_end s))) whole_way in
-        let start = start_place s.side actual s ∙ ap (actual_at s.side (whole (first_end s.side s))) c ∙ actual-first s valid.sensible in
-        let end = end_place s.side actual s ∙ ap (actual_at s.side (whole (last_end s.side s))) c ∙ actual-last s valid.sensible in
-        let way = subst₂ (λ x y. Leads x (on_the_way s.side stages) y) start end leads in
+        let start = ap (actual_at s.side (whole (first_end s.side s))) c ∙ actual-first s valid.sensible in
+        let end = ap (actual_at s.side (whole (last_end s.side s))) c ∙ actual-last s valid.sensible in
+        let way = subst₂ (λ x y. Leads x (on_the_way s.side stages) y) start end (way_leads s.side stages actual s whole_way) in
         subst (AreJoined s) (sym all_stages) (record { meet = way.0; ends = way.1 })

@@ -1,5 +1,5 @@
 use Rattle.vertical_design.proofs.Words.{Exchange, IsGap, exchanges_at, flat_map, ints, matches_in, range_with_len}
-use Rattle.std.proofs.Common.{List, ap, arith, get_or, length, of_z, pos, subst, subst₂, sym, to_z, w64, ℤ, ◌++◌, ◌+◌, ◌-◌, ◌<◌, ◌∙◌, ◌≡◌}
+use Rattle.std.proofs.Common.{List, ap, arith, get_or, length, of_z, pos, subst₂, sym, to_z, w64, ℤ, ◌++◌, ◌+◌, ◌-◌, ◌<◌, ◌∙◌, ◌≡◌}
 use Rattle.vertical_design.proofs.OverlapLists.{few_cuts, gap_at, rows_more}
 use Rattle.vertical_design.proofs.interval.exchanges_between.Goals.{In-loop-number}
 use Rattle.vertical_design.proofs.interval.exchanges_between.Goals as goal
