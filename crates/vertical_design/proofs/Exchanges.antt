@@ -9,10 +9,10 @@ use Rattle.vertical_design.proofs.Words.{shares_of, side_flow, side_of, size_of,
 use Rattle.vertical_design.proofs.Words.{unsigned_abs, unsigned_abs-mul, utility_from, utility_to, whole, within-ratio, zero_times, ◌&&◌, ◌*ℤ◌, ◌-ℤ◌}
 use Rattle.std.proofs.Common.{All, Bool, List, None, Some, [], ap, ap₂, arith, cond, false, get_or, if◌then◌else◌, inl, inr, length, option_map, pos, refl}
 use Rattle.std.proofs.Common.{slice_get, subst, subst₂, suc, sym, true, ℕ, ℤ, ⊎_elim, ◌*◌, ◌+◌, ◌-◌, ◌<ℤ◌, ◌<◌, ◌==◌, ◌^◌, ◌∙◌, ◌∷◌, ◌≡◌, ◌≢◌, ◌≤ℤ◌}
-use Rattle.vertical_design.proofs.Intervals.{Faces, IsWithinRange, RunsIn, found, on_scale-actual, other, piece_in, piece_there, pieces, scale_at}
-use Rattle.vertical_design.proofs.Intervals.{scale_at_utility, scale_is, scale_within, scales_face, shifted_state, size_is, state_at}
+use Rattle.vertical_design.proofs.Intervals.{Faces, IsWithinRange, RunsIn, found, on_scale-actual, piece_in, piece_there, pieces, scale_at, scale_at_utility}
+use Rattle.vertical_design.proofs.Intervals.{scale_is, scale_within, scales_face, shifted_state, size_is, state_at}
 use Rattle.vertical_design.proofs.OverlapLists.{IsShare, ListsOverlaps-pairs_of, duty-within, filter_map-map, filter_map-rows, index_on, none_kept, only_row}
-use Rattle.vertical_design.proofs.OverlapLists.{own_amount, own_amounts, own_share, same_place, share-within}
+use Rattle.vertical_design.proofs.OverlapLists.{other, own_amounts, own_share, same_place, share-within}
 use Rattle.vertical_design.proofs.SpanSources.{Axis, IsSourceSpan, cut_below, flow_above, flow_at, high_at, is_axis, low_at, reaches, span_of, span_sources}
 use Rattle.vertical_design.proofs.SpanSources.{spans_are, streams_are}
 use Rattle.stream_case.specs.declared.source.Side.TheVariants as side
@@ -221,12 +221,7 @@ module _ (axis : Axis) where
   -- its share is no more than what its source offers or asks for
   pub share_upto : (of : Side) (number k : ℕ) (a : Span) → slice_get (spans_of of axis.case) k ≡ Some a → (p : Pair) → IsMetIn number p → index_on of p ≡ k
       → p.amount ≤ℤ (flow_in (low_at axis number) (high_at axis number) a *ℤ flow_at axis (other of) number)
-  share_upto side.Hot number k a there p met own =
-      subst (λ z. p.amount ≤ℤ z) (own_amount (low_at axis number) (high_at axis number) hot cold k a there)
-      (own_share (low_at axis number) (high_at axis number) hot cold side.Hot k p met own)
-  share_upto side.Cold number k a there p met own =
-      subst (λ z. p.amount ≤ℤ z) (own_amount (low_at axis number) (high_at axis number) cold hot k a there)
-      (own_share (low_at axis number) (high_at axis number) hot cold side.Cold k p met own)
+  share_upto of number k a there p met own = own_share (low_at axis number) (high_at axis number) (λ d. spans_of d axis.case) of k a there p met own
 
   pub pair_runs : (number : ℕ) (of : Side) (p : Pair) → IsMetIn number p → RunsSpan of number (index_on of p)
   pair_runs number of p met =
@@ -320,14 +315,7 @@ module _ (axis : Axis) where
   pub shared_out : (of : Side) (number k : ℕ) (a : Span) → slice_get (spans_of of axis.case) k ≡ Some a
       → int_sum_by (λ p. p.amount) (filter (λ p. index_on of p == k) (pairs_at number))
       ≡ flow_in (low_at axis number) (high_at axis number) a *ℤ flow_at axis (other of) number
-  shared_out side.Hot number k a there =
-      own_amounts (low_at axis number) (high_at axis number) hot cold (spans_are axis side.Hot) (spans_are axis side.Cold) side.Hot k
-      (slice_get_within hot k a there)
-      ∙ own_amount (low_at axis number) (high_at axis number) hot cold k a there
-  shared_out side.Cold number k a there =
-      own_amounts (low_at axis number) (high_at axis number) hot cold (spans_are axis side.Hot) (spans_are axis side.Cold) side.Cold k
-      (slice_get_within cold k a there)
-      ∙ own_amount (low_at axis number) (high_at axis number) cold hot k a there
+  shared_out of number k a there = own_amounts (low_at axis number) (high_at axis number) (λ d. spans_of d axis.case) of k a there (spans_are axis)
 
   others_none : (of : Side) (number m k : ℕ) → k < many of → m ≢ number
       → filter_map (own_size of (number * many of + k)) (exchanges_at hot cold axis.cuts m) ≡ []

@@ -328,10 +328,6 @@ module _ (streams : List Stream) (are : AreSensibleStreams streams) (low high : 
 
 -- The intervals between neighbouring cuts of the heat axis: the temperatures of both sides there, and their pieces.
 
-abbrev pub other : Side → Side
-other side.Hot = side.Cold
-other side.Cold = side.Hot
-
 module _ (axis : Axis) where
   pub gap_in : (number : ℕ) → number < length axis.cuts - 1 → IsGap (low_at axis number) (high_at axis number)
   gap_in = gap_at (spans_of side.Hot axis.case) (spans_of side.Cold axis.case) axis.cuts (spans_are axis side.Hot) (spans_are axis side.Cold) axis.are_cuts

@@ -1,18 +1,17 @@
 -- The heats of the exchanges with a utility add up to the heat between the cuts where it lies, and so to its target in all.
 use Rattle.vertical_design.proofs.Words.{*ℤ-+ℤ, *ℤ-zero, *ℤ_comm, ALL_SENSIBLE_HEAT, All-cons, All-head, All-map, All-nil, All-range, All-tail, AreFacing}
-use Rattle.vertical_design.proofs.Words.{AreLedPieces, Case, Exchange, HasFewLines, HasNoFinding, HasShape, HasUtilityHeat, HasValidStreams-IsComplete}
-use Rattle.vertical_design.proofs.Words.{IsLedNetwork, IsSized, IsValidNetwork, IsVertical, IsVerticalAt, IsVerticalDesign, IsWholeGroup, JoinsPieces}
-use Rattle.vertical_design.proofs.Words.{KeepsCounts, LedPiecesDrawLedNetworks, MOST_CUTS, MOST_HEAT, MOST_SPANS, Network, Option, Pair, Piece, Rational, Side}
-use Rattle.vertical_design.proofs.Words.{Source, Span, Utility, all_at, balance_of, clamps, cold_heat-is, cold_target, cons_option, contribution_of, cost_of}
-use Rattle.vertical_design.proofs.Words.{count_of, duties_with, duty_with, entry, enumerate_from, eqb-true, excess_of, exchanger_of, exchangers_for}
-use Rattle.vertical_design.proofs.Words.{exchangers_of, exchanges_at, exit, false_from_ne_true, filter, filter_map, flat_map, flat_map-map, heat_price}
-use Rattle.vertical_design.proofs.Words.{heat_with, heats_with, hot_heat-is, hot_target, int_le, int_sum_by, intervals_of, ints, is_forbidden}
-use Rattle.vertical_design.proofs.Words.{length-AreStreams, length-enumerate_from, length-map, length-numbers, matches_in, minus, minus-self, mul-le-mul}
-use Rattle.vertical_design.proofs.Words.{mul-le-mul_right, network_of, none-some, numbered-item, on_scale, one_times, piece_on, plus, plus-zero, range_with_len}
-use Rattle.vertical_design.proofs.Words.{ratio, ratio-multiple, ratio-zero, rational_sum, rational_sum_by, rational_sum_by-append, rational_zero, same_Some}
-use Rattle.vertical_design.proofs.Words.{same_source, same_source-true, side_flow, side_of, slice_get_within, source_at, source_at-piece, sources_between}
-use Rattle.vertical_design.proofs.Words.{sources_in, sources_of, spans_of, standard_utility, target_balance, times, unsigned_abs, unsigned_abs-mul}
-use Rattle.vertical_design.proofs.Words.{utility_from, utility_to, whole, whole-plus, whole-times, zero_times, ◌&&◌}
+use Rattle.vertical_design.proofs.Words.{AreLedPieces, Case, Exchange, HasShape, HasUtilityHeat, HasValidStreams-IsComplete, IsLedNetwork, IsSized, IsVertical}
+use Rattle.vertical_design.proofs.Words.{IsVerticalAt, IsWholeGroup, JoinsPieces, LedPiecesDrawLedNetworks, MOST_CUTS, MOST_HEAT, MOST_SPANS, Network, Option}
+use Rattle.vertical_design.proofs.Words.{Pair, Piece, Rational, Side, Source, Span, Utility, all_at, balance_of, clamps, cold_heat-is, cold_target, cons_option}
+use Rattle.vertical_design.proofs.Words.{contribution_of, cost_of, count_of, duties_with, duty_with, entry, enumerate_from, eqb-true, excess_of, exchanger_of}
+use Rattle.vertical_design.proofs.Words.{exchangers_for, exchangers_of, exchanges_at, exit, false_from_ne_true, filter, filter_map, flat_map, flat_map-map}
+use Rattle.vertical_design.proofs.Words.{heat_price, heat_with, heats_with, hot_heat-is, hot_target, int_le, int_sum_by, intervals_of, ints, is_forbidden}
+use Rattle.vertical_design.proofs.Words.{length-AreStreams, length-map, length-numbers, matches_in, minus, minus-self, mul-le-mul, mul-le-mul_right, network_of}
+use Rattle.vertical_design.proofs.Words.{none-some, numbered-item, on_scale, one_times, piece_on, plus, plus-zero, range_with_len, ratio, ratio-multiple}
+use Rattle.vertical_design.proofs.Words.{ratio-zero, rational_sum, rational_sum_by, rational_sum_by-append, rational_zero, same_Some, same_source}
+use Rattle.vertical_design.proofs.Words.{same_source-true, side_flow, side_of, slice_get_within, source_at, source_at-piece, sources_between, sources_in}
+use Rattle.vertical_design.proofs.Words.{sources_of, spans_of, standard_utility, target_balance, times, unsigned_abs, unsigned_abs-mul, utility_from}
+use Rattle.vertical_design.proofs.Words.{utility_to, whole, whole-plus, whole-times, zero_times, ◌&&◌}
 use Rattle.std.proofs.Common.{All, Bool, List, None, Some, [], ap, ap₂, arith, false, get_or, if◌then◌else◌, length, map, option_map, pos, refl, slice_get}
 use Rattle.std.proofs.Common.{subst, subst₂, suc, sym, true, zero, ℕ, ℤ, ⊎_elim, ◌*ℤ◌, ◌*◌, ◌+ℤ◌, ◌+◌, ◌-ℤ◌, ◌-◌, ◌<ℤ◌, ◌<◌, ◌==◌, ◌^◌, ◌||◌, ◌∙◌, ◌∷◌, ◌≡◌}
 use Rattle.std.proofs.Common.{◌≢◌, ◌≤ℤ◌, ◌≤◌}
@@ -20,8 +19,8 @@ use Rattle.stream_case.proofs.StandardUtilities.{own_utility}
 use Rattle.vertical_design.proofs.CurveLemmas.{across-bounded, bounded, heat_across}
 use Rattle.vertical_design.proofs.Exchanges.{IsMatch, IsMetIn, IsPositiveExchange, are_matches, exchanges, match_faces, match_in, pair_runs, pairs_at}
 use Rattle.vertical_design.proofs.Exchanges.{pairs_meet, parts_sum, piece_of, positive-match, share_in, share_upto, shared_out, side_on}
-use Rattle.vertical_design.proofs.Intervals.{faced_apart, gap_in, other, piece_in, piece_there, pieces, size_is, sources_are}
-use Rattle.vertical_design.proofs.OverlapLists.{few-rows, few_cuts, few_matches, filter_map-map, filter_map-rows, index_on}
+use Rattle.vertical_design.proofs.Intervals.{faced_apart, gap_in, piece_in, piece_there, pieces, size_is, sources_are}
+use Rattle.vertical_design.proofs.OverlapLists.{few-rows, few_cuts, few_matches, filter_map-map, filter_map-rows, index_on, other}
 use Rattle.vertical_design.proofs.SpanSources.{Axis, cut_below, cut_from_last, cut_upto_first, flow_above, flow_at, high_at, is_axis, low_at, own_place}
 use Rattle.vertical_design.proofs.SpanSources.{reaches, sources_differ, spans_are, streams_are, target-within, utility_alone, utility_cuts, utility_order}
 use Rattle.vertical_design.proofs.SpanSources.{utility_outside, utility_place, utility_span_of}
@@ -426,133 +425,133 @@ module _ (axis : Axis) where
       ap (λ ss. source_at ss (piece_on of e)) (sym (sources_are axis of))
       ∙ source_at-piece (pieces axis of) (piece_on of e) (own_piece of e m) (piece_of axis of e m)
 
-  module _ (network : Network) (made : exchangers_of network.lines ≡ exchangers_for (sources side.Hot) (sources side.Cold) (exchanges axis))
-      (led : IsLedNetwork axis.case (pieces axis side.Hot) (pieces axis side.Cold) (exchanges axis) network) where
-    match_vertical : (number : ℕ) (x : Exchange) → slice_get (exchanges axis) number ≡ Some x
-        → IsVerticalAt axis.case network led.values number (exchanger_of (sources side.Hot) (sources side.Cold) (number, x))
-    match_vertical number x there =
-        let m = all_at (IsMatch axis) (exchanges axis) number x (are_matches axis) there in
-        let p = own_piece side.Hot x m in
-        let q = own_piece side.Cold x m in
-        let hot_runs = led.hot_runs number x p there (piece_of axis side.Hot x m) in
-        let cold_runs = led.cold_runs number x q there (piece_of axis side.Cold x m) in
-        let hot_shift : Rational → Rational = λ t. on_scale side.Hot t (contribution_of axis.case p.source) in
-        let cold_shift : Rational → Rational = λ t. on_scale side.Cold t (contribution_of axis.case q.source) in
-        let faces = match_faces axis x m in
-        let hot_is = sym (source_there side.Hot x m) in
-        let cold_is = sym (source_there side.Cold x m) in
-        record {
-          hot_end = subst₂ (λ a b. AreFacing axis.case.streams a b (entry axis.case network led.values number side.Hot a)
-              (exit axis.case network led.values number side.Cold b)) hot_is cold_is
-              (subst₂ (AreFacing axis.case.streams p.source q.source) (sym (ap hot_shift hot_runs.enters))
-              (sym (ap cold_shift cold_runs.leaves)) faces.hot_end);
-          cold_end = subst₂ (λ a b. AreFacing axis.case.streams a b (exit axis.case network led.values number side.Hot a)
-              (entry axis.case network led.values number side.Cold b)) hot_is cold_is
-              (subst₂ (AreFacing axis.case.streams p.source q.source) (sym (ap hot_shift hot_runs.leaves))
-              (sym (ap cold_shift cold_runs.enters)) faces.cold_end);
-        }
+  module _ (network : Network) (made : exchangers_of network.lines ≡ exchangers_for (sources side.Hot) (sources side.Cold) (exchanges axis)) where
+    -- ---- its utilities give and take the targets, so that it has no excess and costs the hot target
 
-    pub is_vertical : IsVertical axis.case network
-    is_vertical = record {
-      values = led.values;
-      valuation = led.valuation;
-      each = λ number e at.
-          let (x, there, is) = numbered-item (exchanger_of (sources side.Hot) (sources side.Cold)) 0 (exchanges axis) number e
-          (ap (λ es. slice_get es number) (sym made) ∙ at) in
-          let count : 0 + number ≡ number = omega arith in
-          subst (IsVerticalAt axis.case network led.values number) (ap (λ n. exchanger_of (sources side.Hot) (sources side.Cold) (n, x)) (sym count) ∙ is)
-          (match_vertical number x there);
-    }
+    -- what a utility gives or takes in all
+    abbrev target_on : Side → ℤ
+    target_on of = utility_to of axis.case.streams -ℤ utility_from of axis.case.streams
 
--- The balance of the vertical design of a standard case: its utilities give and take the targets, so that it has no excess and costs the hot target.
+    heat_is : (index : ℕ) (u : Utility) → slice_get axis.case.utilities index ≡ Some u → heat_with network index ≡ whole (target_on u.side)
+    unfolding duties_with
+    heat_is index u here =
+        ap (λ es. rational_sum (filter_map (duty_with index) es))
+        (made ∙ (λ i. exchangers_for (sym (sources_are axis side.Hot) i) (sym (sources_are axis side.Cold) i) (exchanges axis)))
+        ∙ heat_total index u here
 
-module _ (axis : Axis) (design : Network)
-    (made : exchangers_of design.lines ≡ exchangers_for (sources axis side.Hot) (sources axis side.Cold) (exchanges axis)) where
-  -- what a utility gives or takes in all
-  abbrev target_on : Side → ℤ
-  target_on of = utility_to of axis.case.streams -ℤ utility_from of axis.case.streams
+    both_heats : (a b : Utility) → axis.case.utilities ≡ a ∷ b ∷ []
+        → (heat_with network 0 ≡ whole (target_on a.side)) × (heat_with network 1 ≡ whole (target_on b.side))
+    both_heats a b order = (heat_is 0 a (ap (λ (us : List Utility). slice_get us 0) order), heat_is 1 b (ap (λ (us : List Utility). slice_get us 1) order))
 
-  heat_is : (index : ℕ) (u : Utility) → slice_get axis.case.utilities index ≡ Some u → heat_with design index ≡ whole (target_on u.side)
-  unfolding duties_with
-  heat_is index u here =
-      ap (λ es. rational_sum (filter_map (duty_with index) es))
-      (made ∙ (λ i. exchangers_for (sym (sources_are axis side.Hot) i) (sym (sources_are axis side.Cold) i) (exchanges axis)))
-      ∙ heat_total axis index u here
+    abbrev hot_utility : Utility
+    hot_utility = standard_utility side.Hot axis.case
 
-  both_heats : (a b : Utility) → axis.case.utilities ≡ a ∷ b ∷ []
-      → (heat_with design 0 ≡ whole (target_on a.side)) × (heat_with design 1 ≡ whole (target_on b.side))
-  both_heats a b order = (heat_is 0 a (ap (λ (us : List Utility). slice_get us 0) order), heat_is 1 b (ap (λ (us : List Utility). slice_get us 1) order))
+    abbrev cold_utility : Utility
+    cold_utility = standard_utility side.Cold axis.case
 
-  abbrev hot_utility : Utility
-  hot_utility = standard_utility side.Hot axis.case
+    -- the heats of a side are those of its utility
+    side_heat : (of : Side) → rational_sum (heats_on of axis.case network) ≡ whole (target_on of)
+    unfolding heats_on
+    side_heat of = ⊎_elim (by of) (turned of) axis.standard.utilities
+      where
+        heat : Side → List Utility → Rational
+        heat on us = rational_sum (filter_map (heat_on on network) (enumerate_from 0 us))
 
-  abbrev cold_utility : Utility
-  cold_utility = standard_utility side.Cold axis.case
+        by : (on : Side) → axis.case.utilities ≡ hot_utility ∷ cold_utility ∷ [] → heat on axis.case.utilities ≡ whole (target_on on)
+        by side.Hot order = ap (heat side.Hot) order ∙ plus-zero (heat_with network 0) ∙ (both_heats hot_utility cold_utility order).0
+        by side.Cold order = ap (heat side.Cold) order ∙ plus-zero (heat_with network 1) ∙ (both_heats hot_utility cold_utility order).1
 
-  -- the heats of a side are those of its utility
-  side_heat : (of : Side) → rational_sum (heats_on of axis.case design) ≡ whole (target_on of)
-  unfolding heats_on
-  side_heat of = ⊎_elim (by of) (turned of) axis.standard.utilities
-    where
-      heat : Side → List Utility → Rational
-      heat on us = rational_sum (filter_map (heat_on on design) (enumerate_from 0 us))
+        turned : (on : Side) → axis.case.utilities ≡ cold_utility ∷ hot_utility ∷ [] → heat on axis.case.utilities ≡ whole (target_on on)
+        turned side.Hot order = ap (heat side.Hot) order ∙ plus-zero (heat_with network 1) ∙ (both_heats cold_utility hot_utility order).1
+        turned side.Cold order = ap (heat side.Cold) order ∙ plus-zero (heat_with network 0) ∙ (both_heats cold_utility hot_utility order).0
 
-      by : (on : Side) → axis.case.utilities ≡ hot_utility ∷ cold_utility ∷ [] → heat on axis.case.utilities ≡ whole (target_on on)
-      by side.Hot order = ap (heat side.Hot) order ∙ plus-zero (heat_with design 0) ∙ (both_heats hot_utility cold_utility order).0
-      by side.Cold order = ap (heat side.Cold) order ∙ plus-zero (heat_with design 1) ∙ (both_heats hot_utility cold_utility order).1
+    -- the targets of the utilities are those of the case
+    hot_is : target_on side.Hot ≡ hot_target axis.case.streams
+    hot_is = omega (arith, ints)
 
-      turned : (on : Side) → axis.case.utilities ≡ cold_utility ∷ hot_utility ∷ [] → heat on axis.case.utilities ≡ whole (target_on on)
-      turned side.Hot order = ap (heat side.Hot) order ∙ plus-zero (heat_with design 1) ∙ (both_heats cold_utility hot_utility order).1
-      turned side.Cold order = ap (heat side.Cold) order ∙ plus-zero (heat_with design 0) ∙ (both_heats cold_utility hot_utility order).0
+    cold_is : target_on side.Cold ≡ cold_target axis.case.streams
+    cold_is = omega (arith, ints)
 
-  -- the targets of the utilities are those of the case
-  hot_is : target_on side.Hot ≡ hot_target axis.case.streams
-  hot_is = omega (arith, ints)
+    -- ---- the cost
 
-  cold_is : target_on side.Cold ≡ cold_target axis.case.streams
-  cold_is = omega (arith, ints)
+    -- what two utilities cost, by their prices and heats
+    two_prices : (a b : Utility) (x y : ℤ) → axis.case.utilities ≡ a ∷ b ∷ [] → heat_with network 0 ≡ whole x → heat_with network 1 ≡ whole y
+        → cost_of axis.case network ≡ whole (a.price *ℤ x +ℤ b.price *ℤ y)
+    unfolding cost_of
+    two_prices a b x y are_two first second =
+        ap (λ (us : List Utility). rational_sum_by (heat_price network) (enumerate_from 0 us)) are_two
+        ∙ ap₂ plus (ap (times (whole a.price)) first ∙ whole-times a.price x) (plus-zero (times (whole b.price) (heat_with network 1))
+        ∙ ap (times (whole b.price)) second ∙ whole-times b.price y)
+        ∙ whole-plus (a.price *ℤ x) (b.price *ℤ y)
 
-  -- ---- the cost
+    cost_is : cost_of axis.case network ≡ whole (hot_target axis.case.streams)
+    cost_is =
+        ⊎_elim
+        (λ order.
+        let heats = both_heats hot_utility cold_utility order in
+        two_prices hot_utility cold_utility (target_on side.Hot) (target_on side.Cold) order heats.0 heats.1
+        ∙ ap whole (one_and_nothing (target_on side.Hot) (target_on side.Cold) ∙ hot_is))
+        (λ order.
+        let heats = both_heats cold_utility hot_utility order in
+        two_prices cold_utility hot_utility (target_on side.Cold) (target_on side.Hot) order heats.0 heats.1
+        ∙ ap whole (nothing_and_one (target_on side.Cold) (target_on side.Hot) ∙ hot_is))
+        axis.standard.utilities
+      where
+        one_and_nothing : (x y : ℤ) → pos 1 *ℤ x +ℤ pos 0 *ℤ y ≡ x
+        one_and_nothing x y = omega (arith, ints)
 
-  -- what two utilities cost, by their prices and heats
-  two_prices : (a b : Utility) (x y : ℤ) → axis.case.utilities ≡ a ∷ b ∷ [] → heat_with design 0 ≡ whole x → heat_with design 1 ≡ whole y
-      → cost_of axis.case design ≡ whole (a.price *ℤ x +ℤ b.price *ℤ y)
-  unfolding cost_of
-  two_prices a b x y are_two first second =
-      ap (λ (us : List Utility). rational_sum_by (heat_price design) (enumerate_from 0 us)) are_two
-      ∙ ap₂ plus (ap (times (whole a.price)) first ∙ whole-times a.price x) (plus-zero (times (whole b.price) (heat_with design 1))
-      ∙ ap (times (whole b.price)) second ∙ whole-times b.price y)
-      ∙ whole-plus (a.price *ℤ x) (b.price *ℤ y)
+        nothing_and_one : (x y : ℤ) → pos 0 *ℤ x +ℤ pos 1 *ℤ y ≡ y
+        nothing_and_one x y = omega (arith, ints)
 
-  cost_is : cost_of axis.case design ≡ whole (hot_target axis.case.streams)
-  cost_is =
-      ⊎_elim
-      (λ order.
-      let heats = both_heats hot_utility cold_utility order in
-      two_prices hot_utility cold_utility (target_on side.Hot) (target_on side.Cold) order heats.0 heats.1
-      ∙ ap whole (one_and_nothing (target_on side.Hot) (target_on side.Cold) ∙ hot_is))
-      (λ order.
-      let heats = both_heats cold_utility hot_utility order in
-      two_prices cold_utility hot_utility (target_on side.Cold) (target_on side.Hot) order heats.0 heats.1
-      ∙ ap whole (nothing_and_one (target_on side.Cold) (target_on side.Hot) ∙ hot_is))
-      axis.standard.utilities
-    where
-      one_and_nothing : (x y : ℤ) → pos 1 *ℤ x +ℤ pos 0 *ℤ y ≡ x
-      one_and_nothing x y = omega (arith, ints)
+    -- ---- the balance
 
-      nothing_and_one : (x y : ℤ) → pos 0 *ℤ x +ℤ pos 1 *ℤ y ≡ y
-      nothing_and_one x y = omega (arith, ints)
+    pub balance-network : HasShape axis.case network → balance_of axis.case network ≡ target_balance axis.case
+    balance-network shape =
+        let gives = sym (hot_heat-is axis.case network shape) ∙ side_heat side.Hot ∙ ap whole hot_is in
+        let takes = sym (cold_heat-is axis.case network shape) ∙ side_heat side.Cold ∙ ap whole cold_is in
+        let beyond : excess_of axis.case network ≡ rational_zero = ap (λ x. minus x (whole (hot_target axis.case.streams))) gives
+        ∙ minus-self (whole (hot_target axis.case.streams)) in
+        let costs = cost_is in
+        λ i. record { hot = gives i; cold = takes i; excess = beyond i; cost = costs i }
 
-  -- ---- the balance
+    -- ---- it is vertical
 
-  pub balance-network : HasShape axis.case design → balance_of axis.case design ≡ target_balance axis.case
-  balance-network shape =
-      let gives = sym (hot_heat-is axis.case design shape) ∙ side_heat side.Hot ∙ ap whole hot_is in
-      let takes = sym (cold_heat-is axis.case design shape) ∙ side_heat side.Cold ∙ ap whole cold_is in
-      let beyond : excess_of axis.case design ≡ rational_zero = ap (λ x. minus x (whole (hot_target axis.case.streams))) gives
-      ∙ minus-self (whole (hot_target axis.case.streams)) in
-      let costs = cost_is in
-      λ i. record { hot = gives i; cold = takes i; excess = beyond i; cost = costs i }
+    module _ (led : IsLedNetwork axis.case (pieces axis side.Hot) (pieces axis side.Cold) (exchanges axis) network) where
+      match_vertical : (number : ℕ) (x : Exchange) → slice_get (exchanges axis) number ≡ Some x
+          → IsVerticalAt axis.case network led.values number (exchanger_of (sources side.Hot) (sources side.Cold) (number, x))
+      match_vertical number x there =
+          let m = all_at (IsMatch axis) (exchanges axis) number x (are_matches axis) there in
+          let p = own_piece side.Hot x m in
+          let q = own_piece side.Cold x m in
+          let hot_runs = led.hot_runs number x p there (piece_of axis side.Hot x m) in
+          let cold_runs = led.cold_runs number x q there (piece_of axis side.Cold x m) in
+          let hot_shift : Rational → Rational = λ t. on_scale side.Hot t (contribution_of axis.case p.source) in
+          let cold_shift : Rational → Rational = λ t. on_scale side.Cold t (contribution_of axis.case q.source) in
+          let faces = match_faces axis x m in
+          let hot_is = sym (source_there side.Hot x m) in
+          let cold_is = sym (source_there side.Cold x m) in
+          record {
+            hot_end = subst₂ (λ a b. AreFacing axis.case.streams a b (entry axis.case network led.values number side.Hot a)
+                (exit axis.case network led.values number side.Cold b)) hot_is cold_is
+                (subst₂ (AreFacing axis.case.streams p.source q.source) (sym (ap hot_shift hot_runs.enters))
+                (sym (ap cold_shift cold_runs.leaves)) faces.hot_end);
+            cold_end = subst₂ (λ a b. AreFacing axis.case.streams a b (exit axis.case network led.values number side.Hot a)
+                (entry axis.case network led.values number side.Cold b)) hot_is cold_is
+                (subst₂ (AreFacing axis.case.streams p.source q.source) (sym (ap hot_shift hot_runs.leaves))
+                (sym (ap cold_shift cold_runs.enters)) faces.cold_end);
+          }
+
+      pub is_vertical : IsVertical axis.case network
+      is_vertical = record {
+        values = led.values;
+        valuation = led.valuation;
+        each = λ number e at.
+            let (x, there, is) = numbered-item (exchanger_of (sources side.Hot) (sources side.Cold)) 0 (exchanges axis) number e
+            (ap (λ es. slice_get es number) (sym made) ∙ at) in
+            let count : 0 + number ≡ number = omega arith in
+            subst (IsVerticalAt axis.case network led.values number) (ap (λ n. exchanger_of (sources side.Hot) (sources side.Cold) (n, x)) (sym count) ∙ is)
+            (match_vertical number x there);
+      }
 
 -- What holds of the network of the vertical design, which the pieces of the intervals draw.
 
@@ -563,39 +562,7 @@ pub record IsLed (case : Case) (hot cold : List Source) (es : List Exchange) (ne
   pub few_lines : length network.lines ≤ 7 * length es + length case.streams
   pub law : LedPiecesDrawLedNetworks case hot cold es network
 
-pub record IsVerticalNetwork (case : Case) (network : Network) : Type 0 where
-  pub drawn : IsVerticalDesign case network
-  pub shape : HasShape case network
-  pub counts : KeepsCounts network
-  pub few_lines : HasFewLines network
-  pub valid : IsValidNetwork case network
-  pub vertical : IsVertical case network
-  pub accepted : HasNoFinding case network
-  pub balance : balance_of case network ≡ target_balance case
-
 -- what holds of three lists holds of three that are the same
 pub moved : (P : List Source → List Source → List Exchange → Type 0) {a b x y : List Source} {es fs : List Exchange} → a ≡ x → b ≡ y → es ≡ fs → P a b es
     → P x y fs
 moved P {a} {b} {x} {y} {es} {fs} p q r is = subst (P x y) r (subst (λ u. P x u es) q (subst (λ u. P u b es) p is))
-
-pub vertical_network : (axis : Axis) (network : Network)
-    → IsLed axis.case (sources axis side.Hot) (sources axis side.Cold) (exchanges axis) network → IsVerticalNetwork axis.case network
-unfolding network_of
-vertical_network axis network is =
-    let hot = sources axis side.Hot in
-    let cold = sources axis side.Cold in
-    let es = exchanges axis in
-    let law = is.law (pieces axis side.Hot) (pieces axis side.Cold) (sources_are axis side.Hot) (sources_are axis side.Cold) (are_led axis) in
-    let few = (can_be_led axis).few in
-    let lines = is.few_lines in
-    let declared = ap length is.exchangers ∙ length-map (enumerate_from 0 es) (exchanger_of hot cold) ∙ length-enumerate_from 0 es in
-    record {
-      drawn = (axis.cuts, axis.are_cuts, is.drawn);
-      shape = law.shape;
-      counts = record { lines = omega (arith, few, lines); exchangers = omega (arith, few, declared) };
-      few_lines = omega (arith, few, lines);
-      valid = law.valid;
-      vertical = is_vertical axis network is.exchangers law;
-      accepted = law.accepted;
-      balance = balance-network axis network is.exchangers law.shape;
-    }

@@ -10,8 +10,8 @@ use Rattle.vertical_design.proofs.Words.{lower_cut, map-append, match_of, matche
 use Rattle.vertical_design.proofs.Words.{product_between, product_positive, range_with_len, range_with_len-append, side_flow, slice_get-append}
 use Rattle.vertical_design.proofs.Words.{slice_get_within, take_more, upper_cut, zero_times, ◌&&◌, ◌-ℤ◌}
 use Rattle.std.proofs.Common.{All, AllPairs, Bool, List, None, Some, [], ap, append-nil, ap₂, arith, cond, false, get_or, if◌then◌else◌, inl, inr, length}
-use Rattle.std.proofs.Common.{length-append, map, pos, refl, slice_get, suc, sym, take, true, zero, zero-add, ℕ, ℤ, ⊎_elim, ◌*ℤ◌, ◌*◌, ◌++◌, ◌+ℤ◌, ◌+◌, ◌-◌}
-use Rattle.std.proofs.Common.{◌<ℤ◌, ◌<◌, ◌==◌, ◌^◌, ◌∙◌, ◌∷◌, ◌≡◌, ◌≢◌, ◌≤ℤ◌, ◌≤◌}
+use Rattle.std.proofs.Common.{length-append, map, pos, refl, slice_get, subst, suc, sym, take, true, zero, zero-add, ℕ, ℤ, ⊎_elim, ◌*ℤ◌, ◌*◌, ◌++◌, ◌+ℤ◌, ◌+◌}
+use Rattle.std.proofs.Common.{◌-◌, ◌<ℤ◌, ◌<◌, ◌==◌, ◌^◌, ◌∙◌, ◌∷◌, ◌≡◌, ◌≢◌, ◌≤ℤ◌, ◌≤◌}
 use Rattle.std.proofs.lemmas.Grind.{flat_map-append}
 use Rattle.sums.proofs.OrderLemmas.{AllPairs-head, AllPairs-tail, Lists-same, Lists-unique}
 use Rattle.sums.proofs.WalkLemmas.{begin_of-rises, begin_of-suc, overlaps_first, overlaps_second, pair_one_way}
@@ -325,26 +325,17 @@ few_matches number low high hot cold are_hot are_cold =
 
 -- The pairs of one source of an interval share out its flow times that of the other side.
 
--- of two lists that of a side, and that of the other side
-abbrev pub list_on : Side → List Span → List Span → List Span
-list_on side.Hot hot cold = hot
-list_on side.Cold hot cold = cold
-
-abbrev pub list_across : Side → List Span → List Span → List Span
-list_across side.Hot hot cold = cold
-list_across side.Cold hot cold = hot
+abbrev pub other : Side → Side
+other side.Hot = side.Cold
+other side.Cold = side.Hot
 
 abbrev pub index_on : Side → Pair → ℕ
 index_on side.Hot p = p.first
 index_on side.Cold p = p.second
 
--- the pairs of the source at an index
-abbrev pub own_pairs : Side → ℕ → List Pair → List Pair
-own_pairs of k ps = filter (λ p. index_on of p == k) ps
-
 -- ---- sums
 
-pub sum-filter : {X : Type 0} (p : X → Bool) (f : X → ℤ) (xs : List X) → int_sum_by f (filter p xs) ≡ int_sum_by (λ x. if p x then f x else pos 0) xs
+sum-filter : {X : Type 0} (p : X → Bool) (f : X → ℤ) (xs : List X) → int_sum_by f (filter p xs) ≡ int_sum_by (λ x. if p x then f x else pos 0) xs
 sum-filter p f [] = refl
 sum-filter {X} p f (x ∷ xs) = by (p x) ∙ ap (λ z. (if p x then f x else pos 0) +ℤ z) (sum-filter p f xs)
   where
@@ -359,47 +350,8 @@ sum-scaled : (c : ℤ) (xs : List ℤ) → int_sum_by (λ x. x) (map (λ x. x *�
 sum-scaled c [] = sym (zero_times (pos 0) c refl)
 sum-scaled c (x ∷ xs) = ap (λ z. x *ℤ c +ℤ z) (sum-scaled c xs) ∙ sym (+ℤ-*ℤ x (int_sum_by (λ y. y) xs) c)
 
-module _ (low high : ℤ) (hot cold : List Span) where
-  abbrev offered : List ℤ
-  offered = amounts_in low high hot cold
-
-  abbrev asked : List ℤ
-  asked = amounts_in low high cold hot
-
-  -- what a source of a side offers or asks for
-  abbrev amount_on : Side → ℕ → ℤ
-  amount_on of k = get_or (amounts_in low high (list_on of hot cold) (list_across of hot cold)) k (pos 0)
-
-  -- both sides offer and ask for as much
-  amounts-balanced : int_sum_by (λ x. x) offered ≡ int_sum_by (λ x. x) asked
-  amounts-balanced =
-      sum-scaled (side_flow low high cold) (flows_in low high hot) ∙ *ℤ_comm (side_flow low high hot) (side_flow low high cold)
-      ∙ sym (sum-scaled (side_flow low high hot) (flows_in low high cold))
-
-  -- and the pairs of a source add up to it
-  pub own_amounts : AreSpans hot → AreSpans cold → (of : Side) (k : ℕ) → k < length (list_on of hot cold)
-      → int_sum_by (λ p. p.amount) (own_pairs of k (pairs_of (amounts_in low high hot cold) (amounts_in low high cold hot))) ≡ amount_on of k
-  own_amounts are_hot are_cold of k within = sum-filter (λ p. index_on of p == k) (λ p. p.amount) (pairs_of offered asked) ∙ by of within
-    where
-      by : (d : Side) → k < length (list_on d hot cold)
-          → int_sum_by (λ p. if index_on d p == k then p.amount else pos 0) (pairs_of offered asked) ≡ amount_on d k
-      by side.Hot inside =
-          overlaps_first offered asked (pairs_of offered asked) (amounts-positive low high hot cold are_hot are_cold)
-          (amounts-positive low high cold hot are_cold are_hot)
-          amounts-balanced (ListsOverlaps-pairs_of offered asked) k (omega (arith, length-amounts low high hot cold))
-      by side.Cold inside =
-          overlaps_second offered asked (pairs_of offered asked) (amounts-positive low high hot cold are_hot are_cold)
-          (amounts-positive low high cold hot are_cold are_hot)
-          amounts-balanced (ListsOverlaps-pairs_of offered asked) k (omega (arith, length-amounts low high cold hot))
-
-  -- a share is no more than that
-  pub own_share : (of : Side) (k : ℕ) (p : Pair) → IsOverlap (amounts_in low high hot cold) (amounts_in low high cold hot) p → index_on of p ≡ k
-      → p.amount ≤ℤ amount_on of k
-  own_share side.Hot k p is own = rw (← own) (omega (arith, ints, is.amount, (overlap-within offered asked p.first p.second).0))
-  own_share side.Cold k p is own = rw (← own) (omega (arith, ints, is.amount, (overlap-within offered asked p.first p.second).1))
-
 -- what a source offers or asks for
-pub own_amount : (low high : ℤ) (spans others : List Span) (k : ℕ) (a : Span) → slice_get spans k ≡ Some a
+own_amount : (low high : ℤ) (spans others : List Span) (k : ℕ) (a : Span) → slice_get spans k ≡ Some a
     → get_or (amounts_in low high spans others) k (pos 0) ≡ flow_in low high a *ℤ side_flow low high others
 own_amount low high spans others k a there =
     let within = slice_get_within spans k a there in
@@ -407,6 +359,48 @@ own_amount low high spans others k a there =
     let scaled = λ (f : ℤ). f *ℤ side_flow low high others in
     get_or-map scaled flows k (pos 0) (pos 0) (omega (arith, within, length-map spans (flow_in low high)))
     ∙ ap scaled (get_or-map (flow_in low high) spans k a (pos 0) within ∙ ap (flow_in low high) (get_or_from_slice_get spans k a a there))
+
+module _ (low high : ℤ) (spans : Side → List Span) where
+  abbrev amounts : Side → List ℤ
+  amounts of = amounts_in low high (spans of) (spans (other of))
+
+  -- both sides offer and ask for as much
+  amounts-balanced : int_sum_by (λ x. x) (amounts side.Hot) ≡ int_sum_by (λ x. x) (amounts side.Cold)
+  amounts-balanced =
+      sum-scaled (side_flow low high (spans side.Cold)) (flows_in low high (spans side.Hot))
+      ∙ *ℤ_comm (side_flow low high (spans side.Hot)) (side_flow low high (spans side.Cold))
+      ∙ sym (sum-scaled (side_flow low high (spans side.Hot)) (flows_in low high (spans side.Cold)))
+
+  module _ (of : Side) (k : ℕ) (a : Span) (there : slice_get (spans of) k ≡ Some a) where
+    -- the pairs of a source add up to what it offers or asks for
+    pub own_amounts : ((d : Side) → AreSpans (spans d))
+        → int_sum_by (λ p. p.amount) (filter (λ p. index_on of p == k) (pairs_of (amounts side.Hot) (amounts side.Cold)))
+        ≡ flow_in low high a *ℤ side_flow low high (spans (other of))
+    own_amounts are =
+        sum-filter (λ p. index_on of p == k) (λ p. p.amount) (pairs_of (amounts side.Hot) (amounts side.Cold))
+        ∙ by of (omega (arith, slice_get_within (spans of) k a there, length-amounts low high (spans of) (spans (other of))))
+        ∙ own_amount low high (spans of) (spans (other of)) k a there
+      where
+        some : (d : Side) → NotNegative (amounts d)
+        some d = amounts-positive low high (spans d) (spans (other d)) (are d) (are (other d))
+
+        by : (d : Side) → k < length (amounts d)
+            → int_sum_by (λ p. if index_on d p == k then p.amount else pos 0) (pairs_of (amounts side.Hot) (amounts side.Cold)) ≡ get_or (amounts d) k (pos 0)
+        by side.Hot inside =
+            overlaps_first (amounts side.Hot) (amounts side.Cold) (pairs_of (amounts side.Hot) (amounts side.Cold)) (some side.Hot) (some side.Cold)
+            amounts-balanced (ListsOverlaps-pairs_of (amounts side.Hot) (amounts side.Cold)) k inside
+        by side.Cold inside =
+            overlaps_second (amounts side.Hot) (amounts side.Cold) (pairs_of (amounts side.Hot) (amounts side.Cold)) (some side.Hot) (some side.Cold)
+            amounts-balanced (ListsOverlaps-pairs_of (amounts side.Hot) (amounts side.Cold)) k inside
+
+    -- a share is no more than that
+    pub own_share : (p : Pair) → IsOverlap (amounts side.Hot) (amounts side.Cold) p → index_on of p ≡ k
+        → p.amount ≤ℤ (flow_in low high a *ℤ side_flow low high (spans (other of)))
+    own_share p is own = subst (λ z. p.amount ≤ℤ z) (own_amount low high (spans of) (spans (other of)) k a there) (by of own)
+      where
+        by : (d : Side) → index_on d p ≡ k → p.amount ≤ℤ get_or (amounts d) k (pos 0)
+        by side.Hot at = rw (← at) (omega (arith, ints, is.amount, (overlap-within (amounts side.Hot) (amounts side.Cold) p.first p.second).0))
+        by side.Cold at = rw (← at) (omega (arith, ints, is.amount, (overlap-within (amounts side.Hot) (amounts side.Cold) p.first p.second).1))
 
 -- Lists that are made row by row, all rows of one length.
 

@@ -15,7 +15,7 @@ use Rattle.std.proofs.Common.{All, AllPairs, Bool, List, None, Some, [], ap, app
 use Rattle.std.proofs.Common.{refl, slice_get, subst, suc, sym, take, true, zero, zero-add, ℕ, ℤ, ⊎_elim, ◌*◌, ◌++◌, ◌+ℤ◌, ◌+◌, ◌-ℤ◌, ◌-◌, ◌<ℤ◌, ◌<◌, ◌==◌, ◌∙◌}
 use Rattle.std.proofs.Common.{◌∷◌, ◌≡◌, ◌≢◌, ◌≤ℤ◌, ◌≤◌, ◌⊎◌}
 use Rattle.stream_case.proofs.StandardUtilities.{in_order, some_utility, standard_side}
-use Rattle.vertical_design.proofs.CurveLemmas.{HasNoEnd, IsOutside, end_of, flow_positive, flow_running, gap_segment, on_curve, running_flow}
+use Rattle.vertical_design.proofs.CurveLemmas.{HasNoEnd, IsOutside, bounded, end_of, flow_positive, flow_running, gap_segment, on_curve, running_flow}
 use Rattle.sums.proofs.SumLemmas.{int_sum_by-append, int_sum_by-map, int_sum_by-zero}
 use Rattle.stream_case.specs.declared.source.Side.TheVariants as side
 use Rattle.stream_case.specs.declared.source.Source.TheVariants as source

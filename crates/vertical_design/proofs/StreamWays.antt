@@ -16,9 +16,9 @@ use Rattle.std.proofs.Common.{true, zero, ℕ, ℤ, ⊎_elim, ◌*◌, ◌++◌,
 use Rattle.vertical_design.proofs.CurveLemmas.{HasNoEnd, bounded, heat_rises, one_place}
 use Rattle.vertical_design.proofs.Exchanges.{IsMatch, RunsSpan, are_matches, exchange_there, exchanges, heat_match, over_at, own_number, own_span, pair_runs}
 use Rattle.vertical_design.proofs.Exchanges.{piece_index, piece_of, size_match, size_piece, stream_runs}
-use Rattle.vertical_design.proofs.Intervals.{RunsIn, actual-first, actual-last, actual_at, curve_heat-whole, entered_at, found, left_at, other, piece_in}
-use Rattle.vertical_design.proofs.Intervals.{pieces, pieces_at, scale_at, scale_is, state_at}
-use Rattle.vertical_design.proofs.OverlapLists.{filter_map-rows, index_on, no_items, numbered-rows, only_item, side-within}
+use Rattle.vertical_design.proofs.Intervals.{RunsIn, actual-first, actual-last, actual_at, curve_heat-whole, entered_at, found, left_at, piece_in, pieces}
+use Rattle.vertical_design.proofs.Intervals.{pieces_at, scale_at, scale_is, state_at}
+use Rattle.vertical_design.proofs.OverlapLists.{filter_map-rows, index_on, no_items, numbered-rows, only_item, other, side-within}
 use Rattle.vertical_design.proofs.SpanSources.{Axis, IsSourceSpan, cut_below, cut_from_last, cut_upto_first, ends_are_cuts, flow_above, flow_at, high_at}
 use Rattle.vertical_design.proofs.SpanSources.{low_at, no_end_between, own_place, sources_differ, span_of, span_sources, spans_are, stream_place, streams_are}
 use Rattle.design_lines.specs.Ways.{on_the_way}
