@@ -10,7 +10,7 @@ use Rattle.vertical_design.proofs.Words.{unsigned_abs, unsigned_abs-mul, utility
 use Rattle.std.proofs.Common.{All, Bool, List, None, Some, [], ap, ap₂, arith, cond, false, get_or, if◌then◌else◌, inl, inr, length, option_map, pos, refl}
 use Rattle.std.proofs.Common.{slice_get, subst, subst₂, suc, sym, true, ℕ, ℤ, ⊎_elim, ◌*◌, ◌+◌, ◌-◌, ◌<ℤ◌, ◌<◌, ◌==◌, ◌^◌, ◌∙◌, ◌∷◌, ◌≡◌, ◌≢◌, ◌≤ℤ◌}
 use Rattle.vertical_design.proofs.Intervals.{Faces, IsWithinRange, RunsIn, found, on_scale-actual, piece_in, piece_there, pieces, scale_at, scale_at_utility}
-use Rattle.vertical_design.proofs.Intervals.{scale_is, scale_within, scales_face, shifted_state, size_is, state_at}
+use Rattle.vertical_design.proofs.Intervals.{scale_is, scale_within, scales_face, shifted_state, size_above, size_is, state_at}
 use Rattle.vertical_design.proofs.OverlapLists.{IsShare, ListsOverlaps-pairs_of, duty-within, filter_map-map, filter_map-rows, index_on, none_kept, only_row}
 use Rattle.vertical_design.proofs.OverlapLists.{other, own_amounts, own_share, same_place, share-within}
 use Rattle.vertical_design.proofs.SpanSources.{Axis, IsSourceSpan, cut_below, flow_above, flow_at, high_at, is_axis, low_at, reaches, span_of, span_sources}
@@ -19,9 +19,6 @@ use Rattle.stream_case.specs.declared.source.Side.TheVariants as side
 use Rattle.stream_case.specs.declared.source.Source.TheVariants as source
 
 -- ---- sizes and heats
-
-size_above : (x : ℤ) → pos 0 <ℤ x → 0 < unsigned_abs x
-size_above x above = omega (arith, ints, above)
 
 fraction-positive : (num den : ℤ) → pos 0 <ℤ num → num ≤ℤ pos (2 ^ 76) → pos 0 <ℤ den → den ≤ℤ pos (2 ^ 48) → IsPositive (ratio num (unsigned_abs den))
 fraction-positive num den num_above num_upto den_above den_upto =

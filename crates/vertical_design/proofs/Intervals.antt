@@ -1,7 +1,7 @@
 -- A hot and a cold source that face each other at both ends keep their approach, where each stream is within its range.
 use Rattle.vertical_design.proofs.Words.{*ℤ_cancel_right, *ℤ_comm, -ℤ-*ℤ, All-contains, AreApart, AreFacing, AreSensible, AreSensibleStreams}
 use Rattle.vertical_design.proofs.Words.{AreSensibleStreams-both, Case, Contains-slice_get, HasValidStreams, IsAtMost, IsAtUtility, IsBelow, IsGap, IsOutermost}
-use Rattle.vertical_design.proofs.Words.{IsOutermost-outermost, IsOver, IsSensible, IsStandard, Piece, Rational, Side, Source, Span, Stream, Utility}
+use Rattle.vertical_design.proofs.Words.{IsOutermost-outermost, IsOver, IsSensible, IsStandard, Piece, Rational, Side, Source, Span, Stream, Utility, all_at}
 use Rattle.vertical_design.proofs.Words.{at_most-ratio_whole, at_most-whole, at_most-whole_ratio, at_most_below_trans, at_most_from_below}
 use Rattle.vertical_design.proofs.Words.{at_most_from_minus_right, at_most_trans, begin_of, below-ratio, below_at_most_trans, cases_lt, contribution_of}
 use Rattle.vertical_design.proofs.Words.{curve_heat, each_end, first_end, first_state, first_state-unshifted, flat_map, heat_at, high_end, int_lt_cases}
@@ -91,11 +91,10 @@ module _ (case : Case) (valid : HasValidStreams case.streams) (sensible : AreSen
   -- the ends of a stream lie between those levels
   within_levels : (i : ℕ) (s : Stream) → slice_get case.streams i ≡ Some s → (outer_end side.Cold ≤ℤ low_end s) × (high_end s ≤ℤ outer_end side.Hot)
   within_levels i s at =
-      let member = Contains-slice_get case.streams i s at in
-      let low = All-contains (λ x. (outer_end side.Cold ≤ℤ high_end x) × (outer_end side.Cold ≤ℤ low_end x)) case.streams s
-      (each_end (λ x. outer_end side.Cold ≤ℤ x) case.streams (outer side.Cold).bound) member in
-      let high = All-contains (λ x. (high_end x ≤ℤ outer_end side.Hot) × (low_end x ≤ℤ outer_end side.Hot)) case.streams s
-      (each_end (λ x. x ≤ℤ outer_end side.Hot) case.streams (outer side.Hot).bound) member in
+      let low = all_at (λ x. (outer_end side.Cold ≤ℤ high_end x) × (outer_end side.Cold ≤ℤ low_end x)) case.streams i s
+      (each_end (λ x. outer_end side.Cold ≤ℤ x) case.streams (outer side.Cold).bound) at in
+      let high = all_at (λ x. (high_end x ≤ℤ outer_end side.Hot) × (low_end x ≤ℤ outer_end side.Hot)) case.streams i s
+      (each_end (λ x. x ≤ℤ outer_end side.Hot) case.streams (outer side.Hot).bound) at in
       (low.1, high.0)
 
   levels_order : outer_end side.Cold ≤ℤ outer_end side.Hot
@@ -185,6 +184,9 @@ pub size_is : (x : ℤ) → pos 0 <ℤ x → x ≡ pos (unsigned_abs x)
 size_is (pos n) above = refl
 size_is (negsuc n) above = absurd (omega (arith, ints, above))
 
+pub size_above : (x : ℤ) → pos 0 <ℤ x → 0 < unsigned_abs x
+size_above x above = omega (arith, ints, above)
+
 -- a temperature in the range of a stream
 abbrev pub IsInRange : Stream → Rational → Type 0
 IsInRange r t = IsAtMost (whole (low_end r)) t × IsAtMost t (whole (high_end r))
@@ -212,10 +214,7 @@ module _ (of : Side) (streams : List Stream) (are : AreSensibleStreams streams) 
   flow_is = size_is flow (flow_positive of streams are low high gap begin end is none)
 
   some : 0 < d
-  some = above flow (flow_positive of streams are low high gap begin end is none)
-    where
-      above : (x : ℤ) → pos 0 <ℤ x → 0 < unsigned_abs x
-      above x more = omega (arith, ints)
+  some = size_above flow (flow_positive of streams are low high gap begin end is none)
 
   -- in parts of the flow, by as much above the begin of the segment as the heat exceeds the one there
   abbrev place : ℤ → ℤ

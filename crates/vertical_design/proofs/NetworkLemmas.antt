@@ -299,8 +299,8 @@ module _ (axis : Axis) where
 
     pub heat_total : rational_sum (heats_with hot_sources cold_sources (exchanges axis) index) ≡ whole (to_of -ℤ from_of)
     heat_total = ap rational_sum heats_are ∙ sum_from (length axis.cuts - 1) 0 (omega arith)
-        ∙ ap whole (ends (high_at axis 0) (high_at axis (length axis.cuts - 1)) (cut_upto_first axis.cuts axis.are_cuts.ordered to_of (utility_cuts axis u.side).1)
-        (cut_from_last axis.cuts axis.are_cuts.ordered from_of (utility_cuts axis u.side).0))
+        ∙ ap whole (ends (high_at axis 0) (high_at axis (length axis.cuts - 1))
+        (cut_upto_first axis.cuts axis.are_cuts.ordered to_of (utility_cuts axis u.side).1) (cut_from_last axis.cuts axis.are_cuts.ordered from_of (utility_cuts axis u.side).0))
       where
         ends : (x y : ℤ) → to_of ≤ℤ x → y ≤ℤ from_of → bounded from_of to_of x -ℤ bounded from_of to_of y ≡ to_of -ℤ from_of
         ends x y first last = omega (arith, ints, clamps, order)
@@ -387,7 +387,7 @@ module _ (axis : Axis) where
   long of = ap length (sym (sources_are axis of)) ∙ length-map (pieces axis of) (λ (p : Piece). p.source)
 
   few_intervals : length axis.cuts - 1 ≤ MOST_CUTS
-  few_intervals = let few = few_cuts hot cold axis.cuts (spans_are axis side.Hot) (spans_are axis side.Cold) axis.are_cuts in omega (arith, few)
+  few_intervals = omega (arith, few_cuts hot cold axis.cuts (spans_are axis side.Hot) (spans_are axis side.Cold) axis.are_cuts)
 
   few_sources : (of : Side) → length (sources of) < 2 ^ 32
   few_sources of =
@@ -398,11 +398,9 @@ module _ (axis : Axis) where
 
   pub can_be_led : CanBeLed (sources side.Hot) (sources side.Cold) (exchanges axis)
   can_be_led =
-      let most = 2 * MOST_SPANS in
       let each = few-rows (exchanges_at hot cold axis.cuts) (2 * MOST_SPANS)
       (λ n. few_matches n (low_at axis n) (high_at axis n) hot cold (spans_are axis side.Hot) (spans_are axis side.Cold)) 0 (length axis.cuts - 1) in
-      let all = mul-le-mul_right most few_intervals in
-      let streams = length-AreStreams axis.case.streams (streams_are axis).are in
+      let all = mul-le-mul_right (2 * MOST_SPANS) few_intervals in
       record {
         hot_there = λ k d inside.
             let e = get_or (exchanges axis) k d in
@@ -414,7 +412,7 @@ module _ (axis : Axis) where
             omega (arith, there, long side.Cold);
         few_hot = few_sources side.Hot;
         few_cold = few_sources side.Cold;
-        few = omega (arith, each, all, streams);
+        few = omega (arith, each, all, length-AreStreams axis.case.streams (streams_are axis).are);
       }
 
   -- ---- the network is vertical

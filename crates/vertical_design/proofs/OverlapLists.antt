@@ -199,7 +199,8 @@ IsAmount amount = IsBetween (pos 0) (MOST_CP *ℤ MOST_FLOW) amount
 
 pub scaled-positive : (flows : List ℤ) (side : ℤ) → All IsFlow flows → IsSideFlow side → NotNegative (map (λ f. f *ℤ side) flows)
 scaled-positive flows side each is_side =
-    All-map (λ a. pos 0 ≤ℤ a) (λ f. f *ℤ side) flows (All-weaker IsFlow (λ f. pos 0 ≤ℤ (f *ℤ side)) (λ f is. (product-between f side is is_side).from) flows each)
+    All-map (λ a. pos 0 ≤ℤ a) (λ f. f *ℤ side) flows
+    (All-weaker IsFlow (λ f. pos 0 ≤ℤ (f *ℤ side)) (λ f is. (product-between f side is is_side).from) flows each)
 
 -- a factor of a product above 0
 factor-above : (flow side : ℤ) → pos 0 ≤ℤ side → pos 0 <ℤ (flow *ℤ side) → pos 0 <ℤ side

@@ -41,14 +41,10 @@ utility_order side.Cold streams axis = axis.cold_order
 abbrev pub IsOnAxis : List Stream → ℤ → Type 0
 IsOnAxis streams x = IsBetween (pos 0) (utility_to side.Hot streams) x
 
--- the range of the curve of a side
-abbrev IsOnCurve : Side → List Stream → ℤ → Type 0
-IsOnCurve of streams x = IsBetween (begin_of of streams) (end_of of streams) x
-
 pub curve_on_axis : (of : Side) (streams : List Stream) (t : ℤ) → AreSensibleStreams streams → IsOnAxis streams (heat_at of streams t)
 curve_on_axis of streams t are = by of (heat_at of streams t) (on_curve of streams are t) (is_axis streams are)
   where
-    by : (d : Side) (x : ℤ) → IsOnCurve d streams x → IsAxis streams → IsOnAxis streams x
+    by : (d : Side) (x : ℤ) → IsBetween (begin_of d streams) (end_of d streams) x → IsAxis streams → IsOnAxis streams x
     by side.Hot x is axis = record { from = is.from; upto = omega (arith, ints) }
     by side.Cold x is axis = record { from = omega (arith, ints); upto = omega (arith, ints) }
 
@@ -432,7 +428,8 @@ module _ (axis : Axis) where
   -- all cuts lie on the axis
   cuts_on_axis : All (IsOnAxis axis.case.streams) axis.cuts
   cuts_on_axis =
-      cuts_hold (spans_of side.Hot axis.case) (spans_of side.Cold axis.case) axis.cuts axis.are_cuts (IsOnAxis axis.case.streams) (ends side.Hot) (ends side.Cold)
+      cuts_hold (spans_of side.Hot axis.case) (spans_of side.Cold axis.case) axis.cuts axis.are_cuts (IsOnAxis axis.case.streams) (ends side.Hot)
+      (ends side.Cold)
     where
       by : (of : Side) (a : Span) → IsSourceSpan axis.case of a → IsOnAxis axis.case.streams a.from × IsOnAxis axis.case.streams a.to
       by of a (inl (n, s, own)) =
@@ -440,8 +437,8 @@ module _ (axis : Axis) where
       by of a (inr (n, u, own)) = rw own.is (utility_on_axis of axis.case.streams (is_axis axis.case.streams streams_are))
 
       ends : (of : Side) → All (λ a. IsOnAxis axis.case.streams a.from × IsOnAxis axis.case.streams a.to) (spans_of of axis.case)
-      ends of = All-weaker (IsSourceSpan axis.case of) (λ a. IsOnAxis axis.case.streams a.from × IsOnAxis axis.case.streams a.to) (by of) (spans_of of axis.case)
-          (span_sources axis.case of)
+      ends of = All-weaker (IsSourceSpan axis.case of) (λ a. IsOnAxis axis.case.streams a.from × IsOnAxis axis.case.streams a.to) (by of)
+          (spans_of of axis.case) (span_sources axis.case of)
 
   -- ---- flows
 
@@ -495,7 +492,8 @@ module _ (axis : Axis) where
     pub utility_alone : (of : Side) → utility_from of axis.case.streams ≤ℤ low → high ≤ℤ utility_to of axis.case.streams → flow_at of number ≡ pos 1
     utility_alone of from upto =
         let across = utility_across axis.case low high of in
-        let is : across ≡ true = ap₂ ◌&&◌ (int_le-from (utility_from of axis.case.streams) low from) (int_le-from high (utility_to of axis.case.streams) upto) in
+        let is : across ≡ true =
+        ap₂ ◌&&◌ (int_le-from (utility_from of axis.case.streams) low from) (int_le-from high (utility_to of axis.case.streams) upto) in
         let none = sum_side-zero of (running_flow of axis.case.streams streams_are low high) axis.case.streams
         (λ k o inside. rests (get_or axis.case.streams k o)) in
         side_flow-parts axis.case low high of streams_are ∙ ap₂ ◌+ℤ◌ none (one_utility low high of across ∙ ap (λ b. if b then pos 1 else pos 0) is)
@@ -508,7 +506,8 @@ module _ (axis : Axis) where
             let both = reaches begin end low high holds in
             let first = on_curve of axis.case.streams streams_are (low_end s) in
             let last = on_curve of axis.case.streams streams_are (high_end s) in
-            curve_or_utility of axis.case.streams low high cut_below (omega (arith, ints, first.from, both.0)) (omega (arith, ints, last.upto, both.1)) from upto))
+            curve_or_utility of axis.case.streams low high cut_below (omega (arith, ints, first.from, both.0)) (omega (arith, ints, last.upto, both.1))
+            from upto))
 
     streams_flow : (of : Side) → begin_of of axis.case.streams ≤ℤ low → high ≤ℤ end_of of axis.case.streams → pos 0 <ℤ flow_at of number
     streams_flow of from upto =

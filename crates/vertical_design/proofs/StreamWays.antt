@@ -244,7 +244,8 @@ module _ (axis : Axis) where
             sizes = kept_hold (λ (e : Exchange). piece_on s.side e == index) (share_of s.side index) (λ n e. record { exchanger = n; cp = size_on s.side e })
                 (λ n e. refl)
                 (λ (share : Share). (num : ℤ) × (share.cp ≡ ratio num across)) 0 (exchanges axis) (λ i e at test. own_over i e at test);
-            most = subst (λ x. IsAtMost x (whole (pos most_cp))) (sym (full_size-sensible s valid.sensible)) (at_most-whole s.cp (pos most_cp) valid.sensible.cp.upto);
+            most = subst (λ x. IsAtMost x (whole (pos most_cp))) (sym (full_size-sensible s valid.sensible))
+                (at_most-whole s.cp (pos most_cp) valid.sensible.cp.upto);
             before = states.0;
             after = states.1;
           }
@@ -333,7 +334,8 @@ module _ (axis : Axis) where
         let (b, there, is) = found (piece_in axis s.side n) p (slice_get (spans_of s.side axis.case) j)
         (sym (slice_get-map (piece_in axis s.side n) (spans_of s.side axis.case) j) ∙ at) in
         ap (λ (q : Piece). is_stage s.side (exchanges axis) stream (n * many s.side + j) q.source) (sym is)
-        ∙ ap (λ t. t && has_shares (n * many s.side + j)) (own_place (spans_of s.side axis.case) (sources_differ axis.case s.side) place.0 own place.1 j b there)
+        ∙ ap (λ t. t && has_shares (n * many s.side + j))
+        (own_place (spans_of s.side axis.case) (sources_differ axis.case s.side) place.0 own place.1 j b there)
 
     no_stage : (n j : ℕ) (p : Piece) → slice_get (pieces_at axis s.side n) j ≡ Some p → ((j == place.0) && has_shares (n * many s.side + j)) ≡ false
         → led_stage s.side (exchanges axis) stream (n * many s.side + j, p) ≡ None
@@ -427,8 +429,8 @@ module _ (axis : Axis) where
 
     outside : (n : ℕ) → n < length axis.cuts - 1 → HasNoEnd s.side axis.case.streams (streams_are axis) (low_at axis n) (high_at axis n) s
     outside n within =
-        let P : Stream → Type 0 = λ r. same_side r.side s.side ≡ true → HasNoEnd s.side axis.case.streams (streams_are axis) (low_at axis n) (high_at axis n) r in
-        All-contains P axis.case.streams s (no_end_between axis n within s.side) member (own_side s.side)
+        All-contains (λ r. same_side r.side s.side ≡ true → HasNoEnd s.side axis.case.streams (streams_are axis) (low_at axis n) (high_at axis n) r)
+        axis.case.streams s (no_end_between axis n within s.side) member (own_side s.side)
 
     -- the rest of the way, from the lower cut of an interval
     abbrev Falls : Rational → List LedStage → Type 0
@@ -492,7 +494,8 @@ module _ (axis : Axis) where
     whole_way : Falls (whole (high_end s)) (stages_of (intervals_of axis.cuts))
     whole_way =
         fall_from (length axis.cuts - 1) 0 (whole (high_end s)) top (omega arith)
-        (omega (arith, ints, clamps, heats_rise, cut_upto_first axis.cuts axis.are_cuts.ordered top ends_cut.1)) (place_at (high_end s) (omega (arith, ints, ends_rise)) (omega (arith, ints)))
+        (omega (arith, ints, clamps, heats_rise, cut_upto_first axis.cuts axis.are_cuts.ordered top ends_cut.1))
+        (place_at (high_end s) (omega (arith, ints, ends_rise)) (omega (arith, ints)))
 
     -- it is led from its supply to its target
     pub stream_joined : AreJoined s (led_course (pieces axis side.Hot) (pieces axis side.Cold) (exchanges axis) (stream, s))
