@@ -103,8 +103,6 @@ module _ (of : Side) (streams : List Stream) (are : AreSensibleStreams streams) 
 
 -- The shifted curves at temperatures with one denominator d: whole numbers of parts, d to a tenth of a degree.
 
--- ---- a curve in parts
-
 -- the ends of a stream in parts, its range below n parts, its heat there and that of the curve of a side, d times each
 abbrev pub low_parts : ℕ → Stream → ℤ
 low_parts d s = low_end s *ℤ pos d
@@ -344,8 +342,6 @@ module _ (streams : List Stream) (are : AreSensibleStreams streams) where
             (unsigned_abs (n -ℤ LOWEST_SHIFTED *ℤ pos d)) n (omega (arith, ints)) below (omega (arith, ints, more-straight n below, falls, below))
 
 -- Between two neighbouring cuts of the heat axis the curve of a side is straight: every stream that runs there takes part in all of it.
-
--- ---- a whole curve rises
 
 pub heat_rises : (of : Side) (streams : List Stream) (t u : ℤ) → All IsSensibleStream streams → t ≤ℤ u → heat_at of streams t ≤ℤ heat_at of streams u
 heat_rises of streams t u valid upto =

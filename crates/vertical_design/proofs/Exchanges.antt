@@ -69,8 +69,6 @@ running low high a across above = by (int_le a.from low && int_le high a.to) ref
 
 -- What the exchanges of a piece add up to: the shares of the piece of a source are the flow that it has in its interval.
 
--- ---- sums of parts
-
 -- parts of one denominator that are kept of pairs
 pub parts_sum : (h : Pair → Option Rational) (own : Pair → Bool) (part : Pair → ℤ) (d : ℕ) (ps : List Pair)
     → All (λ p. h p ≡ (if own p then Some (ratio (part p) d) else None)) ps → rational_sum (filter_map h ps) ≡ ratio (int_sum_by part (filter own ps)) d

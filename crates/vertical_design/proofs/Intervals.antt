@@ -274,8 +274,6 @@ module _ (of : Side) (streams : List Stream) (are : AreSensibleStreams streams) 
 
 -- What the temperatures of an interval give for its matches: both sides face each other at its two cuts, and each branch gives or takes the duty of its match.
 
--- ---- actual temperatures
-
 -- the temperature of a source with this contribution that has this place on the shifted scale
 abbrev pub actual_at : Side → Rational → ℤ → Rational
 actual_at side.Hot t contribution = plus t (whole contribution)

@@ -282,8 +282,6 @@ duty-within low high share one other gap above upto is_one is_other =
 
 -- The cuts of the heat axis, and how much is exchanged between two of them.
 
--- ---- the cuts
-
 length-ends_of : (spans : List Span) → length (ends_of spans) ≡ 2 * length spans
 length-ends_of [] = refl
 length-ends_of (s ∷ spans) = omega (arith, length-ends_of spans)
@@ -404,8 +402,6 @@ module _ (low high : ℤ) (spans : Side → List Span) where
         by side.Cold at = rw (← at) (omega (arith, ints, is.amount, (overlap-within (amounts side.Hot) (amounts side.Cold) p.first p.second).1))
 
 -- Lists that are made row by row, all rows of one length.
-
--- ---- rows of any length
 
 pub rows_more : {X : Type 0} (f : ℕ → List X) (n : ℕ) → flat_map f (range_with_len 0 (n + 1)) ≡ flat_map f (range_with_len 0 n) ++ f n
 rows_more {X} f n =

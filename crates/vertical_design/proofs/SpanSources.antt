@@ -246,8 +246,6 @@ own_place spans differ k a there i b here =
 
 -- The spans of a standard case are within the limits.
 
--- ---- all heat
-
 both_sides : (f : Stream → ℤ) (streams : List Stream) → sum_side side.Hot f streams +ℤ sum_side side.Cold f streams ≡ int_sum_by f streams
 both_sides f streams =
     let on = λ (of : Side) (s : Stream). if same_side s.side of then f s else pos 0 in
@@ -318,8 +316,6 @@ module _ (of : Side) (case : Case) (complete : IsSensibleCase case) where
           (in_order case standard (λ us. count_by (own_utility case side.Cold) us ≡ 1) refl refl) of
 
 -- The spans of a side against its streams: between neighbouring cuts no stream begins or ends, and the flow of the side is that of the streams that run.
-
--- ---- cuts next to each other
 
 module _ (cuts : List ℤ) (falls : AllPairs (λ a b. b <ℤ a) cuts) where
   later_below : (i j : ℕ) → i ≤ j → j < length cuts → get_or cuts j (pos 0) ≤ℤ get_or cuts i (pos 0)

@@ -75,8 +75,6 @@ stream_sized of d t contribution n low high some is ends least most given = by o
     by side.Hot = sized-plus d (unsigned_abs HIGHEST_SHIFTED) (unsigned_abs MOST_CONTRIBUTION) t (whole contribution) own shift
     by side.Cold = sized-minus d (unsigned_abs HIGHEST_SHIFTED) (unsigned_abs MOST_CONTRIBUTION) t (whole contribution) own shift
 
--- ---- a stream in an interval
-
 -- The course of a stream: it goes from interval to interval, from its supply to its target.
 
 -- the temperatures of a stage of a stream of a side at its upper and at its lower cut
@@ -120,8 +118,6 @@ way_leads : (of : Side) (stages : List LedStage) (f : Rational → Rational) (s 
     → Leads (f (whole (first_end of s))) (on_the_way of stages) (f (whole (last_end of s)))
 way_leads side.Hot stages f s fall = falls_lead stages (f (whole (high_end s))) (f (whole (low_end s))) fall
 way_leads side.Cold stages f s fall = falls_lead_up stages (f (whole (high_end s))) (f (whole (low_end s))) fall
-
--- ---- lists on the way
 
 -- ---- the way of a stream
 
