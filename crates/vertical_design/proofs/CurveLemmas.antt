@@ -22,8 +22,7 @@ pub heat_below-between : (t : ℤ) (s : Stream) → IsValidStream s → IsStream
 heat_below-between t s h =
     let range = range-length s h in
     let ends = AreEnds-IsValidStream s h in
-    let below = length_below (low_end s) (high_end s) t in
-    let heat = heat-between s below h (record { from = omega (arith, ints, clamps); upto = omega (arith, ints, clamps) }) in
+    let heat = heat-between s (length_below (low_end s) (high_end s) t) h (record { from = omega (arith, ints, clamps); upto = omega (arith, ints, clamps) }) in
     record { from = heat.from; upto = omega (arith, ints, heat.upto) }
 
 -- all of it lies below a temperature that is not below its range, and none below one that is not above it
@@ -304,10 +303,9 @@ module _ (streams : List Stream) (are : AreSensibleStreams streams) where
         let here = parts_below d n in
         let last = parts_below d (n -ℤ pos 1) in
         let step = λ (s : Stream). here s -ℤ last s in
-        let one = sum_side-linear of here last step (pos 1) streams (λ k o within own. omega (arith, ints)) in
         let next = sum_side-linear of (parts_below d (n +ℤ pos 1)) here step (pos 1) streams
         (λ k o within own. stays (get_or streams k o) (are.each k o within) (clear k o within)) in
-        omega (arith, ints, one, next)
+        omega (arith, ints, sum_side-linear of here last step (pos 1) streams (λ k o within own. omega (arith, ints)), next)
       where
         stays : (s : Stream) → IsSensibleStream s → (n ≡ high_parts d s → ⊥) × (n ≡ low_parts d s → ⊥)
             → parts_below d (n +ℤ pos 1) s ≡ parts_below d n s +ℤ (parts_below d n s -ℤ parts_below d (n -ℤ pos 1) s) *ℤ pos 1
@@ -345,9 +343,8 @@ module _ (streams : List Stream) (are : AreSensibleStreams streams) where
 
 pub heat_rises : (of : Side) (streams : List Stream) (t u : ℤ) → All IsSensibleStream streams → t ≤ℤ u → heat_at of streams t ≤ℤ heat_at of streams u
 heat_rises of streams t u valid upto =
-    let rise = curve_rises 1 of streams (t *ℤ pos 1) (u *ℤ pos 1) valid (omega (arith, ints, upto)) in
     let whole = λ (x : ℤ). curve_parts-whole 1 of streams x (omega arith) valid in
-    omega (arith, ints, rise, whole t, whole u)
+    omega (arith, ints, curve_rises 1 of streams (t *ℤ pos 1) (u *ℤ pos 1) valid (omega (arith, ints, upto)), whole t, whole u)
 
 -- ---- where a rising number passes two others
 
@@ -451,11 +448,9 @@ module _ (of : Side) (streams : List Stream) (are : AreSensibleStreams streams) 
       -- the curve rises by the flow of what runs
       pub line : curve_parts d of streams m ≡ heat_at of streams begin *ℤ pos d +ℤ flow_running *ℤ (m -ℤ begin *ℤ pos d)
       line =
-          let here = parts_below d (begin *ℤ pos d) in
-          let sums = sum_side-linear of (parts_below d m) here running_flow (m -ℤ begin *ℤ pos d) streams (λ k o within own.
-          let s = get_or streams k o in
+          let sums = sum_side-linear of (parts_below d m) (parts_below d (begin *ℤ pos d)) running_flow (m -ℤ begin *ℤ pos d) streams (λ k o within own.
           let free = none k o within own in
-          stream_line s (are.each k o within) free.low_outside free.high_outside) in
+          stream_line (get_or streams k o) (are.each k o within) free.low_outside free.high_outside) in
           omega (arith, ints, sums, curve_parts-whole d of streams begin some are.each)
 
     -- something runs
@@ -464,9 +459,8 @@ module _ (of : Side) (streams : List Stream) (are : AreSensibleStreams streams) 
         ⊎_elim (λ above. above)
         (λ upto.
         let all = line 1 (omega arith) (end *ℤ pos 1) (omega (arith, ints, is.rises)) (omega (arith, ints)) in
-        let whole = curve_parts-whole 1 of streams end (omega arith) are.each in
         let fall = *ℤ-≤ℤ_right (end *ℤ pos 1 -ℤ begin *ℤ pos 1) flow_running (pos 0) (omega (arith, ints, is.rises)) upto in
-        absurd (omega (arith, ints, all, whole, fall, is.begin_is, is.end_is, gap)))
+        absurd (omega (arith, ints, all, curve_parts-whole 1 of streams end (omega arith) are.each, fall, is.begin_is, is.end_is, gap)))
         (int_lt_cases (pos 0) flow_running)
 
 -- Where the two shifted curves have one heat, the hot temperature is at least the cold one, if a stream runs there on the right side.

@@ -330,21 +330,18 @@ module _ (axis : Axis) where
   unfolding shares_of matches_in
   size_piece of number k a within there =
       let index = number * many of + k in
-      let low = low_at axis number in
-      let high = high_at axis number in
-      let inside = slice_get_within (spans_of of axis.case) k a there in
       let flow = flow_at axis (other of) number in
       size_shares of index 0 exchanges
       ∙ ap rational_sum (filter_map-rows (own_size of index) (exchanges_at hot cold axis.cuts) (intervals_of axis.cuts)
       ∙ only_row (λ n. filter_map (own_size of index) (exchanges_at hot cold axis.cuts n)) 0 (length axis.cuts - 1) number (omega arith) (omega (arith, within))
-      (λ m other. others_none of number m k inside other)
+      (λ m other. others_none of number m k (slice_get_within (spans_of of axis.case) k a there) other)
       ∙ filter_map-map (own_size of index) (match_in number) (pairs_at number))
       ∙ parts_sum (λ p. own_size of index (match_in number p)) (λ p. index_on of p == k) (λ p. p.amount) (unsigned_abs flow) (pairs_at number)
       (λ j p there.
       let q = get_or (pairs_at number) j p in
       ap₂ (λ b x. if b then Some x else None) (own_test of number k q) (size_match of number q))
       ∙ ap (λ z. ratio z (unsigned_abs flow)) (shared_out of number k a there)
-      ∙ whole_flow (flow_in low high a) flow (flow_above axis number within (other of))
+      ∙ whole_flow (flow_in (low_at axis number) (high_at axis number) a) flow (flow_above axis number within (other of))
 
   -- the shifted temperature of a span's source at a heat of an interval
   abbrev shifted_at : Side → ℕ → ℤ → Span → Rational
@@ -355,8 +352,7 @@ module _ (axis : Axis) where
       → (q : ℤ)
       → shifted_at of number q a ≡ scale_at axis of number q
   shifted_stream of number stream s a own here q =
-      let valid = all_at IsSensibleStream axis.case.streams stream s (streams_are axis).each here in
-      let free = fixed_level-sensible axis.case stream s here valid.sensible in
+      let free = fixed_level-sensible axis.case stream s here (all_at IsSensibleStream axis.case.streams stream s (streams_are axis).each here).sensible in
       ap (λ b. on_scale of (level_in (state_at axis of number q a) (fixed_level axis.case b)) (contribution_of axis.case a.source)) own
       ∙ ap (λ o. on_scale of (level_in (state_at axis of number q a) o) (contribution_of axis.case a.source)) free
       ∙ on_scale-actual of (scale_at axis of number q) (contribution_of axis.case a.source)
@@ -393,11 +389,10 @@ module _ (axis : Axis) where
             → is.span.source ≡ source.Stream i → slice_get axis.case.streams i ≡ Some s → lies.span.source ≡ source.Utility u
             → IsAtUtility other axis.case.streams (curve_heat of axis.case.streams (shifted_at of number q is.span))
         beside of other m n is lies i u s own here at =
-            let runs = stream_runs of number m i s is own here in
             let ends = utility_runs other number n u lies at in
             subst (λ t. IsAtUtility other axis.case.streams (curve_heat of axis.case.streams t)) (sym (shifted_stream of number i s is.span own here q))
             (scale_at_utility axis.case.streams (streams_are axis) low high of other _ (scale_at axis of number)
-            (scale_is axis of number within s runs) ends.0 ends.1 q from upto)
+            (scale_is axis of number within s (stream_runs of number m i s is own here)) ends.0 ends.1 q from upto)
 
         by : IsSourceSpan axis.case side.Hot hot.span → IsSourceSpan axis.case side.Cold cold.span
             → FaceAt hot.span cold.span q hot.span.source cold.span.source
@@ -431,12 +426,10 @@ module _ (axis : Axis) where
   match_faces e m =
       let hot = pair_runs m.number side.Hot m.pair m.met in
       let cold = pair_runs m.number side.Cold m.pair m.met in
-      let low = low_at axis m.number in
-      let high = high_at axis m.number in
       let gap = falls m.number m.within in
       record {
         hot_range = in_range m.number m.within side.Hot m.pair.first hot;
         cold_range = in_range m.number m.within side.Cold m.pair.second cold;
-        hot_end = face_at m.number m.within m.pair.first m.pair.second hot cold high (omega (arith, ints, gap)) (omega (arith, ints));
-        cold_end = face_at m.number m.within m.pair.first m.pair.second hot cold low (omega (arith, ints)) (omega (arith, ints, gap));
+        hot_end = face_at m.number m.within m.pair.first m.pair.second hot cold (high_at axis m.number) (omega (arith, ints, gap)) (omega (arith, ints));
+        cold_end = face_at m.number m.within m.pair.first m.pair.second hot cold (low_at axis m.number) (omega (arith, ints)) (omega (arith, ints, gap));
       }

@@ -233,10 +233,9 @@ module _ (of : Side) (streams : List Stream) (are : AreSensibleStreams streams) 
   end_place =
       let last = heat_at of streams begin +ℤ (end *ℤ pos d -ℤ begin *ℤ pos d) in
       let same : place last ≡ end *ℤ pos d = omega (arith, ints) in
-      let rise = scaled d begin end (omega (arith, ints, is.rises)) in
       let whole = ap (curve_parts d of streams) same ∙ curve_parts-whole d of streams end some are.each in
       let heat : heat_at of streams end ≡ last = *ℤ_cancel_right (pos d) (heat_at of streams end) last (pos_above d some)
-      (sym whole ∙ on_line last (omega (arith, ints, same, rise)) (omega (arith, ints, same))) in
+      (sym whole ∙ on_line last (omega (arith, ints, same, scaled d begin end (omega (arith, ints, is.rises)))) (omega (arith, ints, same))) in
       omega (arith, ints, heat)
 
   module _ (q : ℤ) (from : low ≤ℤ q) (upto : q ≤ℤ high) where

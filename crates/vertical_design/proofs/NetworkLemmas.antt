@@ -69,9 +69,8 @@ kept_all {X} Q h own f (x ∷ xs) are each =
 -- a flow of 1 on the own side leaves the whole heat between the cuts, and one of 0 leaves none
 whole_width : (width other : ℤ) (n : ℕ) → pos 0 <ℤ other → n ≡ unsigned_abs other → ratio (width *ℤ (pos 1 *ℤ other)) n ≡ whole width
 whole_width width other n above is =
-    let size = size_is other above in
     let some : 0 < unsigned_abs other = omega (arith, ints, above) in
-    ap₂ (λ z d. ratio (width *ℤ z) d) (one_times (pos 1) other refl ∙ size) is ∙ ratio-multiple width (unsigned_abs other) some
+    ap₂ (λ z d. ratio (width *ℤ z) d) (one_times (pos 1) other refl ∙ (size_is other above)) is ∙ ratio-multiple width (unsigned_abs other) some
 
 no_width : (width other : ℤ) (n : ℕ) → ratio (width *ℤ (pos 0 *ℤ other)) n ≡ whole (pos 0)
 no_width width other n = ap (λ z. ratio (width *ℤ z) n) (zero_times (pos 0) other refl) ∙ ap (λ z. ratio z n) (*ℤ-zero width) ∙ ratio-zero n
@@ -239,10 +238,9 @@ module _ (axis : Axis) where
 
       group_of : IsWholeGroup most_flow most_width (filter_map heat_of_pair (pairs_at axis number))
       group_of =
-          let above = flow_above axis number within (other u.side) in
           record {
             over = unsigned_abs across;
-            some = omega (arith, ints, above);
+            some = omega (arith, ints, flow_above axis number within (other u.side));
             upto = flow_few axis (other u.side) number;
             each = kept_all (IsSized (unsigned_abs across) most_width) heat_of_pair is_own (λ p. ratio (width *ℤ p.amount) flows) (pairs_at axis number) are_own
                 (λ j d inside own.
@@ -310,7 +308,6 @@ module _ (axis : Axis) where
         let is = target-within u.side axis.case.streams (streams_are axis) in
         let range : (u.least ≡ pos 0) × (u.most ≡ MOST_HEAT) =
         subst (λ (v : Utility). (v.least ≡ pos 0) × (v.most ≡ MOST_HEAT)) (sym (own_utility axis.case axis.standard index u here)) (standard_range u.side) in
-        let all = few_cuts hot cold axis.cuts (spans_are axis side.Hot) (spans_are axis side.Cold) axis.are_cuts in
         let few = few_heats 0 (length axis.cuts - 1) in
         record {
           den = most_flow;
@@ -321,7 +318,7 @@ module _ (axis : Axis) where
               (All-range (λ n. IsWholeGroup most_flow most_width (heats_at n)) (length axis.cuts - 1)
               (λ n within. subst (IsWholeGroup most_flow most_width) (sym (pairs_are n within)) (group_of n within)));
           small = omega arith;
-          few = omega (arith, few, all);
+          few = omega (arith, few, few_cuts hot cold axis.cuts (spans_are axis side.Hot) (spans_are axis side.Cold) axis.are_cuts);
           heat = to_of -ℤ from_of;
           total = heat_total;
           from = omega (arith, ints, range.0, is.from);
@@ -393,26 +390,22 @@ module _ (axis : Axis) where
   few_sources of =
       let each = few-rows (λ n. sources_in (spans_of of axis.case)) MOST_SPANS
       (λ n. omega (arith, length-map (spans_of of axis.case) (λ (a : Span). a.source), (spans_are axis of).few)) 0 (length axis.cuts - 1) in
-      let all = mul-le-mul_right MOST_SPANS few_intervals in
-      omega (arith, each, all)
+      omega (arith, each, mul-le-mul_right MOST_SPANS few_intervals)
 
   pub can_be_led : CanBeLed (sources side.Hot) (sources side.Cold) (exchanges axis)
   can_be_led =
       let each = few-rows (exchanges_at hot cold axis.cuts) (2 * MOST_SPANS)
       (λ n. few_matches n (low_at axis n) (high_at axis n) hot cold (spans_are axis side.Hot) (spans_are axis side.Cold)) 0 (length axis.cuts - 1) in
-      let all = mul-le-mul_right (2 * MOST_SPANS) few_intervals in
       record {
         hot_there = λ k d inside.
             let e = get_or (exchanges axis) k d in
-            let there = slice_get_within (pieces axis side.Hot) e.hot _ (match_joins e (are_matches axis k d inside)).hot_there in
-            omega (arith, there, long side.Hot);
+            omega (arith, slice_get_within (pieces axis side.Hot) e.hot _ (match_joins e (are_matches axis k d inside)).hot_there, long side.Hot);
         cold_there = λ k d inside.
             let e = get_or (exchanges axis) k d in
-            let there = slice_get_within (pieces axis side.Cold) e.cold _ (match_joins e (are_matches axis k d inside)).cold_there in
-            omega (arith, there, long side.Cold);
+            omega (arith, slice_get_within (pieces axis side.Cold) e.cold _ (match_joins e (are_matches axis k d inside)).cold_there, long side.Cold);
         few_hot = few_sources side.Hot;
         few_cold = few_sources side.Cold;
-        few = omega (arith, each, all, length-AreStreams axis.case.streams (streams_are axis).are);
+        few = omega (arith, each, mul-le-mul_right (2 * MOST_SPANS) few_intervals, length-AreStreams axis.case.streams (streams_are axis).are);
       }
 
   -- ---- the network is vertical
@@ -509,8 +502,7 @@ module _ (axis : Axis) where
         let takes = sym (cold_heat-is axis.case network shape) ∙ side_heat side.Cold ∙ ap whole cold_is in
         let beyond : excess_of axis.case network ≡ rational_zero = ap (λ x. minus x (whole (hot_target axis.case.streams))) gives
         ∙ minus-self (whole (hot_target axis.case.streams)) in
-        let costs = cost_is in
-        λ i. record { hot = gives i; cold = takes i; excess = beyond i; cost = costs i }
+        λ i. record { hot = gives i; cold = takes i; excess = beyond i; cost = cost_is i }
 
     -- ---- it is vertical
 

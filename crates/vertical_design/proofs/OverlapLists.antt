@@ -174,8 +174,7 @@ sum-between {m} flows each few =
     let P : ℤ → Type 0 = IsBetween (pos 0) (pos m) in
     let least = int_sum_by-not_negative (λ (f : ℤ). f) flows (All-weaker P (λ f. pos 0 ≤ℤ f) (λ f is. is.from) flows each) in
     let most = int_sum_by-at_most (λ (f : ℤ). f) m flows (All-weaker P (λ f. f ≤ℤ pos m) (λ f is. is.upto) flows each) in
-    let product = mul-le-mul_right m few in
-    record { from = least; upto = omega (arith, ints, most, product) }
+    record { from = least; upto = omega (arith, ints, most, mul-le-mul_right m few) }
 
 pub sum-within : (flows : List ℤ) → All IsFlow flows → length flows ≤ MOST_SPANS → IsSideFlow (int_sum_by (λ f. f) flows)
 sum-within flows each few = sum-between flows each few
@@ -208,8 +207,7 @@ factor-above flow side from above =
     ⊎_elim (λ less. less)
     (λ most.
     let none : side ≡ pos 0 = omega (arith, ints, from, most) in
-    let product = ap (λ z. flow *ℤ z) none ∙ *ℤ-zero flow in
-    absurd (omega (arith, ints, product, above)))
+    absurd (omega (arith, ints, ap (λ z. flow *ℤ z) none ∙ *ℤ-zero flow, above)))
     (int_lt_cases (pos 0) side)
 
 -- a share of what an index offers
@@ -354,9 +352,8 @@ own_amount : (low high : ℤ) (spans others : List Span) (k : ℕ) (a : Span) �
     → get_or (amounts_in low high spans others) k (pos 0) ≡ flow_in low high a *ℤ side_flow low high others
 own_amount low high spans others k a there =
     let within = slice_get_within spans k a there in
-    let flows = flows_in low high spans in
     let scaled = λ (f : ℤ). f *ℤ side_flow low high others in
-    get_or-map scaled flows k (pos 0) (pos 0) (omega (arith, within, length-map spans (flow_in low high)))
+    get_or-map scaled (flows_in low high spans) k (pos 0) (pos 0) (omega (arith, within, length-map spans (flow_in low high)))
     ∙ ap scaled (get_or-map (flow_in low high) spans k a (pos 0) within ∙ ap (flow_in low high) (get_or_from_slice_get spans k a a there))
 
 module _ (low high : ℤ) (spans : Side → List Span) where

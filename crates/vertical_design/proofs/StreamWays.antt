@@ -53,8 +53,7 @@ sized-around : (d m : ℕ) (a : Rational) (n : ℤ) → 0 < d → a ≡ ratio n 
 sized-around d m a n some is least most =
     let from = at_most_from_whole_ratio (neg_ℤ (pos m)) n d some (subst (IsAtMost (whole (neg_ℤ (pos m)))) is least) in
     let upto = at_most_from_ratio_whole n (pos m) d some (subst (λ x. IsAtMost x (whole (pos m))) is most) in
-    let turned = neg_ℤ-*ℤ (pos m) (pos d) in
-    record { num = n; is = is; small = omega (arith, ints, from, upto, turned) }
+    record { num = n; is = is; small = omega (arith, ints, from, upto, neg_ℤ-*ℤ (pos m) (pos d)) }
 
 -- a temperature in the range of a stream, on its own scale
 stream_sized : (of : Side) (d : ℕ) (t : Rational) (contribution n low high : ℤ) → 0 < d → t ≡ ratio n d → AreEnds low high
@@ -64,9 +63,8 @@ stream_sized of d t contribution n low high some is ends least most given = by o
     own : IsSized d (unsigned_abs HIGHEST_SHIFTED) t
     own =
         let lower = at_most-whole (neg_ℤ (pos (unsigned_abs HIGHEST_SHIFTED))) low (omega (arith, ints, ends.from)) in
-        let upper = at_most-whole high (pos (unsigned_abs HIGHEST_SHIFTED)) ends.upto in
         sized-around d (unsigned_abs HIGHEST_SHIFTED) t n some is (at_most_trans (whole (neg_ℤ (pos (unsigned_abs HIGHEST_SHIFTED)))) (whole low) t lower least)
-        (at_most_trans t (whole high) (whole (pos (unsigned_abs HIGHEST_SHIFTED))) most upper)
+        (at_most_trans t (whole high) (whole (pos (unsigned_abs HIGHEST_SHIFTED))) most (at_most-whole high (pos (unsigned_abs HIGHEST_SHIFTED)) ends.upto))
 
     shift : IsSized d (unsigned_abs MOST_CONTRIBUTION) (whole contribution)
     shift = sized-whole d (unsigned_abs MOST_CONTRIBUTION) contribution some (omega (arith, ints, given.from, given.upto))
@@ -200,8 +198,7 @@ module _ (axis : Axis) where
           → (num : ℤ) × (size_on s.side e ≡ ratio num (unsigned_abs (flow_at axis (other s.side) number)))
       own_over i e at test =
           let m = all_at (IsMatch axis) (exchanges axis) i e (are_matches axis) at in
-          let on = eqb-true (piece_on s.side e) index test in
-          let same = own_number axis s.side number m.number k m.pair m.met inside (ap (piece_on s.side) m.is ∙ on) in (
+          let same = own_number axis s.side number m.number k m.pair m.met inside (ap (piece_on s.side) m.is ∙ (eqb-true (piece_on s.side e) index test)) in (
             m.pair.amount,
             ap (size_on s.side) (sym m.is) ∙ size_match axis s.side m.number m.pair
                 ∙ ap (λ n. ratio m.pair.amount (unsigned_abs (flow_at axis (other s.side) n))) same.0,
@@ -212,12 +209,11 @@ module _ (axis : Axis) where
           let scale = scale_is axis s.side number within s runs in
           let over = scale.over q in
           let range = scale.range q from upto s runs in
-          let some = flow_above axis number within s.side in
           let contribution : contribution_of axis.case is.span.source ≡ s.contribution = ap (contribution_of axis.case) own
           ∙ ap (λ o. option_map_or (λ (r : Stream). r.contribution) o (pos 0)) here in
           subst (λ c. IsSized (unsigned_abs (flow_at axis s.side number)) highest (actual_at s.side (scale_at axis s.side number q) c)) (sym contribution)
           (stream_sized s.side (unsigned_abs (flow_at axis s.side number)) (scale_at axis s.side number q) s.contribution over.num (low_end s) (high_end s)
-          (omega (arith, ints, some)) over.is
+          (omega (arith, ints, flow_above axis number within s.side)) over.is
           (AreEnds-IsValidStream s valid.valid) range.0 range.1 valid.valid.contribution)
 
       fine : IsFine s.side (exchanges axis) index stream_piece s
@@ -265,8 +261,7 @@ module _ (axis : Axis) where
         let runs = pair_runs axis m.number s.side m.pair m.met in
         let found = sym (piece_of axis s.side e m) ∙ ap (slice_get (pieces axis s.side)) on ∙ ap (λ ps. slice_get ps index) (on_pieces s.side) ∙ there in
         let same = same_Some (piece_in axis s.side m.number runs.span) p found in
-        let place = sym (piece_index axis s.side m.number m.pair) ∙ ap (piece_on s.side) m.is ∙ on in
-        subst₂ (λ i q. IsStreamPiece s.side (exchanges axis) i q s) place same
+        subst₂ (λ i q. IsStreamPiece s.side (exchanges axis) i q s) (sym (piece_index axis s.side m.number m.pair) ∙ ap (piece_on s.side) m.is ∙ on) same
         (piece_led m.number (index_on s.side m.pair) m.within runs (ap (λ (q : Piece). q.source) same ∙ own))
 
     -- a piece with shares is of an interval in which the stream runs
@@ -349,8 +344,7 @@ module _ (axis : Axis) where
           from = runs.from;
           upto = runs.upto;
         } in
-        let cp = valid.sensible.cp.from in
-        let some = some_share (shares_of s.side (own_index n) (exchanges axis)) s.cp (omega (arith, ints, cp))
+        let some = some_share (shares_of s.side (own_index n) (exchanges axis)) s.cp (omega (arith, ints, valid.sensible.cp.from))
         (sizes_are n place.0 within is refl) in
         let kept : has_shares (own_index n) ≡ true = grind (arith, nat_tests, some) in
         let test = stage_test n place.0 p there ∙ ap (λ b. b && has_shares (own_index n)) (eq-eqb place.0 place.0 refl) ∙ kept in

@@ -25,12 +25,10 @@ loop-number-preserved c =
     let side = c.args.side in
     let before = c.loop-number.spans.items in
     let span = span_of side streams number s in
-    let low = to_z-of_z w32 c.low_end.result (search rules) ∙ c.low_end.ensures.value in
-    let high = to_z-of_z w32 c.high_end.result (search rules) ∙ c.high_end.ensures.value in
     let from : to_z w64 (of_z w64 c.heat_at-from.result) ≡ span.from = to_z-of_z w64 c.heat_at-from.result (search rules) ∙ c.heat_at-from.ensures
-    ∙ ap (heat_at side streams) low in
+    ∙ ap (heat_at side streams) (to_z-of_z w32 c.low_end.result (search rules) ∙ c.low_end.ensures.value) in
     let to : to_z w64 (of_z w64 c.heat_at-to.result) ≡ span.to = to_z-of_z w64 c.heat_at-to.result (search rules) ∙ c.heat_at-to.ensures
-    ∙ ap (heat_at side streams) high in
+    ∙ ap (heat_at side streams) (to_z-of_z w32 c.high_end.result (search rules) ∙ c.high_end.ensures.value) in
     let cp : to_z w64 (of_z w64 s.cp) ≡ s.cp = to_z-of_z w64 s.cp (search rules) in
     let raw : Span = record {
       source = source.Stream number;
