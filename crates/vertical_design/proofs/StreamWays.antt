@@ -1,25 +1,79 @@
--- The course of a stream: it goes from interval to interval, from its supply to its target.
-use Rattle.vertical_design.proofs.Words.{All-contains, AreJoined, Contains, Contains-slice_get, IsAtMost, IsSensibleStream, LedStage, Meet, Piece, Rational}
-use Rattle.vertical_design.proofs.Words.{Share, Side, Span, Stream, all_at, at_most-whole, cases_eq, cases_lt, contribution_of, curve_heat, enumerate_from}
-use Rattle.vertical_design.proofs.Words.{eq-eqb, false_from_ne_true, filter_map, filter_map-way, first_end, flat_map, get_or_default, heat_at, high_end}
-use Rattle.vertical_design.proofs.Words.{intervals_of, ints, is_stage, last_end, led_course, led_piece, led_stage, length-map, low_end, ltb-true, nat_lt}
-use Rattle.vertical_design.proofs.Words.{nat_tests, ne_eqb, option_map, option_map_or, order-sensible, own_side, range_with_len, reverse, reverse-append}
-use Rattle.vertical_design.proofs.Words.{same_Some, same_side, shares_of, size_of, slice_get-map, spans_of, state_behind, upper_cut, whole, whole-nonzero, ◌&&◌}
+-- The pieces of a stream: in an interval in which it runs its shares are the whole stream, and each exchange brings it from the temperature of the one cut to
+-- that of the other.
+use Rattle.vertical_design.proofs.Words.{All-contains, AreEnds, AreEnds-IsValidStream, AreJoined, AreSmall, Contains, Contains-slice_get, Exchange}
+use Rattle.vertical_design.proofs.Words.{HIGHEST_SHIFTED, IsAtMost, IsContribution, IsFine, IsSensibleStream, IsSized, IsStreamPiece, LedStage}
+use Rattle.vertical_design.proofs.Words.{MOST_CONTRIBUTION, MOST_CP, MOST_FLOW, Meet, Piece, Rational, Share, Side, Span, Stream, all_at, at_most-whole}
+use Rattle.vertical_design.proofs.Words.{at_most_from_ratio_whole, at_most_from_whole_ratio, at_most_trans, cases_eq, change, clamps, contribution_of}
+use Rattle.vertical_design.proofs.Words.{curve_heat, enumerate_from, eq-eqb, eqb-true, false_from_ne_true, false≢true, filter_map, filter_map-way, first_end}
+use Rattle.vertical_design.proofs.Words.{flat_map, flow_in, full_size-sensible, heat_at, high_end, int_le-from, intervals_of, ints, is_latent-sensible}
+use Rattle.vertical_design.proofs.Words.{is_stage, kept_hold, last_end, led_course, led_piece, led_stage, length-map, low_end, ltb-true, minus}
+use Rattle.vertical_design.proofs.Words.{minus-minus_same, minus-plus_plus, mul-le-mul, nat_lt, nat_tests, ne_eqb, neg_ℤ-*ℤ, on_side, option_map, option_map_or}
+use Rattle.vertical_design.proofs.Words.{order-sensible, own_side, piece_on, range_with_len, ratio, reverse, reverse-append, same_Some, same_side, share_of}
+use Rattle.vertical_design.proofs.Words.{shares_of, size_of, size_on, sized-minus, sized-plus, sized-whole, slice_get-map, slice_get_within, spans_of}
+use Rattle.vertical_design.proofs.Words.{state_behind, times, unsigned_abs, whole, whole-nonzero, ◌&&◌}
+use Rattle.std.proofs.Common.{Bool, List, None, Some, [], ap, ap₂, arith, false, if◌then◌else◌, length, neg_ℤ, pos, refl, slice_get, subst, subst₂, suc, sym}
+use Rattle.std.proofs.Common.{true, zero, ℕ, ℤ, ⊎_elim, ◌*◌, ◌++◌, ◌+◌, ◌-◌, ◌<ℤ◌, ◌<◌, ◌==◌, ◌∙◌, ◌∷◌, ◌≡◌, ◌≤ℤ◌, ◌≤◌}
+use Rattle.vertical_design.proofs.CurveLemmas.{HasNoEnd, bounded, heat_rises, one_place}
+use Rattle.vertical_design.proofs.Exchanges.{IsMatch, RunsSpan, are_matches, exchange_there, exchanges, heat_match, over_at, own_number, own_span, pair_runs}
+use Rattle.vertical_design.proofs.Exchanges.{piece_index, piece_of, size_match, size_piece, stream_runs}
+use Rattle.vertical_design.proofs.Intervals.{RunsIn, actual-first, actual-last, actual_at, curve_heat-whole, entered_at, found, left_at, piece_in, pieces}
+use Rattle.vertical_design.proofs.Intervals.{pieces_at, scale_at, scale_is, state_at}
+use Rattle.vertical_design.proofs.OverlapLists.{filter_map-rows, index_on, no_items, numbered-rows, only_item, other, side-within}
+use Rattle.vertical_design.proofs.SpanSources.{Axis, IsSourceSpan, cut_below, cut_from_last, cut_upto_first, ends_are_cuts, flow_above, flow_at, high_at}
+use Rattle.vertical_design.proofs.SpanSources.{low_at, no_end_between, own_place, sources_differ, span_of, span_sources, spans_are, stream_place, streams_are}
 use Rattle.design_lines.specs.Ways.{on_the_way}
-use Rattle.std.proofs.Common.{AllPairs, Bool, List, None, Some, [], ap, arith, false, get_or, if◌then◌else◌, inl, inr, length, map, pos, refl, slice_get, subst}
-use Rattle.std.proofs.Common.{subst₂, suc, sym, true, zero, ℕ, ℤ, ⊎_elim, ◌*◌, ◌++◌, ◌+◌, ◌-◌, ◌<ℤ◌, ◌<◌, ◌==◌, ◌∙◌, ◌∷◌, ◌≡◌, ◌≤ℤ◌, ◌⊎◌}
-use Rattle.vertical_design.proofs.CurveApproach.{one_place}
-use Rattle.vertical_design.proofs.CurveSegments.{HasNoEnd, heat_rises}
-use Rattle.vertical_design.proofs.Exchanges.{RunsSpan, exchanges}
-use Rattle.vertical_design.proofs.IntervalFacing.{actual-first, actual-last, actual_at}
-use Rattle.vertical_design.proofs.IntervalTemperatures.{curve_heat-whole}
-use Rattle.vertical_design.proofs.Intervals.{Axis, RunsIn, entered_at, high_at, interval, left_at, low_at, piece_in, pieces, pieces_at, scale_at, scale_is}
-use Rattle.vertical_design.proofs.Intervals.{state_at, streams_are}
-use Rattle.vertical_design.proofs.PieceRows.{filter_map-rows, no_items, numbered-rows, only_item}
-use Rattle.vertical_design.proofs.SpanRuns.{ends_are_cuts, span_of}
-use Rattle.vertical_design.proofs.SpanSources.{IsSourceSpan, own_place, sources_differ, span_sources, stream_place}
-use Rattle.vertical_design.proofs.StreamPieces.{on_pieces, shares_run, sizes_are}
 use Rattle.stream_case.specs.declared.source.Side.TheVariants as side
+use Rattle.stream_case.specs.declared.source.Source.TheVariants as source
+
+-- ---- numbers of a piece
+
+abbrev pub most_flow : ℕ
+most_flow = unsigned_abs MOST_FLOW
+
+abbrev most_cp : ℕ
+most_cp = unsigned_abs MOST_CP
+
+abbrev highest : ℕ
+highest = unsigned_abs HIGHEST_SHIFTED + unsigned_abs MOST_CONTRIBUTION
+
+small : (d e : ℕ) → 0 < d → d ≤ most_flow → 0 < e → e ≤ most_flow → AreSmall d most_cp e highest
+small d e some_d few_d some_e few_e =
+    let dens : d * e ≤ most_flow * most_flow = mul-le-mul few_d few_e in
+    record {
+      size_den = some_d;
+      state_den = some_e;
+      dens = omega (arith, dens);
+      size = omega (arith, few_d);
+      state = omega (arith, few_e);
+      heat = omega (arith, dens);
+    }
+
+-- a number of this denominator from -m to m
+sized-around : (d m : ℕ) (a : Rational) (n : ℤ) → 0 < d → a ≡ ratio n d → IsAtMost (whole (neg_ℤ (pos m))) a → IsAtMost a (whole (pos m)) → IsSized d m a
+sized-around d m a n some is least most =
+    let from = at_most_from_whole_ratio (neg_ℤ (pos m)) n d some (subst (IsAtMost (whole (neg_ℤ (pos m)))) is least) in
+    let upto = at_most_from_ratio_whole n (pos m) d some (subst (λ x. IsAtMost x (whole (pos m))) is most) in
+    record { num = n; is = is; small = omega (arith, ints, from, upto, neg_ℤ-*ℤ (pos m) (pos d)) }
+
+-- a temperature in the range of a stream, on its own scale
+stream_sized : (of : Side) (d : ℕ) (t : Rational) (contribution n low high : ℤ) → 0 < d → t ≡ ratio n d → AreEnds low high
+    → IsAtMost (whole low) t → IsAtMost t (whole high) → IsContribution contribution → IsSized d highest (actual_at of t contribution)
+stream_sized of d t contribution n low high some is ends least most given = by of
+  where
+    own : IsSized d (unsigned_abs HIGHEST_SHIFTED) t
+    own =
+        let lower = at_most-whole (neg_ℤ (pos (unsigned_abs HIGHEST_SHIFTED))) low (omega (arith, ints, ends.from)) in
+        sized-around d (unsigned_abs HIGHEST_SHIFTED) t n some is (at_most_trans (whole (neg_ℤ (pos (unsigned_abs HIGHEST_SHIFTED)))) (whole low) t lower least)
+        (at_most_trans t (whole high) (whole (pos (unsigned_abs HIGHEST_SHIFTED))) most (at_most-whole high (pos (unsigned_abs HIGHEST_SHIFTED)) ends.upto))
+
+    shift : IsSized d (unsigned_abs MOST_CONTRIBUTION) (whole contribution)
+    shift = sized-whole d (unsigned_abs MOST_CONTRIBUTION) contribution some (omega (arith, ints, given.from, given.upto))
+
+    by : (on : Side) → IsSized d highest (actual_at on t contribution)
+    by side.Hot = sized-plus d (unsigned_abs HIGHEST_SHIFTED) (unsigned_abs MOST_CONTRIBUTION) t (whole contribution) own shift
+    by side.Cold = sized-minus d (unsigned_abs HIGHEST_SHIFTED) (unsigned_abs MOST_CONTRIBUTION) t (whole contribution) own shift
+
+-- The course of a stream: it goes from interval to interval, from its supply to its target.
 
 -- the temperatures of a stage of a stream of a side at its upper and at its lower cut
 abbrev upper : Side → LedStage → Rational
@@ -57,51 +111,11 @@ falls_lead_up (stage ∷ stages) from to fall =
     (subst (λ (ss : List LedStage). Leads to ss stage.after) (sym turned)
     (leads_push (reverse stages) to stage.before stage (falls_lead_up stages stage.before to fall.1) refl))
 
--- where the way of a stream of a side begins, and where it ends
-abbrev start_of : Side → Rational → Rational → Rational
-start_of side.Hot top bottom = top
-start_of side.Cold top bottom = bottom
-
-abbrev end_of : Side → Rational → Rational → Rational
-end_of side.Hot top bottom = bottom
-end_of side.Cold top bottom = top
-
-way_leads : (of : Side) (stages : List LedStage) (top bottom : Rational) → FallTo of top stages bottom → Leads (start_of of top bottom) (on_the_way of stages)
-    (end_of of top bottom)
-way_leads side.Hot stages top bottom fall = falls_lead stages top bottom fall
-way_leads side.Cold stages top bottom fall = falls_lead_up stages top bottom fall
-
-start_place : (of : Side) (f : Rational → Rational) (s : Stream) → start_of of (f (whole (high_end s))) (f (whole (low_end s))) ≡ f (whole (first_end of s))
-start_place side.Hot f s = refl
-start_place side.Cold f s = refl
-
-end_place : (of : Side) (f : Rational → Rational) (s : Stream) → end_of of (f (whole (high_end s))) (f (whole (low_end s))) ≡ f (whole (last_end of s))
-end_place side.Hot f s = refl
-end_place side.Cold f s = refl
-
--- ---- lists on the way
-
-mapped_item : {X Y : Type 0} (f : X → Y) (xs : List X) (i : ℕ) (y : Y) → slice_get (map f xs) i ≡ Some y → (x : X) × (slice_get xs i ≡ Some x) × (f x ≡ y)
-mapped_item f [] i y at = cc at
-mapped_item f (x ∷ xs) zero y at = (x, refl, same_Some (f x) y at)
-mapped_item f (x ∷ xs) (suc i) y at = mapped_item f xs i y at
-
--- ---- cuts
-
-cut_upto_first : (cuts : List ℤ) → AllPairs (λ a b. b <ℤ a) cuts → (x : ℤ) → Contains cuts x → x ≤ℤ get_or cuts 0 (pos 0)
-cut_upto_first cuts falls x (zero, inside, is) = let same = sym (get_or_default cuts 0 (pos 0) x inside ∙ is) in omega (arith, ints, same)
-cut_upto_first cuts falls x (suc k, inside, is) =
-    let here : get_or cuts (suc k) (pos 0) ≡ x = get_or_default cuts (suc k) (pos 0) x inside ∙ is in
-    let order = falls 0 (suc k) (pos 0) (omega arith) inside in
-    omega (arith, ints, here, order)
-
-cut_from_last : (cuts : List ℤ) → AllPairs (λ a b. b <ℤ a) cuts → (x : ℤ) → Contains cuts x → upper_cut cuts (length cuts - 1) ≤ℤ x
-cut_from_last cuts falls x (k, inside, is) =
-    let here : get_or cuts k (pos 0) ≡ x = get_or_default cuts k (pos 0) x inside ∙ is in
-    ⊎_elim
-    (λ before. let order = falls k (length cuts - 1) (pos 0) before (omega (arith, inside)) in omega (arith, ints, here, order))
-    (λ upto. let same : length cuts - 1 ≡ k = omega (arith, upto, inside) in let item = ap (λ n. get_or cuts n (pos 0)) same in omega (arith, ints, item, here))
-    (cases_lt k (length cuts - 1))
+-- the way of a stream of a side, with f of the temperatures of its ends
+way_leads : (of : Side) (stages : List LedStage) (f : Rational → Rational) (s : Stream) → FallTo of (f (whole (high_end s))) stages (f (whole (low_end s)))
+    → Leads (f (whole (first_end of s))) (on_the_way of stages) (f (whole (last_end of s)))
+way_leads side.Hot stages f s fall = falls_lead stages (f (whole (high_end s))) (f (whole (low_end s))) fall
+way_leads side.Cold stages f s fall = falls_lead_up stages (f (whole (high_end s))) (f (whole (low_end s))) fall
 
 -- ---- the way of a stream
 
@@ -109,250 +123,376 @@ some_share : (shares : List Share) (n : ℤ) → pos 0 <ℤ n → size_of shares
 some_share [] n above is = absurd (whole-nonzero n (λ none. absurd (omega (arith, ints, above, none))) (sym is))
 some_share (s ∷ shares) n above is = omega arith
 
-module _ (axis : Axis) (stream : ℕ) (s : Stream) (here : slice_get axis.case.streams stream ≡ Some s) where
-  member : Contains axis.case.streams s
-  member = Contains-slice_get axis.case.streams stream s here
+module _ (axis : Axis) where
+  abbrev many : Side → ℕ
+  many of = length (spans_of of axis.case)
 
-  valid : IsSensibleStream s
-  valid = all_at IsSensibleStream axis.case.streams stream s (streams_are axis).each here
+  pub flow_few : (of : Side) (number : ℕ) → unsigned_abs (flow_at axis of number) ≤ most_flow
+  flow_few of number =
+      let is = side-within (low_at axis number) (high_at axis number) (spans_of of axis.case) (spans_are axis of) in omega (arith, ints, is.from, is.upto)
 
-  abbrev many : ℕ
-  many = length (spans_of s.side axis.case)
+  -- the temperature changes by the heat between the cuts over the flow
+  change_between : (of : Side) (number : ℕ) (scale : ℤ → Rational) (c : ℤ)
+      → change of (actual_at of (scale (entered_at axis of number)) c) (actual_at of (scale (left_at axis of number)) c)
+      ≡ minus (scale (high_at axis number)) (scale (low_at axis number))
+  change_between side.Hot number scale c = minus-plus_plus (scale (high_at axis number)) (scale (low_at axis number)) (whole c)
+  change_between side.Cold number scale c = minus-minus_same (scale (high_at axis number)) (scale (low_at axis number)) (whole c)
 
-  abbrev own : Span
-  own = span_of s.side axis.case.streams stream s
+  either_cut : (P : ℤ → Type 0) (of : Side) (number : ℕ) → P (low_at axis number) → P (high_at axis number)
+      → P (entered_at axis of number) × P (left_at axis of number)
+  either_cut P side.Hot number lower upper = (upper, lower)
+  either_cut P side.Cold number lower upper = (lower, upper)
 
-  -- ---- its pieces
+  pub on_pieces : (of : Side) → pieces axis of ≡ on_side of (pieces axis side.Hot) (pieces axis side.Cold)
+  on_pieces side.Hot = refl
+  on_pieces side.Cold = refl
 
-  place : (k : ℕ) × (slice_get (spans_of s.side axis.case) k ≡ Some own)
-  place = stream_place axis.case s.side stream s here refl
+  module _ (stream : ℕ) (s : Stream) (here : slice_get axis.case.streams stream ≡ Some s) where
+    valid : IsSensibleStream s
+    valid = all_at IsSensibleStream axis.case.streams stream s (streams_are axis).each here
 
-  abbrev stages_at : ℕ → List LedStage
-  stages_at n = filter_map (led_stage s.side (exchanges axis) stream) (enumerate_from (n * many) (pieces_at axis s.side n))
+    module _ (number k : ℕ) (within : number < length axis.cuts - 1) (is : RunsSpan axis s.side number k) (own : is.span.source ≡ source.Stream stream) where
+      abbrev index : ℕ
+      index = number * many s.side + k
 
-  abbrev stages_of : List ℕ → List LedStage
-  stages_of numbers = flat_map stages_at numbers
+      abbrev low : ℤ
+      low = low_at axis number
 
-  all_stages : led_course (pieces axis side.Hot) (pieces axis side.Cold) (exchanges axis) (stream, s) ≡ on_the_way s.side (stages_of (intervals_of axis.cuts))
-  unfolding pieces
-  all_stages =
-      let h = led_stage s.side (exchanges axis) stream in
-      let rows = pieces_at axis s.side in
-      let none : 0 ≡ 0 * many = omega arith in
-      let numbered = ap (λ b. enumerate_from b (flat_map rows (intervals_of axis.cuts))) none
-      ∙ numbered-rows rows many (λ n. length-map (spans_of s.side axis.case) (piece_in axis s.side n)) 0 (length axis.cuts - 1) in
-      ap (λ (ps : List Piece). filter_map h (on_the_way s.side (enumerate_from 0 ps))) (sym (on_pieces axis s.side))
-      ∙ filter_map-way h s.side (enumerate_from 0 (flat_map rows (intervals_of axis.cuts)))
-      ∙ ap (on_the_way s.side) (ap (filter_map h) numbered ∙ filter_map-rows h (λ n. enumerate_from (n * many) (rows n)) (intervals_of axis.cuts))
+      abbrev high : ℤ
+      high = high_at axis number
 
-  abbrev index : ℕ → ℕ
-  index n = n * many + place.0
+      abbrev pub stream_piece : Piece
+      stream_piece = piece_in axis s.side number is.span
 
-  abbrev stage : ℕ → LedStage
-  stage n = led_piece s.side (exchanges axis) (index n, piece_in axis s.side n own)
+      inside : k < many s.side
+      inside = slice_get_within (spans_of s.side axis.case) k is.span is.there
 
-  abbrev has_shares : ℕ → Bool
-  has_shares i = nat_lt 0 (length (shares_of s.side i (exchanges axis)))
+      runs : RunsIn axis s.side number s
+      runs = stream_runs axis s.side number k stream s is own here
 
-  -- its own piece alone can be a stage
-  stage_test : (n j : ℕ) (p : Piece) → slice_get (pieces_at axis s.side n) j ≡ Some p
-      → is_stage s.side (exchanges axis) stream (n * many + j) p.source ≡ ((j == place.0) && has_shares (n * many + j))
-  stage_test n j p at =
-      let (b, there, is) = mapped_item (piece_in axis s.side n) (spans_of s.side axis.case) j p at in
-      ap (λ (q : Piece). is_stage s.side (exchanges axis) stream (n * many + j) q.source) (sym is)
-      ∙ ap (λ t. t && has_shares (n * many + j)) (own_place (spans_of s.side axis.case) (sources_differ axis.case s.side) place.0 own place.1 j b there)
+      flow_is : flow_in low high is.span ≡ s.cp
+      flow_is =
+          ap (flow_in low high) (own_span axis s.side is.span stream s is.kind own here).0
+          ∙ ap₂ (λ p q. if p && q then s.cp else pos 0) (int_le-from (heat_at s.side axis.case.streams (low_end s)) low runs.from)
+          (int_le-from high (heat_at s.side axis.case.streams (high_end s)) runs.upto)
 
-  no_stage : (n j : ℕ) (p : Piece) → slice_get (pieces_at axis s.side n) j ≡ Some p → ((j == place.0) && has_shares (n * many + j)) ≡ false
-      → led_stage s.side (exchanges axis) stream (n * many + j, p) ≡ None
-  no_stage n j p at is = ap (λ b. if b then Some (led_piece s.side (exchanges axis) (n * many + j, p)) else None) (stage_test n j p at ∙ is)
+      pub sizes_are : size_of (shares_of s.side index (exchanges axis)) ≡ whole s.cp
+      sizes_are = size_piece axis s.side number k is.span within is.there ∙ ap whole flow_is
 
-  -- an interval in which it runs is a stage
-  runs_stage : (n : ℕ) → n < length axis.cuts - 1 → RunsIn axis s.side n s → stages_at n ≡ stage n ∷ []
-  runs_stage n within runs =
-      let p = piece_in axis s.side n own in
-      let there = slice_get-map (piece_in axis s.side n) (spans_of s.side axis.case) place.0 ∙ ap (option_map (piece_in axis s.side n)) place.1 in
-      let is : RunsSpan axis s.side n place.0 = record {
-        span = own;
-        there = place.1;
-        kind = all_at (IsSourceSpan axis.case s.side) (spans_of s.side axis.case) place.0 own (span_sources axis.case s.side) place.1;
-        from = runs.from;
-        upto = runs.upto;
-      } in
-      let cp = valid.sensible.cp.from in
-      let some = some_share (shares_of s.side (index n) (exchanges axis)) s.cp (omega (arith, ints, cp))
-      (sizes_are axis stream s here n place.0 within is refl) in
-      let kept : has_shares (index n) ≡ true = grind (arith, nat_tests, some) in
-      let test = stage_test n place.0 p there ∙ ap (λ b. b && has_shares (index n)) (eq-eqb place.0 place.0 refl) ∙ kept in
-      only_item (led_stage s.side (exchanges axis) stream) (n * many) (pieces_at axis s.side n) place.0 p (stage n) there
-      (ap (λ b. if b then Some (stage n) else None) test)
-      (λ j q at other. no_stage n j q at (ap (λ b. b && has_shares (n * many + j)) (ne_eqb j place.0 other)))
+      change_is : change s.side stream_piece.before stream_piece.after ≡ over_at axis s.side number
+      change_is =
+          change_between s.side number (scale_at axis s.side number) (contribution_of axis.case is.span.source)
+          ∙ (scale_is axis s.side number within s runs).change low high
 
-  -- and one in which it does not is none
-  rests_stage : (n : ℕ) → (RunsIn axis s.side n s → ⊥) → stages_at n ≡ []
-  rests_stage n rests =
-      no_items (led_stage s.side (exchanges axis) stream) (n * many) (pieces_at axis s.side n)
-      (λ j p at. no_stage n j p at
-      (⊎_elim
-      (λ same. ap (λ b. b && has_shares (n * many + j)) (eq-eqb j place.0 same) ∙ ap (λ i. has_shares (n * many + i)) same
-      ∙ false_from_ne_true (has_shares (index n))
-      (λ holds. rests (shares_run axis stream s here n place.0 place.1 (ltb-true 0 (length (shares_of s.side (index n) (exchanges axis))) holds))))
-      (λ other. ap (λ b. b && has_shares (n * many + j)) (ne_eqb j place.0 other))
-      (cases_eq j place.0)))
+      -- an exchange of the piece
+      own_heat : (i : ℕ) (e : Exchange) → slice_get (exchanges axis) i ≡ Some e → piece_on s.side e ≡ index
+          → times (size_on s.side e) (change s.side stream_piece.before stream_piece.after) ≡ e.heat
+      own_heat i e at on =
+          let m = all_at (IsMatch axis) (exchanges axis) i e (are_matches axis) at in
+          let same = own_number axis s.side number m.number k m.pair m.met inside (ap (piece_on s.side) m.is ∙ on) in
+          ap (times (size_on s.side e)) (change_is ∙ ap (over_at axis s.side) (sym same.0))
+          ∙ subst (λ (x : Exchange). times (size_on s.side x) (over_at axis s.side m.number) ≡ x.heat) m.is (heat_match axis s.side m.number m.pair m.met)
 
-  -- ---- the heats of its ends
+      -- over the flow of the other side
+      own_over : (i : ℕ) (e : Exchange) → slice_get (exchanges axis) i ≡ Some e → (piece_on s.side e == index) ≡ true
+          → (num : ℤ) × (size_on s.side e ≡ ratio num (unsigned_abs (flow_at axis (other s.side) number)))
+      own_over i e at test =
+          let m = all_at (IsMatch axis) (exchanges axis) i e (are_matches axis) at in
+          let same = own_number axis s.side number m.number k m.pair m.met inside (ap (piece_on s.side) m.is ∙ (eqb-true (piece_on s.side e) index test)) in (
+            m.pair.amount,
+            ap (size_on s.side) (sym m.is) ∙ size_match axis s.side m.number m.pair
+                ∙ ap (λ n. ratio m.pair.amount (unsigned_abs (flow_at axis (other s.side) n))) same.0,
+          )
 
-  abbrev bottom : ℤ
-  bottom = heat_at s.side axis.case.streams (low_end s)
+      state_sized : (q : ℤ) → low ≤ℤ q → q ≤ℤ high → IsSized (unsigned_abs (flow_at axis s.side number)) highest (state_at axis s.side number q is.span)
+      state_sized q from upto =
+          let scale = scale_is axis s.side number within s runs in
+          let over = scale.over q in
+          let range = scale.range q from upto s runs in
+          let contribution : contribution_of axis.case is.span.source ≡ s.contribution = ap (contribution_of axis.case) own
+          ∙ ap (λ o. option_map_or (λ (r : Stream). r.contribution) o (pos 0)) here in
+          subst (λ c. IsSized (unsigned_abs (flow_at axis s.side number)) highest (actual_at s.side (scale_at axis s.side number q) c)) (sym contribution)
+          (stream_sized s.side (unsigned_abs (flow_at axis s.side number)) (scale_at axis s.side number q) s.contribution over.num (low_end s) (high_end s)
+          (omega (arith, ints, flow_above axis number within s.side)) over.is
+          (AreEnds-IsValidStream s valid.valid) range.0 range.1 valid.valid.contribution)
 
-  abbrev top : ℤ
-  top = heat_at s.side axis.case.streams (high_end s)
+      fine : IsFine s.side (exchanges axis) index stream_piece s
+      unfolding shares_of
+      fine =
+          let gap = cut_below axis number within in
+          let above = flow_above axis number within (other s.side) in
+          let some = flow_above axis number within s.side in
 
-  ends_rise : low_end s <ℤ high_end s
-  ends_rise = order-sensible s valid.sensible
+          let states = either_cut (λ q. IsSized (unsigned_abs (flow_at axis s.side number)) highest (state_at axis s.side number q is.span)) s.side number
+          (state_sized low (omega (arith, ints)) (omega (arith, ints, gap))) (state_sized high (omega (arith, ints, gap)) (omega (arith, ints))) in
+          let across = unsigned_abs (flow_at axis (other s.side) number) in
+          record {
+            size_den = across;
+            most_size = most_cp;
+            state_den = unsigned_abs (flow_at axis s.side number);
+            most_state = highest;
+            small = small across (unsigned_abs (flow_at axis s.side number)) (omega (arith, ints, above)) (flow_few (other s.side) number)
+                (omega (arith, ints, some)) (flow_few s.side number);
+            sizes = kept_hold (λ (e : Exchange). piece_on s.side e == index) (share_of s.side index) (λ n e. record { exchanger = n; cp = size_on s.side e })
+                (λ n e. refl)
+                (λ (share : Share). (num : ℤ) × (share.cp ≡ ratio num across)) 0 (exchanges axis) (λ i e at test. own_over i e at test);
+            most = subst (λ x. IsAtMost x (whole (pos most_cp))) (sym (full_size-sensible s valid.sensible))
+                (at_most-whole s.cp (pos most_cp) valid.sensible.cp.upto);
+            before = states.0;
+            after = states.1;
+          }
 
-  heats_rise : bottom ≤ℤ top
-  heats_rise = let order = ends_rise in heat_rises s.side axis.case.streams (low_end s) (high_end s) (streams_are axis).each (omega (arith, ints, order))
+      pub piece_led : IsStreamPiece s.side (exchanges axis) index stream_piece s
+      piece_led = record {
+        sizes = sizes_are ∙ sym (full_size-sensible s valid.sensible);
+        heats = own_heat;
+        load = λ latent. absurd (false≢true (sym (is_latent-sensible s valid.sensible) ∙ latent));
+        fine = fine;
+      }
 
-  ends_cut : Contains axis.cuts bottom × Contains axis.cuts top
-  ends_cut =
-      let P : Stream → Type 0 = λ r. same_side r.side s.side ≡ true
-      → Contains axis.cuts (heat_at s.side axis.case.streams (low_end r)) × Contains axis.cuts (heat_at s.side axis.case.streams (high_end r)) in
-      All-contains P axis.case.streams s (ends_are_cuts axis.case axis.cuts axis.are_cuts s.side) member (own_side s.side)
+    -- ---- the piece at an index
 
-  -- the temperature of the stream where its curve has a heat
-  record IsPlaceOf (t : Rational) (heat : ℤ) : Type 0 where
-    from : IsAtMost (whole (low_end s)) t
-    upto : IsAtMost t (whole (high_end s))
-    heat_is : curve_heat s.side axis.case.streams t ≡ whole heat
+    pub stream_pieces : (index : ℕ) (p : Piece) → slice_get (on_side s.side (pieces axis side.Hot) (pieces axis side.Cold)) index ≡ Some p
+        → p.source ≡ source.Stream stream
+        → 0 < length (shares_of s.side index (exchanges axis)) → IsStreamPiece s.side (exchanges axis) index p s
+    stream_pieces index p there own some =
+        let (i, e, at, on) = exchange_there s.side index (exchanges axis) some in
+        let m = all_at (IsMatch axis) (exchanges axis) i e (are_matches axis) at in
+        let runs = pair_runs axis m.number s.side m.pair m.met in
+        let found = sym (piece_of axis s.side e m) ∙ ap (slice_get (pieces axis s.side)) on ∙ ap (λ ps. slice_get ps index) (on_pieces s.side) ∙ there in
+        let same = same_Some (piece_in axis s.side m.number runs.span) p found in
+        subst₂ (λ i q. IsStreamPiece s.side (exchanges axis) i q s) (sym (piece_index axis s.side m.number m.pair) ∙ ap (piece_on s.side) m.is ∙ on) same
+        (piece_led m.number (index_on s.side m.pair) m.within runs (ap (λ (q : Piece). q.source) same ∙ own))
 
-  one_temperature : (t u : Rational) (heat : ℤ) → IsPlaceOf t heat → IsPlaceOf u heat → t ≡ u
-  one_temperature t u heat one other = one_place axis.case.streams (streams_are axis) s member t u one.from one.upto other.from other.upto
-      (one.heat_is ∙ sym other.heat_is)
+    -- a piece with shares is of an interval in which the stream runs
+    pub shares_run : (number k : ℕ) → slice_get (spans_of s.side axis.case) k ≡ Some (span_of s.side axis.case.streams stream s)
+        → 0 < length (shares_of s.side (number * many s.side + k) (exchanges axis)) → RunsIn axis s.side number s
+    shares_run number k there some =
+        let (i, e, at, on) = exchange_there s.side (number * many s.side + k) (exchanges axis) some in
+        let m = all_at (IsMatch axis) (exchanges axis) i e (are_matches axis) at in
+        let runs = pair_runs axis m.number s.side m.pair m.met in
+        let same = own_number axis s.side number m.number k m.pair m.met
+        (slice_get_within (spans_of s.side axis.case) k (span_of s.side axis.case.streams stream s) there) (ap (piece_on s.side) m.is ∙ on) in
+        let found = sym runs.there ∙ ap (slice_get (spans_of s.side axis.case)) same.1 ∙ there in
+        let span = same_Some runs.span (span_of s.side axis.case.streams stream s) found in
+        subst (λ n. RunsIn axis s.side n s) same.0
+        (stream_runs axis s.side m.number (index_on s.side m.pair) stream s runs (ap (λ (a : Span). a.source) span) here)
 
-  low_place : IsPlaceOf (whole (low_end s)) bottom
-  low_place = let order = ends_rise in record {
-    from = at_most-whole (low_end s) (low_end s) (omega (arith, ints));
-    upto = at_most-whole (low_end s) (high_end s) (omega (arith, ints, order));
-    heat_is = curve_heat-whole s.side axis.case.streams (low_end s) (streams_are axis);
-  }
+    -- ---- its way
 
-  high_place : IsPlaceOf (whole (high_end s)) top
-  high_place = let order = ends_rise in record {
-    from = at_most-whole (low_end s) (high_end s) (omega (arith, ints, order));
-    upto = at_most-whole (high_end s) (high_end s) (omega (arith, ints));
-    heat_is = curve_heat-whole s.side axis.case.streams (high_end s) (streams_are axis);
-  }
+    member : Contains axis.case.streams s
+    member = Contains-slice_get axis.case.streams stream s here
 
-  -- ---- its stages, from a cut down
+    abbrev own : Span
+    own = span_of s.side axis.case.streams stream s
 
-  abbrev actual : Rational → Rational
-  actual t = actual_at s.side t (contribution_of axis.case own.source)
+    -- ---- its pieces
 
-  -- the heat of the stream that is nearest to x
-  record IsNearest (x heat : ℤ) : Type 0 where
-    from : bottom ≤ℤ heat
-    upto : heat ≤ℤ top
-    high : (heat ≤ℤ x) ⊎ (heat ≤ℤ bottom)
-    low : (x ≤ℤ heat) ⊎ (top ≤ℤ heat)
+    place : (k : ℕ) × (slice_get (spans_of s.side axis.case) k ≡ Some own)
+    place = stream_place axis.case s.side stream s here refl
 
-  -- a stage at its two cuts
-  cut_states : (of : Side) (n : ℕ) (f : ℤ → Rational) (shares : List Share)
-      → (upper of (record { before = f (entered_at axis of n); after = f (left_at axis of n); shares = shares }) ≡ f (high_at axis n))
-      × (lower of (record { before = f (entered_at axis of n); after = f (left_at axis of n); shares = shares }) ≡ f (low_at axis n))
-  cut_states side.Hot n f shares = (refl, refl)
-  cut_states side.Cold n f shares = (refl, refl)
+    abbrev stages_at : ℕ → List LedStage
+    stages_at n = filter_map (led_stage s.side (exchanges axis) stream) (enumerate_from (n * many s.side) (pieces_at axis s.side n))
 
-  outside : (n : ℕ) → n < length axis.cuts - 1 → HasNoEnd s.side axis.case.streams (streams_are axis) (low_at axis n) (high_at axis n) s
-  outside n within =
-      let P : Stream → Type 0 = λ r. same_side r.side s.side ≡ true → HasNoEnd s.side axis.case.streams (streams_are axis) (low_at axis n) (high_at axis n) r in
-      All-contains P axis.case.streams s ((interval axis n within).no_end s.side) member (own_side s.side)
+    abbrev stages_of : List ℕ → List LedStage
+    stages_of numbers = flat_map stages_at numbers
 
-  -- the rest of the way, from the lower cut of an interval
-  abbrev Falls : Rational → List LedStage → Type 0
-  Falls t stages = FallTo s.side (actual t) stages (actual (whole (low_end s)))
+    all_stages : led_course (pieces axis side.Hot) (pieces axis side.Cold) (exchanges axis) (stream, s) ≡ on_the_way s.side (stages_of (intervals_of axis.cuts))
+    unfolding pieces
+    all_stages =
+        let h = led_stage s.side (exchanges axis) stream in
+        let rows = pieces_at axis s.side in
+        let none : 0 ≡ 0 * many s.side = omega arith in
+        let numbered = ap (λ b. enumerate_from b (flat_map rows (intervals_of axis.cuts))) none
+        ∙ numbered-rows rows (many s.side) (λ n. length-map (spans_of s.side axis.case) (piece_in axis s.side n)) 0 (length axis.cuts - 1) in
+        ap (λ (ps : List Piece). filter_map h (on_the_way s.side (enumerate_from 0 ps))) (sym (on_pieces s.side))
+        ∙ filter_map-way h s.side (enumerate_from 0 (flat_map rows (intervals_of axis.cuts)))
+        ∙ ap (on_the_way s.side) (ap (filter_map h) numbered ∙ filter_map-rows h (λ n. enumerate_from (n * many s.side) (rows n)) (intervals_of axis.cuts))
 
-  abbrev GoesOn : ℕ → List LedStage → Type 0
-  GoesOn n rest = (t : Rational) (heat : ℤ) → IsNearest (low_at axis n) heat → IsPlaceOf t heat → Falls t rest
+    abbrev own_index : ℕ → ℕ
+    own_index n = n * many s.side + place.0
 
-  passes_by : (n : ℕ) (t : Rational) (rest : List LedStage) → (RunsIn axis s.side n s → ⊥) → Falls t rest → Falls t (stages_at n ++ rest)
-  passes_by n t rest rests fall = subst (λ xs. Falls t (xs ++ rest)) (sym (rests_stage n rests)) fall
+    abbrev stage : ℕ → LedStage
+    stage n = led_piece s.side (exchanges axis) (own_index n, piece_in axis s.side n own)
 
-  goes_through : (n : ℕ) → n < length axis.cuts - 1 → (t : Rational) (rest : List LedStage) → RunsIn axis s.side n s → IsPlaceOf t (high_at axis n)
-      → GoesOn n rest → Falls t (stages_at n ++ rest)
-  goes_through n within t rest runs place on =
-      let low = low_at axis n in
-      let high = high_at axis n in
-      let gap = (interval axis n within).gap.falls in
-      let scale = scale_at axis s.side n in
-      let is = scale_is axis s.side n within s runs in
-      let least : low ≤ℤ low = omega (arith, ints) in
-      let most : high ≤ℤ high = omega (arith, ints) in
-      let order : low ≤ℤ high = omega (arith, ints, gap) in
-      let high_range = is.range high order most s runs in
-      let low_range = is.range low least order s runs in
-      let above = one_temperature (scale high) t high (record { from = high_range.0; upto = high_range.1; heat_is = is.heat high order most }) place in
-      let begun = runs.from in
-      let goes_on = runs.upto in
-      let near : IsNearest low low = record { from = begun; upto = omega (arith, ints, order, goes_on); high = inl least; low = inl least } in
-      let fall = on (scale low) low near (record { from = low_range.0; upto = low_range.1; heat_is = is.heat low least order }) in
-      let cut = cut_states s.side n (λ q. state_at axis s.side n q own) (stage n).shares in
-      subst (λ xs. Falls t (xs ++ rest)) (sym (runs_stage n within runs))
-      (cut.0 ∙ ap actual above, subst (λ x. FallTo s.side x rest (actual (whole (low_end s)))) (sym cut.1) fall)
+    abbrev has_shares : ℕ → Bool
+    has_shares i = nat_lt 0 (length (shares_of s.side i (exchanges axis)))
 
-  next_interval : (n : ℕ) → n < length axis.cuts - 1 → (t : Rational) (heat : ℤ) (rest : List LedStage) → IsNearest (high_at axis n) heat → IsPlaceOf t heat
-      → GoesOn n rest → Falls t (stages_at n ++ rest)
-  next_interval n within t heat rest near place on =
-      let gap = (interval axis n within).gap.falls in
-      let from = near.from in
-      let upto = near.upto in
-      ⊎_elim
-      (λ begun.
-      ⊎_elim
-      (λ ended.
-      let beyond = ⊎_elim (λ up. absurd (omega (arith, ints, up, upto, ended, gap))) (λ up. up) near.low in
-      passes_by n t rest (λ runs. let goes_on = runs.upto in absurd (omega (arith, ints, goes_on, ended, gap)))
-      (on t heat (record { from = from; upto = upto; high = inl (omega (arith, ints, upto, ended)); low = inr beyond }) place))
-      (λ goes_on.
-      let most : heat ≤ℤ high_at axis n = ⊎_elim (λ le. le) (λ le. omega (arith, ints, le, begun, gap)) near.high in
-      let least : high_at axis n ≤ℤ heat = ⊎_elim (λ le. le) (λ le. omega (arith, ints, le, goes_on)) near.low in
-      let same : heat ≡ high_at axis n = omega (arith, ints, most, least) in
-      goes_through n within t rest (record { member = member; side_is = own_side s.side; from = begun; upto = goes_on }) (subst (IsPlaceOf t) same place) on)
-      (outside n within).high_outside)
-      (λ early.
-      let below = ⊎_elim (λ le. omega (arith, ints, le, early)) (λ le. le) near.high in
-      passes_by n t rest (λ runs. let begun = runs.from in absurd (omega (arith, ints, begun, early, gap)))
-      (on t heat (record { from = from; upto = upto; high = inr below; low = inl (omega (arith, ints, from, early, gap)) }) place))
-      (outside n within).low_outside
+    -- its own piece alone can be a stage
+    stage_test : (n j : ℕ) (p : Piece) → slice_get (pieces_at axis s.side n) j ≡ Some p
+        → is_stage s.side (exchanges axis) stream (n * many s.side + j) p.source ≡ ((j == place.0) && has_shares (n * many s.side + j))
+    stage_test n j p at =
+        let (b, there, is) = found (piece_in axis s.side n) p (slice_get (spans_of s.side axis.case) j)
+        (sym (slice_get-map (piece_in axis s.side n) (spans_of s.side axis.case) j) ∙ at) in
+        ap (λ (q : Piece). is_stage s.side (exchanges axis) stream (n * many s.side + j) q.source) (sym is)
+        ∙ ap (λ t. t && has_shares (n * many s.side + j))
+        (own_place (spans_of s.side axis.case) (sources_differ axis.case s.side) place.0 own place.1 j b there)
 
-  fall_from : (m n : ℕ) (t : Rational) (heat : ℤ) → n + m ≡ length axis.cuts - 1 → IsNearest (high_at axis n) heat → IsPlaceOf t heat
-      → Falls t (stages_of (range_with_len n m))
-  fall_from zero n t heat left near place =
-      let last : length axis.cuts - 1 ≡ n = omega (arith, left) in
-      let least = cut_from_last axis.cuts axis.are_cuts.ordered bottom ends_cut.0 in
-      let cut = ap (high_at axis) last in
-      let from = near.from in
-      let upto = ⊎_elim (λ le. omega (arith, ints, le, least, cut)) (λ le. le) near.high in
-      let same : heat ≡ bottom = omega (arith, ints, from, upto) in
-      ap actual (one_temperature t (whole (low_end s)) bottom (subst (IsPlaceOf t) same place) low_place)
-  fall_from (suc m) n t heat left near place =
-      next_interval n (omega (arith, left)) t heat (stages_of (range_with_len (n + 1) m)) near place
-      (λ u h next there. fall_from m (n + 1) u h (omega (arith, left)) next there)
+    no_stage : (n j : ℕ) (p : Piece) → slice_get (pieces_at axis s.side n) j ≡ Some p → ((j == place.0) && has_shares (n * many s.side + j)) ≡ false
+        → led_stage s.side (exchanges axis) stream (n * many s.side + j, p) ≡ None
+    no_stage n j p at is = ap (λ b. if b then Some (led_piece s.side (exchanges axis) (n * many s.side + j, p)) else None) (stage_test n j p at ∙ is)
 
-  whole_way : Falls (whole (high_end s)) (stages_of (intervals_of axis.cuts))
-  whole_way =
-      let rise = heats_rise in
-      let first = cut_upto_first axis.cuts axis.are_cuts.ordered top ends_cut.1 in
-      let least : top ≤ℤ top = omega (arith, ints) in
-      fall_from (length axis.cuts - 1) 0 (whole (high_end s)) top (omega arith)
-      (record { from = rise; upto = least; high = inl first; low = inr least }) high_place
+    -- an interval in which it runs is a stage
+    runs_stage : (n : ℕ) → n < length axis.cuts - 1 → RunsIn axis s.side n s → stages_at n ≡ stage n ∷ []
+    runs_stage n within runs =
+        let p = piece_in axis s.side n own in
+        let there = slice_get-map (piece_in axis s.side n) (spans_of s.side axis.case) place.0 ∙ ap (option_map (piece_in axis s.side n)) place.1 in
+        let is : RunsSpan axis s.side n place.0 = record {
+          span = own;
+          there = place.1;
+          kind = all_at (IsSourceSpan axis.case s.side) (spans_of s.side axis.case) place.0 own (span_sources axis.case s.side) place.1;
+          from = runs.from;
+          upto = runs.upto;
+        } in
+        let some = some_share (shares_of s.side (own_index n) (exchanges axis)) s.cp (omega (arith, ints, valid.sensible.cp.from))
+        (sizes_are n place.0 within is refl) in
+        let kept : has_shares (own_index n) ≡ true = grind (arith, nat_tests, some) in
+        let test = stage_test n place.0 p there ∙ ap (λ b. b && has_shares (own_index n)) (eq-eqb place.0 place.0 refl) ∙ kept in
+        only_item (led_stage s.side (exchanges axis) stream) (n * many s.side) (pieces_at axis s.side n) place.0 p (stage n) there
+        (ap (λ b. if b then Some (stage n) else None) test)
+        (λ j q at other. no_stage n j q at (ap (λ b. b && has_shares (n * many s.side + j)) (ne_eqb j place.0 other)))
 
-  -- it is led from its supply to its target
-  pub stream_joined : AreJoined s (led_course (pieces axis side.Hot) (pieces axis side.Cold) (exchanges axis) (stream, s))
-  stream_joined =
-      let stages = stages_of (intervals_of axis.cuts) in
-      let c = ap (λ o. option_map_or (λ (r : Stream). r.contribution) o (pos 0)) here in
-      let leads = way_leads s.side stages (actual (whole (high_end s))) (actual (whole (low_end s))) whole_way in
-      let start = start_place s.side actual s ∙ ap (actual_at s.side (whole (first_end s.side s))) c ∙ actual-first s valid.sensible in
-      let end = end_place s.side actual s ∙ ap (actual_at s.side (whole (last_end s.side s))) c ∙ actual-last s valid.sensible in
-      let way = subst₂ (λ x y. Leads x (on_the_way s.side stages) y) start end leads in
-      subst (AreJoined s) (sym all_stages) (record { meet = way.0; ends = way.1 })
+    -- and one in which it does not is none
+    rests_stage : (n : ℕ) → (RunsIn axis s.side n s → ⊥) → stages_at n ≡ []
+    rests_stage n rests =
+        no_items (led_stage s.side (exchanges axis) stream) (n * many s.side) (pieces_at axis s.side n)
+        (λ j p at. no_stage n j p at
+        (⊎_elim
+        (λ same. ap (λ b. b && has_shares (n * many s.side + j)) (eq-eqb j place.0 same) ∙ ap (λ i. has_shares (n * many s.side + i)) same
+        ∙ false_from_ne_true (has_shares (own_index n))
+        (λ holds. rests (shares_run n place.0 place.1 (ltb-true 0 (length (shares_of s.side (own_index n) (exchanges axis))) holds))))
+        (λ other. ap (λ b. b && has_shares (n * many s.side + j)) (ne_eqb j place.0 other))
+        (cases_eq j place.0)))
+
+    -- ---- the heats of its ends
+
+    abbrev bottom : ℤ
+    bottom = heat_at s.side axis.case.streams (low_end s)
+
+    abbrev top : ℤ
+    top = heat_at s.side axis.case.streams (high_end s)
+
+    ends_rise : low_end s <ℤ high_end s
+    ends_rise = order-sensible s valid.sensible
+
+    heats_rise : bottom ≤ℤ top
+    heats_rise = heat_rises s.side axis.case.streams (low_end s) (high_end s) (streams_are axis).each (omega (arith, ints, ends_rise))
+
+    ends_cut : Contains axis.cuts bottom × Contains axis.cuts top
+    ends_cut =
+        let P : Stream → Type 0 = λ r. same_side r.side s.side ≡ true
+        → Contains axis.cuts (heat_at s.side axis.case.streams (low_end r)) × Contains axis.cuts (heat_at s.side axis.case.streams (high_end r)) in
+        All-contains P axis.case.streams s (ends_are_cuts axis s.side) member (own_side s.side)
+
+    -- the temperature of the stream where its curve has a heat
+    record IsPlaceOf (t : Rational) (heat : ℤ) : Type 0 where
+      from : IsAtMost (whole (low_end s)) t
+      upto : IsAtMost t (whole (high_end s))
+      heat_is : curve_heat s.side axis.case.streams t ≡ whole heat
+
+    one_temperature : (t u : Rational) (heat : ℤ) → IsPlaceOf t heat → IsPlaceOf u heat → t ≡ u
+    one_temperature t u heat one other = one_place axis.case.streams (streams_are axis) s member t u one.from one.upto other.from other.upto
+        (one.heat_is ∙ sym other.heat_is)
+
+    place_at : (x : ℤ) → low_end s ≤ℤ x → x ≤ℤ high_end s → IsPlaceOf (whole x) (heat_at s.side axis.case.streams x)
+    place_at x from upto = record {
+      from = at_most-whole (low_end s) x from;
+      upto = at_most-whole x (high_end s) upto;
+      heat_is = curve_heat-whole s.side axis.case.streams x (streams_are axis);
+    }
+
+    -- ---- its stages, from a cut down
+
+    abbrev actual : Rational → Rational
+    actual t = actual_at s.side t (contribution_of axis.case own.source)
+
+    -- the heat of the stream that is nearest to x
+    abbrev IsNearest : ℤ → ℤ → Type 0
+    IsNearest x heat = heat ≡ bounded bottom top x
+
+    -- a stage at its two cuts
+    cut_states : (of : Side) (n : ℕ) (f : ℤ → Rational) (shares : List Share)
+        → (upper of (record { before = f (entered_at axis of n); after = f (left_at axis of n); shares = shares }) ≡ f (high_at axis n))
+        × (lower of (record { before = f (entered_at axis of n); after = f (left_at axis of n); shares = shares }) ≡ f (low_at axis n))
+    cut_states side.Hot n f shares = (refl, refl)
+    cut_states side.Cold n f shares = (refl, refl)
+
+    outside : (n : ℕ) → n < length axis.cuts - 1 → HasNoEnd s.side axis.case.streams (streams_are axis) (low_at axis n) (high_at axis n) s
+    outside n within =
+        All-contains (λ r. same_side r.side s.side ≡ true → HasNoEnd s.side axis.case.streams (streams_are axis) (low_at axis n) (high_at axis n) r)
+        axis.case.streams s (no_end_between axis n within s.side) member (own_side s.side)
+
+    -- the rest of the way, from the lower cut of an interval
+    abbrev Falls : Rational → List LedStage → Type 0
+    Falls t stages = FallTo s.side (actual t) stages (actual (whole (low_end s)))
+
+    abbrev GoesOn : ℕ → List LedStage → Type 0
+    GoesOn n rest = (t : Rational) (heat : ℤ) → IsNearest (low_at axis n) heat → IsPlaceOf t heat → Falls t rest
+
+    passes_by : (n : ℕ) (t : Rational) (rest : List LedStage) → (RunsIn axis s.side n s → ⊥) → Falls t rest → Falls t (stages_at n ++ rest)
+    passes_by n t rest rests fall = subst (λ xs. Falls t (xs ++ rest)) (sym (rests_stage n rests)) fall
+
+    goes_through : (n : ℕ) → n < length axis.cuts - 1 → (t : Rational) (rest : List LedStage) → RunsIn axis s.side n s → IsPlaceOf t (high_at axis n)
+        → GoesOn n rest → Falls t (stages_at n ++ rest)
+    goes_through n within t rest runs place on =
+        let low = low_at axis n in
+        let high = high_at axis n in
+        let gap = cut_below axis n within in
+        let scale = scale_at axis s.side n in
+        let is = scale_is axis s.side n within s runs in
+        let least : low ≤ℤ low = omega (arith, ints) in
+        let most : high ≤ℤ high = omega (arith, ints) in
+        let order : low ≤ℤ high = omega (arith, ints, gap) in
+        let high_range = is.range high order most s runs in
+        let low_range = is.range low least order s runs in
+        let above = one_temperature (scale high) t high (record { from = high_range.0; upto = high_range.1; heat_is = is.heat high order most }) place in
+        let near : IsNearest low low = omega (arith, ints, clamps, gap, runs.from, runs.upto) in
+        let fall = on (scale low) low near (record { from = low_range.0; upto = low_range.1; heat_is = is.heat low least order }) in
+        let cut = cut_states s.side n (λ q. state_at axis s.side n q own) (stage n).shares in
+        subst (λ xs. Falls t (xs ++ rest)) (sym (runs_stage n within runs))
+        (cut.0 ∙ ap actual above, subst (λ x. FallTo s.side x rest (actual (whole (low_end s)))) (sym cut.1) fall)
+
+    next_interval : (n : ℕ) → n < length axis.cuts - 1 → (t : Rational) (heat : ℤ) (rest : List LedStage) → IsNearest (high_at axis n) heat → IsPlaceOf t heat
+        → GoesOn n rest → Falls t (stages_at n ++ rest)
+    next_interval n within t heat rest near place on =
+        let gap = cut_below axis n within in
+        let order = heats_rise in
+        ⊎_elim
+        (λ begun. ⊎_elim
+        (λ ended. passes_by n t rest (λ runs. absurd (omega (arith, ints, runs.upto, ended, gap)))
+        (on t heat (omega (arith, ints, clamps, near, ended, gap, order)) place))
+        (λ goes_on.
+        let same : heat ≡ high_at axis n = omega (arith, ints, clamps, near, begun, goes_on, gap) in
+        goes_through n within t rest (record { member = member; side_is = own_side s.side; from = begun; upto = goes_on }) (subst (IsPlaceOf t) same place) on)
+        (outside n within).high_outside)
+        (λ early. passes_by n t rest (λ runs. absurd (omega (arith, ints, runs.from, early, gap)))
+        (on t heat (omega (arith, ints, clamps, near, early, gap, order)) place))
+        (outside n within).low_outside
+
+    fall_from : (m n : ℕ) (t : Rational) (heat : ℤ) → n + m ≡ length axis.cuts - 1 → IsNearest (high_at axis n) heat → IsPlaceOf t heat
+        → Falls t (stages_of (range_with_len n m))
+    fall_from zero n t heat left near place =
+        let last : length axis.cuts - 1 ≡ n = omega (arith, left) in
+        let least = cut_from_last axis.cuts axis.are_cuts.ordered bottom ends_cut.0 in
+        let same : heat ≡ bottom = omega (arith, ints, clamps, near, heats_rise, ap (high_at axis) last, least) in
+        ap actual (one_temperature t (whole (low_end s)) bottom (subst (IsPlaceOf t) same place)
+        (place_at (low_end s) (omega (arith, ints)) (omega (arith, ints, ends_rise))))
+    fall_from (suc m) n t heat left near place =
+        next_interval n (omega (arith, left)) t heat (stages_of (range_with_len (n + 1) m)) near place
+        (λ u h next there. fall_from m (n + 1) u h (omega (arith, left)) next there)
+
+    whole_way : Falls (whole (high_end s)) (stages_of (intervals_of axis.cuts))
+    whole_way =
+        fall_from (length axis.cuts - 1) 0 (whole (high_end s)) top (omega arith)
+        (omega (arith, ints, clamps, heats_rise, cut_upto_first axis.cuts axis.are_cuts.ordered top ends_cut.1))
+        (place_at (high_end s) (omega (arith, ints, ends_rise)) (omega (arith, ints)))
+
+    -- it is led from its supply to its target
+    pub stream_joined : AreJoined s (led_course (pieces axis side.Hot) (pieces axis side.Cold) (exchanges axis) (stream, s))
+    stream_joined =
+        let stages = stages_of (intervals_of axis.cuts) in
+        let c = ap (λ o. option_map_or (λ (r : Stream). r.contribution) o (pos 0)) here in
+        let start = ap (actual_at s.side (whole (first_end s.side s))) c ∙ actual-first s valid.sensible in
+        let end = ap (actual_at s.side (whole (last_end s.side s))) c ∙ actual-last s valid.sensible in
+        let way = subst₂ (λ x y. Leads x (on_the_way s.side stages) y) start end (way_leads s.side stages actual s whole_way) in
+        subst (AreJoined s) (sym all_stages) (record { meet = way.0; ends = way.1 })

@@ -5,7 +5,6 @@ pub use Rattle.design_lines.proofs.NumberedItems.{numbered-item}
 pub use Rattle.design_lines.proofs.SensibleStreams.{AreSensibleStreams, AreSensibleStreams-both, AreSensibleStreams-case, IsSensibleCase, IsSensibleCase-both}
 pub use Rattle.design_lines.proofs.SensibleStreams.{IsSensibleStream}
 pub use Rattle.design_lines.proofs.StageSizes.{IsOver}
-pub use Rattle.design_lines.specs.Drawn.{HasFewLines}
 pub use Rattle.design_lines.specs.Values.{LedStage, Meet, size_of, state_behind}
 pub use Rattle.design_lines.specs.declared.stage.Share.{Share}
 pub use Rattle.fractions.proofs.Comparisons.{at_most-ratio_whole, at_most-whole, at_most-whole_ratio, at_most_below_trans, at_most_from_below}
@@ -24,9 +23,7 @@ pub use Rattle.network_audit.proofs.Sized.{sized-minus, sized-plus, sized-whole}
 pub use Rattle.network_audit.proofs.SumSteps.{length-numbers}
 pub use Rattle.network_audit.specs.Balance.{balance_of, duty_with, excess_of, heat_price, heat_with}
 unfoldable pub use Rattle.network_audit.specs.Balance.{cost_of, duties_with}
-pub use Rattle.network_audit.specs.Findings.{HasNoFinding}
 pub use Rattle.network_audit.specs.Sized.{AreSmall, IsSized, IsWholeGroup, count_of}
-pub use Rattle.network_audit.specs.Valid.{IsValidNetwork}
 pub use Rattle.network_values.proofs.HeightLemmas.{positive_part-cases}
 pub use Rattle.network_values.proofs.StreamStates.{first_end, first_state-unshifted, fixed_level-sensible, full_size-sensible, last_end, last_state-unshifted}
 pub use Rattle.network_values.proofs.WholeLemmas.{All-range}
@@ -36,7 +33,7 @@ pub use Rattle.network_values.specs.Sides.{contribution_of, fixed_level}
 pub use Rattle.network_values.specs.Values.{change, first_state, last_state}
 pub use Rattle.networks.proofs.Lists.{all_at}
 unfoldable pub use Rattle.networks.specs.Lines.{exchangers_of}
-pub use Rattle.networks.specs.Shape.{HasShape, IsPositive, KeepsCounts}
+pub use Rattle.networks.specs.Shape.{HasShape, IsPositive}
 pub use Rattle.networks.specs.declared.network.Network.{Network}
 pub use Rattle.pieces.proofs.PieceStages.{filter_map-way, source_at-piece}
 pub use Rattle.pieces.specs.Led.{AreApart, AreJoined, AreLedPieces, HasUtilityHeat, IsFine, IsLedNetwork, IsStreamPiece, JoinsPieces, LedPiecesDrawLedNetworks}
@@ -55,8 +52,8 @@ pub use Rattle.std.proofs.Math.Nat.{mul-le-mul, mul-le-mul_right}
 pub use Rattle.std.proofs.lemmas.Bool.{and_parts, cases_eq, cases_lt, cases_order, eq-eqb, eqb-true, false_from_ne_true, false≢true, ltb-true, ne_eqb}
 pub use Rattle.std.proofs.lemmas.Bool.Decides.{nat_tests}
 pub use Rattle.std.proofs.lemmas.Int.{clamps, ints, to_z-of_z, unsigned_abs-mul}
-pub use Rattle.std.proofs.lemmas.List.{append-nil, drop_all, drop_more, get_or-map, get_or_default, length-append, length-map, length-take, map-append}
-pub use Rattle.std.proofs.lemmas.List.{reverse-append, take_all, take_more}
+pub use Rattle.std.proofs.lemmas.List.{append-nil, get_or-map, get_or_default, length-append, length-map, length-take, map-append, reverse-append, take_all}
+pub use Rattle.std.proofs.lemmas.List.{take_more}
 pub use Rattle.std.proofs.lemmas.List.Elements.{All-append, All-cons, All-contains, All-head, All-map, All-nil, All-tail, All-take, All-weaker}
 pub use Rattle.std.proofs.lemmas.List.Elements.{Contains-append_left, Contains-append_right, Contains-get_or, filter_map-append}
 pub use Rattle.std.proofs.lemmas.List.Filters.{dedup_is}
@@ -68,8 +65,8 @@ pub use Rattle.std.proofs.lemmas.Simd.{map-map}
 pub use Rattle.std.specs.Int.{int_max, int_min, w128}
 pub use Rattle.std.specs.List.{cons_option, count_by, enumerate_from, filter_map, flat_map, range_with_len}
 pub use Rattle.std.specs.Option.{option_map_or, option_to_list}
-pub use Rattle.std.specs.Prelude.{AllPairs, Bool, Contains, Option, filter, if◌then◌else◌, int_le, int_lt, nat_lt, option_map, pos, reverse, unsigned_abs, ◌&&◌}
-pub use Rattle.std.specs.Prelude.{◌*ℤ◌, ◌+ℤ◌, ◌-ℤ◌, ◌<ℤ◌, ◌≡◌, ◌≤ℤ◌}
+pub use Rattle.std.specs.Prelude.{Bool, Contains, Option, filter, if◌then◌else◌, int_le, int_lt, nat_lt, option_map, reverse, unsigned_abs, ◌&&◌, ◌*ℤ◌, ◌-ℤ◌}
+pub use Rattle.std.specs.Prelude.{◌<ℤ◌, ◌≡◌}
 pub use Rattle.stream_case.proofs.CaseLemmas.{length-AreStreams}
 pub use Rattle.stream_case.proofs.CompleteLemmas.{AreStreams-IsComplete, HasValidStreams-IsComplete, length-utilities, shifted_level-standard}
 pub use Rattle.stream_case.proofs.EndLemmas.{AreEnds, AreEnds-IsValidStream, each_end, length-stream_ends, order-sensible}
@@ -91,7 +88,7 @@ pub use Rattle.stream_case.specs.declared.stream.Stream.{Stream}
 pub use Rattle.stream_case.specs.declared.utility.Utility.{Utility}
 pub use Rattle.sums.proofs.CountLemmas.{count_by-cons, length-le_falling}
 pub use Rattle.sums.proofs.EnumerationLemmas.{enumerate_from-append, range_with_len-append}
-pub use Rattle.sums.proofs.IntegerLemmas.{if_zero, int_le-false, int_le-from, int_le-true, int_le_cases, int_lt-from, int_lt-true, int_lt_cases, strictly}
+pub use Rattle.sums.proofs.IntegerLemmas.{int_le-false, int_le-from, int_le-true, int_lt-from, int_lt-true, int_lt_cases, strictly}
 pub use Rattle.sums.proofs.ListLemmas.{All-flat_map, All-slice_get, Contains-flat_map, Contains-slice_get, slice_get-append}
 pub use Rattle.sums.proofs.OrderLemmas.{AllPairs-append, AllPairs-nil, Lists-reverse, ListsRising-sorted}
 pub use Rattle.sums.proofs.ProductLemmas.{*ℤ-+ℤ, *ℤ--ℤ, *ℤ-<ℤ_right, *ℤ-≤ℤ_left, *ℤ-≤ℤ_right, *ℤ_cancel_right, +ℤ-*ℤ, -ℤ-*ℤ, neg_ℤ-*ℤ, one_times}
@@ -104,7 +101,7 @@ pub use Rattle.sums.specs.declared.pairs.Pair.{Pair}
 pub use Rattle.vertical_design.specs.Axis.{AreCuts, begin_of, ends_of, heat_at, heat_below, stream_span, utility_from, utility_span, utility_to}
 unfoldable pub use Rattle.vertical_design.specs.Axis.{spans_of}
 pub use Rattle.vertical_design.specs.Balance.{target_balance}
-pub use Rattle.vertical_design.specs.Courses.{AreBetween, IsVerticalDesign, sources_between, sources_in}
+pub use Rattle.vertical_design.specs.Courses.{AreBetween, sources_between, sources_in}
 unfoldable pub use Rattle.vertical_design.specs.Courses.{network_of}
 pub use Rattle.vertical_design.specs.Limits.{AreSpans, IsFlow, IsGap, IsPlace, IsSideFlow, IsSpan}
 unfoldable pub use Rattle.vertical_design.specs.Matches.{IsMet, amounts_in, exchanges_at, exchanges_between, flow_in, flows_in, intervals_of, lower_cut}

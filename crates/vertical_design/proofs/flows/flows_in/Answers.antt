@@ -1,6 +1,6 @@
 use Rattle.std.proofs.Common.{All, [], ap, get_or, of_z, pos, rules, subst, sym, to_z, w64, ℤ, ◌++◌, ◌∙◌, ◌∷◌, ◌≡◌}
 use Rattle.vertical_design.proofs.Words.{IsFlow, Span, flow_in, flows_in, get_or_default, take_all, to_z-of_z}
-use Rattle.vertical_design.proofs.FlowLemmas.{flows-within, map_more}
+use Rattle.vertical_design.proofs.OverlapLists.{flows-within, map_more}
 use Rattle.stream_case.specs.declared.source.Source.TheVariants as source
 use Rattle.vertical_design.proofs.flows.flows_in.Goals as goal
 

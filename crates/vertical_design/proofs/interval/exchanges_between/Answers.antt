@@ -1,27 +1,19 @@
 use Rattle.vertical_design.proofs.Words.{Exchange, IsGap, exchanges_at, flat_map, ints, matches_in, range_with_len}
-use Rattle.std.proofs.Common.{List, ap, arith, get_or, length, of_z, pos, subst, subst₂, sym, to_z, w64, ℤ, ◌++◌, ◌+◌, ◌-◌, ◌<◌, ◌∙◌, ◌≡◌}
-use Rattle.vertical_design.proofs.IntervalLemmas.{few_cuts, gap_at}
-use Rattle.vertical_design.proofs.PieceRows.{rows_more}
+use Rattle.std.proofs.Common.{List, ap, arith, get_or, length, of_z, pos, subst₂, sym, to_z, w64, ℤ, ◌++◌, ◌+◌, ◌-◌, ◌<◌, ◌∙◌, ◌≡◌}
+use Rattle.vertical_design.proofs.OverlapLists.{few_cuts, gap_at, rows_more}
 use Rattle.vertical_design.proofs.interval.exchanges_between.Goals.{In-loop-number}
 use Rattle.vertical_design.proofs.interval.exchanges_between.Goals as goal
 
-few : (c : In-loop-number) → c.loop-number.number + 1 < length c.args.cuts.now
-few c = let within = c.loop-number-test.true in let count = c.count_of-number-end.ensures in omega (arith, within, count)
+few : (c : In-loop-number) → c.loop-number.number < length c.args.cuts.now - 1
+few c = omega (arith, c.loop-number-test.true, c.count_of-number-end.ensures)
 
 gap : (c : In-loop-number) → IsGap (get_or c.args.cuts.now (c.loop-number.number + 1) (pos 0)) (get_or c.args.cuts.now c.loop-number.number (pos 0))
-gap c =
-    let n = c.loop-number.number in
-    let cuts = c.args.cuts.now in
-    let same : n + 1 - 1 ≡ n = omega arith in
-    subst (λ k. IsGap (get_or cuts (n + 1) (pos 0)) (get_or cuts k (pos 0))) same
-    (gap_at c.args.hot.now c.args.cold.now cuts c.requires.hot c.requires.cold c.requires.cuts (n + 1) (omega arith) (few c))
+gap c = gap_at c.args.hot.now c.args.cold.now c.args.cuts.now c.requires.hot c.requires.cold c.requires.cuts c.loop-number.number (few c)
 
 -- a place of the axis is a number of 64 bits
 held : (low high : ℤ) → IsGap low high → (to_z w64 (of_z w64 low) ≡ low) × (to_z w64 (of_z w64 high) ≡ high)
 held low high gap =
-    let one = gap.low_place in
-    let other = gap.high_place in
-    (omega (arith, ints, one.from, one.upto), omega (arith, ints, other.from, other.upto))
+    (omega (arith, ints, gap.low_place.from, gap.low_place.upto), omega (arith, ints, gap.high_place.from, gap.high_place.upto))
 
 pub push_matches-requires-clause-gap : goal.push_matches-requires-clause-gap
 push_matches-requires-clause-gap c =
@@ -31,15 +23,13 @@ push_matches-requires-clause-gap c =
 
 pub push_matches-requires-clause-number : goal.push_matches-requires-clause-number
 push_matches-requires-clause-number c =
-    let all = few_cuts c.args.hot.now c.args.cold.now c.args.cuts.now c.requires.hot c.requires.cold c.requires.cuts in
-    let here = few (goal.at.push_matches-requires-clause-number c).In-loop-number in
-    omega (arith, all, here)
+    omega (arith, few_cuts c.args.hot.now c.args.cold.now c.args.cuts.now c.requires.hot c.requires.cold c.requires.cuts,
+    few (goal.at.push_matches-requires-clause-number c).In-loop-number)
 
 pub overflow_cast-number : goal.overflow_cast-number
 overflow_cast-number c =
-    let all = few_cuts c.args.hot.now c.args.cold.now c.args.cuts.now c.requires.hot c.requires.cold c.requires.cuts in
-    let here = few (goal.at.overflow_cast-number c).In-loop-number in
-    omega (arith, all, here)
+    omega (arith, few_cuts c.args.hot.now c.args.cold.now c.args.cuts.now c.requires.hot c.requires.cold c.requires.cuts,
+    few (goal.at.overflow_cast-number c).In-loop-number)
 
 pub loop-number-preserved : goal.loop-number-preserved
 loop-number-preserved c =
@@ -53,7 +43,5 @@ loop-number-preserved c =
 
 pub returns : goal.returns
 returns c =
-    let past = c.loop-number-test.false in
-    let count = c.count_of-number-end.ensures in
-    let all : c.loop-number.number ≡ length c.args.cuts.now - 1 = omega (arith, past, count) in
+    let all : c.loop-number.number ≡ length c.args.cuts.now - 1 = omega (arith, c.loop-number-test.false, c.count_of-number-end.ensures) in
     c.loop-number.invariant ∙ ap (λ k. flat_map (exchanges_at c.args.hot.now c.args.cold.now c.args.cuts.now) (range_with_len 0 k)) all

@@ -1,6 +1,6 @@
 use Rattle.std.proofs.Common.{List, ap, arith, length, sym, ◌++◌, ◌-◌, ◌∙◌, ◌≡◌}
 use Rattle.vertical_design.proofs.Words.{Source, flat_map, range_with_len, sources_in}
-use Rattle.vertical_design.proofs.PieceRows.{rows_more}
+use Rattle.vertical_design.proofs.OverlapLists.{rows_more}
 use Rattle.vertical_design.proofs.interval.sources_between.Goals as goal
 
 pub loop-number-preserved : goal.loop-number-preserved
@@ -10,7 +10,5 @@ loop-number-preserved c =
 
 pub returns : goal.returns
 returns c =
-    let past = c.loop-number-test.false in
-    let count = c.count_of-number-end.ensures in
-    let all : c.loop-number._number ≡ length c.args.cuts.now - 1 = omega (arith, past, count) in
+    let all : c.loop-number._number ≡ length c.args.cuts.now - 1 = omega (arith, c.loop-number-test.false, c.count_of-number-end.ensures) in
     c.loop-number.invariant ∙ ap (λ k. flat_map (λ n. sources_in c.args.spans.now) (range_with_len 0 k)) all

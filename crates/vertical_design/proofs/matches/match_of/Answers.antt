@@ -1,6 +1,6 @@
 use Rattle.std.proofs.Common.{arith}
 use Rattle.vertical_design.proofs.Words.{ints}
-use Rattle.vertical_design.proofs.FlowLemmas.{IsShare, share-within}
+use Rattle.vertical_design.proofs.OverlapLists.{IsShare, share-within}
 use Rattle.vertical_design.proofs.matches.match_of.Goals.{After-piece_at-2}
 use Rattle.vertical_design.proofs.matches.match_of.Goals as goal
 
@@ -8,20 +8,17 @@ share : (c : After-piece_at-2) → IsShare c.args.gap.low c.args.gap.high c.args
 share c = share-within c.args.gap.low c.args.gap.high c.args.hot.now c.args.cold.now c.args.pair c.requires.hot c.requires.cold c.requires.pair
 
 pub quotient-requires-clause-above : goal.quotient-requires-clause-above
-quotient-requires-clause-above c = let h = (share (goal.at.quotient-requires-clause-above c).After-piece_at-2).cold_flow.from in omega
-    (arith, ints, c.requires.cold_flow)
+quotient-requires-clause-above c = omega (arith, ints, c.requires.cold_flow, (share (goal.at.quotient-requires-clause-above c).After-piece_at-2).cold_flow.from)
 
 pub quotient-requires-clause-den : goal.quotient-requires-clause-den
-quotient-requires-clause-den c = let h = (share (goal.at.quotient-requires-clause-den c).After-piece_at-2).cold_flow.upto in omega
-    (arith, ints, c.requires.cold_flow)
+quotient-requires-clause-den c = omega (arith, ints, c.requires.cold_flow, (share (goal.at.quotient-requires-clause-den c).After-piece_at-2).cold_flow.upto)
 
 pub quotient-requires-2-clause-above : goal.quotient-requires-2-clause-above
-quotient-requires-2-clause-above c = let h = (share (goal.at.quotient-requires-2-clause-above c).After-piece_at-2).hot_flow.from in omega
-    (arith, ints, c.requires.hot_flow)
+quotient-requires-2-clause-above c =
+    omega (arith, ints, c.requires.hot_flow, (share (goal.at.quotient-requires-2-clause-above c).After-piece_at-2).hot_flow.from)
 
 pub quotient-requires-2-clause-den : goal.quotient-requires-2-clause-den
-quotient-requires-2-clause-den c = let h = (share (goal.at.quotient-requires-2-clause-den c).After-piece_at-2).hot_flow.upto in omega
-    (arith, ints, c.requires.hot_flow)
+quotient-requires-2-clause-den c = omega (arith, ints, c.requires.hot_flow, (share (goal.at.quotient-requires-2-clause-den c).After-piece_at-2).hot_flow.upto)
 
 pub duty_of-requires-clause-hot : goal.duty_of-requires-clause-hot
 duty_of-requires-clause-hot c =
@@ -36,6 +33,4 @@ duty_of-requires-clause-cold c =
 pub duty_of-requires-clause-share : goal.duty_of-requires-clause-share
 duty_of-requires-clause-share c =
     let s = share (goal.at.duty_of-requires-clause-share c).After-piece_at-2 in
-    let above = s.above in
-    let upto = s.upto in
-    record { from = omega (arith, ints, above, upto); upto = omega (arith, ints, above, upto) }
+    record { from = omega (arith, ints, s.above, s.upto); upto = omega (arith, ints, s.above, s.upto) }

@@ -1,6 +1,6 @@
 use Rattle.std.proofs.Common.{arith, of_z, subst, sym, to_z, w64, ◌∙◌}
 use Rattle.vertical_design.proofs.Words.{IsSideFlow, NotNegative, ints}
-use Rattle.vertical_design.proofs.FlowLemmas.{scaled-positive}
+use Rattle.vertical_design.proofs.OverlapLists.{scaled-positive}
 use Rattle.vertical_design.proofs.matches.pairs_in.Goals as goal
 
 pub pair_amounts-requires-clause-firsts : goal.pair_amounts-requires-clause-firsts

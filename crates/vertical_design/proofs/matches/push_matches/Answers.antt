@@ -1,8 +1,7 @@
 use Rattle.vertical_design.proofs.Words.{Exchange, IsMet, ListsOverlaps, Pair, amounts_in, get_or_default, int_sum_by, match_of, matches_in, scaled, side_flow}
 use Rattle.vertical_design.proofs.Words.{take_all, to_z-of_z}
 use Rattle.std.proofs.Common.{All, List, [], ap, append_assoc, get_or, map, of_z, pos, rules, subst, subst₂, sym, take, to_z, w64, ℤ, ◌++◌, ◌∙◌, ◌∷◌, ◌≡◌}
-use Rattle.vertical_design.proofs.FlowLemmas.{map_more}
-use Rattle.vertical_design.proofs.OverlapLists.{pairs_are}
+use Rattle.vertical_design.proofs.OverlapLists.{map_more, pairs_are}
 use Rattle.vertical_design.proofs.matches.push_matches.Goals.{In_ok-pairs}
 use Rattle.vertical_design.proofs.matches.push_matches.Goals as goal
 
@@ -18,7 +17,6 @@ overlaps : (c : In_ok-pairs) → ListsOverlaps (amounts_in (low_of c) (high_of c
     (amounts_in (low_of c) (high_of c) c.args.cold.now c.args.hot.now) c.in_ok-pairs.pairs.items
 overlaps c =
     let hots = c.deref-3.ensures.value ∙ c.in_ok-hot_flows.ensures.flows in
-    let colds = c.deref-4.ensures.value ∙ c.in_ok-cold_flows.ensures.flows in
     let hot_side : to_z w64 (of_z w64 c.sum_of.result) ≡ side_flow (low_of c) (high_of c) c.args.hot.now =
     to_z-of_z w64 c.sum_of.result (search rules) ∙ c.sum_of.ensures.sum
     ∙ ap (int_sum_by (λ f. f)) (c.deref.ensures.value ∙ c.in_ok-hot_flows.ensures.flows) in
@@ -26,7 +24,7 @@ overlaps c =
     to_z-of_z w64 c.sum_of-2.result (search rules) ∙ c.sum_of-2.ensures.sum
     ∙ ap (int_sum_by (λ f. f)) (c.deref-2.ensures.value ∙ c.in_ok-cold_flows.ensures.flows) in
     subst₂ (λ (xs ys : List ℤ). ListsOverlaps xs ys c.in_ok-pairs.pairs.items) (λ i. scaled (cold_side i) (hots i))
-    (λ i. scaled (hot_side i) (colds i)) c.in_ok-pairs.ensures
+    (λ i. scaled (hot_side i) ((c.deref-4.ensures.value ∙ c.in_ok-cold_flows.ensures.flows) i)) c.in_ok-pairs.ensures
 
 pub match_of-requires-clause-pair : goal.match_of-requires-clause-pair
 match_of-requires-clause-pair c =
@@ -37,9 +35,7 @@ match_of-requires-clause-pair c =
 
 pub loop-pair-preserved : goal.loop-pair-preserved
 loop-pair-preserved c =
-    let low = to_z w64 (of_z w64 c.args.low) in
-    let high = to_z w64 (of_z w64 c.args.high) in
-    let f = match_of c.args.number low high c.args.hot.now c.args.cold.now in
+    let f = match_of c.args.number (to_z w64 (of_z w64 c.args.low)) (to_z w64 (of_z w64 c.args.high)) c.args.hot.now c.args.cold.now in
     let items = c.deref-pair-items.result.now in
     let i = c.loop-pair.pair-index in
     let none : Pair = record { first = 0; second = 0; amount = pos 0 } in
@@ -58,11 +54,8 @@ returns c =
     let hot = c.args.hot.now in
     let cold = c.args.cold.now in
     let given = c.args.exchanges.now.items in
-    let low_is = to_z-of_z w64 c.args.low (search rules) in
-    let high_is = to_z-of_z w64 c.args.high (search rules) in
-    let all = take_all c.loop-pair.pair-index c.deref-pair-items.result.now c.loop-pair-test.false in
     let pairs = pairs_are (amounts_in (low_of at) (high_of at) hot cold) (amounts_in (low_of at) (high_of at) cold hot) c.in_ok-pairs.pairs.items
     (overlaps at) in
     c.loop-pair.invariant ∙ ap (λ ps. given ++ map (match_of c.args.number (low_of at) (high_of at) hot cold) ps)
-    (all ∙ c.deref-pair-items.ensures.value ∙ pairs)
-    ∙ (λ i. given ++ matches_in c.args.number (low_is i) (high_is i) hot cold)
+    ((take_all c.loop-pair.pair-index c.deref-pair-items.result.now c.loop-pair-test.false) ∙ c.deref-pair-items.ensures.value ∙ pairs)
+    ∙ (λ i. given ++ matches_in c.args.number ((to_z-of_z w64 c.args.low (search rules)) i) ((to_z-of_z w64 c.args.high (search rules)) i) hot cold)

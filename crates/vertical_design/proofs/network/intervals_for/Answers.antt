@@ -1,7 +1,7 @@
 use Rattle.vertical_design.proofs.Words.{AreBetween, AreCuts, AreSpans, AreStreams-IsComplete, IsSensibleCase-both, Span, exchanges_between, length-utilities}
 use Rattle.vertical_design.proofs.Words.{sources_between, spans_of}
 use Rattle.std.proofs.Common.{List, arith, subst, sym, ℤ, ◌∙◌, ◌≡◌}
-use Rattle.vertical_design.proofs.SpanLimits.{AreSpans-spans_of}
+use Rattle.vertical_design.proofs.SpanSources.{AreSpans-spans_of}
 use Rattle.stream_case.specs.declared.source.Side.TheVariants as side
 use Rattle.vertical_design.proofs.network.intervals_for.Goals as goal
 
@@ -40,12 +40,10 @@ returns c =
     (c.as_slice.ensures.value ∙ c.in_ok-hot.ensures) (c.as_slice-2.ensures.value ∙ c.in_ok-cold.ensures) (λ i. cuts) c.in_ok-cuts.ensures in
     let hot = c.deref.ensures.value ∙ c.in_ok-hot.ensures in
     let cold = c.deref-2.ensures.value ∙ c.in_ok-cold.ensures in
-    let hot_pieces = c.deref-4.ensures.value ∙ c.in_ok-hot.ensures in
-    let cold_pieces = c.deref-6.ensures.value ∙ c.in_ok-cold.ensures in
     let between : AreBetween case cuts c.in_ok-sources_between.field-0.items c.in_ok-sources_between-2.field-0.items c.in_ok-exchanges.exchanges.items =
     record {
-      hot_is = c.in_ok-sources_between.ensures ∙ (λ i. sources_between (hot_pieces i) (c.deref-5.ensures.value i));
-      cold_is = c.in_ok-sources_between-2.ensures ∙ (λ i. sources_between (cold_pieces i) (c.deref-7.ensures.value i));
+      hot_is = c.in_ok-sources_between.ensures ∙ (λ i. sources_between ((c.deref-4.ensures.value ∙ c.in_ok-hot.ensures) i) (c.deref-5.ensures.value i));
+      cold_is = c.in_ok-sources_between-2.ensures ∙ (λ i. sources_between ((c.deref-6.ensures.value ∙ c.in_ok-cold.ensures) i) (c.deref-7.ensures.value i));
       exchanges_are = c.in_ok-exchanges.ensures ∙ (λ i. exchanges_between (hot i) (cold i) (c.deref-3.ensures.value i));
     } in
     (cuts, are, between)

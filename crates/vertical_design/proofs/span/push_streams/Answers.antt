@@ -1,7 +1,7 @@
 -- A stream of the side has its span.
 use Rattle.std.proofs.Common.{None, Some, [], ap, arith, of_z, rules, sym, to_z, w32, w64, ◌++◌, ◌∙◌, ◌∷◌, ◌≡◌}
 use Rattle.vertical_design.proofs.Words.{Bool, Span, heat_at, high_end, if◌then◌else◌, length-AreStreams, low_end, stream_span, to_z-of_z}
-use Rattle.vertical_design.proofs.SpanLemmas.{span_more, span_skip}
+use Rattle.vertical_design.proofs.SpanSources.{span_more, span_of, span_skip}
 use Rattle.stream_case.specs.declared.source.Source.TheVariants as source
 use Rattle.vertical_design.proofs.span.push_streams.Goals as goal
 
@@ -12,12 +12,7 @@ pub loop-number-preserved-then-not-is_on : goal.loop-number-preserved-then-not-i
 loop-number-preserved-then-not-is_on c =
     let s = c.index-streams-number.result in
     let streams = c.args.streams.now in
-    let span : Span = record {
-      source = source.Stream c.loop-number.number;
-      from = heat_at c.args.side streams (low_end s);
-      to = heat_at c.args.side streams (high_end s);
-      cp = s.cp;
-    } in
+    let span = span_of c.args.side streams c.loop-number.number s in
     span_skip (stream_span c.args.side streams) c.args.spans.now.items streams c.loop-number.number s c.loop-number-test.true c.index-streams-number.is
     c.loop-number.spans.items
     (ap (λ (b : Bool). if b then Some span else None) (sym c.is_on.ensures ∙ c.if-not-is_on.true)) c.loop-number.invariant
@@ -29,13 +24,11 @@ loop-number-preserved c =
     let number = c.loop-number.number in
     let side = c.args.side in
     let before = c.loop-number.spans.items in
-    let span : Span = record { source = source.Stream number; from = heat_at side streams (low_end s); to = heat_at side streams (high_end s); cp = s.cp } in
-    let low = to_z-of_z w32 c.low_end.result (search rules) ∙ c.low_end.ensures.value in
-    let high = to_z-of_z w32 c.high_end.result (search rules) ∙ c.high_end.ensures.value in
+    let span = span_of side streams number s in
     let from : to_z w64 (of_z w64 c.heat_at-from.result) ≡ span.from = to_z-of_z w64 c.heat_at-from.result (search rules) ∙ c.heat_at-from.ensures
-    ∙ ap (heat_at side streams) low in
+    ∙ ap (heat_at side streams) (to_z-of_z w32 c.low_end.result (search rules) ∙ c.low_end.ensures.value) in
     let to : to_z w64 (of_z w64 c.heat_at-to.result) ≡ span.to = to_z-of_z w64 c.heat_at-to.result (search rules) ∙ c.heat_at-to.ensures
-    ∙ ap (heat_at side streams) high in
+    ∙ ap (heat_at side streams) (to_z-of_z w32 c.high_end.result (search rules) ∙ c.high_end.ensures.value) in
     let cp : to_z w64 (of_z w64 s.cp) ≡ s.cp = to_z-of_z w64 s.cp (search rules) in
     let raw : Span = record {
       source = source.Stream number;
