@@ -1,4 +1,4 @@
-use Rattle.design_lines.proofs.StageSteps.{rest_all, splits_all}
+use Rattle.design_lines.proofs.DrawSteps.{rest_all, splits_all}
 use Rattle.std.proofs.Common.{ap, append-nil, arith, length, suc, sym, ◌++◌, ◌∙◌, ◌≡◌}
 use Rattle.design_lines.proofs.stage.push_splits.Goals as goal
 
