@@ -65,8 +65,7 @@ are_of_streams branches front next first stream (course ∷ courses) all here ow
           (omega (arith, more, high, here)),
       are_of_streams branches (front ++ made) (next + k) (first + k) (stream + 1) courses (all ∙ sym (append_assoc front made later))
           (omega (arith, here, length-append front made, length-numbered first stream k)) (λ i inside.
-          let further : stream + suc i ≡ stream + 1 + i = omega arith in
-          subst (λ n. stream_at branches n ≡ n) further (own (suc i) (omega (arith, inside)))),
+          let further : stream + suc i ≡ stream + 1 + i = omega arith in subst (λ n. stream_at branches n ≡ n) further (own (suc i) (omega (arith, inside)))),
     )
 
 -- the course at each index is one of the stream with that number

@@ -128,13 +128,12 @@ module _ (case : Case) (network : Network) (R : ℕ → ℕ → Rational → Rat
       (λ some. omega (arith, mixed_from, some)) in
       let joined : ((values ++ divided) ++ passed) ++ mixed ≡ values ++ (divided ++ (passed ++ mixed)) = append_assoc (values ++ divided) passed mixed
       ∙ append_assoc values divided (passed ++ mixed) in
-      let long = length-append ((values ++ divided) ++ passed) mixed in
       record {
         makes = make_append case network values (splits next from all) (ps ++ ms) divided (passed ++ mixed) split_makes
             (make_append case network (values ++ divided) ps ms passed mixed pass_makes mix_makes);
         ends = subst (λ vs. Carries vs end (value_of (full_size s) after)) joined
             (subst (λ a. Carries (((values ++ divided) ++ passed) ++ mixed) end (value_of a after)) led.sizes last);
-        next_is = omega (arith, mixed_from, long, length-mix_values after first.cp shares) ∙ ap length joined;
+        next_is = omega (arith, mixed_from, length-append ((values ++ divided) ++ passed) mixed, length-mix_values after first.cp shares) ∙ ap length joined;
         runs = λ final more final_is.
             let later : final ≡ ((values ++ divided) ++ passed) ++ (mixed ++ more) = final_is ∙ ap (λ vs. vs ++ more) (sym joined)
             ∙ append_assoc ((values ++ divided) ++ passed) mixed more in

@@ -54,8 +54,7 @@ stage_joined next from rest more shares old one two three some all split left pa
 -- the item of a loop is the next one of those that are left
 pub next_item : {X : Type 0} (xs : List X) (i : ℕ) (x : X) → i < length xs → x ≡ get_or xs i x → drop i xs ≡ x ∷ drop (i + 1) xs
 next_item xs i x within is =
-    let next : suc i ≡ i + 1 = omega arith in
-    drop-cons xs i x within ∙ ap (λ y. y ∷ drop (suc i) xs) (sym is) ∙ ap (λ k. x ∷ drop k xs) next
+    let next : suc i ≡ i + 1 = omega arith in drop-cons xs i x within ∙ ap (λ y. y ∷ drop (suc i) xs) (sym is) ∙ ap (λ k. x ∷ drop k xs) next
 
 -- ---- a course
 

@@ -44,8 +44,7 @@ made-courses next stream courses used =
     let last = next + all_branches courses in
     let made = walk_simply (MakeUpTo last) (λ shares. 0 < length shares) (made_keep last) next stream courses used
     (record { count = 0; is = refl; all = omega arith }) in
-    let many : made.count ≡ all_branches courses = omega (arith, made.all) in
-    made.is ∙ ap (range_with_len next) many
+    let many : made.count ≡ all_branches courses = omega (arith, made.all) in made.is ∙ ap (range_with_len next) many
 
 -- ---- the drawn network
 
@@ -71,9 +70,8 @@ made-drawn case exchangers courses used =
 pub AreMadeInOrder-drawn : (case : Case) (exchangers : List Exchanger) (courses : List Course) → All AreStages courses
     → AreMadeInOrder case (drawn case exchangers courses)
 AreMadeInOrder-drawn case exchangers courses used =
-    let all = length-append (own_branches case) (made_branches 0 0 courses) in
     let many : all_branches courses ≡ length (drawn case exchangers courses).branches - length case.streams =
-    omega (arith, all, many_own case, length-made_branches 0 0 courses) in
+    omega (arith, length-append (own_branches case) (made_branches 0 0 courses), many_own case, length-made_branches 0 0 courses) in
     record {
       own = ap (λ n. take n (own_branches case ++ made_branches 0 0 courses)) (sym (many_own case))
           ∙ take-append_seam (own_branches case) (made_branches 0 0 courses);
@@ -92,12 +90,10 @@ known_at : (m : ℕ) (lines : List Line) (index : ℕ) (l : Line) → AreKnown m
 known_at m [] index l known at = cc at
 known_at m (a ∷ lines) zero l known at =
     let same : a ≡ l = cc at in
-    let used = subst (λ x. All (λ b. b < m) (uses x)) same known.0 in
-    λ j d within. omega (arith, used j d within)
+    let used = subst (λ x. All (λ b. b < m) (uses x)) same known.0 in λ j d within. omega (arith, used j d within)
 known_at m (a ∷ lines) (suc index) l known at =
-    let rest = known_at (m + length (makes a)) lines index l known.1 at in
     let long = length-append (makes a) (flat_map makes (take index lines)) in
-    λ j d within. omega (arith, rest j d within, long)
+    λ j d within. omega (arith, known_at (m + length (makes a)) lines index l known.1 at j d within, long)
 
 one_known : (m b : ℕ) → b < m → All (λ k. k < m) (b ∷ [])
 one_known m b less = All-cons (λ k. k < m) b [] less (All-nil (λ k. k < m))
@@ -160,9 +156,7 @@ other_number a b less = grind (arith, nat_tests, less)
 
 never-range : (b a n : ℕ) → b < a → times b (range_with_len a n) ≡ 0
 never-range b a zero less = refl
-never-range b a (suc n) less =
-    let no = ap {B = ℕ} (λ t. cond t 1 0) (other_number b a less) in
-    omega (arith, no, never-range b (a + 1) n (omega (arith, less)))
+never-range b a (suc n) less = omega (arith, ap {B = ℕ} (λ t. cond t 1 0) (other_number b a less), never-range b (a + 1) n (omega (arith, less)))
 
 once-range : (b a n : ℕ) → times b (range_with_len a n) ≤ 1
 once-range b a zero = omega arith
@@ -170,9 +164,7 @@ once-range b a (suc n) = by (b == a) refl (once-range b (a + 1) n)
   where
     by : (t : Bool) → (b == a) ≡ t → times b (range_with_len (a + 1) n) ≤ 1 → times b (range_with_len a (suc n)) ≤ 1
     by true is rest =
-        let same : b ≡ a = grind (arith, nat_tests, is) in
-        let one = ap {B = ℕ} (λ t. cond t 1 0) is in
-        omega (arith, one, never-range b (a + 1) n (omega (arith, same)))
+        let same : b ≡ a = grind (arith, nat_tests, is) in omega (arith, ap {B = ℕ} (λ t. cond t 1 0) is, never-range b (a + 1) n (omega (arith, same)))
     by false is rest = let no = ap {B = ℕ} (λ t. cond t 1 0) is in omega (arith, no, rest)
 
 some_times : (b : ℕ) (xs : List ℕ) (j d : ℕ) → j < length xs → b ≡ get_or xs j d → 0 < times b xs
@@ -186,8 +178,7 @@ differ [] once i j d before within = absurd (omega (arith, within))
 differ (x ∷ xs) once zero zero d before within = absurd (omega (arith, before))
 differ (x ∷ xs) once zero (suc j) d before within =
     λ same. let one = ap {B = ℕ} (λ t. cond t 1 0) (same_number x x refl) in
-    let again = some_times x xs j d (omega (arith, within)) same in
-    absurd (omega (arith, once x, one, again))
+    absurd (omega (arith, once x, one, some_times x xs j d (omega (arith, within)) same))
 differ (x ∷ xs) once (suc i) zero d before within = absurd (omega (arith, before))
 differ (x ∷ xs) once (suc i) (suc j) d before within = differ xs (λ b. omega (arith, once b)) i j d (omega (arith, before)) (omega (arith, within))
 
@@ -269,8 +260,7 @@ own-names case =
 
 numbered-names : (first stream count : ℕ) → map (λ (b : Branch). b.name) (numbered first stream count) ≡ map branch_name (range_with_len first count)
 numbered-names first stream count =
-    let make : ℕ → Branch = λ k. record { name = branch_name k; stream = stream } in
-    map-map (λ (b : Branch). b.name) make (range_with_len first count)
+    let make : ℕ → Branch = λ k. record { name = branch_name k; stream = stream } in map-map (λ (b : Branch). b.name) make (range_with_len first count)
 
 made-names : (first stream : ℕ) (courses : List Course)
     → map (λ (b : Branch). b.name) (made_branches first stream courses) ≡ map branch_name (range_with_len first (all_branches courses))
@@ -299,8 +289,7 @@ made-dotted : (first count : ℕ) → first + count < 2 ^ 33 → All IsDottedNam
 made-dotted first count small =
     All-map IsDottedName branch_name (range_with_len first count) (λ k d within.
     let inside : k < count = omega (arith, within, length-range_with_len first count) in
-    let number = get_or-range_with_len first count k d inside in
-    IsDottedName-branch_name (get_or (range_with_len first count) k d) (omega (arith, number, inside, small)))
+    IsDottedName-branch_name (get_or (range_with_len first count) k d) (omega (arith, get_or-range_with_len first count k d inside, inside, small)))
 
 -- ---- names and dotted names
 
@@ -422,8 +411,7 @@ module _ (branches : List Branch) (exchanger stream : ℕ) where
   counted-declared : (exchangers : List Exchanger) → count_by (is_pass_of branches exchanger stream) (map declared_line exchangers) ≡ 0
   counted-declared [] = refl
   counted-declared (e ∷ exchangers) =
-      let rest = counted-declared exchangers in
-      omega (arith, count_by-cons (is_pass_of branches exchanger stream) (declared_line e) (map declared_line exchangers), rest)
+      omega (arith, count_by-cons (is_pass_of branches exchanger stream) (declared_line e) (map declared_line exchangers), counted-declared exchangers)
 
   -- the shares of another stream count nothing, and those of the stream by their exchangers
   abbrev counted : ℕ → Course → ℕ
@@ -468,9 +456,8 @@ counted-drawn case exchangers courses all used number stream course at =
     let own = AreOfStreams-drawn case exchangers courses all in
     let walked = walk_courses (IsCounted branches number stream) (λ k n b. stream_at branches b ≡ k) (λ k s. Unit {0}) (λ b. 0) (counts branches number stream)
     (λ shares. 0 < length shares) (counted_keep branches number stream) (length case.streams) 0 courses used (λ i c here k d within j e inside. tt) own refl in
-    let there = turns-there branches number stream 0 stream courses course (omega arith) at in
     let both = sum_by-append (λ l. cond (p l) 1 0) (map declared_line exchangers) (courses_lines (length case.streams) 0 courses) in
-    omega (arith, both, counted-declared branches number stream exchangers, walked, there)
+    omega (arith, both, counted-declared branches number stream exchangers, walked, turns-there branches number stream 0 stream courses course (omega arith) at)
 
 -- The network that led courses draw has the shape of a network.
 
@@ -508,9 +495,8 @@ few-branches : (case : Case) (exchangers : List Exchanger) (courses : List Cours
     → all_branches courses < 2 ^ 33
 unfolding made_by
 few-branches case exchangers courses led used =
-    let made = ap length (made-drawn case exchangers courses used) in
     let long = length-range_with_len (length case.streams) (all_branches courses) in
-    omega (arith, made, long, few_made (drawn case exchangers courses).lines, led.few)
+    omega (arith, ap length (made-drawn case exchangers courses used), long, few_made (drawn case exchangers courses).lines, led.few)
 
 -- ---- the sides of exchangers
 

@@ -189,8 +189,7 @@ module _ (case : Case) (network : Network) (R : ℕ → ℕ → Rational → Rat
   pub splits_run : (values : Valuation) (next from : ℕ) (shares : List Share) → All (RunsAs values) (splits next from shares)
   splits_run values next from [] = All-nil _
   splits_run values next from (s ∷ []) = All-nil (RunsAs values)
-  splits_run values next from (s ∷ t ∷ shares) =
-      All-cons (RunsAs values) _ _ tt (splits_run values (next + 2) (next + 1) (t ∷ shares))
+  splits_run values next from (s ∷ t ∷ shares) = All-cons (RunsAs values) _ _ tt (splits_run values (next + 2) (next + 1) (t ∷ shares))
 
   pub mixes_run : (values : Valuation) (n to first second : ℕ) → All (RunsAs values) (mixes n to first second)
   mixes_run values zero to first second = All-nil (RunsAs values)

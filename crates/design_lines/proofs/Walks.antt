@@ -188,8 +188,7 @@ module _ (B : ℕ → ℕ → ℕ → Type 0) where
   abbrev pub Follow : ℕ → ℕ → List Course → Type 0
   Follow next stream [] = Unit {0}
   Follow next stream (course ∷ courses) =
-      let last = next + course_branches course in
-      Stays (B stream) last next stream × StayNew (B stream) last next × Follow last (stream + 1) courses
+      let last = next + course_branches course in Stays (B stream) last next stream × StayNew (B stream) last next × Follow last (stream + 1) courses
 
   pub follow_always : ((stream n b : ℕ) → B stream n b) → (next stream : ℕ) (courses : List Course) → Follow next stream courses
   follow_always always next stream [] = tt

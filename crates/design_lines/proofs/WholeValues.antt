@@ -72,8 +72,7 @@ module _ (case : Case) (network : Network) (shape : HasShape case network) where
       let here = slice_get-get_or network.lines n l within ∙ ap (λ (a : Line). Some a) at in
       let made = made_values case network values l in
       let next = valuation_more case network n values l shape here is (can_leave values l follow.0) in
-      let one_more = length-append before (l ∷ []) in
-      let count : suc n ≡ length (before ++ l ∷ []) = omega (arith, one_more) in
+      let count : suc n ≡ length (before ++ l ∷ []) = omega (arith, length-append before (l ∷ [])) in
       let rest = valued lines (before ++ l ∷ []) (values ++ made) (parts ∙ sym (append_assoc before (l ∷ []) lines))
       (subst (λ k. IsValuation case network k (values ++ made)) count next) follow.1 in
       let final = values_after case network (values ++ made) lines in
