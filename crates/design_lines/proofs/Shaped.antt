@@ -2,7 +2,7 @@
 use Rattle.design_lines.proofs.Words.{All-append, All-cons, All-enumerated, All-front, All-map, All-nil, All-weaker, AllPairs-append, AllPairs-front}
 use Rattle.design_lines.proofs.Words.{AllPairs-map, AreMadeBeforeUse, AreMadeInOrder, AreNamed, ArePassedOnce, AreStages, AreUsedOnce, Branch, Case, Course}
 use Rattle.design_lines.proofs.Words.{Exchanger, HasPositiveFlow, HasShape, IsAnyName, IsComplete, IsCourseOf, IsDottedName, IsExchanger, IsName, IsOfOneStream}
-use Rattle.design_lines.proofs.Words.{IsShareOf, IsSourceOf, IsSourceOf-side, IsTrue, Joins, Line, PassesDeclared, Share, StaysValid-IsComplete, Stream}
+use Rattle.design_lines.proofs.Words.{Network, IsShareOf, IsSourceOf, IsSourceOf-side, IsTrue, Joins, Line, PassesDeclared, Share, StaysValid-IsComplete, Stream}
 use Rattle.design_lines.proofs.Words.{Utility, all_at, all_branches, branch_name, count-passages, count_by, count_by-cons, course_branches, courses_lines}
 use Rattle.design_lines.proofs.Words.{declared_line, drawn, enumerate_from, flat_map, flat_map-append, is_ascii_alphanumeric, is_pass_of, made_branches}
 use Rattle.design_lines.proofs.Words.{made_by, makes, many_own, map-append, map-enumerate_from_item, map-map, names_of, nat_tests, numbered, own_branch}
@@ -46,8 +46,6 @@ made-courses next stream courses used =
     (record { count = 0; is = refl; all = omega arith }) in
     let many : made.count ≡ all_branches courses = omega (arith, made.all) in made.is ∙ ap (range_with_len next) many
 
--- ---- the drawn network
-
 made-declared : (exchangers : List Exchanger) → flat_map makes (map declared_line exchangers) ≡ []
 made-declared [] = refl
 made-declared (e ∷ exchangers) = made-declared exchangers
@@ -58,25 +56,6 @@ length-made_branches first stream (course ∷ courses) =
     let k = course_branches course in
     let both = length-append (numbered first stream k) (made_branches (first + k) (stream + 1) courses) in
     omega (arith, both, length-numbered first stream k, length-made_branches (first + k) (stream + 1) courses)
-
-pub made-drawn : (case : Case) (exchangers : List Exchanger) (courses : List Course) → All AreStages courses
-    → made_by (drawn case exchangers courses).lines ≡ range_with_len (length case.streams) (all_branches courses)
-unfolding made_by
-made-drawn case exchangers courses used =
-    let later = courses_lines (length case.streams) 0 courses in
-    flat_map-append makes (map declared_line exchangers) later ∙ ap (λ ns. ns ++ flat_map makes later) (made-declared exchangers)
-    ∙ made-courses (length case.streams) 0 courses used
-
-pub AreMadeInOrder-drawn : (case : Case) (exchangers : List Exchanger) (courses : List Course) → All AreStages courses
-    → AreMadeInOrder case (drawn case exchangers courses)
-AreMadeInOrder-drawn case exchangers courses used =
-    let many : all_branches courses ≡ length (drawn case exchangers courses).branches - length case.streams =
-    omega (arith, length-append (own_branches case) (made_branches 0 0 courses), many_own case, length-made_branches 0 0 courses) in
-    record {
-      own = ap (λ n. take n (own_branches case ++ made_branches 0 0 courses)) (sym (many_own case))
-          ∙ take-append_seam (own_branches case) (made_branches 0 0 courses);
-      made = made-drawn case exchangers courses used ∙ ap (range_with_len (length case.streams)) many;
-    }
 
 -- ---- made before use
 
@@ -122,16 +101,6 @@ early_follow next stream (course ∷ courses) own =
 known-declared : (m : ℕ) (exchangers : List Exchanger) (lines : List Line) → AreKnown m lines → AreKnown m (map declared_line exchangers ++ lines)
 known-declared m [] lines known = known
 known-declared m (e ∷ exchangers) lines known = (All-nil (λ b. b < m), known-declared (m + 0) exchangers lines (nothing_made m lines known))
-
-pub AreMadeBeforeUse-drawn : (case : Case) (exchangers : List Exchanger) (courses : List Course) → length courses ≡ length case.streams → All AreStages courses
-    → AreMadeBeforeUse case (drawn case exchangers courses)
-unfolding made_by
-AreMadeBeforeUse-drawn case exchangers courses each used index l at =
-    let n = length case.streams in
-    let later = courses_lines n 0 courses in
-    let known = walk_courses (λ n w lines. AreKnown n lines) (λ stream n b. b < n) (λ stream s. Unit {0}) (λ b. 0) (λ stream s. 0)
-    (λ shares. 0 < length shares) known_keep n 0 courses used (λ i course at k d within j e inside. tt) (early_follow n 0 courses (omega (arith, each))) tt in
-    known_at n (map declared_line exchangers ++ later) index l (known-declared n exchangers later known) at
 
 -- Each branch is used once: what lines use and leave open is what was open before them and what they make.
 
@@ -221,29 +190,9 @@ module _ (b : ℕ) where
       (λ i c at k d within j e inside. tt) (follow_always (λ k n x. Unit {0}) (λ k n x. tt) next stream courses) refl in
       omega (arith, walked, own-open stream courses)
 
--- ---- the drawn network
-
 used-declared : (exchangers : List Exchanger) → flat_map uses (map declared_line exchangers) ≡ []
 used-declared [] = refl
 used-declared (e ∷ exchangers) = used-declared exchangers
-
-pub AreUsedOnce-drawn : (case : Case) (exchangers : List Exchanger) (courses : List Course) → length courses ≡ length case.streams → All AreStages courses
-    → AreUsedOnce (drawn case exchangers courses)
-unfolding used_by
-AreUsedOnce-drawn case exchangers courses each used =
-    let n = length case.streams in
-    let later = courses_lines n 0 courses in
-    differ (flat_map uses (map declared_line exchangers ++ later)) (λ b.
-    let parts = times-flat_map b uses (map declared_line exchangers) later in
-    let none = ap (times b) (used-declared exchangers) in
-    let all = used-courses b n 0 courses used in
-    let own = ap (λ k. times b (range_with_len 0 k)) each in
-    let made = ap (times b) (made-courses n 0 courses used) in
-    let range = ap (times b) (range_with_len-append 0 n (all_branches courses)) in
-    let none_before : 0 + n ≡ n = omega arith in
-    let zero_first = ap (λ k. times b (range_with_len k (all_branches courses))) none_before in
-    let both = times-append b (range_with_len 0 n) (range_with_len (0 + n) (all_branches courses)) in
-    omega (arith, parts, none, all, own, made, range, zero_first, both, once-range b 0 (n + all_branches courses)))
 
 -- The names of the branches of a drawn network: those of the streams, and dotted ones that differ by their numbers.
 
@@ -301,39 +250,7 @@ undotted [] b name dotted = absurd name
 undotted (x ∷ a) [] name dotted = absurd dotted
 undotted (x ∷ a) (y ∷ b) name dotted = λ same. let first : x ≡ y = cc same in dot_no_letter x (first ∙ dotted.0) name.0
 
--- ---- the drawn network
-
-pub AreNamed-drawn : (case : Case) (exchangers : List Exchanger) (courses : List Course) → IsComplete case → all_branches courses < 2 ^ 33
-    → AreNamed (drawn case exchangers courses)
-unfolding names_of
-AreNamed-drawn case exchangers courses complete small =
-    let valid = StaysValid-IsComplete case complete in
-    let own = map (λ (s : Stream). s.name) case.streams in
-    let utilities = map (λ (u : Utility). u.name) case.utilities in
-    let made = map branch_name (range_with_len 0 (all_branches courses)) in
-    let all : map (λ (b : Branch). b.name) (own_branches case ++ made_branches 0 0 courses) ≡ own ++ made =
-    map-append (λ (b : Branch). b.name) (own_branches case) (made_branches 0 0 courses)
-    ∙ ap (λ ns. ns ++ map (λ (b : Branch). b.name) (made_branches 0 0 courses)) (own-names case) ∙ ap (λ ns. own ++ ns) (made-names 0 0 courses) in
-    let own_are = All-front IsName own utilities valid.names in
-    let made_are = made-dotted 0 (all_branches courses) (omega (arith, small)) in
-    let apart : All (λ a. All (λ b. a ≢ b) made) own = λ i d within j e inside. undotted (get_or own i d) (get_or made j e) (own_are i d within)
-    (made_are j e inside) in
-    record {
-      names = subst (All IsAnyName) (sym all) (All-append IsAnyName _ _ (All-weaker IsName IsAnyName (λ n is. inl is) own own_are)
-          (All-weaker IsDottedName IsAnyName (λ n is. inr is) made made_are));
-      distinct = subst (AllPairs (λ a b. a ≢ b)) (sym all)
-          (AllPairs-append (λ a b. a ≢ b) own made (AllPairs-front (λ a b. a ≢ b) own utilities valid.distinct_names)
-          (made-distinct 0 (all_branches courses) (omega (arith, small))) apart);
-    }
-
 -- The branches of a course are branches of its stream, so each line is one of that stream.
-
-pub AreOfStreams-drawn : (case : Case) (exchangers : List Exchanger) (courses : List Course) → length courses ≡ length case.streams
-    → AreOfStreams (drawn case exchangers courses).branches (length case.streams) 0 courses
-AreOfStreams-drawn case exchangers courses each =
-    are_of_streams (drawn case exchangers courses).branches (own_branches case) (length case.streams) 0 0 courses refl (many_own case) (λ i within.
-    let none : i ≡ 0 + i = omega arith in
-    subst (λ n. stream_at (drawn case exchangers courses).branches n ≡ n) none (stream_at-own case (made_branches 0 0 courses) i (omega (arith, within, each))))
 
 -- what the shape asks of a line by itself
 pub record IsRightLine (branches : List Branch) (exchangers : List Exchanger) (l : Line) : Type 0 where
@@ -363,17 +280,6 @@ module _ (branches : List Branch) (exchangers : List Exchanger) where
     end = λ stream n from w all lines of_from sum more. All-cons (IsRightLine branches exchangers) _ _
         (record { one_stream = tt; flow = tt; declared = tt }) more;
   }
-
-pub right-drawn : (case : Case) (exchangers : List Exchanger) (courses : List Course) → length courses ≡ length case.streams → All AreStages courses
-    → ((stream : ℕ) (course : Course) → slice_get courses stream ≡ Some course → IsCourseOf exchangers stream course)
-    → All (IsRightLine (drawn case exchangers courses).branches exchangers) (courses_lines (length case.streams) 0 courses)
-right-drawn case exchangers courses all used each =
-    let branches = (drawn case exchangers courses).branches in
-    walk_courses (AreRight branches exchangers) (λ stream n b. stream_at branches b ≡ stream) (IsShareOf exchangers) (λ b. 0) (λ stream s. 0)
-    (λ shares. 0 < length shares) (right_keep branches exchangers) (length case.streams) 0 courses used (λ i course at.
-    let none : i ≡ 0 + i = omega arith in
-    subst (λ n. All (λ shares. All (IsShareOf exchangers n) shares) course) none (each i course at).shares) (AreOfStreams-drawn case exchangers courses all)
-    (All-nil _)
 
 -- How many lines lead a branch of a stream through an exchanger: as many as shares of the stream's course do.
 
@@ -445,22 +351,6 @@ module _ (branches : List Branch) (exchanger stream : ℕ) where
   turns-there of (suc i) (c ∷ courses) course is at =
       omega (arith, none-other of c (grind (arith, nat_tests, is)), turns-there (of + 1) i courses course (omega (arith, is)) at)
 
--- ---- the drawn network
-
-pub counted-drawn : (case : Case) (exchangers : List Exchanger) (courses : List Course) → length courses ≡ length case.streams → All AreStages courses
-    → (number stream : ℕ) (course : Course) → slice_get courses stream ≡ Some course
-    → count_by (is_pass_of (drawn case exchangers courses).branches number stream) (drawn case exchangers courses).lines ≡ turns number course
-counted-drawn case exchangers courses all used number stream course at =
-    let branches = (drawn case exchangers courses).branches in
-    let p = is_pass_of branches number stream in
-    let own = AreOfStreams-drawn case exchangers courses all in
-    let walked = walk_courses (IsCounted branches number stream) (λ k n b. stream_at branches b ≡ k) (λ k s. Unit {0}) (λ b. 0) (counts branches number stream)
-    (λ shares. 0 < length shares) (counted_keep branches number stream) (length case.streams) 0 courses used (λ i c here k d within j e inside. tt) own refl in
-    let both = sum_by-append (λ l. cond (p l) 1 0) (map declared_line exchangers) (courses_lines (length case.streams) 0 courses) in
-    omega (arith, both, counted-declared branches number stream exchangers, walked, turns-there branches number stream 0 stream courses course (omega arith) at)
-
--- The network that led courses draw has the shape of a network.
-
 -- ---- the streams of branches are those of the case
 
 own-within : (case : Case) → All (λ b. b.stream < length case.streams) (own_branches case)
@@ -491,63 +381,145 @@ few_made : (lines : List Line) → length (flat_map makes lines) ≤ 2 * length 
 few_made [] = omega arith
 few_made (l ∷ lines) = omega (arith, length-append (makes l) (flat_map makes lines), two_at_most l, few_made lines)
 
-few-branches : (case : Case) (exchangers : List Exchanger) (courses : List Course) → AreLed case exchangers courses → All AreStages courses
-    → all_branches courses < 2 ^ 33
-unfolding made_by
-few-branches case exchangers courses led used =
-    let long = length-range_with_len (length case.streams) (all_branches courses) in
-    omega (arith, ap length (made-drawn case exchangers courses used), long, few_made (drawn case exchangers courses).lines, led.few)
-
 -- ---- the sides of exchangers
-
-all-stages : (case : Case) (exchangers : List Exchanger) (courses : List Course) → AreLed case exchangers courses → All AreStages courses
-all-stages case exchangers courses led k d within = (led.each k (get_or courses k d) (slice_get-get_or courses k d within)).stages
 
 side-within : (case : Case) (e : Exchanger) (stream : ℕ) → IsExchanger case e → Joins e stream → stream < length case.streams
 side-within case e stream is (inl hot) = subst (IsSourceOf case) hot (IsSourceOf-side case e.hot (ap is_some is.hot))
 side-within case e stream is (inr cold) = subst (IsSourceOf case) cold (IsSourceOf-side case e.cold (ap is_some is.cold))
 
-passed-once : (case : Case) (exchangers : List Exchanger) (courses : List Course) → AreLed case exchangers courses
-    → ArePassedOnce (drawn case exchangers courses)
-passed-once case exchangers courses led number stream e at joins =
-    let network = drawn case exchangers courses in
-    let used = all-stages case exchangers courses led in
-    let here : slice_get exchangers number ≡ Some e = ap (λ es. slice_get es number) (sym (exchangers_of-drawn case exchangers courses)) ∙ at in
-    let is = all_at (IsExchanger case) exchangers number e led.declared here in
-    let within : stream < length courses = omega (arith, side-within case e stream is joins, led.all) in
-    let course = get_or courses stream [] in
-    let of_stream = slice_get-get_or courses stream [] within in
-    count-passages network.branches number stream network.lines ∙ counted-drawn case exchangers courses led.all used number stream course of_stream
-    ∙ led.once number stream e course here joins of_stream
+-- ---- the drawn network
 
--- ---- the shape
+module _ (case : Case) (exchangers : List Exchanger) (courses : List Course) (complete : IsComplete case) (led : AreLed case exchangers courses) where
+  abbrev network : Network
+  network = drawn case exchangers courses
 
-pub HasShape-drawn : (case : Case) (exchangers : List Exchanger) (courses : List Course) → IsComplete case → AreLed case exchangers courses
-    → HasShape case (drawn case exchangers courses)
-HasShape-drawn case exchangers courses complete led =
-    let network = drawn case exchangers courses in
-    let branches = network.branches in
-    let used = all-stages case exchangers courses led in
-    let declared = map declared_line exchangers in
-    let later = courses_lines (length case.streams) 0 courses in
-    let right = right-drawn case exchangers courses led.all used led.each in
-    let known = sym (exchangers_of-drawn case exchangers courses) in
-    record {
-      few = led.few;
-      made_once = AreMadeInOrder-drawn case exchangers courses used;
-      made_first = AreMadeBeforeUse-drawn case exchangers courses led.all used;
-      used_once = AreUsedOnce-drawn case exchangers courses led.all used;
-      named = AreNamed-drawn case exchangers courses complete (few-branches case exchangers courses led used);
-      streams = All-append (λ (b : Branch). b.stream < length case.streams) _ _ (own-within case)
-          (made-within (length case.streams) 0 0 courses (omega (arith, led.all)));
-      one_stream = All-append (IsOfOneStream branches) _ _ (All-map (IsOfOneStream branches) declared_line exchangers (λ k d within. tt))
-          (λ k d within. (right k d within).one_stream);
-      flows = All-append HasPositiveFlow _ _ (All-map HasPositiveFlow declared_line exchangers (λ k d within. tt))
-          (λ k d within. (right k d within).flow);
-      exchangers = record {
-        each = subst (All (IsExchanger case)) known led.declared;
-        distinct = subst (AllPairs (λ a b. a.name ≢ b.name)) known led.distinct;
-      };
-      declared_first = ArePassedWhenDeclared-drawn case exchangers courses (λ k d within. (right k d within).declared);
-      passed_once = passed-once case exchangers courses led;
-    }
+  -- the lines of the courses
+  abbrev later : List Line
+  later = courses_lines (length case.streams) 0 courses
+
+  used : All AreStages courses
+  used k d within = (led.each k (get_or courses k d) (slice_get-get_or courses k d within)).stages
+
+  all_made : made_by network.lines ≡ range_with_len (length case.streams) (all_branches courses)
+  unfolding made_by
+  all_made =
+      flat_map-append makes (map declared_line exchangers) later ∙ ap (λ ns. ns ++ flat_map makes later) (made-declared exchangers)
+      ∙ made-courses (length case.streams) 0 courses used
+
+  few_branches : all_branches courses < 2 ^ 33
+  unfolding made_by
+  few_branches = omega (arith, ap length all_made, length-range_with_len (length case.streams) (all_branches courses), few_made network.lines, led.few)
+
+  made_once : AreMadeInOrder case network
+  made_once =
+      let many : all_branches courses ≡ length network.branches - length case.streams =
+      omega (arith, length-append (own_branches case) (made_branches 0 0 courses), many_own case, length-made_branches 0 0 courses) in
+      record {
+        own = ap (λ n. take n network.branches) (sym (many_own case)) ∙ take-append_seam (own_branches case) (made_branches 0 0 courses);
+        made = all_made ∙ ap (range_with_len (length case.streams)) many;
+      }
+
+  made_first : AreMadeBeforeUse case network
+  unfolding made_by
+  made_first index l at =
+      let n = length case.streams in
+      let known = walk_courses (λ n w lines. AreKnown n lines) (λ stream n b. b < n) (λ stream s. Unit {0}) (λ b. 0) (λ stream s. 0)
+      (λ shares. 0 < length shares) known_keep n 0 courses used (λ i course at k d within j e inside. tt) (early_follow n 0 courses (omega (arith, led.all))) tt in
+      known_at n (map declared_line exchangers ++ later) index l (known-declared n exchangers later known) at
+
+  used_once : AreUsedOnce network
+  unfolding used_by
+  used_once =
+      let n = length case.streams in
+      let m = all_branches courses in
+      differ (flat_map uses (map declared_line exchangers ++ later)) (λ b.
+      let none_before : 0 + n ≡ n = omega arith in
+      omega (
+        arith,
+        times-flat_map b uses (map declared_line exchangers) later,
+        ap (times b) (used-declared exchangers),
+        used-courses b n 0 courses used,
+        ap (λ k. times b (range_with_len 0 k)) led.all,
+        ap (times b) (made-courses n 0 courses used),
+        ap (times b) (range_with_len-append 0 n m),
+        ap (λ k. times b (range_with_len k m)) none_before,
+        times-append b (range_with_len 0 n) (range_with_len (0 + n) m),
+        once-range b 0 (n + m),
+      ))
+
+  named : AreNamed network
+  unfolding names_of
+  named =
+      let valid = StaysValid-IsComplete case complete in
+      let own = map (λ (s : Stream). s.name) case.streams in
+      let utilities = map (λ (u : Utility). u.name) case.utilities in
+      let made = map branch_name (range_with_len 0 (all_branches courses)) in
+      let all : map (λ (b : Branch). b.name) network.branches ≡ own ++ made =
+      map-append (λ (b : Branch). b.name) (own_branches case) (made_branches 0 0 courses)
+      ∙ ap (λ ns. ns ++ map (λ (b : Branch). b.name) (made_branches 0 0 courses)) (own-names case) ∙ ap (λ ns. own ++ ns) (made-names 0 0 courses) in
+      let own_are = All-front IsName own utilities valid.names in
+      let made_are = made-dotted 0 (all_branches courses) (omega (arith, few_branches)) in
+      let apart : All (λ a. All (λ b. a ≢ b) made) own = λ i d within j e inside. undotted (get_or own i d) (get_or made j e) (own_are i d within)
+      (made_are j e inside) in
+      record {
+        names = subst (All IsAnyName) (sym all) (All-append IsAnyName _ _ (All-weaker IsName IsAnyName (λ n is. inl is) own own_are)
+            (All-weaker IsDottedName IsAnyName (λ n is. inr is) made made_are));
+        distinct = subst (AllPairs (λ a b. a ≢ b)) (sym all)
+            (AllPairs-append (λ a b. a ≢ b) own made (AllPairs-front (λ a b. a ≢ b) own utilities valid.distinct_names)
+            (made-distinct 0 (all_branches courses) (omega (arith, few_branches))) apart);
+      }
+
+  of_streams : AreOfStreams network.branches (length case.streams) 0 courses
+  of_streams =
+      are_of_streams network.branches (own_branches case) (length case.streams) 0 0 courses refl (many_own case) (λ i within.
+      let none : i ≡ 0 + i = omega arith in
+      subst (λ n. stream_at network.branches n ≡ n) none (stream_at-own case (made_branches 0 0 courses) i (omega (arith, within, led.all))))
+
+  right : All (IsRightLine network.branches exchangers) later
+  right =
+      walk_courses (AreRight network.branches exchangers) (λ stream n b. stream_at network.branches b ≡ stream) (IsShareOf exchangers) (λ b. 0) (λ stream s. 0)
+      (λ shares. 0 < length shares) (right_keep network.branches exchangers) (length case.streams) 0 courses used (λ i course at.
+      let none : i ≡ 0 + i = omega arith in
+      subst (λ n. All (λ shares. All (IsShareOf exchangers n) shares) course) none (led.each i course at).shares) of_streams (All-nil _)
+
+  counted_lines : (number stream : ℕ) (course : Course) → slice_get courses stream ≡ Some course
+      → count_by (is_pass_of network.branches number stream) network.lines ≡ turns number course
+  counted_lines number stream course at =
+      let branches = network.branches in
+      let walked = walk_courses (IsCounted branches number stream) (λ k n b. stream_at branches b ≡ k) (λ k s. Unit {0}) (λ b. 0)
+      (counts branches number stream) (λ shares. 0 < length shares) (counted_keep branches number stream) (length case.streams) 0 courses used
+      (λ i c here k d within j e inside. tt) of_streams refl in
+      let both = sum_by-append (λ l. cond (is_pass_of branches number stream l) 1 0) (map declared_line exchangers) later in
+      omega (arith, both, counted-declared branches number stream exchangers, walked, turns-there branches number stream 0 stream courses course (omega arith) at)
+
+  passed_once : ArePassedOnce network
+  passed_once number stream e at joins =
+      let here : slice_get exchangers number ≡ Some e = ap (λ es. slice_get es number) (sym (exchangers_of-drawn case exchangers courses)) ∙ at in
+      let side = side-within case e stream (all_at (IsExchanger case) exchangers number e led.declared here) joins in
+      let course = get_or courses stream [] in
+      let of_stream = slice_get-get_or courses stream [] (omega (arith, side, led.all)) in
+      count-passages network.branches number stream network.lines ∙ counted_lines number stream course of_stream
+      ∙ led.once number stream e course here joins of_stream
+
+  pub HasShape-drawn : HasShape case network
+  HasShape-drawn =
+      let known = sym (exchangers_of-drawn case exchangers courses) in
+      record {
+        few = led.few;
+        made_once = made_once;
+        made_first = made_first;
+        used_once = used_once;
+        named = named;
+        streams = All-append (λ (b : Branch). b.stream < length case.streams) _ _ (own-within case)
+            (made-within (length case.streams) 0 0 courses (omega (arith, led.all)));
+        one_stream = All-append (IsOfOneStream network.branches) _ _ (All-map (IsOfOneStream network.branches) declared_line exchangers (λ k d within. tt))
+            (λ k d within. (right k d within).one_stream);
+        flows = All-append HasPositiveFlow _ _ (All-map HasPositiveFlow declared_line exchangers (λ k d within. tt))
+            (λ k d within. (right k d within).flow);
+        exchangers = record {
+          each = subst (All (IsExchanger case)) known led.declared;
+          distinct = subst (AllPairs (λ a b. a.name ≢ b.name)) known led.distinct;
+        };
+        declared_first = ArePassedWhenDeclared-drawn case exchangers courses (λ k d within. (right k d within).declared);
+        passed_once = passed_once;
+      }
