@@ -118,9 +118,8 @@ module _ (case : Case) (network : Network) (R : ℕ → ℕ → Rational → Rat
       let sides = All-weaker (λ b. stream_at network.branches b ≡ stream) (λ b. branch_side case network b ≡ s.side) side_is branches of_stream in
       let pass_makes = passes_make case network s.side before after behind branches all (values ++ divided) carried sides led.positive led.duties in
       let from_there = passes_carry after all (values ++ divided) behind behind_is in
-      let passed_long = length-map all (λ (a : Share). share_value after a) in
       let mixed_from : behind + length all ≡ length ((values ++ divided) ++ passed) =
-      omega (arith, behind_is, length-append (values ++ divided) passed, passed_long) in
+      omega (arith, behind_is, length-append (values ++ divided) passed, length-map all (λ (a : Share). share_value after a)) in
       let mix_makes = mixes_make case network after (length all - 1) (behind + length all) behind (behind + 1) first.cp shares ((values ++ divided) ++ passed)
       (omega arith) mixed_from from_there.0 from_there.1 (first_positive first shares led.positive) (others_positive first shares led.positive) in
       let end = stage_end next all in
@@ -137,8 +136,7 @@ module _ (case : Case) (network : Network) (R : ℕ → ℕ → Rational → Rat
         runs = λ final more final_is.
             let later : final ≡ ((values ++ divided) ++ passed) ++ (mixed ++ more) = final_is ∙ ap (λ vs. vs ++ more) (sym joined)
             ∙ append_assoc ((values ++ divided) ++ passed) mixed more in
-            let earlier = later ∙ append_assoc (values ++ divided) passed (mixed ++ more) in
-            let starts = subst (λ vs. CarryShares vs before branches all) (sym earlier)
+            let starts = subst (λ vs. CarryShares vs before branches all) (sym (later ∙ append_assoc (values ++ divided) passed (mixed ++ more)))
             (carry_more (values ++ divided) (passed ++ (mixed ++ more)) before branches all carried) in
             let ends = subst (λ vs. CarryFrom vs after behind all) (sym later)
             (carry_more ((values ++ divided) ++ passed) (mixed ++ more) after (range_with_len behind (length all)) all from_there) in
@@ -166,8 +164,7 @@ module _ (case : Case) (network : Network) (R : ℕ → ℕ → Rational → Rat
   full_end : (values : Valuation) (branch : ℕ) (t : Rational) → stream_at network.branches branch ≡ stream → Carries values branch (value_of (full_size s) t)
       → t ≡ last_state s → IsFullEnd case network values branch
   full_end values branch t of_stream carries ends other at =
-      let same : s ≡ other = same_Some s other (sym here ∙ ap (slice_get case.streams) (sym of_stream) ∙ at) in
-      carries.is ∙ ap (value_of (full_size s)) ends ∙ ap last_value same
+      carries.is ∙ ap (value_of (full_size s)) ends ∙ ap last_value (same_Some s other (sym here ∙ ap (slice_get case.streams) (sym of_stream) ∙ at))
 
   -- before the stages of a course that are left: the stream is in the state t, and they run as `R` asks
   record IsOnCourse (values : Valuation) (next from : ℕ) (t : Rational) (stages : List LedStage) : Type 0 where
@@ -201,7 +198,6 @@ module _ (case : Case) (network : Network) (R : ℕ → ℕ → Rational → Rat
       let some = first.some in
       let made = stage_values stage.before stage.after stage.shares in
       let end = stage_end next stage.shares in
-      let here_lines = stage_lines next from stage.shares in
       let later_lines = course_lines (end + 1) end (shares_along stages) in
       let one = stage_made case network R stream s here stage values next from (record {
         led = first;
@@ -222,7 +218,7 @@ module _ (case : Case) (network : Network) (R : ℕ → ℕ → Rational → Rat
         runs = All-tail (StageRuns case network R stream) stage stages is.runs;
       }) in
       record {
-        makes = make_append case network values here_lines later_lines made (course_values stages) one.makes rest.makes;
+        makes = make_append case network values (stage_lines next from stage.shares) later_lines made (course_values stages) one.makes rest.makes;
         next_is = omega (arith, rest.next_is) ∙ ap length (append_assoc values made (course_values stages));
         runs = λ final more final_is.
             let later = course_values stages ++ more in
@@ -258,9 +254,7 @@ module _ (case : Case) (network : Network) (R : ℕ → ℕ → Rational → Rat
       let (s, here, is) = led.0 in
       let made = course_values course in
       let last = next + course_branches (shares_along course) in
-      let here_lines = course_lines next stream (shares_along course) in
       let later_lines = courses_lines last (stream + 1) (courses_along courses) in
-      let number : stream + 0 ≡ stream = omega arith in
       let one = course_made case network R stream s here course values next stream (first_state s) (record {
         start = start;
         carries = own.each stream s here;
@@ -269,13 +263,12 @@ module _ (case : Case) (network : Network) (R : ℕ → ℕ → Rational → Rat
         ends = is.ends;
         own = led.1;
         others = led.2;
-        runs = subst (λ k. All (StageRuns case network R k) course) number (runs 0 course refl);
+        runs = subst (λ k. All (StageRuns case network R k) course) (omega arith) (runs 0 course refl);
       }) in
       let rest = made_courses courses (values ++ made) last (stream + 1) one.next_is (own_more case values made own) led.3 (λ k other there.
-      let further : stream + suc k ≡ stream + 1 + k = omega arith in
-      subst (λ n. All (StageRuns case network R n) other) further (runs (suc k) other there)) in
+      subst (λ n. All (StageRuns case network R n) other) (omega arith) (runs (suc k) other there)) in
       record {
-        makes = make_append case network values here_lines later_lines made (courses_values courses) one.makes rest.makes;
+        makes = make_append case network values (course_lines next stream (shares_along course)) later_lines made (courses_values courses) one.makes rest.makes;
         runs = λ final more final_is.
             let later = courses_values courses ++ more in
             let same : final ≡ values ++ (made ++ later) = final_is ∙ ap (λ vs. values ++ vs) (append_assoc made (courses_values courses) more) in

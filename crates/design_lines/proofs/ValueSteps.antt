@@ -206,9 +206,8 @@ module _ (case : Case) (network : Network) (R : ℕ → ℕ → Rational → Rat
       let Q : Share → Type 0 = λ a. R stream a.exchanger before after in
       let from_is : before ≡ (value_at values branch).t = sym (ap (λ (v : BranchValue). v.t) start.0.is) in
       let to_is : after ≡ (value_at values to).t = sym (ap (λ (v : BranchValue). v.t) ends.0.is) in
-      let own_is : stream ≡ stream_at network.branches branch = sym (All-head S branch branches own) in
       let run : R (stream_at network.branches branch) s.exchanger (value_at values branch).t (value_at values to).t =
-      subst (λ k. R k s.exchanger (value_at values branch).t (value_at values to).t) own_is
+      subst (λ k. R k s.exchanger (value_at values branch).t (value_at values to).t) (sym (All-head S branch branches own))
       (subst (λ x. R stream s.exchanger x (value_at values to).t) from_is (subst (λ x. R stream s.exchanger before x) to_is (All-head Q s shares runs))) in
       All-cons (RunsAs values) _ _ run
       (passes_run stream before after (to + 1) branches shares values start.1 ends.1 (All-tail S branch branches own) (All-tail Q s shares runs))
