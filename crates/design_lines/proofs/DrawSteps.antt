@@ -40,10 +40,9 @@ stage_joined next from rest more shares old one two three some all split left pa
     let ps = passes behind (share_branches next (rest_branch next from shares) shares) shares in
     let ms = mixes (length shares - 1) (behind + length shares) behind (behind + 1) in
     let same_from : next + 2 * more ≡ behind = ap (λ n. next + 2 * n) all in
-    let same_to : next + 2 * more + more + 1 ≡ behind + length shares = omega (arith, all, some) in
     let mixed : mixes more (next + 2 * more + more + 1) (next + 2 * more) (next + 2 * more + 1) ≡ ms =
     ap (λ n. mixes n (next + 2 * more + more + 1) (next + 2 * more) (next + 2 * more + 1)) all
-    ∙ ap (λ to. mixes (length shares - 1) to (next + 2 * more) (next + 2 * more + 1)) same_to
+    ∙ ap (λ to. mixes (length shares - 1) to (next + 2 * more) (next + 2 * more + 1)) (omega (arith, all, some))
     ∙ ap (λ f. mixes (length shares - 1) (behind + length shares) f (f + 1)) same_from in
     let passed : two ≡ one ++ ps = pass ∙ ap (λ r. one ++ passes behind (share_branches next r shares) shares) left in
     mix ∙ ap (λ ls. two ++ ls) mixed ∙ ap (λ ls. ls ++ ms) passed ∙ ap (λ ls. ls ++ ps ++ ms) split
@@ -76,10 +75,9 @@ pub record AreCoursesLed (courses : List Course) (own : ℕ) (old_lines : List L
 module _ (courses : List Course) (own : ℕ) (old_lines : List Line) (old_branches : List Branch) where
   pub courses_start : length old_branches ≡ own → AreCoursesLed courses own old_lines old_branches 0 old_lines old_branches
   courses_start count =
-      let none : length old_branches - own ≡ 0 = omega (arith, count) in
       record {
         drawn = ap (λ (k : ℕ). old_lines ++ courses_lines k 0 courses) count;
-        made = ap (λ (k : ℕ). old_branches ++ made_branches k 0 courses) none;
+        made = ap (λ (k : ℕ). old_branches ++ made_branches k 0 courses) (omega (arith, count));
         many = ap (λ (k : ℕ). k + all_branches courses) count;
         least = omega (arith, count);
       }
@@ -97,7 +95,6 @@ module _ (courses : List Course) (own : ℕ) (old_lines : List Line) (old_branch
         let parts : after_branches ≡ branches ++ numbered (n - own) number k = made ∙ ap (λ (j : ℕ). branches ++ numbered (n - own) number j) count in
         let long : length after_branches ≡ n + k = ap length parts ∙ length-append branches (numbered (n - own) number k)
         ∙ ap (λ (j : ℕ). n + j) (length-numbered (n - own) number k) in
-        let later : length after_branches - own ≡ n - own + k = omega (arith, long, led.least) in
         let many : n + (k + all_branches rest) ≡ own + all_branches courses = ap (λ (cs : List Course). n + all_branches cs) (sym left) ∙ led.many in
         record {
           drawn = ap (λ (ls : List Line). ls ++ courses_lines (length after_branches) (number + 1) rest) drawn
@@ -105,7 +102,7 @@ module _ (courses : List Course) (own : ℕ) (old_lines : List Line) (old_branch
               ∙ append_assoc lines (course_lines n number course) (courses_lines (n + k) (number + 1) rest)
               ∙ ap (λ (cs : List Course). lines ++ courses_lines n number cs) (sym left) ∙ led.drawn;
           made = ap (λ (bs : List Branch). bs ++ made_branches (length after_branches - own) (number + 1) rest) parts
-              ∙ ap (λ (j : ℕ). (branches ++ numbered (n - own) number k) ++ made_branches j (number + 1) rest) later
+              ∙ ap (λ (j : ℕ). (branches ++ numbered (n - own) number k) ++ made_branches j (number + 1) rest) (omega (arith, long, led.least))
               ∙ append_assoc branches (numbered (n - own) number k) (made_branches (n - own + k) (number + 1) rest)
               ∙ ap (λ (cs : List Course). branches ++ made_branches (n - own) number cs) (sym left) ∙ led.made;
           many = omega (arith, long, many);

@@ -472,15 +472,13 @@ module _ (case : Case) (exchangers : List Exchanger) (courses : List Course) (co
   of_streams : AreOfStreams network.branches (length case.streams) 0 courses
   of_streams =
       are_of_streams network.branches (own_branches case) (length case.streams) 0 0 courses refl (many_own case) (λ i within.
-      let none : i ≡ 0 + i = omega arith in
-      subst (λ n. stream_at network.branches n ≡ n) none (stream_at-own case (made_branches 0 0 courses) i (omega (arith, within, led.all))))
+      subst (λ n. stream_at network.branches n ≡ n) (omega arith) (stream_at-own case (made_branches 0 0 courses) i (omega (arith, within, led.all))))
 
   right : All (IsRightLine network.branches exchangers) later
   right =
       walk_courses (AreRight network.branches exchangers) (λ stream n b. stream_at network.branches b ≡ stream) (IsShareOf exchangers) (λ b. 0) (λ stream s. 0)
       (λ shares. 0 < length shares) (right_keep network.branches exchangers) (length case.streams) 0 courses used (λ i course at.
-      let none : i ≡ 0 + i = omega arith in
-      subst (λ n. All (λ shares. All (IsShareOf exchangers n) shares) course) none (led.each i course at).shares) of_streams (All-nil _)
+      subst (λ n. All (λ shares. All (IsShareOf exchangers n) shares) course) (omega arith) (led.each i course at).shares) of_streams (All-nil _)
 
   counted_lines : (number stream : ℕ) (course : Course) → slice_get courses stream ≡ Some course
       → count_by (is_pass_of network.branches number stream) network.lines ≡ turns number course
