@@ -5,9 +5,9 @@ use Rattle.design_lines.proofs.Words.{full_size, last_state, last_value, length-
 use Rattle.design_lines.proofs.Words.{rational_zero, rest_branch, same_Some, share_branches, side_of, splits, stage_end, stage_lines, stream_at, unwrap_or}
 use Rattle.std.proofs.Common.{All, List, Some, [], ap, append-nil, append_assoc, arith, length, length-append, refl, slice_get, subst, suc, sym, ℕ, ◌*◌, ◌++◌}
 use Rattle.std.proofs.Common.{◌+◌, ◌-◌, ◌<◌, ◌∙◌, ◌∷◌, ◌≡◌, ◌≤◌}
-use Rattle.design_lines.proofs.ValueSteps.{Carries, CarryFrom, CarryShares, RunsAs, StageRuns, carries_more, carries_new, carry_more, first_positive}
-use Rattle.design_lines.proofs.ValueSteps.{make_append, make_line, make_none, mixes_make, mixes_run, others_positive, passes_make, passes_run, share_value}
-use Rattle.design_lines.proofs.ValueSteps.{splits_make, splits_run}
+use Rattle.design_lines.proofs.ValueSteps.{MakeAndRun, run_append, run_line, run_none, Carries, CarryFrom, CarryShares, RunsAs, StageRuns, carries_more, carries_new, carry_more, first_positive}
+use Rattle.design_lines.proofs.ValueSteps.{make_append, make_line, make_none, mixes_make, others_positive, passes_make, share_value}
+use Rattle.design_lines.proofs.ValueSteps.{splits_make}
 use Rattle.design_lines.proofs.Walks.{branches_hold}
 use Rattle.design_lines.specs.Values.{AreLed, AreOfStream, IsLedStage, LedStage, Make, Meet, course_values, courses_along, courses_values, mix_values}
 use Rattle.design_lines.specs.Values.{pass_values, shares_along, size_of, split_values, stage_values, state_behind}
@@ -90,11 +90,9 @@ module _ (case : Case) (network : Network) (R : ℕ → ℕ → Rational → Rat
 
   -- its lines make its values, and its last branch is the whole stream in the state after it
   pub record IsStageMade (values : Valuation) (next from : ℕ) (stage : LedStage) : Type 0 where
-    pub makes : Make case network values (stage_lines next from stage.shares) (stage_values stage.before stage.after stage.shares)
+    pub made : MakeAndRun case network R values (stage_lines next from stage.shares) (stage_values stage.before stage.after stage.shares)
     pub ends : Carries (values ++ stage_values stage.before stage.after stage.shares) (stage_end next stage.shares) (value_of (full_size s) stage.after)
     pub next_is : stage_end next stage.shares + 1 ≡ length (values ++ stage_values stage.before stage.after stage.shares)
-    pub runs : (final more : Valuation) → final ≡ (values ++ stage_values stage.before stage.after stage.shares) ++ more
-        → All (RunsAs case network R final) (stage_lines next from stage.shares)
 
   made_stage : (before after : Rational) (first : Share) (shares : List Share) (values : Valuation) (next from : ℕ)
       → IsBefore values next from (record { before = before; after = after; shares = first ∷ shares })
@@ -112,15 +110,15 @@ module _ (case : Case) (network : Network) (R : ℕ → ℕ → Rational → Rat
       let ms = mixes (length all - 1) (behind + length all) behind (behind + 1) in
       let of_stream = branches_hold (λ b. stream_at network.branches b ≡ stream) next from all is.own is.others in
       let whole_size = subst (λ a. Carries values from (value_of a before)) (sym led.sizes) is.carries in
-      let split_makes = splits_make case network before all values next from is.start whole_size led.positive in
+      let split_makes = splits_make case network R before all values next from is.start whole_size led.positive in
       let behind_is : behind ≡ length (values ++ divided) = omega (arith, is.start, length-append values divided, length-split_values before all) in
       let carried = splits_carry before all values next from is.start whole_size in
-      let sides = All-weaker (λ b. stream_at network.branches b ≡ stream) (λ b. branch_side case network b ≡ s.side) side_is branches of_stream in
-      let pass_makes = passes_make case network s.side before after behind branches all (values ++ divided) carried sides led.positive led.duties in
+      let pass_makes = passes_make case network R stream s.side before after behind branches all (values ++ divided) behind_is carried of_stream side_is
+      led.positive led.duties is.runs in
       let from_there = passes_carry after all (values ++ divided) behind behind_is in
       let mixed_from : behind + length all ≡ length ((values ++ divided) ++ passed) =
       omega (arith, behind_is, length-append (values ++ divided) passed, length-map all (λ (a : Share). share_value after a)) in
-      let mix_makes = mixes_make case network after (length all - 1) (behind + length all) behind (behind + 1) first.cp shares ((values ++ divided) ++ passed)
+      let mix_makes = mixes_make case network R after (length all - 1) (behind + length all) behind (behind + 1) first.cp shares ((values ++ divided) ++ passed)
       (omega arith) mixed_from from_there.0 from_there.1 (first_positive first shares led.positive) (others_positive first shares led.positive) in
       let end = stage_end next all in
       let last = mixes_end after first.cp shares ((values ++ divided) ++ passed) behind end from_there.0 (λ none. omega (arith, none))
@@ -128,21 +126,11 @@ module _ (case : Case) (network : Network) (R : ℕ → ℕ → Rational → Rat
       let joined : ((values ++ divided) ++ passed) ++ mixed ≡ values ++ (divided ++ (passed ++ mixed)) = append_assoc (values ++ divided) passed mixed
       ∙ append_assoc values divided (passed ++ mixed) in
       record {
-        makes = make_append case network values (splits next from all) (ps ++ ms) divided (passed ++ mixed) split_makes
-            (make_append case network (values ++ divided) ps ms passed mixed pass_makes mix_makes);
+        made = run_append case network R values (splits next from all) (ps ++ ms) divided (passed ++ mixed) split_makes
+            (run_append case network R (values ++ divided) ps ms passed mixed pass_makes mix_makes);
         ends = subst (λ vs. Carries vs end (value_of (full_size s) after)) joined
             (subst (λ a. Carries (((values ++ divided) ++ passed) ++ mixed) end (value_of a after)) led.sizes last);
         next_is = omega (arith, mixed_from, length-append ((values ++ divided) ++ passed) mixed, length-mix_values after first.cp shares) ∙ ap length joined;
-        runs = λ final more final_is.
-            let later : final ≡ ((values ++ divided) ++ passed) ++ (mixed ++ more) = final_is ∙ ap (λ vs. vs ++ more) (sym joined)
-            ∙ append_assoc ((values ++ divided) ++ passed) mixed more in
-            let starts = subst (λ vs. CarryShares vs before branches all) (sym (later ∙ append_assoc (values ++ divided) passed (mixed ++ more)))
-            (carry_more (values ++ divided) (passed ++ (mixed ++ more)) before branches all carried) in
-            let ends = subst (λ vs. CarryFrom vs after behind all) (sym later)
-            (carry_more ((values ++ divided) ++ passed) (mixed ++ more) after (range_with_len behind (length all)) all from_there) in
-            All-append (RunsAs case network R final) _ _ (splits_run case network R final next from all) (All-append (RunsAs case network R final) _ _
-            (passes_run case network R stream before after behind branches all final starts ends of_stream is.runs)
-            (mixes_run case network R final (length all - 1) (behind + length all) behind (behind + 1)));
       }
     where
       length-mix_values : (t size : Rational) (ss : List Share) → length (mix_values t size ss) ≡ length ss
@@ -179,18 +167,15 @@ module _ (case : Case) (network : Network) (R : ℕ → ℕ → Rational → Rat
 
   -- the lines of a course make its values, which are as many as the branches that it makes, and its passes run as `R` asks
   record IsCourseMade (values : Valuation) (next from : ℕ) (stages : List LedStage) : Type 0 where
-    makes : Make case network values (course_lines next from (shares_along stages)) (course_values stages)
+    made : MakeAndRun case network R values (course_lines next from (shares_along stages)) (course_values stages)
     next_is : next + course_branches (shares_along stages) ≡ length (values ++ course_values stages)
-    runs : (final more : Valuation) → final ≡ values ++ (course_values stages ++ more)
-        → All (RunsAs case network R final) (course_lines next from (shares_along stages))
 
   course_made : (stages : List LedStage) (values : Valuation) (next from : ℕ) (t : Rational) → IsOnCourse values next from t stages
       → IsCourseMade values next from stages
   course_made [] values next from t is = record {
-    makes = make_line case network values (line.End from) [] [] [] refl (full_end values from t is.own is.carries is.ends)
-        (make_none case network (values ++ []));
+    made = run_line case network R values (line.End from) [] [] [] refl (full_end values from t is.own is.carries is.ends) (λ final more at. tt)
+        (run_none case network R (values ++ []));
     next_is = omega (arith, is.start) ∙ ap length (sym (append-nil values));
-    runs = λ final more final_is. All-cons (RunsAs case network R final) (line.End from) [] tt (All-nil (RunsAs case network R final));
   }
   course_made (stage ∷ stages) values next from t is =
       let L : LedStage → Type 0 = IsLedStage network s.side (full_size s) in
@@ -218,13 +203,8 @@ module _ (case : Case) (network : Network) (R : ℕ → ℕ → Rational → Rat
         runs = All-tail (StageRuns case network R stream) stage stages is.runs;
       }) in
       record {
-        makes = make_append case network values (stage_lines next from stage.shares) later_lines made (course_values stages) one.makes rest.makes;
+        made = run_append case network R values (stage_lines next from stage.shares) later_lines made (course_values stages) one.made rest.made;
         next_is = omega (arith, rest.next_is) ∙ ap length (append_assoc values made (course_values stages));
-        runs = λ final more final_is.
-            let later = course_values stages ++ more in
-            let same : final ≡ (values ++ made) ++ later = final_is ∙ ap (λ vs. values ++ vs) (append_assoc made (course_values stages) more)
-            ∙ sym (append_assoc values made later) in
-            All-append (RunsAs case network R final) _ _ (one.runs final later same) (rest.runs final more same);
       }
 
 -- ---- all courses
@@ -241,15 +221,10 @@ module _ (case : Case) (network : Network) (R : ℕ → ℕ → Rational → Rat
   abbrev pub EachRuns : ℕ → List (List LedStage) → Type 0
   EachRuns stream courses = (k : ℕ) (course : List LedStage) → slice_get courses k ≡ Some course → All (StageRuns case network R (stream + k)) course
 
-  pub record AreCoursesMade (values : Valuation) (next stream : ℕ) (courses : List (List LedStage)) : Type 0 where
-    pub makes : Make case network values (courses_lines next stream (courses_along courses)) (courses_values courses)
-    pub runs : (final more : Valuation) → final ≡ values ++ (courses_values courses ++ more)
-        → All (RunsAs case network R final) (courses_lines next stream (courses_along courses))
-
   pub made_courses : (courses : List (List LedStage)) (values : Valuation) (next stream : ℕ) → next ≡ length values → HaveOwn case values
-      → AreLed case network next stream courses → EachRuns stream courses → AreCoursesMade values next stream courses
-  made_courses [] values next stream start own led runs =
-      record { makes = make_none case network values; runs = λ final more final_is. All-nil (RunsAs case network R final) }
+      → AreLed case network next stream courses → EachRuns stream courses
+      → MakeAndRun case network R values (courses_lines next stream (courses_along courses)) (courses_values courses)
+  made_courses [] values next stream start own led runs = run_none case network R values
   made_courses (course ∷ courses) values next stream start own led runs =
       let (s, here, is) = led.0 in
       let made = course_values course in
@@ -267,13 +242,7 @@ module _ (case : Case) (network : Network) (R : ℕ → ℕ → Rational → Rat
       }) in
       let rest = made_courses courses (values ++ made) last (stream + 1) one.next_is (own_more case values made own) led.3 (λ k other there.
       subst (λ n. All (StageRuns case network R n) other) (omega arith) (runs (suc k) other there)) in
-      record {
-        makes = make_append case network values (course_lines next stream (shares_along course)) later_lines made (courses_values courses) one.makes rest.makes;
-        runs = λ final more final_is.
-            let later = courses_values courses ++ more in
-            let same : final ≡ values ++ (made ++ later) = final_is ∙ ap (λ vs. values ++ vs) (append_assoc made (courses_values courses) more) in
-            All-append (RunsAs case network R final) _ _ (one.runs final later same) (rest.runs final more (same ∙ sym (append_assoc values made later)));
-      }
+      run_append case network R values (course_lines next stream (shares_along course)) later_lines made (courses_values courses) one.made rest
 
 pub courses_made : (case : Case) (network : Network) (courses : List (List LedStage)) (values : Valuation) (next stream : ℕ) → next ≡ length values
     → HaveOwn case values → AreLed case network next stream courses
