@@ -65,8 +65,7 @@ are_of_streams branches front next first stream (course ∷ courses) all here ow
           (omega (arith, more, high, here)),
       are_of_streams branches (front ++ made) (next + k) (first + k) (stream + 1) courses (all ∙ sym (append_assoc front made later))
           (omega (arith, here, length-append front made, length-numbered first stream k)) (λ i inside.
-          let further : stream + suc i ≡ stream + 1 + i = omega arith in
-          subst (λ n. stream_at branches n ≡ n) further (own (suc i) (omega (arith, inside)))),
+          let further : stream + suc i ≡ stream + 1 + i = omega arith in subst (λ n. stream_at branches n ≡ n) further (own (suc i) (omega (arith, inside)))),
     )
 
 -- the course at each index is one of the stream with that number
@@ -84,8 +83,7 @@ led_of_streams case network (course ∷ courses) next stream own each =
       own.0 next (omega arith) (omega arith),
       λ branch low high. own.1 branch low last (omega (arith, high)) (omega arith),
       led_of_streams case network courses last (stream + 1) own.2 (λ k other there.
-          let further : stream + suc k ≡ stream + 1 + k = omega arith in
-          subst (λ n. (s : Stream) × (slice_get case.streams n ≡ Some s) × IsLedStream network s other) further (each (suc k) other there)),
+          subst (λ n. (s : Stream) × (slice_get case.streams n ≡ Some s) × IsLedStream network s other) (omega arith) (each (suc k) other there)),
     )
 
 pub are_led : (case : Case) (network : Network) (courses : List (List LedStage)) (before : List Branch) (first next stream : ℕ)

@@ -51,9 +51,8 @@ pub each_ended : (case : Case) (network : Network) (declared : List Line) (cours
     → (stream : ℕ) → stream < length courses → Contains (ended_streams network) stream
 unfolding ended_streams ended_by
 each_ended case network declared courses next none lines_are led stream within =
-    let drawn = courses_lines next 0 (courses_along courses) in
     let all : ended_streams network ≡ range_with_len 0 (length courses) =
-    ap (streams_of network) lines_are ∙ ap (map (stream_at network.branches)) (no_end-first declared drawn none)
+    ap (streams_of network) lines_are ∙ ap (map (stream_at network.branches)) (no_end-first declared (courses_lines next 0 (courses_along courses)) none)
     ∙ courses_end case network courses next 0 led in
     let long = ap length all ∙ length-range_with_len 0 (length courses) in
     let number : 0 + stream ≡ stream = omega arith in

@@ -52,8 +52,7 @@ declared_then branches before (e ∷ exchangers) lines none each zero l at =
     let same : declared_line e ≡ l = cc at in subst (PassesDeclared branches (before ++ [])) same tt
 declared_then branches before (e ∷ exchangers) lines none each (suc index) l at =
     let joined = append_assoc before (e ∷ []) exchangers in
-    let moved = append_assoc before (e ∷ []) (filter_map exchanger_of (take index (map declared_line exchangers ++ lines))) in
-    subst (λ es. PassesDeclared branches es l) moved
+    subst (λ es. PassesDeclared branches es l) (append_assoc before (e ∷ []) (filter_map exchanger_of (take index (map declared_line exchangers ++ lines))))
     (declared_then branches (before ++ e ∷ []) exchangers lines none (subst (λ es. All (PassesDeclared branches es) lines) (sym joined) each) index l at)
 
 pub ArePassedWhenDeclared-drawn : (case : Case) (exchangers : List Exchanger) (courses : List Course)

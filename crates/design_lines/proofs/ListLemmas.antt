@@ -45,12 +45,10 @@ module _ {X Y : Type 0} (own : X → Bool) (kept : ℕ × X → Option Y) (item 
   kept_hold P n [] each = All-nil P
   kept_hold P n (x ∷ xs) each =
       let later = filter_map kept (enumerate_from (n + 1) xs) in
-      let none : n + 0 ≡ n = omega arith in
       let rest = kept_hold P (n + 1) xs (λ i y at is_own.
-      let further : n + suc i ≡ n + 1 + i = omega arith in
-      subst (λ (k : ℕ). P (item k y)) further (each (suc i) y at is_own)) in
+      subst (λ (k : ℕ). P (item k y)) (omega arith) (each (suc i) y at is_own)) in
       subst (λ (o : Option Y). All P (cons_option o later)) (sym (is_kept n x))
-      (All-kept P (own x) (item n x) later (λ is_own. subst (λ (k : ℕ). P (item k x)) none (each 0 x refl is_own)) rest)
+      (All-kept P (own x) (item n x) later (λ is_own. subst (λ (k : ℕ). P (item k x)) (omega arith) (each 0 x refl is_own)) rest)
 
 -- a sum is the same over the turned list
 pub sum_by-reverse : {X : Type 0} (f : X → ℕ) (xs : List X) → sum_by f (reverse xs) ≡ sum_by f xs

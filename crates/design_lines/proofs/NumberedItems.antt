@@ -9,12 +9,10 @@ pub numbered-item : {X Y : Type 0} (f : ℕ × X → Y) (n : ℕ) (xs : List X) 
 numbered-item f n [] i y at = cc at
 numbered-item {X} f n (x ∷ xs) zero y at =
     let here : f (n, x) ≡ y = cc at in
-    let none : n + 0 ≡ n = omega arith in
-    (x, refl, ap (λ (k : ℕ). f (k, x)) none ∙ here)
+    let none : n + 0 ≡ n = omega arith in (x, refl, ap (λ (k : ℕ). f (k, x)) none ∙ here)
 numbered-item f n (x ∷ xs) (suc i) y at =
     let (z, here, is) = numbered-item f (n + 1) xs i y at in
-    let further : n + suc i ≡ n + 1 + i = omega arith in
-    (z, here, ap (λ (k : ℕ). f (k, z)) further ∙ is)
+    let further : n + suc i ≡ n + 1 + i = omega arith in (z, here, ap (λ (k : ℕ). f (k, z)) further ∙ is)
 
 -- and the one there gives it
 pub slice_get-numbered : {X Y : Type 0} (f : ℕ × X → Y) (n : ℕ) (xs : List X) (i : ℕ) (x : X) → slice_get xs i ≡ Some x
@@ -22,11 +20,9 @@ pub slice_get-numbered : {X Y : Type 0} (f : ℕ × X → Y) (n : ℕ) (xs : Lis
 slice_get-numbered f n [] i x at = cc at
 slice_get-numbered {X} f n (y ∷ xs) zero x at =
     let same : y ≡ x = cc at in
-    let none : n ≡ n + 0 = omega arith in
-    ap (λ (z : X). Some (f (n, z))) same ∙ ap (λ (k : ℕ). Some (f (k, x))) none
+    let none : n ≡ n + 0 = omega arith in ap (λ (z : X). Some (f (n, z))) same ∙ ap (λ (k : ℕ). Some (f (k, x))) none
 slice_get-numbered f n (y ∷ xs) (suc i) x at =
-    let further : n + 1 + i ≡ n + suc i = omega arith in
-    slice_get-numbered f (n + 1) xs i x at ∙ ap (λ (k : ℕ). Some (f (k, x))) further
+    let further : n + 1 + i ≡ n + suc i = omega arith in slice_get-numbered f (n + 1) xs i x at ∙ ap (λ (k : ℕ). Some (f (k, x))) further
 
 -- exchangers that are named by their numbers have different names
 pub numbered_names-differ : {X : Type 0} (f : ℕ × X → Exchanger) (xs : List X) → ((n : ℕ) (x : X) → (f (n, x)).name ≡ exchanger_name n) → length xs < 2 ^ 32
@@ -38,5 +34,4 @@ numbered_names-differ {X} f xs named few =
     let one = ap name (get_or-enumerate_from 0 xs i d (omega (arith, before, inside))) ∙ named (0 + i) _ in
     let other = ap name (get_or-enumerate_from 0 xs j d inside) ∙ named (0 + j) _ in
     λ same. let digits : decimal (0 + i + 1) ≡ decimal (0 + j + 1) = cc (sym one ∙ same ∙ other) in
-    let equal = number_of_decimal (0 + i) (0 + j) (omega (arith, before, inside, few)) (omega (arith, inside, few)) digits in
-    absurd (omega (arith, equal, before)))
+    absurd (omega (arith, number_of_decimal (0 + i) (0 + j) (omega (arith, before, inside, few)) (omega (arith, inside, few)) digits, before)))

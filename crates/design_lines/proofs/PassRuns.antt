@@ -1,9 +1,9 @@
 -- The states between which the passes of a drawn network run: a share passes its exchanger between those of its stage.
 use Rattle.design_lines.proofs.CourseValues.{HaveOwn, made_courses}
+pub use Rattle.design_lines.proofs.CourseValues.{EachRuns}
 use Rattle.design_lines.proofs.Words.{BranchValue, Case, Network, Rational, Side, Valuation, courses_lines, enters, leaves, run_between}
 use Rattle.design_lines.specs.Values.{AreLed, LedStage, courses_along, courses_values}
 use Rattle.std.proofs.Common.{All, List, length, refl, ℕ, ◌++◌, ◌≡◌}
-pub use Rattle.design_lines.proofs.CourseValues.{EachRuns}
 pub use Rattle.design_lines.proofs.ValueSteps.{RunsAs, StageRuns}
 use Rattle.stream_case.specs.declared.source.Side.TheVariants as side
 

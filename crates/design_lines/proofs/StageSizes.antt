@@ -114,8 +114,7 @@ module _ (P : BranchValue → Type 0) where
 
   pub course_holds : (stages : List LedStage) → All StageHolds stages → CourseHolds stages
   course_holds [] each = All-nil P
-  course_holds (stage ∷ stages) each =
-      All-append P _ _ (All-head StageHolds stage stages each) (course_holds stages (All-tail StageHolds stage stages each))
+  course_holds (stage ∷ stages) each = All-append P _ _ (All-head StageHolds stage stages each) (course_holds stages (All-tail StageHolds stage stages each))
 
   pub courses_hold : (courses : List (List LedStage)) → All CourseHolds courses → All P (courses_values courses)
   courses_hold [] each = All-nil P

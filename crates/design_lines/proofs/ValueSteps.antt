@@ -1,5 +1,5 @@
 -- The values that the splits, the passes and the mixes of a stage make.
-use Rattle.design_lines.proofs.Words.{All-cons, All-head, All-nil, All-tail, BranchValue, Case, IsAtMost, IsBelow, IsMix, IsPass, Line, Network, Rational}
+use Rattle.design_lines.proofs.Words.{All-append, All-cons, All-head, All-nil, All-tail, BranchValue, Case, IsAtMost, IsBelow, IsMix, IsPass, Line, Network, Rational}
 use Rattle.design_lines.proofs.Words.{Share, Side, Valuation, branch_side, change, duty_at, first_part, get_or-append-add, get_or_append_left, made_values}
 use Rattle.design_lines.proofs.Words.{minus, minus-plus, mix_determined, mixed_positive, mixed_value, mixes, no_value, pass_determined, passed_value, passes}
 use Rattle.design_lines.proofs.Words.{plus, plus-times, plus_comm, range_with_len, rational_zero, second_part, splits, stream_at, times, value_at, zero-plus}
@@ -107,70 +107,6 @@ module _ (case : Case) (network : Network) where
     follow = AllCanFollow-append values lines more first.follow (subst (λ vs. AllCanFollow case network vs more) (sym first.made_is) second.follow);
   }
 
-  -- ---- splits
-
-  pub splits_make : (before : Rational) (shares : List Share) (values : Valuation) (next from : ℕ) → next ≡ length values
-      → Carries values from (record { cp = size_of shares; t = before }) → ArePositive shares
-      → Make case network values (splits next from shares) (split_values before shares)
-  splits_make before [] values next from start carries positive = make_none values
-  splits_make before (s ∷ []) values next from start carries positive = make_none values
-  splits_make before (s ∷ t ∷ shares) values next from start carries positive =
-      let rest = size_of (t ∷ shares) in
-      let both : List BranchValue = share_value before s ∷ record { cp = rest; t = before } ∷ [] in
-      let divided : made_values case network values (line.Split from next s.cp (next + 1)) ≡ both =
-      ap (λ (v : BranchValue). first_part v s.cp ∷ second_part v s.cp ∷ []) carries.is
-      ∙ ap (λ (a : Rational). share_value before s ∷ record { cp = a; t = before } ∷ []) (rest_left s.cp rest) in
-      let room = subst (λ (v : BranchValue). IsBelow s.cp v.cp) (sym carries.is)
-      (less_than_both s.cp rest (size_positive t shares (others_positive s (t ∷ shares) positive))) in
-      make_line values (line.Split from next s.cp (next + 1)) (splits (next + 2) (next + 1) (t ∷ shares)) both (split_values before (t ∷ shares)) divided room
-      (splits_make before (t ∷ shares) (values ++ both) (next + 2) (next + 1) (omega (arith, start, length-append values both))
-      (carries_new values both 1 (next + 1) (omega (arith, start)) (omega arith)) (others_positive s (t ∷ shares) positive))
-
-  -- ---- passes
-
-  pub passes_make : (of : Side) (before after : Rational) (to : ℕ) (branches : List ℕ) (shares : List Share) (values : Valuation)
-      → CarryShares values before branches shares → All (λ b. branch_side case network b ≡ of) branches
-      → ArePositive shares → All (λ s. times s.cp (change of before after) ≡ duty_at network s.exchanger) shares
-      → Make case network values (passes to branches shares) (pass_values after shares)
-  passes_make of before after to [] [] values carry sides positive duties = make_none values
-  passes_make of before after to [] (s ∷ shares) values carry sides positive duties = absurd carry
-  passes_make of before after to (branch ∷ branches) [] values carry sides positive duties = absurd carry
-  passes_make of before after to (branch ∷ branches) (s ∷ shares) values carry sides positive duties =
-      let D : Share → Type 0 = λ a. times a.cp (change of before after) ≡ duty_at network a.exchanger in
-      let S : ℕ → Type 0 = λ b. branch_side case network b ≡ of in
-      let behind = share_value after s in
-      let duty = duty_at network s.exchanger in
-      let pass : IsPass of duty (share_value before s) behind = record { size = refl; heat = All-head D s shares duties } in
-      let one : passed_value (branch_side case network branch) (value_at values branch) duty ≡ behind =
-      ap (λ side. passed_value side (value_at values branch) duty) (All-head S branch branches sides) ∙ ap (λ v. passed_value of v duty) carry.0.is
-      ∙ sym (pass_determined of (share_value before s) behind duty (first_positive s shares positive) pass) in
-      make_line values (line.Pass branch s.exchanger to) (passes (to + 1) branches shares) (behind ∷ []) (pass_values after shares)
-      (ap (λ (v : BranchValue). v ∷ []) one) tt
-      (passes_make of before after (to + 1) branches shares (values ++ behind ∷ []) (carry_more values (behind ∷ []) before branches shares carry.1)
-      (All-tail S branch branches sides) (others_positive s shares positive) (All-tail D s shares duties))
-
-  -- ---- mixes
-
-  pub mixes_make : (after : Rational) (n to first second : ℕ) (size : Rational) (shares : List Share) (values : Valuation) → n ≡ length shares
-      → to ≡ length values → Carries values first (record { cp = size; t = after }) → CarryFrom values after second shares → IsBelow rational_zero size
-      → ArePositive shares → Make case network values (mixes n to first second) (mix_values after size shares)
-  mixes_make after zero to first second size [] values many start one others above positive = make_none values
-  mixes_make after zero to first second size (s ∷ shares) values many start one others above positive = absurd (omega (arith, many))
-  mixes_make after (suc n) to first second size [] values many start one others above positive = absurd (omega (arith, many))
-  mixes_make after (suc n) to first second size (s ∷ shares) values many start one others above positive =
-      let branch : BranchValue = record { cp = size; t = after } in
-      let both : BranchValue = record { cp = plus size s.cp; t = after } in
-      let above_both = mixed_positive branch (share_value after s) above (first_positive s shares positive) in
-      let mix : IsMix branch (share_value after s) both = record { size = refl; heat = plus-times size s.cp after } in
-      let made : mixed_value (value_at values first) (value_at values second) ≡ both =
-      ap (λ v. mixed_value v (value_at values second)) one.is ∙ ap (mixed_value branch) others.0.is
-      ∙ sym (mix_determined branch (share_value after s) both above_both mix) in
-      make_line values (line.Mix first second to) (mixes n (to + 1) to (second + 1)) (both ∷ []) (mix_values after (plus size s.cp) shares)
-      (ap (λ (v : BranchValue). v ∷ []) made) tt
-      (mixes_make after n (to + 1) to (second + 1) (plus size s.cp) shares (values ++ both ∷ []) (omega (arith, many))
-      (omega (arith, start, length-append values (both ∷ []))) (carries_new values (both ∷ []) 0 to (omega (arith, start)) (omega arith))
-      (carry_more values (both ∷ []) after (range_with_len (second + 1) (length shares)) shares others.1) above_both (others_positive s shares positive))
-
 -- ---- the states between which passes run
 
 -- what `R` asks of a stream, an exchanger that it passes, and its states before and behind it
@@ -186,30 +122,104 @@ module _ (case : Case) (network : Network) (R : ℕ → ℕ → Rational → Rat
   abbrev pub StageRuns : ℕ → LedStage → Type 0
   StageRuns stream stage = All (λ a. R stream a.exchanger stage.before stage.after) stage.shares
 
-  pub splits_run : (values : Valuation) (next from : ℕ) (shares : List Share) → All (RunsAs values) (splits next from shares)
-  splits_run values next from [] = All-nil _
-  splits_run values next from (s ∷ []) = All-nil (RunsAs values)
-  splits_run values next from (s ∷ t ∷ shares) =
-      All-cons (RunsAs values) _ _ tt (splits_run values (next + 2) (next + 1) (t ∷ shares))
+  -- the lines make these values, and their passes run as `R` asks in all values that begin with them
+  pub record MakeAndRun (values : Valuation) (lines : List Line) (made : List BranchValue) : Type 0 where
+    pub makes : Make case network values lines made
+    pub runs : (final more : Valuation) → final ≡ values ++ (made ++ more) → All (RunsAs final) lines
 
-  pub mixes_run : (values : Valuation) (n to first second : ℕ) → All (RunsAs values) (mixes n to first second)
-  mixes_run values zero to first second = All-nil (RunsAs values)
-  mixes_run values (suc n) to first second = All-cons (RunsAs values) _ _ tt
-      (mixes_run values n (to + 1) to (second + 1))
+  pub run_none : (values : Valuation) → MakeAndRun values [] []
+  run_none values = record { makes = make_none case network values; runs = λ final more is. All-nil (RunsAs final) }
 
-  pub passes_run : (stream : ℕ) (before after : Rational) (to : ℕ) (branches : List ℕ) (shares : List Share) (values : Valuation)
-      → CarryShares values before branches shares → CarryFrom values after to shares → All (λ b. stream_at network.branches b ≡ stream) branches
-      → All (λ a. R stream a.exchanger before after) shares → All (RunsAs values) (passes to branches shares)
-  passes_run stream before after to [] shares values start ends own runs = All-nil (RunsAs values)
-  passes_run stream before after to (branch ∷ branches) [] values start ends own runs = All-nil (RunsAs values)
-  passes_run stream before after to (branch ∷ branches) (s ∷ shares) values start ends own runs =
+  pub run_line : (values : Valuation) (l : Line) (lines : List Line) (one rest : List BranchValue) → made_values case network values l ≡ one
+      → CanFollow case network values l → ((final more : Valuation) → final ≡ values ++ (one ++ more) → RunsAs final l)
+      → MakeAndRun (values ++ one) lines rest → MakeAndRun values (l ∷ lines) (one ++ rest)
+  run_line values l lines one rest makes can run later = record {
+    makes = make_line case network values l lines one rest makes can later.makes;
+    runs = λ final more is.
+        let moved = is ∙ ap (λ vs. values ++ vs) (append_assoc one rest more) in
+        All-cons (RunsAs final) l lines (run final (rest ++ more) moved) (later.runs final more (moved ∙ sym (append_assoc values one (rest ++ more))));
+  }
+
+  pub run_append : (values : Valuation) (lines others : List Line) (one two : List BranchValue) → MakeAndRun values lines one
+      → MakeAndRun (values ++ one) others two → MakeAndRun values (lines ++ others) (one ++ two)
+  run_append values lines others one two first second = record {
+    makes = make_append case network values lines others one two first.makes second.makes;
+    runs = λ final more is.
+        let moved = is ∙ ap (λ vs. values ++ vs) (append_assoc one two more) in
+        All-append (RunsAs final) lines others (first.runs final (two ++ more) moved)
+        (second.runs final more (moved ∙ sym (append_assoc values one (two ++ more))));
+  }
+
+  -- ---- splits
+
+  pub splits_make : (before : Rational) (shares : List Share) (values : Valuation) (next from : ℕ) → next ≡ length values
+      → Carries values from (record { cp = size_of shares; t = before }) → ArePositive shares
+      → MakeAndRun values (splits next from shares) (split_values before shares)
+  splits_make before [] values next from start carries positive = run_none values
+  splits_make before (s ∷ []) values next from start carries positive = run_none values
+  splits_make before (s ∷ t ∷ shares) values next from start carries positive =
+      let rest = size_of (t ∷ shares) in
+      let both : List BranchValue = share_value before s ∷ record { cp = rest; t = before } ∷ [] in
+      let divided : made_values case network values (line.Split from next s.cp (next + 1)) ≡ both =
+      ap (λ (v : BranchValue). first_part v s.cp ∷ second_part v s.cp ∷ []) carries.is
+      ∙ ap (λ (a : Rational). share_value before s ∷ record { cp = a; t = before } ∷ []) (rest_left s.cp rest) in
+      let room = subst (λ (v : BranchValue). IsBelow s.cp v.cp) (sym carries.is)
+      (less_than_both s.cp rest (size_positive t shares (others_positive s (t ∷ shares) positive))) in
+      run_line values (line.Split from next s.cp (next + 1)) (splits (next + 2) (next + 1) (t ∷ shares)) both (split_values before (t ∷ shares)) divided room
+      (λ final more is. tt) (splits_make before (t ∷ shares) (values ++ both) (next + 2) (next + 1) (omega (arith, start, length-append values both))
+      (carries_new values both 1 (next + 1) (omega (arith, start)) (omega arith)) (others_positive s (t ∷ shares) positive))
+
+  -- ---- passes
+
+  pub passes_make : (stream : ℕ) (of : Side) (before after : Rational) (to : ℕ) (branches : List ℕ) (shares : List Share) (values : Valuation)
+      → to ≡ length values → CarryShares values before branches shares → All (λ b. stream_at network.branches b ≡ stream) branches
+      → ((b : ℕ) → stream_at network.branches b ≡ stream → branch_side case network b ≡ of) → ArePositive shares
+      → All (λ s. times s.cp (change of before after) ≡ duty_at network s.exchanger) shares → All (λ a. R stream a.exchanger before after) shares
+      → MakeAndRun values (passes to branches shares) (pass_values after shares)
+  passes_make stream of before after to [] [] values start carry own side_is positive duties runs = run_none values
+  passes_make stream of before after to [] (s ∷ shares) values start carry own side_is positive duties runs = absurd carry
+  passes_make stream of before after to (branch ∷ branches) [] values start carry own side_is positive duties runs = absurd carry
+  passes_make stream of before after to (branch ∷ branches) (s ∷ shares) values start carry own side_is positive duties runs =
+      let D : Share → Type 0 = λ a. times a.cp (change of before after) ≡ duty_at network a.exchanger in
       let S : ℕ → Type 0 = λ b. stream_at network.branches b ≡ stream in
       let Q : Share → Type 0 = λ a. R stream a.exchanger before after in
-      let from_is : before ≡ (value_at values branch).t = sym (ap (λ (v : BranchValue). v.t) start.0.is) in
-      let to_is : after ≡ (value_at values to).t = sym (ap (λ (v : BranchValue). v.t) ends.0.is) in
-      let own_is : stream ≡ stream_at network.branches branch = sym (All-head S branch branches own) in
-      let run : R (stream_at network.branches branch) s.exchanger (value_at values branch).t (value_at values to).t =
-      subst (λ k. R k s.exchanger (value_at values branch).t (value_at values to).t) own_is
-      (subst (λ x. R stream s.exchanger x (value_at values to).t) from_is (subst (λ x. R stream s.exchanger before x) to_is (All-head Q s shares runs))) in
-      All-cons (RunsAs values) _ _ run
-      (passes_run stream before after (to + 1) branches shares values start.1 ends.1 (All-tail S branch branches own) (All-tail Q s shares runs))
+      let behind = share_value after s in
+      let duty = duty_at network s.exchanger in
+      let here = All-head S branch branches own in
+      let pass : IsPass of duty (share_value before s) behind = record { size = refl; heat = All-head D s shares duties } in
+      let one : passed_value (branch_side case network branch) (value_at values branch) duty ≡ behind =
+      ap (λ side. passed_value side (value_at values branch) duty) (side_is branch here) ∙ ap (λ v. passed_value of v duty) carry.0.is
+      ∙ sym (pass_determined of (share_value before s) behind duty (first_positive s shares positive) pass) in
+      run_line values (line.Pass branch s.exchanger to) (passes (to + 1) branches shares) (behind ∷ []) (pass_values after shares)
+      (ap (λ (v : BranchValue). v ∷ []) one) tt (λ final more is.
+      let early = subst (λ vs. Carries vs branch (share_value before s)) (sym is) (carries_more values (behind ∷ more) branch (share_value before s) carry.0) in
+      let late = subst (λ vs. Carries vs to behind) (sym is) (carries_new values (behind ∷ more) 0 to (omega (arith, start)) (omega arith)) in
+      let from_is : before ≡ (value_at final branch).t = sym (ap (λ (v : BranchValue). v.t) early.is) in
+      let to_is : after ≡ (value_at final to).t = sym (ap (λ (v : BranchValue). v.t) late.is) in
+      subst (λ k. R k s.exchanger (value_at final branch).t (value_at final to).t) (sym here)
+      (subst (λ x. R stream s.exchanger x (value_at final to).t) from_is (subst (λ x. R stream s.exchanger before x) to_is (All-head Q s shares runs))))
+      (passes_make stream of before after (to + 1) branches shares (values ++ behind ∷ []) (omega (arith, start, length-append values (behind ∷ [])))
+      (carry_more values (behind ∷ []) before branches shares carry.1) (All-tail S branch branches own) side_is (others_positive s shares positive)
+      (All-tail D s shares duties) (All-tail Q s shares runs))
+
+  -- ---- mixes
+
+  pub mixes_make : (after : Rational) (n to first second : ℕ) (size : Rational) (shares : List Share) (values : Valuation) → n ≡ length shares
+      → to ≡ length values → Carries values first (record { cp = size; t = after }) → CarryFrom values after second shares → IsBelow rational_zero size
+      → ArePositive shares → MakeAndRun values (mixes n to first second) (mix_values after size shares)
+  mixes_make after zero to first second size [] values many start one others above positive = run_none values
+  mixes_make after zero to first second size (s ∷ shares) values many start one others above positive = absurd (omega (arith, many))
+  mixes_make after (suc n) to first second size [] values many start one others above positive = absurd (omega (arith, many))
+  mixes_make after (suc n) to first second size (s ∷ shares) values many start one others above positive =
+      let branch : BranchValue = record { cp = size; t = after } in
+      let both : BranchValue = record { cp = plus size s.cp; t = after } in
+      let above_both = mixed_positive branch (share_value after s) above (first_positive s shares positive) in
+      let mix : IsMix branch (share_value after s) both = record { size = refl; heat = plus-times size s.cp after } in
+      let made : mixed_value (value_at values first) (value_at values second) ≡ both =
+      ap (λ v. mixed_value v (value_at values second)) one.is ∙ ap (mixed_value branch) others.0.is
+      ∙ sym (mix_determined branch (share_value after s) both above_both mix) in
+      run_line values (line.Mix first second to) (mixes n (to + 1) to (second + 1)) (both ∷ []) (mix_values after (plus size s.cp) shares)
+      (ap (λ (v : BranchValue). v ∷ []) made) tt (λ final more is. tt)
+      (mixes_make after n (to + 1) to (second + 1) (plus size s.cp) shares (values ++ both ∷ []) (omega (arith, many))
+      (omega (arith, start, length-append values (both ∷ []))) (carries_new values (both ∷ []) 0 to (omega (arith, start)) (omega arith))
+      (carry_more values (both ∷ []) after (range_with_len (second + 1) (length shares)) shares others.1) above_both (others_positive s shares positive))

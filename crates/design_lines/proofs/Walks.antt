@@ -75,10 +75,9 @@ module _ (S : ℕ → ℕ → List Line → Type 0) (B : ℕ → ℕ → Type 0)
         let rest = t ∷ shares in
         let divided = share_branches (next + 2) (rest_branch (next + 2) (next + 1) rest) rest in
         let two = new (next + 1) (omega (arith, low)) in
-        let first = sum_by-cons u next divided in
         let more = u (next + 1) + (u next + w) in
         let last_ones = moved (behind_splits next (s ∷ rest)) (behind_splits (next + 2) rest) (sum_by u (next ∷ divided) + w)
-        (sum_by u divided + (u next + w)) lines after (omega arith) (omega (arith, first)) in
+        (sum_by u divided + (u next + w)) lines after (omega arith) (omega (arith, sum_by-cons u next divided)) in
         let later = walk_splits (next + 2) (next + 1) (u next + w) more (t ∷ shares) lines (omega arith) (All-tail F s rest each) (omega (arith, low))
         (omega (arith, high)) (λ n further. two n (omega (arith, further))) refl last_ones in
         keeps.split next from w all more s (splits (next + 2) (next + 1) rest ++ lines) (All-head F s rest each)
@@ -94,14 +93,12 @@ module _ (S : ℕ → ℕ → List Line → Type 0) (B : ℕ → ℕ → Type 0)
     walk_passes least to w all (b ∷ branches) [] lines each many low some high stays sum after = absurd (omega (arith, many))
     walk_passes least to w all (b ∷ branches) (s ∷ shares) lines each many low some high stays sum after =
         let n = length shares in
-        let others = sum_by u branches + (sum_by v shares + w) in
         let more = sum_by u branches + (sum_by v shares + (u to + w)) in
-        let made = sum_by-cons u to (range_with_len (to + 1) n) in
         let last_ones = moved (to + suc n) (to + 1 + n) (sum_by u (range_with_len to (suc n)) + w)
-        (sum_by u (range_with_len (to + 1) n) + (u to + w)) lines after (omega arith) (omega (arith, made)) in
+        (sum_by u (range_with_len (to + 1) n) + (u to + w)) lines after (omega arith) (omega (arith, sum_by-cons u to (range_with_len (to + 1) n))) in
         let later = walk_passes least (to + 1) (u to + w) more branches shares lines (All-tail F s shares each) (omega (arith, many)) (omega (arith, low))
         (omega (arith, some)) (omega (arith, high)) (All-tail (Stays B last least) b branches stays) refl last_ones in
-        keeps.pass to b others all more s (passes (to + 1) branches shares ++ lines) (All-head F s shares each)
+        keeps.pass to b (sum_by u branches + (sum_by v shares + w)) all more s (passes (to + 1) branches shares ++ lines) (All-head F s shares each)
         (All-head (Stays B last least) b branches stays to some (omega (arith, high)))
         (new to low (to + 1) (omega arith) (omega (arith, high))) (omega (arith, sum, sum_by-cons u b branches, sum_by-cons v s shares)) (omega arith) later
 
@@ -188,8 +185,7 @@ module _ (B : ℕ → ℕ → ℕ → Type 0) where
   abbrev pub Follow : ℕ → ℕ → List Course → Type 0
   Follow next stream [] = Unit {0}
   Follow next stream (course ∷ courses) =
-      let last = next + course_branches course in
-      Stays (B stream) last next stream × StayNew (B stream) last next × Follow last (stream + 1) courses
+      let last = next + course_branches course in Stays (B stream) last next stream × StayNew (B stream) last next × Follow last (stream + 1) courses
 
   pub follow_always : ((stream n b : ℕ) → B stream n b) → (next stream : ℕ) (courses : List Course) → Follow next stream courses
   follow_always always next stream [] = tt
@@ -217,14 +213,12 @@ module _ (S : ℕ → ℕ → List Line → Type 0) (B : ℕ → ℕ → ℕ →
       let last = next + course_branches course in
       let later = courses_lines last (stream + 1) courses in
       let left = weight (stream + 1) courses in
-      let none : stream + 0 ≡ stream = omega arith in
-      let count : next + all_branches (course ∷ courses) ≡ last + all_branches courses = omega arith in
       let rest = walk_courses keep last (stream + 1) courses (All-tail (λ c. All E c) course courses may)
       (λ i c at. let further : stream + suc i ≡ stream + 1 + i = omega arith in subst (λ k. All (λ shares. All (F k) shares) c) further (each (suc i) c at))
-      follow.2 (subst (λ n. S n 0 []) count after) in
+      follow.2 (subst (λ n. S n 0 []) (omega arith) after) in
       walk_course S (B stream) (F stream) u (v stream) E (keep.keeps stream) next last follow.1 next stream left (weight stream (course ∷ courses)) course later
       (All-head (λ c. All E c) course courses may)
-      (subst (λ k. All (λ shares. All (F k) shares) course) none (each 0 course refl)) (omega arith) (omega arith) follow.0 refl
+      (subst (λ k. All (λ shares. All (F k) shares) course) (omega arith) (each 0 course refl)) (omega arith) (omega arith) follow.0 refl
       (λ b held. keep.end stream last b left (u b + left) later held refl rest)
 
 -- ---- where nothing is asked of branches and shares, and all are stages

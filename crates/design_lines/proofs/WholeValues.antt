@@ -64,18 +64,14 @@ module _ (case : Case) (network : Network) (shape : HasShape case network) where
   }
   valued (l ∷ lines) before values parts is follow =
       let n = length before in
-      let long = ap length parts ∙ length-append before (l ∷ lines) in
-      let within : n < length network.lines = omega (arith, long) in
-      let number : n ≡ length before + 0 = omega arith in
-      let at : get_or network.lines n l ≡ l = ap (λ ls. get_or ls n l) parts ∙ ap (λ k. get_or (before ++ l ∷ lines) k l) number
+      let within : n < length network.lines = omega (arith, (ap length parts ∙ length-append before (l ∷ lines))) in
+      let at : get_or network.lines n l ≡ l = ap (λ ls. get_or ls n l) parts ∙ ap (λ k. get_or (before ++ l ∷ lines) k l) (omega arith)
       ∙ get_or-append-add before (l ∷ lines) 0 l in
       let here = slice_get-get_or network.lines n l within ∙ ap (λ (a : Line). Some a) at in
       let made = made_values case network values l in
       let next = valuation_more case network n values l shape here is (can_leave values l follow.0) in
-      let one_more = length-append before (l ∷ []) in
-      let count : suc n ≡ length (before ++ l ∷ []) = omega (arith, one_more) in
       let rest = valued lines (before ++ l ∷ []) (values ++ made) (parts ∙ sym (append_assoc before (l ∷ []) lines))
-      (subst (λ k. IsValuation case network k (values ++ made)) count next) follow.1 in
+      (subst (λ k. IsValuation case network k (values ++ made)) (omega (arith, length-append before (l ∷ []))) next) follow.1 in
       let final = values_after case network (values ++ made) lines in
       let used = subst (λ m. All (λ b. b < m) (uses l)) (sym is.count) (line_of shape n l here).numbers.used in
       record {

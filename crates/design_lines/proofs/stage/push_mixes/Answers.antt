@@ -1,4 +1,4 @@
-use Rattle.design_lines.proofs.StageSteps.{mixes_more}
+use Rattle.design_lines.proofs.DrawSteps.{mixes_more}
 use Rattle.design_lines.proofs.Words.{mixes}
 use Rattle.std.proofs.Common.{[], ap, append_assoc, arith, sym, ◌++◌, ◌+◌, ◌-◌, ◌∙◌, ◌∷◌, ◌≡◌}
 use Rattle.design_lines.proofs.stage.push_mixes.Goals as goal

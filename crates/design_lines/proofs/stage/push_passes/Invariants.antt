@@ -1,4 +1,4 @@
-use Rattle.design_lines.proofs.StageSteps.{passes_from}
+use Rattle.design_lines.proofs.DrawSteps.{passes_from}
 use Rattle.design_lines.proofs.Words.{behind_splits}
 use Rattle.std.proofs.Common.{drop, length, ◌*◌, ◌++◌, ◌+◌, ◌-◌, ◌≡◌}
 use Rattle.design_lines.proofs.stage.push_passes.Given as goal

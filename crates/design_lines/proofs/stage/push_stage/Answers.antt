@@ -1,4 +1,4 @@
-use Rattle.design_lines.proofs.StageSteps.{stage_joined}
+use Rattle.design_lines.proofs.DrawSteps.{stage_joined}
 use Rattle.std.proofs.Common.{length, refl, ◌-◌}
 use Rattle.design_lines.proofs.stage.push_stage.Goals as goal
 
