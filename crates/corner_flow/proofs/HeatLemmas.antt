@@ -1,7 +1,7 @@
 -- Heat goes down: what the cold parts take above a place is at most what the hot parts give above it.
 use Rattle.corner_flow.proofs.SideLemmas.{AreStandardParts, IsStandardPart, unit_price}
 use Rattle.corner_flow.proofs.StandardLemmas.{end_of}
-use Rattle.corner_flow.proofs.Words.{*ℤ-zero, *ℤ_comm, All, Case, Cold, Contains, Decides-int_eq, HaveParts, Hot, IsFlowOf, IsSupporting, IsTightOver}
+use Rattle.corner_flow.proofs.Words.{All, Case, Cold, Contains, Decides-int_eq, HaveParts, Hot, IsFlowOf, IsSupporting, IsTightOver, one_times, zero_times}
 use Rattle.corner_flow.proofs.Words.{KeepsRanges, NeedsHeat, Part, Side, Stream, Transfer, UtilityHeat, and_parts, both_parts, cold_target, cost_of}
 use Rattle.corner_flow.proofs.Words.{counts_above, false≢true, get_or-map, get_or_from_slice_get, heat_at, heat_over, heats_at-not_negative, hot_target}
 use Rattle.corner_flow.proofs.Words.{if◌then◌else◌, int_eq, int_le, int_le-false, int_le-from, int_lt, int_lt-false, int_lt-from, int_sum_by, int_sum_by-le}
@@ -49,12 +49,6 @@ counts_lower true place level less = int_le-false place level less
 pub from_place : (place level : ℤ) → place ≤ℤ level → counts_above true place level ≡ true
 from_place place level most = int_le-from place level most
 
-pub zero_times : (x y : ℤ) → x ≡ pos 0 → x *ℤ y ≡ pos 0
-zero_times x y e = ap (λ z. z *ℤ y) e ∙ *ℤ_comm (pos 0) y ∙ *ℤ-zero y
-
-pub one_times : (x y : ℤ) → x ≡ pos 1 → x *ℤ y ≡ y
-one_times x y e = ap (λ z. z *ℤ y) e ∙ omega (arith, ints)
-
 chosen : (b : Bool) (x : ℤ) → (if b then x else pos 0) ≡ (if b then pos 1 else pos 0) *ℤ x
 chosen true x = omega (arith, ints)
 chosen false x = sym (zero_times (pos 0) x refl)
@@ -78,14 +72,10 @@ price_at-map f parts a p at = get_or-map f parts a p (pos 0) (slice_get_within p
 -- ---- parts that reach
 
 passes_down : (p q : Part) → passes_heat p q ≡ true → p.low ≤ℤ p.high → q.low ≤ℤ q.high → (q.high ≤ℤ p.high) × (q.low ≤ℤ p.low)
-passes_down p q h order other =
-    ⊎_elim (λ e. (omega (arith, ints), omega (arith, ints)))
-    (λ e.
-    let same = and_parts (int_eq p.high q.high) (int_eq p.low q.low) e in
-    let high = (Decides-int_eq p.high q.high).0 same.0 in
+passes_down p q h order other = ⊎_elim (λ e. (omega (arith, ints), omega (arith, ints))) (λ e.
+    let same = and_parts (int_eq p.high q.high) (int_eq p.low q.low) e in let high = (Decides-int_eq p.high q.high).0 same.0 in
     let low = (Decides-int_eq p.low q.low).0 same.1 in
-    (omega (arith, ints), omega (arith, ints)))
-    (or_cases (int_le q.high p.low) (int_eq p.high q.high && int_eq p.low q.low) h)
+    (omega (arith, ints), omega (arith, ints))) (or_cases (int_le q.high p.low) (int_eq p.high q.high && int_eq p.low q.low) h)
 
 pub stands_falls : (from : Bool) (place : ℤ) (p q : Part) → q.high ≤ℤ p.high → q.low ≤ℤ p.low → stands_above from place q ≡ true
     → stands_above from place p ≡ true
@@ -124,33 +114,23 @@ module _ {c : Case} {hot cold : List Part} (s : AreStandardParts c hot cold) whe
   side_cost-standard : (side : Side) (ts : List Transfer) (heat : ℤ) → UtilityHeat side (parts_of side hot cold) ts heat
       → side_cost side (parts_of side hot cold) ts ≡ unit_price side *ℤ heat
   side_cost-standard side ts heat utility =
-      let place = end_of c Cold in
-      let each = unit_price side *ℤ heat in
-      let whole =
-      sum_above side (λ a p. p.price *ℤ heat_at side ts a +ℤ part_over true place (pos 0) p) true place each (s.ends Cold)
-      (λ a p at h. ⊎_elim
-      (λ k.
-      let free = zero_times p.price (heat_at side ts a) k.price in
-      let none = from_stream true place (pos 0) p k.source_is in
+      let place = end_of c Cold in let each = unit_price side *ℤ heat in
+      let whole = sum_above side (λ a p. p.price *ℤ heat_at side ts a +ℤ part_over true place (pos 0) p) true place each (s.ends Cold) (λ a p at h. ⊎_elim (λ k.
+      let free = zero_times p.price (heat_at side ts a) k.price in let none = from_stream true place (pos 0) p k.source_is in
       let other = from_stream true place each p k.source_is in
-      omega (arith, ints))
-      (λ k.
-      let priced = ap₂ ◌*ℤ◌ k.price (utility a p at (ap not k.source_is)) in
-      let none = from_utility true place (pos 0) p k.source_is in
+      omega (arith, ints)) (λ k.
+      let priced = ap₂ ◌*ℤ◌ k.price (utility a p at (ap not k.source_is)) in let none = from_utility true place (pos 0) p k.source_is in
       let other = from_utility true place each p k.source_is in
       omega (arith, ints))
       h.kind) in
       let split = int_sum_from-add (λ a p. p.price *ℤ heat_at side ts a) (λ a p. part_over true place (pos 0) p) 0 (parts_of side hot cold) in
       let plain = int_sum_from-by (part_over true place (pos 0)) 0 (parts_of side hot cold) in
-      let above_place = (s.sides side).sum true place (pos 0) (s.ends Cold) in
-      omega (arith, ints)
+      let above_place = (s.sides side).sum true place (pos 0) (s.ends Cold) in omega (arith, ints)
 
   -- a heat flow costs what the hot utility gives
   pub cost-hot_utility : (ts : List Transfer) (given taken : ℤ) → UtilityHeat Hot hot ts given → UtilityHeat Cold cold ts taken → cost_of hot cold ts ≡ given
   cost-hot_utility ts given taken h k =
-      let hots = side_cost-standard Hot ts given h in
-      let colds = side_cost-standard Cold ts taken k ∙ zero_times (pos 0) taken refl in
-      omega (arith, ints)
+      let hots = side_cost-standard Hot ts given h in let colds = side_cost-standard Cold ts taken k ∙ zero_times (pos 0) taken refl in omega (arith, ints)
 
   -- the utility has one heat
   abbrev pub heat : Side → List Transfer → ℤ
@@ -171,12 +151,9 @@ module _ {c : Case} {hot cold : List Part} (s : AreStandardParts c hot cold) whe
         ≡ reached from place (end_of c side) *ℤ each +ℤ sum_side side (heat_over from place) c.streams
     heats_above side w from place each on utility weight =
         sum_above side (λ a p. w a p *ℤ heat_at side ts a) from place (reached from place (end_of c side) *ℤ each) on
-        (λ a p at h. ap (λ z. z *ℤ heat_at side ts a) (weight a p at) ∙ ⊎_elim
-        (λ k.
-        let range = (on_side side).1 a p at in
-        let fixed = k.fixed in
-        ap (λ z. above from place p *ℤ z) (omega (arith, ints)) ∙ sym (from_stream from place (reached from place (end_of c side) *ℤ each) p k.source_is))
-        (λ k.
+        (λ a p at h. ap (λ z. z *ℤ heat_at side ts a) (weight a p at) ∙ ⊎_elim (λ k.
+        let range = (on_side side).1 a p at in let fixed = k.fixed in
+        ap (λ z. above from place p *ℤ z) (omega (arith, ints)) ∙ sym (from_stream from place (reached from place (end_of c side) *ℤ each) p k.source_is)) (λ k.
         let level = ap (λ b. if b then pos 1 else pos 0) (stands-level from place (end_of c side) p k.high k.low) in
         ap₂ ◌*ℤ◌ level (utility a p at (ap not k.source_is)) ∙ sym (from_utility from place (reached from place (end_of c side) *ℤ each) p k.source_is))
         h.kind)
@@ -192,33 +169,28 @@ module _ {c : Case} {hot cold : List Part} (s : AreStandardParts c hot cold) whe
 
     pub taken-le : (from : Bool) (place : ℤ)
         → All (λ t. (price_at (map (above from place) cold) t.cold *ℤ t.heat) ≤ℤ (price_at (map (above from place) hot) t.hot *ℤ t.heat)) ts
-    taken-le from place =
-        worth-le (reach_between c hot cold) (map (above from place) hot) (map (above from place) cold) ts
+    taken-le from place = worth-le (reach_between c hot cold) (map (above from place) hot) (map (above from place) cold) ts
         (supports_down (above from place) (above_falls from place)) flow.positive flow.joined
 
     -- all heat of a side: that of its streams and of its utility
     whole_heat : (side : Side) → int_sum_by (λ t. pos 1 *ℤ t.heat) ts ≡ heat side ts +ℤ sum_side side (heat_over true (end_of c Cold)) c.streams
     whole_heat side =
         let bottom = end_of c Cold in
-        let all =
-        one_times (reached true bottom (end_of c side)) (heat side ts)
+        let all = one_times (reached true bottom (end_of c side)) (heat side ts)
         (is_reached true bottom (end_of c side) (from_place bottom (end_of c side) (s.within Cold (end_of c side) (s.ends side)))) in
-        let sum =
-        heats_above side (λ a p. pos 1) true bottom (heat side ts) (s.ends Cold) (utility_heat side ts)
+        let sum = heats_above side (λ a p. pos 1) true bottom (heat side ts) (s.ends Cold) (utility_heat side ts)
         (λ a p at. sym (is_reached true bottom p.low (from_place bottom p.low ((s.sides side).each a p at).from))) in
         sym (int_sum_from-grouped (part_index side) (λ t. t.heat) (λ a. pos 1) (parts_of side hot cold) ts (on_side side).0) ∙ sum
         ∙ ap (λ z. z +ℤ sum_side side (heat_over true bottom) c.streams) all
 
     utility-not_negative : (side : Side) → pos 0 ≤ℤ heat side ts
-    utility-not_negative side =
-        int_sum_by-not_negative (λ t. if part_index side t == (s.sides side).utility then t.heat else pos 0) ts
+    utility-not_negative side = int_sum_by-not_negative (λ t. if part_index side t == (s.sides side).utility then t.heat else pos 0) ts
         (heats_at-not_negative side ts (s.sides side).utility flow.positive)
 
     -- above a place where a deficit is the hot target the cold parts need that much more than the hot streams give
     hot-at_least : hot_target c.streams ≤ℤ heat Hot ts
     hot-at_least =
-        let (place, tight) = some_tight c.streams s.valid in
-        let on = s.stream_end place tight.end in
+        let (place, tight) = some_tight c.streams s.valid in let on = s.stream_end place tight.end in
         ⊎_elim (at_tight false place on) (at_tight true place on) tight.tight
       where
         at_tight : (from : Bool) (place : ℤ) → Contains s.grid place → IsTightOver from c.streams place → hot_target c.streams ≤ℤ heat Hot ts
@@ -238,8 +210,7 @@ module _ {c : Case} {hot cold : List Part} (s : AreStandardParts c hot cold) whe
     at_least Cold = let least = hot-at_least in let hots = whole_heat Hot in let colds = whole_heat Cold in let targets = s.lowest in omega (arith, ints)
 
     pub cost-at_least : hot_target c.streams ≤ℤ cost_of hot cold ts
-    cost-at_least =
-        let least = hot-at_least in let cost = cost-hot_utility ts (heat Hot ts) (heat Cold ts) (utility_heat Hot ts) (utility_heat Cold ts) in
+    cost-at_least = let least = hot-at_least in let cost = cost-hot_utility ts (heat Hot ts) (heat Cold ts) (utility_heat Hot ts) (utility_heat Cold ts) in
         omega (arith, ints)
 
   pub needs_heat : (side : Side) → NeedsHeat c hot cold side (target_of side c.streams)

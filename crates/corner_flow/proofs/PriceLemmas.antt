@@ -1,7 +1,7 @@
 -- The prices of the corner flow support every heat flow, and their value is the hot target.
-use Rattle.corner_flow.proofs.HeatLemmas.{above, above_falls, from_stream, from_utility, price_at-map, supports_down, zero_times}
+use Rattle.corner_flow.proofs.HeatLemmas.{above, above_falls, from_stream, from_utility, price_at-map, supports_down}
 use Rattle.corner_flow.proofs.SideLemmas.{AreStandardParts, IsStandardPart, unit_price}
-use Rattle.corner_flow.proofs.Words.{*ℤ-zero, All, All-map, Case, Cold, Contains, CountsFromItself, Decides-int_eq, Hot, IsBetween, IsPartPrice}
+use Rattle.corner_flow.proofs.Words.{*ℤ-zero, All, All-map, Case, Cold, Contains, CountsFromItself, Decides-int_eq, Hot, IsBetween, IsPartPrice, zero_times}
 use Rattle.corner_flow.proofs.Words.{IsReferencePlace, IsSupporting, IsTightOver, IsValidStream, Part, Side, Stream, and_cases, by_lt_z, cases_Bool, clamps}
 use Rattle.corner_flow.proofs.Words.{corner_price, counts_above, counts_low, deficit_above, deficit_from, excess_price, excess_price-*ℤ, false≢true, has_level}
 use Rattle.corner_flow.proofs.Words.{heat_over, high_end, hot_target, if_zero, if◌then◌else◌, int_eq, int_le-false, int_le-from, int_lt, int_lt-false}
@@ -23,14 +23,13 @@ priced_range : (none low : Bool) (place : ℤ) (p : Part) → IsBetween (pos 0) 
 priced_range none low place p = either none (stands_above low place p)
   where
     either : (b c : Bool) → IsBetween (pos 0) (pos 1) (if b then pos 0 else if c then pos 1 else pos 0)
-    either true c = record { from = omega (arith, ints); upto = omega (arith, ints) }
-    either false true = record { from = omega (arith, ints); upto = omega (arith, ints) }
-    either false false = record { from = omega (arith, ints); upto = omega (arith, ints) }
+    either true c = omega (arith, ints)
+    either false true = omega (arith, ints)
+    either false false = omega (arith, ints)
 
 pub prices_within : (target : ℤ) (low : Bool) (place : ℤ) (parts : List Part) → All IsPartPrice (map (corner_price target low place) parts)
 prices_within target low place parts =
-    All-map IsPartPrice (corner_price target low place) parts
-    (λ k d within. let range = priced_range (int_eq target (pos 0)) low place (get_or parts k d) in
+    All-map IsPartPrice (corner_price target low place) parts (λ k d within. let range = priced_range (int_eq target (pos 0)) low place (get_or parts k d) in
     record { from = omega (arith, ints, range.from); upto = omega (arith, ints, range.upto) })
 
 -- ---- the value of a side
@@ -68,20 +67,16 @@ module _ {c : Case} {hot cold : List Part} (s : AreStandardParts c hot cold) (lo
         → least_product (excess_price side p.price (priced none low place p)) p.least p.most ≡ excess_price side (pos 0) (priced_heat none low place p)
     worth p h =
         let excess = excess_price side p.price (priced none low place p) in
-        ⊎_elim
-        (λ k. fixed_product excess p.least p.most k.fixed ∙ excess_price-*ℤ side p.price (priced none low place p) p.least
-        ∙ ap₂ (excess_price side) (zero_times p.price p.least k.price) (priced-stream none low place p k.source_is))
-        (λ k.
+        ⊎_elim (λ k. fixed_product excess p.least p.most k.fixed ∙ excess_price-*ℤ side p.price (priced none low place p) p.least
+        ∙ ap₂ (excess_price side) (zero_times p.price p.least k.price) (priced-stream none low place p k.source_is)) (λ k.
         free_product excess p.least p.most (free_excess side p.price (priced none low place p) k.price (priced_range none low place p)) k.least
-        (omega (arith, ints, k.most))
-        ∙ sym (ap (excess_price side (pos 0)) (priced-utility none low place p k.source_is) ∙ no_excess side))
+        (omega (arith, ints, k.most)) ∙ sym (ap (excess_price side (pos 0)) (priced-utility none low place p k.source_is) ∙ no_excess side))
         h.kind
 
     side_value-priced : side_value side (parts_of side hot cold) (map (priced none low place) (parts_of side hot cold))
         ≡ excess_price side (pos 0) (int_sum_by (priced_heat none low place) (parts_of side hot cold))
     side_value-priced =
-        let f = priced none low place in
-        let parts = parts_of side hot cold in
+        let f = priced none low place in let parts = parts_of side hot cold in
         int_sum_from-same_each (λ a p. least_product (excess_price side p.price (price_at (map f parts) a)) p.least p.most)
         (λ a p. excess_price side (pos 0) (priced_heat none low place p)) parts
         (λ a p at. ap (λ y. least_product (excess_price side p.price y) p.least p.most) (price_at-map f parts a p at) ∙ worth p ((s.sides side).each a p at))
@@ -97,13 +92,10 @@ module _ {c : Case} {hot cold : List Part} (s : AreStandardParts c hot cold) (lo
   value-priced true e end tight =
       let zero = (Decides-int_eq (hot_target c.streams) (pos 0)).0 e in
       let hots = side_value-priced Hot true ∙ ap (excess_price Hot (pos 0)) (int_sum_by-zero (λ p. pos 0) hot (λ k d within. refl)) in
-      let colds = side_value-priced Cold true ∙ ap (excess_price Cold (pos 0)) (int_sum_by-zero (λ p. pos 0) cold (λ k d within. refl)) in
-      omega (arith, ints)
+      let colds = side_value-priced Cold true ∙ ap (excess_price Cold (pos 0)) (int_sum_by-zero (λ p. pos 0) cold (λ k d within. refl)) in omega (arith, ints)
   value-priced false e end tight =
-      let on = s.stream_end place end in
-      let hots = side_value-priced Hot false ∙ ap (excess_price Hot (pos 0)) ((s.sides Hot).sum low place (pos 0) on) in
-      let colds = side_value-priced Cold false ∙ ap (excess_price Cold (pos 0)) ((s.sides Cold).sum low place (pos 0) on) in
-      omega (arith, ints)
+      let on = s.stream_end place end in let hots = side_value-priced Hot false ∙ ap (excess_price Hot (pos 0)) ((s.sides Hot).sum low place (pos 0) on) in
+      let colds = side_value-priced Cold false ∙ ap (excess_price Cold (pos 0)) ((s.sides Cold).sum low place (pos 0) on) in omega (arith, ints)
 
   pub corner-value : Contains (stream_ends c.streams) place → IsTightOver low c.streams place
       → value_of hot cold (map (corner_price (hot_target c.streams) low place) hot) (map (corner_price (hot_target c.streams) low place) cold)

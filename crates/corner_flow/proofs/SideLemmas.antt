@@ -71,22 +71,10 @@ pub record AreStandardParts (c : Case) (hot cold : List Part) : Type 0 where
 -- ---- they are so
 
 IsUtilityHere-standard : (c : Case) (side : Side) (i : ℕ) → IsUtilityHere c side (utility_part i (standard_utility side c))
-IsUtilityHere-standard c Hot i = record {
-  source_is = refl;
-  high = shifted_level-standard Hot c;
-  low = shifted_level-standard Hot c;
-  least = refl;
-  most = refl;
-  price = refl;
-}
-IsUtilityHere-standard c Cold i = record {
-  source_is = refl;
-  high = shifted_level-standard Cold c;
-  low = shifted_level-standard Cold c;
-  least = refl;
-  most = refl;
-  price = refl;
-}
+IsUtilityHere-standard c Hot i =
+    record { source_is = refl; high = shifted_level-standard Hot c; low = shifted_level-standard Hot c; least = refl; most = refl; price = refl }
+IsUtilityHere-standard c Cold i =
+    record { source_is = refl; high = shifted_level-standard Cold c; low = shifted_level-standard Cold c; least = refl; most = refl; price = refl }
 
 -- a place that is below the high of a part is at most its low
 pub low_reached : (grid : List ℤ) (p : Part) (x : ℤ) → AllPairs (λ a b. b <ℤ a) grid → StandsOn grid p → Contains grid x → x <ℤ p.high → x ≤ℤ p.low
@@ -120,8 +108,7 @@ module _ (c : Case) (grid : List ℤ) (complete : IsComplete c) (standard : IsSt
   on_side a p at = subst OnSide (get_or_from_slice_get parts a p p at) (are.each a p (slice_get_within parts a p at))
 
   in_order : (a b : ℕ) (p q : Part) → slice_get parts a ≡ Some p → slice_get parts b ≡ Some q → a < b → comes_before p q
-  in_order a b p q at other less =
-      subst₂ comes_before (get_or_from_slice_get parts a p q at) (get_or_from_slice_get parts b q q other)
+  in_order a b p q at other less = subst₂ comes_before (get_or_from_slice_get parts a p q at) (get_or_from_slice_get parts b q q other)
       (are.ordered a b q less (slice_get_within parts b q other))
 
   -- the part of the utility of the side
@@ -147,12 +134,9 @@ module _ (c : Case) (grid : List ℤ) (complete : IsComplete c) (standard : IsSt
 
   kind : (p : Part) → OnSide p → IsStreamHere p ⊎ IsUtilityHere c side p
   unfolding own
-  kind p (inl (i, s, h)) =
-      inl
+  kind p (inl (i, s, h)) = inl
       (record { source_is = ap (λ q. is_stream q.source) h.is; fixed = ap (λ q. q.least) h.is ∙ sym (ap (λ q. q.most) h.is); price = ap (λ q. q.price) h.is })
-  kind p (inr (i, u, h)) =
-      inr
-      (subst (IsUtilityHere c side) (sym (own-is p (inr (i, u, h)) (ap (λ q. is_stream q.source) h.is)))
+  kind p (inr (i, u, h)) = inr (subst (IsUtilityHere c side) (sym (own-is p (inr (i, u, h)) (ap (λ q. is_stream q.source) h.is)))
       (IsUtilityHere-standard c side (some_utility c standard side).0))
 
   -- a part of a stream is on an interval, or at its level, and one of a utility at its own
@@ -162,12 +146,9 @@ module _ (c : Case) (grid : List ℤ) (complete : IsComplete c) (standard : IsSt
       of_piece : IsPiece grid s p.high p.low → StandsOn grid p
       of_piece (inl interval) = inr interval
       of_piece (inr (latent, same)) =
-          let held =
-          All-slice_get (λ (x : Stream). Contains grid (high_end x) × Contains grid (low_end x)) c.streams i s
+          let held = All-slice_get (λ (x : Stream). Contains grid (high_end x) × Contains grid (low_end x)) c.streams i s
           (holds_ends c.streams c.utilities grid holds) h.stream in
-          let level = level-latent s latent in
-          let is : high_end s ≡ p.high = omega (arith, ints, h.from, h.upto) in
-          inl (same, subst (Contains grid) is held.0)
+          let level = level-latent s latent in let is : high_end s ≡ p.high = omega (arith, ints, h.from, h.upto) in inl (same, subst (Contains grid) is held.0)
   on_places p (inr h) = at_level (kind p (inr h))
     where
       at_level : IsStreamHere p ⊎ IsUtilityHere c side p → StandsOn grid p
@@ -183,8 +164,7 @@ module _ (c : Case) (grid : List ℤ) (complete : IsComplete c) (standard : IsSt
   unfolding own
   own-at =
       let (i, at) = some_utility c standard side in
-      let (a, within, is) =
-      are.every (utility_part i (standard_utility side c))
+      let (a, within, is) = are.every (utility_part i (standard_utility side c))
       (inr (i, standard_utility side c, record { utility = at; side_is = standard_side side c; is = refl })) in
       (a, slice_get-get_or parts a (utility_part i (standard_utility side c)) within ∙ ap Some is)
 
@@ -194,8 +174,7 @@ module _ (c : Case) (grid : List ℤ) (complete : IsComplete c) (standard : IsSt
       let (b, other) = own-at in
       record {
         each = λ a p at.
-            let here = on_side a p at in
-            let ends = ends_on grid p (on_places p here) in
+            let here = on_side a p at in let ends = ends_on grid p (on_places p here) in
             record {
               bounded = IsBounded-part c.streams c.utilities side grid valid.are_streams.each (IsPlaced-IsComplete c complete) holds p here;
               from = grid_within c grid valid standard on_grid Cold p.low ends.1;
@@ -205,26 +184,19 @@ module _ (c : Case) (grid : List ℤ) (complete : IsComplete c) (standard : IsSt
               kind = kind p here;
             };
         falls = λ a d p q at last le.
-            let here = on_places p (on_side a p at) in
-            let there = on_places q (on_side d q last) in
-            ⊎_elim
-            (λ e.
-            let same = same_Some p q (sym at ∙ ap (slice_get parts) e ∙ last) in
-            let high = ap (λ r. r.high) same in
-            let low = ap (λ r. r.low) same in
+            let here = on_places p (on_side a p at) in let there = on_places q (on_side d q last) in
+            ⊎_elim (λ e.
+            let same = same_Some p q (sym at ∙ ap (slice_get parts) e ∙ last) in let high = ap (λ r. r.high) same in let low = ap (λ r. r.low) same in
             (omega (arith, ints), omega (arith, ints)))
-            (λ differ. in_order_of grid p q on_grid.ordered here there (order q there) (in_order a d p q at last (omega (arith, differ))))
-            (cases_eq a d);
+            (λ differ. in_order_of grid p q on_grid.ordered here there (order q there) (in_order a d p q at last (omega (arith, differ)))) (cases_eq a d);
         sum = λ from at each found.
             ap (int_sum_by (part_over from at each)) (AreParts-made c.streams c.utilities side grid parts holds are)
             ∙ sum-part_over c.streams c.utilities side grid from at each valid.are_streams.each holds found
             ∙ ap (λ z. z +ℤ sum_side side (heat_over from at) c.streams) (sum_utilities c standard side each);
         utility = b;
         only = λ a p at e.
-            ⊎_elim (λ same. same)
-            (⊎_elim (λ less. absurd (not_after p own (on_side a p at) (on_side b own other) e refl (in_order a b p own at other less)))
-            (λ more. absurd (not_after own p (on_side b own other) (on_side a p at) refl e (in_order b a own p other at more))))
-            (cases_order a b);
+            ⊎_elim (λ same. same) (⊎_elim (λ less. absurd (not_after p own (on_side a p at) (on_side b own other) e refl (in_order a b p own at other less)))
+            (λ more. absurd (not_after own p (on_side b own other) (on_side a p at) refl e (in_order b a own p other at more)))) (cases_order a b);
       }
 
 pub AreStandardParts-parts : {c : Case} {hot cold : List Part} → IsComplete c → IsStandard c → AreCaseParts c hot cold → AreStandardParts c hot cold

@@ -15,17 +15,13 @@ module _ (c : Case) (grid : List ℤ) (valid : HasValidStreams c.streams) (stand
 
   -- each place of the grid is a stream end
   pub grid_is_ends : (x : ℤ) → Contains grid x → Contains (stream_ends c.streams) x
-  grid_is_ends x at =
-      ⊎_elim (λ found. found)
-      (λ (k, within, is).
-      let inside : k < length c.utilities = rw length-map at within in
-      let u = get_or c.utilities k (standard_utility Hot c) in
+  grid_is_ends x at = ⊎_elim (λ found. found) (λ (k, within, is).
+      let inside : k < length c.utilities = rw length-map at within in let u = get_or c.utilities k (standard_utility Hot c) in
       let own = own_utility c standard k u (slice_get-get_or c.utilities k (standard_utility Hot c) inside) in
       let level : end_of c u.side ≡ x =
       sym (shifted_level-standard u.side c) ∙ sym (ap shifted_level own) ∙ sym (get_or-map shifted_level c.utilities k (standard_utility Hot c) x inside)
       ∙ is in
-      subst (Contains (stream_ends c.streams)) level (outer u.side).member)
-      (Contains-append_cases (stream_ends c.streams) (map shifted_level c.utilities) x
+      subst (Contains (stream_ends c.streams)) level (outer u.side).member) (Contains-append_cases (stream_ends c.streams) (map shifted_level c.utilities) x
       (All-contains (Contains (places_of c.streams c.utilities)) grid x on_grid.each at))
 
   -- and lies between the outermost ones, which are on the grid
@@ -41,9 +37,7 @@ module _ (c : Case) (grid : List ℤ) (valid : HasValidStreams c.streams) (stand
   -- all heat lies from the lowest end on
   pub cold_target-lowest_end : cold_target c.streams ≡ hot_target c.streams -ℤ deficit_from c.streams (end_of c Cold)
   cold_target-lowest_end =
-      let bottom = end_of c Cold in
-      let ends = each_end (λ e. bottom ≤ℤ e) c.streams (outer Cold).bound in
-      let lowest =
-      deficit_from-lowest bottom c.streams valid.are_streams.each
+      let bottom = end_of c Cold in let ends = each_end (λ e. bottom ≤ℤ e) c.streams (outer Cold).bound in
+      let lowest = deficit_from-lowest bottom c.streams valid.are_streams.each
       (All-weaker (λ s. (bottom ≤ℤ high_end s) × (bottom ≤ℤ low_end s)) (λ s. bottom ≤ℤ low_end s) (λ s h. h.1) c.streams ends) in
       omega (arith, ints)

@@ -19,14 +19,10 @@ AllPairsBelow {X} R xs i = (j k : ℕ) (d : X) → j < k → k < i → R (get_or
 -- a loop's step, where each element is compared with the one before it
 pub AllPairsBelow-more : {X : Type 0} (R : X → X → Type 0) → ((x y z : X) → R x y → R y z → R x z) → (xs : List X) (i : ℕ) → 1 ≤ i → AllPairsBelow R xs i
     → ((d : X) → R (get_or xs (i - 1) d) (get_or xs i d)) → AllPairsBelow R xs (i + 1)
-AllPairsBelow-more R trans xs i from h next j k d before within =
-    ⊎_elim (λ lt. h j k d before lt)
-    (λ ge.
+AllPairsBelow-more R trans xs i from h next j k d before within = ⊎_elim (λ lt. h j k d before lt) (λ ge.
     let last : i ≡ k = omega arith in
-    subst (λ n. R (get_or xs j d) (get_or xs n d)) last
-    (⊎_elim (λ e. subst (λ n. R (get_or xs n d) (get_or xs i d)) (sym e) (next d))
-    (λ other. trans (get_or xs j d) (get_or xs (i - 1) d) (get_or xs i d) (h j (i - 1) d (omega (arith, other)) (omega arith)) (next d))
-    (cases_eq j (i - 1))))
+    subst (λ n. R (get_or xs j d) (get_or xs n d)) last (⊎_elim (λ e. subst (λ n. R (get_or xs n d) (get_or xs i d)) (sym e) (next d))
+    (λ other. trans (get_or xs j d) (get_or xs (i - 1) d) (get_or xs i d) (h j (i - 1) d (omega (arith, other)) (omega arith)) (next d)) (cases_eq j (i - 1))))
     (cases_lt k i)
 
 -- ---- the sums
@@ -38,8 +34,6 @@ pub AreHeats-more : (side : Side) (ts : List Transfer) (i : ℕ) (sums : List �
     → index ≡ part_index side (get_or ts i no_transfer) → index < length sums → next ≡ get_or sums index (pos 0) +ℤ (get_or ts i no_transfer).heat
     → AreHeats side (take i ts) sums → AreHeats side (take (i + 1) ts) (set sums index next)
 AreHeats-more side ts i sums index next within is room added so_far a inside =
-    let here : a < length sums = rw length-set at inside in
-    let t = get_or ts i no_transfer in
-    let more = int_sum_by-more (λ u. if part_index side u == a then u.heat else pos 0) ts i no_transfer within in
-    let old = so_far a here in
+    let here : a < length sums = rw length-set at inside in let t = get_or ts i no_transfer in
+    let more = int_sum_by-more (λ u. if part_index side u == a then u.heat else pos 0) ts i no_transfer within in let old = so_far a here in
     grind (arith, ints, nat_tests, get_or-set_same sums index next (pos 0) room, get_or-set_other sums index a next (pos 0))

@@ -22,15 +22,11 @@ members_heat : (side : Side) (members : List ℕ) (ts : List Transfer) → AllPa
     → int_sum_by (heat_at side ts) members ≤ℤ int_sum_by (taken side members) ts
 members_heat side [] ts ordered = int_sum_by-not_negative (taken side []) ts (λ k d within. omega (arith, ints))
 members_heat side (i ∷ members) ts ordered =
-    let above = AllPairs-head (λ a b. a < b) i members ordered in
-    let rest = members_heat side members ts (AllPairs-tail (λ a b. a < b) i members ordered) in
+    let above = AllPairs-head (λ a b. a < b) i members ordered in let rest = members_heat side members ts (AllPairs-tail (λ a b. a < b) i members ordered) in
     let split = int_sum_by-add (λ t. if part_index side t == i then t.heat else pos 0) (taken side members) ts in
-    let each =
-    int_sum_by-le (λ t. (if part_index side t == i then t.heat else pos 0) +ℤ taken side members t) (taken side (i ∷ members)) ts
-    (λ k d within.
+    let each = int_sum_by-le (λ t. (if part_index side t == i then t.heat else pos 0) +ℤ taken side members t) (taken side (i ∷ members)) ts (λ k d within.
     let t = get_or ts k d in
-    one_of (part_index side t == i) (list_any (λ j. part_index side t == j) members) t.heat
-    (λ here.
+    one_of (part_index side t == i) (list_any (λ j. part_index side t == j) members) t.heat (λ here.
     let is = eqb-true (part_index side t) i here in
     list_any_none (λ j. part_index side t == j) members
     (λ n e inside. let less = above n e inside in ne_eqb (part_index side t) (get_or members n e) (λ same. omega (arith, less))))) in
@@ -39,10 +35,8 @@ members_heat side (i ∷ members) ts ordered =
 least_le : (side : Side) (parts : List Part) (ts : List Transfer) (i : ℕ) → KeepsRanges side parts ts → ArePositive ts → least_at parts i ≤ℤ heat_at side ts i
 least_le side parts ts i ranges positive =
     let none = int_sum_by-not_negative (λ t. if part_index side t == i then t.heat else pos 0) ts (heats_at-not_negative side ts i positive) in
-    ⊎_elim
-    (λ row. let at = slice_get-get_or parts i blank row in let range = (ranges i (get_or parts i blank) at).from in rw at range)
-    (λ past. rw (slice_get_past parts i past) none)
-    (cases_lt i (length parts))
+    ⊎_elim (λ row. let at = slice_get-get_or parts i blank row in let range = (ranges i (get_or parts i blank) at).from in rw at range)
+    (λ past. rw (slice_get_past parts i past) none) (cases_lt i (length parts))
 
 -- a factor that is 1 for a part that meets a member
 abbrev one_if : Bool → ℤ
@@ -62,18 +56,14 @@ offered : (side : Side) (reach : ℕ → ℕ → Bool) (others : List Part) (mem
     → KeepsRanges (opposite side) others ts → int_sum_by (taken side members) ts ≤ℤ offer_of side reach others members
 offered side reach others members ts positive indexes joined ranges =
     let factor = λ (j : ℕ). one_if (meets side reach members j) in
-    let each =
-    int_sum_by-le (taken side members) (λ t. factor (part_index (opposite side) t) *ℤ t.heat) ts
-    (λ k d within.
+    let each = int_sum_by-le (taken side members) (λ t. factor (part_index (opposite side) t) *ℤ t.heat) ts (λ k d within.
     let t = get_or ts k d in
-    taken_le (list_any (λ i. part_index side t == i) members) (meets side reach members (part_index (opposite side) t)) t.heat (positive k d within)
-    (λ e.
+    taken_le (list_any (λ i. part_index side t == i) members) (meets side reach members (part_index (opposite side) t)) t.heat (positive k d within) (λ e.
     let (n, i, inside, at, same) = Any-from_list_any (λ i. part_index side t == i) members e in
     list_any-from_Any (λ i. joins side reach i (part_index (opposite side) t)) members
     (n, i, inside, at, subst (λ m. joins side reach m (part_index (opposite side) t) ≡ true) (eqb-true (part_index side t) i same) (joined k d within)))) in
     let grouped = int_sum_from-grouped (part_index (opposite side)) (λ t. t.heat) factor others ts indexes in
-    let bound =
-    int_sum_from-le_each (λ j p. factor j *ℤ heat_at (opposite side) ts j) (λ j p. if meets side reach members j then p.most else pos 0) others
+    let bound = int_sum_from-le_each (λ j p. factor j *ℤ heat_at (opposite side) ts j) (λ j p. if meets side reach members j then p.most else pos 0) others
     (λ j p at. most_le (meets side reach members j) (heat_at (opposite side) ts j) p.most (ranges j p at).upto) in
     omega (arith, ints)
 
@@ -82,16 +72,12 @@ need_le_offer : (side : Side) (reach : ℕ → ℕ → Bool) (parts others : Lis
     → KeepsRanges side parts ts → KeepsRanges (opposite side) others ts → need_of parts members ≤ℤ offer_of side reach others members
 need_le_offer side reach parts others members ts ordered positive indexes joined own ranges =
     let least = int_sum_by-le (least_at parts) (heat_at side ts) members (λ k d within. least_le side parts ts (get_or members k d) own positive) in
-    let given = members_heat side members ts ordered in
-    let taken = offered side reach others members ts positive indexes joined ranges in
-    omega (arith, ints)
+    let given = members_heat side members ts ordered in let taken = offered side reach others members ts positive indexes joined ranges in omega (arith, ints)
 
 pub cuts_refuse_flows : (reach : ℕ → ℕ → Bool) (hot cold : List Part) → CutsRefuseFlows reach hot cold
 cuts_refuse_flows reach hot cold Hot members cut ts flow =
     let le = need_le_offer Hot reach hot cold members ts cut.ordered flow.positive flow.cold_indexes flow.joined flow.hot_ranges flow.cold_ranges in
-    let short = cut.short in
-    omega (arith, ints)
+    let short = cut.short in omega (arith, ints)
 cuts_refuse_flows reach hot cold Cold members cut ts flow =
     let le = need_le_offer Cold reach cold hot members ts cut.ordered flow.positive flow.hot_indexes flow.joined flow.cold_ranges flow.hot_ranges in
-    let short = cut.short in
-    omega (arith, ints)
+    let short = cut.short in omega (arith, ints)

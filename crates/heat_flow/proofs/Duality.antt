@@ -8,28 +8,21 @@ use Rattle.std.proofs.Common.{Bool, List, ap, arith, get_or, subst, suc, ℕ, �
 -- ---- the least product
 
 pub least_product-le : (c low high s : ℤ) → IsBetween low high s → least_product c low high ≤ℤ (c *ℤ s)
-least_product-le (pos n) low high s h =
-    let le = *ℤ-≤ℤ_left (pos n) low s (omega (arith, ints)) h.from in
-    omega (arith, ints, clamps)
-least_product-le (negsuc n) low high s h =
-    let le = *ℤ-≤ℤ_left (pos (suc n)) s high (omega (arith, ints)) h.upto in
-    omega (arith, ints, clamps)
+least_product-le (pos n) low high s h = let le = *ℤ-≤ℤ_left (pos n) low s (omega (arith, ints)) h.from in omega (arith, ints, clamps)
+least_product-le (negsuc n) low high s h = let le = *ℤ-≤ℤ_left (pos (suc n)) s high (omega (arith, ints)) h.upto in omega (arith, ints, clamps)
 
 pub least_product-is_least : (c low high : ℤ) → low ≤ℤ high → IsLeastProduct c low high (least_product c low high)
-least_product-is_least c low high order =
-    by_lt_z (c *ℤ high) (c *ℤ low)
-    (λ less. record {
-      at = high;
-      within = record { from = order; upto = omega (arith, ints) };
-      is = omega (arith, ints, clamps);
-      least = least_product-le c low high;
-    })
-    (λ most. record {
-      at = low;
-      within = record { from = omega (arith, ints); upto = order };
-      is = omega (arith, ints, clamps);
-      least = least_product-le c low high;
-    })
+least_product-is_least c low high order = by_lt_z (c *ℤ high) (c *ℤ low) (λ less. record {
+  at = high;
+  within = record { from = order; upto = omega (arith, ints) };
+  is = omega (arith, ints, clamps);
+  least = least_product-le c low high;
+}) (λ most. record {
+  at = low;
+  within = record { from = omega (arith, ints); upto = order };
+  is = omega (arith, ints, clamps);
+  least = least_product-le c low high;
+})
 
 -- ---- what a side costs and what it is worth
 
@@ -56,10 +49,8 @@ side_value-le : (side : Side) (parts : List Part) (prices : List ℤ) (ts : List
     → side_value side parts prices ≤ℤ excess_price side (side_cost side parts ts) (side_worth side prices ts)
 side_value-le side parts prices ts ranges indexes =
     let excess = λ (a : ℕ) (p : Part). excess_price side p.price (price_at prices a) in
-    let each =
-    int_sum_from-le_each (λ a p. least_product (excess a p) p.least p.most)
-    (λ a p. excess_price side (p.price *ℤ heat_at side ts a) (price_at prices a *ℤ heat_at side ts a)) parts
-    (λ a p at.
+    let each = int_sum_from-le_each (λ a p. least_product (excess a p) p.least p.most)
+    (λ a p. excess_price side (p.price *ℤ heat_at side ts a) (price_at prices a *ℤ heat_at side ts a)) parts (λ a p at.
     let le = least_product-le (excess a p) p.least p.most (heat_at side ts a) (ranges a p at) in
     let split = excess_price-*ℤ side p.price (price_at prices a) (heat_at side ts a) in
     omega (arith, ints)) in
@@ -70,15 +61,12 @@ side_value-le side parts prices ts ranges indexes =
 -- what the hot parts give is worth at least what the cold parts take
 pub worth-le : (reach : ℕ → ℕ → Bool) (y z : List ℤ) (ts : List Transfer) → IsSupporting reach y z → ArePositive ts → All (λ t. IsTrue (reach t.hot t.cold)) ts
     → All (λ t. (price_at z t.cold *ℤ t.heat) ≤ℤ (price_at y t.hot *ℤ t.heat)) ts
-worth-le reach y z ts supports positive joined k d within =
-    let t = get_or ts k d in
-    let heat = positive k d within in
+worth-le reach y z ts supports positive joined k d within = let t = get_or ts k d in let heat = positive k d within in
     *ℤ-≤ℤ_right t.heat (price_at z t.cold) (price_at y t.hot) (omega (arith, ints, heat)) (supports t.hot t.cold (joined k d within))
 
 pub weak_duality : (reach : ℕ → ℕ → Bool) (hot cold : List Part) (y z : List ℤ) → WeakDuality reach hot cold y z
 weak_duality reach hot cold y z supports ts flow =
-    let given = side_value-le Hot hot y ts flow.hot_ranges flow.hot_indexes in
-    let taken = side_value-le Cold cold z ts flow.cold_ranges flow.cold_indexes in
+    let given = side_value-le Hot hot y ts flow.hot_ranges flow.hot_indexes in let taken = side_value-le Cold cold z ts flow.cold_ranges flow.cold_indexes in
     let worth =
     int_sum_by-le (λ t. price_at z t.cold *ℤ t.heat) (λ t. price_at y t.hot *ℤ t.heat) ts (worth-le reach y z ts supports flow.positive flow.joined) in
     omega (arith, ints)

@@ -1,6 +1,6 @@
 -- A case whose utilities are the two standard ones, neither of them in a forbidden match, has no cut: `HOT` reaches each cold part and can give
 -- more than all of them take, and each hot part reaches `COLD`, which can take more than all of them give.
-use Rattle.corner_flow.proofs.HeatLemmas.{above, from_place, from_stream, from_utility, is_reached, one_times}
+use Rattle.corner_flow.proofs.HeatLemmas.{above, from_place, from_stream, from_utility, is_reached}
 use Rattle.study.proofs.Words.{ALL_STREAMS_HEAT, All, All-head, All-nil, AllPairs-nil, AreCaseParts, AreParts, AreStandardParts, AreStandardParts-parts, Case}
 use Rattle.study.proofs.Words.{Cold, Forbid, Hot, IsComplete, IsCut, IsStandard, IsStandardPart, IsSupplied, IsUtilityHere, IsValid, Part, Side, Source}
 use Rattle.study.proofs.Words.{and_from, and_left, and_right, both_reach, both_ways, cases_eq, end_of, eq-eqb, heat_over, heat_over-between, if_between}
@@ -12,6 +12,7 @@ use Rattle.std.proofs.Common.{Bool, List, Some, [], ap, ap₂, arith, false, get
 use Rattle.study.proofs.Leasts.{need-at_most, part_at}
 use Rattle.stream_case.specs.declared.source.Source.TheVariants.{Stream as of_stream}
 use Rattle.stream_case.specs.declared.source.Source.TheVariants.{Utility as of_utility}
+use Rattle.sums.proofs.ProductLemmas.{one_times}
 
 -- ---- the case without its forbidden matches is standard, and has the same parts
 

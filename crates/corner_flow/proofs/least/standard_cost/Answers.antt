@@ -14,8 +14,7 @@ target_is c = let fits : FitsSigned w64 c.args.targets.hot = search rules in ome
 pub returns-clause-least : goal.returns-clause-least
 returns-clause-least c = record {
   some = some_parts c.args.case.now;
-  each =
-      λ hot cold parts. subst (IsLeastCost (reach_between c.args.case.now hot cold) hot cold) (sym c.requires.hot_target ∙ sym (target_is c))
+  each = λ hot cold parts. subst (IsLeastCost (reach_between c.args.case.now hot cold) hot cold) (sym c.requires.hot_target ∙ sym (target_is c))
       (least_cost (standard c hot cold parts));
 }
 

@@ -17,8 +17,7 @@ hot_prices : (c : goal.After-from_vec-2)
     → c.from_vec.result ≡ map (corner_price (hot_target c.args.case.now.streams) (low_of c) c.args.place) c.args.parts.now.hot
 hot_prices c =
     let fits : FitsSigned w64 c.args.targets.hot = search rules in
-    c.from_vec.ensures
-    ∙ rw (
+    c.from_vec.ensures ∙ rw (
       to_z-of_z w64 c.args.targets.hot fits,
       to_z-of_z w32 c.args.place c.ranges.place,
       c.requires.hot_target,
@@ -30,8 +29,7 @@ cold_prices : (c : goal.After-from_vec-2)
     → c.from_vec-2.result ≡ map (corner_price (hot_target c.args.case.now.streams) (low_of c) c.args.place) c.args.parts.now.cold
 cold_prices c =
     let fits : FitsSigned w64 c.args.targets.hot = search rules in
-    c.from_vec-2.ensures
-    ∙ rw (
+    c.from_vec-2.ensures ∙ rw (
       to_z-of_z w64 c.args.targets.hot fits,
       to_z-of_z w32 c.args.place c.ranges.place,
       c.requires.hot_target,
@@ -62,6 +60,5 @@ returns-clause-supporting c =
     (corner-supports (standard c) (low_of c) c.args.place)
 
 pub returns-clause-value : goal.returns-clause-value
-returns-clause-value c =
-    ap₂ (value_of c.args.parts.now.hot c.args.parts.now.cold) (hot_prices c) (cold_prices c)
+returns-clause-value c = ap₂ (value_of c.args.parts.now.hot c.args.parts.now.cold) (hot_prices c) (cold_prices c)
     ∙ corner-value (standard c) (low_of c) c.args.place c.requires.place.at.end (tight c) ∙ sym c.requires.hot_target

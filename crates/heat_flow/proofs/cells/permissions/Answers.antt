@@ -4,14 +4,13 @@ use Rattle.heat_flow.proofs.Words.{All, AreStreams-IsComplete, IsSourceOf, lengt
 use Rattle.heat_flow.proofs.cells.permissions.Goals as goal
 
 pub overflow_add-len : goal.overflow_add-len
-overflow_add-len c =
-    omega (
-      arith,
-      c.len.ensures,
-      c.len-2.ensures,
-      length-AreStreams c.args.case.now.streams (AreStreams-IsComplete c.args.case.now c.requires),
-      length-utilities c.args.case.now c.requires,
-    )
+overflow_add-len c = omega (
+  arith,
+  c.len.ensures,
+  c.len-2.ensures,
+  length-AreStreams c.args.case.now.streams (AreStreams-IsComplete c.args.case.now c.requires),
+  length-utilities c.args.case.now c.requires,
+)
 
 pub forbid_matches-requires-clause-sources : goal.forbid_matches-requires-clause-sources
 forbid_matches-requires-clause-sources c =

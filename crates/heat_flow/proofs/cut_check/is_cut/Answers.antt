@@ -6,15 +6,12 @@ use Rattle.heat_flow.proofs.cut_check.is_cut.Goals as goal
 own : (c : goal.After-is_short) → c.parts_of-own.result.now ≡ parts_of (cut_side c.args.cut.now.kind) c.args.parts.now.hot c.args.parts.now.cold
 own c = rw c.side-side.ensures at c.parts_of-own.ensures
 
-need : (c : goal.After-is_short)
-    → to_z w128 (of_z w128 c.need_of-need.result)
+need : (c : goal.After-is_short) → to_z w128 (of_z w128 c.need_of-need.result)
     ≡ need_of (parts_of (cut_side c.args.cut.now.kind) c.args.parts.now.hot c.args.parts.now.cold) c.args.cut.now.parts
-need c =
-    let fits : FitsSigned w128 c.need_of-need.result = search rules in
+need c = let fits : FitsSigned w128 c.need_of-need.result = search rules in
     to_z-of_z w128 c.need_of-need.result fits ∙ rw (own c, c.as_slice-members.ensures) at c.need_of-need.ensures
 
-offer : (c : goal.After-is_short)
-    → to_z w128 (of_z w128 c.offer_of-offer.result)
+offer : (c : goal.After-is_short) → to_z w128 (of_z w128 c.offer_of-offer.result)
     ≡ offer_of (cut_side c.args.cut.now.kind) (reaches c.args.reach.now)
     (parts_of (opposite (cut_side c.args.cut.now.kind)) c.args.parts.now.hot c.args.parts.now.cold) c.args.cut.now.parts
 offer c =
