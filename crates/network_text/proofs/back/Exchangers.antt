@@ -50,37 +50,23 @@ entry_of network (line.Mix first second to) = record { line = line.Mix first sec
 entry_of network (line.End branch) = record { line = line.End branch; names = few.Nothing }
 
 -- what it says, by what the line makes and uses
-record IsOf (network : Network) (l : Line) (e : Entry) : Type 0 where
-  line_is : e.line ≡ l
-  names_are : members e.names ≡ map (branch_name network) (makes l)
-  one_stream : IsOfOneStream network.branches l → All (λ b. stream_at network.branches b ≡ first_stream network.branches (uses l)) (makes l)
+entry-line : (network : Network) (l : Line) → (entry_of network l).line ≡ l
+entry-line network (line.Exchanger name hot cold duty) = refl
+entry-line network other = refl
 
-entry_is : (network : Network) (l : Line) → IsOf network l (entry_of network l)
-entry_is network (line.Exchanger name hot cold duty) = record {
-  line_is = refl;
-  names_are = refl;
-  one_stream = λ one. All-nil (λ b. stream_at network.branches b ≡ 0);
-}
-entry_is network (line.Split from first cp second) = record {
-  line_is = refl;
-  names_are = refl;
-  one_stream = λ one. All-from_recursion (λ b. stream_at network.branches b ≡ stream_at network.branches from) (first ∷ second ∷ []) (one.0, (one.1, tt));
-}
-entry_is network (line.Pass from exchanger to) = record {
-  line_is = refl;
-  names_are = refl;
-  one_stream = λ one. All-from_recursion (λ b. stream_at network.branches b ≡ stream_at network.branches from) (to ∷ []) (one, tt);
-}
-entry_is network (line.Mix first second to) = record {
-  line_is = refl;
-  names_are = refl;
-  one_stream = λ one. All-from_recursion (λ b. stream_at network.branches b ≡ stream_at network.branches first) (to ∷ []) (one.1, tt);
-}
-entry_is network (line.End branch) = record {
-  line_is = refl;
-  names_are = refl;
-  one_stream = λ one. All-nil (λ b. stream_at network.branches b ≡ stream_at network.branches branch);
-}
+entry-names : (network : Network) (l : Line) → members (entry_of network l).names ≡ map (branch_name network) (makes l)
+entry-names network (line.Exchanger name hot cold duty) = refl
+entry-names network other = refl
+
+abbrev IsOn : Network → ℕ → ℕ → Type 0
+IsOn network stream b = stream_at network.branches b ≡ stream
+
+made_on : (network : Network) (l : Line) → IsOfOneStream network.branches l → All (IsOn network (first_stream network.branches (uses l))) (makes l)
+made_on network (line.Split from first cp second) one =
+    All-from_recursion (IsOn network (stream_at network.branches from)) (first ∷ second ∷ []) (one.0, (one.1, tt))
+made_on network (line.Pass from exchanger to) one = All-from_recursion (IsOn network (stream_at network.branches from)) (to ∷ []) (one, tt)
+made_on network (line.Mix first second to) one = All-from_recursion (IsOn network (stream_at network.branches first)) (to ∷ []) (one.1, tt)
+made_on network other one = All-nil (IsOn network (first_stream network.branches (uses other)))
 
 -- ---- one line more
 
@@ -119,7 +105,7 @@ branches-with : {case : Case} {network : Network} {index : ℕ} {l : Line} → I
     (made_before case network (suc index)) network.branches
 branches-with {case} {network} {index} {l} of =
     let m = made_before case network index in let numbers = of.numbers in let stream = first_stream-take network.branches m (uses l) numbers.used in
-    let made = (entry_is network l).one_stream of.one_stream in
+    let made = made_on network l of.one_stream in
     (λ i. take m network.branches ++ map-map (branch_of (stream i)) (branch_name network) (makes l) i)
     ∙ take-more (λ k. branch_of (first_stream network.branches (uses l)) (branch_name network k)) no_branch network.branches m (makes l)
     (omega (arith, numbers.next, numbers.within)) numbers.made (λ j d within. let b = get_or (makes l) j d in let there : b < length network.branches = omega
@@ -130,9 +116,9 @@ pub front-next : {case : Case} {network : Network} {index : ℕ} {l : Line} → 
     → with_entry (front case network index) (entry_of network l) ≡ front case network (suc index)
 unfolding with_entry
 front-next {case} {network} {index} {l} of =
-    let is = entry_is network l in let given = front case network index in
-    let branches = (λ i. given.branches ++ map (branch_of (first_stream given.branches (uses (is.line_is i)))) (is.names_are i)) ∙ branches-with of in
-    let lines = (λ i. given.lines ++ is.line_is i ∷ []) ∙ sym of.at.more in λ i. record { branches = branches i; lines = lines i }
+    let given = front case network index in let line_is = entry-line network l in
+    let branches = (λ i. given.branches ++ map (branch_of (first_stream given.branches (uses (line_is i)))) (entry-names network l i)) ∙ branches-with of in
+    let lines = (λ i. given.lines ++ line_is i ∷ []) ∙ sym of.at.more in λ i. record { branches = branches i; lines = lines i }
 
 -- The branches that a printed line uses and makes.
 
