@@ -1,11 +1,12 @@
 -- The parts of a heat flow are the pieces of a network of pieces, and its transfers the exchanges.
 use Rattle.interval_design.proofs.Words.{All-map, AreLedPieces, Case, Exchange, HasUtilityHeat, HaveParts, IsStreamPiece, Part, Piece, Side, Source, Stream}
-use Rattle.interval_design.proofs.Words.{Transfer, exchange_of, length-map, map-map, on_side, part_index, part_sources, piece_of, piece_on, sources_of}
+use Rattle.interval_design.proofs.Words.{Transfer, exchange_of, length-map, map-map, mapped_item, on_side, part_index, part_sources, piece_of, piece_on}
+use Rattle.interval_design.proofs.Words.{sources_of}
 use Rattle.interval_design.proofs.CaseFlow.{IsCaseFlow, valid_stream}
 use Rattle.interval_design.proofs.FewTransfers.{most_transfers}
 use Rattle.interval_design.proofs.Reaching.{exchanges_join}
 use Rattle.interval_design.proofs.StreamCourses.{joined, own_heat}
-use Rattle.interval_design.proofs.StreamPieces.{mapped_item, on_side-ap, stream_piece}
+use Rattle.interval_design.proofs.StreamPieces.{on_side-ap, stream_piece}
 use Rattle.interval_design.proofs.Utilities.{utility_has_heat}
 use Rattle.std.proofs.Common.{All, List, Some, ap, arith, get_or, length, map, refl, slice_get, subst, subst₂, sym, ℕ, ◌<◌, ◌∙◌, ◌≡◌, ◌≤◌}
 use Rattle.stream_case.specs.declared.source.Side.TheVariants as side

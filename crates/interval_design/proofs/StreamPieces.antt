@@ -3,10 +3,10 @@ use Rattle.interval_design.proofs.Words.{AreEnds-IsValidStream, AreSmall, Case, 
 use Rattle.interval_design.proofs.Words.{IsShifted, IsSized, IsStreamPiece, IsValidStream, LONGEST_RANGE, MOST_LOAD, Part, Piece, Rational, Share, Side, Source}
 use Rattle.interval_design.proofs.Words.{Stream, Transfer, at_most-whole, change, cons_option, entered_at, entered_state, enumerate_from, exchange_of}
 use Rattle.interval_design.proofs.Words.{filter_map, first_state, first_state-sized, full_size, full_size-most, full_size-positive, heat_at, high_end}
-use Rattle.interval_design.proofs.Words.{interval_falls, ints, is_latent, kept_hold, last_part_of_load, last_state, left_at, left_state, low_end, nat_tests}
-use Rattle.interval_design.proofs.Words.{on_side, option_map, option_map_or, part_index, piece_of, piece_on, plus, plus-ratio_same_den, ratio, ratio-multiple}
-use Rattle.interval_design.proofs.Words.{ratio-times_den, ratio-zero, rational_zero, same_Some, share_of, shares_of, size_of, size_on, sized-whole}
-use Rattle.interval_design.proofs.Words.{slice_get-map, source_state, times, unshifted, whole, width_at, width_of}
+use Rattle.interval_design.proofs.Words.{interval_falls, ints, is_latent, kept_hold, last_part_of_load, last_state, left_at, left_state, low_end, mapped_item}
+use Rattle.interval_design.proofs.Words.{nat_tests, on_side, option_map_or, part_index, piece_of, piece_on, plus, plus-ratio_same_den, ratio, ratio-multiple}
+use Rattle.interval_design.proofs.Words.{ratio-times_den, ratio-zero, rational_zero, share_of, shares_of, size_of, size_on, sized-whole, source_state, times}
+use Rattle.interval_design.proofs.Words.{unshifted, whole, width_at, width_of}
 use Rattle.interval_design.proofs.OwnParts.{FitsStream, own_temperature}
 use Rattle.std.proofs.Common.{All, AllPairs, Bool, List, None, Option, Some, [], ap, arith, false, if◌then◌else◌, inl, inr, length, map, pos, refl, slice_get}
 use Rattle.std.proofs.Common.{subst, sym, true, unsigned_abs, ℕ, ℤ, ◌*ℤ◌, ◌+ℤ◌, ◌+◌, ◌-ℤ◌, ◌<ℤ◌, ◌<◌, ◌==◌, ◌∙◌, ◌∷◌, ◌≡◌, ◌≤ℤ◌, ◌≤◌}
@@ -14,15 +14,6 @@ use Rattle.stream_case.specs.declared.source.Side.TheVariants as side
 use Rattle.stream_case.specs.declared.source.Source.TheVariants as source
 
 -- ---- lists
-
--- the item of a list of values comes from the one there
-pub mapped_item : {X Y : Type 0} (f : X → Y) (xs : List X) (i : ℕ) (y : Y) → slice_get (map f xs) i ≡ Some y
-    → (x : X) × (slice_get xs i ≡ Some x) × (f x ≡ y)
-mapped_item {X} {Y} f xs i y at = by (slice_get xs i) (sym (slice_get-map f xs i) ∙ at)
-  where
-    by : (o : Option X) → option_map f o ≡ Some y → (x : X) × (o ≡ Some x) × (f x ≡ y)
-    by None is = cc is
-    by (Some x) is = (x, refl, same_Some (f x) y is)
 
 pub on_side-ap : {X Y : Type 0} (of : Side) (f : X → Y) (hot cold : X) → on_side of (f hot) (f cold) ≡ f (on_side of hot cold)
 on_side-ap side.Hot f hot cold = refl
