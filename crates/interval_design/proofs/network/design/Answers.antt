@@ -1,11 +1,9 @@
 use Rattle.interval_design.proofs.Words.{AreLedPieces, AreStreams-IsComplete, Balance, Case, HasCost-flow, IsBounded, IsHeat, IsHeatFlow, IsLedNetwork, Part}
 use Rattle.interval_design.proofs.Words.{Piece, Transfer, enumerate_from, exchange_balance, exchange_of, exchanger_of, exchangers_for, heats_within}
 use Rattle.interval_design.proofs.Words.{length-AreStreams, length-enumerate_from, length-map, part_sources, piece_of, reach_between}
-use Rattle.interval_design.proofs.Balances.{balance-is, no_excess}
-use Rattle.interval_design.proofs.CaseFlow.{IsCaseFlow}
-use Rattle.interval_design.proofs.FewTransfers.{few_flow}
+use Rattle.interval_design.proofs.Balances.{balance-is, exchangers-are, no_excess}
+use Rattle.interval_design.proofs.CaseFlow.{IsCaseFlow, few_flow}
 use Rattle.interval_design.proofs.Premises.{flow_led, pieces_within, sources-are}
-use Rattle.interval_design.proofs.Utilities.{exchangers-are}
 use Rattle.std.proofs.Common.{All, List, ap, arith, length, map, subst, sym, ◌∙◌, ◌≡◌}
 use Rattle.interval_design.proofs.network.design.Goals as goal
 use Rattle.stream_case.specs.declared.source.Side.TheVariants as side

@@ -2,7 +2,7 @@ use Rattle.pieces.proofs.Words.{AreStages, Course, IsLedNetwork, Network, all_br
 use Rattle.pieces.proofs.Words.{network_of, own_branches}
 use Rattle.pieces.proofs.Law.{balance-network_of, exchangers_of-network_of, led_network, length-network_of}
 use Rattle.pieces.proofs.PieceStages.{courses-used}
-use Rattle.pieces.proofs.StageSums.{few-branches, length-courses_of}
+use Rattle.pieces.proofs.PieceShape.{few-branches, length-courses_of}
 use Rattle.std.proofs.Common.{All, List, ap, arith, length, subst, sym, ◌++◌, ◌∙◌}
 use Rattle.pieces.proofs.network.lead.Goals as goal
 
