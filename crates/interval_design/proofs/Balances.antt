@@ -47,17 +47,15 @@ pub record HaveSum (duties : List Rational) (count : ℕ) (heat : ℤ) : Type 0 
 one_more : (b : Bool) (heat rest : ℤ) (count : ℕ) (duties : List Rational) → IsHeat heat → HaveSum duties count rest
     → HaveSum (cons_option (if b then Some (whole heat) else None) duties) (suc count) ((if b then heat else pos 0) +ℤ rest)
 one_more true heat rest count duties is have =
-    let few = have.few in let from = is.from in let upto = is.upto in
     record {
       sum = ap (plus (whole heat)) have.sum ∙ whole-plus heat rest;
-      few = omega arith;
+      few = omega (arith, have.few);
       each = All-cons (IsSized 1 (unsigned_abs MOST_HEAT)) (whole heat) duties
-          (sized-whole 1 (unsigned_abs MOST_HEAT) heat (omega arith) (omega (arith, ints))) have.each;
+          (sized-whole 1 (unsigned_abs MOST_HEAT) heat (omega arith) (omega (arith, ints, is.from, is.upto))) have.each;
     }
 one_more false heat rest count duties is have =
-    let few = have.few in
     let same : rest ≡ pos 0 +ℤ rest = omega (arith, ints) in
-    record { sum = have.sum ∙ ap whole same; few = omega arith; each = have.each }
+    record { sum = have.sum ∙ ap whole same; few = omega (arith, have.few); each = have.each }
 
 duties_have : (hot cold : List Part) (index n : ℕ) (ts : List Transfer) → All (λ t. IsHeat t.heat) ts
     → HaveSum (filter_map (duty_with index) (map (exchanger_of hot cold) (enumerate_from n ts))) (length ts)
@@ -88,16 +86,14 @@ module _ (case : Case) (hot cold : List Part) (ts : List Transfer) (given : IsCa
   own_place : (of : Side) (a b : ℕ) → slice_get (on_side of hot cold) a ≡ Some (utility_part index u) → b < length (on_side of hot cold)
       → same_source (source_in (on_side of hot cold) b) own ≡ (b == a)
   own_place of a b there within =
-      let parts = on_side of hot cold in
-      let (q, at) = part_there parts b within in
+      let parts = on_side of hot cold in let (q, at) = part_there parts b within in
       ap (λ x. same_source x own) (source_there parts b q at)
       ∙ ⊎_elim (λ same.
       let part_is = same_Some q (utility_part index u) (sym at ∙ ap (slice_get parts) same ∙ there) in
       ap (λ (r : Part). same_source r.source own) part_is ∙ same_source-same own ∙ sym (eq-eqb b a same))
       (λ other.
       false_from_ne_true (same_source q.source own) (λ holds.
-      let grid = places case hot cold ts given in
-      let part = part_on case hot cold ts given of b q at in
+      let grid = places case hot cold ts given in let part = part_on case hot cold ts given of b q at in
       let is = part_of_utility {streams = case.streams} grid of index u q here part (same_source-true q.source own holds) in
       let twice = at ∙ ap (λ (r : Part). Some r) is in
       other (one_place {utilities = case.utilities} grid of parts b a (utility_part index u) (side_parts case hot cold ts given of) twice there))
@@ -132,8 +128,7 @@ module _ (case : Case) (hot cold : List Part) (ts : List Transfer) (given : IsCa
 
   pub utility_has_heat : length ts ≤ most_transfers → HasUtilityHeat (part_sources hot) (part_sources cold) (map (exchange_of hot cold) ts) index u
   utility_has_heat few_ts =
-      let of = u.side in
-      let part = utility_part index u in
+      let of = u.side in let part = utility_part index u in
       let duties = heats_with (part_sources hot) (part_sources cold) (map (exchange_of hot cold) ts) index in
       let are = side_parts case hot cold ts given of in
       let (a, within, is) = are.every part (inr (index, u, record { utility = here; side_is = refl; is = refl })) in
@@ -143,9 +138,7 @@ module _ (case : Case) (hot cold : List Part) (ts : List Transfer) (given : IsCa
       int_sum_by-same (utility_heat hot cold index) (λ t. if part_index of t == a then t.heat else pos 0) ts (λ k d inside.
       let t = get_or ts k d in
       ap (λ b. if b then t.heat else pos 0) (its_transfer of a k t refl there (slice_get-get_or ts k d inside))) in
-      let have = heats-have hot cold ts index given.heats in
-      let few = have.few in
-      let total = have.sum ∙ ap whole sum in
+      let have = heats-have hot cold ts index given.heats in let few = have.few in let total = have.sum ∙ ap whole sum in
       record {
         den = 1;
         most = unsigned_abs MOST_HEAT;
@@ -161,8 +154,6 @@ module _ (case : Case) (hot cold : List Part) (ts : List Transfer) (given : IsCa
         from = range.from;
         upto = range.upto;
       }
-
--- The balance of the network of a heat flow is that of the flow; in a standard case a flow that costs the hot target has no excess.
 
 -- ---- the heat of the utilities of a side
 
@@ -262,8 +253,7 @@ module _ (case : Case) (hot cold : List Part) (ts : List Transfer) (given : IsCa
   index-worth : (of : Side) (index : ℕ) (heat : ℤ) → index < length (on_side of hot cold)
       → int_sum_from (worth (source_in (on_side of hot cold) index) heat) 0 case.utilities ≡ part_price (on_side of hot cold) index *ℤ heat
   index-worth of index heat within =
-      let parts = on_side of hot cold in
-      let (p, at) = part_there parts index within in
+      let parts = on_side of hot cold in let (p, at) = part_there parts index within in
       ap (λ a. int_sum_from (worth a heat) 0 case.utilities) (source_there parts index p at)
       ∙ part-worth case (places case hot cold ts given) of p heat (part_on case hot cold ts given of index p at)
       ∙ sym (ap (λ (q : Part). q.price *ℤ heat) (get_or_from_slice_get parts index p blank at))
@@ -275,8 +265,7 @@ module _ (case : Case) (hot cold : List Part) (ts : List Transfer) (given : IsCa
   transfer-worth : (number : ℕ) (t : Transfer) → slice_get ts number ≡ Some t
       → int_sum_by (λ e. utility_worth e t) (enumerate_from 0 case.utilities) ≡ part_price hot t.hot *ℤ t.heat +ℤ part_price cold t.cold *ℤ t.heat
   transfer-worth number t at =
-      let a = source_in hot t.hot in
-      let b = source_in cold t.cold in
+      let a = source_in hot t.hot in let b = source_in cold t.cold in
       let hot_within = All-slice_get (λ (u : Transfer). u.hot < length hot) ts number t given.flow.hot_indexes at in
       let cold_within = All-slice_get (λ (u : Transfer). u.cold < length cold) ts number t given.flow.cold_indexes at in
       let hot_side = source_side case hot cold ts given side.Hot t.hot hot_within in

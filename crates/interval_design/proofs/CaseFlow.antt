@@ -57,7 +57,7 @@ module _ (case : Case) (hot cold : List Part) (ts : List Transfer) (given : IsCa
       let (p, at) = part_there (on_side of hot cold) index within in
       ap (side_of case) (source_there (on_side of hot cold) index p at) ∙ side_of_part case places of p (part_on of index p at)
 
--- Parts of a side in their order: each stands at one place of the list, and a source tells whose part one is.
+-- ---- parts of a side in their order: each stands at one place of the list, and a source tells whose part one is
 
 -- what holds of each item and each later one holds of two at indexes
 pub pairs_at : {X : Type 0} (R : X → X → Type 0) (xs : List X) (i j : ℕ) (x y : X) → AllPairs R xs → slice_get xs i ≡ Some x → slice_get xs j ≡ Some y
@@ -136,7 +136,7 @@ module _ {streams : List Stream} {utilities : List Utility} (grid : List ℤ) (o
       let same : v ≡ u = same_Some v u (sym is.utility ∙ ap (slice_get utilities) number ∙ here) in
       is.is ∙ (λ j. utility_part (number j) (same j))
 
--- A heat flow has few transfers: each is another pair of a hot and a cold part.
+-- ---- a heat flow has few transfers: each is another pair of a hot and a cold part
 
 -- the index of a pair in a table with so many columns
 key : ℕ → Transfer → ℕ

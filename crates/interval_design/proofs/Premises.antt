@@ -90,17 +90,13 @@ module _ (case : Case) (grid : List ℤ) (of : Side) (p : Part) (falls : AllPair
 
   part_order : IsPartOf case.streams case.utilities grid of p → p.low ≤ℤ p.high
   part_order (inl (i, s, is)) = piece_falls s p falls is.piece
-  part_order (inr (i, u, is)) =
-      let high = ap (λ (q : Part). q.high) is.is in let low = ap (λ (q : Part). q.low) is.is in
-      omega (arith, ints)
+  part_order (inr (i, u, is)) = omega (arith, ints, ap (λ (q : Part). q.high) is.is, ap (λ (q : Part). q.low) is.is)
 
   part_narrow : IsComplete case → IsPartOf case.streams case.utilities grid of p → width_of p < 2 ^ 32
   part_narrow complete (inl (number, s, is)) =
       let valid = All-slice_get IsValidStream case.streams number s (AreStreams-IsComplete case complete).each is.stream in
       let narrow = (fits grid s p valid falls is).narrow in omega arith
-  part_narrow complete (inr (i, u, is)) =
-      let high = ap (λ (q : Part). q.high) is.is in let low = ap (λ (q : Part). q.low) is.is in
-      omega (arith, ints)
+  part_narrow complete (inr (i, u, is)) = omega (arith, ints, ap (λ (q : Part). q.high) is.is, ap (λ (q : Part). q.low) is.is)
 
 -- ---- approaches
 
@@ -155,7 +151,7 @@ size-positive heat parts index p at narrow above is =
     let width : width_at parts index ≡ width_of p = ap (λ o. option_map_or width_of o 1) at in
     subst (λ w. IsPositive (ratio heat w)) (sym width) (record {
       above = positive_num (ratio heat (width_of p)) (positive-ratio heat (width_of p) (omega arith) above);
-      within = let from = is.from in let upto = is.upto in within-ratio heat (width_of p) (omega arith) (omega (arith, ints)) (omega arith);
+      within = within-ratio heat (width_of p) (omega arith) (omega (arith, ints, is.from, is.upto)) (omega arith);
     })
 
 module _ (case : Case) (hot cold : List Part) (ts : List Transfer) (given : IsCaseFlow case hot cold ts) where
@@ -182,13 +178,11 @@ module _ (case : Case) (hot cold : List Part) (ts : List Transfer) (given : IsCa
   exchanges_join = All-map (JoinsPieces case (map (piece_of case) hot) (map (piece_of case) cold)) (exchange_of hot cold) ts (λ k d within.
       let t = get_or ts k d in
       let positive = given.flow.positive k d within in let heat = given.heats k d within in
-      let from = heat.from in let upto = heat.upto in
       let flow = given.flow in
       let (p, q, joined) = joined_parts case hot cold t (flow.hot_indexes k d within) (flow.cold_indexes k d within) (flow.joined k d within) in
       let hot_part = part_on case hot cold ts given side.Hot t.hot p joined.hot_part in
       let cold_part = part_on case hot cold ts given side.Cold t.cold q joined.cold_part in
-      let falls = places_fall case hot cold ts given in
-      let piece = piece_of case in
+      let falls = places_fall case hot cold ts given in let piece = piece_of case in
       record {
         hot_piece = piece p;
         cold_piece = piece q;
@@ -196,14 +190,14 @@ module _ (case : Case) (hot cold : List Part) (ts : List Transfer) (given : IsCa
         cold_there = slice_get-map piece cold t.cold ∙ ap (option_map piece) joined.cold_part;
         hot_side = side_of_part case grid side.Hot p hot_part;
         cold_side = side_of_part case grid side.Cold q cold_part;
-        heat = record { above = positive; within = within-whole t.heat (omega (arith, ints)) };
+        heat = record { above = positive; within = within-whole t.heat (omega (arith, ints, heat.from, heat.upto)) };
         hot_size = size-positive t.heat hot t.hot p joined.hot_part (part_narrow case grid side.Hot p falls given.complete hot_part) positive heat;
         cold_size = size-positive t.heat cold t.cold q joined.cold_part (part_narrow case grid side.Cold q falls given.complete cold_part) positive heat;
         permitted = joined.permitted;
         apart = pieces_apart p q hot_part cold_part joined.passes;
       })
 
--- The parts of a heat flow are the pieces of a network of pieces, and its transfers the exchanges.
+-- ---- the parts are pieces that are led
 
 -- the sources of pieces are those of their parts
 pub sources-are : (case : Case) (parts : List Part) → sources_of (map (piece_of case) parts) ≡ part_sources parts

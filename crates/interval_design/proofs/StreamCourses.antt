@@ -124,25 +124,17 @@ fits places s p valid falls is = by (lies places s p valid falls is)
     by : LiesOnInterval places s p ⊎ LiesAtLevel s p → FitsStream s p
     by (inl on) =
         let less = interval_falls places p.high p.low falls on.interval in
-        let flow = on.sensible.cp.from in
-        let none = on.sensible.load in
-        let from = is.from in
-        let upto = is.upto in
-        let long = (range-length s valid).upto in
+        let flow = on.sensible.cp.from in let none = on.sensible.load in let long = (range-length s valid).upto in
         let width : p.high -ℤ p.low ≡ pos (width_of p) = omega (arith, ints, less) in
         let no_load : piece_heat p.high p.low s ≡ s.cp *ℤ (p.high -ℤ p.low) = omega (arith, ints, none) in
         let size : s.cp ≡ s.cp +ℤ s.load = omega (arith, ints, none) in
-        let entered = entered-sensible s p on.sensible in
-        let left = left-sensible s p on.sensible in
+        let entered = entered-sensible s p on.sensible in let left = left-sensible s p on.sensible in
         fits_heat s p is (omega (arith, ints, flow, none)) (no_load ∙ (λ i. size i *ℤ width i))
         ((λ i. change s.side (entered i) (left i)) ∙ change_over s.side p s.contribution ∙ ap whole width)
-        (omega (arith, ints, less, from, upto, long))
+        (omega (arith, ints, less, is.from, is.upto, long))
     by (inr at) =
-        let some = at.latent.load.from in
-        let none = at.latent.cp in
-        let high = at.high in
-        let low = at.low in
-        let one : width_of p ≡ 1 = omega (arith, ints, high, low) in
+        let some = at.latent.load.from in let none = at.latent.cp in
+        let one : width_of p ≡ 1 = omega (arith, ints, at.high, at.low) in
         let no_flow : s.cp *ℤ (p.high -ℤ p.low) ≡ pos 0 *ℤ (p.high -ℤ p.low) = ap (λ c. c *ℤ (p.high -ℤ p.low)) none in
         let load : piece_heat p.high p.low s ≡ (s.cp +ℤ s.load) *ℤ pos 1 = omega (arith, ints, no_flow, none) in
         let entered = entered-latent s p at.latent ∙ first_state-latent s at.latent in
@@ -150,9 +142,7 @@ fits places s p valid falls is = by (lies places s p valid falls is)
         fits_heat s p is (omega (arith, ints, some, none)) (load ∙ ap (λ w. (s.cp +ℤ s.load) *ℤ pos w) (sym one))
         ((λ i. change s.side (entered i) (left i)) ∙ load_change s.side ∙ ap (λ w. whole (pos w)) (sym one)) (omega (arith, one))
 
--- In each part of a stream the shares are the whole stream, and bring it from the one state to the other.
-
--- ---- lists
+-- ---- the shares of a part are the whole stream, and bring it from the one state to the other
 
 pub on_side-ap : {X Y : Type 0} (of : Side) (f : X → Y) (hot cold : X) → on_side of (f hot) (f cold) ≡ f (on_side of hot cold)
 on_side-ap side.Hot f hot cold = refl
@@ -227,11 +217,9 @@ either_sized false x y one other = other
 temperature-sized : (of : Side) (place contribution : ℤ) → IsShifted place → IsContribution contribution
     → IsSized 1 highest (whole (unshifted of place contribution))
 temperature-sized side.Hot place contribution is given =
-    let low = is.from in let high = is.upto in let from = given.from in let upto = given.upto in
-    sized-whole 1 highest (place +ℤ contribution) (omega arith) (omega (arith, ints))
+    sized-whole 1 highest (place +ℤ contribution) (omega arith) (omega (arith, ints, is.from, is.upto, given.from, given.upto))
 temperature-sized side.Cold place contribution is given =
-    let low = is.from in let high = is.upto in let from = given.from in let upto = given.upto in
-    sized-whole 1 highest (place -ℤ contribution) (omega arith) (omega (arith, ints))
+    sized-whole 1 highest (place -ℤ contribution) (omega arith) (omega (arith, ints, is.from, is.upto, given.from, given.upto))
 
 -- the last state of a latent stream
 last_part-sized : (of : Side) → IsSized 1 highest (last_part_of_load of)
@@ -308,10 +296,9 @@ module _ (case : Case) (hot cold : List Part) (ts : List Transfer) (number : ℕ
       → times (size_on s.side e) (change s.side piece.before piece.after) ≡ e.heat
   heats k e there own_piece =
       let (t, at_t, is) = mapped_item (exchange_of hot cold) ts k e there in
-      let same_piece = ap (piece_on s.side) is ∙ own_piece in
       let size : size_on s.side e ≡ ratio t.heat (width_of p) =
       sym (ap (size_on s.side) is) ∙ size_on-exchange s.side hot cold t
-      ∙ ap (λ k. ratio t.heat (width_at (on_side s.side hot cold) k)) same_piece ∙ ap (ratio t.heat) width_is in
+      ∙ ap (λ k. ratio t.heat (width_at (on_side s.side hot cold) k)) (ap (piece_on s.side) is ∙ own_piece) ∙ ap (ratio t.heat) width_is in
       (λ i. times (size i) (change_is i)) ∙ ratio-times_den t.heat (width_of p) wide ∙ ap (λ (x : Exchange). x.heat) is
 
   load : is_latent s ≡ true → IsPartOfLoad piece.after
@@ -354,9 +341,7 @@ module _ (case : Case) (hot cold : List Part) (ts : List Transfer) (number : ℕ
   pub stream_piece : IsStreamPiece s.side (map (exchange_of hot cold) ts) index piece s
   stream_piece = record { sizes = full; heats = heats; load = load; fine = fine }
 
--- The parts of a stream from the hottest down: a latent stream has one, and those of a sensible one meet, from the one end of its range to the other.
-
--- ---- stages that meet
+-- ---- stages that meet: the parts of a stream from the hottest down, of which a latent stream has one
 
 -- from one state to another
 abbrev pub Lead : Rational → List LedStage → Rational → Type 0
@@ -569,7 +554,7 @@ module _ (streams : List Stream) (utilities : List Utility) (grid : List ℤ) (o
               fall_more of (state x) (state (low_end s)) (stage (n, p)) items (hot n p own ∙ ap state top)
               (subst (λ from. Fall of from items (state (low_end s))) (sym (cold n p own)) (lower p.low rest))
 
--- A heat flow leads each stream from its first state to its last: a sensible one through the temperatures of its parts, a latent one through one part.
+-- ---- a heat flow leads each stream from its first state to its last
 
 -- a stream begins at the one end of its range, and ends at the other
 first-end : (of : Side) (f : ℤ → Rational) (s : Stream) → on_side of (f (high_end s)) (f (low_end s)) ≡ f (first_end of s)
@@ -668,8 +653,7 @@ module _ (case : Case) (hot cold : List Part) (ts : List Transfer) (given : IsCa
 
   course-is : led_course (map (piece_of case) hot) (map (piece_of case) cold) exchanges (number, s) ≡ on_the_way s.side (map led items)
   course-is =
-      let sides = on_side s.side (map (piece_of case) hot) (map (piece_of case) cold) in
-      filter_map-way (led_stage s.side exchanges number) s.side (enumerate_from 0 sides)
+      filter_map-way (led_stage s.side exchanges number) s.side (enumerate_from 0 (on_side s.side (map (piece_of case) hot) (map (piece_of case) cold)))
       ∙ ap (λ qs. on_the_way s.side (filter_map (led_stage s.side exchanges number) (enumerate_from 0 qs))) (on_side-ap s.side (map (piece_of case)) hot cold)
       ∙ ap (on_the_way s.side) (stages-are case s.side exchanges number 0 ps
       (All-enumerated (IsUsed case s.side exchanges number) ps (λ index p at own.
